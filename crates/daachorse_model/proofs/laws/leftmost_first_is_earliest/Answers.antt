@@ -1,0 +1,5 @@
+use Rattle.daachorse_model.proofs.Longest.{leftmost_earliest}
+use Rattle.daachorse_model.proofs.laws.leftmost_first_is_earliest.Goals as goal
+
+pub returns-clause-earliest : goal.returns-clause-earliest
+returns-clause-earliest g c = λ width patterns h. leftmost_earliest width patterns h

@@ -1,0 +1,41 @@
+-- What the lists of matches promise, in the words of the subject.
+use Rattle.std.specs.Prelude.{◌≡◌, ℕ, ◌+◌, ◌≤◌, List, [], ◌∷◌, ◌++◌, Contains, ⊤, Some, find}
+use Rattle.daachorse_model.specs.declared.Match.{Match}
+use Rattle.daachorse_model.specs.Units.{size}
+use Rattle.daachorse_model.specs.Dictionary.{Dictionary, is_prefix}
+use Rattle.daachorse_model.specs.Leftmost.{longest_key}
+
+-- the haystack has a key where the match says, and the match has one of its values
+pub record IsOccurrence {V : Type 0} (width : ℕ → ℕ) (K : Dictionary V) (h : List ℕ) (m : Match V) : Type 0 where
+  pub before : List ℕ
+  pub key : List ℕ
+  pub after : List ℕ
+  pub splits : h ≡ before ++ (key ++ after)
+  pub starts : m.start ≡ size width before
+  pub ends : m.end ≡ size width before + size width key
+  pub has : Contains (K key) m.value
+
+-- no match starts before the one before it ends, the first not before s; none ends before it starts
+abbrev pub Follows : {V : Type 0} → ℕ → List (Match V) → Type 0
+Follows s [] = ⊤
+Follows s (m ∷ ms) = (s ≤ m.start) × (m.start ≤ m.end) × Follows m.end ms
+
+-- the match is the longest key that occurs at its start, with the first value of that key
+pub record IsLongestAtStart {V : Type 0} (width : ℕ → ℕ) (K : Dictionary V) (h : List ℕ) (m : Match V) : Type 0 where
+  pub before : List ℕ
+  pub rest : List ℕ
+  pub key : List ℕ
+  pub splits : h ≡ before ++ rest
+  pub starts : m.start ≡ size width before
+  pub longest : longest_key K [] rest ≡ Some (key, m.value)
+  pub ends : m.end ≡ m.start + size width key
+
+-- the match is the earliest registration whose text occurs at its start
+pub record IsEarliestAtStart {V : Type 0} (width : ℕ → ℕ) (registrations : List (List ℕ × V)) (h : List ℕ) (m : Match V) : Type 0 where
+  pub before : List ℕ
+  pub rest : List ℕ
+  pub key : List ℕ
+  pub splits : h ≡ before ++ rest
+  pub starts : m.start ≡ size width before
+  pub earliest : find (λ r. is_prefix r.0 rest) registrations ≡ Some (key, m.value)
+  pub ends : m.end ≡ m.start + size width key

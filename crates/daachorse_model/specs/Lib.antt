@@ -1,0 +1,13 @@
+pub mod Units
+pub mod Kinds
+pub mod Dictionary
+pub mod Matches
+pub mod Leftmost
+pub mod Prefixes
+pub mod Outputs
+pub mod Best
+pub mod Paths
+pub mod Filter
+pub mod Program
+pub mod Slow
+pub mod Laws

@@ -1,0 +1,55 @@
+//! What the lists of matches promise: functions that do nothing, for their contracts.
+//! A haystack and a pattern are lists of units; `width` is `byte_width` or `char_width`, or any other.
+
+ghost use Rattle.std.specs.Prelude.{◌≡◌, ℕ, List, [], All, Contains, encode_utf8_all};
+ghost use Rattle.daachorse_model.specs.declared.Match.{Match};
+ghost use Rattle.daachorse_model.specs.Units.{byte_width, char_width};
+ghost use Rattle.daachorse_model.specs.Dictionary.{kept, dictionary, in_bytes};
+ghost use Rattle.daachorse_model.specs.Matches.{overlapping, no_suffix, standard};
+ghost use Rattle.daachorse_model.specs.Leftmost.{leftmost};
+ghost use Rattle.daachorse_model.specs.Laws.{IsOccurrence, Follows, IsEarliestAtStart};
+
+use crate::MatchKind;
+
+/// Each match's part of the haystack is a kept pattern, registered with the match's value,
+/// and each such part is an overlapping match.
+pub fn matches_occur<V: Copy>(kind: MatchKind)
+    ensures overlapping { (width : ℕ → ℕ) (patterns : List (List ℕ × V)) (h : List ℕ)
+        → let K = dictionary kind patterns in All (IsOccurrence width K h) (overlapping width K h) }
+    ensures no_suffix { (width : ℕ → ℕ) (patterns : List (List ℕ × V)) (h : List ℕ)
+        → let K = dictionary kind patterns in All (IsOccurrence width K h) (no_suffix width K h) }
+    ensures standard { (width : ℕ → ℕ) (patterns : List (List ℕ × V)) (h : List ℕ)
+        → let K = dictionary kind patterns in All (IsOccurrence width K h) (standard width K h) }
+    ensures leftmost { (width : ℕ → ℕ) (patterns : List (List ℕ × V)) (h : List ℕ)
+        → let K = dictionary kind patterns in All (IsOccurrence width K h) (leftmost width K h) }
+    ensures complete { (width : ℕ → ℕ) (patterns : List (List ℕ × V)) (h : List ℕ) (m : Match V)
+        → let K = dictionary kind patterns in IsOccurrence width K h m → Contains (overlapping width K h) m }
+{}
+
+/// Matches of standard and leftmost searches do not overlap, and their places never fall.
+pub fn matches_follow<V: Copy>(kind: MatchKind)
+    ensures standard { (width : ℕ → ℕ) (patterns : List (List ℕ × V)) (h : List ℕ) → Follows 0 (standard width (dictionary kind patterns) h) }
+    ensures leftmost { (width : ℕ → ℕ) (patterns : List (List ℕ × V)) (h : List ℕ) → Follows 0 (leftmost width (dictionary kind patterns) h) }
+{}
+
+/// `LeftmostFirst` reports at a start the earliest registered pattern that occurs there,
+/// and its answers are those of `LeftmostLongest` over the list without the dropped ones.
+pub fn leftmost_first_is_earliest<V: Copy>()
+    ensures earliest { (width : ℕ → ℕ) (patterns : List (List ℕ × V)) (h : List ℕ)
+        → All (IsEarliestAtStart width patterns h) (leftmost width (dictionary MatchKind.LeftmostFirst patterns) h) }
+    ensures longest_of_kept { (width : ℕ → ℕ) (patterns : List (List ℕ × V)) (h : List ℕ)
+        → leftmost width (dictionary MatchKind.LeftmostFirst patterns) h
+        ≡ leftmost width (dictionary MatchKind.LeftmostLongest (kept MatchKind.LeftmostFirst patterns)) h }
+{}
+
+/// On text, with text patterns none of which is empty, bytes and characters give the same matches.
+pub fn same_on_text<V: Copy>(kind: MatchKind)
+    ensures overlapping { (patterns : List (List ℕ × V)) (h : List ℕ) → dictionary kind patterns [] ≡ []
+        → overlapping byte_width (dictionary kind (in_bytes patterns)) (encode_utf8_all h) ≡ overlapping char_width (dictionary kind patterns) h }
+    ensures no_suffix { (patterns : List (List ℕ × V)) (h : List ℕ) → dictionary kind patterns [] ≡ []
+        → no_suffix byte_width (dictionary kind (in_bytes patterns)) (encode_utf8_all h) ≡ no_suffix char_width (dictionary kind patterns) h }
+    ensures standard { (patterns : List (List ℕ × V)) (h : List ℕ) → dictionary kind patterns [] ≡ []
+        → standard byte_width (dictionary kind (in_bytes patterns)) (encode_utf8_all h) ≡ standard char_width (dictionary kind patterns) h }
+    ensures leftmost { (patterns : List (List ℕ × V)) (h : List ℕ) → dictionary kind patterns [] ≡ []
+        → leftmost byte_width (dictionary kind (in_bytes patterns)) (encode_utf8_all h) ≡ leftmost char_width (dictionary kind patterns) h }
+{}

@@ -1,0 +1,6 @@
+pub mod ByteForms
+pub mod Histories
+pub mod Outputs
+pub mod Seen
+pub mod Texts
+pub mod Turns

@@ -1,0 +1,16 @@
+-- What a search has seen.
+use Rattle.std.specs.Prelude.{ℕ, List, [], ◌++◌}
+
+-- the units read before the place from which the state counts, those read since, and the number of matches given
+pub record SeenUnits : Type 0 where
+  pub before : List ℕ
+  pub since : List ℕ
+  pub given : ℕ
+
+-- all units read
+abbrev pub units : SeenUnits → List ℕ
+units s = s.before ++ s.since
+
+-- nothing was read
+abbrev pub unread : SeenUnits
+unread = record { before = []; since = []; given = 0 }

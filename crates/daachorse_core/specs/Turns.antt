@@ -1,0 +1,13 @@
+-- The number that a count stands for.
+use Rattle.std.specs.Prelude.{ℕ, ◌+◌}
+use Rattle.daachorse_core.specs.declared.turns.Count.{Count, fold-Count}
+use Rattle.daachorse_core.specs.declared.turns.Count.TheOpen.{Count-F, Zero, Same, More}
+
+-- the number at one step, from that before it
+abbrev pub number_step : Count-F ℕ → ℕ
+number_step Zero = 0
+number_step (Same s) = s.value.value
+number_step (More s) = s.value.value + 1
+
+abbrev pub number_of : Count → ℕ
+number_of c = fold-Count ℕ number_step c

@@ -1,0 +1,204 @@
+//! The errors, and the exact text of each.
+//!
+//! The layers above may rely on the text that `Display` writes, and on `?` turning each failure
+//! of an allocation into [`DaachorseError::OutOfMemory`].
+
+ghost use Rattle.std.specs.Prelude.{◌≡◌, Some, string_bytes};
+ghost use Rattle.daachorse_core.specs.Texts.{scale_text, argument_text, conversion_text, automaton_text, memory_text, duplicate_text, error_text};
+ghost use Rattle.daachorse_core.specs.declared.errors.DaachorseError.TheVariants.{OutOfMemory};
+
+use std::alloc::{AllocError, AllocFailed, Allocator, Global};
+use std::error::Error;
+use std::{fmt, result};
+
+/// What daachorse answers, or an error of its own.
+pub type Result<T, E = DaachorseError> = result::Result<T, E>;
+
+/// Errors in daachorse.
+#[derive(Clone, Copy, Debug, PartialEq, Eq)]
+pub enum DaachorseError {
+    /// A pattern is too long.
+    InvalidArgument(InvalidArgumentError),
+    /// The automaton would pass a limit.
+    AutomatonScale(AutomatonScaleError),
+    /// The index of a pattern has no value of the type asked for.
+    InvalidConversion(InvalidConversionError),
+    /// The bytes are no automaton's.
+    InvalidAutomaton(InvalidAutomatonError),
+    /// An allocation failed.
+    OutOfMemory(OutOfMemoryError),
+}
+
+/// What an automaton has at most so many of.
+#[derive(Clone, Copy, Debug, PartialEq, Eq)]
+pub enum Limit {
+    /// 16,777,215 patterns that are kept, over bytes.
+    PatternValues,
+    /// The state id 4,294,967,295.
+    StateId,
+    /// 4,294,967,295 elements of the double array.
+    NumElements,
+    /// 4,294,967,295 outputs.
+    Outputs,
+    /// The output position 16,777,215, over bytes.
+    OutputPos,
+}
+
+/// A pattern has more than 4,294,967,295 bytes.
+#[derive(Clone, Copy, Debug, PartialEq, Eq)]
+pub struct InvalidArgumentError;
+
+/// The automaton would pass a limit.
+#[derive(Clone, Copy, Debug, PartialEq, Eq)]
+pub struct AutomatonScaleError {
+    /// The limit that would be passed.
+    pub limit: Limit,
+}
+
+/// The index of a pattern has no value of the type asked for.
+#[derive(Clone, Copy, Debug, PartialEq, Eq)]
+pub struct InvalidConversionError;
+
+/// The bytes are no automaton's.
+#[derive(Clone, Copy, Debug, PartialEq, Eq)]
+pub struct InvalidAutomatonError;
+
+/// An allocation failed.
+#[derive(Clone, Copy, Debug, PartialEq, Eq)]
+pub struct OutOfMemoryError;
+
+/// A pattern was registered twice. No call answers this error.
+#[derive(Debug, Drop)]
+pub struct DuplicatePatternError<A: Allocator = Global> {
+    /// The pattern.
+    pub pattern: String<A>,
+}
+
+impl DaachorseError {
+    /// The refusal of a pattern that is too long.
+    pub fn invalid_argument() -> DaachorseError
+        ensures { result ≡ DaachorseError.InvalidArgument (record {}) }
+    {
+        DaachorseError::InvalidArgument(InvalidArgumentError)
+    }
+
+    /// The refusal of an automaton that would pass a limit.
+    pub fn automaton_scale(limit: Limit) -> DaachorseError
+        ensures { result ≡ DaachorseError.AutomatonScale (record { limit = limit }) }
+    {
+        DaachorseError::AutomatonScale(AutomatonScaleError { limit })
+    }
+
+    /// The refusal of an index that has no value.
+    pub fn invalid_conversion() -> DaachorseError
+        ensures { result ≡ DaachorseError.InvalidConversion (record {}) }
+    {
+        DaachorseError::InvalidConversion(InvalidConversionError)
+    }
+
+    /// The refusal of bytes that are no automaton's.
+    pub fn invalid_automaton() -> DaachorseError
+        ensures { result ≡ DaachorseError.InvalidAutomaton (record {}) }
+    {
+        DaachorseError::InvalidAutomaton(InvalidAutomatonError)
+    }
+}
+
+impl From<AllocError> for DaachorseError {
+    ghost from_gives = { λ _ e. e ≡ OutOfMemory (record {}) };
+
+    fn from(_error: AllocError) -> DaachorseError {
+        DaachorseError::OutOfMemory(OutOfMemoryError)
+    }
+}
+
+impl<T: Drop> From<AllocFailed<T>> for DaachorseError {
+    ghost from_gives = { λ _ e. e ≡ OutOfMemory (record {}) };
+
+    fn from(_error: AllocFailed<T>) -> DaachorseError {
+        DaachorseError::OutOfMemory(OutOfMemoryError)
+    }
+}
+
+impl fmt::Display for InvalidArgumentError {
+    ghost output = { λ _. Some argument_text };
+
+    fn fmt<W: fmt::Write>(&self, f: &mut fmt::Formatter<W>) -> fmt::Result {
+        f.write_str("InvalidArgumentError: pattern.len() must be <= 4294967295")
+    }
+}
+
+impl fmt::Display for AutomatonScaleError {
+    ghost output = { λ e. Some (scale_text e.limit) };
+
+    fn fmt<W: fmt::Write>(&self, f: &mut fmt::Formatter<W>) -> fmt::Result {
+        f.write_str(match self.limit {
+            Limit::PatternValues => "AutomatonScaleError: patvals.len() must be <= 16777215",
+            Limit::StateId => "AutomatonScaleError: state_id must be <= 4294967295",
+            Limit::NumElements => "AutomatonScaleError: num_elements must be <= 4294967295",
+            Limit::Outputs => "AutomatonScaleError: outputs.len() must be <= 4294967295",
+            Limit::OutputPos => "AutomatonScaleError: output_pos must be <= 16777215",
+        })
+    }
+}
+
+impl fmt::Display for InvalidConversionError {
+    ghost output = { λ _. Some conversion_text };
+
+    fn fmt<W: fmt::Write>(&self, f: &mut fmt::Formatter<W>) -> fmt::Result {
+        f.write_str("InvalidConversionError: index cannot be converted to V")
+    }
+}
+
+impl fmt::Display for InvalidAutomatonError {
+    ghost output = { λ _. Some automaton_text };
+
+    fn fmt<W: fmt::Write>(&self, f: &mut fmt::Formatter<W>) -> fmt::Result {
+        f.write_str("InvalidAutomatonError: invalid serialized automaton")
+    }
+}
+
+impl fmt::Display for OutOfMemoryError {
+    ghost output = { λ _. Some memory_text };
+
+    fn fmt<W: fmt::Write>(&self, f: &mut fmt::Formatter<W>) -> fmt::Result {
+        f.write_str("OutOfMemoryError: memory allocation failed")
+    }
+}
+
+impl<A: Allocator> fmt::Display for DuplicatePatternError<A> {
+    ghost output = { λ e. Some (duplicate_text (string_bytes e.pattern)) };
+
+    fn fmt<W: fmt::Write>(&self, f: &mut fmt::Formatter<W>) -> fmt::Result {
+        let pattern = &self.pattern;
+        write!(f, "DuplicatePatternError: {pattern}")
+    }
+}
+
+impl fmt::Display for DaachorseError {
+    ghost output = { λ e. Some (error_text e) };
+
+    fn fmt<W: fmt::Write>(&self, f: &mut fmt::Formatter<W>) -> fmt::Result {
+        match self {
+            DaachorseError::InvalidArgument(e) => e.fmt(f),
+            DaachorseError::AutomatonScale(e) => e.fmt(f),
+            DaachorseError::InvalidConversion(e) => e.fmt(f),
+            DaachorseError::InvalidAutomaton(e) => e.fmt(f),
+            DaachorseError::OutOfMemory(e) => e.fmt(f),
+        }
+    }
+}
+
+impl Error for DaachorseError {}
+
+impl Error for InvalidArgumentError {}
+
+impl Error for AutomatonScaleError {}
+
+impl Error for InvalidConversionError {}
+
+impl Error for InvalidAutomatonError {}
+
+impl Error for OutOfMemoryError {}
+
+impl<A: Allocator + fmt::Debug> Error for DuplicatePatternError<A> {}

@@ -1,0 +1,77 @@
+//! Outputs: the values of a state, chained from the longest key to the shortest.
+//!
+//! The layers above may rely on an output keeping its value, its length and its parent.
+
+ghost use Rattle.std.specs.Prelude.{◌≡◌, ◌-◌, ◌≤◌};
+ghost use Rattle.daachorse_core.specs.Outputs.{value_of, length_of, parent_of, number};
+
+use daachorse_model::Match;
+use std::num::NonZeroU32;
+
+/// One output of a state: a value, the length of its pattern in bytes, and the position of the
+/// next output of the state, counted from 1.
+#[derive(Clone, Copy, Debug, PartialEq, Eq, Hash)]
+pub struct Output<V> {
+    value: V,
+    length: u32,
+    // 0 stands for none, since an `Option<NonZeroU32>` would take twice the bytes.
+    parent: u32,
+}
+
+impl<V: Copy> Output<V> {
+    /// An output with these parts.
+    pub fn new(value: V, length: u32, parent: Option<NonZeroU32>) -> Self
+        ensures value { value_of result ≡ value }
+        ensures length { length_of result ≡ length }
+        ensures parent { parent_of result ≡ number parent }
+    {
+        Self {
+            value,
+            length,
+            parent: parent.map_or(0, NonZeroU32::get),
+        }
+    }
+
+    /// The value of the pattern.
+    pub fn value(&self) -> V
+        ensures { result ≡ value_of self.now }
+    {
+        self.value
+    }
+
+    /// The length of the pattern, in bytes.
+    pub fn length(&self) -> u32
+        ensures { result ≡ length_of self.now }
+    {
+        self.length
+    }
+
+    /// The position of the next output of the state, if there is one.
+    pub fn parent(&self) -> Option<NonZeroU32>
+        ensures { number result ≡ parent_of self.now }
+    {
+        NonZeroU32::new(self.parent)
+    }
+
+    /// The output as a match that ends at `end`.
+    pub fn to_match(&self, end: usize) -> Match<V>
+        requires { length_of self.now ≤ end }
+        ensures { result ≡ record { start = end - length_of self.now; end = end; value = value_of self.now } }
+    {
+        Match {
+            start: end - self.length as usize,
+            end,
+            value: self.value,
+        }
+    }
+}
+
+/// A value type that tells patterns apart by nothing: it accepts every index.
+#[derive(Clone, Copy, Debug, Default, PartialEq, Eq, Hash)]
+pub struct Empty;
+
+impl From<usize> for Empty {
+    fn from(_index: usize) -> Self {
+        Self
+    }
+}

@@ -1,0 +1,180 @@
+//! What a search did, for contracts alone: how many turns it took, and which units it read.
+//!
+//! Neither [`Turns`] nor [`Seen`] takes a byte at run time. The layers above may rely on the
+//! number of `Turns` growing by one with each tick and in no other way, and on `Seen` holding
+//! just what was pushed. Only a search makes either; a search learns where to go by looks alone.
+
+ghost use Rattle.std.specs.Prelude.{◌≡◌, ◌+◌, ◌++◌, ◌∷◌, []};
+ghost use Rattle.daachorse_core.specs.Seen.{unread};
+
+use std::alloc::AllocError;
+use std::marker::Model;
+use std::snapshot::Snapshot;
+
+/// What a look at one state answers.
+#[derive(Clone, Copy, Debug, PartialEq, Eq)]
+pub enum Look {
+    /// The step ends at this state.
+    Next(u32),
+    /// The failure link leads to this state, which is to be looked at next.
+    Fail(u32),
+}
+
+/// How a count came to be. Only snapshots of it are kept, which take no bytes.
+#[derive(Drop)]
+pub enum Count {
+    /// Nothing was counted.
+    Zero,
+    /// As many as before.
+    Same(Snapshot<Snapshot<Count>>),
+    /// One more than before.
+    More(Snapshot<Snapshot<Count>>),
+}
+
+/// How many looks at a state a search took. It takes no bytes, and has no greatest number.
+#[derive(Drop)]
+pub struct Turns {
+    count: Snapshot<Count>,
+}
+
+impl Model for Turns {
+    ghost use Rattle.std.specs.Prelude.{ℕ};
+
+    ghost Value = { ℕ };
+
+    ghost use Rattle.daachorse_core.specs.Turns.{number_of};
+
+    ghost view = { λ t. number_of t.count.value };
+}
+
+impl Turns {
+    /// No turn. It is for a search's own use.
+    pub fn new() -> Turns
+        ensures { result ≡ 0 }
+    {
+        Turns {
+            count: Snapshot::of(&Count::Zero),
+        }
+    }
+
+    /// Counts one turn. It is for `turn`'s own use.
+    pub fn tick(&mut self)
+        ensures { self.new ≡ self.old + 1 }
+    {
+        let more = Count::More(Snapshot::of(&self.count));
+        self.count = Snapshot::of(&more);
+    }
+
+    fn same(&self) -> Turns
+        ensures { result ≡ self.now }
+    {
+        let same = Count::Same(Snapshot::of(&self.count));
+        Turns {
+            count: Snapshot::of(&same),
+        }
+    }
+}
+
+impl Clone for Turns {
+    ghost use Rattle.std.specs.Prelude.{◌≡◌};
+
+    ghost is_clone = { λ s t. t ≡ s };
+
+    ghost is_infallible = { λ _. Unit {0} };
+
+    fn clone(&self) -> Result<Turns, AllocError> {
+        Ok(self.same())
+    }
+}
+
+/// How a search went. Only snapshots of it are kept, which take no bytes.
+#[derive(Drop)]
+pub enum History {
+    /// Nothing happened.
+    Start,
+    /// As before.
+    Same(Snapshot<Snapshot<History>>),
+    /// One more unit was read.
+    Read(Snapshot<Snapshot<History>>, u32),
+    /// The search began again at the root.
+    Restart(Snapshot<Snapshot<History>>),
+    /// One more match was given.
+    Give(Snapshot<Snapshot<History>>),
+}
+
+/// The units that a search has read, the place from which its state counts, and the number of
+/// matches that it gave. It takes no bytes.
+#[derive(Drop)]
+pub struct Seen {
+    history: Snapshot<History>,
+}
+
+impl Model for Seen {
+    ghost use Rattle.daachorse_core.specs.Seen.{SeenUnits};
+
+    ghost Value = { SeenUnits };
+
+    ghost use Rattle.daachorse_core.specs.Histories.{seen_of};
+
+    ghost view = { λ s. seen_of s.history.value };
+}
+
+impl Seen {
+    /// Nothing was read. It is for a search's own use.
+    pub fn new() -> Seen
+        ensures { result ≡ unread }
+    {
+        Seen {
+            history: Snapshot::of(&History::Start),
+        }
+    }
+
+    /// One more unit was read.
+    pub fn push(&mut self, unit: u32)
+        ensures { self.new ≡ record self.old { since = self.old.since ++ unit ∷ [] } }
+    {
+        let read = History::Read(Snapshot::of(&self.history), unit);
+        self.history = Snapshot::of(&read);
+    }
+
+    /// The search begins again at the root: its state counts from here on.
+    pub fn restart(&mut self)
+        ensures { self.new ≡ record self.old { before = self.old.before ++ self.old.since; since = [] } }
+    {
+        let restart = History::Restart(Snapshot::of(&self.history));
+        self.history = Snapshot::of(&restart);
+    }
+
+    /// One more match was given.
+    pub fn give(&mut self)
+        ensures { self.new ≡ record self.old { given = self.old.given + 1 } }
+    {
+        let give = History::Give(Snapshot::of(&self.history));
+        self.history = Snapshot::of(&give);
+    }
+
+    fn same(&self) -> Seen
+        ensures { result ≡ self.now }
+    {
+        let same = History::Same(Snapshot::of(&self.history));
+        Seen {
+            history: Snapshot::of(&same),
+        }
+    }
+}
+
+impl Clone for Seen {
+    ghost use Rattle.std.specs.Prelude.{◌≡◌};
+
+    ghost is_clone = { λ s t. t ≡ s };
+
+    ghost is_infallible = { λ _. Unit {0} };
+
+    fn clone(&self) -> Result<Seen, AllocError> {
+        Ok(self.same())
+    }
+}
+
+const _: () = prove!(size_of::<Turns>() == 0);
+
+const _: () = prove!(size_of::<Seen>() == 0);

@@ -1,0 +1,112 @@
+-- Where no id is free: the text of each id but that of the dead state, and the text that needs one more, are prefixes of keys, no two the same.
+use Rattle.std.proofs.Common.{◌≡◌, ◌≢◌, ℕ, zero, suc, ◌+◌, ◌<◌, ◌≤◌, false, List, [], ◌∷◌, ◌++◌, length, map, get_or, Option, None, refl, sym, ap, ◌∙◌, subst, inl, inr, append_assoc, arith}
+use Rattle.std.proofs.lemmas.Option.{none-some, same_Some}
+use Rattle.std.proofs.lemmas.Bool.{false_from_ne_true}
+use Rattle.std.proofs.lemmas.List.{length-map}
+use Rattle.std.specs.List.{AllByRecursion, IsDistinct}
+use Rattle.std.specs.declared.cmp.Ordering.{Ordering}
+use Rattle.daachorse_model.specs.declared.MatchKind.{MatchKind}
+use Rattle.daachorse_model.specs.Units.{same_text}
+use Rattle.daachorse_model.specs.Dictionary.{dictionary, kept}
+use Rattle.daachorse_model.specs.Prefixes.{IsPrefix}
+use Rattle.daachorse_model.specs.Paths.{walk, Leads}
+use Rattle.daachorse_build.specs.declared.nfa_builder.NfaBuilderState.{NfaBuilderState}
+use Rattle.daachorse_build.specs.Trie.{IsTrie}
+use Rattle.daachorse_build.specs.Tables.{child_of, edges_of, depths_of}
+use Rattle.daachorse_build.specs.Growth.{Overflows}
+use Rattle.daachorse_build.specs.Holds.{in_units, Holds, HasMorePrefixes}
+use Rattle.daachorse_build.proofs.Labels.{text_exact}
+use Rattle.daachorse_build.proofs.Walks.{walk-push, text_of}
+use Rattle.daachorse_build.proofs.Registrations.{text_same, after, prefix_stays, prefix_now}
+
+-- no two texts are the same
+abbrev pub Apart : {A : Type 0} → List (List A) → Type 0
+Apart [] = Unit {0}
+Apart (w ∷ ws) = AllByRecursion (λ v. w ≢ v) ws × Apart ws
+
+-- texts of states below n, as many as there are but for the dead one
+pub record TextsBelow {A : Type 0} (child : ℕ → A → Option ℕ) (n : ℕ) : Type 0 where
+  pub texts : List (List A)
+  pub count : length texts + 1 ≡ n
+  pub lead : AllByRecursion (λ w. (t : ℕ) × (t < n) × Leads child w t) texts
+  pub apart : Apart texts
+
+module _ {A : Type 0} (child : ℕ → A → Option ℕ) where
+  higher : (n m : ℕ) → n ≤ m → (ws : List (List A)) → AllByRecursion (λ w. (t : ℕ) × (t < n) × Leads child w t) ws → AllByRecursion (λ w. (t : ℕ) × (t < m) × Leads child w t) ws
+  higher n m l [] h = tt
+  higher n m l (w ∷ ws) h = ((h.0.0, omega (arith, h.0.1), h.0.2), higher n m l ws h.1)
+
+  -- the text of n is none of those below it
+  new_text : (n : ℕ) (w : List A) → Leads child w n → (ws : List (List A)) → AllByRecursion (λ w. (t : ℕ) × (t < n) × Leads child w t) ws → AllByRecursion (λ v. w ≢ v) ws
+  new_text n w at [] h = tt
+  new_text n w at (v ∷ ws) h =
+      let ne : w ≢ v = λ e. (let same : n ≡ h.0.0 = same_Some n h.0.0 (sym at ∙ ap (walk child 0) e ∙ h.0.2) in omega (arith, same, h.0.1)) in
+      (ne, new_text n w at ws h.1)
+
+  -- a text that leads nowhere is none that leads somewhere
+  lost_text : (n : ℕ) (w : List A) → walk child 0 w ≡ None → (ws : List (List A)) → AllByRecursion (λ w. (t : ℕ) × (t < n) × Leads child w t) ws → AllByRecursion (λ v. w ≢ v) ws
+  lost_text n w none [] h = tt
+  lost_text n w none (v ∷ ws) h =
+      (λ e. none-some h.0.0 (sym none ∙ ap (walk child 0) e ∙ h.0.2), lost_text n w none ws h.1)
+
+  texts_below : (depth : ℕ → ℕ) (n : ℕ) → IsTrie child depth n → (k : ℕ) → k + 2 ≤ n → TextsBelow child (k + 2)
+  texts_below depth n trie zero h = record { texts = [] ∷ []; count = omega arith; lead = ((0, omega arith, refl), tt); apart = (tt, tt) }
+  texts_below depth n trie (suc k) h =
+      let rest = texts_below depth n trie k (omega arith) in
+      let text = text_of child depth n trie (k + 2) (omega arith) (omega arith) in
+      record {
+        texts = text.0 ∷ rest.texts;
+        count = omega (arith, rest.count);
+        lead = ((k + 2, omega arith, text.1), higher (k + 2) (suc k + 2) (omega arith) rest.texts rest.lead);
+        apart = (new_text (k + 2) text.0 text.1 rest.texts rest.lead, rest.apart);
+      }
+
+  -- as many texts as ids, less the dead state's
+  pub all_texts : (depth : ℕ → ℕ) (n : ℕ) → IsTrie child depth n → TextsBelow child n
+  all_texts depth n trie = below n trie.two (texts_below depth n trie)
+    where
+      below : (n : ℕ) → 1 < n → ((k : ℕ) → k + 2 ≤ n → TextsBelow child (k + 2)) → TextsBelow child n
+      below zero h f = absurd (omega arith)
+      below (suc zero) h f = absurd (omega arith)
+      below (suc (suc k)) h f =
+          let e : k + 2 ≡ suc (suc k) = omega arith in
+          subst (λ (m : ℕ). TextsBelow child m) e (f k (omega arith))
+
+-- texts that differ have units that differ
+distinct_units : {L : Type 0} (unit : L → ℕ) → ((a b : L) → unit a ≡ unit b → a ≡ b) → (ws : List (List L)) → Apart ws → IsDistinct same_text (map (map unit) ws)
+unfolding IsDistinct
+distinct_units unit exact [] h = tt
+distinct_units {L} unit exact (w ∷ ws) h = (others ws h.0, distinct_units unit exact ws h.1)
+  where
+    others : (vs : List (List L)) → AllByRecursion (λ v. w ≢ v) vs → AllByRecursion (λ y. same_text (map unit w) y ≡ false) (map (map unit) vs)
+    others [] k = tt
+    others (v ∷ vs) k =
+        (false_from_ne_true (same_text (map unit w) (map unit v)) (λ same. k.0 (text_exact unit exact w v (text_same (map unit w) (map unit v) same))), others vs k.1)
+
+module _ {L V A : Type 0} (cmp : L → L → Ordering) (unit : L → ℕ) (exact : (a b : L) → unit a ≡ unit b → a ≡ b) (width : ℕ → ℕ) (kind : MatchKind) (old : List (NfaBuilderState L V A)) (rs : List (List L × V)) (p : List L) (v : V) (adds : kept kind (in_units unit (rs ++ (p, v) ∷ [])) ≡ kept kind (in_units unit rs) ++ (map unit p, v) ∷ []) (holds : Holds cmp unit width kind old rs) where
+  -- a pattern that needs a state too many makes too many prefixes
+  pub too_many : (limit : ℕ) → Overflows cmp old p limit → HasMorePrefixes (dictionary kind (in_units unit (rs ++ (p, v) ∷ []))) limit
+  too_many limit over =
+      let mid = over.mid in
+      let child = child_of cmp mid in
+      let below = all_texts child (λ i. get_or (depths_of mid) i 0) (length (edges_of mid)) over.adding.trie.trie in
+      let lost = over.front ++ over.label ∷ [] in
+      let none : walk child 0 lost ≡ None = walk-push child 0 over.front over.label over.id over.adding.here ∙ over.none in
+      record {
+        texts = map (map unit) (lost ∷ below.texts);
+        distinct = distinct_units unit exact (lost ∷ below.texts) (lost_text child (length (edges_of mid)) lost none below.texts below.lead, below.apart);
+        prefixes = (prefix_now unit exact kind rs p v adds lost (over.rest, append_assoc over.front (over.label ∷ []) over.rest ∙ over.splits), all_prefixes below.texts below.lead);
+        more = omega (arith, over.full, below.count, length-map (lost ∷ below.texts) (map unit), length-map mid (λ s. s.edges.entries));
+      }
+    where
+      is_prefix : (w : List L) (t : ℕ) → Leads (child_of cmp over.mid) w t → IsPrefix (after unit exact kind rs p v adds) (map unit w)
+      is_prefix w t h =
+          elim (over.adding.grows.news w t h) [
+            | inl was ↦ prefix_stays unit exact kind rs p v adds (map unit w) (holds.only w t was)
+            | inr fresh ↦
+                prefix_now unit exact kind rs p v adds w (fresh.1.0 ++ (over.label ∷ over.rest), sym (append_assoc w fresh.1.0 (over.label ∷ over.rest)) ∙ ap (λ x. x ++ over.label ∷ over.rest) fresh.1.1 ∙ over.splits)
+          ]
+
+      all_prefixes : (ws : List (List L)) → AllByRecursion (λ w. (t : ℕ) × (t < length (edges_of over.mid)) × Leads (child_of cmp over.mid) w t) ws → AllByRecursion (IsPrefix (after unit exact kind rs p v adds)) (map (map unit) ws)
+      all_prefixes [] h = tt
+      all_prefixes (w ∷ ws) h = (is_prefix w h.0.0 h.0.2, all_prefixes ws h.1)

@@ -1,0 +1,176 @@
+-- How walks change where a trie grows.
+use Rattle.std.proofs.Common.{◌≡◌, ◌≢◌, ℕ, ◌+◌, ◌<◌, ◌≤◌, ◌⊎◌, true, cond, List, [], ◌∷◌, ◌++◌, length, get_or, set, Option, Some, None, option_and_then, refl, sym, ap, ◌∙◌, subst, inl, inr, arith, get_or-set_same, get_or-set_other}
+use Rattle.std.proofs.lemmas.Option.{option_and_then_some, none-some, same_Some}
+use Rattle.std.proofs.lemmas.List.{length_push, length-set, get_or_append_left, get_or_push, get_or_past}
+use Rattle.std.proofs.lemmas.Bool.{cases_Bool, cases_lt, cases_eq, cond-true, cond-false}
+use Rattle.std.specs.List.Sorted.{IsStrictlySortedBy}
+use Rattle.std.specs.declared.cmp.Ordering.{Ordering}
+use Rattle.std.specs.declared.cmp.Ordering.TheVariants.{Equal}
+use Rattle.std.specs.Cmp.{Equal-is, eq_by_cmp_equiv, IsTotalOrder}
+use Rattle.std.specs.BTreeMap.{is_at}
+use Rattle.std.specs.Map.{lookup, keys_of}
+use Rattle.daachorse_model.specs.Paths.{walk}
+use Rattle.daachorse_build.specs.Trie.{IsTrie}
+use Rattle.daachorse_build.specs.Tables.{child_in, IsTable}
+use Rattle.daachorse_build.specs.Growth.{AddsEdge}
+
+module _ {A : Type 0} (old new : ℕ → A → Option ℕ) (s : ℕ) (c : A) (t : ℕ) (adds : AddsEdge old new s c t) where
+  -- an old edge stays
+  pub edge_stays : (u : ℕ) (a : A) (v : ℕ) → old u a ≡ Some v → new u a ≡ Some v
+  edge_stays u a v h =
+      elim (adds.cases u a) [
+        | inl e ↦ absurd (none-some v (sym adds.was ∙ ap (λ x. old x c) (sym e.0) ∙ ap (old u) (sym e.1) ∙ h))
+        | inr e ↦ e ∙ h
+      ]
+
+  -- an old walk stays
+  pub walk_stays : (u : ℕ) (w : List A) (v : ℕ) → walk old u w ≡ Some v → walk new u w ≡ Some v
+  walk_stays u [] v h = h
+  walk_stays u (a ∷ as') v h =
+      option_and_then_some (λ x. walk old x as') (old u a) v h
+      (λ x e k. ap (option_and_then (λ y. walk new y as')) (edge_stays u a x e) ∙ walk_stays x as' v k)
+
+  end_of_leaf : (w : List A) (v : ℕ) → walk new t w ≡ Some v → (w ≡ []) × (v ≡ t)
+  end_of_leaf [] v h = (refl, sym (same_Some t v h))
+  end_of_leaf (a ∷ as') v h = absurd (none-some v (ap (option_and_then (λ y. walk new y as')) (sym (adds.leaf a)) ∙ h))
+
+  -- a new walk is old, or ends with the new edge
+  pub walk_came : (u : ℕ) (w : List A) (v : ℕ) → walk new u w ≡ Some v → (walk old u w ≡ Some v) ⊎ ((x : List A) × (w ≡ x ++ c ∷ []) × (walk old u x ≡ Some s) × (v ≡ t))
+  walk_came u [] v h = inl h
+  walk_came u (a ∷ as') v h =
+      option_and_then_some (λ x. walk new x as') (new u a) v h
+      (λ x e k.
+      elim (adds.cases u a) [
+        | inl r ↦
+            let at : x ≡ t = same_Some x t (sym e ∙ r.2) in
+            let P : ℕ → Type 0 = λ y. walk new y as' ≡ Some v in
+            let leaf = end_of_leaf as' v (subst P at k) in
+            inr ([], ap (λ b. b ∷ as') r.1 ∙ ap (λ bs. c ∷ bs) leaf.0, ap Some r.0, leaf.1)
+        | inr r ↦
+            let kept : old u a ≡ Some x = sym r ∙ e in
+            elim (walk_came x as' v k) [
+              | inl i ↦ inl (ap (option_and_then (λ y. walk old y as')) kept ∙ i)
+              | inr i ↦ inr (a ∷ i.0, ap (λ bs. a ∷ bs) i.1, ap (option_and_then (λ y. walk old y i.0)) kept ∙ i.2, i.3)
+            ]
+      ])
+
+  -- the trie with the new edge
+  pub trie_grows : (depth depth' : ℕ → ℕ) → IsTrie old depth t → s < t → s ≢ 1 → ((u : ℕ) → u < t → depth' u ≡ depth u) → depth' t ≡ depth s + 1 → ((a : A) → old t a ≡ None) → new s c ≡ Some t → IsTrie new depth' (t + 1)
+  trie_grows depth depth' trie l ne same last none is = record {
+    two = omega (arith, trie.two);
+    root = same 0 (omega (arith, trie.two)) ∙ trie.root;
+    bounds = λ u a v h.
+        elim (adds.cases u a) [
+          | inl r ↦ let e : v ≡ t = same_Some v t (sym h ∙ r.2) in (omega (arith, e, r.0), λ k. ne (sym r.0 ∙ k), omega (arith, e, trie.two), omega (arith, e))
+          | inr r ↦ let b = trie.bounds u a v (sym r ∙ h) in (b.0, b.1, b.2, omega (arith, b.3))
+        ];
+    deeper = λ u a v h.
+        elim (adds.cases u a) [
+          | inl r ↦
+              let e : v ≡ t = same_Some v t (sym h ∙ r.2) in
+              ap depth' e ∙ last ∙ ap (λ x. x + 1) (sym (same s l) ∙ ap depth' (sym r.0))
+          | inr r ↦
+              let b = trie.bounds u a v (sym r ∙ h) in
+              let d = trie.deeper u a v (sym r ∙ h) in
+              same v b.3 ∙ d ∙ ap (λ x. x + 1) (sym (same u (omega (arith, b.0, b.3))))
+        ];
+    shallow = λ u h.
+        elim (cases_lt u t) [
+          | inl below ↦ omega (arith, same u below, trie.shallow u below)
+          | inr above ↦ let e : u ≡ t = omega arith in omega (arith, ap depth' e, last, trie.shallow s l)
+        ];
+    one_parent = λ u a u' a' v h h'.
+        elim (adds.cases u a) [
+          | inl r ↦
+              let e : v ≡ t = same_Some v t (sym h ∙ r.2) in
+              elim (adds.cases u' a') [
+                | inl r' ↦ (r.0 ∙ sym r'.0, r.1 ∙ sym r'.1)
+                | inr r' ↦ let b = trie.bounds u' a' v (sym r' ∙ h') in absurd (omega (arith, e, b.3))
+              ]
+          | inr r ↦
+              let b = trie.bounds u a v (sym r ∙ h) in
+              elim (adds.cases u' a') [
+                | inl r' ↦ let e : v ≡ t = same_Some v t (sym h' ∙ r'.2) in absurd (omega (arith, e, b.3))
+                | inr r' ↦ trie.one_parent u a u' a' v (sym r ∙ h) (sym r' ∙ h')
+              ]
+        ];
+    reached = λ u low high.
+        elim (cases_lt u t) [
+          | inl below ↦ let r = trie.reached u low below in (r.0, r.1, edge_stays r.0 r.1 u r.2)
+          | inr above ↦ let e : t ≡ u = omega arith in (s, c, is ∙ ap Some e)
+        ];
+  }
+
+-- ---- in a table of edges
+is_at_same : {L : Type 0} (cmp : L → L → Ordering) → ((x y : L) → cmp x y ≡ Equal → x ≡ y) → (q k : L) → is_at (cmp q) k ≡ true → q ≡ k
+is_at_same cmp exact q k h = exact q k ((Equal-is (cmp q k)).0 h)
+
+module _ {L : Type 0} (cmp : L → L → Ordering) (total : IsTotalOrder cmp) (exact : (x y : L) → cmp x y ≡ Equal → x ≡ y) (edges : List (List (L × ℕ))) (depths : List ℕ) (table : IsTable cmp edges depths) (s : ℕ) (c : L) (d : ℕ) (es : List (L × ℕ)) (l : s < length edges) (ne : s ≢ 1) (was : child_in cmp edges s c ≡ None) (sorted : IsStrictlySortedBy cmp (keys_of es)) (found : (q : L) → lookup (is_at (cmp q)) es ≡ cond (is_at (cmp c) q) (Some (length edges)) (lookup (is_at (cmp q)) (get_or edges s []))) where
+  abbrev pub grown : List (List (L × ℕ))
+  grown = set edges s es ++ [] ∷ []
+
+  at_parent : get_or grown s [] ≡ es
+  at_parent =
+      let low : s < length (set edges s es) = omega (arith, length-set edges s es, l) in
+      get_or_append_left (set edges s es) ([] ∷ []) [] s low ∙ get_or-set_same edges s es [] l
+
+  at_other : (u : ℕ) → u ≢ s → get_or grown u [] ≡ get_or edges u []
+  at_other u apart =
+      elim (cases_lt u (length edges)) [
+        | inl below ↦
+            let low : u < length (set edges s es) = omega (arith, length-set edges s es) in
+            get_or_append_left (set edges s es) ([] ∷ []) [] u low ∙ get_or-set_other edges s u es [] apart
+        | inr above ↦
+            past u above (cases_eq (length (set edges s es)) u) ∙ sym (get_or_past edges u [] above)
+      ]
+    where
+      past : (u : ℕ) → length edges ≤ u → (length (set edges s es) ≡ u) ⊎ (length (set edges s es) ≡ u → ⊥) → get_or grown u [] ≡ []
+      past u above (inl e) = get_or_push (set edges s es) [] [] u e
+      past u above (inr apart) = get_or_past grown u [] (omega (arith, apart, length_push (set edges s es) [], length-set edges s es))
+
+  cases_of : (u : ℕ) (a : L) → ((u ≡ s) × (a ≡ c) × (child_in cmp grown u a ≡ Some (length edges))) ⊎ (child_in cmp grown u a ≡ child_in cmp edges u a)
+  cases_of u a =
+      elim (cases_eq u s) [
+        | inr apart ↦ inr (ap (lookup (is_at (cmp a))) (at_other u apart))
+        | inl e ↦
+            let here : child_in cmp grown u a ≡ cond (is_at (cmp c) a) (Some (length edges)) (child_in cmp edges s a) =
+            ap (λ x. lookup (is_at (cmp a)) (get_or grown x [])) e ∙ ap (lookup (is_at (cmp a))) at_parent ∙ found a in
+            elim (cases_Bool (is_at (cmp c) a)) [
+              | inl yes' ↦ inl (e, sym (is_at_same cmp exact c a yes'), here ∙ cond-true _ _ _ yes')
+              | inr no' ↦ inr (here ∙ cond-false _ _ _ no' ∙ ap (λ x. child_in cmp edges x a) (sym e))
+            ]
+      ]
+
+  none_past : (u : ℕ) (a : L) → length edges ≤ u → child_in cmp edges u a ≡ None
+  none_past u a above = ap (lookup (is_at (cmp a))) (get_or_past edges u [] above)
+
+  pub adds_edge : AddsEdge (child_in cmp edges) (child_in cmp grown) s c (length edges)
+  adds_edge = record {
+    was = was;
+    leaf = λ a.
+        let apart : length edges ≢ s = omega (arith, l) in
+        ap (lookup (is_at (cmp a))) (at_other (length edges) apart) ∙ none_past (length edges) a (omega arith);
+    cases = cases_of;
+  }
+
+  pub is_here : child_in cmp grown s c ≡ Some (length edges)
+  is_here = ap (lookup (is_at (cmp c))) at_parent ∙ found c ∙ cond-true (is_at (cmp c) c) _ _ ((eq_by_cmp_equiv total).refl c)
+
+  ordered_grown : (u : ℕ) → (u ≡ s) ⊎ (u ≡ s → ⊥) → IsStrictlySortedBy cmp (keys_of (get_or grown u []))
+  ordered_grown u (inl e) =
+      let P : List (L × ℕ) → Type 0 = λ fs. IsStrictlySortedBy cmp (keys_of fs) in
+      subst P (sym (ap (λ x. get_or grown x []) e ∙ at_parent)) sorted
+  ordered_grown u (inr apart) =
+      let P : List (L × ℕ) → Type 0 = λ fs. IsStrictlySortedBy cmp (keys_of fs) in
+      subst P (sym (at_other u apart)) (table.ordered u)
+
+  -- the table with the new edge
+  pub table_grows : length depths ≡ length edges → d ≡ get_or depths s 0 + 1 → IsTable cmp grown (depths ++ d ∷ [])
+  table_grows len deep =
+      let count : length grown ≡ length edges + 1 = length_push (set edges s es) [] ∙ ap (λ x. x + 1) (length-set edges s es) in
+      let trie = trie_grows (child_in cmp edges) (child_in cmp grown) s c (length edges) adds_edge (λ i. get_or depths i 0) (λ i. get_or (depths ++ d ∷ []) i 0) table.trie l ne (λ u h. get_or_append_left depths (d ∷ []) 0 u (omega (arith, len))) (get_or_push depths d 0 (length edges) len ∙ deep) (λ a. none_past (length edges) a (omega arith)) is_here in
+      let P : ℕ → Type 0 = λ n. IsTrie (child_in cmp grown) (λ i. get_or (depths ++ d ∷ []) i 0) n in
+      record {
+        ordered = λ u. ordered_grown u (cases_eq u s);
+        trie = subst P (sym count) trie;
+      }

@@ -1,0 +1,13 @@
+pub mod Walks
+pub mod Fails
+pub mod Queue
+pub mod Growing
+pub mod Labels
+pub mod States
+pub mod Registrations
+pub mod Empty
+pub mod OutputChains
+pub mod OutputLists
+pub mod Cleared
+pub mod Refusals
+pub mod Full

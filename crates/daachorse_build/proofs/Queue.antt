@@ -1,0 +1,384 @@
+-- The queue of a breadth-first walk, from step to step.
+use Rattle.std.proofs.Common.{◌≡◌, ◌≢◌, ℕ, zero, suc, ◌+◌, ◌<◌, ◌≤◌, ◌⊎◌, true, eqb, List, [], ◌∷◌, ◌++◌, length, get_or, take, set, replicate, Some, refl, sym, ap, ◌∙◌, subst, inl, inr, arith, append_assoc, get_or-set_same, get_or-set_other}
+use Rattle.std.proofs.lemmas.Option.{none-some, same_Some}
+use Rattle.std.proofs.lemmas.List.{append-nil, take-append-le, get_or_append_left, get_or_push, length_push, length-set, length-replicate, take_more, take_all, length-take-le, get_or-take, take_at, flat_map_more, get_or_default}
+use Rattle.std.proofs.lemmas.Map.Entries.{place_from_lookup, lookup_from_place}
+use Rattle.std.proofs.lemmas.Map.Keys.{IsDistinct-from_sorted, IsDistinct-from_apart}
+use Rattle.std.proofs.lemmas.Map.Steps.{length-le_from_distinct_below}
+use Rattle.std.specs.Cmp.{eq_by_cmp_equiv, IsTotalOrder}
+use Rattle.std.specs.declared.cmp.Ordering.{Ordering}
+use Rattle.std.specs.declared.cmp.Ordering.TheVariants.{Less}
+use Rattle.std.proofs.lemmas.Map.Keys.{Less-from_sorted}
+use Rattle.std.specs.List.{list_any}
+use Rattle.std.proofs.lemmas.Bool.{cases_lt, cases_eq, eqb-true, or_cases, false_from_ne_true, false≢true}
+use Rattle.std.specs.Ordering.{is_eq}
+use Rattle.std.specs.BTreeMap.{is_at}
+use Rattle.std.specs.List.{flat_map, slice_get}
+use Rattle.std.specs.Map.{keys_of, values_of}
+use Rattle.daachorse_build.specs.Trie.{IsFailOf}
+use Rattle.daachorse_build.specs.Tables.{child_in, IsTable}
+use Rattle.daachorse_build.specs.Orders.{IsIn, IsKnown, children, IsBreadthFirst, LinksComeFirst, StandOnce, AllLinked, IsSearch}
+use Rattle.daachorse_build.proofs.Fails.{LeadsTo, link_of_child, link_of_first}
+
+-- ---- elements
+pub in_left : (xs ys : List ℕ) (t : ℕ) → IsIn xs t → IsIn (xs ++ ys) t
+in_left [] ys t h = absurd h
+in_left (x ∷ xs) ys t (inl h) = inl h
+in_left (x ∷ xs) ys t (inr h) = inr (in_left xs ys t h)
+
+pub in_right : (xs ys : List ℕ) (t : ℕ) → IsIn ys t → IsIn (xs ++ ys) t
+in_right [] ys t h = h
+in_right (x ∷ xs) ys t h = inr (in_right xs ys t h)
+
+pub in_cases : (xs ys : List ℕ) (t : ℕ) → IsIn (xs ++ ys) t → IsIn xs t ⊎ IsIn ys t
+in_cases [] ys t h = inr h
+in_cases (x ∷ xs) ys t (inl h) = inl (inl h)
+in_cases (x ∷ xs) ys t (inr h) = elim (in_cases xs ys t h) [ inl a ↦ inl (inr a) | inr b ↦ inr b ]
+
+pub in_same : (xs ys : List ℕ) (t : ℕ) → xs ≡ ys → IsIn xs t → IsIn ys t
+in_same xs ys t e h = let P : List ℕ → Type 0 = λ zs. IsIn zs t in subst P e h
+
+pub in_equal : (xs : List ℕ) (t u : ℕ) → t ≡ u → IsIn xs t → IsIn xs u
+in_equal xs t u e h = let P : ℕ → Type 0 = λ v. IsIn xs v in subst P e h
+
+pub in_take : (n : ℕ) (xs : List ℕ) (t : ℕ) → IsIn (take n xs) t → IsIn xs t
+in_take zero xs t h = absurd h
+in_take (suc n) [] t h = absurd h
+in_take (suc n) (x ∷ xs) t (inl h) = inl h
+in_take (suc n) (x ∷ xs) t (inr h) = inr (in_take n xs t h)
+
+-- an element stands at some place
+pub place_of : (xs : List ℕ) (t : ℕ) → IsIn xs t → (i : ℕ) × (i < length xs) × (get_or xs i 0 ≡ t)
+place_of [] t h = absurd h
+place_of (x ∷ xs) t (inl h) = (0, omega arith, h)
+place_of (x ∷ xs) t (inr h) = let p = place_of xs t h in (suc p.0, omega (arith, p.1), p.2)
+
+pub in_at : (xs : List ℕ) (i : ℕ) → i < length xs → IsIn xs (get_or xs i 0)
+in_at [] i h = absurd (omega arith)
+in_at (x ∷ xs) zero h = inl refl
+in_at (x ∷ xs) (suc i) h = inr (in_at xs i (omega arith))
+
+in_take_at : (n : ℕ) (xs : List ℕ) (i : ℕ) → i < n → i < length xs → IsIn (take n xs) (get_or xs i 0)
+in_take_at zero xs i l h = absurd (omega arith)
+in_take_at (suc n) [] i l h = absurd (omega arith)
+in_take_at (suc n) (x ∷ xs) zero l h = inl refl
+in_take_at (suc n) (x ∷ xs) (suc i) l h = inr (in_take_at n xs i (omega arith) (omega arith))
+
+in_take_more : (m n : ℕ) (xs : List ℕ) (t : ℕ) → m ≤ n → IsIn (take m xs) t → IsIn (take n xs) t
+in_take_more zero n xs t l h = absurd h
+in_take_more (suc m) zero xs t l h = absurd (omega arith)
+in_take_more (suc m) (suc n) [] t l h = absurd h
+in_take_more (suc m) (suc n) (x ∷ xs) t l (inl h) = inl h
+in_take_more (suc m) (suc n) (x ∷ xs) t l (inr h) = inr (in_take_more m n xs t (omega arith) h)
+
+known_more : (m n : ℕ) (xs : List ℕ) (t : ℕ) → m ≤ n → IsKnown (take m xs) t → IsKnown (take n xs) t
+known_more m n xs t l (inl h) = inl h
+known_more m n xs t l (inr h) = inr (in_take_more m n xs t l h)
+
+pub known_but_root : (xs : List ℕ) (t : ℕ) → t ≢ 0 → IsKnown xs t → IsIn xs t
+known_but_root xs t ne (inl e) = absurd (ne e)
+known_but_root xs t ne (inr h) = h
+
+pub in_flat_map : (f : ℕ → List ℕ) (xs : List ℕ) (t : ℕ) → IsIn (flat_map f xs) t → (s : ℕ) × IsIn xs s × IsIn (f s) t
+in_flat_map f [] t h = absurd h
+in_flat_map f (x ∷ xs) t h =
+    elim (in_cases (f x) (flat_map f xs) t h) [
+      | inl a ↦ (x, inl refl, a)
+      | inr b ↦ let r = in_flat_map f xs t b in (r.0, inr r.1, r.2)
+    ]
+
+pub flat_map_in : (f : ℕ → List ℕ) (xs : List ℕ) (s t : ℕ) → IsIn xs s → IsIn (f s) t → IsIn (flat_map f xs) t
+flat_map_in f [] s t h k = absurd h
+flat_map_in f (x ∷ xs) s t (inl h) k =
+    let P : ℕ → Type 0 = λ v. IsIn (f v) t in
+    in_left (f x) (flat_map f xs) t (subst P (sym h) k)
+flat_map_in f (x ∷ xs) s t (inr h) k = in_right (f x) (flat_map f xs) t (flat_map_in f xs s t h k)
+
+-- ---- an element more at the end
+get_or_last : (xs : List ℕ) (t i : ℕ) → length xs ≡ i → get_or (xs ++ t ∷ []) i 0 ≡ t
+get_or_last xs t i e = get_or_push xs t 0 i e
+
+once_push : (xs : List ℕ) (t : ℕ) → StandOnce xs → (IsIn xs t → ⊥) → StandOnce (xs ++ t ∷ [])
+once_push xs t once fresh = λ i l h.
+    elim (cases_lt i (length xs)) [
+      | inl below ↦ once i below (in_same _ _ _ (take-append-le i xs (t ∷ []) (omega arith)) (in_equal _ _ _ (get_or_append_left xs (t ∷ []) 0 i below) h))
+      | inr above ↦
+          let len = length_push xs t in
+          let e : length xs ≡ i = omega arith in
+          fresh (in_same _ _ _ (take_at xs (t ∷ []) i e) (in_equal _ _ _ (get_or_last xs t i e) h))
+    ]
+
+-- ---- edges and children
+-- what stands at a place, under any key for places past the end
+entry_at : {L : Type 0} (es : List (L × ℕ)) (i : ℕ) → i < length (values_of es) → (c : L) × (slice_get es i ≡ Some (c, get_or (values_of es) i 0)) × ((d : L) → get_or (keys_of es) i d ≡ c)
+entry_at [] i h = absurd (omega arith)
+entry_at (e ∷ es) zero h = (e.0, refl, λ d. refl)
+entry_at (e ∷ es) (suc i) h = entry_at es i (omega arith)
+
+length_keys : {L : Type 0} (es : List (L × ℕ)) → length (keys_of es) ≡ length (values_of es)
+length_keys [] = refl
+length_keys (e ∷ es) = ap suc (length_keys es)
+
+value_at : {L : Type 0} (es : List (L × ℕ)) (i : ℕ) (c : L) (t : ℕ) → slice_get es i ≡ Some (c, t) → (i < length (values_of es)) × (get_or (values_of es) i 0 ≡ t)
+value_at [] i c t h = absurd (none-some _ h)
+value_at (e ∷ es) zero c t h = (omega arith, ap (λ p. p.1) (same_Some e (c, t) h))
+value_at (e ∷ es) (suc i) c t h = let r = value_at es i c t h in (omega (arith, r.0), r.1)
+
+any_in : (xs : List ℕ) (q : ℕ) → list_any (eqb q) xs ≡ true → IsIn xs q
+any_in [] q h = false≢true h
+any_in (x ∷ xs) q h =
+    elim (or_cases (eqb q x) (list_any (eqb q) xs) h)
+    [ inl a ↦ inl (sym (eqb-true q x a)) | inr b ↦ inr (any_in xs q b) ]
+
+value_in : {L : Type 0} (es : List (L × ℕ)) (i : ℕ) (k : L) (t : ℕ) → slice_get es i ≡ Some (k, t) → IsIn (values_of es) t
+value_in [] i k t h = absurd (none-some _ h)
+value_in (e ∷ es) zero k t h = inl (ap (λ p. p.1) (same_Some e (k, t) h))
+value_in (e ∷ es) (suc i) k t h = inr (value_in es i k t h)
+
+value_place : {L : Type 0} (es : List (L × ℕ)) (t : ℕ) → IsIn (values_of es) t → (i : ℕ) × (c : L) × (slice_get es i ≡ Some (c, t))
+value_place [] t h = absurd h
+value_place (e ∷ es) t (inl h) = (0, e.0, ap (λ v. Some (e.0, v)) h)
+value_place (e ∷ es) t (inr h) = let p = value_place es t h in (suc p.0, p.1, p.2)
+
+module _ {L : Type 0} (cmp : L → L → Ordering) (total : IsTotalOrder cmp) (edges : List (List (L × ℕ))) (depths : List ℕ) (table : IsTable cmp edges depths) where
+  -- what stands in the list of edges
+  pub child_at_place : (s i : ℕ) (c : L) (t : ℕ) → slice_get (get_or edges s []) i ≡ Some (c, t) → child_in cmp edges s c ≡ Some t
+  child_at_place s i c t h =
+      lookup_from_place (eq_by_cmp_equiv total) (get_or edges s []) i c t (IsDistinct-from_sorted cmp _ (table.ordered s)) h
+
+  pub listed_of_child : (s : ℕ) (c : L) (t : ℕ) → child_in cmp edges s c ≡ Some t → IsIn (children edges s) t
+  listed_of_child s c t h =
+      let p = place_from_lookup (is_at (cmp c)) (get_or edges s []) t h in
+      value_in (get_or edges s []) p.0 p.1 t p.2
+
+  pub child_of_listed : (s t : ℕ) → IsIn (children edges s) t → (c : L) × (child_in cmp edges s c ≡ Some t)
+  child_of_listed s t h =
+      let p = value_place (get_or edges s []) t h in
+      (p.1, child_at_place s p.0 p.1 t p.2)
+
+  -- no state is twice a child of one state
+  pub children_once : (s : ℕ) → StandOnce (children edges s)
+  children_once s = λ i l h.
+      let es = get_or edges s [] in
+      let p = place_of (take i (children edges s)) (get_or (children edges s) i 0) h in
+      let short : p.0 < i = omega (arith, p.1, length-take-le i (children edges s) (omega arith)) in
+      let low : p.0 < length (values_of es) = omega (arith, short, l) in
+      let x = entry_at es i l in
+      let y = entry_at es p.0 low in
+      let here = child_at_place s i _ _ x.1 in
+      let there = child_at_place s p.0 _ _ y.1 in
+      let same : get_or (values_of es) p.0 0 ≡ get_or (values_of es) i 0 = sym (get_or-take i (values_of es) p.0 0 short) ∙ p.2 in
+      let one = table.trie.one_parent s _ s _ _ (there ∙ ap Some same) here in
+      let rises : cmp (get_or (keys_of es) p.0 y.0) (get_or (keys_of es) i y.0) ≡ Less = Less-from_sorted cmp (keys_of es) p.0 i y.0 (table.ordered s) short (omega (arith, l, length_keys es)) in
+      let equal = (eq_by_cmp_equiv total).refl y.0 in
+      let less : cmp y.0 y.0 ≡ Less = ap (λ k. cmp k y.0) (sym (y.2 y.0)) ∙ ap (cmp (get_or (keys_of es) p.0 y.0)) (one.1 ∙ sym (x.2 y.0)) ∙ rises in
+      absurd (false≢true (sym (ap is_eq less) ∙ equal))
+
+  pub bounds_of_listed : (s t : ℕ) → IsIn (children edges s) t → (1 < t) × (t < length edges)
+  bounds_of_listed s t h =
+      let c = child_of_listed s t h in
+      let b = table.trie.bounds s c.0 t c.1 in
+      (b.2, b.3)
+
+  -- ---- the walk
+  get_or_zeros : (n t : ℕ) → ◌≡◌ {A = ℕ} (get_or (replicate n 0) t 0) 0
+  get_or_zeros zero t = refl
+  get_or_zeros (suc n) zero = refl
+  get_or_zeros (suc n) (suc t) = get_or_zeros n t
+
+  pub search_start : (n : ℕ) → n ≡ length edges → IsSearch cmp edges (replicate n 0) (children edges 0) 0 []
+  search_start n e = record {
+    queue = sym (append-nil (children edges 0)) ∙ sym (append-nil (children edges 0 ++ []));
+    within = omega arith;
+    states = λ t h. bounds_of_listed 0 t h;
+    one_each = length-replicate n 0 ∙ e;
+    linked = λ t h.
+        let c = child_of_listed 0 t h in
+        let P : ℕ → Type 0 = λ f. IsFailOf (child_in cmp edges) t f in
+        subst P (sym (get_or_zeros n t)) (link_of_first (child_in cmp edges) (λ i. get_or depths i 0) (length edges) table.trie c.0 t c.1);
+    earlier = λ i l. inl (get_or_zeros n (get_or (children edges 0) i 0));
+    once = children_once 0;
+  }
+
+  -- the state that is left next is known, and so is its link
+  pub link_is_known : (fails order pending : List ℕ) (next : ℕ) → IsSearch cmp edges fails order next pending → next < length order → IsKnown (take next order) (get_or fails (get_or order next 0) 0)
+  link_is_known fails order pending next search l = search.earlier next l
+
+  -- the link of a known state is known
+  pub known_link : (fails order pending : List ℕ) (next t : ℕ) → IsSearch cmp edges fails order next pending → IsIn (take next order) t → IsKnown (take next order) (get_or fails t 0)
+  known_link fails order pending next t search h =
+      let p = place_of (take next order) t h in
+      let len = length-take-le next order search.within in
+      let short : p.0 < next = omega (arith, p.1, len) in
+      let low : p.0 < length order = omega (arith, short, search.within) in
+      let e : get_or order p.0 0 ≡ t = sym (get_or-take next order p.0 0 short) ∙ p.2 in
+      let P : ℕ → Type 0 = λ u. IsKnown (take next order) (get_or fails u 0) in
+      subst P e (known_more p.0 next order _ (omega arith) (search.earlier p.0 low))
+
+  -- a child of the state that is left, which comes after the children pending, is new
+  pub child_is_new : (fails order : List ℕ) (next k : ℕ) (c : L) (t : ℕ) → (s : ℕ) → IsSearch cmp edges fails order next (take k (children edges s)) → next < length order → get_or order next 0 ≡ s → slice_get (get_or edges s []) k ≡ Some (c, t) → IsIn order t → ⊥
+  child_is_new fails order next k c t s search l is at h =
+      let here = child_at_place s k c t at in
+      let low : 1 < s = omega (arith, search.states (get_or order next 0) (in_at order next l), is) in
+      elim (in_cases (children edges 0 ++ flat_map (children edges) (take next order)) (take k (children edges s)) t (in_same _ _ t search.queue h)) [
+        | inl before ↦
+            elim (in_cases (children edges 0) (flat_map (children edges) (take next order)) t before) [
+              | inl first ↦
+                  let r = child_of_listed 0 t first in
+                  let one = table.trie.one_parent 0 r.0 s c t r.1 here in
+                  omega (arith, one.0, low)
+              | inr later ↦
+                  let p = in_flat_map (children edges) (take next order) t later in
+                  let r = child_of_listed p.0 t p.2 in
+                  let one = table.trie.one_parent p.0 r.0 s c t r.1 here in
+                  search.once next l (in_equal _ _ _ (one.0 ∙ sym is) p.1)
+            ]
+        | inr pending ↦
+            let v = value_at (get_or edges s []) k c t at in
+            children_once s k v.0 (in_equal _ _ _ (sym v.1) pending)
+      ]
+
+  -- where the link of a child comes from
+  abbrev pub ComesFrom : List ℕ → L → ℕ → Type 0
+  ComesFrom done c r = (r ≡ 0) ⊎ ((f : ℕ) × IsKnown done f × (child_in cmp edges f c ≡ Some r))
+
+  known_reached : (order pending : List ℕ) (next : ℕ) (c : L) (r : ℕ) → order ≡ (children edges 0 ++ flat_map (children edges) (take next order)) ++ pending → ComesFrom (take next order) c r → IsKnown order r
+  known_reached order pending next c r queue (inl e) = inl e
+  known_reached order pending next c r queue (inr (f, inl e, h)) =
+      let P : ℕ → Type 0 = λ s. IsIn (children edges s) r in
+      inr (in_same _ _ r (sym queue) (in_left _ pending r (in_left (children edges 0) _ r (subst P e (listed_of_child f c r h)))))
+  known_reached order pending next c r queue (inr (f, inr known, h)) =
+      inr (in_same _ _ r (sym queue) (in_left _ pending r (in_right (children edges 0) _ r (flat_map_in (children edges) (take next order) f r known (listed_of_child f c r h)))))
+
+  linked_push : (fails order : List ℕ) (t r : ℕ) → t < length fails → AllLinked cmp edges fails order → (IsIn order t → ⊥) → IsFailOf (child_in cmp edges) t r → AllLinked cmp edges (set fails t r) (order ++ t ∷ [])
+  linked_push fails order t r l linked fresh link = λ u h.
+      let P : ℕ → Type 0 = λ f. IsFailOf (child_in cmp edges) u f in
+      elim (in_cases order (t ∷ []) u h) [
+        | inl old ↦
+            let ne : u ≢ t = λ e. fresh (in_equal order u t e old) in
+            subst P (sym (get_or-set_other fails t u r 0 ne)) (linked u old)
+        | inr new ↦
+            elim new [
+              | inl e ↦
+                  let Q : ℕ → Type 0 = λ v. IsFailOf (child_in cmp edges) v (get_or (set fails t r) v 0) in
+                  let R : ℕ → Type 0 = λ f. IsFailOf (child_in cmp edges) t f in
+                  subst Q e (subst R (sym (get_or-set_same fails t r 0 l)) link)
+              | inr none ↦ absurd none
+            ]
+      ]
+
+  earlier_push : (fails order : List ℕ) (t r : ℕ) → t < length fails → LinksComeFirst fails order → (IsIn order t → ⊥) → IsKnown order r → LinksComeFirst (set fails t r) (order ++ t ∷ [])
+  earlier_push fails order t r l earlier fresh known = λ i h.
+      elim (cases_lt i (length order)) [
+        | inl below ↦
+            let at : get_or (order ++ t ∷ []) i 0 ≡ get_or order i 0 = get_or_append_left order (t ∷ []) 0 i below in
+            let ne : get_or order i 0 ≢ t = λ e. fresh (in_equal order _ t e (in_at order i below)) in
+            let fail : get_or (set fails t r) (get_or (order ++ t ∷ []) i 0) 0 ≡ get_or fails (get_or order i 0) 0 = ap (λ u. get_or (set fails t r) u 0) at ∙ get_or-set_other fails t _ r 0 ne in
+            let front : take i (order ++ t ∷ []) ≡ take i order = take-append-le i order (t ∷ []) (omega arith) in
+            rw (front, fail) (earlier i below)
+        | inr above ↦
+            let len = length_push order t in
+            let e : length order ≡ i = omega arith in
+            let fail : get_or (set fails t r) (get_or (order ++ t ∷ []) i 0) 0 ≡ r = ap (λ u. get_or (set fails t r) u 0) (get_or_last order t i e) ∙ get_or-set_same fails t r 0 l in
+            let front : take i (order ++ t ∷ []) ≡ order = take_at order (t ∷ []) i e in
+            rw (front, fail) known
+      ]
+
+  states_push : (order : List ℕ) (t : ℕ) → ((u : ℕ) → IsIn order u → (1 < u) × (u < length edges)) → (1 < t) × (t < length edges) → (u : ℕ) → IsIn (order ++ t ∷ []) u → (1 < u) × (u < length edges)
+  states_push order t old b u h =
+      elim (in_cases order (t ∷ []) u h) [
+        | inl in' ↦ old u in'
+        | inr new ↦ elim new [ inl e ↦ (omega (arith, e, b.0), omega (arith, e, b.1)) | inr none ↦ absurd none ]
+      ]
+
+  -- one child more
+  pub search_push : (fails order : List ℕ) (next k : ℕ) (c : L) (t s start r : ℕ) → IsSearch cmp edges fails order next (take k (children edges s)) → next < length order → get_or order next 0 ≡ s → slice_get (get_or edges s []) k ≡ Some (c, t) → IsFailOf (child_in cmp edges) s start → LeadsTo (child_in cmp edges) start c r → ComesFrom (take next order) c r → IsSearch cmp edges (set fails t r) (order ++ t ∷ []) next (take (k + 1) (children edges s))
+  search_push fails order next k c t s start r search l is at link to from =
+      let here = child_at_place s k c t at in
+      let b = table.trie.bounds s c t here in
+      let v = value_at (get_or edges s []) k c t at in
+      let low : 1 < s = omega (arith, search.states (get_or order next 0) (in_at order next l), is) in
+      let fresh : IsIn order t → ⊥ = child_is_new fails order next k c t s search l is at in
+      let in' : t < length fails = omega (arith, b.3, search.one_each) in
+      let front : take next (order ++ t ∷ []) ≡ take next order = take-append-le next order (t ∷ []) (omega arith) in
+      record {
+        queue =
+            ap (λ xs. xs ++ t ∷ []) search.queue
+            ∙ append_assoc (children edges 0 ++ flat_map (children edges) (take next order)) (take k (children edges s)) (t ∷ [])
+            ∙ ap (λ xs. (children edges 0 ++ flat_map (children edges) (take next order)) ++ xs) (ap (λ u. take k (children edges s) ++ u ∷ []) (sym v.1) ∙ sym (take_more (children edges s) k 0 v.0))
+            ∙ ap (λ xs. (children edges 0 ++ flat_map (children edges) xs) ++ take (k + 1) (children edges s)) (sym front);
+        within = omega (arith, length_push order t);
+        states = states_push order t search.states (b.2, b.3);
+        one_each = length-set fails t r ∙ search.one_each;
+        linked = linked_push fails order t r in' search.linked fresh (link_of_child (child_in cmp edges) (λ i. get_or depths i 0) (length edges) table.trie s c t start r low here link to);
+        earlier = earlier_push fails order t r in' search.earlier fresh (known_reached order _ next c r search.queue from);
+        once = once_push order t search.once fresh;
+      }
+
+  -- on to the state after the one that is left
+  pub search_next : (fails order : List ℕ) (next s : ℕ) → IsSearch cmp edges fails order next (children edges s) → next < length order → get_or order next 0 ≡ s → IsSearch cmp edges fails order (next + 1) []
+  search_next fails order next s search l is =
+      let more : take (next + 1) order ≡ take next order ++ s ∷ [] = take_more order next 0 l ∙ ap (λ u. take next order ++ u ∷ []) is in
+      record {
+        queue =
+            search.queue
+            ∙ flat_map_more (children edges) (children edges 0) (take next order) s
+            ∙ ap (λ xs. children edges 0 ++ flat_map (children edges) xs) (sym more)
+            ∙ sym (append-nil (children edges 0 ++ flat_map (children edges) (take (next + 1) order)));
+        within = omega arith;
+        states = search.states;
+        one_each = search.one_each;
+        linked = search.linked;
+        earlier = search.earlier;
+        once = search.once;
+      }
+
+  -- where each state has been left, the order is breadth-first
+  pub search_end : (fails order : List ℕ) (next : ℕ) → IsSearch cmp edges fails order next [] → length order ≤ next → IsBreadthFirst edges order
+  search_end fails order next search l =
+      search.queue ∙ append-nil _ ∙ ap (λ xs. children edges 0 ++ flat_map (children edges) xs) (take_all next order l)
+
+  -- no more states stand in the queue than there are
+  pub length-order : (fails order pending : List ℕ) (next : ℕ) → IsSearch cmp edges fails order next pending → length order ≤ length edges
+  length-order fails order pending next search =
+      length-le_from_distinct_below order (length edges)
+      (IsDistinct-from_apart eqb order (λ i j d l h.
+      false_from_ne_true _ (λ e.
+      search.once j h
+      (in_equal (take j order) _ _
+      (get_or_default order i 0 d (omega arith) ∙ eqb-true _ _ e ∙ get_or_default order j d 0 h)
+      (in_take_at j order i l (omega arith))))))
+      (λ q h. (search.states q (any_in order q h)).1)
+
+  complete_step : (order : List ℕ) → IsBreadthFirst edges order → (s t : ℕ) → IsKnown order s → IsIn (children edges s) t → IsIn order t
+  complete_step order first s t (inl e) h =
+      let P : ℕ → Type 0 = λ u. IsIn (children edges u) t in
+      in_same _ _ t (sym first) (in_left (children edges 0) (flat_map (children edges) order) t (subst P e h))
+  complete_step order first s t (inr known) h =
+      in_same _ _ t (sym first) (in_right (children edges 0) (flat_map (children edges) order) t (flat_map_in (children edges) order s t known h))
+
+  complete_by : (order : List ℕ) → IsBreadthFirst edges order → (k t : ℕ) → get_or depths t 0 ≤ k → 1 < t → t < length edges → IsIn order t
+  complete_by order first zero t e low high =
+      let r = table.trie.reached t low high in
+      absurd (omega (arith, table.trie.deeper r.0 r.1 t r.2))
+  complete_by order first (suc k) t e low high =
+      let r = table.trie.reached t low high in
+      let b = table.trie.bounds r.0 r.1 t r.2 in
+      let child' = listed_of_child r.0 r.1 t r.2 in
+      elim (cases_eq r.0 0) [
+        | inl root ↦ complete_step order first r.0 t (inl root) child'
+        | inr ne ↦
+            let less : get_or depths r.0 0 ≤ k = omega (arith, table.trie.deeper r.0 r.1 t r.2) in
+            let above : 1 < r.0 = omega (arith, ne, b.1) in
+            let below : r.0 < length edges = omega (arith, b.0, high) in
+            complete_step order first r.0 t (inr (complete_by order first k r.0 less above below)) child'
+      ]
+
+  -- each state stands in the order
+  pub all_in_order : (order : List ℕ) → IsBreadthFirst edges order → (t : ℕ) → 1 < t → t < length edges → IsIn order t
+  all_in_order order first t low high = complete_by order first (get_or depths t 0) t (omega arith) low high
+
+  -- a known state is one
+  pub known_bounds : (fails order pending : List ℕ) (next t : ℕ) → IsSearch cmp edges fails order next pending → IsKnown (take next order) t → t < length edges
+  known_bounds fails order pending next t search (inl e) = omega (arith, table.trie.two, e)
+  known_bounds fails order pending next t search (inr known) = omega (arith, (search.states t (in_take next order t known)).1)

@@ -1,0 +1,57 @@
+-- The breadth-first order of the states, and the failure links.
+use Rattle.std.specs.Prelude.{◌≡◌, ℕ, ◌<◌, ◌≤◌, ◌⊎◌, List, [], ◌∷◌, ◌++◌, length, take, slice_index, slice_index_or}
+use Rattle.std.specs.declared.cmp.Ordering.{Ordering}
+use Rattle.std.specs.List.{flat_map}
+use Rattle.std.specs.Map.{values_of}
+use Rattle.daachorse_build.specs.declared.nfa_builder.NfaBuilderState.{NfaBuilderState}
+use Rattle.daachorse_build.specs.Trie.{IsFailOf}
+use Rattle.daachorse_build.specs.Tables.{child_in, edges_of, fails_of}
+
+-- x is an element
+abbrev pub IsIn : List ℕ → ℕ → Type 0
+IsIn [] x = ⊥
+IsIn (y ∷ ys) x = (y ≡ x) ⊎ IsIn ys x
+
+-- the root, or an element
+abbrev pub IsKnown : List ℕ → ℕ → Type 0
+IsKnown xs t = (t ≡ 0) ⊎ IsIn xs t
+
+-- the children of a state, by rising labels
+abbrev pub children : {L : Type 0} → List (List (L × ℕ)) → ℕ → List ℕ
+children edges s = values_of (slice_index_or edges s [])
+
+-- the states but the root, those nearer to it first
+abbrev pub IsBreadthFirst : {L : Type 0} → List (List (L × ℕ)) → List ℕ → Type 0
+IsBreadthFirst edges order = order ≡ children edges 0 ++ flat_map (children edges) order
+
+-- each state's link is the root or stands before it
+abbrev pub LinksComeFirst : List ℕ → List ℕ → Type 0
+LinksComeFirst fails order = (i : ℕ) → i < length order → IsKnown (take i order) (slice_index fails (slice_index order i))
+
+-- no state stands twice
+abbrev pub StandOnce : List ℕ → Type 0
+StandOnce order = (i : ℕ) → i < length order → IsIn (take i order) (slice_index order i) → ⊥
+
+-- each state's link is right
+abbrev pub AllLinked : {L : Type 0} → (L → L → Ordering) → List (List (L × ℕ)) → List ℕ → List ℕ → Type 0
+AllLinked cmp edges fails order = (t : ℕ) → IsIn order t → IsFailOf (child_in cmp edges) t (slice_index fails t)
+
+-- the order is breadth-first, and the links of its states are right
+pub record IsLinked {L : Type 0} (cmp : L → L → Ordering) (edges : List (List (L × ℕ))) (fails order : List ℕ) : Type 0 where
+  pub first : IsBreadthFirst edges order
+  pub linked : AllLinked cmp edges fails order
+  pub earlier : LinksComeFirst fails order
+  pub once : StandOnce order
+
+abbrev pub HoldLinks : {L V A : Type 0} → (L → L → Ordering) → List (NfaBuilderState L V A) → List ℕ → Type 0
+HoldLinks cmp states order = IsLinked cmp (edges_of states) (fails_of states) order
+
+-- a walk whose first next states have been left, and which stands at the children pending of the one after them
+pub record IsSearch {L : Type 0} (cmp : L → L → Ordering) (edges : List (List (L × ℕ))) (fails order : List ℕ) (next : ℕ) (pending : List ℕ) : Type 0 where
+  pub queue : order ≡ (children edges 0 ++ flat_map (children edges) (take next order)) ++ pending
+  pub within : next ≤ length order
+  pub states : (t : ℕ) → IsIn order t → (1 < t) × (t < length edges)
+  pub one_each : length fails ≡ length edges
+  pub linked : AllLinked cmp edges fails order
+  pub earlier : LinksComeFirst fails order
+  pub once : StandOnce order

@@ -1,0 +1,550 @@
+//! The trie of the patterns, with its failure links and its lists of outputs.
+//!
+//! A builder has a state for each beginning of a pattern. The layers above may rely on three
+//! things: after `add` the trie holds the patterns that were registered, after `build_fails` the
+//! link of each state is that of the longest proper suffix which is a state's text, and after
+//! `build_outputs` the list at a state's position has the values of its text and of each of its
+//! suffixes, the longest first.
+
+ghost use Rattle.std.specs.Prelude.{◌≡◌, ◌≢◌, ℕ, ◌+◌, ◌<◌, ◌≤◌, ◌++◌, ◌∷◌, [], List, None, length, map, take, slice_index, vec_len, IfOk, IfErr, OnOk};
+ghost use Rattle.daachorse_model.specs.declared.MatchKind.TheVariants.{Standard};
+ghost use Rattle.daachorse_model.specs.Units.{size};
+ghost use Rattle.daachorse_model.specs.Dictionary.{dictionary, kept};
+ghost use Rattle.daachorse_model.specs.Paths.{Leads};
+ghost use Rattle.daachorse_model.specs.Outputs.{outputs_of_ends};
+ghost use Rattle.daachorse_core.specs.Outputs.{ParentsFall, outputs_at, number};
+ghost use Rattle.daachorse_core.specs.declared.errors.Limit.TheVariants.{Outputs, StateId};
+ghost use Rattle.daachorse_core.specs.declared.errors.DaachorseError.TheVariants.{InvalidArgument};
+ghost use Rattle.daachorse_core.specs.declared.outputs.Output.{Output as OutputOf};
+ghost use Rattle.daachorse_build.specs.Tables.{edges_of, fails_of, positions_of, own_of, own_at, output_count, child_of, HoldTrie, edge_map, depth_of, held_by, link_of, position_of};
+ghost use Rattle.daachorse_build.specs.Orders.{IsKnown, HoldLinks};
+ghost use Rattle.daachorse_build.specs.Searches.{Searches, LeadsTo, ComesFrom};
+ghost use Rattle.daachorse_build.specs.Growth.{Extends, IsAdded, HasTrieOf, Overflows};
+ghost use Rattle.daachorse_build.specs.Holds.{in_units, HasMorePrefixes};
+ghost use Rattle.daachorse_build.specs.Lists.{PositionsFit, AreListed};
+ghost use Rattle.daachorse_build.specs.Builders.{states_of, outputs_of, count_of, kind_of, Registered, IsRefusal, IsOutOfMemory};
+
+pub use daachorse_core::edge_label::EdgeLabel;
+use daachorse_core::errors::{DaachorseError, Limit, OutOfMemoryError, Result};
+use daachorse_core::{MatchKind, Output};
+use std::alloc::{Allocator, Global};
+use std::collections::BTreeMap;
+use std::num::NonZeroU32;
+
+/// The id of the root, the state of the empty text.
+pub const ROOT_STATE_ID: u32 = 0;
+
+/// The id of the dead state, which no text leads to.
+pub const DEAD_STATE_ID: u32 = 1;
+
+/// A state of the trie.
+#[derive(Drop)]
+pub struct NfaBuilderState<L: EdgeLabel, V: Copy, A: Allocator = Global> {
+    edges: BTreeMap<L, u32, A>,
+    // The length of the state's text, in labels.
+    depth: u32,
+    fail: u32,
+    output: Vec<(V, u32), A>,
+    // 0 stands for none, since an `Option<NonZeroU32>` would take twice the bytes.
+    output_pos: u32,
+}
+
+impl<L: EdgeLabel, V: Copy, A: Allocator> NfaBuilderState<L, V, A> {
+    /// The edges: for each label the id of the child.
+    pub fn edges(&self) -> &BTreeMap<L, u32, A>
+        ensures { result.now ≡ edge_map self.now }
+    {
+        &self.edges
+    }
+
+    /// The id of the state's failure link, the root until the links are built.
+    pub fn fail(&self) -> u32
+        ensures { result ≡ link_of self.now }
+    {
+        self.fail
+    }
+
+    /// The position of the state's list of outputs, if it has one.
+    pub fn output_pos(&self) -> Option<NonZeroU32>
+        ensures { number result ≡ position_of self.now }
+    {
+        NonZeroU32::new(self.output_pos)
+    }
+}
+
+impl<L: EdgeLabel, V: Copy, A: Allocator + Copy> NfaBuilderState<L, V, A> {
+    /// A state with no edges and no outputs. It takes no memory.
+    pub fn new(alloc: A) -> Self
+        ensures edges { (edge_map result).entries ≡ [] }
+        ensures depth { depth_of result ≡ 0 }
+        ensures fail { link_of result ≡ 0 }
+        ensures outputs { held_by result ≡ [] }
+        ensures position { position_of result ≡ 0 }
+    {
+        Self::at_depth(alloc, 0)
+    }
+
+    /// A state with no edges and no outputs, whose text has `depth` labels.
+    fn at_depth(alloc: A, depth: u32) -> Self
+        ensures edges { result.edges.entries ≡ [] }
+        ensures depth { result.depth ≡ depth }
+        ensures fail { result.fail ≡ 0 }
+        ensures output { result.output.items ≡ [] }
+        ensures position { result.output_pos ≡ 0 }
+    {
+        Self {
+            edges: BTreeMap::new(alloc),
+            depth,
+            fail: ROOT_STATE_ID,
+            output: Vec::new(alloc),
+            output_pos: 0,
+        }
+    }
+}
+
+/// Builder of an Aho-Corasick automaton.
+#[derive(Drop)]
+pub struct NfaBuilder<L: EdgeLabel, V: Copy, A: Allocator = Global> {
+    states: Vec<NfaBuilderState<L, V, A>, A>,
+    outputs: Vec<Output<V>, A>,
+    len: usize,
+    kind: MatchKind,
+}
+
+impl<L: EdgeLabel, V: Copy, A: Allocator> NfaBuilder<L, V, A> {
+    /// The states: the root, the dead state, and one for each other beginning of a pattern.
+    pub fn states(&self) -> &[NfaBuilderState<L, V, A>]
+        ensures { result.now ≡ states_of self.now }
+    {
+        self.states.as_slice()
+    }
+
+    /// The outputs, none until they are built.
+    pub fn outputs(&self) -> &[Output<V>]
+        ensures { result.now ≡ outputs_of self.now }
+    {
+        self.outputs.as_slice()
+    }
+
+    /// How many patterns are kept.
+    pub fn num_patterns(&self) -> usize
+        ensures { result ≡ count_of self.now }
+    {
+        self.len
+    }
+
+    /// The states and the outputs.
+    pub fn into_parts(self) -> (Vec<NfaBuilderState<L, V, A>, A>, Vec<Output<V>, A>)
+        ensures states { result.0.items ≡ states_of self }
+        ensures outputs { result.1.items ≡ outputs_of self }
+    {
+        (self.states, self.outputs)
+    }
+}
+
+impl<L: EdgeLabel, V: Copy, A: Allocator + Copy> NfaBuilder<L, V, A> {
+    /// A builder with no pattern, for this kind of matches.
+    pub fn new(alloc: A, kind: MatchKind) -> Result<Self>
+        requires { kind ≡ Standard }
+        ensures kind { IfOk result (λ builder. kind_of builder ≡ kind) }
+        ensures outputs { IfOk result (λ builder. outputs_of builder ≡ []) }
+        ensures registered { IfOk result (λ builder. Registered L.cmp L.unit L.width builder []) }
+        ensures refused { IfErr result IsOutOfMemory }
+    {
+        let mut states = Vec::new(alloc);
+        states.push(NfaBuilderState::new(alloc))?;
+        states.push(NfaBuilderState::new(alloc))?;
+        Ok(Self {
+            states,
+            outputs: Vec::new(alloc),
+            len: 0,
+            kind,
+        })
+    }
+
+    /// Adds a pattern with its value. After an error the builder is of no use.
+    ///
+    /// # Errors
+    ///
+    /// A pattern of more than 4,294,967,295 bytes is refused, and so is one that needs the
+    /// state id 4,294,967,296.
+    pub fn add(&mut self, pattern: &[L], value: V) -> Result<()>
+        requires trie { HoldTrie L.cmp (states_of self.old) }
+        requires standard { kind_of self.old ≡ Standard }
+        ensures kind { kind_of self.new ≡ kind_of self.old }
+        ensures outputs { outputs_of self.new ≡ outputs_of self.old }
+        ensures trie { OnOk result (HoldTrie L.cmp (states_of self.new)) }
+        ensures registered { OnOk result ((rs : List (List L × V)) → Registered L.cmp L.unit L.width self.old rs → Registered L.cmp L.unit L.width self.new (rs ++ (pattern.now, value) ∷ [])) }
+        ensures refused { IfErr result (IsRefusal (4294967295 < size L.width (map L.unit pattern.now)) StateId ((rs : List (List L × V)) → Registered L.cmp L.unit L.width self.old rs → HasMorePrefixes (dictionary (kind_of self.old) (in_units L.unit (rs ++ (pattern.now, value) ∷ []))) 4294967295)) }
+    {
+        let size = pattern_size(pattern)?;
+        let Some(len) = self.len.checked_add(1) else {
+            return Err(DaachorseError::OutOfMemory(OutOfMemoryError));
+        };
+        add_pattern(&mut self.states, pattern, value, size)?;
+        self.len = len;
+        Ok(())
+    }
+
+    /// Sets the failure link of each state, and answers the ids of the states but the root,
+    /// breadth-first.
+    ///
+    /// # Errors
+    ///
+    /// It fails where an allocation does.
+    pub fn build_fails(&mut self, alloc: A) -> Result<Vec<u32, A>>
+        requires { HoldTrie L.cmp (states_of self.old) }
+        ensures kind { kind_of self.new ≡ kind_of self.old }
+        ensures patterns { count_of self.new ≡ count_of self.old }
+        ensures outputs { outputs_of self.new ≡ outputs_of self.old }
+        ensures kept { HasTrieOf (states_of self.old) (states_of self.new) }
+        ensures links { IfOk result (λ order. HoldLinks L.cmp (states_of self.new) order.items) }
+        ensures refused { IfErr result IsOutOfMemory }
+    {
+        let mut search = Search::new(alloc, &self.states)?;
+        while search.next < search.order.len() {
+            search.expand(&self.states)?;
+        }
+        set_links(&mut self.states, &search.links);
+        let Search { order, .. } = search;
+        Ok(order)
+    }
+
+    /// Makes the lists of outputs: that of the root is its own outputs, and that of each other
+    /// state is its own, and then the list of its link. `order` is what `build_fails` answered.
+    ///
+    /// # Errors
+    ///
+    /// More than 4,294,967,295 outputs are refused.
+    pub fn build_outputs(&mut self, order: &[u32]) -> Result<()>
+        requires trie { HoldTrie L.cmp (states_of self.old) }
+        requires links { HoldLinks L.cmp (states_of self.old) order.now }
+        requires unbuilt { outputs_of self.old ≡ [] }
+        ensures kind { kind_of self.new ≡ kind_of self.old }
+        ensures patterns { count_of self.new ≡ count_of self.old }
+        ensures kept { HasTrieOf (states_of self.old) (states_of self.new) }
+        ensures fails { fails_of (states_of self.new) ≡ fails_of (states_of self.old) }
+        ensures parents { ParentsFall (outputs_of self.new) }
+        ensures positions { OnOk result ((w : List L) (t : ℕ) → Leads (child_of L.cmp (states_of self.old)) w t → slice_index (positions_of (states_of self.new)) t ≤ length (outputs_of self.new)) }
+        ensures lists { OnOk result ((rs : List (List L × V)) → Registered L.cmp L.unit L.width self.old rs → (w : List L) (t : ℕ) → Leads (child_of L.cmp (states_of self.old)) w t → outputs_at (outputs_of self.new) (slice_index (positions_of (states_of self.new)) t) ≡ outputs_of_ends L.width (dictionary (kind_of self.old) (in_units L.unit rs)) (map L.unit w)) }
+        ensures refused { IfErr result (IsRefusal ⊥ Outputs ((rs : List (List L × V)) → Registered L.cmp L.unit L.width self.old rs → 4294967295 < length (kept (kind_of self.old) (in_units L.unit rs)))) }
+    {
+        put_lists(&mut self.states, &mut self.outputs, order)
+    }
+}
+
+/// How many bytes a pattern takes.
+fn pattern_size<L: EdgeLabel>(pattern: &[L]) -> Result<u32>
+    ensures size { IfOk result (λ n. n ≡ size L.width (map L.unit pattern.now)) }
+    ensures refused { IfErr result (λ e. (e ≡ InvalidArgument (record {})) × (4294967295 < size L.width (map L.unit pattern.now))) }
+{
+    let mut size = 0;
+    for label in pattern {
+        label.in_range();
+        size += label.num_bytes();
+        if size > u32::MAX as usize {
+            return Err(DaachorseError::invalid_argument());
+        }
+    }
+    Ok(size as u32)
+}
+
+/// The child of a state by a label.
+fn child<L: EdgeLabel, V: Copy, A: Allocator>(
+    states: &[NfaBuilderState<L, V, A>],
+    id: u32,
+    label: L,
+) -> Option<u32>
+    requires { id < length states.now }
+    ensures { result ≡ child_of L.cmp states.now id label }
+{
+    states[id as usize].edges.get(&label).copied()
+}
+
+/// The child of a state by a label, which is made where there is none.
+fn child_or_new<L: EdgeLabel, V: Copy, A: Allocator + Copy>(
+    states: &mut Vec<NfaBuilderState<L, V, A>, A>,
+    id: u32,
+    label: L,
+) -> Result<u32>
+    requires trie { HoldTrie L.cmp states.old.items }
+    requires in_range { id < vec_len states.old }
+    requires alive { id ≢ 1 }
+    ensures ok { IfOk result (λ t. Extends L.cmp states.old.items states.new.items id label t) }
+    ensures refused { IfErr result (IsRefusal ⊥ StateId ((4294967295 < vec_len states.old) × (child_of L.cmp states.old.items id label ≡ None))) }
+{
+    if let Some(found) = child(states, id, label) {
+        return Ok(found);
+    }
+    let Ok(fresh) = u32::try_from(states.len()) else {
+        return Err(DaachorseError::automaton_scale(Limit::StateId));
+    };
+    let alloc = *states.allocator();
+    let parent = &mut states[id as usize];
+    let depth = parent.depth + 1;
+    parent.edges.insert(label, fresh)?;
+    states.push(NfaBuilderState::at_depth(alloc, depth))?;
+    Ok(fresh)
+}
+
+/// Adds a pattern of `size` bytes with its value.
+fn add_pattern<L: EdgeLabel, V: Copy, A: Allocator + Copy>(
+    states: &mut Vec<NfaBuilderState<L, V, A>, A>,
+    pattern: &[L],
+    value: V,
+    size: u32,
+) -> Result<()>
+    requires { HoldTrie L.cmp states.old.items }
+    ensures ok { OnOk result (IsAdded L.cmp states.old.items states.new.items pattern.now (value, size)) }
+    ensures refused { IfErr result (IsRefusal ⊥ StateId (Overflows L.cmp states.old.items pattern.now 4294967295)) }
+{
+    let mut id = ROOT_STATE_ID;
+    for label in pattern {
+        id = child_or_new(states, id, *label)?;
+    }
+    states[id as usize].output.push((value, size))?;
+    Ok(())
+}
+
+/// A breadth-first walk over a trie, with the links found so far.
+#[derive(Drop)]
+struct Search<A: Allocator> {
+    // The failure link of each state that was found, and 0 for the others.
+    links: Vec<u32, A>,
+    order: Vec<u32, A>,
+    next: usize,
+}
+
+impl<A: Allocator + Copy> Search<A> {
+    /// The walk that has left the root.
+    fn new<L: EdgeLabel, V: Copy>(alloc: A, states: &[NfaBuilderState<L, V, A>]) -> Result<Self>
+        requires { HoldTrie L.cmp states.now }
+        ensures search { IfOk result (λ search. Searches L.cmp states.now search []) }
+        ensures refused { IfErr result IsOutOfMemory }
+    {
+        let links = vec![in alloc; 0; states.len()]?;
+        let root = ROOT_STATE_ID as usize;
+        let mut order = Vec::with_capacity(alloc, states.len())?;
+        for child in states[root].edges.values() {
+            order.push(*child)?;
+        }
+        Ok(Self {
+            links,
+            order,
+            next: 0,
+        })
+    }
+}
+
+impl<A: Allocator> Search<A> {
+    /// The state that `label` leads to from `start` or the first of the links after it with such
+    /// an edge; the root, where none has one.
+    fn follow<L: EdgeLabel, V: Copy>(
+        &self,
+        states: &[NfaBuilderState<L, V, A>],
+        start: u32,
+        label: L,
+    ) -> u32
+        requires table { HoldTrie L.cmp states.now }
+        requires search { (pending : List ℕ) × Searches L.cmp states.now self.now pending }
+        requires known { IsKnown (take self.now.next self.now.order.items) start }
+        ensures link { LeadsTo L.cmp (edges_of states.now) start label result }
+        ensures from { ComesFrom L.cmp (edges_of states.now) (take self.now.next self.now.order.items) label result }
+    {
+        let mut id = start;
+        loop {
+            if let Some(found) = child(states, id, label) {
+                return found;
+            }
+            if id == ROOT_STATE_ID {
+                return ROOT_STATE_ID;
+            }
+            id = self.links[id as usize];
+        }
+    }
+
+    /// Puts the children of the next state into the queue.
+    fn expand<L: EdgeLabel, V: Copy>(&mut self, states: &[NfaBuilderState<L, V, A>]) -> Result<()>
+        requires table { HoldTrie L.cmp states.now }
+        requires search { Searches L.cmp states.now self.old [] }
+        requires more { self.old.next < vec_len self.old.order }
+        ensures search { OnOk result (Searches L.cmp states.now self.new []) }
+        ensures next { OnOk result (self.new.next ≡ self.old.next + 1) }
+        ensures refused { IfErr result IsOutOfMemory }
+    {
+        let id = self.order[self.next];
+        let start = self.links[id as usize];
+        for (label, child) in states[id as usize].edges.iter() {
+            let fail = self.follow(states, start, *label);
+            self.links[*child as usize] = fail;
+            self.order.push(*child)?;
+        }
+        self.next += 1;
+        Ok(())
+    }
+}
+
+/// Gives each state its link.
+fn set_links<L: EdgeLabel, V: Copy, A: Allocator>(
+    states: &mut [NfaBuilderState<L, V, A>],
+    fails: &[u32],
+)
+    requires { length fails.now ≡ length states.old }
+    ensures kept { HasTrieOf states.old states.new }
+    ensures links { fails_of states.new ≡ fails.now }
+{
+    for i in 0..states.len() {
+        states[i].fail = fails[i];
+    }
+}
+
+/// Puts a state's own outputs in front of the list at a position, and answers where the new list
+/// begins.
+fn push_chain<V: Copy, A: Allocator>(
+    outputs: &mut Vec<Output<V>, A>,
+    own: &[(V, u32)],
+    parent: u32,
+) -> Result<u32>
+    requires parents { ParentsFall outputs.old.items }
+    requires parent { parent ≤ vec_len outputs.old }
+    ensures longer { (more : List (OutputOf V)) × (outputs.new.items ≡ outputs.old.items ++ more) }
+    ensures parents { ParentsFall outputs.new.items }
+    ensures count { OnOk result (vec_len outputs.new ≡ vec_len outputs.old + length own.now) }
+    ensures fits { IfOk result (λ position. position ≤ vec_len outputs.new) }
+    ensures list { IfOk result (λ position. outputs_at outputs.new.items position ≡ own.now ++ outputs_at outputs.old.items parent) }
+    ensures refused { IfErr result (IsRefusal ⊥ Outputs (4294967295 < vec_len outputs.old + length own.now)) }
+{
+    let mut last = parent;
+    let mut i = own.len();
+    while i > 0 {
+        i -= 1;
+        if outputs.len() >= u32::MAX as usize {
+            return Err(DaachorseError::automaton_scale(Limit::Outputs));
+        }
+        let output = own[i];
+        outputs.push(Output::new(output.0, output.1, NonZeroU32::new(last)))?;
+        last = outputs.len() as u32;
+    }
+    Ok(last)
+}
+
+/// Gives a state its own outputs and then the list at `parent`.
+fn put_list<L: EdgeLabel, V: Copy, A: Allocator>(
+    states: &mut [NfaBuilderState<L, V, A>],
+    outputs: &mut Vec<Output<V>, A>,
+    id: u32,
+    parent: u32,
+) -> Result<()>
+    requires id { id < length states.old }
+    requires parents { ParentsFall outputs.old.items }
+    requires parent { parent ≤ vec_len outputs.old }
+    ensures kept { HasTrieOf states.old states.new }
+    ensures fails { fails_of states.new ≡ fails_of states.old }
+    ensures longer { (more : List (OutputOf V)) × (outputs.new.items ≡ outputs.old.items ++ more) }
+    ensures parents { ParentsFall outputs.new.items }
+    ensures count { OnOk result (vec_len outputs.new ≡ vec_len outputs.old + length (own_at (own_of states.old) id)) }
+    ensures fits { OnOk result (slice_index (positions_of states.new) id ≤ vec_len outputs.new) }
+    ensures list { OnOk result (outputs_at outputs.new.items (slice_index (positions_of states.new) id) ≡ own_at (own_of states.old) id ++ outputs_at outputs.old.items parent) }
+    ensures others { OnOk result ((t : ℕ) → t ≢ id → slice_index (positions_of states.new) t ≡ slice_index (positions_of states.old) t) }
+    ensures refused { IfErr result (IsRefusal ⊥ Outputs (4294967295 < vec_len outputs.old + length (own_at (own_of states.old) id))) }
+{
+    let state = &mut states[id as usize];
+    state.output_pos = push_chain(outputs, &state.output, parent)?;
+    Ok(())
+}
+
+/// The position of the list of a state's link.
+fn fail_position<L: EdgeLabel, V: Copy, A: Allocator>(
+    states: &[NfaBuilderState<L, V, A>],
+    id: u32,
+) -> u32
+    requires id { id < length states.now }
+    requires fail { slice_index (fails_of states.now) id < length states.now }
+    ensures { result ≡ slice_index (positions_of states.now) (slice_index (fails_of states.now) id) }
+{
+    let fail = states[id as usize].fail;
+    states[fail as usize].output_pos
+}
+
+/// Makes the lists of outputs, of the root and then in order.
+fn put_lists<L: EdgeLabel, V: Copy, A: Allocator>(
+    states: &mut [NfaBuilderState<L, V, A>],
+    outputs: &mut Vec<Output<V>, A>,
+    order: &[u32],
+) -> Result<()>
+    requires trie { HoldTrie L.cmp states.old }
+    requires links { HoldLinks L.cmp states.old order.now }
+    requires unbuilt { outputs.old.items ≡ [] }
+    ensures kept { HasTrieOf states.old states.new }
+    ensures fails { fails_of states.new ≡ fails_of states.old }
+    ensures parents { ParentsFall outputs.new.items }
+    ensures positions { OnOk result (PositionsFit order.now outputs.new.items (positions_of states.new)) }
+    ensures lists { OnOk result (AreListed L.cmp states.old order.now outputs.new.items (positions_of states.new)) }
+    ensures refused { IfErr result (IsRefusal ⊥ Outputs (4294967295 < output_count (own_of states.old))) }
+{
+    put_list(states, outputs, ROOT_STATE_ID, 0)?;
+    for id in order {
+        let parent = fail_position(states, *id);
+        put_list(states, outputs, *id, parent)?;
+    }
+    Ok(())
+}
+
+#[cfg(test)]
+mod tests {
+    use super::*;
+    use std::test::Fail;
+
+    #[test]
+    fn builds_a_trie_with_links_and_outputs(rt: HostRuntime) -> Result<(), Fail> {
+        let alloc = rt.alloc();
+        let mut builder = NfaBuilder::<u8, u32>::new(alloc, MatchKind::Standard)?;
+        builder.add(b"bcd", 0)?;
+        builder.add(b"ab", 1)?;
+        builder.add(b"a", 2)?;
+        builder.add(b"b", 3)?;
+        builder.add(b"b", 4)?;
+        assert_eq!(rt; builder.num_patterns(), 5);
+        let order = builder.build_fails(alloc)?;
+        assert_eq!(rt; order.as_slice(), [5, 2, 6, 3, 4].as_slice());
+        builder.build_outputs(&order)?;
+        let (states, outputs) = builder.into_parts();
+        let root: Vec<(u8, u32)> = states[0]
+            .edges()
+            .iter()
+            .map(|(label, child)| (*label, *child))
+            .collect(alloc)?;
+        assert_eq!(rt; root.as_slice(), [(b'a', 5), (b'b', 2)].as_slice());
+        let fails: Vec<u32> = states.iter().map(|state| state.fail()).collect(alloc)?;
+        assert_eq!(rt; fails.as_slice(), [0, 0, 0, 0, 0, 0, 2].as_slice());
+        let positions: Vec<u32> = states
+            .iter()
+            .map(|state| state.output_pos().map_or(0, NonZeroU32::get))
+            .collect(alloc)?;
+        assert_eq!(rt; positions.as_slice(), [0, 0, 3, 0, 5, 1, 4].as_slice());
+        let chain: Vec<(u32, u32, u32)> = outputs
+            .iter()
+            .map(|output| {
+                let parent = output.parent().map_or(0, NonZeroU32::get);
+                (output.value(), output.length(), parent)
+            })
+            .collect(alloc)?;
+        assert_eq!(rt;
+            chain.as_slice(),
+            [(2, 1, 0), (4, 1, 0), (3, 1, 2), (1, 2, 3), (0, 3, 0)].as_slice()
+        );
+        Ok(())
+    }
+
+    #[test]
+    fn builds_the_empty_automaton(rt: HostRuntime) -> Result<(), Fail> {
+        let alloc = rt.alloc();
+        let mut builder = NfaBuilder::<u8, u32>::new(alloc, MatchKind::Standard)?;
+        let order = builder.build_fails(alloc)?;
+        builder.build_outputs(&order)?;
+        assert!(rt; order.is_empty());
+        assert!(rt; builder.outputs().is_empty());
+        assert_eq!(rt; builder.states().len(), 2);
+        Ok(())
+    }
+}

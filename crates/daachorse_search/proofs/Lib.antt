@@ -1,0 +1,5 @@
+pub mod WalkLemmas
+pub mod SourceLemmas
+pub mod OverlappingLemmas
+pub mod HaystackLemmas
+pub mod RunLemmas

@@ -1,0 +1,42 @@
+-- One unit further in a walk: the state's text is the longest end of one unit more, and the bounds on the turns grow with the step's own.
+use Rattle.std.proofs.Common.{◌≡◌, ℕ, ◌+◌, ◌≤◌, Bool, cond, List, [], ◌∷◌, ◌++◌, length, sym, ap, ◌∙◌, subst, append_assoc, length-append, arith}
+use Rattle.std.specs.Prelude.{count_by}
+use Rattle.std.proofs.lemmas.List.Sums.{sum_by_push}
+use Rattle.daachorse_core.specs.Seen.{SeenUnits, units}
+use Rattle.daachorse_model.specs.Units.{size}
+use Rattle.daachorse_model.specs.Dictionary.{Dictionary}
+use Rattle.daachorse_model.specs.Prefixes.{IsLong}
+use Rattle.daachorse_model.proofs.Suffixes.{size-push}
+use Rattle.daachorse_model.proofs.Steps.{IsLong-step}
+use Rattle.daachorse_search.specs.Walks.{IsWalking, read_on}
+
+-- all units, after more were read
+pub units-read_on : (s : SeenUnits) (more : List ℕ) → units (read_on s more) ≡ units s ++ more
+units-read_on s more = sym (append_assoc s.before s.since more)
+
+-- the place after one more unit
+pub size-read_on : (width : ℕ → ℕ) (s : SeenUnits) (u : ℕ) → size width (units (read_on s (u ∷ []))) ≡ size width (units s) + width u
+size-read_on width s u = ap (size width) (units-read_on s (u ∷ [])) ∙ size-push width (units s) u
+
+module _ {V : Type 0} (width : ℕ → ℕ) (K : Dictionary V) (reached : ℕ → Type 0) (text : ℕ → List ℕ) (dead : List ℕ → Type 0) (has_label : ℕ → Bool) where
+  -- a walk after one more unit, which has this code and takes so many bytes
+  pub IsWalking-read : (seen after : SeenUnits) (u code wide state place turns next later : ℕ) → IsWalking width K reached text dead has_label seen state place turns
+      → after ≡ read_on seen (code ∷ []) → code ≡ u → wide ≡ width u
+      → reached next → IsLong K (text state ++ u ∷ []) (text next) → later + length (text next) ≤ turns + length (text state) + 2 → turns + cond (has_label u) 1 0 ≤ later
+      → IsWalking width K reached text dead has_label after next (place + wide) later
+  IsWalking-read seen after u code wide state place turns next later was read is_code is_wide at_next stepped most least =
+      let read' : after ≡ read_on seen (u ∷ []) = read ∙ ap (λ n. read_on seen (n ∷ [])) is_code in
+      let all : units after ≡ units seen ++ u ∷ [] = ap units read' ∙ units-read_on seen (u ∷ []) in
+      let many : length (units after) ≡ length (units seen) + 1 = omega (arith, ap length all, length-append (units seen) (u ∷ [])) in
+      let labelled : count_by has_label (units after) ≡ count_by has_label (units seen) + cond (has_label u) 1 0 =
+      ap (count_by has_label) all ∙ sum_by_push (λ x. cond (has_label x) 1 0) (units seen) u in
+      let sized : size width (units after) ≡ size width (units seen) + width u = ap (size width) all ∙ size-push width (units seen) u in
+      let P : List ℕ → Type 0 = λ w. IsLong K w (text next) in
+      record {
+        alive = was.alive;
+        at_state = at_next;
+        long = subst P (sym (ap (λ s. s.since) read')) (IsLong-step K seen.since (text state) (text next) u was.long stepped);
+        here = omega (arith, was.here, is_wide, sized);
+        most = omega (arith, was.most, most, many);
+        least = omega (arith, was.least, least, labelled);
+      }

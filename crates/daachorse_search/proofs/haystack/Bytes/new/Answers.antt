@@ -1,0 +1,6 @@
+use Rattle.std.proofs.Common.{arith}
+use Rattle.daachorse_model.proofs.Suffixes.{size-bytes}
+use Rattle.daachorse_search.proofs.haystack.Bytes.new.Goals as goal
+
+pub returns-clause-fits : goal.returns-clause-fits
+returns-clause-fits c = omega (arith, size-bytes c.args.haystack.now)

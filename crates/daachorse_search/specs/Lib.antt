@@ -1,0 +1,6 @@
+pub mod Everywhere
+pub mod Looks
+pub mod Walks
+pub mod Sources
+pub mod Searches
+pub mod Matches

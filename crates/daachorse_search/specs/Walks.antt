@@ -1,0 +1,42 @@
+-- A walk through an automaton: where it stands after the units that it read.
+use Rattle.std.specs.Prelude.{◌≡◌, ℕ, ◌+◌, ◌*◌, ◌≤◌, Bool, List, ◌++◌, length, count_by}
+use Rattle.daachorse_core.specs.Seen.{SeenUnits, units}
+use Rattle.daachorse_model.specs.declared.Match.{Match}
+use Rattle.daachorse_model.specs.Units.{size}
+use Rattle.daachorse_model.specs.Dictionary.{Dictionary}
+use Rattle.daachorse_model.specs.Matches.{ending_at}
+use Rattle.daachorse_model.specs.Prefixes.{IsLong}
+use Rattle.daachorse_model.specs.Outputs.{AllWithin, matches_of_outputs}
+
+-- what callers see of a walk: the automaton, what was seen, and the turns taken
+pub record Walked (A : Type 0) : Type 0 where
+  pub automaton : A
+  pub seen : SeenUnits
+  pub turns : ℕ
+
+-- more units were read since
+abbrev pub read_on : SeenUnits → List ℕ → SeenUnits
+read_on s more = record s { since = s.since ++ more }
+
+module _ {V : Type 0} (width : ℕ → ℕ) (K : Dictionary V) where
+  -- the matches that end with the text t, and start in it, where `before` was read before it
+  abbrev pub matches_since : List ℕ → List ℕ → List (Match V)
+  matches_since before t = ending_at width K (size width before) (size width (before ++ t)) t
+
+module _ {V : Type 0} (width : ℕ → ℕ) (K : Dictionary V) (has_output : ℕ → Type 0) (outputs : ℕ → List (V × ℕ)) (most : ℕ) where
+  -- The outputs at the position are the matches that end where the walk stands.
+  pub record HasOutputs (seen : SeenUnits) (position : ℕ) : Type 0 where
+    pub place : has_output position
+    pub few : length (outputs position) ≤ most
+    pub fits : AllWithin (size width (units seen)) (outputs position)
+    pub matches : matches_since width K seen.before seen.since ≡ matches_of_outputs (size width (units seen)) (outputs position)
+
+-- The walk stands at the state of the units read since it last began at the root, with these bounds on its turns.
+module _ {V : Type 0} (width : ℕ → ℕ) (K : Dictionary V) (reached : ℕ → Type 0) (text : ℕ → List ℕ) (dead : List ℕ → Type 0) (has_label : ℕ → Bool) where
+  pub record IsWalking (seen : SeenUnits) (state place turns : ℕ) : Type 0 where
+    pub alive : (w : List ℕ) → ¬ dead w
+    pub at_state : reached state
+    pub long : IsLong K seen.since (text state)
+    pub here : place ≡ size width (units seen)
+    pub most : turns + length (text state) ≤ 2 * length (units seen)
+    pub least : count_by has_label (units seen) ≤ turns

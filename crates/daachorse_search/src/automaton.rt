@@ -1,0 +1,117 @@
+//! What a search sees of an automaton, and the step from state to state.
+//!
+//! The layers above may rely on a step leading to the state of the longest end of the text that
+//! begins a key, and on its turns: at most two, less what the state's text grew by, and at least
+//! one for a unit that some key has.
+ghost use Rattle.std.specs.Prelude.{◌≡◌, ◌+◌, ◌≤◌, ◌<◌, ℕ, Bool, false, List, [], ◌∷◌, ◌++◌, IfSome, MatchOption, IsTrue, ◌↔◌, length, if◌then◌else◌};
+ghost use Rattle.daachorse_model.specs.Dictionary.{Dictionary};
+ghost use Rattle.daachorse_model.specs.Prefixes.{IsLong};
+ghost use Rattle.daachorse_model.specs.Outputs.{IsChain};
+ghost use Rattle.daachorse_core.specs.Outputs.{number, value_of, length_of, parent_of};
+ghost use Rattle.daachorse_search.specs.Looks.{IsForeign, LookGives};
+
+use daachorse_core::Output;
+use daachorse_core::edge_label::EdgeLabel;
+use daachorse_core::turns::{Look, Turns};
+use std::num::NonZeroU32;
+
+/// An automaton, as a search sees it: states that are looked at one at a time, and outputs.
+pub trait Automaton<V: Copy> {
+    /// The units of patterns and haystacks: bytes or characters.
+    type Unit: EdgeLabel;
+
+    /// What an edge is looked up by: a byte, or the code of a character.
+    type Label: Copy + Drop;
+
+    /// The dictionary: the values of each text, in order.
+    ghost content: { Self → Dictionary V };
+
+    /// The states that can be reached.
+    ghost reached: { Self → ℕ → Type 0 };
+
+    /// The text of a state.
+    ghost text: { Self → ℕ → List ℕ };
+
+    /// The texts whose link is dead: none of a standard automaton.
+    ghost dead: { Self → List ℕ → Type 0 };
+
+    /// Whether some key has the unit.
+    ghost has_label: { Self → ℕ → Bool };
+
+    /// The label stands for the unit.
+    ghost labels: { Self → Self.Label → ℕ → Type 0 };
+
+    /// The positions of outputs, which count from 1. 0 is one of them, and stands for none.
+    ghost has_output: { Self → ℕ → Type 0 };
+
+    /// The outputs from a position on, each a value and the size of its key.
+    ghost outputs: { Self → ℕ → List (V × ℕ) };
+
+    /// No state has more outputs.
+    ghost most_outputs: { Self → ℕ };
+
+    /// The state of the empty text.
+    fn root(&self) -> u32
+        ensures reached { reached self.now result }
+        ensures text { text self.now result ≡ [] };
+
+    /// Whether it is that state.
+    fn is_root(&self, state: u32) -> bool
+        requires { reached self.now state }
+        ensures { IsTrue result ↔ (text self.now state ≡ []) };
+
+    /// The label of a unit. There is none only where no key has the unit.
+    fn label(&self, unit: Self::Unit) -> Option<Self::Label>
+        ensures { MatchOption result ((has_label self.now (Self.Unit.unit unit) ≡ false) × IsForeign (content self.now) (Self.Unit.unit unit))
+            (λ label. labels self.now label (Self.Unit.unit unit)) };
+
+    /// Looks at one state.
+    fn turn(&self, state: u32, label: Self::Label, turns: &mut Turns) -> Look
+        requires { reached self.now state }
+        ensures look { (unit : ℕ) → labels self.now label unit
+            → LookGives (content self.now) (reached self.now) (text self.now) (dead self.now) (text self.now state) unit result }
+        ensures counted { turns.new ≡ turns.old + 1 };
+
+    /// The position of a state's first output.
+    fn output_pos(&self, state: u32) -> Option<NonZeroU32>
+        requires { reached self.now state }
+        ensures place { has_output self.now (number result) }
+        ensures some { IfSome result (λ position. 0 < length (outputs self.now position.value)) }
+        ensures none { outputs self.now 0 ≡ [] }
+        ensures most { length (outputs self.now (number result)) ≤ most_outputs self.now }
+        ensures chain { IsChain Self.Unit.width (content self.now) (dead self.now) (text self.now state) (outputs self.now (number result)) };
+
+    /// The output at a position.
+    fn output(&self, position: NonZeroU32) -> Output<V>
+        requires { has_output self.now position.value }
+        ensures parent { has_output self.now (parent_of result) }
+        ensures value { outputs self.now position.value ≡ (value_of result, length_of result) ∷ outputs self.now (parent_of result) };
+}
+
+/// The state after one more unit, in an automaton with no dead link. A unit that no key has leads
+/// to the root with no turn.
+#[inline(always)]
+pub fn step<V: Copy, A: Automaton<V>>(
+    automaton: &A,
+    state: u32,
+    unit: A::Unit,
+    turns: &mut Turns,
+) -> u32
+    requires reached { A.reached automaton.now state }
+    requires alive { (w : List ℕ) → ¬ A.dead automaton.now w }
+    ensures reached { A.reached automaton.now result }
+    ensures long { IsLong (A.content automaton.now) (A.text automaton.now state ++ A.Unit.unit unit ∷ []) (A.text automaton.now result) }
+    ensures most { turns.new + length (A.text automaton.now result) ≤ turns.old + length (A.text automaton.now state) + 2 }
+    ensures least { turns.old + (if A.has_label automaton.now (A.Unit.unit unit) then 1 else 0) ≤ turns.new }
+{
+    let Some(label) = automaton.label(unit) else {
+        return automaton.root();
+    };
+    let mut at = state;
+    'links: loop {
+        match automaton.turn(at, label, turns) {
+            Look::Next(next) => return next,
+            Look::Fail(link) => at = link,
+        }
+    }
+}

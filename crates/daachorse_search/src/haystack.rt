@@ -1,0 +1,78 @@
+//! Haystacks that are known as a whole: sources whose state shows the units to come.
+//!
+//! The layers above may rely on a haystack giving just the units that it shows, in order.
+
+ghost use Rattle.std.specs.Prelude.{◌≡◌, ◌<◌, ◌^◌, ℕ, List, Option, length};
+ghost use Rattle.std.specs.Iterator.{IsFinite, YieldsFirstBy};
+ghost use Rattle.daachorse_model.specs.Units.{size, byte_width};
+
+use daachorse_core::edge_label::EdgeLabel;
+use std::marker::Model;
+use std::slice::Iter;
+
+/// A source of units that is known as a whole.
+pub trait Haystack<U: EdgeLabel>: Iterator<Item = U> {
+    /// The units that are still to come.
+    ghost rest: { Self → List ℕ };
+
+    // It gives the units that it shows, may be called at any time, and ends.
+    ghost gives: { (s : Self) (r : Option U) (t : Self) → Self.next_gives s r t → YieldsFirstBy U.unit rest s r t };
+
+    ghost callable: { (s : Self) → Self.can_next s };
+
+    ghost ends: { (s : Self) → IsFinite (Self.remaining s) };
+}
+
+/// The bytes of a slice.
+#[derive(Drop)]
+pub struct Bytes<'a> {
+    left: Iter<'a, u8>,
+}
+
+impl<'a> Model for Bytes<'a> {
+    ghost use Rattle.std.specs.Prelude.{List, ℕ};
+    ghost use Rattle.std.specs.Slice.Iter.{iter_rest};
+
+    ghost Value = { List ℕ };
+
+    ghost view = { λ s. iter_rest s.left };
+}
+
+impl<'a> Bytes<'a> {
+    /// All bytes of the slice.
+    #[inline(always)]
+    pub fn new(haystack: &'a [u8]) -> Self
+        ensures bytes { result ≡ haystack.now }
+        ensures fits { size byte_width haystack.now < 2 ^ 64 }
+    {
+        let _len = haystack.len();
+        Bytes {
+            left: haystack.iter(),
+        }
+    }
+}
+
+impl<'a> Iterator for Bytes<'a> {
+    ghost use Rattle.std.specs.Iterator.{YieldsFirst, item_count};
+
+    type Item = u8;
+
+    ghost next_gives = { YieldsFirst (λ s. s) };
+
+    ghost remaining = { item_count (λ s. s) };
+
+    #[inline(always)]
+    fn next(&mut self) -> Option<u8> {
+        self.left.next().copied()
+    }
+}
+
+impl<'a> Haystack<u8> for Bytes<'a> {
+    ghost rest = { λ s. s };
+
+    ghost gives = { λ s r t h. h };
+
+    ghost callable = { λ s. tt };
+
+    ghost ends = { λ s. tt };
+}

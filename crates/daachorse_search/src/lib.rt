@@ -1,0 +1,16 @@
+//! The searches, once for bytes and characters, for haystacks and sources.
+//!
+//! An automaton implements [`automaton::Automaton`]. Over it stands [`walk::Walk`], which reads one
+//! unit at a time, and [`scan::scan`], the one loop that reads on to the next match. The layers
+//! above may rely on the lists of matches that the searches promise, on the units that each call
+//! takes, and on the bounds of the turns; none of it takes memory.
+#![tactic(auto)]
+
+pub mod automaton;
+pub mod haystack;
+pub mod matches;
+pub mod overlapping;
+#[cfg(test)]
+mod sample;
+pub mod scan;
+pub mod walk;

@@ -1,0 +1,129 @@
+//! A walk through an automaton, one unit at a time.
+//!
+//! The layers above may rely on a walk standing at the state of the units that it read since it
+//! last began at the root, and on the bounds of its turns.
+
+ghost use Rattle.std.specs.Prelude.{◌≡◌, ◌+◌, ◌*◌, ◌^◌, ◌<◌, ◌≤◌, ℕ, List, [], ◌∷◌, ◌++◌, IfSome, length, count_by};
+ghost use Rattle.daachorse_model.specs.Units.{size};
+ghost use Rattle.daachorse_model.specs.Prefixes.{IsLong};
+ghost use Rattle.daachorse_core.specs.Outputs.{number};
+ghost use Rattle.daachorse_model.specs.Outputs.{AllWithin, matches_of_outputs};
+ghost use Rattle.daachorse_core.specs.Seen.{units, unread};
+ghost use Rattle.daachorse_search.specs.Walks.{read_on, HasOutputs};
+
+use crate::automaton::{Automaton, step};
+use daachorse_core::Match;
+use daachorse_core::edge_label::EdgeLabel;
+use daachorse_core::turns::{Seen, Turns};
+use std::marker::{Model, PhantomData};
+use std::num::NonZeroU32;
+
+/// Where a search stands in an automaton with no dead link, and in its haystack.
+#[derive(Drop)]
+pub struct Walk<'a, V: Copy, A: Automaton<V>> {
+    automaton: &'a A,
+    state: u32,
+    place: usize,
+    turns: Turns,
+    seen: Seen,
+    of: PhantomData<V>,
+}
+
+impl<'a, V: Copy, A: Automaton<V>> Model for Walk<'a, V, A> {
+    ghost use Rattle.daachorse_search.specs.Walks.{Walked, IsWalking};
+
+    ghost Value = { Walked A };
+
+    ghost view = { λ s. record { automaton = s.automaton.now; seen = s.seen; turns = s.turns } };
+
+    ghost invariant = { λ s. IsWalking A.Unit.width (A.content s.automaton.now) (A.reached s.automaton.now) (A.text s.automaton.now) (A.dead s.automaton.now) (A.has_label s.automaton.now) s.seen s.state s.place s.turns };
+}
+
+impl<'a, V: Copy, A: Automaton<V>> Walk<'a, V, A> {
+    /// A walk that stands at the root and has read nothing.
+    #[inline(always)]
+    pub fn new(automaton: &'a A) -> Self
+        requires { (w : List ℕ) → ¬ A.dead automaton.now w }
+        ensures automaton { result.automaton ≡ automaton.now }
+        ensures seen { result.seen ≡ unread }
+        ensures turns { result.turns ≡ 0 }
+    {
+        Walk {
+            automaton,
+            state: automaton.root(),
+            place: 0,
+            turns: Turns::new(),
+            seen: Seen::new(),
+            of: PhantomData,
+        }
+    }
+
+    /// Reads one unit.
+    #[inline(always)]
+    pub fn consume(&mut self, unit: A::Unit)
+        requires { size A.Unit.width (units self.old.seen) + A.Unit.width (A.Unit.unit unit) < 2 ^ 64 }
+        ensures automaton { self.new.automaton ≡ self.old.automaton }
+        ensures seen { self.new.seen ≡ read_on self.old.seen (A.Unit.unit unit ∷ []) }
+    {
+        self.state = step(self.automaton, self.state, unit, &mut self.turns);
+        self.place += unit.num_bytes();
+        self.seen.push(unit.code());
+    }
+
+    /// Begins again at the root: no key that began before is followed from here on.
+    #[inline(always)]
+    pub fn restart(&mut self)
+        ensures automaton { self.new.automaton ≡ self.old.automaton }
+        ensures seen { self.new.seen ≡ record self.old.seen { before = units self.old.seen; since = [] } }
+        ensures turns { self.new.turns ≡ self.old.turns }
+    {
+        self.state = self.automaton.root();
+        self.seen.restart();
+    }
+
+    /// The place after the units read, in bytes.
+    #[inline(always)]
+    pub fn place(&self) -> usize
+        ensures { result ≡ size A.Unit.width (units self.now.seen) }
+    {
+        self.place
+    }
+
+    /// The position of the first output of the matches that end here.
+    #[inline(always)]
+    pub fn outputs(&self) -> Option<NonZeroU32>
+        ensures outputs { HasOutputs A.Unit.width (A.content self.now.automaton) (A.has_output self.now.automaton) (A.outputs self.now.automaton) (A.most_outputs self.now.automaton)
+            self.now.seen (number result) }
+        ensures some { IfSome result (λ position. 0 < length (A.outputs self.now.automaton position.value)) }
+        ensures none { A.outputs self.now.automaton 0 ≡ [] }
+    {
+        self.automaton.output_pos(self.state)
+    }
+
+    /// The match of the output at a position, which ends here, and the position of the next output.
+    #[inline(always)]
+    pub fn give(&self, position: NonZeroU32) -> (Match<V>, Option<NonZeroU32>)
+        requires place { A.has_output self.now.automaton position.value }
+        requires fits { AllWithin (size A.Unit.width (units self.now.seen)) (A.outputs self.now.automaton position.value) }
+        ensures place { A.has_output self.now.automaton (number result.1) }
+        ensures matches { let place = size A.Unit.width (units self.now.seen) in
+            matches_of_outputs place (A.outputs self.now.automaton position.value) ≡ result.0 ∷ matches_of_outputs place (A.outputs self.now.automaton (number result.1)) }
+        ensures fits { AllWithin (size A.Unit.width (units self.now.seen)) (A.outputs self.now.automaton (number result.1)) }
+        ensures ends { result.0.end ≡ size A.Unit.width (units self.now.seen) }
+    {
+        let output = self.automaton.output(position);
+        (output.to_match(self.place), output.parent())
+    }
+
+    /// Does nothing, and promises that the turns are at most twice the units read, less the
+    /// length of the state's text, and at least as many as the units read that some key has.
+    #[inline(always)]
+    pub fn turns_are_bounded(&self)
+        ensures most { self.now.turns ≤ 2 * length (units self.now.seen) }
+        ensures deep { (s : List ℕ) → IsLong (A.content self.now.automaton) self.now.seen.since s
+            → self.now.turns + length s ≤ 2 * length (units self.now.seen) }
+        ensures least { count_by (A.has_label self.now.automaton) (units self.now.seen) ≤ self.now.turns }
+    {
+        let _ = &self.place;
+    }
+}

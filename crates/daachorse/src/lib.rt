@@ -1,0 +1,19 @@
+//! Many patterns searched at once: the Aho-Corasick algorithm, as the Rust crate daachorse offers
+//! it, with proved contracts.
+//!
+//! This crate re-exports all that users need, under the Rust crate's paths. The algorithm is that
+//! of Aho and Corasick (1975); the compact layout of its automata is described by Kanda, Akabe and
+//! Oda (Engineering faster double-array Aho-Corasick automata, arXiv 2207.13870).
+//!
+//! What a search yields is said by the definitions of `daachorse_model`, and proved: the contract
+//! of each call that begins a search names the whole list.
+#![tactic(auto)]
+
+pub use daachorse_build::nfa_builder;
+pub use daachorse_bytewise::bytewise;
+pub use daachorse_bytewise::bytewise::DoubleArrayAhoCorasick;
+pub use daachorse_core::errors::Result;
+pub use daachorse_core::{
+    DEAD_STATE_IDX, Empty, Match, MatchKind, Output, ROOT_STATE_IDX, errors, utils,
+};
+pub use daachorse_model::laws;

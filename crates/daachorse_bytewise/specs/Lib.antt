@@ -1,0 +1,5 @@
+pub mod Parts
+pub mod Texts
+pub mod Content
+pub mod Whole
+pub mod Building

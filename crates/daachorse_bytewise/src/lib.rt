@@ -1,0 +1,4 @@
+//! The automaton over bytes, and its searches.
+#![tactic(auto)]
+
+pub mod bytewise;

@@ -1,0 +1,77 @@
+//! An allocator for tests, which refuses one request, chosen by its number.
+//!
+//! A test runs a call over `Refusing::new(rt.alloc(), n)` for each `n` in turn, until a run meets
+//! no refusal: so each growth of the call is refused once. The allocator is shared as a reference,
+//! `&Refusing<Global>`, which is `Copy`. That the blocks are those of the inner allocator is proved;
+//! which request is refused is shown by a test, since no contract can say what a cell holds.
+#![tactic(auto)]
+
+use std::alloc::{AllocError, Allocator};
+use std::cell::Cell;
+
+/// An allocator that passes each request on to the inner one, but refuses one of them.
+pub struct Refusing<B: Allocator> {
+    inner: B,
+    // How many requests come before the one to refuse. It wraps below 0 at that one.
+    left: Cell<u64>,
+}
+
+impl<B: Allocator> Refusing<B> {
+    /// Refuses request number `number`, counted from 0, and no other. A growth is one request.
+    pub fn new(inner: B, number: u64) -> Refusing<B> {
+        Refusing {
+            inner,
+            left: Cell::new(number),
+        }
+    }
+
+    /// Whether the chosen request came, and was refused.
+    pub fn has_refused(&self) -> bool {
+        self.left.get() > u64::MAX / 2
+    }
+}
+
+impl<B: Allocator> Drop for Refusing<B> {
+    fn drop(self) {
+        let Self { inner: _, left: _ } = self;
+    }
+}
+
+// Counts a request, and says whether it is the one to refuse.
+fn refuses(left: &Cell<u64>) -> bool {
+    let now = left.get();
+    left.set(now.wrapping_sub(1));
+    now == 0
+}
+
+unsafe impl<B: Allocator> Allocator for Refusing<B> {
+    ghost dealloc_token = { λ heap ty ptr. B.dealloc_token heap.inner ty ptr };
+
+    fn allocate(&self, size: usize, align: usize) -> Result<*mut u8, AllocError> {
+        if refuses(&self.left) {
+            return Err(AllocError);
+        }
+        self.inner.allocate(size, align)
+    }
+
+    unsafe fn deallocate(&self, ptr: *mut u8, size: usize, align: usize) {
+        self.inner.deallocate(ptr, size, align);
+    }
+}
+
+#[cfg(test)]
+mod tests {
+    use crate::Refusing;
+
+    #[test]
+    fn the_chosen_request_alone_is_refused(rt: HostRuntime) {
+        for chosen in 0..4u64 {
+            let heap = Refusing::new(rt.alloc(), chosen);
+            for request in 0..3u64 {
+                let taken = Vec::<u8, _>::with_capacity(&heap, 1);
+                assert_eq!(rt; taken.is_err(), request == chosen, "request {request} of {chosen}");
+            }
+            assert_eq!(rt; heap.has_refused(), chosen < 3, "refused {chosen}");
+        }
+    }
+}

@@ -69,7 +69,11 @@ mod tests {
             let heap = Refusing::new(rt.alloc(), chosen);
             for request in 0..3u64 {
                 let taken = Vec::<u8, _>::with_capacity(&heap, 1);
-                assert_eq!(rt; taken.is_err(), request == chosen, "request {request} of {chosen}");
+                assert_eq!(rt;
+                    taken.is_err(),
+                    request == chosen,
+                    "request {request} of {chosen}"
+                );
             }
             assert_eq!(rt; heap.has_refused(), chosen < 3, "refused {chosen}");
         }

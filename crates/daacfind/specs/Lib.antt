@@ -1,0 +1,4 @@
+pub mod Failures
+pub mod Modes
+pub mod Runs
+pub mod Sinks

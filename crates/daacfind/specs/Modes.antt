@@ -1,0 +1,22 @@
+-- What each mode is called, and what it finds.
+use Rattle.std.specs.Prelude.{ℕ, List, codes}
+use Rattle.daachorse_model.specs.declared.Match.{Match}
+use Rattle.daachorse_model.specs.declared.MatchKind.TheVariants.{Standard}
+use Rattle.daachorse_model.specs.Units.{byte_width}
+use Rattle.daachorse_model.specs.Dictionary.{Dictionary, dictionary}
+use Rattle.daachorse_model.specs.Matches.{overlapping}
+use Rattle.daachorse_model.specs.Program.{pattern_lines, numbered, match_text}
+use Rattle.daacfind.specs.declared.mode.Mode.{Mode}
+use Rattle.daacfind.specs.declared.mode.Mode.TheVariants.{Overlapping}
+
+-- the word that names a mode
+abbrev pub word_of : Mode → List ℕ
+word_of Overlapping = codes "overlapping"
+
+-- what a mode finds in a haystack, for a dictionary K
+abbrev pub found_by : Mode → Dictionary ℕ → List ℕ → List (Match ℕ)
+found_by Overlapping K haystack = overlapping byte_width K haystack
+
+-- what is written of it, where the dictionary has the lines of a pattern file, each with its number
+abbrev pub text_of_mode : Mode → List ℕ → List ℕ → List ℕ
+text_of_mode mode patterns haystack = match_text (found_by mode (dictionary Standard (numbered 0 (pattern_lines patterns))) haystack)

@@ -1,0 +1,82 @@
+//! What the command is given: the bytes of its files, and its arguments.
+
+use std::alloc::{AllocError, Global};
+use std::env::FillError;
+use std::fs;
+use std::rt::{Env, Files};
+
+// Four arguments are enough to know that there are not three.
+const MOST_ARGUMENTS: usize = 4;
+
+/// Files by their names.
+pub trait Inputs {
+    /// The bytes of the file, or none where it cannot be read for any cause.
+    fn read(&mut self, name: &str) -> Option<Vec<u8>>;
+}
+
+/// The files of the system.
+#[derive(Drop)]
+pub struct FileInputs<'a, R: Files + AllocGlobal> {
+    rt: &'a R,
+}
+
+impl<'a, R: Files + AllocGlobal> FileInputs<'a, R> {
+    /// The files that `rt` reaches.
+    pub fn new(rt: &'a R) -> Self {
+        FileInputs { rt }
+    }
+}
+
+impl<R: Files + AllocGlobal> Inputs for FileInputs<'_, R> {
+    fn read(&mut self, name: &str) -> Option<Vec<u8>> {
+        fs::read(self.rt, name).ok()
+    }
+}
+
+/// The bytes of the arguments behind the program's name, at most four of them.
+#[derive(Drop)]
+pub struct Arguments {
+    list: Vec<Vec<u8>>,
+}
+
+impl Arguments {
+    /// The arguments that `rt` has.
+    pub fn read(rt: &impl Env, alloc: Global) -> Result<Arguments, AllocError> {
+        let mut list = Vec::new(alloc);
+        for place in 1..=MOST_ARGUMENTS {
+            match argument(rt, alloc, place)? {
+                Some(argument) => list.push(argument)?,
+                None => break,
+            }
+        }
+        Ok(Arguments { list })
+    }
+
+    /// Each argument as text, or none where it is not UTF-8.
+    pub fn texts(&self, alloc: Global) -> Result<Vec<Option<&str>>, AllocError> {
+        let mut texts = Vec::with_capacity(alloc, self.list.len())?;
+        for argument in &self.list {
+            texts.push(str::from_utf8(argument).ok())?;
+        }
+        Ok(texts)
+    }
+}
+
+// The argument at a place, in a buffer that is doubled until it fits.
+fn argument(rt: &impl Env, alloc: Global, place: usize) -> Result<Option<Vec<u8>>, AllocError> {
+    let mut buffer = Vec::from_elem(alloc, 0u8, 256)?;
+    for _ in 0..u64::BITS {
+        match rt.arg(place, &mut buffer) {
+            Ok(len) => {
+                buffer.truncate(len);
+                return Ok(Some(buffer));
+            }
+            Err(FillError::NotPresent) => return Ok(None),
+            Err(FillError::TooLong) => {
+                let len = buffer.len().saturating_mul(2);
+                buffer.resize(len, 0)?;
+            }
+        }
+    }
+    Err(AllocError)
+}

@@ -1,0 +1,44 @@
+//! Finds many patterns in a file at once, and writes each match on a line: its start, its end and
+//! the number of its pattern.
+#![tactic(auto)]
+
+use crate::command::command;
+use crate::inputs::{Arguments, FileInputs};
+use crate::sink::WriterSink;
+use daachorse::errors::DaachorseError;
+use std::alloc::AllocError;
+use std::io::{self, BufWriter};
+use std::process::ExitCode;
+
+mod command;
+mod inputs;
+mod mode;
+mod run;
+mod sink;
+
+fn main(rt: HostRuntime) -> ExitCode {
+    match status(&rt) {
+        Ok(status) => ExitCode::from(status),
+        Err(error) => {
+            let _ = eprintln!(rt; "{error}");
+            ExitCode::from(1)
+        }
+    }
+}
+
+// The status of the command with the program's own arguments.
+fn status(rt: &HostRuntime) -> Result<u8, DaachorseError> {
+    let arguments = Arguments::read(rt, rt.alloc())?;
+    let texts = arguments.texts(rt.alloc())?;
+    let out = BufWriter::new(rt.alloc(), io::writer(rt)).map_err(|_| AllocError)?;
+    Ok(command(
+        rt.alloc(),
+        &texts,
+        &mut FileInputs::new(rt),
+        &mut WriterSink::new(out),
+        &mut WriterSink::new(rt.stderr()),
+    ))
+}
+
+#[cfg(test)]
+mod tests;

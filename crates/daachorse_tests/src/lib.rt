@@ -1,0 +1,110 @@
+//! Tests that cross the crates, by the paths of `daachorse`: worked rows of what the searches find,
+//! refusals and their texts, and each growth of a build refused in turn.
+#![tactic(auto)]
+
+#[cfg(test)]
+mod tests {
+    use daachorse::errors::DaachorseError;
+    use daachorse::{DoubleArrayAhoCorasick, Match, Result};
+    use refusing::Refusing;
+    use std::alloc::Allocator;
+    use std::test::Fail;
+
+    fn found(start: usize, end: usize, value: u32) -> Match<u32> {
+        Match { start, end, value }
+    }
+
+    fn build<A: Allocator + Copy>(
+        alloc: A,
+        patterns: &[&[u8]],
+    ) -> Result<DoubleArrayAhoCorasick<u32, A>> {
+        DoubleArrayAhoCorasick::new(alloc, patterns.iter().copied())
+    }
+
+    #[test]
+    fn overlapping_searches_find_every_match(rt: HostRuntime) -> Result<(), Fail> {
+        let rows: [(&[&[u8]], &[u8], &[Match<u32>]); 4] = [
+            (
+                &[b"bcd", b"ab", b"a"],
+                b"abcd",
+                &[found(0, 1, 2), found(0, 2, 1), found(1, 4, 0)],
+            ),
+            (&[], b"abcd", &[]),
+            (
+                &[b"a", b"ab", b""],
+                b"ab",
+                &[
+                    found(0, 0, 2),
+                    found(0, 1, 0),
+                    found(1, 1, 2),
+                    found(0, 2, 1),
+                    found(2, 2, 2),
+                ],
+            ),
+            (
+                &[b"ab", b"b", b"ab"],
+                b"ab",
+                &[found(0, 2, 0), found(0, 2, 2), found(1, 2, 1)],
+            ),
+        ];
+        for (i, (patterns, haystack, expected)) in rows.iter().enumerate() {
+            let Ok(automaton) = build(rt.alloc(), patterns) else {
+                panic!(rt; "row {i} was refused");
+            };
+            let mut search = automaton.find_overlapping_iter(haystack);
+            let matches: Vec<Match<u32>> = search.by_ref().collect(rt.alloc())?;
+            search.turns_are_bounded();
+            assert_eq!(rt; matches.as_slice(), *expected, "row {i}");
+        }
+        Ok(())
+    }
+
+    #[test]
+    fn an_index_without_a_value_is_refused(rt: HostRuntime) -> Result<(), Fail> {
+        let patterns = [b"a".as_slice(); 257];
+        let refused = DoubleArrayAhoCorasick::<u8>::new(rt.alloc(), patterns.iter().copied());
+        let Err(error) = refused else {
+            panic!(rt; "257 patterns have values of 8 bits");
+        };
+        assert_eq!(rt;
+            error.to_string(rt.alloc())?.as_str(),
+            "InvalidConversionError: index cannot be converted to V"
+        );
+        let built = DoubleArrayAhoCorasick::<u8>::new(rt.alloc(), patterns[..256].iter().copied());
+        let Ok(automaton) = built else {
+            panic!(rt; "256 patterns were refused");
+        };
+        let matches: Vec<Match<u8>> = automaton.find_overlapping_iter(b"a").collect(rt.alloc())?;
+        assert_eq!(rt; matches.len(), 256);
+        for (i, found) in matches.iter().enumerate() {
+            assert_eq!(rt; usize::from(found.value), i);
+        }
+        Ok(())
+    }
+
+    #[test]
+    fn each_growth_of_a_build_is_refused_in_turn(rt: HostRuntime) {
+        let patterns: [&[u8]; 3] = [b"bcd", b"ab", b"a"];
+        let mut ended = false;
+        for number in 0..100_000u64 {
+            let heap = Refusing::new(rt.alloc(), number);
+            match build(&heap, &patterns) {
+                Ok(automaton) => {
+                    assert!(rt; !heap.has_refused(), "request {number} was passed over");
+                    let first = automaton.find_overlapping_iter(b"abcd").next();
+                    assert_eq!(rt; first, Some(found(0, 1, 2)));
+                    ended = true;
+                    break;
+                }
+                Err(error) => {
+                    assert!(rt; heap.has_refused(), "no request was refused, at {number}");
+                    assert!(rt;
+                        matches!(error, DaachorseError::OutOfMemory(_)),
+                        "request {number}"
+                    );
+                }
+            }
+        }
+        assert!(rt; ended);
+    }
+}

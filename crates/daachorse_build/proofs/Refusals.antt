@@ -2,7 +2,7 @@
 use Rattle.daachorse_core.specs.declared.errors.Limit.{Limit}
 use Rattle.daachorse_core.specs.declared.errors.DaachorseError.{DaachorseError}
 use Rattle.daachorse_core.specs.declared.errors.DaachorseError.TheVariants.{InvalidArgument, AutomatonScale, InvalidConversion, InvalidAutomaton, OutOfMemory}
-use Rattle.daachorse_build.specs.Builders.{IsRefusal}
+use Rattle.daachorse_build.specs.Refusals.{IsRefusal}
 
 -- a refusal for one reason is a refusal for a weaker one
 pub IsRefusal-weaker : (long long' : Type 0) (limit : Limit) (passed passed' : Type 0) → (long → long') → (passed → passed') → (e : DaachorseError) → IsRefusal long limit passed e → IsRefusal long' limit passed' e

@@ -1,12 +1,9 @@
--- What contracts see of a builder, and why its calls fail.
+-- What contracts see of a builder.
 use Rattle.std.specs.Prelude.{◌≡◌, ℕ, List, length}
 use Rattle.std.specs.declared.cmp.Ordering.{Ordering}
 use Rattle.daachorse_model.specs.declared.MatchKind.{MatchKind}
 use Rattle.daachorse_model.specs.Dictionary.{kept}
 use Rattle.daachorse_core.specs.declared.outputs.Output.{Output}
-use Rattle.daachorse_core.specs.declared.errors.Limit.{Limit}
-use Rattle.daachorse_core.specs.declared.errors.DaachorseError.{DaachorseError}
-use Rattle.daachorse_core.specs.declared.errors.DaachorseError.TheVariants.{InvalidArgument, AutomatonScale, InvalidConversion, InvalidAutomaton, OutOfMemory}
 use Rattle.daachorse_build.specs.declared.nfa_builder.NfaBuilderState.{NfaBuilderState}
 use Rattle.daachorse_build.specs.declared.nfa_builder.NfaBuilder.{NfaBuilder}
 use Rattle.daachorse_build.specs.Holds.{Holds, in_units}
@@ -32,15 +29,3 @@ module _ {L V A : Type 0} where
   pub record Registered (cmp : L → L → Ordering) (unit : L → ℕ) (width : ℕ → ℕ) (b : NfaBuilder L V A) (rs : List (List L × V)) : Type 0 where
     pub holds : Holds cmp unit width (kind_of b) (states_of b) rs
     pub count : count_of b ≡ length (kept (kind_of b) (in_units unit rs))
-
--- an allocation failed
-abbrev pub IsOutOfMemory : DaachorseError → Type 0
-IsOutOfMemory e = e ≡ OutOfMemory (record {})
-
--- a pattern is too long, the limit would be passed, or an allocation failed
-abbrev pub IsRefusal : Type 0 → Limit → Type 0 → DaachorseError → Type 0
-IsRefusal long limit passed (InvalidArgument _) = long
-IsRefusal long limit passed (AutomatonScale e) = (e.limit ≡ limit) × passed
-IsRefusal long limit passed (InvalidConversion _) = ⊥
-IsRefusal long limit passed (InvalidAutomaton _) = ⊥
-IsRefusal long limit passed (OutOfMemory _) = Unit

@@ -22,7 +22,8 @@ ghost use Rattle.daachorse_build.specs.Searches.{Searches, LeadsTo, ComesFrom};
 ghost use Rattle.daachorse_build.specs.Growth.{Extends, IsAdded, HasTrieOf, Overflows};
 ghost use Rattle.daachorse_build.specs.Holds.{in_units, HasMorePrefixes};
 ghost use Rattle.daachorse_build.specs.Lists.{PositionsFit, AreListed};
-ghost use Rattle.daachorse_build.specs.Builders.{states_of, outputs_of, count_of, kind_of, Registered, IsRefusal, IsOutOfMemory};
+ghost use Rattle.daachorse_build.specs.Builders.{states_of, outputs_of, count_of, kind_of, Registered};
+ghost use Rattle.daachorse_build.specs.Refusals.{IsRefusal, IsOutOfMemory};
 
 pub use daachorse_core::edge_label::EdgeLabel;
 use daachorse_core::errors::{DaachorseError, Limit, OutOfMemoryError, Result};

@@ -29,9 +29,10 @@ use Rattle.daachorse_build.specs.declared.nfa_builder.NfaBuilder.{NfaBuilder}
 use Rattle.daachorse_build.specs.declared.nfa_builder.NfaBuilderState.{NfaBuilderState}
 use Rattle.daachorse_build.specs.Tables.{edges_of, depths_of, fails_of, own_of, positions_of, child_in, child_of, held_at, own_at, output_count, IsTable, HoldTrie}
 use Rattle.daachorse_build.specs.Orders.{HoldLinks, IsLinked}
+use Rattle.daachorse_build.specs.Refusals.{IsRefusal}
 use Rattle.daachorse_build.specs.Growth.{HasTrieOf}
 use Rattle.daachorse_build.specs.Holds.{Holds, in_units, HasMorePrefixes}
-use Rattle.daachorse_build.specs.Builders.{Registered, IsRefusal, states_of, outputs_of, count_of, kind_of}
+use Rattle.daachorse_build.specs.Builders.{Registered, states_of, outputs_of, count_of, kind_of}
 use Rattle.daachorse_build.proofs.Queue.{all_in_order}
 use Rattle.daachorse_build.proofs.Registrations.{holds_twin}
 use Rattle.daachorse_bytewise.specs.Parts.{Parts, parts_of}

@@ -1,1 +1,2 @@
 pub mod OutputLists
+pub mod Xor

@@ -1,6 +1,6 @@
 -- From a builder's trie, links and lists of outputs to the parts of an automaton.
-use Rattle.std.proofs.Common.{◌≡◌, ◌≢◌, ℕ, zero, suc, ◌+◌, ◌<◌, ◌≤◌, ◌⊎◌, Bool, true, false, cond, List, [], ◌∷◌, ◌++◌, length, get_or, map, take, Option, Some, None, refl, sym, ap, ◌∙◌, subst, inl, inr, arith, min, length-append, length-take}
-use Rattle.std.specs.Prelude.{Result, Ok, Err, unwrap_or, option_map, slice_index, All, Any, IsTrue}
+use Rattle.std.proofs.Common.{◌≡◌, ◌≢◌, ℕ, zero, suc, ◌+◌, ◌<◌, ◌≤◌, Bool, true, false, cond, List, [], ◌∷◌, ◌++◌, length, get_or, map, take, refl, sym, ap, ◌∙◌, subst, inl, inr, arith, min, length-append, length-take}
+use Rattle.std.specs.Prelude.{Result, Ok, slice_index, All, Any, IsTrue}
 use Rattle.std.specs.Borrow.{Bor}
 use Rattle.std.specs.List.{AllByRecursion}
 use Rattle.std.specs.Ordering.{nat_cmp}
@@ -14,20 +14,20 @@ use Rattle.daachorse_core.specs.declared.outputs.Output.{Output}
 use Rattle.daachorse_core.specs.declared.errors.DaachorseError.{DaachorseError}
 use Rattle.daachorse_core.specs.declared.errors.DaachorseError.TheVariants.{InvalidArgument, AutomatonScale, InvalidConversion, InvalidAutomaton, OutOfMemory}
 use Rattle.daachorse_core.specs.declared.errors.Limit.{Limit}
-use Rattle.daachorse_core.specs.declared.errors.Limit.TheVariants.{Outputs, StateId, PatternValues}
+use Rattle.daachorse_core.specs.declared.errors.Limit.TheVariants.{Outputs, StateId}
 use Rattle.daachorse_core.specs.Outputs.{outputs_at, ParentsFall}
 use Rattle.daachorse_model.specs.declared.MatchKind.{MatchKind}
 use Rattle.daachorse_model.specs.declared.MatchKind.TheVariants.{Standard}
 use Rattle.daachorse_model.specs.Units.{byte_width, size, same_text}
 use Rattle.daachorse_model.specs.Dictionary.{Dictionary, dictionary, values_of, kept, is_prefix, registered}
 use Rattle.daachorse_model.specs.Prefixes.{IsPrefix}
-use Rattle.daachorse_model.specs.Paths.{walk, Leads}
-use Rattle.daachorse_model.specs.Outputs.{outputs_of_ends, own_outputs}
+use Rattle.daachorse_model.specs.Paths.{Leads}
+use Rattle.daachorse_model.specs.Outputs.{outputs_of_ends}
 use Rattle.daachorse_model.proofs.Congruence.{dictionary-same}
 use Rattle.daachorse_model.proofs.Suffixes.{size-bytes}
 use Rattle.daachorse_build.specs.declared.nfa_builder.NfaBuilder.{NfaBuilder}
 use Rattle.daachorse_build.specs.declared.nfa_builder.NfaBuilderState.{NfaBuilderState}
-use Rattle.daachorse_build.specs.Tables.{edges_of, depths_of, fails_of, own_of, positions_of, child_in, child_of, held_at, own_at, output_count, IsTable, HoldTrie}
+use Rattle.daachorse_build.specs.Tables.{edges_of, depths_of, fails_of, positions_of, child_in, child_of}
 use Rattle.daachorse_build.specs.Orders.{HoldLinks, IsLinked}
 use Rattle.daachorse_build.specs.Refusals.{IsRefusal}
 use Rattle.daachorse_build.specs.Growth.{HasTrieOf}
@@ -35,8 +35,8 @@ use Rattle.daachorse_build.specs.Holds.{Holds, in_units, HasMorePrefixes}
 use Rattle.daachorse_build.specs.Builders.{Registered, states_of, outputs_of, count_of, kind_of}
 use Rattle.daachorse_build.proofs.Queue.{all_in_order}
 use Rattle.daachorse_build.proofs.Registrations.{holds_twin}
-use Rattle.daachorse_bytewise.specs.Parts.{Parts, parts_of}
-use Rattle.daachorse_bytewise.specs.Content.{child, content}
+use Rattle.daachorse_bytewise.specs.Parts.{parts_of}
+use Rattle.daachorse_bytewise.specs.Content.{content}
 use Rattle.daachorse_bytewise.specs.Whole.{IsWhole}
 use Rattle.daachorse_bytewise.specs.Building.{HaveMorePrefixes, IsPassed, IsRefusalOf, IsBuildRefusal, AreIndexed}
 

@@ -1,5 +1,5 @@
 -- What a look at a state and its outputs tell, from what the parts of an automaton keep.
-use Rattle.std.proofs.Common.{◌≡◌, ◌≢◌, ℕ, zero, suc, ◌+◌, ◌<◌, ◌≤◌, ◌⊎◌, Bool, true, false, List, [], ◌∷◌, ◌++◌, length, get_or, map, Option, Some, None, is_some, option_and_then, refl, sym, ap, ◌∙◌, subst, inl, inr, arith}
+use Rattle.std.proofs.Common.{◌≡◌, ◌≢◌, ℕ, zero, suc, ◌+◌, ◌<◌, ◌≤◌, ◌⊎◌, true, List, [], ◌∷◌, ◌++◌, length, get_or, Option, Some, None, is_some, refl, sym, ap, ◌∙◌, subst, inl, inr, arith}
 use Rattle.std.specs.Prelude.{slice_index}
 use Rattle.std.specs.List.{slice_get}
 use Rattle.std.specs.Ordering.{nat_cmp}
@@ -9,19 +9,17 @@ use Rattle.std.proofs.lemmas.Option.{none-some, same_Some, slice_get_cases, slic
 use Rattle.std.proofs.lemmas.Bool.{cases_eq}
 use Rattle.std.proofs.lemmas.Map.Entries.{place_from_lookup}
 use Rattle.daachorse_core.specs.declared.outputs.Output.{Output}
-use Rattle.daachorse_core.specs.declared.turns.Look.{Look}
 use Rattle.daachorse_core.specs.declared.turns.Look.TheVariants.{Next, Fail}
-use Rattle.daachorse_core.specs.Outputs.{outputs_at, list_from, list_step, value_of, length_of, parent_of, ParentsFall}
-use Rattle.daachorse_core.proofs.OutputLists.{outputs_at-step, length-list_from}
+use Rattle.daachorse_core.specs.Outputs.{outputs_at, value_of, length_of, parent_of}
+use Rattle.daachorse_core.proofs.OutputLists.{outputs_at-step}
 use Rattle.daachorse_model.specs.Units.{byte_width}
 use Rattle.daachorse_model.specs.Prefixes.{IsPrefix, IsLink, long}
 use Rattle.daachorse_model.specs.Paths.{walk, is_reached, Leads}
-use Rattle.daachorse_model.specs.Outputs.{outputs_of_ends, IsChain}
+use Rattle.daachorse_model.specs.Outputs.{IsChain}
 use Rattle.daachorse_model.proofs.Links.{link-is}
 use Rattle.daachorse_model.proofs.Chains.{IsChain-of_ends}
 use Rattle.daachorse_build.specs.Trie.{IsFailOf}
-use Rattle.daachorse_build.specs.Tables.{child_in}
-use Rattle.daachorse_build.proofs.Walks.{walk-push, walk-same, walk-bounds, text_of}
+use Rattle.daachorse_build.proofs.Walks.{walk-push, walk-same, walk-bounds}
 use Rattle.daachorse_build.proofs.Queue.{child_at_place}
 use Rattle.daachorse_search.specs.Looks.{LookGives}
 use Rattle.daachorse_bytewise.specs.Parts.{Parts}

@@ -1,5 +1,5 @@
 -- The dictionary that an automaton over bytes holds.
-use Rattle.std.specs.Prelude.{ℕ, Option, map, option_map, unwrap_or, [], slice_index_or}
+use Rattle.std.specs.Prelude.{ℕ, Option, map, option_map, unwrap_or, []}
 use Rattle.std.specs.Ordering.{nat_cmp}
 use Rattle.daachorse_model.specs.Dictionary.{Dictionary}
 use Rattle.daachorse_model.specs.Paths.{walk}

@@ -1,5 +1,5 @@
 -- What a history of a search stands for.
-use Rattle.std.specs.Prelude.{ℕ, ◌+◌, List, [], ◌∷◌, ◌++◌}
+use Rattle.std.specs.Prelude.{◌+◌, [], ◌∷◌, ◌++◌}
 use Rattle.daachorse_core.specs.declared.turns.History.{History, fold-History}
 use Rattle.daachorse_core.specs.declared.turns.History.TheOpen.{History-F, Start, Same, Read, Restart, Give}
 use Rattle.daachorse_core.specs.Seen.{SeenUnits, unread}

@@ -5,7 +5,7 @@
 //! to go by `turn` alone.
 
 use daachorse_build::nfa_builder::NfaBuilderState;
-use daachorse_core::turns::{Look, Turns};
+pub use daachorse_core::turns::{Look, Turns};
 use daachorse_core::{Output, ROOT_STATE_IDX};
 use daachorse_search::automaton::Automaton;
 use std::alloc::{Allocator, Global};

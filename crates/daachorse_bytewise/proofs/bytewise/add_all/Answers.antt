@@ -7,10 +7,8 @@ use Rattle.std.specs.Borrow.{Bor}
 use Rattle.daachorse_model.specs.declared.MatchKind.{MatchKind}
 use Rattle.daachorse_model.specs.Dictionary.{dictionary, registered}
 use Rattle.daachorse_build.specs.Holds.{HasMorePrefixes, in_units}
-use Rattle.daachorse_core.specs.declared.errors.DaachorseError.{DaachorseError}
 use Rattle.daachorse_model.specs.Units.{byte_width}
 use Rattle.daachorse_build.specs.Builders.{Registered}
-use Rattle.daachorse_bytewise.specs.Building.{IsRefusalOf}
 use Rattle.daachorse_bytewise.proofs.BuildLaws.{add_refused, registered_more, texts, texts-registered}
 use Rattle.daachorse_bytewise.proofs.bytewise.add_all.Goals as goal
 

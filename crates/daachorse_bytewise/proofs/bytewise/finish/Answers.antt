@@ -1,8 +1,7 @@
-use Rattle.std.proofs.Common.{◌≡◌, ◌<◌, ◌≤◌, ℕ, List, length, ◌∙◌, ap, sym, subst, arith}
+use Rattle.std.proofs.Common.{◌≡◌, ℕ, List, ◌∙◌, sym, subst, arith}
 use Rattle.std.specs.Ordering.{nat_cmp}
 use Rattle.std.proofs.lemmas.Result.{err_from_is_err_and}
-use Rattle.daachorse_model.specs.Units.{byte_width}
-use Rattle.daachorse_build.specs.Builders.{Registered, states_of, outputs_of}
+use Rattle.daachorse_build.specs.Builders.{states_of, outputs_of}
 use Rattle.daachorse_build.specs.Orders.{HoldLinks}
 use Rattle.daachorse_build.specs.declared.nfa_builder.NfaBuilderState.{NfaBuilderState}
 use Rattle.daachorse_core.specs.declared.outputs.Output.{Output}

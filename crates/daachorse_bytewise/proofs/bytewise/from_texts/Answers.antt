@@ -1,4 +1,4 @@
-use Rattle.std.proofs.Common.{◌≡◌, ℕ, List, map, ◌∙◌, ap, sym, subst}
+use Rattle.std.proofs.Common.{◌≡◌, ℕ, List, map, ◌∙◌, sym, subst}
 use Rattle.std.proofs.lemmas.Result.{IfErr-weaker}
 use Rattle.std.specs.Borrow.{Bor}
 use Rattle.daachorse_model.specs.Dictionary.{registered}

@@ -1,8 +1,8 @@
-use Rattle.std.proofs.Common.{◌≡◌, ◌<◌, ℕ, true, List, length, get_or, Option, Some, None, refl, sym, ap, ◌∙◌, subst}
+use Rattle.std.proofs.Common.{◌≡◌, true, List, length, Option, None, refl, ap, subst}
 use Rattle.std.specs.Option.{option_map}
 use Rattle.std.specs.List.{slice_get}
-use Rattle.std.specs.Iterator.{Yields, DrainsIf}
-use Rattle.std.specs.Iterator.Runs.{Run, WholeRun, Trigger, YieldsRun}
+use Rattle.std.specs.Iterator.{Yields}
+use Rattle.std.specs.Iterator.Runs.{WholeRun, Trigger, YieldsRun}
 use Rattle.std.proofs.lemmas.Option.{slice_get-get_or}
 use Rattle.daachorse_bytewise.proofs.bytewise.gather.Goals as goal
 

@@ -1,4 +1,4 @@
-use Rattle.std.proofs.Common.{◌≡◌, take, map}
+use Rattle.std.proofs.Common.{take, map}
 use Rattle.daachorse_model.specs.Dictionary.{registered}
 use Rattle.daachorse_bytewise.specs.Building.{AreIndexed}
 use Rattle.daachorse_bytewise.proofs.bytewise.indexed.Given as goal

@@ -1,4 +1,4 @@
-use Rattle.std.proofs.Common.{◌≡◌, ℕ, List, map, ◌∙◌, ap, sym, subst, inr}
+use Rattle.std.proofs.Common.{ℕ, List, map, ◌∙◌, subst, inr}
 use Rattle.std.proofs.lemmas.Result.{IfOk-weaker, IfErr-weaker}
 use Rattle.std.specs.Borrow.{Bor}
 use Rattle.daachorse_bytewise.specs.Building.{IsBuiltOf, IsBuildRefusal}

@@ -1,8 +1,7 @@
 use Rattle.std.proofs.Common.{◌≡◌, ◌<◌, ℕ, List, length, map, get_or, [], refl, sym, ◌∙◌, ap, subst, arith}
-use Rattle.std.specs.Prelude.{slice_index, slice_index_or}
 use Rattle.std.proofs.lemmas.List.{get_or-map, length-map}
 use Rattle.std.proofs.lemmas.Cmp.{nat_cmp_total}
-use Rattle.daachorse_build.specs.Tables.{edges_of, fails_of, positions_of, edge_map, link_of, position_of}
+use Rattle.daachorse_build.specs.Tables.{edge_map, link_of, position_of}
 use Rattle.daachorse_bytewise.specs.Parts.{Parts}
 use Rattle.daachorse_bytewise.specs.Whole.{IsState, IsWhole}
 use Rattle.daachorse_bytewise.proofs.WholeLaws.{state-bounds}

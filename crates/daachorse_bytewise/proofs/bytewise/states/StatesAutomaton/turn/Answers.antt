@@ -1,9 +1,9 @@
-use Rattle.std.proofs.Common.{◌≡◌, ◌≢◌, ℕ, Option, Some, None, refl, sym, ◌∙◌, ap, subst}
+use Rattle.std.proofs.Common.{◌≡◌, ◌≢◌, Some, None, sym, ◌∙◌, ap}
 use Rattle.std.specs.Ordering.{nat_cmp}
 use Rattle.std.specs.BTreeMap.{is_at, get_by}
 use Rattle.std.specs.Map.{lookup}
 use Rattle.std.proofs.lemmas.Cmp.{nat_cmp_total}
-use Rattle.daachorse_bytewise.specs.Content.{child, content}
+use Rattle.daachorse_bytewise.specs.Content.{child}
 use Rattle.daachorse_bytewise.proofs.WholeLaws.{looks-next, looks-root, looks-fail}
 use Rattle.daachorse_bytewise.proofs.bytewise.states.StatesAutomaton.turn.Goals as goal
 

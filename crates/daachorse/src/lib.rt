@@ -9,7 +9,7 @@
 //! of each call that begins a search names the whole list.
 #![tactic(auto)]
 
-pub use daachorse_build::{build_helper, nfa_builder};
+pub use daachorse_build::nfa_builder;
 pub use daachorse_bytewise::bytewise;
 pub use daachorse_bytewise::bytewise::DoubleArrayAhoCorasick;
 pub use daachorse_core::errors::Result;
@@ -17,3 +17,4 @@ pub use daachorse_core::{
     DEAD_STATE_IDX, Empty, Match, MatchKind, Output, ROOT_STATE_IDX, errors, turns, utils,
 };
 pub use daachorse_model::laws;
+pub use daachorse_placement::build_helper;

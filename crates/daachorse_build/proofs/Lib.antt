@@ -9,12 +9,4 @@ pub mod Empty
 pub mod OutputChains
 pub mod OutputLists
 pub mod Cleared
-pub mod Refusals
 pub mod Full
-pub mod ElementLaws
-pub mod FlagCounts
-pub mod PlaceLinks
-pub mod PlaceStart
-pub mod PlaceSteps
-pub mod RisingLaws
-pub mod VacantLists

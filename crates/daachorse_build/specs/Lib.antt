@@ -6,10 +6,3 @@ pub mod Growth
 pub mod Holds
 pub mod Lists
 pub mod Builders
-pub mod Refusals
-pub mod Elements
-pub mod Layout
-pub mod ListItems
-pub mod Placement
-pub mod Profiles
-pub mod Rising

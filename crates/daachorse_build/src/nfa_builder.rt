@@ -23,7 +23,7 @@ ghost use Rattle.daachorse_build.specs.Growth.{Extends, IsAdded, HasTrieOf, Over
 ghost use Rattle.daachorse_build.specs.Holds.{in_units, HasMorePrefixes};
 ghost use Rattle.daachorse_build.specs.Lists.{PositionsFit, AreListed};
 ghost use Rattle.daachorse_build.specs.Builders.{states_of, outputs_of, count_of, kind_of, Registered};
-ghost use Rattle.daachorse_build.specs.Refusals.{IsRefusal, IsOutOfMemory};
+ghost use Rattle.daachorse_core.specs.Refusals.{IsRefusal, IsOutOfMemory};
 
 pub use daachorse_core::edge_label::EdgeLabel;
 use daachorse_core::errors::{DaachorseError, Limit, OutOfMemoryError, Result};

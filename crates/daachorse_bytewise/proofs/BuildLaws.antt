@@ -29,7 +29,7 @@ use Rattle.daachorse_build.specs.declared.nfa_builder.NfaBuilder.{NfaBuilder}
 use Rattle.daachorse_build.specs.declared.nfa_builder.NfaBuilderState.{NfaBuilderState}
 use Rattle.daachorse_build.specs.Tables.{edges_of, depths_of, fails_of, positions_of, child_in, child_of}
 use Rattle.daachorse_build.specs.Orders.{HoldLinks, IsLinked}
-use Rattle.daachorse_build.specs.Refusals.{IsRefusal}
+use Rattle.daachorse_core.specs.Refusals.{IsRefusal}
 use Rattle.daachorse_build.specs.Growth.{HasTrieOf}
 use Rattle.daachorse_build.specs.Holds.{Holds, in_units, HasMorePrefixes}
 use Rattle.daachorse_build.specs.Builders.{Registered, states_of, outputs_of, count_of, kind_of}

@@ -1,2 +1,3 @@
 pub mod OutputLists
 pub mod Xor
+pub mod Refusals

@@ -4,3 +4,4 @@ pub mod Outputs
 pub mod Seen
 pub mod Texts
 pub mod Turns
+pub mod Refusals

@@ -8,7 +8,7 @@ use Rattle.daachorse_build.proofs.Labels.{label_exact}
 use Rattle.std.proofs.lemmas.Result.{err_from_is_err_and}
 use Rattle.daachorse_core.specs.declared.errors.Limit.TheVariants.{StateId}
 use Rattle.daachorse_build.specs.Growth.{Overflows}
-use Rattle.daachorse_build.proofs.Refusals.{IsRefusal-weaker}
+use Rattle.daachorse_core.proofs.Refusals.{IsRefusal-weaker}
 use Rattle.daachorse_build.proofs.nfa_builder.add_pattern.Goals as goal
 
 pub loop-label-init : goal.loop-label-init

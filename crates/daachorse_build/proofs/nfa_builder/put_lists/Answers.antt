@@ -15,7 +15,7 @@ use Rattle.daachorse_build.proofs.Labels.{label_exact}
 use Rattle.daachorse_build.proofs.Queue.{in_at, in_take}
 use Rattle.daachorse_build.proofs.Cleared.{cleared, count-cleared}
 use Rattle.daachorse_build.proofs.OutputLists.{listed_start, listed_more, fits_more, fail_known, order-bounds}
-use Rattle.daachorse_build.proofs.Refusals.{IsRefusal-weaker}
+use Rattle.daachorse_core.proofs.Refusals.{IsRefusal-weaker}
 use Rattle.daachorse_build.proofs.nfa_builder.put_lists.Goals as goal
 
 -- as many states, at a trie's twin

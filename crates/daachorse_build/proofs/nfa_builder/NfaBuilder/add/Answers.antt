@@ -5,7 +5,7 @@ use Rattle.std.proofs.lemmas.Result.{err_from_is_err_and}
 use Rattle.daachorse_model.specs.Dictionary.{kept}
 use Rattle.daachorse_core.specs.declared.errors.Limit.TheVariants.{StateId}
 use Rattle.daachorse_build.specs.Holds.{in_units}
-use Rattle.daachorse_build.proofs.Refusals.{IsRefusal-weaker}
+use Rattle.daachorse_core.proofs.Refusals.{IsRefusal-weaker}
 use Rattle.daachorse_build.proofs.Registrations.{kept_more, holds_more}
 use Rattle.daachorse_build.proofs.Full.{too_many}
 use Rattle.daachorse_build.proofs.nfa_builder.NfaBuilder.add.Goals as goal

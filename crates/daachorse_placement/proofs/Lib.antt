@@ -1,0 +1,7 @@
+pub mod FlagCounts
+pub mod PlaceLinks
+pub mod ElementLaws
+pub mod PlaceStart
+pub mod PlaceSteps
+pub mod RisingLaws
+pub mod VacantLists

@@ -1,0 +1,10 @@
+-- The groups so far rise.
+use Rattle.std.proofs.Common.{◌≤◌}
+use Rattle.daachorse_placement.specs.Rising.{RiseTo}
+use Rattle.daachorse_placement.proofs.build_helper.tests.are_rising.Given as goal
+
+abbrev pub invariant-loop-group : goal.invariant-loop-group
+invariant-loop-group l = record {
+  rising : RiseTo l.groups l.group-index l.block_len l.parent_from l.id_from;
+  two : 2 ≤ l.id_from;
+}

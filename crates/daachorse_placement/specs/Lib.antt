@@ -1,0 +1,6 @@
+pub mod Elements
+pub mod Layout
+pub mod ListItems
+pub mod Placement
+pub mod Profiles
+pub mod Rising

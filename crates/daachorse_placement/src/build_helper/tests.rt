@@ -1,0 +1,370 @@
+//! Tests of the places that groups get, of which no contract speaks.
+
+ghost use Rattle.std.specs.Prelude.{◌^◌, ◌≡◌, ◌<◌, ◌≤◌, IsTrue, IfOk, IfSome, length};
+ghost use Rattle.std.specs.Int.{IsPowerOfTwo};
+ghost use Rattle.daachorse_placement.specs.Placement.{AreGroups, HasSizes};
+ghost use Rattle.daachorse_placement.specs.Rising.{AreRising};
+
+use super::{BuildHelper, ListItem, Profile, SiblingGroup};
+use std::alloc::{AllocError, Global};
+use std::process::Abort;
+use std::test::Fail;
+
+/// One more than the last id, if the labels rise below `block_len` and the ids from `low` on.
+fn rises(children: &[(u32, u32)], low: usize, block_len: u32) -> Option<usize>
+    ensures { IfSome result (AreRising children.now (length children.now) block_len low) }
+{
+    let mut label_from = 0;
+    let mut id_from = low;
+    for &(label, id) in children {
+        if label < label_from || label >= block_len || (id as usize) < id_from {
+            return None;
+        }
+        label_from = label + 1;
+        id_from = id as usize + 1;
+    }
+    Some(id_from)
+}
+
+/// Whether the parents, the labels and the ids rise, as far as the groups may be placed.
+fn are_rising(groups: &[SiblingGroup], num_nfa_states: usize, block_len: u32) -> bool
+    ensures { IsTrue result → AreGroups groups.now num_nfa_states block_len }
+{
+    let mut parent_from = 0;
+    let mut id_from = 2;
+    for group in groups {
+        let parent = group.parent as usize;
+        if parent < parent_from || group.children.is_empty() {
+            return false;
+        }
+        match rises(group.children.as_slice(), id_from, block_len) {
+            Some(next) => id_from = next,
+            None => return false,
+        }
+        parent_from = parent + 1;
+    }
+    parent_from <= num_nfa_states && id_from <= num_nfa_states
+}
+
+/// Pairs of a label and an id, with ids from `next` on.
+fn children_of(
+    alloc: Global,
+    labels: &[u32],
+    next: &mut u32,
+) -> Result<Vec<(u32, u32)>, AllocError> {
+    let mut children = Vec::new(alloc);
+    for &label in labels {
+        children.push((label, *next))?;
+        *next = next.wrapping_add(1);
+    }
+    Ok(children)
+}
+
+/// Groups with these weights and labels: the parent of each has its place in the table as id, and
+/// the children have the ids from 2 on.
+fn groups_of(alloc: Global, rows: &[(usize, &[u32])]) -> Result<Vec<SiblingGroup>, AllocError> {
+    let mut groups = Vec::new(alloc);
+    let mut parent = 0u32;
+    let mut next = 2u32;
+    for &(weight, labels) in rows {
+        let children = children_of(alloc, labels, &mut next)?;
+        groups.push(SiblingGroup {
+            parent,
+            children,
+            weight,
+        })?;
+        parent = parent.wrapping_add(1);
+    }
+    Ok(groups)
+}
+
+/// The length of a block, 2 to the power of `bits`.
+fn block_len(rt: &impl Abort, bits: u32) -> u32
+    ensures power { IsPowerOfTwo result }
+    ensures two { 2 ≤ result }
+{
+    assert!(rt; bits <= 8);
+    let len = 2u32.pow(bits);
+    assert!(rt; len >= 2);
+    len
+}
+
+/// Where the groups stand, among `num_nfa_states` states.
+fn place(
+    rt: &impl Abort,
+    alloc: Global,
+    groups: &[SiblingGroup],
+    num_nfa_states: usize,
+    block_len: u32,
+    track_bases: bool,
+) -> Result<BuildHelper, Fail>
+    requires power { IsPowerOfTwo block_len }
+    requires two { 2 ≤ block_len }
+    ensures sizes { IfOk result (λ h. HasSizes h block_len num_nfa_states) }
+{
+    assert!(rt; num_nfa_states >= 2 && num_nfa_states <= 1000);
+    assert!(rt; are_rising(groups, num_nfa_states, block_len));
+    let helper = BuildHelper::new(alloc, groups, num_nfa_states, block_len, track_bases)?;
+    Ok(helper)
+}
+
+/// By block its least base that isn't taken.
+fn unused_bases(
+    alloc: Global,
+    helper: &BuildHelper,
+    block_len: u32,
+    num_nfa_states: usize,
+) -> Result<Vec<Option<u32>>, AllocError>
+    requires two { 2 ≤ block_len }
+    requires sizes { HasSizes helper.now block_len num_nfa_states }
+{
+    let mut unused = Vec::new(alloc);
+    for block_idx in 0..helper.num_elements() / block_len {
+        unused.push(helper.unused_base_in_block(block_idx))?;
+    }
+    Ok(unused)
+}
+
+/// By element whether it is used.
+fn used_indexes(alloc: Global, helper: &BuildHelper) -> Result<Vec<bool>, AllocError> {
+    let mut used = Vec::new(alloc);
+    for idx in 0..helper.num_elements() {
+        used.push(helper.is_used_index(idx))?;
+    }
+    Ok(used)
+}
+
+/// By base whether it is taken.
+fn used_bases(alloc: Global, helper: &BuildHelper) -> Result<Vec<bool>, AllocError> {
+    let mut used = Vec::new(alloc);
+    for base in 0..helper.num_elements() {
+        used.push(helper.is_used_base(base))?;
+    }
+    Ok(used)
+}
+
+/// Groups with their weights and labels, and where they stand.
+#[derive(Drop)]
+struct Row {
+    block_bits: u32,
+    track_bases: bool,
+    groups: &'static [(usize, &'static [u32])],
+    idx_map: &'static [u32],
+    bases: &'static [u32],
+    used_indexes: &'static [bool],
+    used_bases: &'static [bool],
+    vacant: &'static [u32],
+    unused: &'static [Option<u32>],
+}
+
+/// Places the groups of a row, and asserts all that the helper tells of them.
+fn assert_row(rt: &impl Abort, alloc: Global, row: &Row) -> Result<(), Fail> {
+    let block_len = block_len(rt, row.block_bits);
+    let num_nfa_states = row.idx_map.len();
+    let groups = groups_of(alloc, row.groups)?;
+    let helper = place(
+        rt,
+        alloc,
+        &groups,
+        num_nfa_states,
+        block_len,
+        row.track_bases,
+    )?;
+    assert_eq!(rt; helper.idx_map(), row.idx_map);
+    assert_eq!(rt; helper.bases(), row.bases);
+    assert_eq!(rt; used_indexes(alloc, &helper)?.as_slice(), row.used_indexes);
+    assert_eq!(rt; used_bases(alloc, &helper)?.as_slice(), row.used_bases);
+    let vacant: Vec<u32> = helper.vacant_iter().collect(alloc)?;
+    assert_eq!(rt; vacant.as_slice(), row.vacant);
+    let unused = unused_bases(alloc, &helper, block_len, num_nfa_states)?;
+    assert_eq!(rt; unused.as_slice(), row.unused);
+    Ok(())
+}
+
+#[test]
+fn groups_stand_at_the_first_place_that_fits(rt: HostRuntime) -> Result<(), Fail> {
+    let rows = [
+        // The root and the dead state have elements 0 and 1, another state that is no child has 1.
+        Row {
+            block_bits: 2,
+            track_bases: true,
+            groups: &[],
+            idx_map: &[0, 1, 1],
+            bases: &[0, 0, 0],
+            used_indexes: &[true, true, false, false],
+            used_bases: &[false, false, false, false],
+            vacant: &[2, 3],
+            unused: &[Some(0)],
+        },
+        // A base that is taken is passed over where bases are tracked, and a block is added.
+        Row {
+            block_bits: 2,
+            track_bases: true,
+            groups: &[(1, &[1]), (1, &[0])],
+            idx_map: &[0, 1, 2, 4],
+            bases: &[3, 4, 0, 0],
+            used_indexes: &[true, true, true, false, true, false, false, false],
+            used_bases: &[false, false, false, true, true, false, false, false],
+            vacant: &[3, 5, 6, 7],
+            unused: &[Some(0), Some(5)],
+        },
+        // Where bases are not tracked, two groups may share one.
+        Row {
+            block_bits: 2,
+            track_bases: false,
+            groups: &[(1, &[1]), (1, &[0])],
+            idx_map: &[0, 1, 2, 3],
+            bases: &[3, 3, 0, 0],
+            used_indexes: &[true, true, true, true],
+            used_bases: &[false, false, false, false],
+            vacant: &[],
+            unused: &[Some(0)],
+        },
+        // No base is 0.
+        Row {
+            block_bits: 2,
+            track_bases: true,
+            groups: &[(1, &[2])],
+            idx_map: &[0, 1, 3],
+            bases: &[1, 0, 0],
+            used_indexes: &[true, true, false, true],
+            used_bases: &[false, true, false, false],
+            vacant: &[2],
+            unused: &[Some(0)],
+        },
+        // The tries go by the element of the first child, and all children have to fit.
+        Row {
+            block_bits: 2,
+            track_bases: true,
+            groups: &[(1, &[0, 3]), (1, &[1, 2])],
+            idx_map: &[0, 1, 4, 7, 6, 5],
+            bases: &[4, 7, 0, 0, 0, 0],
+            used_indexes: &[true, true, false, false, true, true, true, true],
+            used_bases: &[false, false, false, false, true, false, false, true],
+            vacant: &[2, 3],
+            unused: &[Some(0), Some(5)],
+        },
+        // The same where bases are not tracked.
+        Row {
+            block_bits: 2,
+            track_bases: false,
+            groups: &[(1, &[0, 3]), (1, &[1, 2])],
+            idx_map: &[0, 1, 4, 7, 5, 6],
+            bases: &[4, 4, 0, 0, 0, 0],
+            used_indexes: &[true, true, false, false, true, true, true, true],
+            used_bases: &[false, false, false, false, false, false, false, false],
+            vacant: &[2, 3],
+            unused: &[Some(0), Some(4)],
+        },
+        // A block with all of its bases taken has no vacant element.
+        Row {
+            block_bits: 1,
+            track_bases: true,
+            groups: &[(1, &[0]), (1, &[0])],
+            idx_map: &[0, 1, 2, 3],
+            bases: &[2, 3, 0, 0],
+            used_indexes: &[true, true, true, true],
+            used_bases: &[false, false, true, true],
+            vacant: &[],
+            unused: &[Some(0), None],
+        },
+        // The groups of the patterns 00 00, 00 02, 01 02 and 02 over bytes.
+        Row {
+            block_bits: 4,
+            track_bases: true,
+            groups: &[(1, &[0, 1, 2]), (1, &[2]), (1, &[0, 2])],
+            idx_map: &[0, 1, 4, 5, 6, 3, 8, 10],
+            bases: &[4, 1, 8, 0, 0, 0, 0, 0],
+            used_indexes: &[
+                true, true, false, true, true, true, true, false, true, false, true, false, false,
+                false, false, false,
+            ],
+            used_bases: &[
+                false, true, false, false, true, false, false, false, true, false, false, false,
+                false, false, false, false,
+            ],
+            vacant: &[2, 7, 9, 11, 12, 13, 14, 15],
+            unused: &[Some(0)],
+        },
+    ];
+    for row in &rows {
+        assert_row(&rt, rt.alloc(), row)?;
+    }
+    Ok(())
+}
+
+/// A group that leaves element 3 vacant in blocks of 2, so many groups that fill a block each, and
+/// a last one.
+fn groups_before(
+    alloc: Global,
+    pairs: usize,
+    weight: usize,
+    last: (usize, &[u32]),
+) -> Result<Vec<SiblingGroup>, AllocError> {
+    let mut rows: Vec<(usize, &[u32])> = Vec::new(alloc);
+    rows.push((weight, &[0]))?;
+    for _ in 0..pairs {
+        rows.push((weight, &[0, 1]))?;
+    }
+    rows.push(last)?;
+    groups_of(alloc, &rows)
+}
+
+#[test]
+fn a_group_of_weight_0_looks_at_the_last_16_blocks(rt: HostRuntime) -> Result<(), Fail> {
+    let alloc = rt.alloc();
+    let block_len = block_len(&rt, 1);
+    // Groups that fill a block, the weight of all but the last group, the last group, and then
+    // the element of its last child, the number of elements, and the vacant ones that are listed.
+    let rows: [(usize, usize, (usize, &[u32]), u32, u32, &[u32]); 6] = [
+        (17, 1, (1, &[0]), 3, 38, &[]),
+        (17, 1, (0, &[0]), 38, 40, &[39]),
+        (15, 0, (0, &[0]), 3, 34, &[]),
+        (16, 0, (0, &[0]), 36, 38, &[37]),
+        (17, 1, (1, &[0, 1]), 39, 40, &[3]),
+        (17, 1, (0, &[0, 1]), 39, 40, &[]),
+    ];
+    for &(pairs, weight, last, element, num_elements, listed) in &rows {
+        let groups = groups_before(alloc, pairs, weight, last)?;
+        let num_nfa_states = 3 + 2 * pairs + last.1.len();
+        let helper = place(&rt, alloc, &groups, num_nfa_states, block_len, true)?;
+        assert_eq!(rt; helper.idx_map().last(), Some(&element));
+        assert_eq!(rt; helper.num_elements(), num_elements);
+        assert_eq!(rt; helper.is_used_index(3), element == 3);
+        let vacant: Vec<u32> = helper.vacant_iter().collect(alloc)?;
+        assert_eq!(rt; vacant.as_slice(), listed);
+    }
+    Ok(())
+}
+
+#[test]
+fn a_profile_keeps_its_counts(rt: HostRuntime) -> Result<(), Fail> {
+    let mut profile = Profile::new(rt.alloc());
+    assert!(rt; profile.is_empty());
+    profile.resize(2)?;
+    assert!(rt; !profile.is_empty());
+    profile.visits.push(5)?;
+    profile.probes.push(7)?;
+    profile.resize(4)?;
+    assert_eq!(rt; profile.visits.as_slice(), [0, 0, 5, 0].as_slice());
+    assert_eq!(rt; profile.probes.as_slice(), [0, 0, 7, 0].as_slice());
+    profile.resize(1)?;
+    assert_eq!(rt; profile.visits.as_slice(), [0].as_slice());
+    assert_eq!(rt; profile.probes.as_slice(), [0].as_slice());
+    Ok(())
+}
+
+#[test]
+fn a_list_item_has_two_places_and_two_flags(rt: HostRuntime) -> Result<(), Fail> {
+    let mut item = ListItem::default();
+    assert_eq!(rt; (item.next(), item.prev()), (0, 0));
+    *item.next_mut() = 3;
+    *item.prev_mut() = 5;
+    item.use_base();
+    let copy = item.clone()?;
+    item.use_index();
+    assert_eq!(rt; (copy.next(), copy.prev()), (3, 5));
+    assert_eq!(rt; (copy.is_used_base(), copy.is_used_index()), (true, false));
+    assert_eq!(rt; (item.is_used_base(), item.is_used_index()), (true, true));
+    Ok(())
+}

@@ -6,3 +6,4 @@ pub mod Growth
 pub mod Holds
 pub mod Lists
 pub mod Builders
+pub mod EdgeMaps

@@ -1,3 +1,4 @@
+pub mod EdgeLists
 pub mod Walks
 pub mod Fails
 pub mod Queue
@@ -10,4 +11,3 @@ pub mod OutputChains
 pub mod OutputLists
 pub mod Cleared
 pub mod Full
-pub mod EdgeLists

@@ -1,3 +1,4 @@
+pub mod EdgeMaps
 pub mod Trie
 pub mod Tables
 pub mod Orders
@@ -6,4 +7,3 @@ pub mod Growth
 pub mod Holds
 pub mod Lists
 pub mod Builders
-pub mod EdgeMaps

@@ -273,3 +273,38 @@ fn put<L: EdgeLabel, A: Allocator>(
     }
     Ok(())
 }
+
+#[cfg(test)]
+mod tests {
+    use super::*;
+    use std::test::Fail;
+
+    #[test]
+    fn edges_stand_by_rising_labels(rt: HostRuntime) -> Result<(), Fail> {
+        let alloc = rt.alloc();
+        let mut map = EdgeMap::<u8>::default();
+        assert!(rt; map.is_empty());
+        assert_eq!(rt; map.get(&b'm'), None);
+        for (label, id) in [(b'm', 1), (b'm', 2), (b'c', 3), (b'x', 4), (b'a', 5), (b'c', 6)] {
+            map.insert(alloc, label, id)?;
+        }
+        let copy = map.clone()?;
+        map.insert(alloc, b'd', 7)?;
+        assert!(rt; !copy.is_empty());
+        assert_eq!(rt; copy.len(), 4);
+        let edges: Vec<(u8, u32)> = copy
+            .iter()
+            .map(|(label, id)| (*label, *id))
+            .collect(alloc)?;
+        assert_eq!(rt;
+            edges.as_slice(),
+            [(b'a', 5), (b'c', 6), (b'm', 2), (b'x', 4)].as_slice()
+        );
+        let ids: Vec<u32> = map.values().copied().collect(alloc)?;
+        assert_eq!(rt; ids.as_slice(), [5, 6, 7, 2, 4].as_slice());
+        assert_eq!(rt; map.get(&b'd'), Some(&7));
+        assert_eq!(rt; copy.get(&b'd'), None);
+        assert_eq!(rt; copy.get(&b'x'), Some(&4));
+        Ok(())
+    }
+}

@@ -7,12 +7,12 @@ use Rattle.std.proofs.lemmas.List.Sorted.{searchable_from_sorted}
 use Rattle.std.proofs.lemmas.Map.Keys.{sorted_tail, Less-from_sorted}
 use Rattle.std.specs.declared.cmp.Ordering.{Ordering}
 use Rattle.std.specs.declared.cmp.Ordering.TheVariants.{Less, Equal, Greater}
-use Rattle.std.specs.Ordering.{ordering_reverse, ordering_index, is_eq, is_lt, match_ordering, eq_by_cmp}
-use Rattle.std.specs.Cmp.{IsTotalOrder, Equal-is, eq_by_cmp_equiv, alike_right, tied_back}
-use Rattle.std.specs.List.{AllByRecursion, AllWithin}
+use Rattle.std.specs.Ordering.{ordering_reverse, ordering_index, is_eq, is_lt, match_ordering}
+use Rattle.std.specs.Cmp.{IsTotalOrder, eq_by_cmp_equiv, alike_right, tied_back}
+use Rattle.std.specs.List.{AllByRecursion}
 use Rattle.std.specs.List.Sorted.{IsStrictlySortedBy, IsNonDecreasingBy, IsSortedBy, IsPartitionPoint}
 use Rattle.std.specs.BTreeMap.{insert_entry, is_at}
-use Rattle.std.specs.Map.{lookup, keys_of}
+use Rattle.std.specs.Map.{keys_of}
 use Rattle.std.specs.Map.Iter.{TakesFirst, ShowsInOrder}
 use Rattle.std.proofs.iter.runs.Sources.{from_front}
 use Rattle.daachorse_build.specs.EdgeMaps.{id_at, IsOrdered, Updates}

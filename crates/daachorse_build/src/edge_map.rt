@@ -4,7 +4,7 @@
 //! above may rely on a map being the list of its edges by rising labels: `get` finds the id at a
 //! label, `insert` changes that id and no other, and the iterators give the edges in order.
 
-ghost use Rattle.std.specs.Prelude.{◌≡◌, ◌↔◌, ℕ, ◌<◌, [], ◌∷◌, ◌++◌, length, IfOk, IfErr, OnOk, OnErr, IsTrue, MatchResult};
+ghost use Rattle.std.specs.Prelude.{◌≡◌, ◌↔◌, ℕ, ◌<◌, [], ◌∷◌, ◌++◌, None, length, IfOk, IfErr, OnOk, OnErr, IsTrue, MatchResult};
 ghost use Rattle.std.specs.Option.{option_copied, option_to_list};
 ghost use Rattle.std.specs.Map.{values_of};
 ghost use Rattle.std.specs.List.{HoldsAt};
@@ -118,12 +118,13 @@ impl<L: EdgeLabel, A: Allocator> EdgeMap<L, A> {
     }
 
     /// Gives a label this id, in place of the one that it may have. The second edge is the first
-    /// that takes memory. After an error the map is as it was.
+    /// that takes memory. Only a new label is refused, and the map is then as it was.
     pub fn insert(&mut self, alloc: A, label: L, id: u32) -> Result<()>
         ensures edges { OnOk result (self.new ≡ insert_entry L.cmp self.old label id) }
         ensures updates { OnOk result (Updates L.cmp self.old self.new label id) }
         ensures ordered { IsOrdered L.cmp self.new }
         ensures unchanged { OnErr result (self.new ≡ self.old) }
+        ensures absent { OnErr result (id_at L.cmp self.old label ≡ None) }
         ensures refused { IfErr result IsOutOfMemory }
     {
         put(&mut self.edges, alloc, (label, id))
@@ -249,14 +250,11 @@ fn pair<L: EdgeLabel, A: Allocator>(
 }
 
 /// Puts an edge among edges, or gives the one with its label the new id.
-fn put<L: EdgeLabel, A: Allocator>(
-    edges: &mut Edges<L, A>,
-    alloc: A,
-    edge: (L, u32),
-) -> Result<()>
+fn put<L: EdgeLabel, A: Allocator>(edges: &mut Edges<L, A>, alloc: A, edge: (L, u32)) -> Result<()>
     requires { IsOrdered L.cmp (edges_in edges.old) }
     ensures edges { OnOk result (edges_in edges.new ≡ insert_entry L.cmp (edges_in edges.old) edge.0 edge.1) }
     ensures unchanged { OnErr result (edges_in edges.new ≡ edges_in edges.old) }
+    ensures absent { OnErr result (id_at L.cmp (edges_in edges.old) edge.0 ≡ None) }
     ensures refused { IfErr result IsOutOfMemory }
 {
     match edges {
@@ -285,17 +283,21 @@ mod tests {
         let mut map = EdgeMap::<u8>::default();
         assert!(rt; map.is_empty());
         assert_eq!(rt; map.get(&b'm'), None);
-        for (label, id) in [(b'm', 1), (b'm', 2), (b'c', 3), (b'x', 4), (b'a', 5), (b'c', 6)] {
+        for (label, id) in [
+            (b'm', 1),
+            (b'm', 2),
+            (b'c', 3),
+            (b'x', 4),
+            (b'a', 5),
+            (b'c', 6),
+        ] {
             map.insert(alloc, label, id)?;
         }
         let copy = map.clone()?;
         map.insert(alloc, b'd', 7)?;
         assert!(rt; !copy.is_empty());
         assert_eq!(rt; copy.len(), 4);
-        let edges: Vec<(u8, u32)> = copy
-            .iter()
-            .map(|(label, id)| (*label, *id))
-            .collect(alloc)?;
+        let edges: Vec<(u8, u32)> = copy.iter().map(|(label, id)| (*label, *id)).collect(alloc)?;
         assert_eq!(rt;
             edges.as_slice(),
             [(b'a', 5), (b'c', 6), (b'm', 2), (b'x', 4)].as_slice()

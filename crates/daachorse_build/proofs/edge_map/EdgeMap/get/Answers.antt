@@ -1,5 +1,5 @@
 -- The search among the edges ends at the label's edge, or where it has none.
-use Rattle.std.proofs.Common.{◌≡◌, ℕ, ◌<◌, ◌≤◌, List, length, Some, ◌∙◌, ap, sym, subst}
+use Rattle.std.proofs.Common.{◌≡◌, ℕ, List, Some, ◌∙◌, ap, sym, subst}
 use Rattle.daachorse_build.specs.EdgeMaps.{edges_in, id_at, IsOrdered}
 use Rattle.daachorse_build.proofs.EdgeLists.{found_at, none_at}
 use Rattle.daachorse_build.proofs.edge_map.EdgeMap.get.Goals as goal

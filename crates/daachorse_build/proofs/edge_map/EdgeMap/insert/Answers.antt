@@ -1,7 +1,6 @@
 -- An edge that goes to its place leaves the labels in order, and is found there.
-use Rattle.std.proofs.Common.{◌≡◌, ℕ, List, ◌∙◌, ap, sym, subst, Result, Ok, Err, OnOk, OnErr}
+use Rattle.std.proofs.Common.{ℕ, List, sym, subst, Result, Ok, Err, OnOk, OnErr}
 use Rattle.std.proofs.lemmas.Result.{on_ok_weaker}
-use Rattle.std.specs.BTreeMap.{insert_entry}
 use Rattle.daachorse_build.specs.EdgeMaps.{edges_in, IsOrdered, Updates}
 use Rattle.daachorse_build.proofs.EdgeLists.{ordered_put, updates_put}
 use Rattle.daachorse_build.proofs.edge_map.EdgeMap.insert.Goals as goal

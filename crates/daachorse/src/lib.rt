@@ -9,7 +9,7 @@
 //! of each call that begins a search names the whole list.
 #![tactic(auto)]
 
-pub use daachorse_build::nfa_builder;
+pub use daachorse_build::{edge_map, nfa_builder};
 pub use daachorse_bytewise::bytewise;
 pub use daachorse_bytewise::bytewise::DoubleArrayAhoCorasick;
 pub use daachorse_core::errors::Result;

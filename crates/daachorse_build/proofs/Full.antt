@@ -96,7 +96,7 @@ module _ {L V A : Type 0} (cmp : L → L → Ordering) (unit : L → ℕ) (exact
         texts = map (map unit) (lost ∷ below.texts);
         distinct = distinct_units unit exact (lost ∷ below.texts) (lost_text child (length (edges_of mid)) lost none below.texts below.lead, below.apart);
         prefixes = (prefix_now unit exact kind rs p v adds lost (over.rest, append_assoc over.front (over.label ∷ []) over.rest ∙ over.splits), all_prefixes below.texts below.lead);
-        more = omega (arith, over.full, below.count, length-map (lost ∷ below.texts) (map unit), length-map mid (λ s. s.edges.entries));
+        more = omega (arith, over.full, below.count, length-map (lost ∷ below.texts) (map unit), length-map mid (λ s. s.edges));
       }
     where
       is_prefix : (w : List L) (t : ℕ) → Leads (child_of cmp over.mid) w t → IsPrefix (after unit exact kind rs p v adds) (map unit w)

@@ -1,3 +1,4 @@
+pub mod EdgeLists
 pub mod Walks
 pub mod Fails
 pub mod Queue

@@ -6,10 +6,11 @@ use Rattle.std.proofs.lemmas.List.{append-nil, length_push, length-set, get_or_p
 use Rattle.std.specs.declared.cmp.Ordering.{Ordering}
 use Rattle.std.specs.declared.cmp.Ordering.TheVariants.{Equal}
 use Rattle.std.specs.Cmp.{IsTotalOrder}
-use Rattle.std.specs.BTreeMap.{BTreeMap, IsOrdered, Updates, is_at}
+use Rattle.std.specs.BTreeMap.{is_at}
 use Rattle.std.specs.Map.{lookup}
 use Rattle.daachorse_build.specs.declared.nfa_builder.NfaBuilderState.{NfaBuilderState}
 use Rattle.daachorse_model.specs.Paths.{walk}
+use Rattle.daachorse_build.specs.EdgeMaps.{IsOrdered, Updates}
 use Rattle.daachorse_build.specs.Tables.{child_in, child_of, edges_of, depths_of, fails_of, own_of, own_at, positions_of, held_at, output_count, HoldTrie}
 use Rattle.daachorse_build.specs.Growth.{IsPrefixOf, AddsEdge, Extends, IsAdding, IsAdded, HasTrieOf}
 use Rattle.std.proofs.lemmas.List.Sums.{sum_by-set, sum_by-append}
@@ -46,25 +47,25 @@ prefix_more w p c h = (h.0 ++ c ∷ [], sym (append_assoc w h.0 (c ∷ [])) ∙ 
 
 module _ {L V A : Type 0} (cmp : L → L → Ordering) (total : IsTotalOrder cmp) (exact : (x y : L) → cmp x y ≡ Equal → x ≡ y) where
   -- a new child of the state at id
-  pub extends_new : (old new : List (NfaBuilderState L V A)) (id : ℕ) (label : L) (parent : NfaBuilderState L V A) (m : BTreeMap L ℕ) (state : NfaBuilderState L V A) → HoldTrie cmp old → id < length old → id ≢ 1 → child_of cmp old id label ≡ None → parent ≡ get_or old id parent → IsOrdered cmp m → Updates cmp parent.edges m label (Some (length old)) → state.edges.entries ≡ [] → state.depth ≡ parent.depth + 1 → state.output.items ≡ [] → new ≡ set old id (record parent { edges = m }) ++ state ∷ [] → Extends cmp old new id label (length old)
+  pub extends_new : (old new : List (NfaBuilderState L V A)) (id : ℕ) (label : L) (parent : NfaBuilderState L V A) (m : List (L × ℕ)) (state : NfaBuilderState L V A) → HoldTrie cmp old → id < length old → id ≢ 1 → child_of cmp old id label ≡ None → parent ≡ get_or old id parent → IsOrdered cmp m → Updates cmp parent.edges m label (length old) → state.edges ≡ [] → state.depth ≡ parent.depth + 1 → state.output.items ≡ [] → new ≡ set old id (record parent { edges = m }) ++ state ∷ [] → Extends cmp old new id label (length old)
   extends_new old new id label parent m state table l ne none is ordered updates no_edges deeper no_output e =
       let edges = edges_of old in
-      let count : length edges ≡ length old = length-map old (λ s. s.edges.entries) in
-      let at : get_or edges id [] ≡ parent.edges.entries = get_or-map (λ s. s.edges.entries) old id parent [] l ∙ ap (λ s. s.edges.entries) (sym is) in
+      let count : length edges ≡ length old = length-map old (λ s. s.edges) in
+      let at : get_or edges id [] ≡ parent.edges = get_or-map (λ s. s.edges) old id parent [] l ∙ ap (λ s. s.edges) (sym is) in
       let deep : get_or (depths_of old) id 0 ≡ parent.depth = get_or-map (λ s. s.depth) old id parent 0 l ∙ ap (λ s. s.depth) (sym is) in
       let low : id < length edges = omega (arith, count, l) in
-      let found : (q : L) → lookup (is_at (cmp q)) m.entries ≡ cond (is_at (cmp label) q) (Some (length edges)) (lookup (is_at (cmp q)) (get_or edges id [])) =
-      λ q. updates.0 q ∙ ap (λ es. cond (is_at (cmp label) q) (Some (length old)) (lookup (is_at (cmp q)) es)) (sym at) ∙ ap (λ n. cond (is_at (cmp label) q) (Some n) (lookup (is_at (cmp q)) (get_or edges id []))) (sym count) in
-      let made : edges_of new ≡ set edges id m.entries ++ [] ∷ [] =
-      ap edges_of e ∙ map_edit (λ s. s.edges.entries) old id (record parent { edges = m }) state ∙ ap (λ es. set edges id m.entries ++ es ∷ []) no_edges in
+      let found : (q : L) → lookup (is_at (cmp q)) m ≡ cond (is_at (cmp label) q) (Some (length edges)) (lookup (is_at (cmp q)) (get_or edges id [])) =
+      λ q. updates q ∙ ap (λ es. cond (is_at (cmp label) q) (Some (length old)) (lookup (is_at (cmp q)) es)) (sym at) ∙ ap (λ n. cond (is_at (cmp label) q) (Some n) (lookup (is_at (cmp q)) (get_or edges id []))) (sym count) in
+      let made : edges_of new ≡ set edges id m ++ [] ∷ [] =
+      ap edges_of e ∙ map_edit (λ s. s.edges) old id (record parent { edges = m }) state ∙ ap (λ es. set edges id m ++ es ∷ []) no_edges in
       let depths : depths_of new ≡ depths_of old ++ state.depth ∷ [] =
       ap depths_of e ∙ map_edit (λ s. s.depth) old id (record parent { edges = m }) state ∙ ap (λ ds. ds ++ state.depth ∷ []) (map_kept (λ s. s.depth) old id parent (record parent { edges = m }) l is refl) in
       let outputs : own_of new ≡ own_of old ++ [] ∷ [] =
       ap own_of e ∙ map_edit (λ s. s.output.items) old id (record parent { edges = m }) state ∙ ap (λ os. set (own_of old) id parent.output.items ++ os ∷ []) no_output ∙ ap (λ os. os ++ [] ∷ []) (map_kept (λ s. s.output.items) old id parent (record parent { edges = m }) l is refl) in
-      let adds = adds_edge cmp total exact edges (depths_of old) table id label state.depth m.entries low ne none ordered found in
+      let adds = adds_edge cmp total exact edges (depths_of old) table id label state.depth m low ne none ordered found in
       let lengths : length (depths_of old) ≡ length edges = length-map old (λ s. s.depth) ∙ sym count in
-      let grown = table_grows cmp total exact edges (depths_of old) table id label state.depth m.entries low ne none ordered found lengths (deeper ∙ ap (λ x. x + 1) (sym deep)) in
-      let hit = is_here cmp total exact edges (depths_of old) table id label state.depth m.entries low ne none ordered found in
+      let grown = table_grows cmp total exact edges (depths_of old) table id label state.depth m low ne none ordered found lengths (deeper ∙ ap (λ x. x + 1) (sym deep)) in
+      let hit = is_here cmp total exact edges (depths_of old) table id label state.depth m low ne none ordered found in
       record {
         trie = rw (made, depths) grown;
         leads = ap (λ es. child_in cmp es id label) made ∙ hit ∙ ap Some count;
@@ -161,7 +162,7 @@ module _ {L V A : Type 0} (cmp : L → L → Ordering) (total : IsTotalOrder cmp
       let kept = outputs_kept old mid p id table adding in
       let W : List L → ℕ → List (List (L × ℕ)) → Type 0 = λ w v es. walk (child_in cmp es) 0 w ≡ Some v in
       let bound = walk-bounds (child_of cmp mid) (λ i. get_or (depths_of mid) i 0) (length (edges_of mid)) adding.trie.trie p id adding.here in
-      let count : length (edges_of mid) ≡ length (own_of mid) = length-map mid (λ s. s.edges.entries) ∙ sym (length-map mid (λ s. s.output.items)) in
+      let count : length (edges_of mid) ≡ length (own_of mid) = length-map mid (λ s. s.edges) ∙ sym (length-map mid (λ s. s.output.items)) in
       let low : id < length (own_of mid) = omega (arith, bound.0, count) in
       let same : (w : List L) → held_at cmp new w ≡ unwrap_or (option_map (own_at (set (own_of mid) id (own_at (own_of mid) id ++ out ∷ []))) (walk (child_of cmp mid) 0 w)) [] =
       λ w. ap (λ es. unwrap_or (option_map (own_at (own_of new)) (walk (child_in cmp es) 0 w)) []) edges ∙ ap (λ os. unwrap_or (option_map (own_at os) (walk (child_of cmp mid) 0 w)) []) outputs in
@@ -205,7 +206,7 @@ pub link_set : {L V A : Type 0} (old states : List (NfaBuilderState L V A)) (fai
 link_set old states fails i x y l low is e kept links =
     let count : i < length (fails_of states) = omega (arith, l, length-map states (λ s. s.fail)) in (
       record {
-        edges = map_stays (λ s. s.edges.entries) states i x y l is (ap (λ s. s.edges.entries) e) ∙ kept.edges;
+        edges = map_stays (λ s. s.edges) states i x y l is (ap (λ s. s.edges) e) ∙ kept.edges;
         depths = map_stays (λ s. s.depth) states i x y l is (ap (λ s. s.depth) e) ∙ kept.depths;
         outputs = map_stays (λ s. s.output.items) states i x y l is (ap (λ s. s.output.items) e) ∙ kept.outputs;
       },
@@ -217,7 +218,7 @@ link_set old states fails i x y l low is e kept links =
 pub position_set : {L V A : Type 0} (states : List (NfaBuilderState L V A)) (i : ℕ) (x y : NfaBuilderState L V A) (p : ℕ) → i < length states → x ≡ get_or states i x → y ≡ record x { output_pos = p } → HasTrieOf states (set states i y) × (fails_of (set states i y) ≡ fails_of states) × (positions_of (set states i y) ≡ set (positions_of states) i p)
 position_set states i x y p l is e = (
   record {
-    edges = map_stays (λ s. s.edges.entries) states i x y l is (ap (λ s. s.edges.entries) e);
+    edges = map_stays (λ s. s.edges) states i x y l is (ap (λ s. s.edges) e);
     depths = map_stays (λ s. s.depth) states i x y l is (ap (λ s. s.depth) e);
     outputs = map_stays (λ s. s.output.items) states i x y l is (ap (λ s. s.output.items) e);
   },

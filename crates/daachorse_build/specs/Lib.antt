@@ -1,3 +1,4 @@
+pub mod EdgeMaps
 pub mod Trie
 pub mod Tables
 pub mod Orders

@@ -1,16 +1,14 @@
 -- The states of a builder as lists, and the trie that they hold.
 use Rattle.std.specs.Prelude.{ℕ, List, [], Option, map, length, slice_index, slice_index_or, unwrap_or, option_map, sum_by}
 use Rattle.std.specs.declared.cmp.Ordering.{Ordering}
-use Rattle.std.specs.BTreeMap.{BTreeMap, is_at}
-use Rattle.std.specs.List.Sorted.{IsStrictlySortedBy}
-use Rattle.std.specs.Map.{lookup, keys_of}
 use Rattle.daachorse_model.specs.Paths.{walk}
 use Rattle.daachorse_build.specs.declared.nfa_builder.NfaBuilderState.{NfaBuilderState}
+use Rattle.daachorse_build.specs.EdgeMaps.{id_at, IsOrdered}
 use Rattle.daachorse_build.specs.Trie.{IsTrie}
 
 -- ---- one state
--- the edges, as a map
-abbrev pub edge_map : {L V A : Type 0} → NfaBuilderState L V A → BTreeMap L ℕ
+-- the edges, by rising labels
+abbrev pub edge_map : {L V A : Type 0} → NfaBuilderState L V A → List (L × ℕ)
 edge_map s = s.edges
 
 -- the length of its text, in labels
@@ -30,9 +28,9 @@ abbrev pub position_of : {L V A : Type 0} → NfaBuilderState L V A → ℕ
 position_of s = s.output_pos
 
 -- ---- all states
--- the edges of each state, in order of their labels
+-- the edges of each state, by rising labels
 abbrev pub edges_of : {L V A : Type 0} → List (NfaBuilderState L V A) → List (List (L × ℕ))
-edges_of states = map (λ s. s.edges.entries) states
+edges_of states = map (λ s. s.edges) states
 
 -- the length of each state's text, in labels
 abbrev pub depths_of : {L V A : Type 0} → List (NfaBuilderState L V A) → List ℕ
@@ -61,7 +59,7 @@ output_count own = sum_by length own
 -- ---- the trie
 -- what a label leads to
 abbrev pub child_in : {L : Type 0} → (L → L → Ordering) → List (List (L × ℕ)) → ℕ → L → Option ℕ
-child_in cmp edges s c = lookup (is_at (cmp c)) (slice_index_or edges s [])
+child_in cmp edges s c = id_at cmp (slice_index_or edges s []) c
 
 abbrev pub child_of : {L V A : Type 0} → (L → L → Ordering) → List (NfaBuilderState L V A) → ℕ → L → Option ℕ
 child_of cmp states s c = child_in cmp (edges_of states) s c
@@ -72,7 +70,7 @@ held_at cmp states w = unwrap_or (option_map (own_at (own_of states)) (walk (chi
 
 -- the edges of each state are in order, and together they make a trie
 pub record IsTable {L : Type 0} (cmp : L → L → Ordering) (edges : List (List (L × ℕ))) (depths : List ℕ) : Type 0 where
-  pub ordered : (s : ℕ) → IsStrictlySortedBy cmp (keys_of (slice_index_or edges s []))
+  pub ordered : (s : ℕ) → IsOrdered cmp (slice_index_or edges s [])
   pub trie : IsTrie (child_in cmp edges) (slice_index depths) (length edges)
 
 abbrev pub HoldTrie : {L V A : Type 0} → (L → L → Ordering) → List (NfaBuilderState L V A) → Type 0

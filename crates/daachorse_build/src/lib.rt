@@ -4,4 +4,5 @@
 //! added, and its links and outputs are those of the dictionary.
 #![tactic(auto)]
 
+pub mod edge_map;
 pub mod nfa_builder;

@@ -25,11 +25,11 @@ ghost use Rattle.daachorse_build.specs.Lists.{PositionsFit, AreListed};
 ghost use Rattle.daachorse_build.specs.Builders.{states_of, outputs_of, count_of, kind_of, Registered};
 ghost use Rattle.daachorse_core.specs.Refusals.{IsRefusal, IsOutOfMemory};
 
+use crate::edge_map::EdgeMap;
 pub use daachorse_core::edge_label::EdgeLabel;
 use daachorse_core::errors::{DaachorseError, Limit, OutOfMemoryError, Result};
 use daachorse_core::{MatchKind, Output};
 use std::alloc::{Allocator, Global};
-use std::collections::BTreeMap;
 use std::num::NonZeroU32;
 
 /// The id of the root, the state of the empty text.
@@ -41,7 +41,7 @@ pub const DEAD_STATE_ID: u32 = 1;
 /// A state of the trie.
 #[derive(Drop)]
 pub struct NfaBuilderState<L: EdgeLabel, V: Copy, A: Allocator = Global> {
-    edges: BTreeMap<L, u32, A>,
+    edges: EdgeMap<L, A>,
     // The length of the state's text, in labels.
     depth: u32,
     fail: u32,
@@ -52,7 +52,7 @@ pub struct NfaBuilderState<L: EdgeLabel, V: Copy, A: Allocator = Global> {
 
 impl<L: EdgeLabel, V: Copy, A: Allocator> NfaBuilderState<L, V, A> {
     /// The edges: for each label the id of the child.
-    pub fn edges(&self) -> &BTreeMap<L, u32, A>
+    pub fn edges(&self) -> &EdgeMap<L, A>
         ensures { result.now ≡ edge_map self.now }
     {
         &self.edges
@@ -76,7 +76,7 @@ impl<L: EdgeLabel, V: Copy, A: Allocator> NfaBuilderState<L, V, A> {
 impl<L: EdgeLabel, V: Copy, A: Allocator + Copy> NfaBuilderState<L, V, A> {
     /// A state with no edges and no outputs. It takes no memory.
     pub fn new(alloc: A) -> Self
-        ensures edges { (edge_map result).entries ≡ [] }
+        ensures edges { edge_map result ≡ [] }
         ensures depth { depth_of result ≡ 0 }
         ensures fail { link_of result ≡ 0 }
         ensures outputs { held_by result ≡ [] }
@@ -85,16 +85,34 @@ impl<L: EdgeLabel, V: Copy, A: Allocator + Copy> NfaBuilderState<L, V, A> {
         Self::at_depth(alloc, 0)
     }
 
+    /// A state with the same edges, depth, link, outputs and position.
+    pub fn clone(&self) -> Result<Self>
+        ensures edges { IfOk result (λ state. edge_map state ≡ edge_map self.now) }
+        ensures depth { IfOk result (λ state. depth_of state ≡ depth_of self.now) }
+        ensures fail { IfOk result (λ state. link_of state ≡ link_of self.now) }
+        ensures outputs { IfOk result (λ state. held_by state ≡ held_by self.now) }
+        ensures position { IfOk result (λ state. position_of state ≡ position_of self.now) }
+        ensures refused { IfErr result IsOutOfMemory }
+    {
+        Ok(Self {
+            edges: self.edges.clone()?,
+            depth: self.depth,
+            fail: self.fail,
+            output: Vec::from_slice(*self.output.allocator(), &self.output)?,
+            output_pos: self.output_pos,
+        })
+    }
+
     /// A state with no edges and no outputs, whose text has `depth` labels.
     fn at_depth(alloc: A, depth: u32) -> Self
-        ensures edges { result.edges.entries ≡ [] }
+        ensures edges { result.edges ≡ [] }
         ensures depth { result.depth ≡ depth }
         ensures fail { result.fail ≡ 0 }
         ensures output { result.output.items ≡ [] }
         ensures position { result.output_pos ≡ 0 }
     {
         Self {
-            edges: BTreeMap::new(alloc),
+            edges: EdgeMap::default(),
             depth,
             fail: ROOT_STATE_ID,
             output: Vec::new(alloc),
@@ -283,7 +301,7 @@ fn child_or_new<L: EdgeLabel, V: Copy, A: Allocator + Copy>(
     let alloc = *states.allocator();
     let parent = &mut states[id as usize];
     let depth = parent.depth + 1;
-    parent.edges.insert(label, fresh)?;
+    parent.edges.insert(alloc, label, fresh)?;
     states.push(NfaBuilderState::at_depth(alloc, depth))?;
     Ok(fresh)
 }

@@ -1,13 +1,14 @@
 //! Tests that cross the crates, by the paths of `daachorse`: worked rows of what the searches find,
-//! refusals and their texts, and each growth of a build refused in turn.
+//! refusals and their texts, and each growth of a build and of a map of edges refused in turn.
 #![tactic(auto)]
 
 #[cfg(test)]
 mod tests {
+    use daachorse::edge_map::EdgeMap;
     use daachorse::errors::DaachorseError;
     use daachorse::{DoubleArrayAhoCorasick, Match, Result};
     use refusing::Refusing;
-    use std::alloc::Allocator;
+    use std::alloc::{Allocator, Global};
     use std::test::Fail;
 
     fn found(start: usize, end: usize, value: u32) -> Match<u32> {
@@ -106,5 +107,50 @@ mod tests {
             }
         }
         assert!(rt; ended);
+    }
+
+    #[test]
+    fn one_edge_takes_no_memory(rt: HostRuntime) -> Result<(), Fail> {
+        let heap = Refusing::new(rt.alloc(), 0);
+        let mut map = EdgeMap::<u8, &Refusing<Global>>::default();
+        map.insert(&heap, b'b', 1)?;
+        map.insert(&heap, b'b', 2)?;
+        assert_eq!(rt; map.clone()?.get(&b'b'), Some(&2));
+        assert!(rt; !heap.has_refused());
+        assert!(rt; map.insert(&heap, b'a', 3).is_err());
+        assert!(rt; heap.has_refused());
+        assert_eq!(rt; map.get(&b'a'), None);
+        assert_eq!(rt; map.get(&b'b'), Some(&2));
+        Ok(())
+    }
+
+    #[test]
+    fn each_growth_of_an_edge_map_is_refused_in_turn(rt: HostRuntime) -> Result<(), Fail> {
+        let labels = b"tresnflougmj";
+        let mut ended = false;
+        for number in 0..100u64 {
+            let heap = Refusing::new(rt.alloc(), number);
+            let mut map = EdgeMap::<u8, &Refusing<Global>>::default();
+            let mut kept = Vec::<(u8, u32)>::new(rt.alloc());
+            for (id, label) in (1..).zip(labels) {
+                if map.insert(&heap, *label, id).is_ok() {
+                    kept.push((*label, id))?;
+                }
+            }
+            kept.sort()?;
+            let edges: Vec<(u8, u32)> = map
+                .iter()
+                .map(|(label, id)| (*label, *id))
+                .collect(rt.alloc())?;
+            assert_eq!(rt; edges.as_slice(), kept.as_slice(), "request {number}");
+            if !heap.has_refused() {
+                assert_eq!(rt; map.len(), labels.len());
+                ended = true;
+                break;
+            }
+            assert_eq!(rt; map.len() + 1, labels.len(), "request {number}");
+        }
+        assert!(rt; ended);
+        Ok(())
     }
 }

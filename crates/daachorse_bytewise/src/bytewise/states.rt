@@ -49,7 +49,7 @@ impl<V: Copy, A: Allocator> States<V, A> {
     fn state(&self, index: u32) -> &NfaBuilderState<u8, V, A>
         requires { IsState self.now index }
         ensures whole { IsWhole self.now }
-        ensures edges { (edge_map result.now).entries ≡ slice_index_or self.now.edges index [] }
+        ensures edges { edge_map result.now ≡ slice_index_or self.now.edges index [] }
         ensures fail { link_of result.now ≡ slice_index self.now.fails index }
         ensures position { position_of result.now ≡ slice_index self.now.positions index }
     {

@@ -22,7 +22,7 @@ child_or_new-requires-clause-in_range g c =
     let states = c.loop-label.states.items in
     let i = c.loop-label.invariant in
     let b = walk-bounds (child_of g.L.Ord.cmp states) (λ k. get_or (depths_of states) k 0) (length (edges_of states)) i.trie.trie _ c.loop-label.id i.here in
-    omega (arith, b.0, length-map states (λ s. s.edges.entries))
+    omega (arith, b.0, length-map states (λ s. s.edges))
 
 pub child_or_new-requires-clause-alive : goal.child_or_new-requires-clause-alive
 child_or_new-requires-clause-alive g c =
@@ -44,7 +44,7 @@ index_mut-requires g c =
     let states = c.loop-label.states.items in
     let i = c.loop-label.invariant in
     let b = walk-bounds (child_of g.L.Ord.cmp states) (λ k. get_or (depths_of states) k 0) (length (edges_of states)) i.trie.trie _ c.loop-label.id i.here in
-    omega (arith, b.0, length-map states (λ s. s.edges.entries))
+    omega (arith, b.0, length-map states (λ s. s.edges))
 
 pub returns-clause-ok : goal.returns-clause-ok
 returns-clause-ok g c =
@@ -54,10 +54,10 @@ returns-clause-ok g c =
     let y = record x { output = c.push.new.self } in
     let i = c.loop-label.invariant in
     let b = walk-bounds (child_of g.L.Ord.cmp states) (λ k. get_or (depths_of states) k 0) (length (edges_of states)) i.trie.trie _ id i.here in
-    let low : id < length states = omega (arith, b.0, length-map states (λ s. s.edges.entries)) in
+    let low : id < length states = omega (arith, b.0, length-map states (λ s. s.edges)) in
     let whole : take c.loop-label.label-index c.args.pattern.now ≡ c.args.pattern.now = take_all c.loop-label.label-index c.args.pattern.now (omega arith) in
     let out = output_pushed states id x y (c.args.value, c.args.size) low c.index_mut.ensures.value c.in_ok-push.ensures.items in
-    let edges = map_stays (λ s. s.edges.entries) states id x y low c.index_mut.ensures.value refl in
+    let edges = map_stays (λ s. s.edges) states id x y low c.index_mut.ensures.value refl in
     let depths = map_stays (λ s. s.depth) states id x y low c.index_mut.ensures.value refl in
     let done = added g.L.Ord.cmp g.met.L.Ord.total (label_exact g.L.EdgeLabel.unit g.L.Ord.cmp g.met.L.EdgeLabel.exact g.met.L.EdgeLabel.by_unit) c.args.states.now.items states (set states id y) (take c.loop-label.label-index c.args.pattern.now) id (c.args.value, c.args.size) c.requires i edges depths out in
     rw whole at done

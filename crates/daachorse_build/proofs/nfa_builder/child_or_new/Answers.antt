@@ -9,7 +9,7 @@ use Rattle.daachorse_build.proofs.nfa_builder.child_or_new.Goals as goal
 pub overflow_add-depth : goal.overflow_add-depth
 overflow_add-depth g c =
     let states = c.args.states.now.items in
-    let count = length-map states (λ s. s.edges.entries) in
+    let count = length-map states (λ s. s.edges) in
     let low : c.args.id < length states = omega arith in
     let deep : get_or (depths_of states) c.args.id 0 ≡ c.index_mut-parent.result.now.depth = get_or-map (λ s. s.depth) states c.args.id c.index_mut-parent.result.now 0 low ∙ ap (λ s. s.depth) (sym c.index_mut-parent.ensures.value) in
     let bound = c.requires.trie.trie.shallow c.args.id (omega arith) in

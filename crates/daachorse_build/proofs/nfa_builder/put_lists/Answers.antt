@@ -27,7 +27,7 @@ module _ {L V A : Type 0} (cmp : L → L → Ordering) (total : IsTotalOrder cmp
   state_bounds : (get_or order i 0 < length new) × (get_or (fails_of old) (get_or order i 0) 0 < length new)
   state_bounds =
       let count = same_length old new kept in
-      let edges = length-map old (λ s. s.edges.entries) in
+      let edges = length-map old (λ s. s.edges) in
       let within = order-bounds cmp total exact old table order (fails_of old) links in
       let at = within (get_or order i 0) (in_at order i l) in
       let link : (f : ℕ) → IsKnown (take i order) f → f < length (edges_of old) = λ f known.
@@ -39,7 +39,7 @@ module _ {L V A : Type 0} (cmp : L → L → Ordering) (total : IsTotalOrder cmp
   count_next =
       let t = get_or order i 0 in
       let b = order-bounds cmp total exact old table order (fails_of old) links t (in_at order i l) in
-      let low : t < length (own_of old) = omega (arith, b.1, length-map old (λ s. s.edges.entries), length-map old (λ s. s.output.items)) in
+      let low : t < length (own_of old) = omega (arith, b.1, length-map old (λ s. s.edges), length-map old (λ s. s.output.items)) in
       let apart : IsIn (0 ∷ take i order) t → ⊥ = λ h.
       elim h [
         | inl e ↦ omega (arith, e, b.0)
@@ -56,7 +56,7 @@ pub returns-in_err-put_list-clause-refused : goal.returns-in_err-put_list-clause
 returns-in_err-put_list-clause-refused g c =
     let p = err_from_is_err_and c.from_residual.result c.from_residual.ensures.1 in
     let states = c.args.states.now in
-    let two : 0 < length (own_of states) = omega (arith, c.requires.trie.trie.two, length-map states (λ s. s.edges.entries), length-map states (λ s. s.output.items)) in
+    let two : 0 < length (own_of states) = omega (arith, c.requires.trie.trie.two, length-map states (λ s. s.edges), length-map states (λ s. s.output.items)) in
     let count = first_cleared (own_of states) two in
     let none = ap length c.requires.unbuilt in
     let fewer : 4294967295 < vec_len c.args.outputs.now + length (own_at (own_of states) 0) → 4294967295 < output_count (own_of states) = λ h. omega (arith, h, count, none) in
@@ -66,7 +66,7 @@ pub loop-id-init : goal.loop-id-init
 loop-id-init g c =
     let e = c.in_ok-put_list.ensures in
     let states = c.args.states.now in
-    let two : 0 < length (own_of states) = omega (arith, c.requires.trie.trie.two, length-map states (λ s. s.edges.entries), length-map states (λ s. s.output.items)) in
+    let two : 0 < length (own_of states) = omega (arith, c.requires.trie.trie.two, length-map states (λ s. s.edges), length-map states (λ s. s.output.items)) in
     record {
       kept = e.kept;
       fails = e.fails;

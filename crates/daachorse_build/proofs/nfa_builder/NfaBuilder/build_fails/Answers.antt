@@ -3,7 +3,9 @@ use Rattle.std.proofs.Common.{◌≡◌, ◌<◌, ℕ, List, [], length, drop, s
 use Rattle.std.proofs.lemmas.List.{length-map, take_at}
 use Rattle.std.specs.declared.cmp.Ordering.{Ordering}
 use Rattle.daachorse_build.specs.Tables.{edges_of, depths_of, fails_of}
+use Rattle.daachorse_build.specs.declared.nfa_builder.NfaBuilderState.{NfaBuilderState}
 use Rattle.daachorse_build.specs.Orders.{IsLinked}
+use Rattle.daachorse_build.specs.Growth.{HasTrieOf}
 use Rattle.daachorse_build.proofs.Queue.{length-order, search_end}
 use Rattle.daachorse_build.proofs.nfa_builder.NfaBuilder.build_fails.Goals as goal
 
@@ -12,7 +14,7 @@ loop-search-smaller g c =
     let s = c.loop-search.search in
     let states = c.args.self.now.states.items in
     let bound = length-order g.L.Ord.cmp g.met.L.Ord.total (edges_of states) (depths_of states) c.requires s.links.items s.order.items [] s.next c.loop-search.invariant in
-    let count = length-map states (λ s. s.edges.entries) in
+    let count = length-map states (λ s. s.edges) in
     let more : s.next < length s.order.items = omega arith in
     omega (arith, bound, count, more, c.in_ok-expand.ensures.next)
 
@@ -35,3 +37,12 @@ returns-clause-links g c =
     let done : s.order.items ≡ _ = search_end g.L.Ord.cmp g.met.L.Ord.total (edges_of old) (depths_of old) c.requires s.links.items s.order.items s.next i (omega arith) in
     rw back (linked_same g.L.Ord.cmp (edges_of old) (edges_of new) s.links.items (fails_of new) s.order.items edges fails
     (record { first = done; linked = i.linked; earlier = i.earlier; once = i.once }))
+
+pub returns-clause-kept : goal.returns-clause-kept
+returns-clause-kept g c =
+    let old = c.args.self.now.states.items in
+    let new = c.set_links.new.states in
+    let same_len : length new ≡ c.args.self.now.states.len = omega (arith, c.set_links.auto.states, c.deref_mut.ensures.len) in
+    let back = take_at new (drop (length new) old) c.args.self.now.states.len same_len in
+    let P : List (NfaBuilderState g.row.L.Denot g.row.V.Denot g.row.A.Denot) → Type 0 = λ ss. HasTrieOf ss new in
+    rw back (subst P c.deref_mut.ensures.value c.set_links.ensures.kept)

@@ -12,8 +12,8 @@ use Rattle.daachorse_build.proofs.Queue.{in_at, in_equal, search_push, search_ne
 use Rattle.daachorse_build.proofs.nfa_builder.Search.expand.Goals as goal
 
 -- the edges of the state at an index
-entries_at : {L V A : Type 0} (states : List (NfaBuilderState L V A)) (i : ℕ) (x : NfaBuilderState L V A) → i < length states → x ≡ get_or states i x → get_or (edges_of states) i [] ≡ x.edges.entries
-entries_at states i x l is = get_or-map (λ s. s.edges.entries) states i x [] l ∙ ap (λ s. s.edges.entries) (sym is)
+entries_at : {L V A : Type 0} (states : List (NfaBuilderState L V A)) (i : ℕ) (x : NfaBuilderState L V A) → i < length states → x ≡ get_or states i x → get_or (edges_of states) i [] ≡ x.edges
+entries_at states i x l is = get_or-map (λ s. s.edges) states i x [] l ∙ ap (λ s. s.edges) (sym is)
 
 -- the state that is left, and that it is in the queue
 left_is : {L : Type 0} (cmp : L → L → Ordering) (edges : List (List (L × ℕ))) (fails order pending : List ℕ) (next id : ℕ) → IsSearch cmp edges fails order next pending → next < length order → id ≡ get_or order next id → (get_or order next 0 ≡ id) × IsIn order id × (1 < id) × (id < length edges) × (id < length fails)
@@ -35,7 +35,7 @@ bounds-states-id g c =
     let s = c.args.self.now in
     let more : s.next < length s.order.items = omega arith in
     let left = left_is g.L.Ord.cmp (edges_of c.args.states.now) s.links.items s.order.items [] s.next c.index-id.result.now c.requires.search more c.index-id.ensures in
-    omega (arith, left.3, length-map c.args.states.now (λ s. s.edges.entries))
+    omega (arith, left.3, length-map c.args.states.now (λ s. s.edges))
 
 pub loop-label-init : goal.loop-label-init
 loop-label-init g c =
@@ -58,11 +58,11 @@ pub index_mut-requires : goal.index_mut-requires
 index_mut-requires g c =
     let s = c.loop-label.self in
     let states = c.args.states.now in
-    let all = c.index-states-id.result.edges.entries in
+    let all = c.index-states-id.result.edges in
     let begun : c.into_iter-label-iterator.result ≡ all = cc in
     let turn = iter_turn deref_pair all c.loop-label.yielded c.into_iter-label-iterator.result c.loop-label.label-iterator c.next.new.self c.next.result begun c.loop-label.yielded_by (c.in-Some.label, c.in-Some.child) c.in-Some.is c.next.ensures.steps in
     let left = left_is g.L.Ord.cmp (edges_of states) c.args.self.now.links.items c.args.self.now.order.items [] c.args.self.now.next c.index-id.result.now c.requires.search (omega arith) c.index-id.ensures in
-    let low : c.index-id.result.now < length states = omega (arith, left.3, length-map states (λ s. s.edges.entries)) in
+    let low : c.index-id.result.now < length states = omega (arith, left.3, length-map states (λ s. s.edges)) in
     let at = entries_at states c.index-id.result.now c.index-states-id.result low c.index-states-id.is in
     let edge = child_at_place g.L.Ord.cmp g.met.L.Ord.total (edges_of states) (depths_of states) c.requires.table c.index-id.result.now (length c.loop-label.yielded) c.in-Some.label.now c.in-Some.child.now (rw at turn.1) in
     let b = c.requires.table.trie.bounds c.index-id.result.now c.in-Some.label.now c.in-Some.child.now edge in
@@ -75,11 +75,11 @@ loop-label-preserved g c =
     let id = c.index-id.result.now in
     let t = c.in-Some.child.now in
     let i = c.loop-label.invariant in
-    let all = c.index-states-id.result.edges.entries in
+    let all = c.index-states-id.result.edges in
     let begun : c.into_iter-label-iterator.result ≡ all = cc in
     let turn = iter_turn deref_pair all c.loop-label.yielded c.into_iter-label-iterator.result c.loop-label.label-iterator c.next.new.self c.next.result begun c.loop-label.yielded_by (c.in-Some.label, c.in-Some.child) c.in-Some.is c.next.ensures.steps in
     let left = left_is g.L.Ord.cmp (edges_of states) c.args.self.now.links.items c.args.self.now.order.items [] c.args.self.now.next id c.requires.search (omega arith) c.index-id.ensures in
-    let low : id < length states = omega (arith, left.3, length-map states (λ s. s.edges.entries)) in
+    let low : id < length states = omega (arith, left.3, length-map states (λ s. s.edges)) in
     let at = entries_at states id c.index-states-id.result low c.index-states-id.is in
     let pushed = c.in_ok-push.ensures.items in
     let more = search_push g.L.Ord.cmp g.met.L.Ord.total (edges_of states) (depths_of states) c.requires.table s.links.items s.order.items s.next (length c.loop-label.yielded) c.in-Some.label.now t id c.index-start.result.now c.follow-fail.result i.search i.more i.here (rw at turn.1) i.link c.follow-fail.ensures.link c.follow-fail.ensures.from in
@@ -100,11 +100,11 @@ returns-clause-search g c =
     let states = c.args.states.now in
     let id = c.index-id.result.now in
     let i = c.loop-label.invariant in
-    let all = c.index-states-id.result.edges.entries in
+    let all = c.index-states-id.result.edges in
     let begun : c.into_iter-label-iterator.result ≡ all = cc in
     let end = iter_end deref_pair all c.loop-label.yielded c.into_iter-label-iterator.result c.loop-label.label-iterator c.next.new.self c.next.result begun c.loop-label.yielded_by c.in-None.is c.next.ensures.steps in
     let left = left_is g.L.Ord.cmp (edges_of states) c.args.self.now.links.items c.args.self.now.order.items [] c.args.self.now.next id c.requires.search (omega arith) c.index-id.ensures in
-    let low : id < length states = omega (arith, left.3, length-map states (λ s. s.edges.entries)) in
+    let low : id < length states = omega (arith, left.3, length-map states (λ s. s.edges)) in
     let at = entries_at states id c.index-states-id.result low c.index-states-id.is in
     let whole : take (length c.loop-label.yielded) (children (edges_of states) id) ≡ children (edges_of states) id =
     take_all (length c.loop-label.yielded) (children (edges_of states) id) (omega (arith, end.1, length-values_of (get_or (edges_of states) id []), ap length at)) in
@@ -115,5 +115,5 @@ offset_bounds-states-id g c =
     let s = c.args.self.now in
     let more : s.next < length s.order.items = omega arith in
     let left = left_is g.L.Ord.cmp (edges_of c.args.states.now) s.links.items s.order.items [] s.next c.index-id.result.now c.requires.search more c.index-id.ensures in
-    let low : c.index-id.result.now < length c.args.states.now = omega (arith, left.3, length-map c.args.states.now (λ s. s.edges.entries)) in
+    let low : c.index-id.result.now < length c.args.states.now = omega (arith, left.3, length-map c.args.states.now (λ s. s.edges)) in
     omega arith

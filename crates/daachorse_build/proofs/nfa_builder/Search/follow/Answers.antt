@@ -12,7 +12,7 @@ child-requires g c =
     let s = c.args.self.now in
     let states = c.args.states.now in
     let b = known_bounds g.L.Ord.cmp g.met.L.Ord.total (edges_of states) (depths_of states) c.requires.table s.links.items s.order.items c.requires.search.0 s.next c.loop-found.id c.requires.search.1 c.loop-found.invariant.known in
-    omega (arith, b, length-map states (λ s. s.edges.entries))
+    omega (arith, b, length-map states (λ s. s.edges))
 
 pub returns-in-Some-clause-link : goal.returns-in-Some-clause-link
 returns-in-Some-clause-link g c =

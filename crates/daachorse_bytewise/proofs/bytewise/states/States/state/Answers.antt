@@ -21,7 +21,7 @@ stored {V} p q f items i same edges whole state =
 
 pub index-requires : goal.index-requires
 index-requires g c =
-    let l = stored c.args.self.now _ (λ s. (edge_map s).entries) c.self.inside.states.items c.args.index c.self.view_is refl c.self.invariant c.requires in
+    let l = stored c.args.self.now _ edge_map c.self.inside.states.items c.args.index c.self.view_is refl c.self.invariant c.requires in
     let e = c.self.inside.states.ok.0 in omega (arith, l, e)
 
 pub returns-clause-whole : goal.returns-clause-whole
@@ -30,12 +30,12 @@ returns-clause-whole g c =
 
 pub returns-clause-edges : goal.returns-clause-edges
 returns-clause-edges g c =
-    read_map (λ s. (edge_map s).entries) c.self.inside.states.items c.args.self.now.edges c.args.index c.index.result.now [] (ap (λ (p : Parts g.row.V.Denot). p.edges) c.self.view_is) (stored c.args.self.now _ (λ s. (edge_map s).entries) c.self.inside.states.items c.args.index c.self.view_is refl c.self.invariant c.requires) c.index.ensures
+    read_map edge_map c.self.inside.states.items c.args.self.now.edges c.args.index c.index.result.now [] (ap (λ (p : Parts g.row.V.Denot). p.edges) c.self.view_is) (stored c.args.self.now _ edge_map c.self.inside.states.items c.args.index c.self.view_is refl c.self.invariant c.requires) c.index.ensures
 
 pub returns-clause-fail : goal.returns-clause-fail
 returns-clause-fail g c =
-    read_map link_of c.self.inside.states.items c.args.self.now.fails c.args.index c.index.result.now 0 (ap (λ (p : Parts g.row.V.Denot). p.fails) c.self.view_is) (stored c.args.self.now _ (λ s. (edge_map s).entries) c.self.inside.states.items c.args.index c.self.view_is refl c.self.invariant c.requires) c.index.ensures
+    read_map link_of c.self.inside.states.items c.args.self.now.fails c.args.index c.index.result.now 0 (ap (λ (p : Parts g.row.V.Denot). p.fails) c.self.view_is) (stored c.args.self.now _ edge_map c.self.inside.states.items c.args.index c.self.view_is refl c.self.invariant c.requires) c.index.ensures
 
 pub returns-clause-position : goal.returns-clause-position
 returns-clause-position g c =
-    read_map position_of c.self.inside.states.items c.args.self.now.positions c.args.index c.index.result.now 0 (ap (λ (p : Parts g.row.V.Denot). p.positions) c.self.view_is) (stored c.args.self.now _ (λ s. (edge_map s).entries) c.self.inside.states.items c.args.index c.self.view_is refl c.self.invariant c.requires) c.index.ensures
+    read_map position_of c.self.inside.states.items c.args.self.now.positions c.args.index c.index.result.now 0 (ap (λ (p : Parts g.row.V.Denot). p.positions) c.self.view_is) (stored c.args.self.now _ edge_map c.self.inside.states.items c.args.index c.self.view_is refl c.self.invariant c.requires) c.index.ensures

@@ -1,0 +1,312 @@
+//! The edges of a state of a trie: a map from labels to the ids of the children.
+//!
+//! Most states have one edge or none, so a map takes memory from its second edge on. The layers
+//! above may rely on a map being the list of its edges by rising labels: `get` finds the id at a
+//! label, `insert` changes that id and no other, and the iterators give the edges in order.
+
+ghost use Rattle.std.specs.Prelude.{◌≡◌, ◌↔◌, ℕ, ◌<◌, [], ◌∷◌, ◌++◌, None, length, IfOk, IfErr, OnOk, OnErr, IsTrue, MatchResult};
+ghost use Rattle.std.specs.Option.{option_copied, option_to_list};
+ghost use Rattle.std.specs.Map.{values_of};
+ghost use Rattle.std.specs.List.{HoldsAt};
+ghost use Rattle.std.specs.List.Sorted.{IsPartitionPoint, IsSearchInRange};
+ghost use Rattle.std.specs.BTreeMap.{insert_entry};
+ghost use Rattle.std.specs.declared.cmp.Ordering.TheVariants.{Less, Equal, Greater};
+ghost use Rattle.std.specs.Map.Iter.{TakesFirst, ShowsInOrder, deref, deref_pair};
+ghost use Rattle.std.specs.Iterator.{at_most};
+ghost use Rattle.daachorse_core.specs.Refusals.{IsOutOfMemory};
+ghost use Rattle.daachorse_build.specs.EdgeMaps.{edges_in, id_at, IsOrdered, Updates};
+
+use daachorse_core::edge_label::EdgeLabel;
+use daachorse_core::errors::Result;
+use std::alloc::{Allocator, Global};
+use std::cmp::Ordering;
+use std::marker::Model;
+use std::slice;
+
+/// A map from labels to the ids of states.
+#[derive(Drop)]
+pub struct EdgeMap<L: EdgeLabel, A: Allocator = Global> {
+    edges: Edges<L, A>,
+}
+
+#[derive(Drop)]
+enum Edges<L: EdgeLabel, A: Allocator> {
+    Empty,
+    One((L, u32)),
+    // By rising labels.
+    Many(Vec<(L, u32), A>),
+}
+
+impl<L: EdgeLabel, A: Allocator> Model for EdgeMap<L, A> {
+    ghost use Rattle.std.specs.Prelude.{ℕ, List};
+
+    ghost Value = { List (L × ℕ) };
+
+    ghost use Rattle.daachorse_build.specs.EdgeMaps.{edges_in, IsOrdered};
+
+    ghost view = { λ m. edges_in m.edges };
+
+    ghost invariant = { λ m. IsOrdered L.cmp (edges_in m.edges) };
+}
+
+impl<L: EdgeLabel, A: Allocator> Default for EdgeMap<L, A> {
+    ghost is_default = { λ m. m ≡ [] };
+
+    fn default() -> Self {
+        Self {
+            edges: Edges::Empty,
+        }
+    }
+}
+
+impl<L: EdgeLabel, A: Allocator> EdgeMap<L, A> {
+    /// The id at a label.
+    #[inline]
+    pub fn get(&self, label: &L) -> Option<&u32>
+        ensures { option_copied result ≡ id_at L.cmp self.now label.now }
+    {
+        match &self.edges {
+            Edges::Empty => None,
+            Edges::One(edge) => match label.cmp(&edge.0) {
+                Ordering::Equal => Some(&edge.1),
+                _ => None,
+            },
+            Edges::Many(edges) => match find(edges, label) {
+                Ok(place) => Some(&edges[place].1),
+                Err(_) => None,
+            },
+        }
+    }
+
+    /// How many edges there are.
+    pub fn len(&self) -> usize
+        ensures { result ≡ length self.now }
+    {
+        match &self.edges {
+            Edges::Empty => 0,
+            Edges::One(_) => 1,
+            Edges::Many(edges) => edges.len(),
+        }
+    }
+
+    /// Whether there is no edge.
+    pub fn is_empty(&self) -> bool
+        ensures { IsTrue result ↔ (self.now ≡ []) }
+    {
+        self.len() == 0
+    }
+
+    /// The edges, by rising labels.
+    pub fn iter(&self) -> Iter<'_, L>
+        ensures rest { result ≡ self.now }
+        ensures runs { ShowsInOrder (deref_pair {K = L} {X = ℕ}) }
+        ensures ordered { IsOrdered L.cmp self.now }
+    {
+        match &self.edges {
+            Edges::Empty => Iter::new(None, &[]),
+            Edges::One(edge) => Iter::new(Some(edge), &[]),
+            Edges::Many(edges) => Iter::new(None, edges),
+        }
+    }
+
+    /// The ids, by rising labels.
+    pub fn values(&self) -> Values<'_, L>
+        ensures rest { result ≡ values_of self.now }
+        ensures runs { ShowsInOrder (deref {X = ℕ}) }
+    {
+        Values { edges: self.iter() }
+    }
+
+    /// Gives a label this id, in place of the one that it may have. The second edge is the first
+    /// that takes memory. Only a new label is refused, and the map is then as it was.
+    pub fn insert(&mut self, alloc: A, label: L, id: u32) -> Result<()>
+        ensures edges { OnOk result (self.new ≡ insert_entry L.cmp self.old label id) }
+        ensures updates { OnOk result (Updates L.cmp self.old self.new label id) }
+        ensures ordered { IsOrdered L.cmp self.new }
+        ensures unchanged { OnErr result (self.new ≡ self.old) }
+        ensures absent { OnErr result (id_at L.cmp self.old label ≡ None) }
+        ensures refused { IfErr result IsOutOfMemory }
+    {
+        put(&mut self.edges, alloc, (label, id))
+    }
+}
+
+impl<L: EdgeLabel, A: Allocator + Copy> EdgeMap<L, A> {
+    /// A map with the same edges.
+    pub fn clone(&self) -> Result<Self>
+        ensures same { IfOk result (λ map. map ≡ self.now) }
+        ensures refused { IfErr result IsOutOfMemory }
+    {
+        let edges = match &self.edges {
+            Edges::Empty => Edges::Empty,
+            Edges::One(edge) => Edges::One(*edge),
+            Edges::Many(edges) => {
+                Edges::Many(Vec::from_slice(*edges.allocator(), edges.as_slice())?)
+            }
+        };
+        Ok(Self { edges })
+    }
+}
+
+/// The edges of a map, by rising labels.
+#[derive(Drop)]
+pub struct Iter<'a, L: EdgeLabel> {
+    // One edge more, before the others.
+    first: Option<&'a (L, u32)>,
+    edges: slice::Iter<'a, (L, u32)>,
+}
+
+impl<'a, L: EdgeLabel> Model for Iter<'a, L> {
+    ghost use Rattle.std.specs.Prelude.{ℕ, List, ◌++◌};
+    ghost use Rattle.std.specs.Option.{option_copied, option_to_list};
+    ghost use Rattle.std.specs.Slice.Iter.{iter_rest};
+
+    ghost Value = { List (L × ℕ) };
+
+    ghost view = { λ s. option_to_list (option_copied s.first) ++ iter_rest s.edges };
+}
+
+impl<'a, L: EdgeLabel> Iter<'a, L> {
+    fn new(first: Option<&'a (L, u32)>, edges: &'a [(L, u32)]) -> Self
+        ensures rest { result ≡ option_to_list (option_copied first.entry) ++ edges.entry.now }
+        ensures runs { ShowsInOrder (deref_pair {K = L} {X = ℕ}) }
+    {
+        Iter {
+            first,
+            edges: edges.iter(),
+        }
+    }
+}
+
+impl<'a, L: EdgeLabel> Iterator for Iter<'a, L> {
+    type Item = (&'a L, &'a u32);
+
+    ghost next_gives = { TakesFirst deref_pair };
+
+    ghost remaining = { λ s. at_most (length s) };
+
+    #[inline]
+    fn next(&mut self) -> Option<(&'a L, &'a u32)> {
+        let edge = match self.first.take() {
+            Some(edge) => edge,
+            None => self.edges.next()?,
+        };
+        Some((&edge.0, &edge.1))
+    }
+}
+
+/// The ids of a map, by rising labels.
+#[derive(Drop)]
+pub struct Values<'a, L: EdgeLabel> {
+    edges: Iter<'a, L>,
+}
+
+impl<'a, L: EdgeLabel> Model for Values<'a, L> {
+    ghost use Rattle.std.specs.Prelude.{ℕ, List};
+    ghost use Rattle.std.specs.Map.{values_of};
+
+    ghost Value = { List ℕ };
+
+    ghost view = { λ s. values_of s.edges };
+}
+
+impl<'a, L: EdgeLabel> Iterator for Values<'a, L> {
+    type Item = &'a u32;
+
+    ghost next_gives = { TakesFirst deref };
+
+    ghost remaining = { λ s. at_most (length s) };
+
+    #[inline]
+    fn next(&mut self) -> Option<&'a u32> {
+        let (_, id) = self.edges.next()?;
+        Some(id)
+    }
+}
+
+/// Where a label stands among edges, or the place that it would take.
+#[inline]
+fn find<L: EdgeLabel>(edges: &[(L, u32)], label: &L) -> Result<usize, usize>
+    requires { IsOrdered L.cmp edges.now }
+    ensures within { IsSearchInRange result (length edges.now) }
+    ensures place { MatchResult result (HoldsAt (λ e. L.cmp e.0 label.now ≡ Equal) edges.now) (IsPartitionPoint (λ e. L.cmp e.0 label.now ≡ Less) (λ e. L.cmp e.0 label.now ≡ Greater) edges.now) }
+{
+    edges.binary_search_by(|edge| edge.0.cmp(label))
+}
+
+/// Two edges, by rising labels.
+fn pair<L: EdgeLabel, A: Allocator>(
+    alloc: A,
+    first: (L, u32),
+    second: (L, u32),
+) -> Result<Edges<L, A>>
+    ensures edges { IfOk result (λ edges. edges_in edges ≡ first ∷ second ∷ []) }
+    ensures refused { IfErr result IsOutOfMemory }
+{
+    let mut edges = Vec::with_capacity(alloc, 2)?;
+    edges.push(first)?;
+    edges.push(second)?;
+    Ok(Edges::Many(edges))
+}
+
+/// Puts an edge among edges, or gives the one with its label the new id.
+fn put<L: EdgeLabel, A: Allocator>(edges: &mut Edges<L, A>, alloc: A, edge: (L, u32)) -> Result<()>
+    requires { IsOrdered L.cmp (edges_in edges.old) }
+    ensures edges { OnOk result (edges_in edges.new ≡ insert_entry L.cmp (edges_in edges.old) edge.0 edge.1) }
+    ensures unchanged { OnErr result (edges_in edges.new ≡ edges_in edges.old) }
+    ensures absent { OnErr result (id_at L.cmp (edges_in edges.old) edge.0 ≡ None) }
+    ensures refused { IfErr result IsOutOfMemory }
+{
+    match edges {
+        Edges::Empty => *edges = Edges::One(edge),
+        Edges::One(only) => match edge.0.cmp(&only.0) {
+            Ordering::Less => *edges = pair(alloc, edge, *only)?,
+            Ordering::Equal => only.1 = edge.1,
+            Ordering::Greater => *edges = pair(alloc, *only, edge)?,
+        },
+        Edges::Many(many) => match find(many, &edge.0) {
+            Ok(place) => many[place].1 = edge.1,
+            Err(place) => many.insert(place, edge)?,
+        },
+    }
+    Ok(())
+}
+
+#[cfg(test)]
+mod tests {
+    use super::*;
+    use std::test::Fail;
+
+    #[test]
+    fn edges_stand_by_rising_labels(rt: HostRuntime) -> Result<(), Fail> {
+        let alloc = rt.alloc();
+        let mut map = EdgeMap::<u8>::default();
+        assert!(rt; map.is_empty());
+        assert_eq!(rt; map.get(&b'm'), None);
+        for (label, id) in [
+            (b'm', 1),
+            (b'm', 2),
+            (b'c', 3),
+            (b'x', 4),
+            (b'a', 5),
+            (b'c', 6),
+        ] {
+            map.insert(alloc, label, id)?;
+        }
+        let copy = map.clone()?;
+        map.insert(alloc, b'd', 7)?;
+        assert!(rt; !copy.is_empty());
+        assert_eq!(rt; copy.len(), 4);
+        let edges: Vec<(u8, u32)> = copy.iter().map(|(label, id)| (*label, *id)).collect(alloc)?;
+        assert_eq!(rt;
+            edges.as_slice(),
+            [(b'a', 5), (b'c', 6), (b'm', 2), (b'x', 4)].as_slice()
+        );
+        let ids: Vec<u32> = map.values().copied().collect(alloc)?;
+        assert_eq!(rt; ids.as_slice(), [5, 6, 7, 2, 4].as_slice());
+        assert_eq!(rt; map.get(&b'd'), Some(&7));
+        assert_eq!(rt; copy.get(&b'd'), None);
+        assert_eq!(rt; copy.get(&b'x'), Some(&4));
+        Ok(())
+    }
+}

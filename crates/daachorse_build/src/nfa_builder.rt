@@ -180,7 +180,7 @@ impl<L: EdgeLabel, V: Copy, A: Allocator + Copy> NfaBuilder<L, V, A> {
         ensures registered { OnOk result ((rs : List (List L × V)) → Registered L.cmp L.unit L.width self.old rs → Registered L.cmp L.unit L.width self.new (rs ++ (pattern.now, value) ∷ [])) }
         ensures short { OnOk result (size L.width (map L.unit pattern.now) ≤ 4294967295) }
         ensures fits { OnOk result (length (states_of self.old) ≤ 4294967296 → length (states_of self.new) ≤ 4294967296) }
-        ensures refused { IfErr result (IsRefusal (4294967295 < size L.width (map L.unit pattern.now)) StateId ((rs : List (List L × V)) → Registered L.cmp L.unit L.width self.old rs → HasMorePrefixes (dictionary (kind_of self.old) (in_units L.unit (rs ++ (pattern.now, value) ∷ []))) 4294967295)) }
+        ensures refused { IfErr result (IsRefusal (4294967295 < size L.width (map L.unit pattern.now)) StateId ((size L.width (map L.unit pattern.now) ≤ 4294967295) × ((rs : List (List L × V)) → Registered L.cmp L.unit L.width self.old rs → HasMorePrefixes (dictionary (kind_of self.old) (in_units L.unit (rs ++ (pattern.now, value) ∷ []))) 4294967295))) }
     {
         let size = pattern_size(pattern)?;
         let Some(len) = self.len.checked_add(1) else {

@@ -83,7 +83,7 @@ impl DoubleArrayAhoCorasickBuilder {
     /// # Errors
     ///
     /// `InvalidConversion` where an index has no value: all are converted before the first pattern
-    /// is added. Then the errors of [`DoubleArrayAhoCorasickBuilder::build_with_values`].
+    /// is added. Then those of [`DoubleArrayAhoCorasickBuilder::build_with_values`].
     pub fn build<'p, V, A: Allocator + Copy, P: IntoIterator<Item = &'p [u8]>>(
         self,
         alloc: A,
@@ -109,9 +109,9 @@ impl DoubleArrayAhoCorasickBuilder {
     /// # Errors
     ///
     /// The patterns are added in order: `InvalidArgument` for one of more than 4,294,967,295 bytes,
-    /// `AutomatonScale` for one that begins so that its beginnings and those of the patterns before
-    /// it are more than 4,294,967,295. Then `AutomatonScale` for more than 16,777,215 patterns.
-    /// `OutOfMemory` where an allocation fails.
+    /// and `AutomatonScale` for one with which there are more than 4,294,967,295 texts that begin a
+    /// pattern. After the last, `AutomatonScale` for more than 16,777,215 patterns. `OutOfMemory`
+    /// where an allocation fails.
     pub fn build_with_values<'p, V, A: Allocator + Copy, P: IntoIterator<Item = (&'p [u8], V)>>(
         self,
         alloc: A,

@@ -1,17 +1,17 @@
 use Rattle.std.proofs.Common.{◌≡◌, ℕ, List, ◌∙◌, sym, subst, arith}
 use Rattle.std.specs.Ordering.{nat_cmp}
 use Rattle.std.proofs.lemmas.Result.{err_from_is_err_and}
-use Rattle.daachorse_build.specs.Builders.{states_of, outputs_of}
+use Rattle.daachorse_build.specs.Builders.{kind_of, states_of, outputs_of}
 use Rattle.daachorse_build.specs.Orders.{HoldLinks}
 use Rattle.daachorse_build.specs.declared.nfa_builder.NfaBuilderState.{NfaBuilderState}
 use Rattle.daachorse_core.specs.declared.outputs.Output.{Output}
 use Rattle.daachorse_bytewise.specs.Parts.{Parts, parts_of}
 use Rattle.daachorse_bytewise.specs.Content.{content}
 use Rattle.daachorse_model.specs.Dictionary.{dictionary}
-use Rattle.daachorse_model.specs.declared.MatchKind.TheVariants.{Standard}
+use Rattle.daachorse_model.specs.declared.MatchKind.{MatchKind}
 use Rattle.daachorse_bytewise.specs.Whole.{IsWhole}
 use Rattle.daachorse_bytewise.proofs.BuildLaws.{outputs_refused, Registered-kept, finished, finished_content}
-use Rattle.daachorse_bytewise.proofs.bytewise.finish.Goals as goal
+use Rattle.daachorse_bytewise.proofs.bytewise.builder.finish.Goals as goal
 
 pub build_fails-requires : goal.build_fails-requires
 build_fails-requires g c = c.requires.patterns.1.holds.trie
@@ -41,7 +41,7 @@ new-requires g c =
     let before = c.build_fails.new.self in let after = c.build_outputs.new.self in
     let was = Registered-kept c.args.builder before rs.0 c.in_ok-order.ensures.kept c.in_ok-order.ensures.kind c.in_ok-order.ensures.patterns rs.1 in
     let made = c.in_ok-build_outputs.ensures in
-    let whole = finished before after rs.0 was (c.in_ok-order.ensures.kind ∙ c.requires.standard) made.kept made.kind made.patterns c.in_ok-order.order.items c.in_ok-order.ensures.links made.fails made.parents made.positions (made.lists rs.0 was) in
+    let whole = finished before after rs.0 was made.kept made.kind made.patterns c.in_ok-order.order.items c.in_ok-order.ensures.links made.fails made.parents made.positions (made.lists rs.0 was) in
     let P : List (NfaBuilderState ℕ g.row.V.Denot g.row.A.Denot) → Type 0 = λ states. IsWhole (parts_of states (outputs_of after)) in
     let Q : List (Output g.row.V.Denot) → Type 0 = λ outputs. IsWhole (parts_of c.into_parts-states.result.0.items outputs) in
     subst Q (sym c.into_parts-states.ensures.outputs) (subst P (sym c.into_parts-states.ensures.states) whole)
@@ -51,8 +51,9 @@ returns-clause-ok g c = λ rs registered w.
     let before = c.build_fails.new.self in let after = c.build_outputs.new.self in
     let was = Registered-kept c.args.builder before rs c.in_ok-order.ensures.kept c.in_ok-order.ensures.kind c.in_ok-order.ensures.patterns registered in
     let made = c.in_ok-build_outputs.ensures in
-    let same = finished_content before after rs was (c.in_ok-order.ensures.kind ∙ c.requires.standard) made.kept made.kind made.patterns w in
-    let P : List (NfaBuilderState ℕ g.row.V.Denot g.row.A.Denot) → Type 0 = λ states. content (parts_of states (outputs_of after)) w ≡ dictionary Standard rs w in
-    let Q : List (Output g.row.V.Denot) → Type 0 = λ outputs. content (parts_of c.into_parts-states.result.0.items outputs) w ≡ dictionary Standard rs w in
-    let R : Parts g.row.V.Denot → Type 0 = λ p. content p w ≡ dictionary Standard rs w in
+    let K : MatchKind → Type 0 = λ kind. content (parts_of (states_of after) (outputs_of after)) w ≡ dictionary kind rs w in
+    let same = subst K c.in_ok-order.ensures.kind (finished_content before after rs was made.kept made.kind made.patterns w) in
+    let P : List (NfaBuilderState ℕ g.row.V.Denot g.row.A.Denot) → Type 0 = λ states. content (parts_of states (outputs_of after)) w ≡ dictionary (kind_of c.args.builder) rs w in
+    let Q : List (Output g.row.V.Denot) → Type 0 = λ outputs. content (parts_of c.into_parts-states.result.0.items outputs) w ≡ dictionary (kind_of c.args.builder) rs w in
+    let R : Parts g.row.V.Denot → Type 0 = λ p. content p w ≡ dictionary (kind_of c.args.builder) rs w in
     subst R (sym c.new.ensures) (subst Q (sym c.into_parts-states.ensures.outputs) (subst P (sym c.into_parts-states.ensures.states) same))

@@ -4,7 +4,7 @@ use Rattle.std.specs.List.{slice_get}
 use Rattle.std.specs.Iterator.{Yields}
 use Rattle.std.specs.Iterator.Runs.{WholeRun, Trigger, YieldsRun}
 use Rattle.std.proofs.lemmas.Option.{slice_get-get_or}
-use Rattle.daachorse_bytewise.proofs.bytewise.gather.Goals as goal
+use Rattle.daachorse_bytewise.proofs.bytewise.builder.gather.Goals as goal
 
 -- calls that gave xs, and then nothing, are a whole run
 whole_run : {S X : Type 0} (steps : S → Option X → S → Type 0) (s t u : S) (xs all : List X) → Yields steps s xs t → steps t None u → all ≡ xs → WholeRun steps s (λ p. all ≡ p.items)

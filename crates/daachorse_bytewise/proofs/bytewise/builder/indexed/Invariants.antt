@@ -1,7 +1,7 @@
 use Rattle.std.proofs.Common.{take, map}
 use Rattle.daachorse_model.specs.Dictionary.{registered}
 use Rattle.daachorse_bytewise.specs.Building.{AreIndexed}
-use Rattle.daachorse_bytewise.proofs.bytewise.indexed.Given as goal
+use Rattle.daachorse_bytewise.proofs.bytewise.builder.indexed.Given as goal
 
 -- the texts so far have the values of their indexes
 abbrev pub invariant-loop-index : goal.invariant-loop-index

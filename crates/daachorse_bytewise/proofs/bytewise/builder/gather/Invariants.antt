@@ -1,5 +1,5 @@
 use Rattle.std.proofs.Common.{◌≡◌}
-use Rattle.daachorse_bytewise.proofs.bytewise.gather.Given as goal
+use Rattle.daachorse_bytewise.proofs.bytewise.builder.gather.Given as goal
 
 -- the items so far were kept
 abbrev pub invariant-loop-item : goal.invariant-loop-item

@@ -4,7 +4,7 @@ use Rattle.std.specs.Borrow.{Bor}
 use Rattle.daachorse_model.specs.Dictionary.{registered}
 use Rattle.daachorse_bytewise.specs.Building.{AreIndexed}
 use Rattle.daachorse_bytewise.proofs.BuildLaws.{AreIndexed-push}
-use Rattle.daachorse_bytewise.proofs.bytewise.indexed.Goals as goal
+use Rattle.daachorse_bytewise.proofs.bytewise.builder.indexed.Goals as goal
 
 pub loop-index-preserved : goal.loop-index-preserved
 loop-index-preserved g c =

@@ -140,6 +140,8 @@ fn write_mode<S: Sink, A: Allocator + Copy>(
 {
     match mode {
         Mode::Overlapping => write_matches(automaton.find_overlapping_iter(haystack), out),
+        Mode::NoSuffix => write_matches(automaton.find_overlapping_no_suffix_iter(haystack), out),
+        Mode::Find => write_matches(automaton.find_iter(haystack), out),
     }
 }
 

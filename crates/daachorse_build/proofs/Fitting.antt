@@ -147,7 +147,7 @@ module _ {L V A : Type 0} (cmp : L → L → Ordering) (unit : L → ℕ) (width
       let ts = states_at more.texts more.prefixes in
       let all : IsDistinct eqb (1 ∷ ts.0) = (alive more.texts ts.0 ts.1, distinct_states more.texts ts.0 ts.1 more.distinct) in
       let most = length-le_from_distinct_below (1 ∷ ts.0) (length (edges_of states)) all (below_all ts.0 (below more.texts ts.0 ts.1)) in
-      omega (arith, few, most, ts.2, more.more, length-map states (λ s. s.edges.entries))
+      omega (arith, few, most, ts.2, more.more, length-map states (λ s. s.edges))
     where
       below_all : (ts : List ℕ) → ((q : ℕ) → list_any (eqb q) ts ≡ true → q < length (edges_of states)) → (q : ℕ) → list_any (eqb q) (1 ∷ ts) ≡ true → q < length (edges_of states)
       below_all ts h q e =

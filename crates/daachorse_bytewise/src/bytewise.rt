@@ -10,7 +10,8 @@ ghost use Rattle.daachorse_core.specs.Refusals.{IsOutOfMemory};
 ghost use Rattle.daachorse_model.specs.declared.MatchKind.TheVariants.{Standard};
 ghost use Rattle.daachorse_model.specs.Units.{byte_width};
 ghost use Rattle.daachorse_model.specs.Dictionary.{dictionary, registered};
-ghost use Rattle.daachorse_model.specs.Matches.{overlapping};
+ghost use Rattle.daachorse_model.specs.Matches.{no_suffix, overlapping, standard};
+ghost use Rattle.daachorse_search.specs.Searches.{all_found, first_found, standard_found};
 ghost use Rattle.daachorse_bytewise.specs.Building.{IsBuildRefusal, IsBuiltOf, IsRefusalOf};
 ghost use Rattle.daachorse_bytewise.specs.Content.{content};
 
@@ -19,7 +20,11 @@ pub mod iter;
 pub mod states;
 
 pub use crate::bytewise::builder::DoubleArrayAhoCorasickBuilder;
-use crate::bytewise::iter::FindOverlappingSliceIterator;
+use crate::bytewise::iter::{
+    FindIterator, FindOverlappingIterator, FindOverlappingNoSuffixIterator,
+    FindOverlappingNoSuffixSliceIterator, FindOverlappingSliceIterator, FindOverlappingStepper,
+    FindSliceIterator, FindStepper,
+};
 use crate::bytewise::states::States;
 use daachorse_core::errors::Result;
 use std::alloc::{Allocator, Global};
@@ -91,6 +96,35 @@ impl<V: Copy, A: Allocator + Copy> DoubleArrayAhoCorasick<V, A> {
 }
 
 impl<V: Copy, A: Allocator> DoubleArrayAhoCorasick<V, A> {
+    /// Finds matches in a haystack that do not overlap: from the end of the one before each ends as
+    /// early as it can, and at that end it is the longest; of equal patterns the first registered.
+    /// With an empty pattern there is one empty match at each boundary.
+    #[inline(always)]
+    pub fn find_iter<'a>(&'a self, haystack: &'a [u8]) -> FindSliceIterator<'a, V, A>
+        ensures left { result.left ≡ standard byte_width (content self.entry.now) haystack.entry.now }
+        ensures automaton { result.automaton ≡ self.entry.now }
+        ensures passed { result.passed ≡ [] }
+        ensures turns { result.turns ≡ 0 }
+    {
+        FindSliceIterator::new(&self.states, haystack)
+    }
+
+    /// The same in the bytes that a source gives. A match is given before a byte past its end is
+    /// taken; with an empty pattern, before the byte behind its place is.
+    #[inline(always)]
+    pub fn find_iter_from_iter<'a, P: Iterator<Item = u8>>(
+        &'a self,
+        haystack: P,
+    ) -> FindIterator<'a, P, V, A>
+        ensures automaton { result.automaton ≡ self.entry.now }
+        ensures source { result.source ≡ haystack }
+        ensures read { result.read ≡ [] }
+        ensures pending { result.pending ≡ standard_found byte_width content self.entry.now [] }
+        ensures turns { result.turns ≡ 0 }
+    {
+        FindIterator::new(&self.states, haystack)
+    }
+
     /// Finds every match in a haystack, also those that overlap: ends rise, and of the matches
     /// that end together the longest comes first; equal patterns come in order of registration.
     #[inline(always)]
@@ -104,5 +138,72 @@ impl<V: Copy, A: Allocator> DoubleArrayAhoCorasick<V, A> {
         ensures turns { result.turns ≡ 0 }
     {
         FindOverlappingSliceIterator::new(&self.states, haystack)
+    }
+
+    /// The same in the bytes that a source gives. A match is given before a byte past its end is
+    /// taken.
+    #[inline(always)]
+    pub fn find_overlapping_iter_from_iter<'a, P: Iterator<Item = u8>>(
+        &'a self,
+        haystack: P,
+    ) -> FindOverlappingIterator<'a, P, V, A>
+        ensures automaton { result.automaton ≡ self.entry.now }
+        ensures source { result.source ≡ haystack }
+        ensures read { result.read ≡ [] }
+        ensures pending { result.pending ≡ all_found byte_width content self.entry.now [] }
+        ensures turns { result.turns ≡ 0 }
+    {
+        FindOverlappingIterator::new(&self.states, haystack)
+    }
+
+    /// Finds of every match in a haystack the longest at each end; of equal patterns the first
+    /// registered.
+    #[inline(always)]
+    pub fn find_overlapping_no_suffix_iter<'a>(
+        &'a self,
+        haystack: &'a [u8],
+    ) -> FindOverlappingNoSuffixSliceIterator<'a, V, A>
+        ensures left { result.left ≡ no_suffix byte_width (content self.entry.now) haystack.entry.now }
+        ensures automaton { result.automaton ≡ self.entry.now }
+        ensures passed { result.passed ≡ [] }
+        ensures turns { result.turns ≡ 0 }
+    {
+        FindOverlappingNoSuffixSliceIterator::new(&self.states, haystack)
+    }
+
+    /// The same in the bytes that a source gives. A match is given before a byte past its end is
+    /// taken.
+    #[inline(always)]
+    pub fn find_overlapping_no_suffix_iter_from_iter<'a, P: Iterator<Item = u8>>(
+        &'a self,
+        haystack: P,
+    ) -> FindOverlappingNoSuffixIterator<'a, P, V, A>
+        ensures automaton { result.automaton ≡ self.entry.now }
+        ensures source { result.source ≡ haystack }
+        ensures read { result.read ≡ [] }
+        ensures pending { result.pending ≡ first_found byte_width content self.entry.now [] }
+        ensures turns { result.turns ≡ 0 }
+    {
+        FindOverlappingNoSuffixIterator::new(&self.states, haystack)
+    }
+
+    /// The search of [`Self::find_iter`], one byte at a time.
+    #[inline(always)]
+    pub fn find_stepper<'a>(&'a self) -> FindStepper<'a, V, A>
+        ensures automaton { result.automaton ≡ self.entry.now }
+        ensures read { result.read ≡ [] }
+        ensures turns { result.turns ≡ 0 }
+    {
+        FindStepper::new(&self.states)
+    }
+
+    /// The search of [`Self::find_overlapping_iter`], one byte at a time.
+    #[inline(always)]
+    pub fn find_overlapping_stepper<'a>(&'a self) -> FindOverlappingStepper<'a, V, A>
+        ensures automaton { result.automaton ≡ self.entry.now }
+        ensures read { result.read ≡ [] }
+        ensures turns { result.turns ≡ 0 }
+    {
+        FindOverlappingStepper::new(&self.states)
     }
 }

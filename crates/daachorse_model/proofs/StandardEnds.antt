@@ -7,6 +7,7 @@ use Rattle.daachorse_model.specs.declared.Match.{Match}
 use Rattle.daachorse_model.specs.Units.{size}
 use Rattle.daachorse_model.specs.Dictionary.{Dictionary}
 use Rattle.daachorse_model.specs.Matches.{matches_of, at_each_end, ending_at, empty_matches, standard_from, standard, standard_after, last_end, resume_place, IsSinceMatch}
+use Rattle.daachorse_model.specs.Resumed.{IsResumed}
 use Rattle.daachorse_model.proofs.Suffixes.{size-append, size-push}
 use Rattle.daachorse_model.proofs.Searches.{first_or}
 use Rattle.daachorse_model.proofs.SameSearches.{standard-is}
@@ -54,13 +55,6 @@ module _ {V : Type 0} (width : ℕ → ℕ) (K : Dictionary V) where
   ending-ends s e [] = map-ends s e (K [])
   ending-ends s e (u ∷ w) =
       All-append (λ m. m.end ≡ e) (matches_of K s e (u ∷ w)) (ending_at width K (s + width u) e w) (map-ends s e (K (u ∷ w))) (ending-ends (s + width u) e w)
-
-  -- The last match of the standard search over before ++ since ended with `before`, and none has ended after it.
-  pub record IsResumed (before since : List ℕ) : Type 0 where
-    pub no_empty : K [] ≡ []
-    pub ended : All (λ m. m.end ≤ size width before) (standard width K (before ++ since))
-    pub place : resume_place width K (before ++ since) ≡ size width before
-    pub goes_on : (w : List ℕ) → standard width K ((before ++ since) ++ w) ≡ standard width K (before ++ since) ++ standard_from width K (size width before) since w
 
 module _ {V : Type 0} (width : ℕ → ℕ) (K : Dictionary V) (wide : (u : ℕ) → 1 ≤ width u) where
   longer : (w : List ℕ) (u : ℕ) → size width w < size width (w ++ u ∷ [])

@@ -1,4 +1,4 @@
-//! The automaton over bytes, and its searches.
+//! The automaton over bytes, its builder, and its searches.
 #![tactic(auto)]
 
 pub mod bytewise;

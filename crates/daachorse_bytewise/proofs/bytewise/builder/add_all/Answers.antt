@@ -1,5 +1,5 @@
 -- Each pattern is registered after those before it; the first that is refused comes after patterns that fit.
-use Rattle.std.proofs.Common.{◌≡◌, ◌≤◌, ◌<◌, ◌++◌, ◌∷◌, [], ℕ, List, length, map, take, drop, get_or, ◌∙◌, ap, sym, subst, arith, ◌+◌}
+use Rattle.std.proofs.Common.{◌≡◌, ◌≤◌, ℕ, List, length, take, drop, ◌∙◌, subst, arith, ◌+◌}
 use Rattle.std.specs.Prelude.{All}
 use Rattle.std.proofs.lemmas.Result.{err_from_is_err_and}
 use Rattle.std.proofs.lemmas.List.{take_all}
@@ -7,8 +7,7 @@ use Rattle.std.proofs.lemmas.List.Elements.{All-push}
 use Rattle.std.specs.Ordering.{nat_cmp}
 use Rattle.std.specs.Borrow.{Bor}
 use Rattle.daachorse_model.specs.declared.MatchKind.{MatchKind}
-use Rattle.daachorse_model.specs.Dictionary.{dictionary, registered}
-use Rattle.daachorse_build.specs.Holds.{HasMorePrefixes, in_units}
+use Rattle.daachorse_model.specs.Dictionary.{registered}
 use Rattle.daachorse_model.specs.Units.{byte_width}
 use Rattle.daachorse_build.specs.Builders.{Registered, kind_of}
 use Rattle.daachorse_bytewise.specs.Building.{Fit, IsRefusalOf}

@@ -3,6 +3,9 @@
 #![tactic(auto)]
 
 #[cfg(test)]
+mod standard;
+
+#[cfg(test)]
 mod tests {
     use daachorse::edge_map::EdgeMap;
     use daachorse::errors::DaachorseError;

@@ -3,3 +3,4 @@ pub mod SourceLemmas
 pub mod OverlappingLemmas
 pub mod HaystackLemmas
 pub mod RunLemmas
+pub mod BestScanLemmas

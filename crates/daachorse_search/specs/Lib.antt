@@ -4,3 +4,5 @@ pub mod Walks
 pub mod Sources
 pub mod Searches
 pub mod Matches
+pub mod BestScans
+pub mod LeftmostSearches

@@ -7,7 +7,9 @@
 #![tactic(auto)]
 
 pub mod automaton;
+pub mod best;
 pub mod haystack;
+pub mod leftmost;
 pub mod matches;
 pub mod overlapping;
 #[cfg(test)]

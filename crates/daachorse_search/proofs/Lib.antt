@@ -4,3 +4,4 @@ pub mod OverlappingLemmas
 pub mod HaystackLemmas
 pub mod RunLemmas
 pub mod BestScanLemmas
+pub mod LeftmostLemmas

@@ -12,7 +12,7 @@ use Rattle.daachorse_model.proofs.Overlap.{take-append}
 use Rattle.daachorse_model.proofs.Occurrences.{occurs_length}
 use Rattle.daachorse_model.proofs.BestMatches.{leftmost_from-clear, leftmost_from-key, leftmost_from-empty, leftmost_from-last, leftmost_from-none, longest-best, none_starts-best}
 use Rattle.daachorse_search.specs.BestScans.{IsNoShorterThan, IsTheBest, IsClear}
-use Rattle.daachorse_search.specs.LeftmostSearches.{before_rest, leftmost_left, spare, IsWithin, IsResting}
+use Rattle.daachorse_search.specs.LeftmostSearches.{SkipsUnit, before_rest, leftmost_left, spare, IsWithin, IsResting}
 
 -- the units that come before the rest
 pub before_rest-is : (whole passed rest : List ℕ) → whole ≡ passed ++ rest → before_rest whole rest ≡ passed
@@ -68,17 +68,15 @@ module _ {V : Type 0} (width : ℕ → ℕ) (K : Dictionary V) where
     -- nothing starts in the rest: the search is over
     pub cleared : (has_output : ℕ → Type 0) (outputs : ℕ → List (V × ℕ)) (whole rest later : List ℕ) (place end : ℕ) (after : Bool) (turns next given : ℕ) → IsResting width K dead has_label whole rest place after false turns given
         → IsClear width K has_output outputs has_label rest end turns next → later ≡ []
-        → IsResting width K dead has_label whole later (place + end) after true next given × (leftmost_left width K place rest after false ≡ []) × (before_rest whole later ≡ whole)
+        → IsResting width K dead has_label whole later (place + end) after true next given × (leftmost_left width K place rest after false ≡ [])
     cleared has_output outputs whole rest later place end after turns next given was clear none =
         let cut : rest ≡ rest ++ later = sym (append-nil rest) ∙ ap (λ x. rest ++ x) (sym none) in
         let on = moved whole rest later place end after after false turns next given given was rest cut clear.ends (λ m bound. omega (arith, was.most m bound, clear.most)) (omega (arith, clear.least)) in
-        let all : whole ≡ whole ++ later = sym (append-nil whole) ∙ ap (λ x. whole ++ x) (sym none) in
         (
           record { kind = on.kind; passed = on.passed; parts = on.parts; here = on.here; fits = on.fits; ended = λ e. none; most = on.most; least = on.least },
           ap (λ w. leftmost_from width K place 0 after w) (sym (append-nil rest))
           ∙ leftmost_from-clear width K place after rest [] (λ a k b o. clear.none a k b (record { parts = sym (append-nil rest) ∙ o.parts; key = o.key }))
           ∙ leftmost_from-none width K (place + size width rest) after clear.no_empty,
-          before_rest-is whole whole later all,
         )
 
     module _ (has_output : ℕ → Type 0) (outputs : ℕ → List (V × ℕ)) where
@@ -173,44 +171,37 @@ module _ {V : Type 0} (width : ℕ → ℕ) (K : Dictionary V) where
                 let empty : best.front ++ best.key ≡ [] = ap (λ f. f ++ best.key) e' ∙ e in
                 (ap length e', best.ends ∙ ap (size width) empty, ap (λ w. longest_key K [] w) parts ∙ (longest ∙ ap (λ k. Some (k, value)) e))
 
-        -- at an empty best before the end
-        pub gives_empty : (whole rest later : List ℕ) (u place position end wide : ℕ) (after : Bool) (turns next given : ℕ) (value : V) (len : ℕ) (more : List (V × ℕ)) → IsResting width K dead has_label whole rest place after false turns given
-            → IsTheBest width K has_output outputs has_label rest position end turns next → outputs position ≡ (value, len) ∷ more → len ≤ 0 → rest ≡ u ∷ later → wide ≡ width u
-            → IsResting width K dead has_label whole later (place + wide) false false next (one_unless after given)
-            × (leftmost_left width K place rest after false ≡ unless after (record { start = place + end - len; end = place + end; value = value }) ++ leftmost_left width K (place + wide) later false false)
-        gives_empty whole rest later u place position end wide after turns next given value len more was best is none cut sized =
+        -- at an empty best: one unit is taken off, or the search is over
+        pub gives_empty : (whole rest later : List ℕ) (place to position end : ℕ) (after over : Bool) (turns next given : ℕ) (value : V) (len : ℕ) (more : List (V × ℕ)) → IsResting width K dead has_label whole rest place after false turns given
+            → IsTheBest width K has_output outputs has_label rest position end turns next → outputs position ≡ (value, len) ∷ more → len ≤ 0 → SkipsUnit width rest place later to over
+            → IsResting width K dead has_label whole later to false over next (one_unless after given)
+            × (leftmost_left width K place rest after false ≡ unless after (record { start = place + end - len; end = place + end; value = value }) ++ leftmost_left width K to later false over)
+        gives_empty whole rest later place to position end after false turns next given value len more was best is none (u, cut, at) =
             let empty = empty_best rest position end turns next value len more best is none in
-            let one : wide ≡ size width (u ∷ []) = omega (arith, sized) in
+            let one : width u ≡ size width (u ∷ []) = omega arith in
             let start : place ≡ place + end - len = omega (arith, empty.1, none) in
             let finish : place ≡ place + end = omega (arith, empty.1) in
+            let P : ℕ → Type 0 = λ n. IsResting width K dead has_label whole later n false false next (one_unless after given) in
             (
-              moved whole rest later place wide after false false turns next given (one_unless after given) was (u ∷ []) cut one
+              subst P (sym at) (moved whole rest later place (width u) after false false turns next given (one_unless after given) was (u ∷ []) cut one
               (λ m bound. within_empty m after (length was.passed) turns next (length best.front) given (was.most m bound) (best.near m bound) empty.0)
-              (omega (arith, best.first, ap (λ x. count_by has_label (take 1 x)) cut)),
+              (omega (arith, best.first, ap (λ x. count_by has_label (take 1 x)) cut))),
               ap (λ w. leftmost_from width K place 0 after w) cut
               ∙ leftmost_from-empty width K place after u later value (ap (λ x. longest_key K [] x) (sym cut) ∙ empty.2)
-              ∙ ap (λ n. unless after (record { start = place; end = place; value = value }) ++ leftmost_from width K (place + n) 0 false later) (sym sized)
-              ∙ (λ i. unless after (record { start = start i; end = finish i; value = value }) ++ leftmost_from width K (place + wide) 0 false later),
+              ∙ ap (λ n. unless after (record { start = place; end = place; value = value }) ++ leftmost_from width K n 0 false later) (sym at)
+              ∙ (λ i. unless after (record { start = start i; end = finish i; value = value }) ++ leftmost_from width K to 0 false later),
             )
-
-        -- and at the end
-        pub gives_last : (whole rest later : List ℕ) (place position end : ℕ) (after : Bool) (turns next given : ℕ) (value : V) (len : ℕ) (more : List (V × ℕ)) → IsResting width K dead has_label whole rest place after false turns given
-            → IsTheBest width K has_output outputs has_label rest position end turns next → outputs position ≡ (value, len) ∷ more → len ≤ 0 → rest ≡ [] → later ≡ []
-            → IsResting width K dead has_label whole later place false true next (one_unless after given)
-            × (leftmost_left width K place rest after false ≡ unless after (record { start = place + end - len; end = place + end; value = value }))
-            × (before_rest whole later ≡ whole)
-        gives_last whole rest later place position end after turns next given value len more was best is none at_end over =
+        gives_empty whole rest later place to position end after true turns next given value len more was best is none (at_end, over, at) =
             let empty = empty_best rest position end turns next value len more best is none in
             let stays : next ≤ turns = omega (arith, best.most, ap length at_end) in
             let start : place ≡ place + end - len = omega (arith, empty.1, none) in
             let finish : place ≡ place + end = omega (arith, empty.1) in
-            let all : whole ≡ whole ++ later = sym (append-nil whole) ∙ ap (λ x. whole ++ x) (sym over) in
             (
               record {
                 kind = was.kind;
                 passed = was.passed;
                 parts = was.parts ∙ ap (λ x. was.passed ++ x) (at_end ∙ sym over);
-                here = was.here;
+                here = at ∙ was.here;
                 fits = was.fits;
                 ended = λ e. over;
                 most = λ m bound. within_last m after (length was.passed) turns next given (was.most m bound) stays;
@@ -218,6 +209,6 @@ module _ {V : Type 0} (width : ℕ → ℕ) (K : Dictionary V) where
               },
               ap (λ w. leftmost_from width K place 0 after w) at_end
               ∙ leftmost_from-last width K place after value (ap (λ x. longest_key K [] x) (sym at_end) ∙ empty.2)
-              ∙ (λ i. unless after (record { start = start i; end = finish i; value = value })),
-              before_rest-is whole whole later all,
+              ∙ (λ i. unless after (record { start = start i; end = finish i; value = value }))
+              ∙ sym (append-nil (unless after (record { start = place + end - len; end = place + end; value = value }))),
             )

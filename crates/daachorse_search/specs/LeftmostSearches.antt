@@ -1,5 +1,5 @@
 -- A leftmost search between two calls.
-use Rattle.std.specs.Prelude.{◌≡◌, ℕ, ◌+◌, ◌-◌, ◌*◌, ◌<◌, ◌≤◌, ◌^◌, Bool, cond, IsTrue, List, [], ◌∷◌, ◌++◌, length, take, count_by, Option, Some, None}
+use Rattle.std.specs.Prelude.{◌≡◌, ℕ, ◌+◌, ◌-◌, ◌*◌, ◌<◌, ◌≤◌, ◌^◌, Bool, true, false, cond, IsTrue, List, [], ◌∷◌, ◌++◌, length, take, count_by, Option, Some, None}
 use Rattle.daachorse_model.specs.declared.Match.{Match}
 use Rattle.daachorse_model.specs.Units.{size}
 use Rattle.daachorse_model.specs.Dictionary.{Dictionary}
@@ -26,6 +26,11 @@ module _ {V A : Type 0} where
   abbrev pub GivesLeftmost : LeftmostProgress V A → Option (Match V) → LeftmostProgress V A → Type 0
   GivesLeftmost s (Some m) t = IsSameSearch s t × (s.left ≡ m ∷ t.left) × (t.given ≡ s.given + 1)
   GivesLeftmost s None t = IsSameSearch s t × ((s.left ≡ []) × (t.left ≡ [])) × (t.given ≡ s.given) × (t.passed ≡ t.haystack)
+
+-- one unit was taken off the rest, or there was none
+abbrev pub SkipsUnit : (ℕ → ℕ) → List ℕ → ℕ → List ℕ → ℕ → Bool → Type 0
+SkipsUnit width rest place later to false = (u : ℕ) × (rest ≡ u ∷ later) × (to ≡ place + width u)
+SkipsUnit width rest place later to true = (rest ≡ []) × (later ≡ []) × (to ≡ place)
 
 -- the units of the whole haystack that come before the rest
 abbrev pub before_rest : List ℕ → List ℕ → List ℕ

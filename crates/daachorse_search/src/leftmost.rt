@@ -11,6 +11,7 @@ ghost use Rattle.daachorse_model.specs.Units.{size};
 ghost use Rattle.daachorse_model.specs.Best.{IsLeftmost};
 ghost use Rattle.daachorse_model.specs.Leftmost.{leftmost};
 ghost use Rattle.daachorse_search.specs.BestScans.{IsNoShorterThan};
+ghost use Rattle.daachorse_search.specs.LeftmostSearches.{SkipsUnit};
 
 use crate::automaton::Automaton;
 use crate::best::{Scanned, scan_best};
@@ -116,31 +117,21 @@ impl<'a, V: Copy, A: Automaton<V>, H: Reread<A::Unit>> Iterator for LeftmostMatc
                     self.rest = self.rest.after(end);
                     self.place += end;
                     self.done = true;
-                    return None;
                 }
                 Scanned::Best(found) => {
                     let output = self.automaton.output(found.position);
-                    let end = self.place + found.end;
-                    let best = output.to_match(end);
+                    let best = output.to_match(self.place + found.end);
                     if output.length() > 0 {
                         self.rest = self.rest.after(found.end);
-                        self.place = end;
+                        self.place += found.end;
                         self.after = true;
                         self.seen.give();
                         return Some(best);
                     }
-                    // An empty match stands where the search goes on. Right after a nonempty one it is passed over.
+                    // An empty match right after a nonempty one is passed over.
                     let passed_over = self.after;
                     self.after = false;
-                    let Some(unit) = self.rest.next() else {
-                        self.done = true;
-                        if passed_over {
-                            return None;
-                        }
-                        self.seen.give();
-                        return Some(best);
-                    };
-                    self.place += unit.num_bytes();
+                    self.done = skip_unit(&mut self.rest, &mut self.place);
                     if !passed_over {
                         self.seen.give();
                         return Some(best);
@@ -149,4 +140,17 @@ impl<'a, V: Copy, A: Automaton<V>, H: Reread<A::Unit>> Iterator for LeftmostMatc
             }
         }
     }
+}
+
+/// Takes one unit off the haystack, and answers whether there was none.
+#[inline(always)]
+fn skip_unit<U: EdgeLabel, H: Reread<U>>(rest: &mut H, place: &mut usize) -> bool
+    requires { place.old + size U.width (H.rest rest.old) < 2 ^ 64 }
+    ensures { SkipsUnit U.width (H.rest rest.old) place.old (H.rest rest.new) place.new result }
+{
+    let Some(unit) = rest.next() else {
+        return true;
+    };
+    *place += unit.num_bytes();
+    false
 }

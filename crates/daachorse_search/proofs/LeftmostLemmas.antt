@@ -1,6 +1,8 @@
 -- One scan of a leftmost search: what is left after it, and how the bounds on the turns grow.
 use Rattle.std.proofs.Common.{◌≡◌, ◌≢◌, ℕ, ◌+◌, ◌-◌, ◌*◌, ◌<◌, ◌≤◌, ◌⊎◌, inl, inr, Bool, true, false, cond, List, [], ◌∷◌, ◌++◌, length, take, Option, Some, None, refl, sym, ap, ◌∙◌, subst, append_assoc, append-nil, length-append, arith}
 use Rattle.std.specs.Prelude.{IsTrue, count_by}
+use Rattle.std.proofs.lemmas.Iterator.{YieldsList}
+use Rattle.std.proofs.lemmas.Iterator.Consumers.{YieldsList-from_shown}
 use Rattle.std.proofs.lemmas.List.Sums.{sum_by-append}
 use Rattle.daachorse_model.specs.declared.Match.{Match}
 use Rattle.daachorse_model.specs.Units.{size}
@@ -12,13 +14,17 @@ use Rattle.daachorse_model.proofs.Overlap.{take-append}
 use Rattle.daachorse_model.proofs.Occurrences.{occurs_length}
 use Rattle.daachorse_model.proofs.BestMatches.{leftmost_from-clear, leftmost_from-key, leftmost_from-empty, leftmost_from-last, leftmost_from-none, longest-best, none_starts-best}
 use Rattle.daachorse_search.specs.BestScans.{IsNoShorterThan, IsTheBest, IsClear}
-use Rattle.daachorse_search.specs.LeftmostSearches.{SkipsUnit, before_rest, leftmost_left, spare, IsWithin, IsResting}
+use Rattle.daachorse_search.specs.LeftmostSearches.{LeftmostProgress, GivesLeftmost, SkipsUnit, before_rest, leftmost_left, spare, IsWithin, IsResting}
 
 -- the units that come before the rest
 pub before_rest-is : (whole passed rest : List ℕ) → whole ≡ passed ++ rest → before_rest whole rest ≡ passed
 before_rest-is whole passed rest parts =
     let count : length whole - length rest ≡ length passed = omega (arith, ap length parts, length-append passed rest) in
     ap (λ n. take n whole) count ∙ ap (take (length passed)) parts ∙ take-append passed rest
+
+-- the calls of a search give the matches that are left
+pub YieldsList-leftmost : {V A : Type 0} (s : LeftmostProgress V A) → YieldsList GivesLeftmost (λ (m : Match V). m) s s.left
+YieldsList-leftmost {V} {A} s = YieldsList-from_shown GivesLeftmost (λ (m : Match V). m) (λ (p : LeftmostProgress V A). p.left) (λ s t h. ap length h.1.0) (λ s m t h. h.1) s
 
 times_one_more : (m n : ℕ) → m * (n + 1) ≡ m * n + m
 times_one_more m n = grind arith

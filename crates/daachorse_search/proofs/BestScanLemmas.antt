@@ -1,5 +1,5 @@
 -- A scan for the leftmost match, one unit further: the best of what was read, and what is final where the scan stops.
-use Rattle.std.proofs.Common.{◌≡◌, ◌≢◌, ℕ, ◌+◌, ◌*◌, ◌<◌, ◌≤◌, ◌⊎◌, inl, inr, Bool, cond, List, [], ◌∷◌, ◌++◌, length, take, Option, Some, None, refl, sym, ap, ◌∙◌, subst, append_assoc, append-nil, length-append, arith}
+use Rattle.std.proofs.Common.{◌≡◌, ◌≢◌, ℕ, ◌+◌, ◌*◌, ◌<◌, ◌≤◌, inl, inr, Bool, cond, List, [], ◌∷◌, ◌++◌, length, take, Option, Some, None, refl, sym, ap, ◌∙◌, subst, append_assoc, append-nil, length-append, arith}
 use Rattle.std.specs.Prelude.{count_by}
 use Rattle.std.specs.declared.num.NonZeroU32.{NonZeroU32}
 use Rattle.std.proofs.lemmas.List.Sums.{sum_by-append, sum_by_push}
@@ -7,10 +7,9 @@ use Rattle.daachorse_model.specs.Units.{size}
 use Rattle.daachorse_model.specs.Dictionary.{Dictionary}
 use Rattle.daachorse_model.specs.Prefixes.{IsPrefix, Occurs}
 use Rattle.daachorse_model.specs.Outputs.{IsChain}
-use Rattle.daachorse_model.specs.Best.{IsBest, IsBestSoFar, NoneStarts, IsSteady, LeftSteps, IsLeftmost}
+use Rattle.daachorse_model.specs.Best.{IsBest, IsBestSoFar, IsSteady, LeftSteps, IsLeftmost}
 use Rattle.daachorse_model.proofs.Suffixes.{size-push}
 use Rattle.daachorse_model.proofs.Links.{none_before}
-use Rattle.daachorse_model.proofs.Occurrences.{occurs_length}
 use Rattle.daachorse_model.proofs.BestLemmas.{IsSteady-nil, Told, Told-IsSteady, IsBestSoFar-keeps, IsBest-new}
 use Rattle.daachorse_search.specs.declared.best.Found.{Found}
 use Rattle.daachorse_search.specs.BestScans.{IsNoShorterThan, IsOutputOf, IsTheBest, IsClear}

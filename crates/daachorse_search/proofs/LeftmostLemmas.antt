@@ -1,6 +1,6 @@
 -- One scan of a leftmost search: what is left after it, and how the bounds on the turns grow.
-use Rattle.std.proofs.Common.{◌≡◌, ◌≢◌, ℕ, ◌+◌, ◌-◌, ◌*◌, ◌<◌, ◌≤◌, ◌⊎◌, inl, inr, Bool, true, false, cond, List, [], ◌∷◌, ◌++◌, length, take, Option, Some, None, refl, sym, ap, ◌∙◌, subst, append_assoc, append-nil, length-append, arith}
-use Rattle.std.specs.Prelude.{IsTrue, count_by}
+use Rattle.std.proofs.Common.{◌≡◌, ◌≢◌, ℕ, ◌+◌, ◌-◌, ◌*◌, ◌<◌, ◌≤◌, inl, inr, Bool, true, false, cond, List, [], ◌∷◌, ◌++◌, length, take, Some, refl, sym, ap, ◌∙◌, subst, append_assoc, append-nil, length-append, arith}
+use Rattle.std.specs.Prelude.{count_by}
 use Rattle.std.proofs.lemmas.Iterator.{YieldsList}
 use Rattle.std.proofs.lemmas.Iterator.Consumers.{YieldsList-from_shown}
 use Rattle.std.proofs.lemmas.List.Sums.{sum_by-append}
@@ -8,12 +8,11 @@ use Rattle.daachorse_model.specs.declared.Match.{Match}
 use Rattle.daachorse_model.specs.Units.{size}
 use Rattle.daachorse_model.specs.Dictionary.{Dictionary}
 use Rattle.daachorse_model.specs.Leftmost.{longest_key, leftmost_from}
-use Rattle.daachorse_model.specs.Best.{IsBest, NoneStarts, IsLeftmost}
+use Rattle.daachorse_model.specs.Best.{NoneStarts}
 use Rattle.daachorse_model.proofs.Suffixes.{size-append}
 use Rattle.daachorse_model.proofs.Overlap.{take-append}
-use Rattle.daachorse_model.proofs.Occurrences.{occurs_length}
 use Rattle.daachorse_model.proofs.BestMatches.{leftmost_from-clear, leftmost_from-key, leftmost_from-empty, leftmost_from-last, leftmost_from-none, longest-best, none_starts-best}
-use Rattle.daachorse_search.specs.BestScans.{IsNoShorterThan, IsTheBest, IsClear}
+use Rattle.daachorse_search.specs.BestScans.{IsTheBest, IsClear}
 use Rattle.daachorse_search.specs.LeftmostSearches.{LeftmostProgress, GivesLeftmost, SkipsUnit, before_rest, leftmost_left, spare, IsWithin, IsResting}
 
 -- the units that come before the rest
@@ -77,12 +76,11 @@ module _ {V : Type 0} (width : ℕ → ℕ) (K : Dictionary V) where
         → IsResting width K dead has_label whole later (place + end) after true next given × (leftmost_left width K place rest after false ≡ [])
     cleared has_output outputs whole rest later place end after turns next given was clear none =
         let cut : rest ≡ rest ++ later = sym (append-nil rest) ∙ ap (λ x. rest ++ x) (sym none) in
-        let on = moved whole rest later place end after after false turns next given given was rest cut clear.ends (λ m bound. omega (arith, was.most m bound, clear.most)) (omega (arith, clear.least)) in
-        (
+        let on = moved whole rest later place end after after false turns next given given was rest cut clear.ends (λ m bound. omega (arith, was.most m bound, clear.most)) (omega (arith, clear.least)) in (
           record { kind = on.kind; passed = on.passed; parts = on.parts; here = on.here; fits = on.fits; ended = λ e. none; most = on.most; least = on.least },
           ap (λ w. leftmost_from width K place 0 after w) (sym (append-nil rest))
-          ∙ leftmost_from-clear width K place after rest [] (λ a k b o. clear.none a k b (record { parts = sym (append-nil rest) ∙ o.parts; key = o.key }))
-          ∙ leftmost_from-none width K (place + size width rest) after clear.no_empty,
+              ∙ leftmost_from-clear width K place after rest [] (λ a k b o. clear.none a k b (record { parts = sym (append-nil rest) ∙ o.parts; key = o.key }))
+              ∙ leftmost_from-none width K (place + size width rest) after clear.no_empty,
         )
 
     module _ (has_output : ℕ → Type 0) (outputs : ℕ → List (V × ℕ)) where
@@ -145,17 +143,16 @@ module _ {V : Type 0} (width : ℕ → ℕ) (K : Dictionary V) where
               let begin : place + size width best.front ≡ place + end - len = omega (arith, best.ends, size-append width best.front best.key, out.0) in
               let finish : place + end - len + size width (u ∷ p) ≡ place + end = omega (arith, best.ends, size-append width best.front best.key, out.0, ap (size width) e) in
               let many : length best.key ≡ 1 + length p = ap length e ∙ (let q : length (u ∷ p) ≡ 1 + length p = omega arith in q) in
-              let N : List ℕ → Type 0 = λ w. NoneStarts K (length best.front) w in
-              (
+              let N : List ℕ → Type 0 = λ w. NoneStarts K (length best.front) w in (
                 moved whole rest later place end after true false turns next given (given + 1) was (best.front ++ best.key) joined best.ends
-                (λ m bound. omega (arith, within_key m after (length was.passed) turns next (length best.front) (length best.key) given (was.most m bound) (best.near m bound) (omega (arith, many)), length-append best.front best.key))
-                best.least,
+                    (λ m bound. omega (arith, within_key m after (length was.passed) turns next (length best.front) (length best.key) given (was.most m bound) (best.near m bound) (omega (arith, many)), length-append best.front best.key))
+                    best.least,
                 ap (λ w. leftmost_from width K place 0 after w) parts
-                ∙ leftmost_from-clear width K place after best.front (u ∷ (p ++ best.best.rest)) (subst N parts (none_starts-best K rest best.front best.key best.best))
-                ∙ ap (λ n. leftmost_from width K n 0 after (u ∷ (p ++ best.best.rest))) begin
-                ∙ leftmost_from-key width K (place + end - len) after u p best.best.rest value longest
-                ∙ ap (λ n. record { start = place + end - len; end = n; value = value } ∷ leftmost_from width K n 0 true best.best.rest) finish
-                ∙ ap (λ w. record { start = place + end - len; end = place + end; value = value } ∷ leftmost_from width K (place + end) 0 true w) (sym back),
+                    ∙ leftmost_from-clear width K place after best.front (u ∷ (p ++ best.best.rest)) (subst N parts (none_starts-best K rest best.front best.key best.best))
+                    ∙ ap (λ n. leftmost_from width K n 0 after (u ∷ (p ++ best.best.rest))) begin
+                    ∙ leftmost_from-key width K (place + end - len) after u p best.best.rest value longest
+                    ∙ ap (λ n. record { start = place + end - len; end = n; value = value } ∷ leftmost_from width K n 0 true best.best.rest) finish
+                    ∙ ap (λ w. record { start = place + end - len; end = place + end; value = value } ∷ leftmost_from width K (place + end) 0 true w) (sym back),
               )
 
       module _ (wide : (u : ℕ) → 1 ≤ width u) where
@@ -187,22 +184,20 @@ module _ {V : Type 0} (width : ℕ → ℕ) (K : Dictionary V) where
             let one : width u ≡ size width (u ∷ []) = omega arith in
             let start : place ≡ place + end - len = omega (arith, empty.1, none) in
             let finish : place ≡ place + end = omega (arith, empty.1) in
-            let P : ℕ → Type 0 = λ n. IsResting width K dead has_label whole later n false false next (one_unless after given) in
-            (
+            let P : ℕ → Type 0 = λ n. IsResting width K dead has_label whole later n false false next (one_unless after given) in (
               subst P (sym at) (moved whole rest later place (width u) after false false turns next given (one_unless after given) was (u ∷ []) cut one
-              (λ m bound. within_empty m after (length was.passed) turns next (length best.front) given (was.most m bound) (best.near m bound) empty.0)
-              (omega (arith, best.first, ap (λ x. count_by has_label (take 1 x)) cut))),
+                  (λ m bound. within_empty m after (length was.passed) turns next (length best.front) given (was.most m bound) (best.near m bound) empty.0)
+                  (omega (arith, best.first, ap (λ x. count_by has_label (take 1 x)) cut))),
               ap (λ w. leftmost_from width K place 0 after w) cut
-              ∙ leftmost_from-empty width K place after u later value (ap (λ x. longest_key K [] x) (sym cut) ∙ empty.2)
-              ∙ ap (λ n. unless after (record { start = place; end = place; value = value }) ++ leftmost_from width K n 0 false later) (sym at)
-              ∙ (λ i. unless after (record { start = start i; end = finish i; value = value }) ++ leftmost_from width K to 0 false later),
+                  ∙ leftmost_from-empty width K place after u later value (ap (λ x. longest_key K [] x) (sym cut) ∙ empty.2)
+                  ∙ ap (λ n. unless after (record { start = place; end = place; value = value }) ++ leftmost_from width K n 0 false later) (sym at)
+                  ∙ (λ i. unless after (record { start = start i; end = finish i; value = value }) ++ leftmost_from width K to 0 false later),
             )
         gives_empty whole rest later place to position end after true turns next given value len more was best is none (at_end, over, at) =
             let empty = empty_best rest position end turns next value len more best is none in
             let stays : next ≤ turns = omega (arith, best.most, ap length at_end) in
             let start : place ≡ place + end - len = omega (arith, empty.1, none) in
-            let finish : place ≡ place + end = omega (arith, empty.1) in
-            (
+            let finish : place ≡ place + end = omega (arith, empty.1) in (
               record {
                 kind = was.kind;
                 passed = was.passed;
@@ -214,7 +209,7 @@ module _ {V : Type 0} (width : ℕ → ℕ) (K : Dictionary V) where
                 least = omega (arith, was.least, best.least);
               },
               ap (λ w. leftmost_from width K place 0 after w) at_end
-              ∙ leftmost_from-last width K place after value (ap (λ x. longest_key K [] x) (sym at_end) ∙ empty.2)
-              ∙ (λ i. unless after (record { start = start i; end = finish i; value = value }))
-              ∙ sym (append-nil (unless after (record { start = place + end - len; end = place + end; value = value }))),
+                  ∙ leftmost_from-last width K place after value (ap (λ x. longest_key K [] x) (sym at_end) ∙ empty.2)
+                  ∙ (λ i. unless after (record { start = start i; end = finish i; value = value }))
+                  ∙ sym (append-nil (unless after (record { start = place + end - len; end = place + end; value = value }))),
             )

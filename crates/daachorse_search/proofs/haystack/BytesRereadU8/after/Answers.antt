@@ -1,5 +1,4 @@
-use Rattle.std.proofs.Common.{◌≡◌, ◌+◌, ◌-◌, ◌≤◌, ℕ, List, [], ◌∷◌, ◌++◌, length, take, drop, refl, sym, ap, ◌∙◌, length-append, arith}
-use Rattle.daachorse_model.specs.Units.{size, byte_width}
+use Rattle.std.proofs.Common.{◌≡◌, ◌-◌, ◌≤◌, ℕ, List, [], ◌∷◌, ◌++◌, length, take, drop, refl, ap, ◌∙◌, length-append, arith}
 use Rattle.daachorse_model.proofs.Suffixes.{size-bytes}
 use Rattle.daachorse_model.proofs.SlowLemmas.{take-all}
 use Rattle.daachorse_search.proofs.haystack.BytesRereadU8.after.Goals as goal

@@ -1,6 +1,5 @@
-use Rattle.std.proofs.Common.{◌≡◌, ◌++◌, [], List, ℕ, ap, arith}
+use Rattle.std.proofs.Common.{[], ap, arith}
 use Rattle.daachorse_model.specs.Units.{size}
-use Rattle.daachorse_search.specs.LeftmostSearches.{IsResting}
 use Rattle.daachorse_search.proofs.leftmost.LeftmostMatches.new.Goals as goal
 
 pub invariant_of-result : goal.invariant_of-result

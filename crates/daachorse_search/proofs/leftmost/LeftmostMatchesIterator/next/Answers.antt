@@ -1,11 +1,10 @@
-use Rattle.std.proofs.Common.{◌≡◌, ◌+◌, ◌-◌, ◌<◌, ◌≤◌, ℕ, Bool, true, false, cond, List, [], ◌∷◌, ◌++◌, length, Option, refl, sym, ap, ◌∙◌, subst, append-nil, arith}
-use Rattle.std.specs.Iterator.{YieldsFirstBy}
+use Rattle.std.proofs.Common.{◌≡◌, ◌+◌, ◌-◌, ℕ, Bool, true, false, cond, [], ◌∷◌, ◌++◌, length, sym, ap, ◌∙◌, subst, append-nil, arith}
 use Rattle.daachorse_core.specs.Outputs.{value_of, length_of}
 use Rattle.daachorse_core.specs.Seen.{SeenUnits}
 use Rattle.daachorse_model.specs.declared.Match.{Match}
 use Rattle.daachorse_model.specs.Units.{size}
 use Rattle.daachorse_model.proofs.Suffixes.{size-append}
-use Rattle.daachorse_search.specs.LeftmostSearches.{IsResting, IsSameSearch, leftmost_left}
+use Rattle.daachorse_search.specs.LeftmostSearches.{IsResting, leftmost_left}
 use Rattle.daachorse_search.proofs.LeftmostLemmas.{cleared, best_ends, best_fits, output_fits, gives_key, gives_empty}
 use Rattle.daachorse_search.proofs.leftmost.LeftmostMatchesIterator.next.Goals as goal
 
@@ -58,7 +57,7 @@ invariant_of-self-then-length-gt0 g c =
     let m : Match g.row.V.Denot = record { start = s.place + n - length_of o; end = s.place + n; value = value_of o } in
     let is : c.to_match-best.result ≡ m = c.to_match-best.ensures in
     let next = gives_key width K dead has (A.has_output a) (A.outputs a) whole (rest s.rest) later s.place c.in-Best.found.position.value n s.after s.turns c.scan_best.new.turns s.seen.given (value_of o) (length_of o) _ resting c.in-Best.ensures c.output-output.ensures.value
-        (omega (arith, c.if-length-gt0.true, c.length.ensures)) c.after-then-length-gt0.ensures in
+    (omega (arith, c.if-length-gt0.true, c.length.ensures)) c.after-then-length-gt0.ensures in
     let P : Bool → ℕ → Type 0 = λ d k. IsResting width K dead has whole later (s.place + n) true d c.scan_best.new.turns k in
     subst (P s.done) (sym (ap (λ (x : SeenUnits). x.given) c.give.ensures)) (subst (λ d. P d (s.seen.given + 1)) (sym c.if-self.false) next.0)
 
@@ -75,7 +74,7 @@ returns-then-length-gt0-clause-steps g c =
     let m : Match g.row.V.Denot = record { start = s.place + n - length_of o; end = s.place + n; value = value_of o } in
     let is : c.to_match-best.result ≡ m = c.to_match-best.ensures in
     let next = gives_key width K dead has (A.has_output a) (A.outputs a) whole (rest s.rest) later s.place c.in-Best.found.position.value n s.after s.turns c.scan_best.new.turns s.seen.given (value_of o) (length_of o) _ resting c.in-Best.ensures c.output-output.ensures.value
-        (omega (arith, c.if-length-gt0.true, c.length.ensures)) c.after-then-length-gt0.ensures in
+    (omega (arith, c.if-length-gt0.true, c.length.ensures)) c.after-then-length-gt0.ensures in
     let fewer : c.args.self.now.left ≡ c.to_match-best.result ∷ leftmost_left width K (s.place + n) later true s.done =
     sym left ∙ next.1 ∙ ap (λ x. x ∷ leftmost_left width K (s.place + n) later true false) (sym is) ∙ ap (λ d. c.to_match-best.result ∷ leftmost_left width K (s.place + n) later true d) (sym c.if-self.false) in
     (record { automaton = was.automaton; haystack = was.haystack }, fewer, ap (λ (x : SeenUnits). x.given) c.give.ensures ∙ ap (λ k. k + 1) was.given)
@@ -93,7 +92,7 @@ returns-then-length-gt0-clause-goes g c =
     let m : Match g.row.V.Denot = record { start = s.place + n - length_of o; end = s.place + n; value = value_of o } in
     let is : c.to_match-best.result ≡ m = c.to_match-best.ensures in
     let next = gives_key width K dead has (A.has_output a) (A.outputs a) whole (rest s.rest) later s.place c.in-Best.found.position.value n s.after s.turns c.scan_best.new.turns s.seen.given (value_of o) (length_of o) _ resting c.in-Best.ensures c.output-output.ensures.value
-        (omega (arith, c.if-length-gt0.true, c.length.ensures)) c.after-then-length-gt0.ensures in
+    (omega (arith, c.if-length-gt0.true, c.length.ensures)) c.after-then-length-gt0.ensures in
     let fewer : c.args.self.now.left ≡ c.to_match-best.result ∷ leftmost_left width K (s.place + n) later true s.done =
     sym left ∙ next.1 ∙ ap (λ x. x ∷ leftmost_left width K (s.place + n) later true false) (sym is) ∙ ap (λ d. c.to_match-best.result ∷ leftmost_left width K (s.place + n) later true d) (sym c.if-self.false) in
     record { on = λ _. (tt, tt, omega (arith, ap length fewer)); keeps = tt; rests = λ _. tt }
@@ -127,7 +126,7 @@ invariant_of-self-then-not-passed_over g c =
     let m : Match g.row.V.Denot = record { start = s.place + n - length_of o; end = s.place + n; value = value_of o } in
     let is : c.to_match-best.result ≡ m = c.to_match-best.ensures in
     let next = gives_empty width K dead has (A.has_output a) (A.outputs a) g.met.A.Unit.EdgeLabel.wide whole (rest s.rest) later s.place to c.in-Best.found.position.value n s.after over s.turns c.scan_best.new.turns s.seen.given (value_of o) (length_of o) _ resting c.in-Best.ensures c.output-output.ensures.value
-        (omega (arith, c.if-length-gt0.false, c.length.ensures)) c.skip_unit-self-inside.ensures in
+    (omega (arith, c.if-length-gt0.false, c.length.ensures)) c.skip_unit-self-inside.ensures in
     let P : ℕ → Type 0 = λ k. IsResting width K dead has whole later to false over c.scan_best.new.turns k in
     subst P (ap (λ b. cond b s.seen.given (s.seen.given + 1)) c.if-not-passed_over.true ∙ sym (ap (λ (x : SeenUnits). x.given) c.give-then-not-passed_over.ensures)) next.0
 
@@ -144,7 +143,7 @@ returns-then-not-passed_over-clause-steps g c =
     let m : Match g.row.V.Denot = record { start = s.place + n - length_of o; end = s.place + n; value = value_of o } in
     let is : c.to_match-best.result ≡ m = c.to_match-best.ensures in
     let next = gives_empty width K dead has (A.has_output a) (A.outputs a) g.met.A.Unit.EdgeLabel.wide whole (rest s.rest) later s.place to c.in-Best.found.position.value n s.after over s.turns c.scan_best.new.turns s.seen.given (value_of o) (length_of o) _ resting c.in-Best.ensures c.output-output.ensures.value
-        (omega (arith, c.if-length-gt0.false, c.length.ensures)) c.skip_unit-self-inside.ensures in
+    (omega (arith, c.if-length-gt0.false, c.length.ensures)) c.skip_unit-self-inside.ensures in
     let fewer : c.args.self.now.left ≡ c.to_match-best.result ∷ leftmost_left width K to later false over =
     sym left ∙ next.1 ∙ ap (λ b. cond b [] (m ∷ []) ++ leftmost_left width K to later false over) c.if-not-passed_over.true ∙ ap (λ x. x ∷ leftmost_left width K to later false over) (sym is) in
     (record { automaton = was.automaton; haystack = was.haystack }, fewer, ap (λ (x : SeenUnits). x.given) c.give-then-not-passed_over.ensures ∙ ap (λ k. k + 1) was.given)
@@ -162,7 +161,7 @@ returns-then-not-passed_over-clause-goes g c =
     let m : Match g.row.V.Denot = record { start = s.place + n - length_of o; end = s.place + n; value = value_of o } in
     let is : c.to_match-best.result ≡ m = c.to_match-best.ensures in
     let next = gives_empty width K dead has (A.has_output a) (A.outputs a) g.met.A.Unit.EdgeLabel.wide whole (rest s.rest) later s.place to c.in-Best.found.position.value n s.after over s.turns c.scan_best.new.turns s.seen.given (value_of o) (length_of o) _ resting c.in-Best.ensures c.output-output.ensures.value
-        (omega (arith, c.if-length-gt0.false, c.length.ensures)) c.skip_unit-self-inside.ensures in
+    (omega (arith, c.if-length-gt0.false, c.length.ensures)) c.skip_unit-self-inside.ensures in
     let fewer : c.args.self.now.left ≡ c.to_match-best.result ∷ leftmost_left width K to later false over =
     sym left ∙ next.1 ∙ ap (λ b. cond b [] (m ∷ []) ++ leftmost_left width K to later false over) c.if-not-passed_over.true ∙ ap (λ x. x ∷ leftmost_left width K to later false over) (sym is) in
     record { on = λ _. (tt, tt, omega (arith, ap length fewer)); keeps = tt; rests = λ _. tt }
@@ -180,7 +179,7 @@ scans-preserved g c =
     let m : Match g.row.V.Denot = record { start = s.place + n - length_of o; end = s.place + n; value = value_of o } in
     let is : c.to_match-best.result ≡ m = c.to_match-best.ensures in
     let next = gives_empty width K dead has (A.has_output a) (A.outputs a) g.met.A.Unit.EdgeLabel.wide whole (rest s.rest) later s.place to c.in-Best.found.position.value n s.after over s.turns c.scan_best.new.turns s.seen.given (value_of o) (length_of o) _ resting c.in-Best.ensures c.output-output.ensures.value
-        (omega (arith, c.if-length-gt0.false, c.length.ensures)) c.skip_unit-self-inside.ensures in
+    (omega (arith, c.if-length-gt0.false, c.length.ensures)) c.skip_unit-self-inside.ensures in
     let P : ℕ → Type 0 = λ k. IsResting width K dead has whole later to false over c.scan_best.new.turns k in
     record {
       resting = subst P (ap (λ b. cond b s.seen.given (s.seen.given + 1)) c.if-not-passed_over.false) next.0;

@@ -5,7 +5,7 @@ use Rattle.daachorse_model.specs.Dictionary.{Dictionary}
 use Rattle.daachorse_model.specs.Prefixes.{IsSuffix, IsKey, IsPrefix, IsLong, IsLink, Occurs, StartsBefore, IsDead}
 use Rattle.daachorse_model.specs.Outputs.{own_outputs, IsChain, at_root, at_dead, before_link}
 use Rattle.daachorse_model.specs.Best.{IsBest, IsBestSoFar, IsSteady, LeftSteps, IsLeftmost}
-use Rattle.daachorse_model.proofs.Suffixes.{le_or_lt, IsSuffix-same, IsSuffix-through, IsSuffix-length, IsSuffix-of_longer, IsSuffix-as_long}
+use Rattle.daachorse_model.proofs.Suffixes.{le_or_lt, IsSuffix-nil, IsSuffix-same, IsSuffix-through, IsSuffix-length, IsSuffix-of_longer, IsSuffix-as_long}
 use Rattle.daachorse_model.proofs.Steps.{IsPrefix-less, IsPrefix-key, IsLong-nil, IsCandidate, IsCandidate-first, IsCandidate-link, IsCandidate-goes_on, IsCandidate-stops, IsLong-step}
 use Rattle.daachorse_model.proofs.Links.{none_before}
 use Rattle.daachorse_model.proofs.Occurrences.{split_after, occurs_length, occurs_in_end, occurs_push, occurs_more, none_before-link, none_before-goes_on}
@@ -36,7 +36,7 @@ module _ {V : Type 0} (K : Dictionary V) where
   }
 
   -- The best is final where a candidate that is stuck is the root or has a dead link: nothing that goes on past the unit starts as early.
-  pub IsBest-final : (w t : List ℕ) (u : ℕ) (c best key rest : List ℕ) → IsSteady K w t → IsLeftCandidate w t u c → (¬ IsPrefix K (c ++ u ∷ [])) → (c ≡ []) ⊎ IsDead K c → IsBest K w best key → IsBest K (w ++ u ∷ rest) best key
+  pub IsBest-final : (w t : List ℕ) (u : ℕ) (c best key rest : List ℕ) → IsSteady K w t → IsCandidate K t u c → (¬ IsPrefix K (c ++ u ∷ [])) → (c ≡ []) ⊎ IsDead K c → IsBest K w best key → IsBest K (w ++ u ∷ rest) best key
   IsBest-final w t u c best key rest steady h stuck stops is = record {
     rest = is.rest ++ u ∷ rest;
     occurs = occurs_more K w best key is.rest (u ∷ rest) is.occurs;
@@ -46,18 +46,18 @@ module _ {V : Type 0} (K : Dictionary V) where
       -- a key that goes on past the unit from an end d of w starts later
       past : (a d : List ℕ) → a ++ d ≡ w → IsPrefix K (d ++ u ∷ []) → length best < length a
       past a d e begins =
-          let ends = IsSuffix-through c t w h.candidate.ends steady.long.ends in
+          let ends = IsSuffix-through c t w h.ends steady.long.ends in
           let in_t : IsSuffix d t = IsSuffix-of_longer w d t (a, e) steady.long.ends (steady.long.longest d (a, e) (IsPrefix-less K d (u ∷ []) begins)) in
-          let fits : length d ≤ length c = h.candidate.above d in_t begins in
+          let fits : length d ≤ length c = h.above d in_t begins in
           elim (le_or_lt (length c) (length d)) [
             | inl as_long ↦
-                let is_c : c ≡ d = IsSuffix-as_long c d (IsSuffix-of_longer t c d h.candidate.ends in_t as_long) fits in
+                let is_c : c ≡ d = IsSuffix-as_long c d (IsSuffix-of_longer t c d h.ends in_t as_long) fits in
                 absurd (stuck (let P : List ℕ → Type 0 = λ x. IsPrefix K (x ++ u ∷ []) in subst P (sym is_c) begins))
             | inr less ↦
                 elim stops [
                   | inl root ↦ absurd (omega (arith, ap length root))
                   | inr dead ↦
-                      let in_c : IsSuffix d c = IsSuffix-of_longer t d c in_t h.candidate.ends fits in
+                      let in_c : IsSuffix d c = IsSuffix-of_longer t d c in_t h.ends fits in
                       let short : length d ≤ length dead.0 = dead.1.longest d in_c less (IsPrefix-less K d (u ∷ []) begins) in
                       let early = dead.2 in
                       let here = is.least (ends.0 ++ early.0) early.1 early.2 (occurs_in_end K w c early.0 early.1 early.2 ends early.3) in
@@ -93,15 +93,15 @@ module _ {V : Type 0} (K : Dictionary V) where
           ]
 
   -- where nothing occurs so far, a scan that is stuck goes on at the root
-  stuck_none : (w t : List ℕ) (u : ℕ) (c : List ℕ) → IsSteady K w t → IsLeftCandidate w t u c → (¬ IsPrefix K (c ++ u ∷ [])) → (c ≡ []) ⊎ IsDead K c → IsBestSoFar K w None → IsSteady K (w ++ u ∷ []) [] × IsBestSoFar K (w ++ u ∷ []) None
+  stuck_none : (w t : List ℕ) (u : ℕ) (c : List ℕ) → IsSteady K w t → IsCandidate K t u c → (¬ IsPrefix K (c ++ u ∷ [])) → (c ≡ []) ⊎ IsDead K c → IsBestSoFar K w None → IsSteady K (w ++ u ∷ []) [] × IsBestSoFar K (w ++ u ∷ []) None
   stuck_none w t u c steady h stuck (inr dead) none =
-      let ends = IsSuffix-through c t w h.candidate.ends steady.long.ends in
+      let ends = IsSuffix-through c t w h.ends steady.long.ends in
       let early = dead.2 in
       absurd (none (ends.0 ++ early.0) early.1 early.2 (occurs_in_end K w c early.0 early.1 early.2 ends early.3))
   stuck_none w t u c steady h stuck (inl root) none =
       let P : List ℕ → Type 0 = λ x. IsCandidate K t u x in
       let Q : List ℕ → Type 0 = λ x. ¬ IsPrefix K (x ++ u ∷ []) in
-      let long : IsLong K (w ++ u ∷ []) [] = IsLong-step K w t [] u steady.long (IsCandidate-stops K t u (subst P root h.candidate) (subst Q root stuck)) in
+      let long : IsLong K (w ++ u ∷ []) [] = IsLong-step K w t [] u steady.long (IsCandidate-stops K t u (subst P root h) (subst Q root stuck)) in
       let clear : IsBestSoFar K (w ++ u ∷ []) None =
       λ a k b o. elim (occurs_push K w a k b u o) [
         | inl p ↦ none [] [] w (record { parts = refl; key = is_empty k (long.longest k p.1 (IsPrefix-key K k o.key)) o.key })
@@ -120,7 +120,13 @@ module _ {V : Type 0} (K : Dictionary V) where
       inl (subst P (sym on.1) (IsSteady-goes_on w t u c (IsLong-step K w t (c ++ u ∷ []) u steady.long (IsCandidate-goes_on K t u c h.candidate on.0)) h.none, λ e. omega (arith, ap length e, length-append c (u ∷ []))))
   LeftSteps-turn dead kind w t u c r steady h (inr (stuck, stops, empty)) =
       let ends : (c ≡ []) ⊎ IsDead K c = elim stops [ inl e ↦ inl e | inr d ↦ inr ((kind c).0 d) ] in
-      inr (empty, record { best = λ a k rest is. IsBest-final w t u c a k rest steady h stuck ends is; none = λ none. stuck_none w t u c steady h stuck ends none })
+      inr (empty, record { best = λ a k rest is. IsBest-final w t u c a k rest steady h.candidate stuck ends is; none = λ none. stuck_none w t u c steady h.candidate stuck ends none })
+
+  -- at a unit that no key has, a step stops
+  pub LeftSteps-foreign : (w t : List ℕ) (u : ℕ) (r : List ℕ) → IsSteady K w t → ((x : List ℕ) → ¬ IsPrefix K (x ++ u ∷ [])) → r ≡ [] → LeftSteps K w u r
+  LeftSteps-foreign w t u r steady none empty =
+      let h : IsCandidate K t u [] = record { ends = IsSuffix-nil t; above = λ s p begins. absurd (none s begins) } in
+      inr (empty, record { best = λ a k rest is. IsBest-final w t u [] a k rest steady h (none []) (inl refl) is; none = λ clear. stuck_none w t u [] steady h (none []) (inl refl) clear })
 
 module _ {V : Type 0} (width : ℕ → ℕ) (K : Dictionary V) where
   -- what the outputs of a steady state tell of the keys that end where the units end

@@ -5,3 +5,5 @@ pub mod OverlappingLemmas
 pub mod FindLemmas
 pub mod HaystackLemmas
 pub mod RunLemmas
+pub mod BestScanLemmas
+pub mod LeftmostLemmas

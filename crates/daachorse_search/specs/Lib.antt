@@ -7,3 +7,5 @@ pub mod Stepwise
 pub mod Searches
 pub mod Finds
 pub mod Matches
+pub mod BestScans
+pub mod LeftmostSearches

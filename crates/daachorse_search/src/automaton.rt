@@ -1,10 +1,12 @@
 //! What a search sees of an automaton, and the step from state to state.
 //!
-//! The layers above may rely on a step leading to the state of the longest end of the text that
-//! begins a key, and on its turns: at most two, less what the state's text grew by, and at least
+//! The layers above may rely on a step leading, in an automaton with no dead link, to the state of
+//! the longest end of the text that begins a key, and in a leftmost one to that of what may still
+//! become a match as early as the best so far; and on its turns: at most two, less what the state's text grew by, and at least
 //! one for a unit that some key has.
 ghost use Rattle.std.specs.Prelude.{◌≡◌, ◌+◌, ◌≤◌, ◌<◌, ℕ, Bool, false, List, [], ◌∷◌, ◌++◌, IfSome, MatchOption, IsTrue, ◌↔◌, length, if◌then◌else◌};
 ghost use Rattle.daachorse_model.specs.Dictionary.{Dictionary};
+ghost use Rattle.daachorse_model.specs.Best.{IsLeftmost, IsSteady, LeftSteps};
 ghost use Rattle.daachorse_model.specs.Prefixes.{IsLong};
 ghost use Rattle.daachorse_model.specs.Outputs.{IsChain};
 ghost use Rattle.daachorse_core.specs.Outputs.{number, value_of, length_of, parent_of};
@@ -90,8 +92,9 @@ pub trait Automaton<V: Copy> {
     ghost no_output: { (a : Self) → has_output a 0 × (outputs a 0 ≡ []) };
 }
 
-/// The state after one more unit, in an automaton with no dead link. A unit that no key has leads
-/// to the root with no turn.
+/// The state after one more unit; in a leftmost automaton the root where no match that goes on past
+/// the unit starts as early as the best so far. A unit that no key has leads to the root with no
+/// turn.
 #[inline(always)]
 pub fn step<V: Copy, A: Automaton<V>>(
     automaton: &A,
@@ -99,10 +102,12 @@ pub fn step<V: Copy, A: Automaton<V>>(
     unit: A::Unit,
     turns: &mut Turns,
 ) -> u32
-    requires reached { A.reached automaton.now state }
-    requires alive { (w : List ℕ) → ¬ A.dead automaton.now w }
+    requires { A.reached automaton.now state }
     ensures reached { A.reached automaton.now result }
-    ensures long { IsLong (A.content automaton.now) (A.text automaton.now state ++ A.Unit.unit unit ∷ []) (A.text automaton.now result) }
+    ensures standard { ((w : List ℕ) → ¬ A.dead automaton.now w)
+        → IsLong (A.content automaton.now) (A.text automaton.now state ++ A.Unit.unit unit ∷ []) (A.text automaton.now result) }
+    ensures leftmost { IsLeftmost (A.content automaton.now) (A.dead automaton.now) → (w : List ℕ) → IsSteady (A.content automaton.now) w (A.text automaton.now state)
+        → LeftSteps (A.content automaton.now) w (A.Unit.unit unit) (A.text automaton.now result) }
     ensures most { turns.new + length (A.text automaton.now result) ≤ turns.old + length (A.text automaton.now state) + 2 }
     ensures least { turns.old + (if A.has_label automaton.now (A.Unit.unit unit) then 1 else 0) ≤ turns.new }
 {

@@ -2,7 +2,7 @@
 //!
 //! The layers above may rely on a haystack giving just the units that it shows, in order.
 
-ghost use Rattle.std.specs.Prelude.{◌≡◌, ◌<◌, ◌^◌, ℕ, List, Option, length};
+ghost use Rattle.std.specs.Prelude.{◌≡◌, ◌<◌, ◌^◌, ◌++◌, ℕ, List, Option, length};
 ghost use Rattle.std.specs.Iterator.{IsFinite, YieldsFirstBy};
 ghost use Rattle.daachorse_model.specs.Units.{size, byte_width};
 
@@ -21,6 +21,14 @@ pub trait Haystack<U: EdgeLabel>: Iterator<Item = U> {
     ghost callable: { (s : Self) → Self.can_next s };
 
     ghost ends: { (s : Self) → IsFinite (Self.remaining s) };
+}
+
+/// A haystack that can be read again from any of its places on.
+pub trait Reread<U: EdgeLabel>: Haystack<U> + Drop {
+    /// The haystack without its first `bytes` bytes, which are whole units.
+    fn after(&self, bytes: usize) -> Self
+        requires { (front : List ℕ) × (back : List ℕ) × (Self.rest self.now ≡ front ++ back) × (bytes ≡ size U.width front) }
+        ensures { (front back : List ℕ) → Self.rest self.now ≡ front ++ back → bytes ≡ size U.width front → Self.rest result ≡ back };
 }
 
 /// The bytes of a slice.
@@ -75,4 +83,13 @@ impl<'a> Haystack<u8> for Bytes<'a> {
     ghost callable = { λ s. tt };
 
     ghost ends = { λ s. tt };
+}
+
+impl<'a> Reread<u8> for Bytes<'a> {
+    #[inline(always)]
+    fn after(&self, bytes: usize) -> Self {
+        let rest = self.left.as_slice();
+        let later = &rest[bytes..];
+        Bytes { left: later.iter() }
+    }
 }

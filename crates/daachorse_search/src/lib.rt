@@ -1,16 +1,21 @@
 //! The searches, once for bytes and characters, for haystacks and sources.
 //!
 //! An automaton implements [`automaton::Automaton`]. Over it stands [`walk::Walk`], which reads one
-//! unit at a time, and [`scan::scan`], the one loop that reads on to the next match. The layers
+//! unit at a time, and [`scan::scan`], the one loop that reads on to the next match; leftmost
+//! searches stand on [`best::scan_best`], the scan for the best match from one place. The layers
 //! above may rely on the lists of matches that the searches promise, on the units that each call
 //! takes, and on the bounds of the turns; none of it takes memory.
 #![tactic(auto)]
 
 pub mod automaton;
+pub mod best;
 pub mod ending_here;
 pub mod find;
 pub mod find_stepper;
 pub mod haystack;
+#[cfg(test)]
+mod left_sample;
+pub mod leftmost;
 pub mod matches;
 pub mod overlapping;
 #[cfg(test)]

@@ -1,9 +1,11 @@
 //! A smallest automaton, to run the searches on: its one key is empty.
 
 use crate::automaton::Automaton;
+use crate::find::FindWalk;
+use crate::find_stepper::FindStepper;
 use crate::haystack::Bytes;
 use crate::matches::Matches;
-use crate::overlapping::OverlappingWalk;
+use crate::overlapping::{NoSuffixWalk, OverlappingWalk};
 use crate::scan::scan;
 use crate::search::Search;
 use crate::stepwise::Stepwise;
@@ -19,11 +21,14 @@ use std::test::Fail;
 pub struct Everywhere {
     /// The value of the empty key.
     pub value: u32,
+    /// Whether the search is leftmost.
+    pub leftmost: bool,
 }
 
 impl Automaton<u32> for Everywhere {
-    ghost use Rattle.std.specs.Prelude.{◌≡◌, ◌≤◌, ℕ, [], ◌∷◌, false, refl};
-    ghost use Rattle.daachorse_search.specs.Everywhere.{only_empty, the_output};
+    ghost use Rattle.std.specs.Prelude.{◌≡◌, ◌≤◌, ℕ, [], ◌∷◌, false, IsTrue};
+    ghost use Rattle.daachorse_model.specs.Prefixes.{IsDead};
+    ghost use Rattle.daachorse_search.specs.Everywhere.{no_output_of, only_empty, the_output};
 
     type Unit = u8;
 
@@ -35,7 +40,7 @@ impl Automaton<u32> for Everywhere {
 
     ghost text = { λ a state. [] };
 
-    ghost dead = { λ a w. ⊥ };
+    ghost dead = { λ a w. IsTrue a.leftmost × IsDead (only_empty a.value) w };
 
     ghost has_label = { λ a unit. false };
 
@@ -46,8 +51,6 @@ impl Automaton<u32> for Everywhere {
     ghost outputs = { λ a position. the_output a.value position };
 
     ghost most_outputs = { λ a. 1 };
-
-    ghost no_output = { λ a. (tt, refl) };
 
     fn root(&self) -> u32 {
         0
@@ -73,6 +76,8 @@ impl Automaton<u32> for Everywhere {
     fn output(&self, _position: NonZeroU32) -> Output<u32> {
         Output::new(self.value, 0, None)
     }
+
+    ghost no_output = { λ a. no_output_of a.value };
 }
 
 ghost use Rattle.std.specs.Prelude.{◌≡◌, ℕ, List, map, IfOk};
@@ -96,7 +101,10 @@ fn collect_from<V: Copy, A: Automaton<V>, S: Iterator<Item = A::Unit>>(
 
 #[test]
 fn gives_a_match_at_each_boundary(rt: HostRuntime) -> Result<(), Fail> {
-    let automaton = Everywhere { value: 7 };
+    let automaton = Everywhere {
+        value: 7,
+        leftmost: false,
+    };
     let mut search = Matches::new(OverlappingWalk::new(&automaton), Bytes::new(b"ab"));
     search.turns_are_bounded();
     assert_eq!(rt; search.next(), Some(at(0)));
@@ -109,33 +117,82 @@ fn gives_a_match_at_each_boundary(rt: HostRuntime) -> Result<(), Fail> {
 
 #[test]
 fn reads_a_source(rt: HostRuntime) -> Result<(), Fail> {
-    let automaton = Everywhere { value: 7 };
+    let automaton = Everywhere {
+        value: 7,
+        leftmost: false,
+    };
     let found = collect_from(rt.alloc(), &automaton, Bytes::new(b"ab"))?;
     assert_eq!(rt; found.as_slice(), [at(0), at(1), at(2)].as_slice());
     Ok(())
 }
 
 #[test]
+fn each_search_gives_the_empty_key_everywhere(rt: HostRuntime) -> Result<(), Fail> {
+    let automaton = Everywhere {
+        value: 7,
+        leftmost: false,
+    };
+    let haystack = Bytes::new(b"ab");
+    let no_suffix = Matches::new(NoSuffixWalk::new(&automaton), haystack);
+    let found: Vec<Match<u32>> = no_suffix.collect(rt.alloc())?;
+    assert_eq!(rt; found.as_slice(), [at(0), at(1), at(2)].as_slice());
+    let haystack = Bytes::new(b"ab");
+    let mut standard = Matches::new(FindWalk::new(&automaton), haystack);
+    standard.turns_are_bounded();
+    assert_eq!(rt; standard.next(), Some(at(0)));
+    assert_eq!(rt; standard.next(), Some(at(1)));
+    assert_eq!(rt; standard.next(), Some(at(2)));
+    assert_eq!(rt; standard.next(), None);
+    Ok(())
+}
+
+#[test]
+fn steps_by_hand(rt: HostRuntime) -> Result<(), Fail> {
+    let automaton = Everywhere {
+        value: 7,
+        leftmost: false,
+    };
+    let mut stepper = FindStepper::new(&automaton);
+    assert_eq!(rt; stepper.matches(), Some(at(0)));
+    stepper.consume(b'a');
+    assert_eq!(rt; stepper.clone()?.matches(), Some(at(1)));
+    stepper.turns_are_bounded();
+    let mut walk = OverlappingWalk::new(&automaton);
+    walk.consume(b'a');
+    let mut matches = walk.clone()?.matches();
+    assert_eq!(rt; matches.next(), Some(at(1)));
+    assert_eq!(rt; matches.next(), None);
+    Ok(())
+}
+
+#[test]
 fn walks_by_hand(rt: HostRuntime) -> Result<(), Fail> {
-    let automaton = Everywhere { value: 7 };
+    let automaton = Everywhere {
+        value: 7,
+        leftmost: false,
+    };
     assert!(rt; automaton.is_root(automaton.root()));
     let mut walk = Walk::new(&automaton);
     walk.consume(b'a');
     walk.restart();
+    walk.skip(b'b');
     walk.turns_are_bounded();
-    assert_eq!(rt; walk.place(), 1);
+    assert_eq!(rt; walk.place(), 2);
     let Some(position) = walk.outputs() else {
         return Ok(());
     };
     let (found, next) = walk.give(position);
-    assert_eq!(rt; found, at(1));
+    assert_eq!(rt; found, at(2));
     assert!(rt; next.is_none());
     Ok(())
 }
 
 #[test]
 fn scans_to_the_next_match(rt: HostRuntime) -> Result<(), Fail> {
-    let automaton = Everywhere { value: 7 };
+    let automaton = Everywhere {
+        value: 7,
+        leftmost: false,
+    };
     let mut walk = OverlappingWalk::new(&automaton);
     let mut source = Bytes::new(b"ab");
     let Some(position) = scan(&mut walk, &mut source) else {

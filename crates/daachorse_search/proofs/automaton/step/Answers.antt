@@ -1,22 +1,42 @@
 use Rattle.std.proofs.Common.{arith}
-use Rattle.daachorse_model.proofs.Steps.{IsCandidate-link, IsLong-turn, IsLong-no_label}
+use Rattle.daachorse_model.proofs.BestLemmas.{IsLeftCandidate-first, IsLeftCandidate-link, LeftSteps-turn, LeftSteps-foreign}
+use Rattle.daachorse_model.proofs.Steps.{IsCandidate-first, IsCandidate-link, IsLong-turn, IsLong-no_label}
 use Rattle.daachorse_search.proofs.automaton.step.Goals as goal
 
-pub returns-in_default-clause-long : goal.returns-in_default-clause-long
-returns-in_default-clause-long g c =
+-- no key has the unit
+pub returns-in_default-clause-standard : goal.returns-in_default-clause-standard
+returns-in_default-clause-standard g c = λ alive.
     IsLong-no_label (g.A.Automaton.content c.args.automaton.now) _ _ _ c.in_default.ensures.1 c.root.ensures.text
 
-pub returns-in-Next-clause-long : goal.returns-in-Next-clause-long
-returns-in-Next-clause-long g c =
-    let looked = c.in-Next.ensures.look _ c.in-Some.ensures in
-    IsLong-turn (g.A.Automaton.content c.args.automaton.now) (g.A.Automaton.dead c.args.automaton.now) _ _ _ _ c.links.invariant.candidate (c.requires.alive _) looked.1
+pub returns-in_default-clause-leftmost : goal.returns-in_default-clause-leftmost
+returns-in_default-clause-leftmost g c =
+    λ kind w h. LeftSteps-foreign (g.A.Automaton.content c.args.automaton.now) w _ _ _ h c.in_default.ensures.1 c.root.ensures.text
 
+pub links-init : goal.links-init
+links-init g c =
+    let K = g.A.Automaton.content c.args.automaton.now in
+    record { reached = c.requires; candidate = IsCandidate-first K _ _; leftmost = λ kind w h. IsLeftCandidate-first K w _ _ h; counted = omega arith; more = omega arith }
+
+pub returns-in-Next-clause-standard : goal.returns-in-Next-clause-standard
+returns-in-Next-clause-standard g c =
+    let looked = c.in-Next.ensures.look _ c.in-Some.ensures in
+    λ alive. IsLong-turn (g.A.Automaton.content c.args.automaton.now) (g.A.Automaton.dead c.args.automaton.now) _ _ _ _ c.links.invariant.candidate (alive _) looked.1
+
+pub returns-in-Next-clause-leftmost : goal.returns-in-Next-clause-leftmost
+returns-in-Next-clause-leftmost g c =
+    let K = g.A.Automaton.content c.args.automaton.now in
+    let looked = c.in-Next.ensures.look _ c.in-Some.ensures in
+    λ kind w h. LeftSteps-turn K (g.A.Automaton.dead c.args.automaton.now) kind w _ _ _ _ h (c.links.invariant.leftmost kind w h) looked.1
+
+-- the link is the next candidate
 pub links-preserved : goal.links-preserved
 links-preserved g c =
+    let K = g.A.Automaton.content c.args.automaton.now in
     let looked = c.in-Fail.ensures.look _ c.in-Some.ensures in
     record {
       reached = looked.0;
-      candidate = IsCandidate-link (g.A.Automaton.content c.args.automaton.now) _ _ _ _ c.links.invariant.candidate looked.1 looked.3;
+      candidate = IsCandidate-link K _ _ _ _ c.links.invariant.candidate looked.1 looked.3;
+      leftmost = λ kind w h. IsLeftCandidate-link K w _ _ _ _ h (c.links.invariant.leftmost kind w h) looked.1 (λ d. looked.2 ((kind _).1 d)) looked.3;
       counted = omega (arith, looked.3.shorter, c.in-Fail.ensures.counted, c.links.invariant.counted);
       more = omega (arith, c.in-Fail.ensures.counted, c.links.invariant.more);
     }

@@ -1,7 +1,10 @@
+use Rattle.std.proofs.Common.{[], ap, ◌∙◌}
 use Rattle.daachorse_search.specs.Searches.{all_found}
 use Rattle.daachorse_search.proofs.RunLemmas.{collect-GivesFrom}
 use Rattle.daachorse_search.proofs.sample.collect_from.Goals as goal
 
 pub returns : goal.returns
 returns g c =
-    collect-GivesFrom (all_found g.A.Unit.EdgeLabel.width g.A.Automaton.content) g.S.Iterator.next_gives g.S.Iterator.remaining g.A.Unit.EdgeLabel.unit g.A.Unit.EdgeLabel.width _ _ _ _ c.new.ensures.automaton c.new.ensures.source c.new.ensures.read c.new.ensures.pending c.collect.ensures.ran
+    let A = g.A.Automaton in let S = g.S.Iterator in let unit = g.A.Unit.EdgeLabel in let search = c.new-2.ensures in
+    let found = all_found unit.width A.content in
+    collect-GivesFrom found S.next_gives S.remaining unit.unit unit.width _ c.args.automaton.now _ _ (search.automaton ∙ c.new.ensures.automaton) search.source search.read (search.pending ∙ ap (λ (a : g.row.A.Denot). found a []) c.new.ensures.automaton) c.collect.ensures.ran

@@ -1,0 +1,210 @@
+-- A scan for the leftmost match, one unit further: the best of what was read, and what is final where the scan stops.
+use Rattle.std.proofs.Common.{◌≡◌, ◌≢◌, ℕ, ◌+◌, ◌*◌, ◌<◌, ◌≤◌, inl, inr, Bool, cond, List, [], ◌∷◌, ◌++◌, length, take, Option, Some, None, refl, sym, ap, ◌∙◌, subst, append_assoc, append-nil, length-append, arith}
+use Rattle.std.specs.Prelude.{count_by}
+use Rattle.std.specs.declared.num.NonZeroU32.{NonZeroU32}
+use Rattle.std.proofs.lemmas.List.Sums.{sum_by-append, sum_by_push}
+use Rattle.daachorse_model.specs.Units.{size}
+use Rattle.daachorse_model.specs.Dictionary.{Dictionary}
+use Rattle.daachorse_model.specs.Prefixes.{IsPrefix, Occurs}
+use Rattle.daachorse_model.specs.Outputs.{IsChain}
+use Rattle.daachorse_model.specs.Best.{IsBest, IsBestSoFar, IsSteady, LeftSteps, IsLeftmost}
+use Rattle.daachorse_model.proofs.Suffixes.{size-push}
+use Rattle.daachorse_model.proofs.Links.{none_before}
+use Rattle.daachorse_model.proofs.BestLemmas.{IsSteady-nil, Told, Told-IsSteady, IsBestSoFar-keeps, IsBest-new}
+use Rattle.daachorse_search.specs.declared.best.Found.{Found}
+use Rattle.daachorse_search.specs.BestScans.{IsNoShorterThan, IsOutputOf, IsTheBest, IsClear}
+
+nil_of : {A : Type 0} (xs : List A) → ¬ (xs ≢ []) → xs ≡ []
+nil_of [] h = refl
+nil_of (x ∷ xs) h = absurd (h (λ e. cc))
+
+module _ {V : Type 0} (K : Dictionary V) where
+  IsPrefix-short : (t : List ℕ) (m : ℕ) → IsNoShorterThan K m → IsPrefix K t → length t ≤ m
+  IsPrefix-short t m bound (inl e) = omega (arith, ap length e)
+  IsPrefix-short t m bound (inr q) = omega (arith, bound (t ++ q.0) q.1, length-append t q.0)
+
+  -- what was read ends no further past an occurrence's start than a key is long
+  near_occurrence : (w t : List ℕ) (m : ℕ) → IsNoShorterThan K m → IsSteady K w t → (a k b : List ℕ) → Occurs K w a k b → length w ≤ length a + m
+  near_occurrence w t m bound steady a k b o = omega (arith, none_before K w t steady.none a k b o, IsPrefix-short t m bound steady.long.begins)
+
+  -- a step that does not come to the root goes on
+  pub steady_of : (w t : List ℕ) (u : ℕ) → LeftSteps K w u t → t ≢ [] → IsSteady K (w ++ u ∷ []) t
+  steady_of w t u (inl on) more = on.0
+  steady_of w t u (inr stops) more = absurd (more stops.0)
+
+  -- at the root, where nothing occurs so far, the scan goes on
+  pub steady_none : (w t : List ℕ) (u : ℕ) → LeftSteps K w u t → t ≡ [] → IsBestSoFar K w None → IsSteady K (w ++ u ∷ []) t × IsBestSoFar K (w ++ u ∷ []) None
+  steady_none w t u (inl on) empty none = absurd (on.1 empty)
+  steady_none w t u (inr stops) empty none =
+      let next = stops.1.none none in
+      let P : List ℕ → Type 0 = λ x. IsSteady K (w ++ u ∷ []) x in
+      (subst P (sym empty) next.0, next.1)
+
+  -- and where the best is known, it is final
+  final : (w t : List ℕ) (u : ℕ) (more a k : List ℕ) → LeftSteps K w u t → t ≡ [] → IsBest K w a k → IsBest K (w ++ u ∷ more) a k
+  final w t u more a k (inl on) empty best = absurd (on.1 empty)
+  final w t u more a k (inr stops) empty best = stops.1.best a k more best
+
+module _ {V : Type 0} (width : ℕ → ℕ) (K : Dictionary V) (has_output : ℕ → Type 0) (outputs : ℕ → List (V × ℕ)) where
+  -- the best in w was found
+  pub record IsFound (w : List ℕ) (f : Found) : Type 0 where
+    pub front : List ℕ
+    pub key : List ℕ
+    pub best : IsBest K w front key
+    pub ends : f.end ≡ size width (front ++ key)
+    pub output : IsOutputOf width K has_output outputs f.position.value key
+
+  -- the best in w was found, or nothing occurs there
+  abbrev pub IsFoundSoFar : List ℕ → Option Found → Type 0
+  IsFoundSoFar w None = IsBestSoFar K w None
+  IsFoundSoFar w (Some f) = IsFound w f
+
+  -- an output that a steady state tells of is that of the best
+  found_told : (w : List ℕ) (position : NonZeroU32) (l : List (V × ℕ)) → outputs position.value ≡ l → 0 < length l → has_output position.value → Told width K w l → IsFound w (record { position = position; end = size width w })
+  found_told w position [] is some has tells = absurd (omega arith)
+  found_told w position (o ∷ l) is some has tells =
+      let k = tells.0 in let ends = tells.1 in let values = tells.4 in
+      record {
+        front = ends.0;
+        key = k;
+        best = IsBest-new width K w o l tells;
+        ends = ap (size width) (sym ends.1);
+        output = record { place = has; value = o.0; others = values.0; more = l; has = values.1; first = is ∙ ap (λ n. (o.0, n) ∷ l) tells.3 };
+      }
+
+  module _ (dead : List ℕ → Type 0) (kind : IsLeftmost K dead) where
+    pub IsFound-new : (w t : List ℕ) (position : NonZeroU32) (end : ℕ) → IsSteady K w t → IsChain width K dead t (outputs position.value) → 0 < length (outputs position.value) → has_output position.value → end ≡ size width w
+        → IsFound w (record { position = position; end = end })
+    IsFound-new w t position end steady chain some has is =
+        let P : ℕ → Type 0 = λ n. IsFound w (record { position = position; end = n }) in
+        subst P (sym is) (found_told w position (outputs position.value) refl some has (Told-IsSteady width K dead kind w t (outputs position.value) steady chain))
+
+    pub IsFound-keeps : (w t : List ℕ) (u : ℕ) (best : Option Found) → IsSteady K (w ++ u ∷ []) t → IsChain width K dead t [] → IsFoundSoFar w best → IsFoundSoFar (w ++ u ∷ []) best
+    IsFound-keeps w t u None steady chain found = IsBestSoFar-keeps width K w u None (Told-IsSteady width K dead kind (w ++ u ∷ []) t [] steady chain) found
+    IsFound-keeps w t u (Some f) steady chain found = record {
+      front = found.front;
+      key = found.key;
+      best = IsBestSoFar-keeps width K w u (Some (found.front, found.key)) (Told-IsSteady width K dead kind (w ++ u ∷ []) t [] steady chain) found.best;
+      ends = found.ends;
+      output = found.output;
+    }
+
+    -- at the root, where it has no output, nothing occurs
+    pub IsFound-none : (t : List ℕ) → t ≡ [] → IsChain width K dead t [] → IsBestSoFar K [] None
+    IsFound-none t empty chain =
+        let P : List ℕ → Type 0 = λ x. IsSteady K [] x in
+        let tells : Told width K [] [] = Told-IsSteady width K dead kind [] t [] (subst P (sym empty) (IsSteady-nil K)) chain in
+        λ a k b o. let here = tells k (a, at_end a k b o) o.key in absurd (omega (arith, here.5))
+      where
+        at_end : (a k b : List ℕ) → Occurs K [] a k b → a ++ k ≡ []
+        at_end [] [] b o = refl
+        at_end [] (x ∷ k) b o = absurd (let e : [] ≡ x ∷ (k ++ b) = o.parts in omega (arith, ap length e))
+        at_end (x ∷ a) k b o = absurd (let e : [] ≡ x ∷ (a ++ (k ++ b)) = o.parts in omega (arith, ap length e))
+
+  module _ (has_label : ℕ → Bool) where
+    abbrev labelled : List ℕ → ℕ
+    labelled w = count_by has_label w
+
+    labelled-append : (x y : List ℕ) → labelled (x ++ y) ≡ labelled x + labelled y
+    labelled-append x y = sum_by-append (λ u. cond (has_label u) 1 0) x y
+
+    labelled-push : (w : List ℕ) (u : ℕ) → labelled (w ++ u ∷ []) ≡ labelled w + cond (has_label u) 1 0
+    labelled-push w u = sum_by_push (λ x. cond (has_label x) 1 0) w u
+
+    -- the first unit of what was read and what is to come
+    labelled-first : (w : List ℕ) (u : ℕ) (more : List ℕ) → labelled (take 1 (w ++ u ∷ more)) ≤ labelled (w ++ u ∷ [])
+    labelled-first [] u more = omega arith
+    labelled-first (x ∷ w) u more = omega (arith, labelled-append (x ∷ []) (w ++ u ∷ []))
+
+    labelled-one : (w : List ℕ) → labelled (take 1 w) ≤ labelled w
+    labelled-one [] = omega arith
+    labelled-one (x ∷ w) = omega (arith, labelled-append (x ∷ []) w)
+
+    -- A scan of `text` that has read all but `left`, with these bounds on its turns.
+    pub record IsScanning (text left t : List ℕ) (best : Option Found) (read before turns : ℕ) : Type 0 where
+      pub seen : List ℕ
+      pub parts : text ≡ seen ++ left
+      pub here : read ≡ size width seen
+      pub steady : IsSteady K seen t
+      pub found : IsFoundSoFar seen best
+      pub counted : turns + length t ≤ before + 2 * length seen
+      pub least : before + labelled seen ≤ turns
+
+    -- a scan begins at the root
+    pub IsScanning-first : (text left t : List ℕ) (best : Option Found) (read turns : ℕ) → left ≡ text → t ≡ [] → read ≡ 0 → IsFoundSoFar [] best → IsScanning text left t best read turns turns
+    IsScanning-first text left t best read turns all empty none found =
+        let P : List ℕ → Type 0 = λ x. IsSteady K [] x in
+        record { seen = []; parts = sym all; here = none; steady = subst P (sym empty) (IsSteady-nil K); found = found; counted = omega (arith, ap length empty); least = omega arith }
+
+    -- one more unit
+    pub IsScanning-more : (text left t : List ℕ) (old : Option Found) (read before turns u : ℕ) (rest r : List ℕ) (best : Option Found) (wide later : ℕ)
+        → (was : IsScanning text left t old read before turns) → left ≡ u ∷ rest → wide ≡ width u
+        → later + length r ≤ turns + length t + 2 → turns + cond (has_label u) 1 0 ≤ later
+        → IsSteady K (was.seen ++ u ∷ []) r → IsFoundSoFar (was.seen ++ u ∷ []) best → IsScanning text rest r best (read + wide) before later
+    IsScanning-more text left t old read before turns u rest r best wide later was next is_wide most least steady found = record {
+      seen = was.seen ++ u ∷ [];
+      parts = was.parts ∙ (ap (λ x. was.seen ++ x) next ∙ sym (append_assoc was.seen (u ∷ []) rest));
+      here = omega (arith, was.here, is_wide, size-push width was.seen u);
+      steady = steady;
+      found = found;
+      counted = omega (arith, was.counted, most, length-append was.seen (u ∷ []));
+      least = omega (arith, was.least, least, labelled-push was.seen u);
+    }
+
+    -- the scan comes to the root while a match is pending
+    pub IsTheBest-stops : (text left t : List ℕ) (f : Found) (read before turns u : ℕ) (rest r : List ℕ) (later : ℕ)
+        → (was : IsScanning text left t (Some f) read before turns) → left ≡ u ∷ rest → LeftSteps K was.seen u r → r ≡ []
+        → later + length r ≤ turns + length t + 2 → turns + cond (has_label u) 1 0 ≤ later
+        → IsTheBest width K has_output outputs has_label text f.position.value f.end before later
+    IsTheBest-stops text left t f read before turns u rest r later was next steps empty most least =
+        let w = was.seen in
+        let found = was.found in
+        let whole : text ≡ w ++ u ∷ rest = was.parts ∙ ap (λ x. w ++ x) next in
+        let P : List ℕ → Type 0 = λ x. IsBest K x found.front found.key in
+        let cut : w ≡ (found.front ++ found.key) ++ found.best.rest = found.best.occurs.parts ∙ sym (append_assoc found.front found.key found.best.rest) in
+        let many : length text ≡ length w + (1 + length rest) = ap length whole ∙ (length-append w (u ∷ rest) ∙ (let e : length w + length (u ∷ rest) ≡ length w + (1 + length rest) = omega arith in e)) in
+        record {
+          front = found.front;
+          key = found.key;
+          best = subst P (sym whole) (final K w r u rest found.front found.key steps empty found.best);
+          ends = found.ends;
+          output = found.output;
+          most = omega (arith, was.counted, most, many);
+          near = λ m bound. omega (arith, was.counted, most, near_occurrence K w t m bound was.steady found.front found.key found.best.rest found.best.occurs);
+          least = omega (arith, was.least, least, ap labelled cut, labelled-append (found.front ++ found.key) found.best.rest);
+          first = omega (arith, was.least, least, ap (λ x. labelled (take 1 x)) whole, labelled-first w u rest, labelled-push w u);
+        }
+
+    -- the text ends while a match is pending
+    pub IsTheBest-ends : (text left t : List ℕ) (f : Found) (read before turns : ℕ) → IsScanning text left t (Some f) read before turns → left ≡ []
+        → IsTheBest width K has_output outputs has_label text f.position.value f.end before turns
+    IsTheBest-ends text left t f read before turns was none =
+        let w = was.seen in
+        let found = was.found in
+        let whole : text ≡ w = was.parts ∙ (ap (λ x. w ++ x) none ∙ append-nil w) in
+        let P : List ℕ → Type 0 = λ x. IsBest K x found.front found.key in
+        let cut : w ≡ (found.front ++ found.key) ++ found.best.rest = found.best.occurs.parts ∙ sym (append_assoc found.front found.key found.best.rest) in
+        record {
+          front = found.front;
+          key = found.key;
+          best = subst P (sym whole) found.best;
+          ends = found.ends;
+          output = found.output;
+          most = omega (arith, was.counted, ap length whole);
+          near = λ m bound. omega (arith, was.counted, near_occurrence K w t m bound was.steady found.front found.key found.best.rest found.best.occurs);
+          least = omega (arith, was.least, ap labelled cut, labelled-append (found.front ++ found.key) found.best.rest);
+          first = omega (arith, was.least, ap (λ x. labelled (take 1 x)) whole, labelled-one w);
+        }
+
+    -- the text ends while none is
+    pub IsClear-ends : (text left t : List ℕ) (read before turns : ℕ) → IsScanning text left t None read before turns → left ≡ [] → IsClear width K has_output outputs has_label text read before turns
+    IsClear-ends text left t read before turns was none =
+        let w = was.seen in
+        let whole : text ≡ w = was.parts ∙ (ap (λ x. w ++ x) none ∙ append-nil w) in
+        record {
+          none = λ a k b o. absurd (was.found a k b (record { parts = sym whole ∙ o.parts; key = o.key }));
+          no_empty = nil_of (K []) (λ key. was.found [] [] w (record { parts = refl; key = key }));
+          ends = was.here ∙ ap (size width) (sym whole);
+          most = omega (arith, was.counted, ap length whole);
+          least = omega (arith, was.least, ap labelled whole);
+        }

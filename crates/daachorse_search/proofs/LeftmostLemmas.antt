@@ -1,0 +1,215 @@
+-- One scan of a leftmost search: what is left after it, and how the bounds on the turns grow.
+use Rattle.std.proofs.Common.{◌≡◌, ◌≢◌, ℕ, ◌+◌, ◌-◌, ◌*◌, ◌<◌, ◌≤◌, inl, inr, Bool, true, false, cond, List, [], ◌∷◌, ◌++◌, length, take, Some, refl, sym, ap, ◌∙◌, subst, append_assoc, append-nil, length-append, arith}
+use Rattle.std.specs.Prelude.{count_by}
+use Rattle.std.proofs.lemmas.Iterator.{YieldsList}
+use Rattle.std.proofs.lemmas.Iterator.Consumers.{YieldsList-from_shown}
+use Rattle.std.proofs.lemmas.List.Sums.{sum_by-append}
+use Rattle.daachorse_model.specs.declared.Match.{Match}
+use Rattle.daachorse_model.specs.Units.{size}
+use Rattle.daachorse_model.specs.Dictionary.{Dictionary}
+use Rattle.daachorse_model.specs.Leftmost.{longest_key, leftmost_from}
+use Rattle.daachorse_model.specs.Best.{NoneStarts}
+use Rattle.daachorse_model.proofs.Suffixes.{size-append}
+use Rattle.daachorse_model.proofs.Overlap.{take-append}
+use Rattle.daachorse_model.proofs.BestMatches.{leftmost_from-clear, leftmost_from-key, leftmost_from-empty, leftmost_from-last, leftmost_from-none, longest-best, none_starts-best}
+use Rattle.daachorse_search.specs.BestScans.{IsTheBest, IsClear}
+use Rattle.daachorse_search.specs.LeftmostSearches.{LeftmostProgress, GivesLeftmost, SkipsUnit, before_rest, leftmost_left, spare, IsWithin, IsResting}
+
+-- the units that come before the rest
+pub before_rest-is : (whole passed rest : List ℕ) → whole ≡ passed ++ rest → before_rest whole rest ≡ passed
+before_rest-is whole passed rest parts =
+    let count : length whole - length rest ≡ length passed = omega (arith, ap length parts, length-append passed rest) in
+    ap (λ n. take n whole) count ∙ ap (take (length passed)) parts ∙ take-append passed rest
+
+-- the calls of a search give the matches that are left
+pub YieldsList-leftmost : {V A : Type 0} (s : LeftmostProgress V A) → YieldsList GivesLeftmost (λ (m : Match V). m) s s.left
+YieldsList-leftmost {V} {A} s = YieldsList-from_shown GivesLeftmost (λ (m : Match V). m) (λ (p : LeftmostProgress V A). p.left) (λ s t h. ap length h.1.0) (λ s m t h. h.1) s
+
+times_one_more : (m n : ℕ) → m * (n + 1) ≡ m * n + m
+times_one_more m n = grind arith
+
+-- one match more, unless it is passed over
+abbrev pub one_unless : Bool → ℕ → ℕ
+one_unless after n = cond after n (n + 1)
+
+abbrev pub unless : {V : Type 0} → Bool → Match V → List (Match V)
+unless after m = cond after [] (m ∷ [])
+
+module _ {V : Type 0} (width : ℕ → ℕ) (K : Dictionary V) where
+  within_key : (m : ℕ) (after : Bool) (passed turns later front key given : ℕ) → turns + spare width K m after ≤ 2 * passed + 4 * (m * given) → later ≤ turns + 2 * (front + m + 1) → 0 < key
+      → later + spare width K m true ≤ 2 * (passed + (front + key)) + 4 * (m * (given + 1))
+  within_key m true passed turns later front key given was near some = omega (arith, was, near, some, times_one_more m given)
+  within_key m false passed turns later front key given was near some = omega (arith, was, near, some, times_one_more m given)
+
+  within_empty : (m : ℕ) (after : Bool) (passed turns later front given : ℕ) → turns + spare width K m after ≤ 2 * passed + 4 * (m * given) → later ≤ turns + 2 * (front + m + 1) → front ≡ 0
+      → later + spare width K m false ≤ 2 * (passed + 1) + 4 * (m * one_unless after given)
+  within_empty m true passed turns later front given was near none = omega (arith, was, near, none)
+  within_empty m false passed turns later front given was near none = omega (arith, was, near, none, times_one_more m given)
+
+  within_last : (m : ℕ) (after : Bool) (passed turns later given : ℕ) → turns + spare width K m after ≤ 2 * passed + 4 * (m * given) → later ≤ turns
+      → later + spare width K m false ≤ 2 * passed + 4 * (m * one_unless after given)
+  within_last m true passed turns later given was stays = omega (arith, was, stays)
+  within_last m false passed turns later given was stays = omega (arith, was, stays, times_one_more m given)
+
+  module _ (dead : List ℕ → Type 0) (has_label : ℕ → Bool) where
+    labelled-append : (x y : List ℕ) → count_by has_label (x ++ y) ≡ count_by has_label x + count_by has_label y
+    labelled-append x y = sum_by-append (λ u. cond (has_label u) 1 0) x y
+
+    -- a search that rests, with other units passed
+    moved : (whole rest later : List ℕ) (place end : ℕ) (after then done : Bool) (turns next given more : ℕ) (was : IsResting width K dead has_label whole rest place after done turns given) (front : List ℕ)
+        → rest ≡ front ++ later → end ≡ size width front → IsWithin width K (length was.passed + length front) then next more → turns + count_by has_label front ≤ next
+        → IsResting width K dead has_label whole later (place + end) then false next more
+    moved whole rest later place end after then done turns next given more was front cut sized most least = record {
+      kind = was.kind;
+      passed = was.passed ++ front;
+      parts = was.parts ∙ (ap (λ x. was.passed ++ x) cut ∙ sym (append_assoc was.passed front later));
+      here = omega (arith, was.here, sized, size-append width was.passed front);
+      fits = was.fits;
+      ended = λ e. absurd (cc);
+      most = λ m bound. omega (arith, most m bound, length-append was.passed front);
+      least = omega (arith, was.least, least, labelled-append was.passed front);
+    }
+
+    -- nothing starts in the rest: the search is over
+    pub cleared : (has_output : ℕ → Type 0) (outputs : ℕ → List (V × ℕ)) (whole rest later : List ℕ) (place end : ℕ) (after : Bool) (turns next given : ℕ) → IsResting width K dead has_label whole rest place after false turns given
+        → IsClear width K has_output outputs has_label rest end turns next → later ≡ []
+        → IsResting width K dead has_label whole later (place + end) after true next given × (leftmost_left width K place rest after false ≡ [])
+    cleared has_output outputs whole rest later place end after turns next given was clear none =
+        let cut : rest ≡ rest ++ later = sym (append-nil rest) ∙ ap (λ x. rest ++ x) (sym none) in
+        let on = moved whole rest later place end after after false turns next given given was rest cut clear.ends (λ m bound. omega (arith, was.most m bound, clear.most)) (omega (arith, clear.least)) in (
+          record { kind = on.kind; passed = on.passed; parts = on.parts; here = on.here; fits = on.fits; ended = λ e. none; most = on.most; least = on.least },
+          ap (λ w. leftmost_from width K place 0 after w) (sym (append-nil rest))
+              ∙ leftmost_from-clear width K place after rest [] (λ a k b o. clear.none a k b (record { parts = sym (append-nil rest) ∙ o.parts; key = o.key }))
+              ∙ leftmost_from-none width K (place + size width rest) after clear.no_empty,
+        )
+
+    module _ (has_output : ℕ → Type 0) (outputs : ℕ → List (V × ℕ)) where
+      -- the output's first value and size are those of the best
+      abbrev pub IsFirst : List ℕ → V → ℕ → Type 0
+      IsFirst key value len = (len ≡ size width key) × ((others : List V) × (K key ≡ value ∷ others))
+
+      output_of : (rest : List ℕ) (position end turns next : ℕ) (value : V) (len : ℕ) (more : List (V × ℕ)) → (best : IsTheBest width K has_output outputs has_label rest position end turns next)
+          → outputs position ≡ (value, len) ∷ more → IsFirst best.key value len
+      output_of rest position end turns next value len more best is =
+          let of = best.output in
+          let found : V × ℕ = (of.value, size width best.key) in
+          let told : V × ℕ = (value, len) in
+          let same : found ∷ of.more ≡ told ∷ more = sym of.first ∙ is in
+          let pair : found ≡ told = cc in
+          let len_is : size width best.key ≡ len = ap (λ x. x.1) pair in
+          let value_is : of.value ≡ value = ap (λ x. x.0) pair in
+          (sym len_is, (of.others, of.has ∙ ap (λ v. v ∷ of.others) value_is))
+
+      -- what comes after the best
+      best_cut : (rest : List ℕ) (position end turns next : ℕ) → (best : IsTheBest width K has_output outputs has_label rest position end turns next) → rest ≡ (best.front ++ best.key) ++ best.best.rest
+      best_cut rest position end turns next best = best.best.occurs.parts ∙ sym (append_assoc best.front best.key best.best.rest)
+
+      -- where the haystack goes on after the best
+      pub best_ends : (rest : List ℕ) (position end turns next : ℕ) → IsTheBest width K has_output outputs has_label rest position end turns next
+          → (front : List ℕ) × (back : List ℕ) × (rest ≡ front ++ back) × (end ≡ size width front)
+      best_ends rest position end turns next best = (best.front ++ best.key, best.best.rest, best_cut rest position end turns next best, best.ends)
+
+      -- the best ends within what fits
+      pub best_fits : (whole rest : List ℕ) (place position end : ℕ) (after : Bool) (turns next given : ℕ) → IsResting width K dead has_label whole rest place after false turns given
+          → IsTheBest width K has_output outputs has_label rest position end turns next → place + end ≤ size width whole
+      best_fits whole rest place position end after turns next given was best =
+          omega (arith, was.here, best.ends, ap (size width) was.parts, size-append width was.passed rest, ap (size width) (best_cut rest position end turns next best), size-append width (best.front ++ best.key) best.best.rest)
+
+      pub output_fits : (rest : List ℕ) (place position end turns next : ℕ) (value : V) (len : ℕ) (more : List (V × ℕ)) → IsTheBest width K has_output outputs has_label rest position end turns next
+          → outputs position ≡ (value, len) ∷ more → len ≤ place + end
+      output_fits rest place position end turns next value len more best is = omega (arith, (output_of rest position end turns next value len more best is).0, best.ends, size-append width best.front best.key)
+
+      -- at a nonempty best: where the key takes bytes it has units
+      pub gives_key : (whole rest later : List ℕ) (place position end : ℕ) (after : Bool) (turns next given : ℕ) (value : V) (len : ℕ) (more : List (V × ℕ)) → IsResting width K dead has_label whole rest place after false turns given
+          → IsTheBest width K has_output outputs has_label rest position end turns next → outputs position ≡ (value, len) ∷ more → 0 < len
+          → ((front back : List ℕ) → rest ≡ front ++ back → end ≡ size width front → later ≡ back)
+          → IsResting width K dead has_label whole later (place + end) true false next (given + 1)
+          × (leftmost_left width K place rest after false ≡ record { start = place + end - len; end = place + end; value = value } ∷ leftmost_left width K (place + end) later true false)
+      gives_key whole rest later place position end after turns next given value len more was best is some goes =
+          at_key best.key refl
+        where
+          at_key : (k : List ℕ) → best.key ≡ k
+              → IsResting width K dead has_label whole later (place + end) true false next (given + 1)
+              × (leftmost_left width K place rest after false ≡ record { start = place + end - len; end = place + end; value = value } ∷ leftmost_left width K (place + end) later true false)
+          at_key [] e = let out = output_of rest position end turns next value len more best is in absurd (omega (arith, some, out.0, ap (size width) e))
+          at_key (u ∷ p) e =
+              let out = output_of rest position end turns next value len more best is in
+              let cut = best_cut rest position end turns next best in
+              let back : later ≡ best.best.rest = goes (best.front ++ best.key) best.best.rest cut best.ends in
+              let joined : rest ≡ (best.front ++ best.key) ++ later = cut ∙ ap (λ x. (best.front ++ best.key) ++ x) (sym back) in
+              let P : List ℕ → Type 0 = λ k. longest_key K [] (k ++ best.best.rest) ≡ Some (k, value) in
+              let longest : longest_key K [] (u ∷ (p ++ best.best.rest)) ≡ Some (u ∷ p, value) = subst P e (longest-best K rest best.front best.key value out.1.0 best.best out.1.1) in
+              let parts : rest ≡ best.front ++ (u ∷ (p ++ best.best.rest)) = best.best.occurs.parts ∙ ap (λ k. best.front ++ (k ++ best.best.rest)) e in
+              let begin : place + size width best.front ≡ place + end - len = omega (arith, best.ends, size-append width best.front best.key, out.0) in
+              let finish : place + end - len + size width (u ∷ p) ≡ place + end = omega (arith, best.ends, size-append width best.front best.key, out.0, ap (size width) e) in
+              let many : length best.key ≡ 1 + length p = ap length e ∙ (let q : length (u ∷ p) ≡ 1 + length p = omega arith in q) in
+              let N : List ℕ → Type 0 = λ w. NoneStarts K (length best.front) w in (
+                moved whole rest later place end after true false turns next given (given + 1) was (best.front ++ best.key) joined best.ends
+                    (λ m bound. omega (arith, within_key m after (length was.passed) turns next (length best.front) (length best.key) given (was.most m bound) (best.near m bound) (omega (arith, many)), length-append best.front best.key))
+                    best.least,
+                ap (λ w. leftmost_from width K place 0 after w) parts
+                    ∙ leftmost_from-clear width K place after best.front (u ∷ (p ++ best.best.rest)) (subst N parts (none_starts-best K rest best.front best.key best.best))
+                    ∙ ap (λ n. leftmost_from width K n 0 after (u ∷ (p ++ best.best.rest))) begin
+                    ∙ leftmost_from-key width K (place + end - len) after u p best.best.rest value longest
+                    ∙ ap (λ n. record { start = place + end - len; end = n; value = value } ∷ leftmost_from width K n 0 true best.best.rest) finish
+                    ∙ ap (λ w. record { start = place + end - len; end = place + end; value = value } ∷ leftmost_from width K (place + end) 0 true w) (sym back),
+              )
+
+      module _ (wide : (u : ℕ) → 1 ≤ width u) where
+        -- an empty best stands where the scan began
+        empty_best : (rest : List ℕ) (position end turns next : ℕ) (value : V) (len : ℕ) (more : List (V × ℕ)) → (best : IsTheBest width K has_output outputs has_label rest position end turns next)
+            → outputs position ≡ (value, len) ∷ more → len ≤ 0 → (length best.front ≡ 0) × (end ≡ 0) × (longest_key K [] rest ≡ Some ([], value))
+        empty_best rest position end turns next value len more best is none = at_front best.key refl best.front refl
+          where
+            at_front : (k : List ℕ) → best.key ≡ k → (f : List ℕ) → best.front ≡ f → (length best.front ≡ 0) × (end ≡ 0) × (longest_key K [] rest ≡ Some ([], value))
+            at_front (u ∷ k) e f e' = let out = output_of rest position end turns next value len more best is in absurd (omega (arith, none, out.0, ap (size width) e, wide u))
+            at_front [] e (u ∷ f) e' =
+                let out = output_of rest position end turns next value len more best is in
+                let key : K [] ≢ [] = λ bad. (let both : value ∷ out.1.0 ≡ [] = sym out.1.1 ∙ (ap K e ∙ bad) in cc) in
+                absurd (elim (best.best.least [] [] rest (record { parts = refl; key = key })) [ inl p ↦ omega (arith, p) | inr q ↦ omega (arith, q.0, ap length e') ])
+            at_front [] e [] e' =
+                let out = output_of rest position end turns next value len more best is in
+                let longest = longest-best K rest best.front best.key value out.1.0 best.best out.1.1 in
+                let parts : rest ≡ best.key ++ best.best.rest = best.best.occurs.parts ∙ ap (λ f. f ++ (best.key ++ best.best.rest)) e' in
+                let empty : best.front ++ best.key ≡ [] = ap (λ f. f ++ best.key) e' ∙ e in
+                (ap length e', best.ends ∙ ap (size width) empty, ap (λ w. longest_key K [] w) parts ∙ (longest ∙ ap (λ k. Some (k, value)) e))
+
+        -- at an empty best: one unit is taken off, or the search is over
+        pub gives_empty : (whole rest later : List ℕ) (place to position end : ℕ) (after over : Bool) (turns next given : ℕ) (value : V) (len : ℕ) (more : List (V × ℕ)) → IsResting width K dead has_label whole rest place after false turns given
+            → IsTheBest width K has_output outputs has_label rest position end turns next → outputs position ≡ (value, len) ∷ more → len ≤ 0 → SkipsUnit width rest place later to over
+            → IsResting width K dead has_label whole later to false over next (one_unless after given)
+            × (leftmost_left width K place rest after false ≡ unless after (record { start = place + end - len; end = place + end; value = value }) ++ leftmost_left width K to later false over)
+        gives_empty whole rest later place to position end after false turns next given value len more was best is none (u, cut, at) =
+            let empty = empty_best rest position end turns next value len more best is none in
+            let one : width u ≡ size width (u ∷ []) = omega arith in
+            let start : place ≡ place + end - len = omega (arith, empty.1, none) in
+            let finish : place ≡ place + end = omega (arith, empty.1) in
+            let P : ℕ → Type 0 = λ n. IsResting width K dead has_label whole later n false false next (one_unless after given) in (
+              subst P (sym at) (moved whole rest later place (width u) after false false turns next given (one_unless after given) was (u ∷ []) cut one
+                  (λ m bound. within_empty m after (length was.passed) turns next (length best.front) given (was.most m bound) (best.near m bound) empty.0)
+                  (omega (arith, best.first, ap (λ x. count_by has_label (take 1 x)) cut))),
+              ap (λ w. leftmost_from width K place 0 after w) cut
+                  ∙ leftmost_from-empty width K place after u later value (ap (λ x. longest_key K [] x) (sym cut) ∙ empty.2)
+                  ∙ ap (λ n. unless after (record { start = place; end = place; value = value }) ++ leftmost_from width K n 0 false later) (sym at)
+                  ∙ (λ i. unless after (record { start = start i; end = finish i; value = value }) ++ leftmost_from width K to 0 false later),
+            )
+        gives_empty whole rest later place to position end after true turns next given value len more was best is none (at_end, over, at) =
+            let empty = empty_best rest position end turns next value len more best is none in
+            let stays : next ≤ turns = omega (arith, best.most, ap length at_end) in
+            let start : place ≡ place + end - len = omega (arith, empty.1, none) in
+            let finish : place ≡ place + end = omega (arith, empty.1) in (
+              record {
+                kind = was.kind;
+                passed = was.passed;
+                parts = was.parts ∙ ap (λ x. was.passed ++ x) (at_end ∙ sym over);
+                here = at ∙ was.here;
+                fits = was.fits;
+                ended = λ e. over;
+                most = λ m bound. within_last m after (length was.passed) turns next given (was.most m bound) stays;
+                least = omega (arith, was.least, best.least);
+              },
+              ap (λ w. leftmost_from width K place 0 after w) at_end
+                  ∙ leftmost_from-last width K place after value (ap (λ x. longest_key K [] x) (sym at_end) ∙ empty.2)
+                  ∙ (λ i. unless after (record { start = start i; end = finish i; value = value }))
+                  ∙ sym (append-nil (unless after (record { start = place + end - len; end = place + end; value = value }))),
+            )

@@ -1,0 +1,47 @@
+-- A scan for the leftmost match from one place of a haystack: what it answers.
+use Rattle.std.specs.Prelude.{◌≡◌, ℕ, ◌+◌, ◌*◌, ◌≤◌, Bool, List, [], ◌∷◌, ◌++◌, length, take, count_by}
+use Rattle.daachorse_model.specs.Units.{size}
+use Rattle.daachorse_model.specs.Dictionary.{Dictionary}
+use Rattle.daachorse_model.specs.Prefixes.{IsKey}
+use Rattle.daachorse_model.specs.Best.{IsBest, NoneStarts}
+use Rattle.daachorse_search.specs.declared.best.Scanned.{Scanned}
+use Rattle.daachorse_search.specs.declared.best.Scanned.TheVariants.{Best, Clear}
+
+-- no key has more than m units
+abbrev pub IsNoShorterThan : {V : Type 0} → Dictionary V → ℕ → Type 0
+IsNoShorterThan K m = (k : List ℕ) → IsKey K k → length k ≤ m
+
+module _ {V : Type 0} (width : ℕ → ℕ) (K : Dictionary V) (has_output : ℕ → Type 0) (outputs : ℕ → List (V × ℕ)) where
+  -- the outputs from the position on begin with the first value of the key
+  pub record IsOutputOf (position : ℕ) (key : List ℕ) : Type 0 where
+    pub place : has_output position
+    pub value : V
+    pub others : List V
+    pub more : List (V × ℕ)
+    pub has : K key ≡ value ∷ others
+    pub first : outputs position ≡ (value, size width key) ∷ more
+
+module _ {V : Type 0} (width : ℕ → ℕ) (K : Dictionary V) (has_output : ℕ → Type 0) (outputs : ℕ → List (V × ℕ)) (has_label : ℕ → Bool) where
+  -- The best in `text` is the key `key` after `front`. The scan took no turn for a unit that lies further past its start than a key is long, and one more.
+  pub record IsTheBest (text : List ℕ) (position end before turns : ℕ) : Type 0 where
+    pub front : List ℕ
+    pub key : List ℕ
+    pub best : IsBest K text front key
+    pub ends : end ≡ size width (front ++ key)
+    pub output : IsOutputOf width K has_output outputs position key
+    pub most : turns ≤ before + 2 * length text
+    pub near : (m : ℕ) → IsNoShorterThan K m → turns ≤ before + 2 * (length front + m + 1)
+    pub least : before + count_by has_label (front ++ key) ≤ turns
+    pub first : before + count_by has_label (take 1 text) ≤ turns
+
+  -- nothing starts in `text`
+  pub record IsClear (text : List ℕ) (end before turns : ℕ) : Type 0 where
+    pub none : NoneStarts K (length text) text
+    pub no_empty : K [] ≡ []
+    pub ends : end ≡ size width text
+    pub most : turns ≤ before + 2 * length text
+    pub least : before + count_by has_label text ≤ turns
+
+  abbrev pub IsBestScan : List ℕ → ℕ → ℕ → Scanned → Type 0
+  IsBestScan text before turns (Best found) = IsTheBest text found.position.value found.end before turns
+  IsBestScan text before turns (Clear end) = IsClear text end before turns

@@ -1,0 +1,76 @@
+//! The scan of a leftmost search: from one place the match that starts first, and
+//! there the longest.
+//!
+//! The layers above may rely on a scan finding the best of all that is still to come, and on its
+//! turns: at most twice the units to come, and no more than lead one unit further past the start of
+//! the match than the longest pattern has units.
+
+ghost use Rattle.std.specs.Prelude.{◌<◌, ◌^◌};
+ghost use Rattle.daachorse_model.specs.Units.{size};
+ghost use Rattle.daachorse_model.specs.Best.{IsLeftmost};
+ghost use Rattle.daachorse_search.specs.BestScans.{IsBestScan};
+
+use crate::automaton::{Automaton, step};
+use crate::haystack::Reread;
+use daachorse_core::edge_label::EdgeLabel;
+use daachorse_core::turns::Turns;
+use std::num::NonZeroU32;
+
+/// A match that a scan found.
+#[derive(Clone, Copy, Debug, PartialEq, Eq)]
+pub struct Found {
+    /// The position of its output.
+    pub position: NonZeroU32,
+    /// Where it ends, in bytes from where the scan began.
+    pub end: usize,
+}
+
+/// What a scan found.
+#[derive(Clone, Copy, Debug, PartialEq, Eq)]
+pub enum Scanned {
+    /// The best match.
+    Best(Found),
+    /// Nothing starts in so many bytes, and they are all.
+    Clear(usize),
+}
+
+/// The match with the least start of all in the haystack, and of those the longest.
+#[inline(always)]
+pub fn scan_best<V: Copy, A: Automaton<V>, H: Reread<A::Unit>>(
+    automaton: &A,
+    haystack: &H,
+    turns: &mut Turns,
+) -> Scanned
+    requires kind { IsLeftmost (A.content automaton.now) (A.dead automaton.now) }
+    requires fits { size A.Unit.width (H.rest haystack.now) < 2 ^ 64 }
+    ensures { IsBestScan A.Unit.width (A.content automaton.now) (A.has_output automaton.now) (A.outputs automaton.now) (A.has_label automaton.now)
+        (H.rest haystack.now) turns.old turns.new result }
+{
+    let mut source = haystack.after(0);
+    let mut state = automaton.root();
+    let mut read = 0;
+    let mut best = None;
+    if let Some(position) = automaton.output_pos(state) {
+        best = Some(Found { position, end: 0 });
+    }
+    'units: loop {
+        let Some(unit) = source.next() else {
+            return match best {
+                Some(found) => Scanned::Best(found),
+                None => Scanned::Clear(read),
+            };
+        };
+        read += unit.num_bytes();
+        state = step(automaton, state, unit, turns);
+        if automaton.is_root(state) {
+            if let Some(found) = best {
+                return Scanned::Best(found);
+            }
+        } else if let Some(position) = automaton.output_pos(state) {
+            best = Some(Found {
+                position,
+                end: read,
+            });
+        }
+    }
+}

@@ -48,8 +48,10 @@ mod tests {
             Way::Builder => DoubleArrayAhoCorasickBuilder::new()
                 .match_kind(MatchKind::Standard)
                 .build_with_values(alloc, patvals.iter().copied()),
-            Way::DefaultBuilder => DoubleArrayAhoCorasickBuilder::default()
-                .build_with_values(alloc, patvals.iter().copied()),
+            Way::DefaultBuilder => DoubleArrayAhoCorasickBuilder::default().build_with_values(
+                alloc,
+                patvals.iter().copied(),
+            ),
         }
     }
 

@@ -1,5 +1,5 @@
 -- What is built of a vector's items is built of the lines that they are.
-use Rattle.std.proofs.Common.{◌≡◌, ℕ, List, map, ◌∙◌, ap, sym, subst, inl, inr}
+use Rattle.std.proofs.Common.{ℕ, List, map, ◌∙◌, ap, sym, subst, inl, inr}
 use Rattle.std.proofs.lemmas.Result.{IfOk-weaker, IfErr-weaker}
 use Rattle.std.specs.Borrow.{Bor}
 use Rattle.daachorse_bytewise.specs.Building.{IsBuiltOf, IsBuildRefusal}

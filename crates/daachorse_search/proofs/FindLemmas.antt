@@ -9,9 +9,8 @@ use Rattle.daachorse_model.specs.declared.Match.{Match}
 use Rattle.daachorse_model.specs.Units.{size}
 use Rattle.daachorse_model.specs.Dictionary.{Dictionary}
 use Rattle.daachorse_model.specs.Matches.{standard_after, IsSinceMatch}
-use Rattle.daachorse_model.specs.Outputs.{AllWithin, matches_of_outputs, own_outputs}
+use Rattle.daachorse_model.specs.Outputs.{AllWithin, matches_of_outputs}
 use Rattle.daachorse_model.specs.Prefixes.{IsLong}
-use Rattle.daachorse_model.specs.Resumed.{IsResumed}
 use Rattle.daachorse_model.proofs.StandardEnds.{IsResumed-begin, IsResumed-passes, IsResumed-finds, IsResumed-since, IsSinceMatch-empty, standard_after-empty, standard_after-nil}
 use Rattle.daachorse_search.specs.Walks.{Walked, read_on, skip_on, begin_on, matches_since, matches_from, HasPlace, HasOutputs}
 use Rattle.daachorse_search.specs.Nothing.{HasPlace-none, first_from-none}

@@ -1,5 +1,5 @@
 -- A walk that never began again finds all matches, and its turns are bounded by all that it read.
-use Rattle.std.proofs.Common.{◌≡◌, ℕ, List, [], ◌++◌, length, refl, sym, ap, ◌∙◌, subst}
+use Rattle.std.proofs.Common.{◌≡◌, ℕ, List, [], ◌++◌, length, refl, sym, subst}
 use Rattle.std.proofs.lemmas.List.{length-map}
 use Rattle.daachorse_core.specs.Seen.{SeenUnits, units}
 use Rattle.daachorse_model.specs.Dictionary.{Dictionary}

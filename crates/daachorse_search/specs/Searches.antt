@@ -51,4 +51,3 @@ module _ {V A S U : Type 0} (found : A → List ℕ → List (Match V)) (steps :
   abbrev pub GivesFrom : SourceProgress V A S → Option (Match V) → SourceProgress V A S → Type 0
   GivesFrom s (Some m) t = (xs : List U) × Gave s xs m t
   GivesFrom s None t = (xs : List U) × Ended s xs t
-

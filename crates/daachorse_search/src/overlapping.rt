@@ -4,7 +4,6 @@
 //! the longest first, and on [`NoSuffixWalk`] telling the first of them.
 
 ghost use Rattle.std.specs.Prelude.{◌≡◌, ◌<◌, ◌≤◌, ◌^◌, ◌+◌, ℕ, List, [], ◌∷◌, ◌++◌, take};
-
 ghost use Rattle.daachorse_search.specs.Nothing.{HasPlace-none, matches_from-none, first_from-none};
 
 use crate::automaton::Automaton;
@@ -66,7 +65,11 @@ impl<'a, V: Copy, A: Automaton<V>> OverlappingWalk<'a, V, A> {
     pub fn matches(&self) -> EndingHere<'a, V, A>
         ensures { result ≡ matches_after A.Unit.width (A.content self.now.automaton) (units self.now.seen) }
     {
-        EndingHere::new(self.walk.automaton(), self.walk.place(), self.walk.outputs())
+        EndingHere::new(
+            self.walk.automaton(),
+            self.walk.place(),
+            self.walk.outputs(),
+        )
     }
 }
 

@@ -1,7 +1,6 @@
-use Rattle.std.proofs.Common.{ℕ, Option, Some, sym, ap, subst}
+use Rattle.std.proofs.Common.{ℕ, sym, ap, subst}
 use Rattle.std.specs.declared.num.NonZeroU32.{NonZeroU32}
 use Rattle.daachorse_core.specs.Outputs.{number}
-use Rattle.daachorse_search.specs.Searches.{SourceProgress}
 use Rattle.daachorse_search.specs.declared.search.Search.TheInside.{Inside}
 use Rattle.daachorse_search.proofs.SearchLemmas.{IsReached, IsReached-pending_at, IsReached-scan_at, Gave-reached, progress-reached}
 use Rattle.daachorse_search.proofs.search.SearchIterator.next.Given as given
@@ -26,7 +25,7 @@ reached g c =
           let after : I = record { walk = to.walk; source = to.source; output = was.output; of = was.of } in
           subst P (sym w.self-inside-is) (subst (Q after) (sym w.position-is)
           (IsReached-scan_at W.automaton W.read W.turns W.found W.most_found W.has_output W.given_from S.can_next S.next_gives S.remaining unit.unit unit.width c.args.self.now was.walk was.source (number was.output) scanned.position to.walk to.source
-              c.self.view_is (ap number w.in-None.is) (g.met.W.Stepwise.no_output was.walk).1 scanned.ensures.took scanned.ensures.stops scanned.ensures.ready))
+          c.self.view_is (ap number w.in-None.is) (g.met.W.Stepwise.no_output was.walk).1 scanned.ensures.took scanned.ensures.stops scanned.ensures.ready))
     ]
 
 -- the source ended: nothing is pending

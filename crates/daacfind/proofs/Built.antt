@@ -1,13 +1,13 @@
 -- An automaton that was built of the lines holds the dictionary of the numbered lines.
 use Rattle.std.proofs.Common.{◌≡◌, ℕ, ◌+◌, List, [], ◌∷◌, refl, ap, ◌∙◌}
-use Rattle.daachorse_model.specs.declared.MatchKind.TheVariants.{Standard}
+use Rattle.daachorse_model.specs.declared.MatchKind.{MatchKind}
 use Rattle.daachorse_model.specs.Dictionary.{dictionary}
 use Rattle.daachorse_model.specs.Program.{numbered, pattern_lines, match_text}
 use Rattle.daachorse_bytewise.specs.Building.{AreIndexed, IsBuiltOf}
 use Rattle.daachorse_bytewise.specs.Content.{content}
 use Rattle.daachorse_bytewise.specs.Parts.{Parts}
 use Rattle.daacfind.specs.declared.mode.Mode.{Mode}
-use Rattle.daacfind.specs.Modes.{found_by, text_of_mode}
+use Rattle.daacfind.specs.Modes.{found_by, kind_of_mode, text_of_mode}
 use Rattle.daacfind.specs.Runs.{value_gives}
 
 numbered_of : (i : ℕ) (texts : List (List ℕ)) (rs : List (List ℕ × ℕ)) → AreIndexed value_gives i texts rs → rs ≡ numbered i texts
@@ -16,10 +16,10 @@ numbered_of i [] ((u, v) ∷ rs) h = absurd h
 numbered_of i (t ∷ ts) [] h = absurd h
 numbered_of i (t ∷ ts) ((u, v) ∷ rs) h = let first = h.1.1 in let rest = numbered_of (i + 1) ts rs h.2 in cc (first, rest, h.0)
 
-content_of : (texts : List (List ℕ)) (a : Parts ℕ) → IsBuiltOf value_gives Standard texts a → content a ≡ dictionary Standard (numbered 0 texts)
-content_of texts a h = let held : content a ≡ dictionary Standard h.0 = λ i w. h.2 w i in held ∙ ap (dictionary Standard) (numbered_of 0 texts h.0 h.1)
+content_of : (kind : MatchKind) (texts : List (List ℕ)) (a : Parts ℕ) → IsBuiltOf value_gives kind texts a → content a ≡ dictionary kind (numbered 0 texts)
+content_of kind texts a h = let held : content a ≡ dictionary kind h.0 = λ i w. h.2 w i in held ∙ ap (dictionary kind) (numbered_of 0 texts h.0 h.1)
 
 -- so what a mode writes is the text that the pattern file asks for
-pub text_of_built : (mode : Mode) (patterns haystack : List ℕ) (a : Parts ℕ) → IsBuiltOf value_gives Standard (pattern_lines patterns) a
+pub text_of_built : (mode : Mode) (patterns haystack : List ℕ) (a : Parts ℕ) → IsBuiltOf value_gives (kind_of_mode mode) (pattern_lines patterns) a
     → match_text (found_by mode (content a) haystack) ≡ text_of_mode mode patterns haystack
-text_of_built mode patterns haystack a h = ap (λ K. match_text (found_by mode K haystack)) (content_of (pattern_lines patterns) a h)
+text_of_built mode patterns haystack a h = ap (λ K. match_text (found_by mode K haystack)) (content_of (kind_of_mode mode) (pattern_lines patterns) a h)

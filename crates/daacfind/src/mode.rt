@@ -1,7 +1,9 @@
 //! The modes: how the program matches, and the word that asks for it.
 
 ghost use Rattle.std.specs.Prelude.{◌≡◌, ◌↔◌};
-ghost use Rattle.daacfind.specs.Modes.{word_of};
+ghost use Rattle.daacfind.specs.Modes.{kind_of_mode, word_of};
+
+use daachorse::MatchKind;
 
 /// How matches are found.
 #[derive(Clone, Copy, Debug, PartialEq, Eq)]
@@ -10,8 +12,12 @@ pub enum Mode {
     Overlapping,
     /// Of every match the longest at each end.
     NoSuffix,
-    /// Matches that do not overlap.
+    /// Matches that do not overlap, each as early as it can end.
     Find,
+    /// Leftmost matches, the longest at each start.
+    Longest,
+    /// Leftmost matches, the first registered at each start.
+    First,
 }
 
 impl Mode {
@@ -23,7 +29,19 @@ impl Mode {
             "overlapping" => Some(Mode::Overlapping),
             "nosuffix" => Some(Mode::NoSuffix),
             "find" => Some(Mode::Find),
+            "longest" => Some(Mode::Longest),
+            "first" => Some(Mode::First),
             _ => None,
+        }
+    }
+    /// The searches that the automaton is to be built for.
+    pub fn match_kind(self) -> MatchKind
+        ensures { result ≡ kind_of_mode self }
+    {
+        match self {
+            Mode::Overlapping | Mode::NoSuffix | Mode::Find => MatchKind::Standard,
+            Mode::Longest => MatchKind::LeftmostLongest,
+            Mode::First => MatchKind::LeftmostFirst,
         }
     }
 }

@@ -8,18 +8,17 @@ ghost use Rattle.std.specs.Iterator.{AlwaysYields, IsFinite};
 ghost use Rattle.std.specs.List.{slice_split};
 ghost use Rattle.std.specs.Io.KnownBytes.{Appends, Keeps};
 ghost use Rattle.daachorse_model.specs.declared.Match.{Match};
-ghost use Rattle.daachorse_model.specs.declared.MatchKind.TheVariants.{Standard};
 ghost use Rattle.daachorse_model.specs.Program.{pattern_lines, match_line, match_text};
 ghost use Rattle.daachorse_bytewise.specs.Building.{IsBuiltOf, IsBuildRefusal};
 ghost use Rattle.daachorse_bytewise.specs.Content.{content};
 ghost use Rattle.daacfind.specs.declared.run.RunError.TheVariants.{Build, Write};
-ghost use Rattle.daacfind.specs.Modes.{found_by, text_of_mode};
+ghost use Rattle.daacfind.specs.Modes.{found_by, kind_of_mode, text_of_mode};
 ghost use Rattle.daacfind.specs.Runs.{AppendsBeginning, IfBuild, OnWrite, value_gives};
 
 use crate::mode::Mode;
 use crate::sink::{Sink, SinkError, write_whole};
 use daachorse::errors::DaachorseError;
-use daachorse::{DoubleArrayAhoCorasick, Match};
+use daachorse::{DoubleArrayAhoCorasick, DoubleArrayAhoCorasickBuilder, Match, MatchKind};
 use itoa::write_digits;
 use std::alloc::{AllocError, Allocator};
 use thiserror::Error;
@@ -77,11 +76,11 @@ pub fn run<S: Sink, A: Allocator + Copy>(
     ensures unfailed { OnOk result (S.failures out.new ≡ S.failures out.old) }
     ensures beginning { IfErr result (λ e. OnWrite e (AppendsBeginning (S.taken out.old) (S.taken out.new) (text_of_mode mode patterns.now haystack.now))) }
     ensures failed { IfErr result (λ e. OnWrite e (S.failures out.new ≡ S.failures out.old + 1)) }
-    ensures refusal { IfErr result (λ e. IfBuild e (IsBuildRefusal value_gives Standard (pattern_lines patterns.now))) }
+    ensures refusal { IfErr result (λ e. IfBuild e (IsBuildRefusal value_gives (kind_of_mode mode) (pattern_lines patterns.now))) }
     ensures unwritten { IfErr result (λ e. IfBuild e (λ _. Keeps (S.taken out.old) (S.taken out.new))) }
     ensures untried { IfErr result (λ e. IfBuild e (λ _. S.failures out.new ≡ S.failures out.old)) }
 {
-    let automaton = build(alloc, patterns)?;
+    let automaton = build(alloc, mode.match_kind(), patterns)?;
     write_mode(mode, &automaton, haystack, out)?;
     out.flush()?;
     Ok(())
@@ -90,13 +89,16 @@ pub fn run<S: Sink, A: Allocator + Copy>(
 // The automaton of the lines of a pattern file.
 fn build<A: Allocator + Copy>(
     alloc: A,
+    kind: MatchKind,
     file: &[u8],
 ) -> Result<DoubleArrayAhoCorasick<u32, A>, DaachorseError>
-    ensures built { IfOk result (IsBuiltOf value_gives Standard (pattern_lines file.now)) }
-    ensures refused { IfErr result (IsBuildRefusal value_gives Standard (pattern_lines file.now)) }
+    ensures built { IfOk result (IsBuiltOf value_gives kind (pattern_lines file.now)) }
+    ensures kind { IfOk result (λ a. a.kind ≡ kind) }
+    ensures refused { IfErr result (IsBuildRefusal value_gives kind (pattern_lines file.now)) }
 {
     let patterns = lines(alloc, file)?;
-    DoubleArrayAhoCorasick::new(alloc, patterns.iter().copied())
+    let builder = DoubleArrayAhoCorasickBuilder::new().match_kind(kind);
+    builder.build(alloc, patterns.iter().copied())
 }
 
 // The pieces between line feeds, less an empty one at the end.
@@ -133,6 +135,7 @@ fn write_mode<S: Sink, A: Allocator + Copy>(
     haystack: &[u8],
     out: &mut S,
 ) -> Result<(), SinkError>
+    requires { automaton.now.kind ≡ kind_of_mode mode }
     ensures whole { OnOk result (Appends (S.taken out.old) (S.taken out.new) (match_text (found_by mode (content automaton.now) haystack.now))) }
     ensures unfailed { OnOk result (S.failures out.new ≡ S.failures out.old) }
     ensures beginning { OnErr result (AppendsBeginning (S.taken out.old) (S.taken out.new) (match_text (found_by mode (content automaton.now) haystack.now))) }
@@ -142,6 +145,7 @@ fn write_mode<S: Sink, A: Allocator + Copy>(
         Mode::Overlapping => write_matches(automaton.find_overlapping_iter(haystack), out),
         Mode::NoSuffix => write_matches(automaton.find_overlapping_no_suffix_iter(haystack), out),
         Mode::Find => write_matches(automaton.find_iter(haystack), out),
+        Mode::Longest | Mode::First => write_matches(automaton.leftmost_find_iter(haystack), out),
     }
 }
 

@@ -27,6 +27,7 @@ impl Inputs for Memory {
             "patterns" => Vec::from_slice(self.alloc, b"bcd\nab\na\n").ok(),
             "haystack" => Vec::from_slice(self.alloc, b"abcd").ok(),
             "line feed" => Vec::from_slice(self.alloc, b"\n").ok(),
+            "chain" => Vec::from_slice(self.alloc, b"ab\na\nabcd\n").ok(),
             "letter" => Vec::from_slice(self.alloc, b"a").ok(),
             "nothing" => Some(Vec::new(self.alloc)),
             _ => None,
@@ -61,7 +62,7 @@ impl Write for Halting {
 
 #[test]
 fn a_command_tells_its_status_and_its_cause(rt: HostRuntime) -> Result<(), Fail> {
-    let rows: [(&[Option<&str>], u8, &[u8], &[u8], u64); 12] = [
+    let rows: [(&[Option<&str>], u8, &[u8], &[u8], u64); 14] = [
         (&[], 2, b"", USAGE, 0),
         (&[Some("overlapping"), Some("patterns")], 2, b"", USAGE, 0),
         (
@@ -129,6 +130,20 @@ fn a_command_tells_its_status_and_its_cause(rt: HostRuntime) -> Result<(), Fail>
             &[Some("find"), Some("line feed"), Some("letter")],
             0,
             b"0 0 0\n1 1 0\n",
+            b"",
+            2,
+        ),
+        (
+            &[Some("longest"), Some("chain"), Some("haystack")],
+            0,
+            b"0 4 2\n",
+            b"",
+            2,
+        ),
+        (
+            &[Some("first"), Some("chain"), Some("haystack")],
+            0,
+            b"0 2 0\n",
             b"",
             2,
         ),

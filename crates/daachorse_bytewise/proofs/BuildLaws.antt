@@ -31,8 +31,11 @@ use Rattle.daachorse_build.proofs.Fitting.{enough}
 use Rattle.daachorse_build.proofs.Queue.{all_in_order}
 use Rattle.daachorse_build.proofs.Registrations.{holds_twin}
 use Rattle.daachorse_bytewise.specs.Parts.{parts_of}
-use Rattle.daachorse_bytewise.specs.Content.{content}
-use Rattle.daachorse_bytewise.specs.Whole.{IsWhole}
+use Rattle.daachorse_bytewise.specs.Content.{child, content}
+use Rattle.daachorse_bytewise.specs.Whole.{IsWhole, dead}
+use Rattle.daachorse_build.proofs.Walks.{walk-bounds}
+use Rattle.daachorse_model.specs.declared.MatchKind.TheVariants.{Standard}
+use Rattle.daachorse_bytewise.proofs.StandardLaws.{LinksTo-fail, IsChain-ends, alive as no_dead}
 use Rattle.daachorse_bytewise.specs.Building.{AreIndexed, ComesTo, Fit, IsBuildRefusal, IsPassed, IsRefusalOf}
 
 -- a byte is its own unit
@@ -66,29 +69,35 @@ module _ {V : Type 0} where
         }
 
     -- the content of the parts is the dictionary
-    pub content-is : (kind : MatchKind) (states : List (NfaBuilderState ℕ V A)) (outputs : List (Output V)) (rs : List (List ℕ × V)) → Holds nat_cmp unit byte_width kind states rs → (w : List ℕ) → content (parts_of states outputs) w ≡ dictionary kind rs w
+    pub content-is : (kind : MatchKind) (states : List (NfaBuilderState ℕ V A)) (outputs : List (Output V)) (rs : List (List ℕ × V)) → Holds nat_cmp unit byte_width kind states rs → (w : List ℕ) → content (parts_of kind states outputs) w ≡ dictionary kind rs w
     content-is kind states outputs rs holds w =
         ap (map (λ (o : V × ℕ). o.0)) (holds.outputs w) ∙ values-only (size byte_width (map unit w)) (dictionary kind (in_units unit rs) (map unit w))
         ∙ ap (λ x. dictionary kind (in_units unit rs) x) (map-unit w) ∙ ap (λ x. dictionary kind x w) (in_units-unit rs)
 
     module _ (kind : MatchKind) (states : List (NfaBuilderState ℕ V A)) (outputs : List (Output V)) (rs : List (List ℕ × V)) (holds : Holds nat_cmp unit byte_width kind states rs) where
       -- the dictionary that the trie was built for is the content
-      same : dictionary kind (in_units unit rs) ≡ content (parts_of states outputs)
-      same = ap (λ x. dictionary kind x) (in_units-unit rs) ∙ sym (dictionary-same (content (parts_of states outputs)) (dictionary kind rs) (content-is kind states outputs rs holds))
+      same : dictionary kind (in_units unit rs) ≡ content (parts_of kind states outputs)
+      same = ap (λ x. dictionary kind x) (in_units-unit rs) ∙ sym (dictionary-same (content (parts_of kind states outputs)) (dictionary kind rs) (content-is kind states outputs rs holds))
 
-      pub whole-is : (order : List ℕ) → HoldLinks nat_cmp states order → ParentsFall outputs → ((w : List ℕ) (t : ℕ) → Leads (child_of nat_cmp states) w t → slice_index (positions_of states) t ≤ length outputs)
+      pub whole-is : kind ≡ Standard → (order : List ℕ) → HoldLinks nat_cmp states order → ParentsFall outputs → ((w : List ℕ) (t : ℕ) → Leads (child_of nat_cmp states) w t → slice_index (positions_of states) t ≤ length outputs)
           → ((w : List ℕ) (t : ℕ) → Leads (child_of nat_cmp states) w t → outputs_at outputs (slice_index (positions_of states) t) ≡ outputs_of_ends byte_width (dictionary kind (in_units unit rs)) (map unit w))
-          → IsWhole (parts_of states outputs)
-      whole-is order links parents positions lists =
+          → IsWhole (parts_of kind states outputs)
+      whole-is standard order links parents positions lists =
+          let p = parts_of kind states outputs in
+          let alive : (w : List ℕ) → ¬ dead p w = no_dead p standard in
           let P : Dictionary V → Type 0 = λ K. (w : List ℕ) → IsPrefix K w → (s : ℕ) × Leads (child_of nat_cmp states) w s in
           let Q : Dictionary V → Type 0 = λ K. (w : List ℕ) (s : ℕ) → Leads (child_of nat_cmp states) w s → IsPrefix K w in
           let R : List ℕ → Type 0 = λ x. IsPrefix (dictionary kind (in_units unit rs)) x in
+          let begins : (w : List ℕ) → IsPrefix (content p) w → (s : ℕ) × Leads (child_of nat_cmp states) w s = subst P same (λ w h. holds.begins w (subst R (sym (map-unit w)) h)) in
+          let only : (w : List ℕ) (s : ℕ) → Leads (child_of nat_cmp states) w s → IsPrefix (content p) w = subst Q same (λ w s at. subst R (map-unit w) (holds.only w s at)) in
           record {
             table = holds.trie;
-            begins = subst P same (λ w h. holds.begins w (subst R (sym (map-unit w)) h));
-            only = subst Q same (λ w s at. subst R (map-unit w) (holds.only w s at));
-            links = λ t low high. links.linked t (all_in_order nat_cmp nat_cmp_total (edges_of states) (depths_of states) holds.trie order links.first t low high);
-            lists = λ w t at. lists w t at ∙ ap (λ x. outputs_of_ends byte_width (dictionary kind (in_units unit rs)) x) (map-unit w) ∙ ap (λ K. outputs_of_ends byte_width K w) same;
+            begins = begins;
+            only = only;
+            links = λ w t low at.
+            let high = (walk-bounds (child p) (slice_index p.depths) (length p.edges) holds.trie.trie w t at).0 in
+            LinksTo-fail p holds.trie begins only alive w t low at (links.linked t (all_in_order nat_cmp nat_cmp_total (edges_of states) (depths_of states) holds.trie order links.first t low high));
+            lists = λ w t at. IsChain-ends p holds.trie begins only alive w _ (lists w t at ∙ ap (λ x. outputs_of_ends byte_width (dictionary kind (in_units unit rs)) x) (map-unit w) ∙ ap (λ K. outputs_of_ends byte_width K w) same);
             positions = positions;
             parents = parents;
           }
@@ -100,17 +109,17 @@ module _ {V A : Type 0} (b d : NfaBuilder ℕ V A) (rs : List (List ℕ × V)) (
       let P : MatchKind → Type 0 = λ k. Holds nat_cmp unit byte_width k (states_of d) rs in
       subst P kind (Registered-kept b d rs kept kind count was).holds
 
-  pub finished : (order : List ℕ) → HoldLinks nat_cmp (states_of b) order → fails_of (states_of d) ≡ fails_of (states_of b) → ParentsFall (outputs_of d) → ((w : List ℕ) (t : ℕ) → Leads (child_of nat_cmp (states_of b)) w t → slice_index (positions_of (states_of d)) t ≤ length (outputs_of d))
+  pub finished : kind_of b ≡ Standard → (order : List ℕ) → HoldLinks nat_cmp (states_of b) order → fails_of (states_of d) ≡ fails_of (states_of b) → ParentsFall (outputs_of d) → ((w : List ℕ) (t : ℕ) → Leads (child_of nat_cmp (states_of b)) w t → slice_index (positions_of (states_of d)) t ≤ length (outputs_of d))
       → ((w : List ℕ) (t : ℕ) → Leads (child_of nat_cmp (states_of b)) w t → outputs_at (outputs_of d) (slice_index (positions_of (states_of d)) t) ≡ outputs_of_ends byte_width (dictionary (kind_of b) (in_units unit rs)) (map unit w))
-      → IsWhole (parts_of (states_of d) (outputs_of d))
-  finished order links fails parents positions lists =
+      → IsWhole (parts_of (kind_of b) (states_of d) (outputs_of d))
+  finished standard order links fails parents positions lists =
       let P : List (List (ℕ × ℕ)) → Type 0 = λ es. IsLinked nat_cmp es (fails_of (states_of b)) order in
       let Q : List ℕ → Type 0 = λ fs. IsLinked nat_cmp (edges_of (states_of d)) fs order in
       let R : List (List (ℕ × ℕ)) → Type 0 = λ es. (w : List ℕ) (t : ℕ) → Leads (child_in nat_cmp es) w t → outputs_at (outputs_of d) (slice_index (positions_of (states_of d)) t) ≡ outputs_of_ends byte_width (dictionary (kind_of b) (in_units unit rs)) (map unit w) in
       let S : List (List (ℕ × ℕ)) → Type 0 = λ es. (w : List ℕ) (t : ℕ) → Leads (child_in nat_cmp es) w t → slice_index (positions_of (states_of d)) t ≤ length (outputs_of d) in
-      whole-is (kind_of b) (states_of d) (outputs_of d) rs finished_holds order (subst Q (sym fails) (subst P (sym kept.edges) links)) parents (subst S (sym kept.edges) positions) (subst R (sym kept.edges) lists)
+      whole-is (kind_of b) (states_of d) (outputs_of d) rs finished_holds standard order (subst Q (sym fails) (subst P (sym kept.edges) links)) parents (subst S (sym kept.edges) positions) (subst R (sym kept.edges) lists)
 
-  pub finished_content : (w : List ℕ) → content (parts_of (states_of d) (outputs_of d)) w ≡ dictionary (kind_of b) rs w
+  pub finished_content : (w : List ℕ) → content (parts_of (kind_of b) (states_of d) (outputs_of d)) w ≡ dictionary (kind_of b) rs w
   finished_content = content-is (kind_of b) (states_of d) (outputs_of d) rs finished_holds
 
 -- one pattern more

@@ -13,18 +13,15 @@ use Rattle.daachorse_core.specs.declared.turns.Look.TheVariants.{Next, Fail}
 use Rattle.daachorse_core.specs.Outputs.{outputs_at, value_of, length_of, parent_of}
 use Rattle.daachorse_core.proofs.OutputLists.{outputs_at-step}
 use Rattle.daachorse_model.specs.Units.{byte_width}
-use Rattle.daachorse_model.specs.Prefixes.{IsPrefix, IsLink, long}
-use Rattle.daachorse_model.specs.Paths.{walk, is_reached, Leads}
+use Rattle.daachorse_model.specs.Prefixes.{IsPrefix, IsLink}
+use Rattle.daachorse_model.specs.Paths.{walk, Leads}
 use Rattle.daachorse_model.specs.Outputs.{IsChain}
-use Rattle.daachorse_model.proofs.Links.{link-is}
-use Rattle.daachorse_model.proofs.Chains.{IsChain-of_ends}
-use Rattle.daachorse_build.specs.Trie.{IsFailOf}
 use Rattle.daachorse_build.proofs.Walks.{walk-push, walk-same, walk-bounds}
 use Rattle.daachorse_build.proofs.Queue.{child_at_place}
 use Rattle.daachorse_search.specs.Looks.{LookGives}
 use Rattle.daachorse_bytewise.specs.Parts.{Parts}
 use Rattle.daachorse_bytewise.specs.Content.{child, content}
-use Rattle.daachorse_bytewise.specs.Whole.{IsWhole, IsState, text}
+use Rattle.daachorse_bytewise.specs.Whole.{IsWhole, IsState, LinksTo, dead, text}
 use Rattle.daachorse_bytewise.proofs.TextLaws.{text_of-Leads}
 
 module _ {V : Type 0} (total : IsTotalOrder nat_cmp) (p : Parts V) (whole : IsWhole p) where
@@ -70,21 +67,11 @@ module _ {V : Type 0} (total : IsTotalOrder nat_cmp) (p : Parts V) (whole : IsWh
   pub state-bounds : (s : ℕ) → IsState p s → s < length p.edges
   state-bounds s state = (walk-bounds (child p) (slice_index p.depths) (length p.edges) whole.table.trie (text p s) s state).0
 
-  fore : (w : List ℕ) → is_reached (child p) w ≡ true → IsPrefix (content p) w
-  fore w h = go (walk (child p) 0 w) refl h
-    where
-      go : (o : Option ℕ) → walk (child p) 0 w ≡ o → is_some o ≡ true → IsPrefix (content p) w
-      go None is h = absurd (cc)
-      go (Some s) is h = whole.only w s is
-
-  back : (w : List ℕ) → IsPrefix (content p) w → is_reached (child p) w ≡ true
-  back w h = let r = whole.begins w h in ap is_some r.1
-
   -- the text with one more unit leads where the edge leads
   push : (s u : ℕ) → IsState p s → walk (child p) 0 (text p s ++ u ∷ []) ≡ child p s u
   push s u state = walk-push (child p) 0 (text p s) u s state
 
-  pub looks-next : (s u t : ℕ) → IsState p s → child p s u ≡ Some t → LookGives (content p) (IsState p) (text p) (λ w. ⊥) (text p s) u (Next t)
+  pub looks-next : (s u t : ℕ) → IsState p s → child p s u ≡ Some t → LookGives (content p) (IsState p) (text p) (dead p) (text p s) u (Next t)
   looks-next s u t state edge =
       let at : Leads (child p) (text p s ++ u ∷ []) t = push s u state ∙ edge in
       (IsState-Leads _ t at, inl (whole.only _ t at, text-Leads _ t at))
@@ -92,22 +79,31 @@ module _ {V : Type 0} (total : IsTotalOrder nat_cmp) (p : Parts V) (whole : IsWh
   stuck : (s u : ℕ) → IsState p s → child p s u ≡ None → ¬ IsPrefix (content p) (text p s ++ u ∷ [])
   stuck s u state none begins = let r = whole.begins _ begins in none-some r.0 (sym none ∙ (sym (push s u state) ∙ r.1))
 
-  pub looks-root : (s u : ℕ) → IsState p s → child p s u ≡ None → s ≡ 0 → LookGives (content p) (IsState p) (text p) (λ w. ⊥) (text p s) u (Next 0)
+  pub looks-root : (s u : ℕ) → IsState p s → child p s u ≡ None → s ≡ 0 → LookGives (content p) (IsState p) (text p) (dead p) (text p s) u (Next 0)
   looks-root s u state none root = (IsState-root, inr (stuck s u state none, inl (ap (text p) root ∙ text-root), text-root))
 
-  link : (w : List ℕ) (s : ℕ) → s ≢ 0 → Leads (child p) w s → IsFailOf (child p) s (slice_index p.fails s) → (f : ℕ) → slice_index p.fails s ≡ f → IsState p f × IsLink (content p) w (text p f)
-  link [] s ne at fail f is = absurd (ne (sym (same_Some 0 s at)))
-  link (u ∷ w) s ne at fail f is =
-      let P : ℕ → Type 0 = λ x. Leads (child p) (long (is_reached (child p)) w) x in
-      let to : Leads (child p) (long (is_reached (child p)) w) f = subst P is (fail u w at) in
-      let Q : List ℕ → Type 0 = λ x. IsLink (content p) (u ∷ w) x in
-      (IsState-Leads _ f to, subst Q (sym (text-Leads _ f to)) (link-is (content p) (is_reached (child p)) fore back u w))
-
-  pub looks-fail : (s u f : ℕ) → IsState p s → child p s u ≡ None → s ≢ 0 → slice_index p.fails s ≡ f → LookGives (content p) (IsState p) (text p) (λ w. ⊥) (text p s) u (Fail f)
-  looks-fail s u f state none ne is =
+  linked : (s : ℕ) → IsState p s → s ≢ 0 → LinksTo p (text p s) (slice_index p.fails s)
+  linked s state ne =
       let b = walk-bounds (child p) (slice_index p.depths) (length p.edges) whole.table.trie (text p s) s state in
-      let r = link (text p s) s ne state (whole.links s (omega (arith, b.1, ne)) b.0) f is in
-      (r.0, stuck s u state none, (λ dead. dead), r.1)
+      whole.links (text p s) s (omega (arith, b.1, ne)) state
+
+  pub looks-dead : (s u f : ℕ) → IsState p s → child p s u ≡ None → s ≢ 0 → slice_index p.fails s ≡ f → f ≡ 1 → LookGives (content p) (IsState p) (text p) (dead p) (text p s) u (Next 0)
+  looks-dead s u f state none ne is one =
+      elim (linked s state ne) [
+        | inl r ↦ (IsState-root, inr (stuck s u state none, inr r.1, text-root))
+        | inr r ↦ absurd (r.0 (is ∙ one))
+      ]
+
+  pub looks-fail : (s u f : ℕ) → IsState p s → child p s u ≡ None → s ≢ 0 → slice_index p.fails s ≡ f → f ≢ 1 → LookGives (content p) (IsState p) (text p) (dead p) (text p s) u (Fail f)
+  looks-fail s u f state none ne is more =
+      elim (linked s state ne) [
+        | inl r ↦ absurd (more (sym is ∙ r.0))
+        | inr r ↦
+            let P : ℕ → Type 0 = λ x. Leads (child p) r.2.0 x in
+            let to : Leads (child p) r.2.0 f = subst P is r.2.1 in
+            let Q : List ℕ → Type 0 = λ x. IsLink (content p) (text p s) x in
+            (IsState-Leads _ f to, stuck s u state none, r.1, subst Q (sym (text-Leads _ f to)) r.2.2)
+      ]
 
   -- some output stands at a position
   pub outputs_at-some : (q : ℕ) → q < length p.outputs → (o : Output V) × (slice_get p.outputs q ≡ Some o) × (outputs_at p.outputs (suc q) ≡ (value_of o, length_of o) ∷ outputs_at p.outputs (parent_of o))
@@ -128,7 +124,7 @@ module _ {V : Type 0} (total : IsTotalOrder nat_cmp) (p : Parts V) (whole : IsWh
       let at : slice_get p.outputs i ≡ Some o = slice_get_read p.outputs (length p.outputs) i o refl (omega arith) is in
       outputs_at-step p.outputs whole.parents k o (ap (slice_get p.outputs) (sym same) ∙ at)
 
-  pub chain-is : (s q : ℕ) → IsState p s → slice_index p.positions s ≡ q → IsChain byte_width (content p) (λ w. ⊥) (text p s) (outputs_at p.outputs q)
+  pub chain-is : (s q : ℕ) → IsState p s → slice_index p.positions s ≡ q → IsChain byte_width (content p) (dead p) (text p s) (outputs_at p.outputs q)
   chain-is s q state is =
-      let P : List (V × ℕ) → Type 0 = λ l. IsChain byte_width (content p) (λ w. ⊥) (text p s) l in
-      subst P (sym (whole.lists (text p s) s state) ∙ ap (outputs_at p.outputs) is) (IsChain-of_ends byte_width (content p) (λ w. ⊥) (λ x dead. dead) (is_reached (child p)) fore back (text p s))
+      let P : ℕ → Type 0 = λ x. IsChain byte_width (content p) (dead p) (text p s) (outputs_at p.outputs x) in
+      subst P is (whole.lists (text p s) s state)

@@ -3,13 +3,14 @@
 //! The layers above may rely on a build holding just the dictionary of its patterns, and on each
 //! search giving the whole list of matches that the definitions give for that dictionary.
 
-ghost use Rattle.std.specs.Prelude.{◌≡◌, ◌⊎◌, ℕ, List, [], IfOk, IfErr, map};
+ghost use Rattle.std.specs.Prelude.{◌≡◌, ◌≢◌, ◌⊎◌, ℕ, List, [], IfOk, IfErr, map};
 ghost use Rattle.std.specs.Iterator.{IsFinite};
 ghost use Rattle.std.specs.Iterator.Runs.{WholeRun};
 ghost use Rattle.daachorse_core.specs.Refusals.{IsOutOfMemory};
 ghost use Rattle.daachorse_model.specs.declared.MatchKind.TheVariants.{Standard};
 ghost use Rattle.daachorse_model.specs.Units.{byte_width};
 ghost use Rattle.daachorse_model.specs.Dictionary.{dictionary, registered};
+ghost use Rattle.daachorse_model.specs.Leftmost.{leftmost};
 ghost use Rattle.daachorse_model.specs.Matches.{no_suffix, overlapping, standard};
 ghost use Rattle.daachorse_search.specs.Searches.{all_found, first_found, standard_found};
 ghost use Rattle.daachorse_bytewise.specs.Building.{IsBuildRefusal, IsBuiltOf, IsRefusalOf};
@@ -23,9 +24,10 @@ pub use crate::bytewise::builder::DoubleArrayAhoCorasickBuilder;
 use crate::bytewise::iter::{
     FindIterator, FindOverlappingIterator, FindOverlappingNoSuffixIterator,
     FindOverlappingNoSuffixSliceIterator, FindOverlappingSliceIterator, FindOverlappingStepper,
-    FindSliceIterator, FindStepper,
+    FindSliceIterator, FindStepper, LeftmostFindIterator,
 };
 use crate::bytewise::states::States;
+use daachorse_core::MatchKind;
 use daachorse_core::errors::Result;
 use std::alloc::{Allocator, Global};
 use std::marker::Model;
@@ -65,6 +67,7 @@ impl<V: Copy, A: Allocator + Copy> DoubleArrayAhoCorasick<V, A> {
         requires { (it : P.IntoIter) → P.into_iter_gives patterns it → P.IntoIter.can_next it × IsFinite (P.IntoIter.remaining it) }
         ensures ok { IfOk result (λ a. (it : P.IntoIter) × P.into_iter_gives patterns it
             × WholeRun P.IntoIter.next_gives it (λ p. IsBuiltOf V.try_from_gives Standard (map (λ t. t.now) p.items) a)) }
+        ensures kind { IfOk result (λ a. a.kind ≡ Standard) }
         ensures err { IfErr result (λ e. IsOutOfMemory e ⊎ ((it : P.IntoIter) × P.into_iter_gives patterns it
             × WholeRun P.IntoIter.next_gives it (λ p. IsBuildRefusal V.try_from_gives Standard (map (λ t. t.now) p.items) e))) }
     {
@@ -88,6 +91,7 @@ impl<V: Copy, A: Allocator + Copy> DoubleArrayAhoCorasick<V, A> {
         requires { (it : P.IntoIter) → P.into_iter_gives patvals it → P.IntoIter.can_next it × IsFinite (P.IntoIter.remaining it) }
         ensures ok { IfOk result (λ a. (it : P.IntoIter) × P.into_iter_gives patvals it
             × WholeRun P.IntoIter.next_gives it (λ p. (w : List ℕ) → content a w ≡ dictionary Standard (registered p.items) w)) }
+        ensures kind { IfOk result (λ a. a.kind ≡ Standard) }
         ensures err { IfErr result (λ e. IsOutOfMemory e ⊎ ((it : P.IntoIter) × P.into_iter_gives patvals it
             × WholeRun P.IntoIter.next_gives it (λ p. IsRefusalOf Standard (registered p.items) e))) }
     {
@@ -96,11 +100,19 @@ impl<V: Copy, A: Allocator + Copy> DoubleArrayAhoCorasick<V, A> {
 }
 
 impl<V: Copy, A: Allocator> DoubleArrayAhoCorasick<V, A> {
+    /// The searches that the automaton is for: the standard ones, or one of the leftmost.
+    pub fn match_kind(&self) -> MatchKind
+        ensures { result ≡ self.now.kind }
+    {
+        self.states.kind()
+    }
+
     /// Finds matches in a haystack that do not overlap: from the end of the one before each ends as
     /// early as it can, and at that end it is the longest; of equal patterns the first registered.
     /// With an empty pattern there is one empty match at each boundary.
     #[inline(always)]
     pub fn find_iter<'a>(&'a self, haystack: &'a [u8]) -> FindSliceIterator<'a, V, A>
+        requires { self.now.kind ≡ Standard }
         ensures left { result.left ≡ standard byte_width (content self.entry.now) haystack.entry.now }
         ensures automaton { result.automaton ≡ self.entry.now }
         ensures passed { result.passed ≡ [] }
@@ -116,6 +128,7 @@ impl<V: Copy, A: Allocator> DoubleArrayAhoCorasick<V, A> {
         &'a self,
         haystack: P,
     ) -> FindIterator<'a, P, V, A>
+        requires { self.now.kind ≡ Standard }
         ensures automaton { result.automaton ≡ self.entry.now }
         ensures source { result.source ≡ haystack }
         ensures read { result.read ≡ [] }
@@ -132,6 +145,7 @@ impl<V: Copy, A: Allocator> DoubleArrayAhoCorasick<V, A> {
         &'a self,
         haystack: &'a [u8],
     ) -> FindOverlappingSliceIterator<'a, V, A>
+        requires { self.now.kind ≡ Standard }
         ensures left { result.left ≡ overlapping byte_width (content self.entry.now) haystack.entry.now }
         ensures automaton { result.automaton ≡ self.entry.now }
         ensures passed { result.passed ≡ [] }
@@ -147,6 +161,7 @@ impl<V: Copy, A: Allocator> DoubleArrayAhoCorasick<V, A> {
         &'a self,
         haystack: P,
     ) -> FindOverlappingIterator<'a, P, V, A>
+        requires { self.now.kind ≡ Standard }
         ensures automaton { result.automaton ≡ self.entry.now }
         ensures source { result.source ≡ haystack }
         ensures read { result.read ≡ [] }
@@ -163,6 +178,7 @@ impl<V: Copy, A: Allocator> DoubleArrayAhoCorasick<V, A> {
         &'a self,
         haystack: &'a [u8],
     ) -> FindOverlappingNoSuffixSliceIterator<'a, V, A>
+        requires { self.now.kind ≡ Standard }
         ensures left { result.left ≡ no_suffix byte_width (content self.entry.now) haystack.entry.now }
         ensures automaton { result.automaton ≡ self.entry.now }
         ensures passed { result.passed ≡ [] }
@@ -178,6 +194,7 @@ impl<V: Copy, A: Allocator> DoubleArrayAhoCorasick<V, A> {
         &'a self,
         haystack: P,
     ) -> FindOverlappingNoSuffixIterator<'a, P, V, A>
+        requires { self.now.kind ≡ Standard }
         ensures automaton { result.automaton ≡ self.entry.now }
         ensures source { result.source ≡ haystack }
         ensures read { result.read ≡ [] }
@@ -187,9 +204,30 @@ impl<V: Copy, A: Allocator> DoubleArrayAhoCorasick<V, A> {
         FindOverlappingNoSuffixIterator::new(&self.states, haystack)
     }
 
+    /// Finds the leftmost matches in a haystack: from the end of the one before each starts as early
+    /// as it can, and there it is the longest pattern that the automaton holds; of equal patterns
+    /// the first registered. For [`MatchKind::LeftmostFirst`], which leaves out each pattern that
+    /// extends an earlier one, it is the earliest registered pattern that starts there.
+    #[inline(always)]
+    pub fn leftmost_find_iter<'a>(
+        &'a self,
+        haystack: &'a [u8],
+    ) -> LeftmostFindIterator<'a, V, A>
+        requires { self.now.kind ≢ Standard }
+        ensures left { result.left ≡ leftmost byte_width (content self.entry.now) haystack.entry.now }
+        ensures automaton { result.automaton ≡ self.entry.now }
+        ensures haystack { result.haystack ≡ haystack.entry.now }
+        ensures passed { result.passed ≡ [] }
+        ensures turns { result.turns ≡ 0 }
+        ensures given { result.given ≡ 0 }
+    {
+        LeftmostFindIterator::new(&self.states, haystack)
+    }
+
     /// The search of [`Self::find_iter`], one byte at a time.
     #[inline(always)]
     pub fn find_stepper<'a>(&'a self) -> FindStepper<'a, V, A>
+        requires { self.now.kind ≡ Standard }
         ensures automaton { result.automaton ≡ self.entry.now }
         ensures read { result.read ≡ [] }
         ensures turns { result.turns ≡ 0 }
@@ -200,6 +238,7 @@ impl<V: Copy, A: Allocator> DoubleArrayAhoCorasick<V, A> {
     /// The search of [`Self::find_overlapping_iter`], one byte at a time.
     #[inline(always)]
     pub fn find_overlapping_stepper<'a>(&'a self) -> FindOverlappingStepper<'a, V, A>
+        requires { self.now.kind ≡ Standard }
         ensures automaton { result.automaton ≡ self.entry.now }
         ensures read { result.read ≡ [] }
         ensures turns { result.turns ≡ 0 }

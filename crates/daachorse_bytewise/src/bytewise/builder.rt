@@ -35,15 +35,13 @@ pub struct DoubleArrayAhoCorasickBuilder {
 }
 
 impl Model for DoubleArrayAhoCorasickBuilder {
-    ghost use Rattle.std.specs.Prelude.{◌≡◌};
     ghost use Rattle.daachorse_model.specs.declared.MatchKind.{MatchKind};
-    ghost use Rattle.daachorse_model.specs.declared.MatchKind.TheVariants.{Standard};
 
     ghost Value = { MatchKind };
 
     ghost view = { λ b. b.match_kind };
 
-    ghost invariant = { λ b. b.match_kind ≡ Standard };
+    ghost invariant = { λ b. Unit {0} };
 }
 
 impl Default for DoubleArrayAhoCorasickBuilder {
@@ -68,9 +66,8 @@ impl DoubleArrayAhoCorasickBuilder {
         }
     }
 
-    /// The builder of automata for searches of this kind: [`MatchKind::Standard`], for now.
+    /// The builder of automata for searches of this kind.
     pub fn match_kind(mut self, kind: MatchKind) -> Self
-        requires { kind ≡ Standard }
         ensures { result ≡ kind }
     {
         self.match_kind = kind;
@@ -96,6 +93,7 @@ impl DoubleArrayAhoCorasickBuilder {
         requires { (it : P.IntoIter) → P.into_iter_gives patterns it → P.IntoIter.can_next it × IsFinite (P.IntoIter.remaining it) }
         ensures ok { IfOk result (λ a. (it : P.IntoIter) × P.into_iter_gives patterns it
             × WholeRun P.IntoIter.next_gives it (λ p. IsBuiltOf V.try_from_gives self (map (λ t. t.now) p.items) a)) }
+        ensures kind { IfOk result (λ a. a.kind ≡ self) }
         ensures err { IfErr result (λ e. IsOutOfMemory e ⊎ ((it : P.IntoIter) × P.into_iter_gives patterns it
             × WholeRun P.IntoIter.next_gives it (λ p. IsBuildRefusal V.try_from_gives self (map (λ t. t.now) p.items) e))) }
     {
@@ -123,6 +121,7 @@ impl DoubleArrayAhoCorasickBuilder {
         requires { (it : P.IntoIter) → P.into_iter_gives patvals it → P.IntoIter.can_next it × IsFinite (P.IntoIter.remaining it) }
         ensures ok { IfOk result (λ a. (it : P.IntoIter) × P.into_iter_gives patvals it
             × WholeRun P.IntoIter.next_gives it (λ p. (w : List ℕ) → content a w ≡ dictionary self (registered p.items) w)) }
+        ensures kind { IfOk result (λ a. a.kind ≡ self) }
         ensures err { IfErr result (λ e. IsOutOfMemory e ⊎ ((it : P.IntoIter) × P.into_iter_gives patvals it
             × WholeRun P.IntoIter.next_gives it (λ p. IsRefusalOf self (registered p.items) e))) }
     {
@@ -157,8 +156,8 @@ fn from_texts<V: Copy + TryFrom<usize>, A: Allocator + Copy>(
 ) -> Result<DoubleArrayAhoCorasick<V, A>>
 where
     V::Error: Drop,
-    requires { kind ≡ Standard }
     ensures ok { IfOk result (λ a. IsBuiltOf V.try_from_gives kind (map (λ t. t.now) texts.now) a) }
+    ensures kind { IfOk result (λ a. a.kind ≡ kind) }
     ensures err { IfErr result (IsBuildRefusal V.try_from_gives kind (map (λ t. t.now) texts.now)) }
 {
     let patterns = indexed(alloc, texts)?;
@@ -192,8 +191,8 @@ fn from_patterns<V: Copy, A: Allocator + Copy>(
     kind: MatchKind,
     patterns: &[(&[u8], V)],
 ) -> Result<DoubleArrayAhoCorasick<V, A>>
-    requires { kind ≡ Standard }
     ensures ok { IfOk result (λ a. (w : List ℕ) → content a w ≡ dictionary kind (registered patterns.now) w) }
+    ensures kind { IfOk result (λ a. a.kind ≡ kind) }
     ensures err { IfErr result (IsRefusalOf kind (registered patterns.now)) }
 {
     let mut builder = NfaBuilder::new(alloc, kind)?;
@@ -201,7 +200,7 @@ fn from_patterns<V: Copy, A: Allocator + Copy>(
     if builder.num_patterns() > MAX_PATTERNS {
         return Err(DaachorseError::automaton_scale(Limit::PatternValues));
     }
-    finish(alloc, builder)
+    finish(alloc, kind, builder)
 }
 
 /// Adds the patterns in order.
@@ -210,7 +209,6 @@ fn add_all<V: Copy, A: Allocator + Copy>(
     patterns: &[(&[u8], V)],
 ) -> Result<()>
     requires empty { Registered nat_cmp (λ b. b) byte_width builder.old [] }
-    requires standard { kind_of builder.old ≡ Standard }
     requires fits { length (states_of builder.old) ≤ 4294967296 }
     ensures kind { kind_of builder.new ≡ kind_of builder.old }
     ensures outputs { outputs_of builder.new ≡ outputs_of builder.old }
@@ -227,19 +225,25 @@ fn add_all<V: Copy, A: Allocator + Copy>(
 /// The automaton of a builder's patterns.
 fn finish<V: Copy, A: Allocator + Copy>(
     alloc: A,
+    kind: MatchKind,
     mut builder: NfaBuilder<u8, V, A>,
 ) -> Result<DoubleArrayAhoCorasick<V, A>>
     requires patterns { (rs : List (List ℕ × V)) × Registered nat_cmp (λ b. b) byte_width builder rs }
-    requires standard { kind_of builder ≡ Standard }
+    requires kind { kind_of builder ≡ kind }
     requires unbuilt { outputs_of builder ≡ [] }
     requires few { count_of builder ≤ 16777215 }
-    ensures ok { IfOk result (λ a. (rs : List (List ℕ × V)) → Registered nat_cmp (λ b. b) byte_width builder rs → (w : List ℕ) → content a w ≡ dictionary (kind_of builder) rs w) }
+    ensures ok { IfOk result (λ a. (rs : List (List ℕ × V)) → Registered nat_cmp (λ b. b) byte_width builder rs → (w : List ℕ) → content a w ≡ dictionary kind rs w) }
+    ensures kind { IfOk result (λ a. a.kind ≡ kind) }
     ensures err { IfErr result IsOutOfMemory }
 {
-    let order = builder.build_fails(alloc)?;
+    let order = if kind.is_leftmost() {
+        builder.build_fails_leftmost(alloc)?
+    } else {
+        builder.build_fails(alloc)?
+    };
     builder.build_outputs(&order)?;
     let (states, outputs) = builder.into_parts();
     Ok(DoubleArrayAhoCorasick {
-        states: States::new(states, outputs),
+        states: States::new(kind, states, outputs),
     })
 }

@@ -6,10 +6,12 @@
 //! the bounds of the turns taken so far. None of them takes memory.
 
 mod find;
+mod leftmost;
 mod no_suffix;
 mod overlapping;
 
 pub use find::{FindIterator, FindSliceIterator, FindStepper};
+pub use leftmost::LeftmostFindIterator;
 pub use no_suffix::{FindOverlappingNoSuffixIterator, FindOverlappingNoSuffixSliceIterator};
 pub use overlapping::{
     FindOverlappingIterator, FindOverlappingSliceIterator, FindOverlappingStepper,

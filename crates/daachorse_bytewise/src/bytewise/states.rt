@@ -1,12 +1,12 @@
 //! The states of the automaton over bytes, and a look at one of them.
 //!
 //! The layers above may rely on `turn` being the transition of the trie: it goes on by an edge, or
-//! along the failure link, or from the root to the root, and counts one turn. Searches learn where
+//! along the failure link, or from the root and from a dead link to the root, and counts one turn. Searches learn where
 //! to go by `turn` alone.
 
 use daachorse_build::nfa_builder::NfaBuilderState;
 pub use daachorse_core::turns::{Look, Turns};
-use daachorse_core::{Output, ROOT_STATE_IDX};
+use daachorse_core::{DEAD_STATE_IDX, MatchKind, Output, ROOT_STATE_IDX};
 use daachorse_search::automaton::Automaton;
 use std::alloc::{Allocator, Global};
 use std::marker::Model;
@@ -15,6 +15,7 @@ use std::num::NonZeroU32;
 /// The states and the outputs of an automaton over bytes.
 #[derive(Drop)]
 pub struct States<V: Copy, A: Allocator = Global> {
+    kind: MatchKind,
     states: Vec<NfaBuilderState<u8, V, A>, A>,
     outputs: Vec<Output<V>, A>,
 }
@@ -25,9 +26,9 @@ impl<V: Copy, A: Allocator> Model for States<V, A> {
 
     ghost Value = { Parts V };
 
-    ghost view = { λ s. parts_of s.states.items s.outputs.items };
+    ghost view = { λ s. parts_of s.kind s.states.items s.outputs.items };
 
-    ghost invariant = { λ s. IsWhole (parts_of s.states.items s.outputs.items) };
+    ghost invariant = { λ s. IsWhole (parts_of s.kind s.states.items s.outputs.items) };
 }
 
 impl<V: Copy, A: Allocator> States<V, A> {
@@ -36,12 +37,28 @@ impl<V: Copy, A: Allocator> States<V, A> {
     ghost use Rattle.daachorse_bytewise.specs.Parts.{parts_of};
     ghost use Rattle.daachorse_bytewise.specs.Whole.{IsState, IsWhole};
 
-    /// The states and outputs that a builder made.
-    pub(crate) fn new(states: Vec<NfaBuilderState<u8, V, A>, A>, outputs: Vec<Output<V>, A>) -> Self
-        requires { IsWhole (parts_of states.items outputs.items) }
-        ensures { result ≡ parts_of states.items outputs.items }
+    /// The states and outputs that a builder made, for searches of this kind.
+    pub(crate) fn new(
+        kind: MatchKind,
+        states: Vec<NfaBuilderState<u8, V, A>, A>,
+        outputs: Vec<Output<V>, A>,
+    ) -> Self
+        requires { IsWhole (parts_of kind states.items outputs.items) }
+        ensures { result ≡ parts_of kind states.items outputs.items }
     {
-        Self { states, outputs }
+        Self {
+            kind,
+            states,
+            outputs,
+        }
+    }
+
+    /// The searches that the states are for.
+    #[inline(always)]
+    pub(crate) fn kind(&self) -> MatchKind
+        ensures { result ≡ self.now.kind }
+    {
+        self.kind
     }
 
     /// The state with this index.
@@ -61,7 +78,7 @@ impl<V: Copy, A: Allocator> Automaton<V> for States<V, A> {
     ghost use Rattle.std.specs.Prelude.{◌≡◌, ◌≤◌, length, Bool, true};
     ghost use Rattle.daachorse_core.specs.Outputs.{outputs_at};
     ghost use Rattle.daachorse_bytewise.specs.Content.{content};
-    ghost use Rattle.daachorse_bytewise.specs.Whole.{IsState, text, no_output};
+    ghost use Rattle.daachorse_bytewise.specs.Whole.{IsState, dead, no_output, text};
 
     type Unit = u8;
 
@@ -73,7 +90,7 @@ impl<V: Copy, A: Allocator> Automaton<V> for States<V, A> {
 
     ghost text = { text };
 
-    ghost dead = { λ p w. ⊥ };
+    ghost dead = { dead };
 
     ghost has_label = { λ p unit. true };
 
@@ -109,6 +126,7 @@ impl<V: Copy, A: Allocator> Automaton<V> for States<V, A> {
         match at.edges().get(&label) {
             Some(&next) => Look::Next(next),
             None if state == ROOT_STATE_IDX => Look::Next(ROOT_STATE_IDX),
+            None if at.fail() == DEAD_STATE_IDX => Look::Next(ROOT_STATE_IDX),
             None => Look::Fail(at.fail()),
         }
     }

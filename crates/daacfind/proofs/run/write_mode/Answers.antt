@@ -5,7 +5,7 @@ use Rattle.std.proofs.lemmas.Result.{on_ok_weaker, on_err_weaker}
 use Rattle.daachorse_model.specs.declared.Match.{Match}
 use Rattle.daachorse_model.specs.Dictionary.{Dictionary}
 use Rattle.daacfind.specs.declared.mode.Mode.{Mode}
-use Rattle.daacfind.specs.declared.mode.Mode.TheVariants.{Overlapping, NoSuffix, Find}
+use Rattle.daacfind.specs.declared.mode.Mode.TheVariants.{Overlapping, NoSuffix, Find, Longest, First}
 use Rattle.daacfind.specs.Modes.{found_by}
 use Rattle.daacfind.proofs.run.write_mode.Goals as goal
 

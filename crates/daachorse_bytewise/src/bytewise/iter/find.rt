@@ -1,6 +1,7 @@
 //! The standard searches: matches that do not overlap.
 
 ghost use Rattle.std.specs.Prelude.{◌≡◌, ◌≢◌, ◌+◌, ◌*◌, ◌^◌, ◌<◌, ◌≤◌, ℕ, List, [], ◌∷◌, ◌++◌, length};
+ghost use Rattle.daachorse_model.specs.declared.MatchKind.TheVariants.{Standard};
 ghost use Rattle.daachorse_model.specs.Units.{byte_width};
 ghost use Rattle.daachorse_model.specs.Matches.{standard, standard_after, IsSinceMatch};
 ghost use Rattle.daachorse_model.specs.Prefixes.{IsLong};
@@ -37,7 +38,9 @@ impl<'a, V: Copy, A: Allocator> Model for FindSliceIterator<'a, V, A> {
 
 impl<'a, V: Copy, A: Allocator> FindSliceIterator<'a, V, A> {
     #[inline(always)]
+    #[tactic(auto, using(crate::proofs::StandardLaws::alive))]
     pub(crate) fn new(states: &'a States<V, A>, haystack: &'a [u8]) -> Self
+        requires { states.now.kind ≡ Standard }
         ensures automaton { result.automaton ≡ states.now }
         ensures left { result.left ≡ standard byte_width (content states.now) haystack.now }
         ensures passed { result.passed ≡ [] }
@@ -100,7 +103,9 @@ impl<'a, P: Iterator<Item = u8>, V: Copy, A: Allocator> Model for FindIterator<'
 
 impl<'a, P: Iterator<Item = u8>, V: Copy, A: Allocator> FindIterator<'a, P, V, A> {
     #[inline(always)]
+    #[tactic(auto, using(crate::proofs::StandardLaws::alive))]
     pub(crate) fn new(states: &'a States<V, A>, source: P) -> Self
+        requires { states.now.kind ≡ Standard }
         ensures automaton { result.automaton ≡ states.now }
         ensures source { result.source ≡ source }
         ensures read { result.read ≡ [] }
@@ -165,7 +170,9 @@ impl<'a, V: Copy, A: Allocator> Model for FindStepper<'a, V, A> {
 
 impl<'a, V: Copy, A: Allocator> FindStepper<'a, V, A> {
     #[inline(always)]
+    #[tactic(auto, using(crate::proofs::StandardLaws::alive))]
     pub(crate) fn new(states: &'a States<V, A>) -> Self
+        requires { states.now.kind ≡ Standard }
         ensures automaton { result.automaton ≡ states.now }
         ensures read { result.read ≡ [] }
         ensures turns { result.turns ≡ 0 }

@@ -1,6 +1,7 @@
 //! The searches for the longest match at each end.
 
 ghost use Rattle.std.specs.Prelude.{◌≡◌, ◌+◌, ◌*◌, ◌≤◌, ℕ, List, [], length};
+ghost use Rattle.daachorse_model.specs.declared.MatchKind.TheVariants.{Standard};
 ghost use Rattle.daachorse_model.specs.Units.{byte_width};
 ghost use Rattle.daachorse_model.specs.Matches.{no_suffix};
 ghost use Rattle.daachorse_model.specs.Prefixes.{IsLong};
@@ -35,7 +36,9 @@ impl<'a, V: Copy, A: Allocator> Model for FindOverlappingNoSuffixSliceIterator<'
 
 impl<'a, V: Copy, A: Allocator> FindOverlappingNoSuffixSliceIterator<'a, V, A> {
     #[inline(always)]
+    #[tactic(auto, using(crate::proofs::StandardLaws::alive))]
     pub(crate) fn new(states: &'a States<V, A>, haystack: &'a [u8]) -> Self
+        requires { states.now.kind ≡ Standard }
         ensures automaton { result.automaton ≡ states.now }
         ensures left { result.left ≡ no_suffix byte_width (content states.now) haystack.now }
         ensures passed { result.passed ≡ [] }
@@ -96,7 +99,9 @@ impl<'a, P: Iterator<Item = u8>, V: Copy, A: Allocator> Model for FindOverlappin
 
 impl<'a, P: Iterator<Item = u8>, V: Copy, A: Allocator> FindOverlappingNoSuffixIterator<'a, P, V, A> {
     #[inline(always)]
+    #[tactic(auto, using(crate::proofs::StandardLaws::alive))]
     pub(crate) fn new(states: &'a States<V, A>, source: P) -> Self
+        requires { states.now.kind ≡ Standard }
         ensures automaton { result.automaton ≡ states.now }
         ensures source { result.source ≡ source }
         ensures read { result.read ≡ [] }

@@ -1,6 +1,7 @@
 //! The searches for every match, also where matches overlap.
 
 ghost use Rattle.std.specs.Prelude.{◌≡◌, ◌+◌, ◌*◌, ◌^◌, ◌<◌, ◌≤◌, ℕ, List, [], ◌∷◌, ◌++◌, length};
+ghost use Rattle.daachorse_model.specs.declared.MatchKind.TheVariants.{Standard};
 ghost use Rattle.daachorse_model.specs.Units.{byte_width};
 ghost use Rattle.daachorse_model.specs.Matches.{overlapping, matches_after};
 ghost use Rattle.daachorse_model.specs.Prefixes.{IsLong};
@@ -38,7 +39,9 @@ impl<'a, V: Copy, A: Allocator> Model for FindOverlappingSliceIterator<'a, V, A>
 
 impl<'a, V: Copy, A: Allocator> FindOverlappingSliceIterator<'a, V, A> {
     #[inline(always)]
+    #[tactic(auto, using(crate::proofs::StandardLaws::alive))]
     pub(crate) fn new(states: &'a States<V, A>, haystack: &'a [u8]) -> Self
+        requires { states.now.kind ≡ Standard }
         ensures automaton { result.automaton ≡ states.now }
         ensures left { result.left ≡ overlapping byte_width (content states.now) haystack.now }
         ensures passed { result.passed ≡ [] }
@@ -99,7 +102,9 @@ impl<'a, P: Iterator<Item = u8>, V: Copy, A: Allocator> Model for FindOverlappin
 
 impl<'a, P: Iterator<Item = u8>, V: Copy, A: Allocator> FindOverlappingIterator<'a, P, V, A> {
     #[inline(always)]
+    #[tactic(auto, using(crate::proofs::StandardLaws::alive))]
     pub(crate) fn new(states: &'a States<V, A>, source: P) -> Self
+        requires { states.now.kind ≡ Standard }
         ensures automaton { result.automaton ≡ states.now }
         ensures source { result.source ≡ source }
         ensures read { result.read ≡ [] }
@@ -163,7 +168,9 @@ impl<'a, V: Copy, A: Allocator> Model for FindOverlappingStepper<'a, V, A> {
 
 impl<'a, V: Copy, A: Allocator> FindOverlappingStepper<'a, V, A> {
     #[inline(always)]
+    #[tactic(auto, using(crate::proofs::StandardLaws::alive))]
     pub(crate) fn new(states: &'a States<V, A>) -> Self
+        requires { states.now.kind ≡ Standard }
         ensures automaton { result.automaton ≡ states.now }
         ensures read { result.read ≡ [] }
         ensures turns { result.turns ≡ 0 }

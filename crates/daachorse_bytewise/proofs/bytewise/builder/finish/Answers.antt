@@ -40,20 +40,21 @@ new-requires g c =
     let rs = c.requires.patterns in
     let before = c.build_fails.new.self in let after = c.build_outputs.new.self in
     let was = Registered-kept c.args.builder before rs.0 c.in_ok-order.ensures.kept c.in_ok-order.ensures.kind c.in_ok-order.ensures.patterns rs.1 in
-    let made = c.in_ok-build_outputs.ensures in
-    let whole = finished before after rs.0 was made.kept made.kind made.patterns c.in_ok-order.order.items c.in_ok-order.ensures.links made.fails made.parents made.positions (made.lists rs.0 was) in
-    let P : List (NfaBuilderState ℕ g.row.V.Denot g.row.A.Denot) → Type 0 = λ states. IsWhole (parts_of states (outputs_of after)) in
-    let Q : List (Output g.row.V.Denot) → Type 0 = λ outputs. IsWhole (parts_of c.into_parts-states.result.0.items outputs) in
-    subst Q (sym c.into_parts-states.ensures.outputs) (subst P (sym c.into_parts-states.ensures.states) whole)
+    let made = c.in_ok-build_outputs.ensures in let kind = c.in_ok-order.ensures.kind ∙ c.requires.kind in
+    let whole = finished before after rs.0 was made.kept made.kind made.patterns (kind ∙ c.requires.standard) c.in_ok-order.order.items c.in_ok-order.ensures.links made.fails made.parents made.positions (made.lists rs.0 was) in
+    let K : MatchKind → Type 0 = λ k. IsWhole (parts_of k (states_of after) (outputs_of after)) in
+    let P : List (NfaBuilderState ℕ g.row.V.Denot g.row.A.Denot) → Type 0 = λ states. IsWhole (parts_of c.args.kind states (outputs_of after)) in
+    let Q : List (Output g.row.V.Denot) → Type 0 = λ outputs. IsWhole (parts_of c.args.kind c.into_parts-states.result.0.items outputs) in
+    subst Q (sym c.into_parts-states.ensures.outputs) (subst P (sym c.into_parts-states.ensures.states) (subst K kind whole))
 
 pub returns-clause-ok : goal.returns-clause-ok
 returns-clause-ok g c = λ rs registered w.
     let before = c.build_fails.new.self in let after = c.build_outputs.new.self in
     let was = Registered-kept c.args.builder before rs c.in_ok-order.ensures.kept c.in_ok-order.ensures.kind c.in_ok-order.ensures.patterns registered in
-    let made = c.in_ok-build_outputs.ensures in
-    let K : MatchKind → Type 0 = λ kind. content (parts_of (states_of after) (outputs_of after)) w ≡ dictionary kind rs w in
-    let same = subst K c.in_ok-order.ensures.kind (finished_content before after rs was made.kept made.kind made.patterns w) in
-    let P : List (NfaBuilderState ℕ g.row.V.Denot g.row.A.Denot) → Type 0 = λ states. content (parts_of states (outputs_of after)) w ≡ dictionary (kind_of c.args.builder) rs w in
-    let Q : List (Output g.row.V.Denot) → Type 0 = λ outputs. content (parts_of c.into_parts-states.result.0.items outputs) w ≡ dictionary (kind_of c.args.builder) rs w in
-    let R : Parts g.row.V.Denot → Type 0 = λ p. content p w ≡ dictionary (kind_of c.args.builder) rs w in
+    let made = c.in_ok-build_outputs.ensures in let kind = c.in_ok-order.ensures.kind ∙ c.requires.kind in
+    let K : MatchKind → Type 0 = λ k. content (parts_of k (states_of after) (outputs_of after)) w ≡ dictionary k rs w in
+    let same = subst K kind (finished_content before after rs was made.kept made.kind made.patterns w) in
+    let P : List (NfaBuilderState ℕ g.row.V.Denot g.row.A.Denot) → Type 0 = λ states. content (parts_of c.args.kind states (outputs_of after)) w ≡ dictionary c.args.kind rs w in
+    let Q : List (Output g.row.V.Denot) → Type 0 = λ outputs. content (parts_of c.args.kind c.into_parts-states.result.0.items outputs) w ≡ dictionary c.args.kind rs w in
+    let R : Parts g.row.V.Denot → Type 0 = λ p. content p w ≡ dictionary c.args.kind rs w in
     subst R (sym c.new.ensures) (subst Q (sym c.into_parts-states.ensures.outputs) (subst P (sym c.into_parts-states.ensures.states) same))

@@ -1,6 +1,6 @@
 pub mod EdgeLists
 pub mod Walks
-pub mod Fails
+pub mod LeftLinks
 pub mod Queue
 pub mod Growing
 pub mod Labels

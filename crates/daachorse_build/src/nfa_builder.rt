@@ -6,7 +6,7 @@
 //! `build_outputs` the list at a state's position has the values of its text and of each of its
 //! suffixes, the longest first.
 
-ghost use Rattle.std.specs.Prelude.{◌≡◌, ◌≢◌, ℕ, ◌+◌, ◌<◌, ◌≤◌, ◌++◌, ◌∷◌, [], List, None, length, map, take, slice_index, vec_len, IfOk, IfErr, OnOk};
+ghost use Rattle.std.specs.Prelude.{◌≡◌, ◌≢◌, true, false, Some, ℕ, ◌+◌, ◌<◌, ◌≤◌, ◌++◌, ◌∷◌, [], List, None, length, map, take, slice_index, vec_len, IfOk, IfErr, OnOk};
 ghost use Rattle.daachorse_model.specs.declared.MatchKind.TheVariants.{Standard};
 ghost use Rattle.daachorse_model.specs.Units.{size};
 ghost use Rattle.daachorse_model.specs.Dictionary.{dictionary, kept};
@@ -16,8 +16,9 @@ ghost use Rattle.daachorse_core.specs.Outputs.{ParentsFall, outputs_at, number};
 ghost use Rattle.daachorse_core.specs.declared.errors.Limit.TheVariants.{Outputs, StateId};
 ghost use Rattle.daachorse_core.specs.declared.errors.DaachorseError.TheVariants.{InvalidArgument};
 ghost use Rattle.daachorse_core.specs.declared.outputs.Output.{Output as OutputOf};
-ghost use Rattle.daachorse_build.specs.Tables.{edges_of, fails_of, positions_of, own_of, own_at, output_count, child_of, HoldTrie, edge_map, depth_of, held_by, link_of, position_of};
-ghost use Rattle.daachorse_build.specs.Orders.{IsKnown, HoldLinks};
+ghost use Rattle.daachorse_build.specs.Tables.{edges_of, fails_of, positions_of, own_of, own_at, output_count, child_of, stops_of, HoldTrie, edge_map, depth_of, held_by, link_of, position_of};
+ghost use Rattle.daachorse_build.specs.Orders.{IsIn, IsKnown, IsLinkAmong, HoldLinks, HoldLeftLinks};
+ghost use Rattle.daachorse_build.specs.Left.{IsLeftFailOf};
 ghost use Rattle.daachorse_build.specs.Searches.{Searches, LeadsTo, ComesFrom};
 ghost use Rattle.daachorse_build.specs.Growth.{Extends, IsAdded, HasTrieOf, Overflows};
 ghost use Rattle.daachorse_build.specs.Holds.{in_units, HasMorePrefixes};
@@ -220,7 +221,35 @@ impl<L: EdgeLabel, V: Copy, A: Allocator + Copy> NfaBuilder<L, V, A> {
         ensures links { IfOk result (λ order. HoldLinks L.cmp (states_of self.new) order.items) }
         ensures refused { IfErr result IsOutOfMemory }
     {
-        let mut search = Search::new(alloc, &self.states)?;
+        self.find_links(alloc, false)
+    }
+
+    /// Gives each state its leftmost link, as leftmost searches want, and answers the states but
+    /// the root, those nearer to it first. The link is that of `build_fails`, but dead where a key
+    /// occurs in the state's text and starts before the link does.
+    pub fn build_fails_leftmost(&mut self, alloc: A) -> Result<Vec<u32, A>>
+        requires { HoldTrie L.cmp (states_of self.old) }
+        ensures kind { kind_of self.new ≡ kind_of self.old }
+        ensures patterns { count_of self.new ≡ count_of self.old }
+        ensures outputs { outputs_of self.new ≡ outputs_of self.old }
+        ensures kept { HasTrieOf (states_of self.old) (states_of self.new) }
+        ensures links { IfOk result (λ order. HoldLeftLinks L.cmp true (states_of self.new) order.items) }
+        ensures refused { IfErr result IsOutOfMemory }
+    {
+        self.find_links(alloc, true)
+    }
+
+    fn find_links(&mut self, alloc: A, leftmost: bool) -> Result<Vec<u32, A>>
+        requires { HoldTrie L.cmp (states_of self.old) }
+        ensures kind { kind_of self.new ≡ kind_of self.old }
+        ensures patterns { count_of self.new ≡ count_of self.old }
+        ensures outputs { outputs_of self.new ≡ outputs_of self.old }
+        ensures kept { HasTrieOf (states_of self.old) (states_of self.new) }
+        ensures links { IfOk result (λ order. HoldLeftLinks L.cmp leftmost (states_of self.new) order.items) }
+        ensures states { IfOk result (λ order. (t : ℕ) → IsIn order.items t → (1 < t) × (t < length (states_of self.new))) }
+        ensures refused { IfErr result IsOutOfMemory }
+    {
+        let mut search = Search::new(alloc, &self.states, leftmost)?;
         while search.next < search.order.len() {
             search.expand(&self.states)?;
         }
@@ -325,6 +354,35 @@ fn add_pattern<L: EdgeLabel, V: Copy, A: Allocator + Copy>(
     Ok(())
 }
 
+/// Whether links end at a state: at each with an own output, if matches are leftmost.
+fn stops<L: EdgeLabel, V: Copy, A: Allocator>(
+    states: &[NfaBuilderState<L, V, A>],
+    leftmost: bool,
+    id: u32,
+) -> bool
+    requires { id < length states.now }
+    ensures { result ≡ stops_of leftmost states.now id }
+{
+    leftmost && !states[id as usize].output.is_empty()
+}
+
+/// The link of a child of the root.
+fn first_link<L: EdgeLabel, V: Copy, A: Allocator>(
+    states: &[NfaBuilderState<L, V, A>],
+    leftmost: bool,
+    child: u32,
+) -> u32
+    requires table { HoldTrie L.cmp states.now }
+    requires edge { (c : L) × (child_of L.cmp states.now 0 c ≡ Some child) }
+    ensures link { IsLeftFailOf (child_of L.cmp states.now) (stops_of leftmost states.now) child result }
+    ensures among { IsLinkAmong [] result }
+{
+    if stops(states, leftmost, ROOT_STATE_ID) || stops(states, leftmost, child) {
+        return DEAD_STATE_ID;
+    }
+    ROOT_STATE_ID
+}
+
 /// A breadth-first walk over a trie, with the links found so far.
 #[derive(Drop)]
 struct Search<A: Allocator> {
@@ -332,32 +390,41 @@ struct Search<A: Allocator> {
     links: Vec<u32, A>,
     order: Vec<u32, A>,
     next: usize,
+    // Whether a state with an own output ends the links.
+    leftmost: bool,
 }
 
 impl<A: Allocator + Copy> Search<A> {
     /// The walk that has left the root.
-    fn new<L: EdgeLabel, V: Copy>(alloc: A, states: &[NfaBuilderState<L, V, A>]) -> Result<Self>
+    fn new<L: EdgeLabel, V: Copy>(
+        alloc: A,
+        states: &[NfaBuilderState<L, V, A>],
+        leftmost: bool,
+    ) -> Result<Self>
         requires { HoldTrie L.cmp states.now }
         ensures search { IfOk result (λ search. Searches L.cmp states.now search []) }
+        ensures kind { IfOk result (λ search. search.leftmost ≡ leftmost) }
         ensures refused { IfErr result IsOutOfMemory }
     {
-        let links = vec![in alloc; 0; states.len()]?;
+        let mut links = vec![in alloc; 0; states.len()]?;
         let root = ROOT_STATE_ID as usize;
         let mut order = Vec::with_capacity(alloc, states.len())?;
-        for child in states[root].edges.values() {
+        for (_, child) in states[root].edges.iter() {
+            links[*child as usize] = first_link(states, leftmost, *child);
             order.push(*child)?;
         }
         Ok(Self {
             links,
             order,
             next: 0,
+            leftmost,
         })
     }
 }
 
 impl<A: Allocator> Search<A> {
     /// The state that `label` leads to from `start` or the first of the links after it with such
-    /// an edge; the root, where none has one.
+    /// an edge: the root where none has one, and the dead state behind a dead link.
     fn follow<L: EdgeLabel, V: Copy>(
         &self,
         states: &[NfaBuilderState<L, V, A>],
@@ -367,7 +434,8 @@ impl<A: Allocator> Search<A> {
         requires table { HoldTrie L.cmp states.now }
         requires search { (pending : List ℕ) × Searches L.cmp states.now self.now pending }
         requires known { IsKnown (take self.now.next self.now.order.items) start }
-        ensures link { LeadsTo L.cmp (edges_of states.now) start label result }
+        requires goes { stops_of self.now.leftmost states.now 0 ≡ false }
+        ensures link { LeadsTo L.cmp (stops_of self.now.leftmost states.now) (edges_of states.now) start label result }
         ensures from { ComesFrom L.cmp (edges_of states.now) (take self.now.next self.now.order.items) label result }
     {
         let mut id = start;
@@ -379,7 +447,31 @@ impl<A: Allocator> Search<A> {
                 return ROOT_STATE_ID;
             }
             id = self.links[id as usize];
+            if id == DEAD_STATE_ID {
+                return DEAD_STATE_ID;
+            }
         }
+    }
+
+    /// The link of the child by `label` of a state whose link is `start`.
+    fn link<L: EdgeLabel, V: Copy>(
+        &self,
+        states: &[NfaBuilderState<L, V, A>],
+        start: u32,
+        label: L,
+        child: u32,
+    ) -> u32
+        requires table { HoldTrie L.cmp states.now }
+        requires search { (pending : List ℕ) × Searches L.cmp states.now self.now pending }
+        requires parent { (s : ℕ) × (1 < s) × (child_of L.cmp states.now s label ≡ Some child) × IsLeftFailOf (child_of L.cmp states.now) (stops_of self.now.leftmost states.now) s start }
+        requires known { IsLinkAmong (take self.now.next self.now.order.items) start }
+        ensures link { IsLeftFailOf (child_of L.cmp states.now) (stops_of self.now.leftmost states.now) child result }
+        ensures from { ComesFrom L.cmp (edges_of states.now) (take self.now.next self.now.order.items) label result }
+    {
+        if start == DEAD_STATE_ID || stops(states, self.leftmost, child) {
+            return DEAD_STATE_ID;
+        }
+        self.follow(states, start, label)
     }
 
     /// Puts the children of the next state into the queue.
@@ -389,12 +481,13 @@ impl<A: Allocator> Search<A> {
         requires more { self.old.next < vec_len self.old.order }
         ensures search { OnOk result (Searches L.cmp states.now self.new []) }
         ensures next { OnOk result (self.new.next ≡ self.old.next + 1) }
+        ensures kind { self.new.leftmost ≡ self.old.leftmost }
         ensures refused { IfErr result IsOutOfMemory }
     {
         let id = self.order[self.next];
         let start = self.links[id as usize];
         for (label, child) in states[id as usize].edges.iter() {
-            let fail = self.follow(states, start, *label);
+            let fail = self.link(states, start, *label, *child);
             self.links[*child as usize] = fail;
             self.order.push(*child)?;
         }

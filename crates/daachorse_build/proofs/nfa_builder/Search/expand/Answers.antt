@@ -127,3 +127,11 @@ returns-clause-search g c =
     let whole : take (length c.loop-label.yielded) (children (edges_of states) id) ≡ children (edges_of states) id =
       take_all (length c.loop-label.yielded) (children (edges_of states) id) (omega (arith, end.1, length-values_of (get_or (edges_of states) id []), ap length at)) in
     search_next g.L.Ord.cmp g.met.L.Ord.total (edges_of states) (depths_of states) c.requires.table (stops_of c.loop-label.self.leftmost states) s.links.items s.order.items s.next id (rw whole at i.search) i.more i.here
+
+pub offset_bounds-states-id : goal.offset_bounds-states-id
+offset_bounds-states-id g c =
+    let s = c.args.self.now in
+    let more : s.next < length s.order.items = omega arith in
+    let left = left_is g.L.Ord.cmp (stops_of s.leftmost c.args.states.now) (edges_of c.args.states.now) s.links.items s.order.items [] s.next c.index-id.result.now c.requires.search more c.index-id.ensures in
+    let low : c.index-id.result.now < length c.args.states.now = omega (arith, left.3, length-map c.args.states.now (λ s. s.edges)) in
+    omega arith

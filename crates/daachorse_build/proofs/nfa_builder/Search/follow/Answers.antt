@@ -87,3 +87,8 @@ loop-found-preserved g c =
       known = rw fail (elim among [ inl dead ↦ absurd (alive dead) | inr k ↦ k ]);
       same = rw fail (leads_next child stops (λ i. get_or (depths_of states) i 0) (length (edges_of states)) c.requires.table.trie c.args.start c.args.label c.loop-found.id (get_or s.links.items c.loop-found.id 0) c.loop-found.invariant.same c.if-id-eq-ROOT_STATE_ID.false none link alive);
     }
+
+pub returns-in-Some-clause-from : goal.returns-in-Some-clause-from
+returns-in-Some-clause-from g c =
+    let hit : child_in g.L.Ord.cmp (edges_of c.args.states.now) c.loop-found.id c.args.label ≡ Some c.in-Some.found = search rules in
+    inr (inr (c.loop-found.id, c.loop-found.invariant.known, hit))

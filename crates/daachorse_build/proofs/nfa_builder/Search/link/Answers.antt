@@ -1,5 +1,6 @@
 -- A child is dead where its parent's link is, or where it stops; else the links of its parent are followed.
 use Rattle.std.proofs.Common.{◌≡◌, ℕ, ◌⊎◌, true, length, get_or, sym, ◌∙◌, inl, inr, arith}
+use Rattle.std.proofs.lemmas.List.{length-map}
 use Rattle.daachorse_build.specs.Tables.{child_in, edges_of, depths_of, stops_of}
 use Rattle.daachorse_build.proofs.LeftLinks.{link_dead, link_alive, root_goes}
 use Rattle.daachorse_build.proofs.nfa_builder.Search.link.Goals as goal
@@ -27,3 +28,13 @@ returns-clause-link g c =
     let stops = stops_of c.args.self.now.leftmost states in
     let p = c.requires.parent in
     link_alive (child_in g.L.Ord.cmp (edges_of states)) stops (λ i. get_or (depths_of states) i 0) (length (edges_of states)) c.requires.table.trie p.0 c.args.label c.args.child c.args.start c.follow.result p.1 p.2 c.if-start-eq-DEAD_STATE_ID.false (sym c.stops.ensures ∙ c.if-stops.false) p.3 c.follow.ensures.link
+
+pub stops-requires : goal.stops-requires
+stops-requires g c =
+    let p = c.requires.parent in
+    let b = c.requires.table.trie.bounds p.0 c.args.label c.args.child p.2 in
+    omega (arith, b.3, length-map c.args.states.now (λ s. s.edges))
+
+pub follow-requires-clause-known : goal.follow-requires-clause-known
+follow-requires-clause-known g c =
+    elim c.requires.known [ inl dead ↦ absurd (c.if-start-eq-DEAD_STATE_ID.false dead) | inr known ↦ known ]

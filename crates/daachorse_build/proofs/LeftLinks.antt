@@ -1,8 +1,8 @@
 -- How the link of a child is found in leftmost searches.
-use Rattle.std.proofs.Common.{◌≡◌, ◌≢◌, ℕ, zero, suc, ◌+◌, ◌-◌, ◌<◌, ◌≤◌, ◌⊎◌, Bool, true, false, cond, List, [], ◌∷◌, ◌++◌, length, Option, Some, None, option_and_then, is_some, refl, sym, ap, ◌∙◌, subst, inl, inr, arith, unwrap_or}
+use Rattle.std.proofs.Common.{◌≡◌, ◌≢◌, ℕ, ◌<◌, ◌≤◌, ◌⊎◌, Bool, true, false, cond, List, [], ◌∷◌, ◌++◌, length, Option, Some, None, option_and_then, is_some, refl, sym, ap, ◌∙◌, subst, inl, inr, arith, unwrap_or}
 use Rattle.std.specs.Prelude.{option_map, ◌||◌}
 use Rattle.std.proofs.lemmas.Option.{none-some, same_Some}
-use Rattle.std.proofs.lemmas.Bool.{cases_Bool, cond-true, cond-false, both_ways, false≢true, or_parts}
+use Rattle.std.proofs.lemmas.Bool.{cases_Bool, cond-true, cond-false, false≢true, or_parts}
 use Rattle.daachorse_model.specs.Paths.{walk, is_reached}
 use Rattle.daachorse_model.specs.Prefixes.{long}
 use Rattle.daachorse_build.specs.Trie.{IsTrie, IsFailOf}
@@ -23,7 +23,7 @@ module _ {A : Type 0} (child : ℕ → A → Option ℕ) (stops : ℕ → Bool) 
       last (Some t) e = absurd (false≢true (sym h ∙ ap is_some (walk-push child s [] c s refl ∙ e)))
   meets_other s (a ∷ as') c h =
       elim (child s a) as (λ o. is_some (option_and_then (λ t. walk child t (as' ++ c ∷ [])) o) ≡ false → (stops s || unwrap_or (option_map (λ t. meets child stops t (as' ++ c ∷ [])) o) false) ≡ (stops s || unwrap_or (option_map (λ t. meets child stops t as') o) false))
-        [ None ↦ λ _. refl | Some t ↦ λ k. ap (λ b. stops s || b) (meets_other t as' c k) ] h
+      [ None ↦ λ _. refl | Some t ↦ λ k. ap (λ b. stops s || b) (meets_other t as' c k) ] h
 
   -- a label more, to a state
   pub meets_push : (s : ℕ) (w : List A) (c : A) (u t : ℕ) → walk child s w ≡ Some u → child u c ≡ Some t → meets child stops s (w ++ c ∷ []) ≡ (meets child stops s w || stops t)
@@ -31,9 +31,10 @@ module _ {A : Type 0} (child : ℕ → A → Option ℕ) (stops : ℕ → Bool) 
       let at : child s c ≡ Some t = ap (λ x. child x c) (same_Some s u h) ∙ e in
       ap (λ o. stops s || unwrap_or (option_map (λ x. stops x) o) false) at
   meets_push s (a ∷ as') c u t h e =
-      elim (child s a) as (λ o. option_and_then (λ x. walk child x as') o ≡ Some u → (stops s || unwrap_or (option_map (λ x. meets child stops x (as' ++ c ∷ [])) o) false) ≡ ((stops s || unwrap_or (option_map (λ x. meets child stops x as') o) false) || stops t))
-        [ None ↦ λ k. absurd (none-some u k)
-        | Some x ↦ λ k. ap (λ b. stops s || b) (meets_push x as' c u t k e) ∙ or_assoc (stops s) (meets child stops x as') (stops t) ] h
+      elim (child s a) as (λ o. option_and_then (λ x. walk child x as') o ≡ Some u → (stops s || unwrap_or (option_map (λ x. meets child stops x (as' ++ c ∷ [])) o) false) ≡ ((stops s || unwrap_or (option_map (λ x. meets child stops x as') o) false) || stops t)) [
+        | None ↦ λ k. absurd (none-some u k)
+        | Some x ↦ λ k. ap (λ b. stops s || b) (meets_push x as' c u t k e) ∙ or_assoc (stops s) (meets child stops x as') (stops t)
+      ] h
     where
       or_assoc : (p q r : Bool) → (p || (q || r)) ≡ ((p || q) || r)
       or_assoc true q r = refl
@@ -53,14 +54,16 @@ module _ {A : Type 0} (child : ℕ → A → Option ℕ) (stops : ℕ → Bool) 
   -- ---- one label more
   none_step : (a : A) (as' : List A) (c : A) → long_unless_stop child stops (a ∷ as') ≡ None → (long_unless_stop child stops as' ≡ None → long_unless_stop child stops (as' ++ c ∷ []) ≡ None) → long_unless_stop child stops ((a ∷ as') ++ c ∷ []) ≡ None
   none_step a as' c h ih =
-      elim (cases_Bool (is_reached child (a ∷ as')))
-        [ inl state ↦ absurd (none-some (a ∷ as') (sym h ∙ left_state (a ∷ as') state))
+      elim (cases_Bool (is_reached child (a ∷ as'))) [
+        | inl state ↦ absurd (none-some (a ∷ as') (sym h ∙ left_state (a ∷ as') state))
         | inr other ↦
             let more = is_reached-push child (a ∷ as') c other in
             let met = meets_other 0 (a ∷ as') c more in
-            elim (cases_Bool (meets child stops 0 (a ∷ as')))
-              [ inl yes' ↦ left_met a (as' ++ c ∷ []) more (met ∙ yes')
-              | inr no' ↦ left_rest a (as' ++ c ∷ []) more (met ∙ no') ∙ ih (sym (left_rest a as' other no') ∙ h) ] ]
+            elim (cases_Bool (meets child stops 0 (a ∷ as'))) [
+              | inl yes' ↦ left_met a (as' ++ c ∷ []) more (met ∙ yes')
+              | inr no' ↦ left_rest a (as' ++ c ∷ []) more (met ∙ no') ∙ ih (sym (left_rest a as' other no') ∙ h)
+            ]
+      ]
 
   pub left_push_none : (w : List A) (c : A) → long_unless_stop child stops w ≡ None → long_unless_stop child stops (w ++ c ∷ []) ≡ None
   left_push_none [] c h = absurd (none-some [] (sym h))
@@ -68,14 +71,16 @@ module _ {A : Type 0} (child : ℕ → A → Option ℕ) (stops : ℕ → Bool) 
 
   some_step : (a : A) (as' : List A) (c : A) (x : List A) → long_unless_stop child stops (a ∷ as') ≡ Some x → (long_unless_stop child stops as' ≡ Some x → long_unless_stop child stops (as' ++ c ∷ []) ≡ long_unless_stop child stops (x ++ c ∷ [])) → long_unless_stop child stops ((a ∷ as') ++ c ∷ []) ≡ long_unless_stop child stops (x ++ c ∷ [])
   some_step a as' c x h ih =
-      elim (cases_Bool (is_reached child (a ∷ as')))
-        [ inl state ↦ ap (λ v. long_unless_stop child stops (v ++ c ∷ [])) (same_Some (a ∷ as') x (sym (left_state (a ∷ as') state) ∙ h))
+      elim (cases_Bool (is_reached child (a ∷ as'))) [
+        | inl state ↦ ap (λ v. long_unless_stop child stops (v ++ c ∷ [])) (same_Some (a ∷ as') x (sym (left_state (a ∷ as') state) ∙ h))
         | inr other ↦
             let more = is_reached-push child (a ∷ as') c other in
             let met = meets_other 0 (a ∷ as') c more in
-            elim (cases_Bool (meets child stops 0 (a ∷ as')))
-              [ inl yes' ↦ absurd (none-some x (sym (left_met a as' other yes') ∙ h))
-              | inr no' ↦ left_rest a (as' ++ c ∷ []) more (met ∙ no') ∙ ih (sym (left_rest a as' other no') ∙ h) ] ]
+            elim (cases_Bool (meets child stops 0 (a ∷ as'))) [
+              | inl yes' ↦ absurd (none-some x (sym (left_met a as' other yes') ∙ h))
+              | inr no' ↦ left_rest a (as' ++ c ∷ []) more (met ∙ no') ∙ ih (sym (left_rest a as' other no') ∙ h)
+            ]
+      ]
 
   pub left_push_some : (w : List A) (c : A) (x : List A) → long_unless_stop child stops w ≡ Some x → long_unless_stop child stops (w ++ c ∷ []) ≡ long_unless_stop child stops (x ++ c ∷ [])
   left_push_some [] c x h = ap (λ v. long_unless_stop child stops (v ++ c ∷ [])) (same_Some [] x h)
@@ -92,9 +97,10 @@ module _ {A : Type 0} (child : ℕ → A → Option ℕ) (stops : ℕ → Bool) 
       let missing : is_reached child ((d ∷ ds) ++ c ∷ []) ≡ false = ap is_some (walk-push child 0 (d ∷ ds) c id at ∙ none) in
       let met = meets_other 0 (d ∷ ds) c missing in
       let P : Option (List A) → Type 0 = λ o. IsStateOf child o f in
-      elim (cases_Bool (meets child stops 0 (d ∷ ds)))
-        [ inl yes' ↦ inl (subst P (cond-true _ _ _ yes') (link d ds at), left_met d (ds ++ c ∷ []) missing (met ∙ yes'))
-        | inr no' ↦ at_option d ds c f (long_unless_stop child stops ds) refl (subst P (cond-false _ _ _ no') (link d ds at)) (left_rest d (ds ++ c ∷ []) missing (met ∙ no')) ]
+      elim (cases_Bool (meets child stops 0 (d ∷ ds))) [
+        | inl yes' ↦ inl (subst P (cond-true _ _ _ yes') (link d ds at), left_met d (ds ++ c ∷ []) missing (met ∙ yes'))
+        | inr no' ↦ at_option d ds c f (long_unless_stop child stops ds) refl (subst P (cond-false _ _ _ no') (link d ds at)) (left_rest d (ds ++ c ∷ []) missing (met ∙ no'))
+      ]
 
   -- at the root, which doesn't stop
   pub left_root : (c : A) → child 0 c ≡ None → stops 0 ≡ false → long_unless_stop child stops (c ∷ []) ≡ Some []
@@ -127,12 +133,14 @@ module _ {A : Type 0} (child : ℕ → A → Option ℕ) (stops : ℕ → Bool) 
     none_link : (c : A) (s t : ℕ) (d : A) (ds : List A) → walk child 0 (d ∷ ds) ≡ Some s → child s c ≡ Some t → (o : Option (List A)) → left_link child stops d ds ≡ o → IsStateOf child o 1 → left_link child stops d (ds ++ c ∷ []) ≡ None
     none_link c s t d ds at edge (Some x) e is = absurd ((walk-bounds child depth n trie x 1 is).1 refl)
     none_link c s t d ds at edge None e is =
-        elim (cases_Bool (meets child stops 0 (d ∷ ds)))
-          [ inl yes' ↦ cond-true _ _ _ (meets_push 0 (d ∷ ds) c s t at edge ∙ ap (λ b. b || stops t) yes')
+        elim (cases_Bool (meets child stops 0 (d ∷ ds))) [
+          | inl yes' ↦ cond-true _ _ _ (meets_push 0 (d ∷ ds) c s t at edge ∙ ap (λ b. b || stops t) yes')
           | inr no' ↦
-              elim (cases_Bool (meets child stops 0 ((d ∷ ds) ++ c ∷ [])))
-                [ inl a ↦ cond-true _ _ _ a
-                | inr b ↦ cond-false _ _ _ b ∙ left_push_none ds c (sym (cond-false _ _ _ no') ∙ e) ] ]
+              elim (cases_Bool (meets child stops 0 ((d ∷ ds) ++ c ∷ []))) [
+                | inl a ↦ cond-true _ _ _ a
+                | inr b ↦ cond-false _ _ _ b ∙ left_push_none ds c (sym (cond-false _ _ _ no') ∙ e)
+              ]
+        ]
 
     -- a child of a state whose link is dead
     pub dead_by_parent : (s : ℕ) (c : A) (t : ℕ) (d : A) (ds : List A) → walk child 0 (d ∷ ds) ≡ Some s → child s c ≡ Some t → IsLeftFailOf child stops s 1 → IsLeftFailOf child stops t 1
@@ -143,13 +151,14 @@ module _ {A : Type 0} (child : ℕ → A → Option ℕ) (stops : ℕ → Bool) 
     some_link : (c : A) (s t f r : ℕ) (d : A) (ds : List A) → walk child 0 (d ∷ ds) ≡ Some s → child s c ≡ Some t → f ≢ 1 → stops t ≡ false → (o : Option (List A)) → left_link child stops d ds ≡ o → IsStateOf child o f → ((x : List A) → walk child 0 x ≡ Some f → IsStateOf child (long_unless_stop child stops (x ++ c ∷ [])) r) → IsStateOf child (left_link child stops d (ds ++ c ∷ [])) r
     some_link c s t f r d ds at edge ne go None e is to = absurd (ne is)
     some_link c s t f r d ds at edge ne go (Some x) e is to =
-        elim (cases_Bool (meets child stops 0 (d ∷ ds)))
-          [ inl yes' ↦ absurd (none-some x (sym (cond-true _ _ _ yes') ∙ e))
+        elim (cases_Bool (meets child stops 0 (d ∷ ds))) [
+          | inl yes' ↦ absurd (none-some x (sym (cond-true _ _ _ yes') ∙ e))
           | inr no' ↦
               let met : meets child stops 0 ((d ∷ ds) ++ c ∷ []) ≡ false = meets_push 0 (d ∷ ds) c s t at edge ∙ ap (λ b. b || stops t) no' ∙ go in
               let rest : long_unless_stop child stops ds ≡ Some x = sym (cond-false _ _ _ no') ∙ e in
               let P : Option (List A) → Type 0 = λ o. IsStateOf child o r in
-              subst P (sym (cond-false _ _ _ met ∙ left_push_some ds c x rest)) (to x is) ]
+              subst P (sym (cond-false _ _ _ met ∙ left_push_some ds c x rest)) (to x is)
+        ]
 
     -- a child that doesn't stop, of a state whose link is alive
     pub link_by_walk : (s : ℕ) (c : A) (t f r : ℕ) (d : A) (ds : List A) → walk child 0 (d ∷ ds) ≡ Some s → child s c ≡ Some t → f ≢ 1 → stops t ≡ false → IsLeftFailOf child stops s f → ((x : List A) → walk child 0 x ≡ Some f → IsStateOf child (long_unless_stop child stops (x ++ c ∷ [])) r) → IsLeftFailOf child stops t r
@@ -167,9 +176,10 @@ module _ {A : Type 0} (child : ℕ → A → Option ℕ) (stops : ℕ → Bool) 
         let R : Option (List A) → Type 0 = λ o. IsStateOf child o r in
         let met = meets_push 0 [] c 0 t refl edge in
         subst P (sym head) (subst Q (sym tail)
-          (elim (cases_Bool (stops 0 || stops t))
-            [ inl yes' ↦ subst R (sym (cond-true _ _ _ (met ∙ yes'))) (dead yes')
-            | inr no' ↦ subst R (sym (cond-false _ _ _ (met ∙ no'))) (ap Some (sym (alive no'))) ]))
+        (elim (cases_Bool (stops 0 || stops t)) [
+          | inl yes' ↦ subst R (sym (cond-true _ _ _ (met ∙ yes'))) (dead yes')
+          | inr no' ↦ subst R (sym (cond-false _ _ _ (met ∙ no'))) (ap Some (sym (alive no')))
+        ]))
 
     -- ---- along the links of a state, none of which is dead so far
     pub root_goes : (s f : ℕ) → 1 < s → s < n → f ≢ 1 → IsLeftFailOf child stops s f → stops 0 ≡ false
@@ -181,7 +191,7 @@ module _ {A : Type 0} (child : ℕ → A → Option ℕ) (stops : ℕ → Bool) 
         met d ds None e is = absurd (ne is)
         met d ds (Some x) e is =
             elim (cases_Bool (meets child stops 0 (d ∷ ds)))
-              [ inl yes' ↦ absurd (none-some x (sym (cond-true _ _ _ yes') ∙ e)) | inr no' ↦ no' ]
+            [ inl yes' ↦ absurd (none-some x (sym (cond-true _ _ _ yes') ∙ e)) | inr no' ↦ no' ]
 
         at : (w : List A) → walk child 0 w ≡ Some s → stops 0 ≡ false
         at [] h = absurd (omega (arith, same_Some 0 s h, low))
@@ -221,24 +231,27 @@ module _ {A : Type 0} (child : ℕ → A → Option ℕ) (stops : ℕ → Bool) 
     pub leads_dead : (start : ℕ) (c : A) (id f : ℕ) → LeadsAs start c id → id ≢ 0 → child id c ≡ None → IsLeftFailOf child stops id f → f ≡ 1 → LeadsTo start c 1
     leads_dead start c id f same ne none link dead w h =
         let v = same w h in
-        elim (next_at c id f v.0 v.1 ne none link)
-          [ inl a ↦ state_along _ _ 1 (sym a.1 ∙ v.2) refl
-          | inr u ↦ absurd ((walk-bounds child depth n trie u.0 f u.1).1 dead) ]
+        elim (next_at c id f v.0 v.1 ne none link) [
+          | inl a ↦ state_along _ _ 1 (sym a.1 ∙ v.2) refl
+          | inr u ↦ absurd ((walk-bounds child depth n trie u.0 f u.1).1 dead)
+        ]
 
     pub leads_next : (start : ℕ) (c : A) (id f : ℕ) → LeadsAs start c id → id ≢ 0 → child id c ≡ None → IsLeftFailOf child stops id f → f ≢ 1 → LeadsAs start c f
     leads_next start c id f same ne none link alive w h =
         let v = same w h in
         elim (next_at c id f v.0 v.1 ne none link)
-          [ inl a ↦ absurd (alive a.0) | inr u ↦ (u.0, u.1, u.2 ∙ v.2) ]
+        [ inl a ↦ absurd (alive a.0) | inr u ↦ (u.0, u.1, u.2 ∙ v.2) ]
 
     length_step : (a : A) (as' x : List A) → long_unless_stop child stops (a ∷ as') ≡ Some x → (long_unless_stop child stops as' ≡ Some x → length x ≤ length as') → length x ≤ length (a ∷ as')
     length_step a as' x h ih =
-        elim (cases_Bool (is_reached child (a ∷ as')))
-          [ inl state ↦ let e : a ∷ as' ≡ x = same_Some (a ∷ as') x (sym (left_state (a ∷ as') state) ∙ h) in omega (arith, ap length e)
+        elim (cases_Bool (is_reached child (a ∷ as'))) [
+          | inl state ↦ let e : a ∷ as' ≡ x = same_Some (a ∷ as') x (sym (left_state (a ∷ as') state) ∙ h) in omega (arith, ap length e)
           | inr other ↦
-              elim (cases_Bool (meets child stops 0 (a ∷ as')))
-                [ inl yes' ↦ absurd (none-some x (sym (left_met a as' other yes') ∙ h))
-                | inr no' ↦ omega (arith, ih (sym (left_rest a as' other no') ∙ h)) ] ]
+              elim (cases_Bool (meets child stops 0 (a ∷ as'))) [
+                | inl yes' ↦ absurd (none-some x (sym (left_met a as' other yes') ∙ h))
+                | inr no' ↦ omega (arith, ih (sym (left_rest a as' other no') ∙ h))
+              ]
+        ]
 
     length-long_unless_stop : (w x : List A) → long_unless_stop child stops w ≡ Some x → length x ≤ length w
     length-long_unless_stop [] x h = omega (arith, ap length (same_Some [] x h))
@@ -246,9 +259,10 @@ module _ {A : Type 0} (child : ℕ → A → Option ℕ) (stops : ℕ → Bool) 
 
     link_length : (d : A) (ds x : List A) → left_link child stops d ds ≡ Some x → length x ≤ length ds
     link_length d ds x e =
-        elim (cases_Bool (meets child stops 0 (d ∷ ds)))
-          [ inl yes' ↦ absurd (none-some x (sym (cond-true _ _ _ yes') ∙ e))
-          | inr no' ↦ length-long_unless_stop ds x (sym (cond-false _ _ _ no') ∙ e) ]
+        elim (cases_Bool (meets child stops 0 (d ∷ ds))) [
+          | inl yes' ↦ absurd (none-some x (sym (cond-true _ _ _ yes') ∙ e))
+          | inr no' ↦ length-long_unless_stop ds x (sym (cond-false _ _ _ no') ∙ e)
+        ]
 
     less_at : (id f : ℕ) (w : List A) → walk child 0 w ≡ Some id → 1 < id → f ≢ 1 → IsLeftFailOf child stops id f → depth f < depth id
     less_at id f [] at low ne link = absurd (omega (arith, same_Some 0 id at, low))

@@ -1,5 +1,5 @@
 -- Links of leftmost searches, where some states stop. For a standard search no state stops.
-use Rattle.std.specs.Prelude.{◌≡◌, ℕ, Bool, true, false, ◌||◌, cond, List, [], ◌∷◌, Option, Some, None, option_map, unwrap_or}
+use Rattle.std.specs.Prelude.{◌≡◌, ℕ, Bool, false, ◌||◌, cond, List, [], ◌∷◌, Option, Some, None, option_map, unwrap_or}
 use Rattle.daachorse_model.specs.Paths.{is_reached, Leads}
 
 module _ {A : Type 0} (child : ℕ → A → Option ℕ) (stops : ℕ → Bool) where

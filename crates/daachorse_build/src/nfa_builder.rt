@@ -649,6 +649,21 @@ mod tests {
     }
 
     #[test]
+    fn links_behind_a_pattern_are_dead(rt: HostRuntime) -> Result<(), Fail> {
+        let alloc = rt.alloc();
+        let mut builder = NfaBuilder::<u8, u32>::new(alloc, MatchKind::Standard)?;
+        builder.add(b"abc", 0)?;
+        builder.add(b"bd", 1)?;
+        builder.add(b"bdab", 2)?;
+        let order = builder.build_fails_leftmost(alloc)?;
+        assert_eq!(rt; order.as_slice(), [2, 5, 3, 6, 4, 7, 8].as_slice());
+        let (states, _) = builder.into_parts();
+        let fails: Vec<u32> = states.iter().map(|state| state.fail()).collect(alloc)?;
+        assert_eq!(rt; fails.as_slice(), [0, 0, 0, 5, 1, 0, 1, 1, 1].as_slice());
+        Ok(())
+    }
+
+    #[test]
     fn builds_the_empty_automaton(rt: HostRuntime) -> Result<(), Fail> {
         let alloc = rt.alloc();
         let mut builder = NfaBuilder::<u8, u32>::new(alloc, MatchKind::Standard)?;

@@ -1,5 +1,5 @@
 -- A state stops where its list of own outputs is not empty, if matches are leftmost.
-use Rattle.std.proofs.Common.{◌≡◌, true, length, List, [], ℕ, get_or, vec_len, sym, ap, ◌∙◌, arith}
+use Rattle.std.proofs.Common.{◌≡◌, length, [], get_or, vec_len, sym, ap, ◌∙◌, arith}
 use Rattle.std.specs.Prelude.{not, ◌&&◌, ◌==◌}
 use Rattle.std.proofs.lemmas.List.{get_or-map}
 use Rattle.daachorse_build.specs.Tables.{own_of, own_at}

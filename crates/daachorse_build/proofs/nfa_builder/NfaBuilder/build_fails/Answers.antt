@@ -1,5 +1,5 @@
 -- Where no state stops, the leftmost links are the standard ones.
-use Rattle.std.proofs.Common.{◌≡◌, ◌<◌, ℕ, false, List, length, refl, sym, subst, arith, Result, Ok, Err, IfOk}
+use Rattle.std.proofs.Common.{ℕ, false, List, refl, sym, subst, arith, Result, Ok, Err, IfOk}
 use Rattle.std.proofs.lemmas.List.{length-map}
 use Rattle.daachorse_build.specs.Tables.{edges_of, depths_of, fails_of, stops_of, IsTable}
 use Rattle.daachorse_build.proofs.Queue.{linked_of_left}

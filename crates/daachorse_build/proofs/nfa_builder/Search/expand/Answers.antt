@@ -1,17 +1,14 @@
 -- One child more goes into the queue, with the link that following the links found.
-use Rattle.std.proofs.Common.{rules, ◌≡◌, ◌≢◌, ℕ, Bool, ◌+◌, ◌<◌, ◌≤◌, List, [], ◌∷◌, ◌++◌, length, take, get_or, set, map, vec_len, Some, refl, sym, ap, ◌∙◌, subst, arith}
+use Rattle.std.proofs.Common.{◌≡◌, ℕ, Bool, ◌<◌, List, [], ◌∷◌, ◌++◌, length, take, get_or, refl, sym, ap, ◌∙◌, subst, arith}
 use Rattle.std.proofs.lemmas.List.{length-map, get_or-map, get_or_read, length_push, take_all, get_or_append_left, take-append-le}
 use Rattle.std.proofs.lemmas.Map.Iter.{iter_turn, iter_end}
 use Rattle.std.specs.Map.Iter.{deref_pair}
 use Rattle.std.proofs.lemmas.Map.Entries.{length-values_of}
-use Rattle.std.specs.Map.{values_of}
 use Rattle.std.specs.declared.cmp.Ordering.{Ordering}
-use Rattle.std.specs.List.{slice_get}
-use Rattle.daachorse_build.specs.Tables.{child_in, child_of, edges_of, depths_of, stops_of}
-use Rattle.daachorse_build.specs.Left.{IsLeftFailOf}
+use Rattle.daachorse_build.specs.Tables.{edges_of, depths_of, stops_of}
 use Rattle.daachorse_build.specs.Orders.{IsLinkAmong, IsIn, IsSearch, children}
 use Rattle.daachorse_build.specs.declared.nfa_builder.NfaBuilderState.{NfaBuilderState}
-use Rattle.daachorse_build.proofs.Queue.{in_at, in_equal, link_is_known, search_push, search_next, child_at_place}
+use Rattle.daachorse_build.proofs.Queue.{in_at, in_equal, search_push, search_next, child_at_place}
 use Rattle.daachorse_build.proofs.nfa_builder.Search.expand.Goals as goal
 
 -- the edges of the state at an index
@@ -125,7 +122,7 @@ returns-clause-search g c =
     let low : id < length states = omega (arith, left.3, length-map states (λ s. s.edges)) in
     let at = entries_at states id c.index-states-id.result low c.index-states-id.is in
     let whole : take (length c.loop-label.yielded) (children (edges_of states) id) ≡ children (edges_of states) id =
-      take_all (length c.loop-label.yielded) (children (edges_of states) id) (omega (arith, end.1, length-values_of (get_or (edges_of states) id []), ap length at)) in
+    take_all (length c.loop-label.yielded) (children (edges_of states) id) (omega (arith, end.1, length-values_of (get_or (edges_of states) id []), ap length at)) in
     search_next g.L.Ord.cmp g.met.L.Ord.total (edges_of states) (depths_of states) c.requires.table (stops_of c.loop-label.self.leftmost states) s.links.items s.order.items s.next id (rw whole at i.search) i.more i.here
 
 pub offset_bounds-states-id : goal.offset_bounds-states-id

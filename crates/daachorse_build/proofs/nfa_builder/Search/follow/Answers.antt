@@ -1,9 +1,9 @@
 -- A state with an edge ends the search, and so do the root and a dead link; else the link goes on.
-use Rattle.std.proofs.Common.{rules, ◌≡◌, ◌≢◌, ℕ, ◌<◌, ◌⊎◌, List, [], length, take, get_or, Some, None, refl, sym, ap, ◌∙◌, subst, inl, inr, arith}
+use Rattle.std.proofs.Common.{rules, ◌≡◌, ◌≢◌, ℕ, ◌<◌, length, get_or, Some, None, sym, ap, ◌∙◌, subst, inl, inr, arith}
 use Rattle.std.proofs.lemmas.List.{length-map, get_or_read}
-use Rattle.daachorse_build.specs.Tables.{child_in, edges_of, depths_of, stops_of, HoldTrie}
-use Rattle.daachorse_build.specs.Orders.{IsKnown, IsIn}
-use Rattle.daachorse_build.proofs.LeftLinks.{leads_start, leads_hit, leads_root, leads_dead, leads_next, depth-link, LeadsAs}
+use Rattle.daachorse_build.specs.Tables.{child_in, edges_of, depths_of, stops_of}
+use Rattle.daachorse_build.specs.Orders.{IsIn}
+use Rattle.daachorse_build.proofs.LeftLinks.{leads_hit, leads_root, leads_dead, leads_next, depth-link, LeadsAs}
 use Rattle.daachorse_build.proofs.Queue.{known_bounds, known_link, in_take, known_but_root}
 use Rattle.daachorse_build.proofs.nfa_builder.Search.follow.Goals as goal
 

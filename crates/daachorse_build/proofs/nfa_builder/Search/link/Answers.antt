@@ -1,5 +1,5 @@
 -- A child is dead where its parent's link is, or where it stops; else the links of its parent are followed.
-use Rattle.std.proofs.Common.{◌≡◌, ℕ, ◌⊎◌, true, length, get_or, sym, ◌∙◌, inl, inr, arith}
+use Rattle.std.proofs.Common.{◌≡◌, ◌⊎◌, true, length, get_or, sym, ◌∙◌, inl, inr, arith}
 use Rattle.std.proofs.lemmas.List.{length-map}
 use Rattle.daachorse_build.specs.Tables.{child_in, edges_of, depths_of, stops_of}
 use Rattle.daachorse_build.proofs.LeftLinks.{link_dead, link_alive, root_goes}

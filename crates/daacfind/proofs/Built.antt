@@ -16,10 +16,10 @@ numbered_of i [] ((u, v) ∷ rs) h = absurd h
 numbered_of i (t ∷ ts) [] h = absurd h
 numbered_of i (t ∷ ts) ((u, v) ∷ rs) h = let first = h.1.1 in let rest = numbered_of (i + 1) ts rs h.2 in cc (first, rest, h.0)
 
-content_of : (texts : List (List ℕ)) (a : Parts ℕ) → IsBuiltOf value_gives texts a → content a ≡ dictionary Standard (numbered 0 texts)
+content_of : (texts : List (List ℕ)) (a : Parts ℕ) → IsBuiltOf value_gives Standard texts a → content a ≡ dictionary Standard (numbered 0 texts)
 content_of texts a h = let held : content a ≡ dictionary Standard h.0 = λ i w. h.2 w i in held ∙ ap (dictionary Standard) (numbered_of 0 texts h.0 h.1)
 
 -- so what a mode writes is the text that the pattern file asks for
-pub text_of_built : (mode : Mode) (patterns haystack : List ℕ) (a : Parts ℕ) → IsBuiltOf value_gives (pattern_lines patterns) a
+pub text_of_built : (mode : Mode) (patterns haystack : List ℕ) (a : Parts ℕ) → IsBuiltOf value_gives Standard (pattern_lines patterns) a
     → match_text (found_by mode (content a) haystack) ≡ text_of_mode mode patterns haystack
 text_of_built mode patterns haystack a h = ap (λ K. match_text (found_by mode K haystack)) (content_of (pattern_lines patterns) a h)

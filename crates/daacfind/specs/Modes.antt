@@ -4,18 +4,22 @@ use Rattle.daachorse_model.specs.declared.Match.{Match}
 use Rattle.daachorse_model.specs.declared.MatchKind.TheVariants.{Standard}
 use Rattle.daachorse_model.specs.Units.{byte_width}
 use Rattle.daachorse_model.specs.Dictionary.{Dictionary, dictionary}
-use Rattle.daachorse_model.specs.Matches.{overlapping}
+use Rattle.daachorse_model.specs.Matches.{no_suffix, overlapping, standard}
 use Rattle.daachorse_model.specs.Program.{pattern_lines, numbered, match_text}
 use Rattle.daacfind.specs.declared.mode.Mode.{Mode}
-use Rattle.daacfind.specs.declared.mode.Mode.TheVariants.{Overlapping}
+use Rattle.daacfind.specs.declared.mode.Mode.TheVariants.{Overlapping, NoSuffix, Find}
 
 -- the word that names a mode
 abbrev pub word_of : Mode → List ℕ
 word_of Overlapping = codes "overlapping"
+word_of NoSuffix = codes "nosuffix"
+word_of Find = codes "find"
 
 -- what a mode finds in a haystack, for a dictionary K
 abbrev pub found_by : Mode → Dictionary ℕ → List ℕ → List (Match ℕ)
 found_by Overlapping K haystack = overlapping byte_width K haystack
+found_by NoSuffix K haystack = no_suffix byte_width K haystack
+found_by Find K haystack = standard byte_width K haystack
 
 -- what is written of it, where the dictionary has the lines of a pattern file, each with its number
 abbrev pub text_of_mode : Mode → List ℕ → List ℕ → List ℕ

@@ -8,6 +8,10 @@ ghost use Rattle.daacfind.specs.Modes.{word_of};
 pub enum Mode {
     /// Every match, also those that overlap.
     Overlapping,
+    /// Of every match the longest at each end.
+    NoSuffix,
+    /// Matches that do not overlap.
+    Find,
 }
 
 impl Mode {
@@ -17,6 +21,8 @@ impl Mode {
     {
         match word {
             "overlapping" => Some(Mode::Overlapping),
+            "nosuffix" => Some(Mode::NoSuffix),
+            "find" => Some(Mode::Find),
             _ => None,
         }
     }

@@ -8,6 +8,7 @@ ghost use Rattle.std.specs.Iterator.{AlwaysYields, IsFinite};
 ghost use Rattle.std.specs.List.{slice_split};
 ghost use Rattle.std.specs.Io.KnownBytes.{Appends, Keeps};
 ghost use Rattle.daachorse_model.specs.declared.Match.{Match};
+ghost use Rattle.daachorse_model.specs.declared.MatchKind.TheVariants.{Standard};
 ghost use Rattle.daachorse_model.specs.Program.{pattern_lines, match_line, match_text};
 ghost use Rattle.daachorse_bytewise.specs.Building.{IsBuiltOf, IsBuildRefusal};
 ghost use Rattle.daachorse_bytewise.specs.Content.{content};
@@ -76,7 +77,7 @@ pub fn run<S: Sink, A: Allocator + Copy>(
     ensures unfailed { OnOk result (S.failures out.new ≡ S.failures out.old) }
     ensures beginning { IfErr result (λ e. OnWrite e (AppendsBeginning (S.taken out.old) (S.taken out.new) (text_of_mode mode patterns.now haystack.now))) }
     ensures failed { IfErr result (λ e. OnWrite e (S.failures out.new ≡ S.failures out.old + 1)) }
-    ensures refusal { IfErr result (λ e. IfBuild e (IsBuildRefusal value_gives (pattern_lines patterns.now))) }
+    ensures refusal { IfErr result (λ e. IfBuild e (IsBuildRefusal value_gives Standard (pattern_lines patterns.now))) }
     ensures unwritten { IfErr result (λ e. IfBuild e (λ _. Keeps (S.taken out.old) (S.taken out.new))) }
     ensures untried { IfErr result (λ e. IfBuild e (λ _. S.failures out.new ≡ S.failures out.old)) }
 {
@@ -91,8 +92,8 @@ fn build<A: Allocator + Copy>(
     alloc: A,
     file: &[u8],
 ) -> Result<DoubleArrayAhoCorasick<u32, A>, DaachorseError>
-    ensures built { IfOk result (IsBuiltOf value_gives (pattern_lines file.now)) }
-    ensures refused { IfErr result (IsBuildRefusal value_gives (pattern_lines file.now)) }
+    ensures built { IfOk result (IsBuiltOf value_gives Standard (pattern_lines file.now)) }
+    ensures refused { IfErr result (IsBuildRefusal value_gives Standard (pattern_lines file.now)) }
 {
     let patterns = lines(alloc, file)?;
     DoubleArrayAhoCorasick::new(alloc, patterns.iter().copied())
@@ -139,6 +140,8 @@ fn write_mode<S: Sink, A: Allocator + Copy>(
 {
     match mode {
         Mode::Overlapping => write_matches(automaton.find_overlapping_iter(haystack), out),
+        Mode::NoSuffix => write_matches(automaton.find_overlapping_no_suffix_iter(haystack), out),
+        Mode::Find => write_matches(automaton.find_iter(haystack), out),
     }
 }
 

@@ -13,7 +13,7 @@ use std::test::Fail;
 
 const USAGE: &[u8] = b"usage: daacfind overlapping|nosuffix|find|longest|first PATTERNS HAYSTACK\n";
 
-// Two files, and the number of attempts to read one.
+// A few files, and the number of attempts to read one.
 #[derive(Drop)]
 struct Memory {
     alloc: Global,
@@ -26,6 +26,9 @@ impl Inputs for Memory {
         match name {
             "patterns" => Vec::from_slice(self.alloc, b"bcd\nab\na\n").ok(),
             "haystack" => Vec::from_slice(self.alloc, b"abcd").ok(),
+            "line feed" => Vec::from_slice(self.alloc, b"\n").ok(),
+            "letter" => Vec::from_slice(self.alloc, b"a").ok(),
+            "nothing" => Some(Vec::new(self.alloc)),
             _ => None,
         }
     }
@@ -58,7 +61,7 @@ impl Write for Halting {
 
 #[test]
 fn a_command_tells_its_status_and_its_cause(rt: HostRuntime) -> Result<(), Fail> {
-    let rows: [(&[Option<&str>], u8, &[u8], &[u8], u64); 8] = [
+    let rows: [(&[Option<&str>], u8, &[u8], &[u8], u64); 12] = [
         (&[], 2, b"", USAGE, 0),
         (&[Some("overlapping"), Some("patterns")], 2, b"", USAGE, 0),
         (
@@ -105,6 +108,34 @@ fn a_command_tells_its_status_and_its_cause(rt: HostRuntime) -> Result<(), Fail>
             &[Some("overlapping"), Some("patterns"), Some("haystack")],
             0,
             b"0 1 2\n0 2 1\n1 4 0\n",
+            b"",
+            2,
+        ),
+        (
+            &[Some("nosuffix"), Some("patterns"), Some("haystack")],
+            0,
+            b"0 1 2\n0 2 1\n1 4 0\n",
+            b"",
+            2,
+        ),
+        (
+            &[Some("find"), Some("patterns"), Some("haystack")],
+            0,
+            b"0 1 2\n1 4 0\n",
+            b"",
+            2,
+        ),
+        (
+            &[Some("find"), Some("line feed"), Some("letter")],
+            0,
+            b"0 0 0\n1 1 0\n",
+            b"",
+            2,
+        ),
+        (
+            &[Some("find"), Some("nothing"), Some("letter")],
+            0,
+            b"",
             b"",
             2,
         ),

@@ -11,7 +11,7 @@
 
 pub use daachorse_build::{edge_map, nfa_builder};
 pub use daachorse_bytewise::bytewise;
-pub use daachorse_bytewise::bytewise::DoubleArrayAhoCorasick;
+pub use daachorse_bytewise::bytewise::{DoubleArrayAhoCorasick, DoubleArrayAhoCorasickBuilder};
 pub use daachorse_core::errors::Result;
 pub use daachorse_core::{
     DEAD_STATE_IDX, Empty, Match, MatchKind, Output, ROOT_STATE_IDX, errors, turns, utils,

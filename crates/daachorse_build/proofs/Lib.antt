@@ -11,3 +11,4 @@ pub mod OutputChains
 pub mod OutputLists
 pub mod Cleared
 pub mod Full
+pub mod Fitting

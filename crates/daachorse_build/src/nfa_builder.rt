@@ -169,6 +169,7 @@ impl<L: EdgeLabel, V: Copy, A: Allocator + Copy> NfaBuilder<L, V, A> {
         ensures kind { IfOk result (λ builder. kind_of builder ≡ kind) }
         ensures outputs { IfOk result (λ builder. outputs_of builder ≡ []) }
         ensures registered { IfOk result (λ builder. Registered L.cmp L.unit L.width builder []) }
+        ensures fits { IfOk result (λ builder. length (states_of builder) ≤ 4294967296) }
         ensures refused { IfErr result IsOutOfMemory }
     {
         let mut states = Vec::new(alloc);
@@ -182,7 +183,8 @@ impl<L: EdgeLabel, V: Copy, A: Allocator + Copy> NfaBuilder<L, V, A> {
         })
     }
 
-    /// Adds a pattern with its value. After an error the builder is of no use.
+    /// Adds a pattern with its value. After an error the builder is of no use. A pattern that was
+    /// added is short enough, and each state has an id of 32 bits, where each had one before.
     ///
     /// # Errors
     ///
@@ -195,7 +197,9 @@ impl<L: EdgeLabel, V: Copy, A: Allocator + Copy> NfaBuilder<L, V, A> {
         ensures outputs { outputs_of self.new ≡ outputs_of self.old }
         ensures trie { OnOk result (HoldTrie L.cmp (states_of self.new)) }
         ensures registered { OnOk result ((rs : List (List L × V)) → Registered L.cmp L.unit L.width self.old rs → Registered L.cmp L.unit L.width self.new (rs ++ (pattern.now, value) ∷ [])) }
-        ensures refused { IfErr result (IsRefusal (4294967295 < size L.width (map L.unit pattern.now)) StateId ((rs : List (List L × V)) → Registered L.cmp L.unit L.width self.old rs → HasMorePrefixes (dictionary (kind_of self.old) (in_units L.unit (rs ++ (pattern.now, value) ∷ []))) 4294967295)) }
+        ensures short { OnOk result (size L.width (map L.unit pattern.now) ≤ 4294967295) }
+        ensures fits { OnOk result (length (states_of self.old) ≤ 4294967296 → length (states_of self.new) ≤ 4294967296) }
+        ensures refused { IfErr result (IsRefusal (4294967295 < size L.width (map L.unit pattern.now)) StateId ((size L.width (map L.unit pattern.now) ≤ 4294967295) × ((rs : List (List L × V)) → Registered L.cmp L.unit L.width self.old rs → HasMorePrefixes (dictionary (kind_of self.old) (in_units L.unit (rs ++ (pattern.now, value) ∷ []))) 4294967295))) }
     {
         let size = pattern_size(pattern)?;
         let Some(len) = self.len.checked_add(1) else {
@@ -319,6 +323,7 @@ fn child_or_new<L: EdgeLabel, V: Copy, A: Allocator + Copy>(
     requires in_range { id < vec_len states.old }
     requires alive { id ≢ 1 }
     ensures ok { IfOk result (λ t. Extends L.cmp states.old.items states.new.items id label t) }
+    ensures fits { OnOk result (vec_len states.old ≤ 4294967296 → vec_len states.new ≤ 4294967296) }
     ensures refused { IfErr result (IsRefusal ⊥ StateId ((4294967295 < vec_len states.old) × (child_of L.cmp states.old.items id label ≡ None))) }
 {
     if let Some(found) = child(states, id, label) {
@@ -344,6 +349,7 @@ fn add_pattern<L: EdgeLabel, V: Copy, A: Allocator + Copy>(
 ) -> Result<()>
     requires { HoldTrie L.cmp states.old.items }
     ensures ok { OnOk result (IsAdded L.cmp states.old.items states.new.items pattern.now (value, size)) }
+    ensures fits { OnOk result (vec_len states.old ≤ 4294967296 → vec_len states.new ≤ 4294967296) }
     ensures refused { IfErr result (IsRefusal ⊥ StateId (Overflows L.cmp states.old.items pattern.now 4294967295)) }
 {
     let mut id = ROOT_STATE_ID;

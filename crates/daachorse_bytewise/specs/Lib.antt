@@ -3,3 +3,4 @@ pub mod Texts
 pub mod Content
 pub mod Whole
 pub mod Building
+pub mod Sources

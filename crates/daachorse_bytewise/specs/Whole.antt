@@ -1,5 +1,6 @@
 -- What the parts of an automaton over bytes keep.
-use Rattle.std.specs.Prelude.{◌≡◌, ℕ, ◌<◌, ◌≤◌, List, length, slice_index}
+use Rattle.std.specs.Prelude.{◌≡◌, ℕ, ◌<◌, ◌≤◌, List, [], length, slice_index}
+use Rattle.std.proofs.Common.{arith, refl}
 use Rattle.std.specs.Ordering.{nat_cmp}
 use Rattle.daachorse_core.specs.Outputs.{outputs_at, ParentsFall}
 use Rattle.daachorse_model.specs.Units.{byte_width}
@@ -32,3 +33,7 @@ text p s = text_of p.edges s
 -- a state that some text leads to: its own text does
 abbrev pub IsState : {V : Type 0} → Parts V → ℕ → Type 0
 IsState p s = Leads (child p) (text p s) s
+
+-- position 0 stands for no output
+pub no_output : {V : Type 0} (p : Parts V) → (0 ≤ length p.outputs) × (outputs_at p.outputs 0 ≡ [])
+no_output p = (omega arith, refl)

@@ -13,6 +13,9 @@ byte_exact a b e = e
 pub byte_by_unit : (a b : ℕ) → nat_cmp a b ≡ nat_cmp a b
 byte_by_unit a b = refl
 
+pub byte_wide : (u : ℕ) → 1 ≤ byte_width u
+byte_wide u = omega arith
+
 pub byte_sized : (a : ℕ) → a < 2 ^ 8 → length (a ∷ []) ≡ byte_width a
 byte_sized a h = refl
 

@@ -39,6 +39,9 @@ pub trait EdgeLabel: Copy + Ord + Drop {
     // The order of labels is that of their units.
     ghost by_unit: { (a b : Self) → Self.Ord.cmp a b ≡ nat_cmp (unit a) (unit b) };
 
+    // Each unit takes some bytes, so a place tells how many units stand before it.
+    ghost wide: { (u : ℕ) → 1 ≤ width u };
+
     // A form is as long as the unit is wide, 1 to 4 bytes.
     ghost sized: { (a : Self) → is_label a → length (form a) ≡ width (unit a) };
 
@@ -54,7 +57,7 @@ pub trait EdgeLabel: Copy + Ord + Drop {
 impl EdgeLabel for u8 {
     ghost use Rattle.std.specs.Prelude.{◌<◌, ◌^◌, ◌∷◌, []};
     ghost use Rattle.daachorse_model.specs.Units.{byte_width};
-    ghost use Rattle.daachorse_core.specs.ByteForms.{byte_apart, byte_exact, byte_by_unit, byte_ordered, byte_short, byte_sized};
+    ghost use Rattle.daachorse_core.specs.ByteForms.{byte_apart, byte_exact, byte_by_unit, byte_ordered, byte_short, byte_sized, byte_wide};
 
     ghost is_label = { λ b. b < 2 ^ 8 };
 
@@ -79,6 +82,8 @@ impl EdgeLabel for u8 {
     ghost exact = { byte_exact };
 
     ghost by_unit = { byte_by_unit };
+
+    ghost wide = { byte_wide };
 
     ghost sized = { byte_sized };
 

@@ -94,16 +94,18 @@ pub enum History {
     Start,
     /// As before.
     Same(Snapshot<Snapshot<History>>),
-    /// One more unit was read.
+    /// One more unit was read, and looked up.
     Read(Snapshot<Snapshot<History>>, u32),
+    /// One more unit was read and not looked up; the search begins again at the root behind it.
+    Skip(Snapshot<Snapshot<History>>, u32),
     /// The search began again at the root.
     Restart(Snapshot<Snapshot<History>>),
     /// One more match was given.
     Give(Snapshot<Snapshot<History>>),
 }
 
-/// The units that a search has read, the place from which its state counts, and the number of
-/// matches that it gave. It takes no bytes.
+/// The units that a search has read, the place from which its state counts, the units that it
+/// looked up, and the number of matches that it gave. It takes no bytes.
 #[derive(Drop)]
 pub struct Seen {
     history: Snapshot<History>,
@@ -129,12 +131,20 @@ impl Seen {
         }
     }
 
-    /// One more unit was read.
+    /// One more unit was read, and looked up.
     pub fn push(&mut self, unit: u32)
-        ensures { self.new ≡ record self.old { since = self.old.since ++ unit ∷ [] } }
+        ensures { self.new ≡ record self.old { since = self.old.since ++ unit ∷ []; looked = self.old.looked ++ unit ∷ [] } }
     {
         let read = History::Read(Snapshot::of(&self.history), unit);
         self.history = Snapshot::of(&read);
+    }
+
+    /// One more unit was read and not looked up: the search begins again at the root behind it.
+    pub fn skip(&mut self, unit: u32)
+        ensures { self.new ≡ record self.old { before = (self.old.before ++ self.old.since) ++ unit ∷ []; since = [] } }
+    {
+        let skip = History::Skip(Snapshot::of(&self.history), unit);
+        self.history = Snapshot::of(&skip);
     }
 
     /// The search begins again at the root: its state counts from here on.

@@ -22,3 +22,4 @@ pub mod Find
 pub mod Listings
 pub mod BestLemmas
 pub mod BestMatches
+pub mod StandardEnds

@@ -2,6 +2,7 @@ pub mod Units
 pub mod Kinds
 pub mod Dictionary
 pub mod Matches
+pub mod Resumed
 pub mod Leftmost
 pub mod Prefixes
 pub mod Outputs

@@ -1,5 +1,5 @@
 -- The matches of a haystack, for a dictionary K: overlapping, the first of each end, and standard.
-use Rattle.std.specs.Prelude.{ℕ, ◌+◌, ◌==◌, List, [], ◌∷◌, ◌++◌, map, take, find, Option}
+use Rattle.std.specs.Prelude.{◌≡◌, ℕ, ◌+◌, ◌==◌, List, [], ◌∷◌, ◌++◌, map, take, find, Option}
 use Rattle.daachorse_model.specs.declared.Match.{Match}
 use Rattle.daachorse_model.specs.Units.{size}
 use Rattle.daachorse_model.specs.Dictionary.{Dictionary}
@@ -12,6 +12,11 @@ matches_of K s e w = map (λ v. record { start = s; end = e; value = v }) (K w)
 abbrev pub at_each_end : {A : Type 0} → (List ℕ → List A) → List ℕ → List ℕ → List A
 at_each_end f t [] = f t
 at_each_end f t (u ∷ w) = f t ++ at_each_end f (t ++ u ∷ []) w
+
+-- where the last of the matches ends; r, if there is none
+abbrev pub last_end : {V : Type 0} → ℕ → List (Match V) → ℕ
+last_end r [] = r
+last_end r (m ∷ ms) = last_end m.end ms
 
 module _ {V : Type 0} (width : ℕ → ℕ) (K : Dictionary V) where
   -- the matches that start at s or later and end at e, where the haystack has w from s to e: the longest key first
@@ -52,3 +57,11 @@ module _ {V : Type 0} (width : ℕ → ℕ) (K : Dictionary V) where
   -- of them the match that ends where t does: what a stepper that consumed t has
   abbrev pub standard_after : List ℕ → Option (Match V)
   standard_after t = find (λ m. m.end == size width t) (standard t)
+
+  -- the place from which the standard search goes on, after t: where its last match ends, or the beginning
+  abbrev pub resume_place : List ℕ → ℕ
+  resume_place t = last_end 0 (standard t)
+
+  -- s are the units of t that come after that place
+  abbrev pub IsSinceMatch : List ℕ → List ℕ → Type 0
+  IsSinceMatch t s = (before : List ℕ) × (t ≡ before ++ s) × (size width before ≡ resume_place t)

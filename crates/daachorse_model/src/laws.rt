@@ -1,11 +1,11 @@
 //! What the lists of matches promise: functions that do nothing, for their contracts.
 //! A haystack and a pattern are lists of units; `width` is `byte_width` or `char_width`, or any other.
 
-ghost use Rattle.std.specs.Prelude.{◌≡◌, ℕ, List, [], All, Contains, encode_utf8_all};
+ghost use Rattle.std.specs.Prelude.{◌≡◌, ℕ, List, [], All, Contains, encode_utf8_all, option_to_list};
 ghost use Rattle.daachorse_model.specs.declared.Match.{Match};
 ghost use Rattle.daachorse_model.specs.Units.{byte_width, char_width};
 ghost use Rattle.daachorse_model.specs.Dictionary.{kept, dictionary, in_bytes};
-ghost use Rattle.daachorse_model.specs.Matches.{overlapping, no_suffix, standard};
+ghost use Rattle.daachorse_model.specs.Matches.{overlapping, no_suffix, standard, at_each_end, standard_after};
 ghost use Rattle.daachorse_model.specs.Leftmost.{leftmost};
 ghost use Rattle.daachorse_model.specs.Laws.{IsOccurrence, Follows, IsEarliestAtStart};
 
@@ -52,4 +52,12 @@ pub fn same_on_text<V: Copy>(kind: MatchKind)
         → standard byte_width (dictionary kind (in_bytes patterns)) (encode_utf8_all h) ≡ standard char_width (dictionary kind patterns) h }
     ensures leftmost { (patterns : List (List ℕ × V)) (h : List ℕ) → dictionary kind patterns [] ≡ []
         → leftmost byte_width (dictionary kind (in_bytes patterns)) (encode_utf8_all h) ≡ leftmost char_width (dictionary kind patterns) h }
+{}
+
+/// The standard matches are, in order, those that the search over each beginning of the haystack ends with.
+pub fn standard_end_by_end<V: Copy>(kind: MatchKind)
+    ensures bytes { (patterns : List (List ℕ × V)) (h : List ℕ) → let K = dictionary kind patterns in
+        at_each_end (λ t. option_to_list (standard_after byte_width K t)) [] h ≡ standard byte_width K h }
+    ensures chars { (patterns : List (List ℕ × V)) (h : List ℕ) → let K = dictionary kind patterns in
+        at_each_end (λ t. option_to_list (standard_after char_width K t)) [] h ≡ standard char_width K h }
 {}

@@ -1,5 +1,7 @@
 pub mod WalkLemmas
 pub mod SourceLemmas
+pub mod SearchLemmas
 pub mod OverlappingLemmas
+pub mod FindLemmas
 pub mod HaystackLemmas
 pub mod RunLemmas

@@ -1,5 +1,5 @@
 -- One unit further in a walk: the state's text is the longest end of one unit more, and the bounds on the turns grow with the step's own.
-use Rattle.std.proofs.Common.{◌≡◌, ℕ, ◌+◌, ◌≤◌, Bool, cond, List, [], ◌∷◌, ◌++◌, length, sym, ap, ◌∙◌, subst, append_assoc, length-append, arith}
+use Rattle.std.proofs.Common.{◌≡◌, ℕ, ◌+◌, ◌≤◌, Bool, cond, List, [], ◌∷◌, ◌++◌, length, sym, ap, ◌∙◌, subst, append_assoc, append-nil, length-append, arith}
 use Rattle.std.specs.Prelude.{count_by}
 use Rattle.std.proofs.lemmas.List.Sums.{sum_by_push}
 use Rattle.daachorse_core.specs.Seen.{SeenUnits, units}
@@ -7,8 +7,8 @@ use Rattle.daachorse_model.specs.Units.{size}
 use Rattle.daachorse_model.specs.Dictionary.{Dictionary}
 use Rattle.daachorse_model.specs.Prefixes.{IsLong}
 use Rattle.daachorse_model.proofs.Suffixes.{size-push}
-use Rattle.daachorse_model.proofs.Steps.{IsLong-step}
-use Rattle.daachorse_search.specs.Walks.{IsWalking, read_on}
+use Rattle.daachorse_model.proofs.Steps.{IsLong-nil, IsLong-step}
+use Rattle.daachorse_search.specs.Walks.{IsWalking, read_on, skip_on}
 
 -- all units, after more were read
 pub units-read_on : (s : SeenUnits) (more : List ℕ) → units (read_on s more) ≡ units s ++ more
@@ -28,8 +28,8 @@ module _ {V : Type 0} (width : ℕ → ℕ) (K : Dictionary V) (reached : ℕ �
       let read' : after ≡ read_on seen (u ∷ []) = read ∙ ap (λ n. read_on seen (n ∷ [])) is_code in
       let all : units after ≡ units seen ++ u ∷ [] = ap units read' ∙ units-read_on seen (u ∷ []) in
       let many : length (units after) ≡ length (units seen) + 1 = omega (arith, ap length all, length-append (units seen) (u ∷ [])) in
-      let labelled : count_by has_label (units after) ≡ count_by has_label (units seen) + cond (has_label u) 1 0 =
-      ap (count_by has_label) all ∙ sum_by_push (λ x. cond (has_label x) 1 0) (units seen) u in
+      let labelled : count_by has_label after.looked ≡ count_by has_label seen.looked + cond (has_label u) 1 0 =
+      ap (λ s. count_by has_label s.looked) read' ∙ sum_by_push (λ x. cond (has_label x) 1 0) seen.looked u in
       let sized : size width (units after) ≡ size width (units seen) + width u = ap (size width) all ∙ size-push width (units seen) u in
       let P : List ℕ → Type 0 = λ w. IsLong K w (text next) in
       record {
@@ -39,4 +39,25 @@ module _ {V : Type 0} (width : ℕ → ℕ) (K : Dictionary V) (reached : ℕ �
         here = omega (arith, was.here, is_wide, sized);
         most = omega (arith, was.most, most, many);
         least = omega (arith, was.least, least, labelled);
+      }
+
+  -- a walk that passed one more unit with no look stands at the root, whose text is empty
+  pub IsWalking-skip : (seen after : SeenUnits) (u code wide state place turns root : ℕ) → IsWalking width K reached text dead has_label seen state place turns
+      → after ≡ record seen { before = units seen ++ code ∷ []; since = [] } → code ≡ u → wide ≡ width u → reached root → text root ≡ []
+      → IsWalking width K reached text dead has_label after root (place + wide) turns
+  IsWalking-skip seen after u code wide state place turns root was skipped is_code is_wide at_root empty =
+      let skipped' : after ≡ skip_on seen u = skipped ∙ ap (skip_on seen) is_code in
+      let all : units after ≡ units seen ++ u ∷ [] = ap units skipped' ∙ append-nil (units seen ++ u ∷ []) in
+      let many : length (units after) ≡ length (units seen) + 1 = omega (arith, ap length all, length-append (units seen) (u ∷ [])) in
+      let sized : size width (units after) ≡ size width (units seen) + width u = ap (size width) all ∙ size-push width (units seen) u in
+      let since : after.since ≡ [] = ap (λ s. s.since) skipped' in
+      let Q : List ℕ → Type 0 = λ t. IsLong K [] t in
+      let R : List ℕ → Type 0 = λ w. IsLong K w (text root) in
+      record {
+        alive = was.alive;
+        at_state = at_root;
+        long = subst R (sym since) (subst Q (sym empty) (IsLong-nil K));
+        here = omega (arith, was.here, is_wide, sized);
+        most = omega (arith, was.most, many, ap length empty);
+        least = omega (arith, was.least, ap (λ s. count_by has_label s.looked) skipped');
       }

@@ -1,6 +1,9 @@
 pub mod Everywhere
 pub mod Looks
 pub mod Walks
+pub mod Nothing
 pub mod Sources
+pub mod Stepwise
 pub mod Searches
+pub mod Finds
 pub mod Matches

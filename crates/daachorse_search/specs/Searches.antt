@@ -1,12 +1,11 @@
--- A search over a source of units, for what `found` gives of each beginning of what was read: all matches that end there, or the first of them.
+-- A search over a source of units, for what `found` gives of each beginning of what was read: all matches that end there, the first of them, or the standard search's.
 use Rattle.std.specs.Prelude.{◌≡◌, ℕ, ◌+◌, ◌≤◌, List, [], ◌∷◌, ◌++◌, map, length, take, Option, Some, None}
 use Rattle.std.specs.Iterator.{Count, Yields, YieldsThen, items_left}
-use Rattle.daachorse_core.specs.Seen.{SeenUnits, units}
 use Rattle.daachorse_model.specs.declared.Match.{Match}
 use Rattle.daachorse_model.specs.Units.{size}
 use Rattle.daachorse_model.specs.Dictionary.{Dictionary}
-use Rattle.daachorse_model.specs.Matches.{matches_after}
-use Rattle.daachorse_model.specs.Outputs.{AllWithin, matches_of_outputs}
+use Rattle.daachorse_model.specs.Matches.{matches_after, standard_after}
+use Rattle.std.specs.Option.{option_to_list}
 use Rattle.daachorse_search.specs.Sources.{past_each_end}
 
 -- what callers see of a search with an automaton A over a source S: the units that were read, the matches that end with them and are still to come, and the turns taken
@@ -25,6 +24,10 @@ all_found width content automaton read = matches_after width (content automaton)
 -- the first of them
 abbrev pub first_found : {V A : Type 0} → (ℕ → ℕ) → (A → Dictionary V) → A → List ℕ → List (Match V)
 first_found width content automaton read = take 1 (matches_after width (content automaton) read)
+
+-- the standard search's match that ends with the units read
+abbrev pub standard_found : {V A : Type 0} → (ℕ → ℕ) → (A → Dictionary V) → A → List ℕ → List (Match V)
+standard_found width content automaton read = option_to_list (standard_after width (content automaton) read)
 
 module _ {V A S U : Type 0} (found : A → List ℕ → List (Match V)) (steps : S → Option U → S → Type 0) (left : S → Count) (unit : U → ℕ) (width : ℕ → ℕ) where
   -- A call took the units xs from the source, and no unit past the match's end. It gave the first of the pending matches and of those that end with xs.
@@ -49,14 +52,3 @@ module _ {V A S U : Type 0} (found : A → List ℕ → List (Match V)) (steps :
   GivesFrom s (Some m) t = (xs : List U) × Gave s xs m t
   GivesFrom s None t = (xs : List U) × Ended s xs t
 
--- the outputs from the position on, as matches that end with the units read
-abbrev pub pending_from : {V : Type 0} → (ℕ → ℕ) → (ℕ → List (V × ℕ)) → SeenUnits → ℕ → List (Match V)
-pending_from width outputs seen position = matches_of_outputs (size width (units seen)) (outputs position)
-
-module _ {V : Type 0} (width : ℕ → ℕ) (has_output : ℕ → Type 0) (outputs : ℕ → List (V × ℕ)) where
-  -- The outputs from the position on are still to come, and may all be given here.
-  pub record IsPending (seen : SeenUnits) (position : ℕ) : Type 0 where
-    pub fresh : seen.before ≡ []
-    pub place : has_output position
-    pub fits : AllWithin (size width (units seen)) (outputs position)
-    pub none : outputs 0 ≡ []

@@ -1,5 +1,5 @@
 -- A walk through an automaton: where it stands after the units that it read.
-use Rattle.std.specs.Prelude.{◌≡◌, ℕ, ◌+◌, ◌*◌, ◌≤◌, Bool, List, ◌++◌, length, count_by}
+use Rattle.std.specs.Prelude.{◌≡◌, ℕ, ◌+◌, ◌*◌, ◌≤◌, Bool, List, [], ◌∷◌, ◌++◌, length, count_by}
 use Rattle.daachorse_core.specs.Seen.{SeenUnits, units}
 use Rattle.daachorse_model.specs.declared.Match.{Match}
 use Rattle.daachorse_model.specs.Units.{size}
@@ -14,14 +14,43 @@ pub record Walked (A : Type 0) : Type 0 where
   pub seen : SeenUnits
   pub turns : ℕ
 
--- more units were read since
+-- more units were read since, and looked up
 abbrev pub read_on : SeenUnits → List ℕ → SeenUnits
-read_on s more = record s { since = s.since ++ more }
+read_on s more = record s { since = s.since ++ more; looked = s.looked ++ more }
+
+-- one more unit was passed with no look, and the walk began again at the root behind it
+abbrev pub skip_on : SeenUnits → ℕ → SeenUnits
+skip_on s u = record s { before = units s ++ u ∷ []; since = [] }
+
+-- the walk began again at the root
+abbrev pub begin_on : SeenUnits → SeenUnits
+begin_on s = record s { before = units s; since = [] }
 
 module _ {V : Type 0} (width : ℕ → ℕ) (K : Dictionary V) where
   -- the matches that end with the text t, and start in it, where `before` was read before it
   abbrev pub matches_since : List ℕ → List ℕ → List (Match V)
   matches_since before t = ending_at width K (size width before) (size width (before ++ t)) t
+
+-- the walk began at the root once, and looked up all that it read
+pub record IsFresh (seen : SeenUnits) : Type 0 where
+  pub fresh : seen.before ≡ []
+  pub all : seen.looked ≡ seen.since
+
+-- the outputs from the position on, as matches that end with the units read
+abbrev pub matches_from : {V : Type 0} → (ℕ → ℕ) → (ℕ → List (V × ℕ)) → SeenUnits → ℕ → List (Match V)
+matches_from width outputs seen position = matches_of_outputs (size width (units seen)) (outputs position)
+
+-- there are outputs at the position, and they may end at the place
+module _ {V : Type 0} (has_output : ℕ → Type 0) (outputs : ℕ → List (V × ℕ)) where
+  pub record MayEndAt (place position : ℕ) : Type 0 where
+    pub is_position : has_output position
+    pub fits : AllWithin place (outputs position)
+
+-- there are outputs at the position, and they may be given here
+module _ {V : Type 0} (width : ℕ → ℕ) (has_output : ℕ → Type 0) (outputs : ℕ → List (V × ℕ)) where
+  pub record HasPlace (seen : SeenUnits) (position : ℕ) : Type 0 where
+    pub place : has_output position
+    pub fits : AllWithin (size width (units seen)) (outputs position)
 
 module _ {V : Type 0} (width : ℕ → ℕ) (K : Dictionary V) (has_output : ℕ → Type 0) (outputs : ℕ → List (V × ℕ)) (most : ℕ) where
   -- The outputs at the position are the matches that end where the walk stands.
@@ -39,4 +68,4 @@ module _ {V : Type 0} (width : ℕ → ℕ) (K : Dictionary V) (reached : ℕ �
     pub long : IsLong K seen.since (text state)
     pub here : place ≡ size width (units seen)
     pub most : turns + length (text state) ≤ 2 * length (units seen)
-    pub least : count_by has_label (units seen) ≤ turns
+    pub least : count_by has_label seen.looked ≤ turns

@@ -77,7 +77,6 @@ pub trait Automaton<V: Copy> {
         requires { reached self.now state }
         ensures place { has_output self.now (number result) }
         ensures some { IfSome result (λ position. 0 < length (outputs self.now position.value)) }
-        ensures none { outputs self.now 0 ≡ [] }
         ensures most { length (outputs self.now (number result)) ≤ most_outputs self.now }
         ensures chain { IsChain Self.Unit.width (content self.now) (dead self.now) (text self.now state) (outputs self.now (number result)) };
 
@@ -86,6 +85,9 @@ pub trait Automaton<V: Copy> {
         requires { has_output self.now position.value }
         ensures parent { has_output self.now (parent_of result) }
         ensures value { outputs self.now position.value ≡ (value_of result, length_of result) ∷ outputs self.now (parent_of result) };
+
+    // From position 0 on there is no output.
+    ghost no_output: { (a : Self) → has_output a 0 × (outputs a 0 ≡ []) };
 }
 
 /// The state after one more unit, in an automaton with no dead link. A unit that no key has leads

@@ -7,10 +7,15 @@
 #![tactic(auto)]
 
 pub mod automaton;
+pub mod ending_here;
+pub mod find;
+pub mod find_stepper;
 pub mod haystack;
 pub mod matches;
 pub mod overlapping;
 #[cfg(test)]
 mod sample;
 pub mod scan;
+pub mod search;
+pub mod stepwise;
 pub mod walk;

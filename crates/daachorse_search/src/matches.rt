@@ -1,73 +1,65 @@
-//! The search for all matches in a haystack that is known as a whole.
+//! A search in a haystack that is known as a whole.
 //!
-//! The layers above may rely on the list of the matches that are left: it begins as all matches of
-//! the haystack, and each call takes the first off it.
+//! The layers above may rely on the list of the matches that are left: it begins as all that the
+//! search gives of each beginning of the haystack, and each call takes the first off it.
 
-ghost use Rattle.std.specs.Prelude.{◌≡◌, ◌+◌, ◌*◌, ◌^◌, ◌<◌, ◌≤◌, ℕ, List, [], length, count_by};
+ghost use Rattle.std.specs.Prelude.{◌≡◌, ◌+◌, ◌^◌, ◌<◌, ℕ, List, []};
 ghost use Rattle.daachorse_model.specs.Units.{size};
-ghost use Rattle.daachorse_model.specs.Matches.{overlapping};
-ghost use Rattle.daachorse_model.specs.Prefixes.{IsLong};
+ghost use Rattle.daachorse_model.specs.Matches.{at_each_end};
 
-use crate::automaton::Automaton;
 use crate::haystack::Haystack;
-use crate::overlapping::Overlapping;
+use crate::search::Search;
+use crate::stepwise::Stepwise;
 use daachorse_core::Match;
 use std::marker::Model;
 
-/// All matches in a haystack, as they end; of those that end together the longest first.
+/// What a search that goes one unit at a time finds in a haystack, in order.
 #[derive(Drop)]
-pub struct OverlappingMatches<'a, V: Copy, A: Automaton<V>, H: Haystack<A::Unit>> {
-    search: Overlapping<'a, V, A, H>,
+pub struct Matches<V: Copy, W: Stepwise<V>, H: Haystack<W::Unit>> {
+    search: Search<V, W, H>,
 }
 
-impl<'a, V: Copy, A: Automaton<V>, H: Haystack<A::Unit>> Model for OverlappingMatches<'a, V, A, H> {
+impl<V: Copy, W: Stepwise<V>, H: Haystack<W::Unit>> Model for Matches<V, W, H> {
     ghost use Rattle.daachorse_search.specs.Matches.{Progress, matches_left, Fits};
-    ghost use Rattle.daachorse_search.specs.Searches.{all_found};
 
-    ghost Value = { Progress V A };
+    ghost Value = { Progress V W.Automaton };
 
     ghost view = { λ s. record {
       automaton = s.search.automaton;
-      left = matches_left (all_found A.Unit.width A.content s.search.automaton) s.search.pending s.search.read (H.rest s.search.source);
+      left = matches_left (W.found s.search.automaton) s.search.pending s.search.read (H.rest s.search.source);
       passed = s.search.read;
       turns = s.search.turns;
     } };
 
-    ghost invariant = { λ s. Fits A.Unit.width s.search.read (H.rest s.search.source) };
+    ghost invariant = { λ s. Fits W.Unit.width s.search.read (H.rest s.search.source) };
 }
 
-impl<'a, V: Copy, A: Automaton<V>, H: Haystack<A::Unit>> OverlappingMatches<'a, V, A, H> {
+impl<V: Copy, W: Stepwise<V>, H: Haystack<W::Unit>> Matches<V, W, H> {
     /// A search from the beginning of the haystack.
     #[inline(always)]
-    pub fn new(automaton: &'a A, haystack: H) -> Self
-        requires alive { (w : List ℕ) → ¬ A.dead automaton.now w }
-        requires fits { size A.Unit.width (H.rest haystack) < 2 ^ 64 }
-        ensures automaton { result.automaton ≡ automaton.now }
-        ensures left { result.left ≡ overlapping A.Unit.width (A.content automaton.now) (H.rest haystack) }
+    pub fn new(walk: W, haystack: H) -> Self
+        requires begins { W.read walk ≡ [] }
+        requires fits { size W.Unit.width (H.rest haystack) < 2 ^ 64 }
+        ensures automaton { result.automaton ≡ W.automaton walk }
+        ensures left { result.left ≡ at_each_end (W.found (W.automaton walk)) [] (H.rest haystack) }
         ensures passed { result.passed ≡ [] }
-        ensures turns { result.turns ≡ 0 }
+        ensures turns { result.turns ≡ W.turns walk }
     {
-        OverlappingMatches {
-            search: Overlapping::new(automaton, haystack),
+        Matches {
+            search: Search::new(walk, haystack),
         }
     }
 
-    /// Does nothing, and promises that the turns are at most twice the units passed, less the
-    /// length of the longest end of them that begins a key, and at least the units passed that
-    /// some key has.
+    /// Does nothing, and promises the bounds of the turns.
     #[inline(always)]
     pub fn turns_are_bounded(&self)
-        ensures most { self.now.turns ≤ 2 * length self.now.passed }
-        ensures deep { (s : List ℕ) → IsLong (A.content self.now.automaton) self.now.passed s
-            → self.now.turns + length s ≤ 2 * length self.now.passed }
-        ensures least { count_by (A.has_label self.now.automaton) self.now.passed ≤ self.now.turns }
+        ensures { W.bounds self.now.automaton self.now.passed self.now.turns }
     {
         self.search.turns_are_bounded();
     }
 }
 
-impl<'a, V: Copy, A: Automaton<V>, H: Haystack<A::Unit>> Iterator
-    for OverlappingMatches<'a, V, A, H> {
+impl<V: Copy, W: Stepwise<V>, H: Haystack<W::Unit>> Iterator for Matches<V, W, H> {
     ghost use Rattle.std.specs.Iterator.{YieldsFirst, item_count};
 
     type Item = Match<V>;

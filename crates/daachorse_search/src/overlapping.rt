@@ -1,103 +1,215 @@
-//! The search for all matches, also where they overlap.
+//! The searches for all matches, also where they overlap, and for the longest at each end.
 //!
-//! The layers above may rely on a search giving, of each beginning of what its source gives, all
-//! matches that end there, and on each match being given before a unit past its end is taken.
+//! The layers above may rely on [`OverlappingWalk`] telling all matches that end where it stands,
+//! the longest first, and on [`NoSuffixWalk`] telling the first of them.
 
-ghost use Rattle.std.specs.Prelude.{◌≡◌, ◌+◌, ◌*◌, ◌≤◌, ℕ, List, [], length, count_by};
-ghost use Rattle.daachorse_model.specs.Matches.{matches_after};
-ghost use Rattle.daachorse_model.specs.Prefixes.{IsLong};
+ghost use Rattle.std.specs.Prelude.{◌≡◌, ◌<◌, ◌≤◌, ◌^◌, ◌+◌, ℕ, List, [], ◌∷◌, ◌++◌, take};
+
+ghost use Rattle.daachorse_search.specs.Nothing.{HasPlace-none, matches_from-none, first_from-none};
 
 use crate::automaton::Automaton;
-use crate::scan::scan;
+use crate::ending_here::EndingHere;
+use crate::stepwise::Stepwise;
 use crate::walk::Walk;
 use daachorse_core::Match;
+use std::alloc::AllocError;
 use std::marker::Model;
 use std::num::NonZeroU32;
 
-/// The matches in what a source gives, as they end; of those that end together the longest first.
+/// A walk that tells all matches that end where it stands: the longest first, equal ones in order
+/// of registration.
 #[derive(Drop)]
-pub struct Overlapping<'a, V: Copy, A: Automaton<V>, S: Iterator<Item = A::Unit>> {
+pub struct OverlappingWalk<'a, V: Copy, A: Automaton<V>> {
     walk: Walk<'a, V, A>,
-    source: S,
-    output: Option<NonZeroU32>,
 }
 
-impl<'a, V: Copy, A: Automaton<V>, S: Iterator<Item = A::Unit>> Model for Overlapping<'a, V, A, S> {
-    ghost use Rattle.daachorse_core.specs.Outputs.{number};
-    ghost use Rattle.daachorse_core.specs.Seen.{units};
-    ghost use Rattle.daachorse_search.specs.Searches.{SourceProgress, pending_from, IsPending};
+impl<'a, V: Copy, A: Automaton<V>> Model for OverlappingWalk<'a, V, A> {
+    ghost use Rattle.daachorse_search.specs.Walks.{Walked, IsFresh};
 
-    ghost Value = { SourceProgress V A S };
+    ghost Value = { Walked A };
 
-    ghost view = { λ s. record {
-      automaton = s.walk.automaton;
-      source = s.source;
-      read = units s.walk.seen;
-      pending = pending_from A.Unit.width (A.outputs s.walk.automaton) s.walk.seen (number s.output);
-      turns = s.walk.turns;
-      most = A.most_outputs s.walk.automaton;
-    } };
+    ghost view = { λ s. s.walk };
 
-    ghost invariant = { λ s. IsPending A.Unit.width (A.has_output s.walk.automaton) (A.outputs s.walk.automaton) s.walk.seen (number s.output) };
+    ghost invariant = { λ s. IsFresh s.walk.seen };
 }
 
-impl<'a, V: Copy, A: Automaton<V>, S: Iterator<Item = A::Unit>> Overlapping<'a, V, A, S> {
-    /// A search that has read nothing.
+impl<'a, V: Copy, A: Automaton<V>> OverlappingWalk<'a, V, A> {
+    ghost use Rattle.daachorse_core.specs.Seen.{unread, units};
+    ghost use Rattle.daachorse_model.specs.Matches.{matches_after};
+    ghost use Rattle.daachorse_model.specs.Units.{size};
+
+    /// A walk that has read nothing.
     #[inline(always)]
-    pub fn new(automaton: &'a A, source: S) -> Self
+    pub fn new(automaton: &'a A) -> Self
         requires { (w : List ℕ) → ¬ A.dead automaton.now w }
         ensures automaton { result.automaton ≡ automaton.now }
-        ensures source { result.source ≡ source }
-        ensures read { result.read ≡ [] }
-        ensures pending { result.pending ≡ matches_after A.Unit.width (A.content automaton.now) [] }
+        ensures seen { result.seen ≡ unread }
         ensures turns { result.turns ≡ 0 }
-        ensures most { result.most ≡ A.most_outputs automaton.now }
     {
-        let walk = Walk::new(automaton);
-        let output = walk.outputs();
-        Overlapping {
-            walk,
-            source,
-            output,
+        OverlappingWalk {
+            walk: Walk::new(automaton),
         }
     }
 
-    /// Does nothing, and promises that the turns are at most twice the units read, less the length
-    /// of the longest end of them that begins a key, and at least the units read that some key has.
+    /// Reads one unit.
     #[inline(always)]
-    pub fn turns_are_bounded(&self)
-        ensures most { self.now.turns ≤ 2 * length self.now.read }
-        ensures deep { (s : List ℕ) → IsLong (A.content self.now.automaton) self.now.read s
-            → self.now.turns + length s ≤ 2 * length self.now.read }
-        ensures least { count_by (A.has_label self.now.automaton) self.now.read ≤ self.now.turns }
+    pub fn consume(&mut self, unit: A::Unit)
+        requires { size A.Unit.width (units self.old.seen) + A.Unit.width (A.Unit.unit unit) < 2 ^ 64 }
+        ensures automaton { self.new.automaton ≡ self.old.automaton }
+        ensures read { units self.new.seen ≡ units self.old.seen ++ A.Unit.unit unit ∷ [] }
     {
+        self.walk.consume(unit);
+    }
+
+    /// The matches that end where the walk stands. They stay what they are while it goes on.
+    #[inline(always)]
+    pub fn matches(&self) -> EndingHere<'a, V, A>
+        ensures { result ≡ matches_after A.Unit.width (A.content self.now.automaton) (units self.now.seen) }
+    {
+        EndingHere::new(self.walk.automaton(), self.walk.place(), self.walk.outputs())
+    }
+}
+
+impl<'a, V: Copy, A: Automaton<V>> Stepwise<V> for OverlappingWalk<'a, V, A> {
+    ghost use Rattle.daachorse_core.specs.Seen.{units};
+    ghost use Rattle.daachorse_search.specs.Searches.{all_found};
+    ghost use Rattle.daachorse_search.specs.Stepwise.{AreBounded};
+    ghost use Rattle.daachorse_search.specs.Walks.{HasPlace, matches_from};
+
+    type Unit = A::Unit;
+
+    type Automaton = A;
+
+    ghost automaton = { λ s. s.automaton };
+
+    ghost read = { λ s. units s.seen };
+
+    ghost turns = { λ s. s.turns };
+
+    ghost found = { all_found A.Unit.width A.content };
+
+    ghost most_found = { A.most_outputs };
+
+    ghost has_output = { λ s position. HasPlace A.Unit.width (A.has_output s.automaton) (A.outputs s.automaton) s.seen position };
+
+    ghost given_from = { λ s position. matches_from A.Unit.width (A.outputs s.automaton) s.seen position };
+
+    ghost no_output = { λ s. (HasPlace-none A.Unit.width (A.has_output s.automaton) (A.outputs s.automaton) s.seen (A.no_output s.automaton), matches_from-none A.Unit.width (A.has_output s.automaton) (A.outputs s.automaton) s.seen (A.no_output s.automaton)) };
+
+    ghost bounds = { λ a read turns. AreBounded (A.content a) (A.has_label a) read turns };
+
+    #[inline(always)]
+    fn begin(&self) -> Option<NonZeroU32> {
+        self.walk.outputs()
+    }
+
+    #[inline(always)]
+    fn advance(&mut self, unit: A::Unit) -> Option<NonZeroU32> {
+        self.consume(unit);
+        self.walk.outputs()
+    }
+
+    #[inline(always)]
+    fn give(&self, position: NonZeroU32) -> (Match<V>, Option<NonZeroU32>) {
+        self.walk.give(position)
+    }
+
+    #[inline(always)]
+    fn turns_are_bounded(&self) {
         self.walk.turns_are_bounded();
     }
 }
 
-impl<'a, V: Copy, A: Automaton<V>, S: Iterator<Item = A::Unit>> Iterator
-    for Overlapping<'a, V, A, S> {
-    ghost use Rattle.std.specs.Iterator.{count_map};
-    ghost use Rattle.daachorse_model.specs.Units.{size};
-    ghost use Rattle.daachorse_search.specs.Sources.{IsReady};
-    ghost use Rattle.daachorse_search.specs.Searches.{GivesFrom, all_found};
+impl<'a, V: Copy, A: Automaton<V>> Clone for OverlappingWalk<'a, V, A> {
+    ghost is_clone = { λ s t. t ≡ s };
 
-    type Item = Match<V>;
-
-    ghost can_next = { λ s. IsReady S.can_next S.next_gives S.remaining A.Unit.unit A.Unit.width s.source (size A.Unit.width s.read) };
-
-    ghost next_gives = { GivesFrom (all_found A.Unit.width A.content) S.next_gives S.remaining A.Unit.unit A.Unit.width };
-
-    ghost remaining = { λ s. count_map (λ n. length s.pending + s.most * n) (S.remaining s.source) };
+    ghost is_infallible = { λ _. Unit {0} };
 
     #[inline(always)]
-    fn next(&mut self) -> Option<Match<V>> {
-        let position = match self.output {
-            Some(position) => position,
-            None => scan(&mut self.walk, &mut self.source)?,
-        };
-        let (found, next) = self.walk.give(position);
-        self.output = next;
-        Some(found)
+    fn clone(&self) -> Result<Self, AllocError> {
+        Ok(OverlappingWalk {
+            walk: self.walk.clone()?,
+        })
+    }
+}
+
+/// A walk that tells the longest match that ends where it stands; of equal ones the first that was
+/// registered.
+#[derive(Drop)]
+pub struct NoSuffixWalk<'a, V: Copy, A: Automaton<V>> {
+    all: OverlappingWalk<'a, V, A>,
+}
+
+impl<'a, V: Copy, A: Automaton<V>> Model for NoSuffixWalk<'a, V, A> {
+    ghost use Rattle.daachorse_search.specs.Walks.{Walked};
+
+    ghost Value = { Walked A };
+
+    ghost view = { λ s. s.all };
+}
+
+impl<'a, V: Copy, A: Automaton<V>> NoSuffixWalk<'a, V, A> {
+    ghost use Rattle.daachorse_core.specs.Seen.{unread};
+
+    /// A walk that has read nothing.
+    #[inline(always)]
+    pub fn new(automaton: &'a A) -> Self
+        requires { (w : List ℕ) → ¬ A.dead automaton.now w }
+        ensures automaton { result.automaton ≡ automaton.now }
+        ensures seen { result.seen ≡ unread }
+        ensures turns { result.turns ≡ 0 }
+    {
+        NoSuffixWalk {
+            all: OverlappingWalk::new(automaton),
+        }
+    }
+}
+
+impl<'a, V: Copy, A: Automaton<V>> Stepwise<V> for NoSuffixWalk<'a, V, A> {
+    ghost use Rattle.daachorse_core.specs.Seen.{units};
+    ghost use Rattle.daachorse_search.specs.Searches.{first_found};
+    ghost use Rattle.daachorse_search.specs.Stepwise.{AreBounded};
+    ghost use Rattle.daachorse_search.specs.Walks.{HasPlace, matches_from};
+
+    type Unit = A::Unit;
+
+    type Automaton = A;
+
+    ghost automaton = { λ s. s.automaton };
+
+    ghost read = { λ s. units s.seen };
+
+    ghost turns = { λ s. s.turns };
+
+    ghost found = { first_found A.Unit.width A.content };
+
+    ghost most_found = { λ a. 1 };
+
+    ghost has_output = { λ s position. HasPlace A.Unit.width (A.has_output s.automaton) (A.outputs s.automaton) s.seen position };
+
+    ghost given_from = { λ s position. take 1 (matches_from A.Unit.width (A.outputs s.automaton) s.seen position) };
+
+    ghost no_output = { λ s. (HasPlace-none A.Unit.width (A.has_output s.automaton) (A.outputs s.automaton) s.seen (A.no_output s.automaton), first_from-none A.Unit.width (A.has_output s.automaton) (A.outputs s.automaton) s.seen (A.no_output s.automaton)) };
+
+    ghost bounds = { λ a read turns. AreBounded (A.content a) (A.has_label a) read turns };
+
+    #[inline(always)]
+    fn begin(&self) -> Option<NonZeroU32> {
+        self.all.begin()
+    }
+
+    #[inline(always)]
+    fn advance(&mut self, unit: A::Unit) -> Option<NonZeroU32> {
+        self.all.advance(unit)
+    }
+
+    #[inline(always)]
+    fn give(&self, position: NonZeroU32) -> (Match<V>, Option<NonZeroU32>) {
+        (self.all.give(position).0, None)
+    }
+
+    #[inline(always)]
+    fn turns_are_bounded(&self) {
+        self.all.turns_are_bounded();
     }
 }

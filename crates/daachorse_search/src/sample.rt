@@ -2,9 +2,11 @@
 
 use crate::automaton::Automaton;
 use crate::haystack::Bytes;
-use crate::matches::OverlappingMatches;
-use crate::overlapping::Overlapping;
+use crate::matches::Matches;
+use crate::overlapping::OverlappingWalk;
 use crate::scan::scan;
+use crate::search::Search;
+use crate::stepwise::Stepwise;
 use crate::walk::Walk;
 use daachorse_core::turns::{Look, Turns};
 use daachorse_core::{Match, Output};
@@ -20,7 +22,7 @@ pub struct Everywhere {
 }
 
 impl Automaton<u32> for Everywhere {
-    ghost use Rattle.std.specs.Prelude.{◌≡◌, ◌≤◌, ℕ, [], ◌∷◌, false};
+    ghost use Rattle.std.specs.Prelude.{◌≡◌, ◌≤◌, ℕ, [], ◌∷◌, false, refl};
     ghost use Rattle.daachorse_search.specs.Everywhere.{only_empty, the_output};
 
     type Unit = u8;
@@ -44,6 +46,8 @@ impl Automaton<u32> for Everywhere {
     ghost outputs = { λ a position. the_output a.value position };
 
     ghost most_outputs = { λ a. 1 };
+
+    ghost no_output = { λ a. (tt, refl) };
 
     fn root(&self) -> u32 {
         0
@@ -87,13 +91,13 @@ fn collect_from<V: Copy, A: Automaton<V>, S: Iterator<Item = A::Unit>>(
     ensures { IfOk result (λ v. (xs : List A.Unit) × Drains S.next_gives source xs
         × (v.items ≡ overlapping A.Unit.width (A.content automaton.now) (map A.Unit.unit xs))) }
 {
-    Overlapping::new(automaton, source).collect(alloc)
+    Search::new(OverlappingWalk::new(automaton), source).collect(alloc)
 }
 
 #[test]
 fn gives_a_match_at_each_boundary(rt: HostRuntime) -> Result<(), Fail> {
     let automaton = Everywhere { value: 7 };
-    let mut search = OverlappingMatches::new(&automaton, Bytes::new(b"ab"));
+    let mut search = Matches::new(OverlappingWalk::new(&automaton), Bytes::new(b"ab"));
     search.turns_are_bounded();
     assert_eq!(rt; search.next(), Some(at(0)));
     assert_eq!(rt; search.next(), Some(at(1)));
@@ -132,10 +136,12 @@ fn walks_by_hand(rt: HostRuntime) -> Result<(), Fail> {
 #[test]
 fn scans_to_the_next_match(rt: HostRuntime) -> Result<(), Fail> {
     let automaton = Everywhere { value: 7 };
-    let mut walk = Walk::new(&automaton);
+    let mut walk = OverlappingWalk::new(&automaton);
     let mut source = Bytes::new(b"ab");
-    assert!(rt; scan(&mut walk, &mut source).is_some());
-    assert_eq!(rt; walk.place(), 1);
+    let Some(position) = scan(&mut walk, &mut source) else {
+        return Ok(());
+    };
+    assert_eq!(rt; walk.give(position).0, at(1));
     assert_eq!(rt; source.next(), Some(b'b'));
     Ok(())
 }

@@ -1,40 +1,35 @@
-//! The loop of all searches: reading on until a match ends.
+//! The loop of all searches: reading on until something is found.
 //!
-//! The layers above may rely on a scan taking no unit past the first at which a match ends, of
-//! the matches that start where the walk last began at the root, or later.
+//! The layers above may rely on a scan taking no unit past the first at whose end there is
+//! something to give.
 
-ghost use Rattle.std.specs.Prelude.{◌≡◌, ◌<◌, ℕ, IfSome, MatchOption, length};
+ghost use Rattle.std.specs.Prelude.{◌≡◌, ℕ, IfSome, MatchOption};
 ghost use Rattle.std.specs.Iterator.{IsFinite};
 ghost use Rattle.daachorse_model.specs.Units.{size};
-ghost use Rattle.daachorse_core.specs.Seen.{units};
 ghost use Rattle.daachorse_search.specs.Sources.{IsReady, ScanGives};
-ghost use Rattle.daachorse_search.specs.Walks.{HasOutputs};
+ghost use Rattle.daachorse_search.specs.Stepwise.{Stops};
 
-use crate::automaton::Automaton;
-use crate::walk::Walk;
+use crate::stepwise::Stepwise;
 use std::num::NonZeroU32;
 
-/// Reads on until a match ends, and answers the position of its outputs; `None` where the source
-/// ends first.
+/// Reads on until there is something to give, and answers the position of its first output;
+/// `None` where the source ends first.
 #[inline(always)]
-pub fn scan<'a, V: Copy, A: Automaton<V>, S: Iterator<Item = A::Unit>>(
-    walk: &mut Walk<'a, V, A>,
+pub fn scan<V: Copy, W: Stepwise<V>, S: Iterator<Item = W::Unit>>(
+    walk: &mut W,
     source: &mut S,
 ) -> Option<NonZeroU32>
-    requires { IsReady S.can_next S.next_gives S.remaining A.Unit.unit A.Unit.width source.old (size A.Unit.width (units walk.old.seen)) }
-    ensures took { ScanGives A.content S.next_gives S.remaining A.Unit.unit A.Unit.width walk.old source.old result walk.new source.new }
+    requires { IsReady S.can_next S.next_gives S.remaining W.Unit.unit W.Unit.width source.old (size W.Unit.width (W.read walk.old)) }
+    ensures took { ScanGives W.automaton W.read W.found S.next_gives S.remaining W.Unit.unit walk.old source.old result walk.new source.new }
     ensures ready { MatchOption result (IsFinite (S.remaining source.new))
-        (λ _. IsReady S.can_next S.next_gives S.remaining A.Unit.unit A.Unit.width source.new (size A.Unit.width (units walk.new.seen))) }
-    ensures outputs { IfSome result (λ position. HasOutputs A.Unit.width (A.content walk.new.automaton) (A.has_output walk.new.automaton) (A.outputs walk.new.automaton)
-        (A.most_outputs walk.new.automaton) walk.new.seen position.value) }
-    ensures some { IfSome result (λ position. 0 < length (A.outputs walk.new.automaton position.value)) }
+        (λ _. IsReady S.can_next S.next_gives S.remaining W.Unit.unit W.Unit.width source.new (size W.Unit.width (W.read walk.new))) }
+    ensures stops { IfSome result (λ _. Stops W.automaton W.read W.found W.most_found W.has_output W.given_from walk.new result) }
 {
     'units: loop {
         let Some(unit) = source.next() else {
             return None;
         };
-        walk.consume(unit);
-        if let Some(position) = walk.outputs() {
+        if let Some(position) = walk.advance(unit) {
             return Some(position);
         }
     }

@@ -9,12 +9,13 @@ ghost use Rattle.daachorse_model.specs.Prefixes.{IsLong};
 ghost use Rattle.daachorse_core.specs.Outputs.{number};
 ghost use Rattle.daachorse_model.specs.Outputs.{AllWithin, matches_of_outputs};
 ghost use Rattle.daachorse_core.specs.Seen.{units, unread};
-ghost use Rattle.daachorse_search.specs.Walks.{read_on, HasOutputs};
+ghost use Rattle.daachorse_search.specs.Walks.{read_on, skip_on, begin_on, HasOutputs};
 
 use crate::automaton::{Automaton, step};
 use daachorse_core::Match;
 use daachorse_core::edge_label::EdgeLabel;
 use daachorse_core::turns::{Seen, Turns};
+use std::alloc::AllocError;
 use std::marker::{Model, PhantomData};
 use std::num::NonZeroU32;
 
@@ -58,7 +59,7 @@ impl<'a, V: Copy, A: Automaton<V>> Walk<'a, V, A> {
         }
     }
 
-    /// Reads one unit.
+    /// Reads one unit, and looks it up.
     #[inline(always)]
     pub fn consume(&mut self, unit: A::Unit)
         requires { size A.Unit.width (units self.old.seen) + A.Unit.width (A.Unit.unit unit) < 2 ^ 64 }
@@ -70,15 +71,36 @@ impl<'a, V: Copy, A: Automaton<V>> Walk<'a, V, A> {
         self.seen.push(unit.code());
     }
 
+    /// Passes one unit with no look, and begins again at the root behind it.
+    #[inline(always)]
+    pub fn skip(&mut self, unit: A::Unit)
+        requires { size A.Unit.width (units self.old.seen) + A.Unit.width (A.Unit.unit unit) < 2 ^ 64 }
+        ensures automaton { self.new.automaton ≡ self.old.automaton }
+        ensures seen { self.new.seen ≡ skip_on self.old.seen (A.Unit.unit unit) }
+        ensures turns { self.new.turns ≡ self.old.turns }
+    {
+        self.state = self.automaton.root();
+        self.place += unit.num_bytes();
+        self.seen.skip(unit.code());
+    }
+
     /// Begins again at the root: no key that began before is followed from here on.
     #[inline(always)]
     pub fn restart(&mut self)
         ensures automaton { self.new.automaton ≡ self.old.automaton }
-        ensures seen { self.new.seen ≡ record self.old.seen { before = units self.old.seen; since = [] } }
+        ensures seen { self.new.seen ≡ begin_on self.old.seen }
         ensures turns { self.new.turns ≡ self.old.turns }
     {
         self.state = self.automaton.root();
         self.seen.restart();
+    }
+
+    /// The automaton that is walked through.
+    #[inline(always)]
+    pub fn automaton(&self) -> &'a A
+        ensures { result.now ≡ self.now.automaton }
+    {
+        self.automaton
     }
 
     /// The place after the units read, in bytes.
@@ -95,7 +117,6 @@ impl<'a, V: Copy, A: Automaton<V>> Walk<'a, V, A> {
         ensures outputs { HasOutputs A.Unit.width (A.content self.now.automaton) (A.has_output self.now.automaton) (A.outputs self.now.automaton) (A.most_outputs self.now.automaton)
             self.now.seen (number result) }
         ensures some { IfSome result (λ position. 0 < length (A.outputs self.now.automaton position.value)) }
-        ensures none { A.outputs self.now.automaton 0 ≡ [] }
     {
         self.automaton.output_pos(self.state)
     }
@@ -116,14 +137,34 @@ impl<'a, V: Copy, A: Automaton<V>> Walk<'a, V, A> {
     }
 
     /// Does nothing, and promises that the turns are at most twice the units read, less the
-    /// length of the state's text, and at least as many as the units read that some key has.
+    /// length of the state's text, and at least as many as the units looked up that some key has.
     #[inline(always)]
     pub fn turns_are_bounded(&self)
         ensures most { self.now.turns ≤ 2 * length (units self.now.seen) }
         ensures deep { (s : List ℕ) → IsLong (A.content self.now.automaton) self.now.seen.since s
             → self.now.turns + length s ≤ 2 * length (units self.now.seen) }
-        ensures least { count_by (A.has_label self.now.automaton) (units self.now.seen) ≤ self.now.turns }
+        ensures least { count_by (A.has_label self.now.automaton) self.now.seen.looked ≤ self.now.turns }
     {
         let _ = &self.place;
+    }
+}
+
+impl<'a, V: Copy, A: Automaton<V>> Clone for Walk<'a, V, A> {
+    ghost use Rattle.std.specs.Prelude.{◌≡◌};
+
+    ghost is_clone = { λ s t. t ≡ s };
+
+    ghost is_infallible = { λ _. Unit {0} };
+
+    #[inline(always)]
+    fn clone(&self) -> Result<Self, AllocError> {
+        Ok(Walk {
+            automaton: self.automaton,
+            state: self.state,
+            place: self.place,
+            turns: self.turns.clone()?,
+            seen: self.seen.clone()?,
+            of: PhantomData,
+        })
     }
 }

@@ -6,7 +6,9 @@
 mod tests {
     use daachorse::edge_map::EdgeMap;
     use daachorse::errors::DaachorseError;
-    use daachorse::{DoubleArrayAhoCorasick, Match, Result};
+    use daachorse::{
+        DoubleArrayAhoCorasick, DoubleArrayAhoCorasickBuilder, Match, MatchKind, Result,
+    };
     use refusing::Refusing;
     use std::alloc::{Allocator, Global};
     use std::test::Fail;
@@ -20,6 +22,32 @@ mod tests {
         patterns: &[&[u8]],
     ) -> Result<DoubleArrayAhoCorasick<u32, A>> {
         DoubleArrayAhoCorasick::new(alloc, patterns.iter().copied())
+    }
+
+    /// The ways to build.
+    #[derive(Clone, Copy, Debug)]
+    enum Way {
+        New,
+        WithValues,
+        Builder,
+        DefaultBuilder,
+    }
+
+    /// An automaton of these patterns with these values, where the way takes values.
+    fn build_by<A: Allocator + Copy>(
+        way: Way,
+        alloc: A,
+        patvals: &[(&[u8], u32)],
+    ) -> Result<DoubleArrayAhoCorasick<u32, A>> {
+        match way {
+            Way::New => DoubleArrayAhoCorasick::new(alloc, patvals.iter().map(|p| p.0)),
+            Way::WithValues => DoubleArrayAhoCorasick::with_values(alloc, patvals.iter().copied()),
+            Way::Builder => DoubleArrayAhoCorasickBuilder::new()
+                .match_kind(MatchKind::Standard)
+                .build_with_values(alloc, patvals.iter().copied()),
+            Way::DefaultBuilder => DoubleArrayAhoCorasickBuilder::default()
+                .build_with_values(alloc, patvals.iter().copied()),
+        }
     }
 
     #[test]
@@ -61,6 +89,49 @@ mod tests {
     }
 
     #[test]
+    fn patterns_have_the_values_that_they_are_given(rt: HostRuntime) -> Result<(), Fail> {
+        let rows: [(&[(&[u8], u32)], &[u8], &[Match<u32>]); 2] = [
+            (
+                &[(b"bcd", 0), (b"ab", 10), (b"a", 20)],
+                b"abcd",
+                &[found(0, 1, 20), found(0, 2, 10), found(1, 4, 0)],
+            ),
+            (
+                &[(b"ab", 0), (b"a", 1), (b"ab", 2)],
+                b"ab",
+                &[found(0, 1, 1), found(0, 2, 0), found(0, 2, 2)],
+            ),
+        ];
+        for (i, (patvals, haystack, expected)) in rows.iter().enumerate() {
+            for way in [Way::WithValues, Way::Builder, Way::DefaultBuilder] {
+                let Ok(automaton) = build_by(way, rt.alloc(), patvals) else {
+                    panic!(rt; "row {i} was refused");
+                };
+                let matches: Vec<Match<u32>> = automaton
+                    .find_overlapping_iter(haystack)
+                    .collect(rt.alloc())?;
+                assert_eq!(rt; matches.as_slice(), *expected, "row {i}");
+            }
+        }
+        Ok(())
+    }
+
+    #[test]
+    fn a_builder_gives_each_pattern_its_index(rt: HostRuntime) -> Result<(), Fail> {
+        let patterns = [b"bcd".as_slice(), b"ab", b"a"];
+        let builder = DoubleArrayAhoCorasickBuilder::default().match_kind(MatchKind::Standard);
+        let Ok(automaton) = builder.build::<u32, _, _>(rt.alloc(), patterns) else {
+            panic!(rt; "the patterns were refused");
+        };
+        let matches: Vec<Match<u32>> = automaton
+            .find_overlapping_iter(b"abcd")
+            .collect(rt.alloc())?;
+        let expected = [found(0, 1, 2), found(0, 2, 1), found(1, 4, 0)];
+        assert_eq!(rt; matches.as_slice(), expected.as_slice());
+        Ok(())
+    }
+
+    #[test]
     fn an_index_without_a_value_is_refused(rt: HostRuntime) -> Result<(), Fail> {
         let patterns = [b"a".as_slice(); 257];
         let refused = DoubleArrayAhoCorasick::<u8>::new(rt.alloc(), patterns.iter().copied());
@@ -85,28 +156,30 @@ mod tests {
 
     #[test]
     fn each_growth_of_a_build_is_refused_in_turn(rt: HostRuntime) {
-        let patterns: [&[u8]; 3] = [b"bcd", b"ab", b"a"];
-        let mut ended = false;
-        for number in 0..100_000u64 {
-            let heap = Refusing::new(rt.alloc(), number);
-            match build(&heap, &patterns) {
-                Ok(automaton) => {
-                    assert!(rt; !heap.has_refused(), "request {number} was passed over");
-                    let first = automaton.find_overlapping_iter(b"abcd").next();
-                    assert_eq!(rt; first, Some(found(0, 1, 2)));
-                    ended = true;
-                    break;
-                }
-                Err(error) => {
-                    assert!(rt; heap.has_refused(), "no request was refused, at {number}");
-                    assert!(rt;
-                        matches!(error, DaachorseError::OutOfMemory(_)),
-                        "request {number}"
-                    );
+        let patvals: [(&[u8], u32); 3] = [(b"bcd", 0), (b"ab", 10), (b"a", 20)];
+        for (way, value) in [(Way::New, 2), (Way::WithValues, 20)] {
+            let mut ended = false;
+            for number in 0..100_000u64 {
+                let heap = Refusing::new(rt.alloc(), number);
+                match build_by(way, &heap, &patvals) {
+                    Ok(automaton) => {
+                        assert!(rt; !heap.has_refused(), "request {number} was passed over");
+                        let first = automaton.find_overlapping_iter(b"abcd").next();
+                        assert_eq!(rt; first, Some(found(0, 1, value)));
+                        ended = true;
+                        break;
+                    }
+                    Err(error) => {
+                        assert!(rt; heap.has_refused(), "no request was refused, at {number}");
+                        assert!(rt;
+                            matches!(error, DaachorseError::OutOfMemory(_)),
+                            "request {number}"
+                        );
+                    }
                 }
             }
+            assert!(rt; ended);
         }
-        assert!(rt; ended);
     }
 
     #[test]

@@ -61,7 +61,7 @@ impl<V: Copy, A: Allocator> Automaton<V> for States<V, A> {
     ghost use Rattle.std.specs.Prelude.{◌≡◌, ◌≤◌, length, Bool, true};
     ghost use Rattle.daachorse_core.specs.Outputs.{outputs_at};
     ghost use Rattle.daachorse_bytewise.specs.Content.{content};
-    ghost use Rattle.daachorse_bytewise.specs.Whole.{IsState, text};
+    ghost use Rattle.daachorse_bytewise.specs.Whole.{IsState, text, no_output};
 
     type Unit = u8;
 
@@ -122,4 +122,6 @@ impl<V: Copy, A: Allocator> Automaton<V> for States<V, A> {
     fn output(&self, position: NonZeroU32) -> Output<V> {
         self.outputs[position.get() as usize - 1]
     }
+
+    ghost no_output = { no_output };
 }

@@ -4,6 +4,7 @@ use Rattle.std.proofs.lemmas.Result.{IfOk-weaker, IfErr-weaker}
 use Rattle.std.specs.Borrow.{Bor}
 use Rattle.daachorse_bytewise.specs.Building.{IsBuiltOf, IsBuildRefusal}
 use Rattle.daachorse_core.specs.declared.errors.DaachorseError.{DaachorseError}
+use Rattle.daachorse_model.specs.declared.MatchKind.TheVariants.{Standard}
 use Rattle.daachorse_model.specs.Program.{pattern_lines}
 use Rattle.daacfind.specs.Runs.{value_gives}
 use Rattle.daacfind.proofs.run.build.Goals as goal
@@ -15,21 +16,21 @@ returns-clause-built g c =
     let copied = c.copied.ensures.runs r.2.0 r.2.0.seen (r.2.1 ∙ r.1) in
     let read = c.iter.ensures.runs copied.0 copied.0.seen in
     let items = copied.2.2 ∙ read.4 (copied.2.0 ∙ r.2.2) ∙ ap (λ it. it.rest.now) copied.1 ∙ c.iter.ensures.rest ∙ c.deref.ensures.value in
-    let P : List (List ℕ) → Type 0 = λ ts. IsBuiltOf value_gives ts a in
+    let P : List (List ℕ) → Type 0 = λ ts. IsBuiltOf value_gives Standard ts a in
     subst P (ap (map (λ (t : Bor (List ℕ)). t.now)) items ∙ c.in_ok-patterns.ensures) r.2.3)
     c.new.ensures.ok
 
 pub returns-clause-refused : goal.returns-clause-refused
 returns-clause-refused g c =
     let lines = pattern_lines c.args.file.now in
-    IfErr-weaker c.new.result _ (IsBuildRefusal value_gives lines)
+    IfErr-weaker c.new.result _ (IsBuildRefusal value_gives Standard lines)
     (λ e cause. elim cause [
-      | inl memory ↦ let Q : DaachorseError → Type 0 = λ x. IsBuildRefusal value_gives lines x in subst Q (sym memory) tt
+      | inl memory ↦ let Q : DaachorseError → Type 0 = λ x. IsBuildRefusal value_gives Standard lines x in subst Q (sym memory) tt
       | inr r ↦
           let copied = c.copied.ensures.runs r.2.0 r.2.0.seen (r.2.1 ∙ r.1) in
           let read = c.iter.ensures.runs copied.0 copied.0.seen in
           let items = copied.2.2 ∙ read.4 (copied.2.0 ∙ r.2.2) ∙ ap (λ it. it.rest.now) copied.1 ∙ c.iter.ensures.rest ∙ c.deref.ensures.value in
-          let P : List (List ℕ) → Type 0 = λ ts. IsBuildRefusal value_gives ts e in
+          let P : List (List ℕ) → Type 0 = λ ts. IsBuildRefusal value_gives Standard ts e in
           subst P (ap (map (λ (t : Bor (List ℕ)). t.now)) items ∙ c.in_ok-patterns.ensures) r.2.3
     ])
     c.new.ensures.err

@@ -1,23 +1,37 @@
 -- The mode's iterator gives what the mode finds.
-use Rattle.std.proofs.Common.{◌≡◌, ℕ, List}
+use Rattle.std.proofs.Common.{◌≡◌, ℕ, List, ap, sym, ◌∙◌}
 use Rattle.std.proofs.lemmas.Iterator.Consumers.{YieldsList-from_first}
 use Rattle.std.proofs.lemmas.Result.{on_ok_weaker, on_err_weaker}
 use Rattle.daachorse_model.specs.declared.Match.{Match}
-use Rattle.daachorse_model.specs.Units.{byte_width}
 use Rattle.daachorse_model.specs.Dictionary.{Dictionary}
-use Rattle.daachorse_model.specs.Matches.{overlapping}
 use Rattle.daacfind.specs.declared.mode.Mode.{Mode}
-use Rattle.daacfind.specs.declared.mode.Mode.TheVariants.{Overlapping}
+use Rattle.daacfind.specs.declared.mode.Mode.TheVariants.{Overlapping, NoSuffix, Find}
 use Rattle.daacfind.specs.Modes.{found_by}
 use Rattle.daacfind.proofs.run.write_mode.Goals as goal
 
-by_mode : (mode : Mode) (K : Dictionary ℕ) (h : List ℕ) (left : List (Match ℕ)) → left ≡ overlapping byte_width K h → left ≡ found_by mode K h
-by_mode Overlapping K h left e = e
+found_in : (mode asked : Mode) (K : Dictionary ℕ) (h : List ℕ) (left : List (Match ℕ)) → asked ≡ mode → left ≡ found_by mode K h → left ≡ found_by asked K h
+found_in mode asked K h left is e = e ∙ ap (λ m. found_by m K h) (sym is)
 
-pub returns-clause-whole : goal.returns-clause-whole
-returns-clause-whole g c =
-    on_ok_weaker c.write_matches.result (λ f. f _ (YieldsList-from_first (λ x. x) _ _ (by_mode c.args.mode _ _ _ c.find_overlapping_iter.ensures.left)).runs) c.write_matches.ensures.whole
+pub returns-in-Overlapping-clause-whole : goal.returns-in-Overlapping-clause-whole
+returns-in-Overlapping-clause-whole g c =
+    on_ok_weaker c.write_matches.result (λ f. f _ (YieldsList-from_first (λ x. x) _ _ (found_in Overlapping c.args.mode _ _ _ c.in-Overlapping.is c.find_overlapping_iter.ensures.left)).runs) c.write_matches.ensures.whole
 
-pub returns-clause-beginning : goal.returns-clause-beginning
-returns-clause-beginning g c =
-    on_err_weaker c.write_matches.result (λ f. f _ (YieldsList-from_first (λ x. x) _ _ (by_mode c.args.mode _ _ _ c.find_overlapping_iter.ensures.left)).runs) c.write_matches.ensures.beginning
+pub returns-in-Overlapping-clause-beginning : goal.returns-in-Overlapping-clause-beginning
+returns-in-Overlapping-clause-beginning g c =
+    on_err_weaker c.write_matches.result (λ f. f _ (YieldsList-from_first (λ x. x) _ _ (found_in Overlapping c.args.mode _ _ _ c.in-Overlapping.is c.find_overlapping_iter.ensures.left)).runs) c.write_matches.ensures.beginning
+
+pub returns-in-NoSuffix-clause-whole : goal.returns-in-NoSuffix-clause-whole
+returns-in-NoSuffix-clause-whole g c =
+    on_ok_weaker c.write_matches-in-NoSuffix.result (λ f. f _ (YieldsList-from_first (λ x. x) _ _ (found_in NoSuffix c.args.mode _ _ _ c.in-NoSuffix.is c.find_overlapping_no_suffix_iter.ensures.left)).runs) c.write_matches-in-NoSuffix.ensures.whole
+
+pub returns-in-NoSuffix-clause-beginning : goal.returns-in-NoSuffix-clause-beginning
+returns-in-NoSuffix-clause-beginning g c =
+    on_err_weaker c.write_matches-in-NoSuffix.result (λ f. f _ (YieldsList-from_first (λ x. x) _ _ (found_in NoSuffix c.args.mode _ _ _ c.in-NoSuffix.is c.find_overlapping_no_suffix_iter.ensures.left)).runs) c.write_matches-in-NoSuffix.ensures.beginning
+
+pub returns-in-Find-clause-whole : goal.returns-in-Find-clause-whole
+returns-in-Find-clause-whole g c =
+    on_ok_weaker c.write_matches-in-Find.result (λ f. f _ (YieldsList-from_first (λ x. x) _ _ (found_in Find c.args.mode _ _ _ c.in-Find.is c.find_iter.ensures.left)).runs) c.write_matches-in-Find.ensures.whole
+
+pub returns-in-Find-clause-beginning : goal.returns-in-Find-clause-beginning
+returns-in-Find-clause-beginning g c =
+    on_err_weaker c.write_matches-in-Find.result (λ f. f _ (YieldsList-from_first (λ x. x) _ _ (found_in Find c.args.mode _ _ _ c.in-Find.is c.find_iter.ensures.left)).runs) c.write_matches-in-Find.ensures.beginning

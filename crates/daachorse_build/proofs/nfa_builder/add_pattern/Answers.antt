@@ -12,22 +12,22 @@ use Rattle.daachorse_core.proofs.Refusals.{IsRefusal-weaker}
 use Rattle.daachorse_build.proofs.nfa_builder.add_pattern.Goals as goal
 
 pub loop-label-init : goal.loop-label-init
-loop-label-init g c = adding_start g.L.Ord.cmp g.met.L.Ord.total (label_exact g.L.EdgeLabel.unit g.L.Ord.cmp g.met.L.EdgeLabel.exact g.met.L.EdgeLabel.by_unit) c.args.states.now.items c.requires
+loop-label-init g c = (adding_start g.L.Ord.cmp g.met.L.Ord.total (label_exact g.L.EdgeLabel.unit g.L.Ord.cmp g.met.L.EdgeLabel.exact g.met.L.EdgeLabel.by_unit) c.args.states.now.items c.requires, λ fits. fits)
 
 pub child_or_new-requires-clause-trie : goal.child_or_new-requires-clause-trie
-child_or_new-requires-clause-trie g c = c.loop-label.invariant.trie
+child_or_new-requires-clause-trie g c = c.loop-label.invariant.0.trie
 
 pub child_or_new-requires-clause-in_range : goal.child_or_new-requires-clause-in_range
 child_or_new-requires-clause-in_range g c =
     let states = c.loop-label.states.items in
-    let i = c.loop-label.invariant in
+    let i = c.loop-label.invariant.0 in
     let b = walk-bounds (child_of g.L.Ord.cmp states) (λ k. get_or (depths_of states) k 0) (length (edges_of states)) i.trie.trie _ c.loop-label.id i.here in
     omega (arith, b.0, length-map states (λ s. s.edges))
 
 pub child_or_new-requires-clause-alive : goal.child_or_new-requires-clause-alive
 child_or_new-requires-clause-alive g c =
     let states = c.loop-label.states.items in
-    let i = c.loop-label.invariant in
+    let i = c.loop-label.invariant.0 in
     (walk-bounds (child_of g.L.Ord.cmp states) (λ k. get_or (depths_of states) k 0) (length (edges_of states)) i.trie.trie _ c.loop-label.id i.here).1
 
 pub loop-label-preserved : goal.loop-label-preserved
@@ -35,14 +35,14 @@ loop-label-preserved g c =
     let pattern = c.args.pattern.now in
     let i = c.loop-label.label-index in
     let low : i < length pattern = omega arith in
-    let more = adding_more g.L.Ord.cmp g.met.L.Ord.total (label_exact g.L.EdgeLabel.unit g.L.Ord.cmp g.met.L.EdgeLabel.exact g.met.L.EdgeLabel.by_unit) c.args.states.now.items c.loop-label.states.items c.child_or_new.new.states.items (take i pattern) c.loop-label.id c.label-item.result c.in_ok-id.id c.loop-label.invariant c.in_ok-id.ensures.ok in
+    let more = adding_more g.L.Ord.cmp g.met.L.Ord.total (label_exact g.L.EdgeLabel.unit g.L.Ord.cmp g.met.L.EdgeLabel.exact g.met.L.EdgeLabel.by_unit) c.args.states.now.items c.loop-label.states.items c.child_or_new.new.states.items (take i pattern) c.loop-label.id c.label-item.result c.in_ok-id.id c.loop-label.invariant.0 c.in_ok-id.ensures.ok in
     let front : take (i + 1) pattern ≡ take i pattern ++ c.label-item.result ∷ [] = take_more pattern i c.label-item.result low ∙ ap (λ x. take i pattern ++ x ∷ []) (sym c.label-item.is) in
-    rw front more
+    (rw front more, λ fits. c.in_ok-id.ensures.fits (c.loop-label.invariant.1 fits))
 
 pub index_mut-requires : goal.index_mut-requires
 index_mut-requires g c =
     let states = c.loop-label.states.items in
-    let i = c.loop-label.invariant in
+    let i = c.loop-label.invariant.0 in
     let b = walk-bounds (child_of g.L.Ord.cmp states) (λ k. get_or (depths_of states) k 0) (length (edges_of states)) i.trie.trie _ c.loop-label.id i.here in
     omega (arith, b.0, length-map states (λ s. s.edges))
 
@@ -52,7 +52,7 @@ returns-clause-ok g c =
     let id = c.loop-label.id in
     let x = c.index_mut.result.now in
     let y = record x { output = c.push.new.self } in
-    let i = c.loop-label.invariant in
+    let i = c.loop-label.invariant.0 in
     let b = walk-bounds (child_of g.L.Ord.cmp states) (λ k. get_or (depths_of states) k 0) (length (edges_of states)) i.trie.trie _ id i.here in
     let low : id < length states = omega (arith, b.0, length-map states (λ s. s.edges)) in
     let whole : take c.loop-label.label-index c.args.pattern.now ≡ c.args.pattern.now = take_all c.loop-label.label-index c.args.pattern.now (omega arith) in
@@ -72,5 +72,5 @@ returns-in_err-id-clause-refused g c =
     let rest : x ∷ drop (i + 1) pattern ≡ drop i pattern = ap (λ y. y ∷ drop (i + 1) pattern) c.label-item.is ∙ sym (drop_more pattern i x low) in
     let splits : take i pattern ++ x ∷ drop (i + 1) pattern ≡ pattern = ap (λ z. take i pattern ++ z) rest ∙ take-append-drop i pattern in
     rw (p.1, p.2) (IsRefusal-weaker ⊥ ⊥ StateId ((4294967295 < vec_len c.loop-label.states) × (child_of g.L.Ord.cmp c.loop-label.states.items c.loop-label.id x ≡ None)) (Overflows g.L.Ord.cmp c.args.states.now.items pattern 4294967295) (λ none. none)
-    (λ h. record { mid = c.loop-label.states.items; front = take i pattern; label = x; rest = drop (i + 1) pattern; splits = splits; id = c.loop-label.id; adding = c.loop-label.invariant; full = omega (arith, h.0); none = h.1 })
+    (λ h. record { mid = c.loop-label.states.items; front = take i pattern; label = x; rest = drop (i + 1) pattern; splits = splits; id = c.loop-label.id; adding = c.loop-label.invariant.0; full = omega (arith, h.0); none = h.1 })
     _ c.in_err-id.ensures.refused)

@@ -1,16 +1,15 @@
 use Rattle.std.proofs.Common.{List}
 use Rattle.std.specs.Iterator.{items_left}
-use Rattle.daachorse_core.specs.Seen.{units}
 use Rattle.daachorse_model.specs.Units.{size}
 use Rattle.daachorse_search.specs.Sources.{IsReady, ScansOver}
 use Rattle.daachorse_search.proofs.scan.scan.Given as goal
 
 abbrev pub invariant-units : goal.invariant-units
 invariant-units g l =
-    let S = g.S.Iterator in let unit = g.A.Unit.EdgeLabel in
+    let S = g.S.Iterator in let W = g.W.Stepwise in let unit = g.W.Unit.EdgeLabel in
     record {
-      over : (xs : List g.row.A-Unit.Denot) × ScansOver g.A.Automaton.content S.next_gives S.remaining unit.unit unit.width l.fn.walk l.fn.source xs l.walk l.source;
-      ready : IsReady S.can_next S.next_gives S.remaining unit.unit unit.width l.source (size unit.width (units l.walk.seen));
+      over : (xs : List g.row.W-Unit.Denot) × ScansOver W.automaton W.read W.found S.next_gives S.remaining unit.unit l.fn.walk l.fn.source xs l.walk l.source;
+      ready : IsReady S.can_next S.next_gives S.remaining unit.unit unit.width l.source (size unit.width (W.read l.walk));
     }
 
 abbrev pub decreases-units : goal.decreases-units

@@ -1,7 +1,8 @@
 -- The pattern was added to the trie, so it is registered; where no id was free, there are too many prefixes.
-use Rattle.std.proofs.Common.{rules, ◌≡◌, ◌+◌, length, map, ap, arith}
+use Rattle.std.proofs.Common.{rules, ◌≡◌, ◌≤◌, ◌+◌, length, map, ap, arith}
 use Rattle.std.proofs.lemmas.List.{length_push}
 use Rattle.std.proofs.lemmas.Result.{err_from_is_err_and}
+use Rattle.daachorse_model.specs.Units.{size}
 use Rattle.daachorse_model.specs.Dictionary.{kept}
 use Rattle.daachorse_core.specs.declared.errors.Limit.TheVariants.{StateId}
 use Rattle.daachorse_build.specs.Holds.{in_units}
@@ -14,8 +15,9 @@ pub returns-in_err-add_pattern-clause-refused : goal.returns-in_err-add_pattern-
 returns-in_err-add_pattern-clause-refused g c =
     let p = err_from_is_err_and c.from_residual-in_err-add_pattern.result c.from_residual-in_err-add_pattern.ensures.1 in
     let b = c.args.self.now in
+    let short : size g.L.EdgeLabel.width (map g.L.EdgeLabel.unit c.args.pattern.now) ≤ 4294967295 = rw (← c.in_ok-size.ensures.size) (search rules) in
     rw (p.1, p.2) (IsRefusal-weaker ⊥ _ StateId _ _ (λ none. absurd none)
-    (λ over rs reg. too_many g.L.Ord.cmp g.L.EdgeLabel.unit g.met.L.EdgeLabel.exact g.L.EdgeLabel.width b.kind b.states.items rs c.args.pattern.now c.args.value (kept_more g.L.EdgeLabel.unit b.kind rs c.args.pattern.now c.args.value c.requires.standard) reg.holds 4294967295 over)
+    (λ over. (short, λ rs reg. too_many g.L.Ord.cmp g.L.EdgeLabel.unit g.met.L.EdgeLabel.exact g.L.EdgeLabel.width b.kind b.states.items rs c.args.pattern.now c.args.value (kept_more g.L.EdgeLabel.unit b.kind rs c.args.pattern.now c.args.value c.requires.standard) reg.holds 4294967295 over))
     _ c.in_err-add_pattern.ensures.refused)
 
 pub returns-clause-registered : goal.returns-clause-registered

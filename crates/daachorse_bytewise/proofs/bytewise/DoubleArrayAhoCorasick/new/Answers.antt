@@ -1,23 +1,8 @@
-use Rattle.std.proofs.Common.{ℕ, List, map, ◌∙◌, subst, inr}
-use Rattle.std.proofs.lemmas.Result.{IfOk-weaker, IfErr-weaker}
-use Rattle.std.specs.Borrow.{Bor}
-use Rattle.daachorse_bytewise.specs.Building.{IsBuiltOf, IsBuildRefusal}
+-- The kind of the default builder is `Standard`.
 use Rattle.daachorse_bytewise.proofs.bytewise.DoubleArrayAhoCorasick.new.Goals as goal
 
 pub returns-clause-ok : goal.returns-clause-ok
-returns-clause-ok g c =
-    let r = c.in_ok-texts.ensures.ok in
-    IfOk-weaker c.from_texts.result _ _
-    (λ a built.
-    let P : List (Bor (List ℕ)) → Type 0 = λ ts. IsBuiltOf g.V.TryFrom.try_from_gives (map (λ t. t.now) ts) a in
-    (c.into_iter.result, c.into_iter.ensures.into_iter_gives, (r.0, r.1, r.2, subst P (c.deref.ensures.value ∙ r.3) built)))
-    c.from_texts.ensures.ok
+returns-clause-ok g c = rw c.new.ensures at c.build.ensures.ok
 
 pub returns-clause-err : goal.returns-clause-err
-returns-clause-err g c =
-    let r = c.in_ok-texts.ensures.ok in
-    IfErr-weaker c.from_texts.result _ _
-    (λ e refused.
-    let P : List (Bor (List ℕ)) → Type 0 = λ ts. IsBuildRefusal g.V.TryFrom.try_from_gives (map (λ t. t.now) ts) e in
-    inr (c.into_iter.result, c.into_iter.ensures.into_iter_gives, (r.0, r.1, r.2, subst P (c.deref.ensures.value ∙ r.3) refused)))
-    c.from_texts.ensures.err
+returns-clause-err g c = rw c.new.ensures at c.build.ensures.err

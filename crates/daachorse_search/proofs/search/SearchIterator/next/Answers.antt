@@ -1,0 +1,46 @@
+use Rattle.std.proofs.Common.{ℕ, Option, Some, sym, ap, subst}
+use Rattle.std.specs.declared.num.NonZeroU32.{NonZeroU32}
+use Rattle.daachorse_core.specs.Outputs.{number}
+use Rattle.daachorse_search.specs.Searches.{SourceProgress}
+use Rattle.daachorse_search.specs.declared.search.Search.TheInside.{Inside}
+use Rattle.daachorse_search.proofs.SearchLemmas.{IsReached, IsReached-pending_at, IsReached-scan_at, Gave-reached, progress-reached}
+use Rattle.daachorse_search.proofs.search.SearchIterator.next.Given as given
+use Rattle.daachorse_search.proofs.search.SearchIterator.next.Goals as goal
+use Rattle.daachorse_search.proofs.search.SearchIterator.next.Goals.{in-Some, in-None+in_ok-position-in-None}
+
+-- the call came to outputs that are not all given
+reached : (g : given.Over) (c : goal.After-next-1 g) → IsReached g.W.Stepwise.automaton g.W.Stepwise.read g.W.Stepwise.turns g.W.Stepwise.found g.W.Stepwise.most_found g.W.Stepwise.has_output g.W.Stepwise.given_from g.S.Iterator.can_next g.S.Iterator.next_gives g.S.Iterator.remaining g.W.Unit.EdgeLabel.unit g.W.Unit.EdgeLabel.width c.args.self.now c.match-self.self-inside.walk c.match-self.self-inside.source c.match-self.position.value
+reached g c =
+    let W = g.W.Stepwise in let S = g.S.Iterator in let unit = g.W.Unit.EdgeLabel in let was = c.self.inside in
+    let I : Type 0 = Inside g.row.V.Denot g.row.W.Denot g.row.S.Denot g.row.W-Unit.Denot g.row.W-Automaton.Denot in
+    let R = λ (i : I) (position : ℕ). IsReached W.automaton W.read W.turns W.found W.most_found W.has_output W.given_from S.can_next S.next_gives S.remaining unit.unit unit.width c.args.self.now i.walk i.source position in
+    let P : I → Type 0 = λ i. R i c.match-self.position.value in
+    let Q : I → NonZeroU32 → Type 0 = λ i p. R i p.value in
+    let F : ℕ → Type 0 = λ n. R was n in
+    elim c.match-self.branch [
+      | in-Some w ↦
+          subst P (sym w.self-inside-is) (subst (Q was) (sym w.position-is) (subst F (ap number w.in-Some.is)
+          (IsReached-pending_at W.automaton W.read W.turns W.found W.most_found W.has_output W.given_from S.can_next S.next_gives S.remaining unit.unit unit.width c.args.self.now was.walk was.source (number was.output) c.self.view_is c.requires)))
+      | in-None+in_ok-position-in-None w ↦
+          let to = w.scan.new in let scanned = w.in_ok-position-in-None in
+          let after : I = record { walk = to.walk; source = to.source; output = was.output; of = was.of } in
+          subst P (sym w.self-inside-is) (subst (Q after) (sym w.position-is)
+          (IsReached-scan_at W.automaton W.read W.turns W.found W.most_found W.has_output W.given_from S.can_next S.next_gives S.remaining unit.unit unit.width c.args.self.now was.walk was.source (number was.output) scanned.position to.walk to.source
+              c.self.view_is (ap number w.in-None.is) (g.met.W.Stepwise.no_output was.walk).1 scanned.ensures.took scanned.ensures.stops scanned.ensures.ready))
+    ]
+
+-- the source ended: nothing is pending
+pub invariant_of-self : goal.invariant_of-self
+invariant_of-self g c =
+    let P : ℕ → Type 0 = λ n. g.W.Stepwise.has_output c.scan.new.walk n in
+    subst P (sym (ap number c.in-None.is)) (g.met.W.Stepwise.no_output c.scan.new.walk).0
+
+pub returns-clause-steps : goal.returns-clause-steps
+returns-clause-steps g c =
+    let W = g.W.Stepwise in let S = g.S.Iterator in let unit = g.W.Unit.EdgeLabel in let now = c.match-self.self-inside in
+    Gave-reached W.automaton W.read W.turns W.found W.most_found W.has_output W.given_from S.can_next S.next_gives S.remaining unit.unit unit.width c.args.self.now now.walk now.source c.match-self.position.value (number c.give-found.result.1) c.give-found.result.0 (reached g c) c.give-found.ensures.given c.give-found.ensures.ends
+
+pub returns-clause-goes : goal.returns-clause-goes
+returns-clause-goes g c =
+    let W = g.W.Stepwise in let S = g.S.Iterator in let unit = g.W.Unit.EdgeLabel in let now = c.match-self.self-inside in
+    progress-reached W.automaton W.read W.turns W.found W.most_found W.has_output W.given_from S.can_next S.next_gives S.remaining unit.unit unit.width c.args.self.now now.walk now.source c.match-self.position.value (number c.give-found.result.1) c.give-found.result.0 (reached g c) c.give-found.ensures.given

@@ -1,0 +1,36 @@
+-- What a search that goes one unit at a time tells where it stands. `read` is what it read, and `found` what it gives at the end of a text.
+use Rattle.std.specs.Prelude.{◌≡◌, ℕ, ◌+◌, ◌*◌, ◌<◌, ◌≤◌, Bool, List, [], ◌≢◌, length, count_by, Option, IfSome}
+use Rattle.std.specs.declared.num.NonZeroU32.{NonZeroU32}
+use Rattle.daachorse_core.specs.Outputs.{number}
+use Rattle.daachorse_model.specs.declared.Match.{Match}
+use Rattle.daachorse_model.specs.Dictionary.{Dictionary}
+use Rattle.daachorse_model.specs.Matches.{IsSinceMatch}
+use Rattle.daachorse_model.specs.Prefixes.{IsLong}
+
+-- what callers see of a stepper: the automaton, the units consumed, and the turns taken
+pub record Stepped (A : Type 0) : Type 0 where
+  pub automaton : A
+  pub read : List ℕ
+  pub turns : ℕ
+
+module _ {V A W : Type 0} (automaton : W → A) (read : W → List ℕ) (found : A → List ℕ → List (Match V)) (most : A → ℕ) (has_output : W → ℕ → Type 0) (given_from : W → ℕ → List (Match V)) where
+  -- the position of the first output, or `None`, where the walk stands
+  pub record Stops (walk : W) (position : Option NonZeroU32) : Type 0 where
+    pub place : has_output walk (number position)
+    pub matches : found (automaton walk) (read walk) ≡ given_from walk (number position)
+    pub few : length (given_from walk (number position)) ≤ most (automaton walk)
+    pub some : IfSome position (λ p. 0 < length (given_from walk p.value))
+
+module _ {V : Type 0} (K : Dictionary V) (has_label : ℕ → Bool) where
+  -- The turns of a search that begins at the root once: at most twice the units read, less the length of its state's text, and at least the units read that some key has.
+  pub record AreBounded (read : List ℕ) (turns : ℕ) : Type 0 where
+    pub most : turns ≤ 2 * length read
+    pub deep : (s : List ℕ) → IsLong K read s → turns + length s ≤ 2 * length read
+    pub least : count_by has_label read ≤ turns
+
+  -- The same for a search that begins again at the root behind each match. With an empty key it takes no turn.
+  pub record AreBoundedSince (width : ℕ → ℕ) (read : List ℕ) (turns : ℕ) : Type 0 where
+    pub most : turns ≤ 2 * length read
+    pub deep : (since s : List ℕ) → IsSinceMatch width K read since → IsLong K since s → turns + length s ≤ 2 * length read
+    pub least : K [] ≡ [] → count_by has_label read ≤ turns
+    pub idle : K [] ≢ [] → turns ≡ 0

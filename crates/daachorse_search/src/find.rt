@@ -1,0 +1,124 @@
+//! The standard search: matches that do not overlap, each as early as it can end.
+//!
+//! The layers above may rely on [`FindWalk`] telling the standard search's match that ends where
+//! it stands, if there is one, and on it taking no turn where some key is empty.
+
+ghost use Rattle.std.specs.Prelude.{◌≡◌, ◌<◌, ◌≤◌, ◌^◌, ◌+◌, ℕ, List, [], ◌∷◌, ◌++◌, take};
+ghost use Rattle.daachorse_search.specs.Nothing.{HasPlace-none, first_from-none};
+
+use crate::automaton::Automaton;
+use crate::stepwise::Stepwise;
+use crate::walk::Walk;
+use daachorse_core::Match;
+use std::alloc::AllocError;
+use std::marker::Model;
+use std::num::NonZeroU32;
+
+/// A walk that begins again at the root behind each match.
+#[derive(Drop)]
+pub struct FindWalk<'a, V: Copy, A: Automaton<V>> {
+    walk: Walk<'a, V, A>,
+    // The outputs of the empty key, if there is one: it matches at every boundary, so nothing is
+    // looked up.
+    everywhere: Option<NonZeroU32>,
+}
+
+impl<'a, V: Copy, A: Automaton<V>> Model for FindWalk<'a, V, A> {
+    ghost use Rattle.daachorse_search.specs.Finds.{IsFinding};
+    ghost use Rattle.daachorse_search.specs.Walks.{Walked};
+
+    ghost Value = { Walked A };
+
+    ghost view = { λ s. s.walk };
+
+    ghost invariant = { λ s. IsFinding A.Unit.width (A.content s.walk.automaton) (A.has_output s.walk.automaton) (A.outputs s.walk.automaton) s.walk.seen s.walk.turns s.everywhere };
+}
+
+impl<'a, V: Copy, A: Automaton<V>> FindWalk<'a, V, A> {
+    ghost use Rattle.daachorse_core.specs.Seen.{unread};
+
+    /// A walk that has read nothing.
+    #[inline(always)]
+    pub fn new(automaton: &'a A) -> Self
+        requires { (w : List ℕ) → ¬ A.dead automaton.now w }
+        ensures automaton { result.automaton ≡ automaton.now }
+        ensures seen { result.seen ≡ unread }
+        ensures turns { result.turns ≡ 0 }
+    {
+        let walk = Walk::new(automaton);
+        let everywhere = walk.outputs();
+        FindWalk { walk, everywhere }
+    }
+}
+
+impl<'a, V: Copy, A: Automaton<V>> Stepwise<V> for FindWalk<'a, V, A> {
+    ghost use Rattle.daachorse_core.specs.Seen.{units};
+    ghost use Rattle.daachorse_search.specs.Searches.{standard_found};
+    ghost use Rattle.daachorse_search.specs.Stepwise.{AreBoundedSince};
+    ghost use Rattle.daachorse_search.specs.Walks.{HasPlace, matches_from};
+
+    type Unit = A::Unit;
+
+    type Automaton = A;
+
+    ghost automaton = { λ s. s.automaton };
+
+    ghost read = { λ s. units s.seen };
+
+    ghost turns = { λ s. s.turns };
+
+    ghost found = { standard_found A.Unit.width A.content };
+
+    ghost most_found = { λ a. 1 };
+
+    ghost has_output = { λ s position. HasPlace A.Unit.width (A.has_output s.automaton) (A.outputs s.automaton) s.seen position };
+
+    ghost given_from = { λ s position. take 1 (matches_from A.Unit.width (A.outputs s.automaton) s.seen position) };
+
+    ghost bounds = { λ a read turns. AreBoundedSince (A.content a) (A.has_label a) A.Unit.width read turns };
+
+    #[inline(always)]
+    fn begin(&self) -> Option<NonZeroU32> {
+        self.everywhere
+    }
+
+    #[inline(always)]
+    fn advance(&mut self, unit: A::Unit) -> Option<NonZeroU32> {
+        if self.everywhere.is_some() {
+            self.walk.skip(unit);
+            return self.everywhere;
+        }
+        self.walk.consume(unit);
+        let found = self.walk.outputs();
+        if found.is_some() {
+            self.walk.restart();
+        }
+        found
+    }
+
+    #[inline(always)]
+    fn give(&self, position: NonZeroU32) -> (Match<V>, Option<NonZeroU32>) {
+        (self.walk.give(position).0, None)
+    }
+
+    #[inline(always)]
+    fn turns_are_bounded(&self) {
+        self.walk.turns_are_bounded();
+    }
+
+    ghost no_output = { λ s. (HasPlace-none A.Unit.width (A.has_output s.automaton) (A.outputs s.automaton) s.seen (A.no_output s.automaton), first_from-none A.Unit.width (A.has_output s.automaton) (A.outputs s.automaton) s.seen (A.no_output s.automaton)) };
+}
+
+impl<'a, V: Copy, A: Automaton<V>> Clone for FindWalk<'a, V, A> {
+    ghost is_clone = { λ s t. t ≡ s };
+
+    ghost is_infallible = { λ _. Unit {0} };
+
+    #[inline(always)]
+    fn clone(&self) -> Result<Self, AllocError> {
+        Ok(FindWalk {
+            walk: self.walk.clone()?,
+            everywhere: self.everywhere,
+        })
+    }
+}

@@ -1,0 +1,96 @@
+//! A search in what a source of units gives.
+//!
+//! The layers above may rely on a search giving, of each beginning of what its source gives, all
+//! that there is to give at its end, and on each match being given before a unit past its end is
+//! taken.
+
+ghost use Rattle.std.specs.Prelude.{◌≡◌, ◌+◌, ◌*◌, ℕ, [], length};
+
+use crate::scan::scan;
+use crate::stepwise::Stepwise;
+use daachorse_core::Match;
+use std::marker::{Model, PhantomData};
+use std::num::NonZeroU32;
+
+/// What a search that goes one unit at a time finds in what a source gives, in order.
+#[derive(Drop)]
+pub struct Search<V: Copy, W: Stepwise<V>, S: Iterator<Item = W::Unit>> {
+    walk: W,
+    source: S,
+    output: Option<NonZeroU32>,
+    of: PhantomData<V>,
+}
+
+impl<V: Copy, W: Stepwise<V>, S: Iterator<Item = W::Unit>> Model for Search<V, W, S> {
+    ghost use Rattle.daachorse_core.specs.Outputs.{number};
+    ghost use Rattle.daachorse_search.specs.Searches.{SourceProgress};
+
+    ghost Value = { SourceProgress V W.Automaton S };
+
+    ghost view = { λ s. record {
+      automaton = W.automaton s.walk;
+      source = s.source;
+      read = W.read s.walk;
+      pending = W.given_from s.walk (number s.output);
+      turns = W.turns s.walk;
+      most = W.most_found (W.automaton s.walk);
+    } };
+
+    ghost invariant = { λ s. W.has_output s.walk (number s.output) };
+}
+
+impl<V: Copy, W: Stepwise<V>, S: Iterator<Item = W::Unit>> Search<V, W, S> {
+    /// A search that has read nothing.
+    #[inline(always)]
+    pub fn new(walk: W, source: S) -> Self
+        requires { W.read walk ≡ [] }
+        ensures automaton { result.automaton ≡ W.automaton walk }
+        ensures source { result.source ≡ source }
+        ensures read { result.read ≡ [] }
+        ensures pending { result.pending ≡ W.found (W.automaton walk) [] }
+        ensures turns { result.turns ≡ W.turns walk }
+        ensures most { result.most ≡ W.most_found (W.automaton walk) }
+    {
+        let output = walk.begin();
+        Search {
+            walk,
+            source,
+            output,
+            of: PhantomData,
+        }
+    }
+
+    /// Does nothing, and promises the bounds of the turns.
+    #[inline(always)]
+    pub fn turns_are_bounded(&self)
+        ensures { W.bounds self.now.automaton self.now.read self.now.turns }
+    {
+        self.walk.turns_are_bounded();
+    }
+}
+
+impl<V: Copy, W: Stepwise<V>, S: Iterator<Item = W::Unit>> Iterator for Search<V, W, S> {
+    ghost use Rattle.std.specs.Iterator.{count_map};
+    ghost use Rattle.daachorse_model.specs.Units.{size};
+    ghost use Rattle.daachorse_search.specs.Sources.{IsReady};
+    ghost use Rattle.daachorse_search.specs.Searches.{GivesFrom};
+
+    type Item = Match<V>;
+
+    ghost can_next = { λ s. IsReady S.can_next S.next_gives S.remaining W.Unit.unit W.Unit.width s.source (size W.Unit.width s.read) };
+
+    ghost next_gives = { GivesFrom W.found S.next_gives S.remaining W.Unit.unit W.Unit.width };
+
+    ghost remaining = { λ s. count_map (λ n. length s.pending + s.most * n) (S.remaining s.source) };
+
+    #[inline(always)]
+    fn next(&mut self) -> Option<Match<V>> {
+        let position = match self.output {
+            Some(position) => position,
+            None => scan(&mut self.walk, &mut self.source)?,
+        };
+        let (found, next) = self.walk.give(position);
+        self.output = next;
+        Some(found)
+    }
+}

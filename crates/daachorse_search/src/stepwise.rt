@@ -1,0 +1,73 @@
+//! What all searches that go one unit at a time have in common.
+//!
+//! The layers above may rely on a search that is [`Stepwise`] telling, with each unit, all that it
+//! has to give at the end of what it read: no more, no less, and in order.
+
+ghost use Rattle.std.specs.Prelude.{◌≡◌, ◌+◌, ◌≤◌, ◌<◌, ◌^◌, ℕ, List, [], ◌∷◌, ◌++◌, IfSome, length};
+ghost use Rattle.daachorse_model.specs.declared.Match.{Match};
+ghost use Rattle.daachorse_model.specs.Units.{size};
+ghost use Rattle.daachorse_core.specs.Outputs.{number};
+ghost use Rattle.daachorse_search.specs.Stepwise.{Stops};
+
+use daachorse_core::Match;
+use daachorse_core::edge_label::EdgeLabel;
+use std::num::NonZeroU32;
+
+/// A search that is given one unit after the other, and tells what it found at each.
+pub trait Stepwise<V: Copy>: Drop {
+    /// The units of patterns and haystacks: bytes or characters.
+    type Unit: EdgeLabel;
+
+    /// What is walked through.
+    type Automaton;
+
+    ghost automaton: { Self → Self.Automaton };
+
+    /// The units that were read.
+    ghost read: { Self → List ℕ };
+
+    /// How many looks at a state it took.
+    ghost turns: { Self → ℕ };
+
+    /// What the search gives at the end of a text.
+    ghost found: { Self.Automaton → List ℕ → List (Match V) };
+
+    /// It never gives more at one end.
+    ghost most_found: { Self.Automaton → ℕ };
+
+    /// The positions of outputs, which count from 1. 0 is one of them, and stands for none.
+    ghost has_output: { Self → ℕ → Type 0 };
+
+    /// What is given from a position on, where the search stands.
+    ghost given_from: { Self → ℕ → List (Match V) };
+
+    /// What is promised of the turns for what was read.
+    ghost bounds: { Self.Automaton → List ℕ → ℕ → Type 0 };
+
+    /// The position of the first output at the beginning of a haystack.
+    fn begin(&self) -> Option<NonZeroU32>
+        requires { read self.now ≡ [] }
+        ensures { Stops automaton read found most_found has_output given_from self.now result };
+
+    /// Reads one unit, and answers the position of the first output behind it.
+    fn advance(&mut self, unit: Self::Unit) -> Option<NonZeroU32>
+        requires { size Self.Unit.width (read self.old) + Self.Unit.width (Self.Unit.unit unit) < 2 ^ 64 }
+        ensures automaton { automaton self.new ≡ automaton self.old }
+        ensures read { read self.new ≡ read self.old ++ Self.Unit.unit unit ∷ [] }
+        ensures stops { Stops automaton read found most_found has_output given_from self.new result };
+
+    /// The match of the output at a position, which ends where the search stands, and the position
+    /// of the next output to give there.
+    fn give(&self, position: NonZeroU32) -> (Match<V>, Option<NonZeroU32>)
+        requires { has_output self.now position.value }
+        ensures place { has_output self.now (number result.1) }
+        ensures given { given_from self.now position.value ≡ result.0 ∷ given_from self.now (number result.1) }
+        ensures ends { result.0.end ≡ size Self.Unit.width (read self.now) };
+
+    /// Does nothing, and promises the bounds of the turns.
+    fn turns_are_bounded(&self)
+        ensures { bounds (automaton self.now) (read self.now) (turns self.now) };
+
+    // From position 0 on nothing is given.
+    ghost no_output: { (s : Self) → has_output s 0 × (given_from s 0 ≡ []) };
+}

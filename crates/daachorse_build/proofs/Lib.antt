@@ -6,6 +6,8 @@ pub mod Growing
 pub mod Labels
 pub mod States
 pub mod Registrations
+pub mod Dropped
+pub mod Keys
 pub mod Empty
 pub mod OutputChains
 pub mod OutputLists

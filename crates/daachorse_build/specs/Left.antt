@@ -8,6 +8,11 @@ module _ {A : Type 0} (child : ℕ → A → Option ℕ) (stops : ℕ → Bool) 
   meets s [] = stops s
   meets s (c ∷ w) = stops s || unwrap_or (option_map (λ t. meets t w) (child s c)) false
 
+  -- whether the walk of w from s comes to a state that stops, before its end
+  abbrev pub meets_early : ℕ → List A → Bool
+  meets_early s [] = false
+  meets_early s (c ∷ w) = stops s || unwrap_or (option_map (λ t. meets_early t w) (child s c)) false
+
   -- the longest end of w that is the text of a state, or `None` where the walk from an earlier place comes to a state that stops
   abbrev pub long_unless_stop : List A → Option (List A)
   long_unless_stop [] = Some []

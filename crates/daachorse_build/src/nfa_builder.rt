@@ -7,7 +7,6 @@
 //! suffixes, the longest first.
 
 ghost use Rattle.std.specs.Prelude.{◌≡◌, ◌≢◌, true, false, Some, ℕ, ◌+◌, ◌<◌, ◌≤◌, ◌++◌, ◌∷◌, [], List, None, length, map, take, slice_index, vec_len, IfOk, IfErr, OnOk};
-ghost use Rattle.daachorse_model.specs.declared.MatchKind.TheVariants.{Standard};
 ghost use Rattle.daachorse_model.specs.Units.{size};
 ghost use Rattle.daachorse_model.specs.Dictionary.{dictionary, kept};
 ghost use Rattle.daachorse_model.specs.Paths.{Leads};
@@ -18,7 +17,7 @@ ghost use Rattle.daachorse_core.specs.declared.errors.DaachorseError.TheVariants
 ghost use Rattle.daachorse_core.specs.declared.outputs.Output.{Output as OutputOf};
 ghost use Rattle.daachorse_build.specs.Tables.{edges_of, fails_of, positions_of, own_of, own_at, output_count, child_of, stops_of, HoldTrie, edge_map, depth_of, held_by, link_of, position_of};
 ghost use Rattle.daachorse_build.specs.Orders.{IsIn, IsKnown, IsLinkAmong, HoldLinks, HoldLeftLinks};
-ghost use Rattle.daachorse_build.specs.Left.{IsLeftFailOf};
+ghost use Rattle.daachorse_build.specs.Left.{IsLeftFailOf, meets_early};
 ghost use Rattle.daachorse_build.specs.Searches.{Searches, LeadsTo, ComesFrom};
 ghost use Rattle.daachorse_build.specs.Growth.{Extends, IsAdded, HasTrieOf, Overflows};
 ghost use Rattle.daachorse_build.specs.Holds.{in_units, HasMorePrefixes};
@@ -165,7 +164,6 @@ impl<L: EdgeLabel, V: Copy, A: Allocator> NfaBuilder<L, V, A> {
 impl<L: EdgeLabel, V: Copy, A: Allocator + Copy> NfaBuilder<L, V, A> {
     /// A builder with no pattern, for this kind of matches.
     pub fn new(alloc: A, kind: MatchKind) -> Result<Self>
-        requires { kind ≡ Standard }
         ensures kind { IfOk result (λ builder. kind_of builder ≡ kind) }
         ensures outputs { IfOk result (λ builder. outputs_of builder ≡ []) }
         ensures registered { IfOk result (λ builder. Registered L.cmp L.unit L.width builder []) }
@@ -186,13 +184,15 @@ impl<L: EdgeLabel, V: Copy, A: Allocator + Copy> NfaBuilder<L, V, A> {
     /// Adds a pattern with its value. After an error the builder is of no use. A pattern that was
     /// added is short enough, and each state has an id of 32 bits, where each had one before.
     ///
+    /// Under `LeftmostFirst` a pattern that extends one that was added before can never be found:
+    /// it is left out, and no state is made for it.
+    ///
     /// # Errors
     ///
     /// A pattern of more than 4,294,967,295 bytes is refused, and so is one that needs the
     /// state id 4,294,967,296.
     pub fn add(&mut self, pattern: &[L], value: V) -> Result<()>
-        requires trie { HoldTrie L.cmp (states_of self.old) }
-        requires standard { kind_of self.old ≡ Standard }
+        requires { HoldTrie L.cmp (states_of self.old) }
         ensures kind { kind_of self.new ≡ kind_of self.old }
         ensures outputs { outputs_of self.new ≡ outputs_of self.old }
         ensures trie { OnOk result (HoldTrie L.cmp (states_of self.new)) }
@@ -202,6 +202,9 @@ impl<L: EdgeLabel, V: Copy, A: Allocator + Copy> NfaBuilder<L, V, A> {
         ensures refused { IfErr result (IsRefusal (4294967295 < size L.width (map L.unit pattern.now)) StateId ((size L.width (map L.unit pattern.now) ≤ 4294967295) × ((rs : List (List L × V)) → Registered L.cmp L.unit L.width self.old rs → HasMorePrefixes (dictionary (kind_of self.old) (in_units L.unit (rs ++ (pattern.now, value) ∷ []))) 4294967295))) }
     {
         let size = pattern_size(pattern)?;
+        if self.kind.is_leftmost_first() && extends_key(&self.states, pattern) {
+            return Ok(());
+        }
         let Some(len) = self.len.checked_add(1) else {
             return Err(DaachorseError::OutOfMemory(OutOfMemoryError));
         };
@@ -338,6 +341,27 @@ fn child_or_new<L: EdgeLabel, V: Copy, A: Allocator + Copy>(
     parent.edges.insert(alloc, label, fresh)?;
     states.push(NfaBuilderState::at_depth(alloc, depth))?;
     Ok(fresh)
+}
+
+/// Whether a key, shorter than the pattern, begins it.
+fn extends_key<L: EdgeLabel, V: Copy, A: Allocator>(
+    states: &[NfaBuilderState<L, V, A>],
+    pattern: &[L],
+) -> bool
+    requires { HoldTrie L.cmp states.now }
+    ensures { result ≡ meets_early (child_of L.cmp states.now) (stops_of true states.now) 0 pattern.now }
+{
+    let mut id = ROOT_STATE_ID;
+    for label in pattern {
+        if stops(states, true, id) {
+            return true;
+        }
+        let Some(next) = child(states, id, *label) else {
+            return false;
+        };
+        id = next;
+    }
+    false
 }
 
 /// Adds a pattern of `size` bytes with its value.
@@ -666,6 +690,20 @@ mod tests {
         let (states, _) = builder.into_parts();
         let fails: Vec<u32> = states.iter().map(|state| state.fail()).collect(alloc)?;
         assert_eq!(rt; fails.as_slice(), [0, 0, 0, 5, 1, 0, 1, 1, 1].as_slice());
+        Ok(())
+    }
+
+    #[test]
+    fn leaves_out_what_extends_a_pattern(rt: HostRuntime) -> Result<(), Fail> {
+        let alloc = rt.alloc();
+        let mut builder = NfaBuilder::<u8, u32>::new(alloc, MatchKind::LeftmostFirst)?;
+        builder.add(b"ab", 0)?;
+        builder.add(b"abc", 1)?;
+        builder.add(b"abcd", 2)?;
+        builder.add(b"ab", 3)?;
+        builder.add(b"a", 4)?;
+        assert_eq!(rt; builder.num_patterns(), 3);
+        assert_eq!(rt; builder.states().len(), 4);
         Ok(())
     }
 

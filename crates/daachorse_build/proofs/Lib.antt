@@ -8,6 +8,7 @@ pub mod States
 pub mod Registrations
 pub mod Dropped
 pub mod Keys
+pub mod Leftmost
 pub mod Empty
 pub mod OutputChains
 pub mod OutputLists

@@ -1,5 +1,7 @@
 -- Links of leftmost searches, where some states stop. For a standard search no state stops.
-use Rattle.std.specs.Prelude.{◌≡◌, ℕ, Bool, false, ◌||◌, cond, List, [], ◌∷◌, Option, Some, None, option_map, unwrap_or}
+use Rattle.std.specs.Prelude.{◌≡◌, ℕ, Bool, false, ◌||◌, ◌⊎◌, cond, map, List, [], ◌∷◌, Option, Some, None, option_map, unwrap_or}
+use Rattle.daachorse_model.specs.Dictionary.{Dictionary}
+use Rattle.daachorse_model.specs.Prefixes.{IsLink, IsDead}
 use Rattle.daachorse_model.specs.Paths.{is_reached, Leads}
 
 module _ {A : Type 0} (child : ℕ → A → Option ℕ) (stops : ℕ → Bool) where
@@ -30,3 +32,8 @@ IsStateOf child (Some x) f = Leads child x f
 -- f is the leftmost link of t
 abbrev pub IsLeftFailOf : {A : Type 0} → (ℕ → A → Option ℕ) → (ℕ → Bool) → ℕ → ℕ → Type 0
 IsLeftFailOf {A} child stops t f = (c : A) (w : List A) → Leads child (c ∷ w) t → IsStateOf child (left_link child stops c w) f
+
+-- The link f of the text w is dead just where that of the dictionary K is; else it is the state of that link.
+abbrev pub LinksLeft : {L V : Type 0} → Dictionary V → (L → ℕ) → (ℕ → L → Option ℕ) → List L → ℕ → Type 0
+LinksLeft {L} K unit child w f =
+    ((f ≡ 1) × IsDead K (map unit w)) ⊎ ((s : List L) × Leads child s f × IsLink K (map unit w) (map unit s) × (¬ IsDead K (map unit w)))

@@ -17,7 +17,7 @@ ghost use Rattle.daachorse_core.specs.declared.errors.DaachorseError.TheVariants
 ghost use Rattle.daachorse_core.specs.declared.outputs.Output.{Output as OutputOf};
 ghost use Rattle.daachorse_build.specs.Tables.{edges_of, fails_of, positions_of, own_of, own_at, output_count, child_of, stops_of, HoldTrie, edge_map, depth_of, held_by, link_of, position_of};
 ghost use Rattle.daachorse_build.specs.Orders.{IsIn, IsKnown, IsLinkAmong, HoldLinks, HoldLeftLinks};
-ghost use Rattle.daachorse_build.specs.Left.{IsLeftFailOf, meets_early};
+ghost use Rattle.daachorse_build.specs.Left.{IsLeftFailOf, LinksLeft, meets_early};
 ghost use Rattle.daachorse_build.specs.Searches.{Searches, LeadsTo, ComesFrom};
 ghost use Rattle.daachorse_build.specs.Growth.{Extends, IsAdded, HasTrieOf, Overflows};
 ghost use Rattle.daachorse_build.specs.Holds.{in_units, HasMorePrefixes};
@@ -241,6 +241,7 @@ impl<L: EdgeLabel, V: Copy, A: Allocator + Copy> NfaBuilder<L, V, A> {
         ensures outputs { outputs_of self.new ≡ outputs_of self.old }
         ensures kept { HasTrieOf (states_of self.old) (states_of self.new) }
         ensures links { IfOk result (λ order. HoldLeftLinks L.cmp true (states_of self.new) order.items) }
+        ensures left { OnOk result ((rs : List (List L × V)) → Registered L.cmp L.unit L.width self.old rs → (w : List L) (t : ℕ) → w ≢ [] → Leads (child_of L.cmp (states_of self.old)) w t → LinksLeft (dictionary (kind_of self.old) (in_units L.unit rs)) L.unit (child_of L.cmp (states_of self.old)) w (slice_index (fails_of (states_of self.new)) t)) }
         ensures refused { IfErr result IsOutOfMemory }
     {
         self.find_links(alloc, true)

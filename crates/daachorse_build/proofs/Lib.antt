@@ -1,11 +1,14 @@
 pub mod EdgeLists
 pub mod Walks
-pub mod Fails
+pub mod LeftLinks
 pub mod Queue
 pub mod Growing
 pub mod Labels
 pub mod States
 pub mod Registrations
+pub mod Dropped
+pub mod Keys
+pub mod Leftmost
 pub mod Empty
 pub mod OutputChains
 pub mod OutputLists

@@ -1,5 +1,5 @@
 -- The queue of a breadth-first walk, from step to step.
-use Rattle.std.proofs.Common.{◌≡◌, ◌≢◌, ℕ, zero, suc, ◌+◌, ◌<◌, ◌≤◌, ◌⊎◌, true, eqb, List, [], ◌∷◌, ◌++◌, length, get_or, take, set, replicate, Some, refl, sym, ap, ◌∙◌, subst, inl, inr, arith, append_assoc, get_or-set_same, get_or-set_other}
+use Rattle.std.proofs.Common.{◌≡◌, ◌≢◌, ℕ, zero, suc, ◌+◌, ◌<◌, ◌≤◌, ◌⊎◌, Bool, true, false, eqb, List, [], ◌∷◌, ◌++◌, length, get_or, take, set, replicate, Some, refl, sym, ap, ◌∙◌, subst, inl, inr, arith, append_assoc, get_or-set_same, get_or-set_other}
 use Rattle.std.proofs.lemmas.Option.{none-some, same_Some}
 use Rattle.std.proofs.lemmas.List.{append-nil, take-append-le, get_or_append_left, get_or_push, length_push, length-set, length-replicate, take_more, take_all, length-take-le, get_or-take, take_at, flat_map_more, get_or_default}
 use Rattle.std.proofs.lemmas.Map.Entries.{place_from_lookup, lookup_from_place}
@@ -15,10 +15,10 @@ use Rattle.std.specs.Ordering.{is_eq}
 use Rattle.std.specs.BTreeMap.{is_at}
 use Rattle.std.specs.List.{flat_map, slice_get}
 use Rattle.std.specs.Map.{keys_of, values_of}
-use Rattle.daachorse_build.specs.Trie.{IsFailOf}
+use Rattle.daachorse_build.specs.Left.{IsLeftFailOf}
 use Rattle.daachorse_build.specs.Tables.{child_in, IsTable}
-use Rattle.daachorse_build.specs.Orders.{IsIn, IsKnown, children, IsBreadthFirst, LinksComeFirst, StandOnce, AllLinked, IsSearch}
-use Rattle.daachorse_build.proofs.Fails.{LeadsTo, link_of_child, link_of_first}
+use Rattle.daachorse_build.proofs.LeftLinks.{fail_of_left, alive}
+use Rattle.daachorse_build.specs.Orders.{IsIn, IsKnown, children, IsBreadthFirst, LeftLinksComeFirst, StandOnce, IsLinked, IsLeftLinked, AllLeftLinked, IsLinkAmong, IsSearch}
 
 -- ---- elements
 pub in_left : (xs ys : List ℕ) (t : ℕ) → IsIn xs t → IsIn (xs ++ ys) t
@@ -74,6 +74,10 @@ in_take_more (suc m) (suc n) (x ∷ xs) t l (inr h) = inr (in_take_more m n xs t
 known_more : (m n : ℕ) (xs : List ℕ) (t : ℕ) → m ≤ n → IsKnown (take m xs) t → IsKnown (take n xs) t
 known_more m n xs t l (inl h) = inl h
 known_more m n xs t l (inr h) = inr (in_take_more m n xs t l h)
+
+among_more : (m n : ℕ) (xs : List ℕ) (t : ℕ) → m ≤ n → IsLinkAmong (take m xs) t → IsLinkAmong (take n xs) t
+among_more m n xs t l (inl h) = inl h
+among_more m n xs t l (inr h) = inr (known_more m n xs t l h)
 
 pub known_but_root : (xs : List ℕ) (t : ℕ) → t ≢ 0 → IsKnown xs t → IsIn xs t
 known_but_root xs t ne (inl e) = absurd (ne e)
@@ -180,176 +184,6 @@ module _ {L : Type 0} (cmp : L → L → Ordering) (total : IsTotalOrder cmp) (e
       let b = table.trie.bounds s c.0 t c.1 in
       (b.2, b.3)
 
-  -- ---- the walk
-  get_or_zeros : (n t : ℕ) → ◌≡◌ {A = ℕ} (get_or (replicate n 0) t 0) 0
-  get_or_zeros zero t = refl
-  get_or_zeros (suc n) zero = refl
-  get_or_zeros (suc n) (suc t) = get_or_zeros n t
-
-  pub search_start : (n : ℕ) → n ≡ length edges → IsSearch cmp edges (replicate n 0) (children edges 0) 0 []
-  search_start n e = record {
-    queue = sym (append-nil (children edges 0)) ∙ sym (append-nil (children edges 0 ++ []));
-    within = omega arith;
-    states = λ t h. bounds_of_listed 0 t h;
-    one_each = length-replicate n 0 ∙ e;
-    linked = λ t h.
-        let c = child_of_listed 0 t h in
-        let P : ℕ → Type 0 = λ f. IsFailOf (child_in cmp edges) t f in
-        subst P (sym (get_or_zeros n t)) (link_of_first (child_in cmp edges) (λ i. get_or depths i 0) (length edges) table.trie c.0 t c.1);
-    earlier = λ i l. inl (get_or_zeros n (get_or (children edges 0) i 0));
-    once = children_once 0;
-  }
-
-  -- the state that is left next is known, and so is its link
-  pub link_is_known : (fails order pending : List ℕ) (next : ℕ) → IsSearch cmp edges fails order next pending → next < length order → IsKnown (take next order) (get_or fails (get_or order next 0) 0)
-  link_is_known fails order pending next search l = search.earlier next l
-
-  -- the link of a known state is known
-  pub known_link : (fails order pending : List ℕ) (next t : ℕ) → IsSearch cmp edges fails order next pending → IsIn (take next order) t → IsKnown (take next order) (get_or fails t 0)
-  known_link fails order pending next t search h =
-      let p = place_of (take next order) t h in
-      let len = length-take-le next order search.within in
-      let short : p.0 < next = omega (arith, p.1, len) in
-      let low : p.0 < length order = omega (arith, short, search.within) in
-      let e : get_or order p.0 0 ≡ t = sym (get_or-take next order p.0 0 short) ∙ p.2 in
-      let P : ℕ → Type 0 = λ u. IsKnown (take next order) (get_or fails u 0) in
-      subst P e (known_more p.0 next order _ (omega arith) (search.earlier p.0 low))
-
-  -- a child of the state that is left, which comes after the children pending, is new
-  pub child_is_new : (fails order : List ℕ) (next k : ℕ) (c : L) (t : ℕ) → (s : ℕ) → IsSearch cmp edges fails order next (take k (children edges s)) → next < length order → get_or order next 0 ≡ s → slice_get (get_or edges s []) k ≡ Some (c, t) → IsIn order t → ⊥
-  child_is_new fails order next k c t s search l is at h =
-      let here = child_at_place s k c t at in
-      let low : 1 < s = omega (arith, search.states (get_or order next 0) (in_at order next l), is) in
-      elim (in_cases (children edges 0 ++ flat_map (children edges) (take next order)) (take k (children edges s)) t (in_same _ _ t search.queue h)) [
-        | inl before ↦
-            elim (in_cases (children edges 0) (flat_map (children edges) (take next order)) t before) [
-              | inl first ↦
-                  let r = child_of_listed 0 t first in
-                  let one = table.trie.one_parent 0 r.0 s c t r.1 here in
-                  omega (arith, one.0, low)
-              | inr later ↦
-                  let p = in_flat_map (children edges) (take next order) t later in
-                  let r = child_of_listed p.0 t p.2 in
-                  let one = table.trie.one_parent p.0 r.0 s c t r.1 here in
-                  search.once next l (in_equal _ _ _ (one.0 ∙ sym is) p.1)
-            ]
-        | inr pending ↦
-            let v = value_at (get_or edges s []) k c t at in
-            children_once s k v.0 (in_equal _ _ _ (sym v.1) pending)
-      ]
-
-  -- where the link of a child comes from
-  abbrev pub ComesFrom : List ℕ → L → ℕ → Type 0
-  ComesFrom done c r = (r ≡ 0) ⊎ ((f : ℕ) × IsKnown done f × (child_in cmp edges f c ≡ Some r))
-
-  known_reached : (order pending : List ℕ) (next : ℕ) (c : L) (r : ℕ) → order ≡ (children edges 0 ++ flat_map (children edges) (take next order)) ++ pending → ComesFrom (take next order) c r → IsKnown order r
-  known_reached order pending next c r queue (inl e) = inl e
-  known_reached order pending next c r queue (inr (f, inl e, h)) =
-      let P : ℕ → Type 0 = λ s. IsIn (children edges s) r in
-      inr (in_same _ _ r (sym queue) (in_left _ pending r (in_left (children edges 0) _ r (subst P e (listed_of_child f c r h)))))
-  known_reached order pending next c r queue (inr (f, inr known, h)) =
-      inr (in_same _ _ r (sym queue) (in_left _ pending r (in_right (children edges 0) _ r (flat_map_in (children edges) (take next order) f r known (listed_of_child f c r h)))))
-
-  linked_push : (fails order : List ℕ) (t r : ℕ) → t < length fails → AllLinked cmp edges fails order → (IsIn order t → ⊥) → IsFailOf (child_in cmp edges) t r → AllLinked cmp edges (set fails t r) (order ++ t ∷ [])
-  linked_push fails order t r l linked fresh link = λ u h.
-      let P : ℕ → Type 0 = λ f. IsFailOf (child_in cmp edges) u f in
-      elim (in_cases order (t ∷ []) u h) [
-        | inl old ↦
-            let ne : u ≢ t = λ e. fresh (in_equal order u t e old) in
-            subst P (sym (get_or-set_other fails t u r 0 ne)) (linked u old)
-        | inr new ↦
-            elim new [
-              | inl e ↦
-                  let Q : ℕ → Type 0 = λ v. IsFailOf (child_in cmp edges) v (get_or (set fails t r) v 0) in
-                  let R : ℕ → Type 0 = λ f. IsFailOf (child_in cmp edges) t f in
-                  subst Q e (subst R (sym (get_or-set_same fails t r 0 l)) link)
-              | inr none ↦ absurd none
-            ]
-      ]
-
-  earlier_push : (fails order : List ℕ) (t r : ℕ) → t < length fails → LinksComeFirst fails order → (IsIn order t → ⊥) → IsKnown order r → LinksComeFirst (set fails t r) (order ++ t ∷ [])
-  earlier_push fails order t r l earlier fresh known = λ i h.
-      elim (cases_lt i (length order)) [
-        | inl below ↦
-            let at : get_or (order ++ t ∷ []) i 0 ≡ get_or order i 0 = get_or_append_left order (t ∷ []) 0 i below in
-            let ne : get_or order i 0 ≢ t = λ e. fresh (in_equal order _ t e (in_at order i below)) in
-            let fail : get_or (set fails t r) (get_or (order ++ t ∷ []) i 0) 0 ≡ get_or fails (get_or order i 0) 0 = ap (λ u. get_or (set fails t r) u 0) at ∙ get_or-set_other fails t _ r 0 ne in
-            let front : take i (order ++ t ∷ []) ≡ take i order = take-append-le i order (t ∷ []) (omega arith) in
-            rw (front, fail) (earlier i below)
-        | inr above ↦
-            let len = length_push order t in
-            let e : length order ≡ i = omega arith in
-            let fail : get_or (set fails t r) (get_or (order ++ t ∷ []) i 0) 0 ≡ r = ap (λ u. get_or (set fails t r) u 0) (get_or_last order t i e) ∙ get_or-set_same fails t r 0 l in
-            let front : take i (order ++ t ∷ []) ≡ order = take_at order (t ∷ []) i e in
-            rw (front, fail) known
-      ]
-
-  states_push : (order : List ℕ) (t : ℕ) → ((u : ℕ) → IsIn order u → (1 < u) × (u < length edges)) → (1 < t) × (t < length edges) → (u : ℕ) → IsIn (order ++ t ∷ []) u → (1 < u) × (u < length edges)
-  states_push order t old b u h =
-      elim (in_cases order (t ∷ []) u h) [
-        | inl in' ↦ old u in'
-        | inr new ↦ elim new [ inl e ↦ (omega (arith, e, b.0), omega (arith, e, b.1)) | inr none ↦ absurd none ]
-      ]
-
-  -- one child more
-  pub search_push : (fails order : List ℕ) (next k : ℕ) (c : L) (t s start r : ℕ) → IsSearch cmp edges fails order next (take k (children edges s)) → next < length order → get_or order next 0 ≡ s → slice_get (get_or edges s []) k ≡ Some (c, t) → IsFailOf (child_in cmp edges) s start → LeadsTo (child_in cmp edges) start c r → ComesFrom (take next order) c r → IsSearch cmp edges (set fails t r) (order ++ t ∷ []) next (take (k + 1) (children edges s))
-  search_push fails order next k c t s start r search l is at link to from =
-      let here = child_at_place s k c t at in
-      let b = table.trie.bounds s c t here in
-      let v = value_at (get_or edges s []) k c t at in
-      let low : 1 < s = omega (arith, search.states (get_or order next 0) (in_at order next l), is) in
-      let fresh : IsIn order t → ⊥ = child_is_new fails order next k c t s search l is at in
-      let in' : t < length fails = omega (arith, b.3, search.one_each) in
-      let front : take next (order ++ t ∷ []) ≡ take next order = take-append-le next order (t ∷ []) (omega arith) in
-      record {
-        queue =
-            ap (λ xs. xs ++ t ∷ []) search.queue
-            ∙ append_assoc (children edges 0 ++ flat_map (children edges) (take next order)) (take k (children edges s)) (t ∷ [])
-            ∙ ap (λ xs. (children edges 0 ++ flat_map (children edges) (take next order)) ++ xs) (ap (λ u. take k (children edges s) ++ u ∷ []) (sym v.1) ∙ sym (take_more (children edges s) k 0 v.0))
-            ∙ ap (λ xs. (children edges 0 ++ flat_map (children edges) xs) ++ take (k + 1) (children edges s)) (sym front);
-        within = omega (arith, length_push order t);
-        states = states_push order t search.states (b.2, b.3);
-        one_each = length-set fails t r ∙ search.one_each;
-        linked = linked_push fails order t r in' search.linked fresh (link_of_child (child_in cmp edges) (λ i. get_or depths i 0) (length edges) table.trie s c t start r low here link to);
-        earlier = earlier_push fails order t r in' search.earlier fresh (known_reached order _ next c r search.queue from);
-        once = once_push order t search.once fresh;
-      }
-
-  -- on to the state after the one that is left
-  pub search_next : (fails order : List ℕ) (next s : ℕ) → IsSearch cmp edges fails order next (children edges s) → next < length order → get_or order next 0 ≡ s → IsSearch cmp edges fails order (next + 1) []
-  search_next fails order next s search l is =
-      let more : take (next + 1) order ≡ take next order ++ s ∷ [] = take_more order next 0 l ∙ ap (λ u. take next order ++ u ∷ []) is in
-      record {
-        queue =
-            search.queue
-            ∙ flat_map_more (children edges) (children edges 0) (take next order) s
-            ∙ ap (λ xs. children edges 0 ++ flat_map (children edges) xs) (sym more)
-            ∙ sym (append-nil (children edges 0 ++ flat_map (children edges) (take (next + 1) order)));
-        within = omega arith;
-        states = search.states;
-        one_each = search.one_each;
-        linked = search.linked;
-        earlier = search.earlier;
-        once = search.once;
-      }
-
-  -- where each state has been left, the order is breadth-first
-  pub search_end : (fails order : List ℕ) (next : ℕ) → IsSearch cmp edges fails order next [] → length order ≤ next → IsBreadthFirst edges order
-  search_end fails order next search l =
-      search.queue ∙ append-nil _ ∙ ap (λ xs. children edges 0 ++ flat_map (children edges) xs) (take_all next order l)
-
-  -- no more states stand in the queue than there are
-  pub length-order : (fails order pending : List ℕ) (next : ℕ) → IsSearch cmp edges fails order next pending → length order ≤ length edges
-  length-order fails order pending next search =
-      length-le_from_distinct_below order (length edges)
-      (IsDistinct-from_apart eqb order (λ i j d l h.
-      false_from_ne_true _ (λ e.
-      search.once j h
-      (in_equal (take j order) _ _
-      (get_or_default order i 0 d (omega arith) ∙ eqb-true _ _ e ∙ get_or_default order j d 0 h)
-      (in_take_at j order i l (omega arith))))))
-      (λ q h. (search.states q (any_in order q h)).1)
-
   complete_step : (order : List ℕ) → IsBreadthFirst edges order → (s t : ℕ) → IsKnown order s → IsIn (children edges s) t → IsIn order t
   complete_step order first s t (inl e) h =
       let P : ℕ → Type 0 = λ u. IsIn (children edges u) t in
@@ -378,7 +212,208 @@ module _ {L : Type 0} (cmp : L → L → Ordering) (total : IsTotalOrder cmp) (e
   pub all_in_order : (order : List ℕ) → IsBreadthFirst edges order → (t : ℕ) → 1 < t → t < length edges → IsIn order t
   all_in_order order first t low high = complete_by order first (get_or depths t 0) t (omega arith) low high
 
-  -- a known state is one
-  pub known_bounds : (fails order pending : List ℕ) (next t : ℕ) → IsSearch cmp edges fails order next pending → IsKnown (take next order) t → t < length edges
-  known_bounds fails order pending next t search (inl e) = omega (arith, table.trie.two, e)
-  known_bounds fails order pending next t search (inr known) = omega (arith, (search.states t (in_take next order t known)).1)
+  -- ---- the walk, where the states that stops names stop
+  module _ (stops : ℕ → Bool) where
+    -- nothing is in the queue
+    pub search_start : (n : ℕ) → n ≡ length edges → IsSearch cmp stops edges [] (replicate n 0) [] 0 []
+    search_start n e = record {
+      queue = refl;
+      within = omega arith;
+      states = λ t h. absurd h;
+      one_each = length-replicate n 0 ∙ e;
+      linked = λ t h. absurd h;
+      earlier = λ i l. absurd (omega arith);
+      once = λ i l h. absurd (omega arith);
+    }
+
+    -- the state that is left next is known, and so is its link
+    pub link_is_known : (fails order pending : List ℕ) (next : ℕ) → IsSearch cmp stops edges (children edges 0) fails order next pending → next < length order → IsLinkAmong (take next order) (get_or fails (get_or order next 0) 0)
+    link_is_known fails order pending next search l = search.earlier next l
+
+    -- the link of a known state is known
+    pub known_link : (fails order pending : List ℕ) (next t : ℕ) → IsSearch cmp stops edges (children edges 0) fails order next pending → IsIn (take next order) t → IsLinkAmong (take next order) (get_or fails t 0)
+    known_link fails order pending next t search h =
+        let p = place_of (take next order) t h in
+        let len = length-take-le next order search.within in
+        let short : p.0 < next = omega (arith, p.1, len) in
+        let low : p.0 < length order = omega (arith, short, search.within) in
+        let e : get_or order p.0 0 ≡ t = sym (get_or-take next order p.0 0 short) ∙ p.2 in
+        let P : ℕ → Type 0 = λ u. IsLinkAmong (take next order) (get_or fails u 0) in
+        subst P e (among_more p.0 next order _ (omega arith) (search.earlier p.0 low))
+
+    -- a child of the state that is left, which comes after the children pending, is new
+    pub child_is_new : (fails order : List ℕ) (next k : ℕ) (c : L) (t : ℕ) → (s : ℕ) → IsSearch cmp stops edges (children edges 0) fails order next (take k (children edges s)) → next < length order → get_or order next 0 ≡ s → slice_get (get_or edges s []) k ≡ Some (c, t) → IsIn order t → ⊥
+    child_is_new fails order next k c t s search l is at h =
+        let here = child_at_place s k c t at in
+        let low : 1 < s = omega (arith, search.states (get_or order next 0) (in_at order next l), is) in
+        elim (in_cases (children edges 0 ++ flat_map (children edges) (take next order)) (take k (children edges s)) t (in_same _ _ t search.queue h)) [
+          | inl before ↦
+              elim (in_cases (children edges 0) (flat_map (children edges) (take next order)) t before) [
+                | inl first ↦
+                    let r = child_of_listed 0 t first in
+                    let one = table.trie.one_parent 0 r.0 s c t r.1 here in
+                    omega (arith, one.0, low)
+                | inr later ↦
+                    let p = in_flat_map (children edges) (take next order) t later in
+                    let r = child_of_listed p.0 t p.2 in
+                    let one = table.trie.one_parent p.0 r.0 s c t r.1 here in
+                    search.once next l (in_equal _ _ _ (one.0 ∙ sym is) p.1)
+              ]
+          | inr pending ↦
+              let v = value_at (get_or edges s []) k c t at in
+              children_once s k v.0 (in_equal _ _ _ (sym v.1) pending)
+        ]
+
+    -- where the link of a child comes from
+    abbrev pub ComesFrom : List ℕ → L → ℕ → Type 0
+    ComesFrom done c r = (r ≡ 1) ⊎ ((r ≡ 0) ⊎ ((f : ℕ) × IsKnown done f × (child_in cmp edges f c ≡ Some r)))
+
+    among_reached : (order pending : List ℕ) (next : ℕ) (c : L) (r : ℕ) → order ≡ (children edges 0 ++ flat_map (children edges) (take next order)) ++ pending → ComesFrom (take next order) c r → IsLinkAmong order r
+    among_reached order pending next c r queue (inl e) = inl e
+    among_reached order pending next c r queue (inr (inl e)) = inr (inl e)
+    among_reached order pending next c r queue (inr (inr (f, inl e, h))) =
+        let P : ℕ → Type 0 = λ s. IsIn (children edges s) r in
+        inr (inr (in_same _ _ r (sym queue) (in_left _ pending r (in_left (children edges 0) _ r (subst P e (listed_of_child f c r h))))))
+    among_reached order pending next c r queue (inr (inr (f, inr known, h))) =
+        inr (inr (in_same _ _ r (sym queue) (in_left _ pending r (in_right (children edges 0) _ r (flat_map_in (children edges) (take next order) f r known (listed_of_child f c r h))))))
+
+    linked_push : (fails order : List ℕ) (t r : ℕ) → t < length fails → AllLeftLinked cmp stops edges fails order → (IsIn order t → ⊥) → IsLeftFailOf (child_in cmp edges) stops t r → AllLeftLinked cmp stops edges (set fails t r) (order ++ t ∷ [])
+    linked_push fails order t r l linked fresh link = λ u h.
+        let P : ℕ → Type 0 = λ f. IsLeftFailOf (child_in cmp edges) stops u f in
+        elim (in_cases order (t ∷ []) u h) [
+          | inl old ↦
+              let ne : u ≢ t = λ e. fresh (in_equal order u t e old) in
+              subst P (sym (get_or-set_other fails t u r 0 ne)) (linked u old)
+          | inr new ↦
+              elim new [
+                | inl e ↦
+                    let Q : ℕ → Type 0 = λ v. IsLeftFailOf (child_in cmp edges) stops v (get_or (set fails t r) v 0) in
+                    let R : ℕ → Type 0 = λ f. IsLeftFailOf (child_in cmp edges) stops t f in
+                    subst Q e (subst R (sym (get_or-set_same fails t r 0 l)) link)
+                | inr none ↦ absurd none
+              ]
+        ]
+
+    earlier_push : (fails order : List ℕ) (t r : ℕ) → t < length fails → LeftLinksComeFirst fails order → (IsIn order t → ⊥) → IsLinkAmong order r → LeftLinksComeFirst (set fails t r) (order ++ t ∷ [])
+    earlier_push fails order t r l earlier fresh known = λ i h.
+        elim (cases_lt i (length order)) [
+          | inl below ↦
+              let at : get_or (order ++ t ∷ []) i 0 ≡ get_or order i 0 = get_or_append_left order (t ∷ []) 0 i below in
+              let ne : get_or order i 0 ≢ t = λ e. fresh (in_equal order _ t e (in_at order i below)) in
+              let fail : get_or (set fails t r) (get_or (order ++ t ∷ []) i 0) 0 ≡ get_or fails (get_or order i 0) 0 = ap (λ u. get_or (set fails t r) u 0) at ∙ get_or-set_other fails t _ r 0 ne in
+              let front : take i (order ++ t ∷ []) ≡ take i order = take-append-le i order (t ∷ []) (omega arith) in
+              rw (front, fail) (earlier i below)
+          | inr above ↦
+              let len = length_push order t in
+              let e : length order ≡ i = omega arith in
+              let fail : get_or (set fails t r) (get_or (order ++ t ∷ []) i 0) 0 ≡ r = ap (λ u. get_or (set fails t r) u 0) (get_or_last order t i e) ∙ get_or-set_same fails t r 0 l in
+              let front : take i (order ++ t ∷ []) ≡ order = take_at order (t ∷ []) i e in
+              rw (front, fail) known
+        ]
+
+    states_push : (order : List ℕ) (t : ℕ) → ((u : ℕ) → IsIn order u → (1 < u) × (u < length edges)) → (1 < t) × (t < length edges) → (u : ℕ) → IsIn (order ++ t ∷ []) u → (1 < u) × (u < length edges)
+    states_push order t old b u h =
+        elim (in_cases order (t ∷ []) u h) [
+          | inl in' ↦ old u in'
+          | inr new ↦ elim new [ inl e ↦ (omega (arith, e, b.0), omega (arith, e, b.1)) | inr none ↦ absurd none ]
+        ]
+
+    -- one child more
+    pub search_push : (fails order : List ℕ) (next k : ℕ) (c : L) (t s r : ℕ) → IsSearch cmp stops edges (children edges 0) fails order next (take k (children edges s)) → next < length order → get_or order next 0 ≡ s → slice_get (get_or edges s []) k ≡ Some (c, t) → IsLeftFailOf (child_in cmp edges) stops t r → ComesFrom (take next order) c r → IsSearch cmp stops edges (children edges 0) (set fails t r) (order ++ t ∷ []) next (take (k + 1) (children edges s))
+    search_push fails order next k c t s r search l is at link from =
+        let here = child_at_place s k c t at in
+        let b = table.trie.bounds s c t here in
+        let v = value_at (get_or edges s []) k c t at in
+        let low : 1 < s = omega (arith, search.states (get_or order next 0) (in_at order next l), is) in
+        let fresh : IsIn order t → ⊥ = child_is_new fails order next k c t s search l is at in
+        let in' : t < length fails = omega (arith, b.3, search.one_each) in
+        let front : take next (order ++ t ∷ []) ≡ take next order = take-append-le next order (t ∷ []) (omega arith) in
+        record {
+          queue =
+              ap (λ xs. xs ++ t ∷ []) search.queue
+              ∙ append_assoc (children edges 0 ++ flat_map (children edges) (take next order)) (take k (children edges s)) (t ∷ [])
+              ∙ ap (λ xs. (children edges 0 ++ flat_map (children edges) (take next order)) ++ xs) (ap (λ u. take k (children edges s) ++ u ∷ []) (sym v.1) ∙ sym (take_more (children edges s) k 0 v.0))
+              ∙ ap (λ xs. (children edges 0 ++ flat_map (children edges) xs) ++ take (k + 1) (children edges s)) (sym front);
+          within = omega (arith, length_push order t);
+          states = states_push order t search.states (b.2, b.3);
+          one_each = length-set fails t r ∙ search.one_each;
+          linked = linked_push fails order t r in' search.linked fresh link;
+          earlier = earlier_push fails order t r in' search.earlier fresh (among_reached order _ next c r search.queue from);
+          once = once_push order t search.once fresh;
+        }
+
+    -- on to the state after the one that is left
+    pub search_next : (fails order : List ℕ) (next s : ℕ) → IsSearch cmp stops edges (children edges 0) fails order next (children edges s) → next < length order → get_or order next 0 ≡ s → IsSearch cmp stops edges (children edges 0) fails order (next + 1) []
+    search_next fails order next s search l is =
+        let more : take (next + 1) order ≡ take next order ++ s ∷ [] = take_more order next 0 l ∙ ap (λ u. take next order ++ u ∷ []) is in
+        record {
+          queue =
+              search.queue
+              ∙ flat_map_more (children edges) (children edges 0) (take next order) s
+              ∙ ap (λ xs. children edges 0 ++ flat_map (children edges) xs) (sym more)
+              ∙ sym (append-nil (children edges 0 ++ flat_map (children edges) (take (next + 1) order)));
+          within = omega arith;
+          states = search.states;
+          one_each = search.one_each;
+          linked = search.linked;
+          earlier = search.earlier;
+          once = search.once;
+        }
+
+    -- where each state has been left, the order is breadth-first
+    pub search_end : (fails order : List ℕ) (next : ℕ) → IsSearch cmp stops edges (children edges 0) fails order next [] → length order ≤ next → IsBreadthFirst edges order
+    search_end fails order next search l =
+        search.queue ∙ append-nil _ ∙ ap (λ xs. children edges 0 ++ flat_map (children edges) xs) (take_all next order l)
+
+    -- no more states stand in the queue than there are
+    pub length-order : (fails order pending : List ℕ) (next : ℕ) → IsSearch cmp stops edges (children edges 0) fails order next pending → length order ≤ length edges
+    length-order fails order pending next search =
+        length-le_from_distinct_below order (length edges)
+        (IsDistinct-from_apart eqb order (λ i j d l h.
+        false_from_ne_true _ (λ e.
+        search.once j h
+        (in_equal (take j order) _ _
+        (get_or_default order i 0 d (omega arith) ∙ eqb-true _ _ e ∙ get_or_default order j d 0 h)
+        (in_take_at j order i l (omega arith))))))
+        (λ q h. (search.states q (any_in order q h)).1)
+
+    -- a known state is one
+    pub known_bounds : (fails order pending : List ℕ) (next t : ℕ) → IsSearch cmp stops edges (children edges 0) fails order next pending → IsKnown (take next order) t → t < length edges
+    known_bounds fails order pending next t search (inl e) = omega (arith, table.trie.two, e)
+    known_bounds fails order pending next t search (inr known) = omega (arith, (search.states t (in_take next order t known)).1)
+
+    -- a child of the root more
+    pub search_first : (fails order : List ℕ) (k : ℕ) (c : L) (t r : ℕ) → IsSearch cmp stops edges (take k (children edges 0)) fails order 0 [] → slice_get (get_or edges 0 []) k ≡ Some (c, t) → IsLeftFailOf (child_in cmp edges) stops t r → IsLinkAmong order r → IsSearch cmp stops edges (take (k + 1) (children edges 0)) (set fails t r) (order ++ t ∷ []) 0 []
+    search_first fails order k c t r search at link among =
+        let here = child_at_place 0 k c t at in
+        let b = table.trie.bounds 0 c t here in
+        let v = value_at (get_or edges 0 []) k c t at in
+        let queue : order ≡ take k (children edges 0) = search.queue ∙ append-nil _ ∙ append-nil _ in
+        let fresh : IsIn order t → ⊥ = λ h. children_once 0 k v.0 (in_equal _ _ _ (sym v.1) (in_same _ _ t queue h)) in
+        let in' : t < length fails = omega (arith, b.3, search.one_each) in
+        let more : order ++ t ∷ [] ≡ take (k + 1) (children edges 0) = ap (λ xs. xs ++ t ∷ []) queue ∙ ap (λ u. take k (children edges 0) ++ u ∷ []) (sym v.1) ∙ sym (take_more (children edges 0) k 0 v.0) in
+        record {
+          queue = more ∙ sym (append-nil _) ∙ sym (append-nil _);
+          within = omega arith;
+          states = states_push order t search.states (b.2, b.3);
+          one_each = length-set fails t r ∙ search.one_each;
+          linked = linked_push fails order t r in' search.linked fresh link;
+          earlier = earlier_push fails order t r in' search.earlier fresh among;
+          once = once_push order t search.once fresh;
+        }
+
+  -- where no state stops, the links are the standard ones
+  pub linked_of_left : (stops : ℕ → Bool) → ((s : ℕ) → stops s ≡ false) → (fails order : List ℕ) → ((t : ℕ) → IsIn order t → (1 < t) × (t < length edges)) → IsLeftLinked cmp stops edges fails order → IsLinked cmp edges fails order
+  linked_of_left stops never fails order states left = record {
+    first = left.first;
+    linked = λ t h. fail_of_left (child_in cmp edges) stops never t (get_or fails t 0) (left.linked t h);
+    earlier = λ i l.
+        let t = get_or order i 0 in
+        let h = in_at order i l in
+        let b = states t h in
+        elim (left.earlier i l) [
+          | inl dead ↦ absurd (alive (child_in cmp edges) stops never (λ j. get_or depths j 0) (length edges) table.trie t (get_or fails t 0) b.0 b.1 (left.linked t h) dead)
+          | inr known ↦ known
+        ];
+    once = left.once;
+  }

@@ -43,16 +43,6 @@ module _ {V : Type 0} where
       elim (same_text r.0 w) as (λ b. cond b (r.1 ∷ values_of (rs ++ (k, v) ∷ []) w) (values_of (rs ++ (k, v) ∷ []) w) ≡ cond b (r.1 ∷ values_of rs w) (values_of rs w) ++ cond (same_text k w) (v ∷ []) [])
       [ true ↦ ap (λ vs. r.1 ∷ vs) (values_of-push rs k v w) | false ↦ values_of-push rs k v w ]
 
--- where nothing is left out, one registration more is one more that counts
-pub kept_standard : {V : Type 0} (kind : MatchKind) (rs : List (List ℕ × V)) → kind ≡ Standard → kept kind rs ≡ rs
-kept_standard kind rs e = ap (λ k. kept k rs) e
-
-pub kept_more : {L V : Type 0} (unit : L → ℕ) (kind : MatchKind) (rs : List (List L × V)) (p : List L) (v : V) → kind ≡ Standard → kept kind (in_units unit (rs ++ (p, v) ∷ [])) ≡ kept kind (in_units unit rs) ++ (map unit p, v) ∷ []
-kept_more unit kind rs p v e =
-    kept_standard kind (in_units unit (rs ++ (p, v) ∷ [])) e
-    ∙ map-append (λ r. (map unit r.0, r.1)) rs ((p, v) ∷ [])
-    ∙ ap (λ ks. ks ++ (map unit p, v) ∷ []) (sym (kept_standard kind (in_units unit rs) e))
-
 module _ {L V : Type 0} (unit : L → ℕ) (exact : (a b : L) → unit a ≡ unit b → a ≡ b) (kind : MatchKind) (rs : List (List L × V)) (p : List L) (v : V) (adds : kept kind (in_units unit (rs ++ (p, v) ∷ [])) ≡ kept kind (in_units unit rs) ++ (map unit p, v) ∷ []) where
   abbrev pub before : Dictionary V
   before = dictionary kind (in_units unit rs)

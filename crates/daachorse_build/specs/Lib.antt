@@ -1,5 +1,6 @@
 pub mod EdgeMaps
 pub mod Trie
+pub mod Left
 pub mod Tables
 pub mod Orders
 pub mod Searches

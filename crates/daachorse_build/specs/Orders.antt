@@ -1,11 +1,12 @@
 -- The breadth-first order of the states, and the failure links.
-use Rattle.std.specs.Prelude.{◌≡◌, ℕ, ◌<◌, ◌≤◌, ◌⊎◌, List, [], ◌∷◌, ◌++◌, length, take, slice_index, slice_index_or}
+use Rattle.std.specs.Prelude.{◌≡◌, ℕ, Bool, ◌<◌, ◌≤◌, ◌⊎◌, List, [], ◌∷◌, ◌++◌, length, take, slice_index, slice_index_or}
 use Rattle.std.specs.declared.cmp.Ordering.{Ordering}
 use Rattle.std.specs.List.{flat_map}
 use Rattle.std.specs.Map.{values_of}
 use Rattle.daachorse_build.specs.declared.nfa_builder.NfaBuilderState.{NfaBuilderState}
 use Rattle.daachorse_build.specs.Trie.{IsFailOf}
-use Rattle.daachorse_build.specs.Tables.{child_in, edges_of, fails_of}
+use Rattle.daachorse_build.specs.Left.{IsLeftFailOf}
+use Rattle.daachorse_build.specs.Tables.{child_in, edges_of, fails_of, stops_of}
 
 -- x is an element
 abbrev pub IsIn : List ℕ → ℕ → Type 0
@@ -46,12 +47,35 @@ pub record IsLinked {L : Type 0} (cmp : L → L → Ordering) (edges : List (Lis
 abbrev pub HoldLinks : {L V A : Type 0} → (L → L → Ordering) → List (NfaBuilderState L V A) → List ℕ → Type 0
 HoldLinks cmp states order = IsLinked cmp (edges_of states) (fails_of states) order
 
--- a walk whose first next states have been left, and which stands at the children pending of the one after them
-pub record IsSearch {L : Type 0} (cmp : L → L → Ordering) (edges : List (List (L × ℕ))) (fails order : List ℕ) (next : ℕ) (pending : List ℕ) : Type 0 where
-  pub queue : order ≡ (children edges 0 ++ flat_map (children edges) (take next order)) ++ pending
+-- dead, or known
+abbrev pub IsLinkAmong : List ℕ → ℕ → Type 0
+IsLinkAmong xs t = (t ≡ 1) ⊎ IsKnown xs t
+
+-- each state's link is dead, or the root, or stands before it
+abbrev pub LeftLinksComeFirst : List ℕ → List ℕ → Type 0
+LeftLinksComeFirst fails order = (i : ℕ) → i < length order → IsLinkAmong (take i order) (slice_index fails (slice_index order i))
+
+-- each state's leftmost link is right
+abbrev pub AllLeftLinked : {L : Type 0} → (L → L → Ordering) → (ℕ → Bool) → List (List (L × ℕ)) → List ℕ → List ℕ → Type 0
+AllLeftLinked cmp stops edges fails order = (t : ℕ) → IsIn order t → IsLeftFailOf (child_in cmp edges) stops t (slice_index fails t)
+
+-- the order is breadth-first, and the leftmost links of its states are right
+pub record IsLeftLinked {L : Type 0} (cmp : L → L → Ordering) (stops : ℕ → Bool) (edges : List (List (L × ℕ))) (fails order : List ℕ) : Type 0 where
+  pub first : IsBreadthFirst edges order
+  pub linked : AllLeftLinked cmp stops edges fails order
+  pub earlier : LeftLinksComeFirst fails order
+  pub once : StandOnce order
+
+-- the links are leftmost, where the states with own outputs stop; with no such state they are the standard ones
+abbrev pub HoldLeftLinks : {L V A : Type 0} → (L → L → Ordering) → Bool → List (NfaBuilderState L V A) → List ℕ → Type 0
+HoldLeftLinks cmp leftmost states order = IsLeftLinked cmp (stops_of leftmost states) (edges_of states) (fails_of states) order
+
+-- a walk whose first next states have been left, and which stands at the children pending of the one after them; of the root's children the list start is in the queue
+pub record IsSearch {L : Type 0} (cmp : L → L → Ordering) (stops : ℕ → Bool) (edges : List (List (L × ℕ))) (start fails order : List ℕ) (next : ℕ) (pending : List ℕ) : Type 0 where
+  pub queue : order ≡ (start ++ flat_map (children edges) (take next order)) ++ pending
   pub within : next ≤ length order
   pub states : (t : ℕ) → IsIn order t → (1 < t) × (t < length edges)
   pub one_each : length fails ≡ length edges
-  pub linked : AllLinked cmp edges fails order
-  pub earlier : LinksComeFirst fails order
+  pub linked : AllLeftLinked cmp stops edges fails order
+  pub earlier : LeftLinksComeFirst fails order
   pub once : StandOnce order

@@ -1,21 +1,23 @@
 -- What holds of a `Search` between two calls.
-use Rattle.std.specs.Prelude.{◌≡◌, ℕ, ◌⊎◌, List, [], ◌∷◌, ◌++◌, Some}
+use Rattle.std.specs.Prelude.{◌≡◌, ℕ, Bool, ◌⊎◌, List, [], ◌∷◌, ◌++◌, Some}
 use Rattle.std.specs.declared.cmp.Ordering.{Ordering}
-use Rattle.daachorse_model.specs.Paths.{is_reached, Leads}
-use Rattle.daachorse_model.specs.Prefixes.{long}
+use Rattle.daachorse_model.specs.Paths.{Leads}
 use Rattle.daachorse_build.specs.declared.nfa_builder.NfaBuilderState.{NfaBuilderState}
 use Rattle.daachorse_build.specs.declared.nfa_builder.Search.{Search}
-use Rattle.daachorse_build.specs.Tables.{edges_of, child_in}
-use Rattle.daachorse_build.specs.Orders.{IsSearch, IsKnown}
+use Rattle.daachorse_build.specs.Left.{long_unless_stop, IsStateOf}
+use Rattle.daachorse_build.specs.Tables.{edges_of, child_in, stops_of}
+use Rattle.daachorse_build.specs.Orders.{IsSearch, IsKnown, children}
 
 -- the walk is over these states, and the children pending of the next state are in the queue
 abbrev pub Searches : {L V A : Type 0} → (L → L → Ordering) → List (NfaBuilderState L V A) → Search A → List ℕ → Type 0
-Searches cmp states search pending = IsSearch cmp (edges_of states) search.links.items search.order.items search.next pending
+Searches cmp states search pending =
+    IsSearch cmp (stops_of search.leftmost states) (edges_of states) (children (edges_of states) 0) search.links.items search.order.items search.next pending
 
 -- t is what a label leads to from start or the links after it
-abbrev pub LeadsTo : {L : Type 0} → (L → L → Ordering) → List (List (L × ℕ)) → ℕ → L → ℕ → Type 0
-LeadsTo {L} cmp edges start c t = (w : List L) → Leads (child_in cmp edges) w start → Leads (child_in cmp edges) (long (is_reached (child_in cmp edges)) (w ++ c ∷ [])) t
+abbrev pub LeadsTo : {L : Type 0} → (L → L → Ordering) → (ℕ → Bool) → List (List (L × ℕ)) → ℕ → L → ℕ → Type 0
+LeadsTo {L} cmp stops edges start c t =
+    (w : List L) → Leads (child_in cmp edges) w start → IsStateOf (child_in cmp edges) (long_unless_stop (child_in cmp edges) stops (w ++ c ∷ [])) t
 
--- t is the root, or a child of a state that is known
+-- t is dead, or the root, or a child of a state that is known
 abbrev pub ComesFrom : {L : Type 0} → (L → L → Ordering) → List (List (L × ℕ)) → List ℕ → L → ℕ → Type 0
-ComesFrom cmp edges done c r = (r ≡ 0) ⊎ ((f : ℕ) × IsKnown done f × (child_in cmp edges f c ≡ Some r))
+ComesFrom cmp edges done c r = (r ≡ 1) ⊎ ((r ≡ 0) ⊎ ((f : ℕ) × IsKnown done f × (child_in cmp edges f c ≡ Some r)))

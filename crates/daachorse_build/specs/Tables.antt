@@ -1,5 +1,5 @@
 -- The states of a builder as lists, and the trie that they hold.
-use Rattle.std.specs.Prelude.{ℕ, List, [], Option, map, length, slice_index, slice_index_or, unwrap_or, option_map, sum_by}
+use Rattle.std.specs.Prelude.{Bool, not, ◌&&◌, ◌==◌, ℕ, List, [], Option, map, length, slice_index, slice_index_or, unwrap_or, option_map, sum_by}
 use Rattle.std.specs.declared.cmp.Ordering.{Ordering}
 use Rattle.daachorse_model.specs.Paths.{walk}
 use Rattle.daachorse_build.specs.declared.nfa_builder.NfaBuilderState.{NfaBuilderState}
@@ -55,6 +55,10 @@ own_at own s = slice_index_or own s []
 -- how many own outputs there are
 abbrev pub output_count : {V : Type 0} → List (List (V × ℕ)) → ℕ
 output_count own = sum_by length own
+
+-- whether links stop at a state: at each with an own output, if matches are leftmost
+abbrev pub stops_of : {L V A : Type 0} → Bool → List (NfaBuilderState L V A) → ℕ → Bool
+stops_of leftmost states s = leftmost && not (length (own_at (own_of states) s) == 0)
 
 -- ---- the trie
 -- what a label leads to

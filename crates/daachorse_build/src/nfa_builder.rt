@@ -6,8 +6,7 @@
 //! `build_outputs` the list at a state's position has the values of its text and of each of its
 //! suffixes, the longest first.
 
-ghost use Rattle.std.specs.Prelude.{◌≡◌, ◌≢◌, ℕ, ◌+◌, ◌<◌, ◌≤◌, ◌++◌, ◌∷◌, [], List, None, length, map, take, slice_index, vec_len, IfOk, IfErr, OnOk};
-ghost use Rattle.daachorse_model.specs.declared.MatchKind.TheVariants.{Standard};
+ghost use Rattle.std.specs.Prelude.{◌≡◌, ◌≢◌, true, false, Some, ℕ, ◌+◌, ◌<◌, ◌≤◌, ◌++◌, ◌∷◌, [], List, None, length, map, take, slice_index, vec_len, IfOk, IfErr, OnOk};
 ghost use Rattle.daachorse_model.specs.Units.{size};
 ghost use Rattle.daachorse_model.specs.Dictionary.{dictionary, kept};
 ghost use Rattle.daachorse_model.specs.Paths.{Leads};
@@ -16,8 +15,9 @@ ghost use Rattle.daachorse_core.specs.Outputs.{ParentsFall, outputs_at, number};
 ghost use Rattle.daachorse_core.specs.declared.errors.Limit.TheVariants.{Outputs, StateId};
 ghost use Rattle.daachorse_core.specs.declared.errors.DaachorseError.TheVariants.{InvalidArgument};
 ghost use Rattle.daachorse_core.specs.declared.outputs.Output.{Output as OutputOf};
-ghost use Rattle.daachorse_build.specs.Tables.{edges_of, fails_of, positions_of, own_of, own_at, output_count, child_of, HoldTrie, edge_map, depth_of, held_by, link_of, position_of};
-ghost use Rattle.daachorse_build.specs.Orders.{IsKnown, HoldLinks};
+ghost use Rattle.daachorse_build.specs.Tables.{edges_of, fails_of, positions_of, own_of, own_at, output_count, child_of, stops_of, HoldTrie, edge_map, depth_of, held_by, link_of, position_of};
+ghost use Rattle.daachorse_build.specs.Orders.{IsIn, IsKnown, IsLinkAmong, HoldLinks, HoldLeftLinks};
+ghost use Rattle.daachorse_build.specs.Left.{IsLeftFailOf, LinksLeft, meets_early};
 ghost use Rattle.daachorse_build.specs.Searches.{Searches, LeadsTo, ComesFrom};
 ghost use Rattle.daachorse_build.specs.Growth.{Extends, IsAdded, HasTrieOf, Overflows};
 ghost use Rattle.daachorse_build.specs.Holds.{in_units, HasMorePrefixes};
@@ -164,7 +164,6 @@ impl<L: EdgeLabel, V: Copy, A: Allocator> NfaBuilder<L, V, A> {
 impl<L: EdgeLabel, V: Copy, A: Allocator + Copy> NfaBuilder<L, V, A> {
     /// A builder with no pattern, for this kind of matches.
     pub fn new(alloc: A, kind: MatchKind) -> Result<Self>
-        requires { kind ≡ Standard }
         ensures kind { IfOk result (λ builder. kind_of builder ≡ kind) }
         ensures outputs { IfOk result (λ builder. outputs_of builder ≡ []) }
         ensures registered { IfOk result (λ builder. Registered L.cmp L.unit L.width builder []) }
@@ -185,13 +184,15 @@ impl<L: EdgeLabel, V: Copy, A: Allocator + Copy> NfaBuilder<L, V, A> {
     /// Adds a pattern with its value. After an error the builder is of no use. A pattern that was
     /// added is short enough, and each state has an id of 32 bits, where each had one before.
     ///
+    /// Under `LeftmostFirst` a pattern that extends one that was added before can never be found:
+    /// it is left out, and no state is made for it.
+    ///
     /// # Errors
     ///
     /// A pattern of more than 4,294,967,295 bytes is refused, and so is one that needs the
     /// state id 4,294,967,296.
     pub fn add(&mut self, pattern: &[L], value: V) -> Result<()>
-        requires trie { HoldTrie L.cmp (states_of self.old) }
-        requires standard { kind_of self.old ≡ Standard }
+        requires { HoldTrie L.cmp (states_of self.old) }
         ensures kind { kind_of self.new ≡ kind_of self.old }
         ensures outputs { outputs_of self.new ≡ outputs_of self.old }
         ensures trie { OnOk result (HoldTrie L.cmp (states_of self.new)) }
@@ -201,6 +202,9 @@ impl<L: EdgeLabel, V: Copy, A: Allocator + Copy> NfaBuilder<L, V, A> {
         ensures refused { IfErr result (IsRefusal (4294967295 < size L.width (map L.unit pattern.now)) StateId ((size L.width (map L.unit pattern.now) ≤ 4294967295) × ((rs : List (List L × V)) → Registered L.cmp L.unit L.width self.old rs → HasMorePrefixes (dictionary (kind_of self.old) (in_units L.unit (rs ++ (pattern.now, value) ∷ []))) 4294967295))) }
     {
         let size = pattern_size(pattern)?;
+        if self.kind.is_leftmost_first() && extends_key(&self.states, pattern) {
+            return Ok(());
+        }
         let Some(len) = self.len.checked_add(1) else {
             return Err(DaachorseError::OutOfMemory(OutOfMemoryError));
         };
@@ -224,7 +228,36 @@ impl<L: EdgeLabel, V: Copy, A: Allocator + Copy> NfaBuilder<L, V, A> {
         ensures links { IfOk result (λ order. HoldLinks L.cmp (states_of self.new) order.items) }
         ensures refused { IfErr result IsOutOfMemory }
     {
-        let mut search = Search::new(alloc, &self.states)?;
+        self.find_links(alloc, false)
+    }
+
+    /// Gives each state its leftmost link, as leftmost searches want, and answers the states but
+    /// the root, those nearer to it first. The link is that of `build_fails`, but dead where a key
+    /// occurs in the state's text and starts before the link does.
+    pub fn build_fails_leftmost(&mut self, alloc: A) -> Result<Vec<u32, A>>
+        requires { HoldTrie L.cmp (states_of self.old) }
+        ensures kind { kind_of self.new ≡ kind_of self.old }
+        ensures patterns { count_of self.new ≡ count_of self.old }
+        ensures outputs { outputs_of self.new ≡ outputs_of self.old }
+        ensures kept { HasTrieOf (states_of self.old) (states_of self.new) }
+        ensures links { IfOk result (λ order. HoldLeftLinks L.cmp true (states_of self.new) order.items) }
+        ensures left { OnOk result ((rs : List (List L × V)) → Registered L.cmp L.unit L.width self.old rs → (w : List L) (t : ℕ) → w ≢ [] → Leads (child_of L.cmp (states_of self.old)) w t → LinksLeft (dictionary (kind_of self.old) (in_units L.unit rs)) L.unit (child_of L.cmp (states_of self.old)) w (slice_index (fails_of (states_of self.new)) t)) }
+        ensures refused { IfErr result IsOutOfMemory }
+    {
+        self.find_links(alloc, true)
+    }
+
+    fn find_links(&mut self, alloc: A, leftmost: bool) -> Result<Vec<u32, A>>
+        requires { HoldTrie L.cmp (states_of self.old) }
+        ensures kind { kind_of self.new ≡ kind_of self.old }
+        ensures patterns { count_of self.new ≡ count_of self.old }
+        ensures outputs { outputs_of self.new ≡ outputs_of self.old }
+        ensures kept { HasTrieOf (states_of self.old) (states_of self.new) }
+        ensures links { IfOk result (λ order. HoldLeftLinks L.cmp leftmost (states_of self.new) order.items) }
+        ensures states { IfOk result (λ order. (t : ℕ) → IsIn order.items t → (1 < t) × (t < length (states_of self.new))) }
+        ensures refused { IfErr result IsOutOfMemory }
+    {
+        let mut search = Search::new(alloc, &self.states, leftmost)?;
         while search.next < search.order.len() {
             search.expand(&self.states)?;
         }
@@ -311,6 +344,27 @@ fn child_or_new<L: EdgeLabel, V: Copy, A: Allocator + Copy>(
     Ok(fresh)
 }
 
+/// Whether a key, shorter than the pattern, begins it.
+fn extends_key<L: EdgeLabel, V: Copy, A: Allocator>(
+    states: &[NfaBuilderState<L, V, A>],
+    pattern: &[L],
+) -> bool
+    requires { HoldTrie L.cmp states.now }
+    ensures { result ≡ meets_early (child_of L.cmp states.now) (stops_of true states.now) 0 pattern.now }
+{
+    let mut id = ROOT_STATE_ID;
+    for label in pattern {
+        if stops(states, true, id) {
+            return true;
+        }
+        let Some(next) = child(states, id, *label) else {
+            return false;
+        };
+        id = next;
+    }
+    false
+}
+
 /// Adds a pattern of `size` bytes with its value.
 fn add_pattern<L: EdgeLabel, V: Copy, A: Allocator + Copy>(
     states: &mut Vec<NfaBuilderState<L, V, A>, A>,
@@ -331,6 +385,35 @@ fn add_pattern<L: EdgeLabel, V: Copy, A: Allocator + Copy>(
     Ok(())
 }
 
+/// Whether links end at a state: at each with an own output, if matches are leftmost.
+fn stops<L: EdgeLabel, V: Copy, A: Allocator>(
+    states: &[NfaBuilderState<L, V, A>],
+    leftmost: bool,
+    id: u32,
+) -> bool
+    requires { id < length states.now }
+    ensures { result ≡ stops_of leftmost states.now id }
+{
+    leftmost && !states[id as usize].output.is_empty()
+}
+
+/// The link of a child of the root.
+fn first_link<L: EdgeLabel, V: Copy, A: Allocator>(
+    states: &[NfaBuilderState<L, V, A>],
+    leftmost: bool,
+    child: u32,
+) -> u32
+    requires table { HoldTrie L.cmp states.now }
+    requires edge { (c : L) × (child_of L.cmp states.now 0 c ≡ Some child) }
+    ensures link { IsLeftFailOf (child_of L.cmp states.now) (stops_of leftmost states.now) child result }
+    ensures among { IsLinkAmong [] result }
+{
+    if stops(states, leftmost, ROOT_STATE_ID) || stops(states, leftmost, child) {
+        return DEAD_STATE_ID;
+    }
+    ROOT_STATE_ID
+}
+
 /// A breadth-first walk over a trie, with the links found so far.
 #[derive(Drop)]
 struct Search<A: Allocator> {
@@ -338,32 +421,41 @@ struct Search<A: Allocator> {
     links: Vec<u32, A>,
     order: Vec<u32, A>,
     next: usize,
+    // Whether a state with an own output ends the links.
+    leftmost: bool,
 }
 
 impl<A: Allocator + Copy> Search<A> {
     /// The walk that has left the root.
-    fn new<L: EdgeLabel, V: Copy>(alloc: A, states: &[NfaBuilderState<L, V, A>]) -> Result<Self>
+    fn new<L: EdgeLabel, V: Copy>(
+        alloc: A,
+        states: &[NfaBuilderState<L, V, A>],
+        leftmost: bool,
+    ) -> Result<Self>
         requires { HoldTrie L.cmp states.now }
         ensures search { IfOk result (λ search. Searches L.cmp states.now search []) }
+        ensures kind { IfOk result (λ search. search.leftmost ≡ leftmost) }
         ensures refused { IfErr result IsOutOfMemory }
     {
-        let links = vec![in alloc; 0; states.len()]?;
+        let mut links = vec![in alloc; 0; states.len()]?;
         let root = ROOT_STATE_ID as usize;
         let mut order = Vec::with_capacity(alloc, states.len())?;
-        for child in states[root].edges.values() {
+        for (_, child) in states[root].edges.iter() {
+            links[*child as usize] = first_link(states, leftmost, *child);
             order.push(*child)?;
         }
         Ok(Self {
             links,
             order,
             next: 0,
+            leftmost,
         })
     }
 }
 
 impl<A: Allocator> Search<A> {
     /// The state that `label` leads to from `start` or the first of the links after it with such
-    /// an edge; the root, where none has one.
+    /// an edge: the root where none has one, and the dead state behind a dead link.
     fn follow<L: EdgeLabel, V: Copy>(
         &self,
         states: &[NfaBuilderState<L, V, A>],
@@ -373,7 +465,8 @@ impl<A: Allocator> Search<A> {
         requires table { HoldTrie L.cmp states.now }
         requires search { (pending : List ℕ) × Searches L.cmp states.now self.now pending }
         requires known { IsKnown (take self.now.next self.now.order.items) start }
-        ensures link { LeadsTo L.cmp (edges_of states.now) start label result }
+        requires goes { stops_of self.now.leftmost states.now 0 ≡ false }
+        ensures link { LeadsTo L.cmp (stops_of self.now.leftmost states.now) (edges_of states.now) start label result }
         ensures from { ComesFrom L.cmp (edges_of states.now) (take self.now.next self.now.order.items) label result }
     {
         let mut id = start;
@@ -385,7 +478,31 @@ impl<A: Allocator> Search<A> {
                 return ROOT_STATE_ID;
             }
             id = self.links[id as usize];
+            if id == DEAD_STATE_ID {
+                return DEAD_STATE_ID;
+            }
         }
+    }
+
+    /// The link of the child by `label` of a state whose link is `start`.
+    fn link<L: EdgeLabel, V: Copy>(
+        &self,
+        states: &[NfaBuilderState<L, V, A>],
+        start: u32,
+        label: L,
+        child: u32,
+    ) -> u32
+        requires table { HoldTrie L.cmp states.now }
+        requires search { (pending : List ℕ) × Searches L.cmp states.now self.now pending }
+        requires parent { (s : ℕ) × (1 < s) × (child_of L.cmp states.now s label ≡ Some child) × IsLeftFailOf (child_of L.cmp states.now) (stops_of self.now.leftmost states.now) s start }
+        requires known { IsLinkAmong (take self.now.next self.now.order.items) start }
+        ensures link { IsLeftFailOf (child_of L.cmp states.now) (stops_of self.now.leftmost states.now) child result }
+        ensures from { ComesFrom L.cmp (edges_of states.now) (take self.now.next self.now.order.items) label result }
+    {
+        if start == DEAD_STATE_ID || stops(states, self.leftmost, child) {
+            return DEAD_STATE_ID;
+        }
+        self.follow(states, start, label)
     }
 
     /// Puts the children of the next state into the queue.
@@ -395,12 +512,13 @@ impl<A: Allocator> Search<A> {
         requires more { self.old.next < vec_len self.old.order }
         ensures search { OnOk result (Searches L.cmp states.now self.new []) }
         ensures next { OnOk result (self.new.next ≡ self.old.next + 1) }
+        ensures kind { self.new.leftmost ≡ self.old.leftmost }
         ensures refused { IfErr result IsOutOfMemory }
     {
         let id = self.order[self.next];
         let start = self.links[id as usize];
         for (label, child) in states[id as usize].edges.iter() {
-            let fail = self.follow(states, start, *label);
+            let fail = self.link(states, start, *label, *child);
             self.links[*child as usize] = fail;
             self.order.push(*child)?;
         }
@@ -558,6 +676,35 @@ mod tests {
             chain.as_slice(),
             [(2, 1, 0), (4, 1, 0), (3, 1, 2), (1, 2, 3), (0, 3, 0)].as_slice()
         );
+        Ok(())
+    }
+
+    #[test]
+    fn links_behind_a_pattern_are_dead(rt: HostRuntime) -> Result<(), Fail> {
+        let alloc = rt.alloc();
+        let mut builder = NfaBuilder::<u8, u32>::new(alloc, MatchKind::Standard)?;
+        builder.add(b"abc", 0)?;
+        builder.add(b"bd", 1)?;
+        builder.add(b"bdab", 2)?;
+        let order = builder.build_fails_leftmost(alloc)?;
+        assert_eq!(rt; order.as_slice(), [2, 5, 3, 6, 4, 7, 8].as_slice());
+        let (states, _) = builder.into_parts();
+        let fails: Vec<u32> = states.iter().map(|state| state.fail()).collect(alloc)?;
+        assert_eq!(rt; fails.as_slice(), [0, 0, 0, 5, 1, 0, 1, 1, 1].as_slice());
+        Ok(())
+    }
+
+    #[test]
+    fn leaves_out_what_extends_a_pattern(rt: HostRuntime) -> Result<(), Fail> {
+        let alloc = rt.alloc();
+        let mut builder = NfaBuilder::<u8, u32>::new(alloc, MatchKind::LeftmostFirst)?;
+        builder.add(b"ab", 0)?;
+        builder.add(b"abc", 1)?;
+        builder.add(b"abcd", 2)?;
+        builder.add(b"ab", 3)?;
+        builder.add(b"a", 4)?;
+        assert_eq!(rt; builder.num_patterns(), 3);
+        assert_eq!(rt; builder.states().len(), 4);
         Ok(())
     }
 

@@ -1,34 +1,83 @@
--- The pattern was added to the trie, so it is registered; where no id was free, there are too many prefixes.
-use Rattle.std.proofs.Common.{rules, ◌≡◌, ◌≤◌, ◌+◌, length, map, ap, arith}
+-- The pattern was added to the trie, so it is registered; where no id was free, there are too many prefixes. A pattern that extends a key is registered where nothing changes.
+use Rattle.std.proofs.Common.{rules, ◌≡◌, ◌≤◌, ◌+◌, ◌⊎◌, Bool, true, false, ◌&&◌, List, length, map, refl, sym, ap, ◌∙◌, inl, inr, arith, ◌++◌, ◌∷◌, [], ℕ}
 use Rattle.std.proofs.lemmas.List.{length_push}
+use Rattle.std.proofs.lemmas.Bool.{and_parts, and_cases}
 use Rattle.std.proofs.lemmas.Result.{err_from_is_err_and}
+use Rattle.std.specs.declared.cmp.Ordering.{Ordering}
+use Rattle.daachorse_model.specs.declared.MatchKind.{MatchKind}
 use Rattle.daachorse_model.specs.Units.{size}
+use Rattle.daachorse_model.specs.Kinds.{is_leftmost_first}
 use Rattle.daachorse_model.specs.Dictionary.{kept}
 use Rattle.daachorse_core.specs.declared.errors.Limit.TheVariants.{StateId}
-use Rattle.daachorse_build.specs.Holds.{in_units}
+use Rattle.daachorse_build.specs.declared.nfa_builder.NfaBuilderState.{NfaBuilderState}
+use Rattle.daachorse_build.specs.Tables.{child_of, stops_of}
+use Rattle.daachorse_build.specs.Left.{meets_early}
+use Rattle.daachorse_build.specs.Holds.{in_units, Holds}
 use Rattle.daachorse_core.proofs.Refusals.{IsRefusal-weaker}
-use Rattle.daachorse_build.proofs.Registrations.{kept_more, holds_more}
+use Rattle.daachorse_build.proofs.Registrations.{holds_more}
+use Rattle.daachorse_build.proofs.Dropped.{kept_one, kept_same}
+use Rattle.daachorse_build.proofs.Keys.{key_before, no_key_before, holds_same}
 use Rattle.daachorse_build.proofs.Full.{too_many}
 use Rattle.daachorse_build.proofs.nfa_builder.NfaBuilder.add.Goals as goal
+use Rattle.daachorse_build.proofs.nfa_builder.NfaBuilder.add.Goals.{else-is_leftmost_first-via-then-is_leftmost_first+else-extends_key, else-is_leftmost_first-via-else-is_leftmost_first}
+
+module _ {L V A : Type 0} (cmp : L → L → Ordering) (unit : L → ℕ) (width : ℕ → ℕ) (kind : MatchKind) (states : List (NfaBuilderState L V A)) (rs : List (List L × V)) (holds : Holds cmp unit width kind states rs) (p : List L) (v : V) where
+  -- a pattern that no key begins, or of another kind, counts
+  counts : (is_leftmost_first kind ≡ false) ⊎ (meets_early (child_of cmp states) (stops_of true states) 0 p ≡ false) → kept kind (in_units unit (rs ++ (p, v) ∷ [])) ≡ kept kind (in_units unit rs) ++ (map unit p, v) ∷ []
+  counts (inl other) = kept_one unit kind rs p v (inl other)
+  counts (inr none) = kept_one unit kind rs p v (inr (no_key_before cmp unit width kind states rs holds p none))
+
+  -- a pattern that a key begins is left out
+  drops : is_leftmost_first kind ≡ true → meets_early (child_of cmp states) (stops_of true states) 0 p ≡ true → kept kind (in_units unit (rs ++ (p, v) ∷ [])) ≡ kept kind (in_units unit rs)
+  drops first early =
+      let key = key_before cmp unit width kind states rs holds p early in
+      kept_same unit kind rs p v first key.0 key.1 key.2
 
 pub returns-in_err-add_pattern-clause-refused : goal.returns-in_err-add_pattern-clause-refused
 returns-in_err-add_pattern-clause-refused g c =
     let p = err_from_is_err_and c.from_residual-in_err-add_pattern.result c.from_residual-in_err-add_pattern.ensures.1 in
     let b = c.args.self.now in
-    let short : size g.L.EdgeLabel.width (map g.L.EdgeLabel.unit c.args.pattern.now) ≤ 4294967295 = rw (← c.in_ok-size.ensures.size) (search rules) in
+    let cmp = g.L.Ord.cmp in
+    let unit = g.L.EdgeLabel.unit in
+    let width = g.L.EdgeLabel.width in
+    let pattern = c.args.pattern.now in
+    let early = meets_early (child_of cmp b.states.items) (stops_of true b.states.items) 0 pattern in
+    let why : (is_leftmost_first b.kind ≡ false) ⊎ (early ≡ false) =
+    elim c.else-is_leftmost_first.branch [ else-is_leftmost_first-via-then-is_leftmost_first+else-extends_key w ↦ inr (ap (λ (ss : List (NfaBuilderState g.row.L.Denot g.row.V.Denot g.row.A.Denot)). meets_early (child_of cmp ss) (stops_of true ss) 0 c.args.pattern.now) (sym w.deref.ensures.value) ∙ sym w.extends_key.ensures ∙ w.if-extends_key.false) | else-is_leftmost_first-via-else-is_leftmost_first w ↦ inl (sym c.is_leftmost_first.ensures ∙ w.if-is_leftmost_first.false) ] in
+    let short : size width (map unit pattern) ≤ 4294967295 = rw (← c.in_ok-size.ensures.size) (search rules) in
     rw (p.1, p.2) (IsRefusal-weaker ⊥ _ StateId _ _ (λ none. absurd none)
-    (λ over. (short, λ rs reg. too_many g.L.Ord.cmp g.L.EdgeLabel.unit g.met.L.EdgeLabel.exact g.L.EdgeLabel.width b.kind b.states.items rs c.args.pattern.now c.args.value (kept_more g.L.EdgeLabel.unit b.kind rs c.args.pattern.now c.args.value c.requires.standard) reg.holds 4294967295 over))
+    (λ over. (short, λ rs reg. too_many cmp unit g.met.L.EdgeLabel.exact width b.kind b.states.items rs pattern c.args.value (counts cmp unit width b.kind b.states.items rs reg.holds pattern c.args.value why) reg.holds 4294967295 over))
     _ c.in_err-add_pattern.ensures.refused)
 
 pub returns-clause-registered : goal.returns-clause-registered
 returns-clause-registered g c = λ rs reg.
     let b = c.args.self.now in
-    let more = kept_more g.L.EdgeLabel.unit b.kind rs c.args.pattern.now c.args.value c.requires.standard in
+    let cmp = g.L.Ord.cmp in
     let unit = g.L.EdgeLabel.unit in
+    let width = g.L.EdgeLabel.width in
     let p = c.args.pattern.now in
+    let early = meets_early (child_of cmp b.states.items) (stops_of true b.states.items) 0 p in
+    let why : (is_leftmost_first b.kind ≡ false) ⊎ (early ≡ false) =
+    elim c.else-is_leftmost_first.branch [ else-is_leftmost_first-via-then-is_leftmost_first+else-extends_key w ↦ inr (ap (λ (ss : List (NfaBuilderState g.row.L.Denot g.row.V.Denot g.row.A.Denot)). meets_early (child_of cmp ss) (stops_of true ss) 0 c.args.pattern.now) (sym w.deref.ensures.value) ∙ sym w.extends_key.ensures ∙ w.if-extends_key.false) | else-is_leftmost_first-via-else-is_leftmost_first w ↦ inl (sym c.is_leftmost_first.ensures ∙ w.if-is_leftmost_first.false) ] in
+    let more = counts cmp unit width b.kind b.states.items rs reg.holds p c.args.value why in
     let added = rw c.in_ok-size.ensures.size at c.in_ok-add_pattern.ensures.ok in
     let len : c.in-Some.len ≡ b.len + 1 = search rules in
     record {
-      holds = holds_more unit g.met.L.EdgeLabel.exact b.kind rs p c.args.value more g.L.Ord.cmp g.L.EdgeLabel.width b.states.items c.add_pattern.new.states.items reg.holds added;
+      holds = holds_more unit g.met.L.EdgeLabel.exact b.kind rs p c.args.value more cmp width b.states.items c.add_pattern.new.states.items reg.holds added;
       count = omega (arith, len, reg.count, ap length more, length_push (kept b.kind (in_units unit rs)) (map unit p, c.args.value));
+    }
+
+pub returns-then-extends_key-clause-registered : goal.returns-then-extends_key-clause-registered
+returns-then-extends_key-clause-registered g c = λ rs reg.
+    let b = c.args.self.now in
+    let cmp = g.L.Ord.cmp in
+    let unit = g.L.EdgeLabel.unit in
+    let width = g.L.EdgeLabel.width in
+    let p = c.args.pattern.now in
+    let early : meets_early (child_of cmp b.states.items) (stops_of true b.states.items) 0 p ≡ true =
+    ap (λ (ss : List (NfaBuilderState g.row.L.Denot g.row.V.Denot g.row.A.Denot)). meets_early (child_of cmp ss) (stops_of true ss) 0 p) (sym c.deref.ensures.value) ∙ sym c.extends_key.ensures ∙ c.if-extends_key.true in
+    let same = drops cmp unit width b.kind b.states.items rs reg.holds p c.args.value (sym c.is_leftmost_first.ensures ∙ c.if-is_leftmost_first.true) early in
+    record {
+      holds = holds_same cmp unit width b.kind b.states.items rs (rs ++ (p, c.args.value) ∷ []) reg.holds same;
+      count = reg.count ∙ ap length (sym same);
     }

@@ -1,48 +1,23 @@
--- The walk has left each state in its queue, so the order is whole, and its links are written to the states.
-use Rattle.std.proofs.Common.{◌≡◌, ◌<◌, ℕ, List, [], length, drop, subst, sym, ap, ◌∙◌, arith}
-use Rattle.std.proofs.lemmas.List.{length-map, take_at}
-use Rattle.std.specs.declared.cmp.Ordering.{Ordering}
-use Rattle.daachorse_build.specs.Tables.{edges_of, depths_of, fails_of}
-use Rattle.daachorse_build.specs.declared.nfa_builder.NfaBuilderState.{NfaBuilderState}
-use Rattle.daachorse_build.specs.Orders.{IsLinked}
-use Rattle.daachorse_build.specs.Growth.{HasTrieOf}
-use Rattle.daachorse_build.proofs.Queue.{length-order, search_end}
+-- Where no state stops, the leftmost links are the standard ones.
+use Rattle.std.proofs.Common.{ℕ, false, List, refl, sym, subst, arith, Result, Ok, Err, IfOk}
+use Rattle.std.proofs.lemmas.List.{length-map}
+use Rattle.daachorse_build.specs.Tables.{edges_of, depths_of, fails_of, stops_of, IsTable}
+use Rattle.daachorse_build.proofs.Queue.{linked_of_left}
 use Rattle.daachorse_build.proofs.nfa_builder.NfaBuilder.build_fails.Goals as goal
 
-pub loop-search-smaller : goal.loop-search-smaller
-loop-search-smaller g c =
-    let s = c.loop-search.search in
-    let states = c.args.self.now.states.items in
-    let bound = length-order g.L.Ord.cmp g.met.L.Ord.total (edges_of states) (depths_of states) c.requires s.links.items s.order.items [] s.next c.loop-search.invariant in
-    let count = length-map states (λ s. s.edges) in
-    let more : s.next < length s.order.items = omega arith in
-    omega (arith, bound, count, more, c.in_ok-expand.ensures.next)
-
-linked_same : {L : Type 0} (cmp : L → L → Ordering) (edges edges' : List (List (L × ℕ))) (fails fails' order : List ℕ) → edges ≡ edges' → fails ≡ fails' → IsLinked cmp edges fails order → IsLinked cmp edges' fails' order
-linked_same {L} cmp edges edges' fails fails' order e f h =
-    let P : List (List (L × ℕ)) → Type 0 = λ es. IsLinked cmp es fails order in
-    let Q : List ℕ → Type 0 = λ fs. IsLinked cmp edges' fs order in
-    subst Q f (subst P e h)
+both_ok : {T E : Type 0} (r : Result T E) {P Q R : T → Type 0} → IfOk r P → IfOk r Q → ((x : T) → P x → Q x → R x) → IfOk r R
+both_ok (Ok x) p q f = f x p q
+both_ok (Err e) p q f = tt
 
 pub returns-clause-links : goal.returns-clause-links
 returns-clause-links g c =
-    let s = c.loop-search.search in
+    let new = c.find_links.new.self.states.items in
     let old = c.args.self.now.states.items in
-    let new = c.set_links.new.states in
-    let i = c.loop-search.invariant in
-    let same_len : length new ≡ c.args.self.now.states.len = omega (arith, c.set_links.auto.states, c.deref_mut.ensures.len) in
-    let edges : edges_of old ≡ edges_of new = ap edges_of (sym c.deref_mut.ensures.value) ∙ sym c.set_links.ensures.kept.edges in
-    let fails : s.links.items ≡ fails_of new = sym c.deref-2.ensures.value ∙ sym c.set_links.ensures.links in
-    let back = take_at new (drop (length new) old) c.args.self.now.states.len same_len in
-    let done : s.order.items ≡ _ = search_end g.L.Ord.cmp g.met.L.Ord.total (edges_of old) (depths_of old) c.requires s.links.items s.order.items s.next i (omega arith) in
-    rw back (linked_same g.L.Ord.cmp (edges_of old) (edges_of new) s.links.items (fails_of new) s.order.items edges fails
-    (record { first = done; linked = i.linked; earlier = i.earlier; once = i.once }))
-
-pub returns-clause-kept : goal.returns-clause-kept
-returns-clause-kept g c =
-    let old = c.args.self.now.states.items in
-    let new = c.set_links.new.states in
-    let same_len : length new ≡ c.args.self.now.states.len = omega (arith, c.set_links.auto.states, c.deref_mut.ensures.len) in
-    let back = take_at new (drop (length new) old) c.args.self.now.states.len same_len in
-    let P : List (NfaBuilderState g.row.L.Denot g.row.V.Denot g.row.A.Denot) → Type 0 = λ ss. HasTrieOf ss new in
-    rw back (subst P c.deref_mut.ensures.value c.set_links.ensures.kept)
+    let cmp = g.L.Ord.cmp in
+    let kept = c.find_links.ensures.kept in
+    let E : List (List (g.row.L.Denot × ℕ)) → Type 0 = λ es. IsTable cmp es (depths_of old) in
+    let D : List ℕ → Type 0 = λ ds. IsTable cmp (edges_of new) ds in
+    let table = subst D (sym kept.depths) (subst E (sym kept.edges) c.requires) in
+    both_ok c.find_links.result c.find_links.ensures.links c.find_links.ensures.states
+    (λ order left states. linked_of_left cmp g.met.L.Ord.total (edges_of new) (depths_of new) table (stops_of false new) (λ s. refl) (fails_of new) order.items
+    (λ t h. let b = states t h in (b.0, omega (arith, b.1, length-map new (λ s. s.edges)))) left)

@@ -1,17 +1,18 @@
 -- The label leads as far from the state that was reached as from the start; each link is less deep.
-use Rattle.std.proofs.Common.{take, get_or}
-use Rattle.daachorse_build.specs.Tables.{child_in, edges_of, depths_of}
+use Rattle.std.proofs.Common.{◌≡◌, List, [], ◌∷◌, ◌++◌, Some, take, get_or}
+use Rattle.daachorse_build.specs.Tables.{child_in, edges_of, depths_of, stops_of}
 use Rattle.daachorse_build.specs.Orders.{IsKnown}
-use Rattle.daachorse_build.proofs.Fails.{LeadsAs}
+use Rattle.daachorse_model.specs.Paths.{walk}
+use Rattle.daachorse_build.specs.Left.{long_unless_stop}
 use Rattle.daachorse_build.proofs.nfa_builder.Search.follow.Given as goal
 
 -- `id` is known, and the label leads as far from it as from `start`
 abbrev pub invariant-loop-found : goal.invariant-loop-found
 invariant-loop-found g l = record {
   known : IsKnown (take l.self.next l.self.order.items) l.id;
-  same : LeadsAs (child_in g.L.Ord.cmp (edges_of l.states)) l.start l.label l.id;
+  same : (w : List g.row.L.Denot) → walk (child_in g.L.Ord.cmp (edges_of l.states)) 0 w ≡ Some l.start → (v : List g.row.L.Denot) × (walk (child_in g.L.Ord.cmp (edges_of l.states)) 0 v ≡ Some l.id) × (long_unless_stop (child_in g.L.Ord.cmp (edges_of l.states)) (stops_of l.self.leftmost l.states) (v ++ l.label ∷ []) ≡ long_unless_stop (child_in g.L.Ord.cmp (edges_of l.states)) (stops_of l.self.leftmost l.states) (w ++ l.label ∷ []));
 }
 
--- a link is less deep
+-- a link that is alive is less deep
 abbrev pub decreases-loop-found : goal.decreases-loop-found
 decreases-loop-found g l = get_or (depths_of l.states) l.id 0

@@ -1,0 +1,168 @@
+-- Under `LeftmostFirst` a registration is left out where a proper prefix of its text was registered before, which is so just where a proper prefix is a key.
+use Rattle.std.proofs.Common.{◌≡◌, ◌≢◌, ℕ, ◌⊎◌, Bool, true, false, cond, ◌&&◌, ◌||◌, nat_eq, List, [], ◌∷◌, ◌++◌, map, Option, Some, None, refl, sym, ap, ◌∙◌, subst, inl, inr, arith, append-nil, append_assoc}
+use Rattle.std.specs.Prelude.{option_map, unwrap_or, not, ◌==◌, length}
+use Rattle.std.specs.List.{list_any}
+use Rattle.std.proofs.lemmas.List.{map-append}
+use Rattle.std.proofs.lemmas.Bool.{cases_Bool, and_parts, and_from, false≢true, cond-true, cond-false, or_parts, or_cases}
+use Rattle.std.proofs.lemmas.Option.{none-some, same_Some}
+use Rattle.std.specs.declared.cmp.Ordering.{Ordering}
+use Rattle.daachorse_model.specs.declared.MatchKind.{MatchKind}
+use Rattle.daachorse_model.specs.declared.MatchKind.TheVariants.{Standard, LeftmostLongest, LeftmostFirst}
+use Rattle.daachorse_model.specs.Kinds.{is_leftmost_first}
+use Rattle.daachorse_model.specs.Units.{same_text}
+use Rattle.daachorse_model.specs.Dictionary.{is_proper_prefix, without_extensions, values_of, dictionary, kept}
+use Rattle.daachorse_build.specs.Holds.{in_units}
+use Rattle.daachorse_build.proofs.Registrations.{text_same, text_refl}
+
+-- ---- proper prefixes
+eq_through : (a b u : ℕ) → (a == b) ≡ true → (b == u) ≡ true → (a == u) ≡ true
+eq_through a b u h k =
+    let p = text_same (a ∷ []) (b ∷ []) (and_from (a == b) true h refl) in
+    let q = text_same (b ∷ []) (u ∷ []) (and_from (b == u) true k refl) in
+    (and_parts (a == u) true (let e : a ∷ [] ≡ u ∷ [] = p ∙ q in subst (λ w. same_text (a ∷ []) w ≡ true) e (text_refl (a ∷ [])))).0
+
+proper_through : (p q w : List ℕ) → is_proper_prefix p q ≡ true → is_proper_prefix q w ≡ true → is_proper_prefix p w ≡ true
+proper_through p q [] h k = k
+proper_through [] q (u ∷ w) h k = refl
+proper_through (a ∷ p) [] (u ∷ w) h k = absurd (false≢true h)
+proper_through (a ∷ p) (b ∷ q) (u ∷ w) h k =
+    let x = and_parts (a == b) (is_proper_prefix p q) h in
+    let y = and_parts (b == u) (is_proper_prefix q w) k in
+    and_from (a == u) (is_proper_prefix p w) (eq_through a b u x.0 y.0) (proper_through p q w x.1 y.1)
+
+-- a beginning that is shorter
+pub proper_from : (v : List ℕ) (u : ℕ) (rest : List ℕ) → is_proper_prefix v (v ++ u ∷ rest) ≡ true
+proper_from [] u rest = refl
+proper_from (a ∷ v) u rest = and_from (a == a) _ (and_parts (a == a) true (text_refl (a ∷ []))).0 (proper_from v u rest)
+
+pub proper_rest : (v w : List ℕ) → is_proper_prefix v w ≡ true → (u : ℕ) × (rest : List ℕ) × (w ≡ v ++ u ∷ rest)
+proper_rest v [] h = absurd (false≢true h)
+proper_rest [] (u ∷ w) h = (u, w, refl)
+proper_rest (a ∷ v) (u ∷ w) h =
+    let x = and_parts (a == u) (is_proper_prefix v w) h in
+    let r = proper_rest v w x.1 in
+    let same : a ∷ [] ≡ u ∷ [] = text_same (a ∷ []) (u ∷ []) (and_from (a == u) true x.0 refl) in
+    let head : u ≡ a = cc in
+    (r.0, r.1, ap (λ y. u ∷ y) r.2 ∙ ap (λ y. y ∷ (v ++ r.0 ∷ r.1)) head)
+
+or_left : (a b : Bool) → a ≡ true → (a || b) ≡ true
+or_left true b e = refl
+or_left false b e = absurd (false≢true e)
+
+or_right : (a b : Bool) → b ≡ true → (a || b) ≡ true
+or_right true b e = refl
+or_right false b e = e
+
+any_through : (before : List (List ℕ)) (q w : List ℕ) → is_proper_prefix q w ≡ true → list_any (λ p. is_proper_prefix p q) before ≡ true → list_any (λ p. is_proper_prefix p w) before ≡ true
+any_through [] q w h k = k
+any_through (p ∷ before) q w h k = at (is_proper_prefix p q) refl k (any_through before q w h)
+  where
+    at : (c : Bool) → is_proper_prefix p q ≡ c → (c || list_any (λ p. is_proper_prefix p q) before) ≡ true → (list_any (λ p. is_proper_prefix p q) before ≡ true → list_any (λ p. is_proper_prefix p w) before ≡ true) → (is_proper_prefix p w || list_any (λ p. is_proper_prefix p w) before) ≡ true
+    at true e k ih = or_left (is_proper_prefix p w) _ (proper_through p q w e h)
+    at false e k ih = or_right (is_proper_prefix p w) _ (ih k)
+
+module _ {V : Type 0} where
+  -- whether a text before it is a proper prefix of w
+  abbrev pub drops : List (List ℕ) → List (List ℕ × V) → List ℕ → Bool
+  drops before [] w = list_any (λ p. is_proper_prefix p w) before
+  drops before (r ∷ rs) w = drops (r.0 ∷ before) rs w
+
+  cond-push : (b : Bool) (x : List ℕ × V) (xs ys : List (List ℕ × V)) → cond b (xs ++ ys) (x ∷ (xs ++ ys)) ≡ cond b xs (x ∷ xs) ++ ys
+  cond-push true x xs ys = refl
+  cond-push false x xs ys = refl
+
+  -- one registration more is left out, or counts
+  pub without_extensions-push : (before : List (List ℕ)) (rs : List (List ℕ × V)) (r : List ℕ × V) → without_extensions before (rs ++ r ∷ []) ≡ without_extensions before rs ++ cond (drops before rs r.0) [] (r ∷ [])
+  without_extensions-push before [] r = refl
+  without_extensions-push before (q ∷ rs) r =
+      let out = list_any (λ p. is_proper_prefix p q.0) before in
+      ap (λ xs. cond out xs (q ∷ xs)) (without_extensions-push (q.0 ∷ before) rs r)
+      ∙ cond-push out q (without_extensions (q.0 ∷ before) rs) (cond (drops (q.0 ∷ before) rs r.0) [] (r ∷ []))
+
+  drops_before : (before : List (List ℕ)) (rs : List (List ℕ × V)) (w : List ℕ) → list_any (λ p. is_proper_prefix p w) before ≡ true → drops before rs w ≡ true
+  drops_before before [] w h = h
+  drops_before before (r ∷ rs) w h = drops_before (r.0 ∷ before) rs w (or_right (is_proper_prefix r.0 w) _ h)
+
+  values_there : (b : Bool) (r : List ℕ × V) (rest : List (List ℕ × V)) (x : List ℕ) → values_of (cond b rest (r ∷ rest)) x ≢ [] → (same_text r.0 x ≡ true) ⊎ (values_of rest x ≢ [])
+  values_there true r rest x h = inr h
+  values_there false r rest x h = at (same_text r.0 x) refl h
+    where
+      at : (c : Bool) → same_text r.0 x ≡ c → cond c (r.1 ∷ values_of rest x) (values_of rest x) ≢ [] → (same_text r.0 x ≡ true) ⊎ (values_of rest x ≢ [])
+      at true e k = inl e
+      at false e k = inr k
+
+  -- a key that is a proper prefix was registered before
+  pub drops_by_key : (before : List (List ℕ)) (rs : List (List ℕ × V)) (x w : List ℕ) → is_proper_prefix x w ≡ true → values_of (without_extensions before rs) x ≢ [] → drops before rs w ≡ true
+  drops_by_key before [] x w h key = absurd (key refl)
+  drops_by_key before (r ∷ rs) x w h key =
+      elim (values_there (list_any (λ p. is_proper_prefix p r.0) before) r (without_extensions (r.0 ∷ before) rs) x key) [
+        | inl same ↦
+            let is : is_proper_prefix r.0 w ≡ true = subst (λ y. is_proper_prefix y w ≡ true) (sym (text_same r.0 x same)) h in
+            drops_before (r.0 ∷ before) rs w (or_left (is_proper_prefix r.0 w) _ is)
+        | inr later ↦ drops_by_key (r.0 ∷ before) rs x w h later
+      ]
+
+  -- a key among the registrations that is a proper prefix of w
+  abbrev pub HasKey : List (List ℕ) → List (List ℕ × V) → List ℕ → Type 0
+  HasKey before rs w = (x : List ℕ) × (is_proper_prefix x w ≡ true) × (values_of (without_extensions before rs) x ≢ [])
+
+  key_first : (before : List (List ℕ)) (r : List ℕ × V) (rs : List (List ℕ × V)) (w : List ℕ) → is_proper_prefix r.0 w ≡ true → (b : Bool) → list_any (λ p. is_proper_prefix p r.0) before ≡ b → (list_any (λ p. is_proper_prefix p w) before ≡ true) ⊎ HasKey before (r ∷ rs) w
+  key_first before r rs w h true e = inl (any_through before r.0 w h e)
+  key_first before r rs w h false e =
+      let rest = without_extensions (r.0 ∷ before) rs in
+      inr (r.0, h, λ none.
+      let is : cond (same_text r.0 r.0) (r.1 ∷ values_of rest r.0) (values_of rest r.0) ≡ [] = sym (ap (λ b. values_of (cond b rest (r ∷ rest)) r.0) e) ∙ none in
+      let value : r.1 ∷ values_of rest r.0 ≡ [] = sym (cond-true (same_text r.0 r.0) (r.1 ∷ values_of rest r.0) (values_of rest r.0) (text_refl r.0)) ∙ is in
+      cc)
+
+  values_stay : (b : Bool) (r : List ℕ × V) (rest : List (List ℕ × V)) (x : List ℕ) → values_of rest x ≢ [] → values_of (cond b rest (r ∷ rest)) x ≢ []
+  values_stay true r rest x h = h
+  values_stay false r rest x h = at (same_text r.0 x)
+    where
+      at : (c : Bool) → cond c (r.1 ∷ values_of rest x) (values_of rest x) ≢ []
+      at true none = cc
+      at false none = h none
+
+  -- a proper prefix that was registered before, or one of its own, is a key
+  pub key_of_drops : (before : List (List ℕ)) (rs : List (List ℕ × V)) (w : List ℕ) → drops before rs w ≡ true → (list_any (λ p. is_proper_prefix p w) before ≡ true) ⊎ HasKey before rs w
+  key_of_drops before [] w h = inl h
+  key_of_drops before (r ∷ rs) w h =
+      elim (key_of_drops (r.0 ∷ before) rs w h) [
+        | inr key ↦ inr (key.0, key.1, values_stay (list_any (λ p. is_proper_prefix p r.0) before) r (without_extensions (r.0 ∷ before) rs) key.0 key.2)
+        | inl any ↦ at (is_proper_prefix r.0 w) refl any
+      ]
+    where
+      at : (c : Bool) → is_proper_prefix r.0 w ≡ c → (c || list_any (λ p. is_proper_prefix p w) before) ≡ true → (list_any (λ p. is_proper_prefix p w) before ≡ true) ⊎ HasKey before (r ∷ rs) w
+      at true e k = key_first before r rs w e (list_any (λ p. is_proper_prefix p r.0) before) refl
+      at false e k = inl k
+
+-- ---- by the kind
+units_push : {L V : Type 0} (unit : L → ℕ) (rs : List (List L × V)) (p : List L) (v : V) → in_units unit (rs ++ (p, v) ∷ []) ≡ in_units unit rs ++ (map unit p, v) ∷ []
+units_push unit rs p v = map-append (λ r. (map unit r.0, r.1)) rs ((p, v) ∷ [])
+
+first_drops : {L V : Type 0} (unit : L → ℕ) (rs : List (List L × V)) (p : List L) (v : V) → kept LeftmostFirst (in_units unit (rs ++ (p, v) ∷ [])) ≡ kept LeftmostFirst (in_units unit rs) ++ cond (drops [] (in_units unit rs) (map unit p)) [] ((map unit p, v) ∷ [])
+first_drops unit rs p v = ap (without_extensions []) (units_push unit rs p v) ∙ without_extensions-push [] (in_units unit rs) (map unit p, v)
+
+-- under each kind a pattern counts, unless matches are leftmost first and a key is a proper prefix
+pub kept_one : {L V : Type 0} (unit : L → ℕ) (kind : MatchKind) (rs : List (List L × V)) (p : List L) (v : V) → (is_leftmost_first kind ≡ false) ⊎ ((x : List ℕ) → is_proper_prefix x (map unit p) ≡ true → dictionary kind (in_units unit rs) x ≡ []) → kept kind (in_units unit (rs ++ (p, v) ∷ [])) ≡ kept kind (in_units unit rs) ++ (map unit p, v) ∷ []
+kept_one unit Standard rs p v why = units_push unit rs p v
+kept_one unit LeftmostLongest rs p v why = units_push unit rs p v
+kept_one unit LeftmostFirst rs p v (inl no') = absurd (false≢true (sym no'))
+kept_one unit LeftmostFirst rs p v (inr none) = first_drops unit rs p v ∙ ap (λ b. without_extensions [] (in_units unit rs) ++ cond b [] ((map unit p, v) ∷ [])) (at (drops [] (in_units unit rs) (map unit p)) refl)
+  where
+    at : (b : Bool) → drops [] (in_units unit rs) (map unit p) ≡ b → drops [] (in_units unit rs) (map unit p) ≡ false
+    at false e = e
+    at true e =
+        elim (key_of_drops [] (in_units unit rs) (map unit p) e) [
+          | inl none' ↦ absurd (false≢true none')
+          | inr key ↦ absurd (key.2 (none key.0 key.1))
+        ]
+
+-- a pattern that extends a key is left out
+pub kept_same : {L V : Type 0} (unit : L → ℕ) (kind : MatchKind) (rs : List (List L × V)) (p : List L) (v : V) → is_leftmost_first kind ≡ true → (x : List ℕ) → is_proper_prefix x (map unit p) ≡ true → dictionary kind (in_units unit rs) x ≢ [] → kept kind (in_units unit (rs ++ (p, v) ∷ [])) ≡ kept kind (in_units unit rs)
+kept_same unit Standard rs p v is x h key = absurd (false≢true is)
+kept_same unit LeftmostLongest rs p v is x h key = absurd (false≢true is)
+kept_same unit LeftmostFirst rs p v is x h key =
+    first_drops unit rs p v
+    ∙ ap (λ b. without_extensions [] (in_units unit rs) ++ cond b [] ((map unit p, v) ∷ [])) (drops_by_key [] (in_units unit rs) x (map unit p) h key)
+    ∙ append-nil (without_extensions [] (in_units unit rs))

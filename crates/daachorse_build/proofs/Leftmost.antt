@@ -1,0 +1,166 @@
+-- The leftmost links of a trie are the leftmost failure links of the dictionary that it holds.
+use Rattle.std.proofs.Common.{◌≡◌, ◌≢◌, ℕ, ◌<◌, ◌⊎◌, Bool, true, false, cond, ◌&&◌, ◌||◌, List, [], ◌∷◌, ◌++◌, length, map, get_or, Option, Some, None, is_some, refl, sym, ap, ◌∙◌, subst, inl, inr, arith, unwrap_or}
+use Rattle.std.specs.Prelude.{option_map, not, ◌==◌}
+use Rattle.std.specs.List.{list_any}
+use Rattle.std.proofs.lemmas.Bool.{cases_Bool, false≢true, and_parts, and_from, cond-true, cond-false, false_from_ne_true, or_left, or_right}
+use Rattle.std.proofs.lemmas.Option.{none-some, same_Some}
+use Rattle.std.specs.declared.cmp.Ordering.{Ordering}
+use Rattle.daachorse_model.specs.declared.MatchKind.{MatchKind}
+use Rattle.daachorse_model.specs.Units.{same_text}
+use Rattle.daachorse_model.specs.Dictionary.{Dictionary, dictionary, kept, values_of, is_prefix}
+use Rattle.daachorse_model.specs.Prefixes.{IsKey, IsPrefix, IsLink, IsDead, IsLeftFail, key_begins, long_unless_key, left_fail}
+use Rattle.daachorse_model.specs.Paths.{walk, is_reached, Leads}
+use Rattle.daachorse_model.proofs.Links.{left_fail-is, IsDead-not}
+use Rattle.daachorse_build.specs.declared.nfa_builder.NfaBuilderState.{NfaBuilderState}
+use Rattle.daachorse_build.specs.Tables.{child_in, child_of, edges_of, depths_of, own_of, own_at, fails_of, stops_of, HoldTrie}
+use Rattle.daachorse_build.specs.Growth.{HasTrieOf}
+use Rattle.daachorse_build.specs.Orders.{IsIn, IsBreadthFirst, HoldLeftLinks}
+use Rattle.std.specs.Cmp.{IsTotalOrder}
+use Rattle.daachorse_build.proofs.Walks.{walk-same, walk-bounds}
+use Rattle.daachorse_build.proofs.Queue.{all_in_order}
+use Rattle.daachorse_build.specs.Holds.{in_units, Holds}
+use Rattle.daachorse_build.specs.Left.{meets, long_unless_stop, left_link, IsStateOf, IsLeftFailOf, LinksLeft}
+use Rattle.daachorse_build.proofs.Registrations.{text_same, text_refl}
+use Rattle.daachorse_build.proofs.Keys.{meets-key}
+
+-- ---- a test for the prefixes of keys
+prefix_rest : (v w : List ℕ) → is_prefix v w ≡ true → (x : List ℕ) × (w ≡ v ++ x)
+prefix_rest [] w h = (w, refl)
+prefix_rest (a ∷ v) [] h = absurd (false≢true h)
+prefix_rest (a ∷ v) (u ∷ w) h =
+    let e = and_parts (a == u) (is_prefix v w) h in
+    let r = prefix_rest v w e.1 in
+    let same : a ∷ [] ≡ u ∷ [] = text_same (a ∷ []) (u ∷ []) (and_from (a == u) true e.0 refl) in
+    let head : u ≡ a = cc in
+    (r.0, ap (λ y. u ∷ y) r.1 ∙ ap (λ y. y ∷ (v ++ r.0)) head)
+
+prefix_from : (v x : List ℕ) → is_prefix v (v ++ x) ≡ true
+prefix_from [] x = refl
+prefix_from (a ∷ v) x = and_from (a == a) _ (and_parts (a == a) true (text_refl (a ∷ []))).0 (prefix_from v x)
+
+module _ {V : Type 0} where
+  -- the text begins a registered one, or is empty
+  abbrev pub known : List (List ℕ × V) → List ℕ → Bool
+  known rs [] = true
+  known rs (u ∷ w) = list_any (λ r. is_prefix (u ∷ w) r.0) rs
+
+  value_first : (r : List ℕ × V) (rs : List (List ℕ × V)) (w : List ℕ) → r.0 ≡ w → values_of (r ∷ rs) w ≢ []
+  value_first r rs w e none =
+      let yes' : same_text r.0 w ≡ true = ap (same_text r.0) (sym e) ∙ text_refl r.0 in
+      let value : r.1 ∷ values_of rs w ≡ [] = sym (cond-true (same_text r.0 w) (r.1 ∷ values_of rs w) (values_of rs w) yes') ∙ none in
+      cc
+
+  value_later : (r : List ℕ × V) (rs : List (List ℕ × V)) (w : List ℕ) → values_of rs w ≢ [] → values_of (r ∷ rs) w ≢ []
+  value_later r rs w h = at (same_text r.0 w)
+    where
+      at : (c : Bool) → cond c (r.1 ∷ values_of rs w) (values_of rs w) ≢ []
+      at true none = cc
+      at false none = h none
+
+  any_key : (rs : List (List ℕ × V)) (v : List ℕ) → list_any (λ r. is_prefix v r.0) rs ≡ true → (x : List ℕ) × (values_of rs (v ++ x) ≢ [])
+  any_key [] v h = absurd (false≢true h)
+  any_key (r ∷ rs) v h = at (is_prefix v r.0) refl h (any_key rs v)
+    where
+      at : (b : Bool) → is_prefix v r.0 ≡ b → (b || list_any (λ q. is_prefix v q.0) rs) ≡ true → (list_any (λ q. is_prefix v q.0) rs ≡ true → (x : List ℕ) × (values_of rs (v ++ x) ≢ [])) → (x : List ℕ) × (values_of (r ∷ rs) (v ++ x) ≢ [])
+      at true e k ih = let p = prefix_rest v r.0 e in (p.0, value_first r rs (v ++ p.0) p.1)
+      at false e k ih = let p = ih k in (p.0, value_later r rs (v ++ p.0) p.1)
+
+  key_any : (rs : List (List ℕ × V)) (v x : List ℕ) → values_of rs (v ++ x) ≢ [] → list_any (λ r. is_prefix v r.0) rs ≡ true
+  key_any [] v x h = absurd (h refl)
+  key_any (r ∷ rs) v x h = at (same_text r.0 (v ++ x)) refl h (key_any rs v x)
+    where
+      at : (b : Bool) → same_text r.0 (v ++ x) ≡ b → cond b (r.1 ∷ values_of rs (v ++ x)) (values_of rs (v ++ x)) ≢ [] → (values_of rs (v ++ x) ≢ [] → list_any (λ q. is_prefix v q.0) rs ≡ true) → (is_prefix v r.0 || list_any (λ q. is_prefix v q.0) rs) ≡ true
+      at true e k ih = or_left (is_prefix v r.0) _ (ap (is_prefix v) (text_same r.0 (v ++ x) e) ∙ prefix_from v x)
+      at false e k ih = or_right (is_prefix v r.0) _ (ih k)
+
+  pub known-fore : (rs : List (List ℕ × V)) (w : List ℕ) → known rs w ≡ true → IsPrefix (values_of rs) w
+  known-fore rs [] h = inl refl
+  known-fore rs (u ∷ w) h = inr (any_key rs (u ∷ w) h)
+
+  pub known-back : (rs : List (List ℕ × V)) (w : List ℕ) → IsPrefix (values_of rs) w → known rs w ≡ true
+  known-back rs [] h = refl
+  known-back rs (u ∷ w) (inl e) = absurd (cc)
+  known-back rs (u ∷ w) (inr (x, key)) = key_any rs (u ∷ w) x key
+
+-- ---- the links
+module _ {L V A : Type 0} (cmp : L → L → Ordering) (unit : L → ℕ) (width : ℕ → ℕ) (kind : MatchKind) (states : List (NfaBuilderState L V A)) (rs : List (List L × V)) (holds : Holds cmp unit width kind states rs) where
+  abbrev keys : Dictionary V
+  keys = dictionary kind (in_units unit rs)
+
+  abbrev test : List ℕ → Bool
+  test = known (kept kind (in_units unit rs))
+
+  same_test : (w : List L) → is_reached (child_of cmp states) w ≡ test (map unit w)
+  same_test w = at (is_reached (child_of cmp states) w) (test (map unit w)) refl refl
+    where
+      there : (o : Option ℕ) → walk (child_of cmp states) 0 w ≡ o → is_some o ≡ true → IsPrefix keys (map unit w)
+      there None e h = absurd (false≢true h)
+      there (Some s) e h = holds.only w s e
+
+      at : (a b : Bool) → is_reached (child_of cmp states) w ≡ a → test (map unit w) ≡ b → a ≡ b
+      at true true h k = refl
+      at false false h k = refl
+      at true false h k = sym (known-back (kept kind (in_units unit rs)) (map unit w) (there (walk (child_of cmp states) 0 w) refl h)) ∙ k
+      at false true h k = let s = holds.begins w (known-fore (kept kind (in_units unit rs)) (map unit w) k) in sym h ∙ ap is_some s.1
+
+  map_cond : (a b : Bool) (w : List L) (o : Option (List L)) → option_map (map unit) (cond a (Some w) (cond b None o)) ≡ cond a (Some (map unit w)) (cond b None (option_map (map unit) o))
+  map_cond true b w o = refl
+  map_cond false true w o = refl
+  map_cond false false w o = refl
+
+  long-units : (w : List L) → option_map (map unit) (long_unless_stop (child_of cmp states) (stops_of true states) w) ≡ long_unless_key keys test (map unit w)
+  long-units [] = refl
+  long-units (c ∷ w) =
+      map_cond (is_reached (child_of cmp states) (c ∷ w)) (meets (child_of cmp states) (stops_of true states) 0 (c ∷ w)) (c ∷ w) (long_unless_stop (child_of cmp states) (stops_of true states) w)
+      ∙ ap (λ b. cond b (Some (map unit (c ∷ w))) (cond (meets (child_of cmp states) (stops_of true states) 0 (c ∷ w)) None (option_map (map unit) (long_unless_stop (child_of cmp states) (stops_of true states) w)))) (same_test (c ∷ w))
+      ∙ ap (λ b. cond (test (map unit (c ∷ w))) (Some (map unit (c ∷ w))) (cond b None (option_map (map unit) (long_unless_stop (child_of cmp states) (stops_of true states) w)))) (meets-key cmp unit width kind states rs holds (c ∷ w))
+      ∙ ap (λ o. cond (test (map unit (c ∷ w))) (Some (map unit (c ∷ w))) (cond (key_begins keys [] (map unit (c ∷ w))) None o)) (long-units w)
+
+  none_cond : (b : Bool) (o : Option (List L)) → option_map (map unit) (cond b None o) ≡ cond b None (option_map (map unit) o)
+  none_cond true o = refl
+  none_cond false o = refl
+
+  link-units : (c : L) (w : List L) → option_map (map unit) (left_link (child_of cmp states) (stops_of true states) c w) ≡ left_fail keys test (map unit (c ∷ w))
+  link-units c w =
+      none_cond (meets (child_of cmp states) (stops_of true states) 0 (c ∷ w)) (long_unless_stop (child_of cmp states) (stops_of true states) w)
+      ∙ ap (λ b. cond b None (option_map (map unit) (long_unless_stop (child_of cmp states) (stops_of true states) w))) (meets-key cmp unit width kind states rs holds (c ∷ w))
+      ∙ ap (λ o. cond (key_begins keys [] (map unit (c ∷ w))) None o) (long-units w)
+
+  -- the leftmost link of a text is that of its units
+  pub left_link-is : (c : L) (w : List L) → IsLeftFail keys (map unit (c ∷ w)) (option_map (map unit) (left_link (child_of cmp states) (stops_of true states) c w))
+  left_link-is c w =
+      let P : Option (List ℕ) → Type 0 = λ o. IsLeftFail keys (map unit (c ∷ w)) o in
+      subst P (sym (link-units c w)) (left_fail-is keys test (known-fore (kept kind (in_units unit rs))) (known-back (kept kind (in_units unit rs))) (unit c) (map unit w))
+
+  -- the state of the leftmost link, in the words of the dictionary
+  pub links_left : (c : L) (w : List L) (f : ℕ) → IsStateOf (child_of cmp states) (left_link (child_of cmp states) (stops_of true states) c w) f → LinksLeft keys unit (child_of cmp states) (c ∷ w) f
+  links_left c w f h = at (left_link (child_of cmp states) (stops_of true states) c w) h (left_link-is c w)
+    where
+      at : (o : Option (List L)) → IsStateOf (child_of cmp states) o f → IsLeftFail keys (map unit (c ∷ w)) (option_map (map unit) o) → LinksLeft keys unit (child_of cmp states) (c ∷ w) f
+      at None is dead = inl (is, dead)
+      at (Some x) is l = inr (x, is, l.0, IsDead-not keys (map unit (c ∷ w)) (map unit x) l.0 l.1)
+
+-- ---- where the links are built
+module _ {L V A : Type 0} (cmp : L → L → Ordering) (total : IsTotalOrder cmp) (old new : List (NfaBuilderState L V A)) (table : HoldTrie cmp old) (kept' : HasTrieOf old new) (order : List ℕ) (links : HoldLeftLinks cmp true new order) where
+  -- a state but the root stands in the order
+  in_order : (c : L) (w : List L) (t : ℕ) → Leads (child_of cmp old) (c ∷ w) t → IsIn order t
+  in_order c w t h =
+      let b = walk-bounds (child_of cmp old) (λ i. get_or (depths_of old) i 0) (length (edges_of old)) table.trie (c ∷ w) t h in
+      let apart : t ≢ 0 = λ e. nil (walk-same (child_of cmp old) (λ i. get_or (depths_of old) i 0) (length (edges_of old)) table.trie (c ∷ w) [] 0 (h ∙ ap Some e) refl) in
+      let P : List (List (L × ℕ)) → Type 0 = λ es. IsBreadthFirst es order in
+      all_in_order cmp total (edges_of old) (depths_of old) table order (subst P kept'.edges links.first) t (omega (arith, b.1, apart)) b.0
+    where
+      nil : c ∷ w ≡ [] → ⊥
+      nil e = cc
+
+  left_fail_of : (c : L) (w : List L) (t : ℕ) → Leads (child_of cmp old) (c ∷ w) t → IsLeftFailOf (child_of cmp old) (stops_of true old) t (get_or (fails_of new) t 0)
+  left_fail_of c w t h =
+      let E : List (List (L × ℕ)) → Type 0 = λ es. IsLeftFailOf (child_in cmp es) (stops_of true new) t (get_or (fails_of new) t 0) in
+      let O : List (List (V × ℕ)) → Type 0 = λ os. IsLeftFailOf (child_of cmp old) (λ s. not (length (own_at os s) == 0)) t (get_or (fails_of new) t 0) in
+      subst O kept'.outputs (subst E kept'.edges (links.linked t (in_order c w t h)))
+
+  -- the links that were built are those of the dictionary
+  pub links_left_built : (unit : L → ℕ) (width : ℕ → ℕ) (kind : MatchKind) (rs : List (List L × V)) → Holds cmp unit width kind old rs → (w : List L) (t : ℕ) → w ≢ [] → Leads (child_of cmp old) w t → LinksLeft (dictionary kind (in_units unit rs)) unit (child_of cmp old) w (get_or (fails_of new) t 0)
+  links_left_built unit width kind rs holds [] t ne h = absurd (ne refl)
+  links_left_built unit width kind rs holds (c ∷ w) t ne h =
+      links_left cmp unit width kind old rs holds c w (get_or (fails_of new) t 0) (left_fail_of c w t h c w h)

@@ -9,14 +9,12 @@ use Rattle.std.specs.declared.cmp.Ordering.{Ordering}
 use Rattle.daachorse_model.specs.declared.MatchKind.{MatchKind}
 use Rattle.daachorse_model.specs.declared.MatchKind.TheVariants.{Standard, LeftmostLongest, LeftmostFirst}
 use Rattle.daachorse_model.specs.Units.{same_text}
-use Rattle.daachorse_model.specs.Dictionary.{dictionary, kept, values_of, without_extensions, is_proper_prefix}
+use Rattle.daachorse_model.specs.Dictionary.{dictionary, values_of, without_extensions, is_proper_prefix}
 use Rattle.daachorse_model.specs.Prefixes.{IsPrefix}
 use Rattle.daachorse_model.specs.Paths.{Leads}
 use Rattle.daachorse_build.specs.declared.nfa_builder.NfaBuilderState.{NfaBuilderState}
-use Rattle.daachorse_build.specs.declared.nfa_builder.NfaBuilder.{NfaBuilder}
 use Rattle.daachorse_build.specs.Tables.{child_of, edges_of, depths_of}
 use Rattle.daachorse_build.specs.Holds.{in_units, Holds, HasMorePrefixes}
-use Rattle.daachorse_build.specs.Builders.{Registered, states_of, kind_of}
 use Rattle.daachorse_build.proofs.Walks.{walk-same, walk-bounds}
 use Rattle.daachorse_build.proofs.Registrations.{text_same, text_refl}
 
@@ -106,13 +104,14 @@ module _ {L V A : Type 0} (cmp : L → L → Ordering) (unit : L → ℕ) (width
   apart w t at [] [] h d = tt
   apart w t at [] (u ∷ ts) h d = absurd h
   apart w t at (v ∷ ws) [] h d = absurd h
-  apart w t at (v ∷ ws) (u ∷ ts) h d =
-      (false_from_ne_true (eqb t u)
-          (λ e.
-          let P : ℕ → Type 0 = λ s. IsAt v s in
-          let same : w ≡ v = same_state w v t at (subst P (sym (eqb-true t u e)) h.0) in
-          false≢true (sym d.0 ∙ ap (same_text w) (sym same) ∙ text_refl w)),
-        apart w t at ws ts h.1 d.1)
+  apart w t at (v ∷ ws) (u ∷ ts) h d = (
+    false_from_ne_true (eqb t u)
+        (λ e.
+        let P : ℕ → Type 0 = λ s. IsAt v s in
+        let same : w ≡ v = same_state w v t at (subst P (sym (eqb-true t u e)) h.0) in
+        false≢true (sym d.0 ∙ ap (same_text w) (sym same) ∙ text_refl w)),
+    apart w t at ws ts h.1 d.1,
+  )
 
   distinct_states : (ws : List (List ℕ)) (ts : List ℕ) → AreAt ws ts → IsDistinct same_text ws → IsDistinct eqb ts
   unfolding IsDistinct

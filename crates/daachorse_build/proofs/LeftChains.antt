@@ -1,5 +1,5 @@
 -- The outputs of a text up to the first suffix that stops are its output chain, where links are leftmost.
-use Rattle.std.proofs.Common.{◌≡◌, ◌≢◌, ℕ, zero, suc, ◌≤◌, Bool, true, false, cond, List, [], ◌∷◌, ◌++◌, length, map, Option, Some, None, refl, sym, ap, ◌∙◌, subst, arith, append-nil}
+use Rattle.std.proofs.Common.{◌≡◌, ℕ, zero, suc, ◌≤◌, Bool, true, false, cond, List, [], ◌∷◌, ◌++◌, length, map, Option, Some, None, sym, subst, arith, append-nil}
 use Rattle.std.specs.Prelude.{option_map}
 use Rattle.std.proofs.lemmas.List.{length-map}
 use Rattle.std.specs.declared.cmp.Ordering.{Ordering}
@@ -11,7 +11,7 @@ use Rattle.daachorse_model.specs.Prefixes.{IsDead, IsLeftFail}
 use Rattle.daachorse_model.specs.Outputs.{own_outputs, IsChain, at_root, at_dead, before_link}
 use Rattle.daachorse_model.proofs.Links.{IsDead-not}
 use Rattle.daachorse_build.specs.declared.nfa_builder.NfaBuilderState.{NfaBuilderState}
-use Rattle.daachorse_build.specs.Tables.{child_of, held_at, stops_of}
+use Rattle.daachorse_build.specs.Tables.{child_of, stops_of}
 use Rattle.daachorse_build.specs.Holds.{in_units, Holds}
 use Rattle.daachorse_build.specs.Left.{meets, long_unless_stop}
 use Rattle.daachorse_build.specs.Lists.{left_outputs}

@@ -5,15 +5,13 @@ use Rattle.std.proofs.lemmas.Result.{on_ok_weaker}
 use Rattle.std.specs.declared.cmp.Ordering.{Ordering}
 use Rattle.std.specs.Cmp.{IsTotalOrder}
 use Rattle.daachorse_core.specs.Outputs.{outputs_at}
-use Rattle.daachorse_core.specs.declared.outputs.Output.{Output}
 use Rattle.daachorse_model.specs.Outputs.{IsChain}
 use Rattle.daachorse_model.specs.Prefixes.{IsDead}
 use Rattle.daachorse_model.specs.Dictionary.{dictionary}
-use Rattle.daachorse_model.specs.Paths.{Leads}
 use Rattle.daachorse_build.specs.declared.nfa_builder.NfaBuilderState.{NfaBuilderState}
-use Rattle.daachorse_build.specs.Tables.{child_of, edges_of, depths_of, fails_of, positions_of, stops_of, HoldTrie}
+use Rattle.daachorse_build.specs.Tables.{edges_of, depths_of, fails_of, positions_of, stops_of, HoldTrie}
 use Rattle.daachorse_build.specs.Orders.{HoldLinks, HoldLeftLinks}
-use Rattle.daachorse_build.specs.Lists.{AreListed, PositionsFit, left_outputs}
+use Rattle.daachorse_build.specs.Lists.{AreListed}
 use Rattle.daachorse_build.proofs.Labels.{label_exact}
 use Rattle.daachorse_build.proofs.Queue.{left_of_linked}
 use Rattle.daachorse_build.proofs.OutputLists.{known_of_leads, suffix_outputs-held, left_outputs-never}

@@ -1,11 +1,9 @@
 -- Under `LeftmostFirst` a registration is left out where a proper prefix of its text was registered before, which is so just where a proper prefix is a key.
-use Rattle.std.proofs.Common.{◌≡◌, ◌≢◌, ℕ, ◌⊎◌, Bool, true, false, cond, ◌&&◌, ◌||◌, nat_eq, List, [], ◌∷◌, ◌++◌, map, Option, Some, None, refl, sym, ap, ◌∙◌, subst, inl, inr, arith, append-nil, append_assoc}
-use Rattle.std.specs.Prelude.{option_map, unwrap_or, not, ◌==◌, length}
+use Rattle.std.proofs.Common.{◌≡◌, ◌≢◌, ℕ, ◌⊎◌, Bool, true, false, cond, ◌||◌, List, [], ◌∷◌, ◌++◌, map, refl, sym, ap, ◌∙◌, subst, inl, inr, append-nil}
+use Rattle.std.specs.Prelude.{◌==◌}
 use Rattle.std.specs.List.{list_any}
 use Rattle.std.proofs.lemmas.List.{map-append}
-use Rattle.std.proofs.lemmas.Bool.{cases_Bool, and_parts, and_from, false≢true, cond-true, cond-false, or_parts, or_cases}
-use Rattle.std.proofs.lemmas.Option.{none-some, same_Some}
-use Rattle.std.specs.declared.cmp.Ordering.{Ordering}
+use Rattle.std.proofs.lemmas.Bool.{and_parts, and_from, false≢true, cond-true}
 use Rattle.daachorse_model.specs.declared.MatchKind.{MatchKind}
 use Rattle.daachorse_model.specs.declared.MatchKind.TheVariants.{Standard, LeftmostLongest, LeftmostFirst}
 use Rattle.daachorse_model.specs.Kinds.{is_leftmost_first}
@@ -110,10 +108,14 @@ module _ {V : Type 0} where
   key_first before r rs w h true e = inl (any_through before r.0 w h e)
   key_first before r rs w h false e =
       let rest = without_extensions (r.0 ∷ before) rs in
-      inr (r.0, h, λ none.
-      let is : cond (same_text r.0 r.0) (r.1 ∷ values_of rest r.0) (values_of rest r.0) ≡ [] = sym (ap (λ b. values_of (cond b rest (r ∷ rest)) r.0) e) ∙ none in
-      let value : r.1 ∷ values_of rest r.0 ≡ [] = sym (cond-true (same_text r.0 r.0) (r.1 ∷ values_of rest r.0) (values_of rest r.0) (text_refl r.0)) ∙ is in
-      cc)
+      inr (
+        r.0,
+        h,
+        λ none.
+            let is : cond (same_text r.0 r.0) (r.1 ∷ values_of rest r.0) (values_of rest r.0) ≡ [] = sym (ap (λ b. values_of (cond b rest (r ∷ rest)) r.0) e) ∙ none in
+            let value : r.1 ∷ values_of rest r.0 ≡ [] = sym (cond-true (same_text r.0 r.0) (r.1 ∷ values_of rest r.0) (values_of rest r.0) (text_refl r.0)) ∙ is in
+            cc,
+      )
 
   values_stay : (b : Bool) (r : List ℕ × V) (rest : List (List ℕ × V)) (x : List ℕ) → values_of rest x ≢ [] → values_of (cond b rest (r ∷ rest)) x ≢ []
   values_stay true r rest x h = h

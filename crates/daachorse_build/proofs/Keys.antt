@@ -1,23 +1,23 @@
 -- What the states of a trie say of the keys: links stop just at the keys, so a walk meets a state that stops where a key begins its text.
-use Rattle.std.proofs.Common.{◌≡◌, ◌≢◌, ℕ, ◌<◌, ◌⊎◌, Bool, true, false, cond, ◌||◌, List, [], ◌∷◌, ◌++◌, length, map, Option, Some, None, is_some, refl, sym, ap, ◌∙◌, subst, inl, inr, arith, append_assoc, append-nil, unwrap_or}
+use Rattle.std.proofs.Common.{◌≡◌, ◌≢◌, ℕ, Bool, true, false, cond, ◌||◌, List, [], ◌∷◌, ◌++◌, length, map, Option, Some, None, refl, sym, ap, ◌∙◌, subst, inr, arith, append-nil, unwrap_or}
 use Rattle.std.specs.Prelude.{option_map, not, ◌==◌, option_and_then}
 use Rattle.std.proofs.lemmas.Bool.{eqb-true}
-use Rattle.std.proofs.lemmas.Bool.{cases_Bool, false≢true, or_parts, false_from_ne_true, not_from_false}
+use Rattle.std.proofs.lemmas.Bool.{false≢true, or_parts, false_from_ne_true, not_from_false}
 use Rattle.std.proofs.lemmas.Option.{none-some, same_Some}
-use Rattle.std.proofs.lemmas.List.{map-append, length-map}
+use Rattle.std.proofs.lemmas.List.{map-append}
 use Rattle.std.specs.declared.cmp.Ordering.{Ordering}
 use Rattle.daachorse_model.specs.declared.MatchKind.{MatchKind}
 use Rattle.daachorse_model.specs.Units.{size}
 use Rattle.daachorse_model.specs.Dictionary.{Dictionary, dictionary, is_proper_prefix, kept, values_of}
 use Rattle.daachorse_model.specs.Outputs.{own_outputs}
-use Rattle.daachorse_model.specs.Prefixes.{IsKey, IsPrefix, is_key, key_begins}
-use Rattle.daachorse_model.specs.Paths.{walk, is_reached, Leads}
+use Rattle.daachorse_model.specs.Prefixes.{IsPrefix, is_key, key_begins}
+use Rattle.daachorse_model.specs.Paths.{walk, Leads}
 use Rattle.daachorse_model.proofs.Links.{begins_true}
 use Rattle.daachorse_build.specs.declared.nfa_builder.NfaBuilderState.{NfaBuilderState}
-use Rattle.daachorse_build.specs.Tables.{child_of, own_of, own_at, held_at, stops_of}
+use Rattle.daachorse_build.specs.Tables.{child_of, own_of, own_at, stops_of}
 use Rattle.daachorse_build.specs.Holds.{in_units, Holds}
 use Rattle.daachorse_build.specs.Left.{meets, meets_early}
-use Rattle.daachorse_build.proofs.Walks.{walk-push, walk-append}
+use Rattle.daachorse_build.proofs.Walks.{walk-push}
 use Rattle.daachorse_build.proofs.Dropped.{proper_from, proper_rest}
 
 -- the labels of a beginning of a text of units
@@ -132,10 +132,11 @@ module _ {L V A : Type 0} (cmp : L → L → Ordering) (unit : L → ℕ) (width
   pub key_before : meets_early (child_of cmp states) (stops_of true states) 0 p ≡ true → (x : List ℕ) × (is_proper_prefix x (map unit p) ≡ true) × (dictionary kind (in_units unit rs) x ≢ [])
   key_before h =
       let r = meets_early-true (child_of cmp states) (stops_of true states) 0 p h in
-      let units : map unit p ≡ map unit r.front ++ unit r.label ∷ map unit r.rest = ap (map unit) r.splits ∙ map-append unit r.front (r.label ∷ r.rest) in
-      (map unit r.front,
+      let units : map unit p ≡ map unit r.front ++ unit r.label ∷ map unit r.rest = ap (map unit) r.splits ∙ map-append unit r.front (r.label ∷ r.rest) in (
+        map unit r.front,
         ap (is_proper_prefix (map unit r.front)) units ∙ proper_from (map unit r.front) (unit r.label) (map unit r.rest),
-        some_key (map unit r.front) (sym (stops-key cmp unit width kind states rs holds r.front r.state r.there) ∙ r.stop))
+        some_key (map unit r.front) (sym (stops-key cmp unit width kind states rs holds r.front r.state r.there) ∙ r.stop),
+      )
 
   pub no_key_before : meets_early (child_of cmp states) (stops_of true states) 0 p ≡ false → (x : List ℕ) → is_proper_prefix x (map unit p) ≡ true → dictionary kind (in_units unit rs) x ≡ []
   no_key_before h x proper =

@@ -45,10 +45,10 @@ module _ {A : Type 0} (child : ℕ → A → Option ℕ) (stops : ℕ → Bool) 
   left_state [] h = refl
   left_state (c ∷ cs) h = cond-true _ _ _ h
 
-  left_met : (c : A) (cs : List A) → is_reached child (c ∷ cs) ≡ false → meets child stops 0 (c ∷ cs) ≡ true → long_unless_stop child stops (c ∷ cs) ≡ None
+  pub left_met : (c : A) (cs : List A) → is_reached child (c ∷ cs) ≡ false → meets child stops 0 (c ∷ cs) ≡ true → long_unless_stop child stops (c ∷ cs) ≡ None
   left_met c cs h k = cond-false _ _ _ h ∙ cond-true _ _ _ k
 
-  left_rest : (c : A) (cs : List A) → is_reached child (c ∷ cs) ≡ false → meets child stops 0 (c ∷ cs) ≡ false → long_unless_stop child stops (c ∷ cs) ≡ long_unless_stop child stops cs
+  pub left_rest : (c : A) (cs : List A) → is_reached child (c ∷ cs) ≡ false → meets child stops 0 (c ∷ cs) ≡ false → long_unless_stop child stops (c ∷ cs) ≡ long_unless_stop child stops cs
   left_rest c cs h k = cond-false _ _ _ h ∙ cond-false _ _ _ k
 
   -- ---- one label more
@@ -303,7 +303,7 @@ module _ {A : Type 0} (child : ℕ → A → Option ℕ) (stops : ℕ → Bool) 
 
 -- ---- where no state stops, leftmost links are the standard ones
 module _ {A : Type 0} (child : ℕ → A → Option ℕ) (stops : ℕ → Bool) (never : (s : ℕ) → stops s ≡ false) where
-  meets_never : (s : ℕ) (w : List A) → meets child stops s w ≡ false
+  pub meets_never : (s : ℕ) (w : List A) → meets child stops s w ≡ false
   meets_never s [] = never s
   meets_never s (c ∷ w) =
       ap (λ b. b || unwrap_or (option_map (λ t. meets child stops t w) (child s c)) false) (never s)
@@ -333,3 +333,8 @@ module _ {A : Type 0} (child : ℕ → A → Option ℕ) (stops : ℕ → Bool) 
   alive depth n trie t f low high link =
       let text = text_of child depth n trie t high (omega arith) in
       alive_at_text depth n trie t f text.0 text.1 low link
+
+  pub left_of_fail : (t f : ℕ) → IsFailOf child t f → IsLeftFailOf child stops t f
+  left_of_fail t f link c w h =
+      let P : Option (List A) → Type 0 = λ o. IsStateOf child o f in
+      subst P (sym (cond-false _ _ _ (meets_never 0 (c ∷ w)) ∙ long_never w)) (link c w h)

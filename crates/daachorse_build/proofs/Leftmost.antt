@@ -1,18 +1,17 @@
 -- The leftmost links of a trie are the leftmost failure links of the dictionary that it holds.
-use Rattle.std.proofs.Common.{◌≡◌, ◌≢◌, ℕ, ◌<◌, ◌⊎◌, Bool, true, false, cond, ◌&&◌, ◌||◌, List, [], ◌∷◌, ◌++◌, length, map, get_or, Option, Some, None, is_some, refl, sym, ap, ◌∙◌, subst, inl, inr, arith, unwrap_or}
+use Rattle.std.proofs.Common.{◌≡◌, ◌≢◌, ℕ, Bool, true, false, cond, ◌||◌, List, [], ◌∷◌, ◌++◌, length, map, get_or, Option, Some, None, is_some, refl, sym, ap, ◌∙◌, subst, inl, inr, arith}
 use Rattle.std.specs.Prelude.{option_map, not, ◌==◌}
 use Rattle.std.specs.List.{list_any}
-use Rattle.std.proofs.lemmas.Bool.{cases_Bool, false≢true, and_parts, and_from, cond-true, cond-false, false_from_ne_true, or_left, or_right}
-use Rattle.std.proofs.lemmas.Option.{none-some, same_Some}
+use Rattle.std.proofs.lemmas.Bool.{false≢true, and_parts, and_from, cond-true, or_left, or_right}
 use Rattle.std.specs.declared.cmp.Ordering.{Ordering}
 use Rattle.daachorse_model.specs.declared.MatchKind.{MatchKind}
 use Rattle.daachorse_model.specs.Units.{same_text}
 use Rattle.daachorse_model.specs.Dictionary.{Dictionary, dictionary, kept, values_of, is_prefix}
-use Rattle.daachorse_model.specs.Prefixes.{IsKey, IsPrefix, IsLink, IsDead, IsLeftFail, key_begins, long_unless_key, left_fail}
+use Rattle.daachorse_model.specs.Prefixes.{IsPrefix, IsLeftFail, key_begins, long_unless_key, left_fail}
 use Rattle.daachorse_model.specs.Paths.{walk, is_reached, Leads}
 use Rattle.daachorse_model.proofs.Links.{left_fail-is, IsDead-not}
 use Rattle.daachorse_build.specs.declared.nfa_builder.NfaBuilderState.{NfaBuilderState}
-use Rattle.daachorse_build.specs.Tables.{child_in, child_of, edges_of, depths_of, own_of, own_at, fails_of, stops_of, HoldTrie}
+use Rattle.daachorse_build.specs.Tables.{child_in, child_of, edges_of, depths_of, own_at, fails_of, stops_of, HoldTrie}
 use Rattle.daachorse_build.specs.Growth.{HasTrieOf}
 use Rattle.daachorse_build.specs.Orders.{IsIn, IsBreadthFirst, HoldLeftLinks}
 use Rattle.std.specs.Cmp.{IsTotalOrder}

@@ -8,10 +8,11 @@ pub mod States
 pub mod Registrations
 pub mod Dropped
 pub mod Keys
-pub mod Leftmost
 pub mod Empty
 pub mod OutputChains
 pub mod OutputLists
+pub mod Leftmost
+pub mod LeftChains
 pub mod Cleared
 pub mod Full
 pub mod Fitting

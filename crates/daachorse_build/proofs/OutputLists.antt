@@ -1,5 +1,5 @@
 -- The lists of outputs, state by state: a state's own outputs and then the list of its link, which has those of the longest proper suffix that is a state's text.
-use Rattle.std.proofs.Common.{◌≡◌, ◌≢◌, ℕ, ◌+◌, ◌<◌, ◌≤◌, ◌⊎◌, true, false, List, [], ◌∷◌, ◌++◌, length, map, get_or, take, Option, Some, None, is_some, zero, suc, refl, sym, ap, ◌∙◌, subst, inl, inr, length-append, arith}
+use Rattle.std.proofs.Common.{◌≡◌, ◌≢◌, ℕ, ◌+◌, ◌<◌, ◌≤◌, ◌⊎◌, Bool, true, false, cond, List, [], ◌∷◌, ◌++◌, length, map, get_or, take, Option, Some, None, is_some, zero, suc, refl, sym, ap, ◌∙◌, subst, inl, inr, length-append, arith}
 use Rattle.std.proofs.lemmas.Option.{same_Some}
 use Rattle.std.proofs.lemmas.Bool.{cases_Bool}
 use Rattle.std.proofs.lemmas.List.{append-nil, take_more}
@@ -13,14 +13,14 @@ use Rattle.daachorse_model.specs.declared.MatchKind.{MatchKind}
 use Rattle.daachorse_model.specs.Dictionary.{dictionary}
 use Rattle.daachorse_model.specs.Outputs.{own_outputs, outputs_of_ends}
 use Rattle.daachorse_model.specs.Paths.{walk, is_reached, Leads}
-use Rattle.daachorse_model.specs.Prefixes.{long}
 use Rattle.daachorse_build.specs.declared.nfa_builder.NfaBuilderState.{NfaBuilderState}
-use Rattle.daachorse_build.specs.Trie.{IsFailOf}
+use Rattle.daachorse_build.specs.Left.{meets, long_unless_stop, left_link, IsStateOf, IsLeftFailOf}
 use Rattle.daachorse_build.specs.Tables.{child_of, edges_of, depths_of, own_of, own_at, held_at, HoldTrie}
-use Rattle.daachorse_build.specs.Orders.{IsIn, IsKnown, children, IsLinked}
+use Rattle.daachorse_build.specs.Orders.{IsIn, IsKnown, IsLinkAmong, children, IsLeftLinked}
 use Rattle.daachorse_build.specs.Holds.{in_units, Holds}
-use Rattle.daachorse_build.specs.Lists.{suffix_outputs, AreListed, PositionsFit}
-use Rattle.daachorse_build.proofs.Walks.{long_of_reached, long_of_other, walk-same, walk-bounds}
+use Rattle.daachorse_build.specs.Lists.{suffix_outputs, left_outputs, AreListed, PositionsFit, IsParent}
+use Rattle.daachorse_build.proofs.Walks.{walk-same, walk-bounds}
+use Rattle.daachorse_build.proofs.LeftLinks.{left_state, left_met, left_rest, meets_never}
 use Rattle.daachorse_build.proofs.Queue.{in_cases, in_same, in_equal, in_at, in_flat_map, bounds_of_listed, all_in_order}
 use Rattle.daachorse_build.proofs.States.{outputs_missing, outputs_found}
 use Rattle.daachorse_build.proofs.OutputChains.{outputs_at-longer}
@@ -31,25 +31,35 @@ module _ {L V A : Type 0} (cmp : L → L → Ordering) (total : IsTotalOrder cmp
   no_outputs states w None e h = outputs_missing cmp total exact states w e
   no_outputs states w (Some v) e h = cc
 
-  suffix_step : (states : List (NfaBuilderState L V A)) (c : L) (cs : List L) → suffix_outputs cmp states (long (is_reached (child_of cmp states)) cs) ≡ suffix_outputs cmp states cs → (is_reached (child_of cmp states) (c ∷ cs) ≡ true) ⊎ (is_reached (child_of cmp states) (c ∷ cs) ≡ false) → suffix_outputs cmp states (long (is_reached (child_of cmp states)) (c ∷ cs)) ≡ suffix_outputs cmp states (c ∷ cs)
-  suffix_step states c cs ih (inl h) = ap (suffix_outputs cmp states) (long_of_reached (child_of cmp states) (c ∷ cs) h)
-  suffix_step states c cs ih (inr h) =
-      ap (suffix_outputs cmp states) (long_of_other (child_of cmp states) c cs h) ∙ ih
-      ∙ ap (λ os. os ++ suffix_outputs cmp states cs) (sym (no_outputs states (c ∷ cs) (walk (child_of cmp states) 0 (c ∷ cs)) refl h))
+  module _ (stops : ℕ → Bool) (states : List (NfaBuilderState L V A)) where
+    -- the outputs of a link
+    abbrev pub link_outputs : Option (List L) → List (V × ℕ)
+    link_outputs None = []
+    link_outputs (Some w) = left_outputs cmp stops states w
 
-  -- a text has the outputs of its longest suffix that is a state's text
-  pub suffix_outputs-long : (states : List (NfaBuilderState L V A)) (w : List L) → suffix_outputs cmp states (long (is_reached (child_of cmp states)) w) ≡ suffix_outputs cmp states w
-  suffix_outputs-long states [] = refl
-  suffix_outputs-long states (c ∷ cs) = suffix_step states c cs (suffix_outputs-long states cs) (cases_Bool (is_reached (child_of cmp states) (c ∷ cs)))
+    link_step : (c : L) (cs : List L) → link_outputs (long_unless_stop (child_of cmp states) stops cs) ≡ left_outputs cmp stops states cs → (is_reached (child_of cmp states) (c ∷ cs) ≡ true) ⊎ (is_reached (child_of cmp states) (c ∷ cs) ≡ false) → link_outputs (long_unless_stop (child_of cmp states) stops (c ∷ cs)) ≡ left_outputs cmp stops states (c ∷ cs)
+    link_step c cs ih (inl h) = ap link_outputs (left_state (child_of cmp states) stops (c ∷ cs) h)
+    link_step c cs ih (inr h) =
+        let none = no_outputs states (c ∷ cs) (walk (child_of cmp states) 0 (c ∷ cs)) refl h in
+        let rest = λ (b : Bool). cond b [] (left_outputs cmp stops states cs) in
+        elim (cases_Bool (meets (child_of cmp states) stops 0 (c ∷ cs))) [
+          | inl yes' ↦ ap link_outputs (left_met (child_of cmp states) stops c cs h yes') ∙ sym (ap (λ os. os ++ rest (meets (child_of cmp states) stops 0 (c ∷ cs))) none ∙ ap rest yes')
+          | inr no' ↦ ap link_outputs (left_rest (child_of cmp states) stops c cs h no') ∙ ih ∙ sym (ap (λ os. os ++ rest (meets (child_of cmp states) stops 0 (c ∷ cs))) none ∙ ap rest no')
+        ]
+
+    -- a text has the outputs of its longest suffix that is a state's text, if no state stops before that
+    pub link_outputs-long : (w : List L) → link_outputs (long_unless_stop (child_of cmp states) stops w) ≡ left_outputs cmp stops states w
+    link_outputs-long [] = refl
+    link_outputs-long (c ∷ cs) = link_step c cs (link_outputs-long cs) (cases_Bool (is_reached (child_of cmp states) (c ∷ cs)))
 
   -- the list of the root
-  pub listed_start : (states : List (NfaBuilderState L V A)) (outputs : List (Output V)) (positions : List ℕ) → HoldTrie cmp states → outputs_at outputs (get_or positions 0 0) ≡ own_at (own_of states) 0 ++ [] → AreListed cmp states [] outputs positions
-  listed_start states outputs positions table list t (inr none) w at = absurd none
-  listed_start states outputs positions table list t (inl root) w at =
+  pub listed_start : (stops : ℕ → Bool) (states : List (NfaBuilderState L V A)) (outputs : List (Output V)) (positions : List ℕ) → HoldTrie cmp states → outputs_at outputs (get_or positions 0 0) ≡ own_at (own_of states) 0 ++ [] → AreListed cmp stops states [] outputs positions
+  listed_start stops states outputs positions table list t (inr none) w at = absurd none
+  listed_start stops states outputs positions table list t (inl root) w at =
       let nil = walk-same (child_of cmp states) (λ i. get_or (depths_of states) i 0) (length (edges_of states)) table.trie w [] 0 (at ∙ ap Some root) refl in
-      ap (λ u. outputs_at outputs (get_or positions u 0)) root ∙ list ∙ append-nil _ ∙ sym (ap (suffix_outputs cmp states) nil)
+      ap (λ u. outputs_at outputs (get_or positions u 0)) root ∙ list ∙ append-nil _ ∙ sym (ap (left_outputs cmp stops states) nil)
 
-  module _ (states : List (NfaBuilderState L V A)) (table : HoldTrie cmp states) (order fails : List ℕ) (links : IsLinked cmp (edges_of states) fails order) where
+  module _ (stops : ℕ → Bool) (states : List (NfaBuilderState L V A)) (table : HoldTrie cmp states) (order fails : List ℕ) (links : IsLeftLinked cmp stops (edges_of states) fails order) where
     -- the states of the order
     pub order-bounds : (t : ℕ) → IsIn order t → (1 < t) × (t < length (edges_of states))
     order-bounds t h =
@@ -67,15 +77,37 @@ module _ {L V A : Type 0} (cmp : L → L → Ordering) (total : IsTotalOrder cmp
         known_below (suc zero) b = absurd (b.1 refl)
         known_below (suc (suc t)) b = inr (all_in_order cmp total (edges_of states) (depths_of states) table order links.first (suc (suc t)) (omega arith) b.0)
 
+    -- the list of the link of c ∷ cs
+    list_of_link : (outputs : List (Output V)) (positions : List ℕ) (done : List ℕ) (f p : ℕ) → AreListed cmp stops states done outputs positions → IsLinkAmong done f → IsParent positions f p → (o : Option (List L)) → IsStateOf (child_of cmp states) o f → outputs_at outputs p ≡ link_outputs stops states o
+    list_of_link outputs positions done f p listed among parent None is =
+        elim parent [ inl dead ↦ ap (outputs_at outputs) dead.1 | inr alive' ↦ absurd (alive'.0 is) ]
+    list_of_link outputs positions done f p listed among parent (Some x) is =
+        let ne = (walk-bounds (child_of cmp states) (λ i. get_or (depths_of states) i 0) (length (edges_of states)) table.trie x f is).1 in
+        elim parent [
+          | inl dead ↦ absurd (ne dead.0)
+          | inr alive' ↦
+              elim among [
+                | inl dead ↦ absurd (ne dead)
+                | inr known ↦ ap (outputs_at outputs) alive'.1 ∙ listed f known x is
+              ]
+        ]
+
+    link_is : (c : L) (cs : List L) → link_outputs stops states (left_link (child_of cmp states) stops c cs) ≡ cond (meets (child_of cmp states) stops 0 (c ∷ cs)) [] (left_outputs cmp stops states cs)
+    link_is c cs = at (meets (child_of cmp states) stops 0 (c ∷ cs))
+      where
+        at : (b : Bool) → link_outputs stops states (cond b None (long_unless_stop (child_of cmp states) stops cs)) ≡ cond b [] (left_outputs cmp stops states cs)
+        at true = refl
+        at false = link_outputs-long stops states cs
+
     -- the list of a text of t, where that of its link is known
-    list_at : (outputs outputs' : List (Output V)) (positions : List ℕ) (position : ℕ) (done : List ℕ) (t f : ℕ) → 1 < t → AreListed cmp states done outputs positions → IsKnown done f → IsFailOf (child_of cmp states) t f → outputs_at outputs' position ≡ own_at (own_of states) t ++ outputs_at outputs (get_or positions f 0) → (w : List L) → Leads (child_of cmp states) w t → outputs_at outputs' position ≡ suffix_outputs cmp states w
-    list_at outputs outputs' positions position done t f low listed known link list [] at =
+    list_at : (outputs outputs' : List (Output V)) (positions : List ℕ) (position : ℕ) (done : List ℕ) (t f p : ℕ) → 1 < t → AreListed cmp stops states done outputs positions → IsLinkAmong done f → IsParent positions f p → IsLeftFailOf (child_of cmp states) stops t f → outputs_at outputs' position ≡ own_at (own_of states) t ++ outputs_at outputs p → (w : List L) → Leads (child_of cmp states) w t → outputs_at outputs' position ≡ left_outputs cmp stops states w
+    list_at outputs outputs' positions position done t f p low listed among parent link list [] at =
         let e : 0 ≡ t = same_Some 0 t at in absurd (omega (arith, e, low))
-    list_at outputs outputs' positions position done t f low listed known link list (c ∷ cs) at =
-        let old = listed f known (long (is_reached (child_of cmp states)) cs) (link c cs at) in
+    list_at outputs outputs' positions position done t f p low listed among parent link list (c ∷ cs) at =
+        let rest = list_of_link outputs positions done f p listed among parent (left_link (child_of cmp states) stops c cs) (link c cs at) ∙ link_is c cs in
         list
-        ∙ ap (λ os. own_at (own_of states) t ++ os) (old ∙ suffix_outputs-long states cs)
-        ∙ ap (λ os. os ++ suffix_outputs cmp states cs) (sym (outputs_found cmp total exact states (c ∷ cs) t at))
+        ∙ ap (λ os. own_at (own_of states) t ++ os) rest
+        ∙ ap (λ os. os ++ cond (meets (child_of cmp states) stops 0 (c ∷ cs)) [] (left_outputs cmp stops states cs)) (sym (outputs_found cmp total exact states (c ∷ cs) t at))
 
     module _ (i t f : ℕ) (l : i < length order) (is : get_or order i 0 ≡ t) (fail : get_or fails t 0 ≡ f) where
       in' : IsIn order t
@@ -84,12 +116,12 @@ module _ {L V A : Type 0} (cmp : L → L → Ordering) (total : IsTotalOrder cmp
       low : 1 < t
       low = (order-bounds t in').0
 
-      link : IsFailOf (child_of cmp states) t f
-      link = let P : ℕ → Type 0 = λ v. IsFailOf (child_of cmp states) t v in subst P fail (links.linked t in')
+      link : IsLeftFailOf (child_of cmp states) stops t f
+      link = let P : ℕ → Type 0 = λ v. IsLeftFailOf (child_of cmp states) stops t v in subst P fail (links.linked t in')
 
-      -- the link is known before
-      pub fail_known : IsKnown (take i order) f
-      fail_known = let P : ℕ → Type 0 = λ v. IsKnown (take i order) v in subst P (ap (λ v. get_or fails v 0) is ∙ fail) (links.earlier i l)
+      -- the link is dead, or known before
+      pub fail_known : IsLinkAmong (take i order) f
+      fail_known = let P : ℕ → Type 0 = λ v. IsLinkAmong (take i order) v in subst P (ap (λ v. get_or fails v 0) is ∙ fail) (links.earlier i l)
 
       known_cases : (u : ℕ) → IsKnown (take (i + 1) order) u → IsKnown (take i order) u ⊎ (t ≡ u)
       known_cases u (inl e) = inl (inl e)
@@ -104,8 +136,8 @@ module _ {L V A : Type 0} (cmp : L → L → Ordering) (total : IsTotalOrder cmp
 
       module _ (outputs outputs' more : List (Output V)) (positions positions' : List ℕ) (longer : outputs' ≡ outputs ++ more) (others : (u : ℕ) → u ≢ t → get_or positions' u 0 ≡ get_or positions u 0) (fits : PositionsFit (take i order) outputs positions) where
         -- one state more has a list
-        pub listed_more : ParentsFall outputs → AreListed cmp states (take i order) outputs positions → outputs_at outputs' (get_or positions' t 0) ≡ own_at (own_of states) t ++ outputs_at outputs (get_or positions f 0) → AreListed cmp states (take (i + 1) order) outputs' positions'
-        listed_more fall listed list u h w at =
+        pub listed_more : (p : ℕ) → IsParent positions f p → ParentsFall outputs → AreListed cmp stops states (take i order) outputs positions → outputs_at outputs' (get_or positions' t 0) ≡ own_at (own_of states) t ++ outputs_at outputs p → AreListed cmp stops states (take (i + 1) order) outputs' positions'
+        listed_more p parent fall listed list u h w at =
             elim (known_cases u h) [
               | inl old ↦
                   ap (outputs_at outputs') (others u (known_apart u old))
@@ -115,7 +147,7 @@ module _ {L V A : Type 0} (cmp : L → L → Ordering) (total : IsTotalOrder cmp
               | inr new ↦
                   let W : ℕ → Type 0 = λ v. Leads (child_of cmp states) w v in
                   ap (λ v. outputs_at outputs' (get_or positions' v 0)) (sym new)
-                  ∙ list_at outputs outputs' positions (get_or positions' t 0) (take i order) t f low listed fail_known link list w (subst W (sym new) at)
+                  ∙ list_at outputs outputs' positions (get_or positions' t 0) (take i order) t f p low listed fail_known parent link list w (subst W (sym new) at)
             ]
 
         pub fits_more : get_or positions' t 0 ≤ length outputs' → PositionsFit (take (i + 1) order) outputs' positions'
@@ -131,3 +163,10 @@ suffix_outputs-held cmp unit width kind states rs holds [] = holds.outputs []
 suffix_outputs-held cmp unit width kind states rs holds (c ∷ w) =
     ap (λ os. os ++ suffix_outputs cmp states w) (holds.outputs (c ∷ w))
     ∙ ap (λ os. own_outputs width (dictionary kind (in_units unit rs)) (map unit (c ∷ w)) ++ os) (suffix_outputs-held cmp unit width kind states rs holds w)
+
+-- where no state stops, these are the outputs of all suffixes
+pub left_outputs-never : {L V A : Type 0} (cmp : L → L → Ordering) (stops : ℕ → Bool) → ((s : ℕ) → stops s ≡ false) → (states : List (NfaBuilderState L V A)) (w : List L) → left_outputs cmp stops states w ≡ suffix_outputs cmp states w
+left_outputs-never cmp stops never states [] = refl
+left_outputs-never cmp stops never states (c ∷ w) =
+    ap (λ b. held_at cmp states (c ∷ w) ++ cond b [] (left_outputs cmp stops states w)) (meets_never (child_of cmp states) stops never 0 (c ∷ w))
+    ∙ ap (λ os. held_at cmp states (c ∷ w) ++ os) (left_outputs-never cmp stops never states w)

@@ -17,7 +17,7 @@ use Rattle.std.specs.List.{flat_map, slice_get}
 use Rattle.std.specs.Map.{keys_of, values_of}
 use Rattle.daachorse_build.specs.Left.{IsLeftFailOf}
 use Rattle.daachorse_build.specs.Tables.{child_in, IsTable}
-use Rattle.daachorse_build.proofs.LeftLinks.{fail_of_left, alive}
+use Rattle.daachorse_build.proofs.LeftLinks.{fail_of_left, left_of_fail, alive}
 use Rattle.daachorse_build.specs.Orders.{IsIn, IsKnown, children, IsBreadthFirst, LeftLinksComeFirst, StandOnce, IsLinked, IsLeftLinked, AllLeftLinked, IsLinkAmong, IsSearch}
 
 -- ---- elements
@@ -416,4 +416,13 @@ module _ {L : Type 0} (cmp : L → L → Ordering) (total : IsTotalOrder cmp) (e
           | inr known ↦ known
         ];
     once = left.once;
+  }
+
+  -- and the other way round
+  pub left_of_linked : (stops : ℕ → Bool) → ((s : ℕ) → stops s ≡ false) → (fails order : List ℕ) → IsLinked cmp edges fails order → IsLeftLinked cmp stops edges fails order
+  left_of_linked stops never fails order links = record {
+    first = links.first;
+    linked = λ t h. left_of_fail (child_in cmp edges) stops never t (get_or fails t 0) (links.linked t h);
+    earlier = λ i l. inr (links.earlier i l);
+    once = links.once;
   }

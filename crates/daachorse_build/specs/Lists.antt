@@ -1,11 +1,12 @@
 -- Lists of outputs that share their ends.
-use Rattle.std.specs.Prelude.{◌≡◌, ℕ, ◌≤◌, List, [], ◌∷◌, ◌++◌, length, slice_index}
+use Rattle.std.specs.Prelude.{◌≡◌, ◌≢◌, ℕ, ◌≤◌, ◌⊎◌, Bool, cond, List, [], ◌∷◌, ◌++◌, length, slice_index}
 use Rattle.std.specs.declared.cmp.Ordering.{Ordering}
 use Rattle.daachorse_core.specs.declared.outputs.Output.{Output}
 use Rattle.daachorse_core.specs.Outputs.{outputs_at}
 use Rattle.daachorse_model.specs.Paths.{Leads}
 use Rattle.daachorse_build.specs.declared.nfa_builder.NfaBuilderState.{NfaBuilderState}
 use Rattle.daachorse_build.specs.Tables.{child_of, held_at}
+use Rattle.daachorse_build.specs.Left.{meets}
 use Rattle.daachorse_build.specs.Orders.{IsKnown}
 
 -- the own outputs of a text and of each of its suffixes, the longest first
@@ -13,10 +14,20 @@ abbrev pub suffix_outputs : {L V A : Type 0} → (L → L → Ordering) → List
 suffix_outputs cmp states [] = held_at cmp states []
 suffix_outputs cmp states (c ∷ cs) = held_at cmp states (c ∷ cs) ++ suffix_outputs cmp states cs
 
--- the list of each known state has the outputs of its text and of the suffixes
-abbrev pub AreListed : {L V A : Type 0} → (L → L → Ordering) → List (NfaBuilderState L V A) → List ℕ → List (Output V) → List ℕ → Type 0
-AreListed {L} cmp states done outputs positions =
-    (t : ℕ) → IsKnown done t → (w : List L) → Leads (child_of cmp states) w t → outputs_at outputs (slice_index positions t) ≡ suffix_outputs cmp states w
+-- the same up to the first of them, the longest first, whose walk comes to a state that stops; that one counts
+abbrev pub left_outputs : {L V A : Type 0} → (L → L → Ordering) → (ℕ → Bool) → List (NfaBuilderState L V A) → List L → List (V × ℕ)
+left_outputs cmp stops states [] = held_at cmp states []
+left_outputs cmp stops states (c ∷ cs) =
+    held_at cmp states (c ∷ cs) ++ cond (meets (child_of cmp states) stops 0 (c ∷ cs)) [] (left_outputs cmp stops states cs)
+
+-- the list of each known state has the outputs of its text and of the suffixes, as far as links go
+abbrev pub AreListed : {L V A : Type 0} → (L → L → Ordering) → (ℕ → Bool) → List (NfaBuilderState L V A) → List ℕ → List (Output V) → List ℕ → Type 0
+AreListed {L} cmp stops states done outputs positions =
+    (t : ℕ) → IsKnown done t → (w : List L) → Leads (child_of cmp states) w t → outputs_at outputs (slice_index positions t) ≡ left_outputs cmp stops states w
+
+-- where the list of a link begins: nowhere, if the link is dead
+abbrev pub IsParent : List ℕ → ℕ → ℕ → Type 0
+IsParent positions f p = ((f ≡ 1) × (p ≡ 0)) ⊎ ((f ≢ 1) × (p ≡ slice_index positions f))
 
 -- no position of a known state is past the end
 abbrev pub PositionsFit : {V : Type 0} → List ℕ → List (Output V) → List ℕ → Type 0

@@ -1,16 +1,18 @@
 //! The trie of the patterns, with its failure links and its lists of outputs.
 //!
-//! A builder has a state for each beginning of a pattern. The layers above may rely on three
-//! things: after `add` the trie holds the patterns that were registered, after `build_fails` the
-//! link of each state is that of the longest proper suffix which is a state's text, and after
+//! A builder has a state for each beginning of a pattern that counts. The layers above may rely on
+//! four things: after `add` the trie holds the patterns that were registered, after `build_fails`
+//! the link of each state is that of the longest proper suffix which is a state's text, after
+//! `build_fails_leftmost` it is dead instead where a key starts before that suffix does, and after
 //! `build_outputs` the list at a state's position has the values of its text and of each of its
-//! suffixes, the longest first.
+//! suffixes, the longest first, as far as the links go.
 
-ghost use Rattle.std.specs.Prelude.{◌≡◌, ◌≢◌, true, false, Some, ℕ, ◌+◌, ◌<◌, ◌≤◌, ◌++◌, ◌∷◌, [], List, None, length, map, take, slice_index, vec_len, IfOk, IfErr, OnOk};
+ghost use Rattle.std.specs.Prelude.{◌≡◌, ◌≢◌, ◌⊎◌, Bool, true, false, Some, ℕ, ◌+◌, ◌<◌, ◌≤◌, ◌++◌, ◌∷◌, [], List, None, length, map, take, slice_index, vec_len, IfOk, IfErr, OnOk};
 ghost use Rattle.daachorse_model.specs.Units.{size};
 ghost use Rattle.daachorse_model.specs.Dictionary.{dictionary, kept};
 ghost use Rattle.daachorse_model.specs.Paths.{Leads};
-ghost use Rattle.daachorse_model.specs.Outputs.{outputs_of_ends};
+ghost use Rattle.daachorse_model.specs.Outputs.{outputs_of_ends, IsChain};
+ghost use Rattle.daachorse_model.specs.Prefixes.{IsDead};
 ghost use Rattle.daachorse_core.specs.Outputs.{ParentsFall, outputs_at, number};
 ghost use Rattle.daachorse_core.specs.declared.errors.Limit.TheVariants.{Outputs, StateId};
 ghost use Rattle.daachorse_core.specs.declared.errors.DaachorseError.TheVariants.{InvalidArgument};
@@ -21,7 +23,7 @@ ghost use Rattle.daachorse_build.specs.Left.{IsLeftFailOf, LinksLeft, meets_earl
 ghost use Rattle.daachorse_build.specs.Searches.{Searches, LeadsTo, ComesFrom};
 ghost use Rattle.daachorse_build.specs.Growth.{Extends, IsAdded, HasTrieOf, Overflows};
 ghost use Rattle.daachorse_build.specs.Holds.{in_units, HasMorePrefixes};
-ghost use Rattle.daachorse_build.specs.Lists.{PositionsFit, AreListed};
+ghost use Rattle.daachorse_build.specs.Lists.{PositionsFit, AreListed, IsParent};
 ghost use Rattle.daachorse_build.specs.Builders.{states_of, outputs_of, count_of, kind_of, Registered};
 ghost use Rattle.daachorse_core.specs.Refusals.{IsRefusal, IsOutOfMemory};
 
@@ -267,14 +269,15 @@ impl<L: EdgeLabel, V: Copy, A: Allocator + Copy> NfaBuilder<L, V, A> {
     }
 
     /// Makes the lists of outputs: that of the root is its own outputs, and that of each other
-    /// state is its own, and then the list of its link. `order` is what `build_fails` answered.
+    /// state is its own, and then the list of its link, unless that is dead. `order` is what
+    /// `build_fails` or `build_fails_leftmost` answered.
     ///
     /// # Errors
     ///
     /// More than 4,294,967,295 outputs are refused.
     pub fn build_outputs(&mut self, order: &[u32]) -> Result<()>
         requires trie { HoldTrie L.cmp (states_of self.old) }
-        requires links { HoldLinks L.cmp (states_of self.old) order.now }
+        requires links { HoldLinks L.cmp (states_of self.old) order.now ⊎ HoldLeftLinks L.cmp true (states_of self.old) order.now }
         requires unbuilt { outputs_of self.old ≡ [] }
         ensures kind { kind_of self.new ≡ kind_of self.old }
         ensures patterns { count_of self.new ≡ count_of self.old }
@@ -282,7 +285,8 @@ impl<L: EdgeLabel, V: Copy, A: Allocator + Copy> NfaBuilder<L, V, A> {
         ensures fails { fails_of (states_of self.new) ≡ fails_of (states_of self.old) }
         ensures parents { ParentsFall (outputs_of self.new) }
         ensures positions { OnOk result ((w : List L) (t : ℕ) → Leads (child_of L.cmp (states_of self.old)) w t → slice_index (positions_of (states_of self.new)) t ≤ length (outputs_of self.new)) }
-        ensures lists { OnOk result ((rs : List (List L × V)) → Registered L.cmp L.unit L.width self.old rs → (w : List L) (t : ℕ) → Leads (child_of L.cmp (states_of self.old)) w t → outputs_at (outputs_of self.new) (slice_index (positions_of (states_of self.new)) t) ≡ outputs_of_ends L.width (dictionary (kind_of self.old) (in_units L.unit rs)) (map L.unit w)) }
+        ensures lists { OnOk result (HoldLinks L.cmp (states_of self.old) order.now → (rs : List (List L × V)) → Registered L.cmp L.unit L.width self.old rs → (w : List L) (t : ℕ) → Leads (child_of L.cmp (states_of self.old)) w t → outputs_at (outputs_of self.new) (slice_index (positions_of (states_of self.new)) t) ≡ outputs_of_ends L.width (dictionary (kind_of self.old) (in_units L.unit rs)) (map L.unit w)) }
+        ensures chains { OnOk result (HoldLeftLinks L.cmp true (states_of self.old) order.now → (rs : List (List L × V)) → Registered L.cmp L.unit L.width self.old rs → (w : List L) (t : ℕ) → Leads (child_of L.cmp (states_of self.old)) w t → IsChain L.width (dictionary (kind_of self.old) (in_units L.unit rs)) (IsDead (dictionary (kind_of self.old) (in_units L.unit rs))) (map L.unit w) (outputs_at (outputs_of self.new) (slice_index (positions_of (states_of self.new)) t))) }
         ensures refused { IfErr result (IsRefusal ⊥ Outputs ((rs : List (List L × V)) → Registered L.cmp L.unit L.width self.old rs → 4294967295 < length (kept (kind_of self.old) (in_units L.unit rs)))) }
     {
         put_lists(&mut self.states, &mut self.outputs, order)
@@ -596,16 +600,19 @@ fn put_list<L: EdgeLabel, V: Copy, A: Allocator>(
     Ok(())
 }
 
-/// The position of the list of a state's link.
+/// The position of the list of a state's link, 0 where that is dead.
 fn fail_position<L: EdgeLabel, V: Copy, A: Allocator>(
     states: &[NfaBuilderState<L, V, A>],
     id: u32,
 ) -> u32
     requires id { id < length states.now }
     requires fail { slice_index (fails_of states.now) id < length states.now }
-    ensures { result ≡ slice_index (positions_of states.now) (slice_index (fails_of states.now) id) }
+    ensures { IsParent (positions_of states.now) (slice_index (fails_of states.now) id) result }
 {
     let fail = states[id as usize].fail;
+    if fail == DEAD_STATE_ID {
+        return 0;
+    }
     states[fail as usize].output_pos
 }
 
@@ -616,13 +623,13 @@ fn put_lists<L: EdgeLabel, V: Copy, A: Allocator>(
     order: &[u32],
 ) -> Result<()>
     requires trie { HoldTrie L.cmp states.old }
-    requires links { HoldLinks L.cmp states.old order.now }
+    requires links { (leftmost : Bool) × HoldLeftLinks L.cmp leftmost states.old order.now }
     requires unbuilt { outputs.old.items ≡ [] }
     ensures kept { HasTrieOf states.old states.new }
     ensures fails { fails_of states.new ≡ fails_of states.old }
     ensures parents { ParentsFall outputs.new.items }
     ensures positions { OnOk result (PositionsFit order.now outputs.new.items (positions_of states.new)) }
-    ensures lists { OnOk result (AreListed L.cmp states.old order.now outputs.new.items (positions_of states.new)) }
+    ensures lists { OnOk result ((leftmost : Bool) → HoldLeftLinks L.cmp leftmost states.old order.now → AreListed L.cmp (stops_of leftmost states.old) states.old order.now outputs.new.items (positions_of states.new)) }
     ensures refused { IfErr result (IsRefusal ⊥ Outputs (4294967295 < output_count (own_of states.old))) }
 {
     put_list(states, outputs, ROOT_STATE_ID, 0)?;
@@ -682,7 +689,7 @@ mod tests {
     #[test]
     fn links_behind_a_pattern_are_dead(rt: HostRuntime) -> Result<(), Fail> {
         let alloc = rt.alloc();
-        let mut builder = NfaBuilder::<u8, u32>::new(alloc, MatchKind::Standard)?;
+        let mut builder = NfaBuilder::<u8, u32>::new(alloc, MatchKind::LeftmostLongest)?;
         builder.add(b"abc", 0)?;
         builder.add(b"bd", 1)?;
         builder.add(b"bdab", 2)?;
@@ -691,6 +698,26 @@ mod tests {
         let (states, _) = builder.into_parts();
         let fails: Vec<u32> = states.iter().map(|state| state.fail()).collect(alloc)?;
         assert_eq!(rt; fails.as_slice(), [0, 0, 0, 5, 1, 0, 1, 1, 1].as_slice());
+        Ok(())
+    }
+
+    #[test]
+    fn lists_end_before_a_dead_link(rt: HostRuntime) -> Result<(), Fail> {
+        let alloc = rt.alloc();
+        let mut builder = NfaBuilder::<u8, u32>::new(alloc, MatchKind::LeftmostLongest)?;
+        builder.add(b"bc", 0)?;
+        builder.add(b"abc", 1)?;
+        let order = builder.build_fails_leftmost(alloc)?;
+        builder.build_outputs(&order)?;
+        let (_, outputs) = builder.into_parts();
+        let chain: Vec<(u32, u32, u32)> = outputs
+            .iter()
+            .map(|output| {
+                let parent = output.parent().map_or(0, NonZeroU32::get);
+                (output.value(), output.length(), parent)
+            })
+            .collect(alloc)?;
+        assert_eq!(rt; chain.as_slice(), [(0, 2, 0), (1, 3, 0)].as_slice());
         Ok(())
     }
 

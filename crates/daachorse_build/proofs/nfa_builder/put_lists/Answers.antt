@@ -1,5 +1,5 @@
 -- One state more has its list: its own outputs, and then the list of its link, which is done before it.
-use Rattle.std.proofs.Common.{◌≡◌, ◌<◌, ◌+◌, ℕ, List, [], ◌∷◌, ◌++◌, length, get_or, take, inl, inr, refl, sym, ap, ◌∙◌, vec_len, arith}
+use Rattle.std.proofs.Common.{◌≡◌, ◌<◌, ◌≤◌, ◌+◌, ℕ, Bool, List, [], ◌∷◌, ◌++◌, length, get_or, take, inl, inr, refl, sym, ap, ◌∙◌, subst, vec_len, arith}
 use Rattle.std.proofs.lemmas.List.{length-map, take_more, take_all}
 use Rattle.std.proofs.lemmas.Result.{err_from_is_err_and}
 use Rattle.std.specs.declared.cmp.Ordering.{Ordering}
@@ -8,9 +8,11 @@ use Rattle.std.specs.Cmp.{IsTotalOrder}
 use Rattle.daachorse_core.specs.declared.errors.Limit.TheVariants.{Outputs}
 use Rattle.daachorse_core.specs.Outputs.{outputs_at}
 use Rattle.daachorse_build.specs.declared.nfa_builder.NfaBuilderState.{NfaBuilderState}
-use Rattle.daachorse_build.specs.Tables.{edges_of, fails_of, own_of, own_at, positions_of, output_count, HoldTrie}
-use Rattle.daachorse_build.specs.Orders.{IsIn, IsKnown, IsLinked}
+use Rattle.daachorse_build.specs.Tables.{edges_of, fails_of, own_of, own_at, positions_of, output_count, stops_of, HoldTrie}
+use Rattle.daachorse_build.specs.Orders.{IsIn, IsKnown, IsLinkAmong, IsLeftLinked}
 use Rattle.daachorse_build.specs.Growth.{HasTrieOf}
+use Rattle.daachorse_build.specs.Lists.{PositionsFit, IsParent}
+use Rattle.daachorse_core.specs.declared.outputs.Output.{Output}
 use Rattle.daachorse_build.proofs.Labels.{label_exact}
 use Rattle.daachorse_build.proofs.Queue.{in_at, in_take}
 use Rattle.daachorse_build.proofs.Cleared.{cleared, count-cleared}
@@ -22,23 +24,25 @@ use Rattle.daachorse_build.proofs.nfa_builder.put_lists.Goals as goal
 same_length : {L V A : Type 0} (old new : List (NfaBuilderState L V A)) → HasTrieOf old new → length new ≡ length old
 same_length old new kept = sym (length-map new (λ s. s.depth)) ∙ ap length kept.depths ∙ length-map old (λ s. s.depth)
 
-module _ {L V A : Type 0} (cmp : L → L → Ordering) (total : IsTotalOrder cmp) (exact : (x y : L) → cmp x y ≡ Equal → x ≡ y) (old new : List (NfaBuilderState L V A)) (order : List ℕ) (table : HoldTrie cmp old) (links : IsLinked cmp (edges_of old) (fails_of old) order) (kept : HasTrieOf old new) (i : ℕ) (l : i < length order) where
+module _ {L V A : Type 0} (cmp : L → L → Ordering) (total : IsTotalOrder cmp) (exact : (x y : L) → cmp x y ≡ Equal → x ≡ y) (old new : List (NfaBuilderState L V A)) (order : List ℕ) (table : HoldTrie cmp old) (stops : ℕ → Bool) (links : IsLeftLinked cmp stops (edges_of old) (fails_of old) order) (kept : HasTrieOf old new) (i : ℕ) (l : i < length order) where
   -- a state of the order, and its link, are within the states
   state_bounds : (get_or order i 0 < length new) × (get_or (fails_of old) (get_or order i 0) 0 < length new)
   state_bounds =
       let count = same_length old new kept in
       let edges = length-map old (λ s. s.edges) in
-      let within = order-bounds cmp total exact old table order (fails_of old) links in
+      let within = order-bounds cmp total exact stops old table order (fails_of old) links in
       let at = within (get_or order i 0) (in_at order i l) in
-      let link : (f : ℕ) → IsKnown (take i order) f → f < length (edges_of old) = λ f known.
+      let known_link : (f : ℕ) → IsKnown (take i order) f → f < length (edges_of old) = λ f known.
       elim known [ inl e ↦ omega (arith, e, table.trie.two) | inr h ↦ (within f (in_take i order f h)).1 ] in
+      let link : (f : ℕ) → IsLinkAmong (take i order) f → f < length (edges_of old) = λ f among.
+      elim among [ inl e ↦ omega (arith, e, table.trie.two) | inr known ↦ known_link f known ] in
       (omega (arith, at.1), omega (arith, link _ (links.earlier i l)))
 
   -- the own outputs that are left, with those of the next state taken away
   count_next : output_count (cleared (own_of old) (0 ∷ take (i + 1) order)) + length (own_at (own_of old) (get_or order i 0)) ≡ output_count (cleared (own_of old) (0 ∷ take i order))
   count_next =
       let t = get_or order i 0 in
-      let b = order-bounds cmp total exact old table order (fails_of old) links t (in_at order i l) in
+      let b = order-bounds cmp total exact stops old table order (fails_of old) links t (in_at order i l) in
       let low : t < length (own_of old) = omega (arith, b.1, length-map old (λ s. s.edges), length-map old (λ s. s.output.items)) in
       let apart : IsIn (0 ∷ take i order) t → ⊥ = λ h.
       elim h [
@@ -72,33 +76,40 @@ loop-id-init g c =
       fails = e.fails;
       parents = e.parents;
       fits = λ t h. elim h [ inl root ↦ omega (arith, ap (λ u. get_or (positions_of c.put_list.new.states) u 0) root, e.fits) | inr none ↦ absurd none ];
-      lists = listed_start g.L.Ord.cmp g.met.L.Ord.total (label_exact g.L.EdgeLabel.unit g.L.Ord.cmp g.met.L.EdgeLabel.exact g.met.L.EdgeLabel.by_unit) states c.put_list.new.outputs.items (positions_of c.put_list.new.states) c.requires.trie e.list;
+      lists = λ leftmost links. listed_start g.L.Ord.cmp g.met.L.Ord.total (label_exact g.L.EdgeLabel.unit g.L.Ord.cmp g.met.L.EdgeLabel.exact g.met.L.EdgeLabel.by_unit) (stops_of leftmost states) states c.put_list.new.outputs.items (positions_of c.put_list.new.states) c.requires.trie e.list;
       count = omega (arith, e.count, first_cleared (own_of states) two, ap length c.requires.unbuilt);
     }
 
 pub fail_position-parent-requires-clause-id : goal.fail_position-parent-requires-clause-id
 fail_position-parent-requires-clause-id g c =
-    (state_bounds g.L.Ord.cmp g.met.L.Ord.total (label_exact g.L.EdgeLabel.unit g.L.Ord.cmp g.met.L.EdgeLabel.exact g.met.L.EdgeLabel.by_unit) c.args.states.now c.loop-id.states c.args.order.now c.requires.trie c.requires.links c.loop-id.invariant.kept c.loop-id.id-index c.loop-id-test.true).0
+    (state_bounds g.L.Ord.cmp g.met.L.Ord.total (label_exact g.L.EdgeLabel.unit g.L.Ord.cmp g.met.L.EdgeLabel.exact g.met.L.EdgeLabel.by_unit) c.args.states.now c.loop-id.states c.args.order.now c.requires.trie (stops_of c.requires.links.0 c.args.states.now) c.requires.links.1 c.loop-id.invariant.kept c.loop-id.id-index c.loop-id-test.true).0
 
 pub fail_position-parent-requires-clause-fail : goal.fail_position-parent-requires-clause-fail
 fail_position-parent-requires-clause-fail g c =
-    rw c.loop-id.invariant.fails (state_bounds g.L.Ord.cmp g.met.L.Ord.total (label_exact g.L.EdgeLabel.unit g.L.Ord.cmp g.met.L.EdgeLabel.exact g.met.L.EdgeLabel.by_unit) c.args.states.now c.loop-id.states c.args.order.now c.requires.trie c.requires.links c.loop-id.invariant.kept c.loop-id.id-index c.loop-id-test.true).1
+    rw c.loop-id.invariant.fails (state_bounds g.L.Ord.cmp g.met.L.Ord.total (label_exact g.L.EdgeLabel.unit g.L.Ord.cmp g.met.L.EdgeLabel.exact g.met.L.EdgeLabel.by_unit) c.args.states.now c.loop-id.states c.args.order.now c.requires.trie (stops_of c.requires.links.0 c.args.states.now) c.requires.links.1 c.loop-id.invariant.kept c.loop-id.id-index c.loop-id-test.true).1
 
 pub put_list-requires-in-loop-id-clause-id : goal.put_list-requires-in-loop-id-clause-id
 put_list-requires-in-loop-id-clause-id g c =
-    (state_bounds g.L.Ord.cmp g.met.L.Ord.total (label_exact g.L.EdgeLabel.unit g.L.Ord.cmp g.met.L.EdgeLabel.exact g.met.L.EdgeLabel.by_unit) c.args.states.now c.loop-id.states c.args.order.now c.requires.trie c.requires.links c.loop-id.invariant.kept c.loop-id.id-index c.loop-id-test.true).0
+    (state_bounds g.L.Ord.cmp g.met.L.Ord.total (label_exact g.L.EdgeLabel.unit g.L.Ord.cmp g.met.L.EdgeLabel.exact g.met.L.EdgeLabel.by_unit) c.args.states.now c.loop-id.states c.args.order.now c.requires.trie (stops_of c.requires.links.0 c.args.states.now) c.requires.links.1 c.loop-id.invariant.kept c.loop-id.id-index c.loop-id-test.true).0
 
--- where the list of the link begins, which is known
-parent_is : (fails fails' positions : List ℕ) (t p : ℕ) → fails' ≡ fails → p ≡ get_or positions (get_or fails' t 0) 0 → p ≡ get_or positions (get_or fails t 0) 0
-parent_is fails fails' positions t p e h = h ∙ ap (λ fs. get_or positions (get_or fs t 0) 0) e
+-- where the list of the link begins
+parent_is : (fails fails' positions : List ℕ) (t p : ℕ) → fails' ≡ fails → IsParent positions (get_or fails' t 0) p → IsParent positions (get_or fails t 0) p
+parent_is fails fails' positions t p e h = let P : List ℕ → Type 0 = λ fs. IsParent positions (get_or fs t 0) p in subst P e h
+
+-- it is no further than the outputs
+parent_fits : {V : Type 0} (done : List ℕ) (outputs : List (Output V)) (positions : List ℕ) (f p : ℕ) → PositionsFit done outputs positions → IsLinkAmong done f → IsParent positions f p → p ≤ length outputs
+parent_fits done outputs positions f p fits among (inl dead) = omega (arith, dead.1)
+parent_fits done outputs positions f p fits (inl dead) (inr alive) = absurd (alive.0 dead)
+parent_fits done outputs positions f p fits (inr known) (inr alive) = omega (arith, alive.1, fits f known)
 
 pub put_list-requires-in-loop-id-clause-parent : goal.put_list-requires-in-loop-id-clause-parent
 put_list-requires-in-loop-id-clause-parent g c =
     let i = c.loop-id.invariant in
     let t = get_or c.args.order.now c.loop-id.id-index 0 in
-    let known = fail_known g.L.Ord.cmp g.met.L.Ord.total (label_exact g.L.EdgeLabel.unit g.L.Ord.cmp g.met.L.EdgeLabel.exact g.met.L.EdgeLabel.by_unit) c.args.states.now c.requires.trie c.args.order.now (fails_of c.args.states.now) c.requires.links c.loop-id.id-index (get_or c.args.order.now c.loop-id.id-index 0) (get_or (fails_of c.args.states.now) (get_or c.args.order.now c.loop-id.id-index 0) 0) c.loop-id-test.true refl refl in
+    let known = fail_known g.L.Ord.cmp g.met.L.Ord.total (label_exact g.L.EdgeLabel.unit g.L.Ord.cmp g.met.L.EdgeLabel.exact g.met.L.EdgeLabel.by_unit) (stops_of c.requires.links.0 c.args.states.now) c.args.states.now c.requires.trie c.args.order.now (fails_of c.args.states.now) c.requires.links.1 c.loop-id.id-index (get_or c.args.order.now c.loop-id.id-index 0) (get_or (fails_of c.args.states.now) (get_or c.args.order.now c.loop-id.id-index 0) 0) c.loop-id-test.true refl refl in
     let at = parent_is (fails_of c.args.states.now) (fails_of c.loop-id.states) (positions_of c.loop-id.states) t c.fail_position-parent.result i.fails c.fail_position-parent.ensures in
-    omega (arith, at, i.fits _ known)
+    let fits = parent_fits (take c.loop-id.id-index c.args.order.now) c.loop-id.outputs.items (positions_of c.loop-id.states) (get_or (fails_of c.args.states.now) t 0) c.fail_position-parent.result i.fits known at in
+    omega (arith, fits)
 
 pub returns-in_err-put_list-2-clause-refused : goal.returns-in_err-put_list-2-clause-refused
 returns-in_err-put_list-2-clause-refused g c =
@@ -107,7 +118,7 @@ returns-in_err-put_list-2-clause-refused g c =
     let i = c.loop-id.invariant in
     let t = get_or c.args.order.now c.loop-id.id-index 0 in
     let own : length (own_at (own_of c.loop-id.states) t) ≡ length (own_at (own_of states) t) = ap (λ os. length (own_at os t)) i.kept.outputs in
-    let next = count_next g.L.Ord.cmp g.met.L.Ord.total (label_exact g.L.EdgeLabel.unit g.L.Ord.cmp g.met.L.EdgeLabel.exact g.met.L.EdgeLabel.by_unit) c.args.states.now c.loop-id.states c.args.order.now c.requires.trie c.requires.links c.loop-id.invariant.kept c.loop-id.id-index c.loop-id-test.true in
+    let next = count_next g.L.Ord.cmp g.met.L.Ord.total (label_exact g.L.EdgeLabel.unit g.L.Ord.cmp g.met.L.EdgeLabel.exact g.met.L.EdgeLabel.by_unit) c.args.states.now c.loop-id.states c.args.order.now c.requires.trie (stops_of c.requires.links.0 c.args.states.now) c.requires.links.1 c.loop-id.invariant.kept c.loop-id.id-index c.loop-id-test.true in
     let fewer : 4294967295 < vec_len c.loop-id.outputs + length (own_at (own_of c.loop-id.states) t) → 4294967295 < output_count (own_of states) = λ h. omega (arith, h, own, next, i.count) in
     rw (p.1, p.2) (IsRefusal-weaker ⊥ ⊥ Outputs _ (4294967295 < output_count (own_of states)) (λ x. x) fewer _ c.in_err-put_list-2.ensures.refused)
 
@@ -119,19 +130,18 @@ loop-id-preserved g c =
     let f = get_or (fails_of states) t 0 in
     let e = c.in_ok-put_list-2.ensures in
     let now = c.put_list-in-loop-id.new in
-    let known = fail_known g.L.Ord.cmp g.met.L.Ord.total (label_exact g.L.EdgeLabel.unit g.L.Ord.cmp g.met.L.EdgeLabel.exact g.met.L.EdgeLabel.by_unit) c.args.states.now c.requires.trie c.args.order.now (fails_of c.args.states.now) c.requires.links c.loop-id.id-index (get_or c.args.order.now c.loop-id.id-index 0) (get_or (fails_of c.args.states.now) (get_or c.args.order.now c.loop-id.id-index 0) 0) c.loop-id-test.true refl refl in
+    let known = fail_known g.L.Ord.cmp g.met.L.Ord.total (label_exact g.L.EdgeLabel.unit g.L.Ord.cmp g.met.L.EdgeLabel.exact g.met.L.EdgeLabel.by_unit) (stops_of c.requires.links.0 c.args.states.now) c.args.states.now c.requires.trie c.args.order.now (fails_of c.args.states.now) c.requires.links.1 c.loop-id.id-index (get_or c.args.order.now c.loop-id.id-index 0) (get_or (fails_of c.args.states.now) (get_or c.args.order.now c.loop-id.id-index 0) 0) c.loop-id-test.true refl refl in
     let at = parent_is (fails_of states) (fails_of c.loop-id.states) (positions_of c.loop-id.states) t c.fail_position-parent.result i.fails c.fail_position-parent.ensures in
-    let list : outputs_at now.outputs.items (get_or (positions_of now.states) t 0) ≡ own_at (own_of states) t ++ outputs_at c.loop-id.outputs.items (get_or (positions_of c.loop-id.states) f 0) =
-    e.list ∙ ap (λ os. own_at os t ++ outputs_at c.loop-id.outputs.items c.fail_position-parent.result) i.kept.outputs
-    ∙ ap (λ p. own_at (own_of states) t ++ outputs_at c.loop-id.outputs.items p) at in
+    let list : outputs_at now.outputs.items (get_or (positions_of now.states) t 0) ≡ own_at (own_of states) t ++ outputs_at c.loop-id.outputs.items c.fail_position-parent.result =
+    e.list ∙ ap (λ os. own_at os t ++ outputs_at c.loop-id.outputs.items c.fail_position-parent.result) i.kept.outputs in
     let own : length (own_at (own_of c.loop-id.states) t) ≡ length (own_at (own_of states) t) = ap (λ os. length (own_at os t)) i.kept.outputs in
     record {
       kept = record { edges = e.kept.edges ∙ i.kept.edges; depths = e.kept.depths ∙ i.kept.depths; outputs = e.kept.outputs ∙ i.kept.outputs };
       fails = e.fails ∙ i.fails;
       parents = e.parents;
-      fits = fits_more g.L.Ord.cmp g.met.L.Ord.total (label_exact g.L.EdgeLabel.unit g.L.Ord.cmp g.met.L.EdgeLabel.exact g.met.L.EdgeLabel.by_unit) c.args.states.now c.requires.trie c.args.order.now (fails_of c.args.states.now) c.requires.links c.loop-id.id-index (get_or c.args.order.now c.loop-id.id-index 0) (get_or (fails_of c.args.states.now) (get_or c.args.order.now c.loop-id.id-index 0) 0) c.loop-id-test.true refl refl c.loop-id.outputs.items now.outputs.items e.longer.0 (positions_of c.loop-id.states) (positions_of now.states) e.longer.1 e.others i.fits (omega (arith, e.fits));
-      lists = listed_more g.L.Ord.cmp g.met.L.Ord.total (label_exact g.L.EdgeLabel.unit g.L.Ord.cmp g.met.L.EdgeLabel.exact g.met.L.EdgeLabel.by_unit) c.args.states.now c.requires.trie c.args.order.now (fails_of c.args.states.now) c.requires.links c.loop-id.id-index (get_or c.args.order.now c.loop-id.id-index 0) (get_or (fails_of c.args.states.now) (get_or c.args.order.now c.loop-id.id-index 0) 0) c.loop-id-test.true refl refl c.loop-id.outputs.items now.outputs.items e.longer.0 (positions_of c.loop-id.states) (positions_of now.states) e.longer.1 e.others i.fits i.parents i.lists list;
-      count = omega (arith, e.count, own, i.count, count_next g.L.Ord.cmp g.met.L.Ord.total (label_exact g.L.EdgeLabel.unit g.L.Ord.cmp g.met.L.EdgeLabel.exact g.met.L.EdgeLabel.by_unit) c.args.states.now c.loop-id.states c.args.order.now c.requires.trie c.requires.links c.loop-id.invariant.kept c.loop-id.id-index c.loop-id-test.true);
+      fits = fits_more g.L.Ord.cmp g.met.L.Ord.total (label_exact g.L.EdgeLabel.unit g.L.Ord.cmp g.met.L.EdgeLabel.exact g.met.L.EdgeLabel.by_unit) (stops_of c.requires.links.0 c.args.states.now) c.args.states.now c.requires.trie c.args.order.now (fails_of c.args.states.now) c.requires.links.1 c.loop-id.id-index (get_or c.args.order.now c.loop-id.id-index 0) (get_or (fails_of c.args.states.now) (get_or c.args.order.now c.loop-id.id-index 0) 0) c.loop-id-test.true refl refl c.loop-id.outputs.items now.outputs.items e.longer.0 (positions_of c.loop-id.states) (positions_of now.states) e.longer.1 e.others i.fits (omega (arith, e.fits));
+      lists = λ leftmost links. listed_more g.L.Ord.cmp g.met.L.Ord.total (label_exact g.L.EdgeLabel.unit g.L.Ord.cmp g.met.L.EdgeLabel.exact g.met.L.EdgeLabel.by_unit) (stops_of leftmost c.args.states.now) c.args.states.now c.requires.trie c.args.order.now (fails_of c.args.states.now) links c.loop-id.id-index (get_or c.args.order.now c.loop-id.id-index 0) (get_or (fails_of c.args.states.now) (get_or c.args.order.now c.loop-id.id-index 0) 0) c.loop-id-test.true refl refl c.loop-id.outputs.items now.outputs.items e.longer.0 (positions_of c.loop-id.states) (positions_of now.states) e.longer.1 e.others i.fits c.fail_position-parent.result at i.parents (i.lists leftmost links) list;
+      count = omega (arith, e.count, own, i.count, count_next g.L.Ord.cmp g.met.L.Ord.total (label_exact g.L.EdgeLabel.unit g.L.Ord.cmp g.met.L.EdgeLabel.exact g.met.L.EdgeLabel.by_unit) c.args.states.now c.loop-id.states c.args.order.now c.requires.trie (stops_of c.requires.links.0 c.args.states.now) c.requires.links.1 c.loop-id.invariant.kept c.loop-id.id-index c.loop-id-test.true);
     }
 
 pub returns-clause-positions : goal.returns-clause-positions
@@ -140,6 +150,7 @@ returns-clause-positions g c =
     rw whole at c.loop-id.invariant.fits
 
 pub returns-clause-lists : goal.returns-clause-lists
-returns-clause-lists g c =
+returns-clause-lists g c = λ leftmost links.
     let whole = take_all c.loop-id.id-index c.args.order.now c.loop-id-test.false in
-    rw whole at c.loop-id.invariant.lists
+    let lists = c.loop-id.invariant.lists leftmost links in
+    rw whole at lists

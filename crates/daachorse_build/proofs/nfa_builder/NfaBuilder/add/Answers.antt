@@ -1,7 +1,6 @@
 -- The pattern was added to the trie, so it is registered; where no id was free, there are too many prefixes. A pattern that extends a key is registered where nothing changes.
-use Rattle.std.proofs.Common.{rules, ◌≡◌, ◌≤◌, ◌+◌, ◌⊎◌, Bool, true, false, ◌&&◌, List, length, map, refl, sym, ap, ◌∙◌, inl, inr, arith, ◌++◌, ◌∷◌, [], ℕ}
+use Rattle.std.proofs.Common.{rules, ◌≡◌, ◌≤◌, ◌+◌, ◌⊎◌, true, false, List, length, map, sym, ap, ◌∙◌, inl, inr, arith, ◌++◌, ◌∷◌, [], ℕ}
 use Rattle.std.proofs.lemmas.List.{length_push}
-use Rattle.std.proofs.lemmas.Bool.{and_parts, and_cases}
 use Rattle.std.proofs.lemmas.Result.{err_from_is_err_and}
 use Rattle.std.specs.declared.cmp.Ordering.{Ordering}
 use Rattle.daachorse_model.specs.declared.MatchKind.{MatchKind}

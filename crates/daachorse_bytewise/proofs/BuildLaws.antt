@@ -1,5 +1,5 @@
 -- From a builder's trie, links and lists of outputs to the parts of an automaton.
-use Rattle.std.proofs.Common.{◌≡◌, ℕ, ◌+◌, ◌<◌, ◌≤◌, List, [], ◌∷◌, ◌++◌, length, get_or, map, take, drop, refl, sym, ap, ◌∙◌, subst, arith}
+use Rattle.std.proofs.Common.{◌≡◌, ◌≢◌, ℕ, ◌+◌, ◌<◌, ◌≤◌, List, [], ◌∷◌, ◌++◌, length, get_or, map, take, drop, refl, sym, ap, ◌∙◌, subst, arith, ◌⊎◌, inl, inr}
 use Rattle.std.specs.Prelude.{Result, Ok, slice_index, All}
 use Rattle.std.specs.Borrow.{Bor}
 use Rattle.std.specs.Ordering.{nat_cmp}
@@ -15,9 +15,9 @@ use Rattle.daachorse_core.specs.Refusals.{IsRefusal}
 use Rattle.daachorse_model.specs.declared.MatchKind.{MatchKind}
 use Rattle.daachorse_model.specs.Units.{byte_width, size}
 use Rattle.daachorse_model.specs.Dictionary.{Dictionary, dictionary, kept, registered}
-use Rattle.daachorse_model.specs.Prefixes.{IsPrefix}
+use Rattle.daachorse_model.specs.Prefixes.{IsDead, IsPrefix}
 use Rattle.daachorse_model.specs.Paths.{Leads}
-use Rattle.daachorse_model.specs.Outputs.{outputs_of_ends}
+use Rattle.daachorse_model.specs.Outputs.{IsChain, outputs_of_ends}
 use Rattle.daachorse_model.proofs.Congruence.{dictionary-same}
 use Rattle.daachorse_model.proofs.Suffixes.{size-bytes}
 use Rattle.daachorse_build.specs.declared.nfa_builder.NfaBuilder.{NfaBuilder}
@@ -36,6 +36,11 @@ use Rattle.daachorse_bytewise.specs.Whole.{IsWhole, dead}
 use Rattle.daachorse_build.proofs.Walks.{walk-bounds}
 use Rattle.daachorse_model.specs.declared.MatchKind.TheVariants.{Standard}
 use Rattle.daachorse_bytewise.proofs.StandardLaws.{LinksTo-fail, IsChain-ends, alive as no_dead}
+use Rattle.daachorse_bytewise.proofs.LeftmostLaws.{LinksTo-left, IsChain-left}
+use Rattle.daachorse_bytewise.specs.Links.{AreLeft}
+use Rattle.daachorse_build.specs.Left.{LinksLeft}
+use Rattle.std.proofs.lemmas.Option.{same_Some}
+use Rattle.daachorse_model.specs.declared.MatchKind.TheVariants.{LeftmostLongest, LeftmostFirst}
 use Rattle.daachorse_bytewise.specs.Building.{AreIndexed, ComesTo, Fit, IsBuildRefusal, IsPassed, IsRefusalOf}
 
 -- a byte is its own unit
@@ -68,6 +73,14 @@ module _ {V : Type 0} where
           count = count ∙ was.count ∙ ap (λ k. length (kept k (in_units unit rs))) (sym kind);
         }
 
+    -- the leftmost links, as the builder has them once they are built
+    pub AreLeft-kept : (o b : NfaBuilder ℕ V A) (rs : List (List ℕ × V)) → HasTrieOf (states_of o) (states_of b) → kind_of b ≡ kind_of o → AreLeft (kind_of o) (states_of o) (states_of b) rs → AreLeft (kind_of b) (states_of b) (states_of b) rs
+    AreLeft-kept o b rs kept kind left =
+        let E : List (List (ℕ × ℕ)) → Type 0 = λ es. (w : List ℕ) (t : ℕ) → w ≢ [] → Leads (child_in nat_cmp es) w t
+            → LinksLeft (dictionary (kind_of o) (in_units unit rs)) unit (child_in nat_cmp es) w (slice_index (fails_of (states_of b)) t) in
+        let K : MatchKind → Type 0 = λ k. AreLeft k (states_of b) (states_of b) rs in
+        subst K (sym kind) (subst E (sym kept.edges) left)
+
     -- the content of the parts is the dictionary
     pub content-is : (kind : MatchKind) (states : List (NfaBuilderState ℕ V A)) (outputs : List (Output V)) (rs : List (List ℕ × V)) → Holds nat_cmp unit byte_width kind states rs → (w : List ℕ) → content (parts_of kind states outputs) w ≡ dictionary kind rs w
     content-is kind states outputs rs holds w =
@@ -78,6 +91,30 @@ module _ {V : Type 0} where
       -- the dictionary that the trie was built for is the content
       same : dictionary kind (in_units unit rs) ≡ content (parts_of kind states outputs)
       same = ap (λ x. dictionary kind x) (in_units-unit rs) ∙ sym (dictionary-same (content (parts_of kind states outputs)) (dictionary kind rs) (content-is kind states outputs rs holds))
+
+      pub whole-left : kind ≢ Standard → AreLeft kind states states rs → ParentsFall outputs → ((w : List ℕ) (t : ℕ) → Leads (child_of nat_cmp states) w t → slice_index (positions_of states) t ≤ length outputs)
+          → ((w : List ℕ) (t : ℕ) → Leads (child_of nat_cmp states) w t → IsChain byte_width (dictionary kind (in_units unit rs)) (IsDead (dictionary kind (in_units unit rs))) (map unit w) (outputs_at outputs (slice_index (positions_of states) t)))
+          → IsWhole (parts_of kind states outputs)
+      whole-left ne left parents positions chains =
+          let p = parts_of kind states outputs in
+          let P : Dictionary V → Type 0 = λ K. (w : List ℕ) → IsPrefix K w → (s : ℕ) × Leads (child_of nat_cmp states) w s in
+          let Q : Dictionary V → Type 0 = λ K. (w : List ℕ) (s : ℕ) → Leads (child_of nat_cmp states) w s → IsPrefix K w in
+          let R : List ℕ → Type 0 = λ x. IsPrefix (dictionary kind (in_units unit rs)) x in
+          record {
+            table = holds.trie;
+            begins = subst P same (λ w h. holds.begins w (subst R (sym (map-unit w)) h));
+            only = subst Q same (λ w s at. subst R (map-unit w) (holds.only w s at));
+            links = λ w t low at.
+            let L : Dictionary V → Type 0 = λ K. LinksLeft K unit (child_of nat_cmp states) w (slice_index (fails_of states) t) in
+            let inner : w ≢ [] = λ e. let W : List ℕ → Type 0 = λ x. Leads (child_of nat_cmp states) x t in let root : 0 ≡ t = same_Some 0 t (subst W e at) in omega (arith, low, root) in
+            LinksTo-left p ne holds.trie w (slice_index (fails_of states) t) (subst L same (left w t inner at)) (map-unit w) map-unit;
+            lists = λ w t at.
+            let C : Dictionary V → Type 0 = λ K. IsChain byte_width K (IsDead K) (map unit w) (outputs_at outputs (slice_index (positions_of states) t)) in
+            let D : List ℕ → Type 0 = λ x. IsChain byte_width (content p) (IsDead (content p)) x (outputs_at outputs (slice_index (positions_of states) t)) in
+            IsChain-left p ne holds.trie w _ (subst D (map-unit w) (subst C same (chains w t at)));
+            positions = positions;
+            parents = parents;
+          }
 
       pub whole-is : kind ≡ Standard → (order : List ℕ) → HoldLinks nat_cmp states order → ParentsFall outputs → ((w : List ℕ) (t : ℕ) → Leads (child_of nat_cmp states) w t → slice_index (positions_of states) t ≤ length outputs)
           → ((w : List ℕ) (t : ℕ) → Leads (child_of nat_cmp states) w t → outputs_at outputs (slice_index (positions_of states) t) ≡ outputs_of_ends byte_width (dictionary kind (in_units unit rs)) (map unit w))
@@ -118,6 +155,18 @@ module _ {V A : Type 0} (b d : NfaBuilder ℕ V A) (rs : List (List ℕ × V)) (
       let R : List (List (ℕ × ℕ)) → Type 0 = λ es. (w : List ℕ) (t : ℕ) → Leads (child_in nat_cmp es) w t → outputs_at (outputs_of d) (slice_index (positions_of (states_of d)) t) ≡ outputs_of_ends byte_width (dictionary (kind_of b) (in_units unit rs)) (map unit w) in
       let S : List (List (ℕ × ℕ)) → Type 0 = λ es. (w : List ℕ) (t : ℕ) → Leads (child_in nat_cmp es) w t → slice_index (positions_of (states_of d)) t ≤ length (outputs_of d) in
       whole-is (kind_of b) (states_of d) (outputs_of d) rs finished_holds standard order (subst Q (sym fails) (subst P (sym kept.edges) links)) parents (subst S (sym kept.edges) positions) (subst R (sym kept.edges) lists)
+
+  pub finished_left : kind_of b ≢ Standard → AreLeft (kind_of b) (states_of b) (states_of b) rs → fails_of (states_of d) ≡ fails_of (states_of b) → ParentsFall (outputs_of d)
+      → ((w : List ℕ) (t : ℕ) → Leads (child_of nat_cmp (states_of b)) w t → slice_index (positions_of (states_of d)) t ≤ length (outputs_of d))
+      → ((w : List ℕ) (t : ℕ) → Leads (child_of nat_cmp (states_of b)) w t → IsChain byte_width (dictionary (kind_of b) (in_units unit rs)) (IsDead (dictionary (kind_of b) (in_units unit rs))) (map unit w) (outputs_at (outputs_of d) (slice_index (positions_of (states_of d)) t)))
+      → IsWhole (parts_of (kind_of b) (states_of d) (outputs_of d))
+  finished_left ne left fails parents positions chains =
+      let K = dictionary (kind_of b) (in_units unit rs) in
+      let E : List (List (ℕ × ℕ)) → Type 0 = λ es. (w : List ℕ) (t : ℕ) → w ≢ [] → Leads (child_in nat_cmp es) w t → LinksLeft K unit (child_in nat_cmp es) w (slice_index (fails_of (states_of b)) t) in
+      let F : List ℕ → Type 0 = λ fs. (w : List ℕ) (t : ℕ) → w ≢ [] → Leads (child_of nat_cmp (states_of d)) w t → LinksLeft K unit (child_of nat_cmp (states_of d)) w (slice_index fs t) in
+      let R : List (List (ℕ × ℕ)) → Type 0 = λ es. (w : List ℕ) (t : ℕ) → Leads (child_in nat_cmp es) w t → IsChain byte_width K (IsDead K) (map unit w) (outputs_at (outputs_of d) (slice_index (positions_of (states_of d)) t)) in
+      let S : List (List (ℕ × ℕ)) → Type 0 = λ es. (w : List ℕ) (t : ℕ) → Leads (child_in nat_cmp es) w t → slice_index (positions_of (states_of d)) t ≤ length (outputs_of d) in
+      whole-left (kind_of b) (states_of d) (outputs_of d) rs finished_holds ne (subst F (sym fails) (subst E (sym kept.edges) left)) parents (subst S (sym kept.edges) positions) (subst R (sym kept.edges) chains)
 
   pub finished_content : (w : List ℕ) → content (parts_of (kind_of b) (states_of d) (outputs_of d)) w ≡ dictionary (kind_of b) rs w
   finished_content = content-is (kind_of b) (states_of d) (outputs_of d) rs finished_holds
@@ -193,3 +242,9 @@ module _ {V E : Type 0} (gives : ℕ → Result V E → Type 0) where
   refused_build kind texts rs indexed (InvalidConversion _) refused = absurd refused
   refused_build kind texts rs indexed (InvalidAutomaton _) refused = absurd refused
   refused_build kind texts rs indexed (OutOfMemory _) refused = tt
+
+-- a kind is that of the standard searches, or another
+pub standard_or_not : (kind : MatchKind) → (kind ≡ Standard) ⊎ (kind ≢ Standard)
+standard_or_not Standard = inl refl
+standard_or_not LeftmostLongest = inr (λ e. cc)
+standard_or_not LeftmostFirst = inr (λ e. cc)

@@ -4,3 +4,4 @@ pub mod Content
 pub mod Whole
 pub mod Building
 pub mod Sources
+pub mod Links

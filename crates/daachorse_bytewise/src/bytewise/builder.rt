@@ -5,7 +5,7 @@
 //! patterns are added in order, and the limit on their number is tested last; the first refusal
 //! ends the build.
 
-ghost use Rattle.std.specs.Prelude.{◌≡◌, ◌⊎◌, ◌≤◌, ℕ, List, [], IfOk, IfErr, OnOk, map, length};
+ghost use Rattle.std.specs.Prelude.{◌≡◌, ◌≢◌, true, ◌⊎◌, ◌≤◌, ℕ, List, [], IfOk, IfErr, OnOk, map, length};
 ghost use Rattle.std.specs.Iterator.{IsFinite};
 ghost use Rattle.std.specs.Iterator.Runs.{WholeRun};
 ghost use Rattle.std.specs.Ordering.{nat_cmp};
@@ -14,6 +14,10 @@ ghost use Rattle.daachorse_model.specs.declared.MatchKind.TheVariants.{Standard}
 ghost use Rattle.daachorse_model.specs.Units.{byte_width};
 ghost use Rattle.daachorse_model.specs.Dictionary.{dictionary, registered};
 ghost use Rattle.daachorse_build.specs.Builders.{Registered, count_of, kind_of, outputs_of, states_of};
+ghost use Rattle.daachorse_build.specs.Growth.{HasTrieOf};
+ghost use Rattle.daachorse_build.specs.Orders.{HoldLeftLinks, HoldLinks};
+ghost use Rattle.daachorse_build.specs.Tables.{HoldTrie};
+ghost use Rattle.daachorse_bytewise.specs.Links.{AreLeft};
 ghost use Rattle.daachorse_bytewise.specs.Building.{AreIndexed, Fit, HasNoValue, IsBuildRefusal, IsBuiltOf, IsRefusalOf};
 ghost use Rattle.daachorse_bytewise.specs.Content.{content};
 
@@ -236,14 +240,34 @@ fn finish<V: Copy, A: Allocator + Copy>(
     ensures kind { IfOk result (λ a. a.kind ≡ kind) }
     ensures err { IfErr result IsOutOfMemory }
 {
-    let order = if kind.is_leftmost() {
-        builder.build_fails_leftmost(alloc)?
-    } else {
-        builder.build_fails(alloc)?
-    };
+    let order = build_links(alloc, kind, &mut builder)?;
     builder.build_outputs(&order)?;
     let (states, outputs) = builder.into_parts();
     Ok(DoubleArrayAhoCorasick {
         states: States::new(kind, states, outputs),
     })
+}
+
+/// Sets the links of a builder's states, and answers their order.
+fn build_links<V: Copy, A: Allocator + Copy>(
+    alloc: A,
+    kind: MatchKind,
+    builder: &mut NfaBuilder<u8, V, A>,
+) -> Result<Vec<u32, A>>
+    requires { HoldTrie nat_cmp (states_of builder.old) }
+    ensures kind { kind_of builder.new ≡ kind_of builder.old }
+    ensures patterns { count_of builder.new ≡ count_of builder.old }
+    ensures outputs { outputs_of builder.new ≡ outputs_of builder.old }
+    ensures kept { HasTrieOf (states_of builder.old) (states_of builder.new) }
+    ensures standard { IfOk result (λ order. kind ≡ Standard → HoldLinks nat_cmp (states_of builder.new) order.items) }
+    ensures leftmost { IfOk result (λ order. kind ≢ Standard → HoldLeftLinks nat_cmp true (states_of builder.new) order.items) }
+    ensures left { IfOk result (λ order. kind ≢ Standard → (rs : List (List ℕ × V)) → Registered nat_cmp (λ b. b) byte_width builder.old rs → AreLeft (kind_of builder.old) (states_of builder.old) (states_of builder.new) rs) }
+    ensures err { IfErr result IsOutOfMemory }
+{
+    match kind {
+        MatchKind::Standard => builder.build_fails(alloc),
+        MatchKind::LeftmostLongest | MatchKind::LeftmostFirst => {
+            builder.build_fails_leftmost(alloc)
+        }
+    }
 }

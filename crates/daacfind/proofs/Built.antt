@@ -20,6 +20,7 @@ content_of : (kind : MatchKind) (texts : List (List ℕ)) (a : Parts ℕ) → Is
 content_of kind texts a h = let held : content a ≡ dictionary kind h.0 = λ i w. h.2 w i in held ∙ ap (dictionary kind) (numbered_of 0 texts h.0 h.1)
 
 -- so what a mode writes is the text that the pattern file asks for
-pub text_of_built : (mode : Mode) (patterns haystack : List ℕ) (a : Parts ℕ) → IsBuiltOf value_gives (kind_of_mode mode) (pattern_lines patterns) a
+pub text_of_built : (mode : Mode) (patterns haystack : List ℕ) (a : Parts ℕ) (kind : MatchKind) → kind ≡ kind_of_mode mode → IsBuiltOf value_gives kind (pattern_lines patterns) a
     → match_text (found_by mode (content a) haystack) ≡ text_of_mode mode patterns haystack
-text_of_built mode patterns haystack a h = ap (λ K. match_text (found_by mode K haystack)) (content_of (kind_of_mode mode) (pattern_lines patterns) a h)
+text_of_built mode patterns haystack a kind is h =
+    ap (λ K. match_text (found_by mode K haystack)) (content_of kind (pattern_lines patterns) a h ∙ ap (λ k. dictionary k (numbered 0 (pattern_lines patterns))) is)

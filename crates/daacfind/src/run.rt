@@ -145,7 +145,8 @@ fn write_mode<S: Sink, A: Allocator + Copy>(
         Mode::Overlapping => write_matches(automaton.find_overlapping_iter(haystack), out),
         Mode::NoSuffix => write_matches(automaton.find_overlapping_no_suffix_iter(haystack), out),
         Mode::Find => write_matches(automaton.find_iter(haystack), out),
-        Mode::Longest | Mode::First => write_matches(automaton.leftmost_find_iter(haystack), out),
+        Mode::Longest => write_matches(automaton.leftmost_find_iter(haystack), out),
+        Mode::First => write_matches(automaton.leftmost_find_iter(haystack), out),
     }
 }
 

@@ -3,10 +3,16 @@
 #![tactic(auto)]
 
 #[cfg(test)]
+mod leftmost;
+
+#[cfg(test)]
 mod standard;
 
 #[cfg(test)]
 mod tests {
+    ghost use Rattle.std.specs.Prelude.{◌≡◌, IfOk};
+    ghost use Rattle.daachorse_model.specs.declared.MatchKind.TheVariants.{Standard};
+
     use daachorse::edge_map::EdgeMap;
     use daachorse::errors::DaachorseError;
     use daachorse::{
@@ -23,7 +29,9 @@ mod tests {
     fn build<A: Allocator + Copy>(
         alloc: A,
         patterns: &[&[u8]],
-    ) -> Result<DoubleArrayAhoCorasick<u32, A>> {
+    ) -> Result<DoubleArrayAhoCorasick<u32, A>>
+        ensures { IfOk result (λ a. a.kind ≡ Standard) }
+    {
         DoubleArrayAhoCorasick::new(alloc, patterns.iter().copied())
     }
 
@@ -41,7 +49,9 @@ mod tests {
         way: Way,
         alloc: A,
         patvals: &[(&[u8], u32)],
-    ) -> Result<DoubleArrayAhoCorasick<u32, A>> {
+    ) -> Result<DoubleArrayAhoCorasick<u32, A>>
+        ensures { IfOk result (λ a. a.kind ≡ Standard) }
+    {
         match way {
             Way::New => DoubleArrayAhoCorasick::new(alloc, patvals.iter().map(|p| p.0)),
             Way::WithValues => DoubleArrayAhoCorasick::with_values(alloc, patvals.iter().copied()),

@@ -1,5 +1,8 @@
 //! Worked rows of the standard searches over bytes: in slices, in sources, and by steppers.
 
+ghost use Rattle.std.specs.Prelude.{◌≡◌, IfOk};
+ghost use Rattle.daachorse_model.specs.declared.MatchKind.TheVariants.{Standard};
+
 use daachorse::{DoubleArrayAhoCorasick, Match, Result};
 use std::alloc::Global;
 use std::test::Fail;
@@ -8,7 +11,9 @@ fn found(start: usize, end: usize, value: u32) -> Match<u32> {
     Match { start, end, value }
 }
 
-fn build(alloc: Global, patterns: &[&[u8]]) -> Result<DoubleArrayAhoCorasick<u32>> {
+fn build(alloc: Global, patterns: &[&[u8]]) -> Result<DoubleArrayAhoCorasick<u32>>
+    ensures { IfOk result (λ a. a.kind ≡ Standard) }
+{
     DoubleArrayAhoCorasick::new(alloc, patterns.iter().copied())
 }
 

@@ -1,5 +1,5 @@
 -- Each pattern is registered after those before it; the first that is refused comes after patterns that fit.
-use Rattle.std.proofs.Common.{◌≡◌, ◌≤◌, ◌<◌, ◌++◌, ◌∷◌, [], ℕ, List, length, map, take, drop, get_or, ◌∙◌, ap, sym, subst, arith, ◌+◌}
+use Rattle.std.proofs.Common.{◌≡◌, ◌≤◌, ◌<◌, ◌++◌, ◌∷◌, [], ℕ, List, length, map, take, drop, get_or, ap, sym, subst, arith, ◌+◌}
 use Rattle.std.specs.Prelude.{All}
 use Rattle.std.proofs.lemmas.Result.{err_from_is_err_and}
 use Rattle.std.proofs.lemmas.List.{take_all}
@@ -15,11 +15,8 @@ use Rattle.daachorse_bytewise.specs.Building.{Fit, IsRefusalOf}
 use Rattle.daachorse_bytewise.proofs.BuildLaws.{add_refused, registered_around, registered_more, short_text, Fit-registered}
 use Rattle.daachorse_bytewise.proofs.bytewise.builder.add_all.Goals as goal
 
-pub add-requires-clause-trie : goal.add-requires-clause-trie
-add-requires-clause-trie g c = c.loop-text.invariant.so_far.holds.trie
-
-pub add-requires-clause-standard : goal.add-requires-clause-standard
-add-requires-clause-standard g c = c.loop-text.invariant.kind ∙ c.requires.standard
+pub add-requires : goal.add-requires
+add-requires g c = c.loop-text.invariant.so_far.holds.trie
 
 pub returns-in_err-add-clause-err : goal.returns-in_err-add-clause-err
 returns-in_err-add-clause-err g c =

@@ -1,4 +1,4 @@
-use Rattle.std.proofs.Common.{◌≡◌, ℕ, List, ◌∙◌, sym, subst, arith}
+use Rattle.std.proofs.Common.{◌≡◌, ℕ, List, ◌∙◌, sym, subst, inl, arith}
 use Rattle.std.specs.Ordering.{nat_cmp}
 use Rattle.std.proofs.lemmas.Result.{err_from_is_err_and}
 use Rattle.daachorse_build.specs.Builders.{kind_of, states_of, outputs_of}
@@ -23,7 +23,7 @@ build_outputs-requires-clause-trie g c =
 
 pub build_outputs-requires-clause-links : goal.build_outputs-requires-clause-links
 build_outputs-requires-clause-links g c =
-    let P : List ℕ → Type 0 = λ order. HoldLinks nat_cmp (states_of c.build_fails.new.self) order in subst P (sym c.deref.ensures.value) c.in_ok-order.ensures.links
+    let P : List ℕ → Type 0 = λ order. HoldLinks nat_cmp (states_of c.build_fails.new.self) order in inl (subst P (sym c.deref.ensures.value) c.in_ok-order.ensures.links)
 
 pub build_outputs-requires-clause-unbuilt : goal.build_outputs-requires-clause-unbuilt
 build_outputs-requires-clause-unbuilt g c = c.in_ok-order.ensures.outputs ∙ c.requires.unbuilt
@@ -41,7 +41,9 @@ new-requires g c =
     let before = c.build_fails.new.self in let after = c.build_outputs.new.self in
     let was = Registered-kept c.args.builder before rs.0 c.in_ok-order.ensures.kept c.in_ok-order.ensures.kind c.in_ok-order.ensures.patterns rs.1 in
     let made = c.in_ok-build_outputs.ensures in
-    let whole = finished before after rs.0 was made.kept made.kind made.patterns c.in_ok-order.order.items c.in_ok-order.ensures.links made.fails made.parents made.positions (made.lists rs.0 was) in
+    let L : List ℕ → Type 0 = λ order. HoldLinks nat_cmp (states_of before) order in
+    let links = subst L (sym c.deref.ensures.value) c.in_ok-order.ensures.links in
+    let whole = finished before after rs.0 was made.kept made.kind made.patterns c.in_ok-order.order.items c.in_ok-order.ensures.links made.fails made.parents made.positions (made.lists links rs.0 was) in
     let P : List (NfaBuilderState ℕ g.row.V.Denot g.row.A.Denot) → Type 0 = λ states. IsWhole (parts_of states (outputs_of after)) in
     let Q : List (Output g.row.V.Denot) → Type 0 = λ outputs. IsWhole (parts_of c.into_parts-states.result.0.items outputs) in
     subst Q (sym c.into_parts-states.ensures.outputs) (subst P (sym c.into_parts-states.ensures.states) whole)

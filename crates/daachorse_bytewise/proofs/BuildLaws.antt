@@ -77,7 +77,7 @@ module _ {V : Type 0} where
     pub AreLeft-kept : (o b : NfaBuilder ℕ V A) (rs : List (List ℕ × V)) → HasTrieOf (states_of o) (states_of b) → kind_of b ≡ kind_of o → AreLeft (kind_of o) (states_of o) (states_of b) rs → AreLeft (kind_of b) (states_of b) (states_of b) rs
     AreLeft-kept o b rs kept kind left =
         let E : List (List (ℕ × ℕ)) → Type 0 = λ es. (w : List ℕ) (t : ℕ) → w ≢ [] → Leads (child_in nat_cmp es) w t
-            → LinksLeft (dictionary (kind_of o) (in_units unit rs)) unit (child_in nat_cmp es) w (slice_index (fails_of (states_of b)) t) in
+        → LinksLeft (dictionary (kind_of o) (in_units unit rs)) unit (child_in nat_cmp es) w (slice_index (fails_of (states_of b)) t) in
         let K : MatchKind → Type 0 = λ k. AreLeft k (states_of b) (states_of b) rs in
         subst K (sym kind) (subst E (sym kept.edges) left)
 
@@ -105,13 +105,13 @@ module _ {V : Type 0} where
             begins = subst P same (λ w h. holds.begins w (subst R (sym (map-unit w)) h));
             only = subst Q same (λ w s at. subst R (map-unit w) (holds.only w s at));
             links = λ w t low at.
-            let L : Dictionary V → Type 0 = λ K. LinksLeft K unit (child_of nat_cmp states) w (slice_index (fails_of states) t) in
-            let inner : w ≢ [] = λ e. let W : List ℕ → Type 0 = λ x. Leads (child_of nat_cmp states) x t in let root : 0 ≡ t = same_Some 0 t (subst W e at) in omega (arith, low, root) in
-            LinksTo-left p ne holds.trie w (slice_index (fails_of states) t) (subst L same (left w t inner at)) (map-unit w) map-unit;
+                let L : Dictionary V → Type 0 = λ K. LinksLeft K unit (child_of nat_cmp states) w (slice_index (fails_of states) t) in
+                let inner : w ≢ [] = λ e. let W : List ℕ → Type 0 = λ x. Leads (child_of nat_cmp states) x t in let root : 0 ≡ t = same_Some 0 t (subst W e at) in omega (arith, low, root) in
+                LinksTo-left p ne holds.trie w (slice_index (fails_of states) t) (subst L same (left w t inner at)) (map-unit w) map-unit;
             lists = λ w t at.
-            let C : Dictionary V → Type 0 = λ K. IsChain byte_width K (IsDead K) (map unit w) (outputs_at outputs (slice_index (positions_of states) t)) in
-            let D : List ℕ → Type 0 = λ x. IsChain byte_width (content p) (IsDead (content p)) x (outputs_at outputs (slice_index (positions_of states) t)) in
-            IsChain-left p ne holds.trie w _ (subst D (map-unit w) (subst C same (chains w t at)));
+                let C : Dictionary V → Type 0 = λ K. IsChain byte_width K (IsDead K) (map unit w) (outputs_at outputs (slice_index (positions_of states) t)) in
+                let D : List ℕ → Type 0 = λ x. IsChain byte_width (content p) (IsDead (content p)) x (outputs_at outputs (slice_index (positions_of states) t)) in
+                IsChain-left p ne holds.trie w _ (subst D (map-unit w) (subst C same (chains w t at)));
             positions = positions;
             parents = parents;
           }
@@ -132,8 +132,8 @@ module _ {V : Type 0} where
             begins = begins;
             only = only;
             links = λ w t low at.
-            let high = (walk-bounds (child p) (slice_index p.depths) (length p.edges) holds.trie.trie w t at).0 in
-            LinksTo-fail p holds.trie begins only alive w t low at (links.linked t (all_in_order nat_cmp nat_cmp_total (edges_of states) (depths_of states) holds.trie order links.first t low high));
+                let high = (walk-bounds (child p) (slice_index p.depths) (length p.edges) holds.trie.trie w t at).0 in
+                LinksTo-fail p holds.trie begins only alive w t low at (links.linked t (all_in_order nat_cmp nat_cmp_total (edges_of states) (depths_of states) holds.trie order links.first t low high));
             lists = λ w t at. IsChain-ends p holds.trie begins only alive w _ (lists w t at ∙ ap (λ x. outputs_of_ends byte_width (dictionary kind (in_units unit rs)) x) (map-unit w) ∙ ap (λ K. outputs_of_ends byte_width K w) same);
             positions = positions;
             parents = parents;

@@ -8,7 +8,6 @@ use Rattle.daachorse_model.specs.Dictionary.{Dictionary}
 use Rattle.daachorse_model.specs.Best.{IsLeftmost}
 use Rattle.daachorse_model.specs.Units.{byte_width}
 use Rattle.daachorse_model.specs.Prefixes.{IsDead, IsLink}
-use Rattle.daachorse_model.specs.Paths.{Leads}
 use Rattle.daachorse_model.specs.Outputs.{IsChain, at_root, at_dead, before_link}
 use Rattle.daachorse_build.specs.Tables.{IsTable}
 use Rattle.daachorse_build.specs.Left.{LinksLeft}

@@ -1,7 +1,7 @@
 -- A search may go on reading a source of bytes, since each byte that it takes leaves one less.
-use Rattle.std.proofs.Common.{ℕ, ◌+◌, ◌<◌, ◌^◌, List, ◌++◌, map, length, Option, Some, None, ◌≡◌, sym, ap, subst, arith, length-append}
+use Rattle.std.proofs.Common.{ℕ, List, map, length, Option, Some, None, ◌≡◌, sym, ap, subst, arith, length-append}
 use Rattle.std.proofs.lemmas.List.{length-map}
-use Rattle.std.specs.Iterator.{Count, MakesProgress, items_left}
+use Rattle.std.specs.Iterator.{Count, MakesProgress}
 use Rattle.daachorse_model.specs.declared.Match.{Match}
 use Rattle.daachorse_model.specs.Units.{size, byte_width}
 use Rattle.daachorse_model.proofs.Suffixes.{size-bytes}

@@ -1,10 +1,10 @@
 -- A trie with the failure links and the outputs of the standard searches keeps what an automaton's parts must: no link is dead.
-use Rattle.std.proofs.Common.{◌≡◌, ◌≢◌, ℕ, ◌<◌, ◌⊎◌, true, List, [], ◌∷◌, Option, Some, None, is_some, refl, sym, ap, ◌∙◌, subst, inl, inr, arith}
+use Rattle.std.proofs.Common.{◌≡◌, ℕ, ◌<◌, true, List, [], ◌∷◌, Option, Some, None, is_some, refl, sym, ap, subst, inr, arith}
 use Rattle.std.specs.Prelude.{slice_index, length}
 use Rattle.std.specs.Ordering.{nat_cmp}
 use Rattle.std.proofs.lemmas.Option.{same_Some}
 use Rattle.daachorse_model.specs.Units.{byte_width}
-use Rattle.daachorse_model.specs.Prefixes.{IsPrefix, IsLink, long}
+use Rattle.daachorse_model.specs.Prefixes.{IsPrefix, long}
 use Rattle.daachorse_model.specs.Paths.{walk, is_reached, Leads}
 use Rattle.daachorse_model.specs.Outputs.{IsChain, outputs_of_ends}
 use Rattle.daachorse_model.proofs.Links.{link-is}

@@ -1,6 +1,6 @@
 -- Each byte is one that a key may have, so all bytes passed are counted.
 use Rattle.std.proofs.Common.{◌≡◌, ◌∙◌, ℕ, List, [], ◌∷◌, length, refl, sym, ap}
-use Rattle.std.specs.Prelude.{count_by, filter, Bool, true}
+use Rattle.std.specs.Prelude.{count_by, filter, true}
 use Rattle.std.proofs.lemmas.List.Sums.{length-filter}
 
 filter-every : (xs : List ℕ) → filter (λ unit. true) xs ≡ xs

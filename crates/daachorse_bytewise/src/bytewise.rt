@@ -209,10 +209,7 @@ impl<V: Copy, A: Allocator> DoubleArrayAhoCorasick<V, A> {
     /// the first registered. For [`MatchKind::LeftmostFirst`], which leaves out each pattern that
     /// extends an earlier one, it is the earliest registered pattern that starts there.
     #[inline(always)]
-    pub fn leftmost_find_iter<'a>(
-        &'a self,
-        haystack: &'a [u8],
-    ) -> LeftmostFindIterator<'a, V, A>
+    pub fn leftmost_find_iter<'a>(&'a self, haystack: &'a [u8]) -> LeftmostFindIterator<'a, V, A>
         requires { self.now.kind ≢ Standard }
         ensures left { result.left ≡ leftmost byte_width (content self.entry.now) haystack.entry.now }
         ensures automaton { result.automaton ≡ self.entry.now }

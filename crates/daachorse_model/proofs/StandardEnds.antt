@@ -6,7 +6,7 @@ use Rattle.std.proofs.lemmas.List.Elements.{All-append, All-cons, All-nil, All-h
 use Rattle.daachorse_model.specs.declared.Match.{Match}
 use Rattle.daachorse_model.specs.Units.{size}
 use Rattle.daachorse_model.specs.Dictionary.{Dictionary}
-use Rattle.daachorse_model.specs.Matches.{matches_of, at_each_end, ending_at, empty_matches, standard_from, standard, standard_after, last_end, resume_place, IsSinceMatch}
+use Rattle.daachorse_model.specs.Matches.{matches_of, at_each_end, ending_at, empty_matches, standard_from, standard, standard_after, last_end, IsSinceMatch}
 use Rattle.daachorse_model.specs.Resumed.{IsResumed}
 use Rattle.daachorse_model.proofs.Suffixes.{size-append, size-push}
 use Rattle.daachorse_model.proofs.Searches.{first_or}

@@ -4,7 +4,6 @@
 
 #[cfg(test)]
 mod leftmost;
-
 #[cfg(test)]
 mod standard;
 

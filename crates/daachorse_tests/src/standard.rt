@@ -87,7 +87,9 @@ fn a_source_is_read_to_the_end_of_the_match(rt: HostRuntime) -> Result<(), Fail>
     assert_eq!(rt; first, Some(found(0, 2, 0)));
     assert_eq!(rt; bytes.len(), 2);
     let mut bytes = b"abab".iter().copied();
-    let first = automaton.find_overlapping_iter_from_iter(bytes.by_ref()).next();
+    let first = automaton
+        .find_overlapping_iter_from_iter(bytes.by_ref())
+        .next();
     assert_eq!(rt; first, Some(found(0, 2, 0)));
     assert_eq!(rt; bytes.len(), 2);
     Ok(())
@@ -115,7 +117,11 @@ fn a_find_stepper_tells_each_match_where_it_ends(rt: HostRuntime) {
         assert_eq!(rt; Some(&stepper.matches()), expected.first(), "row {i}");
         for (at, byte) in haystack.iter().enumerate() {
             stepper.consume(*byte);
-            assert_eq!(rt; Some(&stepper.matches()), expected.get(at + 1), "row {i}, byte {at}");
+            assert_eq!(rt;
+                Some(&stepper.matches()),
+                expected.get(at + 1),
+                "row {i}, byte {at}"
+            );
         }
         stepper.turns_are_bounded();
     }
@@ -126,11 +132,7 @@ fn an_overlapping_stepper_tells_all_that_end_here(rt: HostRuntime) -> Result<(),
     let Ok(automaton) = build(rt.alloc(), &[b"ab", b"b"]) else {
         panic!(rt; "the patterns were refused");
     };
-    let rows: [&[Match<u32>]; 3] = [
-        &[],
-        &[found(0, 2, 0), found(1, 2, 1)],
-        &[found(2, 3, 1)],
-    ];
+    let rows: [&[Match<u32>]; 3] = [&[], &[found(0, 2, 0), found(1, 2, 1)], &[found(2, 3, 1)]];
     let mut stepper = automaton.find_overlapping_stepper();
     assert_eq!(rt; stepper.matches().next(), None);
     for (byte, expected) in b"abb".iter().zip(rows) {

@@ -84,11 +84,17 @@ impl<'a, V: Copy, A: Allocator> Iterator for FindOverlappingNoSuffixSliceIterato
 /// It borrows the automaton, holds the source, and takes no memory. It takes no byte past the end
 /// of the match that it gives.
 #[derive(Drop)]
-pub struct FindOverlappingNoSuffixIterator<'a, P: Iterator<Item = u8>, V: Copy, A: Allocator = Global> {
+pub struct FindOverlappingNoSuffixIterator<
+    'a,
+    P: Iterator<Item = u8>,
+    V: Copy,
+    A: Allocator = Global,
+> {
     search: Search<V, NoSuffixWalk<'a, V, States<V, A>>, P>,
 }
 
-impl<'a, P: Iterator<Item = u8>, V: Copy, A: Allocator> Model for FindOverlappingNoSuffixIterator<'a, P, V, A> {
+impl<'a, P: Iterator<Item = u8>, V: Copy, A: Allocator> Model
+    for FindOverlappingNoSuffixIterator<'a, P, V, A> {
     ghost use Rattle.daachorse_search.specs.Searches.{SourceProgress};
     ghost use Rattle.daachorse_bytewise.specs.Parts.{Parts};
 
@@ -97,7 +103,12 @@ impl<'a, P: Iterator<Item = u8>, V: Copy, A: Allocator> Model for FindOverlappin
     ghost view = { λ s. s.search };
 }
 
-impl<'a, P: Iterator<Item = u8>, V: Copy, A: Allocator> FindOverlappingNoSuffixIterator<'a, P, V, A> {
+impl<'a, P: Iterator<Item = u8>, V: Copy, A: Allocator> FindOverlappingNoSuffixIterator<
+    'a,
+    P,
+    V,
+    A,
+> {
     #[inline(always)]
     #[tactic(auto, using(crate::proofs::StandardLaws::alive))]
     pub(crate) fn new(states: &'a States<V, A>, source: P) -> Self
@@ -127,7 +138,8 @@ impl<'a, P: Iterator<Item = u8>, V: Copy, A: Allocator> FindOverlappingNoSuffixI
     }
 }
 
-impl<'a, P: Iterator<Item = u8>, V: Copy, A: Allocator> Iterator for FindOverlappingNoSuffixIterator<'a, P, V, A> {
+impl<'a, P: Iterator<Item = u8>, V: Copy, A: Allocator> Iterator
+    for FindOverlappingNoSuffixIterator<'a, P, V, A> {
     ghost use Rattle.std.specs.Prelude.{◌+◌, ◌*◌, length};
     ghost use Rattle.std.specs.Iterator.{count_map};
     ghost use Rattle.daachorse_search.specs.Searches.{GivesFrom};

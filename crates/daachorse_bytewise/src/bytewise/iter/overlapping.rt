@@ -10,9 +10,9 @@ ghost use Rattle.daachorse_bytewise.specs.Content.{content};
 
 use crate::bytewise::states::States;
 use daachorse_core::Match;
+use daachorse_search::ending_here::EndingHere;
 use daachorse_search::haystack::Bytes;
 use daachorse_search::matches::Matches;
-use daachorse_search::ending_here::EndingHere;
 use daachorse_search::overlapping::OverlappingWalk;
 use daachorse_search::search::Search;
 use daachorse_search::stepwise::Stepwise;
@@ -91,7 +91,8 @@ pub struct FindOverlappingIterator<'a, P: Iterator<Item = u8>, V: Copy, A: Alloc
     search: Search<V, OverlappingWalk<'a, V, States<V, A>>, P>,
 }
 
-impl<'a, P: Iterator<Item = u8>, V: Copy, A: Allocator> Model for FindOverlappingIterator<'a, P, V, A> {
+impl<'a, P: Iterator<Item = u8>, V: Copy, A: Allocator> Model
+    for FindOverlappingIterator<'a, P, V, A> {
     ghost use Rattle.daachorse_search.specs.Searches.{SourceProgress};
     ghost use Rattle.daachorse_bytewise.specs.Parts.{Parts};
 
@@ -130,7 +131,8 @@ impl<'a, P: Iterator<Item = u8>, V: Copy, A: Allocator> FindOverlappingIterator<
     }
 }
 
-impl<'a, P: Iterator<Item = u8>, V: Copy, A: Allocator> Iterator for FindOverlappingIterator<'a, P, V, A> {
+impl<'a, P: Iterator<Item = u8>, V: Copy, A: Allocator> Iterator
+    for FindOverlappingIterator<'a, P, V, A> {
     ghost use Rattle.std.specs.Prelude.{◌+◌, ◌*◌, length};
     ghost use Rattle.std.specs.Iterator.{count_map};
     ghost use Rattle.daachorse_search.specs.Searches.{GivesFrom};

@@ -5,3 +5,4 @@ pub mod Seen
 pub mod Texts
 pub mod Turns
 pub mod Refusals
+pub mod Chains

@@ -1,0 +1,18 @@
+-- The two parts of a packed word, `a * 256 + b`.
+use Rattle.std.specs.Prelude.{ℕ, ◌/◌, ◌%◌, List, codes}
+use Rattle.daachorse_serializer.specs.declared.intpack.U24nU8.{U24nU8}
+
+abbrev pub word_of : U24nU8 → ℕ
+word_of p = p.word
+
+-- the part of 24 bits
+abbrev pub upper : U24nU8 → ℕ
+upper p = word_of p / 256
+
+-- the part of 8 bits
+abbrev pub lower : U24nU8 → ℕ
+lower p = word_of p % 256
+
+-- what the refusal of a number past 24 bits prints
+abbrev pub too_large_text : List ℕ
+too_large_text = codes "value must be smaller than 2^24"

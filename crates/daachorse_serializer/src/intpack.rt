@@ -1,0 +1,117 @@
+//! Two small numbers in one word: an output position of 24 bits and a byte.
+//!
+//! The layers above may rely on the word being `a * 256 + b`, and on either part staying as it was
+//! while the other is set. No call takes memory or branches on the parts.
+
+ghost use Rattle.std.specs.Prelude.{◌≡◌, ◌<◌, ◌≤◌, ◌^◌, ℕ, Some, MatchResult};
+ghost use Rattle.daachorse_serializer.specs.Packed.{upper, lower, too_large_text};
+
+use std::error::Error;
+use std::fmt;
+use std::marker::Model;
+
+/// A number of 24 bits.
+#[derive(Clone, Copy, Debug, Default, PartialEq, Eq, Hash)]
+pub struct U24 {
+    value: u32,
+}
+
+impl Model for U24 {
+    ghost Value = { ℕ };
+
+    ghost view = { λ n. n.value };
+
+    ghost invariant = { λ n. n.value < 2 ^ 24 };
+
+    ghost inverse = { λ n. record { value = n } };
+}
+
+impl U24 {
+    /// The greatest number of 24 bits.
+    pub const MAX: u32 = 0x00ff_ffff;
+
+    /// The number.
+    #[inline(always)]
+    pub fn get(self) -> u32
+        ensures same { result ≡ self }
+        ensures below { result < 2 ^ 24 }
+    {
+        self.value
+    }
+}
+
+/// Refuses a number past [`U24::MAX`], and no other.
+impl TryFrom<u32> for U24 {
+    type Error = TooLargeError;
+
+    ghost try_from_gives = { λ n r. MatchResult r (λ small. (small ≡ n) × (n < 2 ^ 24)) (λ _. 2 ^ 24 ≤ n) };
+
+    #[inline(always)]
+    fn try_from(value: u32) -> Result<Self, TooLargeError> {
+        if value <= Self::MAX {
+            Ok(Self { value })
+        } else {
+            Err(TooLargeError)
+        }
+    }
+}
+
+/// A number is past [`U24::MAX`].
+#[derive(Clone, Copy, Debug, PartialEq, Eq)]
+pub struct TooLargeError;
+
+impl fmt::Display for TooLargeError {
+    ghost output = { λ _. Some too_large_text };
+
+    fn fmt<W: fmt::Write>(&self, f: &mut fmt::Formatter<W>) -> fmt::Result {
+        f.write_str("value must be smaller than 2^24")
+    }
+}
+
+impl Error for TooLargeError {}
+
+/// A number of 24 bits and one of 8 in one word, `a * 256 + b`. Both are 0 by default.
+#[derive(Clone, Copy, Debug, Default, PartialEq, Eq, Hash)]
+pub struct U24nU8 {
+    word: u32,
+}
+
+impl U24nU8 {
+    /// The number of 24 bits.
+    #[inline(always)]
+    pub fn a(self) -> U24
+        ensures { result ≡ upper self }
+    {
+        U24 {
+            value: self.word / 256,
+        }
+    }
+
+    /// The number of 8 bits.
+    #[inline(always)]
+    pub fn b(self) -> u8
+        ensures { result ≡ lower self }
+    {
+        (self.word % 256) as u8
+    }
+
+    /// Sets the number of 24 bits, and keeps the other.
+    #[inline(always)]
+    pub fn set_a(&mut self, a: U24)
+        ensures set { upper self.new ≡ a }
+        ensures kept { lower self.new ≡ lower self.old }
+    {
+        self.word = a.get() * 256 + self.word % 256;
+    }
+
+    /// Sets the number of 8 bits, and keeps the other.
+    #[inline(always)]
+    pub fn set_b(&mut self, b: u8)
+        ensures set { lower self.new ≡ b }
+        ensures kept { upper self.new ≡ upper self.old }
+    {
+        self.word = self.word / 256 * 256 + u32::from(b);
+    }
+}
+
+const _: () = prove!(size_of::<U24nU8>() == 4);

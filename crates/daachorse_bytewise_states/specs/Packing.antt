@@ -1,0 +1,33 @@
+-- Elements that hold a trie, as they are written at the places of its states.
+use Rattle.std.specs.Prelude.{◌≡◌, ◌≢◌, ℕ, ◌<◌, ◌/◌, bit_xor, List, length, slice_index, slice_index_or, Some}
+use Rattle.std.specs.Ordering.{nat_cmp}
+use Rattle.daachorse_placement.specs.Layout.{IsLeastUnused, Layout}
+use Rattle.daachorse_build.specs.Tables.{child_in as edge_to}
+use Rattle.daachorse_bytewise_states.specs.declared.state.State.{State}
+use Rattle.daachorse_bytewise_states.specs.Elements.{base_in, check_in, fail_in, output_in, vacant}
+
+-- the element at an index
+abbrev pub element : List (State ℕ) → ℕ → State ℕ
+element es i = slice_index_or es i vacant
+
+-- A vacant element i: its check is what leads to it from an unused base of its block, if there is one, so that it is nobody's child.
+pub record IsVacant (l : Layout) (i : ℕ) (e : State ℕ) : Type 0 where
+  pub base : base_in e ≡ 0
+  pub fail : fail_in e ≡ 0
+  pub output : output_in e ≡ 0
+  pub check : (u : ℕ) → IsLeastUnused l.marks 256 (i / 256) u → check_in e ≡ bit_xor i u
+
+-- The element of the state t of a trie with these edges, links and positions.
+pub record IsElementOf (l : Layout) (edges : List (List (ℕ × ℕ))) (fails positions : List ℕ) (t : ℕ) (e : State ℕ) : Type 0 where
+  pub base : base_in e ≡ slice_index l.bases t
+  pub fail : fail_in e ≡ slice_index l.idx (slice_index fails t)
+  pub output : output_in e ≡ slice_index positions t
+  pub check : (s c : ℕ) → edge_to nat_cmp edges s c ≡ Some t → check_in e ≡ c
+
+-- The elements hold the trie: each state but the dead one stands at its index, and all other elements are vacant.
+pub record HoldStates (l : Layout) (edges : List (List (ℕ × ℕ))) (fails positions : List ℕ) (es : List (State ℕ)) : Type 0 where
+  pub size : length es ≡ length l.used
+  pub states : (t : ℕ) → t < length edges → t ≢ 1 → IsElementOf l edges fails positions t (element es (slice_index l.idx t))
+  -- nothing leads to the root
+  pub root : check_in (element es (slice_index l.idx 0)) ≡ 0
+  pub others : (i : ℕ) → i < length es → ((t : ℕ) → t < length edges → t ≢ 1 → slice_index l.idx t ≢ i) → IsVacant l i (element es i)

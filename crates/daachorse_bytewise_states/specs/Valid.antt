@@ -1,0 +1,65 @@
+-- Which parts are those of an automaton, and what a search sees of them.
+use Rattle.std.specs.Prelude.{◌≡◌, ℕ, ◌<◌, ◌≤◌, ◌%◌, Bool, true, false, List, [], length, slice_index, Option, Some, None}
+use Rattle.std.proofs.Common.{arith, refl}
+use Rattle.daachorse_core.specs.Outputs.{outputs_at, ParentsFall}
+use Rattle.daachorse_model.specs.declared.MatchKind.TheVariants.{Standard}
+use Rattle.daachorse_model.specs.Kinds.{is_leftmost}
+use Rattle.daachorse_model.specs.Units.{byte_width}
+use Rattle.daachorse_machine.specs.Machines.{IsCounted, IsRight, dead_in}
+use Rattle.daachorse_machine.specs.Texts.{IsReached, text_of}
+use Rattle.daachorse_bytewise_states.specs.Parts.{Parts, base_of, child, count, fail_of, machine, output_of}
+
+module _ {V : Type 0} (p : Parts V) where
+  -- which lists are used
+  abbrev pub HasShape : Bool → Type 0
+  HasShape false = (p.leftmost ≡ []) × (p.fails ≡ [])
+  HasShape true = (p.standard ≡ []) × (length p.fails ≡ length p.leftmost)
+
+  -- of an element, reached or not: base and link are elements, and the position is one of an output
+  pub record IsInside (i : ℕ) : Type 0 where
+    pub base : base_of p i < count p
+    pub fail : fail_of p i < count p
+    pub output : output_of p i ≤ length p.outputs
+
+  pub record IsValid : Type 0 where
+    -- whole blocks, at least one
+    pub blocks : count p % 256 ≡ 0
+    pub some : 0 < count p
+    pub shape : HasShape (is_leftmost p.kind)
+    pub inside : (i : ℕ) → i < count p → IsInside i
+    pub parents_fall : ParentsFall p.outputs
+    pub right : IsRight byte_width (machine p) (is_leftmost p.kind)
+    pub counted : IsCounted (machine p) p.num_states
+
+-- an element that there may be, or the root
+abbrev pub or_root : Option ℕ → ℕ
+or_root None = 0
+or_root (Some j) = j
+
+-- what each byte leads to from the root, the root itself where there is nothing
+pub record IsRootTable {V : Type 0} (p : Parts V) (root : List ℕ) : Type 0 where
+  pub size : length root ≡ 256
+  pub right : (c : ℕ) → c < 256 → slice_index root c ≡ or_root (child p 0 c)
+
+-- what an automaton keeps: valid parts, and the table of the root if the searches are standard
+pub record IsStored {V : Type 0} (p : Parts V) (root : List ℕ) : Type 0 where
+  pub valid : IsValid p
+  pub table : p.kind ≡ Standard → IsRootTable p root
+
+-- ---- what a search sees
+module _ {V : Type 0} (p : Parts V) where
+  -- the text of an element
+  abbrev pub text : ℕ → List ℕ
+  text i = text_of (child p) 256 (count p) i
+
+  -- an element that a text leads to
+  abbrev pub IsState : ℕ → Type 0
+  IsState i = IsReached (child p) 256 (count p) i
+
+  -- the texts whose link is dead: none where the searches are standard
+  abbrev pub dead : List ℕ → Type 0
+  dead = dead_in byte_width (machine p) (is_leftmost p.kind)
+
+-- position 0 stands for no output
+pub no_output : {V : Type 0} (p : Parts V) → (0 ≤ length p.outputs) × (outputs_at p.outputs 0 ≡ [])
+no_output p = (omega arith, refl)

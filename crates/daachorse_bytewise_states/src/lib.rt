@@ -1,0 +1,7 @@
+//! The states of the automaton over bytes, in a double array.
+//!
+//! The layers above may rely on [`states::States`] holding just the dictionary that it was built
+//! for, and on what a search sees of it: [`views::Standard`] and [`views::Leftmost`].
+#![tactic(auto)]
+
+pub mod state;

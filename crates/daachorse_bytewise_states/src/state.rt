@@ -1,0 +1,114 @@
+//! One element of the double array.
+//!
+//! The layers above may rely on an element keeping its base, its check, its failure link and the
+//! position of its first output, each on its own.
+
+ghost use Rattle.std.specs.Prelude.{◌≡◌, ◌≤◌, ◌^◌, IfErr, OnOk, OnErr};
+ghost use Rattle.daachorse_core.specs.declared.errors.Limit.TheVariants.{OutputPos};
+ghost use Rattle.daachorse_core.specs.Outputs.{number};
+ghost use Rattle.daachorse_bytewise_states.specs.Elements.{base_in, check_in, fail_in, output_in};
+
+use daachorse_core::errors::{DaachorseError, Limit, Result};
+use daachorse_serializer::intpack::{U24, U24nU8};
+use std::num::NonZeroU32;
+
+/// An element of a double array over bytes. `F` is the type of its failure link: a `u32`, or
+/// `Empty` where the links stand beside the elements.
+///
+/// A new element is vacant: it has no base, no output, check 0 and link 0.
+#[derive(Clone, Copy, Debug, Default, PartialEq, Eq, Hash)]
+pub struct State<F> {
+    // 0 stands for none, since an `Option<NonZeroU32>` would take twice the bytes.
+    base: u32,
+    fail: F,
+    // The output position, 0 for none, and the check.
+    packed: U24nU8,
+}
+
+impl<F: Copy> State<F> {
+    /// What leads, by exclusive or with a byte, to the element of that byte's child.
+    #[inline(always)]
+    pub fn base(&self) -> Option<NonZeroU32>
+        ensures { number result ≡ base_in self.now }
+    {
+        NonZeroU32::new(self.base)
+    }
+
+    /// The byte that leads to this element from its parent.
+    #[inline(always)]
+    pub fn check(&self) -> u8
+        ensures { result ≡ check_in self.now }
+    {
+        self.packed.b()
+    }
+
+    /// The failure link.
+    #[inline(always)]
+    pub fn fail(&self) -> F
+        ensures { result ≡ fail_in self.now }
+    {
+        self.fail
+    }
+
+    /// The position of the first output.
+    #[inline(always)]
+    pub fn output_pos(&self) -> Option<NonZeroU32>
+        ensures { number result ≡ output_in self.now }
+    {
+        NonZeroU32::new(self.packed.a().get())
+    }
+
+    /// Sets the base.
+    #[inline(always)]
+    pub fn set_base(&mut self, base: NonZeroU32)
+        ensures base { base_in self.new ≡ base.value }
+        ensures check { check_in self.new ≡ check_in self.old }
+        ensures fail { fail_in self.new ≡ fail_in self.old }
+        ensures output { output_in self.new ≡ output_in self.old }
+    {
+        self.base = base.get();
+    }
+
+    /// Sets the check.
+    #[inline(always)]
+    pub fn set_check(&mut self, check: u8)
+        ensures check { check_in self.new ≡ check }
+        ensures base { base_in self.new ≡ base_in self.old }
+        ensures fail { fail_in self.new ≡ fail_in self.old }
+        ensures output { output_in self.new ≡ output_in self.old }
+    {
+        self.packed.set_b(check);
+    }
+
+    /// Sets the failure link.
+    #[inline(always)]
+    pub fn set_fail(&mut self, fail: F)
+        ensures fail { fail_in self.new ≡ fail }
+        ensures base { base_in self.new ≡ base_in self.old }
+        ensures check { check_in self.new ≡ check_in self.old }
+        ensures output { output_in self.new ≡ output_in self.old }
+    {
+        self.fail = fail;
+    }
+
+    /// Sets the position of the first output.
+    ///
+    /// # Errors
+    ///
+    /// [`Limit::OutputPos`] where the position is past 16,777,215; nothing is changed then.
+    #[inline(always)]
+    pub fn set_output_pos(&mut self, position: Option<NonZeroU32>) -> Result<()>
+        ensures output { OnOk result (output_in self.new ≡ number position) }
+        ensures base { base_in self.new ≡ base_in self.old }
+        ensures check { check_in self.new ≡ check_in self.old }
+        ensures fail { fail_in self.new ≡ fail_in self.old }
+        ensures same { OnErr result (self.new ≡ self.old) }
+        ensures refused { IfErr result (λ e. (e ≡ DaachorseError.AutomatonScale (record { limit = OutputPos })) × (2 ^ 24 ≤ number position)) }
+    {
+        let Ok(position) = U24::try_from(position.map_or(0, NonZeroU32::get)) else {
+            return Err(DaachorseError::automaton_scale(Limit::OutputPos));
+        };
+        self.packed.set_a(position);
+        Ok(())
+    }
+}

@@ -12,19 +12,19 @@ use Rattle.daachorse_model.proofs.Suffixes.{size-push}
 use Rattle.daachorse_model.proofs.Links.{none_before}
 use Rattle.daachorse_model.proofs.BestLemmas.{IsSteady-nil, Told, Told-IsSteady, IsBestSoFar-keeps, IsBest-new}
 use Rattle.daachorse_search.specs.declared.best.Found.{Found}
-use Rattle.daachorse_search.specs.BestScans.{IsNoShorterThan, IsOutputOf, IsTheBest, IsClear}
+use Rattle.daachorse_search.specs.BestScans.{HasNoLongerKey, IsOutputOf, IsTheBest, IsClear}
 
 nil_of : {A : Type 0} (xs : List A) → ¬ (xs ≢ []) → xs ≡ []
 nil_of [] h = refl
 nil_of (x ∷ xs) h = absurd (h (λ e. cc))
 
 module _ {V : Type 0} (K : Dictionary V) where
-  IsPrefix-short : (t : List ℕ) (m : ℕ) → IsNoShorterThan K m → IsPrefix K t → length t ≤ m
+  IsPrefix-short : (t : List ℕ) (m : ℕ) → HasNoLongerKey K m → IsPrefix K t → length t ≤ m
   IsPrefix-short t m bound (inl e) = omega (arith, ap length e)
   IsPrefix-short t m bound (inr q) = omega (arith, bound (t ++ q.0) q.1, length-append t q.0)
 
   -- what was read ends no further past an occurrence's start than a key is long
-  near_occurrence : (w t : List ℕ) (m : ℕ) → IsNoShorterThan K m → IsSteady K w t → (a k b : List ℕ) → Occurs K w a k b → length w ≤ length a + m
+  near_occurrence : (w t : List ℕ) (m : ℕ) → HasNoLongerKey K m → IsSteady K w t → (a k b : List ℕ) → Occurs K w a k b → length w ≤ length a + m
   near_occurrence w t m bound steady a k b o = omega (arith, none_before K w t steady.none a k b o, IsPrefix-short t m bound steady.long.begins)
 
   -- a step that does not come to the root goes on

@@ -8,8 +8,8 @@ use Rattle.daachorse_search.specs.declared.best.Scanned.{Scanned}
 use Rattle.daachorse_search.specs.declared.best.Scanned.TheVariants.{Best, Clear}
 
 -- no key has more than m units
-abbrev pub IsNoShorterThan : {V : Type 0} → Dictionary V → ℕ → Type 0
-IsNoShorterThan K m = (k : List ℕ) → IsKey K k → length k ≤ m
+abbrev pub HasNoLongerKey : {V : Type 0} → Dictionary V → ℕ → Type 0
+HasNoLongerKey K m = (k : List ℕ) → IsKey K k → length k ≤ m
 
 module _ {V : Type 0} (width : ℕ → ℕ) (K : Dictionary V) (has_output : ℕ → Type 0) (outputs : ℕ → List (V × ℕ)) where
   -- the outputs from the position on begin with the first value of the key
@@ -30,7 +30,7 @@ module _ {V : Type 0} (width : ℕ → ℕ) (K : Dictionary V) (has_output : ℕ
     pub ends : end ≡ size width (front ++ key)
     pub output : IsOutputOf width K has_output outputs position key
     pub most : turns ≤ before + 2 * length text
-    pub near : (m : ℕ) → IsNoShorterThan K m → turns ≤ before + 2 * (length front + m + 1)
+    pub near : (m : ℕ) → HasNoLongerKey K m → turns ≤ before + 2 * (length front + m + 1)
     pub least : before + count_by has_label (front ++ key) ≤ turns
     pub first : before + count_by has_label (take 1 text) ≤ turns
 

@@ -5,7 +5,7 @@ use Rattle.daachorse_model.specs.Units.{size}
 use Rattle.daachorse_model.specs.Dictionary.{Dictionary}
 use Rattle.daachorse_model.specs.Leftmost.{leftmost_from}
 use Rattle.daachorse_model.specs.Best.{IsLeftmost}
-use Rattle.daachorse_search.specs.BestScans.{IsNoShorterThan}
+use Rattle.daachorse_search.specs.BestScans.{HasNoLongerKey}
 
 -- what callers see of a search with an automaton A: the whole haystack, the matches that are left, the units behind the place where the search goes on, the turns taken, and the number of matches given
 pub record LeftmostProgress (V A : Type 0) : Type 0 where
@@ -47,7 +47,7 @@ module _ {V : Type 0} (width : ℕ → ℕ) (K : Dictionary V) where
 
   -- at most two turns a unit passed, and four times the units of the longest key a match
   abbrev pub IsWithin : ℕ → Bool → ℕ → ℕ → Type 0
-  IsWithin passed after turns given = (m : ℕ) → IsNoShorterThan K m → turns + spare m after ≤ 2 * passed + 4 * (m * given)
+  IsWithin passed after turns given = (m : ℕ) → HasNoLongerKey K m → turns + spare m after ≤ 2 * passed + 4 * (m * given)
 
 module _ {V : Type 0} (width : ℕ → ℕ) (K : Dictionary V) (dead : List ℕ → Type 0) (has_label : ℕ → Bool) where
   -- the search goes on where `rest` begins

@@ -18,7 +18,9 @@ use daachorse_core::turns::{Look, Turns};
 use std::num::NonZeroU32;
 
 /// An automaton, as a search sees it: states that are looked at one at a time, and outputs.
-pub trait Automaton<V: Copy> {
+///
+/// A search holds it by value and copies it, so it is a few references to tables and no table.
+pub trait Automaton<V: Copy>: Copy {
     /// The units of patterns and haystacks: bytes or characters.
     type Unit: EdgeLabel;
 
@@ -97,19 +99,19 @@ pub trait Automaton<V: Copy> {
 /// turn.
 #[inline(always)]
 pub fn step<V: Copy, A: Automaton<V>>(
-    automaton: &A,
+    automaton: A,
     state: u32,
     unit: A::Unit,
     turns: &mut Turns,
 ) -> u32
-    requires { A.reached automaton.now state }
-    ensures reached { A.reached automaton.now result }
-    ensures standard { ((w : List ℕ) → ¬ A.dead automaton.now w)
-        → IsLong (A.content automaton.now) (A.text automaton.now state ++ A.Unit.unit unit ∷ []) (A.text automaton.now result) }
-    ensures leftmost { IsLeftmost (A.content automaton.now) (A.dead automaton.now) → (w : List ℕ) → IsSteady (A.content automaton.now) w (A.text automaton.now state)
-        → LeftSteps (A.content automaton.now) w (A.Unit.unit unit) (A.text automaton.now result) }
-    ensures most { turns.new + length (A.text automaton.now result) ≤ turns.old + length (A.text automaton.now state) + 2 }
-    ensures least { turns.old + (if A.has_label automaton.now (A.Unit.unit unit) then 1 else 0) ≤ turns.new }
+    requires { A.reached automaton state }
+    ensures reached { A.reached automaton result }
+    ensures standard { ((w : List ℕ) → ¬ A.dead automaton w)
+        → IsLong (A.content automaton) (A.text automaton state ++ A.Unit.unit unit ∷ []) (A.text automaton result) }
+    ensures leftmost { IsLeftmost (A.content automaton) (A.dead automaton) → (w : List ℕ) → IsSteady (A.content automaton) w (A.text automaton state)
+        → LeftSteps (A.content automaton) w (A.Unit.unit unit) (A.text automaton result) }
+    ensures most { turns.new + length (A.text automaton result) ≤ turns.old + length (A.text automaton state) + 2 }
+    ensures least { turns.old + (if A.has_label automaton (A.Unit.unit unit) then 1 else 0) ≤ turns.new }
 {
     let Some(label) = automaton.label(unit) else {
         return automaton.root();

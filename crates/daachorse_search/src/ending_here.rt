@@ -1,7 +1,7 @@
 //! The matches that end at one place.
 //!
 //! The layers above may rely on the list of the matches that are left, which each call takes the
-//! first off, and on it borrowing the automaton alone.
+//! first off, and on it holding the automaton and no part of the walk that it came from.
 
 ghost use Rattle.std.specs.Prelude.{◌≡◌};
 ghost use Rattle.daachorse_core.specs.Outputs.{number};
@@ -14,14 +14,14 @@ use std::num::NonZeroU32;
 
 /// The matches that end at a place, the longest first.
 #[derive(Drop)]
-pub struct EndingHere<'a, V: Copy, A: Automaton<V>> {
-    automaton: &'a A,
+pub struct EndingHere<V: Copy, A: Automaton<V>> {
+    automaton: A,
     place: usize,
     output: Option<NonZeroU32>,
     of: PhantomData<V>,
 }
 
-impl<'a, V: Copy, A: Automaton<V>> Model for EndingHere<'a, V, A> {
+impl<V: Copy, A: Automaton<V>> Model for EndingHere<V, A> {
     ghost use Rattle.std.specs.Prelude.{List};
     ghost use Rattle.daachorse_core.specs.Outputs.{number};
     ghost use Rattle.daachorse_model.specs.declared.Match.{Match};
@@ -30,18 +30,18 @@ impl<'a, V: Copy, A: Automaton<V>> Model for EndingHere<'a, V, A> {
 
     ghost Value = { List (Match V) };
 
-    ghost view = { λ s. matches_of_outputs s.place (A.outputs s.automaton.now (number s.output)) };
+    ghost view = { λ s. matches_of_outputs s.place (A.outputs s.automaton (number s.output)) };
 
-    ghost invariant = { λ s. MayEndAt (A.has_output s.automaton.now) (A.outputs s.automaton.now) s.place (number s.output) };
+    ghost invariant = { λ s. MayEndAt (A.has_output s.automaton) (A.outputs s.automaton) s.place (number s.output) };
 }
 
-impl<'a, V: Copy, A: Automaton<V>> EndingHere<'a, V, A> {
+impl<V: Copy, A: Automaton<V>> EndingHere<V, A> {
     /// The matches of the outputs from a position on.
     #[inline(always)]
-    pub fn new(automaton: &'a A, place: usize, output: Option<NonZeroU32>) -> Self
-        requires place { A.has_output automaton.now (number output) }
-        requires fits { AllWithin place (A.outputs automaton.now (number output)) }
-        ensures { result ≡ matches_of_outputs place (A.outputs automaton.now (number output)) }
+    pub fn new(automaton: A, place: usize, output: Option<NonZeroU32>) -> Self
+        requires place { A.has_output automaton (number output) }
+        requires fits { AllWithin place (A.outputs automaton (number output)) }
+        ensures { result ≡ matches_of_outputs place (A.outputs automaton (number output)) }
     {
         EndingHere {
             automaton,
@@ -52,7 +52,7 @@ impl<'a, V: Copy, A: Automaton<V>> EndingHere<'a, V, A> {
     }
 }
 
-impl<'a, V: Copy, A: Automaton<V>> Iterator for EndingHere<'a, V, A> {
+impl<V: Copy, A: Automaton<V>> Iterator for EndingHere<V, A> {
     ghost use Rattle.std.specs.Iterator.{YieldsFirst, item_count};
 
     type Item = Match<V>;

@@ -16,14 +16,14 @@ use std::num::NonZeroU32;
 
 /// A walk that begins again at the root behind each match.
 #[derive(Drop)]
-pub struct FindWalk<'a, V: Copy, A: Automaton<V>> {
-    walk: Walk<'a, V, A>,
+pub struct FindWalk<V: Copy, A: Automaton<V>> {
+    walk: Walk<V, A>,
     // The outputs of the empty key, if there is one: it matches at every boundary, so nothing is
     // looked up.
     everywhere: Option<NonZeroU32>,
 }
 
-impl<'a, V: Copy, A: Automaton<V>> Model for FindWalk<'a, V, A> {
+impl<V: Copy, A: Automaton<V>> Model for FindWalk<V, A> {
     ghost use Rattle.daachorse_search.specs.Finds.{IsFinding};
     ghost use Rattle.daachorse_search.specs.Walks.{Walked};
 
@@ -34,14 +34,14 @@ impl<'a, V: Copy, A: Automaton<V>> Model for FindWalk<'a, V, A> {
     ghost invariant = { λ s. IsFinding A.Unit.width (A.content s.walk.automaton) (A.has_output s.walk.automaton) (A.outputs s.walk.automaton) s.walk.seen s.walk.turns s.everywhere };
 }
 
-impl<'a, V: Copy, A: Automaton<V>> FindWalk<'a, V, A> {
+impl<V: Copy, A: Automaton<V>> FindWalk<V, A> {
     ghost use Rattle.daachorse_core.specs.Seen.{unread};
 
     /// A walk that has read nothing.
     #[inline(always)]
-    pub fn new(automaton: &'a A) -> Self
-        requires { (w : List ℕ) → ¬ A.dead automaton.now w }
-        ensures automaton { result.automaton ≡ automaton.now }
+    pub fn new(automaton: A) -> Self
+        requires { (w : List ℕ) → ¬ A.dead automaton w }
+        ensures automaton { result.automaton ≡ automaton }
         ensures seen { result.seen ≡ unread }
         ensures turns { result.turns ≡ 0 }
     {
@@ -51,7 +51,7 @@ impl<'a, V: Copy, A: Automaton<V>> FindWalk<'a, V, A> {
     }
 }
 
-impl<'a, V: Copy, A: Automaton<V>> Stepwise<V> for FindWalk<'a, V, A> {
+impl<V: Copy, A: Automaton<V>> Stepwise<V> for FindWalk<V, A> {
     ghost use Rattle.daachorse_core.specs.Seen.{units};
     ghost use Rattle.daachorse_search.specs.Searches.{standard_found};
     ghost use Rattle.daachorse_search.specs.Stepwise.{AreBoundedSince};
@@ -109,7 +109,7 @@ impl<'a, V: Copy, A: Automaton<V>> Stepwise<V> for FindWalk<'a, V, A> {
     ghost no_output = { λ s. (HasPlace-none A.Unit.width (A.has_output s.automaton) (A.outputs s.automaton) s.seen (A.no_output s.automaton), first_from-none A.Unit.width (A.has_output s.automaton) (A.outputs s.automaton) s.seen (A.no_output s.automaton)) };
 }
 
-impl<'a, V: Copy, A: Automaton<V>> Clone for FindWalk<'a, V, A> {
+impl<V: Copy, A: Automaton<V>> Clone for FindWalk<V, A> {
     ghost is_clone = { λ s t. t ≡ s };
 
     ghost is_infallible = { λ _. Unit {0} };

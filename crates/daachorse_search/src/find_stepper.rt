@@ -18,13 +18,13 @@ use std::num::NonZeroU32;
 
 /// The standard search, one unit at a time.
 #[derive(Drop)]
-pub struct FindStepper<'a, V: Copy, A: Automaton<V>> {
-    walk: FindWalk<'a, V, A>,
+pub struct FindStepper<V: Copy, A: Automaton<V>> {
+    walk: FindWalk<V, A>,
     // The output of the match that ends where the walk stands.
     found: Option<NonZeroU32>,
 }
 
-impl<'a, V: Copy, A: Automaton<V>> Model for FindStepper<'a, V, A> {
+impl<V: Copy, A: Automaton<V>> Model for FindStepper<V, A> {
     ghost use Rattle.daachorse_search.specs.Finds.{HasFound};
     ghost use Rattle.daachorse_core.specs.Seen.{units};
     ghost use Rattle.daachorse_search.specs.Stepwise.{Stepped};
@@ -36,12 +36,12 @@ impl<'a, V: Copy, A: Automaton<V>> Model for FindStepper<'a, V, A> {
     ghost invariant = { λ s. HasFound A.Unit.width A.content A.has_output A.outputs s.walk s.found };
 }
 
-impl<'a, V: Copy, A: Automaton<V>> FindStepper<'a, V, A> {
+impl<V: Copy, A: Automaton<V>> FindStepper<V, A> {
     /// A stepper that has consumed nothing.
     #[inline(always)]
-    pub fn new(automaton: &'a A) -> Self
-        requires { (w : List ℕ) → ¬ A.dead automaton.now w }
-        ensures automaton { result.automaton ≡ automaton.now }
+    pub fn new(automaton: A) -> Self
+        requires { (w : List ℕ) → ¬ A.dead automaton w }
+        ensures automaton { result.automaton ≡ automaton }
         ensures read { result.read ≡ [] }
         ensures turns { result.turns ≡ 0 }
     {
@@ -78,7 +78,7 @@ impl<'a, V: Copy, A: Automaton<V>> FindStepper<'a, V, A> {
     }
 }
 
-impl<'a, V: Copy, A: Automaton<V>> Clone for FindStepper<'a, V, A> {
+impl<V: Copy, A: Automaton<V>> Clone for FindStepper<V, A> {
     ghost is_clone = { λ s t. t ≡ s };
 
     ghost is_infallible = { λ _. Unit {0} };

@@ -10,7 +10,7 @@ ghost use Rattle.std.specs.Prelude.{◌≡◌, ◌+◌, ◌*◌, ◌^◌, ◌<�
 ghost use Rattle.daachorse_model.specs.Units.{size};
 ghost use Rattle.daachorse_model.specs.Best.{IsLeftmost};
 ghost use Rattle.daachorse_model.specs.Leftmost.{leftmost};
-ghost use Rattle.daachorse_search.specs.BestScans.{IsNoShorterThan};
+ghost use Rattle.daachorse_search.specs.BestScans.{HasNoLongerKey};
 ghost use Rattle.daachorse_search.specs.LeftmostSearches.{SkipsUnit};
 
 use crate::automaton::Automaton;
@@ -24,8 +24,8 @@ use std::snapshot::Snapshot;
 
 /// The leftmost matches in a haystack.
 #[derive(Drop)]
-pub struct LeftmostMatches<'a, V: Copy, A: Automaton<V>, H: Reread<A::Unit>> {
-    automaton: &'a A,
+pub struct LeftmostMatches<V: Copy, A: Automaton<V>, H: Reread<A::Unit>> {
+    automaton: A,
     // The whole haystack, for contracts alone.
     whole: Snapshot<H>,
     // The haystack from where the search goes on.
@@ -41,33 +41,33 @@ pub struct LeftmostMatches<'a, V: Copy, A: Automaton<V>, H: Reread<A::Unit>> {
     of: PhantomData<V>,
 }
 
-impl<'a, V: Copy, A: Automaton<V>, H: Reread<A::Unit>> Model for LeftmostMatches<'a, V, A, H> {
+impl<V: Copy, A: Automaton<V>, H: Reread<A::Unit>> Model for LeftmostMatches<V, A, H> {
     ghost use Rattle.daachorse_search.specs.LeftmostSearches.{LeftmostProgress, before_rest, leftmost_left, IsResting};
 
     ghost Value = { LeftmostProgress V A };
 
     ghost view = { λ s. record {
-      automaton = s.automaton.now;
+      automaton = s.automaton;
       haystack = H.rest s.whole.value;
-      left = leftmost_left A.Unit.width (A.content s.automaton.now) s.place (H.rest s.rest) s.after s.done;
+      left = leftmost_left A.Unit.width (A.content s.automaton) s.place (H.rest s.rest) s.after s.done;
       passed = before_rest (H.rest s.whole.value) (H.rest s.rest);
       turns = s.turns;
       given = s.seen.given;
     } };
 
-    ghost invariant = { λ s. IsResting A.Unit.width (A.content s.automaton.now) (A.dead s.automaton.now) (A.has_label s.automaton.now)
+    ghost invariant = { λ s. IsResting A.Unit.width (A.content s.automaton) (A.dead s.automaton) (A.has_label s.automaton)
         (H.rest s.whole.value) (H.rest s.rest) s.place s.after s.done s.turns s.seen.given };
 }
 
-impl<'a, V: Copy, A: Automaton<V>, H: Reread<A::Unit>> LeftmostMatches<'a, V, A, H> {
+impl<V: Copy, A: Automaton<V>, H: Reread<A::Unit>> LeftmostMatches<V, A, H> {
     /// A search from the beginning of the haystack.
     #[inline(always)]
-    pub fn new(automaton: &'a A, haystack: H) -> Self
-        requires kind { IsLeftmost (A.content automaton.now) (A.dead automaton.now) }
+    pub fn new(automaton: A, haystack: H) -> Self
+        requires kind { IsLeftmost (A.content automaton) (A.dead automaton) }
         requires fits { size A.Unit.width (H.rest haystack) < 2 ^ 64 }
-        ensures automaton { result.automaton ≡ automaton.now }
+        ensures automaton { result.automaton ≡ automaton }
         ensures haystack { result.haystack ≡ H.rest haystack }
-        ensures left { result.left ≡ leftmost A.Unit.width (A.content automaton.now) (H.rest haystack) }
+        ensures left { result.left ≡ leftmost A.Unit.width (A.content automaton) (H.rest haystack) }
         ensures passed { result.passed ≡ [] }
         ensures turns { result.turns ≡ 0 }
         ensures given { result.given ≡ 0 }
@@ -89,7 +89,7 @@ impl<'a, V: Copy, A: Automaton<V>, H: Reread<A::Unit>> LeftmostMatches<'a, V, A,
     /// the units of the longest key for each match, and at least the units passed that some key has.
     #[inline(always)]
     pub fn turns_are_bounded(&self)
-        ensures most { (m : ℕ) → IsNoShorterThan (A.content self.now.automaton) m
+        ensures most { (m : ℕ) → HasNoLongerKey (A.content self.now.automaton) m
             → self.now.turns ≤ 2 * length self.now.passed + 4 * (m * self.now.given) }
         ensures least { count_by (A.has_label self.now.automaton) self.now.passed ≤ self.now.turns }
     {
@@ -97,7 +97,7 @@ impl<'a, V: Copy, A: Automaton<V>, H: Reread<A::Unit>> LeftmostMatches<'a, V, A,
     }
 }
 
-impl<'a, V: Copy, A: Automaton<V>, H: Reread<A::Unit>> Iterator for LeftmostMatches<'a, V, A, H> {
+impl<V: Copy, A: Automaton<V>, H: Reread<A::Unit>> Iterator for LeftmostMatches<V, A, H> {
     ghost use Rattle.std.specs.Iterator.{item_count};
     ghost use Rattle.daachorse_search.specs.LeftmostSearches.{GivesLeftmost};
 
@@ -107,6 +107,7 @@ impl<'a, V: Copy, A: Automaton<V>, H: Reread<A::Unit>> Iterator for LeftmostMatc
 
     ghost remaining = { item_count (λ s. s.left) };
 
+    #[inline(always)]
     fn next(&mut self) -> Option<Match<V>> {
         'scans: loop {
             if self.done {

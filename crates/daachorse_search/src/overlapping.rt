@@ -18,11 +18,11 @@ use std::num::NonZeroU32;
 /// A walk that tells all matches that end where it stands: the longest first, equal ones in order
 /// of registration.
 #[derive(Drop)]
-pub struct OverlappingWalk<'a, V: Copy, A: Automaton<V>> {
-    walk: Walk<'a, V, A>,
+pub struct OverlappingWalk<V: Copy, A: Automaton<V>> {
+    walk: Walk<V, A>,
 }
 
-impl<'a, V: Copy, A: Automaton<V>> Model for OverlappingWalk<'a, V, A> {
+impl<V: Copy, A: Automaton<V>> Model for OverlappingWalk<V, A> {
     ghost use Rattle.daachorse_search.specs.Walks.{Walked, IsFresh};
 
     ghost Value = { Walked A };
@@ -32,16 +32,16 @@ impl<'a, V: Copy, A: Automaton<V>> Model for OverlappingWalk<'a, V, A> {
     ghost invariant = { λ s. IsFresh s.walk.seen };
 }
 
-impl<'a, V: Copy, A: Automaton<V>> OverlappingWalk<'a, V, A> {
+impl<V: Copy, A: Automaton<V>> OverlappingWalk<V, A> {
     ghost use Rattle.daachorse_core.specs.Seen.{unread, units};
     ghost use Rattle.daachorse_model.specs.Matches.{matches_after};
     ghost use Rattle.daachorse_model.specs.Units.{size};
 
     /// A walk that has read nothing.
     #[inline(always)]
-    pub fn new(automaton: &'a A) -> Self
-        requires { (w : List ℕ) → ¬ A.dead automaton.now w }
-        ensures automaton { result.automaton ≡ automaton.now }
+    pub fn new(automaton: A) -> Self
+        requires { (w : List ℕ) → ¬ A.dead automaton w }
+        ensures automaton { result.automaton ≡ automaton }
         ensures seen { result.seen ≡ unread }
         ensures turns { result.turns ≡ 0 }
     {
@@ -62,7 +62,7 @@ impl<'a, V: Copy, A: Automaton<V>> OverlappingWalk<'a, V, A> {
 
     /// The matches that end where the walk stands. They stay what they are while it goes on.
     #[inline(always)]
-    pub fn matches(&self) -> EndingHere<'a, V, A>
+    pub fn matches(&self) -> EndingHere<V, A>
         ensures { result ≡ matches_after A.Unit.width (A.content self.now.automaton) (units self.now.seen) }
     {
         EndingHere::new(
@@ -73,7 +73,7 @@ impl<'a, V: Copy, A: Automaton<V>> OverlappingWalk<'a, V, A> {
     }
 }
 
-impl<'a, V: Copy, A: Automaton<V>> Stepwise<V> for OverlappingWalk<'a, V, A> {
+impl<V: Copy, A: Automaton<V>> Stepwise<V> for OverlappingWalk<V, A> {
     ghost use Rattle.daachorse_core.specs.Seen.{units};
     ghost use Rattle.daachorse_search.specs.Searches.{all_found};
     ghost use Rattle.daachorse_search.specs.Stepwise.{AreBounded};
@@ -123,7 +123,7 @@ impl<'a, V: Copy, A: Automaton<V>> Stepwise<V> for OverlappingWalk<'a, V, A> {
     }
 }
 
-impl<'a, V: Copy, A: Automaton<V>> Clone for OverlappingWalk<'a, V, A> {
+impl<V: Copy, A: Automaton<V>> Clone for OverlappingWalk<V, A> {
     ghost is_clone = { λ s t. t ≡ s };
 
     ghost is_infallible = { λ _. Unit {0} };
@@ -139,11 +139,11 @@ impl<'a, V: Copy, A: Automaton<V>> Clone for OverlappingWalk<'a, V, A> {
 /// A walk that tells the longest match that ends where it stands; of equal ones the first that was
 /// registered.
 #[derive(Drop)]
-pub struct NoSuffixWalk<'a, V: Copy, A: Automaton<V>> {
-    all: OverlappingWalk<'a, V, A>,
+pub struct NoSuffixWalk<V: Copy, A: Automaton<V>> {
+    all: OverlappingWalk<V, A>,
 }
 
-impl<'a, V: Copy, A: Automaton<V>> Model for NoSuffixWalk<'a, V, A> {
+impl<V: Copy, A: Automaton<V>> Model for NoSuffixWalk<V, A> {
     ghost use Rattle.daachorse_search.specs.Walks.{Walked};
 
     ghost Value = { Walked A };
@@ -151,14 +151,14 @@ impl<'a, V: Copy, A: Automaton<V>> Model for NoSuffixWalk<'a, V, A> {
     ghost view = { λ s. s.all };
 }
 
-impl<'a, V: Copy, A: Automaton<V>> NoSuffixWalk<'a, V, A> {
+impl<V: Copy, A: Automaton<V>> NoSuffixWalk<V, A> {
     ghost use Rattle.daachorse_core.specs.Seen.{unread};
 
     /// A walk that has read nothing.
     #[inline(always)]
-    pub fn new(automaton: &'a A) -> Self
-        requires { (w : List ℕ) → ¬ A.dead automaton.now w }
-        ensures automaton { result.automaton ≡ automaton.now }
+    pub fn new(automaton: A) -> Self
+        requires { (w : List ℕ) → ¬ A.dead automaton w }
+        ensures automaton { result.automaton ≡ automaton }
         ensures seen { result.seen ≡ unread }
         ensures turns { result.turns ≡ 0 }
     {
@@ -168,7 +168,7 @@ impl<'a, V: Copy, A: Automaton<V>> NoSuffixWalk<'a, V, A> {
     }
 }
 
-impl<'a, V: Copy, A: Automaton<V>> Stepwise<V> for NoSuffixWalk<'a, V, A> {
+impl<V: Copy, A: Automaton<V>> Stepwise<V> for NoSuffixWalk<V, A> {
     ghost use Rattle.daachorse_core.specs.Seen.{units};
     ghost use Rattle.daachorse_search.specs.Searches.{first_found};
     ghost use Rattle.daachorse_search.specs.Stepwise.{AreBounded};

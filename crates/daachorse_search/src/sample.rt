@@ -17,7 +17,7 @@ use std::num::NonZeroU32;
 use std::test::Fail;
 
 /// Its one state is the root.
-#[derive(Drop)]
+#[derive(Clone, Copy)]
 pub struct Everywhere {
     /// The value of the empty key.
     pub value: u32,
@@ -88,13 +88,13 @@ ghost use Rattle.daachorse_search.specs.Sources.{IsReady};
 /// All matches in what a source gives.
 fn collect_from<V: Copy, A: Automaton<V>, S: Iterator<Item = A::Unit>>(
     alloc: Global,
-    automaton: &A,
+    automaton: A,
     source: S,
 ) -> Result<Vec<Match<V>>, AllocError>
-    requires alive { (w : List ℕ) → ¬ A.dead automaton.now w }
+    requires alive { (w : List ℕ) → ¬ A.dead automaton w }
     requires ready { IsReady S.can_next S.next_gives S.remaining A.Unit.unit A.Unit.width source 0 }
     ensures { IfOk result (λ v. (xs : List A.Unit) × Drains S.next_gives source xs
-        × (v.items ≡ overlapping A.Unit.width (A.content automaton.now) (map A.Unit.unit xs))) }
+        × (v.items ≡ overlapping A.Unit.width (A.content automaton) (map A.Unit.unit xs))) }
 {
     Search::new(OverlappingWalk::new(automaton), source).collect(alloc)
 }
@@ -105,7 +105,7 @@ fn gives_a_match_at_each_boundary(rt: HostRuntime) -> Result<(), Fail> {
         value: 7,
         leftmost: false,
     };
-    let mut search = Matches::new(OverlappingWalk::new(&automaton), Bytes::new(b"ab"));
+    let mut search = Matches::new(OverlappingWalk::new(automaton), Bytes::new(b"ab"));
     search.turns_are_bounded();
     assert_eq!(rt; search.next(), Some(at(0)));
     assert_eq!(rt; search.next(), Some(at(1)));
@@ -121,7 +121,7 @@ fn reads_a_source(rt: HostRuntime) -> Result<(), Fail> {
         value: 7,
         leftmost: false,
     };
-    let found = collect_from(rt.alloc(), &automaton, Bytes::new(b"ab"))?;
+    let found = collect_from(rt.alloc(), automaton, Bytes::new(b"ab"))?;
     assert_eq!(rt; found.as_slice(), [at(0), at(1), at(2)].as_slice());
     Ok(())
 }
@@ -133,11 +133,11 @@ fn each_search_gives_the_empty_key_everywhere(rt: HostRuntime) -> Result<(), Fai
         leftmost: false,
     };
     let haystack = Bytes::new(b"ab");
-    let no_suffix = Matches::new(NoSuffixWalk::new(&automaton), haystack);
+    let no_suffix = Matches::new(NoSuffixWalk::new(automaton), haystack);
     let found: Vec<Match<u32>> = no_suffix.collect(rt.alloc())?;
     assert_eq!(rt; found.as_slice(), [at(0), at(1), at(2)].as_slice());
     let haystack = Bytes::new(b"ab");
-    let mut standard = Matches::new(FindWalk::new(&automaton), haystack);
+    let mut standard = Matches::new(FindWalk::new(automaton), haystack);
     standard.turns_are_bounded();
     assert_eq!(rt; standard.next(), Some(at(0)));
     assert_eq!(rt; standard.next(), Some(at(1)));
@@ -152,12 +152,12 @@ fn steps_by_hand(rt: HostRuntime) -> Result<(), Fail> {
         value: 7,
         leftmost: false,
     };
-    let mut stepper = FindStepper::new(&automaton);
+    let mut stepper = FindStepper::new(automaton);
     assert_eq!(rt; stepper.matches(), Some(at(0)));
     stepper.consume(b'a');
     assert_eq!(rt; stepper.clone()?.matches(), Some(at(1)));
     stepper.turns_are_bounded();
-    let mut walk = OverlappingWalk::new(&automaton);
+    let mut walk = OverlappingWalk::new(automaton);
     walk.consume(b'a');
     let mut matches = walk.clone()?.matches();
     assert_eq!(rt; matches.next(), Some(at(1)));
@@ -172,7 +172,7 @@ fn walks_by_hand(rt: HostRuntime) -> Result<(), Fail> {
         leftmost: false,
     };
     assert!(rt; automaton.is_root(automaton.root()));
-    let mut walk = Walk::new(&automaton);
+    let mut walk = Walk::new(automaton);
     walk.consume(b'a');
     walk.restart();
     walk.skip(b'b');
@@ -193,7 +193,7 @@ fn scans_to_the_next_match(rt: HostRuntime) -> Result<(), Fail> {
         value: 7,
         leftmost: false,
     };
-    let mut walk = OverlappingWalk::new(&automaton);
+    let mut walk = OverlappingWalk::new(automaton);
     let mut source = Bytes::new(b"ab");
     let Some(position) = scan(&mut walk, &mut source) else {
         return Ok(());

@@ -21,8 +21,8 @@ use std::num::NonZeroU32;
 
 /// Where a search stands in an automaton with no dead link, and in its haystack.
 #[derive(Drop)]
-pub struct Walk<'a, V: Copy, A: Automaton<V>> {
-    automaton: &'a A,
+pub struct Walk<V: Copy, A: Automaton<V>> {
+    automaton: A,
     state: u32,
     place: usize,
     turns: Turns,
@@ -30,22 +30,22 @@ pub struct Walk<'a, V: Copy, A: Automaton<V>> {
     of: PhantomData<V>,
 }
 
-impl<'a, V: Copy, A: Automaton<V>> Model for Walk<'a, V, A> {
+impl<V: Copy, A: Automaton<V>> Model for Walk<V, A> {
     ghost use Rattle.daachorse_search.specs.Walks.{Walked, IsWalking};
 
     ghost Value = { Walked A };
 
-    ghost view = { λ s. record { automaton = s.automaton.now; seen = s.seen; turns = s.turns } };
+    ghost view = { λ s. record { automaton = s.automaton; seen = s.seen; turns = s.turns } };
 
-    ghost invariant = { λ s. IsWalking A.Unit.width (A.content s.automaton.now) (A.reached s.automaton.now) (A.text s.automaton.now) (A.dead s.automaton.now) (A.has_label s.automaton.now) s.seen s.state s.place s.turns };
+    ghost invariant = { λ s. IsWalking A.Unit.width (A.content s.automaton) (A.reached s.automaton) (A.text s.automaton) (A.dead s.automaton) (A.has_label s.automaton) s.seen s.state s.place s.turns };
 }
 
-impl<'a, V: Copy, A: Automaton<V>> Walk<'a, V, A> {
+impl<V: Copy, A: Automaton<V>> Walk<V, A> {
     /// A walk that stands at the root and has read nothing.
     #[inline(always)]
-    pub fn new(automaton: &'a A) -> Self
-        requires { (w : List ℕ) → ¬ A.dead automaton.now w }
-        ensures automaton { result.automaton ≡ automaton.now }
+    pub fn new(automaton: A) -> Self
+        requires { (w : List ℕ) → ¬ A.dead automaton w }
+        ensures automaton { result.automaton ≡ automaton }
         ensures seen { result.seen ≡ unread }
         ensures turns { result.turns ≡ 0 }
     {
@@ -97,8 +97,8 @@ impl<'a, V: Copy, A: Automaton<V>> Walk<'a, V, A> {
 
     /// The automaton that is walked through.
     #[inline(always)]
-    pub fn automaton(&self) -> &'a A
-        ensures { result.now ≡ self.now.automaton }
+    pub fn automaton(&self) -> A
+        ensures { result ≡ self.now.automaton }
     {
         self.automaton
     }
@@ -149,7 +149,7 @@ impl<'a, V: Copy, A: Automaton<V>> Walk<'a, V, A> {
     }
 }
 
-impl<'a, V: Copy, A: Automaton<V>> Clone for Walk<'a, V, A> {
+impl<V: Copy, A: Automaton<V>> Clone for Walk<V, A> {
     ghost use Rattle.std.specs.Prelude.{◌≡◌};
 
     ghost is_clone = { λ s t. t ≡ s };

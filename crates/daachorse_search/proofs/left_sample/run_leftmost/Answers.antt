@@ -2,7 +2,7 @@ use Rattle.std.proofs.Common.{◌≡◌, ◌+◌, ◌*◌, ◌≤◌, ℕ, List,
 use Rattle.std.specs.Prelude.{count_by}
 use Rattle.daachorse_model.specs.declared.Match.{Match}
 use Rattle.daachorse_model.specs.Leftmost.{leftmost}
-use Rattle.daachorse_search.specs.BestScans.{IsNoShorterThan}
+use Rattle.daachorse_search.specs.BestScans.{HasNoLongerKey}
 use Rattle.daachorse_search.specs.LeftmostSearches.{GivesLeftmost}
 use Rattle.daachorse_search.proofs.left_sample.run_leftmost.Goals as goal
 
@@ -22,11 +22,11 @@ returns-in_default-clause-most g c =
     let A = g.A.Automaton in let was = c.matches.invariant in let after = c.next.new.self in let bounded = c.turns_are_bounded.ensures in let h = g.H.Haystack.rest c.args.haystack in
     let P : Option (Match g.row.V.Denot) → Type 0 = λ o. GivesLeftmost c.matches.search o after in
     let end = subst P c.in_default.is c.next.ensures.steps in
-    let all : ℕ = length (leftmost g.A.Unit.EdgeLabel.width (A.content c.args.automaton.now) h) in
+    let all : ℕ = length (leftmost g.A.Unit.EdgeLabel.width (A.content c.args.automaton) h) in
     let count : after.given ≡ all = omega (arith, was.count, end.2, ap length end.1.0) in
     let passed : length after.passed ≡ length h = ap length (end.3 ∙ (end.0.haystack ∙ was.haystack)) in
     λ m bound.
-    let Q : g.row.A.Denot → Type 0 = λ x. IsNoShorterThan (A.content x) m in
+    let Q : g.row.A.Denot → Type 0 = λ x. HasNoLongerKey (A.content x) m in
     let R : ℕ → Type 0 = λ n. after.turns ≤ 2 * length after.passed + 4 * (m * n) in
     let most : after.turns ≤ 2 * length after.passed + 4 * (m * all) = subst R count (bounded.most m (subst Q (sym (end.0.automaton ∙ was.automaton)) bound)) in
     omega (arith, most, passed)

@@ -6,9 +6,9 @@ abbrev pub invariant-matches : goal.invariant-matches
 invariant-matches g l =
     let h = g.H.Haystack.rest l.fn.haystack in
     record {
-      automaton : l.search.automaton ≡ l.automaton;
+      automaton : l.search.automaton ≡ l.fn.automaton;
       haystack : l.search.haystack ≡ h;
-      count : l.search.given + length l.search.left ≡ length (leftmost g.A.Unit.EdgeLabel.width (g.A.Automaton.content l.automaton) h);
+      count : l.search.given + length l.search.left ≡ length (leftmost g.A.Unit.EdgeLabel.width (g.A.Automaton.content l.fn.automaton) h);
     }
 
 abbrev pub decreases-matches : goal.decreases-matches

@@ -10,25 +10,25 @@ use Rattle.daachorse_search.proofs.leftmost.LeftmostMatchesIterator.next.Goals a
 
 pub scan_best-requires-clause-fits : goal.scan_best-requires-clause-fits
 scan_best-requires-clause-fits g c =
-    let A = g.A.Automaton in let width = g.A.Unit.EdgeLabel.width in let rest = g.H.Haystack.rest in let s = c.scans.self-inside in let a = s.automaton.now in let was = c.scans.invariant in
+    let A = g.A.Automaton in let width = g.A.Unit.EdgeLabel.width in let rest = g.H.Haystack.rest in let s = c.scans.self-inside in let a = s.automaton in let was = c.scans.invariant in
     let K = A.content a in let dead = A.dead a in let has = A.has_label a in let whole = rest s.whole.value in
     omega (arith, was.resting.fits, ap (size width) was.resting.parts, size-append width was.resting.passed (rest s.rest))
 
 pub after-requires : goal.after-requires
 after-requires g c =
-    let A = g.A.Automaton in let width = g.A.Unit.EdgeLabel.width in let rest = g.H.Haystack.rest in let s = c.scans.self-inside in let a = s.automaton.now in let was = c.scans.invariant in
+    let A = g.A.Automaton in let width = g.A.Unit.EdgeLabel.width in let rest = g.H.Haystack.rest in let s = c.scans.self-inside in let a = s.automaton in let was = c.scans.invariant in
     let K = A.content a in let dead = A.dead a in let has = A.has_label a in let whole = rest s.whole.value in
     (rest s.rest, [], sym (append-nil (rest s.rest)), c.in-Clear.ensures.ends)
 
 pub overflow_add-self : goal.overflow_add-self
 overflow_add-self g c =
-    let A = g.A.Automaton in let width = g.A.Unit.EdgeLabel.width in let rest = g.H.Haystack.rest in let s = c.scans.self-inside in let a = s.automaton.now in let was = c.scans.invariant in
+    let A = g.A.Automaton in let width = g.A.Unit.EdgeLabel.width in let rest = g.H.Haystack.rest in let s = c.scans.self-inside in let a = s.automaton in let was = c.scans.invariant in
     let K = A.content a in let dead = A.dead a in let has = A.has_label a in let whole = rest s.whole.value in
     omega (arith, was.resting.here, c.in-Clear.ensures.ends, was.resting.fits, ap (size width) was.resting.parts, size-append width was.resting.passed (rest s.rest))
 
 pub overflow_add-self-inside : goal.overflow_add-self-inside
 overflow_add-self-inside g c =
-    let A = g.A.Automaton in let width = g.A.Unit.EdgeLabel.width in let rest = g.H.Haystack.rest in let s = c.scans.self-inside in let a = s.automaton.now in let was = c.scans.invariant in
+    let A = g.A.Automaton in let width = g.A.Unit.EdgeLabel.width in let rest = g.H.Haystack.rest in let s = c.scans.self-inside in let a = s.automaton in let was = c.scans.invariant in
     let K = A.content a in let dead = A.dead a in let has = A.has_label a in let whole = rest s.whole.value in
     let R : Bool → Type 0 = λ d. IsResting width K dead has whole (rest s.rest) s.place s.after d s.turns s.seen.given in
     let resting : R false = subst R c.if-self.false was.resting in
@@ -36,19 +36,19 @@ overflow_add-self-inside g c =
 
 pub to_match-best-requires : goal.to_match-best-requires
 to_match-best-requires g c =
-    let A = g.A.Automaton in let width = g.A.Unit.EdgeLabel.width in let rest = g.H.Haystack.rest in let s = c.scans.self-inside in let a = s.automaton.now in let was = c.scans.invariant in
+    let A = g.A.Automaton in let width = g.A.Unit.EdgeLabel.width in let rest = g.H.Haystack.rest in let s = c.scans.self-inside in let a = s.automaton in let was = c.scans.invariant in
     let K = A.content a in let dead = A.dead a in let has = A.has_label a in let whole = rest s.whole.value in
     output_fits width K dead has (A.has_output a) (A.outputs a) (rest s.rest) s.place c.in-Best.found.position.value c.in-Best.found.end s.turns c.scan_best.new.turns _ _ _ c.in-Best.ensures c.output-output.ensures.value
 
 pub after-requires-then-length-gt0 : goal.after-requires-then-length-gt0
 after-requires-then-length-gt0 g c =
-    let A = g.A.Automaton in let width = g.A.Unit.EdgeLabel.width in let rest = g.H.Haystack.rest in let s = c.scans.self-inside in let a = s.automaton.now in let was = c.scans.invariant in
+    let A = g.A.Automaton in let width = g.A.Unit.EdgeLabel.width in let rest = g.H.Haystack.rest in let s = c.scans.self-inside in let a = s.automaton in let was = c.scans.invariant in
     let K = A.content a in let dead = A.dead a in let has = A.has_label a in let whole = rest s.whole.value in
     best_ends width K dead has (A.has_output a) (A.outputs a) (rest s.rest) c.in-Best.found.position.value c.in-Best.found.end s.turns c.scan_best.new.turns c.in-Best.ensures
 
 pub invariant_of-self-then-length-gt0 : goal.invariant_of-self-then-length-gt0
 invariant_of-self-then-length-gt0 g c =
-    let A = g.A.Automaton in let width = g.A.Unit.EdgeLabel.width in let rest = g.H.Haystack.rest in let s = c.scans.self-inside in let a = s.automaton.now in let was = c.scans.invariant in
+    let A = g.A.Automaton in let width = g.A.Unit.EdgeLabel.width in let rest = g.H.Haystack.rest in let s = c.scans.self-inside in let a = s.automaton in let was = c.scans.invariant in
     let K = A.content a in let dead = A.dead a in let has = A.has_label a in let whole = rest s.whole.value in
     let R : Bool → Type 0 = λ d. IsResting width K dead has whole (rest s.rest) s.place s.after d s.turns s.seen.given in
     let resting : R false = subst R c.if-self.false was.resting in
@@ -63,7 +63,7 @@ invariant_of-self-then-length-gt0 g c =
 
 pub returns-then-length-gt0-clause-steps : goal.returns-then-length-gt0-clause-steps
 returns-then-length-gt0-clause-steps g c =
-    let A = g.A.Automaton in let width = g.A.Unit.EdgeLabel.width in let rest = g.H.Haystack.rest in let s = c.scans.self-inside in let a = s.automaton.now in let was = c.scans.invariant in
+    let A = g.A.Automaton in let width = g.A.Unit.EdgeLabel.width in let rest = g.H.Haystack.rest in let s = c.scans.self-inside in let a = s.automaton in let was = c.scans.invariant in
     let K = A.content a in let dead = A.dead a in let has = A.has_label a in let whole = rest s.whole.value in
     let R : Bool → Type 0 = λ d. IsResting width K dead has whole (rest s.rest) s.place s.after d s.turns s.seen.given in
     let resting : R false = subst R c.if-self.false was.resting in
@@ -81,7 +81,7 @@ returns-then-length-gt0-clause-steps g c =
 
 pub returns-then-length-gt0-clause-goes : goal.returns-then-length-gt0-clause-goes
 returns-then-length-gt0-clause-goes g c =
-    let A = g.A.Automaton in let width = g.A.Unit.EdgeLabel.width in let rest = g.H.Haystack.rest in let s = c.scans.self-inside in let a = s.automaton.now in let was = c.scans.invariant in
+    let A = g.A.Automaton in let width = g.A.Unit.EdgeLabel.width in let rest = g.H.Haystack.rest in let s = c.scans.self-inside in let a = s.automaton in let was = c.scans.invariant in
     let K = A.content a in let dead = A.dead a in let has = A.has_label a in let whole = rest s.whole.value in
     let R : Bool → Type 0 = λ d. IsResting width K dead has whole (rest s.rest) s.place s.after d s.turns s.seen.given in
     let resting : R false = subst R c.if-self.false was.resting in
@@ -99,7 +99,7 @@ returns-then-length-gt0-clause-goes g c =
 
 pub scans-preserved-in-Clear : goal.scans-preserved-in-Clear
 scans-preserved-in-Clear g c =
-    let A = g.A.Automaton in let width = g.A.Unit.EdgeLabel.width in let rest = g.H.Haystack.rest in let s = c.scans.self-inside in let a = s.automaton.now in let was = c.scans.invariant in
+    let A = g.A.Automaton in let width = g.A.Unit.EdgeLabel.width in let rest = g.H.Haystack.rest in let s = c.scans.self-inside in let a = s.automaton in let was = c.scans.invariant in
     let K = A.content a in let dead = A.dead a in let has = A.has_label a in let whole = rest s.whole.value in
     let R : Bool → Type 0 = λ d. IsResting width K dead has whole (rest s.rest) s.place s.after d s.turns s.seen.given in
     let resting : R false = subst R c.if-self.false was.resting in
@@ -111,13 +111,13 @@ scans-preserved-in-Clear g c =
 
 pub skip_unit-self-inside-requires : goal.skip_unit-self-inside-requires
 skip_unit-self-inside-requires g c =
-    let A = g.A.Automaton in let width = g.A.Unit.EdgeLabel.width in let rest = g.H.Haystack.rest in let s = c.scans.self-inside in let a = s.automaton.now in let was = c.scans.invariant in
+    let A = g.A.Automaton in let width = g.A.Unit.EdgeLabel.width in let rest = g.H.Haystack.rest in let s = c.scans.self-inside in let a = s.automaton in let was = c.scans.invariant in
     let K = A.content a in let dead = A.dead a in let has = A.has_label a in let whole = rest s.whole.value in
     omega (arith, was.resting.here, was.resting.fits, ap (size width) was.resting.parts, size-append width was.resting.passed (rest s.rest))
 
 pub invariant_of-self-then-not-passed_over : goal.invariant_of-self-then-not-passed_over
 invariant_of-self-then-not-passed_over g c =
-    let A = g.A.Automaton in let width = g.A.Unit.EdgeLabel.width in let rest = g.H.Haystack.rest in let s = c.scans.self-inside in let a = s.automaton.now in let was = c.scans.invariant in
+    let A = g.A.Automaton in let width = g.A.Unit.EdgeLabel.width in let rest = g.H.Haystack.rest in let s = c.scans.self-inside in let a = s.automaton in let was = c.scans.invariant in
     let K = A.content a in let dead = A.dead a in let has = A.has_label a in let whole = rest s.whole.value in
     let R : Bool → Type 0 = λ d. IsResting width K dead has whole (rest s.rest) s.place s.after d s.turns s.seen.given in
     let resting : R false = subst R c.if-self.false was.resting in
@@ -132,7 +132,7 @@ invariant_of-self-then-not-passed_over g c =
 
 pub returns-then-not-passed_over-clause-steps : goal.returns-then-not-passed_over-clause-steps
 returns-then-not-passed_over-clause-steps g c =
-    let A = g.A.Automaton in let width = g.A.Unit.EdgeLabel.width in let rest = g.H.Haystack.rest in let s = c.scans.self-inside in let a = s.automaton.now in let was = c.scans.invariant in
+    let A = g.A.Automaton in let width = g.A.Unit.EdgeLabel.width in let rest = g.H.Haystack.rest in let s = c.scans.self-inside in let a = s.automaton in let was = c.scans.invariant in
     let K = A.content a in let dead = A.dead a in let has = A.has_label a in let whole = rest s.whole.value in
     let R : Bool → Type 0 = λ d. IsResting width K dead has whole (rest s.rest) s.place s.after d s.turns s.seen.given in
     let resting : R false = subst R c.if-self.false was.resting in
@@ -150,7 +150,7 @@ returns-then-not-passed_over-clause-steps g c =
 
 pub returns-then-not-passed_over-clause-goes : goal.returns-then-not-passed_over-clause-goes
 returns-then-not-passed_over-clause-goes g c =
-    let A = g.A.Automaton in let width = g.A.Unit.EdgeLabel.width in let rest = g.H.Haystack.rest in let s = c.scans.self-inside in let a = s.automaton.now in let was = c.scans.invariant in
+    let A = g.A.Automaton in let width = g.A.Unit.EdgeLabel.width in let rest = g.H.Haystack.rest in let s = c.scans.self-inside in let a = s.automaton in let was = c.scans.invariant in
     let K = A.content a in let dead = A.dead a in let has = A.has_label a in let whole = rest s.whole.value in
     let R : Bool → Type 0 = λ d. IsResting width K dead has whole (rest s.rest) s.place s.after d s.turns s.seen.given in
     let resting : R false = subst R c.if-self.false was.resting in
@@ -168,7 +168,7 @@ returns-then-not-passed_over-clause-goes g c =
 
 pub scans-preserved : goal.scans-preserved
 scans-preserved g c =
-    let A = g.A.Automaton in let width = g.A.Unit.EdgeLabel.width in let rest = g.H.Haystack.rest in let s = c.scans.self-inside in let a = s.automaton.now in let was = c.scans.invariant in
+    let A = g.A.Automaton in let width = g.A.Unit.EdgeLabel.width in let rest = g.H.Haystack.rest in let s = c.scans.self-inside in let a = s.automaton in let was = c.scans.invariant in
     let K = A.content a in let dead = A.dead a in let has = A.has_label a in let whole = rest s.whole.value in
     let R : Bool → Type 0 = λ d. IsResting width K dead has whole (rest s.rest) s.place s.after d s.turns s.seen.given in
     let resting : R false = subst R c.if-self.false was.resting in

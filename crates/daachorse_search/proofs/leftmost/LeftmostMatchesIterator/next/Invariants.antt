@@ -4,7 +4,7 @@ use Rattle.daachorse_search.proofs.leftmost.LeftmostMatchesIterator.next.Given a
 
 abbrev pub invariant-scans : goal.invariant-scans
 invariant-scans g l =
-    let A = g.A.Automaton in let width = g.A.Unit.EdgeLabel.width in let rest = g.H.Haystack.rest in let s = l.self-inside in let a = s.automaton.now in
+    let A = g.A.Automaton in let width = g.A.Unit.EdgeLabel.width in let rest = g.H.Haystack.rest in let s = l.self-inside in let a = s.automaton in
     record {
       resting : IsResting width (A.content a) (A.dead a) (A.has_label a) (rest s.whole.value) (rest s.rest) s.place s.after s.done s.turns s.seen.given;
       left : leftmost_left width (A.content a) s.place (rest s.rest) s.after s.done ≡ l.fn.self.left;

@@ -9,7 +9,7 @@ use Rattle.daachorse_search.proofs.walk.Walk.outputs.Goals as goal
 -- the state's chain is that of all that was read since the walk last began at the root
 pub returns-clause-outputs : goal.returns-clause-outputs
 returns-clause-outputs g c =
-    let A = g.A.Automaton in let width = g.A.Unit.EdgeLabel.width in let s = c.self.inside in let a = s.automaton.now in let found = c.output_pos in
+    let A = g.A.Automaton in let width = g.A.Unit.EdgeLabel.width in let s = c.self.inside in let a = s.automaton in let found = c.output_pos in
     let P = λ (w : Walked g.row.A.Denot). HasOutputs width (A.content w.automaton) (A.has_output w.automaton) (A.outputs w.automaton) (A.most_outputs w.automaton) w.seen (number found.result) in
     subst P c.self.view_is (record {
       place = found.ensures.place;

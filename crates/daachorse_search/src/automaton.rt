@@ -19,8 +19,8 @@ use std::num::NonZeroU32;
 
 /// An automaton, as a search sees it: states that are looked at one at a time, and outputs.
 ///
-/// A search holds it by value and copies it, so it is a few references to tables and no table.
-pub trait Automaton<V: Copy>: Copy {
+/// A search holds it by value, so it is a few references to tables and no table.
+pub trait Automaton<V: Copy>: Drop {
     /// The units of patterns and haystacks: bytes or characters.
     type Unit: EdgeLabel;
 
@@ -90,6 +90,11 @@ pub trait Automaton<V: Copy>: Copy {
         ensures parent { has_output self.now (parent_of result) }
         ensures value { outputs self.now position.value ≡ (value_of result, length_of result) ∷ outputs self.now (parent_of result) };
 
+    /// The same automaton, for another search beside this one. It borrows its tables, so that no
+    /// memory is taken.
+    fn again(&self) -> Self
+        ensures { result ≡ self.now };
+
     // From position 0 on there is no output.
     ghost no_output: { (a : Self) → has_output a 0 × (outputs a 0 ≡ []) };
 }
@@ -99,19 +104,19 @@ pub trait Automaton<V: Copy>: Copy {
 /// turn.
 #[inline(always)]
 pub fn step<V: Copy, A: Automaton<V>>(
-    automaton: A,
+    automaton: &A,
     state: u32,
     unit: A::Unit,
     turns: &mut Turns,
 ) -> u32
-    requires { A.reached automaton state }
-    ensures reached { A.reached automaton result }
-    ensures standard { ((w : List ℕ) → ¬ A.dead automaton w)
-        → IsLong (A.content automaton) (A.text automaton state ++ A.Unit.unit unit ∷ []) (A.text automaton result) }
-    ensures leftmost { IsLeftmost (A.content automaton) (A.dead automaton) → (w : List ℕ) → IsSteady (A.content automaton) w (A.text automaton state)
-        → LeftSteps (A.content automaton) w (A.Unit.unit unit) (A.text automaton result) }
-    ensures most { turns.new + length (A.text automaton result) ≤ turns.old + length (A.text automaton state) + 2 }
-    ensures least { turns.old + (if A.has_label automaton (A.Unit.unit unit) then 1 else 0) ≤ turns.new }
+    requires { A.reached automaton.now state }
+    ensures reached { A.reached automaton.now result }
+    ensures standard { ((w : List ℕ) → ¬ A.dead automaton.now w)
+        → IsLong (A.content automaton.now) (A.text automaton.now state ++ A.Unit.unit unit ∷ []) (A.text automaton.now result) }
+    ensures leftmost { IsLeftmost (A.content automaton.now) (A.dead automaton.now) → (w : List ℕ) → IsSteady (A.content automaton.now) w (A.text automaton.now state)
+        → LeftSteps (A.content automaton.now) w (A.Unit.unit unit) (A.text automaton.now result) }
+    ensures most { turns.new + length (A.text automaton.now result) ≤ turns.old + length (A.text automaton.now state) + 2 }
+    ensures least { turns.old + (if A.has_label automaton.now (A.Unit.unit unit) then 1 else 0) ≤ turns.new }
 {
     let Some(label) = automaton.label(unit) else {
         return automaton.root();

@@ -37,13 +37,13 @@ pub enum Scanned {
 /// The match with the least start of all in the haystack, and of those the longest.
 #[inline(always)]
 pub fn scan_best<V: Copy, A: Automaton<V>, H: Reread<A::Unit>>(
-    automaton: A,
+    automaton: &A,
     haystack: &H,
     turns: &mut Turns,
 ) -> Scanned
-    requires kind { IsLeftmost (A.content automaton) (A.dead automaton) }
+    requires kind { IsLeftmost (A.content automaton.now) (A.dead automaton.now) }
     requires fits { size A.Unit.width (H.rest haystack.now) < 2 ^ 64 }
-    ensures { IsBestScan A.Unit.width (A.content automaton) (A.has_output automaton) (A.outputs automaton) (A.has_label automaton)
+    ensures { IsBestScan A.Unit.width (A.content automaton.now) (A.has_output automaton.now) (A.outputs automaton.now) (A.has_label automaton.now)
         (H.rest haystack.now) turns.old turns.new result }
 {
     let mut source = haystack.after(0);

@@ -113,7 +113,7 @@ impl<V: Copy, A: Automaton<V>, H: Reread<A::Unit>> Iterator for LeftmostMatches<
             if self.done {
                 return None;
             }
-            match scan_best(self.automaton, &self.rest, &mut self.turns) {
+            match scan_best(&self.automaton, &self.rest, &mut self.turns) {
                 Scanned::Clear(end) => {
                     self.rest = self.rest.after(end);
                     self.place += end;

@@ -77,6 +77,10 @@ impl Automaton<u32> for Everywhere {
         Output::new(self.value, 0, None)
     }
 
+    fn again(&self) -> Self {
+        *self
+    }
+
     ghost no_output = { λ a. no_output_of a.value };
 }
 

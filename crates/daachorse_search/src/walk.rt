@@ -49,9 +49,10 @@ impl<V: Copy, A: Automaton<V>> Walk<V, A> {
         ensures seen { result.seen ≡ unread }
         ensures turns { result.turns ≡ 0 }
     {
+        let state = automaton.root();
         Walk {
             automaton,
-            state: automaton.root(),
+            state,
             place: 0,
             turns: Turns::new(),
             seen: Seen::new(),
@@ -66,7 +67,7 @@ impl<V: Copy, A: Automaton<V>> Walk<V, A> {
         ensures automaton { self.new.automaton ≡ self.old.automaton }
         ensures seen { self.new.seen ≡ read_on self.old.seen (A.Unit.unit unit ∷ []) }
     {
-        self.state = step(self.automaton, self.state, unit, &mut self.turns);
+        self.state = step(&self.automaton, self.state, unit, &mut self.turns);
         self.place += unit.num_bytes();
         self.seen.push(unit.code());
     }
@@ -100,7 +101,7 @@ impl<V: Copy, A: Automaton<V>> Walk<V, A> {
     pub fn automaton(&self) -> A
         ensures { result ≡ self.now.automaton }
     {
-        self.automaton
+        self.automaton.again()
     }
 
     /// The place after the units read, in bytes.
@@ -159,7 +160,7 @@ impl<V: Copy, A: Automaton<V>> Clone for Walk<V, A> {
     #[inline(always)]
     fn clone(&self) -> Result<Self, AllocError> {
         Ok(Walk {
-            automaton: self.automaton,
+            automaton: self.automaton.again(),
             state: self.state,
             place: self.place,
             turns: self.turns.clone()?,

@@ -6,32 +6,32 @@ use Rattle.daachorse_search.proofs.automaton.step.Goals as goal
 -- no key has the unit
 pub returns-in_default-clause-standard : goal.returns-in_default-clause-standard
 returns-in_default-clause-standard g c = λ alive.
-    IsLong-no_label (g.A.Automaton.content c.args.automaton) _ _ _ c.in_default.ensures.1 c.root.ensures.text
+    IsLong-no_label (g.A.Automaton.content c.args.automaton.now) _ _ _ c.in_default.ensures.1 c.root.ensures.text
 
 pub returns-in_default-clause-leftmost : goal.returns-in_default-clause-leftmost
 returns-in_default-clause-leftmost g c =
-    λ kind w h. LeftSteps-foreign (g.A.Automaton.content c.args.automaton) w _ _ _ h c.in_default.ensures.1 c.root.ensures.text
+    λ kind w h. LeftSteps-foreign (g.A.Automaton.content c.args.automaton.now) w _ _ _ h c.in_default.ensures.1 c.root.ensures.text
 
 pub links-init : goal.links-init
 links-init g c =
-    let K = g.A.Automaton.content c.args.automaton in
+    let K = g.A.Automaton.content c.args.automaton.now in
     record { reached = c.requires; candidate = IsCandidate-first K _ _; leftmost = λ kind w h. IsLeftCandidate-first K w _ _ h; counted = omega arith; more = omega arith }
 
 pub returns-in-Next-clause-standard : goal.returns-in-Next-clause-standard
 returns-in-Next-clause-standard g c =
     let looked = c.in-Next.ensures.look _ c.in-Some.ensures in
-    λ alive. IsLong-turn (g.A.Automaton.content c.args.automaton) (g.A.Automaton.dead c.args.automaton) _ _ _ _ c.links.invariant.candidate (alive _) looked.1
+    λ alive. IsLong-turn (g.A.Automaton.content c.args.automaton.now) (g.A.Automaton.dead c.args.automaton.now) _ _ _ _ c.links.invariant.candidate (alive _) looked.1
 
 pub returns-in-Next-clause-leftmost : goal.returns-in-Next-clause-leftmost
 returns-in-Next-clause-leftmost g c =
-    let K = g.A.Automaton.content c.args.automaton in
+    let K = g.A.Automaton.content c.args.automaton.now in
     let looked = c.in-Next.ensures.look _ c.in-Some.ensures in
-    λ kind w h. LeftSteps-turn K (g.A.Automaton.dead c.args.automaton) kind w _ _ _ _ h (c.links.invariant.leftmost kind w h) looked.1
+    λ kind w h. LeftSteps-turn K (g.A.Automaton.dead c.args.automaton.now) kind w _ _ _ _ h (c.links.invariant.leftmost kind w h) looked.1
 
 -- the link is the next candidate
 pub links-preserved : goal.links-preserved
 links-preserved g c =
-    let K = g.A.Automaton.content c.args.automaton in
+    let K = g.A.Automaton.content c.args.automaton.now in
     let looked = c.in-Fail.ensures.look _ c.in-Some.ensures in
     record {
       reached = looked.0;

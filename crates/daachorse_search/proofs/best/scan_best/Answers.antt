@@ -16,7 +16,7 @@ use Rattle.daachorse_search.proofs.best.scan_best.Goals.{in-Some, in_default, in
 -- the scan begins
 pub units-init : goal.units-init
 units-init g c =
-    let A = g.A.Automaton in let a = c.args.automaton in let width = g.A.Unit.EdgeLabel.width in let rest = g.H.Haystack.rest in
+    let A = g.A.Automaton in let a = c.args.automaton.now in let width = g.A.Unit.EdgeLabel.width in let rest = g.H.Haystack.rest in
     let t = A.text a c.root-state.result in
     let P : Option Found → Type 0 = λ o. IsFoundSoFar width (A.content a) (A.has_output a) (A.outputs a) [] o in
     let Q : List ℕ → Type 0 = λ w. IsSteady (A.content a) [] w in
@@ -38,7 +38,7 @@ units-init g c =
 -- the haystack ends
 pub returns-in_default-next : goal.returns-in_default-next
 returns-in_default-next g c =
-    let A = g.A.Automaton in let a = c.args.automaton in let width = g.A.Unit.EdgeLabel.width in let rest = g.H.Haystack.rest in let I = g.H.Iterator in
+    let A = g.A.Automaton in let a = c.args.automaton.now in let width = g.A.Unit.EdgeLabel.width in let rest = g.H.Haystack.rest in let I = g.H.Iterator in
     let text = rest c.args.haystack.now in
     let S = λ (r : Option g.row.A-Unit.Denot). YieldsFirstBy g.A.Unit.EdgeLabel.unit rest c.units.source r c.next.new.self in
     let none : rest c.units.source ≡ [] = (subst S c.in_default-next.is (g.met.H.Haystack.gives c.units.source c.next.result c.next.new.self c.next.ensures.steps)).0 in
@@ -59,7 +59,7 @@ overflow_add-read g c =
 -- the root was come to while a match is pending
 pub returns-in-Some-best-2 : goal.returns-in-Some-best-2
 returns-in-Some-best-2 g c =
-    let A = g.A.Automaton in let a = c.args.automaton in let width = g.A.Unit.EdgeLabel.width in let rest = g.H.Haystack.rest in
+    let A = g.A.Automaton in let a = c.args.automaton.now in let width = g.A.Unit.EdgeLabel.width in let rest = g.H.Haystack.rest in
     let text = rest c.args.haystack.now in let u : ℕ = g.A.Unit.EdgeLabel.unit c.in-Some-next.unit in
     let P : Option Found → Type 0 = λ o. IsScanning width (A.content a) (A.has_output a) (A.outputs a) (A.has_label a) text (rest c.units.source) (A.text a c.units.state) o c.units.read c.args.turns.now c.units.turns in
     let was = subst P c.in-Some-best-2.is c.units.invariant.scanning in
@@ -69,7 +69,7 @@ returns-in-Some-best-2 g c =
 -- one more unit, and nothing occurs so far
 pub units-preserved-in_default-best : goal.units-preserved-in_default-best
 units-preserved-in_default-best g c =
-    let A = g.A.Automaton in let a = c.args.automaton in let width = g.A.Unit.EdgeLabel.width in let rest = g.H.Haystack.rest in
+    let A = g.A.Automaton in let a = c.args.automaton.now in let width = g.A.Unit.EdgeLabel.width in let rest = g.H.Haystack.rest in
     let text = rest c.args.haystack.now in let u : ℕ = g.A.Unit.EdgeLabel.unit c.in-Some-next.unit in let t = A.text a c.step-state.result in
     let was = c.units.invariant.scanning in
     let F : Option Found → Type 0 = λ o. IsFoundSoFar width (A.content a) (A.has_output a) (A.outputs a) was.seen o in
@@ -84,7 +84,7 @@ units-preserved-in_default-best g c =
 -- one more unit, and a match that is better
 pub units-preserved-in-Some-output_pos : goal.units-preserved-in-Some-output_pos
 units-preserved-in-Some-output_pos g c =
-    let A = g.A.Automaton in let a = c.args.automaton in let width = g.A.Unit.EdgeLabel.width in let rest = g.H.Haystack.rest in
+    let A = g.A.Automaton in let a = c.args.automaton.now in let width = g.A.Unit.EdgeLabel.width in let rest = g.H.Haystack.rest in
     let text = rest c.args.haystack.now in let u : ℕ = g.A.Unit.EdgeLabel.unit c.in-Some-next.unit in let t = A.text a c.step-state.result in
     let was = c.units.invariant.scanning in let o = c.in-Some-output_pos.ensures in
     let not_root : t ≢ [] = λ e. let bad = c.if-is_root.ensures.1 e in cc in
@@ -100,7 +100,7 @@ units-preserved-in-Some-output_pos g c =
 -- one more unit with no output
 pub units-preserved : goal.units-preserved
 units-preserved g c =
-    let A = g.A.Automaton in let a = c.args.automaton in let width = g.A.Unit.EdgeLabel.width in let rest = g.H.Haystack.rest in
+    let A = g.A.Automaton in let a = c.args.automaton.now in let width = g.A.Unit.EdgeLabel.width in let rest = g.H.Haystack.rest in
     let text = rest c.args.haystack.now in let u : ℕ = g.A.Unit.EdgeLabel.unit c.in-Some-next.unit in let t = A.text a c.step-state.result in
     let was = c.units.invariant.scanning in let o = c.output_pos-else-is_root.ensures in
     let not_root : t ≢ [] = λ e. let bad = c.if-is_root.ensures.1 e in cc in

@@ -11,6 +11,7 @@ pub mod Keys
 pub mod Empty
 pub mod OutputChains
 pub mod OutputLists
+pub mod Passes
 pub mod Leftmost
 pub mod LeftChains
 pub mod Cleared

@@ -11,7 +11,7 @@ slice_get_left [] ys i h = absurd (omega arith)
 slice_get_left (x ∷ xs) ys zero h = refl
 slice_get_left (x ∷ xs) ys (suc i) h = slice_get_left xs ys i (omega arith)
 
-slice_get_last : {X : Type 0} (xs : List X) (x : X) → slice_get (xs ++ x ∷ []) (length xs) ≡ Some x
+pub slice_get_last : {X : Type 0} (xs : List X) (x : X) → slice_get (xs ++ x ∷ []) (length xs) ≡ Some x
 slice_get_last [] x = refl
 slice_get_last (y ∷ xs) x = slice_get_last xs x
 

@@ -123,7 +123,7 @@ module _ {L V A : Type 0} (cmp : L → L → Ordering) (total : IsTotalOrder cmp
       pub fail_known : IsLinkAmong (take i order) f
       fail_known = let P : ℕ → Type 0 = λ v. IsLinkAmong (take i order) v in subst P (ap (λ v. get_or fails v 0) is ∙ fail) (links.earlier i l)
 
-      known_cases : (u : ℕ) → IsKnown (take (i + 1) order) u → IsKnown (take i order) u ⊎ (t ≡ u)
+      pub known_cases : (u : ℕ) → IsKnown (take (i + 1) order) u → IsKnown (take i order) u ⊎ (t ≡ u)
       known_cases u (inl e) = inl (inl e)
       known_cases u (inr h) =
           elim (in_cases (take i order) (t ∷ []) u (in_same _ _ u (take_more order i 0 l ∙ ap (λ v. take i order ++ v ∷ []) is) h))

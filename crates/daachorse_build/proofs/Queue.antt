@@ -79,6 +79,17 @@ among_more : (m n : ℕ) (xs : List ℕ) (t : ℕ) → m ≤ n → IsLinkAmong (
 among_more m n xs t l (inl h) = inl h
 among_more m n xs t l (inr h) = inr (known_more m n xs t l h)
 
+-- the link of a state among the first n is among them
+pub link_among : (fails order : List ℕ) (n t : ℕ) → n ≤ length order → LeftLinksComeFirst fails order → IsIn (take n order) t → IsLinkAmong (take n order) (get_or fails t 0)
+link_among fails order n t within earlier h =
+    let p = place_of (take n order) t h in
+    let len = length-take-le n order within in
+    let short : p.0 < n = omega (arith, p.1, len) in
+    let low : p.0 < length order = omega (arith, short, within) in
+    let e : get_or order p.0 0 ≡ t = sym (get_or-take n order p.0 0 short) ∙ p.2 in
+    let P : ℕ → Type 0 = λ u. IsLinkAmong (take n order) (get_or fails u 0) in
+    subst P e (among_more p.0 n order _ (omega arith) (earlier p.0 low))
+
 pub known_but_root : (xs : List ℕ) (t : ℕ) → t ≢ 0 → IsKnown xs t → IsIn xs t
 known_but_root xs t ne (inl e) = absurd (ne e)
 known_but_root xs t ne (inr h) = h
@@ -232,14 +243,7 @@ module _ {L : Type 0} (cmp : L → L → Ordering) (total : IsTotalOrder cmp) (e
 
     -- the link of a known state is known
     pub known_link : (fails order pending : List ℕ) (next t : ℕ) → IsSearch cmp stops edges (children edges 0) fails order next pending → IsIn (take next order) t → IsLinkAmong (take next order) (get_or fails t 0)
-    known_link fails order pending next t search h =
-        let p = place_of (take next order) t h in
-        let len = length-take-le next order search.within in
-        let short : p.0 < next = omega (arith, p.1, len) in
-        let low : p.0 < length order = omega (arith, short, search.within) in
-        let e : get_or order p.0 0 ≡ t = sym (get_or-take next order p.0 0 short) ∙ p.2 in
-        let P : ℕ → Type 0 = λ u. IsLinkAmong (take next order) (get_or fails u 0) in
-        subst P e (among_more p.0 next order _ (omega arith) (search.earlier p.0 low))
+    known_link fails order pending next t search h = link_among fails order next t search.within search.earlier h
 
     -- a child of the state that is left, which comes after the children pending, is new
     pub child_is_new : (fails order : List ℕ) (next k : ℕ) (c : L) (t : ℕ) → (s : ℕ) → IsSearch cmp stops edges (children edges 0) fails order next (take k (children edges s)) → next < length order → get_or order next 0 ≡ s → slice_get (get_or edges s []) k ≡ Some (c, t) → IsIn order t → ⊥

@@ -5,7 +5,8 @@
 //! the link of each state is that of the longest proper suffix which is a state's text, after
 //! `build_fails_leftmost` it is dead instead where a key starts before that suffix does, and after
 //! `build_outputs` the list at a state's position has the values of its text and of each of its
-//! suffixes, the longest first, as far as the links go.
+//! suffixes, the longest first, as far as the links go: it is the state's own outputs, and then
+//! goes on at the position of the link.
 
 ghost use Rattle.std.specs.Prelude.{◌≡◌, ◌≢◌, ◌⊎◌, Bool, true, false, Some, ℕ, ◌+◌, ◌<◌, ◌≤◌, ◌++◌, ◌∷◌, [], List, None, length, map, take, slice_index, vec_len, IfOk, IfErr, OnOk};
 ghost use Rattle.daachorse_model.specs.Units.{size};
@@ -23,7 +24,7 @@ ghost use Rattle.daachorse_build.specs.Left.{IsLeftFailOf, LinksLeft, meets_earl
 ghost use Rattle.daachorse_build.specs.Searches.{Searches, LeadsTo, ComesFrom};
 ghost use Rattle.daachorse_build.specs.Growth.{Extends, IsAdded, HasTrieOf, Overflows};
 ghost use Rattle.daachorse_build.specs.Holds.{in_units, HasMorePrefixes};
-ghost use Rattle.daachorse_build.specs.Lists.{PositionsFit, AreListed, IsParent};
+ghost use Rattle.daachorse_build.specs.Lists.{PositionsFit, AreListed, AreChained, IsChainedAt, IsParent, Passes};
 ghost use Rattle.daachorse_build.specs.Builders.{states_of, outputs_of, count_of, kind_of, Registered};
 ghost use Rattle.daachorse_core.specs.Refusals.{IsRefusal, IsOutOfMemory};
 
@@ -269,8 +270,9 @@ impl<L: EdgeLabel, V: Copy, A: Allocator + Copy> NfaBuilder<L, V, A> {
     }
 
     /// Makes the lists of outputs: that of the root is its own outputs, and that of each other
-    /// state is its own, and then the list of its link, unless that is dead. `order` is what
-    /// `build_fails` or `build_fails_leftmost` answered.
+    /// state is its own, and then the list of its link, unless that is dead. So there are no more
+    /// outputs than patterns that are kept. `order` is what `build_fails` or
+    /// `build_fails_leftmost` answered.
     ///
     /// # Errors
     ///
@@ -287,6 +289,9 @@ impl<L: EdgeLabel, V: Copy, A: Allocator + Copy> NfaBuilder<L, V, A> {
         ensures positions { OnOk result ((w : List L) (t : ℕ) → Leads (child_of L.cmp (states_of self.old)) w t → slice_index (positions_of (states_of self.new)) t ≤ length (outputs_of self.new)) }
         ensures lists { OnOk result (HoldLinks L.cmp (states_of self.old) order.now → (rs : List (List L × V)) → Registered L.cmp L.unit L.width self.old rs → (w : List L) (t : ℕ) → Leads (child_of L.cmp (states_of self.old)) w t → outputs_at (outputs_of self.new) (slice_index (positions_of (states_of self.new)) t) ≡ outputs_of_ends L.width (dictionary (kind_of self.old) (in_units L.unit rs)) (map L.unit w)) }
         ensures chains { OnOk result (HoldLeftLinks L.cmp true (states_of self.old) order.now → (rs : List (List L × V)) → Registered L.cmp L.unit L.width self.old rs → (w : List L) (t : ℕ) → Leads (child_of L.cmp (states_of self.old)) w t → IsChain L.width (dictionary (kind_of self.old) (in_units L.unit rs)) (IsDead (dictionary (kind_of self.old) (in_units L.unit rs))) (map L.unit w) (outputs_at (outputs_of self.new) (slice_index (positions_of (states_of self.new)) t))) }
+        ensures follows { OnOk result ((w : List L) (t : ℕ) → Leads (child_of L.cmp (states_of self.old)) w t → IsChainedAt (own_of (states_of self.old)) (fails_of (states_of self.old)) (outputs_of self.new) (positions_of (states_of self.new)) t) }
+        ensures bound { OnOk result (length (outputs_of self.new) ≤ output_count (own_of (states_of self.old))) }
+        ensures kept_bound { OnOk result ((rs : List (List L × V)) → Registered L.cmp L.unit L.width self.old rs → length (outputs_of self.new) ≤ count_of self.old) }
         ensures refused { IfErr result (IsRefusal ⊥ Outputs ((rs : List (List L × V)) → Registered L.cmp L.unit L.width self.old rs → 4294967295 < length (kept (kind_of self.old) (in_units L.unit rs)))) }
     {
         put_lists(&mut self.states, &mut self.outputs, order)
@@ -559,6 +564,7 @@ fn push_chain<V: Copy, A: Allocator>(
     ensures count { OnOk result (vec_len outputs.new ≡ vec_len outputs.old + length own.now) }
     ensures fits { IfOk result (λ position. position ≤ vec_len outputs.new) }
     ensures list { IfOk result (λ position. outputs_at outputs.new.items position ≡ own.now ++ outputs_at outputs.old.items parent) }
+    ensures passes { IfOk result (λ position. Passes outputs.new.items position own.now parent) }
     ensures refused { IfErr result (IsRefusal ⊥ Outputs (4294967295 < vec_len outputs.old + length own.now)) }
 {
     let mut last = parent;
@@ -592,6 +598,7 @@ fn put_list<L: EdgeLabel, V: Copy, A: Allocator>(
     ensures count { OnOk result (vec_len outputs.new ≡ vec_len outputs.old + length (own_at (own_of states.old) id)) }
     ensures fits { OnOk result (slice_index (positions_of states.new) id ≤ vec_len outputs.new) }
     ensures list { OnOk result (outputs_at outputs.new.items (slice_index (positions_of states.new) id) ≡ own_at (own_of states.old) id ++ outputs_at outputs.old.items parent) }
+    ensures passes { OnOk result (Passes outputs.new.items (slice_index (positions_of states.new) id) (own_at (own_of states.old) id) parent) }
     ensures others { OnOk result ((t : ℕ) → t ≢ id → slice_index (positions_of states.new) t ≡ slice_index (positions_of states.old) t) }
     ensures refused { IfErr result (IsRefusal ⊥ Outputs (4294967295 < vec_len outputs.old + length (own_at (own_of states.old) id))) }
 {
@@ -630,6 +637,8 @@ fn put_lists<L: EdgeLabel, V: Copy, A: Allocator>(
     ensures parents { ParentsFall outputs.new.items }
     ensures positions { OnOk result (PositionsFit order.now outputs.new.items (positions_of states.new)) }
     ensures lists { OnOk result ((leftmost : Bool) → HoldLeftLinks L.cmp leftmost states.old order.now → AreListed L.cmp (stops_of leftmost states.old) states.old order.now outputs.new.items (positions_of states.new)) }
+    ensures chained { OnOk result ((leftmost : Bool) → HoldLeftLinks L.cmp leftmost states.old order.now → AreChained (own_of states.old) (fails_of states.old) order.now outputs.new.items (positions_of states.new)) }
+    ensures bound { OnOk result (vec_len outputs.new ≤ output_count (own_of states.old)) }
     ensures refused { IfErr result (IsRefusal ⊥ Outputs (4294967295 < output_count (own_of states.old))) }
 {
     put_list(states, outputs, ROOT_STATE_ID, 0)?;

@@ -3,6 +3,7 @@ use Rattle.std.proofs.Common.{rules, ◌≡◌, ◌<◌, ◌+◌, ◌-◌, [], �
 use Rattle.std.proofs.lemmas.List.{drop_more, length_push}
 use Rattle.daachorse_core.specs.Outputs.{parent_of}
 use Rattle.daachorse_build.proofs.OutputChains.{outputs_at-push, ParentsFall-push}
+use Rattle.daachorse_build.proofs.Passes.{passes_push}
 use Rattle.daachorse_build.proofs.nfa_builder.push_chain.Goals as goal
 
 pub loop-i-preserved : goal.loop-i-preserved
@@ -26,5 +27,6 @@ loop-i-preserved g c =
       parents = rw pushed (ParentsFall-push outputs made c.loop-i.last i.parents parent i.fits);
       fits = omega (arith, ap length pushed, length_push outputs made, count);
       count = omega (arith, ap length pushed, length_push outputs made, i.count, next);
+      passes = rw (pushed, rest) (passes_push outputs made x (drop c.loop-i.i own) c.loop-i.last c.len-last.result c.args.parent c.new-in-loop-i.ensures.value c.new-in-loop-i.ensures.length parent count i.passes);
       list = rw (pushed, rest) (list ∙ ap (λ l. x ∷ l) i.list);
     }

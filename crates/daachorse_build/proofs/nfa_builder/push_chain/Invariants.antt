@@ -2,6 +2,7 @@
 use Rattle.std.proofs.Common.{◌≡◌, ◌≤◌, ◌+◌, List, ◌++◌, length, drop}
 use Rattle.daachorse_core.specs.declared.outputs.Output.{Output}
 use Rattle.daachorse_core.specs.Outputs.{ParentsFall, outputs_at}
+use Rattle.daachorse_build.specs.Lists.{Passes}
 use Rattle.daachorse_build.proofs.nfa_builder.push_chain.Given as goal
 
 -- the outputs from `i` on are in front of the list
@@ -12,6 +13,7 @@ invariant-loop-i g l = record {
   parents : ParentsFall l.outputs.items;
   fits : l.last ≤ length l.outputs.items;
   count : length l.outputs.items + l.i ≡ length l.fn.outputs.items + length l.own;
+  passes : Passes l.outputs.items l.last (drop l.i l.own) l.parent;
   list : outputs_at l.outputs.items l.last ≡ drop l.i l.own ++ outputs_at l.fn.outputs.items l.parent;
 }
 

@@ -1,10 +1,11 @@
 -- One position is written, and nothing else in the states changes.
-use Rattle.std.proofs.Common.{◌≡◌, ◌<◌, ℕ, List, [], ◌++◌, length, get_or, sym, ap, ◌∙◌, arith, get_or-set_same, get_or-set_other}
+use Rattle.std.proofs.Common.{◌≡◌, ◌<◌, ℕ, List, [], ◌++◌, length, get_or, sym, ap, ◌∙◌, subst, arith, get_or-set_same, get_or-set_other}
 use Rattle.std.proofs.lemmas.List.{length-map, get_or-map}
 use Rattle.std.proofs.lemmas.Result.{err_from_is_err_and}
 use Rattle.daachorse_core.specs.Outputs.{outputs_at}
 use Rattle.daachorse_build.specs.declared.nfa_builder.NfaBuilderState.{NfaBuilderState}
 use Rattle.daachorse_build.specs.Tables.{own_at, own_of, positions_of}
+use Rattle.daachorse_build.specs.Lists.{Passes}
 use Rattle.daachorse_build.proofs.States.{position_set}
 use Rattle.daachorse_build.proofs.nfa_builder.put_list.Goals as goal
 
@@ -47,6 +48,17 @@ returns-clause-list g c =
     let here = ap (λ ps. get_or ps c.args.id 0) set' ∙ get_or-set_same (positions_of states) c.args.id c.in_ok-state.field-0 0 count in
     let own = own_here states c.args.id c.index-states-id.result c.deref.result.now c.requires.id c.deref.ensures.value in
     ap (λ q. outputs_at c.push_chain.new.outputs.items q) here ∙ c.in_ok-state.ensures.list ∙ ap (λ os. os ++ outputs_at c.args.outputs.now.items c.args.parent) (sym own)
+
+pub returns-clause-passes : goal.returns-clause-passes
+returns-clause-passes g c =
+    let states = c.args.states.now in
+    let count : c.args.id < length (positions_of states) = omega (arith, c.requires.id, length-map states (λ s. s.output_pos)) in
+    let set' = (position_set states c.args.id c.index-states-id.result _ c.in_ok-state.field-0 c.requires.id c.index-states-id.is (ap (λ (s : NfaBuilderState g.row.L.Denot g.row.V.Denot g.row.A.Denot). record s { output_pos = c.in_ok-state.field-0 }) (sym c.index-states-id.is))).2 in
+    let here = ap (λ ps. get_or ps c.args.id 0) set' ∙ get_or-set_same (positions_of states) c.args.id c.in_ok-state.field-0 0 count in
+    let own = own_here states c.args.id c.index-states-id.result c.deref.result.now c.requires.id c.deref.ensures.value in
+    let P : ℕ → Type 0 = λ p. Passes c.push_chain.new.outputs.items p (own_at (own_of states) c.args.id) c.args.parent in
+    let Q : List (g.row.V.Denot × ℕ) → Type 0 = λ os. Passes c.push_chain.new.outputs.items c.in_ok-state.field-0 os c.args.parent in
+    subst P (sym here) (subst Q (sym own) c.in_ok-state.ensures.passes)
 
 pub returns-clause-others : goal.returns-clause-others
 returns-clause-others g c = λ t ne.

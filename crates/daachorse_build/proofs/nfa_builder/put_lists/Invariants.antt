@@ -4,7 +4,7 @@ use Rattle.daachorse_core.specs.Outputs.{ParentsFall}
 use Rattle.daachorse_build.specs.Tables.{fails_of, own_of, positions_of, output_count, stops_of}
 use Rattle.daachorse_build.specs.Orders.{HoldLeftLinks}
 use Rattle.daachorse_build.specs.Growth.{HasTrieOf}
-use Rattle.daachorse_build.specs.Lists.{AreListed, PositionsFit}
+use Rattle.daachorse_build.specs.Lists.{AreListed, AreChained, PositionsFit}
 use Rattle.daachorse_build.proofs.Cleared.{cleared}
 use Rattle.daachorse_build.proofs.nfa_builder.put_lists.Given as goal
 
@@ -16,5 +16,6 @@ invariant-loop-id g l = record {
   parents : ParentsFall l.outputs.items;
   fits : PositionsFit (take l.id-index l.order) l.outputs.items (positions_of l.states);
   lists : (leftmost : Bool) → HoldLeftLinks g.L.Ord.cmp leftmost l.fn.states l.order → AreListed g.L.Ord.cmp (stops_of leftmost l.fn.states) l.fn.states (take l.id-index l.order) l.outputs.items (positions_of l.states);
+  chained : (leftmost : Bool) → HoldLeftLinks g.L.Ord.cmp leftmost l.fn.states l.order → AreChained (own_of l.fn.states) (fails_of l.fn.states) (take l.id-index l.order) l.outputs.items (positions_of l.states);
   count : length l.outputs.items + output_count (cleared (own_of l.fn.states) (0 ∷ take l.id-index l.order)) ≡ output_count (own_of l.fn.states);
 }

@@ -9,9 +9,9 @@ use Rattle.daachorse_model.specs.Outputs.{IsChain}
 use Rattle.daachorse_model.specs.Prefixes.{IsDead}
 use Rattle.daachorse_model.specs.Dictionary.{dictionary}
 use Rattle.daachorse_build.specs.declared.nfa_builder.NfaBuilderState.{NfaBuilderState}
-use Rattle.daachorse_build.specs.Tables.{edges_of, depths_of, fails_of, positions_of, stops_of, HoldTrie}
-use Rattle.daachorse_build.specs.Orders.{HoldLinks, HoldLeftLinks}
-use Rattle.daachorse_build.specs.Lists.{AreListed}
+use Rattle.daachorse_build.specs.Tables.{edges_of, depths_of, fails_of, own_of, positions_of, output_count, stops_of, HoldTrie}
+use Rattle.daachorse_build.specs.Orders.{IsKnown, HoldLinks, HoldLeftLinks}
+use Rattle.daachorse_build.specs.Lists.{AreListed, AreChained, IsChainedAt}
 use Rattle.daachorse_build.proofs.Labels.{label_exact}
 use Rattle.daachorse_build.proofs.Queue.{left_of_linked}
 use Rattle.daachorse_build.proofs.OutputLists.{known_of_leads, suffix_outputs-held, left_outputs-never}
@@ -83,3 +83,27 @@ returns-clause-chains g c =
     let C : List (g.row.V.Denot × ℕ) → Type 0 = λ l. IsChain g.L.EdgeLabel.width K (IsDead K) (map g.L.EdgeLabel.unit w) l in
     subst C (sym list) (chain-left cmp g.met.L.Ord.total exact g.L.EdgeLabel.unit g.L.EdgeLabel.width c.args.self.now.kind old rs reg.holds w))
     c.put_lists.ensures.lists
+
+pub returns-clause-follows : goal.returns-clause-follows
+returns-clause-follows g c =
+    let old = c.args.self.now.states.items in
+    let new = c.put_lists.new.states in
+    let outputs = c.put_lists.new.outputs.items in
+    let order = c.args.order.now in
+    let cmp = g.L.Ord.cmp in
+    let same_len : length new ≡ c.args.self.now.states.len = omega (arith, c.put_lists.auto.states, c.deref_mut.ensures.len) in
+    let back = take_at new (drop (length new) old) c.args.self.now.states.len same_len in
+    let either = either cmp g.met.L.Ord.total old c.requires.trie order c.requires.links in
+    let P : List (NfaBuilderState g.row.L.Denot g.row.V.Denot g.row.A.Denot) → Type 0 = λ ss. (leftmost : Bool) → HoldLeftLinks cmp leftmost ss order → AreChained (own_of ss) (fails_of ss) order outputs (positions_of new) in
+    let Q : List (NfaBuilderState g.row.L.Denot g.row.V.Denot g.row.A.Denot) → Type 0 = λ ss. (t : ℕ) → IsKnown order t → IsChainedAt (own_of old) (fails_of old) outputs (positions_of ss) t in
+    on_ok_weaker c.put_lists.result
+    (λ chained w t h.
+    let known = known_of_leads cmp g.met.L.Ord.total (label_exact g.L.EdgeLabel.unit cmp g.met.L.EdgeLabel.exact g.met.L.EdgeLabel.by_unit) (stops_of either.0 old) old c.requires.trie order (fails_of old) either.1 w t h in
+    subst Q (sym back) (subst P c.deref_mut.ensures.value chained either.0 either.1) t known)
+    c.put_lists.ensures.chained
+
+pub returns-clause-kept_bound : goal.returns-clause-kept_bound
+returns-clause-kept_bound g c =
+    on_ok_weaker c.put_lists.result
+    (λ bound rs reg. omega (arith, bound, ap (λ ss. output_count (own_of ss)) c.deref_mut.ensures.value, reg.holds.count, reg.count))
+    c.put_lists.ensures.bound

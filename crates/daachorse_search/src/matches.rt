@@ -11,12 +11,14 @@ use crate::haystack::Haystack;
 use crate::search::Search;
 use crate::stepwise::Stepwise;
 use daachorse_core::Match;
-use std::marker::Model;
+use std::marker::{Model, PhantomData};
 
 /// What a search that goes one unit at a time finds in a haystack, in order.
 #[derive(Drop)]
 pub struct Matches<V: Copy, W: Stepwise<V>, H: Haystack<W::Unit>> {
     search: Search<V, W, H>,
+    // Names what the automaton borrows, which no other field's type does.
+    of: PhantomData<W::Automaton>,
 }
 
 impl<V: Copy, W: Stepwise<V>, H: Haystack<W::Unit>> Model for Matches<V, W, H> {
@@ -47,6 +49,7 @@ impl<V: Copy, W: Stepwise<V>, H: Haystack<W::Unit>> Matches<V, W, H> {
     {
         Matches {
             search: Search::new(walk, haystack),
+            of: PhantomData,
         }
     }
 

@@ -1,5 +1,10 @@
 //! A smallest automaton, to run the searches on: its one key is empty.
 
+ghost use Rattle.std.specs.Prelude.{◌≡◌, ◌+◌, ◌<◌, ◌≤◌, ◌^◌, ℕ, List, map, length, IfOk, MatchOption};
+ghost use Rattle.std.specs.Iterator.{Drains};
+ghost use Rattle.daachorse_model.specs.Matches.{overlapping};
+ghost use Rattle.daachorse_search.specs.Sources.{IsReady};
+
 use crate::automaton::Automaton;
 use crate::find::FindWalk;
 use crate::find_stepper::FindStepper;
@@ -17,40 +22,65 @@ use std::num::NonZeroU32;
 use std::test::Fail;
 
 /// Its one state is the root.
-#[derive(Clone, Copy)]
-pub struct Everywhere {
-    /// The value of the empty key.
-    pub value: u32,
+pub struct Everywhere<'a> {
+    /// The values of the empty key.
+    pub values: &'a [u32],
     /// Whether the search is leftmost.
     pub leftmost: bool,
+    ghost fits: { length values.now < 2 ^ 32 },
 }
 
-impl Automaton<u32> for Everywhere {
-    ghost use Rattle.std.specs.Prelude.{◌≡◌, ◌≤◌, ℕ, [], ◌∷◌, false, IsTrue};
+impl<'a> Clone for Everywhere<'a> {
+    ghost is_clone = { λ s t. t ≡ s };
+
+    ghost is_infallible = { λ _. Unit {0} };
+
+    fn clone(&self) -> Result<Self, AllocError> {
+        Ok(*self)
+    }
+}
+
+impl<'a> Copy for Everywhere<'a> {}
+
+impl<'a> Everywhere<'a> {
+    /// The position of the value at an index.
+    fn position(&self, index: usize) -> Option<NonZeroU32>
+        requires { index ≤ length self.now.values.now }
+        ensures { MatchOption result (length self.now.values.now ≤ index) (λ p. (index < length self.now.values.now) × (p.value ≡ index + 1)) }
+    {
+        if index < self.values.len() {
+            return NonZeroU32::new(index as u32 + 1);
+        }
+        None
+    }
+}
+
+impl<'a> Automaton<u32> for Everywhere<'a> {
+    ghost use Rattle.std.specs.Prelude.{◌≡◌, ◌≤◌, ℕ, [], ◌∷◌, false, IsTrue, length};
     ghost use Rattle.daachorse_model.specs.Prefixes.{IsDead};
-    ghost use Rattle.daachorse_search.specs.Everywhere.{no_output_of, only_empty, the_output};
+    ghost use Rattle.daachorse_search.specs.Everywhere.{no_output_of, only_empty, outputs_of};
 
     type Unit = u8;
 
     type Label = u8;
 
-    ghost content = { λ a. only_empty a.value };
+    ghost content = { λ a. only_empty a.values.now };
 
     ghost reached = { λ a state. state ≡ 0 };
 
     ghost text = { λ a state. [] };
 
-    ghost dead = { λ a w. IsTrue a.leftmost × IsDead (only_empty a.value) w };
+    ghost dead = { λ a w. IsTrue a.leftmost × IsDead (only_empty a.values.now) w };
 
     ghost has_label = { λ a unit. false };
 
     ghost labels = { λ a label unit. label ≡ unit };
 
-    ghost has_output = { λ a position. position ≤ 1 };
+    ghost has_output = { λ a position. position ≤ length a.values.now };
 
-    ghost outputs = { λ a position. the_output a.value position };
+    ghost outputs = { λ a position. outputs_of a.values.now position };
 
-    ghost most_outputs = { λ a. 1 };
+    ghost most_outputs = { λ a. length a.values.now };
 
     fn root(&self) -> u32 {
         0
@@ -70,24 +100,20 @@ impl Automaton<u32> for Everywhere {
     }
 
     fn output_pos(&self, _state: u32) -> Option<NonZeroU32> {
-        Some(NonZeroU32::MIN)
+        self.position(0)
     }
 
-    fn output(&self, _position: NonZeroU32) -> Output<u32> {
-        Output::new(self.value, 0, None)
+    fn output(&self, position: NonZeroU32) -> Output<u32> {
+        let next = position.get() as usize;
+        Output::new(self.values[next - 1], 0, self.position(next))
     }
 
     fn again(&self) -> Self {
         *self
     }
 
-    ghost no_output = { λ a. no_output_of a.value };
+    ghost no_output = { λ a. no_output_of a.values.now };
 }
-
-ghost use Rattle.std.specs.Prelude.{◌≡◌, ℕ, List, map, IfOk};
-ghost use Rattle.std.specs.Iterator.{Drains};
-ghost use Rattle.daachorse_model.specs.Matches.{overlapping};
-ghost use Rattle.daachorse_search.specs.Sources.{IsReady};
 
 /// All matches in what a source gives.
 fn collect_from<V: Copy, A: Automaton<V>, S: Iterator<Item = A::Unit>>(
@@ -104,16 +130,17 @@ fn collect_from<V: Copy, A: Automaton<V>, S: Iterator<Item = A::Unit>>(
 }
 
 #[test]
-fn gives_a_match_at_each_boundary(rt: HostRuntime) -> Result<(), Fail> {
+fn gives_the_matches_at_each_boundary(rt: HostRuntime) -> Result<(), Fail> {
     let automaton = Everywhere {
-        value: 7,
+        values: &[7, 8],
         leftmost: false,
     };
-    let mut search = Matches::new(OverlappingWalk::new(automaton), Bytes::new(b"ab"));
+    let mut search = Matches::new(OverlappingWalk::new(automaton), Bytes::new(b"a"));
     search.turns_are_bounded();
-    assert_eq!(rt; search.next(), Some(at(0)));
-    assert_eq!(rt; search.next(), Some(at(1)));
-    assert_eq!(rt; search.next(), Some(at(2)));
+    assert_eq!(rt; search.next(), Some(at(0, 7)));
+    assert_eq!(rt; search.next(), Some(at(0, 8)));
+    assert_eq!(rt; search.next(), Some(at(1, 7)));
+    assert_eq!(rt; search.next(), Some(at(1, 8)));
     assert_eq!(rt; search.next(), None);
     assert_eq!(rt; search.next(), None);
     Ok(())
@@ -122,30 +149,44 @@ fn gives_a_match_at_each_boundary(rt: HostRuntime) -> Result<(), Fail> {
 #[test]
 fn reads_a_source(rt: HostRuntime) -> Result<(), Fail> {
     let automaton = Everywhere {
-        value: 7,
+        values: &[7, 8],
         leftmost: false,
     };
-    let found = collect_from(rt.alloc(), automaton, Bytes::new(b"ab"))?;
-    assert_eq!(rt; found.as_slice(), [at(0), at(1), at(2)].as_slice());
+    let found = collect_from(rt.alloc(), automaton, Bytes::new(b"a"))?;
+    let all = [at(0, 7), at(0, 8), at(1, 7), at(1, 8)];
+    assert_eq!(rt; found.as_slice(), all.as_slice());
     Ok(())
 }
 
 #[test]
-fn each_search_gives_the_empty_key_everywhere(rt: HostRuntime) -> Result<(), Fail> {
+fn gives_the_first_at_each_boundary(rt: HostRuntime) -> Result<(), Fail> {
     let automaton = Everywhere {
-        value: 7,
+        values: &[7, 8],
         leftmost: false,
     };
     let haystack = Bytes::new(b"ab");
     let no_suffix = Matches::new(NoSuffixWalk::new(automaton), haystack);
     let found: Vec<Match<u32>> = no_suffix.collect(rt.alloc())?;
-    assert_eq!(rt; found.as_slice(), [at(0), at(1), at(2)].as_slice());
+    assert_eq!(rt; found.as_slice(), [at(0, 7), at(1, 7), at(2, 7)].as_slice());
     let haystack = Bytes::new(b"ab");
     let mut standard = Matches::new(FindWalk::new(automaton), haystack);
     standard.turns_are_bounded();
-    assert_eq!(rt; standard.next(), Some(at(0)));
-    assert_eq!(rt; standard.next(), Some(at(1)));
-    assert_eq!(rt; standard.next(), Some(at(2)));
+    assert_eq!(rt; standard.next(), Some(at(0, 7)));
+    assert_eq!(rt; standard.next(), Some(at(1, 7)));
+    assert_eq!(rt; standard.next(), Some(at(2, 7)));
+    assert_eq!(rt; standard.next(), None);
+    Ok(())
+}
+
+#[test]
+fn gives_nothing_with_no_key(rt: HostRuntime) -> Result<(), Fail> {
+    let automaton = Everywhere {
+        values: &[],
+        leftmost: false,
+    };
+    let mut search = Matches::new(OverlappingWalk::new(automaton), Bytes::new(b"ab"));
+    assert_eq!(rt; search.next(), None);
+    let mut standard = Matches::new(FindWalk::new(automaton), Bytes::new(b"ab"));
     assert_eq!(rt; standard.next(), None);
     Ok(())
 }
@@ -153,18 +194,19 @@ fn each_search_gives_the_empty_key_everywhere(rt: HostRuntime) -> Result<(), Fai
 #[test]
 fn steps_by_hand(rt: HostRuntime) -> Result<(), Fail> {
     let automaton = Everywhere {
-        value: 7,
+        values: &[7, 8],
         leftmost: false,
     };
     let mut stepper = FindStepper::new(automaton);
-    assert_eq!(rt; stepper.matches(), Some(at(0)));
+    assert_eq!(rt; stepper.matches(), Some(at(0, 7)));
     stepper.consume(b'a');
-    assert_eq!(rt; stepper.clone()?.matches(), Some(at(1)));
+    assert_eq!(rt; stepper.clone()?.matches(), Some(at(1, 7)));
     stepper.turns_are_bounded();
     let mut walk = OverlappingWalk::new(automaton);
     walk.consume(b'a');
     let mut matches = walk.clone()?.matches();
-    assert_eq!(rt; matches.next(), Some(at(1)));
+    assert_eq!(rt; matches.next(), Some(at(1, 7)));
+    assert_eq!(rt; matches.next(), Some(at(1, 8)));
     assert_eq!(rt; matches.next(), None);
     Ok(())
 }
@@ -172,7 +214,7 @@ fn steps_by_hand(rt: HostRuntime) -> Result<(), Fail> {
 #[test]
 fn walks_by_hand(rt: HostRuntime) -> Result<(), Fail> {
     let automaton = Everywhere {
-        value: 7,
+        values: &[7, 8],
         leftmost: false,
     };
     assert!(rt; automaton.is_root(automaton.root()));
@@ -182,11 +224,11 @@ fn walks_by_hand(rt: HostRuntime) -> Result<(), Fail> {
     walk.skip(b'b');
     walk.turns_are_bounded();
     assert_eq!(rt; walk.place(), 2);
-    let Some(position) = walk.outputs() else {
-        return Ok(());
-    };
-    let (found, next) = walk.give(position);
-    assert_eq!(rt; found, at(2));
+    assert_eq!(rt; walk.automaton().values, [7, 8].as_slice());
+    let (found, next) = walk.give(walk.outputs().ok_or("no output")?);
+    assert_eq!(rt; found, at(2, 7));
+    let (found, next) = walk.give(next.ok_or("one output")?);
+    assert_eq!(rt; found, at(2, 8));
     assert!(rt; next.is_none());
     Ok(())
 }
@@ -194,24 +236,22 @@ fn walks_by_hand(rt: HostRuntime) -> Result<(), Fail> {
 #[test]
 fn scans_to_the_next_match(rt: HostRuntime) -> Result<(), Fail> {
     let automaton = Everywhere {
-        value: 7,
+        values: &[7, 8],
         leftmost: false,
     };
     let mut walk = OverlappingWalk::new(automaton);
     let mut source = Bytes::new(b"ab");
-    let Some(position) = scan(&mut walk, &mut source) else {
-        return Ok(());
-    };
-    assert_eq!(rt; walk.give(position).0, at(1));
+    let position = scan(&mut walk, &mut source).ok_or("no match")?;
+    assert_eq!(rt; walk.give(position).0, at(1, 7));
     assert_eq!(rt; source.next(), Some(b'b'));
     Ok(())
 }
 
 /// The match of the empty key at a boundary.
-fn at(place: usize) -> Match<u32> {
+fn at(place: usize, value: u32) -> Match<u32> {
     Match {
         start: place,
         end: place,
-        value: 7,
+        value,
     }
 }

@@ -18,7 +18,8 @@ pub struct Search<V: Copy, W: Stepwise<V>, S: Iterator<Item = W::Unit>> {
     walk: W,
     source: S,
     output: Option<NonZeroU32>,
-    of: PhantomData<V>,
+    // The automaton names what it borrows, which no other field's type does.
+    of: PhantomData<(V, W::Automaton)>,
 }
 
 impl<V: Copy, W: Stepwise<V>, S: Iterator<Item = W::Unit>> Model for Search<V, W, S> {

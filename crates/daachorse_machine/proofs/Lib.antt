@@ -6,3 +6,4 @@ pub mod CopyChains
 pub mod CopyLinks
 pub mod CopyCount
 pub mod CopyLaws
+pub mod Rows

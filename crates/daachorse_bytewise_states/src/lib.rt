@@ -4,4 +4,5 @@
 //! for, and on what a search sees of it: [`views::Standard`] and [`views::Leftmost`].
 #![tactic(auto)]
 
+mod packing;
 pub mod state;

@@ -1,0 +1,212 @@
+-- Labels and elements are written one after another: each write keeps those before it.
+use Rattle.std.proofs.Common.{◌≡◌, ◌≢◌, ℕ, ◌<◌, ◌⊎◌, inl, inr, Bool, true, false, ◌==◌, List, [], ◌∷◌, length, set, Some, refl, sym, ap, ◌∙◌, subst, arith, cond}
+use Rattle.std.specs.Prelude.{slice_index, nat_lt}
+use Rattle.std.specs.declared.cmp.Ordering.TheVariants.{Less, Equal, Greater}
+use Rattle.std.proofs.lemmas.List.{length-set}
+use Rattle.std.proofs.lemmas.Bool.{cond-true, cond-false}
+use Rattle.std.proofs.lemmas.List.{get_or-set_same, get_or-set_other}
+use Rattle.std.proofs.lemmas.Map.Keys.{sorted_head, sorted_tail}
+use Rattle.std.specs.List.{AllByRecursion}
+use Rattle.std.proofs.lemmas.Option.{same_Some}
+use Rattle.std.specs.Ordering.{nat_cmp, is_eq}
+use Rattle.std.specs.Map.{keys_of}
+use Rattle.std.specs.Prelude.{slice_index_or}
+use Rattle.daachorse_bytewise_states.specs.declared.state.State.{State}
+use Rattle.daachorse_bytewise_states.specs.Elements.{base_in, check_in, fail_in, output_in, vacant}
+use Rattle.daachorse_bytewise_states.specs.Packing.{ArePlaces, HasPlaced, element}
+use Rattle.std.proofs.lemmas.List.{get_or-map}
+use Rattle.std.proofs.Common.{◌+◌}
+use Rattle.daachorse_build.specs.declared.nfa_builder.NfaBuilderState.{NfaBuilderState}
+use Rattle.daachorse_build.specs.Tables.{IsTable, child_in, edge_map, edges_of, fails_of, link_of, position_of, positions_of}
+use Rattle.daachorse_build.specs.EdgeMaps.{id_at, IsOrdered}
+
+-- the labels of the edges that are passed are set; `rest` are the edges to come
+pub record IsLabelling (edges rest : List (ℕ × ℕ)) (old new : List ℕ) : Type 0 where
+  pub size : length new ≡ length old
+  pub ordered : IsOrdered nat_cmp rest
+  pub still : (c t : ℕ) → id_at nat_cmp rest c ≡ Some t → id_at nat_cmp edges c ≡ Some t
+  pub done : (c t : ℕ) → id_at nat_cmp edges c ≡ Some t → (id_at nat_cmp rest c ≡ Some t) ⊎ (slice_index new t ≡ c)
+  pub kept : (t : ℕ) → ((c : ℕ) → id_at nat_cmp edges c ≢ Some t) → slice_index new t ≡ slice_index old t
+
+pub labelling_none : (edges : List (ℕ × ℕ)) (old : List ℕ) → IsOrdered nat_cmp edges → IsLabelling edges edges old old
+labelling_none edges old ordered = record {
+  size = refl;
+  ordered = ordered;
+  still = λ c t e. e;
+  done = λ c t e. inl e;
+  kept = λ t none. refl;
+}
+
+same-label : (c d : ℕ) → is_eq (nat_cmp c d) ≡ true → c ≡ d
+same-label c d = go (nat_lt c d) (c == d) refl
+  where
+    go : (a b : Bool) → (c == d) ≡ b → is_eq (cond a Less (cond b Equal Greater)) ≡ true → c ≡ d
+    go true b is e = absurd (cc)
+    go false true is e = grind (arith, is)
+    go false false is e = absurd (cc)
+
+at-label : (c : ℕ) → is_eq (nat_cmp c c) ≡ true
+at-label c =
+    let low : nat_lt c c ≡ false = grind arith in
+    let same : (c == c) ≡ true = grind arith in
+    ap (λ a. is_eq (cond a Less (cond (c == c) Equal Greater))) low ∙ ap (λ b. is_eq (cond b Equal Greater)) same
+
+-- an edge is the first, or one of the others
+first_or_later : (c d t s : ℕ) (rest : List (ℕ × ℕ)) → id_at nat_cmp ((d, s) ∷ rest) c ≡ Some t → ((c ≡ d) × (s ≡ t)) ⊎ (id_at nat_cmp rest c ≡ Some t)
+first_or_later c d t s rest e = go (is_eq (nat_cmp c d)) refl e
+  where
+    go : (b : Bool) → is_eq (nat_cmp c d) ≡ b → cond b (Some s) (id_at nat_cmp rest c) ≡ Some t → ((c ≡ d) × (s ≡ t)) ⊎ (id_at nat_cmp rest c ≡ Some t)
+    go true is e = inl (same-label c d is, same_Some s t e)
+    go false is e = inr e
+
+-- the first edge is found at its label
+at_first : (c t : ℕ) (rest : List (ℕ × ℕ)) → id_at nat_cmp ((c, t) ∷ rest) c ≡ Some t
+at_first c t rest = cond-true _ _ _ (at-label c)
+
+-- no edge behind the first has its label
+absent_in : (d t : ℕ) (rest : List (ℕ × ℕ)) → AllByRecursion (λ y. nat_cmp d y ≡ Less) (keys_of rest) → id_at nat_cmp rest d ≢ Some t
+absent_in d t [] above e = absurd (cc)
+absent_in d t ((c, s) ∷ rest) above e =
+    absent_in d t rest above.1 (sym (cond-false _ _ _ (ap is_eq above.0)) ∙ e)
+
+absent : (d s : ℕ) (rest : List (ℕ × ℕ)) → IsOrdered nat_cmp ((d, s) ∷ rest) → (t : ℕ) → id_at nat_cmp rest d ≢ Some t
+absent d s rest ordered t = absent_in d t rest (sorted_head nat_cmp d (keys_of rest) ordered)
+
+-- a later edge is found behind the first, whose label is below its own
+behind : (c d t s : ℕ) (rest : List (ℕ × ℕ)) → IsOrdered nat_cmp ((d, s) ∷ rest) → id_at nat_cmp rest c ≡ Some t → id_at nat_cmp ((d, s) ∷ rest) c ≡ Some t
+behind c d t s rest ordered e = go (is_eq (nat_cmp c d)) refl
+  where
+    go : (b : Bool) → is_eq (nat_cmp c d) ≡ b → cond (is_eq (nat_cmp c d)) (Some s) (id_at nat_cmp rest c) ≡ Some t
+    go false is = cond-false _ _ _ is ∙ e
+    go true is = absurd (absent d s rest ordered t (let P : ℕ → Type 0 = λ x. id_at nat_cmp rest x ≡ Some t in subst P (same-label c d is) e))
+
+module _ (edges : List (ℕ × ℕ)) (c t : ℕ) (rest : List (ℕ × ℕ)) (old new : List ℕ) (was : IsLabelling edges ((c, t) ∷ rest) old new)
+    (apart : (c d t : ℕ) → id_at nat_cmp edges c ≡ Some t → id_at nat_cmp edges d ≡ Some t → c ≡ d) where
+  first : id_at nat_cmp edges c ≡ Some t
+  first = was.still c t (at_first c t rest)
+
+  pub first_inside : ((c t : ℕ) → id_at nat_cmp edges c ≡ Some t → t < length old) → t < length new
+  first_inside fits = omega (arith, fits c t first, was.size)
+
+  pub labelling_more : t < length new → IsLabelling edges rest old (set new t c)
+  labelling_more inside = record {
+    size = length-set new t c ∙ was.size;
+    ordered = sorted_tail nat_cmp c (keys_of rest) was.ordered;
+    still = λ d s e. was.still d s (behind d c s t rest was.ordered e);
+    done = λ d s e. elim (was.done d s e) [
+      | inl found ↦ elim (first_or_later d c s t rest found) [
+        | inl here ↦ inr (ap (λ k. slice_index (set new t c) k) (sym here.1) ∙ get_or-set_same new t c 0 inside ∙ sym here.0)
+        | inr later ↦ inl later
+      ]
+      | inr set_before ↦ inr (put inside d s e set_before (nat_or d c))
+    ];
+    kept = λ s none. get_or-set_other new t s c 0 (λ same. none c (first ∙ ap (λ k. Some k) (sym same))) ∙ was.kept s none;
+  }
+    where
+      nat_or : (d e : ℕ) → (d ≡ e) ⊎ (d ≢ e)
+      nat_or d e = grind arith
+      put : t < length new → (d s : ℕ) → id_at nat_cmp edges d ≡ Some s → slice_index new s ≡ d → (d ≡ c) ⊎ (d ≢ c) → slice_index (set new t c) s ≡ d
+      put inside d s e is (inl same) = let one : t ≡ s = same_Some t s (sym first ∙ (ap (λ k. id_at nat_cmp edges k) (sym same) ∙ e)) in ap (λ k. slice_index (set new t c) k) (sym one) ∙ get_or-set_same new t c 0 inside ∙ sym same
+      put inside d s e is (inr other) = get_or-set_other new t s c 0 (λ same. other (apart d c t (e ∙ ap (λ k. Some k) same) first)) ∙ is
+
+-- all edges are passed
+pub labelling_all : (edges : List (ℕ × ℕ)) (old new : List ℕ) → IsLabelling edges [] old new → (c t : ℕ) → id_at nat_cmp edges c ≡ Some t → slice_index new t ≡ c
+labelling_all edges old new was c t e = elim (was.done c t e) [
+  | inl none ↦ absurd (cc)
+  | inr set_to ↦ set_to
+]
+
+-- ---- what is read of the states of a builder
+
+module _ {V A : Type 0} (states : List (NfaBuilderState ℕ V A)) (i : ℕ) (s : NfaBuilderState ℕ V A) (inside : i < length states) (is : s ≡ slice_index_or states i s) where
+  pub edges_at : slice_index_or (edges_of states) i [] ≡ edge_map s
+  edges_at = get_or-map edge_map states i s [] inside ∙ ap edge_map (sym is)
+
+  pub link_at : slice_index (fails_of states) i ≡ link_of s
+  link_at = get_or-map link_of states i s 0 inside ∙ ap link_of (sym is)
+
+  pub position_at : slice_index (positions_of states) i ≡ position_of s
+  position_at = get_or-map position_of states i s 0 inside ∙ ap position_of (sym is)
+
+-- ---- the labels of the children of one state more
+
+module _ (edges : List (List (ℕ × ℕ))) (depths : List ℕ) (table : IsTable nat_cmp edges depths) (m : ℕ) where
+  pub inside-all : (c t : ℕ) → child_in nat_cmp edges m c ≡ Some t → t < length edges
+  inside-all c t e = (table.trie.bounds m c t e).3
+
+  pub apart-all : (c d t : ℕ) → child_in nat_cmp edges m c ≡ Some t → child_in nat_cmp edges m d ≡ Some t → c ≡ d
+  apart-all c d t e f = (table.trie.one_parent m c m d t e f).1
+
+module _ (edges : List (List (ℕ × ℕ))) (depths : List ℕ) (table : IsTable nat_cmp edges depths) (m : ℕ) (old new : List ℕ)
+    (set_to : (c t : ℕ) → child_in nat_cmp edges m c ≡ Some t → slice_index new t ≡ c)
+    (kept : (t : ℕ) → ((c : ℕ) → child_in nat_cmp edges m c ≢ Some t) → slice_index new t ≡ slice_index old t) where
+  pub root-kept : slice_index old 0 ≡ 0 → slice_index new 0 ≡ 0
+  root-kept root = kept 0 (λ c e. let high : 1 < 0 = (table.trie.bounds m c 0 e).2 in omega (arith, high)) ∙ root
+
+  pub children-more : ((s c t : ℕ) → s < m → child_in nat_cmp edges s c ≡ Some t → slice_index old t ≡ c)
+      → (s c t : ℕ) → s < m + 1 → child_in nat_cmp edges s c ≡ Some t → slice_index new t ≡ c
+  children-more was s c t less e = here (before_or_at s m less)
+    where
+      before_or_at : (s m : ℕ) → s < m + 1 → (s < m) ⊎ (s ≡ m)
+      before_or_at s m less = grind arith
+      here : (s < m) ⊎ (s ≡ m) → slice_index new t ≡ c
+      here (inl before) = kept t (λ d f. let one : s ≡ m = (table.trie.one_parent s c m d t e f).0 in omega (arith, before, one)) ∙ was s c t before e
+      here (inr same) = set_to c t (ap (λ k. child_in nat_cmp edges k c) (sym same) ∙ e)
+
+-- ---- one state more is written
+
+module _ (m n elements : ℕ) (idx bases labels fails positions : List ℕ) (old new : List (State ℕ)) (places : ArePlaces idx n elements)
+    (was : HasPlaced m idx bases labels fails positions old new) where
+  before_or_at : (t : ℕ) → t < m + 1 → (t < m) ⊎ (t ≡ m)
+  before_or_at t less = grind arith
+
+  -- the dead state is passed over
+  pub placed_dead : m ≡ 1 → HasPlaced (m + 1) idx bases labels fails positions old new
+  placed_dead dead = record {
+    size = was.size;
+    base = λ t less alive. was.base t (before t less alive) alive;
+    check = λ t less alive. was.check t (before t less alive) alive;
+    fail = λ t less alive. was.fail t (before t less alive) alive;
+    output = λ t less alive. was.output t (before t less alive) alive;
+    others = λ i none. was.others i (λ t less alive. none t (omega (arith, less)) alive);
+  }
+    where
+      before : (t : ℕ) → t < m + 1 → t ≢ 1 → t < m
+      before t less alive = omega (arith, less, alive, dead)
+
+  module _ (e : State ℕ) (inside : m < n) (fits : slice_index idx m < length new) (here : m ≢ 1) where
+    -- what f tells of the element of a state so far, it tells of it now
+    at_place : (f : State ℕ → ℕ) (x : ℕ → ℕ) → ((t : ℕ) → t < m → t ≢ 1 → f (element new (slice_index idx t)) ≡ x t) → f e ≡ x m
+        → (t : ℕ) → t < m + 1 → t ≢ 1 → f (element (set new (slice_index idx m) e) (slice_index idx t)) ≡ x t
+    at_place f x so_far is t less alive = elim (before_or_at t less) [
+      | inl before ↦
+          let other : slice_index idx t ≢ slice_index idx m = λ same. (let one : t ≡ m = places.apart t m (omega (arith, before, inside)) inside alive here same in omega (arith, before, one)) in
+          ap f (get_or-set_other new (slice_index idx m) (slice_index idx t) e vacant other) ∙ so_far t before alive
+      | inr same ↦
+          let P : ℕ → Type 0 = λ k. f (element (set new (slice_index idx m) e) (slice_index idx k)) ≡ x k in
+          subst P (sym same) (ap f (get_or-set_same new (slice_index idx m) e vacant fits) ∙ is)
+    ]
+
+    pub placed_more : base_in e ≡ slice_index bases m → check_in e ≡ slice_index labels m → fail_in e ≡ slice_index idx (slice_index fails m) → output_in e ≡ slice_index positions m
+        → HasPlaced (m + 1) idx bases labels fails positions old (set new (slice_index idx m) e)
+    placed_more base check fail output = record {
+      size = length-set new (slice_index idx m) e ∙ was.size;
+      base = at_place base_in (slice_index bases) was.base base;
+      check = at_place check_in (slice_index labels) was.check check;
+      fail = at_place fail_in (λ t. slice_index idx (slice_index fails t)) was.fail fail;
+      output = at_place output_in (slice_index positions) was.output output;
+      others = λ i none.
+          get_or-set_other new (slice_index idx m) i e vacant (λ same. none m (omega arith) here (sym same))
+          ∙ was.others i (λ t less alive. none t (omega (arith, less)) alive);
+    }
+
+-- before the first state nothing is written
+pub placed_none : (idx bases labels fails positions : List ℕ) (es : List (State ℕ)) → HasPlaced 0 idx bases labels fails positions es es
+placed_none idx bases labels fails positions es = record {
+  size = refl;
+  base = λ t less. absurd (omega (arith, less));
+  check = λ t less. absurd (omega (arith, less));
+  fail = λ t less. absurd (omega (arith, less));
+  output = λ t less. absurd (omega (arith, less));
+  others = λ i none. refl;
+}

@@ -1,0 +1,148 @@
+//! A trie written into the elements of a double array.
+//!
+//! The layers above may rely on each state standing at the index that the placement gave it, with
+//! its base, its link and its outputs, and on no vacant element being anybody's child.
+
+ghost use Rattle.std.specs.Prelude.{◌≡◌, ◌≢◌, ◌+◌, ◌<◌, ◌≤◌, ◌^◌, ◌*◌, ℕ, length, slice_index, IfOk, IfErr, OnOk, Some};
+ghost use Rattle.std.specs.Ordering.{nat_cmp};
+ghost use Rattle.daachorse_core.specs.Outputs.{number};
+ghost use Rattle.daachorse_core.specs.Refusals.{IsOutOfMemory};
+ghost use Rattle.daachorse_build.specs.EdgeMaps.{id_at};
+ghost use Rattle.daachorse_build.specs.Tables.{HoldTrie, edges_of, fails_of, positions_of};
+ghost use Rattle.daachorse_bytewise_states.specs.Elements.{base_in, check_in, fail_in, output_in};
+ghost use Rattle.daachorse_bytewise_states.specs.Packing.{AreLabelled, ArePlaces, AreVacant, HasPlaced, HasVacants};
+
+use crate::state::State;
+use daachorse_build::edge_map::EdgeMap;
+use daachorse_build::nfa_builder::NfaBuilderState;
+use daachorse_core::DEAD_STATE_IDX;
+use daachorse_core::errors::Result;
+use daachorse_placement::build_helper::BuildHelper;
+use std::alloc::Allocator;
+use std::num::NonZeroU32;
+
+/// The length of a block: each byte leads to an element of the parent's block.
+pub(crate) const BLOCK_LEN: u32 = 256;
+
+/// By state the byte that leads to it, 0 for the root.
+fn labels<V: Copy, A: Allocator + Copy>(
+    alloc: A,
+    states: &[NfaBuilderState<u8, V, A>],
+) -> Result<Vec<u8, A>>
+    requires { HoldTrie nat_cmp states.now }
+    ensures ok { IfOk result (λ labels. AreLabelled (edges_of states.now) labels.items) }
+    ensures err { IfErr result IsOutOfMemory }
+{
+    let mut labels = vec![in alloc; 0u8; states.len()]?;
+    label_states(&mut labels, states);
+    Ok(labels)
+}
+
+/// Sets the label of each state.
+fn label_states<V: Copy, A: Allocator>(labels: &mut [u8], states: &[NfaBuilderState<u8, V, A>])
+    requires trie { HoldTrie nat_cmp states.now }
+    requires size { length labels.old ≡ length states.now }
+    requires root { slice_index labels.old 0 ≡ 0 }
+    ensures { AreLabelled (edges_of states.now) labels.new }
+{
+    for state in states {
+        label_children(labels, state.edges());
+    }
+}
+
+/// Sets the labels of the children that these edges lead to.
+fn label_children<A: Allocator>(labels: &mut [u8], edges: &EdgeMap<u8, A>)
+    requires inside { (c t : ℕ) → id_at nat_cmp edges.now c ≡ Some t → t < length labels.old }
+    requires apart { (c d t : ℕ) → id_at nat_cmp edges.now c ≡ Some t → id_at nat_cmp edges.now d ≡ Some t → c ≡ d }
+    ensures size { length labels.new ≡ length labels.old }
+    ensures set { (c t : ℕ) → id_at nat_cmp edges.now c ≡ Some t → slice_index labels.new t ≡ c }
+    ensures kept { (t : ℕ) → ((c : ℕ) → id_at nat_cmp edges.now c ≢ Some t) → slice_index labels.new t ≡ slice_index labels.old t }
+{
+    for (label, child) in edges.iter() {
+        labels[*child as usize] = *label;
+    }
+}
+
+/// The elements of a placement before the states are written: all are vacant. The check of each is
+/// what leads to it from the least unused base of its block; a block without one has no element
+/// that stays vacant.
+fn vacant_elements<A: Allocator + Copy>(
+    alloc: A,
+    helper: &BuildHelper<A>,
+) -> Result<Vec<State<u32>, A>>
+    requires block { helper.now.block ≡ 256 }
+    requires sizes { length helper.now.used ≡ helper.now.blocks * 256 }
+    ensures ok { IfOk result (λ elements. AreVacant helper.now elements.items) }
+    ensures err { IfErr result IsOutOfMemory }
+{
+    let num_elements = helper.num_elements();
+    let mut elements = Vec::with_capacity(alloc, num_elements as usize)?;
+    for block in 0..num_elements / BLOCK_LEN {
+        let unused_base = helper.unused_base_in_block(block).unwrap_or(0);
+        push_block(&mut elements, block * BLOCK_LEN, unused_base)?;
+    }
+    Ok(elements)
+}
+
+/// Appends a block of vacant elements.
+fn push_block<A: Allocator>(
+    elements: &mut Vec<State<u32>, A>,
+    first: u32,
+    unused_base: u32,
+) -> Result<()>
+    requires fits { first + 256 < 2 ^ 32 }
+    requires first { length elements.old.items ≡ first }
+    ensures block { OnOk result (HasVacants 256 unused_base elements.old.items elements.new.items) }
+    ensures err { IfErr result IsOutOfMemory }
+{
+    for idx in first..first + BLOCK_LEN {
+        let mut element = State::default();
+        element.set_check(((idx ^ unused_base) % BLOCK_LEN) as u8);
+        elements.push(element)?;
+    }
+    Ok(())
+}
+
+/// Writes each state but the dead one to its element.
+fn place_states<V: Copy, A: Allocator>(
+    elements: &mut [State<u32>],
+    states: &[NfaBuilderState<u8, V, A>],
+    labels: &[u8],
+    idx_map: &[u32],
+    bases: &[u32],
+)
+    requires labels { length labels.now ≡ length states.now }
+    requires bases { length bases.now ≡ length states.now }
+    requires places { ArePlaces idx_map.now (length states.now) (length elements.old) }
+    requires links { (t : ℕ) → t < length states.now → t ≢ 1 → slice_index (fails_of states.now) t < length states.now }
+    requires outputs { (t : ℕ) → t < length states.now → t ≢ 1 → slice_index (positions_of states.now) t < 2 ^ 24 }
+    ensures { HasPlaced (length states.now) idx_map.now bases.now labels.now (fails_of states.now) (positions_of states.now) elements.old elements.new }
+{
+    for (id, state) in states.iter().enumerate() {
+        if id == DEAD_STATE_IDX as usize {
+            continue;
+        }
+        let fail = idx_map[state.fail() as usize];
+        let idx = idx_map[id] as usize;
+        elements[idx] = element_of(bases[id], labels[id], fail, state.output_pos());
+    }
+}
+
+/// An element with these parts.
+fn element_of(base: u32, check: u8, fail: u32, output_pos: Option<NonZeroU32>) -> State<u32>
+    requires { number output_pos < 2 ^ 24 }
+    ensures base { base_in result ≡ base }
+    ensures check { check_in result ≡ check }
+    ensures fail { fail_in result ≡ fail }
+    ensures output { output_in result ≡ number output_pos }
+{
+    let mut element = State::default();
+    if let Some(base) = NonZeroU32::new(base) {
+        element.set_base(base);
+    }
+    element.set_check(check);
+    element.set_fail(fail);
+    let fits = element.set_output_pos(output_pos);
+    prove!(fits.is_ok());
+    element
+}

@@ -1,0 +1,2 @@
+pub mod PackedTrie
+pub mod PackedParts

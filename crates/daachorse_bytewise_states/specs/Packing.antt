@@ -1,8 +1,11 @@
 -- Elements that hold a trie, as they are written at the places of its states.
-use Rattle.std.specs.Prelude.{◌≡◌, ◌≢◌, ℕ, ◌<◌, ◌/◌, bit_xor, List, length, slice_index, slice_index_or, Some}
+use Rattle.std.specs.Prelude.{◌≡◌, ◌≢◌, ℕ, ◌<◌, ◌/◌, bit_xor, true, List, [], length, slice_index, slice_index_or, Some}
 use Rattle.std.specs.Ordering.{nat_cmp}
-use Rattle.daachorse_placement.specs.Layout.{IsLeastUnused, Layout}
-use Rattle.daachorse_build.specs.Tables.{child_in as edge_to}
+use Rattle.daachorse_placement.specs.declared.build_helper.SiblingGroup.{SiblingGroup}
+use Rattle.daachorse_placement.specs.Layout.{AreAllSet, IsLeastUnused, Layout}
+use Rattle.daachorse_placement.specs.Placement.{AreGroups, HasSizes, IsPlaced, children_of, parent_of}
+use Rattle.daachorse_build.specs.Tables.{child_in as edge_to, IsTable}
+use Rattle.daachorse_machine.specs.Copies.{LinkedTrie}
 use Rattle.daachorse_bytewise_states.specs.declared.state.State.{State}
 use Rattle.daachorse_bytewise_states.specs.Elements.{base_in, check_in, fail_in, output_in, vacant}
 
@@ -31,3 +34,23 @@ pub record HoldStates (l : Layout) (edges : List (List (ℕ × ℕ))) (fails pos
   -- nothing leads to the root
   pub root : check_in (element es (slice_index l.idx 0)) ≡ 0
   pub others : (i : ℕ) → i < length es → ((t : ℕ) → t < length edges → t ≢ 1 → slice_index l.idx t ≢ i) → IsVacant l i (element es i)
+
+-- the trie with these edges, links and positions
+abbrev pub trie_of : List (List (ℕ × ℕ)) → List ℕ → List ℕ → LinkedTrie
+trie_of edges fails positions = record { child = edge_to nat_cmp edges; fail = slice_index fails; output = slice_index positions }
+
+-- The groups are the edges of the states that have some.
+pub record AreTrieGroups {A : Type 0} (gs : List (SiblingGroup A)) (edges : List (List (ℕ × ℕ))) : Type 0 where
+  pub children : (k : ℕ) → k < length gs → children_of gs k ≡ slice_index_or edges (parent_of gs k) []
+  pub parents : (s : ℕ) → slice_index_or edges s [] ≢ [] → (k : ℕ) × (k < length gs) × (parent_of gs k ≡ s)
+
+-- The groups of a trie over bytes were placed, and the elements hold it.
+pub record ArePacked {A : Type 0} (gs : List (SiblingGroup A)) (l : Layout) (edges : List (List (ℕ × ℕ))) (depths fails positions : List ℕ) (es : List (State ℕ)) : Type 0 where
+  pub table : IsTable nat_cmp edges depths
+  pub groups : AreGroups gs (length edges) 256
+  pub of_trie : AreTrieGroups gs edges
+  pub placed : IsPlaced gs (length gs) true l
+  pub sizes : HasSizes l 256 (length edges)
+  -- a block without an unused base has no vacant element
+  pub full : (q : ℕ) → q < l.blocks → AreAllSet l.marks 256 q → AreAllSet l.used 256 q
+  pub held : HoldStates l edges fails positions es

@@ -1,2 +1,3 @@
 pub mod PackedTrie
 pub mod PackedParts
+pub mod PackedValid

@@ -91,7 +91,7 @@ look_none n b j k c other = elim (cases_eq b 0) [
 ]
 
 -- ---- a trie that was packed
-module _ {A : Type 0} (gs : List (SiblingGroup A)) (l : Layout) (edges : List (List (ℕ × ℕ))) (depths fails positions : List ℕ) (es : List (State ℕ)) (p : ArePacked gs l edges depths fails positions es) where
+module _ {A : Type 0} {gs : List (SiblingGroup A)} {l : Layout} {edges : List (List (ℕ × ℕ))} {depths fails positions : List ℕ} {es : List (State ℕ)} (p : ArePacked gs l edges depths fails positions es) where
   abbrev to : ℕ → ℕ → Option ℕ
   to s c = edge_to nat_cmp edges s c
 
@@ -248,7 +248,8 @@ module _ {A : Type 0} (gs : List (SiblingGroup A)) (l : Layout) (edges : List (L
         | inr vacant ↦ vacant_apart s c less some below unit inside vacant check
       ]
 
-  base_inside : (s : ℕ) → s < length edges → base_at s ≢ 0 → base_at s < length es
+  -- a base is an element's number
+  pub base_inside : (s : ℕ) → s < length edges → base_at s ≢ 0 → base_at s < length es
   base_inside s less some =
       let from = base_from s less some in
       let inside : get_or l.bases (parent_of gs from.0) 0 < length l.used = (p.placed.groups from.0 from.1).inside in

@@ -1,3 +1,4 @@
 pub mod PackedTrie
 pub mod PackedParts
 pub mod PackedValid
+pub mod ManyGroups

@@ -34,9 +34,6 @@ edge_place es c t e =
     let label : c ≡ at.1 = same_label c at.1 at.3 in
     (at.0, slice_get_within es at.0 (at.1, t) at.2, get_or_from_slice_get es at.0 (at.1, t) (0, 0) at.2 ∙ ap (λ k. (k, t)) (sym label))
 
-some_edges : (es : List (ℕ × ℕ)) (c t : ℕ) → id_at nat_cmp es c ≡ Some t → es ≢ []
-some_edges es c t e none = (let bad : None ≡ Some t = sym (ap (λ l. id_at nat_cmp l c) none) ∙ e in cc)
-
 -- ---- a search among the numbers below n
 pub search_below : (P Q : ℕ → Type 0) (n : ℕ) → ((k : ℕ) → k < n → P k ⊎ Q k) → ((k : ℕ) × (k < n) × P k) ⊎ ((k : ℕ) → k < n → Q k)
 search_below P Q zero h = inr (λ k less. absurd (omega arith))
@@ -117,7 +114,7 @@ module _ {A : Type 0} {gs : List (SiblingGroup A)} {l : Layout} {edges : List (L
 
   pub edge-at : (s c t : ℕ) → to s c ≡ Some t → IsEdgeAt s c t
   edge-at s c t e =
-      let from = p.of_trie.parents s (some_edges (get_or edges s []) c t e) in
+      let from = p.of_trie.all s c t e in
       let k = from.0 in
       let found = edge_place (get_or edges s []) c t e in
       let j = found.0 in
@@ -133,7 +130,7 @@ module _ {A : Type 0} {gs : List (SiblingGroup A)} {l : Layout} {edges : List (L
         group = k;
         inside = from.1;
         parent = from.2;
-        unit = subst (λ (x : ℕ). x < 256) label (p.groups.labels k from.1 j less);
+        unit = subst (λ (x : ℕ). x < 256) label (p.of_trie.groups.labels k from.1 j less);
         nonzero = subst (λ (x : ℕ). x ≢ 0) base group.nonzero;
         below = subst (λ (x : ℕ). base_at s < x) (sym p.held.size) (subst (λ (x : ℕ). x < length l.used) base group.inside);
         at = at;
@@ -142,7 +139,7 @@ module _ {A : Type 0} {gs : List (SiblingGroup A)} {l : Layout} {edges : List (L
 
   -- a state is the root, or has an edge to it
   pub state_from : (t : ℕ) → t < length edges → t ≢ 1 → (t ≡ 0) ⊎ ((s : ℕ) × (c : ℕ) × (to s c ≡ Some t))
-  state_from t less other = elim (cases_eq t 0) [ inl e ↦ inl e | inr some ↦ inr (p.table.trie.reached t (omega arith) less) ]
+  state_from t less other = elim (cases_eq t 0) [ inl e ↦ inl e | inr some ↦ inr (p.of_trie.table.trie.reached t (omega arith) less) ]
 
   -- an element is a state's, or no state's
   pub place_from : (j : ℕ) → ((t : ℕ) × (t < length edges) × (t ≢ 1) × (place t ≡ j)) ⊎ ((t : ℕ) → t < length edges → t ≢ 1 → place t ≢ j)
@@ -182,8 +179,8 @@ module _ {A : Type 0} {gs : List (SiblingGroup A)} {l : Layout} {edges : List (L
       let k = owner.0 in
       let i = owner.1 in
       let at : place (child_of (children_of gs k) i) ≡ j = (p.placed.groups k owner.2).at i owner.3 ∙ owner.4 in
-      let above : 1 < child_of (children_of gs k) i = p.groups.above k i owner.2 owner.3 in
-      none (child_of (children_of gs k) i) (p.groups.ids k owner.2 i owner.3) (omega arith) at
+      let above : 1 < child_of (children_of gs k) i = p.of_trie.groups.above k i owner.2 owner.3 in
+      none (child_of (children_of gs k) i) (p.of_trie.groups.ids k owner.2 i owner.3) (omega arith) at
 
   -- an element of no state has the check of no byte that leads there
   vacant_apart : (s c : ℕ) → s < length edges → base_at s ≢ 0 → base_at s < length es → c < 256 → bit_xor (base_at s) c < length es → ((t : ℕ) → t < length edges → t ≢ 1 → place t ≢ bit_xor (base_at s) c) → check_in (element es (bit_xor (base_at s) c)) ≢ c
@@ -278,7 +275,7 @@ module _ {A : Type 0} {gs : List (SiblingGroup A)} {l : Layout} {edges : List (L
       go None e = look_none (length es) (base_at s) (bit_xor (base_at s) c) (check_of (bit_xor (base_at s) c)) c (λ some low. not_child s c less some (base_inside s less some) e low)
       go (Some t) e =
           let edge = edge-at s c t e in
-          let bounds = p.table.trie.bounds s c t e in
+          let bounds = p.of_trie.table.trie.bounds s c t e in
           let high : 1 < t = bounds.2 in
           let unit : c < 256 = edge.unit in
           let inside : bit_xor (base_at s) c < length es = xor_below (base_at s) c unit edge.below in
@@ -290,7 +287,7 @@ module _ {A : Type 0} {gs : List (SiblingGroup A)} {l : Layout} {edges : List (L
   walk-rises s t [] less e = let same : s ≡ t = same_Some s t e in (omega arith, omega arith)
   walk-rises s t (c ∷ w) less e =
       let step = and_then_inv (λ r. walk (edge_to nat_cmp edges) r w) (to s c) t e in
-      let bounds = p.table.trie.bounds s c step.0 step.1 in
+      let bounds = p.of_trie.table.trie.bounds s c step.0 step.1 in
       let low : s < step.0 = bounds.0 in
       let rest = walk-rises step.0 t w bounds.3 step.2 in
       let more : step.0 ≤ t = rest.0 in
@@ -299,19 +296,19 @@ module _ {A : Type 0} {gs : List (SiblingGroup A)} {l : Layout} {edges : List (L
   pub Leads-above : (u s : ℕ) (w : List ℕ) → Leads (edge_to nat_cmp edges) (u ∷ w) s → (1 < s) × (s < length edges)
   Leads-above u s w e =
       let step = and_then_inv (λ r. walk (edge_to nat_cmp edges) r w) (to 0 u) s e in
-      let bounds = p.table.trie.bounds 0 u step.0 step.1 in
+      let bounds = p.of_trie.table.trie.bounds 0 u step.0 step.1 in
       let high : 1 < step.0 = bounds.2 in
       let rest = walk-rises step.0 s w bounds.3 step.2 in
       let more : step.0 ≤ s = rest.0 in
       (omega (arith, high, more), rest.1)
 
   pub Leads-state : (s : ℕ) (w : List ℕ) → Leads (edge_to nat_cmp edges) w s → (s < length edges) × (s ≢ 1)
-  Leads-state s [] e = let same : 0 ≡ s = same_Some 0 s e in let two : 1 < length edges = p.table.trie.two in (omega (arith, same, two), λ one. (let bad : 0 ≡ 1 = same ∙ one in omega (arith, bad)))
+  Leads-state s [] e = let same : 0 ≡ s = same_Some 0 s e in let two : 1 < length edges = p.of_trie.table.trie.two in (omega (arith, same, two), λ one. (let bad : 0 ≡ 1 = same ∙ one in omega (arith, bad)))
   Leads-state s (u ∷ w) e = let above = Leads-above u s w e in let high : 1 < s = above.0 in (above.1, λ one. omega (arith, high, one))
 
   -- ---- the places
   pub place-above : (t : ℕ) → 1 < t → t < length edges → 1 < place t
-  place-above t high less = let from = p.table.trie.reached t high less in (edge-at from.0 from.1 t from.2).above
+  place-above t high less = let from = p.of_trie.table.trie.reached t high less in (edge-at from.0 from.1 t from.2).above
 
   -- the root and the dead state have elements
   used_inside : (i : ℕ) → get_or l.used i false ≡ true → i < length es
@@ -325,9 +322,9 @@ module _ {A : Type 0} {gs : List (SiblingGroup A)} {l : Layout} {edges : List (L
 
   pub place-dead : place 1 ≡ 1
   place-dead =
-      let two : 1 < length edges = p.table.trie.two in
+      let two : 1 < length edges = p.of_trie.table.trie.two in
       let size : length l.idx ≡ length edges = p.sizes.idx in
-      p.placed.rest 1 (omega (arith, two, size)) (λ e. omega (arith, e)) (λ k j inside low same. (let above : 1 < child_of (children_of gs k) j = p.groups.above k j inside low in omega (arith, above, same)))
+      p.placed.rest 1 (omega (arith, two, size)) (λ e. omega (arith, e)) (λ k j inside low same. (let above : 1 < child_of (children_of gs k) j = p.of_trie.groups.above k j inside low in omega (arith, above, same)))
 
   pub place-apart : (s t : ℕ) → s < length edges → s ≢ 1 → t < length edges → t ≢ 1 → place s ≡ place t → s ≡ t
   place-apart s t ls left lt right same = go (cases_lt 1 s) (cases_lt 1 t)

@@ -1,5 +1,5 @@
 -- Parts that hold the trie of a dictionary are valid and hold the dictionary: a copy of the trie is right, and what an element holds is in range, since it is a state's or vacant.
-use Rattle.std.proofs.Common.{◌≡◌, ◌≢◌, ℕ, zero, suc, ◌-◌, ◌%◌, ◌<◌, ◌≤◌, List, [], ◌∷◌, ◌++◌, length, get_or, Some, refl, sym, ap, ◌∙◌, subst, inl, inr, arith}
+use Rattle.std.proofs.Common.{◌≡◌, ◌≢◌, ℕ, ◌-◌, ◌%◌, ◌<◌, ◌≤◌, List, [], ◌∷◌, length, get_or, refl, sym, ◌∙◌, subst, inl, inr, arith}
 use Rattle.std.specs.Ordering.{nat_cmp}
 use Rattle.std.proofs.lemmas.List.{length-map}
 use Rattle.std.proofs.lemmas.Bool.{cases_eq}
@@ -17,14 +17,14 @@ use Rattle.daachorse_placement.specs.Layout.{Layout}
 use Rattle.daachorse_build.specs.Tables.{child_in as edge_to}
 use Rattle.daachorse_machine.specs.Machines.{IsCounted, IsRight}
 use Rattle.daachorse_machine.specs.Copies.{HasStates, HoldsDictionary, IsCopy, IsLinkedTo}
-use Rattle.daachorse_machine.proofs.PathLaws.{walk-push}
+use Rattle.daachorse_build.proofs.Walks.{text_of}
 use Rattle.daachorse_machine.proofs.CopyLaws.{content-same, copy-counted, copy-right}
 use Rattle.daachorse_bytewise_states.specs.declared.state.State.{State}
 use Rattle.daachorse_bytewise_states.specs.Elements.{base_in, fail_in, output_in}
 use Rattle.daachorse_bytewise_states.specs.Parts.{Parts, base_of, content, count, fail_of, machine, output_of, parts_of, without_link}
 use Rattle.daachorse_bytewise_states.specs.Packing.{element, trie_of, ArePacked, IsElementOf, IsVacant}
 use Rattle.daachorse_bytewise_states.specs.Valid.{HasShape, IsInside, IsValid}
-use Rattle.daachorse_bytewise_states.proofs.PackedTrie.{base_inside, count-elements, Leads-state, place-inside, place_from, some-elements, state_from}
+use Rattle.daachorse_bytewise_states.proofs.PackedTrie.{base_inside, count-elements, Leads-state, place-inside, place_from, some-elements}
 use Rattle.daachorse_bytewise_states.proofs.PackedParts.{packed-IsCopy, parts-base, parts-count, parts-fail, parts-kind, parts-num_states, parts-output, parts-outputs}
 
 -- which lists are used
@@ -35,23 +35,12 @@ parts-shape LeftmostFirst es outputs n = (refl, length-map es fail_in ∙ sym (l
 
 module _ {A : Type 0} {gs : List (SiblingGroup A)} {l : Layout} {edges : List (List (ℕ × ℕ))} {depths fails positions : List ℕ} {es : List (State ℕ)} (p : ArePacked gs l edges depths fails positions es) where
   -- a text leads to each state
-  text_to : (steps s : ℕ) → s ≤ steps → s < length edges → s ≢ 1 → (w : List ℕ) × Leads (edge_to nat_cmp edges) w s
-  text_to zero s low less alive = ([], ap (λ x. Some x) (let same : 0 ≡ s = omega (arith, low) in same))
-  text_to (suc steps) s low less alive = elim (state_from p s less alive) [
-    | inl root ↦ ([], ap (λ x. Some x) (sym root))
-    | inr edge ↦ (
-        let bounds = p.table.trie.bounds edge.0 edge.1 s edge.2 in
-        let below : edge.0 < s = bounds.0 in
-        let before = text_to steps edge.0 (omega (arith, below, low)) (omega (arith, below, less)) bounds.1 in
-        (before.0 ++ edge.1 ∷ [], walk-push (edge_to nat_cmp edges) 0 edge.0 before.0 edge.1 before.1 ∙ edge.2))
-  ]
-
   pub state-text : (s : ℕ) → s < length edges → s ≢ 1 → (w : List ℕ) × Leads (edge_to nat_cmp edges) w s
-  state-text s less alive = text_to s s (omega arith) less alive
+  state-text s less alive = text_of (edge_to nat_cmp edges) (λ t. get_or depths t 0) (length edges) p.of_trie.table.trie s less alive
 
   pub packed-states : HasStates (trie_of edges fails positions) (length edges)
   packed-states = record {
-    two = p.table.trie.two;
+    two = p.of_trie.table.trie.two;
     reached = state-text;
     only = λ s w e. Leads-state p s w e;
   }
@@ -64,7 +53,7 @@ module _ {A V : Type 0} {gs : List (SiblingGroup A)} {l : Layout} {edges : List 
   link-inside s (u ∷ w) e = go (holds.links u s w e)
     where
       two : 1 < length edges
-      two = p.table.trie.two
+      two = p.of_trie.table.trie.two
 
       go : IsLinkedTo K (is_leftmost kind) (trie_of edges fails positions) (u ∷ w) (get_or fails s 0) → get_or fails s 0 < length edges
       go (inl dead) = let is : get_or fails s 0 ≡ 1 = dead.0 in omega (arith, is, two)

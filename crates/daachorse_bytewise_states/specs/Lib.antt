@@ -2,3 +2,4 @@ pub mod Elements
 pub mod Parts
 pub mod Valid
 pub mod Packing
+pub mod Prefixes

@@ -39,16 +39,16 @@ pub record HoldStates (l : Layout) (edges : List (List (ℕ × ℕ))) (fails pos
 abbrev pub trie_of : List (List (ℕ × ℕ)) → List ℕ → List ℕ → LinkedTrie
 trie_of edges fails positions = record { child = edge_to nat_cmp edges; fail = slice_index fails; output = slice_index positions }
 
--- The groups are the edges of the states that have some.
-pub record AreTrieGroups {A : Type 0} (gs : List (SiblingGroup A)) (edges : List (List (ℕ × ℕ))) : Type 0 where
+-- Groups that are the edges of a trie over bytes: one for each state that has some.
+pub record AreByteGroups {A : Type 0} (gs : List (SiblingGroup A)) (edges : List (List (ℕ × ℕ))) (depths : List ℕ) : Type 0 where
+  pub table : IsTable nat_cmp edges depths
+  pub groups : AreGroups gs (length edges) 256
   pub children : (k : ℕ) → k < length gs → children_of gs k ≡ slice_index_or edges (parent_of gs k) []
-  pub parents : (s : ℕ) → slice_index_or edges s [] ≢ [] → (k : ℕ) × (k < length gs) × (parent_of gs k ≡ s)
+  pub all : (s c t : ℕ) → edge_to nat_cmp edges s c ≡ Some t → (k : ℕ) × (k < length gs) × (parent_of gs k ≡ s)
 
 -- The groups of a trie over bytes were placed, and the elements hold it.
 pub record ArePacked {A : Type 0} (gs : List (SiblingGroup A)) (l : Layout) (edges : List (List (ℕ × ℕ))) (depths fails positions : List ℕ) (es : List (State ℕ)) : Type 0 where
-  pub table : IsTable nat_cmp edges depths
-  pub groups : AreGroups gs (length edges) 256
-  pub of_trie : AreTrieGroups gs edges
+  pub of_trie : AreByteGroups gs edges depths
   pub placed : IsPlaced gs (length gs) true l
   pub sizes : HasSizes l 256 (length edges)
   -- a block without an unused base has no vacant element

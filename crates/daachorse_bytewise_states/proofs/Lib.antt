@@ -2,3 +2,4 @@ pub mod PackedTrie
 pub mod PackedParts
 pub mod PackedValid
 pub mod ManyGroups
+pub mod ByteGroups

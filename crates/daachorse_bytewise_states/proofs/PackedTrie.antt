@@ -161,18 +161,19 @@ module _ {A : Type 0} {gs : List (SiblingGroup A)} {l : Layout} {edges : List (L
     | inr none ↦ absurd (some (p.placed.parents s (let size : length l.bases ≡ length edges = p.sizes.bases in omega arith) (λ k low same. none k low (sym same))))
   ]
 
-  -- no base is 0
+  -- a state's base is taken
   pub base_used : (s : ℕ) → s < length edges → base_at s ≢ 0 → get_or l.marks (base_at s) false ≡ true
   base_used s less some =
       let from = base_from s less some in
       ap (λ x. get_or l.marks (base_at x) false) (sym from.2) ∙ p.placed.marked refl from.0 from.1
 
+  -- no base is 0
   pub zero_unused : get_or l.marks 0 false ≢ true
   zero_unused e =
       let taker = p.placed.takers 0 e in
       (p.placed.groups taker.0 taker.1).nonzero taker.2
 
-  -- a vacant element is no state's
+  -- past the first two, an element of no state is not used
   pub vacant-unused : (j : ℕ) → ((t : ℕ) → t < length edges → t ≢ 1 → place t ≢ j) → 1 < j → get_or l.used j false ≢ true
   vacant-unused j none high used =
       let owner = p.placed.owned j high used in
@@ -182,7 +183,7 @@ module _ {A : Type 0} {gs : List (SiblingGroup A)} {l : Layout} {edges : List (L
       let above : 1 < child_of (children_of gs k) i = p.of_trie.groups.above k i owner.2 owner.3 in
       none (child_of (children_of gs k) i) (p.of_trie.groups.ids k owner.2 i owner.3) (omega arith) at
 
-  -- an element of no state has the check of no byte that leads there
+  -- an element of no state has not the check of the byte that leads there
   vacant_apart : (s c : ℕ) → s < length edges → base_at s ≢ 0 → base_at s < length es → c < 256 → bit_xor (base_at s) c < length es → ((t : ℕ) → t < length edges → t ≢ 1 → place t ≢ bit_xor (base_at s) c) → check_in (element es (bit_xor (base_at s) c)) ≢ c
   vacant_apart s c less some below unit inside none check =
       elim (least_or_full l.marks (bit_xor (base_at s) c / 256)) [
@@ -214,7 +215,7 @@ module _ {A : Type 0} {gs : List (SiblingGroup A)} {l : Layout} {edges : List (L
           let zero_block : bit_xor (base_at s) c / 256 * 256 + 0 ≡ 0 = omega arith in
           ap (λ x. get_or l.marks x false) (sym zero_block) ∙ all 0 (omega arith))
 
-  -- a state's element is a child's by its own byte alone
+  -- nor has a state's element, where that byte leads to no child
   state_apart : (s c t : ℕ) → s < length edges → base_at s ≢ 0 → to s c ≡ None → t < length edges → t ≢ 1 → place t ≡ bit_xor (base_at s) c → check_in (element es (place t)) ≢ c
   state_apart s c t less some none inside other at check = elim (state_from t inside other) [
     | inl root ↦ (
@@ -236,7 +237,7 @@ module _ {A : Type 0} {gs : List (SiblingGroup A)} {l : Layout} {edges : List (L
           let bad : None ≡ Some t = sym none ∙ (ap (λ x. to s x) (sym label) ∙ (ap (λ x. to x d) (sym parents) ∙ e)) in
           cc
 
-  -- where no edge leads, no byte does
+  -- a byte that is no edge's finds another check
   not_child : (s c : ℕ) → s < length edges → base_at s ≢ 0 → base_at s < length es → to s c ≡ None → bit_xor (base_at s) c < length es → check_in (element es (bit_xor (base_at s) c)) ≢ c
   not_child s c less some below none inside check =
       let unit : c < 256 = omega (arith, check) in

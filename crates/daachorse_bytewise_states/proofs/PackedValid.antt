@@ -46,7 +46,7 @@ module _ {A : Type 0} {gs : List (SiblingGroup A)} {l : Layout} {edges : List (L
   }
 
 -- the parts of a dictionary's trie, whose positions are those of outputs
-module _ {A V : Type 0} {gs : List (SiblingGroup A)} {l : Layout} {edges : List (List (ℕ × ℕ))} {depths fails positions : List ℕ} {es : List (State ℕ)} (p : ArePacked gs l edges depths fails positions es) (kind : MatchKind) (K : Dictionary V) (outputs : List (Output V)) (holds : HoldsDictionary byte_width K (is_leftmost kind) (trie_of edges fails positions) outputs) (root_link : get_or fails 0 0 < length edges) (fits : (s : ℕ) (w : List ℕ) → Leads (edge_to nat_cmp edges) w s → get_or positions s 0 ≤ length outputs) (n : ℕ) where
+module _ {A V : Type 0} {gs : List (SiblingGroup A)} {l : Layout} {edges : List (List (ℕ × ℕ))} {depths fails positions : List ℕ} {es : List (State ℕ)} (p : ArePacked gs l edges depths fails positions es) (kind : MatchKind) (K : Dictionary V) (outputs : List (Output V)) (holds : HoldsDictionary byte_width K (is_leftmost kind) (trie_of edges fails positions) outputs) (root_link : get_or fails 0 0 < length edges) (fits : (w : List ℕ) (t : ℕ) → Leads (edge_to nat_cmp edges) w t → get_or positions t 0 ≤ length outputs) (n : ℕ) where
   -- a link leads to a state, or to the dead one
   link-inside : (s : ℕ) (w : List ℕ) → Leads (edge_to nat_cmp edges) w s → get_or fails s 0 < length edges
   link-inside s [] e = let same : 0 ≡ s = same_Some 0 s e in subst (λ (x : ℕ). get_or fails x 0 < length edges) same root_link
@@ -74,7 +74,7 @@ module _ {A V : Type 0} {gs : List (SiblingGroup A)} {l : Layout} {edges : List 
           | inr some ↦ base_inside p t less some
         ]);
         fail = subst (λ (x : ℕ). x < length es) (sym is.fail) (place-inside p (get_or fails t 0) (link-inside t text.0 text.1));
-        output = subst (λ (x : ℕ). x ≤ length outputs) (sym is.output) (fits t text.0 text.1);
+        output = subst (λ (x : ℕ). x ≤ length outputs) (sym is.output) (fits text.0 t text.1);
       }
 
   vacant_in_range : (i : ℕ) (e : State ℕ) → IsVacant l i e → IsInRange e

@@ -260,9 +260,6 @@ module _ {A : Type 0} {gs : List (SiblingGroup A)} {l : Layout} {edges : List (L
   xor_below b c unit below = subst (λ (x : ℕ). bit_xor b c < x) (sym count-elements) (xor_inside 256 l.blocks b c (8, refl) unit (subst (λ (x : ℕ). b < x) count-elements below))
 
   -- ---- the elements as a copy of the trie
-  abbrev base_of : ℕ → ℕ
-  base_of i = base_in (element es i)
-
   abbrev check_of : ℕ → ℕ
   check_of i = check_in (element es i)
 

@@ -13,9 +13,14 @@ use Rattle.std.specs.Map.{keys_of}
 use Rattle.std.specs.Prelude.{slice_index_or}
 use Rattle.daachorse_bytewise_states.specs.declared.state.State.{State}
 use Rattle.daachorse_bytewise_states.specs.Elements.{base_in, check_in, fail_in, output_in, vacant}
-use Rattle.daachorse_bytewise_states.specs.Packing.{ArePlaces, HasPlaced, element}
+use Rattle.daachorse_bytewise_states.specs.Packing.{IsVacant, element}
+use Rattle.daachorse_bytewise_states.specs.Writing.{ArePlaces, HasPlaced, HasVacants}
 use Rattle.std.proofs.lemmas.List.{get_or-map}
-use Rattle.std.proofs.Common.{◌+◌}
+use Rattle.std.proofs.Common.{◌+◌, ◌-◌, ◌*◌, ◌/◌, ◌%◌, ◌≤◌, bit_xor, Option, None}
+use Rattle.std.specs.Prelude.{unwrap_or, IfNone, IfSome}
+use Rattle.std.proofs.lemmas.Nat.{xor_shr}
+use Rattle.std.specs.Int.Bits.{xor_self}
+use Rattle.daachorse_placement.specs.Layout.{AreAllSet, IsLeastUnused, Layout}
 use Rattle.daachorse_build.specs.declared.nfa_builder.NfaBuilderState.{NfaBuilderState}
 use Rattle.daachorse_build.specs.Tables.{IsTable, child_in, edge_map, edges_of, fails_of, link_of, position_of, positions_of}
 use Rattle.daachorse_build.specs.EdgeMaps.{id_at, IsOrdered}
@@ -105,6 +110,7 @@ module _ (edges : List (ℕ × ℕ)) (c t : ℕ) (rest : List (ℕ × ℕ)) (old
     where
       nat_or : (d e : ℕ) → (d ≡ e) ⊎ (d ≢ e)
       nat_or d e = grind arith
+
       put : t < length new → (d s : ℕ) → id_at nat_cmp edges d ≡ Some s → slice_index new s ≡ d → (d ≡ c) ⊎ (d ≢ c) → slice_index (set new t c) s ≡ d
       put inside d s e is (inl same) = let one : t ≡ s = same_Some t s (sym first ∙ (ap (λ k. id_at nat_cmp edges k) (sym same) ∙ e)) in ap (λ k. slice_index (set new t c) k) (sym one) ∙ get_or-set_same new t c 0 inside ∙ sym same
       put inside d s e is (inr other) = get_or-set_other new t s c 0 (λ same. other (apart d c t (e ∙ ap (λ k. Some k) same) first)) ∙ is
@@ -149,6 +155,7 @@ module _ (edges : List (List (ℕ × ℕ))) (depths : List ℕ) (table : IsTable
     where
       before_or_at : (s m : ℕ) → s < m + 1 → (s < m) ⊎ (s ≡ m)
       before_or_at s m less = grind arith
+
       here : (s < m) ⊎ (s ≡ m) → slice_index new t ≡ c
       here (inl before) = kept t (λ d f. let one : s ≡ m = (table.trie.one_parent s c m d t e f).0 in omega (arith, before, one)) ∙ was s c t before e
       here (inr same) = set_to c t (ap (λ k. child_in nat_cmp edges k c) (sym same) ∙ e)
@@ -210,3 +217,71 @@ placed_none idx bases labels fails positions es = record {
   output = λ t less. absurd (omega (arith, less));
   others = λ i none. refl;
 }
+
+-- ---- one block more is vacant
+
+-- two indexes of one block are a byte apart
+block-apart : (q i u : ℕ) → q * 256 ≤ i → i < q * 256 + 256 → q * 256 ≤ u → u < q * 256 + 256 → bit_xor i u < 256
+block-apart q i u low high from to =
+    let same : bit_xor i u / 256 ≡ bit_xor (i / 256) (u / 256) = xor_shr i u 8 in
+    let a : i / 256 ≡ q = grind arith in
+    let b : u / 256 ≡ q = grind arith in
+    let none : bit_xor i u / 256 ≡ 0 = same ∙ (ap (λ x. bit_xor x (u / 256)) a ∙ (ap (λ x. bit_xor q x) b ∙ xor_self q)) in
+    grind (arith, none)
+
+-- the least unused base is one
+least-one : (marks : List Bool) (q u v : ℕ) → IsLeastUnused marks 256 q u → IsLeastUnused marks 256 q v → u ≡ v
+least-one marks q u v a b = go (below u v) (below v u)
+  where
+    below : (x y : ℕ) → (x < y) ⊎ (y ≤ x)
+    below x y = grind arith
+
+    clash : (x y : ℕ) → IsLeastUnused marks 256 q x → IsLeastUnused marks 256 q y → x < y → ⊥
+    clash x y f g less = let bad : false ≡ true = sym f.free ∙ g.least x f.from less in cc
+
+    go : (u < v) ⊎ (v ≤ u) → (v < u) ⊎ (u ≤ v) → u ≡ v
+    go (inl less) other = absurd (clash u v a b less)
+    go (inr more) (inl less) = absurd (clash v u b a less)
+    go (inr more) (inr most) = omega arith
+
+-- what was found of the block: the least unused base, or that there is none
+pub Found : List Bool → ℕ → ℕ → Option ℕ → Type 0
+Found marks n q None = AreAllSet marks n q
+Found marks n q (Some u) = IsLeastUnused marks n q u
+
+pub found-is : (marks : List Bool) (n q : ℕ) (unused : Option ℕ) → IfSome unused (IsLeastUnused marks n q) → IfNone unused (AreAllSet marks n q) → Found marks n q unused
+unfolding Found
+found-is marks n q None found taken = taken
+found-is marks n q (Some u) found taken = found
+
+found-least : (marks : List Bool) (q v : ℕ) (unused : Option ℕ) → Found marks 256 q unused → IsLeastUnused marks 256 q v → unwrap_or unused 0 ≡ v
+unfolding Found
+found-least marks q v None all least =
+    absurd (let inside : v - q * 256 < 256 = (let to = least.to in omega (arith, to)) in
+    let back : q * 256 + (v - q * 256) ≡ v = (let from = least.from in omega (arith, from)) in
+    let bad : true ≡ false = sym (ap (λ k. slice_index_or marks k false) (sym back) ∙ all (v - q * 256) inside) ∙ least.free in cc)
+found-least marks q v (Some u) found least = least-one marks q u v found least
+
+pub blocks-more : (l : Layout) (q : ℕ) (unused : Option ℕ) (old new : List (State ℕ)) → Found l.marks 256 q unused → length old ≡ q * 256 → ((i : ℕ) → i < length old → IsVacant l i (element old i)) → HasVacants 256 (unwrap_or unused 0) old new
+    → (i : ℕ) → i < length new → IsVacant l i (element new i)
+blocks-more l q unused old new found size was more i less = elim before_or_in [
+  | inl before ↦ let P : State ℕ → Type 0 = λ e. IsVacant l i e in subst P (sym (more.kept i before)) (was i before)
+  | inr here ↦ record {
+    base = more.base i here less;
+    fail = more.fail i here less;
+    output = more.output i here less;
+    check = λ u least. more.check i here less ∙ (checked u (let at : i / 256 ≡ q = in_block here in subst (λ (k : ℕ). IsLeastUnused l.marks 256 k u) at least) here);
+  }
+]
+  where
+    before_or_in : (i < length old) ⊎ (length old ≤ i)
+    before_or_in = grind arith
+
+    in_block : length old ≤ i → i / 256 ≡ q
+    in_block here = let end : i < q * 256 + 256 = omega (arith, size, more.size, less) in let start : q * 256 ≤ i = omega (arith, here, size) in grind arith
+
+    checked : (u : ℕ) → IsLeastUnused l.marks 256 q u → length old ≤ i → bit_xor i (unwrap_or unused 0) % 256 ≡ bit_xor i u
+    checked u least here =
+        let same = found-least l.marks q u unused found least in
+        let small : bit_xor i u < 256 = block-apart q i u (omega (arith, here, size)) (omega (arith, less, size, more.size)) least.from least.to in
+        ap (λ x. bit_xor i x % 256) same ∙ grind (arith, small)

@@ -1,8 +1,11 @@
 -- Elements that hold a trie, as they are written at the places of its states.
-use Rattle.std.specs.Prelude.{◌≡◌, ◌≢◌, ℕ, ◌+◌, ◌<◌, ◌≤◌, ◌/◌, ◌%◌, bit_xor, List, length, slice_index, slice_index_or, Some}
+use Rattle.std.specs.Prelude.{◌≡◌, ◌≢◌, ℕ, ◌<◌, ◌/◌, bit_xor, true, List, [], length, slice_index, slice_index_or, Some}
 use Rattle.std.specs.Ordering.{nat_cmp}
-use Rattle.daachorse_placement.specs.Layout.{IsLeastUnused, Layout}
-use Rattle.daachorse_build.specs.Tables.{child_in as edge_to}
+use Rattle.daachorse_placement.specs.declared.build_helper.SiblingGroup.{SiblingGroup}
+use Rattle.daachorse_placement.specs.Layout.{AreAllSet, IsLeastUnused, Layout}
+use Rattle.daachorse_placement.specs.Placement.{AreGroups, HasSizes, IsPlaced, children_of, parent_of}
+use Rattle.daachorse_build.specs.Tables.{child_in as edge_to, IsTable}
+use Rattle.daachorse_machine.specs.Copies.{LinkedTrie}
 use Rattle.daachorse_bytewise_states.specs.declared.state.State.{State}
 use Rattle.daachorse_bytewise_states.specs.Elements.{base_in, check_in, fail_in, output_in, vacant}
 
@@ -32,39 +35,22 @@ pub record HoldStates (l : Layout) (edges : List (List (ℕ × ℕ))) (fails pos
   pub root : check_in (element es (slice_index l.idx 0)) ≡ 0
   pub others : (i : ℕ) → i < length es → ((t : ℕ) → t < length edges → t ≢ 1 → slice_index l.idx t ≢ i) → IsVacant l i (element es i)
 
--- ---- how they come about
+-- the trie with these edges, links and positions
+abbrev pub trie_of : List (List (ℕ × ℕ)) → List ℕ → List ℕ → LinkedTrie
+trie_of edges fails positions = record { child = edge_to nat_cmp edges; fail = slice_index fails; output = slice_index positions }
 
--- by state the label of the edge to it; nothing leads to the root
-pub record AreLabelled (edges : List (List (ℕ × ℕ))) (labels : List ℕ) : Type 0 where
-  pub size : length labels ≡ length edges
-  pub root : slice_index labels 0 ≡ 0
-  pub children : (s c t : ℕ) → edge_to nat_cmp edges s c ≡ Some t → slice_index labels t ≡ c
+-- Groups that are the edges of a trie over bytes: one for each state that has some.
+pub record AreByteGroups {A : Type 0} (gs : List (SiblingGroup A)) (edges : List (List (ℕ × ℕ))) (depths : List ℕ) : Type 0 where
+  pub table : IsTable nat_cmp edges depths
+  pub groups : AreGroups gs (length edges) 256
+  pub children : (k : ℕ) → k < length gs → children_of gs k ≡ slice_index_or edges (parent_of gs k) []
+  pub all : (s c t : ℕ) → edge_to nat_cmp edges s c ≡ Some t → (k : ℕ) × (k < length gs) × (parent_of gs k ≡ s)
 
--- each element is vacant
-pub record AreVacant (l : Layout) (es : List (State ℕ)) : Type 0 where
-  pub size : length es ≡ length l.used
-  pub all : (i : ℕ) → i < length es → IsVacant l i (element es i)
-
--- n elements more, which are vacant, as in a block with the unused base u
-pub record HasVacants (n u : ℕ) (old new : List (State ℕ)) : Type 0 where
-  pub size : length new ≡ length old + n
-  pub kept : (i : ℕ) → i < length old → element new i ≡ element old i
-  pub base : (i : ℕ) → length old ≤ i → i < length new → base_in (element new i) ≡ 0
-  pub fail : (i : ℕ) → length old ≤ i → i < length new → fail_in (element new i) ≡ 0
-  pub output : (i : ℕ) → length old ≤ i → i < length new → output_in (element new i) ≡ 0
-  pub check : (i : ℕ) → length old ≤ i → i < length new → check_in (element new i) ≡ bit_xor i u % 256
-
--- each of n states but the dead one has a place of its own, among so many elements
-pub record ArePlaces (idx : List ℕ) (n elements : ℕ) : Type 0 where
-  pub size : length idx ≡ n
-  pub inside : (t : ℕ) → t < n → slice_index idx t < elements
-  pub apart : (t v : ℕ) → t < n → v < n → t ≢ 1 → v ≢ 1 → slice_index idx t ≡ slice_index idx v → t ≡ v
-
--- the first m states but the dead one are written, and nothing else
-pub record HasPlaced (m : ℕ) (idx bases labels fails positions : List ℕ) (old new : List (State ℕ)) : Type 0 where
-  pub size : length new ≡ length old
-  pub base : (t : ℕ) → t < m → t ≢ 1 → base_in (element new (slice_index idx t)) ≡ slice_index bases t
-  pub check : (t : ℕ) → t < m → t ≢ 1 → check_in (element new (slice_index idx t)) ≡ slice_index labels t
-  pub fail : (t : ℕ) → t < m → t ≢ 1 → fail_in (element new (slice_index idx t)) ≡ slice_index idx (slice_index fails t)
-  pub output : (t : ℕ) → t < m → t ≢ 1 → output_in (element new (slice_index idx t)) ≡ slice_index positions t
-  pub others : (i : ℕ) → ((t : ℕ) → t < m → t ≢ 1 → slice_index idx t ≢ i) → element new i ≡ element old i
+-- The groups of a trie over bytes were placed, and the elements hold it.
+pub record ArePacked {A : Type 0} (gs : List (SiblingGroup A)) (l : Layout) (edges : List (List (ℕ × ℕ))) (depths fails positions : List ℕ) (es : List (State ℕ)) : Type 0 where
+  pub of_trie : AreByteGroups gs edges depths
+  pub placed : IsPlaced gs (length gs) true l
+  pub sizes : HasSizes l 256 (length edges)
+  -- a block without an unused base has no vacant element
+  pub full : (q : ℕ) → q < l.blocks → AreAllSet l.marks 256 q → AreAllSet l.used 256 q
+  pub held : HoldStates l edges fails positions es

@@ -10,7 +10,7 @@ ghost use Rattle.daachorse_core.specs.Refusals.{IsOutOfMemory};
 ghost use Rattle.daachorse_build.specs.EdgeMaps.{id_at};
 ghost use Rattle.daachorse_build.specs.Tables.{HoldTrie, edges_of, fails_of, positions_of};
 ghost use Rattle.daachorse_bytewise_states.specs.Elements.{base_in, check_in, fail_in, output_in};
-ghost use Rattle.daachorse_bytewise_states.specs.Packing.{AreLabelled, ArePlaces, AreVacant, HasPlaced, HasVacants};
+ghost use Rattle.daachorse_bytewise_states.specs.Writing.{AreLabelled, ArePlaces, AreVacant, HasPlaced, HasVacants};
 
 use crate::state::State;
 use daachorse_build::edge_map::EdgeMap;

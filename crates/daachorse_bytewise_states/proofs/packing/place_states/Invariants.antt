@@ -1,6 +1,6 @@
 -- The states so far are written.
 use Rattle.daachorse_build.specs.Tables.{fails_of, positions_of}
-use Rattle.daachorse_bytewise_states.specs.Packing.{HasPlaced}
+use Rattle.daachorse_bytewise_states.specs.Writing.{HasPlaced}
 use Rattle.daachorse_bytewise_states.proofs.packing.place_states.Given as goal
 
 abbrev pub invariant-loop-id : goal.invariant-loop-id

@@ -1,6 +1,6 @@
 -- The elements from the first of the block on are vacant.
-use Rattle.std.proofs.Common.{◌≡◌, ◌-◌, length}
-use Rattle.daachorse_bytewise_states.specs.Packing.{HasVacants}
+use Rattle.std.proofs.Common.{◌-◌}
+use Rattle.daachorse_bytewise_states.specs.Writing.{HasVacants}
 use Rattle.daachorse_bytewise_states.proofs.packing.push_block.Given as goal
 
 abbrev pub invariant-loop-idx : goal.invariant-loop-idx

@@ -1,13 +1,18 @@
-use Rattle.std.proofs.Common.{rules, ◌≡◌, ◌≢◌, ◌+◌, ◌<◌, ◌≤◌, ◌^◌, ◌*◌, ℕ, length, slice_index, IfOk, IfErr, OnOk, Some, ◌-◌, ◌/◌, ◌%◌, Bool, true, false, nat_eq, nat_lt, List, [], ◌∷◌, ◌++◌, slice_index_or, slice_set, bit_and, bit_or, Fits, w8, w32, w64, Bor, MutBor}
-use Rattle.std.specs.Ordering.{nat_cmp}
-use Rattle.daachorse_core.specs.Outputs.{number}
-use Rattle.daachorse_core.specs.Refusals.{IsOutOfMemory}
-use Rattle.daachorse_build.specs.EdgeMaps.{id_at}
-use Rattle.daachorse_build.specs.Tables.{HoldTrie, edges_of, fails_of, positions_of}
-use Rattle.daachorse_bytewise_states.specs.Elements.{base_in, check_in, fail_in, output_in}
-use Rattle.daachorse_bytewise_states.specs.Packing.{AreLabelled, ArePlaces, AreVacant, HasPlaced, HasVacants}
+-- Each block is filled behind those before it.
+use Rattle.std.proofs.Common.{ℕ, subst, arith}
+use Rattle.daachorse_bytewise_states.specs.Writing.{HasVacants}
+use Rattle.daachorse_bytewise_states.proofs.PackLaws.{Found, blocks-more, found-is}
 use Rattle.daachorse_bytewise_states.proofs.packing.vacant_elements.Goals as goal
 
--- src/packing.rt:80:5
 pub loop-block-preserved : goal.loop-block-preserved
-loop-block-preserved g c = ?
+loop-block-preserved g c =
+    let l = c.args.helper.now in let q = c.loop-block.block in let was = c.loop-block.invariant in
+    let unused = c.unused_base_in_block.result in
+    let old = c.loop-block.elements.items in let new = c.push_block.new.elements.items in
+    let P : ℕ → Type 0 = λ u. HasVacants 256 u old new in
+    let more = subst P c.unwrap_or-unused_base.ensures c.in_ok-push_block.ensures.block in
+    let B : ℕ → Type 0 = λ n. Found l.marks n q unused in
+    record {
+      size = omega (arith, more.size, was.size);
+      vacant = blocks-more l q unused old new (subst B c.requires.block (found-is l.marks l.block q unused c.unused_base_in_block.ensures.found c.unused_base_in_block.ensures.taken)) was.size was.vacant more;
+    }

@@ -1,0 +1,94 @@
+-- The parts that elements make up have the bases, checks, links and positions of these, whatever the kind, and so they are a copy of the trie.
+use Rattle.std.proofs.Common.{◌≡◌, ℕ, ◌==◌, cond, List, ◌∷◌, length, map, get_or, Some, None, refl, sym, ap, ◌∙◌, inl, inr}
+use Rattle.std.specs.Prelude.{bit_xor, nat_lt}
+use Rattle.std.proofs.Math.ListN.{get_or-map}
+use Rattle.std.proofs.lemmas.List.{length-map}
+use Rattle.std.proofs.lemmas.Bool.{cases_eq, cond-true, cond-false, eq-eqb, ne_eqb}
+use Rattle.daachorse_core.specs.declared.outputs.Output.{Output}
+use Rattle.daachorse_model.specs.declared.MatchKind.{MatchKind}
+use Rattle.daachorse_model.specs.declared.MatchKind.TheVariants.{Standard, LeftmostLongest, LeftmostFirst}
+use Rattle.daachorse_placement.specs.declared.build_helper.SiblingGroup.{SiblingGroup}
+use Rattle.daachorse_placement.specs.Layout.{Layout}
+use Rattle.daachorse_machine.specs.Copies.{IsCopy}
+use Rattle.daachorse_bytewise_states.specs.declared.state.State.{State}
+use Rattle.daachorse_bytewise_states.specs.Elements.{base_in, check_in, fail_in, output_in, vacant, vacant_left}
+use Rattle.daachorse_bytewise_states.specs.Parts.{base_of, check_of, child, child_in, count, fail_of, machine, output_of, parts_of, without_link}
+use Rattle.daachorse_bytewise_states.specs.Packing.{element, trie_of, ArePacked}
+use Rattle.daachorse_bytewise_states.proofs.PackedTrie.{element-child, Leads-above, Leads-state, place-above, place-apart, place-dead}
+
+-- ---- what the parts say of an element
+module _ {V : Type 0} (es : List (State ℕ)) (outputs : List (Output V)) (n : ℕ) where
+  left : (i : ℕ) → get_or (map without_link es) i vacant_left ≡ without_link (element es i)
+  left i = get_or-map without_link es i vacant
+
+  pub parts-count : (kind : MatchKind) → count (parts_of kind es outputs n) ≡ length es
+  parts-count Standard = refl
+  parts-count LeftmostLongest = length-map es without_link
+  parts-count LeftmostFirst = length-map es without_link
+
+  pub parts-base : (kind : MatchKind) (i : ℕ) → base_of (parts_of kind es outputs n) i ≡ base_in (element es i)
+  parts-base Standard i = refl
+  parts-base LeftmostLongest i = ap base_in (left i)
+  parts-base LeftmostFirst i = ap base_in (left i)
+
+  pub parts-check : (kind : MatchKind) (i : ℕ) → check_of (parts_of kind es outputs n) i ≡ check_in (element es i)
+  parts-check Standard i = refl
+  parts-check LeftmostLongest i = ap check_in (left i)
+  parts-check LeftmostFirst i = ap check_in (left i)
+
+  pub parts-output : (kind : MatchKind) (i : ℕ) → output_of (parts_of kind es outputs n) i ≡ output_in (element es i)
+  parts-output Standard i = refl
+  parts-output LeftmostLongest i = ap output_in (left i)
+  parts-output LeftmostFirst i = ap output_in (left i)
+
+  pub parts-fail : (kind : MatchKind) (i : ℕ) → fail_of (parts_of kind es outputs n) i ≡ fail_in (element es i)
+  parts-fail Standard i = refl
+  parts-fail LeftmostLongest i = get_or-map fail_in es i vacant
+  parts-fail LeftmostFirst i = get_or-map fail_in es i vacant
+
+  pub parts-outputs : (kind : MatchKind) → (parts_of kind es outputs n).outputs ≡ outputs
+  parts-outputs Standard = refl
+  parts-outputs LeftmostLongest = refl
+  parts-outputs LeftmostFirst = refl
+
+  pub parts-kind : (kind : MatchKind) → (parts_of kind es outputs n).kind ≡ kind
+  parts-kind Standard = refl
+  parts-kind LeftmostLongest = refl
+  parts-kind LeftmostFirst = refl
+
+  pub parts-num_states : (kind : MatchKind) → (parts_of kind es outputs n).num_states ≡ n
+  parts-num_states Standard = refl
+  parts-num_states LeftmostLongest = refl
+  parts-num_states LeftmostFirst = refl
+
+-- elements of which a double array sees the same lead to the same
+same_child : (m n : ℕ) (base base' check check' : ℕ → ℕ) (i c : ℕ) → m ≡ n → ((i : ℕ) → base i ≡ base' i) → ((i : ℕ) → check i ≡ check' i) → child_in m base check i c ≡ child_in n base' check' i c
+same_child m n base base' check check' i c size bases checks =
+    ap (λ b. cond (b == 0) None (cond (nat_lt (bit_xor b c) m) (cond (check (bit_xor b c) == c) (Some (bit_xor b c)) None) None)) (bases i)
+    ∙ ap (λ k. cond (base' i == 0) None (cond (nat_lt (bit_xor (base' i) c) m) (cond (k == c) (Some (bit_xor (base' i) c)) None) None)) (checks (bit_xor (base' i) c))
+    ∙ ap (λ k. cond (base' i == 0) None (cond (nat_lt (bit_xor (base' i) c) k) (cond (check' (bit_xor (base' i) c) == c) (Some (bit_xor (base' i) c)) None) None)) size
+
+pub parts-child : {V : Type 0} (es : List (State ℕ)) (outputs : List (Output V)) (n : ℕ) (kind : MatchKind) (i c : ℕ) → child (parts_of kind es outputs n) i c ≡ child_in (length es) (λ i. base_in (element es i)) (λ i. check_in (element es i)) i c
+parts-child es outputs n kind i c =
+    same_child (count (parts_of kind es outputs n)) (length es) (base_of (parts_of kind es outputs n)) (λ i. base_in (element es i)) (check_of (parts_of kind es outputs n)) (λ i. check_in (element es i)) i c
+    (parts-count es outputs n kind) (parts-base es outputs n kind) (parts-check es outputs n kind)
+
+module _ {A : Type 0} {gs : List (SiblingGroup A)} {l : Layout} {edges : List (List (ℕ × ℕ))} {depths fails positions : List ℕ} {es : List (State ℕ)} (p : ArePacked gs l edges depths fails positions es) where
+  -- a dead link leads to the dead state
+  link_at : (f : ℕ) → get_or l.idx f 0 ≡ cond (f == 1) 1 (get_or l.idx f 0)
+  link_at f = elim (cases_eq f 1) [
+    | inl e ↦ ap (λ x. get_or l.idx x 0) e ∙ place-dead p ∙ sym (cond-true (f == 1) _ _ (eq-eqb f 1 e))
+    | inr other ↦ sym (cond-false (f == 1) _ _ (ne_eqb f 1 other))
+  ]
+
+  -- the parts are a copy of the trie
+  pub packed-IsCopy : {V : Type 0} (kind : MatchKind) (outputs : List (Output V)) (n : ℕ) → IsCopy (trie_of edges fails positions) outputs (machine (parts_of kind es outputs n)) (λ t. get_or l.idx t 0)
+  packed-IsCopy kind outputs n = record {
+    root = p.placed.root;
+    above = λ u s w e. (let at = Leads-above p u s w e in place-above p s at.0 at.1);
+    apart = λ r s v w d e same. (let a = Leads-state p r v d in let b = Leads-state p s w e in place-apart p r s a.0 a.1 b.0 b.1 same);
+    children = λ s c w e. (let at = Leads-state p s w e in parts-child es outputs n kind (get_or l.idx s 0) c ∙ element-child p s c at.0 at.1);
+    links = λ u s w e. (let at = Leads-state p s (u ∷ w) e in parts-fail es outputs n kind (get_or l.idx s 0) ∙ (p.held.states s at.0 at.1).fail ∙ link_at (get_or fails s 0));
+    positions = λ s w e. (let at = Leads-state p s w e in parts-output es outputs n kind (get_or l.idx s 0) ∙ (p.held.states s at.0 at.1).output);
+    same_outputs = parts-outputs es outputs n kind;
+  }

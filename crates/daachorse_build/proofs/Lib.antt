@@ -17,3 +17,5 @@ pub mod LeftChains
 pub mod Cleared
 pub mod Full
 pub mod Fitting
+pub mod StackWalk
+pub mod Families

@@ -9,7 +9,7 @@ use Rattle.std.specs.Cmp.{eq_by_cmp_equiv, IsTotalOrder}
 use Rattle.std.specs.declared.cmp.Ordering.{Ordering}
 use Rattle.std.specs.declared.cmp.Ordering.TheVariants.{Less}
 use Rattle.std.proofs.lemmas.Map.Keys.{Less-from_sorted}
-use Rattle.std.specs.List.{list_any}
+use Rattle.std.specs.List.{list_any, IsDistinct}
 use Rattle.std.proofs.lemmas.Bool.{cases_lt, cases_eq, eqb-true, or_cases, false_from_ne_true, false≢true}
 use Rattle.std.specs.Ordering.{is_eq}
 use Rattle.std.specs.BTreeMap.{is_at}
@@ -113,7 +113,7 @@ flat_map_in f (x ∷ xs) s t (inr h) k = in_right (f x) (flat_map f xs) t (flat_
 get_or_last : (xs : List ℕ) (t i : ℕ) → length xs ≡ i → get_or (xs ++ t ∷ []) i 0 ≡ t
 get_or_last xs t i e = get_or_push xs t 0 i e
 
-once_push : (xs : List ℕ) (t : ℕ) → StandOnce xs → (IsIn xs t → ⊥) → StandOnce (xs ++ t ∷ [])
+pub once_push : (xs : List ℕ) (t : ℕ) → StandOnce xs → (IsIn xs t → ⊥) → StandOnce (xs ++ t ∷ [])
 once_push xs t once fresh = λ i l h.
     elim (cases_lt i (length xs)) [
       | inl below ↦ once i below (in_same _ _ _ (take-append-le i xs (t ∷ []) (omega arith)) (in_equal _ _ _ (get_or_append_left xs (t ∷ []) 0 i below) h))
@@ -134,7 +134,7 @@ length_keys : {L : Type 0} (es : List (L × ℕ)) → length (keys_of es) ≡ le
 length_keys [] = refl
 length_keys (e ∷ es) = ap suc (length_keys es)
 
-value_at : {L : Type 0} (es : List (L × ℕ)) (i : ℕ) (c : L) (t : ℕ) → slice_get es i ≡ Some (c, t) → (i < length (values_of es)) × (get_or (values_of es) i 0 ≡ t)
+pub value_at : {L : Type 0} (es : List (L × ℕ)) (i : ℕ) (c : L) (t : ℕ) → slice_get es i ≡ Some (c, t) → (i < length (values_of es)) × (get_or (values_of es) i 0 ≡ t)
 value_at [] i c t h = absurd (none-some _ h)
 value_at (e ∷ es) zero c t h = (omega arith, ap (λ p. p.1) (same_Some e (c, t) h))
 value_at (e ∷ es) (suc i) c t h = let r = value_at es i c t h in (omega (arith, r.0), r.1)
@@ -144,6 +144,21 @@ any_in [] q h = false≢true h
 any_in (x ∷ xs) q h =
     elim (or_cases (eqb q x) (list_any (eqb q) xs) h)
     [ inl a ↦ inl (sym (eqb-true q x a)) | inr b ↦ inr (any_in xs q b) ]
+
+pub distinct_once : (xs : List ℕ) → StandOnce xs → IsDistinct eqb xs
+distinct_once xs once =
+    IsDistinct-from_apart eqb xs
+    (λ i j d l h.
+    false_from_ne_true _ (λ e.
+    once j h
+    (in_equal (take j xs) _ _
+    (get_or_default xs i 0 d (omega arith) ∙ eqb-true _ _ e ∙ get_or_default xs j d 0 h)
+    (in_take_at j xs i l (omega arith)))))
+
+-- numbers below n that each stand once are no more than n
+pub length-once : (xs : List ℕ) (n : ℕ) → StandOnce xs → ((t : ℕ) → IsIn xs t → t < n) → length xs ≤ n
+length-once xs n once below =
+    length-le_from_distinct_below xs n (distinct_once xs once) (λ q h. below q (any_in xs q h))
 
 value_in : {L : Type 0} (es : List (L × ℕ)) (i : ℕ) (k : L) (t : ℕ) → slice_get es i ≡ Some (k, t) → IsIn (values_of es) t
 value_in [] i k t h = absurd (none-some _ h)
@@ -372,14 +387,7 @@ module _ {L : Type 0} (cmp : L → L → Ordering) (total : IsTotalOrder cmp) (e
     -- no more states stand in the queue than there are
     pub length-order : (fails order pending : List ℕ) (next : ℕ) → IsSearch cmp stops edges (children edges 0) fails order next pending → length order ≤ length edges
     length-order fails order pending next search =
-        length-le_from_distinct_below order (length edges)
-        (IsDistinct-from_apart eqb order (λ i j d l h.
-        false_from_ne_true _ (λ e.
-        search.once j h
-        (in_equal (take j order) _ _
-        (get_or_default order i 0 d (omega arith) ∙ eqb-true _ _ e ∙ get_or_default order j d 0 h)
-        (in_take_at j order i l (omega arith))))))
-        (λ q h. (search.states q (any_in order q h)).1)
+        length-once order (length edges) search.once (λ q h. (search.states q h).1)
 
     -- a known state is one
     pub known_bounds : (fails order pending : List ℕ) (next t : ℕ) → IsSearch cmp stops edges (children edges 0) fails order next pending → IsKnown (take next order) t → t < length edges

@@ -8,3 +8,4 @@ pub mod Growth
 pub mod Holds
 pub mod Lists
 pub mod Builders
+pub mod Groups

@@ -25,14 +25,20 @@ ghost use Rattle.daachorse_build.specs.Searches.{Searches, LeadsTo, ComesFrom};
 ghost use Rattle.daachorse_build.specs.Growth.{Extends, IsAdded, HasTrieOf, Overflows};
 ghost use Rattle.daachorse_build.specs.Holds.{in_units, HasMorePrefixes};
 ghost use Rattle.daachorse_build.specs.Lists.{PositionsFit, AreListed, AreChained, IsChainedAt, IsParent, Passes};
+ghost use Rattle.daachorse_build.specs.Groups.{GivesCodes, AreCodes, AreTrieGroups, AreLight, IsProfileOf};
+ghost use Rattle.daachorse_placement.specs.Placement.{AreGroups};
 ghost use Rattle.daachorse_build.specs.Builders.{states_of, outputs_of, count_of, kind_of, Registered};
 ghost use Rattle.daachorse_core.specs.Refusals.{IsRefusal, IsOutOfMemory};
+
+mod siblings;
 
 use crate::edge_map::EdgeMap;
 pub use daachorse_core::edge_label::EdgeLabel;
 use daachorse_core::errors::{DaachorseError, Limit, OutOfMemoryError, Result};
 use daachorse_core::{MatchKind, Output};
+use daachorse_placement::build_helper::{Profile, SiblingGroup};
 use std::alloc::{Allocator, Global};
+use std::cmp::Reverse;
 use std::num::NonZeroU32;
 
 /// The id of the root, the state of the empty text.
@@ -295,6 +301,39 @@ impl<L: EdgeLabel, V: Copy, A: Allocator + Copy> NfaBuilder<L, V, A> {
         ensures refused { IfErr result (IsRefusal ⊥ Outputs ((rs : List (List L × V)) → Registered L.cmp L.unit L.width self.old rs → 4294967295 < length (kept (kind_of self.old) (in_units L.unit rs)))) }
     {
         put_lists(&mut self.states, &mut self.outputs, order)
+    }
+
+    /// The groups of siblings: for each state with edges its children, in order of labels, each as
+    /// what `map_label` gives for its label and its id.
+    ///
+    /// A group's weight is the probes of the parent and the visits of the children, and 0 where the
+    /// profile is empty. The groups stand by falling weight, and those of one weight in the order
+    /// of a stack that begins with the root: a state is taken off, and its children are put on in
+    /// order of labels.
+    ///
+    /// # Errors
+    ///
+    /// It fails where an allocation does.
+    pub fn sibling_groups<F: Fn(L) -> u32 + Drop>(
+        &self,
+        alloc: A,
+        profile: &Profile<A>,
+        map_label: F,
+    ) -> Result<Vec<SiblingGroup<A>, A>>
+        requires trie { HoldTrie L.cmp (states_of self.now) }
+        requires profile { IsProfileOf (length (states_of self.now)) profile.now }
+        requires callable { F.IsAlwaysCallable map_label }
+        ensures trie { IfOk result (λ groups. (code : L → ℕ) → GivesCodes L.cmp (edges_of (states_of self.now)) (F.post map_label) code → AreTrieGroups L.cmp code (states_of self.now) groups.items) }
+        ensures groups { IfOk result (λ groups. (code : L → ℕ) (block : ℕ) → GivesCodes L.cmp (edges_of (states_of self.now)) (F.post map_label) code → AreCodes L.cmp (edges_of (states_of self.now)) code block → AreGroups groups.items (length (states_of self.now)) block) }
+        ensures light { profile.now.visits.items ≡ [] → IfOk result (λ groups. AreLight groups.items) }
+        ensures refused { IfErr result IsOutOfMemory }
+    {
+        let order = siblings::depth_first(alloc, &self.states)?;
+        let mut groups = siblings::groups_of(alloc, &self.states, &order, profile, &map_label)?;
+        if !profile.is_empty() {
+            groups.sort_by_key(|group| Reverse(group.weight))?;
+        }
+        Ok(groups)
     }
 }
 

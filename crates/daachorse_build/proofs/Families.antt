@@ -1,0 +1,251 @@
+-- Groups as families: the parents are the states with an edge, each once, and that outlasts a sort.
+use Rattle.std.proofs.Common.{◌≡◌, ◌≢◌, ℕ, zero, suc, ◌+◌, ◌<◌, ◌⊎◌, Bool, true, false, not, cond, eqb, List, [], ◌∷◌, ◌++◌, length, get_or, take, Some, refl, sym, ap, ◌∙◌, subst, inl, inr, arith}
+use Rattle.std.proofs.lemmas.Bool.{cases_lt, cases_eq, false≢true, eq-eqb, ne_eqb}
+use Rattle.std.proofs.lemmas.Option.{same_Some}
+use Rattle.std.proofs.lemmas.List.{append-nil, map-append, length-map, get_or_default}
+use Rattle.std.proofs.lemmas.List.Elements.{All-head, All-tail, All-weaker, filter_more}
+use Rattle.std.proofs.lemmas.List.Sorted.{All-permutation, Contains-permutation, IsPermutation-map}
+use Rattle.std.proofs.lemmas.Map.Keys.{IsDistinct-IsPermutation, apart_from_distinct}
+use Rattle.std.specs.Bool.{IsTrue}
+use Rattle.std.specs.List.{All, AllZip, Contains, IsDistinct, filter, slice_get}
+use Rattle.std.specs.List.Sorted.{IsPermutation}
+use Rattle.std.specs.Map.{values_of}
+use Rattle.std.specs.declared.cmp.Ordering.{Ordering}
+use Rattle.std.specs.Cmp.{IsTotalOrder}
+use Rattle.daachorse_placement.specs.declared.build_helper.SiblingGroup.{SiblingGroup}
+use Rattle.daachorse_placement.specs.Placement.{children_of, parent_of, label_of, child_of, AreGroups}
+use Rattle.daachorse_build.specs.declared.nfa_builder.NfaBuilderState.{NfaBuilderState}
+use Rattle.daachorse_build.specs.Tables.{edges_of, depths_of, child_in, HoldTrie}
+use Rattle.daachorse_build.specs.Orders.{IsIn, StandOnce, children}
+use Rattle.daachorse_build.specs.Groups.{edges_at, coded, GivesCodes, AreCodes, AreTrieGroups, is_some_edge, has_edges, IsWalk, AreGiven, AreFamilies, parents_of}
+use Rattle.daachorse_build.proofs.Queue.{in_equal, in_at, place_of, distinct_once, child_at_place, listed_of_child, value_at, children_once}
+use Rattle.daachorse_build.proofs.StackWalk.{once_tail, once_head}
+use Rattle.daachorse_build.proofs.Walks.{text_of, walk-bounds}
+
+-- ---- one child more
+all_zip_push : {X Y : Type 0} (R : X → Y → Type 0) (xs : List X) (ys : List Y) (x : X) (y : Y) → AllZip R xs ys → R x y → AllZip R (xs ++ x ∷ []) (ys ++ y ∷ [])
+all_zip_push R [] [] x y h k = (k, tt)
+all_zip_push R [] (v ∷ ys) x y h k = absurd h
+all_zip_push R (u ∷ xs) [] x y h k = absurd h
+all_zip_push R (u ∷ xs) (v ∷ ys) x y h k = (h.0, all_zip_push R xs ys x y h.1 k)
+
+pub given_push : {L : Type 0} (gives : L → ℕ → Type 0) (es : List (L × ℕ)) (cs : List (ℕ × ℕ)) (c : L) (t r : ℕ) → AreGiven gives es cs → gives c r → AreGiven gives (es ++ (c, t) ∷ []) (cs ++ (r, t) ∷ [])
+given_push gives es cs c t r h k = all_zip_push (λ e d. gives e.0 d.0 × (d.1 ≡ e.1)) es cs (c, t) (r, t) h (k, refl)
+
+-- ---- one group more
+pub has_edges_if : {L : Type 0} (es : List (L × ℕ)) (r : Bool) → (IsTrue r → es ≡ []) × (es ≡ [] → IsTrue r) → is_some_edge es ≡ not r
+has_edges_if [] true h = refl
+has_edges_if [] false h = absurd (false≢true (h.1 refl))
+has_edges_if (e ∷ es) true h = let k : e ∷ es ≡ [] = h.0 refl in cc
+has_edges_if (e ∷ es) false h = refl
+
+pub parents_more : {L A : Type 0} (edges : List (List (L × ℕ))) (order : List ℕ) (i : ℕ) (gs : List (SiblingGroup A)) (g : SiblingGroup A) → i < length order → parents_of gs ≡ filter (has_edges edges) (take i order) → g.parent ≡ get_or order i 0 → has_edges edges (get_or order i 0) ≡ true → parents_of (gs ++ g ∷ []) ≡ filter (has_edges edges) (take (i + 1) order)
+parents_more edges order i gs g l before parent some =
+    let t = get_or order i 0 in
+    map-append (λ x. x.parent) gs (g ∷ [])
+    ∙ ap (λ ps. ps ++ g.parent ∷ []) before
+    ∙ ap (λ p. filter (has_edges edges) (take i order) ++ p ∷ []) parent
+    ∙ sym (filter_more (has_edges edges) order i 0 l ∙ ap (λ b. filter (has_edges edges) (take i order) ++ cond b (t ∷ []) []) some)
+
+pub parents_same : {L A : Type 0} (edges : List (List (L × ℕ))) (order : List ℕ) (i : ℕ) (gs : List (SiblingGroup A)) → i < length order → parents_of gs ≡ filter (has_edges edges) (take i order) → has_edges edges (get_or order i 0) ≡ false → parents_of gs ≡ filter (has_edges edges) (take (i + 1) order)
+parents_same edges order i gs l before none =
+    let t = get_or order i 0 in
+    before
+    ∙ sym (append-nil _)
+    ∙ sym (filter_more (has_edges edges) order i 0 l ∙ ap (λ b. filter (has_edges edges) (take i order) ++ cond b (t ∷ []) []) none)
+
+-- ---- a filter of numbers that each stand once
+once_cons : (x : ℕ) (xs : List ℕ) → (IsIn xs x → ⊥) → StandOnce xs → StandOnce (x ∷ xs)
+once_cons x xs fresh once zero l h = h
+once_cons x xs fresh once (suc i) l (inl e) = fresh (in_equal xs (get_or xs i 0) x (sym e) (in_at xs i (omega arith)))
+once_cons x xs fresh once (suc i) l (inr h) = once i (omega arith) h
+
+module _ (p : ℕ → Bool) where
+  in_filter : (xs : List ℕ) (t : ℕ) → IsIn xs t → p t ≡ true → IsIn (filter p xs) t
+  in_filter [] t h e = absurd h
+  in_filter (x ∷ xs) t h e = at (p x) refl h (λ later. in_filter xs t later e)
+    where
+      at : (b : Bool) → p x ≡ b → (x ≡ t) ⊎ IsIn xs t → (IsIn xs t → IsIn (filter p xs) t) → IsIn (cond b (x ∷ filter p xs) (filter p xs)) t
+      at true k (inl same) more = inl same
+      at true k (inr later) more = inr (more later)
+      at false k (inl same) more = absurd (false≢true (sym k ∙ ap p same ∙ e))
+      at false k (inr later) more = more later
+
+  in_filtered : (xs : List ℕ) (t : ℕ) → IsIn (filter p xs) t → IsIn xs t × (p t ≡ true)
+  in_filtered [] t h = absurd h
+  in_filtered (x ∷ xs) t h = at (p x) refl h (λ later. in_filtered xs t later)
+    where
+      at : (b : Bool) → p x ≡ b → IsIn (cond b (x ∷ filter p xs) (filter p xs)) t → (IsIn (filter p xs) t → IsIn xs t × (p t ≡ true)) → ((x ≡ t) ⊎ IsIn xs t) × (p t ≡ true)
+      at true k (inl same) more = (inl same, sym (ap p same) ∙ k)
+      at true k (inr later) more = let r = more later in (inr r.0, r.1)
+      at false k later more = let r = more later in (inr r.0, r.1)
+
+  once_filter : (xs : List ℕ) → StandOnce xs → StandOnce (filter p xs)
+  once_filter [] once = once
+  once_filter (x ∷ xs) once = at (p x) (once_filter xs (once_tail x xs once))
+    where
+      at : (b : Bool) → StandOnce (filter p xs) → StandOnce (cond b (x ∷ filter p xs) (filter p xs))
+      at true rest = once_cons x (filter p xs) (λ h. once_head x xs once (in_filtered xs x h).0) rest
+      at false rest = rest
+
+-- each element of a list is in it
+all_in : (xs : List ℕ) → All (λ x. IsIn xs x) xs
+all_in xs k d l = in_equal xs _ _ (get_or_default xs k 0 d l) (in_at xs k l)
+
+contains_in : (xs : List ℕ) (t : ℕ) → IsIn xs t → Contains xs t
+contains_in xs t h = let p = place_of xs t h in (p.0, p.1, get_or_default xs p.0 t 0 p.1 ∙ p.2)
+
+eqb-flips : (x y : ℕ) → eqb x y ≡ eqb y x
+eqb-flips x y =
+    elim (cases_eq x y) [
+      | inl e ↦ eq-eqb x y e ∙ sym (eq-eqb y x (sym e))
+      | inr ne ↦ ne_eqb x y ne ∙ sym (ne_eqb y x (λ e. ne (sym e)))
+    ]
+
+-- ---- groups by their places
+-- the group at a place
+group_at : {A : Type 0} (P : SiblingGroup A → Type 0) (gs : List (SiblingGroup A)) (k : ℕ) → k < length gs → All P gs → (g : SiblingGroup A) × P g × (parent_of gs k ≡ g.parent) × (children_of gs k ≡ g.children.items)
+group_at P [] k l all = absurd (omega arith)
+group_at P (g ∷ gs) zero l all = (g, All-head P g gs all, refl, refl)
+group_at P (g ∷ gs) (suc k) l all = group_at P gs k (omega arith) (All-tail P g gs all)
+
+coded_given : {L : Type 0} (gives : L → ℕ → Type 0) (code : L → ℕ) (es : List (L × ℕ)) (cs : List (ℕ × ℕ)) → ((i : ℕ) (c : L) (t : ℕ) → slice_get es i ≡ Some (c, t) → (r : ℕ) → gives c r → r ≡ code c) → AreGiven gives es cs → cs ≡ coded code es
+coded_given gives code [] [] says h = refl
+coded_given gives code [] (d ∷ cs) says h = absurd h
+coded_given gives code (e ∷ es) [] says h = absurd h
+coded_given gives code (e ∷ es) (d ∷ cs) says h =
+    let label : d.0 ≡ code e.0 = says 0 e.0 e.1 refl d.0 h.0.0 in
+    let id : d.1 ≡ e.1 = h.0.1 in
+    let rest = coded_given gives code es cs (λ i c t at r k. says (suc i) c t at r k) h.1 in
+    ap (λ (v : ℕ). (v, d.1) ∷ cs) label ∙ ap (λ (v : ℕ). (code e.0, v) ∷ cs) id ∙ ap (λ xs. (code e.0, e.1) ∷ xs) rest
+
+some_edge : {L : Type 0} (es : List (L × ℕ)) → is_some_edge es ≡ true → 0 < length es
+some_edge [] h = absurd (false≢true h)
+some_edge (e ∷ es) h = omega arith
+
+edge_of_child : {L : Type 0} (es : List (L × ℕ)) (t : ℕ) → IsIn (values_of es) t → is_some_edge es ≡ true
+edge_of_child [] t h = absurd h
+edge_of_child (e ∷ es) t h = refl
+
+-- two places of the same number
+one_place : (xs : List ℕ) (k l : ℕ) → IsDistinct eqb xs → k < length xs → l < length xs → get_or xs k 0 ≡ get_or xs l 0 → k ≡ l
+one_place xs k l distinct hk hl same =
+    elim (cases_lt k l) [
+      | inl less ↦ absurd (false≢true (sym (apart_from_distinct eqb xs k l 0 distinct less hl) ∙ eq-eqb _ _ same))
+      | inr ge ↦
+          elim (cases_lt l k) [
+            | inl less ↦ absurd (false≢true (sym (apart_from_distinct eqb xs l k 0 distinct less hk) ∙ eq-eqb _ _ (sym same)))
+            | inr le ↦ omega arith
+          ]
+    ]
+
+module _ {L V A : Type 0} (cmp : L → L → Ordering) (total : IsTotalOrder cmp) (states : List (NfaBuilderState L V A)) (table : HoldTrie cmp states) (order : List ℕ) (walk : IsWalk (edges_of states) order) (gives : L → ℕ → Type 0) (first gs : List (SiblingGroup A)) (parents : parents_of first ≡ filter (has_edges (edges_of states)) order) (families : AreFamilies gives (edges_of states) first) (moved : IsPermutation first gs) where
+  abbrev edges : List (List (L × ℕ))
+  edges = edges_of states
+
+  moved_parents : IsPermutation (parents_of first) (parents_of gs)
+  moved_parents = IsPermutation-map (λ g. g.parent) first gs moved
+
+  -- each family outlasts the sort
+  all_families : AreFamilies gives edges gs
+  all_families = All-permutation (λ g. AreGiven gives (edges_at edges g.parent) g.children.items) first gs moved families
+
+  -- no parent stands twice
+  distinct : IsDistinct eqb (parents_of gs)
+  distinct =
+      let P : List ℕ → Type 0 = λ ps. IsDistinct eqb ps in
+      let start = subst P (sym parents) (distinct_once _ (once_filter (has_edges edges) order walk.once)) in
+      IsDistinct-IsPermutation eqb eqb-flips (parents_of first) (parents_of gs) moved_parents start
+
+  -- each parent is a state with an edge
+  parent_is : All (λ p. (p < length edges) × (p ≢ 1) × (has_edges edges p ≡ true)) (parents_of gs)
+  parent_is =
+      let Q : ℕ → Type 0 = λ p. (p < length edges) × (p ≢ 1) × (has_edges edges p ≡ true) in
+      let P : List ℕ → Type 0 = λ ps. All Q ps in
+      let start = subst P (sym parents)
+      (All-weaker (λ p. IsIn (filter (has_edges edges) order) p) Q
+      (λ p h. let r = in_filtered (has_edges edges) order p h in let b = walk.states p r.0 in (b.0, b.1, r.1))
+      (filter (has_edges edges) order) (all_in (filter (has_edges edges) order))) in
+      All-permutation Q (parents_of first) (parents_of gs) moved_parents start
+
+  -- each state with an edge is a parent
+  is_parent : (s : ℕ) → s < length edges → s ≢ 1 → has_edges edges s ≡ true → Contains (parents_of gs) s
+  is_parent s l ne some =
+      let P : List ℕ → Type 0 = λ ps. Contains ps s in
+      let start = subst P (sym parents) (contains_in _ s (in_filter (has_edges edges) order s (walk.all s l ne) some)) in
+      Contains-permutation (parents_of first) (parents_of gs) s moved_parents start
+
+  parent_at : (k : ℕ) → k < length gs → (parent_of gs k < length edges) × (parent_of gs k ≢ 1) × (has_edges edges (parent_of gs k) ≡ true)
+  parent_at k l = parent_is k 0 (omega (arith, l, length-map gs (λ g. g.parent)))
+
+  -- the groups are those of the trie
+  pub trie_groups : (code : L → ℕ) → GivesCodes cmp edges gives code → AreTrieGroups cmp code states gs
+  trie_groups code says = record {
+    children = λ k l.
+        let at = group_at (λ g. AreGiven gives (edges_at edges g.parent) g.children.items) gs k l all_families in
+        at.3
+        ∙ coded_given gives code (edges_at edges at.0.parent) at.0.children.items
+        (λ i c t here r h. says at.0.parent c t (child_at_place cmp total edges (depths_of states) table at.0.parent i c t here) r h)
+        at.1
+        ∙ ap (λ p. coded code (edges_at edges p)) (sym at.2);
+    some = λ k l. some_edge (edges_at edges (parent_of gs k)) (parent_at k l).2;
+    reached = λ k l. let p = parent_at k l in text_of (child_in cmp edges) (λ i. get_or (depths_of states) i 0) (length edges) table.trie (parent_of gs k) p.0 p.1;
+    one_each = λ k l hk hl same. one_place (parents_of gs) k l distinct (omega (arith, hk, length-map gs (λ g. g.parent))) (omega (arith, hl, length-map gs (λ g. g.parent))) same;
+    all = λ s c t at.
+        let b = table.trie.bounds s c t at in
+        let some = edge_of_child (edges_at edges s) t (listed_of_child cmp total edges (depths_of states) table s c t at) in
+        let p = is_parent s (omega (arith, b.0, b.3)) b.1 some in
+        (p.0, omega (arith, p.1, length-map gs (λ g. g.parent)), get_or_default (parents_of gs) p.0 0 s p.1 ∙ p.2);
+  }
+
+-- ---- codes that tell the children of a state apart
+-- the child at a place: an edge of the parent, by its code
+module _ {L : Type 0} (code : L → ℕ) where
+  coded_at : (es : List (L × ℕ)) (j : ℕ) → j < length (coded code es) → (e : L × ℕ) × (slice_get es j ≡ Some e) × (get_or (coded code es) j (0, 0) ≡ (code e.0, e.1))
+  coded_at [] j l = absurd (omega arith)
+  coded_at (e ∷ es) zero l = (e, refl, refl)
+  coded_at (e ∷ es) (suc j) l = coded_at es j (omega arith)
+
+once_place : (xs : List ℕ) (i j : ℕ) → StandOnce xs → i < length xs → j < length xs → get_or xs i 0 ≡ get_or xs j 0 → i ≡ j
+once_place xs i j once hi hj same = one_place xs i j (distinct_once xs once) hi hj same
+
+module _ {L V A : Type 0} (cmp : L → L → Ordering) (total : IsTotalOrder cmp) (states : List (NfaBuilderState L V A)) (table : HoldTrie cmp states) (code : L → ℕ) (block : ℕ) (codes : AreCodes cmp (edges_of states) code block) (gs : List (SiblingGroup A)) (trie : AreTrieGroups cmp code states gs) where
+  -- the edge to child j of group k
+  edge_at : (k j : ℕ) → k < length gs → j < length (children_of gs k) → (c : L) × (child_in cmp (edges_of states) (parent_of gs k) c ≡ Some (child_of (children_of gs k) j)) × (label_of (children_of gs k) j ≡ code c) × (j < length (children (edges_of states) (parent_of gs k))) × (get_or (children (edges_of states) (parent_of gs k)) j 0 ≡ child_of (children_of gs k) j)
+  edge_at k j hk hj =
+      let s = parent_of gs k in
+      let es = edges_at (edges_of states) s in
+      let same = trie.children k hk in
+      let at = coded_at code es j (omega (arith, hj, ap length same)) in
+      let child : get_or (children_of gs k) j (0, 0) ≡ (code at.0.0, at.0.1) = ap (λ cs. get_or cs j (0, 0)) same ∙ at.2 in
+      let id : at.0.1 ≡ child_of (children_of gs k) j = sym (ap (λ (p : ℕ × ℕ). p.1) child) in
+      let edge = child_at_place cmp total (edges_of states) (depths_of states) table s j at.0.0 at.0.1 at.1 in
+      let place = value_at es j at.0.0 at.0.1 at.1 in
+      (at.0.0, edge ∙ ap Some id, ap (λ (p : ℕ × ℕ). p.0) child, place.0, place.1 ∙ id)
+
+  -- children of one state are apart
+  child_places : (k i j : ℕ) → k < length gs → i < length (children_of gs k) → j < length (children_of gs k) → child_of (children_of gs k) i ≡ child_of (children_of gs k) j → i ≡ j
+  child_places k i j hk hi hj same =
+      let a = edge_at k i hk hi in
+      let b = edge_at k j hk hj in
+      once_place (children (edges_of states) (parent_of gs k)) i j (children_once cmp total (edges_of states) (depths_of states) table (parent_of gs k)) a.3 b.3 (a.4 ∙ same ∙ sym b.4)
+
+  pub placed_groups : AreGroups gs (length states) block
+  placed_groups = record {
+    some = λ k l. omega (arith, trie.some k l, ap length (trie.children k l), length-map {B = ℕ × ℕ} (edges_at (edges_of states) (parent_of gs k)) (λ e. (code e.0, e.1)));
+    labels = λ k l j h. let a = edge_at k j l h in omega (arith, a.2, codes.below (parent_of gs k) a.0 (child_of (children_of gs k) j) a.1);
+    distinct = λ k i j l hi hj same.
+        let a = edge_at k i l hi in
+        let b = edge_at k j l hj in
+        let c = codes.apart (parent_of gs k) a.0 b.0 (child_of (children_of gs k) i) (child_of (children_of gs k) j) a.1 b.1 (sym a.2 ∙ same ∙ b.2) in
+        child_places k i j l hi hj (same_Some _ _ (sym a.1 ∙ ap (child_in cmp (edges_of states) (parent_of gs k)) c ∙ b.1));
+    parents = λ k l. let r = trie.reached k l in omega (arith, (walk-bounds (child_in cmp (edges_of states)) (λ i. get_or (depths_of states) i 0) (length (edges_of states)) table.trie r.0 (parent_of gs k) r.1).0, length-map states (λ s. s.edges));
+    one_parent = trie.one_each;
+    ids = λ k l j h. let a = edge_at k j l h in let b = table.trie.bounds (parent_of gs k) a.0 (child_of (children_of gs k) j) a.1 in omega (arith, b.3, length-map states (λ s. s.edges));
+    above = λ k j l h. let a = edge_at k j l h in let b = table.trie.bounds (parent_of gs k) a.0 (child_of (children_of gs k) j) a.1 in b.2;
+    one_group = λ k l i j hk hl hi hj same.
+        let a = edge_at k i hk hi in
+        let b = edge_at l j hl hj in
+        trie.one_each k l hk hl (table.trie.one_parent (parent_of gs k) a.0 (parent_of gs l) b.0 (child_of (children_of gs k) i) a.1 (b.1 ∙ ap Some (sym same))).0;
+    one_child = λ k l i j hi hj same. child_places k i j l hi hj same;
+  }

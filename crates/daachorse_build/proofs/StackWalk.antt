@@ -1,0 +1,192 @@
+-- A walk with a stack over a trie: a state that comes off the stack is new, and so are its children, since each has one parent; so each state comes off once.
+use Rattle.std.proofs.Common.{◌≡◌, ◌≢◌, ℕ, zero, suc, ◌<◌, ◌≤◌, ◌⊎◌, List, [], ◌∷◌, ◌++◌, length, refl, sym, subst, inl, inr, arith, append_assoc}
+use Rattle.std.proofs.lemmas.List.{append-nil, length_push, take-append-le, get_or_append_left, take_at, get_or_push}
+use Rattle.std.specs.declared.cmp.Ordering.{Ordering}
+use Rattle.std.specs.Cmp.{IsTotalOrder}
+use Rattle.daachorse_build.specs.Tables.{IsTable}
+use Rattle.daachorse_build.specs.Orders.{IsIn, StandOnce, children}
+use Rattle.daachorse_build.specs.Groups.{IsWalk, IsWalking}
+use Rattle.daachorse_build.proofs.Queue.{in_left, in_right, in_cases, in_same, in_equal, place_of, once_push, length-once, children_once, child_of_listed, listed_of_child, bounds_of_listed}
+
+-- ---- lists of numbers that each stand once
+once_none : StandOnce []
+once_none i l h = absurd (omega arith)
+
+pub once_tail : (x : ℕ) (xs : List ℕ) → StandOnce (x ∷ xs) → StandOnce xs
+once_tail x xs once i l h = once (suc i) (omega arith) (inr h)
+
+pub once_head : (x : ℕ) (xs : List ℕ) → StandOnce (x ∷ xs) → IsIn xs x → ⊥
+once_head x xs once h =
+    let p = place_of xs x h in once (suc p.0) (omega (arith, p.1)) (inl (sym p.2))
+
+-- all but the last
+once_front : (xs : List ℕ) (x : ℕ) → StandOnce (xs ++ x ∷ []) → StandOnce xs
+once_front xs x once i l h =
+    let len = length_push xs x in
+    once i (omega (arith, len)) (in_same _ _ _ (sym (take-append-le i xs (x ∷ []) (omega arith))) (in_equal _ _ _ (sym (get_or_append_left xs (x ∷ []) 0 i l)) h))
+
+-- the last
+once_last : (xs : List ℕ) (x : ℕ) → StandOnce (xs ++ x ∷ []) → IsIn xs x → ⊥
+once_last xs x once h =
+    let len = length_push xs x in
+    once (length xs) (omega (arith, len)) (in_same _ _ _ (sym (take_at xs (x ∷ []) (length xs) refl)) (in_equal _ _ _ (sym (get_or_push xs x 0 (length xs) refl)) h))
+
+-- two lists that have no number in common
+once_append : (xs ys : List ℕ) → StandOnce xs → StandOnce ys → ((t : ℕ) → IsIn xs t → IsIn ys t → ⊥) → StandOnce (xs ++ ys)
+once_append xs [] one two apart = let P : List ℕ → Type 0 = λ zs. StandOnce zs in subst P (sym (append-nil xs)) one
+once_append xs (y ∷ ys) one two apart =
+    let P : List ℕ → Type 0 = λ zs. StandOnce zs in
+    let push = once_push xs y one (λ h. apart y h (inl refl)) in
+    let rest = once_append (xs ++ y ∷ []) ys push (once_tail y ys two)
+    (λ t h k. elim (in_cases xs (y ∷ []) t h) [
+      | inl a ↦ apart t a (inr k)
+      | inr b ↦ elim b [ inl e ↦ once_head y ys two (in_equal ys t y (sym e) k) | inr none ↦ absurd none ]
+    ]) in
+    subst P (append_assoc xs (y ∷ []) ys) rest
+
+-- ---- the walk
+module _ {L : Type 0} (cmp : L → L → Ordering) (total : IsTotalOrder cmp) (edges : List (List (L × ℕ))) (depths : List ℕ) (table : IsTable cmp edges depths) where
+  -- a child comes after its parent
+  child_above : (s t : ℕ) → IsIn (children edges s) t → s < t
+  child_above s t h = let e = child_of_listed cmp total edges depths table s t h in (table.trie.bounds s e.0 t e.1).0
+
+  -- a child has one parent
+  parent_same : (s u t : ℕ) → IsIn (children edges s) t → IsIn (children edges u) t → s ≡ u
+  parent_same s u t h k =
+      let e = child_of_listed cmp total edges depths table s t h in
+      let f = child_of_listed cmp total edges depths table u t k in
+      (table.trie.one_parent s e.0 u f.0 t e.1 f.1).0
+
+  pub walk_start : IsWalking edges [] (0 ∷ [])
+  walk_start = record {
+    once = once_none;
+    once_stack = once_push [] 0 once_none (λ h. h);
+    apart = λ t h k. h;
+    states = λ t h. elim h [
+      | inl none ↦ absurd none
+      | inr a ↦ elim a [ inl e ↦ (omega (arith, e, table.trie.two), omega (arith, e)) | inr none ↦ absurd none ]
+    ];
+    root = inr (inl refl);
+    covers = λ s t h k. absurd h;
+    from = λ t h. elim h [
+      | inl none ↦ absurd none
+      | inr a ↦ elim a [ inl e ↦ inl (sym e) | inr none ↦ absurd none ]
+    ];
+  }
+
+  module _ (order rest : List ℕ) (s : ℕ) (walking : IsWalking edges order (rest ++ s ∷ [])) where
+    on_stack : IsIn (rest ++ s ∷ []) s
+    on_stack = in_right rest (s ∷ []) s (inl refl)
+
+    pub top_bounds : (s < length edges) × (s ≢ 1)
+    top_bounds = walking.states s (inr on_stack)
+
+    pub top_new : IsIn order s → ⊥
+    top_new h = walking.apart s h on_stack
+
+    -- where a state was before
+    old_place : (t : ℕ) → IsIn (order ++ s ∷ []) t ⊎ IsIn rest t → IsIn order t ⊎ IsIn (rest ++ s ∷ []) t
+    old_place t (inl h) =
+        elim (in_cases order (s ∷ []) t h) [ inl a ↦ inl a | inr b ↦ inr (in_right rest (s ∷ []) t b) ]
+    old_place t (inr h) = inr (in_left rest (s ∷ []) t h)
+
+    -- where it is now
+    new_place : (t : ℕ) → IsIn order t ⊎ IsIn (rest ++ s ∷ []) t → IsIn (order ++ s ∷ []) t ⊎ IsIn (rest ++ children edges s) t
+    new_place t (inl h) = inl (in_left order (s ∷ []) t h)
+    new_place t (inr h) =
+        elim (in_cases rest (s ∷ []) t h) [
+          | inl a ↦ inr (in_left rest (children edges s) t a)
+          | inr b ↦ inl (in_right order (s ∷ []) t b)
+        ]
+
+    -- a child of the state that comes off is new
+    child_fresh : (t : ℕ) → IsIn (children edges s) t → IsIn order t ⊎ IsIn (rest ++ s ∷ []) t → ⊥
+    child_fresh t h place =
+        elim (walking.from t place) [
+          | inl e ↦ omega (arith, e, child_above s t h)
+          | inr p ↦ top_new (in_equal order p.0 s (parent_same p.0 s t p.2 h) p.1)
+        ]
+
+    -- where a state came from
+    comes_from : (t : ℕ) → IsIn (order ++ s ∷ []) t ⊎ IsIn (rest ++ children edges s) t → (IsIn order t ⊎ IsIn (rest ++ s ∷ []) t) ⊎ IsIn (children edges s) t
+    comes_from t (inl h) = inl (old_place t (inl h))
+    comes_from t (inr h) =
+        elim (in_cases rest (children edges s) t h) [ inl a ↦ inl (old_place t (inr a)) | inr b ↦ inr b ]
+
+    next_apart : (t : ℕ) → IsIn (order ++ s ∷ []) t → IsIn (rest ++ children edges s) t → ⊥
+    next_apart t h k =
+        elim (in_cases rest (children edges s) t k) [
+          | inl a ↦
+              elim (in_cases order (s ∷ []) t h) [
+                | inl b ↦ walking.apart t b (in_left rest (s ∷ []) t a)
+                | inr b ↦ elim b [ inl e ↦ once_last rest s walking.once_stack (in_equal rest t s (sym e) a) | inr none ↦ absurd none ]
+              ]
+          | inr c ↦ child_fresh t c (old_place t (inl h))
+        ]
+
+    -- a state comes off the stack, and its children are put on
+    pub walk_step : IsWalking edges (order ++ s ∷ []) (rest ++ children edges s)
+    walk_step = record {
+      once = once_push order s walking.once top_new;
+      once_stack = once_append rest (children edges s) (once_front rest s walking.once_stack) (children_once cmp total edges depths table s)
+          (λ t h k. child_fresh t k (old_place t (inr h)));
+      apart = next_apart;
+      states = λ t h. elim (comes_from t h) [
+        | inl old ↦ walking.states t old
+        | inr c ↦ let b = bounds_of_listed cmp total edges depths table s t c in (b.1, omega (arith, b.0))
+      ];
+      root = new_place 0 walking.root;
+      covers = λ u t h k. elim (in_cases order (s ∷ []) u h) [
+        | inl a ↦ new_place t (walking.covers u t a k)
+        | inr b ↦ elim b [
+          | inl e ↦ let P : ℕ → Type 0 = λ v. IsIn (children edges v) t in inr (in_right rest (children edges s) t (subst P (sym e) k))
+          | inr none ↦ absurd none
+        ]
+      ];
+      from = λ t h. elim (comes_from t h) [
+        | inl old ↦ elim (walking.from t old) [ inl e ↦ inl e | inr p ↦ inr (p.0, in_left order (s ∷ []) p.0 p.1, p.2) ]
+        | inr c ↦ inr (s, in_right order (s ∷ []) s (inl refl), c)
+      ];
+    }
+
+    -- there is a state more than have come off
+    pub more_states : length order < length edges
+    more_states =
+        let len = length_push order s in
+        let fits = length-once (order ++ s ∷ []) (length edges) (once_push order s walking.once top_new)
+        (λ t h. (walking.states t (old_place t (inl h))).0) in
+        omega (arith, len, fits)
+
+  -- where the stack is empty, each state has come off
+  module _ (order : List ℕ) (walking : IsWalking edges order []) where
+    off : (t : ℕ) → IsIn order t ⊎ IsIn [] t → IsIn order t
+    off t (inl h) = h
+    off t (inr none) = absurd none
+
+    all_off : (k t : ℕ) → t ≤ k → t < length edges → t ≢ 1 → IsIn order t
+    all_off k zero h l ne = off 0 walking.root
+    all_off zero (suc t) h l ne = absurd (omega arith)
+    all_off (suc k) (suc zero) h l ne = absurd (ne refl)
+    all_off (suc k) (suc (suc t)) h l ne =
+        let p = table.trie.reached (suc (suc t)) (omega arith) l in
+        let b = table.trie.bounds p.0 p.1 (suc (suc t)) p.2 in
+        off (suc (suc t)) (walking.covers p.0 (suc (suc t)) (all_off k p.0 (omega (arith, b.0, h)) (omega (arith, b.0, l)) b.1) (listed_of_child cmp total edges depths table p.0 p.1 (suc (suc t)) p.2))
+
+    pub walk_end : IsWalk edges order
+    walk_end = record {
+      states = λ t h. walking.states t (inl h);
+      all = λ t l ne. all_off t t (omega arith) l ne;
+      once = walking.once;
+    }
+
+  -- the dead state is none of them
+  pub length-walk : (order : List ℕ) → IsWalk edges order → length order < length edges
+  length-walk order walk =
+      let len = length_push order 1 in
+      let push = once_push order 1 walk.once (λ h. (walk.states 1 h).1 refl) in
+      let fits = length-once (order ++ 1 ∷ []) (length edges) push
+      (λ t h. elim (in_cases order (1 ∷ []) t h) [
+        | inl a ↦ (walk.states t a).0
+        | inr b ↦ elim b [ inl e ↦ omega (arith, e, table.trie.two) | inr none ↦ absurd none ]
+      ]) in
+      omega (arith, len, fits)

@@ -1,0 +1,85 @@
+-- The groups of siblings of a trie: each state that has edges is the parent of one, with its children in order of labels.
+use Rattle.std.specs.Prelude.{◌≡◌, ◌≢◌, ℕ, ◌<◌, ◌⊎◌, Bool, true, false, List, [], ◌∷◌, length, map, slice_index_or, Some}
+use Rattle.std.specs.declared.cmp.Ordering.{Ordering}
+use Rattle.std.specs.List.{All, AllZip}
+use Rattle.daachorse_model.specs.Paths.{Leads}
+use Rattle.daachorse_placement.specs.declared.build_helper.SiblingGroup.{SiblingGroup}
+use Rattle.daachorse_placement.specs.declared.build_helper.profile.Profile.{Profile}
+use Rattle.daachorse_placement.specs.Placement.{children_of, parent_of}
+use Rattle.daachorse_build.specs.declared.nfa_builder.NfaBuilderState.{NfaBuilderState}
+use Rattle.daachorse_build.specs.Tables.{edges_of, child_in, child_of}
+use Rattle.daachorse_build.specs.Orders.{IsIn, StandOnce, children}
+
+-- ---- labels and their codes
+-- the edges of a state, by rising labels
+abbrev pub edges_at : {L : Type 0} → List (List (L × ℕ)) → ℕ → List (L × ℕ)
+edges_at edges s = slice_index_or edges s []
+
+-- edges with the code of each label in its place
+abbrev pub coded : {L : Type 0} → (L → ℕ) → List (L × ℕ) → List (ℕ × ℕ)
+coded code es = map (λ e. (code e.0, e.1)) es
+
+-- what is given for the label of an edge is its code
+abbrev pub GivesCodes : {L : Type 0} → (L → L → Ordering) → List (List (L × ℕ)) → (L → ℕ → Type 0) → (L → ℕ) → Type 0
+GivesCodes {L} cmp edges gives code =
+    (s : ℕ) (c : L) (t : ℕ) → child_in cmp edges s c ≡ Some t → (r : ℕ) → gives c r → r ≡ code c
+
+-- the codes of the labels of edges are below the length of a block, and tell the children of a state apart
+pub record AreCodes {L : Type 0} (cmp : L → L → Ordering) (edges : List (List (L × ℕ))) (code : L → ℕ) (block : ℕ) : Type 0 where
+  pub below : (s : ℕ) (c : L) (t : ℕ) → child_in cmp edges s c ≡ Some t → code c < block
+  pub apart : (s : ℕ) (c d : L) (t u : ℕ) → child_in cmp edges s c ≡ Some t → child_in cmp edges s d ≡ Some u → code c ≡ code d → c ≡ d
+
+-- the groups of a trie, one for each state with an edge
+pub record AreTrieGroups {L V A : Type 0} (cmp : L → L → Ordering) (code : L → ℕ) (states : List (NfaBuilderState L V A)) (gs : List (SiblingGroup A)) : Type 0 where
+  pub children : (k : ℕ) → k < length gs → children_of gs k ≡ coded code (edges_at (edges_of states) (parent_of gs k))
+  pub some : (k : ℕ) → k < length gs → 0 < length (edges_at (edges_of states) (parent_of gs k))
+  pub reached : (k : ℕ) → k < length gs → (w : List L) × Leads (child_of cmp states) w (parent_of gs k)
+  pub one_each : (k l : ℕ) → k < length gs → l < length gs → parent_of gs k ≡ parent_of gs l → k ≡ l
+  pub all : (s : ℕ) (c : L) (t : ℕ) → child_of cmp states s c ≡ Some t → (k : ℕ) × (k < length gs) × (parent_of gs k ≡ s)
+
+-- no count, or one of each kind for each of n states
+abbrev pub IsProfileOf : {A : Type 0} → ℕ → Profile A → Type 0
+IsProfileOf n p = (p.visits.items ≡ []) ⊎ ((length p.visits.items ≡ n) × (length p.probes.items ≡ n))
+
+-- ---- the walk over the states
+-- whether there is an edge
+abbrev pub is_some_edge : {L : Type 0} → List (L × ℕ) → Bool
+is_some_edge [] = false
+is_some_edge (e ∷ es) = true
+
+-- whether a state has an edge
+abbrev pub has_edges : {L : Type 0} → List (List (L × ℕ)) → ℕ → Bool
+has_edges edges s = is_some_edge (edges_at edges s)
+
+-- each state that a text leads to stands once
+pub record IsWalk {L : Type 0} (edges : List (List (L × ℕ))) (order : List ℕ) : Type 0 where
+  pub states : (t : ℕ) → IsIn order t → (t < length edges) × (t ≢ 1)
+  pub all : (t : ℕ) → t < length edges → t ≢ 1 → IsIn order t
+  pub once : StandOnce order
+
+-- the states of the order have been taken off the stack, and their children put on it
+pub record IsWalking {L : Type 0} (edges : List (List (L × ℕ))) (order stack : List ℕ) : Type 0 where
+  pub once : StandOnce order
+  pub once_stack : StandOnce stack
+  pub apart : (t : ℕ) → IsIn order t → IsIn stack t → ⊥
+  pub states : (t : ℕ) → IsIn order t ⊎ IsIn stack t → (t < length edges) × (t ≢ 1)
+  pub root : IsIn order 0 ⊎ IsIn stack 0
+  pub covers : (s t : ℕ) → IsIn order s → IsIn (children edges s) t → IsIn order t ⊎ IsIn stack t
+  pub from : (t : ℕ) → IsIn order t ⊎ IsIn stack t → (t ≡ 0) ⊎ ((s : ℕ) × IsIn order s × IsIn (children edges s) t)
+
+-- ---- one group
+-- the edges, with what was given for each label
+abbrev pub AreGiven : {L : Type 0} → (L → ℕ → Type 0) → List (L × ℕ) → List (ℕ × ℕ) → Type 0
+AreGiven gives es cs = AllZip (λ e c. gives e.0 c.0 × (c.1 ≡ e.1)) es cs
+
+-- the parents of groups
+abbrev pub parents_of : {A : Type 0} → List (SiblingGroup A) → List ℕ
+parents_of gs = map (λ g. g.parent) gs
+
+-- each group has the children of its parent
+abbrev pub AreFamilies : {L A : Type 0} → (L → ℕ → Type 0) → List (List (L × ℕ)) → List (SiblingGroup A) → Type 0
+AreFamilies gives edges gs = All (λ g. AreGiven gives (edges_at edges g.parent) g.children.items) gs
+
+-- no group asks to be placed well
+abbrev pub AreLight : {A : Type 0} → List (SiblingGroup A) → Type 0
+AreLight gs = All (λ g. g.weight ≡ 0) gs

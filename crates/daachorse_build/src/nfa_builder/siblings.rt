@@ -1,0 +1,128 @@
+//! The groups of siblings of a trie: each parent with its children.
+//!
+//! The layer above may rely on one group for each state with an edge, in the order in which a
+//! stack of states gives them.
+
+ghost use Rattle.std.specs.Prelude.{◌≡◌, ℕ, ◌<◌, ◌++◌, [], length, map, filter, slice_index, IfOk, IfErr, OnOk};
+ghost use Rattle.std.specs.Map.{values_of};
+ghost use Rattle.daachorse_core.specs.Refusals.{IsOutOfMemory};
+ghost use Rattle.daachorse_build.specs.Tables.{edges_of, HoldTrie};
+ghost use Rattle.daachorse_build.specs.Groups.{edges_at, has_edges, IsWalk, IsProfileOf, AreGiven, AreFamilies, AreLight, parents_of};
+
+use super::{NfaBuilderState, ROOT_STATE_ID};
+use crate::edge_map::EdgeMap;
+use daachorse_core::edge_label::EdgeLabel;
+use daachorse_core::errors::Result;
+use daachorse_placement::build_helper::{Profile, SiblingGroup};
+use std::alloc::Allocator;
+
+/// The states that a text leads to, as a stack gives them that begins with the root: where a state
+/// is taken off, its children are put on in order of labels, so that the last comes off first.
+pub(super) fn depth_first<L: EdgeLabel, V: Copy, A: Allocator + Copy>(
+    alloc: A,
+    states: &[NfaBuilderState<L, V, A>],
+) -> Result<Vec<u32, A>>
+    requires { HoldTrie L.cmp states.now }
+    ensures walk { IfOk result (λ order. IsWalk (edges_of states.now) order.items) }
+    ensures refused { IfErr result IsOutOfMemory }
+{
+    let mut order = Vec::with_capacity(alloc, states.len())?;
+    let mut stack = Vec::new(alloc);
+    stack.push(ROOT_STATE_ID)?;
+    while let Some(id) = stack.pop() {
+        put_children(&mut stack, states[id as usize].edges())?;
+        order.push(id)?;
+    }
+    Ok(order)
+}
+
+/// Puts the children of a state on the stack, in order of labels.
+fn put_children<L: EdgeLabel, A: Allocator>(
+    stack: &mut Vec<u32, A>,
+    edges: &EdgeMap<L, A>,
+) -> Result<()>
+    ensures children { OnOk result (stack.new.items ≡ stack.old.items ++ values_of edges.now) }
+    ensures refused { IfErr result IsOutOfMemory }
+{
+    for id in edges.values() {
+        stack.push(*id)?;
+    }
+    Ok(())
+}
+
+/// The groups of the states of `order` that have edges.
+pub(super) fn groups_of<L: EdgeLabel, V: Copy, A: Allocator + Copy, F: Fn(L) -> u32>(
+    alloc: A,
+    states: &[NfaBuilderState<L, V, A>],
+    order: &[u32],
+    profile: &Profile<A>,
+    map_label: &F,
+) -> Result<Vec<SiblingGroup<A>, A>>
+    requires trie { HoldTrie L.cmp states.now }
+    requires order { IsWalk (edges_of states.now) order.now }
+    requires profile { IsProfileOf (length states.now) profile.now }
+    requires callable { F.IsAlwaysCallable map_label.now }
+    ensures parents { IfOk result (λ groups. parents_of groups.items ≡ filter (has_edges (edges_of states.now)) order.now) }
+    ensures families { IfOk result (λ groups. AreFamilies (F.post map_label.now) (edges_of states.now) groups.items) }
+    ensures light { profile.now.visits.items ≡ [] → IfOk result (λ groups. AreLight groups.items) }
+    ensures refused { IfErr result IsOutOfMemory }
+{
+    let mut groups = Vec::new(alloc);
+    for id in order {
+        let edges = states[*id as usize].edges();
+        if !edges.is_empty() {
+            let weight = weight_of(states, profile, *id);
+            groups.push(group_of(alloc, *id, edges, weight, map_label)?)?;
+        }
+    }
+    Ok(groups)
+}
+
+/// The group of a parent with these edges.
+fn group_of<L: EdgeLabel, A: Allocator + Copy, F: Fn(L) -> u32>(
+    alloc: A,
+    parent: u32,
+    edges: &EdgeMap<L, A>,
+    weight: usize,
+    map_label: &F,
+) -> Result<SiblingGroup<A>>
+    requires callable { F.IsAlwaysCallable map_label.now }
+    ensures parent { IfOk result (λ group. group.parent ≡ parent) }
+    ensures children { IfOk result (λ group. AreGiven (F.post map_label.now) edges.now group.children.items) }
+    ensures weight { IfOk result (λ group. group.weight ≡ weight) }
+    ensures refused { IfErr result IsOutOfMemory }
+{
+    let mut children = Vec::with_capacity(alloc, edges.len())?;
+    for (label, id) in edges.iter() {
+        children.push((map_label(*label), *id))?;
+    }
+    Ok(SiblingGroup {
+        parent,
+        children,
+        weight,
+    })
+}
+
+/// The probes of a parent and the visits of its children, as far as they can be counted.
+fn weight_of<L: EdgeLabel, V: Copy, A: Allocator>(
+    states: &[NfaBuilderState<L, V, A>],
+    profile: &Profile<A>,
+    parent: u32,
+) -> usize
+    requires trie { HoldTrie L.cmp states.now }
+    requires parent { parent < length states.now }
+    requires profile { IsProfileOf (length states.now) profile.now }
+    ensures light { profile.now.visits.items ≡ [] → result ≡ 0 }
+{
+    if profile.is_empty() {
+        return 0;
+    }
+    let mut weight = profile.probes[parent as usize];
+    for id in states[parent as usize].edges().values() {
+        weight = weight.saturating_add(profile.visits[*id as usize]);
+    }
+    weight
+}
+
+#[cfg(test)]
+mod tests;

@@ -1,0 +1,3 @@
+pub mod PathLaws
+pub mod ChainLaws
+pub mod MachineLaws

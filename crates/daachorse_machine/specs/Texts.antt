@@ -1,5 +1,5 @@
 -- The text of an element: the units on its path from element 0.
-use Rattle.std.specs.Prelude.{◌≡◌, ℕ, zero, suc, ◌==◌, cond, List, [], ◌∷◌, Option, Some, None, option_and_then}
+use Rattle.std.specs.Prelude.{ℕ, zero, suc, ◌==◌, cond, List, [], ◌∷◌, Option, Some, None, option_and_then}
 use Rattle.daachorse_model.specs.Paths.{Leads}
 
 -- the first of two: the unit c before what was found behind it, or what another unit gives

@@ -1,0 +1,3 @@
+pub mod ChildLaws
+pub mod ByteLaws
+pub mod DeadLaws

@@ -5,3 +5,5 @@
 #![tactic(auto)]
 
 pub mod state;
+pub mod states;
+pub mod views;

@@ -16,17 +16,13 @@ use Rattle.daachorse_search.specs.Looks.{LookGives}
 use Rattle.daachorse_machine.specs.Machines.{IsMachine}
 use Rattle.daachorse_machine.proofs.MachineLaws.{Reached-inside, Reached-root, Reached-chain, text-root, root-text, turn-next, turn-root, turn-dead, turn-fail, standard-alive}
 use Rattle.daachorse_bytewise_states.specs.Parts.{Parts, base_of, check_of, child, content, count, fail_of, machine, output_of}
-use Rattle.daachorse_bytewise_states.specs.Valid.{IsRootTable, IsState, IsStored, IsValid, dead, text}
+use Rattle.daachorse_bytewise_states.specs.Valid.{IsRootTable, IsState, IsValid, dead, text}
 use Rattle.daachorse_bytewise_states.proofs.ChildLaws.{child_by-inside}
 use Rattle.daachorse_bytewise_states.proofs.DeadLaws.{alive}
 
 below_256 : (b : Bool) (m n : ℕ) → cond b (m % 256) (n % 256) < 256
 below_256 true m n = omega arith
 below_256 false m n = omega arith
-
--- parts that are equal to stored ones
-pub stored_of : {V : Type 0} (p q : Parts V) (root : List ℕ) → q ≡ p → IsStored q root → IsStored p root
-stored_of {V} p q root is stored = let P : Parts V → Type 0 = λ x. IsStored x root in subst P is stored
 
 module _ {V : Type 0} (p : Parts V) where
   -- what a look at an element gives for a byte

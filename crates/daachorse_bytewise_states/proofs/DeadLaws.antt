@@ -10,10 +10,10 @@ use Rattle.daachorse_bytewise_states.specs.Parts.{Parts, content, machine}
 use Rattle.daachorse_bytewise_states.specs.Valid.{dead}
 
 -- a kind is standard, or one of the leftmost
-pub standard_kind : (kind : MatchKind) → is_leftmost kind ≡ false → kind ≡ Standard
-standard_kind Standard is = refl
-standard_kind LeftmostLongest is = absurd (cc)
-standard_kind LeftmostFirst is = absurd (cc)
+pub kind_standard : (kind : MatchKind) → is_leftmost kind ≡ false → kind ≡ Standard
+kind_standard Standard is = refl
+kind_standard LeftmostLongest is = absurd (cc)
+kind_standard LeftmostFirst is = absurd (cc)
 
 pub leftmost_kind : (kind : MatchKind) → kind ≢ Standard → is_leftmost kind ≡ true
 leftmost_kind Standard other = absurd (other refl)

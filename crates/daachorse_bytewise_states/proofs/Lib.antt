@@ -1,3 +1,5 @@
 pub mod ChildLaws
 pub mod ByteLaws
 pub mod DeadLaws
+pub mod StandardLaws
+pub mod LeftmostLaws

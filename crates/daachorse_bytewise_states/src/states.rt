@@ -3,7 +3,7 @@
 //! The layers above may rely on the parts being those that were stored, on their being valid, and
 //! on the views of them being the same automaton. Only [`States::new`] takes memory.
 
-ghost use Rattle.std.specs.Prelude.{◌≡◌, ◌<◌, ◌%◌, length, map, slice_index_or, IfOk, IfErr};
+ghost use Rattle.std.specs.Prelude.{◌≡◌, ◌≢◌, ◌<◌, ◌%◌, length, map, slice_index_or, IfOk, IfErr};
 ghost use Rattle.daachorse_core.specs.Refusals.{IsOutOfMemory};
 ghost use Rattle.daachorse_model.specs.declared.MatchKind.TheVariants.{Standard};
 ghost use Rattle.daachorse_model.specs.Paths.{is_reached};
@@ -140,6 +140,22 @@ impl<V: Copy, A: Allocator> States<V, A> {
         views::Standard::new(
             self.standard.as_slice(),
             self.root.as_slice(),
+            self.outputs.as_slice(),
+            self.num_states,
+        )
+    }
+
+    /// What the leftmost searches see.
+    #[inline(always)]
+    #[tactic(auto, using(crate::proofs::DeadLaws::leftmost_kind))]
+    pub fn leftmost(&self) -> views::Leftmost<'_, V>
+        requires { self.now.kind ≢ Standard }
+        ensures { result ≡ self.entry.now }
+    {
+        views::Leftmost::new(
+            self.kind,
+            self.leftmost.as_slice(),
+            self.fails.as_slice(),
             self.outputs.as_slice(),
             self.num_states,
         )

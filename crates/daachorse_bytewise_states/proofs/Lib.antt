@@ -4,3 +4,8 @@ pub mod PackedParts
 pub mod PackedValid
 pub mod ManyGroups
 pub mod ByteGroups
+pub mod ChildLaws
+pub mod ByteLaws
+pub mod DeadLaws
+pub mod StandardLaws
+pub mod LeftmostLaws

@@ -3,6 +3,7 @@ use Rattle.std.specs.Prelude.{ℕ, ◌==◌, bit_xor, nat_lt, cond, List, [], le
 use Rattle.daachorse_core.specs.declared.outputs.Empty.{Empty}
 use Rattle.daachorse_core.specs.declared.outputs.Output.{Output}
 use Rattle.daachorse_model.specs.declared.MatchKind.{MatchKind}
+use Rattle.daachorse_model.specs.declared.MatchKind.TheVariants.{Standard}
 use Rattle.daachorse_model.specs.Kinds.{is_leftmost}
 use Rattle.daachorse_model.specs.Units.{byte_width}
 use Rattle.daachorse_model.specs.Dictionary.{Dictionary}
@@ -22,10 +23,19 @@ pub record Parts (V : Type 0) : Type 0 where
   -- how many texts begin a pattern, the empty one among them
   pub num_states : ℕ
 
--- What byte c leads to from element i of n in a double array: the element `base XOR c`, if its check is c. An element without a base leads nowhere.
+-- What byte c leads to from an element with this base, of n in a double array: the element `base XOR c`, if its check is c. A base of 0 leads nowhere.
+abbrev pub child_by : ℕ → ℕ → (ℕ → ℕ) → ℕ → Option ℕ
+child_by n base check c =
+    let j = bit_xor base c in cond (base == 0) None (cond (nat_lt j n) (cond (check j == c) (Some j) None) None)
+
+-- what it leads to from element i
 abbrev pub child_in : ℕ → (ℕ → ℕ) → (ℕ → ℕ) → ℕ → ℕ → Option ℕ
-child_in n base check i c =
-    let j = bit_xor (base i) c in cond (base i == 0) None (cond (nat_lt j n) (cond (check j == c) (Some j) None) None)
+child_in n base check i c = child_by n (base i) check c
+
+-- the same among these elements, where `default` stands past the last
+abbrev pub child_among : {F : Type 0} → State F → List (State F) → ℕ → ℕ → Option ℕ
+child_among default elements =
+    child_in (length elements) (λ i. base_in (slice_index_or elements i default)) (λ i. check_in (slice_index_or elements i default))
 
 module _ {V : Type 0} (p : Parts V) where
   -- the number of elements
@@ -59,8 +69,17 @@ module _ {V : Type 0} (p : Parts V) where
 abbrev pub without_link : State ℕ → State Empty
 without_link e = record { base = e.base; fail = record {}; packed = e.packed }
 
+-- the parts of standard searches
+abbrev pub standard_parts : {V : Type 0} → List (State ℕ) → List (Output V) → ℕ → Parts V
+standard_parts elements outputs n =
+    record { kind = Standard; standard = elements; leftmost = []; fails = []; outputs = outputs; num_states = n }
+
+-- the parts of leftmost searches of a kind
+abbrev pub leftmost_parts : {V : Type 0} → MatchKind → List (State Empty) → List ℕ → List (Output V) → ℕ → Parts V
+leftmost_parts kind elements fails outputs n =
+    record { kind = kind; standard = []; leftmost = elements; fails = fails; outputs = outputs; num_states = n }
+
 -- the parts that elements with their links make up
 abbrev pub parts_of : {V : Type 0} → MatchKind → List (State ℕ) → List (Output V) → ℕ → Parts V
-parts_of kind elements outputs n = cond (is_leftmost kind)
-    (record { kind = kind; standard = []; leftmost = map without_link elements; fails = map fail_in elements; outputs = outputs; num_states = n })
-    (record { kind = kind; standard = elements; leftmost = []; fails = []; outputs = outputs; num_states = n })
+parts_of kind elements outputs n =
+    cond (is_leftmost kind) (leftmost_parts kind (map without_link elements) (map fail_in elements) outputs n) (standard_parts elements outputs n)

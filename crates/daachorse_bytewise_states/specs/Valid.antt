@@ -1,5 +1,5 @@
 -- Which parts are those of an automaton, and what a search sees of them.
-use Rattle.std.specs.Prelude.{◌≡◌, ℕ, ◌<◌, ◌≤◌, ◌%◌, Bool, true, false, List, [], length, slice_index, Option, Some, None}
+use Rattle.std.specs.Prelude.{◌≡◌, ℕ, ◌<◌, ◌≤◌, ◌%◌, Bool, true, false, List, [], length, slice_index, unwrap_or, Option}
 use Rattle.std.proofs.Common.{arith, refl}
 use Rattle.daachorse_core.specs.Outputs.{outputs_at, ParentsFall}
 use Rattle.daachorse_model.specs.declared.MatchKind.TheVariants.{Standard}
@@ -31,20 +31,15 @@ module _ {V : Type 0} (p : Parts V) where
     pub right : IsRight byte_width (machine p) (is_leftmost p.kind)
     pub counted : IsCounted (machine p) p.num_states
 
--- an element that there may be, or the root
-abbrev pub or_root : Option ℕ → ℕ
-or_root None = 0
-or_root (Some j) = j
-
--- what each byte leads to from the root, the root itself where there is nothing
-pub record IsRootTable {V : Type 0} (p : Parts V) (root : List ℕ) : Type 0 where
-  pub size : length root ≡ 256
-  pub right : (c : ℕ) → c < 256 → slice_index root c ≡ or_root (child p 0 c)
+-- the element of the child of each byte below n, the root where there is none
+pub record IsRootTable (child : ℕ → Option ℕ) (n : ℕ) (table : List ℕ) : Type 0 where
+  pub size : length table ≡ n
+  pub right : (c : ℕ) → c < n → slice_index table c ≡ unwrap_or (child c) 0
 
 -- what an automaton keeps: valid parts, and the table of the root if the searches are standard
 pub record IsStored {V : Type 0} (p : Parts V) (root : List ℕ) : Type 0 where
   pub valid : IsValid p
-  pub table : p.kind ≡ Standard → IsRootTable p root
+  pub table : p.kind ≡ Standard → IsRootTable (child p 0) 256 root
 
 -- ---- what a search sees
 module _ {V : Type 0} (p : Parts V) where

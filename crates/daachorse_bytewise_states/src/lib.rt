@@ -6,3 +6,5 @@
 
 mod packing;
 pub mod state;
+pub mod states;
+pub mod views;

@@ -3,11 +3,13 @@
 //! The layers above may rely on an element keeping its base, its check, its failure link and the
 //! position of its first output, each on its own.
 
-ghost use Rattle.std.specs.Prelude.{◌≡◌, ◌≤◌, ◌^◌, IfErr, OnOk, OnErr};
+ghost use Rattle.std.specs.Prelude.{◌≡◌, ◌<◌, ◌≤◌, ◌^◌, ◌%◌, IfErr, OnOk, OnErr, length, slice_index_or};
 ghost use Rattle.daachorse_core.specs.declared.errors.Limit.TheVariants.{OutputPos};
 ghost use Rattle.daachorse_core.specs.Outputs.{number};
 ghost use Rattle.daachorse_bytewise_states.specs.Elements.{base_in, check_in, fail_in, output_in};
+ghost use Rattle.daachorse_bytewise_states.specs.Parts.{child_by, without_link};
 
+use daachorse_core::Empty;
 use daachorse_core::errors::{DaachorseError, Limit, Result};
 use daachorse_serializer::intpack::{U24, U24nU8};
 use std::num::NonZeroU32;
@@ -110,5 +112,35 @@ impl<F: Copy> State<F> {
         };
         self.packed.set_a(position);
         Ok(())
+    }
+
+    /// The index of the element that a byte leads to, if there is one.
+    #[inline(always)]
+    pub fn child(&self, label: u8, states: &[State<F>]) -> Option<u32>
+        requires blocks { length states.now % 256 ≡ 0 }
+        requires inside { base_in self.now < length states.now }
+        ensures { result ≡ child_by (length states.now) (base_in self.now) (λ i. check_in (slice_index_or states.now i self.now)) label }
+    {
+        let base = self.base()?;
+        let child = base.get() ^ u32::from(label);
+        if states[child as usize].check() == label {
+            Some(child)
+        } else {
+            None
+        }
+    }
+}
+
+impl State<u32> {
+    /// The same element, whose link stands elsewhere.
+    #[inline(always)]
+    pub fn without_link(&self) -> State<Empty>
+        ensures { result ≡ without_link self.now }
+    {
+        State {
+            base: self.base,
+            fail: Empty,
+            packed: self.packed,
+        }
     }
 }

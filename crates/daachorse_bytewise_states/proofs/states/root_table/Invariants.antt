@@ -1,0 +1,7 @@
+use Rattle.daachorse_bytewise_states.specs.Elements.{vacant}
+use Rattle.daachorse_bytewise_states.specs.Parts.{child_among}
+use Rattle.daachorse_bytewise_states.specs.Valid.{IsRootTable}
+use Rattle.daachorse_bytewise_states.proofs.states.root_table.Given as goal
+
+abbrev pub invariant-loop-label : goal.invariant-loop-label
+invariant-loop-label g l = IsRootTable (child_among vacant l.states 0) l.label l.table.items

@@ -1,0 +1,203 @@
+//! The states of an automaton over bytes, as they are kept.
+//!
+//! The layers above may rely on the parts being those that were stored, on their being valid, and
+//! on the views of them being the same automaton. Only [`States::new`] takes memory.
+
+ghost use Rattle.std.specs.Prelude.{◌≡◌, ◌≢◌, ◌<◌, ◌%◌, length, map, slice_index_or, IfOk, IfErr};
+ghost use Rattle.daachorse_core.specs.Refusals.{IsOutOfMemory};
+ghost use Rattle.daachorse_model.specs.declared.MatchKind.TheVariants.{Standard};
+ghost use Rattle.daachorse_model.specs.Paths.{is_reached};
+ghost use Rattle.daachorse_model.specs.Prefixes.{PassesAt};
+ghost use Rattle.daachorse_bytewise_states.specs.Elements.{base_in, fail_in, vacant};
+ghost use Rattle.daachorse_bytewise_states.specs.Parts.{child, child_among, count, parts_of, without_link};
+ghost use Rattle.daachorse_bytewise_states.specs.Valid.{IsRootTable, IsValid};
+
+use crate::state::State;
+use crate::views;
+use daachorse_core::errors::Result;
+use daachorse_core::{Empty, MatchKind, Output, ROOT_STATE_IDX};
+use std::alloc::{Allocator, Global};
+use std::marker::Model;
+
+/// The states and the outputs of an automaton over bytes, with values of type `V`.
+///
+/// For the standard searches an element keeps its failure link, and a table says what each byte
+/// leads to from the root. For the leftmost searches the links stand beside the elements.
+#[derive(Drop)]
+pub struct States<V: Copy, A: Allocator = Global> {
+    kind: MatchKind,
+    standard: Vec<State<u32>, A>,
+    root: Vec<u32, A>,
+    leftmost: Vec<State<Empty>, A>,
+    fails: Vec<u32, A>,
+    outputs: Vec<Output<V>, A>,
+    num_states: u32,
+}
+
+impl<V: Copy, A: Allocator> Model for States<V, A> {
+    ghost use Rattle.daachorse_bytewise_states.specs.Parts.{Parts};
+    ghost use Rattle.daachorse_bytewise_states.specs.Valid.{IsStored};
+
+    ghost Value = { Parts V };
+
+    ghost view = { λ s. record {
+      kind = s.kind;
+      standard = s.standard.items;
+      leftmost = s.leftmost.items;
+      fails = s.fails.items;
+      outputs = s.outputs.items;
+      num_states = s.num_states;
+    } };
+
+    ghost invariant = { λ s. IsStored (record {
+      kind = s.kind;
+      standard = s.standard.items;
+      leftmost = s.leftmost.items;
+      fails = s.fails.items;
+      outputs = s.outputs.items;
+      num_states = s.num_states;
+    }) s.root.items };
+}
+
+impl<V: Copy, A: Allocator + Copy> States<V, A> {
+    /// The automaton that these elements and outputs make up.
+    ///
+    /// # Errors
+    ///
+    /// An allocation failed.
+    pub(crate) fn new(
+        alloc: A,
+        kind: MatchKind,
+        elements: Vec<State<u32>, A>,
+        outputs: Vec<Output<V>, A>,
+        num_states: u32,
+    ) -> Result<Self>
+        requires { IsValid (parts_of kind elements.items outputs.items num_states) }
+        ensures ok { IfOk result (λ s. s ≡ parts_of kind elements.items outputs.items num_states) }
+        ensures err { IfErr result IsOutOfMemory }
+    {
+        if kind.is_leftmost() {
+            let leftmost = without_links(alloc, elements.as_slice())?;
+            let fails = links(alloc, elements.as_slice())?;
+            return Ok(Self {
+                kind,
+                standard: Vec::new(alloc),
+                root: Vec::new(alloc),
+                leftmost,
+                fails,
+                outputs,
+                num_states,
+            });
+        }
+        let root = root_table(alloc, elements.as_slice())?;
+        Ok(Self {
+            kind,
+            standard: elements,
+            root,
+            leftmost: Vec::new(alloc),
+            fails: Vec::new(alloc),
+            outputs,
+            num_states,
+        })
+    }
+}
+
+impl<V: Copy, A: Allocator> States<V, A> {
+    /// The searches that the automaton is for.
+    #[inline(always)]
+    pub fn kind(&self) -> MatchKind
+        ensures { result ≡ self.now.kind }
+    {
+        self.kind
+    }
+
+    /// The number of elements, those included that are no state.
+    #[inline(always)]
+    pub fn num_elements(&self) -> usize
+        ensures { result ≡ count self.now }
+    {
+        if self.kind.is_leftmost() {
+            self.leftmost.len()
+        } else {
+            self.standard.len()
+        }
+    }
+
+    /// How many texts begin a pattern, the empty one among them.
+    #[inline(always)]
+    pub fn num_states(&self) -> u32
+        ensures { PassesAt (is_reached (child self.now)) result }
+    {
+        self.num_states
+    }
+
+    /// What the standard searches see.
+    #[inline(always)]
+    pub fn standard(&self) -> views::Standard<'_, V>
+        requires { self.now.kind ≡ Standard }
+        ensures { result ≡ self.entry.now }
+    {
+        views::Standard::new(
+            self.standard.as_slice(),
+            self.root.as_slice(),
+            self.outputs.as_slice(),
+            self.num_states,
+        )
+    }
+
+    /// What the leftmost searches see.
+    #[inline(always)]
+    #[tactic(auto, using(crate::proofs::DeadLaws::leftmost_kind))]
+    pub fn leftmost(&self) -> views::Leftmost<'_, V>
+        requires { self.now.kind ≢ Standard }
+        ensures { result ≡ self.entry.now }
+    {
+        views::Leftmost::new(
+            self.kind,
+            self.leftmost.as_slice(),
+            self.fails.as_slice(),
+            self.outputs.as_slice(),
+            self.num_states,
+        )
+    }
+}
+
+/// The element of each byte's child from the root, the root itself where there is none.
+fn root_table<A: Allocator>(alloc: A, states: &[State<u32>]) -> Result<Vec<u32, A>>
+    requires blocks { length states.now % 256 ≡ 0 }
+    requires some { 0 < length states.now }
+    requires inside { base_in (slice_index_or states.now 0 vacant) < length states.now }
+    ensures ok { IfOk result (λ table. IsRootTable (child_among vacant states.now 0) 256 table.items) }
+    ensures err { IfErr result IsOutOfMemory }
+{
+    let root = &states[ROOT_STATE_IDX as usize];
+    let mut table = Vec::with_capacity(alloc, 256)?;
+    for label in 0..256u32 {
+        table.push(root.child(label as u8, states).unwrap_or(ROOT_STATE_IDX))?;
+    }
+    Ok(table)
+}
+
+/// The elements without their links.
+fn without_links<A: Allocator>(alloc: A, states: &[State<u32>]) -> Result<Vec<State<Empty>, A>>
+    ensures ok { IfOk result (λ v. v.items ≡ map without_link states.now) }
+    ensures err { IfErr result IsOutOfMemory }
+{
+    let mut rest = Vec::with_capacity(alloc, states.len())?;
+    for state in states {
+        rest.push(state.without_link())?;
+    }
+    Ok(rest)
+}
+
+/// The links of the elements.
+fn links<A: Allocator>(alloc: A, states: &[State<u32>]) -> Result<Vec<u32, A>>
+    ensures ok { IfOk result (λ v. v.items ≡ map fail_in states.now) }
+    ensures err { IfErr result IsOutOfMemory }
+{
+    let mut fails = Vec::with_capacity(alloc, states.len())?;
+    for state in states {
+        fails.push(state.fail())?;
+    }
+    Ok(fails)
+}

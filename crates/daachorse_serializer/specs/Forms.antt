@@ -1,5 +1,5 @@
 -- Written forms, and what is taken off the front of bytes: nothing, or a value and the bytes behind it.
-use Rattle.std.specs.Prelude.{ℕ, zero, suc, ◌≤◌, ◌≡◌, ◌==◌, nat_lt, if◌then◌else◌, ℤ, List, [], ◌∷◌, ◌++◌, length, take, drop, Option, Some, None, Result, Ok, Err}
+use Rattle.std.specs.Prelude.{ℕ, zero, suc, ◌+◌, ◌≤◌, ◌≡◌, ◌==◌, nat_lt, if◌then◌else◌, ℤ, List, [], ◌∷◌, ◌++◌, length, take, drop, Option, Some, None, Result, Ok, Err}
 use Rattle.std.specs.Borrow.{Bor}
 use Rattle.std.specs.List.{flat_map}
 use Rattle.std.specs.Int.{Width, w32, byte_len, to_le_bytes, from_le_bytes, cast_unsigned, cast_signed}
@@ -44,6 +44,14 @@ abbrev pub Gives : {X : Type 0} → Result (X × Bor (List ℕ)) DaachorseError 
 Gives (Ok r) t = t ≡ Some (r.0, r.1.now)
 Gives (Err e) t = Refuses e t
 
+-- a read refuses bytes, for want of memory, or by what is the type's own
+abbrev pub IsReadRefusal : (DaachorseError → Type 0) → DaachorseError → Type 0
+IsReadRefusal own (InvalidAutomaton _) = Unit {0}
+IsReadRefusal own (OutOfMemory _) = Unit {0}
+IsReadRefusal own (InvalidArgument e) = own (InvalidArgument e)
+IsReadRefusal own (AutomatonScale e) = own (AutomatonScale e)
+IsReadRefusal own (InvalidConversion e) = own (InvalidConversion e)
+
 -- ---- one after the other
 
 -- the value that was taken, seen as another
@@ -86,6 +94,16 @@ option_form f (Some x) = 1 ∷ f x
 abbrev pub take_option : {X : Type 0} → (List ℕ → Taken X) → List ℕ → Taken (Option X)
 take_option t [] = None
 take_option t (flag ∷ rest) = if flag == 0 then Some (None, rest) else if flag == 1 then over Some (t rest) else None
+
+-- how long the form of an option is at most
+abbrev pub option_most : {X : Type 0} → (X → ℕ) → Option X → ℕ
+option_most most None = 1
+option_most most (Some x) = most x + 1
+
+-- what contracts see of an option
+abbrev pub option_shape : {X Y : Type 0} → (X → Y) → Option X → Option Y
+option_shape shape None = None
+option_shape shape (Some x) = Some (shape x)
 
 -- ---- lists: a count, then the items
 

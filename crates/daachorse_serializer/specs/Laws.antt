@@ -20,7 +20,7 @@ use Rattle.daachorse_serializer.specs.Outputs.{output_of, parts_of}
 use Rattle.daachorse_serializer.specs.declared.intpack.U24nU8.{U24nU8}
 use Rattle.daachorse_serializer.specs.Packed.{word_of, packed_of}
 use Rattle.daachorse_serializer.specs.Positions.{position_of, position_back}
-use Rattle.daachorse_serializer.specs.Forms.{Taken, Ends, IsForm, over, then_take, pair_form, take_pair, number_form, take_number, signed_form, take_signed, option_form, take_option, take_items, list_form, take_list}
+use Rattle.daachorse_serializer.specs.Forms.{Taken, Ends, IsForm, over, then_take, pair_form, take_pair, number_form, take_number, signed_form, take_signed, option_form, option_most, take_option, take_items, list_form, take_list}
 
 -- ---- numbers
 
@@ -163,10 +163,14 @@ module _ {X : Type 0} {P : X → Type 0} {form : X → List ℕ} {taken : List �
   option_leaves_end law (flag ∷ bytes) v rest e =
       ends_through (flag ∷ bytes) bytes rest (flagged_leaves_end (flag == 0) (flag == 1) bytes v rest law e) (flag ∷ [], refl)
 
-option_fits : {X : Type 0} (P : X → Type 0) (form : X → List ℕ) (n : ℕ) → ((v : X) → P v → length (form v) ≤ n)
-    → (v : Option X) → IfSome v P → length (option_form form v) ≤ n + 1
-option_fits P form n fits None h = omega arith
-option_fits P form n fits (Some x) h = omega (arith, fits x h)
+option_fits : {X : Type 0} (P : X → Type 0) (form : X → List ℕ) (most : X → ℕ) → ((v : X) → P v → length (form v) ≤ most v)
+    → (v : Option X) → IfSome v P → length (option_form form v) ≤ option_most most v
+option_fits P form most fits None h = omega arith
+option_fits P form most fits (Some x) h = omega (arith, fits x h)
+
+most_is_one_more : {X : Type 0} (n : ℕ) (v : Option X) → option_most (λ (_ : X). n) v ≤ n + 1
+most_is_one_more n None = omega arith
+most_is_one_more n (Some x) = omega arith
 
 -- the law of an option, from that of its value
 pub option_law : {X : Type 0} {P : X → Type 0} {form : X → List ℕ} {taken : List ℕ → Taken X} {n : ℕ}
@@ -174,7 +178,20 @@ pub option_law : {X : Type 0} {P : X → Type 0} {form : X → List ℕ} {taken 
 option_law {X} {P} {form} {taken} {n} law = record {
   reads_back = option_reads_back law;
   leaves_end = option_leaves_end law;
-  fits = option_fits P form n law.fits;
+  fits = λ v h. omega (arith, option_fits P form (λ _. n) law.fits v h, most_is_one_more n v);
+}
+
+both : {X : Type 0} (P Q : X → Type 0) (v : Option X) → IfSome v P × IfSome v Q → IfSome v (λ x. P x × Q x)
+both P Q None h = tt
+both P Q (Some x) h = h
+
+-- the same, where how long a form is goes by the value
+pub option_vec_law : {X : Type 0} {P Q : X → Type 0} {form : X → List ℕ} {taken : List ℕ → Taken X} {most : X → ℕ}
+    → IsForm (λ x. P x × Q x) form taken most → IsForm (λ v. IfSome v P × IfSome v Q) (option_form form) (take_option taken) (option_most most)
+option_vec_law {X} {P} {Q} {form} {taken} {most} law = record {
+  reads_back = λ v rest h. option_reads_back law v rest (both P Q v h);
+  leaves_end = option_leaves_end law;
+  fits = λ v h. option_fits (λ x. P x × Q x) form most law.fits v (both P Q v h);
 }
 
 -- ---- lists
@@ -199,12 +216,12 @@ module _ {X : Type 0} {P : X → Type 0} {form : X → List ℕ} {taken : List �
   items_fit (x ∷ xs) h = omega (arith, length-append (form x) (flat_map form xs), law.fits x h.0, items_fit xs h.1)
 
   -- The law of so many items without a count, from that of an item.
-  pub table_law : (count : ℕ) → IsForm (λ xs. (length xs ≡ count) × All P xs) (flat_map form) (take_items taken count) (λ xs. n * length xs)
+  pub table_law : (count : ℕ) → IsForm (λ xs. Unit {0} × ((length xs ≡ count) × All P xs)) (flat_map form) (take_items taken count) (λ xs. n * count)
   table_law count = record {
     reads_back = λ xs rest h.
-        subst (λ k. take_items taken k (flat_map form xs ++ rest) ≡ Some (xs, rest)) h.0 (items_read_back xs rest (recursion_from_All P xs h.1));
+        subst (λ k. take_items taken k (flat_map form xs ++ rest) ≡ Some (xs, rest)) h.1.0 (items_read_back xs rest (recursion_from_All P xs h.1.1));
     leaves_end = items_leave_end count;
-    fits = λ xs h. items_fit xs (recursion_from_All P xs h.1);
+    fits = λ xs h. subst (λ k. length (flat_map form xs) ≤ n * k) h.1.0 (items_fit xs (recursion_from_All P xs h.1.1));
   }
 
   -- The law of a list, from that of an item.

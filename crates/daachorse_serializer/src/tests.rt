@@ -1,7 +1,7 @@
 //! What no clause says: that each call succeeds where memory is ample, and the worked rows.
 
 use crate::intpack::{TooLargeError, U24, U24nU8};
-use crate::serializer::Serializable;
+use crate::serializer::{Serializable, SerializableVec, Table};
 use daachorse_core::errors::DaachorseError;
 use daachorse_core::{Empty, MatchKind, Output};
 use std::alloc::Global;
@@ -117,6 +117,60 @@ fn a_flag_past_one_is_refused(rt: HostRuntime) {
 fn each_other_byte_is_standard(rt: HostRuntime) -> Result<(), Fail> {
     let (kind, rest) = MatchKind::deserialize_from_slice(&[200, 42])?;
     assert_eq!(rt; kind, MatchKind::Standard);
+    assert_eq!(rt; rest, [42].as_slice());
+    Ok(())
+}
+
+#[test]
+fn a_list_has_its_form(rt: HostRuntime) -> Result<(), Fail> {
+    let alloc = rt.alloc();
+    let form = [
+        3, 0, 0, 0, 0x67, 0x45, 0x23, 0x01, 0xef, 0xcd, 0xab, 0x89, 0xce, 0x8a, 0x46, 0x02,
+    ];
+    let list = vec![in alloc; 0x0123_4567u32, 0x89ab_cdef, 0x0246_8ace]?;
+    list.in_range();
+    let mut bytes = Vec::new(alloc);
+    list.serialize_to_vec(&mut bytes)?;
+    assert_eq!(rt; bytes.as_slice(), form.as_slice());
+    assert_eq!(rt; list.serialized_bytes(), form.len());
+    bytes.push(42)?;
+    let (read, rest) = <Vec<u32>>::deserialize_from_slice(alloc, &bytes)?;
+    assert_eq!(rt; read.as_slice(), list.as_slice());
+    assert_eq!(rt; rest, [42].as_slice());
+    for len in 0..form.len() {
+        match <Vec<u32>>::deserialize_from_slice(alloc, &form[..len]) {
+            Ok(_) => assert!(rt; false),
+            Err(error) => assert_eq!(rt; error, DaachorseError::invalid_automaton()),
+        }
+    }
+    let hostile = [255, 255, 255, 255, 1];
+    assert!(rt; <Vec<u32>>::deserialize_from_slice(alloc, &hostile).is_err());
+    Ok(())
+}
+
+#[test]
+fn a_table_has_its_form(rt: HostRuntime) -> Result<(), Fail> {
+    let alloc = rt.alloc();
+    let items = vec![in alloc; 1u16, 2, 3]?;
+    assert_eq!(rt; items.len(), 3);
+    let table: Option<Table<u16, 3>> = Some(Table { items });
+    table.in_range();
+    let mut bytes = Vec::new(alloc);
+    table.serialize_to_vec(&mut bytes)?;
+    let form = [1, 1, 0, 2, 0, 3, 0];
+    assert_eq!(rt; bytes.as_slice(), form.as_slice());
+    assert_eq!(rt; table.serialized_bytes(), form.len());
+    bytes.push(42)?;
+    let (read, rest) = <Option<Table<u16, 3>>>::deserialize_from_slice(alloc, &bytes)?;
+    assert!(rt; read == table);
+    assert_eq!(rt; rest, [42].as_slice());
+    for len in 0..form.len() {
+        let answer = <Option<Table<u16, 3>>>::deserialize_from_slice(alloc, &form[..len]);
+        assert!(rt; answer.is_err());
+    }
+    let (none, rest) = <Option<Table<u16, 3>>>::deserialize_from_slice(alloc, &[0, 42])?;
+    assert!(rt; none.is_none());
+    assert_eq!(rt; none.serialized_bytes(), 1);
     assert_eq!(rt; rest, [42].as_slice());
     Ok(())
 }

@@ -1,1 +1,5 @@
+pub mod Forms
+pub mod Laws
 pub mod Packed
+pub mod Outputs
+pub mod Positions

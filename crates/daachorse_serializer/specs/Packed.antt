@@ -5,6 +5,9 @@ use Rattle.daachorse_serializer.specs.declared.intpack.U24nU8.{U24nU8}
 abbrev pub word_of : U24nU8 → ℕ
 word_of p = p.word
 
+abbrev pub packed_of : ℕ → U24nU8
+packed_of n = record { word = n }
+
 -- the part of 24 bits
 abbrev pub upper : U24nU8 → ℕ
 upper p = word_of p / 256

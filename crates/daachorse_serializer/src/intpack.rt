@@ -4,8 +4,16 @@
 //! while the other is set. No call takes memory or branches on the parts.
 
 ghost use Rattle.std.specs.Prelude.{◌≡◌, ◌<◌, ◌≤◌, ◌^◌, ℕ, Some, MatchResult};
-ghost use Rattle.daachorse_serializer.specs.Packed.{upper, lower, too_large_text};
+ghost use Rattle.std.specs.Prelude.{IfErr, length};
+ghost use Rattle.std.specs.Int.{w32};
+ghost use Rattle.daachorse_core.specs.declared.errors.DaachorseError.TheVariants.{InvalidAutomaton};
+ghost use Rattle.daachorse_serializer.specs.Forms.{Gives, number_form, over, take_number};
+ghost use Rattle.daachorse_serializer.specs.Laws.{packed_law};
+ghost use Rattle.daachorse_serializer.specs.Packed.{upper, lower, too_large_text, word_of, packed_of};
 
+use crate::serializer::Serializable;
+use daachorse_core::errors::Result;
+use std::alloc::Allocator;
 use std::error::Error;
 use std::fmt;
 use std::marker::Model;
@@ -47,7 +55,7 @@ impl TryFrom<u32> for U24 {
     ghost try_from_gives = { λ n r. MatchResult r (λ small. (small ≡ n) × (n < 2 ^ 24)) (λ _. 2 ^ 24 ≤ n) };
 
     #[inline(always)]
-    fn try_from(value: u32) -> Result<Self, TooLargeError> {
+    fn try_from(value: u32) -> Result<Self, Self::Error> {
         if value <= Self::MAX {
             Ok(Self { value })
         } else {
@@ -115,3 +123,41 @@ impl U24nU8 {
 }
 
 const _: () = prove!(size_of::<U24nU8>() == 4);
+
+/// The word, as a `u32`.
+impl Serializable for U24nU8 {
+    ghost is_value = { λ p. word_of p < 2 ^ 32 };
+
+    ghost form = { λ p. number_form w32 (word_of p) };
+
+    ghost taken = { λ bytes. over packed_of (take_number w32 bytes) };
+
+    ghost form_len = { 4 };
+
+    #[inline(always)]
+    fn serialize_to_vec<A: Allocator>(&self, dst: &mut Vec<u8, A>) -> Result<()> {
+        self.word.serialize_to_vec(dst)
+    }
+
+    #[inline(always)]
+    fn deserialize_from_slice(src: &[u8]) -> Result<(Self, &[u8])>
+        ensures given { Gives result (over packed_of (take_number w32 src.now)) }
+        ensures refused { IfErr result (λ e. e ≡ InvalidAutomaton (record {})) }
+    {
+        let (word, rest) = u32::deserialize_from_slice(src)?;
+        Ok((Self { word }, rest))
+    }
+
+    fn serialized_bytes() -> usize
+        ensures is { result ≡ 4 }
+        ensures exact { (n : ℕ) → length (number_form w32 n) ≡ result }
+    {
+        4
+    }
+
+    fn in_range(&self) {
+        let _word = self.word;
+    }
+
+    ghost law = { packed_law };
+}

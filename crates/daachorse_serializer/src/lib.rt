@@ -6,5 +6,6 @@
 #![tactic(auto)]
 
 pub mod intpack;
+pub mod serializer;
 #[cfg(test)]
 mod tests;

@@ -1,0 +1,9 @@
+pub mod ClearBits
+pub mod NextPlaces
+pub mod Scanned
+pub mod Marking
+pub mod Tables
+pub mod Density
+pub mod Soundness
+pub mod Boundaries
+pub mod GateSteps

@@ -1,0 +1,138 @@
+-- What the shift-or state knows: bit j is 0 where the last j + 1 pairs are those that a window begins with, from the first place on.
+use Rattle.std.proofs.Common.{◌≡◌, ℕ, zero, suc, ◌+◌, ◌-◌, ◌*◌, ◌%◌, ◌^◌, ◌<◌, ◌≤◌, ◌⊎◌, true, false, ◌&&◌, List, length, drop, get_or, refl, sym, ap, ◌∙◌, inl, inr, arith}
+use Rattle.std.specs.Prelude.{nat_le, bit_and, bit_or}
+use Rattle.std.proofs.lemmas.Bool.{cases_lt, le-leb, lt-leb, eq-eqb, ne_eqb}
+use Rattle.std.proofs.lemmas.List.{get_or-drop, length-drop}
+use Rattle.daachorse_model.specs.Filter.{is_clear, pairs_pass, passes, next_position}
+use Rattle.daachorse_prefilter.proofs.ClearBits.{is_clear-or, is_clear_shifted_first, is_clear_shifted_later, is_clear_ones, is_clear_test}
+use Rattle.daachorse_prefilter.proofs.NextPlaces.{pairs_pass_more, passes_short, next_position_is}
+
+abbrev pub entry_in : List ℕ → ℕ → ℕ
+entry_in entries pair = get_or entries pair 0
+
+-- the window's bytes before i, of which the last has the number of its pair
+window_more : (t : ℕ → ℕ) (h : List ℕ) (s k i : ℕ) → s + suc k ≡ i → i < length h → pairs_pass t 0 (suc k) (drop s h) ≡ (pairs_pass t 0 k (drop s h) && is_clear (t (get_or h (i - 1) 0 * 256 + get_or h i 0)) k)
+window_more t h s k i e l =
+    let size = length-drop s h in
+    let first : get_or (drop s h) k 0 ≡ get_or h (i - 1) 0 = get_or-drop s h k 0 ∙ ap (λ n. get_or h n 0) (let same : s + k ≡ i - 1 = omega arith in same) in
+    let second : get_or (drop s h) (suc k) 0 ≡ get_or h i 0 = get_or-drop s h (suc k) 0 ∙ ap (λ n. get_or h n 0) e in
+    let pair : get_or (drop s h) k 0 * 256 + get_or (drop s h) (suc k) 0 ≡ get_or h (i - 1) 0 * 256 + get_or h i 0 = omega arith in
+    pairs_pass_more t 0 k k (drop s h) (omega arith) (omega arith)
+    ∙ ap (λ p. pairs_pass t 0 k (drop s h) && is_clear (t p) k) pair
+
+-- the bits of the state before byte i is read, where the scan began at pos
+abbrev pub AreBits : List ℕ → List ℕ → ℕ → ℕ → ℕ → Type 0
+AreBits entries h pos i seen =
+    (b : ℕ) → b < 8 → is_clear seen b ≡ (nat_le (pos + b + 2) i && pairs_pass (entry_in entries) 0 (suc b) (drop (i - b - 2) h))
+
+pub bits_start : (entries h : List ℕ) (pos : ℕ) → AreBits entries h pos (pos + 1) 255
+bits_start entries h pos b l =
+    let short : nat_le (pos + b + 2) (pos + 1) ≡ false = lt-leb (pos + b + 2) (pos + 1) (omega arith) in
+    rw short (is_clear_ones b l)
+
+abbrev pub next_state : List ℕ → ℕ → ℕ → ℕ
+next_state entries seen pair = bit_or ((seen * 2 ^ 1) % 2 ^ 8) (get_or entries pair 0)
+
+bits_more : (entries h : List ℕ) (pos i seen pair : ℕ) → pos + 1 ≤ i → i < length h → pair ≡ get_or h (i - 1) 0 * 256 + get_or h i 0 → AreBits entries h pos i seen → AreBits entries h pos (i + 1) (next_state entries seen pair)
+bits_more entries h pos i seen pair low l e bits zero hb =
+    let long : nat_le (pos + zero + 2) (i + 1) ≡ true = le-leb (pos + zero + 2) (i + 1) (omega arith) in
+    let s = i + 1 - zero - 2 in
+    let more = window_more (entry_in entries) h s zero i (omega arith) l in
+    let shifted = is_clear_shifted_first seen in
+    is_clear-or _ (get_or entries pair 0) zero
+    ∙ ap (λ x. x && is_clear (get_or entries pair 0) zero) shifted
+    ∙ ap (λ p. is_clear (get_or entries p 0) zero) e
+    ∙ sym more
+    ∙ sym (ap (λ x. x && pairs_pass (entry_in entries) 0 1 (drop s h)) long)
+bits_more entries h pos i seen pair low l e bits (suc b) hb =
+    is_clear-or _ (get_or entries pair 0) (suc b)
+    ∙ ap (λ x. x && is_clear (get_or entries pair 0) (suc b)) (is_clear_shifted_later seen b (omega arith) ∙ bits b (omega arith))
+    ∙ ap (λ p. (nat_le (pos + b + 2) i && pairs_pass (entry_in entries) 0 (suc b) (drop (i - b - 2) h)) && is_clear (get_or entries p 0) (suc b)) e
+    ∙ by (cases_lt i (pos + b + 2))
+  where
+    by : (i < pos + b + 2) ⊎ (pos + b + 2 ≤ i) → ((nat_le (pos + b + 2) i && pairs_pass (entry_in entries) 0 (suc b) (drop (i - b - 2) h)) && is_clear (get_or entries (get_or h (i - 1) 0 * 256 + get_or h i 0) 0) (suc b)) ≡ (nat_le (pos + suc b + 2) (i + 1) && pairs_pass (entry_in entries) 0 (suc (suc b)) (drop (i + 1 - suc b - 2) h))
+    by (inl less) =
+        let short : nat_le (pos + b + 2) i ≡ false = lt-leb (pos + b + 2) i less in
+        let short_more : nat_le (pos + suc b + 2) (i + 1) ≡ false = lt-leb (pos + suc b + 2) (i + 1) (omega arith) in
+        rw (short, short_more) refl
+    by (inr most) =
+        let long : nat_le (pos + b + 2) i ≡ true = le-leb (pos + b + 2) i most in
+        let long_more : nat_le (pos + suc b + 2) (i + 1) ≡ true = le-leb (pos + suc b + 2) (i + 1) (omega arith) in
+        let place : i + 1 - suc b - 2 ≡ i - b - 2 = omega arith in
+        let more = window_more (entry_in entries) h (i - b - 2) (suc b) i (omega arith) l in
+        rw (long, long_more, place) (sym more)
+
+-- no window that ends before i passes
+abbrev pub NonePasses : List ℕ → List ℕ → ℕ → ℕ → ℕ → Type 0
+NonePasses entries h m pos i = (k : ℕ) → pos ≤ k → k + m ≤ i → passes (entry_in entries) m (drop k h) ≡ false
+
+-- the bit of the last pair tells whether the window that ends before i passes
+last_bit : (entries h : List ℕ) (m pos i k seen : ℕ) → 2 ≤ m → m ≤ 9 → i ≤ length h → pos ≤ k → k + m ≡ i → AreBits entries h pos i seen → passes (entry_in entries) m (drop k h) ≡ is_clear seen (m - 2)
+last_bit entries h m pos i k seen low high inside from end bits =
+    let size = length-drop k h in
+    let fits : nat_le m (length (drop k h)) ≡ true = le-leb m (length (drop k h)) (omega arith) in
+    let long : nat_le (pos + (m - 2) + 2) i ≡ true = le-leb (pos + (m - 2) + 2) i (omega arith) in
+    let pairs : m - 1 ≡ suc (m - 2) = omega arith in
+    let place : i - (m - 2) - 2 ≡ k = omega arith in
+    let is : is_clear seen (m - 2) ≡ pairs_pass (entry_in entries) 0 (suc (m - 2)) (drop k h) = bits (m - 2) (omega arith) ∙ rw (long, place) refl in
+    rw (fits, pairs) (sym is)
+
+pub none_start : (entries h : List ℕ) (m pos : ℕ) → 2 ≤ m → NonePasses entries h m pos (pos + 1)
+none_start entries h m pos low k from end = absurd (omega arith)
+
+none_more : (entries h : List ℕ) (m pos i seen : ℕ) → 2 ≤ m → m ≤ 9 → i + 1 ≤ length h → AreBits entries h pos (i + 1) seen → is_clear seen (m - 2) ≡ false → NonePasses entries h m pos i → NonePasses entries h m pos (i + 1)
+none_more entries h m pos i seen low high inside bits bit none k from end = by (cases_lt i (k + m))
+  where
+    by : (i < k + m) ⊎ (k + m ≤ i) → passes (entry_in entries) m (drop k h) ≡ false
+    by (inl last) = last_bit entries h m pos (i + 1) k seen low high inside from (omega arith) bits ∙ bit
+    by (inr before) = none k from before
+
+-- the scan stops at the window that ends with byte i
+found : (entries h : List ℕ) (m pos i seen : ℕ) → 2 ≤ m → m ≤ 9 → i + 1 ≤ length h → pos + 1 ≤ i → AreBits entries h pos (i + 1) seen → is_clear seen (m - 2) ≡ true → NonePasses entries h m pos i → (pos + m ≤ i + 1) × (i + 1 - m ≡ next_position (entry_in entries) m h pos)
+found entries h m pos i seen low high inside after bits bit none =
+    let from = starts (cases_lt (i + 1) (pos + m)) in (
+      from,
+      next_position_is (entry_in entries) m h pos (i + 1 - m) (record {
+        after = omega arith;
+        inside = omega arith;
+        misses = λ k l u. none k l (omega arith);
+        passing = λ l. (last_bit entries h m pos (i + 1) (i + 1 - m) seen low high inside (omega arith) (omega arith) bits ∙ bit);
+      }),
+    )
+  where
+    starts : (i + 1 < pos + m) ⊎ (pos + m ≤ i + 1) → pos + m ≤ i + 1
+    starts (inl less) =
+        let short : nat_le (pos + (m - 2) + 2) (i + 1) ≡ false = lt-leb (pos + (m - 2) + 2) (i + 1) (omega arith) in
+        let never : is_clear seen (m - 2) ≡ false = bits (m - 2) (omega arith) ∙ rw short refl in
+        absurd (cc)
+    starts (inr most) = most
+
+-- the scan reached the end
+pub found_none : (entries h : List ℕ) (m pos : ℕ) → 2 ≤ m → pos ≤ length h → NonePasses entries h m pos (length h) → length h ≡ next_position (entry_in entries) m h pos
+found_none entries h m pos low inside none =
+    next_position_is (entry_in entries) m h pos (length h) (record {
+      after = inside;
+      inside = omega arith;
+      misses = λ k l u. by k l (cases_lt (length h) (k + m));
+      passing = λ l. absurd (omega arith);
+    })
+  where
+    by : (k : ℕ) → pos ≤ k → (length h < k + m) ⊎ (k + m ≤ length h) → passes (entry_in entries) m (drop k h) ≡ false
+    by k l (inl short) = passes_short (entry_in entries) m (drop k h) (let size = length-drop k h in omega arith)
+    by k l (inr fits) = none k l fits
+
+-- byte i is read, and the window that ends with it passes
+pub step_hit : (entries h : List ℕ) (m pos i before seen : ℕ) → 2 ≤ m → m ≤ 9 → pos + 1 ≤ i → i < length h → before ≡ get_or h (i - 1) 0 → AreBits entries h pos i seen → NonePasses entries h m pos i → bit_and (next_state entries seen (before * 256 + get_or h i 0)) (1 * 2 ^ (m - 2) % 2 ^ 8) ≡ 0 → (pos + m ≤ i + 1) × (i + 1 - m ≡ next_position (entry_in entries) m h pos)
+step_hit entries h m pos i before seen low high after inside is bits none zero_bit =
+    let next = next_state entries seen (before * 256 + get_or h i 0) in
+    let more = bits_more entries h pos i seen _ after inside (ap (λ b. b * 256 + get_or h i 0) is) bits in
+    let clear : is_clear next (m - 2) ≡ true = sym (is_clear_test next (m - 2) (omega arith)) ∙ eq-eqb _ 0 zero_bit in
+    found entries h m pos i next low high (omega arith) after more clear none
+
+-- byte i is read, and the window that ends with it doesn't pass
+pub step_miss : (entries h : List ℕ) (m pos i before seen : ℕ) → 2 ≤ m → m ≤ 9 → pos + 1 ≤ i → i < length h → before ≡ get_or h (i - 1) 0 → AreBits entries h pos i seen → NonePasses entries h m pos i → (bit_and (next_state entries seen (before * 256 + get_or h i 0)) (1 * 2 ^ (m - 2) % 2 ^ 8) ≡ 0 → ⊥) → AreBits entries h pos (i + 1) (next_state entries seen (before * 256 + get_or h i 0)) × NonePasses entries h m pos (i + 1)
+step_miss entries h m pos i before seen low high after inside is bits none set_bit =
+    let next = next_state entries seen (before * 256 + get_or h i 0) in
+    let more = bits_more entries h pos i seen _ after inside (ap (λ b. b * 256 + get_or h i 0) is) bits in
+    let unclear : is_clear next (m - 2) ≡ false = sym (is_clear_test next (m - 2) (omega arith)) ∙ ne_eqb _ 0 set_bit in
+    (more, none_more entries h m pos i next low high (omega arith) more unclear none)

@@ -1,0 +1,22 @@
+-- One pair more is let stand with each byte.
+use Rattle.std.proofs.Common.{◌≡◌, ◌⊎◌, ◌≤◌, ◌-◌, length, refl, inl, inr, arith}
+use Rattle.std.proofs.lemmas.Bool.{cases_lt}
+use Rattle.daachorse_prefilter.proofs.Marking.{marked_step, marked_end}
+use Rattle.daachorse_prefilter.proofs.prefilter.builder.clear_pairs.Goals as goal
+
+pub loop-i-preserved : goal.loop-i-preserved
+loop-i-preserved c =
+    let a = (c.type_inv.window (c.loop-i.i - 1)).fits in
+    let b = (c.type_inv.window c.loop-i.i).fits in
+    let size : length c.loop-i.table ≡ length c.args.table.now = c.loop-i.auto.table in
+    record {
+      near = omega arith;
+      marked = marked_step c.args.table.now c.loop-i.table c.args.window.now c.loop-i.i _ (omega arith) (omega arith) refl (omega arith) c.loop-i.invariant.marked;
+    }
+
+pub returns : goal.returns
+returns c =
+    let near = c.loop-i.invariant.near in
+    let which : (c.loop-i.i ≤ length c.args.window.now) ⊎ (c.loop-i.i ≡ 1) =
+    elim (cases_lt (length c.args.window.now) 1) as (λ _. (c.loop-i.i ≤ length c.args.window.now) ⊎ (c.loop-i.i ≡ 1)) [ inl h ↦ inr (omega arith) | inr h ↦ inl (omega arith) ] in
+    marked_end c.args.table.now c.loop-i.table c.args.window.now c.loop-i.i (omega arith) which c.loop-i.invariant.marked

@@ -1,0 +1,37 @@
+-- What callers see of a filter: how long its window is, and its entry for each pair of bytes.
+use Rattle.std.specs.Prelude.{◌≡◌, ℕ, ◌<◌, ◌≤◌, Bool, true, false, List, length, drop, All, slice_index}
+use Rattle.std.specs.Str.{IsCharBoundary}
+use Rattle.daachorse_model.specs.Filter.{passes, next_position}
+
+pub record Filter : Type 0 where
+  pub window : ℕ
+  pub entries : List ℕ
+
+-- the entry of a pair of bytes
+abbrev pub entry_of : Filter → ℕ → ℕ
+entry_of f pair = slice_index f.entries pair
+
+-- the filter passes at the beginning of w
+abbrev pub admits : Filter → List ℕ → Bool
+admits f w = passes (entry_of f) f.window w
+
+-- the first place of h from a place on at which the filter passes, or the end
+abbrev pub next_place : Filter → List ℕ → ℕ → ℕ
+next_place f h from = next_position (entry_of f) f.window h from
+
+-- windows have 2 to 9 bytes, and each pair of bytes has an entry
+pub record IsFilter (f : Filter) : Type 0 where
+  pub low : 2 ≤ f.window
+  pub high : f.window ≤ 9
+  pub sized : length f.entries ≡ 65536
+
+-- the filter passes at the beginning of each pattern, which is at least as long as the window
+abbrev pub IsSoundFor : Filter → List (List ℕ) → Type 0
+IsSoundFor f patterns = All (λ p. admits f p ≡ true) patterns
+
+-- r is the first boundary of the text's characters from a place on at which the filter passes, or the end
+pub record IsNextBoundary (f : Filter) (text : List ℕ) (from r : ℕ) : Type 0 where
+  pub inside : r ≤ length text
+  pub boundary : IsCharBoundary text r
+  pub found : r < length text → (from ≤ r) × (admits f (drop r text) ≡ true)
+  pub first : (k : ℕ) → from ≤ k → k < r → IsCharBoundary text k → admits f (drop k text) ≡ false

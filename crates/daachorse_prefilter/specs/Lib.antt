@@ -1,0 +1,4 @@
+pub mod Filters
+pub mod Building
+pub mod Builders
+pub mod Gates

@@ -1,0 +1,152 @@
+//! A filter over pairs of bytes, which passes over places where no pattern can begin.
+//!
+//! A window is as long as the shortest pattern, at most 9 bytes. A place passes where each pair of
+//! neighbouring bytes of its window stands at the same place in some pattern. The method is known
+//! as shift-or with q-grams. The layers above may rely on a filter passing at each occurrence of
+//! its patterns, on [`Prefilter::next_position`] being the first place that passes, and on a gate
+//! that closes by what was recorded alone.
+
+ghost use Rattle.std.specs.Prelude.{◌≡◌, ◌==◌, ◌++◌, ℕ, ◌<◌, ◌≤◌, length, IfOk, IfErr, slice_index};
+ghost use Rattle.std.specs.Cmp.Lexicographic.{pointwise};
+ghost use Rattle.std.specs.Cmp.Rules.{comparing, hashing};
+ghost use Rattle.std.specs.Hash as fed;
+ghost use Rattle.std.specs.Ordering.{on, eq_of_both};
+ghost use Rattle.std.proofs.Common.{rules};
+ghost use Rattle.daachorse_core.specs.Refusals.{IsOutOfMemory};
+ghost use Rattle.daachorse_model.specs.Filter.{next_position};
+ghost use Rattle.daachorse_prefilter.specs.Filters.{Filter, IsFilter, IsNextBoundary, next_place};
+
+mod builder;
+mod gate;
+#[cfg(test)]
+mod tests;
+
+pub use builder::PrefilterBuilder;
+use daachorse_core::errors::Result;
+pub use gate::PrefilterGate;
+use std::alloc::{Allocator, Global};
+use std::hash::{Hash, Hasher};
+use std::marker::Model;
+
+/// How many pairs of bytes there are.
+const NUM_PAIRS: usize = 65536;
+
+const MIN_WINDOW_LEN: u8 = 2;
+
+const MAX_WINDOW_LEN: u8 = 9;
+
+/// A filter of the places at which some pattern may begin.
+#[derive(Drop)]
+pub struct Prefilter<A: Allocator = Global> {
+    window_len: u8,
+    // For each pair of bytes a and b, at 256 a + b, the places of a window at which it may not
+    // stand: bit j is 0 where some pattern has the pair at place j.
+    table: Vec<u8, A>,
+}
+
+impl<A: Allocator> Model for Prefilter<A> {
+    ghost Value = { Filter };
+
+    ghost view = { λ f. record { window = f.window_len; entries = f.table.items } };
+
+    ghost invariant = { λ f. IsFilter (record { window = f.window_len; entries = f.table.items }) };
+}
+
+impl<A: Allocator> Prefilter<A> {
+    /// The least length of a window, which has one pair at least.
+    pub const MIN_WINDOW_LEN: usize = MIN_WINDOW_LEN as usize;
+
+    /// The greatest length of a window: a byte has a bit for each of its pairs.
+    pub const MAX_WINDOW_LEN: usize = MAX_WINDOW_LEN as usize;
+
+    /// The first place from `pos` on at which the filter passes, or the haystack's length. No
+    /// pattern of the filter begins at a place before it.
+    #[inline(always)]
+    pub fn next_position(&self, haystack: &[u8], pos: usize) -> usize
+        ensures first { pos ≤ length haystack.now → result ≡ next_place self.now haystack.now pos }
+        ensures past { length haystack.now ≤ pos → result ≡ length haystack.now }
+    {
+        scan(self.table.as_slice(), self.window_len, haystack, pos)
+    }
+
+    /// The first boundary of the text's characters from `pos` on at which the filter passes, or
+    /// the text's length.
+    #[inline(always)]
+    pub fn next_position_at_char_boundary(&self, haystack: &str, pos: usize) -> usize
+        ensures { IsNextBoundary self.now haystack.now pos result }
+    {
+        let mut from = pos;
+        'places: loop {
+            let place = self.next_position(haystack.as_bytes(), from);
+            if haystack.is_char_boundary(place) {
+                return place;
+            }
+            from = place + 1;
+        }
+    }
+}
+
+impl<A: Allocator + Copy> Prefilter<A> {
+    /// A filter with the same window and the same table.
+    pub fn clone(&self) -> Result<Self>
+        ensures same { IfOk result (λ filter. filter ≡ self.now) }
+        ensures refused { IfErr result IsOutOfMemory }
+    {
+        Ok(Self {
+            window_len: self.window_len,
+            table: Vec::from_slice(*self.table.allocator(), &self.table)?,
+        })
+    }
+}
+
+impl<A: Allocator> PartialEq for Prefilter<A> {
+    ghost eq = { eq_of_both (on (λ f. f.window) ◌==◌) (on (λ f. f.entries) (pointwise ◌==◌)) };
+
+    ghost laws = { Prim.search (comparing, rules) depth 9 };
+
+    fn eq(&self, other: &Self) -> bool {
+        self.window_len == other.window_len && self.table == other.table
+    }
+}
+
+impl<A: Allocator> Eq for Prefilter<A> {
+    ghost laws = { Prim.search (comparing, rules) depth 9 };
+}
+
+impl<A: Allocator> Hash for Prefilter<A> {
+    ghost hash_input = { λ f. fed.u8 f.window ++ fed.slice fed.u8 f.entries };
+
+    ghost respects_eq = { Prim.search (hashing, rules) };
+
+    fn hash<H: Hasher>(&self, state: &mut H) {
+        self.window_len.hash(state);
+        self.table.hash(state);
+    }
+}
+
+/// The first place from `pos` on at which a window passes, or the haystack's length.
+#[inline(always)]
+fn scan(table: &[u8], window_len: u8, haystack: &[u8], pos: usize) -> usize
+    requires sized { length table.now ≡ 65536 }
+    requires low { 2 ≤ window_len }
+    requires high { window_len ≤ 9 }
+    ensures first { pos ≤ length haystack.now → result ≡ next_position (λ pair. slice_index table.now pair) window_len haystack.now pos }
+    ensures past { length haystack.now ≤ pos → result ≡ length haystack.now }
+{
+    let Some(first) = haystack.get(pos) else {
+        return haystack.len();
+    };
+    let last_pair = 1u8 << (window_len - 2);
+    let mut before = *first;
+    // Bit j is 0 where the last j + 1 pairs are those that a window begins with.
+    let mut seen = u8::MAX;
+    for i in pos + 1..haystack.len() {
+        let byte = haystack[i];
+        seen = (seen << 1) | table[before as usize * 256 + byte as usize];
+        if seen & last_pair == 0 {
+            return i + 1 - window_len as usize;
+        }
+        before = byte;
+    }
+    haystack.len()
+}

@@ -1,0 +1,116 @@
+//! The builder of a filter, to which the patterns are shown one by one.
+//!
+//! The layers above may rely on the filter being that of all patterns that were added, and on
+//! there being none exactly where it would not be worth its run.
+
+ghost use Rattle.std.specs.Prelude.{◌≡◌, ℕ, ◌+◌, ◌-◌, ◌*◌, ◌<◌, ◌≤◌, ◌^◌, ◌∷◌, [], ◌++◌, ◌||◌, List, length, vec_len, IfOk, IfErr, IfSome, slice_index};
+ghost use Rattle.daachorse_core.specs.Refusals.{IsOutOfMemory};
+ghost use Rattle.daachorse_model.specs.Filter.{is_clear, has_pair};
+ghost use Rattle.daachorse_prefilter.specs.Filters.{IsSoundFor};
+ghost use Rattle.daachorse_prefilter.specs.Building.{made_of, count_clear, is_sparse};
+
+use super::{MAX_WINDOW_LEN, MIN_WINDOW_LEN, NUM_PAIRS, Prefilter};
+use daachorse_core::errors::Result;
+use std::alloc::{Allocator, Global};
+
+/// A builder of [`Prefilter`]. It keeps no pattern.
+#[derive(Drop)]
+pub struct PrefilterBuilder<A: Allocator = Global> {
+    // The length of the shortest pattern, at most 9.
+    window_len: u8,
+    is_empty: bool,
+    table: Vec<u8, A>,
+    ghost short: { window_len ≤ 9 },
+    ghost sized: { length table.items ≡ 65536 },
+}
+
+impl<A: Allocator> PrefilterBuilder<A> {
+    ghost use Rattle.daachorse_prefilter.specs.Builders.{HasAdded};
+
+    /// A builder with no pattern, which takes the memory of the filter's table.
+    pub fn new(alloc: A) -> Result<Self>
+        ensures added { IfOk result (λ b. HasAdded b []) }
+        ensures refused { IfErr result IsOutOfMemory }
+    {
+        Ok(Self {
+            window_len: MAX_WINDOW_LEN,
+            is_empty: true,
+            table: vec![in alloc; u8::MAX; NUM_PAIRS]?,
+        })
+    }
+
+    /// Adds a pattern. It takes no memory.
+    pub fn add(&mut self, pattern: &[u8])
+        ensures { (patterns : List (List ℕ)) →
+            HasAdded self.old patterns → HasAdded self.new (patterns ++ pattern.now ∷ []) }
+    {
+        self.is_empty = false;
+        self.window_len = pattern.len().min(self.window_len as usize) as u8;
+        let window_len = pattern.len().min(MAX_WINDOW_LEN as usize);
+        clear_pairs(&mut self.table, &pattern[..window_len]);
+    }
+
+    /// The filter of the patterns that were added: none where there is no pattern or one of fewer
+    /// than 2 bytes, or where too many places would pass. It takes no memory.
+    ///
+    /// With k pairs in a window, too many would pass where the counts of the pairs that may stand
+    /// at each place have a product above 2^(16 k - 4), one in sixteen of all.
+    pub fn build(self) -> Option<Prefilter<A>>
+        ensures made { (patterns : List (List ℕ)) → HasAdded self patterns → result ≡ made_of patterns }
+        ensures sound { (patterns : List (List ℕ)) →
+            HasAdded self patterns → IfSome result (λ filter. IsSoundFor filter patterns) }
+    {
+        if self.is_empty || self.window_len < MIN_WINDOW_LEN {
+            return None;
+        }
+        if !is_sparse(self.table.as_slice(), self.window_len - 1) {
+            return None;
+        }
+        Some(Prefilter {
+            window_len: self.window_len,
+            table: self.table,
+        })
+    }
+}
+
+/// Lets each pair of the window stand at its place.
+fn clear_pairs(table: &mut [u8], window: &[u8])
+    requires sized { length table.old ≡ 65536 }
+    requires short { length window.now ≤ 9 }
+    ensures { (pair j : ℕ) → pair < 65536 → j < 8 → is_clear (slice_index table.new pair) j
+        ≡ (is_clear (slice_index table.old pair) j || has_pair pair j window.now) }
+{
+    for i in 1..window.len() {
+        table[window[i - 1] as usize * 256 + window[i] as usize] &= !(1u8 << (i - 1));
+    }
+}
+
+/// Whether at most one in sixteen of all ways to choose this many pairs would pass.
+fn is_sparse(table: &[u8], num_pairs: u8) -> bool
+    requires sized { length table.now ≡ 65536 }
+    requires low { 1 ≤ num_pairs }
+    requires high { num_pairs ≤ 8 }
+    ensures sparse { result ≡ is_sparse table.now num_pairs }
+    ensures bytes { (pair : ℕ) → slice_index table.now pair < 2 ^ 8 }
+{
+    let mut ways = 1u128;
+    for place in 0..num_pairs {
+        // Only the last product may be too large.
+        let Some(more) = ways.checked_mul(count_clear(table, place) as u128) else {
+            return false;
+        };
+        ways = more;
+    }
+    ways <= 1u128 << (16 * num_pairs - 4)
+}
+
+/// How many pairs may stand at a place of a window.
+fn count_clear(table: &[u8], place: u8) -> usize
+    requires { place < 8 }
+    ensures { result ≡ count_clear table.now place }
+{
+    table
+        .iter()
+        .filter(|entry| (**entry >> place) % 2 == 0)
+        .count()
+}

@@ -54,3 +54,13 @@ pub record ArePacked {A : Type 0} (gs : List (SiblingGroup A)) (l : Layout) (edg
   -- a block without an unused base has no vacant element
   pub full : (q : ℕ) → q < l.blocks → AreAllSet l.marks 256 q → AreAllSet l.used 256 q
   pub held : HoldStates l edges fails positions es
+
+-- the elements hold the trie of these states, by some groups and some placement of them
+pub record ArePackedOf {V A : Type 0} (states : List (NfaBuilderState ℕ V A)) (es : List (State ℕ)) : Type 0 where
+  pub groups : List (SiblingGroup A)
+  pub layout : Layout
+  pub packed : ArePacked groups layout (edges_of states) (depths_of states) (fails_of states) (positions_of states) es
+
+-- the groups of the states need a block more than there may be
+abbrev pub HasManyGroups : {V A : Type 0} → List (NfaBuilderState ℕ V A) → Type 0
+HasManyGroups {V} {A} states = (gs : List (SiblingGroup A)) × AreByteGroups gs (edges_of states) (depths_of states) × (2 ^ 32 ≤ (length gs + 1) * 256)

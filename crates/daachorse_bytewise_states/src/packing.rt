@@ -6,7 +6,10 @@
 ghost use Rattle.std.specs.Prelude.{◌≡◌, ◌≢◌, ◌+◌, ◌<◌, ◌≤◌, ◌^◌, ◌*◌, ℕ, length, slice_index, IfOk, IfErr, OnOk, Some};
 ghost use Rattle.std.specs.Ordering.{nat_cmp};
 ghost use Rattle.daachorse_core.specs.Outputs.{number};
-ghost use Rattle.daachorse_core.specs.Refusals.{IsOutOfMemory};
+ghost use Rattle.daachorse_core.specs.Refusals.{IsOutOfMemory, IsRefusal};
+ghost use Rattle.daachorse_core.specs.declared.errors.Limit.TheVariants.{NumElements};
+ghost use Rattle.daachorse_build.specs.Builders.{states_of};
+ghost use Rattle.daachorse_bytewise_states.specs.Packing.{ArePackedOf, HasManyGroups};
 ghost use Rattle.daachorse_build.specs.EdgeMaps.{id_at};
 ghost use Rattle.daachorse_build.specs.Tables.{HoldTrie, edges_of, fails_of, positions_of};
 ghost use Rattle.daachorse_bytewise_states.specs.Elements.{base_in, check_in, fail_in, output_in};
@@ -14,15 +17,47 @@ ghost use Rattle.daachorse_bytewise_states.specs.Writing.{AreLabelled, ArePlaces
 
 use crate::state::State;
 use daachorse_build::edge_map::EdgeMap;
-use daachorse_build::nfa_builder::NfaBuilderState;
+use daachorse_build::nfa_builder::{NfaBuilder, NfaBuilderState};
 use daachorse_core::DEAD_STATE_IDX;
 use daachorse_core::errors::Result;
-use daachorse_placement::build_helper::BuildHelper;
+use daachorse_placement::build_helper::{BuildHelper, Profile};
 use std::alloc::Allocator;
 use std::num::NonZeroU32;
 
 /// The length of a block: each byte leads to an element of the parent's block.
 pub(crate) const BLOCK_LEN: u32 = 256;
+
+/// The elements that hold the trie of a builder, whose links and outputs are built.
+///
+/// # Errors
+///
+/// [`Limit::NumElements`](daachorse_core::errors::Limit::NumElements) where the groups of siblings
+/// need too many blocks, and out of memory.
+pub(crate) fn pack<V: Copy, A: Allocator + Copy>(
+    alloc: A,
+    nfa: &NfaBuilder<u8, V, A>,
+) -> Result<Vec<State<u32>, A>>
+    requires trie { HoldTrie nat_cmp (states_of nfa.now) }
+    requires count { length (states_of nfa.now) ≤ 2 ^ 32 }
+    requires links { (t : ℕ) → t < length (states_of nfa.now) → t ≢ 1 → slice_index (fails_of (states_of nfa.now)) t < length (states_of nfa.now) }
+    requires outputs { (t : ℕ) → t < length (states_of nfa.now) → t ≢ 1 → slice_index (positions_of (states_of nfa.now)) t < 2 ^ 24 }
+    ensures ok { IfOk result (λ elements. ArePackedOf (states_of nfa.now) elements.items) }
+    ensures err { IfErr result (IsRefusal ⊥ NumElements (HasManyGroups (states_of nfa.now))) }
+{
+    let profile = Profile::new(alloc);
+    let groups = nfa.sibling_groups(alloc, &profile, |label| u32::from(label))?;
+    let helper = BuildHelper::new(alloc, &groups, nfa.states().len(), BLOCK_LEN, true)?;
+    let labels = labels(alloc, nfa.states())?;
+    let mut elements = vacant_elements(alloc, &helper)?;
+    place_states(
+        &mut elements,
+        nfa.states(),
+        &labels,
+        helper.idx_map(),
+        helper.bases(),
+    );
+    Ok(elements)
+}
 
 /// By state the byte that leads to it, 0 for the root.
 fn labels<V: Copy, A: Allocator + Copy>(

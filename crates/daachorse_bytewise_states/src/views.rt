@@ -56,19 +56,6 @@ impl<'a, V: Copy> Standard<'a, V> {
             num_states,
         }
     }
-
-    /// The same automaton, for a second search beside this one.
-    #[inline(always)]
-    pub fn again(&self) -> Self
-        ensures { result ≡ self.now }
-    {
-        Self {
-            states: self.states,
-            root: self.root,
-            outputs: self.outputs,
-            num_states: self.num_states,
-        }
-    }
 }
 
 impl<'a, V: Copy> Automaton<V> for Standard<'a, V> {
@@ -142,6 +129,16 @@ impl<'a, V: Copy> Automaton<V> for Standard<'a, V> {
         outputs[position.get() as usize - 1]
     }
 
+    #[inline(always)]
+    fn again(&self) -> Self {
+        Self {
+            states: self.states,
+            root: self.root,
+            outputs: self.outputs,
+            num_states: self.num_states,
+        }
+    }
+
     ghost no_output = { no_output };
 }
 
@@ -189,20 +186,6 @@ impl<'a, V: Copy> Leftmost<'a, V> {
             fails,
             outputs,
             num_states,
-        }
-    }
-
-    /// The same automaton, for a second search beside this one.
-    #[inline(always)]
-    pub fn again(&self) -> Self
-        ensures { result ≡ self.now }
-    {
-        Self {
-            kind: self.kind,
-            states: self.states,
-            fails: self.fails,
-            outputs: self.outputs,
-            num_states: self.num_states,
         }
     }
 }
@@ -281,6 +264,17 @@ impl<'a, V: Copy> Automaton<V> for Leftmost<'a, V> {
     fn output(&self, position: NonZeroU32) -> Output<V> {
         let outputs = self.outputs;
         outputs[position.get() as usize - 1]
+    }
+
+    #[inline(always)]
+    fn again(&self) -> Self {
+        Self {
+            kind: self.kind,
+            states: self.states,
+            fails: self.fails,
+            outputs: self.outputs,
+            num_states: self.num_states,
+        }
     }
 
     ghost no_output = { no_output };

@@ -4,7 +4,7 @@ use Rattle.daachorse_core.specs.declared.errors.DaachorseError.{DaachorseError}
 use Rattle.daachorse_core.specs.Refusals.{IsRefusal}
 use Rattle.daachorse_core.specs.declared.errors.Limit.TheVariants.{NumElements}
 use Rattle.daachorse_placement.specs.declared.build_helper.SiblingGroup.{SiblingGroup}
-use Rattle.daachorse_placement.specs.Layout.{Layout}
+use Rattle.daachorse_placement.specs.Layout.{AreAllSet, Layout}
 
 -- the label and the state of child j
 abbrev pub label_of : List (ℕ × ℕ) → ℕ → ℕ
@@ -81,6 +81,10 @@ pub record HasSizes (l : Layout) (len n : ℕ) : Type 0 where
   pub elements : length l.used ≡ l.blocks * len
   pub idx : length l.idx ≡ n
   pub bases : length l.bases ≡ n
+
+-- a block whose bases are all taken has no vacant element
+abbrev pub AreBlocksFull : Layout → Type 0
+AreBlocksFull l = (q : ℕ) → AreAllSet l.marks l.block q → AreAllSet l.used l.block q
 
 -- an allocation failed, or the number of elements would pass its limit, which only this allows
 abbrev pub IsPlaceRefusal : Type 0 → DaachorseError → Type 0

@@ -8,7 +8,7 @@ ghost use Rattle.std.specs.Prelude.{◌≡◌, ℕ, ◌+◌, ◌*◌, ◌<◌, �
 ghost use Rattle.std.specs.Int.{IsPowerOfTwo};
 ghost use Rattle.std.specs.List.{list_any};
 ghost use Rattle.daachorse_placement.specs.Layout.{Layout, vacants, vacant_from, IsLeastUnused, AreAllSet};
-ghost use Rattle.daachorse_placement.specs.Placement.{AreGroups, IsPlaced, HasSizes, IsPlaceRefusal, is_light};
+ghost use Rattle.daachorse_placement.specs.Placement.{AreBlocksFull, AreGroups, IsPlaced, HasSizes, IsPlaceRefusal, is_light};
 ghost use Rattle.daachorse_placement.specs.Elements.{IsWhole, IsLinked, IsFull, count_of, layout_of};
 
 mod elements;
@@ -80,6 +80,7 @@ impl<A: Allocator + Copy> BuildHelper<A> {
         ensures placed { IfOk result (IsPlaced groups.now (length groups.now) track_bases) }
         ensures sizes { IfOk result (λ h. HasSizes h block_len num_nfa_states) }
         ensures windowed { IfOk result (λ h. h.windowed ≡ list_any is_light groups.now) }
+        ensures full { IfOk result AreBlocksFull }
         ensures refused { IfErr result
             (IsPlaceRefusal (2 ^ 32 ≤ (length groups.now + 1) * block_len)) }
     {

@@ -1,7 +1,8 @@
 -- One block and the two lists as they are filled: no group is placed yet.
-use Rattle.std.proofs.Common.{◌≡◌, ℕ, List, ap, sym, ◌∙◌, subst, arith, replicate, rules, set}
+use Rattle.std.proofs.Common.{◌≡◌, ◌*◌, ℕ, List, ap, sym, ◌∙◌, subst, arith, replicate, rules, set}
 use Rattle.daachorse_placement.specs.Elements.{layout_of}
 use Rattle.daachorse_placement.specs.Placement.{IsPlaced}
+use Rattle.daachorse_placement.proofs.FlagCounts.{none-vacant}
 use Rattle.daachorse_placement.proofs.PlaceStart.{placed_start, full_start}
 use Rattle.daachorse_placement.proofs.build_helper.BuildHelper.new.Goals as goal
 
@@ -21,3 +22,9 @@ place_all-requires-clause-placed g c =
 
 pub place_all-requires-clause-full : goal.place_all-requires-clause-full
 place_all-requires-clause-full g c = full_start c.in_ok-elements.elements c.args.block_len c.in_ok-elements.ensures.fresh
+
+-- a block with as many elements as bases taken has no vacant element, if all are taken
+pub returns-clause-full : goal.returns-clause-full
+returns-clause-full g c = λ q all.
+    let e = c.place_all.new.elements in
+    none-vacant e.used_base.items e.used_index.items (q * e.block_len) e.block_len (c.in_ok-place_all.ensures.full q) all

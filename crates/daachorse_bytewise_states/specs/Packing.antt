@@ -1,10 +1,11 @@
 -- Elements that hold a trie, as they are written at the places of its states.
-use Rattle.std.specs.Prelude.{◌≡◌, ◌≢◌, ℕ, ◌<◌, ◌/◌, bit_xor, true, List, [], length, slice_index, slice_index_or, Some}
+use Rattle.std.specs.Prelude.{◌≡◌, ◌≢◌, ℕ, ◌+◌, ◌*◌, ◌<◌, ◌≤◌, ◌/◌, ◌^◌, bit_xor, true, List, [], length, slice_index, slice_index_or, Some}
 use Rattle.std.specs.Ordering.{nat_cmp}
 use Rattle.daachorse_placement.specs.declared.build_helper.SiblingGroup.{SiblingGroup}
 use Rattle.daachorse_placement.specs.Layout.{AreAllSet, IsLeastUnused, Layout}
 use Rattle.daachorse_placement.specs.Placement.{AreGroups, HasSizes, IsPlaced, children_of, parent_of}
-use Rattle.daachorse_build.specs.Tables.{child_in as edge_to, IsTable}
+use Rattle.daachorse_build.specs.declared.nfa_builder.NfaBuilderState.{NfaBuilderState}
+use Rattle.daachorse_build.specs.Tables.{child_in as edge_to, depths_of, edges_of, fails_of, positions_of, IsTable}
 use Rattle.daachorse_machine.specs.Copies.{LinkedTrie}
 use Rattle.daachorse_bytewise_states.specs.declared.state.State.{State}
 use Rattle.daachorse_bytewise_states.specs.Elements.{base_in, check_in, fail_in, output_in, vacant}

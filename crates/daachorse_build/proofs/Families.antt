@@ -1,10 +1,10 @@
 -- Groups as families: the parents are the states with an edge, each once, and that outlasts a sort.
-use Rattle.std.proofs.Common.{◌≡◌, ◌≢◌, ℕ, zero, suc, ◌+◌, ◌<◌, ◌⊎◌, Bool, true, false, not, cond, eqb, List, [], ◌∷◌, ◌++◌, length, get_or, take, Some, refl, sym, ap, ◌∙◌, subst, inl, inr, arith}
+use Rattle.std.proofs.Common.{◌≡◌, ◌≢◌, ℕ, zero, suc, ◌+◌, ◌<◌, ◌≤◌, ◌⊎◌, Bool, true, false, not, cond, eqb, List, [], ◌∷◌, ◌++◌, length, get_or, take, Some, refl, sym, ap, ◌∙◌, subst, inl, inr, arith}
 use Rattle.std.proofs.lemmas.Bool.{cases_lt, cases_eq, false≢true, eq-eqb, ne_eqb}
 use Rattle.std.proofs.lemmas.Option.{same_Some}
 use Rattle.std.proofs.lemmas.List.{append-nil, map-append, length-map, get_or_default}
 use Rattle.std.proofs.lemmas.List.Elements.{All-head, All-tail, All-weaker, filter_more}
-use Rattle.std.proofs.lemmas.List.Sorted.{All-permutation, Contains-permutation, IsPermutation-map}
+use Rattle.std.proofs.lemmas.List.Sorted.{All-permutation, Contains-permutation, IsPermutation-map, length_permutation}
 use Rattle.std.proofs.lemmas.Map.Keys.{IsDistinct-IsPermutation, apart_from_distinct}
 use Rattle.std.specs.Bool.{IsTrue}
 use Rattle.std.specs.List.{All, AllZip, Contains, IsDistinct, filter, slice_get}
@@ -19,7 +19,7 @@ use Rattle.daachorse_build.specs.Tables.{edges_of, depths_of, child_in, HoldTrie
 use Rattle.daachorse_build.specs.Orders.{IsIn, StandOnce, children}
 use Rattle.daachorse_build.specs.Groups.{edges_at, coded, GivesCodes, AreCodes, AreTrieGroups, is_some_edge, has_edges, IsWalk, AreGiven, AreFamilies, parents_of}
 use Rattle.daachorse_build.proofs.Queue.{in_equal, in_at, place_of, distinct_once, child_at_place, listed_of_child, value_at, children_once}
-use Rattle.daachorse_build.proofs.StackWalk.{once_tail, once_head}
+use Rattle.daachorse_build.proofs.StackWalk.{once_tail, once_head, length-walk}
 use Rattle.daachorse_build.proofs.Walks.{text_of, walk-bounds}
 
 -- ---- one child more
@@ -102,6 +102,14 @@ eqb-flips x y =
       | inr ne ↦ ne_eqb x y ne ∙ sym (ne_eqb y x (λ e. ne (sym e)))
     ]
 
+filter_short : (p : ℕ → Bool) (xs : List ℕ) → length (filter p xs) ≤ length xs
+filter_short p [] = omega arith
+filter_short p (x ∷ xs) = at (p x) (filter_short p xs)
+  where
+    at : (b : Bool) → length (filter p xs) ≤ length xs → length (cond b (x ∷ filter p xs) (filter p xs)) ≤ length (x ∷ xs)
+    at true h = omega arith
+    at false h = omega arith
+
 -- ---- groups by their places
 -- the group at a place
 group_at : {A : Type 0} (P : SiblingGroup A → Type 0) (gs : List (SiblingGroup A)) (k : ℕ) → k < length gs → All P gs → (g : SiblingGroup A) × P g × (parent_of gs k ≡ g.parent) × (children_of gs k ≡ g.children.items)
@@ -177,6 +185,11 @@ module _ {L V A : Type 0} (cmp : L → L → Ordering) (total : IsTotalOrder cmp
 
   parent_at : (k : ℕ) → k < length gs → (parent_of gs k < length edges) × (parent_of gs k ≢ 1) × (has_edges edges (parent_of gs k) ≡ true)
   parent_at k l = parent_is k 0 (omega (arith, l, length-map gs (λ g. g.parent)))
+
+  -- there are fewer than states
+  pub few_groups : length gs < length states
+  few_groups =
+      omega (arith, length-walk cmp total edges (depths_of states) table order walk, filter_short (has_edges edges) order, ap length parents, length-map first (λ g. g.parent), length_permutation first gs moved, length-map states (λ s. s.edges))
 
   -- the groups are those of the trie
   pub trie_groups : (code : L → ℕ) → GivesCodes cmp edges gives code → AreTrieGroups cmp code states gs

@@ -1,7 +1,7 @@
 -- The groups of siblings of a trie: each state that has edges is the parent of one, with its children in order of labels.
-use Rattle.std.specs.Prelude.{◌≡◌, ◌≢◌, ℕ, ◌<◌, ◌⊎◌, Bool, true, false, List, [], ◌∷◌, length, map, slice_index_or, Some}
+use Rattle.std.specs.Prelude.{◌≡◌, ◌≢◌, ℕ, ◌+◌, ◌-◌, ◌^◌, ◌<◌, ◌≤◌, ◌⊎◌, min, sum_by, Bool, true, false, List, [], ◌∷◌, length, map, slice_index, slice_index_or, Some}
 use Rattle.std.specs.declared.cmp.Ordering.{Ordering}
-use Rattle.std.specs.List.{All, AllZip}
+use Rattle.std.specs.List.{All, AllZip, AllAdjacentBelow}
 use Rattle.daachorse_model.specs.Paths.{Leads}
 use Rattle.daachorse_placement.specs.declared.build_helper.SiblingGroup.{SiblingGroup}
 use Rattle.daachorse_placement.specs.declared.build_helper.profile.Profile.{Profile}
@@ -40,6 +40,24 @@ pub record AreTrieGroups {L V A : Type 0} (cmp : L → L → Ordering) (code : L
 -- no count, or one of each kind for each of n states
 abbrev pub IsProfileOf : {A : Type 0} → ℕ → Profile A → Type 0
 IsProfileOf n p = (p.visits.items ≡ []) ⊎ ((length p.visits.items ≡ n) × (length p.probes.items ≡ n))
+
+-- a number, and 0 where nothing was counted
+abbrev pub if_counted : List ℕ → ℕ → ℕ
+if_counted [] n = 0
+if_counted (v ∷ vs) n = n
+
+-- how often a search would read the block of a state's group: its probes and the visits of its children, as far as a count goes
+abbrev pub weight_at : {L A : Type 0} → List (List (L × ℕ)) → Profile A → ℕ → ℕ
+weight_at edges p s =
+    if_counted p.visits.items (min (slice_index p.probes.items s + sum_by (slice_index p.visits.items) (children edges s)) (2 ^ 64 - 1))
+
+-- each group weighs what its parent's does
+abbrev pub AreWeighed : {L A B : Type 0} → List (List (L × ℕ)) → Profile B → List (SiblingGroup A) → Type 0
+AreWeighed edges p gs = All (λ g. g.weight ≡ weight_at edges p g.parent) gs
+
+-- no group is heavier than the one before it
+abbrev pub AreFalling : {A : Type 0} → List (SiblingGroup A) → Type 0
+AreFalling gs = AllAdjacentBelow (λ g h. h.weight ≤ g.weight) gs (length gs)
 
 -- ---- the walk over the states
 -- whether there is an edge

@@ -1,12 +1,13 @@
 //! The trie of the patterns, with its failure links and its lists of outputs.
 //!
 //! A builder has a state for each beginning of a pattern that counts. The layers above may rely on
-//! four things: after `add` the trie holds the patterns that were registered, after `build_fails`
+//! five things: after `add` the trie holds the patterns that were registered, after `build_fails`
 //! the link of each state is that of the longest proper suffix which is a state's text, after
-//! `build_fails_leftmost` it is dead instead where a key starts before that suffix does, and after
+//! `build_fails_leftmost` it is dead instead where a key starts before that suffix does, after
 //! `build_outputs` the list at a state's position has the values of its text and of each of its
 //! suffixes, the longest first, as far as the links go: it is the state's own outputs, and then
-//! goes on at the position of the link.
+//! goes on at the position of the link; and `sibling_groups` has each state with edges once, with
+//! its children.
 
 ghost use Rattle.std.specs.Prelude.{◌≡◌, ◌≢◌, ◌⊎◌, Bool, true, false, Some, ℕ, ◌+◌, ◌<◌, ◌≤◌, ◌++◌, ◌∷◌, [], List, None, length, map, take, slice_index, vec_len, IfOk, IfErr, OnOk};
 ghost use Rattle.daachorse_model.specs.Units.{size};
@@ -25,7 +26,7 @@ ghost use Rattle.daachorse_build.specs.Searches.{Searches, LeadsTo, ComesFrom};
 ghost use Rattle.daachorse_build.specs.Growth.{Extends, IsAdded, HasTrieOf, Overflows};
 ghost use Rattle.daachorse_build.specs.Holds.{in_units, HasMorePrefixes};
 ghost use Rattle.daachorse_build.specs.Lists.{PositionsFit, AreListed, AreChained, IsChainedAt, IsParent, Passes};
-ghost use Rattle.daachorse_build.specs.Groups.{GivesCodes, AreCodes, AreTrieGroups, AreLight, IsProfileOf};
+ghost use Rattle.daachorse_build.specs.Groups.{GivesCodes, AreCodes, AreTrieGroups, AreWeighed, AreFalling, AreLight, IsProfileOf};
 ghost use Rattle.daachorse_placement.specs.Placement.{AreGroups};
 ghost use Rattle.daachorse_build.specs.Builders.{states_of, outputs_of, count_of, kind_of, Registered};
 ghost use Rattle.daachorse_core.specs.Refusals.{IsRefusal, IsOutOfMemory};
@@ -325,6 +326,9 @@ impl<L: EdgeLabel, V: Copy, A: Allocator + Copy> NfaBuilder<L, V, A> {
         requires callable { F.IsAlwaysCallable map_label }
         ensures trie { IfOk result (λ groups. (code : L → ℕ) → GivesCodes L.cmp (edges_of (states_of self.now)) (F.post map_label) code → AreTrieGroups L.cmp code (states_of self.now) groups.items) }
         ensures groups { IfOk result (λ groups. (code : L → ℕ) (block : ℕ) → GivesCodes L.cmp (edges_of (states_of self.now)) (F.post map_label) code → AreCodes L.cmp (edges_of (states_of self.now)) code block → AreGroups groups.items (length (states_of self.now)) block) }
+        ensures bound { IfOk result (λ groups. length groups.items < length (states_of self.now)) }
+        ensures weights { IfOk result (λ groups. AreWeighed (edges_of (states_of self.now)) profile.now groups.items) }
+        ensures falling { IfOk result (λ groups. AreFalling groups.items) }
         ensures light { profile.now.visits.items ≡ [] → IfOk result (λ groups. AreLight groups.items) }
         ensures refused { IfErr result IsOutOfMemory }
     {

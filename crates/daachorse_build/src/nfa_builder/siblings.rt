@@ -3,11 +3,11 @@
 //! The layer above may rely on one group for each state with an edge, in the order in which a
 //! stack of states gives them.
 
-ghost use Rattle.std.specs.Prelude.{◌≡◌, ℕ, ◌<◌, ◌++◌, [], length, map, filter, slice_index, IfOk, IfErr, OnOk};
+ghost use Rattle.std.specs.Prelude.{◌≡◌, ℕ, ◌<◌, ◌++◌, length, map, filter, IfOk, IfErr, OnOk};
 ghost use Rattle.std.specs.Map.{values_of};
 ghost use Rattle.daachorse_core.specs.Refusals.{IsOutOfMemory};
 ghost use Rattle.daachorse_build.specs.Tables.{edges_of, HoldTrie};
-ghost use Rattle.daachorse_build.specs.Groups.{edges_at, has_edges, IsWalk, IsProfileOf, AreGiven, AreFamilies, AreLight, parents_of};
+ghost use Rattle.daachorse_build.specs.Groups.{edges_at, has_edges, IsWalk, IsProfileOf, AreGiven, AreFamilies, AreWeighed, weight_at, parents_of};
 
 use super::{NfaBuilderState, ROOT_STATE_ID};
 use crate::edge_map::EdgeMap;
@@ -64,7 +64,7 @@ pub(super) fn groups_of<L: EdgeLabel, V: Copy, A: Allocator + Copy, F: Fn(L) -> 
     requires callable { F.IsAlwaysCallable map_label.now }
     ensures parents { IfOk result (λ groups. parents_of groups.items ≡ filter (has_edges (edges_of states.now)) order.now) }
     ensures families { IfOk result (λ groups. AreFamilies (F.post map_label.now) (edges_of states.now) groups.items) }
-    ensures light { profile.now.visits.items ≡ [] → IfOk result (λ groups. AreLight groups.items) }
+    ensures weights { IfOk result (λ groups. AreWeighed (edges_of states.now) profile.now groups.items) }
     ensures refused { IfErr result IsOutOfMemory }
 {
     let mut groups = Vec::new(alloc);
@@ -112,7 +112,7 @@ fn weight_of<L: EdgeLabel, V: Copy, A: Allocator>(
     requires trie { HoldTrie L.cmp states.now }
     requires parent { parent < length states.now }
     requires profile { IsProfileOf (length states.now) profile.now }
-    ensures light { profile.now.visits.items ≡ [] → result ≡ 0 }
+    ensures { result ≡ weight_at (edges_of states.now) profile.now parent }
 {
     if profile.is_empty() {
         return 0;

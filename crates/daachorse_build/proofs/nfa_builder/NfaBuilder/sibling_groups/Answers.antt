@@ -1,15 +1,23 @@
 -- The groups of the walk over the stack, in another order where there is a profile.
-use Rattle.std.proofs.Common.{ℕ, List, sym, ap, ◌∙◌, subst}
-use Rattle.std.specs.List.{filter}
+use Rattle.std.proofs.Common.{◌≡◌, ◌+◌, ℕ, List, [], ◌∷◌, refl, sym, ap, ◌∙◌, subst, arith, rules}
+use Rattle.std.specs.List.{All, filter}
 use Rattle.std.specs.List.Sorted.{IsPermutation}
-use Rattle.std.proofs.lemmas.List.Sorted.{IsPermutation-refl}
+use Rattle.std.proofs.lemmas.List.Sorted.{IsPermutation-refl, All-permutation}
+use Rattle.std.proofs.lemmas.List.Elements.{All-weaker}
+use Rattle.std.proofs.lemmas.Fn.{always_returns_same}
+use Rattle.std.proofs.lemmas.Map.Keys.{ge_from_not_lt}
+use Rattle.std.specs.declared.cmp.Reverse.{Reverse}
 use Rattle.daachorse_placement.specs.declared.build_helper.SiblingGroup.{SiblingGroup}
 use Rattle.daachorse_build.specs.declared.nfa_builder.NfaBuilderState.{NfaBuilderState}
 use Rattle.daachorse_build.specs.Tables.{edges_of}
-use Rattle.daachorse_build.specs.Groups.{has_edges, IsWalk, AreFamilies}
-use Rattle.daachorse_build.proofs.Families.{trie_groups, placed_groups}
+use Rattle.daachorse_build.specs.Groups.{has_edges, if_counted, weight_at, IsWalk, AreFamilies, AreWeighed, AreFalling}
+use Rattle.daachorse_build.proofs.Families.{few_groups, trie_groups, placed_groups}
 use Rattle.daachorse_build.proofs.nfa_builder.NfaBuilder.sibling_groups.Goals as goal
 use Rattle.daachorse_build.proofs.nfa_builder.NfaBuilder.sibling_groups.Goals.{then-not-is_empty+in_ok-sort_by_key, else-not-is_empty}
+
+if_none : (xs : List ℕ) (n : ℕ) → xs ≡ [] → if_counted xs n ≡ 0
+if_none [] n h = refl
+if_none (x ∷ xs) n h = cc
 
 pub returns-clause-trie : goal.returns-clause-trie
 returns-clause-trie g c = λ code says.
@@ -33,3 +41,51 @@ returns-clause-trie g c = λ code says.
 pub returns-clause-groups : goal.returns-clause-groups
 returns-clause-groups g c = λ code block says codes.
     placed_groups g.L.Ord.cmp g.met.L.Ord.total c.args.self.now.states.items c.requires.trie code block codes c.if-not-is_empty.groups.items (returns-clause-trie g c code says)
+
+pub returns-clause-bound : goal.returns-clause-bound
+returns-clause-bound g c =
+    let P : List (SiblingGroup g.row.A.Denot) → Type 0 = λ gs. IsPermutation c.in_ok-groups.groups.items gs in
+    let moved : IsPermutation c.in_ok-groups.groups.items c.if-not-is_empty.groups.items = elim c.if-not-is_empty.branch [
+      | then-not-is_empty+in_ok-sort_by_key w ↦ subst P (sym (ap (λ v. v.items) w.groups-is)) w.in_ok-sort_by_key.ensures.permutation
+      | else-not-is_empty w ↦ subst P (sym (ap (λ v. v.items) w.groups-is)) (IsPermutation-refl c.in_ok-groups.groups.items)
+    ] in
+    let old = c.args.self.now.states.items in
+    let order = c.in_ok-order.order.items in
+    let first = c.in_ok-groups.groups.items in
+    let e = c.in_ok-groups.ensures in
+    let gives = λ (l : g.row.L.Denot) (r : ℕ). g.F.Fn.post c.args.map_label (l, tt) r in
+    let W : List (NfaBuilderState g.row.L.Denot g.row.V.Denot g.row.A.Denot) → Type 0 = λ ss. IsWalk (edges_of ss) order in
+    let walk = subst W c.deref.ensures.value c.in_ok-order.ensures.walk in
+    let parents = e.parents ∙ ap (λ ss. filter (has_edges (edges_of ss)) c.deref-3.result.now) c.deref-2.ensures.value ∙ ap (λ os. filter (has_edges (edges_of old)) os) c.deref-3.ensures.value in
+    let F : List (NfaBuilderState g.row.L.Denot g.row.V.Denot g.row.A.Denot) → Type 0 = λ ss. AreFamilies gives (edges_of ss) first in
+    let families = subst F c.deref-2.ensures.value e.families in
+    few_groups g.L.Ord.cmp g.met.L.Ord.total old c.requires.trie order walk gives first c.if-not-is_empty.groups.items parents families moved
+
+pub returns-clause-weights : goal.returns-clause-weights
+returns-clause-weights g c =
+    let W : List (NfaBuilderState g.row.L.Denot g.row.V.Denot g.row.A.Denot) → Type 0 = λ ss. AreWeighed (edges_of ss) c.args.profile.now c.in_ok-groups.groups.items in
+    let weighed = subst W c.deref-2.ensures.value c.in_ok-groups.ensures.weights in
+    let Q : SiblingGroup g.row.A.Denot → Type 0 = λ x. x.weight ≡ weight_at (edges_of c.args.self.now.states.items) c.args.profile.now x.parent in
+    let P : List (SiblingGroup g.row.A.Denot) → Type 0 = λ gs. All Q gs in
+    elim c.if-not-is_empty.branch [
+      | then-not-is_empty+in_ok-sort_by_key w ↦ subst P (sym (ap (λ v. v.items) w.groups-is)) (All-permutation Q c.in_ok-groups.groups.items _ w.in_ok-sort_by_key.ensures.permutation weighed)
+      | else-not-is_empty w ↦ subst P (sym (ap (λ v. v.items) w.groups-is)) weighed
+    ]
+
+pub returns-clause-light : goal.returns-clause-light
+returns-clause-light g c = λ none.
+    All-weaker (λ (x : SiblingGroup g.row.A.Denot). x.weight ≡ weight_at (edges_of c.args.self.now.states.items) c.args.profile.now x.parent) (λ (x : SiblingGroup g.row.A.Denot). x.weight ≡ 0)
+    (λ x h. h ∙ if_none c.args.profile.now.visits.items _ none) c.if-not-is_empty.groups.items (returns-clause-weights g c)
+
+pub returns-clause-falling : goal.returns-clause-falling
+returns-clause-falling g c =
+    let P : List (SiblingGroup g.row.A.Denot) → Type 0 = λ gs. AreFalling gs in
+    elim c.if-not-is_empty.branch [
+      | then-not-is_empty+in_ok-sort_by_key w ↦
+          let key : SiblingGroup g.row.A.Denot → Reverse ℕ = λ x. record { 0 = x.weight } in
+          let sorted = w.in_ok-sort_by_key.ensures.sorted key (always_returns_same _ (λ a r. r ≡ key a.0.now) _ (λ a r q k. search rules)) in
+          subst P (sym (ap (λ v. v.items) w.groups-is)) (λ k d l. ge_from_not_lt _ _ (sorted k d (omega arith) l))
+      | else-not-is_empty w ↦
+          let zero' = returns-clause-light g c (c.is_empty.ensures.0 w.if-not-is_empty.false) in
+          λ k d l. omega (arith, zero' k d (omega arith), zero' (k + 1) d l)
+    ]

@@ -5,7 +5,7 @@ use Rattle.std.proofs.lemmas.List.Elements.{All-push}
 use Rattle.std.specs.List.{filter}
 use Rattle.daachorse_placement.specs.declared.build_helper.SiblingGroup.{SiblingGroup}
 use Rattle.daachorse_build.specs.Tables.{edges_of}
-use Rattle.daachorse_build.specs.Groups.{edges_at, is_some_edge, has_edges, AreGiven, AreFamilies, AreLight, parents_of}
+use Rattle.daachorse_build.specs.Groups.{edges_at, is_some_edge, has_edges, AreGiven, AreFamilies, AreWeighed, weight_at, parents_of}
 use Rattle.daachorse_build.proofs.Queue.{in_at}
 use Rattle.daachorse_build.proofs.Families.{has_edges_if, parents_more, parents_same}
 use Rattle.daachorse_build.proofs.nfa_builder.siblings.groups_of.Goals as goal
@@ -39,7 +39,7 @@ loop-id-preserved g c =
     let Parents : List (SiblingGroup g.row.A.Denot) → Type 0 = λ gs. parents_of gs ≡ filter (has_edges edges) (take (c.loop-id.id-index + 1) c.args.order.now) in
     let gives = λ (l : g.row.L.Denot) (r : ℕ). g.F.Fn.post c.args.map_label.now (l, tt) r in
     let Families : List (SiblingGroup g.row.A.Denot) → Type 0 = λ gs. AreFamilies gives edges gs in
-    let Light : List (SiblingGroup g.row.A.Denot) → Type 0 = λ gs. AreLight gs in
+    let Weighed : List (SiblingGroup g.row.A.Denot) → Type 0 = λ gs. AreWeighed edges c.args.profile.now gs in
     elim c.if-not-is_empty.branch [
       | then-not-is_empty+in_ok-group_of+in_ok-push w ↦
           let group = w.in_ok-group_of.field-0 in
@@ -50,13 +50,13 @@ loop-id-preserved g c =
           record {
             parents = subst Parents (sym items) (parents_more edges c.args.order.now c.loop-id.id-index c.loop-id.groups.items group c.loop-id-test.true i.parents e.parent (whether ∙ ap not w.if-not-is_empty.true));
             families = subst Families (sym items) (All-push (λ x. AreGiven gives (edges_at edges x.parent) x.children.items) c.loop-id.groups.items group i.families (subst Given (sym at) e.children));
-            light = λ none. subst Light (sym items) (All-push (λ x. x.weight ≡ 0) c.loop-id.groups.items group (i.light none) (e.weight ∙ w.weight_of-weight.ensures.light none));
+            weights = subst Weighed (sym items) (All-push (λ x. x.weight ≡ weight_at edges c.args.profile.now x.parent) c.loop-id.groups.items group i.weights (e.weight ∙ w.weight_of-weight.ensures ∙ ap (weight_at edges c.args.profile.now) (sym e.parent)));
           }
       | else-not-is_empty w ↦
           let items = ap (λ v. v.items) w.groups-is in
           record {
             parents = subst Parents (sym items) (parents_same edges c.args.order.now c.loop-id.id-index c.loop-id.groups.items c.loop-id-test.true i.parents (whether ∙ ap not w.if-not-is_empty.false));
             families = subst Families (sym items) i.families;
-            light = λ none. subst Light (sym items) (i.light none);
+            weights = subst Weighed (sym items) i.weights;
           }
     ]

@@ -1,14 +1,19 @@
 -- A child is a state, and so it has a count.
-use Rattle.std.proofs.Common.{◌≡◌, ℕ, zero, suc, List, [], ◌∷◌, length, Some, sym, ap, ◌∙◌, subst, inl, inr, arith}
-use Rattle.std.proofs.lemmas.List.{length-map, get_or-map}
+use Rattle.std.proofs.Common.{◌≡◌, ◌+◌, ◌-◌, ◌^◌, ◌<◌, min, ℕ, zero, suc, List, [], ◌∷◌, ◌++◌, length, map, get_or, sum_by, Some, refl, sym, ap, ◌∙◌, subst, inl, inr, arith}
+use Rattle.std.proofs.lemmas.List.{length-map, get_or-map, map-append, get_or_default}
+use Rattle.std.proofs.lemmas.List.Sums.{sum_by_push}
 use Rattle.std.proofs.lemmas.Bool.{false≢true}
-use Rattle.std.proofs.lemmas.Map.Iter.{iter_turn}
+use Rattle.std.proofs.lemmas.Map.Iter.{iter_turn, iter_end}
 use Rattle.std.proofs.lemmas.Option.{none-some, same_Some}
 use Rattle.std.specs.List.{slice_get}
 use Rattle.std.specs.Map.{values_of}
 use Rattle.std.specs.Map.Iter.{deref}
-use Rattle.daachorse_build.specs.Tables.{edges_of, depths_of}
-use Rattle.daachorse_build.specs.Orders.{IsIn}
+use Rattle.std.specs.declared.cmp.Ordering.{Ordering}
+use Rattle.std.specs.Cmp.{IsTotalOrder}
+use Rattle.daachorse_build.specs.declared.nfa_builder.NfaBuilderState.{NfaBuilderState}
+use Rattle.daachorse_build.specs.Tables.{edges_of, depths_of, HoldTrie}
+use Rattle.daachorse_build.specs.Orders.{IsIn, children}
+use Rattle.daachorse_build.specs.Groups.{if_counted}
 use Rattle.daachorse_build.proofs.Queue.{bounds_of_listed}
 use Rattle.daachorse_build.proofs.nfa_builder.siblings.weight_of.Goals as goal
 
@@ -18,17 +23,86 @@ in_found [] i x h = absurd (none-some x h)
 in_found (y ∷ xs) zero x h = inl (same_Some y x h)
 in_found (y ∷ xs) (suc i) x h = inr (in_found xs i x h)
 
+-- the children of the state at an index
+children_here : {L V A : Type 0} (states : List (NfaBuilderState L V A)) (i : ℕ) (x : NfaBuilderState L V A) (edges : List (L × ℕ)) → i < length states → x ≡ get_or states i x → edges ≡ x.edges → children (edges_of states) i ≡ values_of edges
+children_here states i x edges l is e =
+    ap values_of (get_or-map (λ s. s.edges) states i x [] l ∙ ap (λ s. s.edges) (sym is) ∙ sym e)
+
+-- a child is a state
+child_is_state : {L V A : Type 0} (cmp : L → L → Ordering) → IsTotalOrder cmp → (states : List (NfaBuilderState L V A)) → HoldTrie cmp states → (s : ℕ) (all : List ℕ) (i t : ℕ) → children (edges_of states) s ≡ all → slice_get all i ≡ Some t → t < length states
+child_is_state cmp total states table s all i t same at =
+    let P : List ℕ → Type 0 = λ xs. IsIn xs t in
+    let b = bounds_of_listed cmp total (edges_of states) (depths_of states) table s t (subst P (sym same) (in_found all i t at)) in
+    omega (arith, b.1, length-map states (λ s. s.edges))
+
+weight_start : (p w : ℕ) → w ≡ p → w < 2 ^ 64 → w ≡ min (p + 0) (2 ^ 64 - 1)
+weight_start p w e fits = omega arith
+
+weight_step : (p s v w r : ℕ) → w ≡ min (p + s) (2 ^ 64 - 1) → r ≡ min (w + v) (2 ^ 64 - 1) → r ≡ min (p + (s + v)) (2 ^ 64 - 1)
+weight_step p s v w r e f = omega arith
+
+if_counted-some : (xs : List ℕ) (n : ℕ) → (xs ≡ [] → ⊥) → if_counted xs n ≡ n
+if_counted-some [] n ne = absurd (ne refl)
+if_counted-some (x ∷ xs) n ne = refl
+
 pub index-requires : goal.index-requires
 index-requires g c =
     let states = c.args.states.now in
     let all = values_of c.edges.result.now in
     let begun : c.into_iter-id-iterator.result ≡ all = cc in
     let turn = iter_turn deref all c.loop-id.yielded c.into_iter-id-iterator.result c.loop-id.id-iterator c.next.new.self c.next.result begun c.loop-id.yielded_by c.in-Some.id c.in-Some.is c.next.ensures.steps in
-    let here = in_found all (length c.loop-id.yielded) c.in-Some.id.now turn.1 in
-    let at = ap values_of (get_or-map (λ s. s.edges) states c.args.parent c.index-states-parent.result [] c.requires.parent ∙ ap (λ s. s.edges) (sym c.index-states-parent.is) ∙ sym c.edges.ensures) in
-    let P : List ℕ → Type 0 = λ xs. IsIn xs c.in-Some.id.now in
-    let b = bounds_of_listed g.L.Ord.cmp g.met.L.Ord.total (edges_of states) (depths_of states) c.requires.trie c.args.parent c.in-Some.id.now (subst P (sym at) here) in
+    let here = children_here states c.args.parent c.index-states-parent.result c.edges.result.now c.requires.parent c.index-states-parent.is c.edges.ensures in
+    let low = child_is_state g.L.Ord.cmp g.met.L.Ord.total states c.requires.trie c.args.parent all (length c.loop-id.yielded) c.in-Some.id.now here turn.1 in
     elim c.requires.profile [
       | inl none ↦ absurd (false≢true (c.if-is_empty.ensures.1 none))
-      | inr both ↦ omega (arith, b.1, both.0, length-map states (λ s. s.edges))
+      | inr both ↦ omega (arith, low, both.0)
     ]
+
+pub loop-id-init : goal.loop-id-init
+loop-id-init g c =
+    let probes = c.args.profile.now.probes.items in
+    let w = c.index-weight.result.now in
+    elim c.requires.profile [
+      | inl none ↦ absurd (false≢true (c.if-is_empty.ensures.1 none))
+      | inr both ↦
+          let low : c.args.parent < length probes = omega (arith, c.requires.parent, both.1) in
+          weight_start (get_or probes c.args.parent 0) w (c.index-weight.ensures ∙ get_or_default probes c.args.parent w 0 low) c.type_inv.weight.fits
+    ]
+
+pub loop-id-preserved : goal.loop-id-preserved
+loop-id-preserved g c =
+    let states = c.args.states.now in
+    let probes = c.args.profile.now.probes.items in
+    let visits = c.args.profile.now.visits.items in
+    let all = values_of c.edges.result.now in
+    let begun : c.into_iter-id-iterator.result ≡ all = cc in
+    let turn = iter_turn deref all c.loop-id.yielded c.into_iter-id-iterator.result c.loop-id.id-iterator c.next.new.self c.next.result begun c.loop-id.yielded_by c.in-Some.id c.in-Some.is c.next.ensures.steps in
+    let here = children_here states c.args.parent c.index-states-parent.result c.edges.result.now c.requires.parent c.index-states-parent.is c.edges.ensures in
+    let low = child_is_state g.L.Ord.cmp g.met.L.Ord.total states c.requires.trie c.args.parent all (length c.loop-id.yielded) c.in-Some.id.now here turn.1 in
+    let f : ℕ → ℕ = λ t. get_or visits t 0 in
+    let done = map deref c.loop-id.yielded in
+    let v = c.index.result.now in
+    let more : sum_by f (map deref (c.loop-id.yielded ++ c.in-Some.id ∷ [])) ≡ sum_by f done + f c.in-Some.id.now = ap (sum_by f) (map-append deref c.loop-id.yielded (c.in-Some.id ∷ [])) ∙ sum_by_push f done c.in-Some.id.now in
+    elim c.requires.profile [
+      | inl none ↦ absurd (false≢true (c.if-is_empty.ensures.1 none))
+      | inr both ↦
+          let in' : c.in-Some.id.now < length visits = omega (arith, low, both.0) in
+          let read : v ≡ f c.in-Some.id.now = c.index.ensures ∙ get_or_default visits c.in-Some.id.now v 0 in' in
+          weight_step (get_or probes c.args.parent 0) (sum_by f done) v c.loop-id.weight c.saturating_add-weight.result c.loop-id.invariant c.saturating_add-weight.ensures
+          ∙ ap (λ n. min (get_or probes c.args.parent 0 + n) (2 ^ 64 - 1)) (ap (λ n. sum_by f done + n) read ∙ sym more)
+    ]
+
+pub returns : goal.returns
+returns g c =
+    let states = c.args.states.now in
+    let probes = c.args.profile.now.probes.items in
+    let visits = c.args.profile.now.visits.items in
+    let f : ℕ → ℕ = λ t. get_or visits t 0 in
+    let all = values_of c.edges.result.now in
+    let begun : c.into_iter-id-iterator.result ≡ all = cc in
+    let end = iter_end deref all c.loop-id.yielded c.into_iter-id-iterator.result c.loop-id.id-iterator c.next.new.self c.next.result begun c.loop-id.yielded_by c.in-None.is c.next.ensures.steps in
+    let here = children_here states c.args.parent c.index-states-parent.result c.edges.result.now c.requires.parent c.index-states-parent.is c.edges.ensures in
+    let weight : ℕ → ℕ = λ n. min (get_or probes c.args.parent 0 + n) (2 ^ 64 - 1) in
+    c.loop-id.invariant
+    ∙ ap (λ xs. weight (sum_by f xs)) (end.0 ∙ sym here)
+    ∙ sym (if_counted-some visits (weight (sum_by f (children (edges_of states) c.args.parent))) (λ none. false≢true (c.if-is_empty.ensures.1 none)))

@@ -127,6 +127,22 @@ coded_given gives code (e ∷ es) (d ∷ cs) says h =
     let rest = coded_given gives code es cs (λ i c t at r k. says (suc i) c t at r k) h.1 in
     ap (λ (v : ℕ). (v, d.1) ∷ cs) label ∙ ap (λ (v : ℕ). (code e.0, v) ∷ cs) id ∙ ap (λ xs. (code e.0, e.1) ∷ xs) rest
 
+-- what is given for each label of edges is below a bound
+given_below : {L : Type 0} (gives : L → ℕ → Type 0) (block : ℕ) → ((c : L) (r : ℕ) → gives c r → r < block) → (es : List (L × ℕ)) (cs : List (ℕ × ℕ)) → AreGiven gives es cs → (j : ℕ) → j < length cs → label_of cs j < block
+given_below gives block below [] [] h j l = absurd (omega arith)
+given_below gives block below [] (d ∷ cs) h j l = absurd h
+given_below gives block below (e ∷ es) [] h j l = absurd h
+given_below gives block below (e ∷ es) (d ∷ cs) h zero l = below e.0 d.0 h.0.0
+given_below gives block below (e ∷ es) (d ∷ cs) h (suc j) l = given_below gives block below es cs h.1 j (omega arith)
+
+-- the labels of each group are below what bounds those that are given
+pub labels_below : {L A : Type 0} (gives : L → ℕ → Type 0) (edges : List (List (L × ℕ))) (gs : List (SiblingGroup A)) (block : ℕ) → AreFamilies gives edges gs → ((c : L) (r : ℕ) → gives c r → r < block)
+    → (k j : ℕ) → k < length gs → j < length (children_of gs k) → label_of (children_of gs k) j < block
+labels_below gives edges gs block families below k j l h =
+    let at = group_at (λ g. AreGiven gives (edges_at edges g.parent) g.children.items) gs k l families in
+    let P : List (ℕ × ℕ) → Type 0 = λ cs. j < length cs → label_of cs j < block in
+    subst P (sym at.3) (given_below gives block below (edges_at edges at.0.parent) at.0.children.items at.1 j) h
+
 some_edge : {L : Type 0} (es : List (L × ℕ)) → is_some_edge es ≡ true → 0 < length es
 some_edge [] h = absurd (false≢true h)
 some_edge (e ∷ es) h = omega arith
@@ -222,7 +238,7 @@ module _ {L : Type 0} (code : L → ℕ) where
 once_place : (xs : List ℕ) (i j : ℕ) → StandOnce xs → i < length xs → j < length xs → get_or xs i 0 ≡ get_or xs j 0 → i ≡ j
 once_place xs i j once hi hj same = one_place xs i j (distinct_once xs once) hi hj same
 
-module _ {L V A : Type 0} (cmp : L → L → Ordering) (total : IsTotalOrder cmp) (states : List (NfaBuilderState L V A)) (table : HoldTrie cmp states) (code : L → ℕ) (block : ℕ) (codes : AreCodes cmp (edges_of states) code block) (gs : List (SiblingGroup A)) (trie : AreTrieGroups cmp code states gs) where
+module _ {L V A : Type 0} (cmp : L → L → Ordering) (total : IsTotalOrder cmp) (states : List (NfaBuilderState L V A)) (table : HoldTrie cmp states) (gives : L → ℕ → Type 0) (code : L → ℕ) (block : ℕ) (codes : AreCodes cmp (edges_of states) gives code block) (gs : List (SiblingGroup A)) (trie : AreTrieGroups cmp code states gs) (below : (k j : ℕ) → k < length gs → j < length (children_of gs k) → label_of (children_of gs k) j < block) where
   -- the edge to child j of group k
   edge_at : (k j : ℕ) → k < length gs → j < length (children_of gs k) → (c : L) × (child_in cmp (edges_of states) (parent_of gs k) c ≡ Some (child_of (children_of gs k) j)) × (label_of (children_of gs k) j ≡ code c) × (j < length (children (edges_of states) (parent_of gs k))) × (get_or (children (edges_of states) (parent_of gs k)) j 0 ≡ child_of (children_of gs k) j)
   edge_at k j hk hj =
@@ -246,7 +262,7 @@ module _ {L V A : Type 0} (cmp : L → L → Ordering) (total : IsTotalOrder cmp
   pub placed_groups : AreGroups gs (length states) block
   placed_groups = record {
     some = λ k l. omega (arith, trie.some k l, ap length (trie.children k l), length-map {B = ℕ × ℕ} (edges_at (edges_of states) (parent_of gs k)) (λ e. (code e.0, e.1)));
-    labels = λ k l j h. let a = edge_at k j l h in omega (arith, a.2, codes.below (parent_of gs k) a.0 (child_of (children_of gs k) j) a.1);
+    labels = λ k l j h. below k j l h;
     distinct = λ k i j l hi hj same.
         let a = edge_at k i l hi in
         let b = edge_at k j l hj in

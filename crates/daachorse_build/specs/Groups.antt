@@ -24,9 +24,9 @@ abbrev pub GivesCodes : {L : Type 0} → (L → L → Ordering) → List (List (
 GivesCodes {L} cmp edges gives code =
     (s : ℕ) (c : L) (t : ℕ) → child_in cmp edges s c ≡ Some t → (r : ℕ) → gives c r → r ≡ code c
 
--- the codes of the labels of edges are below the length of a block, and tell the children of a state apart
-pub record AreCodes {L : Type 0} (cmp : L → L → Ordering) (edges : List (List (L × ℕ))) (code : L → ℕ) (block : ℕ) : Type 0 where
-  pub below : (s : ℕ) (c : L) (t : ℕ) → child_in cmp edges s c ≡ Some t → code c < block
+-- what is given for labels is below the length of a block, and the codes tell the children of a state apart
+pub record AreCodes {L : Type 0} (cmp : L → L → Ordering) (edges : List (List (L × ℕ))) (gives : L → ℕ → Type 0) (code : L → ℕ) (block : ℕ) : Type 0 where
+  pub below : (c : L) (r : ℕ) → gives c r → r < block
   pub apart : (s : ℕ) (c d : L) (t u : ℕ) → child_in cmp edges s c ≡ Some t → child_in cmp edges s d ≡ Some u → code c ≡ code d → c ≡ d
 
 -- the groups of a trie, one for each state with an edge

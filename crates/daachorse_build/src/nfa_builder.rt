@@ -325,7 +325,7 @@ impl<L: EdgeLabel, V: Copy, A: Allocator + Copy> NfaBuilder<L, V, A> {
         requires profile { IsProfileOf (length (states_of self.now)) profile.now }
         requires callable { F.IsAlwaysCallable map_label }
         ensures trie { IfOk result (λ groups. (code : L → ℕ) → GivesCodes L.cmp (edges_of (states_of self.now)) (F.post map_label) code → AreTrieGroups L.cmp code (states_of self.now) groups.items) }
-        ensures groups { IfOk result (λ groups. (code : L → ℕ) (block : ℕ) → GivesCodes L.cmp (edges_of (states_of self.now)) (F.post map_label) code → AreCodes L.cmp (edges_of (states_of self.now)) code block → AreGroups groups.items (length (states_of self.now)) block) }
+        ensures groups { IfOk result (λ groups. (code : L → ℕ) (block : ℕ) → GivesCodes L.cmp (edges_of (states_of self.now)) (F.post map_label) code → AreCodes L.cmp (edges_of (states_of self.now)) (F.post map_label) code block → AreGroups groups.items (length (states_of self.now)) block) }
         ensures bound { IfOk result (λ groups. length groups.items < length (states_of self.now)) }
         ensures weights { IfOk result (λ groups. AreWeighed (edges_of (states_of self.now)) profile.now groups.items) }
         ensures falling { IfOk result (λ groups. AreFalling groups.items) }

@@ -10,8 +10,8 @@ use Rattle.std.specs.declared.cmp.Reverse.{Reverse}
 use Rattle.daachorse_placement.specs.declared.build_helper.SiblingGroup.{SiblingGroup}
 use Rattle.daachorse_build.specs.declared.nfa_builder.NfaBuilderState.{NfaBuilderState}
 use Rattle.daachorse_build.specs.Tables.{edges_of}
-use Rattle.daachorse_build.specs.Groups.{has_edges, if_counted, weight_at, IsWalk, AreFamilies, AreWeighed, AreFalling}
-use Rattle.daachorse_build.proofs.Families.{few_groups, trie_groups, placed_groups}
+use Rattle.daachorse_build.specs.Groups.{AreGiven, edges_at, has_edges, if_counted, weight_at, IsWalk, AreFamilies, AreWeighed, AreFalling}
+use Rattle.daachorse_build.proofs.Families.{few_groups, labels_below, trie_groups, placed_groups}
 use Rattle.daachorse_build.proofs.nfa_builder.NfaBuilder.sibling_groups.Goals as goal
 use Rattle.daachorse_build.proofs.nfa_builder.NfaBuilder.sibling_groups.Goals.{then-not-is_empty+in_ok-sort_by_key, else-not-is_empty}
 
@@ -40,7 +40,18 @@ returns-clause-trie g c = λ code says.
 
 pub returns-clause-groups : goal.returns-clause-groups
 returns-clause-groups g c = λ code block says codes.
-    placed_groups g.L.Ord.cmp g.met.L.Ord.total c.args.self.now.states.items c.requires.trie code block codes c.if-not-is_empty.groups.items (returns-clause-trie g c code says)
+    let gives = λ (l : g.row.L.Denot) (r : ℕ). g.F.Fn.post c.args.map_label (l, tt) r in
+    let old = c.args.self.now.states.items in
+    let F : List (NfaBuilderState g.row.L.Denot g.row.V.Denot g.row.A.Denot) → Type 0 = λ ss. AreFamilies gives (edges_of ss) c.in_ok-groups.groups.items in
+    let first = subst F c.deref-2.ensures.value c.in_ok-groups.ensures.families in
+    let Q : SiblingGroup g.row.A.Denot → Type 0 = λ x. AreGiven gives (edges_at (edges_of old) x.parent) x.children.items in
+    let P : List (SiblingGroup g.row.A.Denot) → Type 0 = λ gs. All Q gs in
+    let families : All Q c.if-not-is_empty.groups.items = elim c.if-not-is_empty.branch [
+      | then-not-is_empty+in_ok-sort_by_key w ↦ subst P (sym (ap (λ v. v.items) w.groups-is)) (All-permutation Q c.in_ok-groups.groups.items _ w.in_ok-sort_by_key.ensures.permutation first)
+      | else-not-is_empty w ↦ subst P (sym (ap (λ v. v.items) w.groups-is)) first
+    ] in
+    placed_groups g.L.Ord.cmp g.met.L.Ord.total old c.requires.trie gives code block codes c.if-not-is_empty.groups.items (returns-clause-trie g c code says)
+    (labels_below gives (edges_of old) c.if-not-is_empty.groups.items block families codes.below)
 
 pub returns-clause-bound : goal.returns-clause-bound
 returns-clause-bound g c =

@@ -77,18 +77,18 @@ module _ {A : Type 0} {gs : List (SiblingGroup A)} {l : Layout} {edges : List (L
   -- a dead link leads to the dead state
   link_at : (f : ℕ) → get_or l.idx f 0 ≡ cond (f == 1) 1 (get_or l.idx f 0)
   link_at f = elim (cases_eq f 1) [
-    | inl e ↦ ap (λ x. get_or l.idx x 0) e ∙ place-dead p ∙ sym (cond-true (f == 1) _ _ (eq-eqb f 1 e))
+    | inl e ↦ ap (λ x. get_or l.idx x 0) e ∙ place-dead p.settled ∙ sym (cond-true (f == 1) _ _ (eq-eqb f 1 e))
     | inr other ↦ sym (cond-false (f == 1) _ _ (ne_eqb f 1 other))
   ]
 
   -- the parts are a copy of the trie
   pub packed-IsCopy : {V : Type 0} (kind : MatchKind) (outputs : List (Output V)) (n : ℕ) → IsCopy (trie_of edges fails positions) outputs (machine (parts_of kind es outputs n)) (λ t. get_or l.idx t 0)
   packed-IsCopy kind outputs n = record {
-    root = p.placed.root;
-    above = λ u s w e. (let at = Leads-above p u s w e in place-above p s at.0 at.1);
-    apart = λ r s v w d e same. (let a = Leads-state p r v d in let b = Leads-state p s w e in place-apart p r s a.0 a.1 b.0 b.1 same);
-    children = λ s c w e. (let at = Leads-state p s w e in parts-child es outputs n kind (get_or l.idx s 0) c ∙ element-child p s c at.0 at.1);
-    links = λ u s w e. (let at = Leads-state p s (u ∷ w) e in parts-fail es outputs n kind (get_or l.idx s 0) ∙ (p.held.states s at.0 at.1).fail ∙ link_at (get_or fails s 0));
-    positions = λ s w e. (let at = Leads-state p s w e in parts-output es outputs n kind (get_or l.idx s 0) ∙ (p.held.states s at.0 at.1).output);
+    root = p.settled.placed.root;
+    above = λ u s w e. (let at = Leads-above p.settled u s w e in place-above p.settled s at.0 at.1);
+    apart = λ r s v w d e same. (let a = Leads-state p.settled r v d in let b = Leads-state p.settled s w e in place-apart p.settled r s a.0 a.1 b.0 b.1 same);
+    children = λ s c w e. (let at = Leads-state p.settled s w e in parts-child es outputs n kind (get_or l.idx s 0) c ∙ element-child p s c at.0 at.1);
+    links = λ u s w e. (let at = Leads-state p.settled s (u ∷ w) e in parts-fail es outputs n kind (get_or l.idx s 0) ∙ (p.held.states s at.0 at.1).fail ∙ link_at (get_or fails s 0));
+    positions = λ s w e. (let at = Leads-state p.settled s w e in parts-output es outputs n kind (get_or l.idx s 0) ∙ (p.held.states s at.0 at.1).output);
     same_outputs = parts-outputs es outputs n kind;
   }

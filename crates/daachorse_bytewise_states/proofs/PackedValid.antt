@@ -24,7 +24,7 @@ use Rattle.daachorse_bytewise_states.specs.Elements.{base_in, fail_in, output_in
 use Rattle.daachorse_bytewise_states.specs.Parts.{Parts, base_of, content, count, fail_of, machine, output_of, parts_of, without_link}
 use Rattle.daachorse_bytewise_states.specs.Packing.{element, trie_of, ArePacked, IsElementOf, IsVacant}
 use Rattle.daachorse_bytewise_states.specs.Valid.{HasShape, IsInside, IsValid}
-use Rattle.daachorse_bytewise_states.proofs.PackedTrie.{base_inside, count-elements, Leads-state, place-inside, place_from, some-elements}
+use Rattle.daachorse_bytewise_states.proofs.PackedTrie.{Leads-state, packed-base, packed-count, packed-place, packed-some, place_from}
 use Rattle.daachorse_bytewise_states.proofs.PackedParts.{packed-IsCopy, parts-base, parts-count, parts-fail, parts-kind, parts-num_states, parts-output, parts-outputs}
 
 -- which lists are used
@@ -36,13 +36,13 @@ parts-shape LeftmostFirst es outputs n = (refl, length-map es fail_in ∙ sym (l
 module _ {A : Type 0} {gs : List (SiblingGroup A)} {l : Layout} {edges : List (List (ℕ × ℕ))} {depths fails positions : List ℕ} {es : List (State ℕ)} (p : ArePacked gs l edges depths fails positions es) where
   -- a text leads to each state
   pub state-text : (s : ℕ) → s < length edges → s ≢ 1 → (w : List ℕ) × Leads (edge_to nat_cmp edges) w s
-  state-text s less alive = text_of (edge_to nat_cmp edges) (λ t. get_or depths t 0) (length edges) p.of_trie.table.trie s less alive
+  state-text s less alive = text_of (edge_to nat_cmp edges) (λ t. get_or depths t 0) (length edges) p.settled.of_trie.table.trie s less alive
 
   pub packed-states : HasStates (trie_of edges fails positions) (length edges)
   packed-states = record {
-    two = p.of_trie.table.trie.two;
+    two = p.settled.of_trie.table.trie.two;
     reached = state-text;
-    only = λ s w e. Leads-state p s w e;
+    only = λ s w e. Leads-state p.settled s w e;
   }
 
 -- the parts of a dictionary's trie, whose positions are those of outputs
@@ -53,11 +53,11 @@ module _ {A V : Type 0} {gs : List (SiblingGroup A)} {l : Layout} {edges : List 
   link-inside s (u ∷ w) e = go (holds.links u s w e)
     where
       two : 1 < length edges
-      two = p.of_trie.table.trie.two
+      two = p.settled.of_trie.table.trie.two
 
       go : IsLinkedTo K (is_leftmost kind) (trie_of edges fails positions) (u ∷ w) (get_or fails s 0) → get_or fails s 0 < length edges
       go (inl dead) = let is : get_or fails s 0 ≡ 1 = dead.0 in omega (arith, is, two)
-      go (inr alive) = (Leads-state p (get_or fails s 0) alive.2.0 alive.2.1).0
+      go (inr alive) = (Leads-state p.settled (get_or fails s 0) alive.2.0 alive.2.1).0
 
   -- what a state's element holds is in range, and so is what a vacant one does
   record IsInRange (e : State ℕ) : Type 0 where
@@ -70,23 +70,23 @@ module _ {A V : Type 0} {gs : List (SiblingGroup A)} {l : Layout} {edges : List 
       let text = state-text p t less alive in
       record {
         base = subst (λ (x : ℕ). x < length es) (sym is.base) (elim (cases_eq (get_or l.bases t 0) 0) [
-          | inl none ↦ subst (λ (x : ℕ). x < length es) (sym none) (some-elements p)
-          | inr some ↦ base_inside p t less some
+          | inl none ↦ subst (λ (x : ℕ). x < length es) (sym none) (packed-some p)
+          | inr some ↦ packed-base p t less some
         ]);
-        fail = subst (λ (x : ℕ). x < length es) (sym is.fail) (place-inside p (get_or fails t 0) (link-inside t text.0 text.1));
+        fail = subst (λ (x : ℕ). x < length es) (sym is.fail) (packed-place p (get_or fails t 0) (link-inside t text.0 text.1));
         output = subst (λ (x : ℕ). x ≤ length outputs) (sym is.output) (fits text.0 t text.1);
       }
 
   vacant_in_range : (i : ℕ) (e : State ℕ) → IsVacant l i e → IsInRange e
   vacant_in_range i e is =
-      let some : 0 < length es = some-elements p in
+      let some : 0 < length es = packed-some p in
       let base : base_in e ≡ 0 = is.base in
       let fail : fail_in e ≡ 0 = is.fail in
       let output : output_in e ≡ 0 = is.output in
       record { base = omega (arith, some, base); fail = omega (arith, some, fail); output = omega (arith, output) }
 
   in_range : (i : ℕ) → i < length es → IsInRange (element es i)
-  in_range i inside = elim (place_from p i) [
+  in_range i inside = elim (place_from p.settled i) [
     | inl t ↦ subst (λ (x : ℕ). IsInRange (element es x)) t.3 (state_in_range t.0 (element es (get_or l.idx t.0 0)) t.1 t.2 (p.held.states t.0 t.1 t.2))
     | inr none ↦ vacant_in_range i (element es i) (p.held.others i inside none)
   ]
@@ -115,8 +115,8 @@ module _ {A V : Type 0} {gs : List (SiblingGroup A)} {l : Layout} {edges : List 
 
   pub packed-IsValid : n ≡ length edges - 1 → IsValid parts
   packed-IsValid counted = record {
-    blocks = subst (λ (x : ℕ). x % 256 ≡ 0) (sym (parts-count es outputs n kind ∙ count-elements p)) (omega arith);
-    some = subst (λ (x : ℕ). 0 < x) (sym (parts-count es outputs n kind)) (some-elements p);
+    blocks = subst (λ (x : ℕ). x % 256 ≡ 0) (sym (parts-count es outputs n kind ∙ packed-count p)) (omega arith);
+    some = subst (λ (x : ℕ). 0 < x) (sym (parts-count es outputs n kind)) (packed-some p);
     shape = parts-shape kind es outputs n;
     inside = inside_at;
     parents_fall = subst (λ (os : List (Output V)). ParentsFall os) (sym (parts-outputs es outputs n kind)) holds.parents_fall;

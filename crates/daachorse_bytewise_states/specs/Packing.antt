@@ -3,7 +3,7 @@ use Rattle.std.specs.Prelude.{◌≡◌, ◌≢◌, ℕ, ◌+◌, ◌*◌, ◌<�
 use Rattle.std.specs.Ordering.{nat_cmp}
 use Rattle.daachorse_placement.specs.declared.build_helper.SiblingGroup.{SiblingGroup}
 use Rattle.daachorse_placement.specs.Layout.{AreAllSet, IsLeastUnused, Layout}
-use Rattle.daachorse_placement.specs.Placement.{AreGroups, HasSizes, IsPlaced, children_of, parent_of}
+use Rattle.daachorse_placement.specs.Placement.{AreBlocksFull, AreGroups, HasSizes, IsPlaced, children_of, parent_of}
 use Rattle.daachorse_build.specs.declared.nfa_builder.NfaBuilderState.{NfaBuilderState}
 use Rattle.daachorse_build.specs.Tables.{child_in as edge_to, depths_of, edges_of, fails_of, positions_of, IsTable}
 use Rattle.daachorse_machine.specs.Copies.{LinkedTrie}
@@ -47,13 +47,17 @@ pub record AreByteGroups {A : Type 0} (gs : List (SiblingGroup A)) (edges : List
   pub children : (k : ℕ) → k < length gs → children_of gs k ≡ slice_index_or edges (parent_of gs k) []
   pub all : (s c t : ℕ) → edge_to nat_cmp edges s c ≡ Some t → (k : ℕ) × (k < length gs) × (parent_of gs k ≡ s)
 
--- The groups of a trie over bytes were placed, and the elements hold it.
-pub record ArePacked {A : Type 0} (gs : List (SiblingGroup A)) (l : Layout) (edges : List (List (ℕ × ℕ))) (depths fails positions : List ℕ) (es : List (State ℕ)) : Type 0 where
+-- The groups of a trie over bytes were placed.
+pub record AreSettled {A : Type 0} (gs : List (SiblingGroup A)) (l : Layout) (edges : List (List (ℕ × ℕ))) (depths : List ℕ) : Type 0 where
   pub of_trie : AreByteGroups gs edges depths
   pub placed : IsPlaced gs (length gs) true l
   pub sizes : HasSizes l 256 (length edges)
   -- a block without an unused base has no vacant element
-  pub full : (q : ℕ) → q < l.blocks → AreAllSet l.marks 256 q → AreAllSet l.used 256 q
+  pub full : AreBlocksFull l
+
+-- The groups of a trie over bytes were placed, and the elements hold it.
+pub record ArePacked {A : Type 0} (gs : List (SiblingGroup A)) (l : Layout) (edges : List (List (ℕ × ℕ))) (depths fails positions : List ℕ) (es : List (State ℕ)) : Type 0 where
+  pub settled : AreSettled gs l edges depths
   pub held : HoldStates l edges fails positions es
 
 -- the elements hold the trie of these states, by some groups and some placement of them

@@ -7,12 +7,11 @@ use Rattle.daachorse_bytewise_states.specs.declared.state.State.{State}
 use Rattle.daachorse_bytewise_states.specs.Elements.{base_in, check_in, fail_in, output_in}
 use Rattle.daachorse_bytewise_states.specs.Packing.{IsVacant, element}
 
--- by state the label of the edge to it, a byte; nothing leads to the root
+-- by state the label of the edge to it; nothing leads to the root
 pub record AreLabelled (edges : List (List (ℕ × ℕ))) (labels : List ℕ) : Type 0 where
   pub size : length labels ≡ length edges
   pub root : slice_index labels 0 ≡ 0
   pub children : (s c t : ℕ) → edge_to nat_cmp edges s c ≡ Some t → slice_index labels t ≡ c
-  pub bytes : (t : ℕ) → slice_index labels t < 256
 
 -- each element is vacant
 pub record AreVacant (l : Layout) (es : List (State ℕ)) : Type 0 where

@@ -45,7 +45,10 @@ pub(crate) fn pack<V: Copy, A: Allocator + Copy>(
     ensures err { IfErr result (IsRefusal ⊥ NumElements (HasManyGroups (states_of nfa.now))) }
 {
     let profile = Profile::new(alloc);
-    let groups = nfa.sibling_groups(alloc, &profile, |label| u32::from(label))?;
+    let groups = nfa.sibling_groups(alloc, &profile, |label: u8| -> u32
+        ensures same { result ≡ label }
+        ensures below { result < 256 }
+    { u32::from(label) })?;
     let helper = BuildHelper::new(alloc, &groups, nfa.states().len(), BLOCK_LEN, true)?;
     let labels = labels(alloc, nfa.states())?;
     let mut elements = vacant_elements(alloc, &helper)?;

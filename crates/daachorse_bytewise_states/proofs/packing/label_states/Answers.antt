@@ -44,7 +44,6 @@ returns g c =
       size = was.size ∙ sym (length-map states edge_map);
       root = was.root;
       children = λ s d t e. was.children s d t (below s d t e) e;
-      bytes = c.type_inv.labels;
     }
   where
     below : (s d t : ℕ) → child_in nat_cmp (edges_of c.args.states.now) s d ≡ Some t → s < c.loop-state.state-index

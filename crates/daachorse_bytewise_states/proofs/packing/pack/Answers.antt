@@ -11,31 +11,27 @@ use Rattle.daachorse_bytewise_states.specs.Elements.{base_in, check_in, fail_in,
 use Rattle.daachorse_bytewise_states.specs.Writing.{AreLabelled, ArePlaces, AreVacant, HasPlaced, HasVacants}
 use Rattle.daachorse_bytewise_states.proofs.packing.pack.Goals as goal
 
--- src/packing.rt:49:18
+-- src/packing.rt:52:18
 pub new-requires-clause-power : goal.new-requires-clause-power
 new-requires-clause-power g c = ?
 
--- src/packing.rt:49:18
-pub new-requires-clause-states : goal.new-requires-clause-states
-new-requires-clause-states g c = ?
-
--- src/packing.rt:49:18
+-- src/packing.rt:52:18
 pub new-requires-clause-groups : goal.new-requires-clause-groups
 new-requires-clause-groups g c = ?
 
--- src/packing.rt:49:18
+-- src/packing.rt:52:18
 pub returns-in_err-helper-clause-err : goal.returns-in_err-helper-clause-err
 returns-in_err-helper-clause-err g c = ?
 
--- src/packing.rt:52:5
+-- src/packing.rt:55:5
 pub place_states-requires-clause-places : goal.place_states-requires-clause-places
 place_states-requires-clause-places g c = ?
 
--- src/packing.rt:52:5
+-- src/packing.rt:55:5
 pub place_states-requires-clause-links : goal.place_states-requires-clause-links
 place_states-requires-clause-links g c = ?
 
--- src/packing.rt:52:5
+-- src/packing.rt:55:5
 pub place_states-requires-clause-outputs : goal.place_states-requires-clause-outputs
 place_states-requires-clause-outputs g c = ?
 

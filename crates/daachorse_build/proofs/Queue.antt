@@ -1,7 +1,7 @@
 -- The queue of a breadth-first walk, from step to step.
 use Rattle.std.proofs.Common.{◌≡◌, ◌≢◌, ℕ, zero, suc, ◌+◌, ◌<◌, ◌≤◌, ◌⊎◌, Bool, true, false, eqb, List, [], ◌∷◌, ◌++◌, length, get_or, take, set, replicate, Some, refl, sym, ap, ◌∙◌, subst, inl, inr, arith, append_assoc, get_or-set_same, get_or-set_other}
 use Rattle.std.proofs.lemmas.Option.{none-some, same_Some}
-use Rattle.std.proofs.lemmas.List.{append-nil, take-append-le, get_or_append_left, get_or_push, length_push, length-set, length-replicate, take_more, take_all, length-take-le, get_or-take, take_at, flat_map_more, get_or_default}
+use Rattle.std.proofs.lemmas.List.{append-nil, take-append-le, get_or_append_left, get_or_push, length_push, length-set, length-replicate, get_or-replicate, take_more, take_all, length-take-le, get_or-take, take_at, flat_map_more, get_or_default}
 use Rattle.std.proofs.lemmas.Map.Entries.{place_from_lookup, lookup_from_place}
 use Rattle.std.proofs.lemmas.Map.Keys.{IsDistinct-from_sorted, IsDistinct-from_apart}
 use Rattle.std.proofs.lemmas.Map.Steps.{length-le_from_distinct_below}
@@ -247,6 +247,7 @@ module _ {L : Type 0} (cmp : L → L → Ordering) (total : IsTotalOrder cmp) (e
       within = omega arith;
       states = λ t h. absurd h;
       one_each = length-replicate n 0 ∙ e;
+      root = get_or-replicate n 0 0 0 (omega (arith, e, table.trie.two));
       linked = λ t h. absurd h;
       earlier = λ i l. absurd (omega arith);
       once = λ i l h. absurd (omega arith);
@@ -337,6 +338,12 @@ module _ {L : Type 0} (cmp : L → L → Ordering) (total : IsTotalOrder cmp) (e
           | inr new ↦ elim new [ inl e ↦ (omega (arith, e, b.0), omega (arith, e, b.1)) | inr none ↦ absurd none ]
         ]
 
+    -- the root's link stays where that of another state is set
+    root_push : (fails : List ℕ) (t r : ℕ) → 1 < t → get_or fails 0 0 ≡ 0 → get_or (set fails t r) 0 0 ≡ 0
+    root_push fails t r low root =
+        let ne : 0 ≢ t = omega (arith, low) in
+        get_or-set_other fails t 0 r 0 ne ∙ root
+
     -- one child more
     pub search_push : (fails order : List ℕ) (next k : ℕ) (c : L) (t s r : ℕ) → IsSearch cmp stops edges (children edges 0) fails order next (take k (children edges s)) → next < length order → get_or order next 0 ≡ s → slice_get (get_or edges s []) k ≡ Some (c, t) → IsLeftFailOf (child_in cmp edges) stops t r → ComesFrom (take next order) c r → IsSearch cmp stops edges (children edges 0) (set fails t r) (order ++ t ∷ []) next (take (k + 1) (children edges s))
     search_push fails order next k c t s r search l is at link from =
@@ -356,6 +363,7 @@ module _ {L : Type 0} (cmp : L → L → Ordering) (total : IsTotalOrder cmp) (e
           within = omega (arith, length_push order t);
           states = states_push order t search.states (b.2, b.3);
           one_each = length-set fails t r ∙ search.one_each;
+          root = root_push fails t r b.2 search.root;
           linked = linked_push fails order t r in' search.linked fresh link;
           earlier = earlier_push fails order t r in' search.earlier fresh (among_reached order _ next c r search.queue from);
           once = once_push order t search.once fresh;
@@ -374,6 +382,7 @@ module _ {L : Type 0} (cmp : L → L → Ordering) (total : IsTotalOrder cmp) (e
           within = omega arith;
           states = search.states;
           one_each = search.one_each;
+          root = search.root;
           linked = search.linked;
           earlier = search.earlier;
           once = search.once;
@@ -409,6 +418,7 @@ module _ {L : Type 0} (cmp : L → L → Ordering) (total : IsTotalOrder cmp) (e
           within = omega arith;
           states = states_push order t search.states (b.2, b.3);
           one_each = length-set fails t r ∙ search.one_each;
+          root = root_push fails t r b.2 search.root;
           linked = linked_push fails order t r in' search.linked fresh link;
           earlier = earlier_push fails order t r in' search.earlier fresh among;
           once = once_push order t search.once fresh;

@@ -223,8 +223,8 @@ impl<L: EdgeLabel, V: Copy, A: Allocator + Copy> NfaBuilder<L, V, A> {
         Ok(())
     }
 
-    /// Sets the failure link of each state, and answers the ids of the states but the root,
-    /// breadth-first.
+    /// Sets the failure link of each state, that of the root to the root, and answers the ids of
+    /// the states but the root, breadth-first.
     ///
     /// # Errors
     ///
@@ -236,6 +236,7 @@ impl<L: EdgeLabel, V: Copy, A: Allocator + Copy> NfaBuilder<L, V, A> {
         ensures outputs { outputs_of self.new ≡ outputs_of self.old }
         ensures kept { HasTrieOf (states_of self.old) (states_of self.new) }
         ensures links { IfOk result (λ order. HoldLinks L.cmp (states_of self.new) order.items) }
+        ensures root { OnOk result (slice_index (fails_of (states_of self.new)) 0 ≡ 0) }
         ensures refused { IfErr result IsOutOfMemory }
     {
         self.find_links(alloc, false)
@@ -243,7 +244,7 @@ impl<L: EdgeLabel, V: Copy, A: Allocator + Copy> NfaBuilder<L, V, A> {
 
     /// Gives each state its leftmost link, as leftmost searches want, and answers the states but
     /// the root, those nearer to it first. The link is that of `build_fails`, but dead where a key
-    /// occurs in the state's text and starts before the link does.
+    /// occurs in the state's text and starts before the link does. The root's link is the root.
     pub fn build_fails_leftmost(&mut self, alloc: A) -> Result<Vec<u32, A>>
         requires { HoldTrie L.cmp (states_of self.old) }
         ensures kind { kind_of self.new ≡ kind_of self.old }
@@ -251,6 +252,7 @@ impl<L: EdgeLabel, V: Copy, A: Allocator + Copy> NfaBuilder<L, V, A> {
         ensures outputs { outputs_of self.new ≡ outputs_of self.old }
         ensures kept { HasTrieOf (states_of self.old) (states_of self.new) }
         ensures links { IfOk result (λ order. HoldLeftLinks L.cmp true (states_of self.new) order.items) }
+        ensures root { OnOk result (slice_index (fails_of (states_of self.new)) 0 ≡ 0) }
         ensures left { OnOk result ((rs : List (List L × V)) → Registered L.cmp L.unit L.width self.old rs → (w : List L) (t : ℕ) → w ≢ [] → Leads (child_of L.cmp (states_of self.old)) w t → LinksLeft (dictionary (kind_of self.old) (in_units L.unit rs)) L.unit (child_of L.cmp (states_of self.old)) w (slice_index (fails_of (states_of self.new)) t)) }
         ensures refused { IfErr result IsOutOfMemory }
     {
@@ -264,6 +266,7 @@ impl<L: EdgeLabel, V: Copy, A: Allocator + Copy> NfaBuilder<L, V, A> {
         ensures outputs { outputs_of self.new ≡ outputs_of self.old }
         ensures kept { HasTrieOf (states_of self.old) (states_of self.new) }
         ensures links { IfOk result (λ order. HoldLeftLinks L.cmp leftmost (states_of self.new) order.items) }
+        ensures root { OnOk result (slice_index (fails_of (states_of self.new)) 0 ≡ 0) }
         ensures states { IfOk result (λ order. (t : ℕ) → IsIn order.items t → (1 < t) × (t < length (states_of self.new))) }
         ensures refused { IfErr result IsOutOfMemory }
     {

@@ -1,5 +1,5 @@
 -- The walk has left each state in its queue, so the order is whole, and its links are written to the states.
-use Rattle.std.proofs.Common.{◌≡◌, ◌<◌, ℕ, List, [], length, drop, subst, sym, ap, ◌∙◌, arith}
+use Rattle.std.proofs.Common.{◌≡◌, ◌<◌, ℕ, List, [], length, get_or, drop, subst, sym, ap, ◌∙◌, arith}
 use Rattle.std.specs.Prelude.{Bool, not, ◌&&◌, ◌==◌}
 use Rattle.std.proofs.lemmas.List.{length-map, take_at}
 use Rattle.std.specs.declared.cmp.Ordering.{Ordering}
@@ -41,6 +41,16 @@ returns-clause-links g c =
     let done : s.order.items ≡ _ = search_end g.L.Ord.cmp g.met.L.Ord.total (edges_of old) (depths_of old) c.requires (stops_of s.leftmost old) s.links.items s.order.items s.next i (omega arith) in
     rw back (linked_same g.L.Ord.cmp s.leftmost c.args.leftmost (own_of old) (own_of new) (edges_of old) (edges_of new) s.links.items (fails_of new) s.order.items c.loop-search.invariant.kind own edges fails
     (record { first = done; linked = i.linked; earlier = i.earlier; once = i.once }))
+
+pub returns-clause-root : goal.returns-clause-root
+returns-clause-root g c =
+    let s = c.loop-search.search in
+    let old = c.args.self.now.states.items in
+    let new = c.set_links.new.states in
+    let same_len : length new ≡ c.args.self.now.states.len = omega (arith, c.set_links.auto.states, c.deref_mut.ensures.len) in
+    let fails : fails_of new ≡ s.links.items = c.set_links.ensures.links ∙ c.deref-2.ensures.value in
+    let back = take_at new (drop (length new) old) c.args.self.now.states.len same_len in
+    rw back (ap (λ fs. get_or fs 0 0) fails ∙ c.loop-search.invariant.search.root)
 
 pub returns-clause-states : goal.returns-clause-states
 returns-clause-states g c =

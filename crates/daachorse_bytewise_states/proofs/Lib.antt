@@ -9,3 +9,4 @@ pub mod ByteLaws
 pub mod DeadLaws
 pub mod StandardLaws
 pub mod LeftmostLaws
+pub mod WrittenLaws

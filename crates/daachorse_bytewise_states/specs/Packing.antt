@@ -2,7 +2,7 @@
 use Rattle.std.specs.Prelude.{◌≡◌, ◌≢◌, ℕ, ◌+◌, ◌*◌, ◌<◌, ◌≤◌, ◌/◌, ◌^◌, bit_xor, true, List, [], length, slice_index, slice_index_or, Some}
 use Rattle.std.specs.Ordering.{nat_cmp}
 use Rattle.daachorse_placement.specs.declared.build_helper.SiblingGroup.{SiblingGroup}
-use Rattle.daachorse_placement.specs.Layout.{AreAllSet, IsLeastUnused, Layout}
+use Rattle.daachorse_placement.specs.Layout.{IsLeastUnused, Layout}
 use Rattle.daachorse_placement.specs.Placement.{AreBlocksFull, AreGroups, HasSizes, IsPlaced, children_of, parent_of}
 use Rattle.daachorse_build.specs.declared.nfa_builder.NfaBuilderState.{NfaBuilderState}
 use Rattle.daachorse_build.specs.Tables.{child_in as edge_to, depths_of, edges_of, fails_of, positions_of, IsTable}

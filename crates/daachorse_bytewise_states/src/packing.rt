@@ -9,9 +9,10 @@ ghost use Rattle.daachorse_core.specs.Outputs.{number};
 ghost use Rattle.daachorse_core.specs.Refusals.{IsOutOfMemory, IsRefusal};
 ghost use Rattle.daachorse_core.specs.declared.errors.Limit.TheVariants.{NumElements};
 ghost use Rattle.daachorse_build.specs.Builders.{states_of};
-ghost use Rattle.daachorse_bytewise_states.specs.Packing.{ArePackedOf, HasManyGroups};
+ghost use Rattle.daachorse_bytewise_states.specs.Packing.{AreByteGroups, ArePackedOf, HasManyGroups, HoldStates};
+ghost use Rattle.daachorse_placement.specs.Placement.{HasSizes};
 ghost use Rattle.daachorse_build.specs.EdgeMaps.{id_at};
-ghost use Rattle.daachorse_build.specs.Tables.{HoldTrie, edges_of, fails_of, positions_of};
+ghost use Rattle.daachorse_build.specs.Tables.{HoldTrie, depths_of, edges_of, fails_of, positions_of};
 ghost use Rattle.daachorse_bytewise_states.specs.Elements.{base_in, check_in, fail_in, output_in};
 ghost use Rattle.daachorse_bytewise_states.specs.Writing.{AreLabelled, ArePlaces, AreVacant, HasPlaced, HasVacants};
 
@@ -20,7 +21,7 @@ use daachorse_build::edge_map::EdgeMap;
 use daachorse_build::nfa_builder::{NfaBuilder, NfaBuilderState};
 use daachorse_core::DEAD_STATE_IDX;
 use daachorse_core::errors::Result;
-use daachorse_placement::build_helper::{BuildHelper, Profile};
+use daachorse_placement::build_helper::{BuildHelper, Profile, SiblingGroup};
 use std::alloc::Allocator;
 use std::num::NonZeroU32;
 
@@ -44,17 +45,51 @@ pub(crate) fn pack<V: Copy, A: Allocator + Copy>(
     ensures ok { IfOk result (λ elements. ArePackedOf (states_of nfa.now) elements.items) }
     ensures err { IfErr result (IsRefusal ⊥ NumElements (HasManyGroups (states_of nfa.now))) }
 {
-    let profile = Profile::new(alloc);
-    let groups = nfa.sibling_groups(alloc, &profile, |label: u8| -> u32
-        ensures same { result ≡ label }
-        ensures below { result < 256 }
-    { u32::from(label) })?;
+    let groups = byte_groups(alloc, nfa)?;
     let helper = BuildHelper::new(alloc, &groups, nfa.states().len(), BLOCK_LEN, true)?;
-    let labels = labels(alloc, nfa.states())?;
-    let mut elements = vacant_elements(alloc, &helper)?;
+    write_states(alloc, nfa.states(), &helper)
+}
+
+/// The groups of siblings of a trie over bytes, in the order of its states.
+fn byte_groups<V: Copy, A: Allocator + Copy>(
+    alloc: A,
+    nfa: &NfaBuilder<u8, V, A>,
+) -> Result<Vec<SiblingGroup<A>, A>>
+    requires { HoldTrie nat_cmp (states_of nfa.now) }
+    ensures ok { IfOk result (λ groups. AreByteGroups groups.items (edges_of (states_of nfa.now)) (depths_of (states_of nfa.now))) }
+    ensures err { IfErr result IsOutOfMemory }
+{
+    let no_profile = Profile::new(alloc);
+    let groups = nfa.sibling_groups(
+        alloc,
+        &no_profile,
+        |label: u8| -> u32
+            ensures same { result ≡ label }
+            ensures below { result < 256 }
+        { u32::from(label) },
+    )?;
+    Ok(groups)
+}
+
+/// The elements of a placement, with each state written to its own.
+fn write_states<V: Copy, A: Allocator + Copy>(
+    alloc: A,
+    states: &[NfaBuilderState<u8, V, A>],
+    helper: &BuildHelper<A>,
+) -> Result<Vec<State<u32>, A>>
+    requires trie { HoldTrie nat_cmp states.now }
+    requires sizes { HasSizes helper.now 256 (length states.now) }
+    requires places { ArePlaces helper.now.idx (length states.now) (length helper.now.used) }
+    requires links { (t : ℕ) → t < length states.now → t ≢ 1 → slice_index (fails_of states.now) t < length states.now }
+    requires outputs { (t : ℕ) → t < length states.now → t ≢ 1 → slice_index (positions_of states.now) t < 2 ^ 24 }
+    ensures ok { IfOk result (λ elements. HoldStates helper.now (edges_of states.now) (fails_of states.now) (positions_of states.now) elements.items) }
+    ensures err { IfErr result IsOutOfMemory }
+{
+    let labels = labels(alloc, states)?;
+    let mut elements = vacant_elements(alloc, helper)?;
     place_states(
         &mut elements,
-        nfa.states(),
+        states,
         &labels,
         helper.idx_map(),
         helper.bases(),

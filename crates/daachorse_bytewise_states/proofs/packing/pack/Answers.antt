@@ -1,40 +1,70 @@
-use Rattle.std.proofs.Common.{rules, ◌≡◌, ◌≢◌, ◌+◌, ◌<◌, ◌≤◌, ◌^◌, ◌*◌, ℕ, length, slice_index, IfOk, IfErr, OnOk, Some, ◌-◌, ◌/◌, ◌%◌, Bool, true, false, nat_eq, nat_lt, List, [], ◌∷◌, ◌++◌, slice_index_or, slice_set, bit_and, bit_or, Fits, w8, w32, w64, Bor, MutBor}
-use Rattle.std.specs.Ordering.{nat_cmp}
-use Rattle.daachorse_core.specs.Outputs.{number}
-use Rattle.daachorse_core.specs.Refusals.{IsOutOfMemory, IsRefusal}
+-- The groups are placed, and the states written to their elements.
+use Rattle.std.proofs.Common.{true, ◌≡◌, ◌≢◌, ◌<◌, ◌≤◌, ◌+◌, ◌*◌, ◌^◌, ℕ, List, length, refl, ◌∙◌, ap, subst, sym, arith}
+use Rattle.std.specs.Prelude.{slice_index}
+use Rattle.std.proofs.lemmas.List.{length-map}
+use Rattle.std.proofs.lemmas.Result.{IfOk-weaker, IfErr-weaker, err_from_is_err_and}
+use Rattle.daachorse_core.specs.declared.errors.DaachorseError.{DaachorseError}
 use Rattle.daachorse_core.specs.declared.errors.Limit.TheVariants.{NumElements}
+use Rattle.daachorse_core.specs.Refusals.{IsRefusal}
+use Rattle.daachorse_core.proofs.Refusals.{IsRefusal-weaker}
+use Rattle.daachorse_placement.specs.declared.build_helper.SiblingGroup.{SiblingGroup}
+use Rattle.daachorse_placement.specs.Layout.{Layout}
+use Rattle.daachorse_placement.specs.Placement.{AreBlocksFull, HasSizes, IsPlaced}
 use Rattle.daachorse_build.specs.Builders.{states_of}
-use Rattle.daachorse_bytewise_states.specs.Packing.{ArePackedOf, HasManyGroups}
-use Rattle.daachorse_build.specs.EdgeMaps.{id_at}
-use Rattle.daachorse_build.specs.Tables.{HoldTrie, edges_of, fails_of, positions_of}
-use Rattle.daachorse_bytewise_states.specs.Elements.{base_in, check_in, fail_in, output_in}
-use Rattle.daachorse_bytewise_states.specs.Writing.{AreLabelled, ArePlaces, AreVacant, HasPlaced, HasVacants}
+use Rattle.daachorse_build.specs.declared.nfa_builder.NfaBuilderState.{NfaBuilderState}
+use Rattle.daachorse_build.specs.Tables.{depths_of, edge_map, edges_of, fails_of, positions_of}
+use Rattle.daachorse_bytewise_states.specs.Packing.{AreByteGroups, AreSettled, HasManyGroups, HoldStates}
+use Rattle.daachorse_bytewise_states.specs.declared.state.State.{State}
+use Rattle.daachorse_bytewise_states.specs.Writing.{ArePlaces}
+use Rattle.daachorse_bytewise_states.proofs.WrittenLaws.{settled-places}
 use Rattle.daachorse_bytewise_states.proofs.packing.pack.Goals as goal
 
--- src/packing.rt:52:18
 pub new-requires-clause-power : goal.new-requires-clause-power
-new-requires-clause-power g c = ?
+new-requires-clause-power g c = (8, refl)
 
--- src/packing.rt:52:18
-pub new-requires-clause-groups : goal.new-requires-clause-groups
-new-requires-clause-groups g c = ?
+-- what the placement promises of the groups
+settled : {V A : Type 0} (states given : List (NfaBuilderState ℕ V A)) (gs lent : List (SiblingGroup A)) (l : Layout) → given ≡ states → lent ≡ gs
+    → AreByteGroups gs (edges_of states) (depths_of states) → IsPlaced lent (length lent) true l → HasSizes l 256 (length given) → AreBlocksFull l → AreSettled gs l (edges_of states) (depths_of states)
+settled {V} {A} states given gs lent l same loan groups placed sizes full =
+    let P : List (SiblingGroup A) → Type 0 = λ x. IsPlaced x (length x) true l in
+    let S : ℕ → Type 0 = λ n. HasSizes l 256 n in
+    record {
+      of_trie = groups;
+      placed = subst P loan placed;
+      sizes = subst S (ap length same ∙ sym (length-map states edge_map)) sizes;
+      full = full;
+    }
 
--- src/packing.rt:52:18
 pub returns-in_err-helper-clause-err : goal.returns-in_err-helper-clause-err
-returns-in_err-helper-clause-err g c = ?
+returns-in_err-helper-clause-err g c =
+    let p = err_from_is_err_and c.from_residual-in_err-helper.result c.from_residual-in_err-helper.ensures.1 in
+    let many : 2 ^ 32 ≤ (length c.deref.result.now + 1) * 256 → HasManyGroups (states_of c.args.nfa.now) = λ passed. (c.in_ok-groups.groups.items, c.in_ok-groups.ensures.ok, (omega (arith, passed, ap length c.deref.ensures.value))) in
+    rw (p.1, p.2) (IsRefusal-weaker ⊥ ⊥ NumElements (2 ^ 32 ≤ (length c.deref.result.now + 1) * 256) (HasManyGroups (states_of c.args.nfa.now)) (λ x. x) many c.in_err-helper.field-0.0 c.in_err-helper.ensures.refused)
 
--- src/packing.rt:55:5
-pub place_states-requires-clause-places : goal.place_states-requires-clause-places
-place_states-requires-clause-places g c = ?
+pub write_states-requires-clause-places : goal.write_states-requires-clause-places
+write_states-requires-clause-places g c =
+    let P : ℕ → Type 0 = λ n. ArePlaces c.in_ok-helper.helper.idx n (length c.in_ok-helper.helper.used) in
+    subst P (length-map (states_of c.args.nfa.now) edge_map ∙ sym (ap length c.states-2.ensures)) (settled-places (settled (states_of c.args.nfa.now) c.states.result.now c.in_ok-groups.groups.items c.deref.result.now c.in_ok-helper.helper c.states.ensures c.deref.ensures.value c.in_ok-groups.ensures.ok c.in_ok-helper.ensures.placed c.in_ok-helper.ensures.sizes c.in_ok-helper.ensures.full))
 
--- src/packing.rt:55:5
-pub place_states-requires-clause-links : goal.place_states-requires-clause-links
-place_states-requires-clause-links g c = ?
+pub write_states-requires-clause-links : goal.write_states-requires-clause-links
+write_states-requires-clause-links g c =
+    let P : List (NfaBuilderState ℕ g.row.V.Denot g.row.A.Denot) → Type 0 = λ ss. (t : ℕ) → t < length ss → t ≢ 1 → slice_index (fails_of ss) t < length ss in
+    subst P (sym c.states-2.ensures) c.requires.links
 
--- src/packing.rt:55:5
-pub place_states-requires-clause-outputs : goal.place_states-requires-clause-outputs
-place_states-requires-clause-outputs g c = ?
+pub write_states-requires-clause-outputs : goal.write_states-requires-clause-outputs
+write_states-requires-clause-outputs g c =
+    let P : List (NfaBuilderState ℕ g.row.V.Denot g.row.A.Denot) → Type 0 = λ ss. (t : ℕ) → t < length ss → t ≢ 1 → slice_index (positions_of ss) t < 2 ^ 24 in
+    subst P (sym c.states-2.ensures) c.requires.outputs
 
--- src/packing.rt:36:1
 pub returns-clause-ok : goal.returns-clause-ok
-returns-clause-ok g c = ?
+returns-clause-ok g c =
+    let P : List (NfaBuilderState ℕ g.row.V.Denot g.row.A.Denot) → List (State ℕ) → Type 0 = λ ss es. HoldStates c.in_ok-helper.helper (edges_of ss) (fails_of ss) (positions_of ss) es in
+    IfOk-weaker c.write_states.result _ _
+    (λ elements held. record { groups = c.in_ok-groups.groups.items; layout = c.in_ok-helper.helper; packed = record { settled = settled (states_of c.args.nfa.now) c.states.result.now c.in_ok-groups.groups.items c.deref.result.now c.in_ok-helper.helper c.states.ensures c.deref.ensures.value c.in_ok-groups.ensures.ok c.in_ok-helper.ensures.placed c.in_ok-helper.ensures.sizes c.in_ok-helper.ensures.full; held = (let Q : List (NfaBuilderState ℕ g.row.V.Denot g.row.A.Denot) → Type 0 = λ ss. P ss elements.items in subst Q c.states-2.ensures held) } })
+    c.write_states.ensures.ok
+
+pub returns-clause-err : goal.returns-clause-err
+returns-clause-err g c =
+    IfErr-weaker c.write_states.result _ _
+    (λ e out. let P : DaachorseError → Type 0 = λ x. IsRefusal ⊥ NumElements (HasManyGroups (states_of c.args.nfa.now)) x in subst P (sym out) tt)
+    c.write_states.ensures.err

@@ -1,0 +1,28 @@
+-- What was written one after another holds the trie.
+use Rattle.std.proofs.Common.{◌≡◌, ℕ, ◌<◌, List, length, subst, sym, arith}
+use Rattle.std.proofs.lemmas.List.{length-map}
+use Rattle.daachorse_build.specs.Tables.{edge_map, edges_of, fails_of, positions_of}
+use Rattle.daachorse_bytewise_states.specs.declared.state.State.{State}
+use Rattle.daachorse_bytewise_states.specs.Packing.{HoldStates}
+use Rattle.daachorse_bytewise_states.specs.Writing.{HasPlaced}
+use Rattle.daachorse_bytewise_states.proofs.WrittenLaws.{written-held, written_back}
+use Rattle.daachorse_bytewise_states.proofs.packing.write_states.Goals as goal
+
+pub returns-clause-ok : goal.returns-clause-ok
+returns-clause-ok g c =
+    let states = c.args.states.now in let l = c.args.helper.now in
+    let old = c.in_ok-elements.elements.items in let new = c.place_states.new.elements in
+    let count : length states ≡ length (edges_of states) = sym (length-map states edge_map) in
+    let two : 1 < length (edges_of states) = c.requires.trie.trie.two in
+    let vacant = c.in_ok-elements.ensures.ok in
+    let labelled = c.in_ok-labels.ensures.ok in
+    let L : List ℕ → Type 0 = λ ls. HasPlaced (length states) c.idx_map.result.now c.bases.result.now ls (fails_of states) (positions_of states) c.deref_mut.result.now new in
+    let I : List ℕ → Type 0 = λ is. HasPlaced (length states) is c.bases.result.now c.in_ok-labels.labels.items (fails_of states) (positions_of states) c.deref_mut.result.now new in
+    let B : List ℕ → Type 0 = λ bs. HasPlaced (length states) l.idx bs c.in_ok-labels.labels.items (fails_of states) (positions_of states) c.deref_mut.result.now new in
+    let O : List (State ℕ) → Type 0 = λ es. HasPlaced (length states) l.idx l.bases c.in_ok-labels.labels.items (fails_of states) (positions_of states) es new in
+    let N : ℕ → Type 0 = λ n. HasPlaced n l.idx l.bases c.in_ok-labels.labels.items (fails_of states) (positions_of states) old new in
+    let placed = subst N count (subst O c.deref_mut.ensures.value (subst B c.bases.ensures (subst I c.idx_map.ensures (subst L c.deref.ensures.value c.place_states.ensures)))) in
+    let held = written-held l (edges_of states) c.in_ok-labels.labels.items (fails_of states) (positions_of states) old new (omega (arith, two)) labelled vacant placed in
+    let H : List (State ℕ) → Type 0 = λ es. HoldStates l (edges_of states) (fails_of states) (positions_of states) es in
+    let len : c.in_ok-elements.elements.len ≡ length new = omega (arith, placed.size, c.in_ok-elements.elements.ok.0) in
+    subst H (sym (written_back new old c.in_ok-elements.elements.len len)) held

@@ -10,3 +10,4 @@ pub mod DeadLaws
 pub mod StandardLaws
 pub mod LeftmostLaws
 pub mod WrittenLaws
+pub mod BuiltLaws

@@ -3,17 +3,23 @@
 //! The layers above may rely on the parts being those that were stored, on their being valid, and
 //! on the views of them being the same automaton. Only [`States::new`] takes memory.
 
-ghost use Rattle.std.specs.Prelude.{◌≡◌, ◌≢◌, ◌<◌, ◌%◌, length, map, slice_index_or, IfOk, IfErr};
-ghost use Rattle.daachorse_core.specs.Refusals.{IsOutOfMemory};
+ghost use Rattle.std.specs.Prelude.{◌≡◌, ◌≢◌, ◌<◌, ◌%◌, ℕ, List, length, map, slice_index_or, IfOk, IfErr};
+ghost use Rattle.daachorse_core.specs.declared.errors.Limit.TheVariants.{NumElements};
+ghost use Rattle.daachorse_core.specs.Refusals.{IsOutOfMemory, IsRefusal};
+ghost use Rattle.daachorse_model.specs.Dictionary.{Dictionary};
+ghost use Rattle.daachorse_bytewise_states.specs.Packing.{IsBuiltFor};
+ghost use Rattle.daachorse_bytewise_states.specs.Prefixes.{HasMoreProperPrefixes};
 ghost use Rattle.daachorse_model.specs.declared.MatchKind.TheVariants.{Standard};
 ghost use Rattle.daachorse_model.specs.Paths.{is_reached};
 ghost use Rattle.daachorse_model.specs.Prefixes.{PassesAt};
 ghost use Rattle.daachorse_bytewise_states.specs.Elements.{base_in, fail_in, vacant};
-ghost use Rattle.daachorse_bytewise_states.specs.Parts.{child, child_among, count, parts_of, without_link};
+ghost use Rattle.daachorse_bytewise_states.specs.Parts.{child, child_among, content, count, parts_of, without_link};
 ghost use Rattle.daachorse_bytewise_states.specs.Valid.{IsRootTable, IsValid};
 
+use crate::packing::pack;
 use crate::state::State;
 use crate::views;
+use daachorse_build::nfa_builder::NfaBuilder;
 use daachorse_core::errors::Result;
 use daachorse_core::{Empty, MatchKind, Output, ROOT_STATE_IDX};
 use std::alloc::{Allocator, Global};
@@ -60,6 +66,25 @@ impl<V: Copy, A: Allocator> Model for States<V, A> {
 }
 
 impl<V: Copy, A: Allocator + Copy> States<V, A> {
+    /// The automaton of a builder whose links and outputs are built, for searches of this kind.
+    ///
+    /// # Errors
+    ///
+    /// [`Limit::NumElements`](daachorse_core::errors::Limit::NumElements), which comes only where
+    /// more than 16,777,214 texts begin a longer pattern, and out of memory.
+    pub fn build(alloc: A, kind: MatchKind, nfa: NfaBuilder<u8, V, A>) -> Result<Self>
+        requires { (K : Dictionary V) × IsBuiltFor kind nfa K }
+        ensures ok { IfOk result (λ s. (K : Dictionary V) → IsBuiltFor kind nfa K → (w : List ℕ) → content s w ≡ K w) }
+        ensures kind { IfOk result (λ s. s.kind ≡ kind) }
+        ensures err { IfErr result (IsRefusal ⊥ NumElements ((K : Dictionary V) → IsBuiltFor kind nfa K → HasMoreProperPrefixes K 16777214)) }
+    {
+        let elements = pack(alloc, &nfa)?;
+        // All states but the dead one.
+        let num_states = (nfa.states().len() - 1) as u32;
+        let (_states, outputs) = nfa.into_parts();
+        Self::new(alloc, kind, elements, outputs, num_states)
+    }
+
     /// The automaton that these elements and outputs make up.
     ///
     /// # Errors

@@ -7,3 +7,4 @@ pub mod Density
 pub mod Soundness
 pub mod Boundaries
 pub mod GateSteps
+pub mod Skipping

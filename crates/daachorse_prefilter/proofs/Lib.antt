@@ -8,3 +8,4 @@ pub mod Soundness
 pub mod Boundaries
 pub mod GateSteps
 pub mod Skipping
+pub mod Counting

@@ -78,7 +78,7 @@ impl<A: Allocator> PrefilterBuilder<A> {
     }
 }
 
-/// Lets each pair of the window stand at its place.
+/// Lets each pair of the window stand at its place, and counts those that are new there.
 fn clear_pairs(table: &mut [u8], counts: &mut [u32], window: &[u8])
     requires sized { length table.old ≡ 65536 }
     requires places { length counts.old ≡ 8 }

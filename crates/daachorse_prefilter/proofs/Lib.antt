@@ -7,3 +7,5 @@ pub mod Density
 pub mod Soundness
 pub mod Boundaries
 pub mod GateSteps
+pub mod Skipping
+pub mod Counting

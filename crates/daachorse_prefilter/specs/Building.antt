@@ -1,5 +1,5 @@
 -- Which filter is made of a list of patterns, and when none is.
-use Rattle.std.specs.Prelude.{ℕ, zero, suc, ◌-◌, ◌*◌, ◌^◌, min, nat_le, Bool, ◌&&◌, if◌then◌else◌, List, [], ◌∷◌, length, map, count_by, Option, Some, None}
+use Rattle.std.specs.Prelude.{◌≡◌, ◌<◌, ℕ, zero, suc, slice_index, ◌-◌, ◌*◌, ◌^◌, min, nat_le, Bool, ◌&&◌, if◌then◌else◌, List, [], ◌∷◌, length, map, count_by, Option, Some, None}
 use Rattle.std.specs.List.{range_with_len}
 use Rattle.daachorse_model.specs.Filter.{is_clear, filter_entry}
 use Rattle.daachorse_prefilter.specs.Filters.{Filter}
@@ -20,6 +20,10 @@ filter_of patterns = record { window = window_len patterns; entries = first_entr
 -- how many of the entries let a pair be the one at place j
 abbrev pub count_clear : List ℕ → ℕ → ℕ
 count_clear entries j = count_by (λ e. is_clear e j) entries
+
+-- the counts of the first 8 places
+abbrev pub AreCounted : List ℕ → List ℕ → Type 0
+AreCounted entries counts = (j : ℕ) → j < 8 → slice_index counts j ≡ count_clear entries j
 
 -- in how many ways k pairs may follow one another, were each chosen by itself
 abbrev pub count_ways : List ℕ → ℕ → ℕ

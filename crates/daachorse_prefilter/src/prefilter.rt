@@ -6,7 +6,7 @@
 //! its patterns, on [`Prefilter::next_position`] being the first place that passes, and on a gate
 //! that closes by what was recorded alone.
 
-ghost use Rattle.std.specs.Prelude.{◌≡◌, ◌==◌, ◌++◌, ℕ, ◌<◌, ◌≤◌, length, IfOk, IfErr, slice_index};
+ghost use Rattle.std.specs.Prelude.{◌≡◌, ◌==◌, ◌++◌, ℕ, ◌<◌, ◌≤◌, List, length, drop, true, IfOk, IfErr, slice_index};
 ghost use Rattle.std.specs.Cmp.Lexicographic.{pointwise};
 ghost use Rattle.std.specs.Cmp.Rules.{comparing, hashing};
 ghost use Rattle.std.specs.Hash as fed;
@@ -14,7 +14,7 @@ ghost use Rattle.std.specs.Ordering.{on, eq_of_both};
 ghost use Rattle.std.proofs.Common.{rules};
 ghost use Rattle.daachorse_core.specs.Refusals.{IsOutOfMemory};
 ghost use Rattle.daachorse_model.specs.Filter.{next_position};
-ghost use Rattle.daachorse_prefilter.specs.Filters.{Filter, IsFilter, IsNextBoundary, next_place};
+ghost use Rattle.daachorse_prefilter.specs.Filters.{Filter, IsFilter, IsNextBoundary, admits, next_place};
 
 mod builder;
 mod gate;
@@ -59,12 +59,14 @@ impl<A: Allocator> Prefilter<A> {
     /// The greatest length of a window: a byte has a bit for each of its pairs.
     pub const MAX_WINDOW_LEN: usize = MAX_WINDOW_LEN as usize;
 
-    /// The first place from `pos` on at which the filter passes, or the haystack's length. No
-    /// pattern of the filter begins at a place before it.
+    /// The first place from `pos` on at which the filter passes, or the haystack's length. So no
+    /// pattern of the filter begins between the two.
     #[inline(always)]
     pub fn next_position(&self, haystack: &[u8], pos: usize) -> usize
         ensures first { pos ≤ length haystack.now → result ≡ next_place self.now haystack.now pos }
         ensures past { length haystack.now ≤ pos → result ≡ length haystack.now }
+        ensures skips_none { (pattern rest : List ℕ) (place : ℕ) → admits self.now pattern ≡ true
+            → pos ≤ place → drop place haystack.now ≡ pattern ++ rest → result ≤ place }
     {
         scan(self.table.as_slice(), self.window_len, haystack, pos)
     }

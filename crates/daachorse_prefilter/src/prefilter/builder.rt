@@ -7,7 +7,7 @@ ghost use Rattle.std.specs.Prelude.{◌≡◌, ℕ, ◌+◌, ◌-◌, ◌*◌, �
 ghost use Rattle.daachorse_core.specs.Refusals.{IsOutOfMemory};
 ghost use Rattle.daachorse_model.specs.Filter.{is_clear, has_pair};
 ghost use Rattle.daachorse_prefilter.specs.Filters.{IsSoundFor};
-ghost use Rattle.daachorse_prefilter.specs.Building.{made_of, count_clear, is_sparse};
+ghost use Rattle.daachorse_prefilter.specs.Building.{made_of, is_sparse, AreCounted};
 
 use super::{MAX_WINDOW_LEN, MIN_WINDOW_LEN, NUM_PAIRS, Prefilter};
 use daachorse_core::errors::Result;
@@ -20,8 +20,11 @@ pub struct PrefilterBuilder<A: Allocator = Global> {
     window_len: u8,
     is_empty: bool,
     table: Vec<u8, A>,
+    // For each place of a window, how many pairs may stand at it.
+    counts: [u32; 8],
     ghost short: { window_len ≤ 9 },
     ghost sized: { length table.items ≡ 65536 },
+    ghost counted: { AreCounted table.items counts },
 }
 
 impl<A: Allocator> PrefilterBuilder<A> {
@@ -36,6 +39,7 @@ impl<A: Allocator> PrefilterBuilder<A> {
             window_len: MAX_WINDOW_LEN,
             is_empty: true,
             table: vec![in alloc; u8::MAX; NUM_PAIRS]?,
+            counts: [0; 8],
         })
     }
 
@@ -47,7 +51,7 @@ impl<A: Allocator> PrefilterBuilder<A> {
         self.is_empty = false;
         self.window_len = pattern.len().min(self.window_len as usize) as u8;
         let window_len = pattern.len().min(MAX_WINDOW_LEN as usize);
-        clear_pairs(&mut self.table, &pattern[..window_len]);
+        clear_pairs(&mut self.table, &mut self.counts, &pattern[..window_len]);
     }
 
     /// The filter of the patterns that were added: none where there is no pattern or one of fewer
@@ -63,7 +67,8 @@ impl<A: Allocator> PrefilterBuilder<A> {
         if self.is_empty || self.window_len < MIN_WINDOW_LEN {
             return None;
         }
-        if !is_sparse(self.table.as_slice(), self.window_len - 1) {
+        in_range(&self.table);
+        if !is_sparse(&self.counts, self.window_len - 1) {
             return None;
         }
         Some(Prefilter {
@@ -73,30 +78,37 @@ impl<A: Allocator> PrefilterBuilder<A> {
     }
 }
 
-/// Lets each pair of the window stand at its place.
-fn clear_pairs(table: &mut [u8], window: &[u8])
+/// Lets each pair of the window stand at its place, and counts those that are new there.
+fn clear_pairs(table: &mut [u8], counts: &mut [u32], window: &[u8])
     requires sized { length table.old ≡ 65536 }
+    requires places { length counts.old ≡ 8 }
+    requires counted { AreCounted table.old counts.old }
     requires short { length window.now ≤ 9 }
-    ensures { (pair j : ℕ) → pair < 65536 → j < 8 → is_clear (slice_index table.new pair) j
+    ensures marked { (pair j : ℕ) → pair < 65536 → j < 8 → is_clear (slice_index table.new pair) j
         ≡ (is_clear (slice_index table.old pair) j || has_pair pair j window.now) }
+    ensures counted { AreCounted table.new counts.new }
 {
     for i in 1..window.len() {
-        table[window[i - 1] as usize * 256 + window[i] as usize] &= !(1u8 << (i - 1));
+        let place = i - 1;
+        let pair = window[place] as usize * 256 + window[i] as usize;
+        let entry = table[pair];
+        counts[place] += ((entry >> place) % 2) as u32;
+        table[pair] = entry & !(1u8 << place);
     }
 }
 
 /// Whether at most one in sixteen of all ways to choose this many pairs would pass.
-fn is_sparse(table: &[u8], num_pairs: u8) -> bool
-    requires sized { length table.now ≡ 65536 }
+fn is_sparse(counts: &[u32], num_pairs: u8) -> bool
+    requires places { length counts.now ≡ 8 }
     requires low { 1 ≤ num_pairs }
     requires high { num_pairs ≤ 8 }
-    ensures sparse { result ≡ is_sparse table.now num_pairs }
-    ensures bytes { (pair : ℕ) → slice_index table.now pair < 2 ^ 8 }
+    ensures { (entries : List ℕ) → length entries ≡ 65536 → AreCounted entries counts.now
+        → result ≡ is_sparse entries num_pairs }
 {
     let mut ways = 1u128;
     for place in 0..num_pairs {
         // Only the last product may be too large.
-        let Some(more) = ways.checked_mul(count_clear(table, place) as u128) else {
+        let Some(more) = ways.checked_mul(counts[place as usize] as u128) else {
             return false;
         };
         ways = more;
@@ -104,13 +116,7 @@ fn is_sparse(table: &[u8], num_pairs: u8) -> bool
     ways <= 1u128 << (16 * num_pairs - 4)
 }
 
-/// How many pairs may stand at a place of a window.
-fn count_clear(table: &[u8], place: u8) -> usize
-    requires { place < 8 }
-    ensures { result ≡ count_clear table.now place }
-{
-    table
-        .iter()
-        .filter(|entry| (**entry >> place) % 2 == 0)
-        .count()
-}
+/// Does nothing. It promises that a table in hand has bytes.
+fn in_range(_table: &[u8])
+    ensures { (pair : ℕ) → slice_index _table.now pair < 2 ^ 8 }
+{}

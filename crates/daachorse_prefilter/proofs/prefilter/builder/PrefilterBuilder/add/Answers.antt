@@ -17,7 +17,7 @@ returns g c patterns added =
       none = is_nil-push patterns p;
       shortest = c.min.ensures ∙ ap (λ n. min (length p) n) added.shortest ∙ sym (window_len-push patterns p);
       marked = subst P (sym (with_items_is table c.clear_pairs.new.table kept)) (more_marked table.items c.clear_pairs.new.table patterns p added.marked
-          (λ pair j h hj. c.clear_pairs.ensures pair j h hj
+          (λ pair j h hj. c.clear_pairs.ensures.marked pair j h hj
           ∙ ap (λ xs. is_clear (get_or xs pair 0) j || has_pair pair j (take c.min-window_len.result p)) c.deref_mut.ensures.value
           ∙ ap (λ w. is_clear (get_or table.items pair 0) j || has_pair pair j w) cut));
     }

@@ -1,5 +1,5 @@
 -- The table is that of the patterns, since its bits are.
-use Rattle.std.proofs.Common.{◌≡◌, ◌<◌, ◌^◌, ◌-◌, ℕ, List, get_or, true, false, sym, ap, ◌∙◌, subst, arith}
+use Rattle.std.proofs.Common.{◌≡◌, ◌<◌, ◌^◌, ◌-◌, ℕ, List, get_or, true, false, sym, ◌∙◌, subst, arith}
 use Rattle.daachorse_prefilter.specs.Building.{is_sparse}
 use Rattle.daachorse_prefilter.proofs.Soundness.{sound, none_dense, some_sparse}
 use Rattle.daachorse_prefilter.proofs.prefilter.builder.PrefilterBuilder.build.Goals as goal
@@ -8,9 +8,8 @@ pub returns-then-not-is_sparse-clause-made : goal.returns-then-not-is_sparse-cla
 returns-then-not-is_sparse-clause-made g c patterns added =
     let b = c.args.self in
     let P : List ℕ → Type 0 = λ xs. (k : ℕ) → get_or xs k 0 < 2 ^ 8 in
-    let bytes : P b.table.items = subst P c.as_slice.ensures.value c.is_sparse.ensures.bytes in
-    let dense : is_sparse b.table.items (b.window_len - 1) ≡ false =
-    ap (λ xs. is_sparse xs (b.window_len - 1)) (sym c.as_slice.ensures.value) ∙ sym c.is_sparse.ensures.sparse ∙ c.if-not-is_sparse.true in
+    let bytes : P b.table.items = subst P c.deref.ensures.value c.in_range.ensures in
+    let dense : is_sparse b.table.items (b.window_len - 1) ≡ false = sym (c.is_sparse.ensures b.table.items b.sized b.counted) ∙ c.if-not-is_sparse.true in
     none_dense b.table.items patterns b.window_len b.sized bytes added.shortest added.marked dense
 
 pub invariant_of-result : goal.invariant_of-result
@@ -20,9 +19,8 @@ pub returns-clause-made : goal.returns-clause-made
 returns-clause-made g c patterns added =
     let b = c.args.self in
     let P : List ℕ → Type 0 = λ xs. (k : ℕ) → get_or xs k 0 < 2 ^ 8 in
-    let bytes : P b.table.items = subst P c.as_slice.ensures.value c.is_sparse.ensures.bytes in
-    let sparse : is_sparse b.table.items (b.window_len - 1) ≡ true =
-    ap (λ xs. is_sparse xs (b.window_len - 1)) (sym c.as_slice.ensures.value) ∙ sym c.is_sparse.ensures.sparse ∙ c.if-not-is_sparse.false in
+    let bytes : P b.table.items = subst P c.deref.ensures.value c.in_range.ensures in
+    let sparse : is_sparse b.table.items (b.window_len - 1) ≡ true = sym (c.is_sparse.ensures b.table.items b.sized b.counted) ∙ c.if-not-is_sparse.false in
     some_sparse b.table.items patterns b.window_len b.sized bytes (sym added.none ∙ c.if-self.false) added.shortest (omega arith) added.marked sparse
 
 pub returns-clause-sound : goal.returns-clause-sound

@@ -4,20 +4,18 @@
 //! read back, whatever follows it, what is left is an end of the bytes, and no form is longer than
 //! the type says. The law of an option, a list, a table or an output follows from that of its parts.
 
-ghost use Rattle.std.specs.Prelude.{◌≡◌, ℕ, ℤ, ◌+◌, ◌-◌, ◌*◌, ◌<◌, ◌≤◌, ◌^◌, ◌++◌, ◌∷◌, [], List, Option, Some, None, length, take, drop, min, IfErr, IfSome, OnOk, MatchResult, FitsSigned, refl};
-ghost use Rattle.std.proofs.Common.{lit≤};
-ghost use Rattle.std.specs.Prelude.{All, IfOk, vec_len};
+ghost use Rattle.std.specs.Prelude.{◌≡◌, ℕ, ℤ, ◌+◌, ◌-◌, ◌*◌, ◌<◌, ◌≤◌, ◌^◌, ◌++◌, ◌∷◌, [], List, Option, Some, None, length, take, drop, min, IfErr, IfSome, IfOk, OnOk, MatchResult, FitsSigned, All, vec_len, refl};
 ghost use Rattle.std.specs.List.{flat_map};
 ghost use Rattle.std.specs.Int.{w8, w16, w32, w64, w128};
-ghost use Rattle.daachorse_core.specs.Outputs.{value_of, length_of, parent_of, number};
+ghost use Rattle.daachorse_core.specs.Outputs.{number};
 ghost use Rattle.daachorse_core.specs.Refusals.{IsOutOfMemory};
 ghost use Rattle.daachorse_core.specs.declared.errors.DaachorseError.{DaachorseError};
 ghost use Rattle.daachorse_core.specs.declared.errors.DaachorseError.TheVariants.{InvalidAutomaton};
-ghost use Rattle.daachorse_model.specs.Kinds.{byte_of_kind, kind_of_byte};
-ghost use Rattle.daachorse_serializer.specs.Forms.{Begins, Gives, GivesView, IsForm, IsReadRefusal, list_form, number_form, option_form, option_most, option_shape, take_items, take_list, over, signed_form, take_number, take_option, take_pair, take_signed};
+ghost use Rattle.daachorse_serializer.specs.Forms.{Begins, Gives, GivesView, IsForm, IsReadRefusal, list_form, number_form, option_form, option_most, option_shape, take_items, take_list, signed_form, take_number, take_option, take_signed};
+ghost use Rattle.daachorse_serializer.specs.Kinds.{kind_form, take_kind};
 ghost use Rattle.daachorse_serializer.specs.Laws.{empty_law, kind_law, list_law, number_law, position_law, option_law, option_vec_law, table_law, output_law, signed_law};
-ghost use Rattle.daachorse_serializer.specs.Outputs.{output_of};
-ghost use Rattle.daachorse_serializer.specs.Positions.{position_of};
+ghost use Rattle.daachorse_serializer.specs.Outputs.{IsOutput, output_form, take_output};
+ghost use Rattle.daachorse_serializer.specs.Positions.{position_form, take_position};
 
 use daachorse_core::errors::{DaachorseError, Result};
 use daachorse_core::{Empty, MatchKind, Output};
@@ -466,9 +464,9 @@ impl Serializable for i128 {
 impl Serializable for Option<NonZeroU32> {
     ghost is_value = { λ v. number v < 2 ^ 32 };
 
-    ghost form = { λ v. number_form w32 (number v) };
+    ghost form = { position_form };
 
-    ghost taken = { λ bytes. over position_of (take_number w32 bytes) };
+    ghost taken = { take_position };
 
     ghost form_len = { 4 };
 
@@ -479,7 +477,7 @@ impl Serializable for Option<NonZeroU32> {
 
     #[inline(always)]
     fn deserialize_from_slice(src: &[u8]) -> Result<(Self, &[u8])>
-        ensures given { Gives result (over position_of (take_number w32 src.now)) }
+        ensures given { Gives result (take_position src.now) }
         ensures refused { IfErr result (λ e. e ≡ InvalidAutomaton (record {})) }
     {
         let (number, rest) = u32::deserialize_from_slice(src)?;
@@ -535,9 +533,9 @@ impl Serializable for Empty {
 impl Serializable for MatchKind {
     ghost is_value = { λ _. Unit {0} };
 
-    ghost form = { λ kind. byte_of_kind kind ∷ [] };
+    ghost form = { kind_form };
 
-    ghost taken = { λ bytes. over kind_of_byte (take_number w8 bytes) };
+    ghost taken = { take_kind };
 
     ghost form_len = { 1 };
 
@@ -548,7 +546,7 @@ impl Serializable for MatchKind {
 
     #[inline(always)]
     fn deserialize_from_slice(src: &[u8]) -> Result<(Self, &[u8])>
-        ensures given { Gives result (over kind_of_byte (take_number w8 src.now)) }
+        ensures given { Gives result (take_kind src.now) }
         ensures refused { IfErr result (λ e. e ≡ InvalidAutomaton (record {})) }
     {
         let (byte, rest) = u8::deserialize_from_slice(src)?;
@@ -568,11 +566,11 @@ impl Serializable for MatchKind {
 
 /// The value, the length, and the parent.
 impl<V: Serializable + Copy> Serializable for Output<V> {
-    ghost is_value = { λ o. V.is_value (value_of o) × (length_of o < 2 ^ 32) × (parent_of o < 2 ^ 32) };
+    ghost is_value = { IsOutput V.is_value };
 
-    ghost form = { λ o. V.form (value_of o) ++ (number_form w32 (length_of o) ++ number_form w32 (parent_of o)) };
+    ghost form = { output_form V.form };
 
-    ghost taken = { λ bytes. over output_of (take_pair V.taken (take_pair (take_number w32) (take_number w32)) bytes) };
+    ghost taken = { take_output V.taken };
 
     ghost form_len = { V.form_len + 8 };
 

@@ -77,7 +77,7 @@ take_pair t u bytes = then_take (t bytes) (λ x rest. over (λ y. (x, y)) (u res
 
 -- ---- numbers, little-endian
 
-abbrev pub number_form : Width → ℕ → List ℕ
+unfoldable pub number_form : Width → ℕ → List ℕ
 number_form w n = to_le_bytes w n
 
 abbrev pub take_number : Width → List ℕ → Taken ℕ

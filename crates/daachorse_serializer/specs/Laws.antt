@@ -46,7 +46,8 @@ bytes_stand i (suc k) n (suc j) rest h =
     bytes_stand (suc i) k n j rest (omega arith) ∙ ap (λ p. byte_at p n) (omega arith)
 
 -- how many bytes a width has, and what they hold
-form_len : (w : Width) (n : ℕ) → length (number_form w n) ≡ byte_len w
+pub form_len : (w : Width) (n : ℕ) → length (number_form w n) ≡ byte_len w
+unfolding number_form
 form_len w8 n = refl
 form_len w16 n = refl
 form_len w32 n = refl
@@ -75,6 +76,7 @@ taken_front (suc k) (x ∷ xs) ys e = let ih = taken_front k xs ys (omega arith)
 
 -- the bytes of a number are worth the number
 number_value : (w : Width) (n : ℕ) → n < 2 ^ bits w → from_le_bytes w (number_form w n) ≡ n
+unfolding number_form
 number_value w n h =
     let k : ℕ = byte_len w - 1 in
     let read : (i : ℕ) → i ≤ k → slice_index (number_form w n) i ≡ byte_at i n =
@@ -252,7 +254,7 @@ module _ {X : Type 0} {P : X → Type 0} {form : X → List ℕ} {taken : List �
     leaves_end = λ bytes xs rest e.
         let first = then_take_is_some (take_number w32 bytes) (take_items taken) xs rest e in
         ends_through bytes first.1.0 rest (items_leave_end first.0 first.1.0 xs rest first.1.1.1) ((number_law w32).leaves_end bytes first.0 first.1.0 first.1.1.0);
-    fits = λ xs h. omega (arith, length-append (number_form w32 (length xs)) (flat_map form xs), items_fit xs (recursion_from_All P xs h.1));
+    fits = λ xs h. omega (arith, form_len w32 (length xs), length-append (number_form w32 (length xs)) (flat_map form xs), items_fit xs (recursion_from_All P xs h.1));
   }
 
 -- ---- the types of this crate
@@ -265,6 +267,7 @@ empty_law x only = record {
 }
 
 pub kind_law : IsForm (λ (k : MatchKind). Unit {0}) kind_form take_kind (λ _. 1)
+unfolding number_form
 kind_law = record { reads_back = reads_back; leaves_end = through.leaves_end; fits = λ k h. omega arith }
   where
     small : (k : MatchKind) → byte_of_kind k < 2 ^ 8

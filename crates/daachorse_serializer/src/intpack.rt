@@ -148,6 +148,7 @@ impl Serializable for U24nU8 {
         Ok((Self { word }, rest))
     }
 
+    #[tactic(auto, unfolding(crate::specs::Forms::number_form))]
     fn serialized_bytes() -> usize
         ensures is { result ≡ 4 }
         ensures exact { (n : ℕ) → length (number_form w32 n) ≡ result }

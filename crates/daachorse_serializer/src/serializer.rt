@@ -100,6 +100,7 @@ impl Serializable for u8 {
     ghost form_len = { 1 };
 
     #[inline(always)]
+    #[tactic(auto, unfolding(crate::specs::Forms::number_form))]
     fn serialize_to_vec<A: Allocator>(&self, dst: &mut Vec<u8, A>) -> Result<()> {
         append(dst, &self.to_le_bytes())
     }
@@ -113,6 +114,7 @@ impl Serializable for u8 {
         Ok((u8::from_le_bytes(*bytes), rest))
     }
 
+    #[tactic(auto, unfolding(crate::specs::Forms::number_form))]
     fn serialized_bytes() -> usize
         ensures is { result ≡ 1 }
         ensures exact { (n : ℕ) → length (number_form w8 n) ≡ result }
@@ -137,6 +139,7 @@ impl Serializable for u16 {
     ghost form_len = { 2 };
 
     #[inline(always)]
+    #[tactic(auto, unfolding(crate::specs::Forms::number_form))]
     fn serialize_to_vec<A: Allocator>(&self, dst: &mut Vec<u8, A>) -> Result<()> {
         append(dst, &self.to_le_bytes())
     }
@@ -150,6 +153,7 @@ impl Serializable for u16 {
         Ok((u16::from_le_bytes(*bytes), rest))
     }
 
+    #[tactic(auto, unfolding(crate::specs::Forms::number_form))]
     fn serialized_bytes() -> usize
         ensures is { result ≡ 2 }
         ensures exact { (n : ℕ) → length (number_form w16 n) ≡ result }
@@ -174,6 +178,7 @@ impl Serializable for u32 {
     ghost form_len = { 4 };
 
     #[inline(always)]
+    #[tactic(auto, unfolding(crate::specs::Forms::number_form))]
     fn serialize_to_vec<A: Allocator>(&self, dst: &mut Vec<u8, A>) -> Result<()> {
         append(dst, &self.to_le_bytes())
     }
@@ -187,6 +192,7 @@ impl Serializable for u32 {
         Ok((u32::from_le_bytes(*bytes), rest))
     }
 
+    #[tactic(auto, unfolding(crate::specs::Forms::number_form))]
     fn serialized_bytes() -> usize
         ensures is { result ≡ 4 }
         ensures exact { (n : ℕ) → length (number_form w32 n) ≡ result }
@@ -211,6 +217,7 @@ impl Serializable for u64 {
     ghost form_len = { 8 };
 
     #[inline(always)]
+    #[tactic(auto, unfolding(crate::specs::Forms::number_form))]
     fn serialize_to_vec<A: Allocator>(&self, dst: &mut Vec<u8, A>) -> Result<()> {
         append(dst, &self.to_le_bytes())
     }
@@ -224,6 +231,7 @@ impl Serializable for u64 {
         Ok((u64::from_le_bytes(*bytes), rest))
     }
 
+    #[tactic(auto, unfolding(crate::specs::Forms::number_form))]
     fn serialized_bytes() -> usize
         ensures is { result ≡ 8 }
         ensures exact { (n : ℕ) → length (number_form w64 n) ≡ result }
@@ -248,6 +256,7 @@ impl Serializable for u128 {
     ghost form_len = { 16 };
 
     #[inline(always)]
+    #[tactic(auto, unfolding(crate::specs::Forms::number_form))]
     fn serialize_to_vec<A: Allocator>(&self, dst: &mut Vec<u8, A>) -> Result<()> {
         append(dst, &self.to_le_bytes())
     }
@@ -261,6 +270,7 @@ impl Serializable for u128 {
         Ok((u128::from_le_bytes(*bytes), rest))
     }
 
+    #[tactic(auto, unfolding(crate::specs::Forms::number_form))]
     fn serialized_bytes() -> usize
         ensures is { result ≡ 16 }
         ensures exact { (n : ℕ) → length (number_form w128 n) ≡ result }
@@ -298,6 +308,7 @@ impl Serializable for i8 {
         Ok((number.cast_signed(), rest))
     }
 
+    #[tactic(auto, unfolding(crate::specs::Forms::number_form))]
     fn serialized_bytes() -> usize
         ensures is { result ≡ 1 }
         ensures exact { (z : ℤ) → length (signed_form w8 z) ≡ result }
@@ -335,6 +346,7 @@ impl Serializable for i16 {
         Ok((number.cast_signed(), rest))
     }
 
+    #[tactic(auto, unfolding(crate::specs::Forms::number_form))]
     fn serialized_bytes() -> usize
         ensures is { result ≡ 2 }
         ensures exact { (z : ℤ) → length (signed_form w16 z) ≡ result }
@@ -372,6 +384,7 @@ impl Serializable for i32 {
         Ok((number.cast_signed(), rest))
     }
 
+    #[tactic(auto, unfolding(crate::specs::Forms::number_form))]
     fn serialized_bytes() -> usize
         ensures is { result ≡ 4 }
         ensures exact { (z : ℤ) → length (signed_form w32 z) ≡ result }
@@ -409,6 +422,7 @@ impl Serializable for i64 {
         Ok((number.cast_signed(), rest))
     }
 
+    #[tactic(auto, unfolding(crate::specs::Forms::number_form))]
     fn serialized_bytes() -> usize
         ensures is { result ≡ 8 }
         ensures exact { (z : ℤ) → length (signed_form w64 z) ≡ result }
@@ -446,6 +460,7 @@ impl Serializable for i128 {
         Ok((number.cast_signed(), rest))
     }
 
+    #[tactic(auto, unfolding(crate::specs::Forms::number_form))]
     fn serialized_bytes() -> usize
         ensures is { result ≡ 16 }
         ensures exact { (z : ℤ) → length (signed_form w128 z) ≡ result }
@@ -484,6 +499,7 @@ impl Serializable for Option<NonZeroU32> {
         Ok((NonZeroU32::new(number), rest))
     }
 
+    #[tactic(auto, unfolding(crate::specs::Forms::number_form))]
     fn serialized_bytes() -> usize
         ensures is { result ≡ 4 }
         ensures exact { (n : ℕ) → length (number_form w32 n) ≡ result }

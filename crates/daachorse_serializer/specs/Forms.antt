@@ -1,5 +1,5 @@
 -- Written forms, and what is taken off the front of bytes: nothing, or a value and the bytes behind it.
-use Rattle.std.specs.Prelude.{ℕ, zero, suc, ◌+◌, ◌≤◌, ◌≡◌, ◌==◌, nat_lt, if◌then◌else◌, ℤ, List, [], ◌∷◌, ◌++◌, length, take, drop, Option, Some, None, Result, Ok, Err}
+use Rattle.std.specs.Prelude.{ℕ, Bool, zero, suc, ◌+◌, ◌≤◌, ◌≡◌, ◌==◌, nat_lt, if◌then◌else◌, ℤ, List, [], ◌∷◌, ◌++◌, length, take, drop, Option, Some, None, Result, Ok, Err}
 use Rattle.std.specs.Borrow.{Bor}
 use Rattle.std.specs.List.{flat_map}
 use Rattle.std.specs.Int.{Width, w32, byte_len, to_le_bytes, from_le_bytes, cast_unsigned, cast_signed}
@@ -64,6 +64,11 @@ abbrev pub then_take : {X Y : Type 0} → Taken X → (X → List ℕ → Taken 
 then_take None next = None
 then_take (Some p) next = next p.0 p.1
 
+-- nothing, where the value fails the test
+abbrev pub take_if : {X : Type 0} → (X → Bool) → Taken X → Taken X
+take_if test None = None
+take_if test (Some p) = if test p.0 then Some p else None
+
 abbrev pub pair_form : {X Y : Type 0} → (X → List ℕ) → (Y → List ℕ) → X × Y → List ℕ
 pair_form f g p = f p.0 ++ g p.1
 
@@ -72,7 +77,7 @@ take_pair t u bytes = then_take (t bytes) (λ x rest. over (λ y. (x, y)) (u res
 
 -- ---- numbers, little-endian
 
-abbrev pub number_form : Width → ℕ → List ℕ
+unfoldable pub number_form : Width → ℕ → List ℕ
 number_form w n = to_le_bytes w n
 
 abbrev pub take_number : Width → List ℕ → Taken ℕ

@@ -13,14 +13,14 @@ use mir.ValLaws.{of_z_fits}
 use Rattle.daachorse_model.specs.declared.MatchKind.{MatchKind}
 use Rattle.daachorse_model.specs.declared.MatchKind.TheVariants.{Standard, LeftmostLongest, LeftmostFirst}
 use Rattle.daachorse_model.specs.Kinds.{byte_of_kind, kind_of_byte}
-use Rattle.daachorse_core.specs.declared.outputs.Output.{Output}
-use Rattle.daachorse_core.specs.Outputs.{value_of, length_of, parent_of, number}
+use Rattle.daachorse_core.specs.Outputs.{number}
 use Rattle.std.specs.declared.num.NonZeroU32.{NonZeroU32}
-use Rattle.daachorse_serializer.specs.Outputs.{output_of, parts_of}
+use Rattle.daachorse_serializer.specs.Kinds.{kind_form, take_kind}
+use Rattle.daachorse_serializer.specs.Outputs.{parts_of, output_of, IsOutput, output_form, take_output}
 use Rattle.daachorse_serializer.specs.declared.intpack.U24nU8.{U24nU8}
-use Rattle.daachorse_serializer.specs.Packed.{word_of, packed_of}
-use Rattle.daachorse_serializer.specs.Positions.{position_of, position_back}
-use Rattle.daachorse_serializer.specs.Forms.{Taken, Ends, IsForm, over, then_take, pair_form, take_pair, number_form, take_number, signed_form, take_signed, option_form, option_most, take_option, take_items, list_form, take_list}
+use Rattle.daachorse_serializer.specs.Packed.{word_of, packed_of, packed_form, take_packed}
+use Rattle.daachorse_serializer.specs.Positions.{position_of, position_back, position_form, take_position}
+use Rattle.daachorse_serializer.specs.Forms.{Taken, Ends, IsForm, over, then_take, take_if, pair_form, take_pair, number_form, take_number, signed_form, take_signed, option_form, option_most, take_option, take_items, list_form, take_list}
 
 -- ---- numbers
 
@@ -46,7 +46,8 @@ bytes_stand i (suc k) n (suc j) rest h =
     bytes_stand (suc i) k n j rest (omega arith) ∙ ap (λ p. byte_at p n) (omega arith)
 
 -- how many bytes a width has, and what they hold
-form_len : (w : Width) (n : ℕ) → length (number_form w n) ≡ byte_len w
+pub form_len : (w : Width) (n : ℕ) → length (number_form w n) ≡ byte_len w
+unfolding number_form
 form_len w8 n = refl
 form_len w16 n = refl
 form_len w32 n = refl
@@ -75,6 +76,7 @@ taken_front (suc k) (x ∷ xs) ys e = let ih = taken_front k xs ys (omega arith)
 
 -- the bytes of a number are worth the number
 number_value : (w : Width) (n : ℕ) → n < 2 ^ bits w → from_le_bytes w (number_form w n) ≡ n
+unfolding number_form
 number_value w n h =
     let k : ℕ = byte_len w - 1 in
     let read : (i : ℕ) → i ≤ k → slice_index (number_form w n) i ≡ byte_at i n =
@@ -115,8 +117,26 @@ then_take_is_some : {X Y : Type 0} (t : Taken X) (next : X → List ℕ → Take
 then_take_is_some None next y rest e = cc
 then_take_is_some (Some p) next y rest e = (p.0, (p.1, (refl, e)))
 
+passed : {X : Type 0} (yes : Bool) (p : X × List ℕ) (x : X) (rest : List ℕ) → cond {A = Taken X} yes (Some p) None ≡ Some (x, rest) → Some p ≡ Some (x, rest)
+passed true p x rest e = e
+passed false p x rest e = cc
+
+take_if_is_some : {X : Type 0} (test : X → Bool) (t : Taken X) (x : X) (rest : List ℕ) → take_if test t ≡ Some (x, rest) → t ≡ Some (x, rest)
+take_if_is_some test None x rest e = e
+take_if_is_some test (Some p) x rest e = passed (test p.0) p x rest e
+
 pub ends_through : (xs ys zs : List ℕ) → Ends zs ys → Ends ys xs → Ends zs xs
 ends_through xs ys zs a b = (b.0 ++ a.0, b.1 ∙ (ap (λ w. b.0 ++ w) a.1 ∙ sym (append_assoc b.0 a.0 zs)))
+
+module _ {X : Type 0} {P : X → Type 0} {form : X → List ℕ} {taken : List ℕ → Taken X} {most : X → ℕ} where
+  -- A value that is taken only where it passes a test.
+  pub law_if : (test : X → Bool) (Q : X → Type 0) → ((x : X) → Q x → P x) → ((x : X) → Q x → test x ≡ true)
+      → IsForm P form taken most → IsForm Q form (λ bytes. take_if test (taken bytes)) most
+  law_if test Q of passes law = record {
+    reads_back = λ x rest h. rw (law.reads_back x rest (of x h), passes x h) refl;
+    leaves_end = λ bytes x rest e. law.leaves_end bytes x rest (take_if_is_some test (taken bytes) x rest e);
+    fits = λ x h. law.fits x (of x h);
+  }
 
 module _ {X Y : Type 0} {P : X → Type 0} {form : X → List ℕ} {taken : List ℕ → Taken X} {most : X → ℕ} where
   -- A value that has the form of another: `parts` is the other, and `make` goes back.
@@ -234,7 +254,7 @@ module _ {X : Type 0} {P : X → Type 0} {form : X → List ℕ} {taken : List �
     leaves_end = λ bytes xs rest e.
         let first = then_take_is_some (take_number w32 bytes) (take_items taken) xs rest e in
         ends_through bytes first.1.0 rest (items_leave_end first.0 first.1.0 xs rest first.1.1.1) ((number_law w32).leaves_end bytes first.0 first.1.0 first.1.1.0);
-    fits = λ xs h. omega (arith, length-append (number_form w32 (length xs)) (flat_map form xs), items_fit xs (recursion_from_All P xs h.1));
+    fits = λ xs h. omega (arith, form_len w32 (length xs), length-append (number_form w32 (length xs)) (flat_map form xs), items_fit xs (recursion_from_All P xs h.1));
   }
 
 -- ---- the types of this crate
@@ -246,7 +266,8 @@ empty_law x only = record {
   fits = λ y h. omega arith;
 }
 
-pub kind_law : IsForm (λ (k : MatchKind). Unit {0}) (λ k. byte_of_kind k ∷ []) (λ bytes. over kind_of_byte (take_number w8 bytes)) (λ _. 1)
+pub kind_law : IsForm (λ (k : MatchKind). Unit {0}) kind_form take_kind (λ _. 1)
+unfolding number_form
 kind_law = record { reads_back = reads_back; leaves_end = through.leaves_end; fits = λ k h. omega arith }
   where
     small : (k : MatchKind) → byte_of_kind k < 2 ^ 8
@@ -259,25 +280,23 @@ kind_law = record { reads_back = reads_back; leaves_end = through.leaves_end; fi
     back LeftmostLongest = refl
     back LeftmostFirst = refl
 
-    through : IsForm (λ (k : MatchKind). Unit {0}) (λ k. number_form w8 (byte_of_kind k)) (λ bytes. over kind_of_byte (take_number w8 bytes)) (λ _. 1)
+    through : IsForm (λ (k : MatchKind). Unit {0}) (λ k. number_form w8 (byte_of_kind k)) take_kind (λ _. 1)
     through = law_through kind_of_byte byte_of_kind (λ k. Unit {0}) (λ k h. small k) (λ k h. back k) (number_law w8)
 
-    reads_back : (k : MatchKind) (rest : List ℕ) → Unit {0} → over kind_of_byte (take_number w8 (byte_of_kind k ∷ rest)) ≡ Some (k, rest)
+    reads_back : (k : MatchKind) (rest : List ℕ) → Unit {0} → take_kind (kind_form k ++ rest) ≡ Some (k, rest)
     reads_back Standard rest h = through.reads_back Standard rest tt
     reads_back LeftmostLongest rest h = through.reads_back LeftmostLongest rest tt
     reads_back LeftmostFirst rest h = through.reads_back LeftmostFirst rest tt
 
 -- the law of an output, from that of its value
 pub output_law : {V : Type 0} {P : V → Type 0} {form : V → List ℕ} {taken : List ℕ → Taken V} {n : ℕ} → IsForm P form taken (λ _. n)
-    → IsForm (λ (o : Output V). P (value_of o) × (length_of o < 2 ^ 32) × (parent_of o < 2 ^ 32))
-    (λ o. form (value_of o) ++ (number_form w32 (length_of o) ++ number_form w32 (parent_of o)))
-    (λ bytes. over output_of (take_pair taken (take_pair (take_number w32) (take_number w32)) bytes)) (λ _. n + 8)
+    → IsForm (IsOutput P) (output_form form) (take_output taken) (λ _. n + 8)
 output_law law =
     law_through output_of parts_of _ (λ o h. (h.0, (h.1, h.2))) (λ o h. refl) (pair_law law (pair_law (number_law w32) (number_law w32)))
 
 -- the law of a position, by its number
-pub position_law : IsForm (λ (v : Option NonZeroU32). number v < 2 ^ 32) (λ v. number_form w32 (number v)) (λ bytes. over position_of (take_number w32 bytes)) (λ _. 4)
+pub position_law : IsForm (λ (v : Option NonZeroU32). number v < 2 ^ 32) position_form take_position (λ _. 4)
 position_law = law_through position_of number _ (λ v h. h) (λ v h. position_back v) (number_law w32)
 
-pub packed_law : IsForm (λ (p : U24nU8). word_of p < 2 ^ 32) (λ p. number_form w32 (word_of p)) (λ bytes. over packed_of (take_number w32 bytes)) (λ _. 4)
+pub packed_law : IsForm (λ (p : U24nU8). word_of p < 2 ^ 32) packed_form take_packed (λ _. 4)
 packed_law = law_through packed_of word_of _ (λ p h. h) (λ p h. refl) (number_law w32)

@@ -1,5 +1,6 @@
 pub mod Forms
+pub mod Kinds
 pub mod Laws
-pub mod Packed
 pub mod Outputs
+pub mod Packed
 pub mod Positions

@@ -1,10 +1,12 @@
 -- A position that there may be, by its number: 0 for none.
-use Rattle.std.specs.Prelude.{◌≡◌, ℕ, zero, suc, ◌<◌, Option, Some, None, MatchOption, refl}
+use Rattle.std.specs.Prelude.{◌≡◌, ℕ, zero, suc, ◌<◌, Option, Some, None, MatchOption, refl, List}
 use Rattle.std.specs.declared.num.NonZeroU32.{NonZeroU32}
 use Rattle.std.proofs.Common.{ap, sym, ◌∙◌, arith}
 use Rattle.std.proofs.Math.Nat.{zero-lt-suc}
 use Rattle.std.proofs.Props.{props}
+use Rattle.std.specs.Int.{w32}
 use Rattle.daachorse_core.specs.Outputs.{number}
+use Rattle.daachorse_serializer.specs.Forms.{Taken, over, number_form, take_number}
 
 abbrev pub position_of : ℕ → Option NonZeroU32
 position_of zero = None
@@ -25,3 +27,10 @@ position_back (Some p) = position_at p.value p.ok
 pub position_made : (v : Option NonZeroU32) (n : ℕ) → MatchOption v (n ≡ 0) (λ p. p.value ≡ n) → position_of n ≡ v
 position_made None n e = ap position_of e
 position_made (Some p) n e = ap position_of (sym e) ∙ position_back (Some p)
+
+-- its form is that of its number
+abbrev pub position_form : Option NonZeroU32 → List ℕ
+position_form v = number_form w32 (number v)
+
+abbrev pub take_position : List ℕ → Taken (Option NonZeroU32)
+take_position bytes = over position_of (take_number w32 bytes)

@@ -7,9 +7,9 @@ ghost use Rattle.std.specs.Prelude.{◌≡◌, ◌<◌, ◌≤◌, ◌^◌, ℕ,
 ghost use Rattle.std.specs.Prelude.{IfErr, length};
 ghost use Rattle.std.specs.Int.{w32};
 ghost use Rattle.daachorse_core.specs.declared.errors.DaachorseError.TheVariants.{InvalidAutomaton};
-ghost use Rattle.daachorse_serializer.specs.Forms.{Gives, number_form, over, take_number};
+ghost use Rattle.daachorse_serializer.specs.Forms.{Gives, number_form};
 ghost use Rattle.daachorse_serializer.specs.Laws.{packed_law};
-ghost use Rattle.daachorse_serializer.specs.Packed.{upper, lower, too_large_text, word_of, packed_of};
+ghost use Rattle.daachorse_serializer.specs.Packed.{upper, lower, too_large_text, word_of, packed_form, take_packed};
 
 use crate::serializer::Serializable;
 use daachorse_core::errors::Result;
@@ -128,9 +128,9 @@ const _: () = prove!(size_of::<U24nU8>() == 4);
 impl Serializable for U24nU8 {
     ghost is_value = { λ p. word_of p < 2 ^ 32 };
 
-    ghost form = { λ p. number_form w32 (word_of p) };
+    ghost form = { packed_form };
 
-    ghost taken = { λ bytes. over packed_of (take_number w32 bytes) };
+    ghost taken = { take_packed };
 
     ghost form_len = { 4 };
 
@@ -141,13 +141,14 @@ impl Serializable for U24nU8 {
 
     #[inline(always)]
     fn deserialize_from_slice(src: &[u8]) -> Result<(Self, &[u8])>
-        ensures given { Gives result (over packed_of (take_number w32 src.now)) }
+        ensures given { Gives result (take_packed src.now) }
         ensures refused { IfErr result (λ e. e ≡ InvalidAutomaton (record {})) }
     {
         let (word, rest) = u32::deserialize_from_slice(src)?;
         Ok((Self { word }, rest))
     }
 
+    #[tactic(auto, unfolding(crate::specs::Forms::number_form))]
     fn serialized_bytes() -> usize
         ensures is { result ≡ 4 }
         ensures exact { (n : ℕ) → length (number_form w32 n) ≡ result }

@@ -4,20 +4,18 @@
 //! read back, whatever follows it, what is left is an end of the bytes, and no form is longer than
 //! the type says. The law of an option, a list, a table or an output follows from that of its parts.
 
-ghost use Rattle.std.specs.Prelude.{◌≡◌, ℕ, ℤ, ◌+◌, ◌-◌, ◌*◌, ◌<◌, ◌≤◌, ◌^◌, ◌++◌, ◌∷◌, [], List, Option, Some, None, length, take, drop, min, IfErr, IfSome, OnOk, MatchResult, FitsSigned, refl};
-ghost use Rattle.std.proofs.Common.{lit≤};
-ghost use Rattle.std.specs.Prelude.{All, IfOk, vec_len};
+ghost use Rattle.std.specs.Prelude.{◌≡◌, ℕ, ℤ, ◌+◌, ◌-◌, ◌*◌, ◌<◌, ◌≤◌, ◌^◌, ◌++◌, ◌∷◌, [], List, Option, Some, None, length, take, drop, min, IfErr, IfSome, IfOk, OnOk, MatchResult, FitsSigned, All, vec_len, refl};
 ghost use Rattle.std.specs.List.{flat_map};
 ghost use Rattle.std.specs.Int.{w8, w16, w32, w64, w128};
-ghost use Rattle.daachorse_core.specs.Outputs.{value_of, length_of, parent_of, number};
+ghost use Rattle.daachorse_core.specs.Outputs.{number};
 ghost use Rattle.daachorse_core.specs.Refusals.{IsOutOfMemory};
 ghost use Rattle.daachorse_core.specs.declared.errors.DaachorseError.{DaachorseError};
 ghost use Rattle.daachorse_core.specs.declared.errors.DaachorseError.TheVariants.{InvalidAutomaton};
-ghost use Rattle.daachorse_model.specs.Kinds.{byte_of_kind, kind_of_byte};
-ghost use Rattle.daachorse_serializer.specs.Forms.{Begins, Gives, GivesView, IsForm, IsReadRefusal, list_form, number_form, option_form, option_most, option_shape, take_items, take_list, over, signed_form, take_number, take_option, take_pair, take_signed};
+ghost use Rattle.daachorse_serializer.specs.Forms.{Begins, Gives, GivesView, IsForm, IsReadRefusal, list_form, number_form, option_form, option_most, option_shape, take_items, take_list, signed_form, take_number, take_option, take_signed};
+ghost use Rattle.daachorse_serializer.specs.Kinds.{kind_form, take_kind};
 ghost use Rattle.daachorse_serializer.specs.Laws.{empty_law, kind_law, list_law, number_law, position_law, option_law, option_vec_law, table_law, output_law, signed_law};
-ghost use Rattle.daachorse_serializer.specs.Outputs.{output_of};
-ghost use Rattle.daachorse_serializer.specs.Positions.{position_of};
+ghost use Rattle.daachorse_serializer.specs.Outputs.{IsOutput, output_form, take_output};
+ghost use Rattle.daachorse_serializer.specs.Positions.{position_form, take_position};
 
 use daachorse_core::errors::{DaachorseError, Result};
 use daachorse_core::{Empty, MatchKind, Output};
@@ -102,6 +100,7 @@ impl Serializable for u8 {
     ghost form_len = { 1 };
 
     #[inline(always)]
+    #[tactic(auto, unfolding(crate::specs::Forms::number_form))]
     fn serialize_to_vec<A: Allocator>(&self, dst: &mut Vec<u8, A>) -> Result<()> {
         append(dst, &self.to_le_bytes())
     }
@@ -115,6 +114,7 @@ impl Serializable for u8 {
         Ok((u8::from_le_bytes(*bytes), rest))
     }
 
+    #[tactic(auto, unfolding(crate::specs::Forms::number_form))]
     fn serialized_bytes() -> usize
         ensures is { result ≡ 1 }
         ensures exact { (n : ℕ) → length (number_form w8 n) ≡ result }
@@ -139,6 +139,7 @@ impl Serializable for u16 {
     ghost form_len = { 2 };
 
     #[inline(always)]
+    #[tactic(auto, unfolding(crate::specs::Forms::number_form))]
     fn serialize_to_vec<A: Allocator>(&self, dst: &mut Vec<u8, A>) -> Result<()> {
         append(dst, &self.to_le_bytes())
     }
@@ -152,6 +153,7 @@ impl Serializable for u16 {
         Ok((u16::from_le_bytes(*bytes), rest))
     }
 
+    #[tactic(auto, unfolding(crate::specs::Forms::number_form))]
     fn serialized_bytes() -> usize
         ensures is { result ≡ 2 }
         ensures exact { (n : ℕ) → length (number_form w16 n) ≡ result }
@@ -176,6 +178,7 @@ impl Serializable for u32 {
     ghost form_len = { 4 };
 
     #[inline(always)]
+    #[tactic(auto, unfolding(crate::specs::Forms::number_form))]
     fn serialize_to_vec<A: Allocator>(&self, dst: &mut Vec<u8, A>) -> Result<()> {
         append(dst, &self.to_le_bytes())
     }
@@ -189,6 +192,7 @@ impl Serializable for u32 {
         Ok((u32::from_le_bytes(*bytes), rest))
     }
 
+    #[tactic(auto, unfolding(crate::specs::Forms::number_form))]
     fn serialized_bytes() -> usize
         ensures is { result ≡ 4 }
         ensures exact { (n : ℕ) → length (number_form w32 n) ≡ result }
@@ -213,6 +217,7 @@ impl Serializable for u64 {
     ghost form_len = { 8 };
 
     #[inline(always)]
+    #[tactic(auto, unfolding(crate::specs::Forms::number_form))]
     fn serialize_to_vec<A: Allocator>(&self, dst: &mut Vec<u8, A>) -> Result<()> {
         append(dst, &self.to_le_bytes())
     }
@@ -226,6 +231,7 @@ impl Serializable for u64 {
         Ok((u64::from_le_bytes(*bytes), rest))
     }
 
+    #[tactic(auto, unfolding(crate::specs::Forms::number_form))]
     fn serialized_bytes() -> usize
         ensures is { result ≡ 8 }
         ensures exact { (n : ℕ) → length (number_form w64 n) ≡ result }
@@ -250,6 +256,7 @@ impl Serializable for u128 {
     ghost form_len = { 16 };
 
     #[inline(always)]
+    #[tactic(auto, unfolding(crate::specs::Forms::number_form))]
     fn serialize_to_vec<A: Allocator>(&self, dst: &mut Vec<u8, A>) -> Result<()> {
         append(dst, &self.to_le_bytes())
     }
@@ -263,6 +270,7 @@ impl Serializable for u128 {
         Ok((u128::from_le_bytes(*bytes), rest))
     }
 
+    #[tactic(auto, unfolding(crate::specs::Forms::number_form))]
     fn serialized_bytes() -> usize
         ensures is { result ≡ 16 }
         ensures exact { (n : ℕ) → length (number_form w128 n) ≡ result }
@@ -300,6 +308,7 @@ impl Serializable for i8 {
         Ok((number.cast_signed(), rest))
     }
 
+    #[tactic(auto, unfolding(crate::specs::Forms::number_form))]
     fn serialized_bytes() -> usize
         ensures is { result ≡ 1 }
         ensures exact { (z : ℤ) → length (signed_form w8 z) ≡ result }
@@ -337,6 +346,7 @@ impl Serializable for i16 {
         Ok((number.cast_signed(), rest))
     }
 
+    #[tactic(auto, unfolding(crate::specs::Forms::number_form))]
     fn serialized_bytes() -> usize
         ensures is { result ≡ 2 }
         ensures exact { (z : ℤ) → length (signed_form w16 z) ≡ result }
@@ -374,6 +384,7 @@ impl Serializable for i32 {
         Ok((number.cast_signed(), rest))
     }
 
+    #[tactic(auto, unfolding(crate::specs::Forms::number_form))]
     fn serialized_bytes() -> usize
         ensures is { result ≡ 4 }
         ensures exact { (z : ℤ) → length (signed_form w32 z) ≡ result }
@@ -411,6 +422,7 @@ impl Serializable for i64 {
         Ok((number.cast_signed(), rest))
     }
 
+    #[tactic(auto, unfolding(crate::specs::Forms::number_form))]
     fn serialized_bytes() -> usize
         ensures is { result ≡ 8 }
         ensures exact { (z : ℤ) → length (signed_form w64 z) ≡ result }
@@ -448,6 +460,7 @@ impl Serializable for i128 {
         Ok((number.cast_signed(), rest))
     }
 
+    #[tactic(auto, unfolding(crate::specs::Forms::number_form))]
     fn serialized_bytes() -> usize
         ensures is { result ≡ 16 }
         ensures exact { (z : ℤ) → length (signed_form w128 z) ≡ result }
@@ -466,9 +479,9 @@ impl Serializable for i128 {
 impl Serializable for Option<NonZeroU32> {
     ghost is_value = { λ v. number v < 2 ^ 32 };
 
-    ghost form = { λ v. number_form w32 (number v) };
+    ghost form = { position_form };
 
-    ghost taken = { λ bytes. over position_of (take_number w32 bytes) };
+    ghost taken = { take_position };
 
     ghost form_len = { 4 };
 
@@ -479,13 +492,14 @@ impl Serializable for Option<NonZeroU32> {
 
     #[inline(always)]
     fn deserialize_from_slice(src: &[u8]) -> Result<(Self, &[u8])>
-        ensures given { Gives result (over position_of (take_number w32 src.now)) }
+        ensures given { Gives result (take_position src.now) }
         ensures refused { IfErr result (λ e. e ≡ InvalidAutomaton (record {})) }
     {
         let (number, rest) = u32::deserialize_from_slice(src)?;
         Ok((NonZeroU32::new(number), rest))
     }
 
+    #[tactic(auto, unfolding(crate::specs::Forms::number_form))]
     fn serialized_bytes() -> usize
         ensures is { result ≡ 4 }
         ensures exact { (n : ℕ) → length (number_form w32 n) ≡ result }
@@ -535,9 +549,9 @@ impl Serializable for Empty {
 impl Serializable for MatchKind {
     ghost is_value = { λ _. Unit {0} };
 
-    ghost form = { λ kind. byte_of_kind kind ∷ [] };
+    ghost form = { kind_form };
 
-    ghost taken = { λ bytes. over kind_of_byte (take_number w8 bytes) };
+    ghost taken = { take_kind };
 
     ghost form_len = { 1 };
 
@@ -548,7 +562,7 @@ impl Serializable for MatchKind {
 
     #[inline(always)]
     fn deserialize_from_slice(src: &[u8]) -> Result<(Self, &[u8])>
-        ensures given { Gives result (over kind_of_byte (take_number w8 src.now)) }
+        ensures given { Gives result (take_kind src.now) }
         ensures refused { IfErr result (λ e. e ≡ InvalidAutomaton (record {})) }
     {
         let (byte, rest) = u8::deserialize_from_slice(src)?;
@@ -568,11 +582,11 @@ impl Serializable for MatchKind {
 
 /// The value, the length, and the parent.
 impl<V: Serializable + Copy> Serializable for Output<V> {
-    ghost is_value = { λ o. V.is_value (value_of o) × (length_of o < 2 ^ 32) × (parent_of o < 2 ^ 32) };
+    ghost is_value = { IsOutput V.is_value };
 
-    ghost form = { λ o. V.form (value_of o) ++ (number_form w32 (length_of o) ++ number_form w32 (parent_of o)) };
+    ghost form = { output_form V.form };
 
-    ghost taken = { λ bytes. over output_of (take_pair V.taken (take_pair (take_number w32) (take_number w32)) bytes) };
+    ghost taken = { take_output V.taken };
 
     ghost form_len = { V.form_len + 8 };
 

@@ -17,7 +17,7 @@ use std::marker::{Model, PhantomData};
 #[derive(Drop)]
 pub struct Matches<V: Copy, W: Stepwise<V>, H: Haystack<W::Unit>> {
     search: Search<V, W, H>,
-    // Names what the automaton borrows, which no other field's type does.
+    // Where the automaton borrows, some field's type has to name the lifetime; `W` alone does not.
     of: PhantomData<W::Automaton>,
 }
 

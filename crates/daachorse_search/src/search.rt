@@ -18,7 +18,7 @@ pub struct Search<V: Copy, W: Stepwise<V>, S: Iterator<Item = W::Unit>> {
     walk: W,
     source: S,
     output: Option<NonZeroU32>,
-    // The automaton names what it borrows, which no other field's type does.
+    // Where the automaton borrows, some field's type has to name the lifetime; `W` alone does not.
     of: PhantomData<(V, W::Automaton)>,
 }
 

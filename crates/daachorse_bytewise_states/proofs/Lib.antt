@@ -3,3 +3,5 @@ pub mod ByteLaws
 pub mod DeadLaws
 pub mod StandardLaws
 pub mod LeftmostLaws
+pub mod EmptyLaws
+pub mod Rows

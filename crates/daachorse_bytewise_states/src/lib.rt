@@ -4,6 +4,8 @@
 //! for, and on what a search sees of it: [`views::Standard`] and [`views::Leftmost`].
 #![tactic(auto)]
 
+mod leftmost;
+mod standard;
 pub mod state;
 pub mod states;
 pub mod views;

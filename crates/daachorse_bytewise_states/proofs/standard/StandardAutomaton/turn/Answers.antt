@@ -3,7 +3,7 @@ use Rattle.std.specs.Prelude.{slice_index}
 use Rattle.daachorse_core.specs.declared.turns.Look.TheVariants.{Next, Fail}
 use Rattle.daachorse_bytewise_states.proofs.ByteLaws.{gives_label, look_child, look_link, look_table}
 use Rattle.daachorse_bytewise_states.proofs.StandardLaws.{standard_child, standard_fail, standard_inside, standard_kind, standard_table, standard_valid}
-use Rattle.daachorse_bytewise_states.proofs.views.StandardAutomaton.turn.Goals as goal
+use Rattle.daachorse_bytewise_states.proofs.standard.StandardAutomaton.turn.Goals as goal
 
 pub returns-then-state-eq-ROOT_STATE_IDX-clause-look :
     goal.returns-then-state-eq-ROOT_STATE_IDX-clause-look

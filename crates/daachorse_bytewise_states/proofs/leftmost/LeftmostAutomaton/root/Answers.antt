@@ -1,7 +1,7 @@
 use Rattle.std.proofs.Common.{refl}
 use Rattle.daachorse_bytewise_states.proofs.ByteLaws.{root_state, text_root}
 use Rattle.daachorse_bytewise_states.proofs.LeftmostLaws.{left_valid}
-use Rattle.daachorse_bytewise_states.proofs.views.LeftmostAutomaton.root.Goals as goal
+use Rattle.daachorse_bytewise_states.proofs.leftmost.LeftmostAutomaton.root.Goals as goal
 
 pub returns-clause-reached : goal.returns-clause-reached
 returns-clause-reached g c = root_state _ (left_valid _ _ _ _ _ _ c.self.view_is c.self.invariant)

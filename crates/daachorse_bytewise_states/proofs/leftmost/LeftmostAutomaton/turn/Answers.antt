@@ -3,7 +3,7 @@ use Rattle.std.specs.Prelude.{slice_index}
 use Rattle.daachorse_core.specs.declared.turns.Look.TheVariants.{Next, Fail}
 use Rattle.daachorse_bytewise_states.proofs.ByteLaws.{gives_label, look_child, look_dead, look_fail, look_root}
 use Rattle.daachorse_bytewise_states.proofs.LeftmostLaws.{left_child, left_fail, left_inside, left_inside_fails, left_valid}
-use Rattle.daachorse_bytewise_states.proofs.views.LeftmostAutomaton.turn.Goals as goal
+use Rattle.daachorse_bytewise_states.proofs.leftmost.LeftmostAutomaton.turn.Goals as goal
 
 pub bounds-self-inside-state : goal.bounds-self-inside-state
 bounds-self-inside-state g c = left_inside _ _ _ _ _ _ c.self.view_is c.self.invariant c.args.state c.requires

@@ -1,7 +1,7 @@
 use Rattle.std.proofs.Common.{◌≡◌, rules}
 use Rattle.daachorse_bytewise_states.proofs.ByteLaws.{root_text, text_root}
 use Rattle.daachorse_bytewise_states.proofs.LeftmostLaws.{left_valid}
-use Rattle.daachorse_bytewise_states.proofs.views.LeftmostAutomaton.is_root.Goals as goal
+use Rattle.daachorse_bytewise_states.proofs.leftmost.LeftmostAutomaton.is_root.Goals as goal
 
 pub returns : goal.returns
 returns g c =

@@ -2,7 +2,7 @@ use Rattle.std.proofs.Common.{◌∙◌, sym}
 use Rattle.daachorse_core.specs.Outputs.{number}
 use Rattle.daachorse_bytewise_states.proofs.ByteLaws.{chain_at, outputs_few, outputs_some, position_inside}
 use Rattle.daachorse_bytewise_states.proofs.StandardLaws.{standard_inside, standard_output, standard_valid}
-use Rattle.daachorse_bytewise_states.proofs.views.StandardAutomaton.output_pos.Goals as goal
+use Rattle.daachorse_bytewise_states.proofs.standard.StandardAutomaton.output_pos.Goals as goal
 
 pub bounds-self-inside-state : goal.bounds-self-inside-state
 bounds-self-inside-state g c = standard_inside _ _ _ _ _ c.self.view_is c.self.invariant c.args.state c.requires

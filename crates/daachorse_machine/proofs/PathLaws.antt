@@ -62,6 +62,7 @@ pigeon (suc n) (suc m) f below apart =
         apart j k less (omega arith) (sym (ap (λ b. cond b (f m) (f j)) a) ∙ (same ∙ ap (λ b. cond b (f m) (f k)) b))
 
 module _ (child : ℕ → ℕ → Option ℕ) where
+  -- a walk goes on where its first part ends
   pub walk-append : (i : ℕ) (v w : List ℕ) → walk child i (v ++ w) ≡ option_and_then (λ j. walk child j w) (walk child i v)
   walk-append i [] w = refl
   walk-append i (c ∷ v) w =
@@ -72,9 +73,7 @@ module _ (child : ℕ → ℕ → Option ℕ) where
   pub walk-split : (i k : ℕ) (v w : List ℕ) → walk child i (v ++ w) ≡ Some k → (j : ℕ) × (walk child i v ≡ Some j) × (walk child j w ≡ Some k)
   walk-split i k v w e = and_then_inv (λ j. walk child j w) (walk child i v) k (sym (walk-append i v w) ∙ e)
 
-  pub walk-join : (i j k : ℕ) (v w : List ℕ) → walk child i v ≡ Some j → walk child j w ≡ Some k → walk child i (v ++ w) ≡ Some k
-  walk-join i j k v w a b = walk-append i v w ∙ (ap (λ o. option_and_then (λ j. walk child j w) o) a ∙ b)
-
+  -- one unit more
   pub walk-push : (i j : ℕ) (v : List ℕ) (c : ℕ) → walk child i v ≡ Some j → walk child i (v ++ c ∷ []) ≡ child j c
   walk-push i j v c a = walk-append i v (c ∷ []) ∙ (ap (λ o. option_and_then (λ j. walk child j (c ∷ [])) o) a ∙ one_more (child j c))
     where
@@ -86,6 +85,7 @@ module _ (child : ℕ → ℕ → Option ℕ) where
   reached_some w (Some i) e h = (i, e)
   reached_some w None e h = absurd (cc)
 
+  -- a text is reached where it leads to some element
   pub element_reached : (w : List ℕ) → is_reached child w ≡ true → (i : ℕ) × Leads child w i
   element_reached w h = reached_some w (walk child 0 w) refl h
 
@@ -166,6 +166,7 @@ module _ (child : ℕ → ℕ → Option ℕ) (n m : ℕ) (some : 0 < n) (inside
       let inner = and_then_inv (λ j. walk child j w) (child i c) j e in
       walk-inside inner.0 j w (inside i c inner.0 inner.1).0 inner.2
 
+  -- a text leads to one of the elements
   pub Leads-inside : (w : List ℕ) (i : ℕ) → Leads child w i → i < n
   Leads-inside w i e = walk-inside 0 i w some e
 
@@ -198,6 +199,7 @@ module _ (child : ℕ → ℕ → Option ℕ) (n m : ℕ) (some : 0 < n) (inside
           let right : length (take k w) ≡ k = length-take-le k w (omega arith) in
           omega (arith, lengths, left, right)
 
+  -- the text that is found for an element is the one that leads to it
   pub text_of-Leads : (w : List ℕ) (i : ℕ) → Leads child w i → text_of child m n i ≡ w
   unfolding text_of
   text_of-Leads w i e = same (find_text child m n i 0) refl (leads_found child m (λ i c j h. (inside i c j h).1) n i 0 w (let h : length w < n = Leads-length w i e in omega (arith, h)) e)

@@ -1,2 +1,3 @@
 pub mod Texts
 pub mod Machines
+pub mod Copies

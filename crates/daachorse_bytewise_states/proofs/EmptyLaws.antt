@@ -1,21 +1,21 @@
 -- The rules can be met: the automata without patterns, whose elements are all vacant.
-use Rattle.std.proofs.Common.{◌≡◌, ℕ, zero, suc, ◌<◌, ◌≤◌, ◌%◌, Bool, true, false, List, [], ◌∷◌, length, Option, Some, None, refl, sym, ap, ◌∙◌, subst, arith, slice_index_or, is_some, rules}
-use Rattle.std.specs.Prelude.{IsTrue, Contains, option_and_then, slice_index, slice_get}
+use Rattle.std.proofs.Common.{◌≡◌, ℕ, zero, suc, ◌<◌, ◌≤◌, ◌%◌, Bool, true, false, List, [], ◌∷◌, map, Option, Some, None, refl, sym, ap, ◌∙◌, subst, arith, slice_index_or, is_some}
+use Rattle.std.specs.Prelude.{IsTrue, Contains, option_and_then, slice_index}
 use Rattle.std.specs.List.{IsDistinct}
 use Rattle.std.proofs.Math.ListN.{replicate}
 use Rattle.std.proofs.lemmas.List.{length-replicate}
 use Rattle.std.proofs.lemmas.Option.{same_Some}
 use Rattle.daachorse_core.specs.declared.outputs.Empty.{Empty}
 use Rattle.daachorse_core.specs.declared.outputs.Output.{Output}
-use Rattle.daachorse_model.specs.declared.MatchKind.TheVariants.{LeftmostLongest}
+use Rattle.daachorse_model.specs.declared.MatchKind.TheVariants.{Standard, LeftmostLongest}
 use Rattle.daachorse_model.specs.Paths.{walk, is_reached, Leads}
 use Rattle.daachorse_model.specs.Units.{same_text}
 use Rattle.daachorse_machine.specs.Machines.{Machine, IsCounted, IsRight, own_from}
 use Rattle.daachorse_machine.proofs.PathLaws.{and_then_inv}
 use Rattle.daachorse_bytewise_states.specs.declared.state.State.{State}
-use Rattle.daachorse_bytewise_states.specs.Elements.{base_in, output_in, vacant, vacant_left}
-use Rattle.daachorse_bytewise_states.specs.Parts.{Parts, check_of, child, child_by, count, leftmost_parts, machine, standard_parts}
-use Rattle.daachorse_bytewise_states.specs.Valid.{IsInside, IsValid}
+use Rattle.daachorse_bytewise_states.specs.Elements.{base_in, fail_in, output_in, vacant, vacant_left}
+use Rattle.daachorse_bytewise_states.specs.Parts.{Parts, check_of, child, child_by, count, leftmost_parts, machine, parts_of, standard_parts, without_link}
+use Rattle.daachorse_bytewise_states.specs.Valid.{IsValid}
 
 -- a machine that leads nowhere holds the empty text alone
 module _ {V : Type 0} (width : ℕ → ℕ) (a : Machine V) (leaf : (i c : ℕ) → a.child i c ≡ None) where
@@ -111,3 +111,35 @@ module _ (V : Type 0) (n : ℕ) (whole : n % 256 ≡ 0) (some : 0 < n) where
     right = childless-right (λ u. 1) (machine empty_leftmost) leftmost_leaf (ap (λ (e : State Empty). output_in e) (replicate-at n 0 vacant_left)) true;
     counted = childless-counted (λ u. 1) (machine empty_leftmost) leftmost_leaf;
   }
+
+-- ---- elements that are made vacant, all alike
+
+same_state : (x y : State ℕ) → (x.base ≡ y.base) × ((x.fail ≡ y.fail) × (x.packed ≡ y.packed)) → x ≡ y
+same_state x y same =
+    ap (λ b. record { base = b; fail = x.fail; packed = x.packed }) same.0
+    ∙ (ap (λ f. record { base = y.base; fail = f; packed = x.packed }) same.1.0 ∙ ap (λ w. record { base = y.base; fail = y.fail; packed = w }) same.1.1)
+
+module _ (n : ℕ) (items : List (State ℕ)) (d : State ℕ) (default : (d.base ≡ 0) × ((d.fail ≡ 0) × (d.packed.word ≡ 0)))
+    (alike : ((y : State ℕ) → (y.base ≡ d.base) × ((y.fail ≡ d.fail) × (y.packed ≡ d.packed)) → y ≡ d) → items ≡ replicate n d) where
+  all_vacant : items ≡ replicate n vacant
+  all_vacant = alike (λ y same. same_state y d same) ∙ ap (λ e. replicate n e) (same_state d vacant (default.0, (default.1.0, ap (λ w. record { word = w }) default.1.1)))
+
+  map-replicate : {X Y : Type 0} (f : X → Y) (k : ℕ) (x : X) → map f (replicate k x) ≡ replicate k (f x)
+  map-replicate f zero x = refl
+  map-replicate f (suc k) x = ap (λ l. f x ∷ l) (map-replicate f k x)
+
+  module _ {V : Type 0} (outputs : List (Output V)) (none : outputs ≡ []) (whole : n % 256 ≡ 0) (some : 0 < n) where
+    pub vacant_standard-valid : IsValid (parts_of Standard items outputs 1)
+    vacant_standard-valid =
+        let P : List (State ℕ) → Type 0 = λ es. IsValid (parts_of {V = V} Standard es [] 1) in
+        let Q : List (Output V) → Type 0 = λ os. IsValid (parts_of Standard items os 1) in
+        subst Q (sym none) (subst P (sym all_vacant) (empty_standard-valid V n whole some))
+
+    pub vacant_leftmost-valid : IsValid (parts_of LeftmostLongest items outputs 1)
+    vacant_leftmost-valid =
+        let P : List (State Empty) → Type 0 = λ es. IsValid (leftmost_parts {V = V} LeftmostLongest es (replicate n 0) [] 1) in
+        let F : List ℕ → Type 0 = λ fs. IsValid (leftmost_parts {V = V} LeftmostLongest (map without_link items) fs [] 1) in
+        let Q : List (Output V) → Type 0 = λ os. IsValid (parts_of LeftmostLongest items os 1) in
+        let elements : map without_link items ≡ replicate n vacant_left = ap (λ es. map without_link es) all_vacant ∙ map-replicate without_link n vacant in
+        let fails : map fail_in items ≡ replicate n 0 = ap (λ es. map fail_in es) all_vacant ∙ map-replicate fail_in n vacant in
+        subst Q (sym none) (subst F (sym fails) (subst P (sym elements) (empty_leftmost-valid V n whole some)))

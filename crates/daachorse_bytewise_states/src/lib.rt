@@ -8,4 +8,6 @@ mod leftmost;
 mod standard;
 pub mod state;
 pub mod states;
+#[cfg(test)]
+mod tests;
 pub mod views;

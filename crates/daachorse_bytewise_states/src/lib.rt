@@ -4,7 +4,11 @@
 //! for, and on what a search sees of it: [`views::Standard`] and [`views::Leftmost`].
 #![tactic(auto)]
 
+mod leftmost;
 mod packing;
+mod standard;
 pub mod state;
 pub mod states;
+#[cfg(test)]
+mod tests;
 pub mod views;

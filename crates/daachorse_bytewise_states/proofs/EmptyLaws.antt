@@ -1,0 +1,145 @@
+-- The rules can be met: the automata without patterns, whose elements are all vacant.
+use Rattle.std.proofs.Common.{◌≡◌, ℕ, zero, suc, ◌<◌, ◌≤◌, ◌%◌, Bool, true, false, List, [], ◌∷◌, map, Option, Some, None, refl, sym, ap, ◌∙◌, subst, arith, slice_index_or, is_some}
+use Rattle.std.specs.Prelude.{IsTrue, Contains, option_and_then, slice_index}
+use Rattle.std.specs.List.{IsDistinct}
+use Rattle.std.proofs.Math.ListN.{replicate}
+use Rattle.std.proofs.lemmas.List.{length-replicate}
+use Rattle.std.proofs.lemmas.Option.{same_Some}
+use Rattle.daachorse_core.specs.declared.outputs.Empty.{Empty}
+use Rattle.daachorse_core.specs.declared.outputs.Output.{Output}
+use Rattle.daachorse_model.specs.declared.MatchKind.TheVariants.{Standard, LeftmostLongest}
+use Rattle.daachorse_model.specs.Paths.{walk, is_reached, Leads}
+use Rattle.daachorse_model.specs.Units.{same_text}
+use Rattle.daachorse_machine.specs.Machines.{Machine, IsCounted, IsRight, own_from}
+use Rattle.daachorse_machine.proofs.PathLaws.{and_then_inv}
+use Rattle.daachorse_bytewise_states.specs.declared.state.State.{State}
+use Rattle.daachorse_bytewise_states.specs.Elements.{base_in, fail_in, output_in, vacant, vacant_left}
+use Rattle.daachorse_bytewise_states.specs.Parts.{Parts, check_of, child, child_by, count, leftmost_parts, machine, parts_of, standard_parts, without_link}
+use Rattle.daachorse_bytewise_states.specs.Valid.{IsValid}
+
+-- a machine that leads nowhere holds the empty text alone
+module _ {V : Type 0} (width : ℕ → ℕ) (a : Machine V) (leaf : (i c : ℕ) → a.child i c ≡ None) where
+  only_empty : (u i : ℕ) (w : List ℕ) → ¬ Leads a.child (u ∷ w) i
+  only_empty u i w e =
+      let step = and_then_inv (λ j. walk a.child j w) (a.child 0 u) i e in
+      let bad : ◌≡◌ {A = Option ℕ} None (Some step.0) = sym (leaf 0 u) ∙ step.1 in
+      cc
+
+  dead : (w : List ℕ) → ¬ Leads a.child w 1
+  dead [] e = let bad : 0 ≡ 1 = same_Some 0 1 e in cc
+  dead (u ∷ w) e = only_empty u 1 w e
+
+  paths : (i : ℕ) (v w : List ℕ) → Leads a.child v i → Leads a.child w i → v ≡ w
+  paths i [] [] d e = refl
+  paths i (u ∷ v) w d e = absurd (only_empty u i v d)
+  paths i [] (u ∷ w) d e = absurd (only_empty u i w e)
+
+  pub childless-right : a.output 0 ≡ 0 → (leftmost : Bool) → IsRight width a leftmost
+  childless-right none leftmost = record {
+    dead_no_child = dead;
+    one_path = paths;
+    leaf_has_own = λ u i w e l. absurd (only_empty u i w e);
+    links = λ u i w e. absurd (only_empty u i w e);
+    chains = λ u i w e. absurd (only_empty u i w e);
+    root_chain = ap (λ q. (own_from a.outputs q 0 q).1) none;
+  }
+
+  stays : (w : List ℕ) → IsTrue (is_reached a.child w) → Contains ([] ∷ []) w
+  stays [] h = (0, omega arith, refl)
+  stays (u ∷ w) h =
+      let P : Option ℕ → Type 0 = λ o. IsTrue (is_some (option_and_then (λ j. walk a.child j w) o)) in
+      let bad : false ≡ true = subst P (leaf 0 u) h in
+      absurd (cc)
+
+  leads : (w : List ℕ) → Contains ([] ∷ []) w → IsTrue (is_reached a.child w)
+  leads [] h = refl
+  leads (u ∷ w) (zero, inside, same) = absurd (cc)
+  leads (u ∷ w) (suc k, inside, same) = absurd (omega arith)
+
+  alone : IsDistinct same_text ([] ∷ [])
+  unfolding IsDistinct
+  alone = (tt, tt)
+
+  pub childless-counted : IsCounted a 1
+  childless-counted = record { texts = [] ∷ []; distinct = alone; exactly = λ w. (stays w, leads w); count = refl }
+
+replicate-at : {X : Type 0} (n i : ℕ) (d : X) → slice_index_or (replicate n d) i d ≡ d
+replicate-at zero i d = refl
+replicate-at (suc n) zero d = refl
+replicate-at (suc n) (suc i) d = replicate-at n i d
+
+module _ (V : Type 0) (n : ℕ) (whole : n % 256 ≡ 0) (some : 0 < n) where
+  abbrev pub empty_standard : Parts V
+  empty_standard = standard_parts (replicate n vacant) [] 1
+
+  abbrev pub empty_leftmost : Parts V
+  empty_leftmost = leftmost_parts LeftmostLongest (replicate n vacant_left) (replicate n 0) [] 1
+
+  standard_leaf : (i c : ℕ) → child empty_standard i c ≡ None
+  standard_leaf i c = ap (λ (e : State ℕ). child_by (count empty_standard) (base_in e) (check_of empty_standard) c) (replicate-at n i vacant)
+
+  leftmost_leaf : (i c : ℕ) → child empty_leftmost i c ≡ None
+  leftmost_leaf i c = ap (λ (e : State Empty). child_by (count empty_leftmost) (base_in e) (check_of empty_leftmost) c) (replicate-at n i vacant_left)
+
+  pub empty_standard-valid : IsValid empty_standard
+  empty_standard-valid = record {
+    blocks = ap (λ x. x % 256) (length-replicate n vacant) ∙ whole;
+    some = omega (arith, some, length-replicate n vacant);
+    shape = (refl, refl);
+    inside = λ i h.
+        let fits : 0 < count empty_standard = omega (arith, some, length-replicate n vacant) in
+        let P : State ℕ → Type 0 = λ e. (base_in e < count empty_standard) × (e.fail < count empty_standard) × (output_in e ≤ 0) in
+        let at = subst P (sym (replicate-at n i vacant)) (fits, fits, omega arith) in
+        record { base = at.0; fail = at.1; output = at.2 };
+    parents_fall = λ i o e. absurd (cc);
+    right = childless-right (λ u. 1) (machine empty_standard) standard_leaf (ap (λ (e : State ℕ). output_in e) (replicate-at n 0 vacant)) false;
+    counted = childless-counted (λ u. 1) (machine empty_standard) standard_leaf;
+  }
+
+  pub empty_leftmost-valid : IsValid empty_leftmost
+  empty_leftmost-valid = record {
+    blocks = ap (λ x. x % 256) (length-replicate n vacant_left) ∙ whole;
+    some = omega (arith, some, length-replicate n vacant_left);
+    shape = (refl, length-replicate n 0 ∙ sym (length-replicate n vacant_left));
+    inside = λ i h.
+        let fits : 0 < count empty_leftmost = omega (arith, some, length-replicate n vacant_left) in
+        let P : State Empty → Type 0 = λ e. (base_in e < count empty_leftmost) × (output_in e ≤ 0) in
+        let at = subst P (sym (replicate-at n i vacant_left)) (fits, omega arith) in
+        let link : slice_index (replicate n 0) i ≡ 0 = replicate-at n i 0 in
+        record { base = at.0; fail = omega (arith, fits, link); output = at.1 };
+    parents_fall = λ i o e. absurd (cc);
+    right = childless-right (λ u. 1) (machine empty_leftmost) leftmost_leaf (ap (λ (e : State Empty). output_in e) (replicate-at n 0 vacant_left)) true;
+    counted = childless-counted (λ u. 1) (machine empty_leftmost) leftmost_leaf;
+  }
+
+-- ---- elements that are made vacant, all alike
+
+same_state : (x y : State ℕ) → (x.base ≡ y.base) × ((x.fail ≡ y.fail) × (x.packed ≡ y.packed)) → x ≡ y
+same_state x y same =
+    ap (λ b. record { base = b; fail = x.fail; packed = x.packed }) same.0
+    ∙ (ap (λ f. record { base = y.base; fail = f; packed = x.packed }) same.1.0 ∙ ap (λ w. record { base = y.base; fail = y.fail; packed = w }) same.1.1)
+
+module _ (n : ℕ) (items : List (State ℕ)) (d : State ℕ) (default : (d.base ≡ 0) × ((d.fail ≡ 0) × (d.packed.word ≡ 0)))
+    (alike : ((y : State ℕ) → (y.base ≡ d.base) × ((y.fail ≡ d.fail) × (y.packed ≡ d.packed)) → y ≡ d) → items ≡ replicate n d) where
+  all_vacant : items ≡ replicate n vacant
+  all_vacant = alike (λ y same. same_state y d same) ∙ ap (λ e. replicate n e) (same_state d vacant (default.0, (default.1.0, ap (λ w. record { word = w }) default.1.1)))
+
+  map-replicate : {X Y : Type 0} (f : X → Y) (k : ℕ) (x : X) → map f (replicate k x) ≡ replicate k (f x)
+  map-replicate f zero x = refl
+  map-replicate f (suc k) x = ap (λ l. f x ∷ l) (map-replicate f k x)
+
+  module _ {V : Type 0} (outputs : List (Output V)) (none : outputs ≡ []) (whole : n % 256 ≡ 0) (some : 0 < n) where
+    pub vacant_standard-valid : IsValid (parts_of Standard items outputs 1)
+    vacant_standard-valid =
+        let P : List (State ℕ) → Type 0 = λ es. IsValid (parts_of {V = V} Standard es [] 1) in
+        let Q : List (Output V) → Type 0 = λ os. IsValid (parts_of Standard items os 1) in
+        subst Q (sym none) (subst P (sym all_vacant) (empty_standard-valid V n whole some))
+
+    pub vacant_leftmost-valid : IsValid (parts_of LeftmostLongest items outputs 1)
+    vacant_leftmost-valid =
+        let P : List (State Empty) → Type 0 = λ es. IsValid (leftmost_parts {V = V} LeftmostLongest es (replicate n 0) [] 1) in
+        let F : List ℕ → Type 0 = λ fs. IsValid (leftmost_parts {V = V} LeftmostLongest (map without_link items) fs [] 1) in
+        let Q : List (Output V) → Type 0 = λ os. IsValid (parts_of LeftmostLongest items os 1) in
+        let elements : map without_link items ≡ replicate n vacant_left = ap (λ es. map without_link es) all_vacant ∙ map-replicate without_link n vacant in
+        let fails : map fail_in items ≡ replicate n 0 = ap (λ es. map fail_in es) all_vacant ∙ map-replicate fail_in n vacant in
+        subst Q (sym none) (subst F (sym fails) (subst P (sym elements) (empty_leftmost-valid V n whole some)))

@@ -1,0 +1,11 @@
+use Rattle.std.proofs.Common.{◌≡◌, rules}
+use Rattle.daachorse_bytewise_states.proofs.ByteLaws.{root_text, text_root}
+use Rattle.daachorse_bytewise_states.proofs.LeftmostLaws.{left_valid}
+use Rattle.daachorse_bytewise_states.proofs.leftmost.LeftmostAutomaton.is_root.Goals as goal
+
+pub returns : goal.returns
+returns g c =
+    let valid = left_valid _ _ _ _ _ _ c.self.view_is c.self.invariant in (
+      λ h. text_root _ valid c.args.state (let e : c.args.state ≡ 0 = search (rules, h) in e),
+      λ h. let e : c.args.state ≡ 0 = root_text _ valid c.args.state c.requires h in search (rules, e),
+    )

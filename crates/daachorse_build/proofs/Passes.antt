@@ -1,16 +1,17 @@
 -- From position to position along the outputs: a walk stays where outputs are added, and an output in front of it makes it one longer.
-use Rattle.std.proofs.Common.{◌≡◌, ◌≢◌, ℕ, zero, suc, ◌+◌, ◌-◌, ◌<◌, Bool, List, [], ◌∷◌, ◌++◌, length, get_or, take, Some, refl, sym, ap, ◌∙◌, subst, inl, inr, arith}
+use Rattle.std.proofs.Common.{◌≡◌, ◌≢◌, ℕ, zero, suc, ◌+◌, ◌<◌, Bool, List, [], ◌∷◌, ◌++◌, length, get_or, take, Some, refl, sym, ap, ◌∙◌, subst, inl, inr, arith}
 use Rattle.std.proofs.lemmas.Option.{none-some}
 use Rattle.std.specs.List.{slice_get}
 use Rattle.daachorse_core.specs.declared.outputs.Output.{Output}
 use Rattle.daachorse_core.specs.Outputs.{value_of, length_of, parent_of}
+use Rattle.daachorse_core.specs.Chains.{Passes}
 use Rattle.std.specs.declared.cmp.Ordering.{Ordering}
 use Rattle.std.specs.declared.cmp.Ordering.TheVariants.{Equal}
 use Rattle.std.specs.Cmp.{IsTotalOrder}
 use Rattle.daachorse_build.specs.declared.nfa_builder.NfaBuilderState.{NfaBuilderState}
 use Rattle.daachorse_build.specs.Tables.{edges_of, own_at, HoldTrie}
 use Rattle.daachorse_build.specs.Orders.{IsKnown, IsLinkAmong, IsLeftLinked}
-use Rattle.daachorse_build.specs.Lists.{Passes, IsParent, IsRest, IsChainedAt, AreChained}
+use Rattle.daachorse_build.specs.Lists.{IsParent, IsRest, IsChainedAt, AreChained}
 use Rattle.daachorse_build.proofs.Queue.{in_at, link_among, known_but_root}
 use Rattle.daachorse_build.proofs.OutputLists.{order-bounds, fail_known, known_apart, known_cases}
 use Rattle.daachorse_build.proofs.OutputChains.{slice_get_last}
@@ -24,15 +25,18 @@ module _ {V : Type 0} where
   -- outputs that come later change nothing
   pub passes_longer : (outputs more : List (Output V)) (p : ℕ) (own : List (V × ℕ)) (q : ℕ) → Passes outputs p own q → Passes (outputs ++ more) p own q
   passes_longer outputs more p [] q h = h
-  passes_longer outputs more p (o ∷ own) q h =
-      (h.0, h.1, found_left outputs more (p - 1) h.0 h.2, h.3, h.4, passes_longer outputs more (parent_of h.0) own q h.5)
+  passes_longer outputs more zero (o ∷ own) q none = absurd none
+  passes_longer outputs more (suc p) (o ∷ own) q (here, is, same, rest) =
+      (here, found_left outputs more p here is, same, passes_longer outputs more (parent_of here) own q rest)
 
   -- one output in front
   pub passes_push : (outputs : List (Output V)) (o : Output V) (x : V × ℕ) (own : List (V × ℕ)) (last p q : ℕ) → value_of o ≡ x.0 → length_of o ≡ x.1 → parent_of o ≡ last → p ≡ length outputs + 1 → Passes outputs last own q → Passes (outputs ++ o ∷ []) p (x ∷ own) q
-  passes_push outputs o x own last p q value len parent e h =
-      let at : p - 1 ≡ length outputs = omega (arith, e) in
+  passes_push outputs o x own last zero q value len parent e h = absurd (omega (arith, e))
+  passes_push outputs o x own last (suc p) q value len parent e h =
+      let at : p ≡ length outputs = omega (arith, e) in
+      let same : (value_of o, length_of o) ≡ x = ap (λ v. (v, length_of o)) value ∙ ap (λ n. (x.0, n)) len in
       let P : ℕ → Type 0 = λ r. Passes (outputs ++ o ∷ []) r own q in
-      (o, omega (arith, e), ap (slice_get (outputs ++ o ∷ [])) at ∙ slice_get_last outputs o, value, len, subst P (sym parent) (passes_longer outputs (o ∷ []) last own q h))
+      (o, ap (slice_get (outputs ++ o ∷ [])) at ∙ slice_get_last outputs o, same, subst P (sym parent) (passes_longer outputs (o ∷ []) last own q h))
 
 -- where the list of a link begins, after the position of another state was set
 pub parent_others : (positions positions' : List ℕ) (t f q : ℕ) → ((u : ℕ) → u ≢ t → get_or positions' u 0 ≡ get_or positions u 0) → (f ≢ 1 → f ≢ t) → IsParent positions f q → IsParent positions' f q

@@ -1,8 +1,9 @@
 -- Lists of outputs that share their ends.
-use Rattle.std.specs.Prelude.{◌≡◌, ◌≢◌, ℕ, ◌-◌, ◌<◌, ◌≤◌, ◌⊎◌, Bool, cond, List, [], ◌∷◌, ◌++◌, length, slice_get, slice_index, Some}
+use Rattle.std.specs.Prelude.{◌≡◌, ◌≢◌, ℕ, ◌≤◌, ◌⊎◌, Bool, cond, List, [], ◌∷◌, ◌++◌, length, slice_index}
 use Rattle.std.specs.declared.cmp.Ordering.{Ordering}
 use Rattle.daachorse_core.specs.declared.outputs.Output.{Output}
-use Rattle.daachorse_core.specs.Outputs.{outputs_at, value_of, length_of, parent_of}
+use Rattle.daachorse_core.specs.Outputs.{outputs_at}
+use Rattle.daachorse_core.specs.Chains.{Passes}
 use Rattle.daachorse_model.specs.Paths.{Leads}
 use Rattle.daachorse_build.specs.declared.nfa_builder.NfaBuilderState.{NfaBuilderState}
 use Rattle.daachorse_build.specs.Tables.{child_of, held_at, own_at}
@@ -32,12 +33,6 @@ IsParent positions f p = ((f ≡ 1) × (p ≡ 0)) ⊎ ((f ≢ 1) × (p ≡ slice
 -- no position of a known state is past the end
 abbrev pub PositionsFit : {V : Type 0} → List ℕ → List (Output V) → List ℕ → Type 0
 PositionsFit done outputs positions = (t : ℕ) → IsKnown done t → slice_index positions t ≤ length outputs
-
--- from position p these outputs come one after another, and then position q
-abbrev pub Passes : {V : Type 0} → List (Output V) → ℕ → List (V × ℕ) → ℕ → Type 0
-Passes outputs p [] q = p ≡ q
-Passes {V} outputs p (o ∷ own) q =
-    (x : Output V) × (0 < p) × (slice_get outputs (p - 1) ≡ Some x) × (value_of x ≡ o.0) × (length_of x ≡ o.1) × Passes outputs (parent_of x) own q
 
 -- where the outputs after a state's own ones begin: where those of its link do, and nowhere for the root
 abbrev pub IsRest : List ℕ → List ℕ → ℕ → ℕ → Type 0

@@ -16,6 +16,7 @@ ghost use Rattle.daachorse_model.specs.Paths.{Leads};
 ghost use Rattle.daachorse_model.specs.Outputs.{outputs_of_ends, IsChain};
 ghost use Rattle.daachorse_model.specs.Prefixes.{IsDead};
 ghost use Rattle.daachorse_core.specs.Outputs.{ParentsFall, outputs_at, number};
+ghost use Rattle.daachorse_core.specs.Chains.{Passes};
 ghost use Rattle.daachorse_core.specs.declared.errors.Limit.TheVariants.{Outputs, StateId};
 ghost use Rattle.daachorse_core.specs.declared.errors.DaachorseError.TheVariants.{InvalidArgument};
 ghost use Rattle.daachorse_core.specs.declared.outputs.Output.{Output as OutputOf};
@@ -25,7 +26,7 @@ ghost use Rattle.daachorse_build.specs.Left.{IsLeftFailOf, LinksLeft, meets_earl
 ghost use Rattle.daachorse_build.specs.Searches.{Searches, LeadsTo, ComesFrom};
 ghost use Rattle.daachorse_build.specs.Growth.{Extends, IsAdded, HasTrieOf, Overflows};
 ghost use Rattle.daachorse_build.specs.Holds.{in_units, HasMorePrefixes};
-ghost use Rattle.daachorse_build.specs.Lists.{PositionsFit, AreListed, AreChained, IsChainedAt, IsParent, Passes};
+ghost use Rattle.daachorse_build.specs.Lists.{PositionsFit, AreListed, AreChained, IsChainedAt, IsParent};
 ghost use Rattle.daachorse_build.specs.Groups.{GivesCodes, AreCodes, AreTrieGroups, AreWeighed, AreFalling, AreLight, IsProfileOf};
 ghost use Rattle.daachorse_placement.specs.Placement.{AreGroups};
 ghost use Rattle.daachorse_build.specs.Builders.{states_of, outputs_of, count_of, kind_of, Registered};

@@ -2,7 +2,7 @@
 use Rattle.std.proofs.Common.{◌≡◌, ◌≤◌, ◌+◌, List, ◌++◌, length, drop}
 use Rattle.daachorse_core.specs.declared.outputs.Output.{Output}
 use Rattle.daachorse_core.specs.Outputs.{ParentsFall, outputs_at}
-use Rattle.daachorse_build.specs.Lists.{Passes}
+use Rattle.daachorse_core.specs.Chains.{Passes}
 use Rattle.daachorse_build.proofs.nfa_builder.push_chain.Given as goal
 
 -- the outputs from `i` on are in front of the list

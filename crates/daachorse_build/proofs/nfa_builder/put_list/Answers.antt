@@ -3,9 +3,9 @@ use Rattle.std.proofs.Common.{◌≡◌, ◌<◌, ℕ, List, [], ◌++◌, lengt
 use Rattle.std.proofs.lemmas.List.{length-map, get_or-map}
 use Rattle.std.proofs.lemmas.Result.{err_from_is_err_and}
 use Rattle.daachorse_core.specs.Outputs.{outputs_at}
+use Rattle.daachorse_core.specs.Chains.{Passes}
 use Rattle.daachorse_build.specs.declared.nfa_builder.NfaBuilderState.{NfaBuilderState}
 use Rattle.daachorse_build.specs.Tables.{own_at, own_of, positions_of}
-use Rattle.daachorse_build.specs.Lists.{Passes}
 use Rattle.daachorse_build.proofs.States.{position_set}
 use Rattle.daachorse_build.proofs.nfa_builder.put_list.Goals as goal
 

@@ -11,7 +11,7 @@ use Rattle.daachorse_build.specs.declared.nfa_builder.NfaBuilderState.{NfaBuilde
 use Rattle.daachorse_build.specs.Tables.{edges_of, fails_of, own_of, own_at, positions_of, output_count, stops_of, HoldTrie}
 use Rattle.daachorse_build.specs.Orders.{IsIn, IsKnown, IsLinkAmong, IsLeftLinked}
 use Rattle.daachorse_build.specs.Growth.{HasTrieOf}
-use Rattle.daachorse_build.specs.Lists.{PositionsFit, IsParent, Passes}
+use Rattle.daachorse_build.specs.Lists.{PositionsFit, IsParent}
 use Rattle.daachorse_core.specs.declared.outputs.Output.{Output}
 use Rattle.daachorse_build.proofs.Labels.{label_exact}
 use Rattle.daachorse_build.proofs.Queue.{in_at, in_take}
@@ -19,6 +19,7 @@ use Rattle.daachorse_build.proofs.Cleared.{cleared, count-cleared}
 use Rattle.daachorse_build.proofs.Passes.{chained_start, chained_more}
 use Rattle.daachorse_build.proofs.OutputLists.{listed_start, listed_more, fits_more, fail_known, order-bounds}
 use Rattle.daachorse_core.proofs.Refusals.{IsRefusal-weaker}
+use Rattle.daachorse_core.specs.Chains.{Passes}
 use Rattle.daachorse_build.proofs.nfa_builder.put_lists.Goals as goal
 
 -- as many states, at a trie's twin

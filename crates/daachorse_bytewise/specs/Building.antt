@@ -7,8 +7,8 @@ use Rattle.daachorse_core.specs.declared.errors.Limit.TheVariants.{PatternValues
 use Rattle.daachorse_model.specs.declared.MatchKind.{MatchKind}
 use Rattle.daachorse_model.specs.Dictionary.{dictionary, kept}
 use Rattle.daachorse_build.specs.Holds.{HasMorePrefixes}
-use Rattle.daachorse_bytewise.specs.Parts.{Parts}
-use Rattle.daachorse_bytewise.specs.Content.{content}
+use Rattle.daachorse_bytewise_states.specs.Parts.{Parts, content}
+use Rattle.daachorse_bytewise_states.specs.Prefixes.{HasMoreProperPrefixes}
 
 -- these patterns can be added: none is too long, and their prefixes do not pass the limit of the states
 pub record Fit {V : Type 0} (kind : MatchKind) (rs : List (List ℕ × V)) : Type 0 where
@@ -22,13 +22,13 @@ pub record ComesTo {V : Type 0} (kind : MatchKind) (rs before : List (List ℕ �
   pub fit : Fit kind before
 
 module _ {V : Type 0} (kind : MatchKind) (rs : List (List ℕ × V)) where
-  -- a limit is passed: that of the states by the first pattern that does not fit, that of the patterns by all
+  -- a limit is passed: that of the states by the first pattern that does not fit, that of the patterns by all, and then that of the elements
   abbrev pub IsPassed : Limit → Type 0
   IsPassed StateId =
       (before : List (List ℕ × V)) × (r : List ℕ × V) × ComesTo kind rs before r × (length r.0 ≤ 4294967295)
       × HasMorePrefixes (dictionary kind (before ++ r ∷ [])) 4294967295
   IsPassed PatternValues = Fit kind rs × (16777215 < length (kept kind rs))
-  IsPassed NumElements = ⊥
+  IsPassed NumElements = Fit kind rs × (length (kept kind rs) ≤ 16777215) × HasMoreProperPrefixes (dictionary kind rs) 16777214
   IsPassed Outputs = ⊥
   IsPassed OutputPos = ⊥
 

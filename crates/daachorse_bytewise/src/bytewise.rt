@@ -14,7 +14,7 @@ ghost use Rattle.daachorse_model.specs.Leftmost.{leftmost};
 ghost use Rattle.daachorse_model.specs.Matches.{no_suffix, overlapping, standard};
 ghost use Rattle.daachorse_search.specs.Searches.{all_found, first_found, standard_found};
 ghost use Rattle.daachorse_bytewise.specs.Building.{IsBuildRefusal, IsBuiltOf, IsRefusalOf};
-ghost use Rattle.daachorse_bytewise.specs.Content.{content};
+ghost use Rattle.daachorse_bytewise_states.specs.Parts.{content};
 
 pub mod builder;
 pub mod iter;
@@ -41,7 +41,7 @@ pub struct DoubleArrayAhoCorasick<V: Copy, A: Allocator = Global> {
 }
 
 impl<V: Copy, A: Allocator> Model for DoubleArrayAhoCorasick<V, A> {
-    ghost use Rattle.daachorse_bytewise.specs.Parts.{Parts};
+    ghost use Rattle.daachorse_bytewise_states.specs.Parts.{Parts};
 
     ghost Value = { Parts V };
 
@@ -111,14 +111,14 @@ impl<V: Copy, A: Allocator> DoubleArrayAhoCorasick<V, A> {
     /// early as it can, and at that end it is the longest; of equal patterns the first registered.
     /// With an empty pattern there is one empty match at each boundary.
     #[inline(always)]
-    pub fn find_iter<'a>(&'a self, haystack: &'a [u8]) -> FindSliceIterator<'a, V, A>
+    pub fn find_iter<'a>(&'a self, haystack: &'a [u8]) -> FindSliceIterator<'a, V>
         requires { self.now.kind ≡ Standard }
         ensures left { result.left ≡ standard byte_width (content self.entry.now) haystack.entry.now }
         ensures automaton { result.automaton ≡ self.entry.now }
         ensures passed { result.passed ≡ [] }
         ensures turns { result.turns ≡ 0 }
     {
-        FindSliceIterator::new(&self.states, haystack)
+        FindSliceIterator::new(self.states.standard(), haystack)
     }
 
     /// The same in the bytes that a source gives. A match is given before a byte past its end is
@@ -127,7 +127,7 @@ impl<V: Copy, A: Allocator> DoubleArrayAhoCorasick<V, A> {
     pub fn find_iter_from_iter<'a, P: Iterator<Item = u8>>(
         &'a self,
         haystack: P,
-    ) -> FindIterator<'a, P, V, A>
+    ) -> FindIterator<'a, P, V>
         requires { self.now.kind ≡ Standard }
         ensures automaton { result.automaton ≡ self.entry.now }
         ensures source { result.source ≡ haystack }
@@ -135,7 +135,7 @@ impl<V: Copy, A: Allocator> DoubleArrayAhoCorasick<V, A> {
         ensures pending { result.pending ≡ standard_found byte_width content self.entry.now [] }
         ensures turns { result.turns ≡ 0 }
     {
-        FindIterator::new(&self.states, haystack)
+        FindIterator::new(self.states.standard(), haystack)
     }
 
     /// Finds every match in a haystack, also those that overlap: ends rise, and of the matches
@@ -144,14 +144,14 @@ impl<V: Copy, A: Allocator> DoubleArrayAhoCorasick<V, A> {
     pub fn find_overlapping_iter<'a>(
         &'a self,
         haystack: &'a [u8],
-    ) -> FindOverlappingSliceIterator<'a, V, A>
+    ) -> FindOverlappingSliceIterator<'a, V>
         requires { self.now.kind ≡ Standard }
         ensures left { result.left ≡ overlapping byte_width (content self.entry.now) haystack.entry.now }
         ensures automaton { result.automaton ≡ self.entry.now }
         ensures passed { result.passed ≡ [] }
         ensures turns { result.turns ≡ 0 }
     {
-        FindOverlappingSliceIterator::new(&self.states, haystack)
+        FindOverlappingSliceIterator::new(self.states.standard(), haystack)
     }
 
     /// The same in the bytes that a source gives. A match is given before a byte past its end is
@@ -160,7 +160,7 @@ impl<V: Copy, A: Allocator> DoubleArrayAhoCorasick<V, A> {
     pub fn find_overlapping_iter_from_iter<'a, P: Iterator<Item = u8>>(
         &'a self,
         haystack: P,
-    ) -> FindOverlappingIterator<'a, P, V, A>
+    ) -> FindOverlappingIterator<'a, P, V>
         requires { self.now.kind ≡ Standard }
         ensures automaton { result.automaton ≡ self.entry.now }
         ensures source { result.source ≡ haystack }
@@ -168,7 +168,7 @@ impl<V: Copy, A: Allocator> DoubleArrayAhoCorasick<V, A> {
         ensures pending { result.pending ≡ all_found byte_width content self.entry.now [] }
         ensures turns { result.turns ≡ 0 }
     {
-        FindOverlappingIterator::new(&self.states, haystack)
+        FindOverlappingIterator::new(self.states.standard(), haystack)
     }
 
     /// Finds of every match in a haystack the longest at each end; of equal patterns the first
@@ -177,14 +177,14 @@ impl<V: Copy, A: Allocator> DoubleArrayAhoCorasick<V, A> {
     pub fn find_overlapping_no_suffix_iter<'a>(
         &'a self,
         haystack: &'a [u8],
-    ) -> FindOverlappingNoSuffixSliceIterator<'a, V, A>
+    ) -> FindOverlappingNoSuffixSliceIterator<'a, V>
         requires { self.now.kind ≡ Standard }
         ensures left { result.left ≡ no_suffix byte_width (content self.entry.now) haystack.entry.now }
         ensures automaton { result.automaton ≡ self.entry.now }
         ensures passed { result.passed ≡ [] }
         ensures turns { result.turns ≡ 0 }
     {
-        FindOverlappingNoSuffixSliceIterator::new(&self.states, haystack)
+        FindOverlappingNoSuffixSliceIterator::new(self.states.standard(), haystack)
     }
 
     /// The same in the bytes that a source gives. A match is given before a byte past its end is
@@ -193,7 +193,7 @@ impl<V: Copy, A: Allocator> DoubleArrayAhoCorasick<V, A> {
     pub fn find_overlapping_no_suffix_iter_from_iter<'a, P: Iterator<Item = u8>>(
         &'a self,
         haystack: P,
-    ) -> FindOverlappingNoSuffixIterator<'a, P, V, A>
+    ) -> FindOverlappingNoSuffixIterator<'a, P, V>
         requires { self.now.kind ≡ Standard }
         ensures automaton { result.automaton ≡ self.entry.now }
         ensures source { result.source ≡ haystack }
@@ -201,7 +201,7 @@ impl<V: Copy, A: Allocator> DoubleArrayAhoCorasick<V, A> {
         ensures pending { result.pending ≡ first_found byte_width content self.entry.now [] }
         ensures turns { result.turns ≡ 0 }
     {
-        FindOverlappingNoSuffixIterator::new(&self.states, haystack)
+        FindOverlappingNoSuffixIterator::new(self.states.standard(), haystack)
     }
 
     /// Finds the leftmost matches in a haystack: from the end of the one before each starts as early
@@ -209,7 +209,7 @@ impl<V: Copy, A: Allocator> DoubleArrayAhoCorasick<V, A> {
     /// the first registered. For [`MatchKind::LeftmostFirst`], which leaves out each pattern that
     /// extends an earlier one, it is the earliest registered pattern that starts there.
     #[inline(always)]
-    pub fn leftmost_find_iter<'a>(&'a self, haystack: &'a [u8]) -> LeftmostFindIterator<'a, V, A>
+    pub fn leftmost_find_iter<'a>(&'a self, haystack: &'a [u8]) -> LeftmostFindIterator<'a, V>
         requires { self.now.kind ≢ Standard }
         ensures left { result.left ≡ leftmost byte_width (content self.entry.now) haystack.entry.now }
         ensures automaton { result.automaton ≡ self.entry.now }
@@ -218,28 +218,28 @@ impl<V: Copy, A: Allocator> DoubleArrayAhoCorasick<V, A> {
         ensures turns { result.turns ≡ 0 }
         ensures given { result.given ≡ 0 }
     {
-        LeftmostFindIterator::new(&self.states, haystack)
+        LeftmostFindIterator::new(self.states.leftmost(), haystack)
     }
 
     /// The search of [`Self::find_iter`], one byte at a time.
     #[inline(always)]
-    pub fn find_stepper<'a>(&'a self) -> FindStepper<'a, V, A>
+    pub fn find_stepper<'a>(&'a self) -> FindStepper<'a, V>
         requires { self.now.kind ≡ Standard }
         ensures automaton { result.automaton ≡ self.entry.now }
         ensures read { result.read ≡ [] }
         ensures turns { result.turns ≡ 0 }
     {
-        FindStepper::new(&self.states)
+        FindStepper::new(self.states.standard())
     }
 
     /// The search of [`Self::find_overlapping_iter`], one byte at a time.
     #[inline(always)]
-    pub fn find_overlapping_stepper<'a>(&'a self) -> FindOverlappingStepper<'a, V, A>
+    pub fn find_overlapping_stepper<'a>(&'a self) -> FindOverlappingStepper<'a, V>
         requires { self.now.kind ≡ Standard }
         ensures automaton { result.automaton ≡ self.entry.now }
         ensures read { result.read ≡ [] }
         ensures turns { result.turns ≡ 0 }
     {
-        FindOverlappingStepper::new(&self.states)
+        FindOverlappingStepper::new(self.states.standard())
     }
 }

@@ -5,21 +5,23 @@
 //! patterns are added in order, and the limit on their number is tested last; the first refusal
 //! ends the build.
 
-ghost use Rattle.std.specs.Prelude.{◌≡◌, ◌≢◌, true, ◌⊎◌, ◌≤◌, ℕ, List, [], IfOk, IfErr, OnOk, map, length};
+ghost use Rattle.std.specs.Prelude.{◌≡◌, ◌≢◌, true, ◌⊎◌, ◌≤◌, ℕ, List, [], IfOk, IfErr, OnOk, map, length, slice_index};
 ghost use Rattle.std.specs.Iterator.{IsFinite};
 ghost use Rattle.std.specs.Iterator.Runs.{WholeRun};
 ghost use Rattle.std.specs.Ordering.{nat_cmp};
-ghost use Rattle.daachorse_core.specs.Refusals.{IsOutOfMemory};
+ghost use Rattle.daachorse_core.specs.Refusals.{IsOutOfMemory, IsRefusal};
+ghost use Rattle.daachorse_core.specs.declared.errors.Limit.TheVariants.{NumElements};
+ghost use Rattle.daachorse_bytewise_states.specs.Prefixes.{HasMoreProperPrefixes};
 ghost use Rattle.daachorse_model.specs.declared.MatchKind.TheVariants.{Standard};
 ghost use Rattle.daachorse_model.specs.Units.{byte_width};
 ghost use Rattle.daachorse_model.specs.Dictionary.{dictionary, registered};
 ghost use Rattle.daachorse_build.specs.Builders.{Registered, count_of, kind_of, outputs_of, states_of};
 ghost use Rattle.daachorse_build.specs.Growth.{HasTrieOf};
 ghost use Rattle.daachorse_build.specs.Orders.{HoldLeftLinks, HoldLinks};
-ghost use Rattle.daachorse_build.specs.Tables.{HoldTrie};
+ghost use Rattle.daachorse_build.specs.Tables.{HoldTrie, fails_of};
 ghost use Rattle.daachorse_bytewise.specs.Links.{AreLeft};
 ghost use Rattle.daachorse_bytewise.specs.Building.{AreIndexed, Fit, HasNoValue, IsBuildRefusal, IsBuiltOf, IsRefusalOf};
-ghost use Rattle.daachorse_bytewise.specs.Content.{content};
+ghost use Rattle.daachorse_bytewise_states.specs.Parts.{content};
 
 use crate::bytewise::DoubleArrayAhoCorasick;
 use crate::bytewise::states::States;
@@ -112,8 +114,9 @@ impl DoubleArrayAhoCorasickBuilder {
     ///
     /// The patterns are added in order: `InvalidArgument` for one of more than 4,294,967,295 bytes,
     /// and `AutomatonScale` for one with which there are more than 4,294,967,295 texts that begin a
-    /// pattern. After the last, `AutomatonScale` for more than 16,777,215 patterns. `OutOfMemory`
-    /// where an allocation fails.
+    /// pattern. After the last, `AutomatonScale` for more than 16,777,215 patterns, and then where
+    /// the double array would need more than 4,294,967,295 elements, which it may only where more
+    /// than 16,777,214 texts begin a longer pattern. `OutOfMemory` where an allocation fails.
     pub fn build_with_values<'p, V, A: Allocator + Copy, P: IntoIterator<Item = (&'p [u8], V)>>(
         self,
         alloc: A,
@@ -218,6 +221,7 @@ fn add_all<V: Copy, A: Allocator + Copy>(
     ensures outputs { outputs_of builder.new ≡ outputs_of builder.old }
     ensures ok { OnOk result (Registered nat_cmp (λ b. b) byte_width builder.new (registered patterns.now)) }
     ensures fit { OnOk result (Fit (kind_of builder.old) (registered patterns.now)) }
+    ensures fits { OnOk result (length (states_of builder.new) ≤ 4294967296) }
     ensures err { IfErr result (IsRefusalOf (kind_of builder.old) (registered patterns.now)) }
 {
     for (text, value) in patterns {
@@ -236,16 +240,15 @@ fn finish<V: Copy, A: Allocator + Copy>(
     requires kind { kind_of builder ≡ kind }
     requires unbuilt { outputs_of builder ≡ [] }
     requires few { count_of builder ≤ 16777215 }
+    requires fits { length (states_of builder) ≤ 4294967296 }
     ensures ok { IfOk result (λ a. (rs : List (List ℕ × V)) → Registered nat_cmp (λ b. b) byte_width builder rs → (w : List ℕ) → content a w ≡ dictionary kind rs w) }
     ensures kind { IfOk result (λ a. a.kind ≡ kind) }
-    ensures err { IfErr result IsOutOfMemory }
+    ensures err { IfErr result (λ e. (rs : List (List ℕ × V)) → Registered nat_cmp (λ b. b) byte_width builder rs → IsRefusal ⊥ NumElements (HasMoreProperPrefixes (dictionary kind rs) 16777214) e) }
 {
     let order = build_links(alloc, kind, &mut builder)?;
     builder.build_outputs(&order)?;
-    let (states, outputs) = builder.into_parts();
-    Ok(DoubleArrayAhoCorasick {
-        states: States::new(kind, states, outputs),
-    })
+    let states = States::build(alloc, kind, builder)?;
+    Ok(DoubleArrayAhoCorasick { states })
 }
 
 /// Sets the links of a builder's states, and answers their order.
@@ -261,6 +264,7 @@ fn build_links<V: Copy, A: Allocator + Copy>(
     ensures kept { HasTrieOf (states_of builder.old) (states_of builder.new) }
     ensures standard { IfOk result (λ order. kind ≡ Standard → HoldLinks nat_cmp (states_of builder.new) order.items) }
     ensures leftmost { IfOk result (λ order. kind ≢ Standard → HoldLeftLinks nat_cmp true (states_of builder.new) order.items) }
+    ensures root { OnOk result (slice_index (fails_of (states_of builder.new)) 0 ≡ 0) }
     ensures left { IfOk result (λ order. kind ≢ Standard → (rs : List (List ℕ × V)) → Registered nat_cmp (λ b. b) byte_width builder.old rs → AreLeft (kind_of builder.old) (states_of builder.old) (states_of builder.new) rs) }
     ensures err { IfErr result IsOutOfMemory }
 {

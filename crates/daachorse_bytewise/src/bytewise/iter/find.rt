@@ -6,16 +6,16 @@ ghost use Rattle.daachorse_model.specs.Units.{byte_width};
 ghost use Rattle.daachorse_model.specs.Matches.{standard, standard_after, IsSinceMatch};
 ghost use Rattle.daachorse_model.specs.Prefixes.{IsLong};
 ghost use Rattle.daachorse_search.specs.Searches.{standard_found};
-ghost use Rattle.daachorse_bytewise.specs.Content.{content};
+ghost use Rattle.daachorse_bytewise_states.specs.Parts.{content};
 
-use crate::bytewise::states::States;
+use daachorse_bytewise_states::views;
 use daachorse_core::Match;
 use daachorse_search::find::FindWalk;
 use daachorse_search::find_stepper;
 use daachorse_search::haystack::Bytes;
 use daachorse_search::matches::Matches;
 use daachorse_search::search::Search;
-use std::alloc::{AllocError, Allocator, Global};
+use std::alloc::AllocError;
 use std::marker::Model;
 
 /// Matches in a slice that do not overlap: each ends as early as it can, and at that end it is the
@@ -23,31 +23,31 @@ use std::marker::Model;
 ///
 /// It borrows the automaton and the slice, and takes no memory.
 #[derive(Drop)]
-pub struct FindSliceIterator<'a, V: Copy, A: Allocator = Global> {
-    search: Matches<V, FindWalk<'a, V, States<V, A>>, Bytes<'a>>,
+pub struct FindSliceIterator<'a, V: Copy> {
+    search: Matches<V, FindWalk<V, views::Standard<'a, V>>, Bytes<'a>>,
 }
 
-impl<'a, V: Copy, A: Allocator> Model for FindSliceIterator<'a, V, A> {
+impl<'a, V: Copy> Model for FindSliceIterator<'a, V> {
     ghost use Rattle.daachorse_search.specs.Matches.{Progress};
-    ghost use Rattle.daachorse_bytewise.specs.Parts.{Parts};
+    ghost use Rattle.daachorse_bytewise_states.specs.Parts.{Parts};
 
     ghost Value = { Progress V (Parts V) };
 
     ghost view = { λ s. s.search };
 }
 
-impl<'a, V: Copy, A: Allocator> FindSliceIterator<'a, V, A> {
+impl<'a, V: Copy> FindSliceIterator<'a, V> {
     #[inline(always)]
-    #[tactic(auto, using(crate::proofs::StandardLaws::alive))]
-    pub(crate) fn new(states: &'a States<V, A>, haystack: &'a [u8]) -> Self
-        requires { states.now.kind ≡ Standard }
-        ensures automaton { result.automaton ≡ states.now }
-        ensures left { result.left ≡ standard byte_width (content states.now) haystack.now }
+    #[tactic(auto, using(daachorse_bytewise_states::proofs::DeadLaws::alive))]
+    pub(crate) fn new(automaton: views::Standard<'a, V>, haystack: &'a [u8]) -> Self
+        requires { automaton.kind ≡ Standard }
+        ensures automaton { result.automaton ≡ automaton.entry }
+        ensures left { result.left ≡ standard byte_width (content automaton.entry) haystack.now }
         ensures passed { result.passed ≡ [] }
         ensures turns { result.turns ≡ 0 }
     {
         Self {
-            search: Matches::new(FindWalk::new(states), Bytes::new(haystack)),
+            search: Matches::new(FindWalk::new(automaton), Bytes::new(haystack)),
         }
     }
 
@@ -67,7 +67,7 @@ impl<'a, V: Copy, A: Allocator> FindSliceIterator<'a, V, A> {
     }
 }
 
-impl<'a, V: Copy, A: Allocator> Iterator for FindSliceIterator<'a, V, A> {
+impl<'a, V: Copy> Iterator for FindSliceIterator<'a, V> {
     ghost use Rattle.std.specs.Iterator.{YieldsFirst, item_count};
 
     type Item = Match<V>;
@@ -88,32 +88,32 @@ impl<'a, V: Copy, A: Allocator> Iterator for FindSliceIterator<'a, V, A> {
 /// It borrows the automaton, holds the source, and takes no memory. It takes no byte past the end
 /// of the match that it gives.
 #[derive(Drop)]
-pub struct FindIterator<'a, P: Iterator<Item = u8>, V: Copy, A: Allocator = Global> {
-    search: Search<V, FindWalk<'a, V, States<V, A>>, P>,
+pub struct FindIterator<'a, P: Iterator<Item = u8>, V: Copy> {
+    search: Search<V, FindWalk<V, views::Standard<'a, V>>, P>,
 }
 
-impl<'a, P: Iterator<Item = u8>, V: Copy, A: Allocator> Model for FindIterator<'a, P, V, A> {
+impl<'a, P: Iterator<Item = u8>, V: Copy> Model for FindIterator<'a, P, V> {
     ghost use Rattle.daachorse_search.specs.Searches.{SourceProgress};
-    ghost use Rattle.daachorse_bytewise.specs.Parts.{Parts};
+    ghost use Rattle.daachorse_bytewise_states.specs.Parts.{Parts};
 
     ghost Value = { SourceProgress V (Parts V) P };
 
     ghost view = { λ s. s.search };
 }
 
-impl<'a, P: Iterator<Item = u8>, V: Copy, A: Allocator> FindIterator<'a, P, V, A> {
+impl<'a, P: Iterator<Item = u8>, V: Copy> FindIterator<'a, P, V> {
     #[inline(always)]
-    #[tactic(auto, using(crate::proofs::StandardLaws::alive))]
-    pub(crate) fn new(states: &'a States<V, A>, source: P) -> Self
-        requires { states.now.kind ≡ Standard }
-        ensures automaton { result.automaton ≡ states.now }
+    #[tactic(auto, using(daachorse_bytewise_states::proofs::DeadLaws::alive))]
+    pub(crate) fn new(automaton: views::Standard<'a, V>, source: P) -> Self
+        requires { automaton.kind ≡ Standard }
+        ensures automaton { result.automaton ≡ automaton.entry }
         ensures source { result.source ≡ source }
         ensures read { result.read ≡ [] }
-        ensures pending { result.pending ≡ standard_found byte_width content states.now [] }
+        ensures pending { result.pending ≡ standard_found byte_width content automaton.entry [] }
         ensures turns { result.turns ≡ 0 }
     {
         Self {
-            search: Search::new(FindWalk::new(states), source),
+            search: Search::new(FindWalk::new(automaton), source),
         }
     }
 
@@ -133,7 +133,7 @@ impl<'a, P: Iterator<Item = u8>, V: Copy, A: Allocator> FindIterator<'a, P, V, A
     }
 }
 
-impl<'a, P: Iterator<Item = u8>, V: Copy, A: Allocator> Iterator for FindIterator<'a, P, V, A> {
+impl<'a, P: Iterator<Item = u8>, V: Copy> Iterator for FindIterator<'a, P, V> {
     ghost use Rattle.std.specs.Prelude.{◌+◌, ◌*◌, length};
     ghost use Rattle.std.specs.Iterator.{count_map};
     ghost use Rattle.daachorse_search.specs.Searches.{GivesFrom};
@@ -155,30 +155,30 @@ impl<'a, P: Iterator<Item = u8>, V: Copy, A: Allocator> Iterator for FindIterato
 
 /// The search for matches that do not overlap, one byte at a time.
 #[derive(Drop)]
-pub struct FindStepper<'a, V: Copy, A: Allocator = Global> {
-    stepper: find_stepper::FindStepper<'a, V, States<V, A>>,
+pub struct FindStepper<'a, V: Copy> {
+    stepper: find_stepper::FindStepper<V, views::Standard<'a, V>>,
 }
 
-impl<'a, V: Copy, A: Allocator> Model for FindStepper<'a, V, A> {
+impl<'a, V: Copy> Model for FindStepper<'a, V> {
     ghost use Rattle.daachorse_search.specs.Stepwise.{Stepped};
-    ghost use Rattle.daachorse_bytewise.specs.Parts.{Parts};
+    ghost use Rattle.daachorse_bytewise_states.specs.Parts.{Parts};
 
     ghost Value = { Stepped (Parts V) };
 
     ghost view = { λ s. s.stepper };
 }
 
-impl<'a, V: Copy, A: Allocator> FindStepper<'a, V, A> {
+impl<'a, V: Copy> FindStepper<'a, V> {
     #[inline(always)]
-    #[tactic(auto, using(crate::proofs::StandardLaws::alive))]
-    pub(crate) fn new(states: &'a States<V, A>) -> Self
-        requires { states.now.kind ≡ Standard }
-        ensures automaton { result.automaton ≡ states.now }
+    #[tactic(auto, using(daachorse_bytewise_states::proofs::DeadLaws::alive))]
+    pub(crate) fn new(automaton: views::Standard<'a, V>) -> Self
+        requires { automaton.kind ≡ Standard }
+        ensures automaton { result.automaton ≡ automaton.entry }
         ensures read { result.read ≡ [] }
         ensures turns { result.turns ≡ 0 }
     {
         Self {
-            stepper: find_stepper::FindStepper::new(states),
+            stepper: find_stepper::FindStepper::new(automaton),
         }
     }
 
@@ -216,7 +216,7 @@ impl<'a, V: Copy, A: Allocator> FindStepper<'a, V, A> {
     }
 }
 
-impl<'a, V: Copy, A: Allocator> Clone for FindStepper<'a, V, A> {
+impl<'a, V: Copy> Clone for FindStepper<'a, V> {
     ghost is_clone = { λ s t. t ≡ s };
 
     ghost is_infallible = { λ _. Unit {0} };

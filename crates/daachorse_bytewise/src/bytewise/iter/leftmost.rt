@@ -4,14 +4,13 @@ ghost use Rattle.std.specs.Prelude.{◌≡◌, ◌≢◌, ◌+◌, ◌*◌, ◌�
 ghost use Rattle.daachorse_model.specs.declared.MatchKind.TheVariants.{Standard};
 ghost use Rattle.daachorse_model.specs.Leftmost.{leftmost};
 ghost use Rattle.daachorse_model.specs.Units.{byte_width};
-ghost use Rattle.daachorse_search.specs.BestScans.{IsNoShorterThan};
-ghost use Rattle.daachorse_bytewise.specs.Content.{content};
+ghost use Rattle.daachorse_search.specs.BestScans.{HasNoLongerKey};
+ghost use Rattle.daachorse_bytewise_states.specs.Parts.{content};
 
-use crate::bytewise::states::States;
+use daachorse_bytewise_states::views;
 use daachorse_core::Match;
 use daachorse_search::haystack::Bytes;
 use daachorse_search::leftmost::LeftmostMatches;
-use std::alloc::{Allocator, Global};
 use std::marker::Model;
 
 /// The leftmost matches in a slice: from the end of the one before each starts as early as it can,
@@ -19,33 +18,33 @@ use std::marker::Model;
 ///
 /// It borrows the automaton and the slice, and takes no memory.
 #[derive(Drop)]
-pub struct LeftmostFindIterator<'a, V: Copy, A: Allocator = Global> {
-    search: LeftmostMatches<'a, V, States<V, A>, Bytes<'a>>,
+pub struct LeftmostFindIterator<'a, V: Copy> {
+    search: LeftmostMatches<V, views::Leftmost<'a, V>, Bytes<'a>>,
 }
 
-impl<'a, V: Copy, A: Allocator> Model for LeftmostFindIterator<'a, V, A> {
+impl<'a, V: Copy> Model for LeftmostFindIterator<'a, V> {
     ghost use Rattle.daachorse_search.specs.LeftmostSearches.{LeftmostProgress};
-    ghost use Rattle.daachorse_bytewise.specs.Parts.{Parts};
+    ghost use Rattle.daachorse_bytewise_states.specs.Parts.{Parts};
 
     ghost Value = { LeftmostProgress V (Parts V) };
 
     ghost view = { λ s. s.search };
 }
 
-impl<'a, V: Copy, A: Allocator> LeftmostFindIterator<'a, V, A> {
+impl<'a, V: Copy> LeftmostFindIterator<'a, V> {
     #[inline(always)]
-    #[tactic(auto, using(crate::proofs::LeftmostLaws::is_leftmost))]
-    pub(crate) fn new(states: &'a States<V, A>, haystack: &'a [u8]) -> Self
-        requires { states.now.kind ≢ Standard }
-        ensures automaton { result.automaton ≡ states.now }
+    #[tactic(auto, using(daachorse_bytewise_states::proofs::DeadLaws::is_leftmost_automaton))]
+    pub(crate) fn new(automaton: views::Leftmost<'a, V>, haystack: &'a [u8]) -> Self
+        requires { automaton.kind ≢ Standard }
+        ensures automaton { result.automaton ≡ automaton.entry }
         ensures haystack { result.haystack ≡ haystack.now }
-        ensures left { result.left ≡ leftmost byte_width (content states.now) haystack.now }
+        ensures left { result.left ≡ leftmost byte_width (content automaton.entry) haystack.now }
         ensures passed { result.passed ≡ [] }
         ensures turns { result.turns ≡ 0 }
         ensures given { result.given ≡ 0 }
     {
         Self {
-            search: LeftmostMatches::new(states, Bytes::new(haystack)),
+            search: LeftmostMatches::new(automaton, Bytes::new(haystack)),
         }
     }
 
@@ -54,7 +53,7 @@ impl<'a, V: Copy, A: Allocator> LeftmostFindIterator<'a, V, A> {
     #[inline(always)]
     #[tactic(auto, using(crate::proofs::TurnLaws::count_every))]
     pub fn turns_are_bounded(&self)
-        ensures most { (m : ℕ) → IsNoShorterThan (content self.now.automaton) m
+        ensures most { (m : ℕ) → HasNoLongerKey (content self.now.automaton) m
             → self.now.turns ≤ 2 * length self.now.passed + 4 * (m * self.now.given) }
         ensures least { length self.now.passed ≤ self.now.turns }
     {
@@ -62,7 +61,7 @@ impl<'a, V: Copy, A: Allocator> LeftmostFindIterator<'a, V, A> {
     }
 }
 
-impl<'a, V: Copy, A: Allocator> Iterator for LeftmostFindIterator<'a, V, A> {
+impl<'a, V: Copy> Iterator for LeftmostFindIterator<'a, V> {
     ghost use Rattle.std.specs.Iterator.{item_count};
     ghost use Rattle.daachorse_search.specs.LeftmostSearches.{GivesLeftmost};
 

@@ -6,46 +6,45 @@ ghost use Rattle.daachorse_model.specs.Units.{byte_width};
 ghost use Rattle.daachorse_model.specs.Matches.{no_suffix};
 ghost use Rattle.daachorse_model.specs.Prefixes.{IsLong};
 ghost use Rattle.daachorse_search.specs.Searches.{first_found};
-ghost use Rattle.daachorse_bytewise.specs.Content.{content};
+ghost use Rattle.daachorse_bytewise_states.specs.Parts.{content};
 
-use crate::bytewise::states::States;
+use daachorse_bytewise_states::views;
 use daachorse_core::Match;
 use daachorse_search::haystack::Bytes;
 use daachorse_search::matches::Matches;
 use daachorse_search::overlapping::NoSuffixWalk;
 use daachorse_search::search::Search;
-use std::alloc::{Allocator, Global};
 use std::marker::Model;
 
 /// Of all matches in a slice the longest at each end; of equal patterns the first registered.
 ///
 /// It borrows the automaton and the slice, and takes no memory.
 #[derive(Drop)]
-pub struct FindOverlappingNoSuffixSliceIterator<'a, V: Copy, A: Allocator = Global> {
-    search: Matches<V, NoSuffixWalk<'a, V, States<V, A>>, Bytes<'a>>,
+pub struct FindOverlappingNoSuffixSliceIterator<'a, V: Copy> {
+    search: Matches<V, NoSuffixWalk<V, views::Standard<'a, V>>, Bytes<'a>>,
 }
 
-impl<'a, V: Copy, A: Allocator> Model for FindOverlappingNoSuffixSliceIterator<'a, V, A> {
+impl<'a, V: Copy> Model for FindOverlappingNoSuffixSliceIterator<'a, V> {
     ghost use Rattle.daachorse_search.specs.Matches.{Progress};
-    ghost use Rattle.daachorse_bytewise.specs.Parts.{Parts};
+    ghost use Rattle.daachorse_bytewise_states.specs.Parts.{Parts};
 
     ghost Value = { Progress V (Parts V) };
 
     ghost view = { λ s. s.search };
 }
 
-impl<'a, V: Copy, A: Allocator> FindOverlappingNoSuffixSliceIterator<'a, V, A> {
+impl<'a, V: Copy> FindOverlappingNoSuffixSliceIterator<'a, V> {
     #[inline(always)]
-    #[tactic(auto, using(crate::proofs::StandardLaws::alive))]
-    pub(crate) fn new(states: &'a States<V, A>, haystack: &'a [u8]) -> Self
-        requires { states.now.kind ≡ Standard }
-        ensures automaton { result.automaton ≡ states.now }
-        ensures left { result.left ≡ no_suffix byte_width (content states.now) haystack.now }
+    #[tactic(auto, using(daachorse_bytewise_states::proofs::DeadLaws::alive))]
+    pub(crate) fn new(automaton: views::Standard<'a, V>, haystack: &'a [u8]) -> Self
+        requires { automaton.kind ≡ Standard }
+        ensures automaton { result.automaton ≡ automaton.entry }
+        ensures left { result.left ≡ no_suffix byte_width (content automaton.entry) haystack.now }
         ensures passed { result.passed ≡ [] }
         ensures turns { result.turns ≡ 0 }
     {
         Self {
-            search: Matches::new(NoSuffixWalk::new(states), Bytes::new(haystack)),
+            search: Matches::new(NoSuffixWalk::new(automaton), Bytes::new(haystack)),
         }
     }
 
@@ -63,7 +62,7 @@ impl<'a, V: Copy, A: Allocator> FindOverlappingNoSuffixSliceIterator<'a, V, A> {
     }
 }
 
-impl<'a, V: Copy, A: Allocator> Iterator for FindOverlappingNoSuffixSliceIterator<'a, V, A> {
+impl<'a, V: Copy> Iterator for FindOverlappingNoSuffixSliceIterator<'a, V> {
     ghost use Rattle.std.specs.Iterator.{YieldsFirst, item_count};
 
     type Item = Match<V>;
@@ -84,43 +83,32 @@ impl<'a, V: Copy, A: Allocator> Iterator for FindOverlappingNoSuffixSliceIterato
 /// It borrows the automaton, holds the source, and takes no memory. It takes no byte past the end
 /// of the match that it gives.
 #[derive(Drop)]
-pub struct FindOverlappingNoSuffixIterator<
-    'a,
-    P: Iterator<Item = u8>,
-    V: Copy,
-    A: Allocator = Global,
-> {
-    search: Search<V, NoSuffixWalk<'a, V, States<V, A>>, P>,
+pub struct FindOverlappingNoSuffixIterator<'a, P: Iterator<Item = u8>, V: Copy> {
+    search: Search<V, NoSuffixWalk<V, views::Standard<'a, V>>, P>,
 }
 
-impl<'a, P: Iterator<Item = u8>, V: Copy, A: Allocator> Model
-    for FindOverlappingNoSuffixIterator<'a, P, V, A> {
+impl<'a, P: Iterator<Item = u8>, V: Copy> Model for FindOverlappingNoSuffixIterator<'a, P, V> {
     ghost use Rattle.daachorse_search.specs.Searches.{SourceProgress};
-    ghost use Rattle.daachorse_bytewise.specs.Parts.{Parts};
+    ghost use Rattle.daachorse_bytewise_states.specs.Parts.{Parts};
 
     ghost Value = { SourceProgress V (Parts V) P };
 
     ghost view = { λ s. s.search };
 }
 
-impl<'a, P: Iterator<Item = u8>, V: Copy, A: Allocator> FindOverlappingNoSuffixIterator<
-    'a,
-    P,
-    V,
-    A,
-> {
+impl<'a, P: Iterator<Item = u8>, V: Copy> FindOverlappingNoSuffixIterator<'a, P, V> {
     #[inline(always)]
-    #[tactic(auto, using(crate::proofs::StandardLaws::alive))]
-    pub(crate) fn new(states: &'a States<V, A>, source: P) -> Self
-        requires { states.now.kind ≡ Standard }
-        ensures automaton { result.automaton ≡ states.now }
+    #[tactic(auto, using(daachorse_bytewise_states::proofs::DeadLaws::alive))]
+    pub(crate) fn new(automaton: views::Standard<'a, V>, source: P) -> Self
+        requires { automaton.kind ≡ Standard }
+        ensures automaton { result.automaton ≡ automaton.entry }
         ensures source { result.source ≡ source }
         ensures read { result.read ≡ [] }
-        ensures pending { result.pending ≡ first_found byte_width content states.now [] }
+        ensures pending { result.pending ≡ first_found byte_width content automaton.entry [] }
         ensures turns { result.turns ≡ 0 }
     {
         Self {
-            search: Search::new(NoSuffixWalk::new(states), source),
+            search: Search::new(NoSuffixWalk::new(automaton), source),
         }
     }
 
@@ -138,8 +126,7 @@ impl<'a, P: Iterator<Item = u8>, V: Copy, A: Allocator> FindOverlappingNoSuffixI
     }
 }
 
-impl<'a, P: Iterator<Item = u8>, V: Copy, A: Allocator> Iterator
-    for FindOverlappingNoSuffixIterator<'a, P, V, A> {
+impl<'a, P: Iterator<Item = u8>, V: Copy> Iterator for FindOverlappingNoSuffixIterator<'a, P, V> {
     ghost use Rattle.std.specs.Prelude.{◌+◌, ◌*◌, length};
     ghost use Rattle.std.specs.Iterator.{count_map};
     ghost use Rattle.daachorse_search.specs.Searches.{GivesFrom};

@@ -6,9 +6,9 @@ ghost use Rattle.daachorse_model.specs.Units.{byte_width};
 ghost use Rattle.daachorse_model.specs.Matches.{overlapping, matches_after};
 ghost use Rattle.daachorse_model.specs.Prefixes.{IsLong};
 ghost use Rattle.daachorse_search.specs.Searches.{all_found};
-ghost use Rattle.daachorse_bytewise.specs.Content.{content};
+ghost use Rattle.daachorse_bytewise_states.specs.Parts.{content};
 
-use crate::bytewise::states::States;
+use daachorse_bytewise_states::views;
 use daachorse_core::Match;
 use daachorse_search::ending_here::EndingHere;
 use daachorse_search::haystack::Bytes;
@@ -16,7 +16,7 @@ use daachorse_search::matches::Matches;
 use daachorse_search::overlapping::OverlappingWalk;
 use daachorse_search::search::Search;
 use daachorse_search::stepwise::Stepwise;
-use std::alloc::{AllocError, Allocator, Global};
+use std::alloc::AllocError;
 use std::marker::Model;
 
 /// All matches in a slice, also those that overlap: ends rise, and of the matches that end
@@ -24,31 +24,31 @@ use std::marker::Model;
 ///
 /// It borrows the automaton and the slice, and takes no memory.
 #[derive(Drop)]
-pub struct FindOverlappingSliceIterator<'a, V: Copy, A: Allocator = Global> {
-    search: Matches<V, OverlappingWalk<'a, V, States<V, A>>, Bytes<'a>>,
+pub struct FindOverlappingSliceIterator<'a, V: Copy> {
+    search: Matches<V, OverlappingWalk<V, views::Standard<'a, V>>, Bytes<'a>>,
 }
 
-impl<'a, V: Copy, A: Allocator> Model for FindOverlappingSliceIterator<'a, V, A> {
+impl<'a, V: Copy> Model for FindOverlappingSliceIterator<'a, V> {
     ghost use Rattle.daachorse_search.specs.Matches.{Progress};
-    ghost use Rattle.daachorse_bytewise.specs.Parts.{Parts};
+    ghost use Rattle.daachorse_bytewise_states.specs.Parts.{Parts};
 
     ghost Value = { Progress V (Parts V) };
 
     ghost view = { λ s. s.search };
 }
 
-impl<'a, V: Copy, A: Allocator> FindOverlappingSliceIterator<'a, V, A> {
+impl<'a, V: Copy> FindOverlappingSliceIterator<'a, V> {
     #[inline(always)]
-    #[tactic(auto, using(crate::proofs::StandardLaws::alive))]
-    pub(crate) fn new(states: &'a States<V, A>, haystack: &'a [u8]) -> Self
-        requires { states.now.kind ≡ Standard }
-        ensures automaton { result.automaton ≡ states.now }
-        ensures left { result.left ≡ overlapping byte_width (content states.now) haystack.now }
+    #[tactic(auto, using(daachorse_bytewise_states::proofs::DeadLaws::alive))]
+    pub(crate) fn new(automaton: views::Standard<'a, V>, haystack: &'a [u8]) -> Self
+        requires { automaton.kind ≡ Standard }
+        ensures automaton { result.automaton ≡ automaton.entry }
+        ensures left { result.left ≡ overlapping byte_width (content automaton.entry) haystack.now }
         ensures passed { result.passed ≡ [] }
         ensures turns { result.turns ≡ 0 }
     {
         Self {
-            search: Matches::new(OverlappingWalk::new(states), Bytes::new(haystack)),
+            search: Matches::new(OverlappingWalk::new(automaton), Bytes::new(haystack)),
         }
     }
 
@@ -66,7 +66,7 @@ impl<'a, V: Copy, A: Allocator> FindOverlappingSliceIterator<'a, V, A> {
     }
 }
 
-impl<'a, V: Copy, A: Allocator> Iterator for FindOverlappingSliceIterator<'a, V, A> {
+impl<'a, V: Copy> Iterator for FindOverlappingSliceIterator<'a, V> {
     ghost use Rattle.std.specs.Iterator.{YieldsFirst, item_count};
 
     type Item = Match<V>;
@@ -87,33 +87,32 @@ impl<'a, V: Copy, A: Allocator> Iterator for FindOverlappingSliceIterator<'a, V,
 /// It borrows the automaton, holds the source, and takes no memory. It takes no byte past the end
 /// of the match that it gives.
 #[derive(Drop)]
-pub struct FindOverlappingIterator<'a, P: Iterator<Item = u8>, V: Copy, A: Allocator = Global> {
-    search: Search<V, OverlappingWalk<'a, V, States<V, A>>, P>,
+pub struct FindOverlappingIterator<'a, P: Iterator<Item = u8>, V: Copy> {
+    search: Search<V, OverlappingWalk<V, views::Standard<'a, V>>, P>,
 }
 
-impl<'a, P: Iterator<Item = u8>, V: Copy, A: Allocator> Model
-    for FindOverlappingIterator<'a, P, V, A> {
+impl<'a, P: Iterator<Item = u8>, V: Copy> Model for FindOverlappingIterator<'a, P, V> {
     ghost use Rattle.daachorse_search.specs.Searches.{SourceProgress};
-    ghost use Rattle.daachorse_bytewise.specs.Parts.{Parts};
+    ghost use Rattle.daachorse_bytewise_states.specs.Parts.{Parts};
 
     ghost Value = { SourceProgress V (Parts V) P };
 
     ghost view = { λ s. s.search };
 }
 
-impl<'a, P: Iterator<Item = u8>, V: Copy, A: Allocator> FindOverlappingIterator<'a, P, V, A> {
+impl<'a, P: Iterator<Item = u8>, V: Copy> FindOverlappingIterator<'a, P, V> {
     #[inline(always)]
-    #[tactic(auto, using(crate::proofs::StandardLaws::alive))]
-    pub(crate) fn new(states: &'a States<V, A>, source: P) -> Self
-        requires { states.now.kind ≡ Standard }
-        ensures automaton { result.automaton ≡ states.now }
+    #[tactic(auto, using(daachorse_bytewise_states::proofs::DeadLaws::alive))]
+    pub(crate) fn new(automaton: views::Standard<'a, V>, source: P) -> Self
+        requires { automaton.kind ≡ Standard }
+        ensures automaton { result.automaton ≡ automaton.entry }
         ensures source { result.source ≡ source }
         ensures read { result.read ≡ [] }
-        ensures pending { result.pending ≡ all_found byte_width content states.now [] }
+        ensures pending { result.pending ≡ all_found byte_width content automaton.entry [] }
         ensures turns { result.turns ≡ 0 }
     {
         Self {
-            search: Search::new(OverlappingWalk::new(states), source),
+            search: Search::new(OverlappingWalk::new(automaton), source),
         }
     }
 
@@ -131,8 +130,7 @@ impl<'a, P: Iterator<Item = u8>, V: Copy, A: Allocator> FindOverlappingIterator<
     }
 }
 
-impl<'a, P: Iterator<Item = u8>, V: Copy, A: Allocator> Iterator
-    for FindOverlappingIterator<'a, P, V, A> {
+impl<'a, P: Iterator<Item = u8>, V: Copy> Iterator for FindOverlappingIterator<'a, P, V> {
     ghost use Rattle.std.specs.Prelude.{◌+◌, ◌*◌, length};
     ghost use Rattle.std.specs.Iterator.{count_map};
     ghost use Rattle.daachorse_search.specs.Searches.{GivesFrom};
@@ -154,31 +152,31 @@ impl<'a, P: Iterator<Item = u8>, V: Copy, A: Allocator> Iterator
 
 /// The search for every match, one byte at a time.
 #[derive(Drop)]
-pub struct FindOverlappingStepper<'a, V: Copy, A: Allocator = Global> {
-    walk: OverlappingWalk<'a, V, States<V, A>>,
+pub struct FindOverlappingStepper<'a, V: Copy> {
+    walk: OverlappingWalk<V, views::Standard<'a, V>>,
 }
 
-impl<'a, V: Copy, A: Allocator> Model for FindOverlappingStepper<'a, V, A> {
+impl<'a, V: Copy> Model for FindOverlappingStepper<'a, V> {
     ghost use Rattle.daachorse_core.specs.Seen.{units};
     ghost use Rattle.daachorse_search.specs.Stepwise.{Stepped};
-    ghost use Rattle.daachorse_bytewise.specs.Parts.{Parts};
+    ghost use Rattle.daachorse_bytewise_states.specs.Parts.{Parts};
 
     ghost Value = { Stepped (Parts V) };
 
     ghost view = { λ s. record { automaton = s.walk.automaton; read = units s.walk.seen; turns = s.walk.turns } };
 }
 
-impl<'a, V: Copy, A: Allocator> FindOverlappingStepper<'a, V, A> {
+impl<'a, V: Copy> FindOverlappingStepper<'a, V> {
     #[inline(always)]
-    #[tactic(auto, using(crate::proofs::StandardLaws::alive))]
-    pub(crate) fn new(states: &'a States<V, A>) -> Self
-        requires { states.now.kind ≡ Standard }
-        ensures automaton { result.automaton ≡ states.now }
+    #[tactic(auto, using(daachorse_bytewise_states::proofs::DeadLaws::alive))]
+    pub(crate) fn new(automaton: views::Standard<'a, V>) -> Self
+        requires { automaton.kind ≡ Standard }
+        ensures automaton { result.automaton ≡ automaton.entry }
         ensures read { result.read ≡ [] }
         ensures turns { result.turns ≡ 0 }
     {
         Self {
-            walk: OverlappingWalk::new(states),
+            walk: OverlappingWalk::new(automaton),
         }
     }
 
@@ -195,7 +193,7 @@ impl<'a, V: Copy, A: Allocator> FindOverlappingStepper<'a, V, A> {
     /// The matches that end with the bytes consumed, the longest first. The iterator borrows the
     /// automaton alone, and stays what it is while the stepper goes on.
     #[inline(always)]
-    pub fn matches(&self) -> FindOverlappingStepperIterator<'a, V, A>
+    pub fn matches(&self) -> FindOverlappingStepperIterator<'a, V>
         ensures { result ≡ matches_after byte_width (content self.now.automaton) self.now.read }
     {
         FindOverlappingStepperIterator {
@@ -217,7 +215,7 @@ impl<'a, V: Copy, A: Allocator> FindOverlappingStepper<'a, V, A> {
     }
 }
 
-impl<'a, V: Copy, A: Allocator> Clone for FindOverlappingStepper<'a, V, A> {
+impl<'a, V: Copy> Clone for FindOverlappingStepper<'a, V> {
     ghost is_clone = { λ s t. t ≡ s };
 
     ghost is_infallible = { λ _. Unit {0} };
@@ -232,11 +230,11 @@ impl<'a, V: Copy, A: Allocator> Clone for FindOverlappingStepper<'a, V, A> {
 
 /// The matches that end at one place, the longest first.
 #[derive(Drop)]
-pub struct FindOverlappingStepperIterator<'a, V: Copy, A: Allocator = Global> {
-    matches: EndingHere<'a, V, States<V, A>>,
+pub struct FindOverlappingStepperIterator<'a, V: Copy> {
+    matches: EndingHere<V, views::Standard<'a, V>>,
 }
 
-impl<'a, V: Copy, A: Allocator> Model for FindOverlappingStepperIterator<'a, V, A> {
+impl<'a, V: Copy> Model for FindOverlappingStepperIterator<'a, V> {
     ghost use Rattle.std.specs.Prelude.{List};
     ghost use Rattle.daachorse_model.specs.declared.Match.{Match};
 
@@ -245,7 +243,7 @@ impl<'a, V: Copy, A: Allocator> Model for FindOverlappingStepperIterator<'a, V, 
     ghost view = { λ s. s.matches };
 }
 
-impl<'a, V: Copy, A: Allocator> Iterator for FindOverlappingStepperIterator<'a, V, A> {
+impl<'a, V: Copy> Iterator for FindOverlappingStepperIterator<'a, V> {
     ghost use Rattle.std.specs.Iterator.{YieldsFirst, item_count};
 
     type Item = Match<V>;

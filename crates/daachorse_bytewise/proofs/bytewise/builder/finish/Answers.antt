@@ -1,18 +1,19 @@
-use Rattle.std.proofs.Common.{◌≡◌, ◌≢◌, ◌⊎◌, ℕ, List, true, ◌∙◌, sym, subst, inl, inr, arith}
+-- The builder is built for the dictionary of each list of patterns that it registered.
+use Rattle.std.proofs.Common.{◌≤◌, ◌⊎◌, ℕ, List, true, length, ◌∙◌, sym, subst, inl, inr, arith}
 use Rattle.std.specs.Ordering.{nat_cmp}
 use Rattle.std.proofs.lemmas.Result.{err_from_is_err_and}
-use Rattle.daachorse_build.specs.Builders.{kind_of, states_of, outputs_of}
+use Rattle.daachorse_core.specs.declared.errors.DaachorseError.{DaachorseError}
+use Rattle.daachorse_core.specs.declared.errors.Limit.TheVariants.{NumElements}
+use Rattle.daachorse_core.specs.Refusals.{IsRefusal}
+use Rattle.daachorse_core.proofs.Refusals.{IsRefusal-weaker}
+use Rattle.daachorse_model.specs.Dictionary.{Dictionary, dictionary}
+use Rattle.daachorse_build.specs.Builders.{outputs_of, states_of}
 use Rattle.daachorse_build.specs.Orders.{HoldLeftLinks, HoldLinks}
-use Rattle.daachorse_build.specs.declared.nfa_builder.NfaBuilderState.{NfaBuilderState}
-use Rattle.daachorse_core.specs.declared.outputs.Output.{Output}
-use Rattle.daachorse_bytewise.specs.Parts.{Parts, parts_of}
-use Rattle.daachorse_bytewise.specs.Content.{content}
-use Rattle.daachorse_model.specs.Dictionary.{dictionary}
-use Rattle.daachorse_model.specs.declared.MatchKind.{MatchKind}
-use Rattle.daachorse_model.specs.declared.MatchKind.TheVariants.{Standard}
-use Rattle.daachorse_bytewise.specs.Whole.{IsWhole}
-use Rattle.daachorse_bytewise.proofs.BuildLaws.{AreLeft-kept, outputs_refused, Registered-kept, finished, finished_content, finished_left, standard_or_not}
+use Rattle.daachorse_bytewise_states.specs.Packing.{IsBuiltFor}
+use Rattle.daachorse_bytewise_states.specs.Prefixes.{HasMoreProperPrefixes}
+use Rattle.daachorse_bytewise.proofs.BuildLaws.{Registered-kept, finished_for, outputs_refused, standard_or_not}
 use Rattle.daachorse_bytewise.proofs.bytewise.builder.finish.Goals as goal
+use Rattle.daachorse_bytewise.proofs.bytewise.builder.finish.Goals.{In_ok-build_outputs}
 
 pub build_links-requires : goal.build_links-requires
 build_links-requires g c = c.requires.patterns.1.holds.trie
@@ -40,38 +41,37 @@ returns-in_err-build_outputs-clause-err g c =
     let p = err_from_is_err_and c.from_residual-in_err-build_outputs.result c.from_residual-in_err-build_outputs.ensures.1 in
     let rs = c.requires.patterns in
     let was = Registered-kept c.args.builder c.build_links.new.builder rs.0 (c.in_ok-order.ensures.kept) c.in_ok-order.ensures.kind c.in_ok-order.ensures.patterns rs.1 in
-    rw (p.1, p.2) (outputs_refused _ _ c.in_err-build_outputs.ensures.refused (λ passed. let more = passed rs.0 was in let few = c.requires.few in let same = was.count in let kept = c.in_ok-order.ensures.patterns in omega (arith, more, few, same, kept)))
+    let out = outputs_refused _ _ c.in_err-build_outputs.ensures.refused (λ passed. let more = passed rs.0 was in let few = c.requires.few in let same = was.count in let kept = c.in_ok-order.ensures.patterns in omega (arith, more, few, same, kept)) in
+    rw (p.1, p.2) (λ rs was. let P : DaachorseError → Type 0 = λ x. IsRefusal ⊥ NumElements (HasMoreProperPrefixes (dictionary c.args.kind rs) 16777214) x in subst P (sym out) tt)
 
-pub new-requires : goal.new-requires
-new-requires g c =
+pub build-requires : goal.build-requires
+build-requires g c =
     let rs = c.requires.patterns in
-    let before = c.build_links.new.builder in let after = c.build_outputs.new.self in
-    let was = Registered-kept c.args.builder before rs.0 c.in_ok-order.ensures.kept c.in_ok-order.ensures.kind c.in_ok-order.ensures.patterns rs.1 in
-    let made = c.in_ok-build_outputs.ensures in let linked = c.in_ok-order.ensures in let kind = linked.kind ∙ c.requires.kind in
-    let H : List ℕ → Type 0 = λ order. HoldLinks nat_cmp (states_of before) order in
-    let L : List ℕ → Type 0 = λ order. HoldLeftLinks nat_cmp true (states_of before) order in
-    let N : MatchKind → Type 0 = λ k. k ≢ Standard in
-    let whole : IsWhole (parts_of (kind_of before) (states_of after) (outputs_of after)) = elim (standard_or_not c.args.kind) [
-      | inl standard ↦
-          let links = linked.standard standard in
-          finished before after rs.0 was made.kept made.kind made.patterns (kind ∙ standard) c.in_ok-order.order.items links made.fails made.parents made.positions (made.lists (subst H (sym c.deref.ensures.value) links) rs.0 was)
-      | inr left ↦
-          let links = linked.leftmost left in
-          finished_left before after rs.0 was made.kept made.kind made.patterns (subst N (sym kind) left) (AreLeft-kept c.args.builder before rs.0 linked.kept linked.kind (linked.left left rs.0 rs.1)) made.fails made.parents made.positions (made.chains (subst L (sym c.deref.ensures.value) links) rs.0 was)
-    ] in
-    let K : MatchKind → Type 0 = λ k. IsWhole (parts_of k (states_of after) (outputs_of after)) in
-    let P : List (NfaBuilderState ℕ g.row.V.Denot g.row.A.Denot) → Type 0 = λ states. IsWhole (parts_of c.args.kind states (outputs_of after)) in
-    let Q : List (Output g.row.V.Denot) → Type 0 = λ outputs. IsWhole (parts_of c.args.kind c.into_parts-states.result.0.items outputs) in
-    subst Q (sym c.into_parts-states.ensures.outputs) (subst P (sym c.into_parts-states.ensures.states) (subst K kind whole))
+    let linked = c.in_ok-order.ensures in let made = c.in_ok-build_outputs.ensures in
+    let was = Registered-kept c.args.builder c.build_links.new.builder rs.0 linked.kept linked.kind linked.patterns rs.1 in
+    let count = made.kept_bound rs.0 was in
+    let few : length (outputs_of c.build_outputs.new.self) ≤ 16777215 = omega (arith, count, linked.patterns, c.requires.few) in
+    (dictionary c.args.kind rs.0, finished_for c.args.kind c.args.builder c.build_links.new.builder c.build_outputs.new.self c.in_ok-order.order.items c.requires.kind c.requires.fits linked.kept linked.kind linked.patterns linked.root linked.standard linked.left made.kept made.kind made.patterns made.fails made.parents few made.positions made.follows rs.0 rs.1)
+
+pub returns-in_err-states-clause-err : goal.returns-in_err-states-clause-err
+returns-in_err-states-clause-err g c =
+    let p = err_from_is_err_and c.from_residual-in_err-states.result c.from_residual-in_err-states.ensures.1 in
+    let linked = c.in_ok-order.ensures in let made = c.in_ok-build_outputs.ensures in
+    let d = c.build_outputs.new.self in
+    let Passed : Type 0 = (K : Dictionary g.row.V.Denot) → IsBuiltFor c.args.kind d K → HasMoreProperPrefixes K 16777214 in
+    rw (p.1, p.2) (λ rs was.
+    let kept = Registered-kept c.args.builder c.build_links.new.builder rs linked.kept linked.kind linked.patterns was in
+    let count = made.kept_bound rs kept in
+    let few : length (outputs_of d) ≤ 16777215 = omega (arith, count, linked.patterns, c.requires.few) in
+    let built = finished_for c.args.kind c.args.builder c.build_links.new.builder d c.in_ok-order.order.items c.requires.kind c.requires.fits linked.kept linked.kind linked.patterns linked.root linked.standard linked.left made.kept made.kind made.patterns made.fails made.parents few made.positions made.follows rs was in
+    IsRefusal-weaker ⊥ ⊥ NumElements Passed (HasMoreProperPrefixes (dictionary c.args.kind rs) 16777214) (λ x. x) (λ passed. passed (dictionary c.args.kind rs) built) c.in_err-states.field-0.0 c.in_err-states.ensures.err)
 
 pub returns-clause-ok : goal.returns-clause-ok
-returns-clause-ok g c = λ rs registered w.
-    let before = c.build_links.new.builder in let after = c.build_outputs.new.self in
-    let was = Registered-kept c.args.builder before rs c.in_ok-order.ensures.kept c.in_ok-order.ensures.kind c.in_ok-order.ensures.patterns registered in
-    let made = c.in_ok-build_outputs.ensures in let kind = c.in_ok-order.ensures.kind ∙ c.requires.kind in
-    let K : MatchKind → Type 0 = λ k. content (parts_of k (states_of after) (outputs_of after)) w ≡ dictionary k rs w in
-    let same = subst K kind (finished_content before after rs was made.kept made.kind made.patterns w) in
-    let P : List (NfaBuilderState ℕ g.row.V.Denot g.row.A.Denot) → Type 0 = λ states. content (parts_of c.args.kind states (outputs_of after)) w ≡ dictionary c.args.kind rs w in
-    let Q : List (Output g.row.V.Denot) → Type 0 = λ outputs. content (parts_of c.args.kind c.into_parts-states.result.0.items outputs) w ≡ dictionary c.args.kind rs w in
-    let R : Parts g.row.V.Denot → Type 0 = λ p. content p w ≡ dictionary c.args.kind rs w in
-    subst R (sym c.new.ensures) (subst Q (sym c.into_parts-states.ensures.outputs) (subst P (sym c.into_parts-states.ensures.states) same))
+returns-clause-ok g c = λ rs was w.
+    let linked = c.in_ok-order.ensures in let made = c.in_ok-build_outputs.ensures in
+    let d = c.build_outputs.new.self in
+    let kept = Registered-kept c.args.builder c.build_links.new.builder rs linked.kept linked.kind linked.patterns was in
+    let count = made.kept_bound rs kept in
+    let few : length (outputs_of d) ≤ 16777215 = omega (arith, count, linked.patterns, c.requires.few) in
+    let built = finished_for c.args.kind c.args.builder c.build_links.new.builder d c.in_ok-order.order.items c.requires.kind c.requires.fits linked.kept linked.kind linked.patterns linked.root linked.standard linked.left made.kept made.kind made.patterns made.fails made.parents few made.positions made.follows rs was in
+    c.in_ok-states.ensures.ok (dictionary c.args.kind rs) built w

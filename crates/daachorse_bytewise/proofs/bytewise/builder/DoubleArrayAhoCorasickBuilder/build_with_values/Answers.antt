@@ -5,7 +5,7 @@ use Rattle.std.specs.Borrow.{Bor}
 use Rattle.daachorse_model.specs.declared.MatchKind.{MatchKind}
 use Rattle.daachorse_model.specs.Dictionary.{dictionary, registered}
 use Rattle.daachorse_bytewise.specs.Building.{IsRefusalOf}
-use Rattle.daachorse_bytewise.specs.Content.{content}
+use Rattle.daachorse_bytewise_states.specs.Parts.{content}
 use Rattle.daachorse_bytewise.proofs.bytewise.builder.DoubleArrayAhoCorasickBuilder.build_with_values.Goals as goal
 
 pub returns-clause-ok : goal.returns-clause-ok

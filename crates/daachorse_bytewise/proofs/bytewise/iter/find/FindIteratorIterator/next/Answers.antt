@@ -1,6 +1,6 @@
 use Rattle.daachorse_model.specs.Units.{byte_width}
 use Rattle.daachorse_search.specs.Searches.{standard_found}
-use Rattle.daachorse_bytewise.specs.Content.{content}
+use Rattle.daachorse_bytewise_states.specs.Parts.{content}
 use Rattle.daachorse_bytewise.proofs.SourceLaws.{IsReady-seen, MakesProgress-seen}
 use Rattle.daachorse_bytewise.proofs.bytewise.iter.find.FindIteratorIterator.next.Goals as goal
 

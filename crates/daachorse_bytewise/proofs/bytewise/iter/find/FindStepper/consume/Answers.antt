@@ -1,7 +1,7 @@
 use Rattle.std.proofs.Common.{length, ap, arith}
 use Rattle.daachorse_model.proofs.Suffixes.{size-bytes}
 use Rattle.daachorse_search.specs.Stepwise.{Stepped}
-use Rattle.daachorse_bytewise.specs.Parts.{Parts}
+use Rattle.daachorse_bytewise_states.specs.Parts.{Parts}
 use Rattle.daachorse_bytewise.proofs.bytewise.iter.find.FindStepper.consume.Goals as goal
 
 -- each byte takes one

@@ -3,8 +3,8 @@ use Rattle.daachorse_model.specs.Units.{byte_width}
 use Rattle.daachorse_model.specs.Matches.{IsSinceMatch}
 use Rattle.daachorse_model.specs.Prefixes.{IsLong}
 use Rattle.daachorse_search.specs.Stepwise.{Stepped}
-use Rattle.daachorse_bytewise.specs.Content.{content}
-use Rattle.daachorse_bytewise.specs.Parts.{Parts}
+use Rattle.daachorse_bytewise_states.specs.Parts.{content}
+use Rattle.daachorse_bytewise_states.specs.Parts.{Parts}
 use Rattle.daachorse_bytewise.proofs.bytewise.iter.find.FindStepper.turns_are_bounded.Goals as goal
 
 pub returns-clause-deep : goal.returns-clause-deep

@@ -1,0 +1,10 @@
+-- The view is the automaton.
+use Rattle.std.proofs.Common.{ap, ◌∙◌}
+use Rattle.daachorse_model.specs.Units.{byte_width}
+use Rattle.daachorse_model.specs.Matches.{no_suffix}
+use Rattle.daachorse_bytewise_states.specs.Parts.{Parts, content}
+use Rattle.daachorse_bytewise.proofs.bytewise.DoubleArrayAhoCorasick.find_overlapping_no_suffix_iter.Goals as goal
+
+pub returns-clause-left : goal.returns-clause-left
+returns-clause-left g c =
+    c.new.ensures.left ∙ ap (λ (p : Parts g.row.V.Denot). no_suffix byte_width (content p) c.args.haystack.now) (c.standard.ensures ∙ c.self.view_is)

@@ -18,3 +18,6 @@ pub use daachorse_core::{
 };
 pub use daachorse_model::laws;
 pub use daachorse_placement::build_helper;
+pub use daachorse_prefilter::prefilter;
+pub use daachorse_serializer::serializer::Serializable;
+pub use daachorse_serializer::{intpack, serializer};

@@ -4,3 +4,4 @@ pub mod Valid
 pub mod Packing
 pub mod Prefixes
 pub mod Writing
+pub mod StateForms

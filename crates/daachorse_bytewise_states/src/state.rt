@@ -1,17 +1,24 @@
 //! One element of the double array.
 //!
 //! The layers above may rely on an element keeping its base, its check, its failure link and the
-//! position of its first output, each on its own.
+//! position of its first output, each on its own. An element written and read is the same element,
+//! in 12 bytes with a link and in 8 without.
 
-ghost use Rattle.std.specs.Prelude.{◌≡◌, ◌<◌, ◌≤◌, ◌^◌, ◌%◌, IfErr, OnOk, OnErr, length, slice_index_or};
+ghost use Rattle.std.specs.Prelude.{◌≡◌, ◌+◌, ◌<◌, ◌≤◌, ◌^◌, ◌%◌, IfErr, OnOk, OnErr, length, slice_index_or};
 ghost use Rattle.daachorse_core.specs.declared.errors.Limit.TheVariants.{OutputPos};
 ghost use Rattle.daachorse_core.specs.Outputs.{number};
 ghost use Rattle.daachorse_bytewise_states.specs.Elements.{base_in, check_in, fail_in, output_in};
 ghost use Rattle.daachorse_bytewise_states.specs.Parts.{child_by, without_link};
+ghost use Rattle.daachorse_bytewise_states.specs.StateForms.{IsState, state_form, state_law, take_state};
+
+#[cfg(test)]
+mod tests;
 
 use daachorse_core::Empty;
 use daachorse_core::errors::{DaachorseError, Limit, Result};
 use daachorse_serializer::intpack::{U24, U24nU8};
+use daachorse_serializer::serializer::Serializable;
+use std::alloc::Allocator;
 use std::num::NonZeroU32;
 
 /// An element of a double array over bytes. `F` is the type of its failure link: a `u32`, or
@@ -143,4 +150,42 @@ impl State<u32> {
             packed: self.packed,
         }
     }
+}
+
+/// The base, 0 for none; the failure link; and a word, the output position times 256 and the check.
+impl<F: Serializable + Copy> Serializable for State<F> {
+    ghost is_value = { IsState F.is_value };
+
+    ghost form = { state_form F.form };
+
+    ghost taken = { take_state F.taken };
+
+    ghost form_len = { F.form_len + 8 };
+
+    ghost own_refusal = { F.own_refusal };
+
+    fn serialize_to_vec<A: Allocator>(&self, dst: &mut Vec<u8, A>) -> Result<()> {
+        self.base.serialize_to_vec(dst)?;
+        self.fail.serialize_to_vec(dst)?;
+        self.packed.serialize_to_vec(dst)
+    }
+
+    fn deserialize_from_slice(src: &[u8]) -> Result<(Self, &[u8])> {
+        let (base, rest) = u32::deserialize_from_slice(src)?;
+        let (fail, rest) = F::deserialize_from_slice(rest)?;
+        let (packed, rest) = U24nU8::deserialize_from_slice(rest)?;
+        Ok((Self { base, fail, packed }, rest))
+    }
+
+    fn serialized_bytes() -> usize {
+        F::serialized_bytes().saturating_add(8)
+    }
+
+    fn in_range(&self) {
+        let _base = self.base;
+        self.fail.in_range();
+        self.packed.in_range();
+    }
+
+    ghost law = { state_law F.law };
 }

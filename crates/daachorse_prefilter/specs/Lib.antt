@@ -2,3 +2,4 @@ pub mod Filters
 pub mod Building
 pub mod Builders
 pub mod Gates
+pub mod FilterForms

@@ -17,6 +17,7 @@ ghost use Rattle.daachorse_model.specs.Filter.{next_position};
 ghost use Rattle.daachorse_prefilter.specs.Filters.{Filter, IsFilter, IsNextBoundary, admits, next_place};
 
 mod builder;
+mod form;
 mod gate;
 #[cfg(test)]
 mod tests;

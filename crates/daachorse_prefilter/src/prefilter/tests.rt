@@ -1,7 +1,8 @@
-//! Worked rows of the filter and its gate.
+//! Worked rows of the filter, its gate and its written form.
 
 use super::{Prefilter, PrefilterBuilder, PrefilterGate};
 use daachorse_core::errors::DaachorseError;
+use daachorse_serializer::serializer::SerializableVec;
 use std::alloc::Global;
 use std::hash::{DefaultHasher, Hash, Hasher};
 use std::test::Fail;
@@ -109,6 +110,57 @@ fn a_clone_is_equal(rt: HostRuntime) -> Result<(), Fail> {
     assert!(rt; other != filter, "another table");
     let other = filter_of(alloc, &[b"aria", b"iris", b"ia"])?.ok_or("no filter")?;
     assert!(rt; other != filter, "another window");
+    Ok(())
+}
+
+#[test]
+fn a_filter_is_read_as_it_was_written(rt: HostRuntime) -> Result<(), Fail> {
+    let alloc = rt.alloc();
+    let filter = filter_of(alloc, &[b"aria", b"iris"])?.ok_or("no filter")?;
+    filter.in_range();
+    let mut bytes = Vec::new(alloc);
+    filter.serialize_to_vec(&mut bytes)?;
+    assert_eq!(rt; bytes.len(), 65537);
+    assert_eq!(rt; filter.serialized_bytes(), 65537);
+    // The window has 4 bytes. "ar" begins a pattern, "ri" stands at place 1, and "ra" nowhere.
+    assert_eq!(rt; bytes.get(0).copied(), Some(4));
+    assert_eq!(rt; bytes.get(1 + 256 * 97 + 114).copied(), Some(0b1111_1110));
+    assert_eq!(rt; bytes.get(1 + 256 * 114 + 105).copied(), Some(0b1111_1101));
+    assert_eq!(rt; bytes.get(1 + 256 * 114 + 97).copied(), Some(0b1111_1111));
+    bytes.push(42)?;
+    let (read, rest) = Prefilter::deserialize_from_slice(alloc, &bytes)?;
+    assert!(rt; read == filter);
+    assert_eq!(rt; rest, [42].as_slice());
+    Ok(())
+}
+
+/// A length of a window, and a table of so many bytes.
+fn form_of(alloc: Global, window_len: u8, num_entries: usize) -> Result<Vec<u8>, DaachorseError> {
+    let mut bytes = Vec::new(alloc);
+    bytes.push(window_len)?;
+    for _ in 0..num_entries {
+        bytes.push(255)?;
+    }
+    Ok(bytes)
+}
+
+#[test]
+fn what_is_no_form_of_a_filter_is_refused(rt: HostRuntime) -> Result<(), Fail> {
+    let alloc = rt.alloc();
+    let refusal = DaachorseError::invalid_automaton();
+    let rows = [(0, true), (1, true), (2, false), (9, false), (10, true)];
+    for (window_len, is_refused) in &rows {
+        let form = form_of(alloc, *window_len, 65536)?;
+        let answer = Prefilter::deserialize_from_slice(alloc, &form);
+        assert_eq!(rt; answer.err() == Some(refusal), *is_refused);
+    }
+    for num_entries in [0, 1, 65535] {
+        let form = form_of(alloc, 9, num_entries)?;
+        let answer = Prefilter::deserialize_from_slice(alloc, &form);
+        assert_eq!(rt; answer.err(), Some(refusal));
+    }
+    let answer = Prefilter::deserialize_from_slice(alloc, &[]);
+    assert_eq!(rt; answer.err(), Some(refusal));
     Ok(())
 }
 

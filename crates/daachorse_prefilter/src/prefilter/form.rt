@@ -1,0 +1,69 @@
+//! The written form of a filter.
+//!
+//! The layers above may rely on a filter written and read being the same filter, and on no bytes
+//! giving anything but a filter with a window of 2 to 9 bytes and an entry for each pair.
+
+ghost use Rattle.std.specs.Prelude.{◌≡◌, length};
+ghost use Rattle.daachorse_prefilter.specs.FilterForms.{filter_form, filter_law, take_filter};
+ghost use Rattle.daachorse_prefilter.specs.Filters.{Filter, IsFilter};
+
+use super::{MAX_WINDOW_LEN, MIN_WINDOW_LEN, NUM_PAIRS, Prefilter};
+use daachorse_core::errors::{DaachorseError, Result};
+use daachorse_serializer::serializer::SerializableVec;
+use std::alloc::Allocator;
+
+/// The length of the window as one byte, then the table without a count.
+impl<A: Allocator> SerializableVec for Prefilter<A> {
+    type Alloc = A;
+
+    ghost Shape = { Filter };
+
+    ghost shape = { λ f. f };
+
+    ghost is_value = { IsFilter };
+
+    ghost can_write = { λ _. Unit {0} };
+
+    ghost form = { filter_form };
+
+    ghost taken = { take_filter };
+
+    ghost form_len = { λ _. 65537 };
+
+    fn serialize_to_vec<B: Allocator>(&self, dst: &mut Vec<u8, B>) -> Result<()> {
+        dst.push(self.window_len)?;
+        dst.extend_from_slice(&self.table)?;
+        Ok(())
+    }
+
+    #[tactic(auto, unfolding(crate::specs::FilterForms::take_filter))]
+    fn deserialize_from_slice<'a>(alloc: A, src: &'a [u8]) -> Result<(Self, &'a [u8])> {
+        let [window_len, bytes @ ..] = src else {
+            return Err(DaachorseError::invalid_automaton());
+        };
+        let window_len = *window_len;
+        if window_len < MIN_WINDOW_LEN || window_len > MAX_WINDOW_LEN {
+            return Err(DaachorseError::invalid_automaton());
+        }
+        let Some((entries, rest)) = bytes.split_at_checked(NUM_PAIRS) else {
+            return Err(DaachorseError::invalid_automaton());
+        };
+        let table = Vec::from_slice(alloc, entries)?;
+        Ok((Self { window_len, table }, rest))
+    }
+
+    fn serialized_bytes(&self) -> usize
+        ensures is { result ≡ 65537 }
+        ensures exact { length (filter_form self.now) ≡ result }
+    {
+        // Each pair has an entry, which is known where the table is read.
+        let _ = &self.table;
+        1 + NUM_PAIRS
+    }
+
+    fn in_range(&self) {
+        let _window_len = self.window_len;
+    }
+
+    ghost law = { filter_law };
+}

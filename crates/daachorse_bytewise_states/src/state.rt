@@ -189,3 +189,7 @@ impl<F: Serializable + Copy> Serializable for State<F> {
 
     ghost law = { state_law F.law };
 }
+
+const _: () = prove!(size_of::<State<u32>>() == 12);
+
+const _: () = prove!(size_of::<State<Empty>>() == 8);

@@ -1,0 +1,19 @@
+-- The table that the ranks fill is the coding of the frequencies.
+use Rattle.std.proofs.Common.{◌≡◌, ℕ, ◌<◌, ◌^◌, List, length, nat_lt, subst, arith, rules}
+use Rattle.std.proofs.lemmas.List.Sums.{count_by-le-length}
+use Rattle.daachorse_mapper.specs.Codings.{Coding}
+use Rattle.daachorse_mapper.specs.Ranks.{IsFilled}
+use Rattle.daachorse_mapper.proofs.Coded.{coding_from}
+use Rattle.daachorse_mapper.proofs.mapper.CodeMapper.new.Goals as goal
+
+pub returns-clause-ok : goal.returns-clause-ok
+returns-clause-ok g c =
+    let ranked : List (ℕ × ℕ) = c.in_ok-ranked.ranked.items in
+    let table : List ℕ = c.in_ok-table.table.items in
+    let m : Coding = record { table = table; alphabet_size = c.len.result } in
+    let r = c.in_ok-ranked.ensures.ranked in
+    let size : c.len.result ≡ length ranked = search rules in
+    let few : length ranked < 2 ^ 32 = omega (arith, r.size, count_by-le-length (λ n. nat_lt 0 n) c.args.freqs.now) in
+    let F : List (ℕ × ℕ) → Type 0 = λ xs. IsFilled xs (length xs) table in
+    let filled = subst F c.deref.ensures.value c.in_ok-table.ensures.filled in
+    coding_from c.args.freqs.now ranked m few r size c.in_ok-table.ensures.len filled

@@ -1,0 +1,3 @@
+pub mod Codings
+pub mod Ranks
+pub mod Written

@@ -9,6 +9,8 @@
 //! of each call that begins a search names the whole list.
 #![tactic(auto)]
 
+pub mod charwise;
+
 pub use daachorse_build::{edge_map, nfa_builder};
 pub use daachorse_bytewise::bytewise;
 pub use daachorse_bytewise::bytewise::{DoubleArrayAhoCorasick, DoubleArrayAhoCorasickBuilder};

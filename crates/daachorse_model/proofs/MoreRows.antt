@@ -34,7 +34,7 @@ states_row = refl
 abbrev aria : ℕ → ℕ
 aria = filter_entry (codes "aria" ∷ codes "iris" ∷ [])
 
-filter_row : map (next_position aria 4 (codes "xxxariaxxx")) (0 ∷ 5 ∷ 10 ∷ []) ≡ 3 ∷ 10 ∷ 10 ∷ []
+filter_row : map (next_position aria 4 (codes "xxxariaxxx")) (0 ∷ 5 ∷ 10 ∷ 11 ∷ []) ≡ 3 ∷ 10 ∷ 10 ∷ 10 ∷ []
 filter_row = refl
 
 filter_false_candidate_row : next_position aria 4 (codes "xxarisxxxx") 0 ≡ 2

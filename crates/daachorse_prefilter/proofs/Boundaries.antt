@@ -1,9 +1,9 @@
 -- The filter's places that are no boundaries are passed over one by one.
-use Rattle.std.proofs.Common.{◌≡◌, ℕ, ◌+◌, ◌<◌, ◌≤◌, ◌⊎◌, true, false, List, length, drop, subst, inl, inr, arith}
+use Rattle.std.proofs.Common.{◌≡◌, ℕ, ◌+◌, ◌<◌, ◌≤◌, ◌⊎◌, true, false, List, length, drop, subst, sym, ◌∙◌, inl, inr, arith}
 use Rattle.std.specs.Str.{IsCharBoundary}
 use Rattle.std.proofs.lemmas.Bool.{cases_lt, false≢true}
 use Rattle.daachorse_prefilter.specs.Filters.{Filter, entry_of, admits, next_place, IsNextBoundary}
-use Rattle.daachorse_prefilter.proofs.NextPlaces.{IsNextPlace, next_position-IsNextPlace}
+use Rattle.daachorse_prefilter.proofs.NextPlaces.{IsNextPlace, next_position-IsNextPlace, next_position_past}
 
 -- no boundary from pos on and before n passes
 abbrev pub NoBoundaryPasses : Filter → List ℕ → ℕ → ℕ → Type 0
@@ -15,15 +15,15 @@ pub record IsReached (f : Filter) (text : List ℕ) (pos from r : ℕ) : Type 0 
   pub found : r < length text → (from ≤ r) × (admits f (drop r text) ≡ true)
   pub none : NoBoundaryPasses f text pos r
 
-reached : (f : Filter) (text : List ℕ) (pos from r : ℕ) → (from ≤ length text → r ≡ next_place f text from) → (length text ≤ from → r ≡ length text) → NoBoundaryPasses f text pos from → IsReached f text pos from r
-reached f text pos from r first past none = by (cases_lt (length text) from)
+reached : (f : Filter) (text : List ℕ) (pos from r : ℕ) → r ≡ next_place f text from → NoBoundaryPasses f text pos from → IsReached f text pos from r
+reached f text pos from r is_next none = by (cases_lt (length text) from)
   where
     by : (length text < from) ⊎ (from ≤ length text) → IsReached f text pos from r
     by (inl over) =
-        let end : r ≡ length text = past (omega arith) in
+        let end : r ≡ length text = is_next ∙ sym (next_position_past (entry_of f) f.window text from (omega arith)) in
         record { inside = omega arith; found = λ l. absurd (omega arith); none = λ k l u b. none k l (omega arith) b }
     by (inr within) =
-        let is = next_position-IsNextPlace (entry_of f) f.window text from r within (first within) in
+        let is = next_position-IsNextPlace (entry_of f) f.window text from r within is_next in
         record {
           inside = is.inside;
           found = λ l. (is.after, is.passing l);
@@ -60,15 +60,13 @@ no_boundary f text pos from r is not_at = by (cases_lt r (length text))
         most_inside h = h
 
 -- the search found a boundary: xs are the bytes of the text
-pub step_found : (f : Filter) (text xs : List ℕ) (pos from r : ℕ) → xs ≡ text → pos ≤ from → (from ≤ length xs → r ≡ next_place f xs from) → (length xs ≤ from → r ≡ length xs) → NoBoundaryPasses f text pos from → IsCharBoundary text r → IsNextBoundary f text pos r
-step_found f text xs pos from r e low first past none at =
-    let First : List ℕ → Type 0 = λ w. from ≤ length w → r ≡ next_place f w from in
-    let Past : List ℕ → Type 0 = λ w. length w ≤ from → r ≡ length w in
-    next_boundary f text pos from r low (reached f text pos from r (subst First e first) (subst Past e past) none) at
+pub step_found : (f : Filter) (text xs : List ℕ) (pos from r : ℕ) → xs ≡ text → pos ≤ from → r ≡ next_place f xs from → NoBoundaryPasses f text pos from → IsCharBoundary text r → IsNextBoundary f text pos r
+step_found f text xs pos from r e low is_next none at =
+    let IsNext : List ℕ → Type 0 = λ w. r ≡ next_place f w from in
+    next_boundary f text pos from r low (reached f text pos from r (subst IsNext e is_next) none) at
 
 -- the search found another place
-pub step_past : (f : Filter) (text xs : List ℕ) (pos from r : ℕ) → xs ≡ text → (from ≤ length xs → r ≡ next_place f xs from) → (length xs ≤ from → r ≡ length xs) → NoBoundaryPasses f text pos from → (IsCharBoundary text r → false ≡ true) → (r < length text) × (from ≤ r) × NoBoundaryPasses f text pos (r + 1)
-step_past f text xs pos from r e first past none not_at =
-    let First : List ℕ → Type 0 = λ w. from ≤ length w → r ≡ next_place f w from in
-    let Past : List ℕ → Type 0 = λ w. length w ≤ from → r ≡ length w in
-    no_boundary f text pos from r (reached f text pos from r (subst First e first) (subst Past e past) none) (λ b. false≢true (not_at b))
+pub step_past : (f : Filter) (text xs : List ℕ) (pos from r : ℕ) → xs ≡ text → r ≡ next_place f xs from → NoBoundaryPasses f text pos from → (IsCharBoundary text r → false ≡ true) → (r < length text) × (from ≤ r) × NoBoundaryPasses f text pos (r + 1)
+step_past f text xs pos from r e is_next none not_at =
+    let IsNext : List ℕ → Type 0 = λ w. r ≡ next_place f w from in
+    no_boundary f text pos from r (reached f text pos from r (subst IsNext e is_next) none) (λ b. false≢true (not_at b))

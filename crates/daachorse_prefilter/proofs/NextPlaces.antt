@@ -1,9 +1,9 @@
 -- The next position is the one place from which no place before it passes, and which passes or is the end.
 use Rattle.std.proofs.Common.{◌≡◌, ℕ, zero, suc, ◌+◌, ◌-◌, ◌*◌, ◌<◌, ◌≤◌, Bool, true, false, cond, ◌&&◌, List, [], ◌∷◌, ◌++◌, length, drop, get_or, refl, sym, ap, ◌∙◌, subst, arith}
-use Rattle.std.specs.Prelude.{nat_le}
+use Rattle.std.specs.Prelude.{nat_le, min}
 use Rattle.std.proofs.lemmas.Bool.{false≢true}
 use Rattle.std.proofs.lemmas.Bool.Decides.{nat_tests}
-use Rattle.std.proofs.lemmas.List.{drop-drop, length-append, length-drop}
+use Rattle.std.proofs.lemmas.List.{drop-drop, drop_all, length-append, length-drop}
 use Rattle.daachorse_model.specs.Filter.{is_clear, pairs_pass, passes, first_passing, next_position}
 use Rattle.daachorse_model.proofs.Booleans.{both-true}
 
@@ -76,6 +76,19 @@ first_is t m (b ∷ w) i (suc n) h f p =
 dropped_false : (t : ℕ → ℕ) (m : ℕ) (h : List ℕ) (from k n : ℕ) (b : Bool) → from + k ≡ n → passes t m (drop n h) ≡ b → passes t m (drop k (drop from h)) ≡ b
 dropped_false t m h from k n b e p = rw drop-drop (rw e p)
 
+-- from a place within the text
+within : (t : ℕ → ℕ) (m : ℕ) (h : List ℕ) (from : ℕ) → from ≤ length h → next_position t m h from ≡ first_passing t m from (drop from h)
+within t m h from low =
+    let same : min from (length h) ≡ from = omega arith in
+    ap (λ i. first_passing t m i (drop from h)) same
+
+-- from a place past the text
+pub next_position_past : (t : ℕ → ℕ) (m : ℕ) (h : List ℕ) (from : ℕ) → length h ≤ from → length h ≡ next_position t m h from
+next_position_past t m h from past =
+    let none : drop from h ≡ [] = drop_all from h past in
+    let same : length h ≡ min from (length h) = omega arith in
+    rw none same
+
 pub next_position_is : (t : ℕ → ℕ) (m : ℕ) (h : List ℕ) (from r : ℕ) → IsNextPlace t m h from r → r ≡ next_position t m h from
 next_position_is t m h from r is =
     let size : length (drop from h) ≡ length h - from = length-drop from h in
@@ -85,6 +98,7 @@ next_position_is t m h from r is =
     e ∙ first_is t m (drop from h) from (r - from) (omega arith)
     (λ k l. dropped_false t m h from k (from + k) false refl (is.misses (from + k) (omega arith) (omega arith)))
     (λ l. dropped_false t m h from (r - from) r true (omega arith) (is.passing (omega arith)))
+    ∙ sym (within t m h from (omega arith))
 
 record IsFirst (t : ℕ → ℕ) (m : ℕ) (w : List ℕ) (i r : ℕ) : Type 0 where
   by : ℕ
@@ -117,7 +131,7 @@ next_position-IsNextPlace t m h from r low e =
     let size : length (drop from h) ≡ length h - from = length-drop from h in
     let end = is.is in
     let most = is.inside in
-    let at : r ≡ from + is.by = e ∙ is.is in
+    let at : r ≡ from + is.by = e ∙ within t m h from low ∙ is.is in
     record {
       after = omega arith;
       inside = omega arith;

@@ -64,8 +64,7 @@ impl<A: Allocator> Prefilter<A> {
     /// pattern of the filter begins between the two.
     #[inline(always)]
     pub fn next_position(&self, haystack: &[u8], pos: usize) -> usize
-        ensures first { pos ≤ length haystack.now → result ≡ next_place self.now haystack.now pos }
-        ensures past { length haystack.now ≤ pos → result ≡ length haystack.now }
+        ensures first { result ≡ next_place self.now haystack.now pos }
         ensures skips_none { (pattern rest : List ℕ) (place : ℕ) → admits self.now pattern ≡ true
             → pos ≤ place → drop place haystack.now ≡ pattern ++ rest → result ≤ place }
     {
@@ -133,8 +132,7 @@ fn scan(table: &[u8], window_len: u8, haystack: &[u8], pos: usize) -> usize
     requires sized { length table.now ≡ 65536 }
     requires low { 2 ≤ window_len }
     requires high { window_len ≤ 9 }
-    ensures first { pos ≤ length haystack.now → result ≡ next_position (λ pair. slice_index table.now pair) window_len haystack.now pos }
-    ensures past { length haystack.now ≤ pos → result ≡ length haystack.now }
+    ensures { result ≡ next_position (λ pair. slice_index table.now pair) window_len haystack.now pos }
 {
     let Some(first) = haystack.get(pos) else {
         return haystack.len();

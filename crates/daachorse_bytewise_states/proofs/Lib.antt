@@ -1,4 +1,4 @@
-pub mod PackLaws
+pub mod WritingLaws
 pub mod PackedTrie
 pub mod PackedParts
 pub mod PackedValid

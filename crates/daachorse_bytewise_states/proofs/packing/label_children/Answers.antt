@@ -1,6 +1,6 @@
 -- The edge that comes is the first of those to come.
 use Rattle.std.proofs.Common.{ℕ, List, subst}
-use Rattle.daachorse_bytewise_states.proofs.PackLaws.{IsLabelling, first_inside, labelling_all, labelling_more}
+use Rattle.daachorse_bytewise_states.proofs.WritingLaws.{IsLabelling, first_inside, labelling_all, labelling_more}
 use Rattle.daachorse_bytewise_states.proofs.packing.label_children.Goals as goal
 
 pub bounds-labels-child : goal.bounds-labels-child

@@ -1,5 +1,5 @@
 -- The labels of the edges before those to come are set.
-use Rattle.daachorse_bytewise_states.proofs.PackLaws.{IsLabelling}
+use Rattle.daachorse_bytewise_states.proofs.WritingLaws.{IsLabelling}
 use Rattle.daachorse_bytewise_states.proofs.packing.label_children.Given as goal
 
 abbrev pub invariant-loop-label : goal.invariant-loop-label

@@ -5,7 +5,7 @@ use Rattle.std.specs.Ordering.{nat_cmp}
 use Rattle.std.proofs.lemmas.List.{length-map}
 use Rattle.daachorse_build.specs.EdgeMaps.{id_at}
 use Rattle.daachorse_build.specs.Tables.{child_in, depths_of, edge_map, edges_of}
-use Rattle.daachorse_bytewise_states.proofs.PackLaws.{apart-all, children-more, edges_at, inside-all, root-kept}
+use Rattle.daachorse_bytewise_states.proofs.WritingLaws.{apart-all, children-more, edges_at, inside-all, root-kept}
 use Rattle.daachorse_bytewise_states.proofs.packing.label_states.Goals as goal
 
 pub label_children-requires-clause-inside : goal.label_children-requires-clause-inside

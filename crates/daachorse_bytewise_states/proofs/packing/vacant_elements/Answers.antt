@@ -1,7 +1,7 @@
 -- Each block is filled behind those before it.
 use Rattle.std.proofs.Common.{ℕ, subst, arith}
 use Rattle.daachorse_bytewise_states.specs.Writing.{HasVacants}
-use Rattle.daachorse_bytewise_states.proofs.PackLaws.{Found, blocks-more, found-is}
+use Rattle.daachorse_bytewise_states.proofs.WritingLaws.{Found, blocks-more, found-is}
 use Rattle.daachorse_bytewise_states.proofs.packing.vacant_elements.Goals as goal
 
 pub loop-block-preserved : goal.loop-block-preserved

@@ -11,5 +11,6 @@ pub mod StandardLaws
 pub mod LeftmostLaws
 pub mod WrittenLaws
 pub mod BuiltLaws
+pub mod StandardBuilders
 pub mod EmptyLaws
 pub mod Rows

@@ -161,13 +161,15 @@ fn an_index_without_a_value_is_refused(rt: HostRuntime) -> Result<(), Fail> {
 #[test]
 fn each_growth_of_a_build_is_refused_in_turn(rt: HostRuntime) {
     let patvals: [(&[u8], u32); 3] = [(b"bcd", 0), (b"ab", 10), (b"a", 20)];
-    for way in [Way::New, Way::WithValues] {
+    for (way, value) in [(Way::New, 2), (Way::WithValues, 20)] {
         let mut ended = false;
         for number in 0..100_000u64 {
             let heap = Refusing::new(rt.alloc(), number);
             match build_by(way, &heap, &patvals) {
-                Ok(_automaton) => {
+                Ok(automaton) => {
                     assert!(rt; !heap.has_refused(), "request {number} was passed over");
+                    let first = automaton.find_overlapping_iter(b"abcd").next();
+                    assert_eq!(rt; first, Some(found(0, 1, value)));
                     ended = true;
                     break;
                 }

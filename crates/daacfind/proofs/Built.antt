@@ -4,8 +4,7 @@ use Rattle.daachorse_model.specs.declared.MatchKind.{MatchKind}
 use Rattle.daachorse_model.specs.Dictionary.{dictionary}
 use Rattle.daachorse_model.specs.Program.{numbered, pattern_lines, match_text}
 use Rattle.daachorse_bytewise.specs.Building.{AreIndexed, IsBuiltOf}
-use Rattle.daachorse_bytewise.specs.Content.{content}
-use Rattle.daachorse_bytewise.specs.Parts.{Parts}
+use Rattle.daachorse_bytewise_states.specs.Parts.{Parts, content}
 use Rattle.daacfind.specs.declared.mode.Mode.{Mode}
 use Rattle.daacfind.specs.Modes.{found_by, kind_of_mode, text_of_mode}
 use Rattle.daacfind.specs.Runs.{value_gives}

@@ -10,7 +10,7 @@ ghost use Rattle.std.specs.Io.KnownBytes.{Appends, Keeps};
 ghost use Rattle.daachorse_model.specs.declared.Match.{Match};
 ghost use Rattle.daachorse_model.specs.Program.{pattern_lines, match_line, match_text};
 ghost use Rattle.daachorse_bytewise.specs.Building.{IsBuiltOf, IsBuildRefusal};
-ghost use Rattle.daachorse_bytewise.specs.Content.{content};
+ghost use Rattle.daachorse_bytewise_states.specs.Parts.{content};
 ghost use Rattle.daacfind.specs.declared.run.RunError.TheVariants.{Build, Write};
 ghost use Rattle.daacfind.specs.Modes.{found_by, kind_of_mode, text_of_mode};
 ghost use Rattle.daacfind.specs.Runs.{AppendsBeginning, IfBuild, OnWrite, value_gives};

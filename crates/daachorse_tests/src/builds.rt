@@ -84,9 +84,9 @@ fn overlapping_searches_find_every_match(rt: HostRuntime) -> Result<(), Fail> {
         let Ok(automaton) = build(rt.alloc(), patterns) else {
             panic!(rt; "row {i} was refused");
         };
-        let mut search = automaton.find_overlapping_iter(haystack);
-        let matches: Vec<Match<u32>> = search.by_ref().collect(rt.alloc())?;
-        search.turns_are_bounded();
+        let matches: Vec<Match<u32>> = automaton
+            .find_overlapping_iter(haystack)
+            .collect(rt.alloc())?;
         assert_eq!(rt; matches.as_slice(), *expected, "row {i}");
     }
     Ok(())
@@ -159,7 +159,7 @@ fn an_index_without_a_value_is_refused(rt: HostRuntime) -> Result<(), Fail> {
 }
 
 #[test]
-fn each_growth_of_a_build_is_refused_in_turn(rt: HostRuntime) {
+fn each_growth_of_a_build_is_refused_in_turn(rt: HostRuntime) -> Result<(), Fail> {
     let patvals: [(&[u8], u32); 3] = [(b"bcd", 0), (b"ab", 10), (b"a", 20)];
     for (way, value) in [(Way::New, 2), (Way::WithValues, 20)] {
         let mut ended = false;
@@ -168,8 +168,10 @@ fn each_growth_of_a_build_is_refused_in_turn(rt: HostRuntime) {
             match build_by(way, &heap, &patvals) {
                 Ok(automaton) => {
                     assert!(rt; !heap.has_refused(), "request {number} was passed over");
-                    let first = automaton.find_overlapping_iter(b"abcd").next();
-                    assert_eq!(rt; first, Some(found(0, 1, value)));
+                    let matches: Vec<Match<u32>> = automaton
+                        .find_overlapping_iter(b"abcd")
+                        .collect(rt.alloc())?;
+                    assert_eq!(rt; matches.first(), Some(&found(0, 1, value)));
                     ended = true;
                     break;
                 }
@@ -184,6 +186,7 @@ fn each_growth_of_a_build_is_refused_in_turn(rt: HostRuntime) {
         }
         assert!(rt; ended);
     }
+    Ok(())
 }
 
 #[test]

@@ -37,9 +37,8 @@ fn standard_matches_do_not_overlap(rt: HostRuntime) -> Result<(), Fail> {
         let Ok(automaton) = build(rt.alloc(), patterns) else {
             panic!(rt; "row {i} was refused");
         };
-        let mut search = automaton.find_iter(haystack);
-        let matches: Vec<Match<u32>> = search.by_ref().collect(rt.alloc())?;
-        search.turns_are_bounded();
+        let search = automaton.find_iter(haystack);
+        let matches: Vec<Match<u32>> = search.collect(rt.alloc())?;
         assert_eq!(rt; matches.as_slice(), *expected, "row {i}");
         let source = automaton.find_iter_from_iter(haystack.iter().copied());
         let matches: Vec<Match<u32>> = source.collect(rt.alloc())?;
@@ -66,9 +65,8 @@ fn no_match_is_the_suffix_of_another(rt: HostRuntime) -> Result<(), Fail> {
         let Ok(automaton) = build(rt.alloc(), patterns) else {
             panic!(rt; "row {i} was refused");
         };
-        let mut search = automaton.find_overlapping_no_suffix_iter(haystack);
-        let matches: Vec<Match<u32>> = search.by_ref().collect(rt.alloc())?;
-        search.turns_are_bounded();
+        let search = automaton.find_overlapping_no_suffix_iter(haystack);
+        let matches: Vec<Match<u32>> = search.collect(rt.alloc())?;
         assert_eq!(rt; matches.as_slice(), *expected, "row {i}");
         let source = automaton.find_overlapping_no_suffix_iter_from_iter(haystack.iter().copied());
         let matches: Vec<Match<u32>> = source.collect(rt.alloc())?;
@@ -83,14 +81,14 @@ fn a_source_is_read_to_the_end_of_the_match(rt: HostRuntime) -> Result<(), Fail>
         panic!(rt; "the pattern was refused");
     };
     let mut bytes = b"abab".iter().copied();
-    let first = automaton.find_iter_from_iter(bytes.by_ref()).next();
-    assert_eq!(rt; first, Some(found(0, 2, 0)));
+    let search = automaton.find_iter_from_iter(bytes.by_ref());
+    let first: Vec<Match<u32>> = search.take(1).collect(rt.alloc())?;
+    assert_eq!(rt; first.as_slice(), [found(0, 2, 0)].as_slice());
     assert_eq!(rt; bytes.len(), 2);
     let mut bytes = b"abab".iter().copied();
-    let first = automaton
-        .find_overlapping_iter_from_iter(bytes.by_ref())
-        .next();
-    assert_eq!(rt; first, Some(found(0, 2, 0)));
+    let search = automaton.find_overlapping_iter_from_iter(bytes.by_ref());
+    let first: Vec<Match<u32>> = search.take(1).collect(rt.alloc())?;
+    assert_eq!(rt; first.as_slice(), [found(0, 2, 0)].as_slice());
     assert_eq!(rt; bytes.len(), 2);
     Ok(())
 }

@@ -102,6 +102,11 @@ impl<V: Copy, A: Automaton<V>> Stepwise<V> for FindWalk<V, A> {
     }
 
     #[inline(always)]
+    fn walked(&self) -> A {
+        self.walk.automaton()
+    }
+
+    #[inline(always)]
     fn turns_are_bounded(&self) {
         self.walk.turns_are_bounded();
     }

@@ -11,14 +11,12 @@ use crate::haystack::Haystack;
 use crate::search::Search;
 use crate::stepwise::Stepwise;
 use daachorse_core::Match;
-use std::marker::{Model, PhantomData};
+use std::marker::Model;
 
 /// What a search that goes one unit at a time finds in a haystack, in order.
 #[derive(Drop)]
 pub struct Matches<V: Copy, W: Stepwise<V>, H: Haystack<W::Unit>> {
     search: Search<V, W, H>,
-    // Where the automaton borrows, some field's type has to name the lifetime; `W` alone does not.
-    of: PhantomData<W::Automaton>,
 }
 
 impl<V: Copy, W: Stepwise<V>, H: Haystack<W::Unit>> Model for Matches<V, W, H> {
@@ -49,7 +47,6 @@ impl<V: Copy, W: Stepwise<V>, H: Haystack<W::Unit>> Matches<V, W, H> {
     {
         Matches {
             search: Search::new(walk, haystack),
-            of: PhantomData,
         }
     }
 

@@ -118,6 +118,11 @@ impl<V: Copy, A: Automaton<V>> Stepwise<V> for OverlappingWalk<V, A> {
     }
 
     #[inline(always)]
+    fn walked(&self) -> A {
+        self.walk.automaton()
+    }
+
+    #[inline(always)]
     fn turns_are_bounded(&self) {
         self.walk.turns_are_bounded();
     }
@@ -209,6 +214,11 @@ impl<V: Copy, A: Automaton<V>> Stepwise<V> for NoSuffixWalk<V, A> {
     #[inline(always)]
     fn give(&self, position: NonZeroU32) -> (Match<V>, Option<NonZeroU32>) {
         (self.all.give(position).0, None)
+    }
+
+    #[inline(always)]
+    fn walked(&self) -> A {
+        self.all.walked()
     }
 
     #[inline(always)]

@@ -18,8 +18,10 @@ pub struct Search<V: Copy, W: Stepwise<V>, S: Iterator<Item = W::Unit>> {
     walk: W,
     source: S,
     output: Option<NonZeroU32>,
-    // Where the automaton borrows, some field's type has to name the lifetime; `W` alone does not.
-    of: PhantomData<(V, W::Automaton)>,
+    // The walk has it too. It stands here so that a field's type names what it borrows; no search
+    // reads it.
+    automaton: W::Automaton,
+    of: PhantomData<V>,
 }
 
 impl<V: Copy, W: Stepwise<V>, S: Iterator<Item = W::Unit>> Model for Search<V, W, S> {
@@ -53,10 +55,12 @@ impl<V: Copy, W: Stepwise<V>, S: Iterator<Item = W::Unit>> Search<V, W, S> {
         ensures most { result.most ≡ W.most_found (W.automaton walk) }
     {
         let output = walk.begin();
+        let automaton = walk.walked();
         Search {
             walk,
             source,
             output,
+            automaton,
             of: PhantomData,
         }
     }

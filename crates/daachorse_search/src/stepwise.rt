@@ -19,7 +19,7 @@ pub trait Stepwise<V: Copy>: Drop {
     type Unit: EdgeLabel;
 
     /// What is walked through.
-    type Automaton;
+    type Automaton: Drop;
 
     ghost automaton: { Self → Self.Automaton };
 
@@ -63,6 +63,10 @@ pub trait Stepwise<V: Copy>: Drop {
         ensures place { has_output self.now (number result.1) }
         ensures given { given_from self.now position.value ≡ result.0 ∷ given_from self.now (number result.1) }
         ensures ends { result.0.end ≡ size Self.Unit.width (read self.now) };
+
+    /// The automaton that is walked through, for a second walk beside this one.
+    fn walked(&self) -> Self::Automaton
+        ensures { result ≡ automaton self.now };
 
     /// Does nothing, and promises the bounds of the turns.
     fn turns_are_bounded(&self)

@@ -109,7 +109,8 @@ impl<'a, V: Copy> Automaton<V> for Standard<'a, V> {
         if state == ROOT_STATE_IDX {
             return Look::Next(self.root[label as usize]);
         }
-        let element = &self.states[state as usize];
+        // A copy loads base and link at once, and then its place isn't needed again.
+        let element = self.states[state as usize];
         match element.child(label, self.states) {
             Some(child) => Look::Next(child),
             None => Look::Fail(element.fail()),

@@ -8,7 +8,6 @@ ghost use Rattle.daachorse_model.specs.Units.{size, byte_width};
 
 use daachorse_core::edge_label::EdgeLabel;
 use std::marker::Model;
-use std::slice::Iter;
 
 /// A source of units that is known as a whole.
 pub trait Haystack<U: EdgeLabel>: Iterator<Item = U> {
@@ -34,16 +33,19 @@ pub trait Reread<U: EdgeLabel>: Haystack<U> + Drop {
 /// The bytes of a slice.
 #[derive(Drop)]
 pub struct Bytes<'a> {
-    left: Iter<'a, u8>,
+    bytes: &'a [u8],
+    // How many of them were given.
+    given: usize,
 }
 
 impl<'a> Model for Bytes<'a> {
-    ghost use Rattle.std.specs.Prelude.{List, ℕ};
-    ghost use Rattle.std.specs.Slice.Iter.{iter_rest};
+    ghost use Rattle.std.specs.Prelude.{List, ℕ, ◌≤◌, drop, length};
 
     ghost Value = { List ℕ };
 
-    ghost view = { λ s. iter_rest s.left };
+    ghost view = { λ s. drop s.given s.bytes.now };
+
+    ghost invariant = { λ s. s.given ≤ length s.bytes.now };
 }
 
 impl<'a> Bytes<'a> {
@@ -55,7 +57,8 @@ impl<'a> Bytes<'a> {
     {
         let _len = haystack.len();
         Bytes {
-            left: haystack.iter(),
+            bytes: haystack,
+            given: 0,
         }
     }
 }
@@ -71,7 +74,12 @@ impl<'a> Iterator for Bytes<'a> {
 
     #[inline(always)]
     fn next(&mut self) -> Option<u8> {
-        self.left.next().copied()
+        if self.given == self.bytes.len() {
+            return None;
+        }
+        let byte = self.bytes[self.given];
+        self.given += 1;
+        Some(byte)
     }
 }
 
@@ -88,8 +96,9 @@ impl<'a> Haystack<u8> for Bytes<'a> {
 impl<'a> Reread<u8> for Bytes<'a> {
     #[inline(always)]
     fn after(&self, bytes: usize) -> Self {
-        let rest = self.left.as_slice();
-        let later = &rest[bytes..];
-        Bytes { left: later.iter() }
+        Bytes {
+            bytes: self.bytes,
+            given: self.given + bytes,
+        }
     }
 }

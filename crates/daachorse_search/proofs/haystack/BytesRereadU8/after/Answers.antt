@@ -1,29 +1,27 @@
-use Rattle.std.proofs.Common.{◌≡◌, ◌-◌, ◌≤◌, ℕ, List, [], ◌∷◌, ◌++◌, length, take, drop, refl, ap, ◌∙◌, length-append, arith}
+use Rattle.std.proofs.Common.{◌≡◌, ◌-◌, ◌+◌, ◌≤◌, ℕ, List, ◌++◌, length, drop, refl, sym, ap, ◌∙◌, length-append, arith}
+use Rattle.std.proofs.lemmas.List.{length-drop, drop_at, drop-drop}
+use Rattle.daachorse_model.specs.Units.{size, byte_width}
 use Rattle.daachorse_model.proofs.Suffixes.{size-bytes}
-use Rattle.daachorse_model.proofs.SlowLemmas.{take-all}
 use Rattle.daachorse_search.proofs.haystack.BytesRereadU8.after.Goals as goal
 
-drop-front : (front back : List ℕ) → drop (length front) (front ++ back) ≡ back
-drop-front [] back = refl
-drop-front (u ∷ front) back = drop-front front back
+-- no more bytes are passed than there are
+inside : (bytes front back : List ℕ) (given n : ℕ) → given ≤ length bytes → drop given bytes ≡ front ++ back → n ≡ size byte_width front → given + n ≤ length bytes
+inside bytes front back given n some parts sized =
+    omega (arith, some, sized, size-bytes front, length-append front back, ap length parts, length-drop given bytes)
 
--- what comes after the front
-after_front : (front back : List ℕ) (n : ℕ) → n ≡ length front → take (length (front ++ back) - n) (drop n (front ++ back)) ≡ back
-after_front front back n is =
-    let some : length back ≤ length (front ++ back) - n = omega (arith, length-append front back, is) in
-    ap (λ k. take (length (front ++ back) - n) (drop k (front ++ back))) is ∙ ap (take (length (front ++ back) - n)) (drop-front front back) ∙ take-all back (length (front ++ back) - n) some
-
-pub slice_bounds-later-count : goal.slice_bounds-later-count
-slice_bounds-later-count c =
+pub overflow_add-result : goal.overflow_add-result
+overflow_add-result c =
     let front = c.requires.0 in let back = c.requires.1 in
-    omega (arith, c.requires.3, size-bytes front, ap length c.requires.2, length-append front back, ap length c.as_slice-rest.ensures.value, ap length c.self.view_is)
+    let within = inside c.self.inside.bytes.now front back c.self.inside.given c.args.bytes c.self.invariant (c.self.view_is ∙ c.requires.2) c.requires.3 in
+    omega (arith, within, c.self.ranges)
 
-pub slice_bounds-later-start : goal.slice_bounds-later-start
-slice_bounds-later-start c =
+pub invariant_of-result : goal.invariant_of-result
+invariant_of-result c =
     let front = c.requires.0 in let back = c.requires.1 in
-    omega (arith, c.requires.3, size-bytes front, ap length c.requires.2, length-append front back, ap length c.as_slice-rest.ensures.value, ap length c.self.view_is)
+    inside c.self.inside.bytes.now front back c.self.inside.given c.args.bytes c.self.invariant (c.self.view_is ∙ c.requires.2) c.requires.3
 
 pub returns : goal.returns
 returns c = λ front back parts sized.
-    let all : c.as_slice-rest.result.now ≡ front ++ back = c.as_slice-rest.ensures.value ∙ c.self.view_is ∙ parts in
-    c.iter.ensures.rest ∙ (ap (λ r. take (length r - c.args.bytes) (drop c.args.bytes r)) all ∙ after_front front back c.args.bytes (sized ∙ size-bytes front))
+    sym (drop-drop c.args.bytes c.self.inside.given c.self.inside.bytes.now)
+    ∙ ap (drop c.args.bytes) (c.self.view_is ∙ parts)
+    ∙ drop_at front back c.args.bytes (sym (sized ∙ size-bytes front))

@@ -1,0 +1,157 @@
+//! Times and counts the automaton over bytes of this repository beside that of the Rust crate.
+//!
+//! `driver time WORDS TEXT ROUNDS` prints the least and the median of the rounds of each search and
+//! of each build. `driver rounds MODE WORDS TEXT BYTES OURS THEIRS` and
+//! `driver builds MODE WORDS OURS THEIRS` do so many rounds or builds of either and print nothing
+//! but what they found: they are for counting instructions.
+
+mod ours;
+mod theirs;
+
+use std::time::Duration;
+use theirs::Mode;
+
+/// What a round found.
+#[derive(Clone, Copy, Debug, Default, PartialEq, Eq)]
+pub struct Tally {
+    pub count: u64,
+    pub sum: u64,
+}
+
+/// A list of words, as it is handed to either side.
+pub struct Words {
+    bytes: Vec<u8>,
+    ends: Vec<u32>,
+}
+
+impl Words {
+    /// The lines of a file.
+    fn read(path: &str) -> Words {
+        let mut words = Words {
+            bytes: Vec::new(),
+            ends: Vec::new(),
+        };
+        for line in read(path)
+            .split(|b| *b == b'\n')
+            .filter(|line| !line.is_empty())
+        {
+            words.bytes.extend_from_slice(line);
+            words.ends.push(words.bytes.len() as u32);
+        }
+        words
+    }
+
+    fn list(&self) -> Vec<&[u8]> {
+        let starts = std::iter::once(0).chain(self.ends.iter().copied());
+        starts
+            .zip(&self.ends)
+            .map(|(start, end)| &self.bytes[start as usize..*end as usize])
+            .collect()
+    }
+}
+
+fn read(path: &str) -> Vec<u8> {
+    std::fs::read(path).unwrap_or_else(|e| panic!("{path}: {e}"))
+}
+
+/// The least and the median.
+fn least_and_median(mut times: Vec<Duration>) -> (f64, f64) {
+    times.sort();
+    (
+        times[0].as_secs_f64() * 1e3,
+        times[times.len() / 2].as_secs_f64() * 1e3,
+    )
+}
+
+/// One line: both sides' least and median in milliseconds, the least in MB/s, and the ratios.
+fn print_line(name: &str, bytes: usize, ours: Vec<Duration>, theirs: Vec<Duration>) {
+    let (our_least, our_median) = least_and_median(ours);
+    let (their_least, their_median) = least_and_median(theirs);
+    let speed = |ms: f64| bytes as f64 / 1e3 / ms;
+    println!(
+        "{name}\t{our_least:.3}\t{our_median:.3}\t{their_least:.3}\t{their_median:.3}\t{:.1}\t{:.1}\t{:.3}\t{:.3}",
+        speed(our_least),
+        speed(their_least),
+        our_least / their_least,
+        our_median / their_median,
+    );
+}
+
+fn time(words: &'static Words, text: &'static [u8], rounds: u32) {
+    println!(
+        "what\tours least ms\tmedian\ttheirs least ms\tmedian\tours MB/s\ttheirs MB/s\tratio of least\tof medians"
+    );
+    for mode in Mode::ALL {
+        let times = ours::run_beside(words, text, mode, 0, rounds);
+        print_line(
+            &format!("search {}", mode.name()),
+            text.len(),
+            times.ours,
+            times.theirs,
+        );
+    }
+    for mode in [Mode::Find, Mode::Longest, Mode::First] {
+        let times = ours::run_beside(words, text, mode, rounds, 0);
+        print_line(
+            &format!("build {}", mode.kind_name()),
+            words.bytes.len(),
+            times.ours,
+            times.theirs,
+        );
+    }
+}
+
+fn rounds(words: &Words, text: &[u8], mode: Mode, ours: u32, theirs: u32) {
+    if ours > 0 {
+        println!("{:?}", ours::run_alone(words, text, mode, 0, ours));
+    }
+    if theirs > 0 {
+        let automaton = theirs::build(&words.list(), mode);
+        for _ in 0..theirs {
+            println!("{:?}", theirs::search(&automaton, text, mode));
+        }
+    }
+}
+
+fn builds(words: &Words, mode: Mode, ours: u32, theirs: u32) {
+    if ours > 0 {
+        println!("{:?}", ours::run_alone(words, b"", mode, ours, 0));
+    }
+    let list = words.list();
+    for _ in 0..theirs {
+        println!("{}", theirs::build(&list, mode).num_states());
+    }
+}
+
+fn number(word: &str) -> u32 {
+    word.parse().unwrap_or_else(|_| panic!("no number: {word}"))
+}
+
+fn main() {
+    let args: Vec<String> = std::env::args().skip(1).collect();
+    let args: Vec<&str> = args.iter().map(String::as_str).collect();
+    match args.as_slice() {
+        ["time", words, text, n] => {
+            time(
+                Box::leak(Box::new(Words::read(words))),
+                read(text).leak(),
+                number(n),
+            );
+        }
+        ["rounds", mode, words, text, bytes, n, m] => {
+            let text = read(text);
+            let part = &text[..text.len().min(number(bytes) as usize)];
+            rounds(
+                &Words::read(words),
+                part,
+                Mode::of(mode),
+                number(n),
+                number(m),
+            );
+        }
+        ["builds", mode, words, n, m] => {
+            builds(&Words::read(words), Mode::of(mode), number(n), number(m));
+        }
+        _ => panic!("the head of main.rs says how this is called"),
+    }
+}

@@ -1,0 +1,121 @@
+#!/bin/sh
+# run.sh CRATE WORK WORDS TEXT [WORDS TEXT ..]
+#
+# Measures the automaton over bytes of this repository beside that of the Rust crate daachorse,
+# whose folder is CRATE, with the words of each file WORDS in its TEXT. WORK is a folder to work
+# in; what an earlier run built there is kept.
+#
+# PARTS=counts, PARTS=times or PARTS=build does a part alone. SEEDS is how many links are timed
+# (5), ROUNDS how many rounds in each (15), BYTES the part of a text that instructions are counted
+# in (262144).
+set -eu
+here=$(CDPATH= cd -- "$(dirname -- "$0")" && pwd)
+top=$(CDPATH= cd -- "$here/../.." && pwd)
+crate=$(CDPATH= cd -- "$1" && pwd)
+mkdir -p "$2"
+work=$(CDPATH= cd -- "$2" && pwd)
+shift 2
+parts=${PARTS:-build counts times}
+kit=${KIT:-/opt/rattle}
+bytes=${BYTES:-262144}
+rounds=${ROUNDS:-15}
+seeds=${SEEDS:-5}
+
+# The sources of a crate, with what its checks kept where there is none yet.
+copy_crate() {
+    mkdir -p "$2"
+    for part in src specs proofs c; do
+        rm -rf "${2:?}/$part"
+        [ ! -d "$1/$part" ] || cp -rp "$1/$part" "$2/"
+    done
+    [ -d "$2/out" ] || [ ! -d "$1/out" ] || cp -rp "$1/out" "$2/"
+}
+
+# The static library, over a copy of the repository's crates, and the driver, linked SEEDS times
+# with its sections in another order.
+build_links() {
+    mkdir -p "$work/driver"
+    for folder in "$top"/crates/* "$here/bench_c"; do
+        copy_crate "$folder" "$work/rattle/crates/$(basename "$folder")"
+    done
+    cat "$top/crates.txt" "$here/bench_c/crates.txt" > "$work/rattle/crates.txt"
+    (cd "$work/rattle/crates/bench_c" && RT_ALLOW_C=bench_c rt lib)
+    cp -r "$here/driver/src" "$work/driver/"
+    sed "s|@DAACHORSE@|$crate|" "$here/driver/Cargo.toml.in" > "$work/driver/Cargo.toml"
+    seed=1
+    while [ "$seed" -le "$seeds" ]; do
+        (cd "$work/driver" && touch src/main.rs &&
+            RUSTFLAGS="-C target-cpu=x86-64-v2" cargo rustc --quiet --offline --release -- \
+            -C link-arg="$work/rattle/crates/bench_c/out/libbench_c.a" \
+            -C link-arg="$kit/c/liblibc_c.a" \
+            -C link-arg="-Wl,--shuffle-sections=*=$seed")
+        cp "$work/driver/target/release/driver" "$work/driver-$seed"
+        seed=$((seed + 1))
+    done
+}
+
+# Instructions of one run of the driver.
+instructions() {
+    valgrind --tool=callgrind --callgrind-out-file=/dev/null "$work/driver-1" "$@" 2>&1 >/dev/null |
+        sed -n 's/.*Collected : //p'
+}
+
+# count NAME UNITS PER HEAD..: instructions of one more round or build of either side, each divided by UNITS.
+count() {
+    name=$1 units=$2
+    shift 2
+    ours=$(($(instructions "$@" 2 0) - $(instructions "$@" 1 0)))
+    theirs=$(($(instructions "$@" 0 2) - $(instructions "$@" 0 1)))
+    awk -v n="$name" -v o="$ours" -v t="$theirs" -v u="$units" \
+        'BEGIN { printf "%s\t%.2f\t%.2f\t%.3f\n", n, o / u, t / u, o / t }'
+}
+
+count_all() {
+    size=$(wc -c < "$2")
+    [ "$size" -lt "$bytes" ] || size=$bytes
+    printf 'what\tours instructions a byte\ttheirs\tratio\n'
+    for mode in ${MODES-find overlapping no_suffix longest first}; do
+        count "search $mode" "$size" rounds "$mode" "$1" "$2" "$bytes"
+    done
+    for mode in ${BUILDS-find longest first}; do
+        count "build for $mode" "$(wc -c < "$1")" builds "$mode" "$1"
+    done
+}
+
+# The lines of all links, and then of each column the middle one.
+time_links() {
+    seed=1
+    while [ "$seed" -le "$seeds" ]; do
+        echo "link $seed"
+        "$work/driver-$seed" time "$1" "$2" "$rounds"
+        seed=$((seed + 1))
+    done | tee "$work/times"
+    echo "middle of the links"
+    awk -F '\t' '
+        $2 !~ /^[0-9]/ { next }
+        !($1 in n) { names[++total] = $1 }
+        { n[$1]++; for (c = 2; c <= NF; c++) value[$1, c, n[$1]] = $c; columns = NF }
+        function middle(name, c,    i, j, t, a) {
+            for (i = 1; i <= n[name]; i++) {
+                t = value[name, c, i] + 0
+                for (j = i - 1; j > 0 && a[j] > t; j--) a[j + 1] = a[j]
+                a[j + 1] = t
+            }
+            return a[int((n[name] + 1) / 2)]
+        }
+        END {
+            for (k = 1; k <= total; k++) {
+                line = names[k]
+                for (c = 2; c <= columns; c++) line = line "\t" middle(names[k], c)
+                print line
+            }
+        }' "$work/times"
+}
+
+case " $parts " in *" build "*) build_links ;; esac
+while [ $# -ge 2 ]; do
+    echo "# $(basename "$1") in $(basename "$2")"
+    case " $parts " in *" counts "*) count_all "$1" "$2" ;; esac
+    case " $parts " in *" times "*) time_links "$1" "$2" ;; esac
+    shift 2
+done

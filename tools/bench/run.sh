@@ -38,7 +38,7 @@ build_links() {
     for folder in "$top"/crates/* "$here/bench_c"; do
         copy_crate "$folder" "$work/rattle/crates/$(basename "$folder")"
     done
-    cat "$top/crates.txt" "$here/bench_c/crates.txt" > "$work/rattle/crates.txt"
+    cat "$top/crates.txt" "$here/crate_line" > "$work/rattle/crates.txt"
     (cd "$work/rattle/crates/bench_c" && RT_ALLOW_C=bench_c rt lib)
     cp -r "$here/driver/src" "$work/driver/"
     sed "s|@DAACHORSE@|$crate|" "$here/driver/Cargo.toml.in" > "$work/driver/Cargo.toml"

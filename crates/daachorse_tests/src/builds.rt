@@ -84,9 +84,9 @@ fn overlapping_searches_find_every_match(rt: HostRuntime) -> Result<(), Fail> {
         let Ok(automaton) = build(rt.alloc(), patterns) else {
             panic!(rt; "row {i} was refused");
         };
-        let matches: Vec<Match<u32>> = automaton
-            .find_overlapping_iter(haystack)
-            .collect(rt.alloc())?;
+        let mut search = automaton.find_overlapping_iter(haystack);
+        let matches: Vec<Match<u32>> = search.by_ref().collect(rt.alloc())?;
+        search.turns_are_bounded();
         assert_eq!(rt; matches.as_slice(), *expected, "row {i}");
     }
     Ok(())

@@ -37,8 +37,9 @@ fn standard_matches_do_not_overlap(rt: HostRuntime) -> Result<(), Fail> {
         let Ok(automaton) = build(rt.alloc(), patterns) else {
             panic!(rt; "row {i} was refused");
         };
-        let search = automaton.find_iter(haystack);
-        let matches: Vec<Match<u32>> = search.collect(rt.alloc())?;
+        let mut search = automaton.find_iter(haystack);
+        let matches: Vec<Match<u32>> = search.by_ref().collect(rt.alloc())?;
+        search.turns_are_bounded();
         assert_eq!(rt; matches.as_slice(), *expected, "row {i}");
         let source = automaton.find_iter_from_iter(haystack.iter().copied());
         let matches: Vec<Match<u32>> = source.collect(rt.alloc())?;
@@ -65,8 +66,9 @@ fn no_match_is_the_suffix_of_another(rt: HostRuntime) -> Result<(), Fail> {
         let Ok(automaton) = build(rt.alloc(), patterns) else {
             panic!(rt; "row {i} was refused");
         };
-        let search = automaton.find_overlapping_no_suffix_iter(haystack);
-        let matches: Vec<Match<u32>> = search.collect(rt.alloc())?;
+        let mut search = automaton.find_overlapping_no_suffix_iter(haystack);
+        let matches: Vec<Match<u32>> = search.by_ref().collect(rt.alloc())?;
+        search.turns_are_bounded();
         assert_eq!(rt; matches.as_slice(), *expected, "row {i}");
         let source = automaton.find_overlapping_no_suffix_iter_from_iter(haystack.iter().copied());
         let matches: Vec<Match<u32>> = source.collect(rt.alloc())?;

@@ -38,6 +38,8 @@ build_links() {
     for folder in "$top"/crates/* "$here/bench_c"; do
         copy_crate "$folder" "$work/rattle/crates/$(basename "$folder")"
     done
+    # The gate takes each .rt file for one of a crate of its own, so the source has another name here.
+    mv "$work/rattle/crates/bench_c/src/lib.rt.in" "$work/rattle/crates/bench_c/src/lib.rt"
     cat "$top/crates.txt" "$here/crate_line" > "$work/rattle/crates.txt"
     (cd "$work/rattle/crates/bench_c" && RT_ALLOW_C=bench_c rt lib)
     cp -r "$here/driver/src" "$work/driver/"

@@ -1,2 +1,4 @@
 pub mod Elements
+pub mod Parts
+pub mod Valid
 pub mod Written

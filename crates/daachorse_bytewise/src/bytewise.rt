@@ -29,6 +29,14 @@ use crate::bytewise::iter::{
 use crate::bytewise::states::States;
 use daachorse_core::MatchKind;
 use daachorse_core::errors::Result;
+use daachorse_search::find::{FindWalk, find_in};
+use daachorse_search::haystack::Bytes;
+use daachorse_search::leftmost::LeftmostMatches;
+use daachorse_search::matches_from::MatchesFrom;
+use daachorse_search::overlapping::{
+    NoSuffixWalk, OverlappingWalk, find_overlapping_in, find_overlapping_no_suffix_in,
+};
+use daachorse_search::source;
 use std::alloc::{Allocator, Global};
 use std::marker::Model;
 
@@ -111,6 +119,7 @@ impl<V: Copy, A: Allocator> DoubleArrayAhoCorasick<V, A> {
     /// early as it can, and at that end it is the longest; of equal patterns the first registered.
     /// With an empty pattern there is one empty match at each boundary.
     #[inline(always)]
+    #[tactic(auto, using(daachorse_bytewise_states::proofs::DeadLaws::alive))]
     pub fn find_iter<'a>(&'a self, haystack: &'a [u8]) -> FindSliceIterator<'a, V>
         requires { self.now.kind ≡ Standard }
         ensures left { result.left ≡ standard byte_width (content self.entry.now) haystack.entry.now }
@@ -118,12 +127,13 @@ impl<V: Copy, A: Allocator> DoubleArrayAhoCorasick<V, A> {
         ensures passed { result.passed ≡ [] }
         ensures turns { result.turns ≡ 0 }
     {
-        FindSliceIterator::new(self.states.standard(), haystack)
+        find_in(self.states.standard(), Bytes::new(haystack))
     }
 
     /// The same in the bytes that a source gives. A match is given before a byte past its end is
     /// taken; with an empty pattern, before the byte behind its place is.
     #[inline(always)]
+    #[tactic(auto, using(daachorse_bytewise_states::proofs::DeadLaws::alive))]
     pub fn find_iter_from_iter<'a, P: Iterator<Item = u8>>(
         &'a self,
         haystack: P,
@@ -135,12 +145,16 @@ impl<V: Copy, A: Allocator> DoubleArrayAhoCorasick<V, A> {
         ensures pending { result.pending ≡ standard_found byte_width content self.entry.now [] }
         ensures turns { result.turns ≡ 0 }
     {
-        FindIterator::new(self.states.standard(), haystack)
+        MatchesFrom::new(
+            FindWalk::new(self.states.standard()),
+            source::Bytes::new(haystack),
+        )
     }
 
     /// Finds every match in a haystack, also those that overlap: ends rise, and of the matches
     /// that end together the longest comes first; equal patterns come in order of registration.
     #[inline(always)]
+    #[tactic(auto, using(daachorse_bytewise_states::proofs::DeadLaws::alive))]
     pub fn find_overlapping_iter<'a>(
         &'a self,
         haystack: &'a [u8],
@@ -151,12 +165,13 @@ impl<V: Copy, A: Allocator> DoubleArrayAhoCorasick<V, A> {
         ensures passed { result.passed ≡ [] }
         ensures turns { result.turns ≡ 0 }
     {
-        FindOverlappingSliceIterator::new(self.states.standard(), haystack)
+        find_overlapping_in(self.states.standard(), Bytes::new(haystack))
     }
 
     /// The same in the bytes that a source gives. A match is given before a byte past its end is
     /// taken.
     #[inline(always)]
+    #[tactic(auto, using(daachorse_bytewise_states::proofs::DeadLaws::alive))]
     pub fn find_overlapping_iter_from_iter<'a, P: Iterator<Item = u8>>(
         &'a self,
         haystack: P,
@@ -168,12 +183,16 @@ impl<V: Copy, A: Allocator> DoubleArrayAhoCorasick<V, A> {
         ensures pending { result.pending ≡ all_found byte_width content self.entry.now [] }
         ensures turns { result.turns ≡ 0 }
     {
-        FindOverlappingIterator::new(self.states.standard(), haystack)
+        MatchesFrom::new(
+            OverlappingWalk::new(self.states.standard()),
+            source::Bytes::new(haystack),
+        )
     }
 
     /// Finds of every match in a haystack the longest at each end; of equal patterns the first
     /// registered.
     #[inline(always)]
+    #[tactic(auto, using(daachorse_bytewise_states::proofs::DeadLaws::alive))]
     pub fn find_overlapping_no_suffix_iter<'a>(
         &'a self,
         haystack: &'a [u8],
@@ -184,12 +203,13 @@ impl<V: Copy, A: Allocator> DoubleArrayAhoCorasick<V, A> {
         ensures passed { result.passed ≡ [] }
         ensures turns { result.turns ≡ 0 }
     {
-        FindOverlappingNoSuffixSliceIterator::new(self.states.standard(), haystack)
+        find_overlapping_no_suffix_in(self.states.standard(), Bytes::new(haystack))
     }
 
     /// The same in the bytes that a source gives. A match is given before a byte past its end is
     /// taken.
     #[inline(always)]
+    #[tactic(auto, using(daachorse_bytewise_states::proofs::DeadLaws::alive))]
     pub fn find_overlapping_no_suffix_iter_from_iter<'a, P: Iterator<Item = u8>>(
         &'a self,
         haystack: P,
@@ -201,7 +221,10 @@ impl<V: Copy, A: Allocator> DoubleArrayAhoCorasick<V, A> {
         ensures pending { result.pending ≡ first_found byte_width content self.entry.now [] }
         ensures turns { result.turns ≡ 0 }
     {
-        FindOverlappingNoSuffixIterator::new(self.states.standard(), haystack)
+        MatchesFrom::new(
+            NoSuffixWalk::new(self.states.standard()),
+            source::Bytes::new(haystack),
+        )
     }
 
     /// Finds the leftmost matches in a haystack: from the end of the one before each starts as early
@@ -209,6 +232,7 @@ impl<V: Copy, A: Allocator> DoubleArrayAhoCorasick<V, A> {
     /// the first registered. For [`MatchKind::LeftmostFirst`], which leaves out each pattern that
     /// extends an earlier one, it is the earliest registered pattern that starts there.
     #[inline(always)]
+    #[tactic(auto, using(daachorse_bytewise_states::proofs::DeadLaws::is_leftmost_automaton))]
     pub fn leftmost_find_iter<'a>(&'a self, haystack: &'a [u8]) -> LeftmostFindIterator<'a, V>
         requires { self.now.kind ≢ Standard }
         ensures left { result.left ≡ leftmost byte_width (content self.entry.now) haystack.entry.now }
@@ -218,28 +242,30 @@ impl<V: Copy, A: Allocator> DoubleArrayAhoCorasick<V, A> {
         ensures turns { result.turns ≡ 0 }
         ensures given { result.given ≡ 0 }
     {
-        LeftmostFindIterator::new(self.states.leftmost(), haystack)
+        LeftmostMatches::new(self.states.leftmost(), Bytes::new(haystack))
     }
 
     /// The search of [`Self::find_iter`], one byte at a time.
     #[inline(always)]
+    #[tactic(auto, using(daachorse_bytewise_states::proofs::DeadLaws::alive))]
     pub fn find_stepper<'a>(&'a self) -> FindStepper<'a, V>
         requires { self.now.kind ≡ Standard }
         ensures automaton { result.automaton ≡ self.entry.now }
         ensures read { result.read ≡ [] }
         ensures turns { result.turns ≡ 0 }
     {
-        FindStepper::new(self.states.standard())
+        FindStepper::new(self.states.standard(), &[])
     }
 
     /// The search of [`Self::find_overlapping_iter`], one byte at a time.
     #[inline(always)]
+    #[tactic(auto, using(daachorse_bytewise_states::proofs::DeadLaws::alive))]
     pub fn find_overlapping_stepper<'a>(&'a self) -> FindOverlappingStepper<'a, V>
         requires { self.now.kind ≡ Standard }
         ensures automaton { result.automaton ≡ self.entry.now }
         ensures read { result.read ≡ [] }
         ensures turns { result.turns ≡ 0 }
     {
-        FindOverlappingStepper::new(self.states.standard())
+        FindOverlappingStepper::new(self.states.standard(), &[])
     }
 }

@@ -1,7 +1,8 @@
 use Rattle.std.proofs.Common.{◌≡◌, ◌≢◌, ◌<◌, ◌∙◌, ap, bit_xor, length, slice_index_or, sym, arith}
 use Rattle.std.proofs.lemmas.List.{get_or_default}
 use Rattle.daachorse_bytewise_states.specs.Elements.{base_in, check_in}
-use Rattle.daachorse_bytewise_states.proofs.ChildLaws.{child_by_some, moved_inside}
+use Rattle.daachorse_machine.proofs.ChildLaws.{child_at-some}
+use Rattle.daachorse_bytewise_states.proofs.ChildLaws.{moved_inside}
 use Rattle.daachorse_bytewise_states.proofs.state.State.child.Goals as goal
 
 pub offset_bounds-states-child : goal.offset_bounds-states-child
@@ -24,4 +25,4 @@ returns-then-check-label g c =
     let some : base_in c.args.self.now ≢ 0 = omega arith in
     let at : bit_xor (base_in c.args.self.now) c.args.label ≡ bit_xor c.get.result c.from.result = cc in
     let read : slice_index_or states (bit_xor c.get.result c.from.result) c.args.self.now ≡ c.index-states-child.result = get_or_default states _ c.args.self.now c.index-states-child.result moved ∙ sym c.index-states-child.is in
-    sym (child_by_some (length states) (base_in c.args.self.now) c.args.label (bit_xor c.get.result c.from.result) (λ i. check_in (slice_index_or states i c.args.self.now)) some at moved (ap check_in read ∙ (sym c.check.ensures ∙ c.if-check-label.true)))
+    sym (child_at-some (length states) c.args.label (base_in c.args.self.now) c.args.label (bit_xor c.get.result c.from.result) (λ i. check_in (slice_index_or states i c.args.self.now)) some at moved (ap check_in read ∙ (sym c.check.ensures ∙ c.if-check-label.true)))

@@ -11,7 +11,7 @@ use Rattle.daachorse_model.specs.Outputs.{IsChain}
 use Rattle.daachorse_search.specs.Looks.{LookGives}
 use Rattle.daachorse_machine.specs.Machines.{IsMachine}
 use Rattle.daachorse_machine.proofs.ChildLaws.{child_at-inside}
-use Rattle.daachorse_machine.proofs.MachineLaws.{Reached-inside, Reached-root, Reached-chain, text-root, root-text, turn-next, turn-root, turn-dead, turn-fail, standard-alive}
+use Rattle.daachorse_machine.proofs.MachineLaws.{Reached-inside, Reached-root, chain-at, position-inside, text-root, root-text, turn-next, turn-root, turn-dead, turn-link, standard-alive}
 use Rattle.daachorse_bytewise_states.specs.Parts.{Parts, base_of, check_of, child, content, count, fail_of, machine, output_of}
 use Rattle.daachorse_bytewise_states.specs.Valid.{IsRootTable, IsState, IsValid, dead, text}
 use Rattle.daachorse_bytewise_states.proofs.DeadLaws.{alive}
@@ -71,9 +71,7 @@ module _ {V : Type 0} (p : Parts V) where
     look_dead i c r e other one = turn-dead byte_width (machine p) (is_leftmost p.kind) (count p) 256 is_machine i c r e other one
 
     pub look_fail : (i c f : ℕ) → IsState p i → child p i c ≡ None → i ≢ 0 → fail_of p i ≡ f → f ≢ 1 → Gives i c (Fail f)
-    look_fail i c f r e other at live =
-        let P : ℕ → Type 0 = λ x. Gives i c (Fail x) in
-        subst P at (turn-fail byte_width (machine p) (is_leftmost p.kind) (count p) 256 is_machine i c r e other (λ one. live (sym at ∙ one)))
+    look_fail i c f r e other at live = turn-link byte_width (machine p) (is_leftmost p.kind) (count p) 256 is_machine i c f r e other at live
 
     -- no link is dead where the searches are standard
     pub look_link : p.kind ≡ Standard → (i c f : ℕ) → IsState p i → child p i c ≡ None → i ≢ 0 → fail_of p i ≡ f → Gives i c (Fail f)
@@ -93,9 +91,7 @@ module _ {V : Type 0} (p : Parts V) where
     -- ---- outputs
 
     pub chain_at : (i q : ℕ) → IsState p i → output_of p i ≡ q → IsChain byte_width (content p) (dead p) (text p i) (outputs_at p.outputs q)
-    chain_at i q r at =
-        let P : ℕ → Type 0 = λ x. IsChain byte_width (content p) (dead p) (text p i) (outputs_at p.outputs x) in
-        subst P at (Reached-chain byte_width (machine p) (is_leftmost p.kind) (count p) 256 is_machine i r)
+    chain_at i q r at = chain-at byte_width (machine p) (is_leftmost p.kind) (count p) 256 is_machine i q r at
 
     pub position_inside : (i q : ℕ) → IsState p i → output_of p i ≡ q → q ≤ length p.outputs
-    position_inside i q r at = let h : output_of p i ≤ length p.outputs = (valid.inside i (state_inside i r)).output in omega (arith, h, at)
+    position_inside i q r at = position-inside byte_width (machine p) (is_leftmost p.kind) (count p) 256 is_machine i q r at

@@ -137,8 +137,14 @@ module _ {V : Type 0} (width : ℕ → ℕ) (a : Machine V) (leftmost : Bool) (n
   pub Reached-chain : (i : ℕ) → IsReached a.child m n i → IsChain width (content width a) (dead_in width a leftmost) (text_of a.child m n i) (outputs_at a.outputs (a.output i))
   Reached-chain i r = Leads-chain (text_of a.child m n i) i r
 
-  pub Reached-output : (i : ℕ) → IsReached a.child m n i → a.output i ≤ length a.outputs
-  Reached-output i r = h.outputs_inside i (Reached-inside i r)
+  -- and so are those from a position that was read
+  pub chain-at : (i q : ℕ) → IsReached a.child m n i → a.output i ≡ q → IsChain width (content width a) (dead_in width a leftmost) (text_of a.child m n i) (outputs_at a.outputs q)
+  chain-at i q r at =
+      let P : ℕ → Type 0 = λ x. IsChain width (content width a) (dead_in width a leftmost) (text_of a.child m n i) (outputs_at a.outputs x) in
+      subst P at (Reached-chain i r)
+
+  pub position-inside : (i q : ℕ) → IsReached a.child m n i → a.output i ≡ q → q ≤ length a.outputs
+  position-inside i q r at = let below : a.output i ≤ length a.outputs = h.outputs_inside i (Reached-inside i r) in omega (arith, below, at)
 
   -- ---- a look at an element
 
@@ -199,6 +205,13 @@ module _ {V : Type 0} (width : ℕ → ℕ) (a : Machine V) (leftmost : Bool) (n
           let P : List ℕ → Type 0 = λ x. IsLink (content width a) (text_of a.child m n i) x in
           (Reached-Leads s (a.fail i) leads, not_prefix i c r none, alive, subst P (sym (text-Leads s (a.fail i) leads)) link)
 
+  -- a link that was read, and isn't dead
+  pub turn-link : (i c f : ℕ) → IsReached a.child m n i → a.child i c ≡ None → i ≢ 0 → a.fail i ≡ f → f ≢ 1
+      → LookGives (content width a) (IsReached a.child m n) (text_of a.child m n) (dead_in width a leftmost) (text_of a.child m n i) c (Fail f)
+  turn-link i c f r none other at live =
+      let P : ℕ → Type 0 = λ x. LookGives (content width a) (IsReached a.child m n) (text_of a.child m n) (dead_in width a leftmost) (text_of a.child m n i) c (Fail x) in
+      subst P at (turn-fail i c r none other (λ one. live (sym at ∙ one)))
+
   -- where no text has a dead link, as in a standard machine, no element's link is dead
   pub standard-alive : (i : ℕ) → IsReached a.child m n i → i ≢ 0 → ((w : List ℕ) → ¬ dead_in width a leftmost w) → a.fail i ≢ 1
   standard-alive i r other alive one = go (link_at i r other)
@@ -206,8 +219,3 @@ module _ {V : Type 0} (width : ℕ → ℕ) (a : Machine V) (leftmost : Bool) (n
       go : LinkOf (text_of a.child m n i) (a.fail i) → ⊥
       go (to_dead dead is) = alive (text_of a.child m n i) dead
       go (to_element {s} link _ leads not_one) = not_one one
-
-  -- so that each is followed
-  pub turn-alive : (i c : ℕ) → IsReached a.child m n i → a.child i c ≡ None → i ≢ 0 → ((w : List ℕ) → ¬ dead_in width a leftmost w)
-      → LookGives (content width a) (IsReached a.child m n) (text_of a.child m n) (dead_in width a leftmost) (text_of a.child m n i) c (Fail (a.fail i))
-  turn-alive i c r none other alive = turn-fail i c r none other (standard-alive i r other alive)

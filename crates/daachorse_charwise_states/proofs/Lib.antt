@@ -1,0 +1,4 @@
+pub mod CharLaws
+pub mod DeadLaws
+pub mod EmptyLaws
+pub mod ViewLaws

@@ -15,7 +15,7 @@ use Rattle.daachorse_build.proofs.Walks.{walk-same}
 use Rattle.daachorse_machine.specs.Copies.{IsLinkedTo, LinkedTrie, next_output}
 use Rattle.daachorse_bytewise_states.specs.Packing.{IsBuiltFor, trie_of}
 use Rattle.daachorse_bytewise_states.specs.Prefixes.{HasMoreProperPrefixes}
-use Rattle.daachorse_bytewise_states.proofs.DeadLaws.{leftmost_kind}
+use Rattle.daachorse_machine.proofs.DeadLaws.{leftmost_kind}
 use Rattle.std.specs.Borrow.{Bor}
 use Rattle.std.specs.Ordering.{nat_cmp}
 use Rattle.std.proofs.lemmas.Cmp.{nat_cmp_total}

@@ -175,7 +175,7 @@ impl<V: Copy, A: Allocator> States<V, A> {
 
     /// What the leftmost searches see.
     #[inline(always)]
-    #[tactic(auto, using(crate::proofs::DeadLaws::leftmost_kind))]
+    #[tactic(auto, using(daachorse_machine::proofs::DeadLaws::leftmost_kind))]
     pub fn leftmost(&self) -> views::Leftmost<'_, V>
         requires { self.now.kind ≢ Standard }
         ensures { result ≡ self.entry.now }

@@ -7,3 +7,4 @@
 pub mod state;
 #[cfg(test)]
 mod tests;
+pub mod view;

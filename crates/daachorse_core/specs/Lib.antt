@@ -1,4 +1,5 @@
 pub mod ByteForms
+pub mod CharForms
 pub mod Histories
 pub mod Outputs
 pub mod Seen

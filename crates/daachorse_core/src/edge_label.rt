@@ -93,3 +93,43 @@ impl EdgeLabel for u8 {
 
     ghost ordered = { byte_ordered };
 }
+
+impl EdgeLabel for char {
+    ghost use Rattle.std.specs.Char.{IsScalar, encode_utf8};
+    ghost use Rattle.daachorse_model.specs.Units.{char_width};
+    ghost use Rattle.daachorse_core.specs.CharForms.{char_apart, char_exact, char_by_unit, char_ordered, char_short, char_sized, char_wide};
+
+    ghost is_label = { IsScalar };
+
+    ghost unit = { λ c. c };
+
+    ghost width = { char_width };
+
+    ghost form = { encode_utf8 };
+
+    fn num_bytes(&self) -> usize {
+        self.len_utf8()
+    }
+
+    fn code(&self) -> u32 {
+        *self as u32
+    }
+
+    fn in_range(&self) {
+        let _scalar = *self;
+    }
+
+    ghost exact = { char_exact };
+
+    ghost by_unit = { char_by_unit };
+
+    ghost wide = { char_wide };
+
+    ghost sized = { char_sized };
+
+    ghost short = { char_short };
+
+    ghost apart = { char_apart };
+
+    ghost ordered = { char_ordered };
+}

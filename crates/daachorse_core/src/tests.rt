@@ -121,6 +121,21 @@ fn a_byte_is_a_label(rt: HostRuntime) {
 }
 
 #[test]
+fn a_character_is_a_label(rt: HostRuntime) {
+    let labels = [
+        ('a', 1, 97),
+        ('é', 2, 233),
+        ('に', 3, 12395),
+        ('\u{10000}', 4, 65536),
+    ];
+    for (label, bytes, code) in &labels {
+        label.in_range();
+        assert_eq!(rt; label.num_bytes(), *bytes);
+        assert_eq!(rt; label.code(), *code);
+    }
+}
+
+#[test]
 fn counts_take_no_bytes(rt: HostRuntime) -> Result<(), Fail> {
     let mut turns = Turns::new();
     turns.tick();

@@ -1,4 +1,6 @@
 pub mod Elements
+pub mod Packing
 pub mod Parts
 pub mod Valid
+pub mod Writing
 pub mod Written

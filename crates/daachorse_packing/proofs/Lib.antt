@@ -2,3 +2,5 @@ pub mod Places
 pub mod Held
 pub mod Counted
 pub mod BuiltLaws
+pub mod Groups
+pub mod Looks

@@ -42,3 +42,7 @@ module _ {L : Type 0} (cmp : L → L → Ordering) (unit : L → ℕ) (edges : L
       go : (b : Bool) → long (is_reached child) (map unit w) ≡ map unit (long (is_reached to) w) → cond b (unit c ∷ map unit w) (long (is_reached child) (map unit w)) ≡ map unit (cond b (c ∷ w) (long (is_reached to) w))
       go true rest = refl
       go false rest = rest
+
+-- a label that is a number is its own unit
+pub own_units : (cmp : ℕ → ℕ → Ordering) (edges : List (List (ℕ × ℕ))) → LeadsByUnit cmp (λ u. u) edges (child_in cmp edges)
+own_units cmp edges = record { same = λ s c. refl; only = λ s u t e. (u, refl) }

@@ -32,3 +32,18 @@ impl<'p> Pattern<u8> for &'p [u8] {
         Ok(*self)
     }
 }
+
+impl<'p> Pattern<char> for &'p str {
+    ghost use Rattle.std.specs.Str.{chars};
+
+    ghost units = { λ p. chars p.now };
+
+    /// The characters, which are put into the buffer.
+    fn labels<'b, A: Allocator>(&'b self, buffer: &'b mut Vec<char, A>) -> Result<&'b [char]> {
+        buffer.clear();
+        for character in self.chars() {
+            buffer.push(character)?;
+        }
+        Ok(buffer.as_slice())
+    }
+}

@@ -17,6 +17,15 @@ fn a_byte_string_is_its_own_labels(rt: HostRuntime) -> Result<(), Fail> {
 }
 
 #[test]
+fn a_string_has_its_characters_for_labels(rt: HostRuntime) -> Result<(), Fail> {
+    let mut buffer = vec![in rt.alloc(); 'x'; 2]?;
+    for (pattern, characters) in [("aéに", ['a', 'é', 'に'].as_slice()), ("", [].as_slice())] {
+        assert_eq!(rt; pattern.labels(&mut buffer)?, characters);
+    }
+    Ok(())
+}
+
+#[test]
 fn items_are_gathered_with_their_indexes(rt: HostRuntime) -> Result<(), Fail> {
     let letters = gather(rt.alloc(), b"abc".iter().map(|letter| *letter))?;
     let pairs: Vec<(u8, u32)> = indexed(rt.alloc(), &letters)?;
@@ -41,6 +50,19 @@ fn a_trie_has_the_beginnings_of_what_counts(rt: HostRuntime) -> Result<(), Fail>
         assert_eq!(rt; nfa.states().len() - 1, num_states, "{kind:?}");
         assert_eq!(rt; nfa.outputs().len(), num_outputs, "{kind:?}");
     }
+    Ok(())
+}
+
+#[test]
+fn a_trie_of_strings_has_characters_for_labels(rt: HostRuntime) -> Result<(), Fail> {
+    let patterns = [("世界", 0), ("世", 1), ("界隈", 2)];
+    let nfa = build_trie(rt.alloc(), MatchKind::Standard, None, &patterns)?;
+    assert_eq!(rt; nfa.states().len() - 1, 5);
+    assert_eq!(rt; nfa.outputs().len(), 3);
+    let root = nfa.states()[0].edges();
+    assert_eq!(rt; root.len(), 2);
+    assert!(rt; root.get(&'世').is_some());
+    assert!(rt; root.get(&'界').is_some());
     Ok(())
 }
 

@@ -4,6 +4,7 @@
 //! source of characters takes of the bytes under it.
 #![tactic(auto)]
 
+pub mod decoding;
 #[cfg(test)]
 mod tests;
 pub mod text;

@@ -3,10 +3,12 @@
 //! The layers above may rely on the parts being valid, and on what is built holding just the
 //! dictionary that it was built for.
 
-ghost use Rattle.std.specs.Prelude.{◌≡◌, ◌≤◌, ◌^◌, ℕ, List, IfOk, IfErr};
+ghost use Rattle.std.specs.Prelude.{◌≡◌, ◌≢◌, ◌≤◌, ◌^◌, ℕ, List, IfOk, IfErr};
 ghost use Rattle.daachorse_core.specs.declared.errors.Limit.TheVariants.{NumElements};
 ghost use Rattle.daachorse_core.specs.Refusals.{IsRefusal};
+ghost use Rattle.daachorse_model.specs.declared.MatchKind.TheVariants.{Standard};
 ghost use Rattle.daachorse_model.specs.Dictionary.{Dictionary};
+ghost use Rattle.daachorse_model.specs.Kinds.{is_leftmost};
 ghost use Rattle.daachorse_model.specs.Paths.{is_reached};
 ghost use Rattle.daachorse_model.specs.Prefixes.{PassesAt};
 ghost use Rattle.daachorse_mapper.specs.Codings.{IsCoding};
@@ -18,6 +20,7 @@ mod tests;
 
 use crate::packing::pack;
 use crate::state::State;
+use crate::view::{Leftmost, Searches, Standard, View};
 use daachorse_build::nfa_builder::NfaBuilder;
 use daachorse_core::errors::Result;
 use daachorse_core::{MatchKind, Output};
@@ -127,5 +130,39 @@ impl<V: Copy, A: Allocator> States<V, A> {
         ensures { result.now ≡ self.now.coding }
     {
         &self.mapper
+    }
+
+    /// What the standard searches see.
+    #[inline(always)]
+    pub fn standard(&self) -> Standard<'_, V>
+        requires { self.now.kind ≡ Standard }
+        ensures { result ≡ self.entry.now }
+    {
+        self.view()
+    }
+
+    /// What the leftmost searches see.
+    #[inline(always)]
+    #[tactic(auto, using(daachorse_machine::proofs::DeadLaws::leftmost_kind))]
+    pub fn leftmost(&self) -> Leftmost<'_, V>
+        requires { self.now.kind ≢ Standard }
+        ensures { result ≡ self.entry.now }
+    {
+        self.view()
+    }
+
+    /// What the searches `S` see.
+    #[inline(always)]
+    fn view<S: Searches>(&self) -> View<'_, V, S>
+        requires { is_leftmost self.now.kind ≡ S.leftmost }
+        ensures { result ≡ self.entry.now }
+    {
+        View::new(
+            self.kind,
+            &self.states,
+            &self.mapper,
+            &self.outputs,
+            self.num_states,
+        )
     }
 }

@@ -1,0 +1,3 @@
+//! The automaton over the characters of UTF-8 text.
+
+mod frequencies;

@@ -5,3 +5,4 @@ pub mod Packing
 pub mod Prefixes
 pub mod Writing
 pub mod StateForms
+pub mod Equality

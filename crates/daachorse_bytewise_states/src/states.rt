@@ -26,6 +26,7 @@ use daachorse_build::nfa_builder::NfaBuilder;
 use daachorse_core::errors::Result;
 use daachorse_core::{Empty, MatchKind, Output, ROOT_STATE_IDX};
 use std::alloc::{Allocator, Global};
+use std::hash::{Hash, Hasher};
 use std::marker::Model;
 
 /// The states and the outputs of an automaton over bytes, with values of type `V`.
@@ -188,6 +189,76 @@ impl<V: Copy, A: Allocator> States<V, A> {
             self.num_states,
         )
     }
+}
+
+impl<V: Copy, A: Allocator + Copy> States<V, A> {
+    /// The same states, in memory of their own.
+    ///
+    /// # Errors
+    ///
+    /// An allocation failed.
+    pub fn clone(&self) -> Result<Self>
+        ensures same { IfOk result (λ s. s ≡ self.now) }
+        ensures err { IfErr result IsOutOfMemory }
+    {
+        Ok(Self {
+            kind: self.kind,
+            standard: copy_of(&self.standard)?,
+            root: copy_of(&self.root)?,
+            leftmost: copy_of(&self.leftmost)?,
+            fails: copy_of(&self.fails)?,
+            outputs: copy_of(&self.outputs)?,
+            num_states: self.num_states,
+        })
+    }
+}
+
+/// States are equal where all that they store is.
+impl<V: Copy + PartialEq, A: Allocator> PartialEq for States<V, A> {
+    ghost use Rattle.daachorse_bytewise_states.specs.Equality.{parts_eq, parts_per};
+
+    ghost eq = { parts_eq V.eq };
+
+    ghost laws = { parts_per V.laws };
+
+    fn eq(&self, other: &Self) -> bool {
+        self.kind == other.kind
+            && (self.standard == other.standard
+                && (self.leftmost == other.leftmost
+                    && (self.fails == other.fails
+                        && (self.outputs == other.outputs && self.num_states == other.num_states))))
+    }
+}
+
+impl<V: Copy + Eq, A: Allocator> Eq for States<V, A> {
+    ghost use Rattle.daachorse_bytewise_states.specs.Equality.{parts_equiv};
+
+    ghost laws = { parts_equiv V.Eq.laws };
+}
+
+impl<V: Copy + Hash, A: Allocator> Hash for States<V, A> {
+    ghost use Rattle.daachorse_bytewise_states.specs.Equality.{parts_alike, parts_input};
+
+    ghost hash_input = { parts_input V.hash_input };
+
+    ghost respects_eq = { parts_alike V.respects_eq };
+
+    fn hash<H: Hasher>(&self, state: &mut H) {
+        self.kind.hash(state);
+        self.standard.hash(state);
+        self.leftmost.hash(state);
+        self.fails.hash(state);
+        self.outputs.hash(state);
+        self.num_states.hash(state);
+    }
+}
+
+/// A copy of a vector.
+fn copy_of<T: Copy, A: Allocator + Copy>(items: &Vec<T, A>) -> Result<Vec<T, A>>
+    ensures ok { IfOk result (λ v. v.items ≡ items.now.items) }
+    ensures err { IfErr result IsOutOfMemory }
+{
+    Ok(Vec::from_slice(*items.allocator(), items.as_slice())?)
 }
 
 /// The element of each byte's child from the root, the root itself where there is none.

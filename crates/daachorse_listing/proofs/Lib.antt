@@ -1,1 +1,2 @@
 pub mod LinkedLaws
+pub mod EdgeLaws

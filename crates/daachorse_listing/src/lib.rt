@@ -5,4 +5,5 @@
 //! on [`depths::depths`] giving the length of each element's text.
 #![tactic(auto)]
 
+pub mod edges;
 mod lists;

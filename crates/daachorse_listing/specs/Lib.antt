@@ -1,2 +1,4 @@
 pub mod Linked
 pub mod Edges
+pub mod Trees
+pub mod Depths

@@ -5,5 +5,7 @@
 //! on [`depths::depths`] giving the length of each element's text.
 #![tactic(auto)]
 
+pub mod depths;
 pub mod edges;
 mod lists;
+mod tree;

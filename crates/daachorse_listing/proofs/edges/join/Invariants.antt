@@ -9,5 +9,5 @@ invariant-loop-element g l = record {
   size : length l.groups ≡ g.E.Edges.count l.edges;
   less : AllByRecursion (λ j. j < g.E.Edges.count l.edges) l.element-iterator;
   left : (k : ℕ) → k < g.E.Edges.count l.edges
-      → put_before (filter (λ j. is_in k (g.E.Edges.edge l.edges j)) l.element-iterator) (get_or l.groups k []) ≡ siblings (g.E.Edges.edge l.edges) (g.E.Edges.count l.edges) k (suc l.unit)
+      → put_before (filter (λ j. is_in k (g.E.Edges.edge l.edges j)) l.element-iterator) (get_or l.groups k []) ≡ siblings (g.E.Edges.edge l.edges) (g.E.Edges.count l.edges) k (suc l.unit);
 }

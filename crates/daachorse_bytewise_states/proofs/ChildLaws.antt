@@ -35,6 +35,14 @@ child_by-inside n base c j check e =
     let found : check k ≡ c = grind (arith, parts.1) in
     (omega (arith, below, same), ap check (sym same) ∙ found)
 
+-- the base of a parent is not 0, and leads by the byte to the child
+pub child_by-from : (n base c j : ℕ) (check : ℕ → ℕ) → child_by n base check c ≡ Some j → (base ≢ 0) × (bit_xor base c ≡ j)
+child_by-from n base c j check e = (λ zero. none (base == 0) (grind (arith, zero)) e, (last_way (base == 0) (nat_lt (bit_xor base c) n) (check (bit_xor base c) == c) (bit_xor base c) j e).2)
+  where
+    none : (a : Bool) → a ≡ true → cond a None (cond (nat_lt (bit_xor base c) n) (cond (check (bit_xor base c) == c) (Some (bit_xor base c)) None) None) ≡ Some j → ⊥
+    none true p e = cc
+    none false p e = cc
+
 pub child_by_some : (n base c j : ℕ) (check : ℕ → ℕ) → base ≢ 0 → bit_xor base c ≡ j → j < n → check j ≡ c → child_by n base check c ≡ Some j
 child_by_some n base c j check some at below found =
     let k : ℕ = bit_xor base c in

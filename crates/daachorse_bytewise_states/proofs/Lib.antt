@@ -14,3 +14,4 @@ pub mod BuiltLaws
 pub mod StandardBuilders
 pub mod EmptyLaws
 pub mod Rows
+pub mod EdgeLaws

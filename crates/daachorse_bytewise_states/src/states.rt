@@ -3,8 +3,9 @@
 //! The layers above may rely on the parts being those that were stored, on their being valid, and
 //! on the views of them being the same automaton. Only [`States::new`] takes memory.
 
-ghost use Rattle.std.specs.Prelude.{◌≡◌, ◌≢◌, ◌<◌, ◌%◌, ℕ, List, length, map, slice_index_or, IfOk, IfErr};
+ghost use Rattle.std.specs.Prelude.{◌≡◌, ◌≢◌, ◌<◌, ◌%◌, bit_xor, ℕ, List, length, map, slice_index_or, IfOk, IfErr};
 ghost use Rattle.daachorse_core.specs.declared.errors.Limit.TheVariants.{NumElements};
+ghost use Rattle.daachorse_core.specs.Outputs.{number};
 ghost use Rattle.daachorse_core.specs.Refusals.{IsOutOfMemory, IsRefusal};
 ghost use Rattle.daachorse_model.specs.Dictionary.{Dictionary};
 ghost use Rattle.daachorse_bytewise_states.specs.Packing.{IsBuiltFor};
@@ -13,7 +14,7 @@ ghost use Rattle.daachorse_model.specs.declared.MatchKind.TheVariants.{Standard}
 ghost use Rattle.daachorse_model.specs.Paths.{is_reached};
 ghost use Rattle.daachorse_model.specs.Prefixes.{PassesAt};
 ghost use Rattle.daachorse_bytewise_states.specs.Elements.{base_in, fail_in, vacant};
-ghost use Rattle.daachorse_bytewise_states.specs.Parts.{child, child_among, content, count, parts_of, without_link};
+ghost use Rattle.daachorse_bytewise_states.specs.Parts.{base_of, check_of, child, child_among, content, count, parts_of, without_link};
 ghost use Rattle.daachorse_bytewise_states.specs.Valid.{IsRootTable, IsValid};
 
 #[cfg(test)]
@@ -28,6 +29,7 @@ use daachorse_core::{Empty, MatchKind, Output, ROOT_STATE_IDX};
 use std::alloc::{Allocator, Global};
 use std::hash::{Hash, Hasher};
 use std::marker::Model;
+use std::num::NonZeroU32;
 
 /// The states and the outputs of an automaton over bytes, with values of type `V`.
 ///
@@ -41,7 +43,7 @@ pub struct States<V: Copy, A: Allocator = Global> {
     leftmost: Vec<State<Empty>, A>,
     fails: Vec<u32, A>,
     outputs: Vec<Output<V>, A>,
-    num_states: u32,
+    pub(crate) num_states: u32,
 }
 
 impl<V: Copy, A: Allocator> Model for States<V, A> {
@@ -149,6 +151,33 @@ impl<V: Copy, A: Allocator> States<V, A> {
             self.leftmost.len()
         } else {
             self.standard.len()
+        }
+    }
+
+    /// The base of an element.
+    #[inline(always)]
+    pub(crate) fn base_at(&self, element: usize) -> Option<NonZeroU32>
+        requires { element < count self.now }
+        ensures { number result ≡ base_of self.now element }
+    {
+        if self.kind.is_leftmost() {
+            self.leftmost[element].base()
+        } else {
+            self.standard[element].base()
+        }
+    }
+
+    /// The check of an element. In whole blocks it leads from an element to an element.
+    #[inline(always)]
+    pub(crate) fn check_at(&self, element: usize) -> u8
+        requires { element < count self.now }
+        ensures value { result ≡ check_of self.now element }
+        ensures inside { bit_xor element result < count self.now }
+    {
+        if self.kind.is_leftmost() {
+            self.leftmost[element].check()
+        } else {
+            self.standard[element].check()
         }
     }
 

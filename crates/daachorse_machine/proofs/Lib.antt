@@ -7,3 +7,4 @@ pub mod CopyLinks
 pub mod CopyCount
 pub mod CopyLaws
 pub mod Rows
+pub mod CountLaws

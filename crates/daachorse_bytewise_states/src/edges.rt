@@ -5,7 +5,7 @@
 ghost use Rattle.std.specs.Prelude.{◌≡◌, ◌<◌, IfOk, IfErr};
 ghost use Rattle.daachorse_core.specs.Outputs.{number};
 ghost use Rattle.daachorse_core.specs.Refusals.{IsOutOfMemory};
-ghost use Rattle.daachorse_listing.specs.Depths.{AreDepths};
+ghost use Rattle.daachorse_listing.specs.Depths.{IsDepthTable};
 ghost use Rattle.daachorse_bytewise_states.specs.Parts.{base_of, check_of, child, count};
 
 use crate::states::States;
@@ -55,7 +55,7 @@ impl<V: Copy, A: Allocator + Copy> States<V, A> {
     ///
     /// An allocation failed.
     pub fn depths(&self, alloc: A) -> Result<Vec<u32, A>>
-        ensures ok { IfOk result (λ v. AreDepths (child self.now) 256 (count self.now) v.items) }
+        ensures ok { IfOk result (λ v. IsDepthTable (child self.now) 256 (count self.now) v.items) }
         ensures err { IfErr result IsOutOfMemory }
     {
         // A field is read for what the parts keep.

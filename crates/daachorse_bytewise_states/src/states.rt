@@ -12,7 +12,7 @@ ghost use Rattle.daachorse_bytewise_states.specs.Packing.{IsBuiltFor};
 ghost use Rattle.daachorse_bytewise_states.specs.Prefixes.{HasMoreProperPrefixes};
 ghost use Rattle.daachorse_model.specs.declared.MatchKind.TheVariants.{Standard};
 ghost use Rattle.daachorse_model.specs.Paths.{is_reached};
-ghost use Rattle.daachorse_model.specs.Prefixes.{PassesAt};
+ghost use Rattle.daachorse_model.specs.Prefixes.{HasPrefixes, PassesAt};
 ghost use Rattle.daachorse_bytewise_states.specs.Elements.{base_in, fail_in, vacant};
 ghost use Rattle.daachorse_bytewise_states.specs.Parts.{base_of, check_of, child, child_among, content, count, parts_of, without_link};
 ghost use Rattle.daachorse_bytewise_states.specs.Valid.{IsRootTable, IsValid};
@@ -184,7 +184,8 @@ impl<V: Copy, A: Allocator> States<V, A> {
     /// How many texts begin a pattern, the empty one among them.
     #[inline(always)]
     pub fn num_states(&self) -> u32
-        ensures { PassesAt (is_reached (child self.now)) result }
+        ensures reached { PassesAt (is_reached (child self.now)) result }
+        ensures prefixes { HasPrefixes (content self.now) result }
     {
         self.num_states
     }

@@ -9,7 +9,7 @@ use Rattle.daachorse_model.specs.Paths.{walk, Leads}
 use Rattle.daachorse_machine.specs.Texts.{IsReached, text_of}
 use Rattle.daachorse_machine.proofs.PathLaws.{walk-push, and_then_inv, text_of-Leads, Leads-inside}
 use Rattle.std.proofs.lemmas.Option.{same_Some, slice_get-get_or}
-use Rattle.daachorse_listing.specs.Depths.{AreDepths}
+use Rattle.daachorse_listing.specs.Depths.{IsDepthTable}
 use Rattle.daachorse_listing.specs.Edges.{put_before, children, IsTree}
 use Rattle.daachorse_listing.specs.Trees.{IsAmong, Pairs, IsMarking, text, ComesBefore, IsParent, IsListed}
 use Rattle.daachorse_listing.proofs.Members.{among-append, among-left, among-right, among-put, put-left, put-right, among-either, All-among, among-All, among-children, children-among, Pairs-children, Pairs-push, Pairs-few}
@@ -245,7 +245,7 @@ module _ {child : ℕ → ℕ → Option ℕ} {n m : ℕ} (tree : IsTree child n
       along v i e = from v 0 i (only 0 w.root) e
 
   -- the depths of a listing, read as entries
-  pub listed-depths : (taken parents depths : List ℕ) → IsListed child n m taken parents depths → AreDepths child m n depths
+  pub listed-depths : (taken parents depths : List ℕ) → IsListed child n m taken parents depths → IsDepthTable child m n depths
   listed-depths taken parents depths l = record {
     size = l.depths_size;
     reached = λ i r. slice_get-get_or depths i 0 (let less : i < n = reached-inside i r in omega (arith, less, l.depths_size)) ∙ ap (λ k. Some k) (l.depth i r);

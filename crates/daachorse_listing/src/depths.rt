@@ -5,7 +5,7 @@
 ghost use Rattle.std.specs.Prelude.{IfOk, IfErr};
 ghost use Rattle.daachorse_core.specs.Refusals.{IsOutOfMemory};
 ghost use Rattle.daachorse_listing.specs.Edges.{IsTree, TellChildren};
-ghost use Rattle.daachorse_listing.specs.Depths.{AreDepths};
+ghost use Rattle.daachorse_listing.specs.Depths.{IsDepthTable};
 
 use crate::edges::Edges;
 use crate::tree::Tree;
@@ -20,7 +20,7 @@ use std::alloc::Allocator;
 pub fn depths<E: Edges, A: Allocator + Copy>(alloc: A, edges: &E) -> Result<Vec<u32, A>>
     requires tree { IsTree (E.child edges.now) (E.count edges.now) (E.units edges.now) }
     requires tell { TellChildren (E.child edges.now) (E.group edges.now) (E.edge edges.now) (E.count edges.now) }
-    ensures ok { IfOk result (λ v. AreDepths (E.child edges.now) (E.units edges.now) (E.count edges.now) v.items) }
+    ensures ok { IfOk result (λ v. IsDepthTable (E.child edges.now) (E.units edges.now) (E.count edges.now) v.items) }
     ensures err { IfErr result IsOutOfMemory }
 {
     let tree = Tree::new(alloc, edges)?;

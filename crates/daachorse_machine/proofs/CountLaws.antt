@@ -1,10 +1,21 @@
 -- A text that leads to an element is shorter than the number of texts that do, since its beginnings are such texts.
-use Rattle.std.proofs.Common.{◌≡◌, ◌≢◌, ℕ, suc, ◌+◌, ◌<◌, ◌≤◌, List, [], ◌∷◌, ◌++◌, length, take, drop, get_or, Option, refl, sym, ap, ◌∙◌, arith}
+use Rattle.std.proofs.Common.{◌≡◌, ◌≢◌, ℕ, suc, ◌+◌, ◌<◌, ◌≤◌, Bool, List, [], ◌∷◌, ◌++◌, length, take, drop, get_or, Option, refl, sym, ap, ◌∙◌, arith}
 use Rattle.std.specs.Prelude.{Contains}
 use Rattle.std.proofs.lemmas.List.{take-append-drop, length-take-le, get_or_default}
 use Rattle.daachorse_model.specs.Paths.{walk, is_reached, Leads}
-use Rattle.daachorse_model.specs.Prefixes.{PassesAt}
+use Rattle.daachorse_model.specs.Prefixes.{PassesAt, HasPrefixes}
+use Rattle.daachorse_machine.specs.Machines.{Machine, IsMachine, IsCounted, content}
+use Rattle.daachorse_machine.proofs.MachineLaws.{fore, back}
 use Rattle.daachorse_machine.proofs.PathLaws.{pigeon, walk-split, reached_element}
+
+-- the texts that lead to an element of a right machine are the prefixes of its keys
+pub counted-prefixes : {V : Type 0} (width : ℕ → ℕ) (a : Machine V) (leftmost : Bool) (n m k : ℕ) → IsMachine width a leftmost n m → IsCounted a k → HasPrefixes (content width a) k
+counted-prefixes width a leftmost n m k h counted = record {
+  texts = counted.texts;
+  distinct = counted.distinct;
+  exactly = λ w. (λ p. (counted.exactly w).0 (back width a leftmost n m h w p), λ c. fore width a leftmost n m h w ((counted.exactly w).1 c));
+  count = counted.count
+}
 
 module _ (child : ℕ → ℕ → Option ℕ) (n : ℕ) (counted : PassesAt (is_reached child) n) where
   pub shorter-counted : (w : List ℕ) (i : ℕ) → Leads child w i → length w < n

@@ -1,3 +1,4 @@
 pub mod Building
 pub mod Sources
 pub mod Links
+pub mod Automata

@@ -98,8 +98,8 @@ impl DoubleArrayAhoCorasickBuilder {
         P::IntoIter: Drop,
         requires { (it : P.IntoIter) → P.into_iter_gives patterns it → P.IntoIter.can_next it × IsFinite (P.IntoIter.remaining it) }
         ensures ok { IfOk result (λ a. (it : P.IntoIter) × P.into_iter_gives patterns it
-            × WholeRun P.IntoIter.next_gives it (λ p. IsBuiltOf V.try_from_gives self (map (λ t. t.now) p.items) a)) }
-        ensures kind { IfOk result (λ a. a.kind ≡ self) }
+            × WholeRun P.IntoIter.next_gives it (λ p. IsBuiltOf V.try_from_gives self (map (λ t. t.now) p.items) a.parts)) }
+        ensures kind { IfOk result (λ a. a.parts.kind ≡ self) }
         ensures err { IfErr result (λ e. IsOutOfMemory e ⊎ ((it : P.IntoIter) × P.into_iter_gives patterns it
             × WholeRun P.IntoIter.next_gives it (λ p. IsBuildRefusal V.try_from_gives self (map (λ t. t.now) p.items) e))) }
     {
@@ -127,8 +127,8 @@ impl DoubleArrayAhoCorasickBuilder {
         P::IntoIter: Drop,
         requires { (it : P.IntoIter) → P.into_iter_gives patvals it → P.IntoIter.can_next it × IsFinite (P.IntoIter.remaining it) }
         ensures ok { IfOk result (λ a. (it : P.IntoIter) × P.into_iter_gives patvals it
-            × WholeRun P.IntoIter.next_gives it (λ p. (w : List ℕ) → content a w ≡ dictionary self (registered p.items) w)) }
-        ensures kind { IfOk result (λ a. a.kind ≡ self) }
+            × WholeRun P.IntoIter.next_gives it (λ p. (w : List ℕ) → content a.parts w ≡ dictionary self (registered p.items) w)) }
+        ensures kind { IfOk result (λ a. a.parts.kind ≡ self) }
         ensures err { IfErr result (λ e. IsOutOfMemory e ⊎ ((it : P.IntoIter) × P.into_iter_gives patvals it
             × WholeRun P.IntoIter.next_gives it (λ p. IsRefusalOf self (registered p.items) e))) }
     {
@@ -163,8 +163,8 @@ fn from_texts<V: Copy + TryFrom<usize>, A: Allocator + Copy>(
 ) -> Result<DoubleArrayAhoCorasick<V, A>>
 where
     V::Error: Drop,
-    ensures ok { IfOk result (λ a. IsBuiltOf V.try_from_gives kind (map (λ t. t.now) texts.now) a) }
-    ensures kind { IfOk result (λ a. a.kind ≡ kind) }
+    ensures ok { IfOk result (λ a. IsBuiltOf V.try_from_gives kind (map (λ t. t.now) texts.now) a.parts) }
+    ensures kind { IfOk result (λ a. a.parts.kind ≡ kind) }
     ensures err { IfErr result (IsBuildRefusal V.try_from_gives kind (map (λ t. t.now) texts.now)) }
 {
     let patterns = indexed(alloc, texts)?;
@@ -198,8 +198,8 @@ fn from_patterns<V: Copy, A: Allocator + Copy>(
     kind: MatchKind,
     patterns: &[(&[u8], V)],
 ) -> Result<DoubleArrayAhoCorasick<V, A>>
-    ensures ok { IfOk result (λ a. (w : List ℕ) → content a w ≡ dictionary kind (registered patterns.now) w) }
-    ensures kind { IfOk result (λ a. a.kind ≡ kind) }
+    ensures ok { IfOk result (λ a. (w : List ℕ) → content a.parts w ≡ dictionary kind (registered patterns.now) w) }
+    ensures kind { IfOk result (λ a. a.parts.kind ≡ kind) }
     ensures err { IfErr result (IsRefusalOf kind (registered patterns.now)) }
 {
     let mut builder = NfaBuilder::new(alloc, kind)?;
@@ -241,14 +241,14 @@ fn finish<V: Copy, A: Allocator + Copy>(
     requires unbuilt { outputs_of builder ≡ [] }
     requires few { count_of builder ≤ 16777215 }
     requires fits { length (states_of builder) ≤ 4294967296 }
-    ensures ok { IfOk result (λ a. (rs : List (List ℕ × V)) → Registered nat_cmp (λ b. b) byte_width builder rs → (w : List ℕ) → content a w ≡ dictionary kind rs w) }
-    ensures kind { IfOk result (λ a. a.kind ≡ kind) }
+    ensures ok { IfOk result (λ a. (rs : List (List ℕ × V)) → Registered nat_cmp (λ b. b) byte_width builder rs → (w : List ℕ) → content a.parts w ≡ dictionary kind rs w) }
+    ensures kind { IfOk result (λ a. a.parts.kind ≡ kind) }
     ensures err { IfErr result (λ e. (rs : List (List ℕ × V)) → Registered nat_cmp (λ b. b) byte_width builder rs → IsRefusal ⊥ NumElements (HasMoreProperPrefixes (dictionary kind rs) 16777214) e) }
 {
     let order = build_links(alloc, kind, &mut builder)?;
     builder.build_outputs(&order)?;
     let states = States::build(alloc, kind, builder)?;
-    Ok(DoubleArrayAhoCorasick { states })
+    Ok(DoubleArrayAhoCorasick::of_states(alloc, states))
 }
 
 /// Sets the links of a builder's states, and answers their order.

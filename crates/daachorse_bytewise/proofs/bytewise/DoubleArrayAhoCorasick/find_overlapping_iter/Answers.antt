@@ -7,4 +7,4 @@ use Rattle.daachorse_bytewise.proofs.bytewise.DoubleArrayAhoCorasick.find_overla
 
 pub returns-clause-left : goal.returns-clause-left
 returns-clause-left g c =
-    c.new.ensures.left ∙ ap (λ (p : Parts g.row.V.Denot). overlapping byte_width (content p) c.args.haystack.now) (c.standard.ensures ∙ c.self.view_is)
+    c.new.ensures.left ∙ ap (λ (p : Parts g.row.V.Denot). overlapping byte_width (content p) c.args.haystack.now) (c.standard.ensures ∙ ap (λ a. a.parts) c.self.view_is)

@@ -7,4 +7,4 @@ use Rattle.daachorse_bytewise.proofs.bytewise.DoubleArrayAhoCorasick.leftmost_fi
 
 pub returns-clause-left : goal.returns-clause-left
 returns-clause-left g c =
-    c.new.ensures.left ∙ ap (λ (p : Parts g.row.V.Denot). leftmost byte_width (content p) c.args.haystack.now) (c.leftmost.ensures ∙ c.self.view_is)
+    c.new.ensures.left ∙ ap (λ (p : Parts g.row.V.Denot). leftmost byte_width (content p) c.args.haystack.now) (c.leftmost.ensures ∙ ap (λ a. a.parts) c.self.view_is)

@@ -1,5 +1,5 @@
 -- The builder is built for the dictionary of each list of patterns that it registered.
-use Rattle.std.proofs.Common.{◌≤◌, ◌⊎◌, ℕ, List, true, length, ◌∙◌, sym, subst, inl, inr, arith}
+use Rattle.std.proofs.Common.{◌≤◌, ◌⊎◌, ℕ, List, true, length, ◌∙◌, ap, sym, subst, inl, inr, arith}
 use Rattle.std.specs.Ordering.{nat_cmp}
 use Rattle.std.proofs.lemmas.Result.{err_from_is_err_and}
 use Rattle.daachorse_core.specs.declared.errors.DaachorseError.{DaachorseError}
@@ -9,6 +9,7 @@ use Rattle.daachorse_core.proofs.Refusals.{IsRefusal-weaker}
 use Rattle.daachorse_model.specs.Dictionary.{Dictionary, dictionary}
 use Rattle.daachorse_build.specs.Builders.{outputs_of, states_of}
 use Rattle.daachorse_build.specs.Orders.{HoldLeftLinks, HoldLinks}
+use Rattle.daachorse_bytewise_states.specs.Parts.{content}
 use Rattle.daachorse_bytewise_states.specs.Packing.{IsBuiltFor}
 use Rattle.daachorse_bytewise_states.specs.Prefixes.{HasMoreProperPrefixes}
 use Rattle.daachorse_bytewise.proofs.BuildLaws.{Registered-kept, finished_for, outputs_refused, standard_or_not}
@@ -74,4 +75,4 @@ returns-clause-ok g c = λ rs was w.
     let count = made.kept_bound rs kept in
     let few : length (outputs_of d) ≤ 16777215 = omega (arith, count, linked.patterns, c.requires.few) in
     let built = finished_for c.args.kind c.args.builder c.build_links.new.builder d c.in_ok-order.order.items c.requires.kind c.requires.fits linked.kept linked.kind linked.patterns linked.root linked.standard linked.left made.kept made.kind made.patterns made.fails made.parents few made.positions made.follows rs was in
-    c.in_ok-states.ensures.ok (dictionary c.args.kind rs) built w
+    ap (λ p. content p w) c.of_states.ensures.parts ∙ c.in_ok-states.ensures.ok (dictionary c.args.kind rs) built w

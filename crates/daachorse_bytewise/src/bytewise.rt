@@ -3,7 +3,7 @@
 //! The layers above may rely on a build holding just the dictionary of its patterns, and on each
 //! search giving the whole list of matches that the definitions give for that dictionary.
 
-ghost use Rattle.std.specs.Prelude.{◌≡◌, ◌≢◌, ◌⊎◌, ℕ, List, [], IfOk, IfErr, map};
+ghost use Rattle.std.specs.Prelude.{◌≡◌, ◌≢◌, ◌⊎◌, ℕ, List, [], IfOk, IfErr, OnOk, OnErr, map};
 ghost use Rattle.std.specs.Iterator.{IsFinite};
 ghost use Rattle.std.specs.Iterator.Runs.{WholeRun};
 ghost use Rattle.daachorse_core.specs.Refusals.{IsOutOfMemory};
@@ -13,6 +13,8 @@ ghost use Rattle.daachorse_model.specs.Dictionary.{dictionary, registered};
 ghost use Rattle.daachorse_model.specs.Leftmost.{leftmost};
 ghost use Rattle.daachorse_model.specs.Matches.{no_suffix, overlapping, standard};
 ghost use Rattle.daachorse_search.specs.Searches.{all_found, first_found, standard_found};
+ghost use Rattle.daachorse_model.specs.Prefixes.{HasPrefixes};
+ghost use Rattle.daachorse_bytewise.specs.Automata.{HasDepths};
 ghost use Rattle.daachorse_bytewise.specs.Building.{IsBuildRefusal, IsBuiltOf, IsRefusalOf};
 ghost use Rattle.daachorse_bytewise_states.specs.Parts.{content};
 
@@ -38,6 +40,7 @@ use daachorse_search::overlapping::{
 };
 use daachorse_search::source;
 use std::alloc::{Allocator, Global};
+use std::hash::{Hash, Hasher};
 use std::marker::Model;
 
 /// An automaton that finds many patterns in bytes at once.
@@ -46,16 +49,18 @@ use std::marker::Model;
 #[derive(Drop)]
 pub struct DoubleArrayAhoCorasick<V: Copy, A: Allocator = Global> {
     states: States<V, A>,
+    // Of each element how many bytes lead to it; empty where depths are not cached.
+    depths: Vec<u32, A>,
 }
 
 impl<V: Copy, A: Allocator> Model for DoubleArrayAhoCorasick<V, A> {
-    ghost use Rattle.daachorse_bytewise_states.specs.Parts.{Parts};
+    ghost use Rattle.daachorse_bytewise.specs.Automata.{Automaton, MayHaveDepths};
 
-    ghost Value = { Parts V };
+    ghost Value = { Automaton V };
 
-    ghost view = { λ a. a.states };
+    ghost view = { λ a. record { parts = a.states; depths = a.depths.items } };
 
-    ghost invariant = { λ a. Unit {0} };
+    ghost invariant = { λ a. MayHaveDepths a.states a.depths.items };
 }
 
 impl<V: Copy, A: Allocator + Copy> DoubleArrayAhoCorasick<V, A> {
@@ -74,8 +79,8 @@ impl<V: Copy, A: Allocator + Copy> DoubleArrayAhoCorasick<V, A> {
         V::Error: Drop,
         requires { (it : P.IntoIter) → P.into_iter_gives patterns it → P.IntoIter.can_next it × IsFinite (P.IntoIter.remaining it) }
         ensures ok { IfOk result (λ a. (it : P.IntoIter) × P.into_iter_gives patterns it
-            × WholeRun P.IntoIter.next_gives it (λ p. IsBuiltOf V.try_from_gives Standard (map (λ t. t.now) p.items) a)) }
-        ensures kind { IfOk result (λ a. a.kind ≡ Standard) }
+            × WholeRun P.IntoIter.next_gives it (λ p. IsBuiltOf V.try_from_gives Standard (map (λ t. t.now) p.items) a.parts)) }
+        ensures kind { IfOk result (λ a. a.parts.kind ≡ Standard) }
         ensures err { IfErr result (λ e. IsOutOfMemory e ⊎ ((it : P.IntoIter) × P.into_iter_gives patterns it
             × WholeRun P.IntoIter.next_gives it (λ p. IsBuildRefusal V.try_from_gives Standard (map (λ t. t.now) p.items) e))) }
     {
@@ -98,8 +103,8 @@ impl<V: Copy, A: Allocator + Copy> DoubleArrayAhoCorasick<V, A> {
         P::IntoIter: Drop,
         requires { (it : P.IntoIter) → P.into_iter_gives patvals it → P.IntoIter.can_next it × IsFinite (P.IntoIter.remaining it) }
         ensures ok { IfOk result (λ a. (it : P.IntoIter) × P.into_iter_gives patvals it
-            × WholeRun P.IntoIter.next_gives it (λ p. (w : List ℕ) → content a w ≡ dictionary Standard (registered p.items) w)) }
-        ensures kind { IfOk result (λ a. a.kind ≡ Standard) }
+            × WholeRun P.IntoIter.next_gives it (λ p. (w : List ℕ) → content a.parts w ≡ dictionary Standard (registered p.items) w)) }
+        ensures kind { IfOk result (λ a. a.parts.kind ≡ Standard) }
         ensures err { IfErr result (λ e. IsOutOfMemory e ⊎ ((it : P.IntoIter) × P.into_iter_gives patvals it
             × WholeRun P.IntoIter.next_gives it (λ p. IsRefusalOf Standard (registered p.items) e))) }
     {
@@ -107,12 +112,99 @@ impl<V: Copy, A: Allocator + Copy> DoubleArrayAhoCorasick<V, A> {
     }
 }
 
+impl<V: Copy, A: Allocator + Copy> DoubleArrayAhoCorasick<V, A> {
+    /// The automaton of these states, with no depths cached.
+    pub(crate) fn of_states(alloc: A, states: States<V, A>) -> Self
+        ensures parts { result.parts ≡ states }
+        ensures depths { result.depths ≡ [] }
+    {
+        Self {
+            states,
+            depths: Vec::new(alloc),
+        }
+    }
+
+    /// Computes the depths of all elements and keeps them, so that steppers can tell the depths of
+    /// their states. After a refusal the automaton is as it was.
+    ///
+    /// # Errors
+    ///
+    /// An allocation failed.
+    pub fn cache_depths(&mut self) -> Result<()>
+        requires { self.old.parts.kind ≡ Standard }
+        ensures parts { self.new.parts ≡ self.old.parts }
+        ensures ok { OnOk result (HasDepths self.new.parts self.new.depths) }
+        ensures unchanged { OnErr result (self.new ≡ self.old) }
+        ensures err { IfErr result IsOutOfMemory }
+    {
+        let depths = self.states.depths(*self.depths.allocator())?;
+        self.depths = depths;
+        Ok(())
+    }
+
+    /// An automaton that keeps the same, in memory of its own.
+    ///
+    /// # Errors
+    ///
+    /// An allocation failed.
+    pub fn clone(&self) -> Result<Self>
+        ensures same { IfOk result (λ a. a ≡ self.now) }
+        ensures err { IfErr result IsOutOfMemory }
+    {
+        let depths = Vec::from_slice(*self.depths.allocator(), &self.depths)?;
+        Ok(Self {
+            states: self.states.clone()?,
+            depths,
+        })
+    }
+}
+
+/// Automata are equal where all that they keep is, the cached depths included.
+impl<V: Copy + PartialEq, A: Allocator> PartialEq for DoubleArrayAhoCorasick<V, A> {
+    ghost use Rattle.daachorse_bytewise.specs.Automata.{automaton_eq, automaton_per};
+
+    ghost eq = { automaton_eq V.eq };
+
+    ghost laws = { automaton_per V.laws };
+
+    fn eq(&self, other: &Self) -> bool {
+        self.states == other.states && self.depths == other.depths
+    }
+}
+
+impl<V: Copy + Eq, A: Allocator> Eq for DoubleArrayAhoCorasick<V, A> {
+    ghost use Rattle.daachorse_bytewise.specs.Automata.{automaton_equiv};
+
+    ghost laws = { automaton_equiv V.Eq.laws };
+}
+
+impl<V: Copy + Hash, A: Allocator> Hash for DoubleArrayAhoCorasick<V, A> {
+    ghost use Rattle.daachorse_bytewise.specs.Automata.{automaton_alike, automaton_input};
+
+    ghost hash_input = { automaton_input V.hash_input };
+
+    ghost respects_eq = { automaton_alike V.respects_eq };
+
+    fn hash<H: Hasher>(&self, state: &mut H) {
+        self.states.hash(state);
+        self.depths.hash(state);
+    }
+}
+
 impl<V: Copy, A: Allocator> DoubleArrayAhoCorasick<V, A> {
     /// The searches that the automaton is for: the standard ones, or one of the leftmost.
     pub fn match_kind(&self) -> MatchKind
-        ensures { result ≡ self.now.kind }
+        ensures { result ≡ self.now.parts.kind }
     {
         self.states.kind()
+    }
+
+    /// The number of states: how many texts begin a pattern that the automaton holds, the empty one
+    /// among them.
+    pub fn num_states(&self) -> usize
+        ensures { HasPrefixes (content self.now.parts) result }
+    {
+        self.states.num_states() as usize
     }
 
     /// Finds matches in a haystack that do not overlap: from the end of the one before each ends as
@@ -121,9 +213,9 @@ impl<V: Copy, A: Allocator> DoubleArrayAhoCorasick<V, A> {
     #[inline(always)]
     #[tactic(auto, using(daachorse_bytewise_states::proofs::DeadLaws::alive))]
     pub fn find_iter<'a>(&'a self, haystack: &'a [u8]) -> FindSliceIterator<'a, V>
-        requires { self.now.kind ≡ Standard }
-        ensures left { result.left ≡ standard byte_width (content self.entry.now) haystack.entry.now }
-        ensures automaton { result.automaton ≡ self.entry.now }
+        requires { self.now.parts.kind ≡ Standard }
+        ensures left { result.left ≡ standard byte_width (content self.entry.now.parts) haystack.entry.now }
+        ensures automaton { result.automaton ≡ self.entry.now.parts }
         ensures passed { result.passed ≡ [] }
         ensures turns { result.turns ≡ 0 }
     {
@@ -138,11 +230,11 @@ impl<V: Copy, A: Allocator> DoubleArrayAhoCorasick<V, A> {
         &'a self,
         haystack: P,
     ) -> FindIterator<'a, P, V>
-        requires { self.now.kind ≡ Standard }
-        ensures automaton { result.automaton ≡ self.entry.now }
+        requires { self.now.parts.kind ≡ Standard }
+        ensures automaton { result.automaton ≡ self.entry.now.parts }
         ensures source { result.source ≡ haystack }
         ensures read { result.read ≡ [] }
-        ensures pending { result.pending ≡ standard_found byte_width content self.entry.now [] }
+        ensures pending { result.pending ≡ standard_found byte_width content self.entry.now.parts [] }
         ensures turns { result.turns ≡ 0 }
     {
         MatchesFrom::new(
@@ -159,9 +251,9 @@ impl<V: Copy, A: Allocator> DoubleArrayAhoCorasick<V, A> {
         &'a self,
         haystack: &'a [u8],
     ) -> FindOverlappingSliceIterator<'a, V>
-        requires { self.now.kind ≡ Standard }
-        ensures left { result.left ≡ overlapping byte_width (content self.entry.now) haystack.entry.now }
-        ensures automaton { result.automaton ≡ self.entry.now }
+        requires { self.now.parts.kind ≡ Standard }
+        ensures left { result.left ≡ overlapping byte_width (content self.entry.now.parts) haystack.entry.now }
+        ensures automaton { result.automaton ≡ self.entry.now.parts }
         ensures passed { result.passed ≡ [] }
         ensures turns { result.turns ≡ 0 }
     {
@@ -176,11 +268,11 @@ impl<V: Copy, A: Allocator> DoubleArrayAhoCorasick<V, A> {
         &'a self,
         haystack: P,
     ) -> FindOverlappingIterator<'a, P, V>
-        requires { self.now.kind ≡ Standard }
-        ensures automaton { result.automaton ≡ self.entry.now }
+        requires { self.now.parts.kind ≡ Standard }
+        ensures automaton { result.automaton ≡ self.entry.now.parts }
         ensures source { result.source ≡ haystack }
         ensures read { result.read ≡ [] }
-        ensures pending { result.pending ≡ all_found byte_width content self.entry.now [] }
+        ensures pending { result.pending ≡ all_found byte_width content self.entry.now.parts [] }
         ensures turns { result.turns ≡ 0 }
     {
         MatchesFrom::new(
@@ -197,9 +289,9 @@ impl<V: Copy, A: Allocator> DoubleArrayAhoCorasick<V, A> {
         &'a self,
         haystack: &'a [u8],
     ) -> FindOverlappingNoSuffixSliceIterator<'a, V>
-        requires { self.now.kind ≡ Standard }
-        ensures left { result.left ≡ no_suffix byte_width (content self.entry.now) haystack.entry.now }
-        ensures automaton { result.automaton ≡ self.entry.now }
+        requires { self.now.parts.kind ≡ Standard }
+        ensures left { result.left ≡ no_suffix byte_width (content self.entry.now.parts) haystack.entry.now }
+        ensures automaton { result.automaton ≡ self.entry.now.parts }
         ensures passed { result.passed ≡ [] }
         ensures turns { result.turns ≡ 0 }
     {
@@ -214,11 +306,11 @@ impl<V: Copy, A: Allocator> DoubleArrayAhoCorasick<V, A> {
         &'a self,
         haystack: P,
     ) -> FindOverlappingNoSuffixIterator<'a, P, V>
-        requires { self.now.kind ≡ Standard }
-        ensures automaton { result.automaton ≡ self.entry.now }
+        requires { self.now.parts.kind ≡ Standard }
+        ensures automaton { result.automaton ≡ self.entry.now.parts }
         ensures source { result.source ≡ haystack }
         ensures read { result.read ≡ [] }
-        ensures pending { result.pending ≡ first_found byte_width content self.entry.now [] }
+        ensures pending { result.pending ≡ first_found byte_width content self.entry.now.parts [] }
         ensures turns { result.turns ≡ 0 }
     {
         MatchesFrom::new(
@@ -234,9 +326,9 @@ impl<V: Copy, A: Allocator> DoubleArrayAhoCorasick<V, A> {
     #[inline(always)]
     #[tactic(auto, using(daachorse_bytewise_states::proofs::DeadLaws::is_leftmost_automaton))]
     pub fn leftmost_find_iter<'a>(&'a self, haystack: &'a [u8]) -> LeftmostFindIterator<'a, V>
-        requires { self.now.kind ≢ Standard }
-        ensures left { result.left ≡ leftmost byte_width (content self.entry.now) haystack.entry.now }
-        ensures automaton { result.automaton ≡ self.entry.now }
+        requires { self.now.parts.kind ≢ Standard }
+        ensures left { result.left ≡ leftmost byte_width (content self.entry.now.parts) haystack.entry.now }
+        ensures automaton { result.automaton ≡ self.entry.now.parts }
         ensures haystack { result.haystack ≡ haystack.entry.now }
         ensures passed { result.passed ≡ [] }
         ensures turns { result.turns ≡ 0 }
@@ -249,8 +341,8 @@ impl<V: Copy, A: Allocator> DoubleArrayAhoCorasick<V, A> {
     #[inline(always)]
     #[tactic(auto, using(daachorse_bytewise_states::proofs::DeadLaws::alive))]
     pub fn find_stepper<'a>(&'a self) -> FindStepper<'a, V>
-        requires { self.now.kind ≡ Standard }
-        ensures automaton { result.automaton ≡ self.entry.now }
+        requires { self.now.parts.kind ≡ Standard }
+        ensures automaton { result.automaton ≡ self.entry.now.parts }
         ensures read { result.read ≡ [] }
         ensures turns { result.turns ≡ 0 }
     {
@@ -261,8 +353,8 @@ impl<V: Copy, A: Allocator> DoubleArrayAhoCorasick<V, A> {
     #[inline(always)]
     #[tactic(auto, using(daachorse_bytewise_states::proofs::DeadLaws::alive))]
     pub fn find_overlapping_stepper<'a>(&'a self) -> FindOverlappingStepper<'a, V>
-        requires { self.now.kind ≡ Standard }
-        ensures automaton { result.automaton ≡ self.entry.now }
+        requires { self.now.parts.kind ≡ Standard }
+        ensures automaton { result.automaton ≡ self.entry.now.parts }
         ensures read { result.read ≡ [] }
         ensures turns { result.turns ≡ 0 }
     {

@@ -13,3 +13,4 @@ pub mod WrittenLaws
 pub mod BuiltLaws
 pub mod EmptyLaws
 pub mod Rows
+pub mod EdgeLaws

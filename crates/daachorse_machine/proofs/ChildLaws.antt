@@ -38,6 +38,16 @@ module _ (n : ℕ) where
       let found : check k ≡ right = grind (arith, parts.1) in
       (omega (arith, below, same), ap check (sym same) ∙ found)
 
+  -- the base of a parent is not 0, and leads by the label to the child
+  pub child_at-from : (right base c j : ℕ) (check : ℕ → ℕ) → child_at n check right base c ≡ Some j → (base ≢ 0) × (bit_xor base c ≡ j)
+  child_at-from right base c j check e =
+      let k : ℕ = bit_xor base c in
+      (λ zero. none (base == 0) (grind (arith, zero)) e, (last_way (base == 0) (nat_lt k n) (check k == right) k j e).2)
+    where
+      none : (a : Bool) → a ≡ true → cond a None (cond (nat_lt (bit_xor base c) n) (cond (check (bit_xor base c) == right) (Some (bit_xor base c)) None) None) ≡ Some j → ⊥
+      none true p e = cc
+      none false p e = cc
+
   pub child_at-some : (right base c j : ℕ) (check : ℕ → ℕ) → base ≢ 0 → bit_xor base c ≡ j → j < n → check j ≡ right → child_at n check right base c ≡ Some j
   child_at-some right base c j check some at below found =
       let k : ℕ = bit_xor base c in

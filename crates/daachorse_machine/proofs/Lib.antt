@@ -11,3 +11,4 @@ pub mod CopyLinks
 pub mod CopyCount
 pub mod CopyLaws
 pub mod Rows
+pub mod CountLaws

@@ -8,5 +8,5 @@ use Rattle.daachorse_bytewise.proofs.bytewise.DoubleArrayAhoCorasick.find_overla
 pub returns-clause-left : goal.returns-clause-left
 returns-clause-left g c =
     c.find_overlapping_in.ensures.left
-    ∙ ap (λ (p : Parts g.row.V.Denot). overlapping byte_width (content p) c.new.result) (c.standard.ensures ∙ c.self.view_is)
-    ∙ ap (overlapping byte_width (content c.args.self.now)) c.new.ensures.bytes
+    ∙ ap (λ (p : Parts g.row.V.Denot). overlapping byte_width (content p) c.new.result) (c.standard.ensures ∙ ap (λ a. a.parts) c.self.view_is)
+    ∙ ap (overlapping byte_width (content c.args.self.now.parts)) c.new.ensures.bytes

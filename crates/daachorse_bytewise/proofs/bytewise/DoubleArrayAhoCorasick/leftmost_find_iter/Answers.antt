@@ -8,5 +8,5 @@ use Rattle.daachorse_bytewise.proofs.bytewise.DoubleArrayAhoCorasick.leftmost_fi
 pub returns-clause-left : goal.returns-clause-left
 returns-clause-left g c =
     c.new-2.ensures.left
-    ∙ ap (λ (p : Parts g.row.V.Denot). leftmost byte_width (content p) c.new.result) (c.leftmost.ensures ∙ c.self.view_is)
-    ∙ ap (leftmost byte_width (content c.args.self.now)) c.new.ensures.bytes
+    ∙ ap (λ (p : Parts g.row.V.Denot). leftmost byte_width (content p) c.new.result) (c.leftmost.ensures ∙ ap (λ a. a.parts) c.self.view_is)
+    ∙ ap (leftmost byte_width (content c.args.self.now.parts)) c.new.ensures.bytes

@@ -1,0 +1,5 @@
+pub mod LinkedLaws
+pub mod EdgeLaws
+pub mod Members
+pub mod Orders
+pub mod WalkLaws

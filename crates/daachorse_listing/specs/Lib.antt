@@ -1,0 +1,4 @@
+pub mod Linked
+pub mod Edges
+pub mod Trees
+pub mod Depths

@@ -161,11 +161,12 @@ impl<V: Copy, A: Allocator + Copy> DoubleArrayAhoCorasick<V, A> {
 
 /// Automata are equal where all that they keep is, the cached depths included.
 impl<V: Copy + PartialEq, A: Allocator> PartialEq for DoubleArrayAhoCorasick<V, A> {
-    ghost use Rattle.daachorse_bytewise.specs.Automata.{automaton_eq, automaton_per};
+    ghost use Rattle.daachorse_bytewise_states.specs.Equality.{parts_eq, parts_per};
+    ghost use Rattle.daachorse_listing.specs.Automata.{automaton_eq, automaton_per};
 
-    ghost eq = { automaton_eq V.eq };
+    ghost eq = { automaton_eq (parts_eq V.eq) };
 
-    ghost laws = { automaton_per V.laws };
+    ghost laws = { automaton_per (parts_per V.laws) };
 
     fn eq(&self, other: &Self) -> bool {
         self.states == other.states && self.depths == other.depths
@@ -173,17 +174,19 @@ impl<V: Copy + PartialEq, A: Allocator> PartialEq for DoubleArrayAhoCorasick<V, 
 }
 
 impl<V: Copy + Eq, A: Allocator> Eq for DoubleArrayAhoCorasick<V, A> {
-    ghost use Rattle.daachorse_bytewise.specs.Automata.{automaton_equiv};
+    ghost use Rattle.daachorse_bytewise_states.specs.Equality.{parts_equiv};
+    ghost use Rattle.daachorse_listing.specs.Automata.{automaton_equiv};
 
-    ghost laws = { automaton_equiv V.Eq.laws };
+    ghost laws = { automaton_equiv (parts_equiv V.Eq.laws) };
 }
 
 impl<V: Copy + Hash, A: Allocator> Hash for DoubleArrayAhoCorasick<V, A> {
-    ghost use Rattle.daachorse_bytewise.specs.Automata.{automaton_alike, automaton_input};
+    ghost use Rattle.daachorse_bytewise_states.specs.Equality.{parts_alike, parts_input};
+    ghost use Rattle.daachorse_listing.specs.Automata.{automaton_alike, automaton_input};
 
-    ghost hash_input = { automaton_input V.hash_input };
+    ghost hash_input = { automaton_input (parts_input V.hash_input) };
 
-    ghost respects_eq = { automaton_alike V.respects_eq };
+    ghost respects_eq = { automaton_alike (parts_alike V.respects_eq) };
 
     fn hash<H: Hasher>(&self, state: &mut H) {
         self.states.hash(state);
@@ -343,10 +346,11 @@ impl<V: Copy, A: Allocator> DoubleArrayAhoCorasick<V, A> {
     pub fn find_stepper<'a>(&'a self) -> FindStepper<'a, V>
         requires { self.now.parts.kind ≡ Standard }
         ensures automaton { result.automaton ≡ self.entry.now.parts }
+        ensures depths { result.depths ≡ self.entry.now.depths }
         ensures read { result.read ≡ [] }
         ensures turns { result.turns ≡ 0 }
     {
-        FindStepper::new(self.states.standard(), &[])
+        FindStepper::new(self.states.standard(), &self.depths)
     }
 
     /// The search of [`Self::find_overlapping_iter`], one byte at a time.
@@ -355,9 +359,10 @@ impl<V: Copy, A: Allocator> DoubleArrayAhoCorasick<V, A> {
     pub fn find_overlapping_stepper<'a>(&'a self) -> FindOverlappingStepper<'a, V>
         requires { self.now.parts.kind ≡ Standard }
         ensures automaton { result.automaton ≡ self.entry.now.parts }
+        ensures depths { result.depths ≡ self.entry.now.depths }
         ensures read { result.read ≡ [] }
         ensures turns { result.turns ≡ 0 }
     {
-        FindOverlappingStepper::new(self.states.standard(), &[])
+        FindOverlappingStepper::new(self.states.standard(), &self.depths)
     }
 }

@@ -3,3 +3,4 @@ pub mod EdgeLaws
 pub mod Members
 pub mod Orders
 pub mod WalkLaws
+pub mod DepthLaws

@@ -92,7 +92,7 @@ fn build<A: Allocator + Copy>(
     kind: MatchKind,
     file: &[u8],
 ) -> Result<DoubleArrayAhoCorasick<u32, A>, DaachorseError>
-    ensures built { IfOk result (IsBuiltOf value_gives kind (pattern_lines file.now)) }
+    ensures built { IfOk result (λ a. IsBuiltOf value_gives kind (pattern_lines file.now) a.parts) }
     ensures kind { IfOk result (λ a. a.parts.kind ≡ kind) }
     ensures refused { IfErr result (IsBuildRefusal value_gives kind (pattern_lines file.now)) }
 {

@@ -4,3 +4,5 @@ pub mod Counted
 pub mod BuiltLaws
 pub mod Groups
 pub mod Looks
+pub mod StandardBuilders
+pub mod Keys

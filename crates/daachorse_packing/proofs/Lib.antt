@@ -4,5 +4,4 @@ pub mod Counted
 pub mod BuiltLaws
 pub mod Groups
 pub mod Looks
-pub mod StandardBuilders
 pub mod Keys

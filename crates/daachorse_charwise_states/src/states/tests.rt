@@ -1,21 +1,32 @@
 //! Worked rows of the layout: how many states and elements there are, and what the elements hold.
 
-ghost use Rattle.std.specs.Prelude.{◌≡◌, ◌≤◌, ◌<◌, ℕ, List, length, slice_index, IsSome, IsTrue, IfOk, OnOk};
+ghost use Rattle.std.specs.Prelude.{◌<◌, ℕ, length, slice_index, IsSome, IsTrue, IfOk};
 ghost use Rattle.std.specs.List.{AllByRecursion};
-ghost use Rattle.std.specs.Ordering.{nat_cmp};
-ghost use Rattle.daachorse_build.specs.Builders.{Registered, outputs_of, states_of};
 ghost use Rattle.daachorse_mapper.specs.Codings.{IsCoding, code_of};
-ghost use Rattle.daachorse_model.specs.Units.{char_width};
+ghost use Rattle.daachorse_patterns.specs.Patterns.{texts_of};
 
 use crate::state::State;
 use crate::states::States;
-use daachorse_build::nfa_builder::NfaBuilder;
 use daachorse_core::errors::{DaachorseError, Result};
 use daachorse_core::{MatchKind, Output};
 use daachorse_mapper::mapper::CodeMapper;
-use std::alloc::Global;
+use daachorse_patterns::pattern::Pattern;
+use daachorse_patterns::trie::build_trie;
+use std::alloc::{Allocator, Global};
 use std::num::NonZeroU32;
 use std::test::Fail;
+
+/// A pattern by its characters.
+#[derive(Clone, Copy)]
+struct Characters<'p>(&'p [char]);
+
+impl<'p> Pattern<char> for Characters<'p> {
+    ghost units = { λ p. p.0.now };
+
+    fn labels<'b, A: Allocator>(&'b self, _buffer: &'b mut Vec<char, A>) -> Result<&'b [char]> {
+        Ok(self.0)
+    }
+}
 
 /// The base, the check, the failure link and the position of the first output, 0 for none.
 fn parts(element: &State) -> (u32, u32, u32, u32) {
@@ -43,16 +54,16 @@ fn count(freqs: &mut [u32], pattern: &[char]) {
 }
 
 /// The frequencies of the characters below U+10000.
-fn frequencies(alloc: Global, patvals: &[(&[char], u32)]) -> Result<Vec<u32>> {
+fn frequencies(alloc: Global, patvals: &[(Characters<'_>, u32)]) -> Result<Vec<u32>> {
     let mut freqs = vec![in alloc; 0; 0x10000]?;
     for (pattern, _) in patvals {
-        count(&mut freqs, pattern);
+        count(&mut freqs, pattern.0);
     }
     Ok(freqs)
 }
 
 /// The mapper for these frequencies.
-fn mapper_of(alloc: Global, patvals: &[(&[char], u32)]) -> Result<CodeMapper>
+fn mapper_of(alloc: Global, patvals: &[(Characters<'_>, u32)]) -> Result<CodeMapper>
     ensures { IfOk result IsCoding }
 {
     let freqs = frequencies(alloc, patvals)?;
@@ -74,37 +85,28 @@ fn is_coded(pattern: &[char], mapper: &CodeMapper) -> bool
     true
 }
 
-/// Adds the patterns, each character of which has a code.
-fn add_all(
-    nfa: &mut NfaBuilder<char, u32>,
-    mapper: &CodeMapper,
-    patvals: &[(&[char], u32)],
-) -> Result<()>
-    requires registered { (rs : List (List ℕ × ℕ)) × Registered nat_cmp (λ u. u) char_width nfa.old rs × AllByRecursion (λ r. (i : ℕ) → i < length r.0 → IsSome (code_of mapper.now (slice_index r.0 i))) rs }
-    requires fits { length (states_of nfa.old) ≤ 4294967296 }
-    ensures registered { OnOk result ((rs : List (List ℕ × ℕ)) × Registered nat_cmp (λ u. u) char_width nfa.new rs × AllByRecursion (λ r. (i : ℕ) → i < length r.0 → IsSome (code_of mapper.now (slice_index r.0 i))) rs) }
-    ensures fits { OnOk result (length (states_of nfa.new) ≤ 4294967296) }
-    ensures outputs { outputs_of nfa.new ≡ outputs_of nfa.old }
+/// Whether each character of the patterns has a code.
+fn are_coded(patvals: &[(Characters<'_>, u32)], mapper: &CodeMapper) -> bool
+    ensures { IsTrue result → AllByRecursion (λ r. (i : ℕ) → i < length r.0 → IsSome (code_of mapper.now (slice_index r.0 i))) (texts_of (λ p. p.0.now) patvals.now) }
 {
-    for (pattern, value) in patvals {
-        if !is_coded(pattern, mapper) {
-            return Err(DaachorseError::invalid_argument());
+    for (pattern, _) in patvals {
+        if !is_coded(pattern.0, mapper) {
+            return false;
         }
-        nfa.add(pattern, *value)?;
     }
-    Ok(())
+    true
 }
 
 /// The automaton of these patterns and values for the standard searches.
-fn built(alloc: Global, patvals: &[(&[char], u32)]) -> Result<States<u32>> {
+fn built(alloc: Global, patvals: &[(Characters<'_>, u32)]) -> Result<States<u32>> {
     let mapper = mapper_of(alloc, patvals)?;
     if mapper.alphabet_size() > 0x8000_0000 {
         return Err(DaachorseError::invalid_argument());
     }
-    let mut nfa = NfaBuilder::new(alloc, MatchKind::Standard)?;
-    add_all(&mut nfa, &mapper, patvals)?;
-    let order = nfa.build_fails(alloc)?;
-    nfa.build_outputs(&order)?;
+    if !are_coded(patvals, &mapper) {
+        return Err(DaachorseError::invalid_argument());
+    }
+    let nfa = build_trie(alloc, MatchKind::Standard, None, patvals)?;
     States::build(alloc, MatchKind::Standard, nfa, mapper)
 }
 
@@ -128,10 +130,10 @@ fn built_of_groups(alloc: Global, groups: &[Group<'_>]) -> Result<States<u32>, F
     for group in groups {
         push_patterns(&mut patterns, *group)?;
     }
-    let patvals: Vec<(&[char], u32)> = patterns
+    let patvals: Vec<(Characters<'_>, u32)> = patterns
         .iter()
         .zip(0..)
-        .map(|(pattern, value)| (pattern.as_slice(), value))
+        .map(|(pattern, value)| (Characters(pattern.as_slice()), value))
         .collect(alloc)?;
     Ok(built(alloc, &patvals)?)
 }
@@ -167,11 +169,11 @@ fn siblings_share_blocks(rt: HostRuntime) -> Result<(), Fail> {
 
 #[test]
 fn elements_name_their_parents(rt: HostRuntime) -> Result<(), Fail> {
-    let patvals: [(&[char], u32); 4] = [
-        (&['Ａ', 'Ａ'], 0),
-        (&['Ａ', 'Ｃ'], 1),
-        (&['Ｂ', 'Ｃ'], 2),
-        (&['Ｃ'], 3),
+    let patvals: [(Characters<'_>, u32); 4] = [
+        (Characters(&['Ａ', 'Ａ']), 0),
+        (Characters(&['Ａ', 'Ｃ']), 1),
+        (Characters(&['Ｂ', 'Ｃ']), 2),
+        (Characters(&['Ｃ']), 3),
     ];
     let bases = [4, 0, 0, 0, 8, 0, 3, 0, 0, 0, 0, 0];
     let checks = [1, 1, 6, 1, 0, 0, 0, 1, 4, 4, 1, 1];
@@ -209,9 +211,9 @@ fn without_patterns_a_block_is_vacant(rt: HostRuntime) -> Result<(), Fail> {
 
 #[test]
 fn the_order_of_patterns_leaves_the_layout(rt: HostRuntime) -> Result<(), Fail> {
-    let abba: &[char] = &['a', 'b', 'b', 'a'];
-    let baaba: &[char] = &['b', 'a', 'a', 'b', 'a'];
-    let ababa: &[char] = &['a', 'b', 'a', 'b', 'a'];
+    let abba = Characters(&['a', 'b', 'b', 'a']);
+    let baaba = Characters(&['b', 'a', 'a', 'b', 'a']);
+    let ababa = Characters(&['a', 'b', 'a', 'b', 'a']);
     let one = built(rt.alloc(), &[(abba, 1), (baaba, 2), (ababa, 0)])?;
     let other = built(rt.alloc(), &[(ababa, 0), (abba, 1), (baaba, 2)])?;
     assert_eq!(rt; one.num_states(), 13);

@@ -1,3 +1,2 @@
-pub mod BuildLaws
 pub mod TurnLaws
 pub mod SourceLaws

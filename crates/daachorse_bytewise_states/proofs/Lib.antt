@@ -2,8 +2,6 @@ pub mod WritingLaws
 pub mod PackedTrie
 pub mod PackedParts
 pub mod PackedValid
-pub mod ManyGroups
-pub mod ByteGroups
 pub mod ChildLaws
 pub mod ByteLaws
 pub mod DeadLaws

@@ -1,12 +1,13 @@
 //! The states of an automaton over characters, as they are kept.
 //!
-//! The layers above may rely on the parts being valid, and on what is built holding just the
-//! dictionary that it was built for.
+//! The layers above may rely on the parts being valid, on what is built holding just the dictionary
+//! that it was built for, and on the views of it being the same automaton.
 
-ghost use Rattle.std.specs.Prelude.{◌≡◌, ◌≤◌, ◌^◌, ℕ, List, IfOk, IfErr};
+ghost use Rattle.std.specs.Prelude.{◌≡◌, ◌≢◌, ◌≤◌, ◌^◌, ℕ, List, IfOk, IfErr};
 ghost use Rattle.daachorse_core.specs.declared.errors.Limit.TheVariants.{NumElements};
 ghost use Rattle.daachorse_core.specs.Refusals.{IsRefusal};
 ghost use Rattle.daachorse_model.specs.Dictionary.{Dictionary};
+ghost use Rattle.daachorse_model.specs.declared.MatchKind.TheVariants.{Standard};
 ghost use Rattle.daachorse_model.specs.Paths.{is_reached};
 ghost use Rattle.daachorse_model.specs.Prefixes.{PassesAt};
 ghost use Rattle.daachorse_mapper.specs.Codings.{IsCoding};
@@ -18,6 +19,7 @@ mod tests;
 
 use crate::packing::pack;
 use crate::state::State;
+use crate::view::{self, View};
 use daachorse_build::nfa_builder::NfaBuilder;
 use daachorse_core::errors::Result;
 use daachorse_core::{MatchKind, Output};
@@ -119,6 +121,37 @@ impl<V: Copy, A: Allocator> States<V, A> {
         ensures { PassesAt (is_reached (child self.now)) result }
     {
         self.num_states
+    }
+
+    /// What the standard searches see.
+    #[inline(always)]
+    pub fn standard(&self) -> view::Standard<'_, V>
+        requires { self.now.kind ≡ Standard }
+        ensures { result ≡ self.entry.now }
+    {
+        View::new(
+            self.kind,
+            self.states.as_slice(),
+            &self.mapper,
+            self.outputs.as_slice(),
+            self.num_states,
+        )
+    }
+
+    /// What the leftmost searches see.
+    #[inline(always)]
+    #[tactic(auto, using(daachorse_machine::proofs::DeadLaws::leftmost_kind))]
+    pub fn leftmost(&self) -> view::Leftmost<'_, V>
+        requires { self.now.kind ≢ Standard }
+        ensures { result ≡ self.entry.now }
+    {
+        View::new(
+            self.kind,
+            self.states.as_slice(),
+            &self.mapper,
+            self.outputs.as_slice(),
+            self.num_states,
+        )
     }
 
     /// The codes of the characters.

@@ -8,6 +8,7 @@ ghost use Rattle.daachorse_core.specs.declared.errors.Limit.TheVariants.{NumElem
 ghost use Rattle.daachorse_core.specs.Refusals.{IsRefusal};
 ghost use Rattle.daachorse_model.specs.Dictionary.{Dictionary};
 ghost use Rattle.daachorse_model.specs.declared.MatchKind.TheVariants.{Standard};
+ghost use Rattle.daachorse_model.specs.Kinds.{is_leftmost};
 ghost use Rattle.daachorse_model.specs.Paths.{is_reached};
 ghost use Rattle.daachorse_model.specs.Prefixes.{PassesAt};
 ghost use Rattle.daachorse_mapper.specs.Codings.{IsCoding};
@@ -19,7 +20,7 @@ mod tests;
 
 use crate::packing::pack;
 use crate::state::State;
-use crate::view::{self, View};
+use crate::view::{self, Searches, View};
 use daachorse_build::nfa_builder::NfaBuilder;
 use daachorse_core::errors::Result;
 use daachorse_core::{MatchKind, Output};
@@ -129,13 +130,7 @@ impl<V: Copy, A: Allocator> States<V, A> {
         requires { self.now.kind ≡ Standard }
         ensures { result ≡ self.entry.now }
     {
-        View::new(
-            self.kind,
-            self.states.as_slice(),
-            &self.mapper,
-            self.outputs.as_slice(),
-            self.num_states,
-        )
+        self.view()
     }
 
     /// What the leftmost searches see.
@@ -143,6 +138,15 @@ impl<V: Copy, A: Allocator> States<V, A> {
     #[tactic(auto, using(daachorse_machine::proofs::DeadLaws::leftmost_kind))]
     pub fn leftmost(&self) -> view::Leftmost<'_, V>
         requires { self.now.kind ≢ Standard }
+        ensures { result ≡ self.entry.now }
+    {
+        self.view()
+    }
+
+    /// What the searches `S` see.
+    #[inline(always)]
+    fn view<S: Searches>(&self) -> View<'_, V, S>
+        requires { is_leftmost self.now.kind ≡ S.leftmost }
         ensures { result ≡ self.entry.now }
     {
         View::new(

@@ -1,17 +1,20 @@
 //! Worked rows of the layout: how many states and elements there are, and what the elements hold.
 
-ghost use Rattle.std.specs.Prelude.{◌<◌, ℕ, length, slice_index, IsSome, IsTrue, IfOk};
+ghost use Rattle.std.specs.Prelude.{◌≡◌, ◌<◌, ℕ, length, slice_index, IsSome, IsTrue, IfOk};
 ghost use Rattle.std.specs.List.{AllByRecursion};
+ghost use Rattle.daachorse_model.specs.declared.MatchKind.TheVariants.{Standard};
 ghost use Rattle.daachorse_mapper.specs.Codings.{IsCoding, code_of};
 ghost use Rattle.daachorse_patterns.specs.Patterns.{texts_of};
 
 use crate::state::State;
 use crate::states::States;
 use daachorse_core::errors::{DaachorseError, Result};
+use daachorse_core::turns::Turns;
 use daachorse_core::{MatchKind, Output};
 use daachorse_mapper::mapper::CodeMapper;
 use daachorse_patterns::pattern::Pattern;
 use daachorse_patterns::trie::build_trie;
+use daachorse_search::automaton::{Automaton, step};
 use std::alloc::{Allocator, Global};
 use std::num::NonZeroU32;
 use std::test::Fail;
@@ -98,7 +101,9 @@ fn are_coded(patvals: &[(Characters<'_>, u32)], mapper: &CodeMapper) -> bool
 }
 
 /// The automaton of these patterns and values for the standard searches.
-fn built(alloc: Global, patvals: &[(Characters<'_>, u32)]) -> Result<States<u32>> {
+fn built(alloc: Global, patvals: &[(Characters<'_>, u32)]) -> Result<States<u32>>
+    ensures { IfOk result (λ s. s.kind ≡ Standard) }
+{
     let mapper = mapper_of(alloc, patvals)?;
     if mapper.alphabet_size() > 0x8000_0000 {
         return Err(DaachorseError::invalid_argument());
@@ -226,5 +231,20 @@ fn the_order_of_patterns_leaves_the_layout(rt: HostRuntime) -> Result<(), Fail> 
         outputs.as_slice(),
         [(1, 4, 0), (0, 5, 0), (2, 5, 0)].as_slice()
     );
+    Ok(())
+}
+
+#[test]
+fn a_search_goes_from_state_to_state(rt: HostRuntime) -> Result<(), Fail> {
+    let states = built(rt.alloc(), &[(Characters(&['a', '\u{e9}']), 7)])?;
+    let search = states.standard();
+    let mut turns = Turns::new();
+    let state = step(&search, search.root(), 'a', &mut turns);
+    assert_eq!(rt; search.output_pos(state), None);
+    let state = step(&search, state, '\u{e9}', &mut turns);
+    let position = search.output_pos(state).ok_or("no output")?;
+    assert_eq!(rt; output_parts(&search.output(position)), (7, 3, 0));
+    let state = step(&search, state, 'b', &mut turns);
+    assert!(rt; search.is_root(state));
     Ok(())
 }

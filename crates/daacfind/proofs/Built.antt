@@ -3,7 +3,8 @@ use Rattle.std.proofs.Common.{◌≡◌, ℕ, ◌+◌, List, [], ◌∷◌, refl
 use Rattle.daachorse_model.specs.declared.MatchKind.{MatchKind}
 use Rattle.daachorse_model.specs.Dictionary.{dictionary}
 use Rattle.daachorse_model.specs.Program.{numbered, pattern_lines, match_text}
-use Rattle.daachorse_bytewise.specs.Building.{AreIndexed, IsBuiltOf}
+use Rattle.daachorse_bytewise.specs.Building.{IsBuiltOf}
+use Rattle.daachorse_patterns.specs.Patterns.{AreIndexed}
 use Rattle.daachorse_bytewise_states.specs.Parts.{Parts, content}
 use Rattle.daacfind.specs.declared.mode.Mode.{Mode}
 use Rattle.daacfind.specs.Modes.{found_by, kind_of_mode, text_of_mode}

@@ -11,6 +11,5 @@ pub mod StandardLaws
 pub mod LeftmostLaws
 pub mod WrittenLaws
 pub mod BuiltLaws
-pub mod StandardBuilders
 pub mod EmptyLaws
 pub mod Rows

@@ -17,7 +17,7 @@ use Rattle.daachorse_build.specs.EdgeMaps.{id_at}
 use Rattle.daachorse_build.specs.Tables.{child_in as edge_to}
 use Rattle.daachorse_build.proofs.Walks.{text_of, walk-push}
 use Rattle.daachorse_bytewise_states.specs.Packing.{AreByteGroups}
-use Rattle.daachorse_bytewise_states.specs.Prefixes.{HasMoreProperPrefixes, IsProperPrefix}
+use Rattle.daachorse_patterns.specs.Prefixes.{HasMoreProperPrefixes, IsProperPrefix}
 
 -- the first of some edges leads somewhere
 first_edge : (es : List (ℕ × ℕ)) → 0 < length es → (c : ℕ) × (t : ℕ) × (id_at nat_cmp es c ≡ Some t)

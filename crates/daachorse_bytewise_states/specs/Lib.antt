@@ -2,6 +2,5 @@ pub mod Elements
 pub mod Parts
 pub mod Valid
 pub mod Packing
-pub mod Prefixes
 pub mod Writing
 pub mod StateForms

@@ -5,15 +5,13 @@ use Rattle.daachorse_placement.specs.declared.build_helper.SiblingGroup.{Sibling
 use Rattle.daachorse_placement.specs.Layout.{IsLeastUnused, Layout}
 use Rattle.daachorse_placement.specs.Placement.{AreBlocksFull, AreGroups, HasSizes, IsPlaced, children_of, parent_of}
 use Rattle.daachorse_build.specs.declared.nfa_builder.NfaBuilderState.{NfaBuilderState}
-use Rattle.daachorse_build.specs.Tables.{child_in as edge_to, depths_of, edges_of, fails_of, positions_of, HoldTrie, IsTable}
+use Rattle.daachorse_build.specs.Tables.{child_in as edge_to, depths_of, edges_of, fails_of, positions_of, IsTable}
 use Rattle.daachorse_build.specs.declared.nfa_builder.NfaBuilder.{NfaBuilder}
-use Rattle.daachorse_build.specs.Builders.{outputs_of, states_of}
 use Rattle.daachorse_model.specs.declared.MatchKind.{MatchKind}
 use Rattle.daachorse_model.specs.Dictionary.{Dictionary}
-use Rattle.daachorse_model.specs.Kinds.{is_leftmost}
-use Rattle.daachorse_model.specs.Paths.{Leads}
 use Rattle.daachorse_model.specs.Units.{byte_width}
-use Rattle.daachorse_machine.specs.Copies.{HoldsDictionary, LinkedTrie}
+use Rattle.daachorse_machine.specs.Copies.{LinkedTrie}
+use Rattle.daachorse_patterns.specs.Tries.{IsBuilt, trie_by}
 use Rattle.daachorse_bytewise_states.specs.declared.state.State.{State}
 use Rattle.daachorse_bytewise_states.specs.Elements.{base_in, check_in, fail_in, output_in, vacant}
 
@@ -45,7 +43,7 @@ pub record HoldStates (l : Layout) (edges : List (List (ℕ × ℕ))) (fails pos
 
 -- the trie with these edges, links and positions
 abbrev pub trie_of : List (List (ℕ × ℕ)) → List ℕ → List ℕ → LinkedTrie
-trie_of edges fails positions = record { child = edge_to nat_cmp edges; fail = slice_index fails; output = slice_index positions }
+trie_of edges fails positions = trie_by (edge_to nat_cmp edges) fails positions
 
 -- Groups that are the edges of a trie over bytes: one for each state that has some.
 pub record AreByteGroups {A : Type 0} (gs : List (SiblingGroup A)) (edges : List (List (ℕ × ℕ))) (depths : List ℕ) : Type 0 where
@@ -77,11 +75,6 @@ pub record ArePackedOf {V A : Type 0} (states : List (NfaBuilderState ℕ V A)) 
 abbrev pub HasManyGroups : {V A : Type 0} → List (NfaBuilderState ℕ V A) → Type 0
 HasManyGroups {V} {A} states = (gs : List (SiblingGroup A)) × AreByteGroups gs (edges_of states) (depths_of states) × (2 ^ 32 ≤ (length gs + 1) * 256)
 
--- The links and outputs of a builder are built, and it holds the dictionary K; an automaton can number its outputs and its states.
-pub record IsBuiltFor {V A : Type 0} (kind : MatchKind) (b : NfaBuilder ℕ V A) (K : Dictionary V) : Type 0 where
-  pub trie : HoldTrie nat_cmp (states_of b)
-  pub holds : HoldsDictionary byte_width K (is_leftmost kind) (trie_of (edges_of (states_of b)) (fails_of (states_of b)) (positions_of (states_of b))) (outputs_of b)
-  pub root : slice_index (fails_of (states_of b)) 0 ≡ 0
-  pub positions : (w : List ℕ) (t : ℕ) → Leads (edge_to nat_cmp (edges_of (states_of b))) w t → slice_index (positions_of (states_of b)) t ≤ length (outputs_of b)
-  pub few_outputs : length (outputs_of b) ≤ 16777215
-  pub few_states : length (states_of b) ≤ 4294967296
+-- the links and outputs of a builder over bytes are built, and it holds the dictionary K; an automaton can number its outputs and its states
+abbrev pub IsBuiltFor : {V A : Type 0} → MatchKind → NfaBuilder ℕ V A → Dictionary V → Type 0
+IsBuiltFor kind b K = IsBuilt nat_cmp (λ u. u) byte_width (Some 16777215) kind b K

@@ -8,7 +8,7 @@ ghost use Rattle.daachorse_core.specs.declared.errors.Limit.TheVariants.{NumElem
 ghost use Rattle.daachorse_core.specs.Refusals.{IsOutOfMemory, IsRefusal};
 ghost use Rattle.daachorse_model.specs.Dictionary.{Dictionary};
 ghost use Rattle.daachorse_bytewise_states.specs.Packing.{IsBuiltFor};
-ghost use Rattle.daachorse_bytewise_states.specs.Prefixes.{HasMoreProperPrefixes};
+ghost use Rattle.daachorse_patterns.specs.Prefixes.{HasMoreProperPrefixes};
 ghost use Rattle.daachorse_model.specs.declared.MatchKind.TheVariants.{Standard};
 ghost use Rattle.daachorse_model.specs.Paths.{is_reached};
 ghost use Rattle.daachorse_model.specs.Prefixes.{PassesAt};

@@ -1,5 +1,5 @@
 -- Parts that hold the trie of a builder are valid, and hold the builder's dictionary: a copy of the trie is right.
-use Rattle.std.proofs.Common.{◌≡◌, ℕ, ◌-◌, ◌*◌, ◌%◌, ◌<◌, ◌≤◌, true, List, [], ◌∷◌, ◌++◌, length, get_or, refl, sym, ap, ◌∙◌, subst, inl, inr, append_assoc, arith}
+use Rattle.std.proofs.Common.{◌≡◌, ℕ, ◌-◌, ◌*◌, ◌%◌, ◌<◌, ◌≤◌, true, List, [], ◌∷◌, ◌++◌, length, get_or, None, refl, sym, ap, ◌∙◌, subst, inl, inr, append_assoc, arith}
 use Rattle.std.specs.Prelude.{is_some, max, slice_index}
 use Rattle.std.specs.Int.{IsNextPowerOfTwo}
 use Rattle.std.specs.Ordering.{nat_cmp}
@@ -19,7 +19,7 @@ use Rattle.daachorse_machine.specs.Copies.{IsCopy}
 use Rattle.daachorse_machine.proofs.CopyLaws.{content-same, copy-counted, copy-right}
 use Rattle.daachorse_mapper.specs.Codings.{Coding, IsCoding, code_of}
 use Rattle.daachorse_packing.specs.Settled.{trie_of}
-use Rattle.daachorse_packing.proofs.BuiltLaws.{built-count, built-text}
+use Rattle.daachorse_packing.proofs.BuiltLaws.{built-count, built-holds, built-text}
 use Rattle.daachorse_packing.proofs.Held.{held-in_range, settled-states}
 use Rattle.daachorse_packing.proofs.Places.{place-dead, place-inside, some-elements}
 use Rattle.daachorse_charwise_states.specs.declared.state.State.{State}
@@ -39,9 +39,9 @@ module _ {V A : Type 0} (kind : MatchKind) (b : NfaBuilder ℕ V A) (K : Diction
   edges-coded coding coded s c t e =
       let edges = edges_of (states_of b) in
       let bounds = built.trie.trie.bounds s c t e in
-      let less : s < length (states_of b) = (let low : s < t = bounds.0 in let high : t < length edges = bounds.3 in omega (arith, low, high, built-count char_width kind b K built)) in
-      let text = built-text char_width kind b K built s less bounds.1 in
-      coded_behind coding K coded text.0 c (built.holds.only t (text.0 ++ c ∷ []) (walk-push (child_in nat_cmp edges) 0 text.0 c s text.1 ∙ e))
+      let less : s < length (states_of b) = (let low : s < t = bounds.0 in let high : t < length edges = bounds.3 in omega (arith, low, high, built-count char_width None kind b K built)) in
+      let text = built-text char_width None kind b K built s less bounds.1 in
+      coded_behind coding K coded text.0 c ((built-holds char_width None kind b K built).only t (text.0 ++ c ∷ []) (walk-push (child_in nat_cmp edges) 0 text.0 c s text.1 ∙ e))
 
   module _ (coding : Coding) (block : ℕ) (is : IsCoding coding) (coded : AreEdgesCoded coding (edges_of (states_of b))) (es : List State) (p : ArePackedOf coding block (states_of b) es) where
     abbrev parts : ℕ → Parts V
@@ -52,7 +52,7 @@ module _ {V A : Type 0} (kind : MatchKind) (b : NfaBuilder ℕ V A) (K : Diction
 
     -- the parts hold the dictionary
     pub built-content : (n : ℕ) (w : List ℕ) → content (parts n) w ≡ K w
-    built-content n w = content-same char_width char_wide K (is_leftmost kind) (trie_of (edges_of (states_of b)) (fails_of (states_of b)) (positions_of (states_of b))) (outputs_of b) built.holds (machine (parts n)) (λ t. get_or p.layout.idx t 0) (copy n) w
+    built-content n w = content-same char_width char_wide K (is_leftmost kind) (trie_of (edges_of (states_of b)) (fails_of (states_of b)) (positions_of (states_of b))) (outputs_of b) (built-holds char_width None kind b K built) (machine (parts n)) (λ t. get_or p.layout.idx t 0) (copy n) w
 
     -- the dead state has an element
     two_elements : 1 < length p.layout.used
@@ -64,7 +64,7 @@ module _ {V A : Type 0} (kind : MatchKind) (b : NfaBuilder ℕ V A) (K : Diction
     inside_at : (n i : ℕ) → i < length es → IsInside (parts n) i
     inside_at n i low =
         let size : length es ≡ length p.layout.used = p.held.size in
-        let range = held-in_range p.settled (fails_of (states_of b)) (positions_of (states_of b)) p.held.states char_width (is_leftmost kind) K (outputs_of b) built.holds built.root built.positions two_elements i (omega (arith, low, size)) in
+        let range = held-in_range p.settled (fails_of (states_of b)) (positions_of (states_of b)) p.held.states char_width (is_leftmost kind) K (outputs_of b) (built-holds char_width None kind b K built) built.root built.positions two_elements i (omega (arith, low, size)) in
         record {
           base = omega (arith, range.base, size);
           fail = omega (arith, range.fail, size);
@@ -82,7 +82,7 @@ module _ {V A : Type 0} (kind : MatchKind) (b : NfaBuilder ℕ V A) (K : Diction
           some = (let some : 0 < length p.layout.used = some-elements p.settled in omega (arith, some, p.held.size));
           coding = is;
           inside = inside_at n;
-          parents_fall = built.holds.parents_fall;
-          right = copy-right char_width char_wide K (is_leftmost kind) trie (outputs_of b) built.holds (machine (parts n)) (λ t. get_or p.layout.idx t 0) (copy n);
-          counted = subst (λ (m : ℕ). PassesAt (is_reached (machine (parts n)).child) (m - 1)) (sym (built-count char_width kind b K built)) (copy-counted char_width char_wide K (is_leftmost kind) trie (outputs_of b) built.holds (machine (parts n)) (λ t. get_or p.layout.idx t 0) (copy n) (length (edges_of (states_of b))) (settled-states p.settled (fails_of (states_of b)) (positions_of (states_of b))));
+          parents_fall = (built-holds char_width None kind b K built).parents_fall;
+          right = copy-right char_width char_wide K (is_leftmost kind) trie (outputs_of b) (built-holds char_width None kind b K built) (machine (parts n)) (λ t. get_or p.layout.idx t 0) (copy n);
+          counted = subst (λ (m : ℕ). PassesAt (is_reached (machine (parts n)).child) (m - 1)) (sym (built-count char_width None kind b K built)) (copy-counted char_width char_wide K (is_leftmost kind) trie (outputs_of b) (built-holds char_width None kind b K built) (machine (parts n)) (λ t. get_or p.layout.idx t 0) (copy n) (length (edges_of (states_of b))) (settled-states p.settled (fails_of (states_of b)) (positions_of (states_of b))));
         }

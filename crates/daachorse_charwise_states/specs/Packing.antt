@@ -1,5 +1,5 @@
 -- Elements that hold a trie over characters, at the places of its states.
-use Rattle.std.specs.Prelude.{◌≡◌, ℕ, ◌+◌, ◌-◌, ◌/◌, ◌<◌, ◌^◌, false, max, List, ◌∷◌, ◌++◌, length, slice_index, slice_index_or, unwrap_or, Some, IsSome}
+use Rattle.std.specs.Prelude.{◌≡◌, ℕ, ◌+◌, ◌-◌, ◌/◌, ◌<◌, ◌^◌, false, max, List, ◌∷◌, ◌++◌, length, slice_index, slice_index_or, unwrap_or, None, Some, IsSome}
 use Rattle.std.specs.Int.{IsNextPowerOfTwo}
 use Rattle.std.specs.Ordering.{nat_cmp}
 use Rattle.daachorse_placement.specs.declared.build_helper.SiblingGroup.{SiblingGroup}
@@ -12,8 +12,8 @@ use Rattle.daachorse_model.specs.Dictionary.{Dictionary}
 use Rattle.daachorse_model.specs.Prefixes.{IsKey}
 use Rattle.daachorse_model.specs.Units.{char_width}
 use Rattle.daachorse_mapper.specs.Codings.{Coding, code_of}
-use Rattle.daachorse_packing.specs.Built.{IsBuilt}
-use Rattle.daachorse_packing.specs.Prefixes.{HasMoreProperPrefixes}
+use Rattle.daachorse_patterns.specs.Prefixes.{HasMoreProperPrefixes}
+use Rattle.daachorse_patterns.specs.Tries.{IsBuilt}
 use Rattle.daachorse_packing.specs.Settled.{AreSettled, HoldStates, IsVacantAt}
 use Rattle.daachorse_charwise_states.specs.declared.state.State.{State}
 use Rattle.daachorse_charwise_states.specs.Elements.{base_in, check_in, fail_in, output_in, vacant}
@@ -49,9 +49,9 @@ AreEdgesCoded coding edges = (s c t : ℕ) → child_in nat_cmp edges s c ≡ So
 abbrev pub AreCoded : {V : Type 0} → Coding → Dictionary V → Type 0
 AreCoded coding K = (v w : List ℕ) (u : ℕ) → IsKey K (v ++ u ∷ w) → IsSome (code_of coding u)
 
--- The links and outputs of a builder over characters are built, and it holds the dictionary K.
+-- The links and outputs of a builder over characters are built, without a limit of outputs, and it holds the dictionary K.
 abbrev pub IsBuiltFor : {V A : Type 0} → MatchKind → NfaBuilder ℕ V A → Dictionary V → Type 0
-IsBuiltFor kind b K = IsBuilt char_width kind b K
+IsBuiltFor kind b K = IsBuilt nat_cmp (λ u. u) char_width None kind b K
 
 -- More texts begin longer keys than there are blocks for: one at most for each text beside the first block, and all of them at most 4294967296 elements less a block.
 pub record NeedsManyBlocks {V : Type 0} (coding : Coding) (K : Dictionary V) : Type 0 where

@@ -20,7 +20,7 @@ use Rattle.daachorse_build.specs.Groups.{coded}
 use Rattle.daachorse_build.specs.Tables.{child_in}
 use Rattle.daachorse_build.proofs.Walks.{text_of, walk-push}
 use Rattle.daachorse_packing.specs.Settled.{AreGroupsOf}
-use Rattle.daachorse_packing.specs.Prefixes.{HasMoreProperPrefixes, IsProperPrefix}
+use Rattle.daachorse_patterns.specs.Prefixes.{HasMoreProperPrefixes, IsProperPrefix}
 
 -- the first of some edges leads somewhere
 first_edge : (es : List (ℕ × ℕ)) → 0 < length es → (c : ℕ) × (t : ℕ) × (id_at nat_cmp es c ≡ Some t)

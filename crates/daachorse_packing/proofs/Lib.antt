@@ -4,3 +4,4 @@ pub mod Counted
 pub mod BuiltLaws
 pub mod Groups
 pub mod Looks
+pub mod Keys

@@ -1,3 +1,1 @@
-pub mod Prefixes
 pub mod Settled
-pub mod Built

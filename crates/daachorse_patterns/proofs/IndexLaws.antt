@@ -1,11 +1,13 @@
 -- Items with the values of their indexes, one by one, and by their texts.
-use Rattle.std.proofs.Common.{◌≡◌, ℕ, ◌+◌, List, [], ◌∷◌, ◌++◌, length, map, refl, ap, subst, arith}
+use Rattle.std.proofs.Common.{◌≡◌, ℕ, ◌+◌, ◌⊎◌, List, [], ◌∷◌, ◌++◌, length, map, refl, sym, ap, subst, arith, inl, inr}
 use Rattle.std.specs.Prelude.{Result, Ok}
+use Rattle.std.proofs.lemmas.List.{length-map}
+use Rattle.daachorse_core.specs.Refusals.{IsOutOfMemory}
 use Rattle.daachorse_core.specs.declared.errors.DaachorseError.{DaachorseError}
 use Rattle.daachorse_core.specs.declared.errors.DaachorseError.TheVariants.{InvalidArgument, AutomatonScale, InvalidConversion, InvalidAutomaton, OutOfMemory}
 use Rattle.daachorse_model.specs.declared.MatchKind.{MatchKind}
-use Rattle.daachorse_patterns.specs.Building.{IsBuildRefusal, IsRefusalOf, Limits}
-use Rattle.daachorse_patterns.specs.Patterns.{AreIndexed, texts_of}
+use Rattle.daachorse_patterns.specs.Building.{IsBuildRefusalWithin, IsRefusalWithin, Limits}
+use Rattle.daachorse_patterns.specs.Patterns.{AreIndexed, HasNoValue, texts_of}
 
 module _ {V E : Type 0} (gives : ℕ → Result V E → Type 0) where
   -- one item more
@@ -22,8 +24,16 @@ module _ {V E : Type 0} (gives : ℕ → Result V E → Type 0) where
   AreIndexed-texts units i (t ∷ ts) [] was = absurd was
   AreIndexed-texts units i (t ∷ ts) (r ∷ rs) was = (ap units was.0, was.1, AreIndexed-texts units (i + 1) ts rs was.2)
 
+  -- why the values are refused is why the build is
+  pub values_refused : {P : Type 0} (units : P → List ℕ) (width : ℕ → ℕ) (limits : Limits) (kind : MatchKind) (ts : List P) (e : DaachorseError) → IsOutOfMemory e ⊎ ((e ≡ InvalidConversion (record {})) × HasNoValue gives ts) → IsBuildRefusalWithin gives width limits kind (map units ts) e
+  values_refused units width limits kind ts e (inl memory) =
+      let P : DaachorseError → Type 0 = λ x. IsBuildRefusalWithin gives width limits kind (map units ts) x in subst P (sym memory) tt
+  values_refused units width limits kind ts e (inr (is, none)) =
+      let P : DaachorseError → Type 0 = λ x. IsBuildRefusalWithin gives width limits kind (map units ts) x in
+      subst P (sym is) (none.0, none.1, omega (arith, none.2, length-map ts units), none.3)
+
   -- a refusal of patterns with the values of their indexes is one of the build
-  pub refused_build : (width : ℕ → ℕ) (limits : Limits) (kind : MatchKind) (texts : List (List ℕ)) (rs : List (List ℕ × V)) → AreIndexed gives 0 texts rs → (e : DaachorseError) → IsRefusalOf width limits kind rs e → IsBuildRefusal gives width limits kind texts e
+  pub refused_build : (width : ℕ → ℕ) (limits : Limits) (kind : MatchKind) (texts : List (List ℕ)) (rs : List (List ℕ × V)) → AreIndexed gives 0 texts rs → (e : DaachorseError) → IsRefusalWithin width limits kind rs e → IsBuildRefusalWithin gives width limits kind texts e
   refused_build width limits kind texts rs indexed (InvalidArgument _) refused = (rs, indexed, refused)
   refused_build width limits kind texts rs indexed (AutomatonScale _) refused = (rs, indexed, refused)
   refused_build width limits kind texts rs indexed (InvalidConversion _) refused = absurd refused

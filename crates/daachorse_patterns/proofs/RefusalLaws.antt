@@ -15,7 +15,7 @@ use Rattle.daachorse_build.specs.declared.nfa_builder.NfaBuilder.{NfaBuilder}
 use Rattle.daachorse_build.specs.Builders.{Registered, states_of, count_of, kind_of}
 use Rattle.daachorse_build.specs.Holds.{HasMorePrefixes, in_units}
 use Rattle.daachorse_build.proofs.Fitting.{enough}
-use Rattle.daachorse_patterns.specs.Building.{Fit, IsPassed, IsRefusalOf, Limits}
+use Rattle.daachorse_patterns.specs.Building.{Fit, IsPassed, IsRefusalWithin, Limits}
 use Rattle.daachorse_patterns.specs.Patterns.{texts_of}
 use Rattle.daachorse_patterns.specs.Prefixes.{HasMoreProperPrefixes}
 use Rattle.daachorse_patterns.specs.Tries.{HasTexts}
@@ -76,7 +76,7 @@ module _ {V : Type 0} (width : ℕ → ℕ) (limits : Limits) (kind : MatchKind)
   -- why a pattern is refused is why the build is
   pub add_refused : (before after : List (List ℕ × V)) (text : List ℕ) (value : V) → all ≡ before ++ (text, value) ∷ after → Fit width kind before → (e : DaachorseError) (long passed : Type 0)
       → (long → 4294967295 < size width text) → (passed → (size width text ≤ 4294967295) × HasMorePrefixes (dictionary kind (before ++ (text, value) ∷ [])) 4294967295)
-      → IsRefusal long StateId passed e → IsRefusalOf width limits kind all e
+      → IsRefusal long StateId passed e → IsRefusalWithin width limits kind all e
   add_refused before after text value parts fit (InvalidArgument _) long passed much tells refused =
       (before, (text, value), record { after = after; parts = parts; fit = fit }, much refused)
   add_refused before after text value parts fit (AutomatonScale s) long passed much tells refused =
@@ -88,14 +88,14 @@ module _ {V : Type 0} (width : ℕ → ℕ) (limits : Limits) (kind : MatchKind)
   add_refused before after text value parts fit (OutOfMemory _) long passed much tells refused = tt
 
   -- more patterns are kept than may be, and all of them fit
-  pub count_refused : (n : ℕ) (e : DaachorseError) → n ≡ length (kept kind all) → Fit width kind all → (e ≡ AutomatonScale (record { limit = PatternValues })) × IsSomeAnd limits.patterns (λ m. m < n) → IsRefusalOf width limits kind all e
+  pub count_refused : (n : ℕ) (e : DaachorseError) → n ≡ length (kept kind all) → Fit width kind all → (e ≡ AutomatonScale (record { limit = PatternValues })) × IsSomeAnd limits.patterns (λ m. m < n) → IsRefusalWithin width limits kind all e
   count_refused n e count fit refused =
-      let P : DaachorseError → Type 0 = λ x. IsRefusalOf width limits kind all x in
+      let P : DaachorseError → Type 0 = λ x. IsRefusalWithin width limits kind all x in
       let Q : ℕ → Type 0 = λ k. IsSomeAnd limits.patterns (λ m. m < k) in
       subst P (sym refused.0) (fit, subst Q count refused.1)
 
   -- a build whose elements are made refuses for what it refuses for without them
-  pub refused_before : (e : DaachorseError) → IsRefusalOf width (record { patterns = limits.patterns; parents = None }) kind all e → IsRefusalOf width limits kind all e
+  pub refused_before : (e : DaachorseError) → IsRefusalWithin width (record { patterns = limits.patterns; parents = None }) kind all e → IsRefusalWithin width limits kind all e
   refused_before (InvalidArgument _) refused = refused
   refused_before (AutomatonScale s) refused = go s.limit refused
     where
@@ -110,7 +110,7 @@ module _ {V : Type 0} (width : ℕ → ℕ) (limits : Limits) (kind : MatchKind)
   refused_before (OutOfMemory _) refused = tt
 
   -- why the elements are refused is why the build is
-  pub elements_refused : Fit width kind all → IfSome limits.patterns (λ n. length (kept kind all) ≤ n) → (e : DaachorseError) (passed : Type 0) → (passed → IsSomeAnd limits.parents (λ n. HasMoreProperPrefixes (dictionary kind all) n)) → IsRefusal ⊥ NumElements passed e → IsRefusalOf width limits kind all e
+  pub elements_refused : Fit width kind all → IfSome limits.patterns (λ n. length (kept kind all) ≤ n) → (e : DaachorseError) (passed : Type 0) → (passed → IsSomeAnd limits.parents (λ n. HasMoreProperPrefixes (dictionary kind all) n)) → IsRefusal ⊥ NumElements passed e → IsRefusalWithin width limits kind all e
   elements_refused fit few (InvalidArgument _) passed tells refused = absurd refused
   elements_refused fit few (AutomatonScale s) passed tells refused =
       let P : Limit → Type 0 = λ limit. IsPassed width limits kind all limit in
@@ -121,7 +121,7 @@ module _ {V : Type 0} (width : ℕ → ℕ) (limits : Limits) (kind : MatchKind)
 
 -- why the outputs are refused is why the build is: where the patterns have a limit of their own, there are no more outputs than patterns
 pub outputs_refused : {V : Type 0} (width : ℕ → ℕ) (patterns parents : Option ℕ) (kind : MatchKind) (all : List (List ℕ × V)) → IfSome patterns (λ n. n ≤ 4294967295) → IfSome patterns (λ n. length (kept kind all) ≤ n) → Fit width kind all
-    → (e : DaachorseError) (passed : Type 0) → (passed → 4294967295 < length (kept kind all)) → IsRefusal ⊥ Outputs passed e → IsRefusalOf width (record { patterns = patterns; parents = parents }) kind all e
+    → (e : DaachorseError) (passed : Type 0) → (passed → 4294967295 < length (kept kind all)) → IsRefusal ⊥ Outputs passed e → IsRefusalWithin width (record { patterns = patterns; parents = parents }) kind all e
 outputs_refused width patterns parents kind all low few fit (InvalidArgument _) passed tells refused = absurd refused
 outputs_refused width None parents kind all low few fit (AutomatonScale s) passed tells refused =
     let P : Limit → Type 0 = λ limit. IsPassed width (record { patterns = None; parents = parents }) kind all limit in

@@ -42,28 +42,28 @@ module _ {V : Type 0} (width : ℕ → ℕ) (limits : Limits) (kind : MatchKind)
   IsPassed OutputPos = ⊥
 
   -- why a build of patterns with their values refuses
-  abbrev pub IsRefusalOf : DaachorseError → Type 0
-  IsRefusalOf (InvalidArgument _) =
+  abbrev pub IsRefusalWithin : DaachorseError → Type 0
+  IsRefusalWithin (InvalidArgument _) =
       (before : List (List ℕ × V)) × (r : List ℕ × V) × ComesTo width kind rs before r × (4294967295 < size width r.0)
-  IsRefusalOf (AutomatonScale e) = IsPassed e.limit
-  IsRefusalOf (InvalidConversion _) = ⊥
-  IsRefusalOf (InvalidAutomaton _) = ⊥
-  IsRefusalOf (OutOfMemory _) = ⊤
+  IsRefusalWithin (AutomatonScale e) = IsPassed e.limit
+  IsRefusalWithin (InvalidConversion _) = ⊥
+  IsRefusalWithin (InvalidAutomaton _) = ⊥
+  IsRefusalWithin (OutOfMemory _) = ⊤
 
 module _ {V E : Type 0} (gives : ℕ → Result V E → Type 0) where
   -- K is the dictionary of the texts, each with the value of its index
-  abbrev pub IsBuiltOf : MatchKind → List (List ℕ) → Dictionary V → Type 0
-  IsBuiltOf kind texts K = (rs : List (List ℕ × V)) × AreIndexed gives 0 texts rs × ((w : List ℕ) → K w ≡ dictionary kind rs w)
+  abbrev pub IsDictionaryOf : MatchKind → List (List ℕ) → Dictionary V → Type 0
+  IsDictionaryOf kind texts K = (rs : List (List ℕ × V)) × AreIndexed gives 0 texts rs × ((w : List ℕ) → K w ≡ dictionary kind rs w)
 
   module _ (width : ℕ → ℕ) (limits : Limits) where
     -- all indexes have values, and the build of the texts with these refuses
     abbrev pub IsRefusedWithValues : MatchKind → List (List ℕ) → DaachorseError → Type 0
-    IsRefusedWithValues kind texts e = (rs : List (List ℕ × V)) × AreIndexed gives 0 texts rs × IsRefusalOf width limits kind rs e
+    IsRefusedWithValues kind texts e = (rs : List (List ℕ × V)) × AreIndexed gives 0 texts rs × IsRefusalWithin width limits kind rs e
 
     -- why a build of texts refuses, each of which gets the value of its index
-    abbrev pub IsBuildRefusal : MatchKind → List (List ℕ) → DaachorseError → Type 0
-    IsBuildRefusal kind texts (InvalidConversion _) = HasNoValue gives texts
-    IsBuildRefusal kind texts (InvalidArgument e) = IsRefusedWithValues kind texts (InvalidArgument e)
-    IsBuildRefusal kind texts (AutomatonScale e) = IsRefusedWithValues kind texts (AutomatonScale e)
-    IsBuildRefusal kind texts (InvalidAutomaton _) = ⊥
-    IsBuildRefusal kind texts (OutOfMemory _) = ⊤
+    abbrev pub IsBuildRefusalWithin : MatchKind → List (List ℕ) → DaachorseError → Type 0
+    IsBuildRefusalWithin kind texts (InvalidConversion _) = HasNoValue gives texts
+    IsBuildRefusalWithin kind texts (InvalidArgument e) = IsRefusedWithValues kind texts (InvalidArgument e)
+    IsBuildRefusalWithin kind texts (AutomatonScale e) = IsRefusedWithValues kind texts (AutomatonScale e)
+    IsBuildRefusalWithin kind texts (InvalidAutomaton _) = ⊥
+    IsBuildRefusalWithin kind texts (OutOfMemory _) = ⊤

@@ -12,7 +12,7 @@ ghost use Rattle.daachorse_build.specs.Builders.{Registered, count_of, kind_of, 
 ghost use Rattle.daachorse_build.specs.Growth.{HasTrieOf};
 ghost use Rattle.daachorse_build.specs.Orders.{HoldLeftLinks, HoldLinks};
 ghost use Rattle.daachorse_build.specs.Tables.{HoldTrie, fails_of};
-ghost use Rattle.daachorse_patterns.specs.Building.{Fit, IsRefusalOf, Limits};
+ghost use Rattle.daachorse_patterns.specs.Building.{Fit, IsRefusalWithin, Limits};
 ghost use Rattle.daachorse_patterns.specs.Patterns.{texts_of};
 ghost use Rattle.daachorse_patterns.specs.Tries.{AreLeft, HasTexts, IsBuilt};
 
@@ -42,7 +42,7 @@ pub fn build_trie<L: EdgeLabel, P: Pattern<L>, V: Copy, A: Allocator + Copy>(
     ensures ok { IfOk result (λ nfa. IsBuilt L.cmp L.unit L.width max_patterns kind nfa (dictionary kind (texts_of P.units patterns.now))) }
     ensures fit { OnOk result (Fit L.width kind (texts_of P.units patterns.now)) }
     ensures few { OnOk result (IfSome max_patterns (λ n. length (kept kind (texts_of P.units patterns.now)) ≤ n)) }
-    ensures err { IfErr result (IsRefusalOf L.width (record { patterns = max_patterns; parents = None }) kind (texts_of P.units patterns.now)) }
+    ensures err { IfErr result (IsRefusalWithin L.width (record { patterns = max_patterns; parents = None }) kind (texts_of P.units patterns.now)) }
 {
     let mut nfa = NfaBuilder::new(alloc, kind)?;
     add_all(alloc, &mut nfa, patterns)?;
@@ -65,7 +65,7 @@ fn add_all<L: EdgeLabel, P: Pattern<L>, V: Copy, A: Allocator + Copy>(
     ensures ok { OnOk result (HasTexts L.cmp L.unit L.width nfa.new (texts_of P.units patterns.now)) }
     ensures fit { OnOk result (Fit L.width (kind_of nfa.old) (texts_of P.units patterns.now)) }
     ensures fits { OnOk result (length (states_of nfa.new) ≤ 4294967296) }
-    ensures err { IfErr result (λ e. (limits : Limits) → IsRefusalOf L.width limits (kind_of nfa.old) (texts_of P.units patterns.now) e) }
+    ensures err { IfErr result (λ e. (limits : Limits) → IsRefusalWithin L.width limits (kind_of nfa.old) (texts_of P.units patterns.now) e) }
 {
     let mut buffer = Vec::new(alloc);
     for (pattern, value) in patterns {

@@ -5,29 +5,21 @@
 //! patterns are added in order, and the limit on their number is tested last; the first refusal
 //! ends the build.
 
-ghost use Rattle.std.specs.Prelude.{◌≡◌, ◌≢◌, true, ◌⊎◌, ◌≤◌, ℕ, List, [], IfOk, IfErr, OnOk, map, length, slice_index};
+ghost use Rattle.std.specs.Prelude.{◌≡◌, ◌⊎◌, ℕ, List, IfOk, IfErr, map};
 ghost use Rattle.std.specs.Iterator.{IsFinite};
 ghost use Rattle.std.specs.Iterator.Runs.{WholeRun};
-ghost use Rattle.std.specs.Ordering.{nat_cmp};
-ghost use Rattle.daachorse_core.specs.Refusals.{IsOutOfMemory, IsRefusal};
-ghost use Rattle.daachorse_core.specs.declared.errors.Limit.TheVariants.{NumElements};
-ghost use Rattle.daachorse_bytewise_states.specs.Prefixes.{HasMoreProperPrefixes};
+ghost use Rattle.daachorse_core.specs.Refusals.{IsOutOfMemory};
 ghost use Rattle.daachorse_model.specs.declared.MatchKind.TheVariants.{Standard};
-ghost use Rattle.daachorse_model.specs.Units.{byte_width};
 ghost use Rattle.daachorse_model.specs.Dictionary.{dictionary, registered};
-ghost use Rattle.daachorse_build.specs.Builders.{Registered, count_of, kind_of, outputs_of, states_of};
-ghost use Rattle.daachorse_build.specs.Growth.{HasTrieOf};
-ghost use Rattle.daachorse_build.specs.Orders.{HoldLeftLinks, HoldLinks};
-ghost use Rattle.daachorse_build.specs.Tables.{HoldTrie, fails_of};
-ghost use Rattle.daachorse_bytewise.specs.Links.{AreLeft};
-ghost use Rattle.daachorse_bytewise.specs.Building.{AreIndexed, Fit, HasNoValue, IsBuildRefusal, IsBuiltOf, IsRefusalOf};
+ghost use Rattle.daachorse_bytewise.specs.Building.{IsBuildRefusal, IsBuiltOf, IsRefusalOf};
 ghost use Rattle.daachorse_bytewise_states.specs.Parts.{content};
 
 use crate::bytewise::DoubleArrayAhoCorasick;
 use crate::bytewise::states::States;
-use daachorse_build::nfa_builder::NfaBuilder;
 use daachorse_core::MatchKind;
-use daachorse_core::errors::{DaachorseError, Limit, Result};
+use daachorse_core::errors::Result;
+use daachorse_patterns::gathering::{gather, indexed};
+use daachorse_patterns::trie::build_trie;
 use std::alloc::Allocator;
 use std::marker::Model;
 
@@ -137,24 +129,6 @@ impl DoubleArrayAhoCorasickBuilder {
     }
 }
 
-/// All that an iterator gives. Room is made as it comes, and not by the iterator's own estimate,
-/// so that each refused growth is an error.
-fn gather<T: Copy, I: Iterator<Item = T> + Drop, A: Allocator>(
-    alloc: A,
-    items: I,
-) -> Result<Vec<T, A>>
-    requires can { I.can_next items }
-    requires ends { IsFinite (I.remaining items) }
-    ensures ok { IfOk result (λ all. WholeRun I.next_gives items (λ p. all.items ≡ p.items)) }
-    ensures err { IfErr result IsOutOfMemory }
-{
-    let mut all = Vec::new(alloc);
-    for item in items {
-        all.push(item)?;
-    }
-    Ok(all)
-}
-
 /// An automaton of these texts, each with the value of its index.
 fn from_texts<V: Copy + TryFrom<usize>, A: Allocator + Copy>(
     alloc: A,
@@ -171,27 +145,6 @@ where
     from_patterns(alloc, kind, &patterns)
 }
 
-/// The texts, each with the value of its index.
-fn indexed<'p, V: Copy + TryFrom<usize>, A: Allocator + Copy>(
-    alloc: A,
-    texts: &[&'p [u8]],
-) -> Result<Vec<(&'p [u8], V), A>>
-where
-    V::Error: Drop,
-    ensures ok { IfOk result (λ patterns. AreIndexed V.try_from_gives 0 (map (λ t. t.now) texts.now) (registered patterns.items)) }
-    ensures err { IfErr result (λ e. IsOutOfMemory e
-        ⊎ ((e ≡ DaachorseError.InvalidConversion (record {})) × HasNoValue V.try_from_gives (map (λ t. t.now) texts.now))) }
-{
-    let mut patterns = Vec::with_capacity(alloc, texts.len())?;
-    for (index, text) in texts.iter().enumerate() {
-        let Ok(value) = V::try_from(index) else {
-            return Err(DaachorseError::invalid_conversion());
-        };
-        patterns.push((*text, value))?;
-    }
-    Ok(patterns)
-}
-
 /// An automaton of these patterns and values.
 fn from_patterns<V: Copy, A: Allocator + Copy>(
     alloc: A,
@@ -202,76 +155,7 @@ fn from_patterns<V: Copy, A: Allocator + Copy>(
     ensures kind { IfOk result (λ a. a.kind ≡ kind) }
     ensures err { IfErr result (IsRefusalOf kind (registered patterns.now)) }
 {
-    let mut builder = NfaBuilder::new(alloc, kind)?;
-    add_all(&mut builder, patterns)?;
-    if builder.num_patterns() > MAX_PATTERNS {
-        return Err(DaachorseError::automaton_scale(Limit::PatternValues));
-    }
-    finish(alloc, kind, builder)
-}
-
-/// Adds the patterns in order.
-fn add_all<V: Copy, A: Allocator + Copy>(
-    builder: &mut NfaBuilder<u8, V, A>,
-    patterns: &[(&[u8], V)],
-) -> Result<()>
-    requires empty { Registered nat_cmp (λ b. b) byte_width builder.old [] }
-    requires fits { length (states_of builder.old) ≤ 4294967296 }
-    ensures kind { kind_of builder.new ≡ kind_of builder.old }
-    ensures outputs { outputs_of builder.new ≡ outputs_of builder.old }
-    ensures ok { OnOk result (Registered nat_cmp (λ b. b) byte_width builder.new (registered patterns.now)) }
-    ensures fit { OnOk result (Fit (kind_of builder.old) (registered patterns.now)) }
-    ensures fits { OnOk result (length (states_of builder.new) ≤ 4294967296) }
-    ensures err { IfErr result (IsRefusalOf (kind_of builder.old) (registered patterns.now)) }
-{
-    for (text, value) in patterns {
-        builder.add(text, *value)?;
-    }
-    Ok(())
-}
-
-/// The automaton of a builder's patterns.
-fn finish<V: Copy, A: Allocator + Copy>(
-    alloc: A,
-    kind: MatchKind,
-    mut builder: NfaBuilder<u8, V, A>,
-) -> Result<DoubleArrayAhoCorasick<V, A>>
-    requires patterns { (rs : List (List ℕ × V)) × Registered nat_cmp (λ b. b) byte_width builder rs }
-    requires kind { kind_of builder ≡ kind }
-    requires unbuilt { outputs_of builder ≡ [] }
-    requires few { count_of builder ≤ 16777215 }
-    requires fits { length (states_of builder) ≤ 4294967296 }
-    ensures ok { IfOk result (λ a. (rs : List (List ℕ × V)) → Registered nat_cmp (λ b. b) byte_width builder rs → (w : List ℕ) → content a w ≡ dictionary kind rs w) }
-    ensures kind { IfOk result (λ a. a.kind ≡ kind) }
-    ensures err { IfErr result (λ e. (rs : List (List ℕ × V)) → Registered nat_cmp (λ b. b) byte_width builder rs → IsRefusal ⊥ NumElements (HasMoreProperPrefixes (dictionary kind rs) 16777214) e) }
-{
-    let order = build_links(alloc, kind, &mut builder)?;
-    builder.build_outputs(&order)?;
-    let states = States::build(alloc, kind, builder)?;
+    let nfa = build_trie(alloc, kind, Some(MAX_PATTERNS), patterns)?;
+    let states = States::build(alloc, kind, nfa)?;
     Ok(DoubleArrayAhoCorasick { states })
-}
-
-/// Sets the links of a builder's states, and answers their order.
-fn build_links<V: Copy, A: Allocator + Copy>(
-    alloc: A,
-    kind: MatchKind,
-    builder: &mut NfaBuilder<u8, V, A>,
-) -> Result<Vec<u32, A>>
-    requires { HoldTrie nat_cmp (states_of builder.old) }
-    ensures kind { kind_of builder.new ≡ kind_of builder.old }
-    ensures patterns { count_of builder.new ≡ count_of builder.old }
-    ensures outputs { outputs_of builder.new ≡ outputs_of builder.old }
-    ensures kept { HasTrieOf (states_of builder.old) (states_of builder.new) }
-    ensures standard { IfOk result (λ order. kind ≡ Standard → HoldLinks nat_cmp (states_of builder.new) order.items) }
-    ensures leftmost { IfOk result (λ order. kind ≢ Standard → HoldLeftLinks nat_cmp true (states_of builder.new) order.items) }
-    ensures root { OnOk result (slice_index (fails_of (states_of builder.new)) 0 ≡ 0) }
-    ensures left { IfOk result (λ order. kind ≢ Standard → (rs : List (List ℕ × V)) → Registered nat_cmp (λ b. b) byte_width builder.old rs → AreLeft (kind_of builder.old) (states_of builder.old) (states_of builder.new) rs) }
-    ensures err { IfErr result IsOutOfMemory }
-{
-    match kind {
-        MatchKind::Standard => builder.build_fails(alloc),
-        MatchKind::LeftmostLongest | MatchKind::LeftmostFirst => {
-            builder.build_fails_leftmost(alloc)
-        }
-    }
 }

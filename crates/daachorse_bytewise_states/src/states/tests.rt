@@ -1,16 +1,10 @@
 //! Worked rows of the layout: how many states and elements there are, and what the elements hold.
 
-ghost use Rattle.std.specs.Prelude.{◌≡◌, ◌≤◌, ℕ, List, length, IfOk, OnOk};
-ghost use Rattle.std.specs.Ordering.{nat_cmp};
-ghost use Rattle.daachorse_build.specs.Builders.{Registered, kind_of, outputs_of, states_of};
-ghost use Rattle.daachorse_model.specs.Units.{byte_width};
-ghost use Rattle.daachorse_model.specs.declared.MatchKind.TheVariants.{Standard};
-
 use crate::state::State;
 use crate::states::States;
-use daachorse_build::nfa_builder::NfaBuilder;
-use daachorse_core::errors::{DaachorseError, Limit, Result};
+use daachorse_core::errors::Result;
 use daachorse_core::{MatchKind, Output};
+use daachorse_patterns::trie::build_trie;
 use std::alloc::Global;
 use std::num::NonZeroU32;
 use std::test::Fail;
@@ -33,27 +27,8 @@ fn output_parts(output: &Output<u32>) -> (u32, u32, u32) {
 
 /// The automaton of these patterns and values for the standard searches.
 fn built(alloc: Global, patvals: &[(&[u8], u32)]) -> Result<States<u32>> {
-    let mut nfa = NfaBuilder::new(alloc, MatchKind::Standard)?;
-    add_all(&mut nfa, patvals)?;
-    if nfa.num_patterns() > 0x00ff_ffff {
-        return Err(DaachorseError::automaton_scale(Limit::PatternValues));
-    }
-    let order = nfa.build_fails(alloc)?;
-    nfa.build_outputs(&order)?;
+    let nfa = build_trie(alloc, MatchKind::Standard, Some(0x00ff_ffff), patvals)?;
     States::build(alloc, MatchKind::Standard, nfa)
-}
-
-fn add_all(nfa: &mut NfaBuilder<u8, u32>, patvals: &[(&[u8], u32)]) -> Result<()>
-    requires registered { (rs : List (List ℕ × ℕ)) × Registered nat_cmp (λ b. b) byte_width nfa.old rs }
-    requires fits { length (states_of nfa.old) ≤ 4294967296 }
-    ensures registered { OnOk result ((rs : List (List ℕ × ℕ)) × Registered nat_cmp (λ b. b) byte_width nfa.new rs) }
-    ensures fits { OnOk result (length (states_of nfa.new) ≤ 4294967296) }
-    ensures outputs { outputs_of nfa.new ≡ outputs_of nfa.old }
-{
-    for (pattern, value) in patvals {
-        nfa.add(pattern, *value)?;
-    }
-    Ok(())
 }
 
 /// A beginning, and the first and the last of the bytes that follow it.

@@ -7,7 +7,7 @@ use Rattle.std.proofs.lemmas.List.Elements.{All-push}
 use Rattle.daachorse_model.specs.declared.MatchKind.{MatchKind}
 use Rattle.daachorse_model.specs.Units.{size}
 use Rattle.daachorse_build.specs.Builders.{kind_of}
-use Rattle.daachorse_patterns.specs.Building.{Fit, IsRefusalOf}
+use Rattle.daachorse_patterns.specs.Building.{Fit, IsRefusalWithin}
 use Rattle.daachorse_patterns.specs.Patterns.{texts_of}
 use Rattle.daachorse_patterns.specs.Tries.{HasTexts}
 use Rattle.daachorse_patterns.proofs.RefusalLaws.{Fit-texts, HasTexts-push, add_refused, prefixes_more, texts_around, texts_more}
@@ -28,7 +28,7 @@ returns-in_err-add-clause-err g c =
     let S : List ℕ → Type 0 = λ x. size width x ≤ 4294967295 in
     let M : List ℕ → Type 0 = λ x. 4294967295 < size width x in
     rw (p.1, p.2) (λ limits.
-    let P : MatchKind → Type 0 = λ k. IsRefusalOf width limits k (texts_of units patterns) c.in_err-add.field-0.0 in
+    let P : MatchKind → Type 0 = λ k. IsRefusalWithin width limits k (texts_of units patterns) c.in_err-add.field-0.0 in
     subst P was.kind
     (add_refused width limits (kind_of c.loop-pattern.nfa) (texts_of units patterns) (texts_of units (take i patterns)) (texts_of units (drop (i + 1) patterns)) text pair.1
     (texts_around units patterns i pair c.loop-pattern-test.true c.loop-pattern-item.is)

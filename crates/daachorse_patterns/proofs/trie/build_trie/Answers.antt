@@ -7,7 +7,7 @@ use Rattle.daachorse_model.specs.declared.MatchKind.{MatchKind}
 use Rattle.daachorse_model.specs.Dictionary.{kept}
 use Rattle.daachorse_build.specs.Builders.{kind_of, outputs_of, states_of}
 use Rattle.daachorse_build.specs.Orders.{HoldLeftLinks, HoldLinks}
-use Rattle.daachorse_patterns.specs.Building.{Fit, IsRefusalOf, Limits}
+use Rattle.daachorse_patterns.specs.Building.{Fit, IsRefusalWithin, Limits}
 use Rattle.daachorse_patterns.specs.Patterns.{texts_of}
 use Rattle.daachorse_patterns.proofs.BuiltLaws.{HasTexts-kept, finished_for, standard_or_not}
 use Rattle.daachorse_patterns.proofs.RefusalLaws.{HasTexts-count, count_refused, outputs_refused}
@@ -17,7 +17,7 @@ pub returns-in_err-add_all-clause-err : goal.returns-in_err-add_all-clause-err
 returns-in_err-add_all-clause-err g c =
     let p = err_from_is_err_and c.from_residual-in_err-add_all.result c.from_residual-in_err-add_all.ensures.1 in
     let limits : Limits = record { patterns = c.args.max_patterns; parents = None } in
-    let P : MatchKind → Type 0 = λ k. IsRefusalOf g.L.EdgeLabel.width limits k (texts_of g.P.Pattern.units c.args.patterns.now) c.in_err-add_all.field-0.0 in
+    let P : MatchKind → Type 0 = λ k. IsRefusalWithin g.L.EdgeLabel.width limits k (texts_of g.P.Pattern.units c.args.patterns.now) c.in_err-add_all.field-0.0 in
     rw (p.1, p.2) (subst P c.in_ok-nfa.ensures.kind (c.in_err-add_all.ensures.err limits))
 
 pub returns-in_err-check_count-clause-err : goal.returns-in_err-check_count-clause-err

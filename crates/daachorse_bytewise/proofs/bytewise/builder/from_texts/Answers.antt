@@ -1,18 +1,35 @@
--- A refusal of the patterns with the values of their indexes is one of the texts.
+-- What is built or refused of the patterns with the values of their indexes is so of the texts.
 use Rattle.std.proofs.Common.{ℕ, List, map, sym, subst}
-use Rattle.std.proofs.lemmas.Result.{IfErr-weaker}
+use Rattle.std.proofs.lemmas.Result.{IfOk-weaker, IfErr-weaker, err_from_is_err_and}
 use Rattle.std.specs.Borrow.{Bor}
 use Rattle.daachorse_model.specs.Dictionary.{registered}
-use Rattle.daachorse_bytewise.specs.Building.{AreIndexed, IsBuildRefusal}
-use Rattle.daachorse_bytewise.proofs.BuildLaws.{refused_build}
+use Rattle.daachorse_model.specs.Units.{byte_width}
+use Rattle.daachorse_patterns.specs.Patterns.{AreIndexed}
+use Rattle.daachorse_patterns.proofs.IndexLaws.{AreIndexed-texts, refused_build, values_refused}
+use Rattle.daachorse_bytewise.specs.Building.{IsBuildRefusal, IsBuiltOf, byte_limits}
 use Rattle.daachorse_bytewise.proofs.bytewise.builder.from_texts.Goals as goal
+
+pub returns-in_err-patterns-clause-err : goal.returns-in_err-patterns-clause-err
+returns-in_err-patterns-clause-err g c =
+    let p = err_from_is_err_and c.from_residual.result c.from_residual.ensures.1 in
+    let now : Bor (List ℕ) → List ℕ = λ t. t.now in
+    rw (p.1, p.2) (values_refused g.V.TryFrom.try_from_gives now byte_width byte_limits c.args.kind c.args.texts.now c.in_err-patterns.field-0.0 c.in_err-patterns.ensures.err)
+
+pub returns-clause-ok : goal.returns-clause-ok
+returns-clause-ok g c =
+    let gives = g.V.TryFrom.try_from_gives in
+    let now : Bor (List ℕ) → List ℕ = λ t. t.now in
+    let P : List (Bor (List ℕ) × g.row.V.Denot) → Type 0 = λ ps. AreIndexed gives 0 (map now c.args.texts.now) (registered ps) in
+    let indexed = subst P (sym c.deref.ensures.value) (AreIndexed-texts gives now 0 c.args.texts.now c.in_ok-patterns.patterns.items c.in_ok-patterns.ensures.ok) in
+    IfOk-weaker c.from_patterns.result _ (IsBuiltOf gives c.args.kind (map now c.args.texts.now)) (λ a built. (registered c.deref.result.now, indexed, built)) c.from_patterns.ensures.ok
 
 pub returns-clause-err : goal.returns-clause-err
 returns-clause-err g c =
     let gives = g.V.TryFrom.try_from_gives in
-    let all : List (List ℕ) = map (λ (t : Bor (List ℕ)). t.now) c.args.texts.now in
+    let now : Bor (List ℕ) → List ℕ = λ t. t.now in
+    let all : List (List ℕ) = map now c.args.texts.now in
     let P : List (Bor (List ℕ) × g.row.V.Denot) → Type 0 = λ ps. AreIndexed gives 0 all (registered ps) in
-    let indexed = subst P (sym c.deref.ensures.value) c.in_ok-patterns.ensures.ok in
+    let indexed = subst P (sym c.deref.ensures.value) (AreIndexed-texts gives now 0 c.args.texts.now c.in_ok-patterns.patterns.items c.in_ok-patterns.ensures.ok) in
     IfErr-weaker c.from_patterns.result _ (IsBuildRefusal gives c.args.kind all)
-    (refused_build gives c.args.kind all _ indexed)
+    (refused_build gives byte_width byte_limits c.args.kind all _ indexed)
     c.from_patterns.ensures.err

@@ -1,5 +1,5 @@
 -- What is built is packed, and the parts hold the builder's dictionary.
-use Rattle.std.proofs.Common.{◌≡◌, ◌-◌, ◌<◌, ◌≤◌, ◌^◌, ℕ, List, length, ◌∙◌, ap, subst, sym, arith}
+use Rattle.std.proofs.Common.{◌≡◌, ◌-◌, ◌<◌, ◌≤◌, ◌^◌, ℕ, List, length, None, ◌∙◌, ap, subst, sym, arith}
 use Rattle.std.specs.Prelude.{max}
 use Rattle.std.specs.Int.{IsNextPowerOfTwo}
 use Rattle.std.proofs.lemmas.Result.{err_from_is_err_and}
@@ -22,7 +22,7 @@ pub unwrap-block_len-requires : goal.unwrap-block_len-requires
 unwrap-block_len-requires g c = block_some c.args.mapper.alphabet_size c.block_len.result c.block_len.ensures c.requires.block
 
 pub pack-requires-clause-links : goal.pack-requires-clause-links
-pack-requires-clause-links g c = built-links char_width c.args.kind c.args.nfa c.requires.built.0 c.requires.built.1
+pack-requires-clause-links g c = built-links char_width None c.args.kind c.args.nfa c.requires.built.0 c.requires.built.1
 
 pub pack-requires-clause-coded : goal.pack-requires-clause-coded
 pack-requires-clause-coded g c = edges-coded c.args.kind c.args.nfa c.requires.built.0 c.requires.built.1 c.args.mapper c.requires.built.2
@@ -38,7 +38,7 @@ returns-in_err-states-clause-err g c =
     let many : HasManyGroups {A = g.row.A.Denot} (code_in c.args.mapper) block (states_of c.args.nfa) → Passed = λ passed K built. record {
       block = block;
       least = least;
-      prefixes = built-many char_width c.args.kind c.args.nfa K built (code_in c.args.mapper) block some fits passed;
+      prefixes = built-many char_width None c.args.kind c.args.nfa K built (code_in c.args.mapper) block some fits passed;
     } in
     rw (p.1, p.2) (IsRefusal-weaker ⊥ ⊥ NumElements (HasManyGroups {A = g.row.A.Denot} (code_in c.args.mapper) block (states_of c.args.nfa)) Passed (λ x. x) many c.in_err-states.field-0.0 c.in_err-states.ensures.err)
 

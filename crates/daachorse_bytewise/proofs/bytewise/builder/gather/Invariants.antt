@@ -1,6 +1,0 @@
-use Rattle.std.proofs.Common.{◌≡◌}
-use Rattle.daachorse_bytewise.proofs.bytewise.builder.gather.Given as goal
-
--- the items so far were kept
-abbrev pub invariant-loop-item : goal.invariant-loop-item
-invariant-loop-item g l = l.all.items ≡ l.yielded

@@ -82,7 +82,8 @@ module _ {L V A : Type 0} (cmp : L → L → Ordering) (unit : L → ℕ) (width
   AreAt (w ∷ ws) [] = ⊥
   AreAt (w ∷ ws) (t ∷ ts) = IsAt w t × AreAt ws ts
 
-  state_of : (w : List ℕ) → IsPrefix (dictionary kind (in_units unit rs)) w → (t : ℕ) × IsAt w t
+  -- the state of a prefix
+  pub state_of : (w : List ℕ) → IsPrefix (dictionary kind (in_units unit rs)) w → (t : ℕ) × IsAt w t
   state_of w is =
       let x = prefix_labels unit kind rs w is in
       let P : List ℕ → Type 0 = λ k. IsPrefix (dictionary kind (in_units unit rs)) k in

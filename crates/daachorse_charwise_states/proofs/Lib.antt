@@ -1,3 +1,8 @@
+pub mod WritingLaws
+pub mod Codes
+pub mod WrittenLaws
+pub mod PackedTrie
+pub mod PackedValid
 pub mod CharLaws
 pub mod DeadLaws
 pub mod EmptyLaws

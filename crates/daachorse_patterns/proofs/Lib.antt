@@ -1,0 +1,4 @@
+pub mod UnitTries
+pub mod BuiltLaws
+pub mod RefusalLaws
+pub mod IndexLaws

@@ -1,0 +1,4 @@
+pub mod Prefixes
+pub mod Tries
+pub mod Patterns
+pub mod Building

@@ -1,0 +1,111 @@
+//! The trie of patterns with values, its links and its outputs.
+//!
+//! The layers above may rely on its dictionary being that of the patterns for the kind of searches,
+//! and on each refusal being the first in the order of the work.
+
+ghost use Rattle.std.specs.Prelude.{◌≡◌, ◌≢◌, true, ◌≤◌, ℕ, List, [], None, ◌<◌, IfOk, IfErr, IfSome, IsSomeAnd, OnOk, length, slice_index};
+ghost use Rattle.daachorse_core.specs.Refusals.{IsOutOfMemory};
+ghost use Rattle.daachorse_core.specs.declared.errors.Limit.TheVariants.{PatternValues};
+ghost use Rattle.daachorse_model.specs.declared.MatchKind.TheVariants.{Standard};
+ghost use Rattle.daachorse_model.specs.Dictionary.{dictionary, kept};
+ghost use Rattle.daachorse_build.specs.Builders.{Registered, count_of, kind_of, outputs_of, states_of};
+ghost use Rattle.daachorse_build.specs.Growth.{HasTrieOf};
+ghost use Rattle.daachorse_build.specs.Orders.{HoldLeftLinks, HoldLinks};
+ghost use Rattle.daachorse_build.specs.Tables.{HoldTrie, fails_of};
+ghost use Rattle.daachorse_patterns.specs.Building.{Fit, IsRefusalOf, Limits};
+ghost use Rattle.daachorse_patterns.specs.Patterns.{texts_of};
+ghost use Rattle.daachorse_patterns.specs.Tries.{AreLeft, HasTexts, IsBuilt};
+
+use crate::pattern::Pattern;
+use daachorse_build::nfa_builder::NfaBuilder;
+use daachorse_core::MatchKind;
+use daachorse_core::edge_label::EdgeLabel;
+use daachorse_core::errors::{DaachorseError, Limit, Result};
+use std::alloc::Allocator;
+
+/// The trie of these patterns and values, with the links of searches of this kind and its outputs.
+/// `max_patterns` says how many patterns may be kept, if there is a limit of their own.
+///
+/// # Errors
+///
+/// The patterns are added in order: `InvalidArgument` for one of more than 4,294,967,295 bytes,
+/// and `AutomatonScale` for one with which there are more than 4,294,967,295 texts that begin a
+/// pattern. After the last, `AutomatonScale` for more patterns than may be kept; without a limit
+/// of their own, for more than 4,294,967,295 outputs. `OutOfMemory` where an allocation fails.
+pub fn build_trie<L: EdgeLabel, P: Pattern<L>, V: Copy, A: Allocator + Copy>(
+    alloc: A,
+    kind: MatchKind,
+    max_patterns: Option<usize>,
+    patterns: &[(P, V)],
+) -> Result<NfaBuilder<L, V, A>>
+    requires { IfSome max_patterns (λ n. n ≤ 4294967295) }
+    ensures ok { IfOk result (λ nfa. IsBuilt L.cmp L.unit L.width max_patterns kind nfa (dictionary kind (texts_of P.units patterns.now))) }
+    ensures fit { OnOk result (Fit L.width kind (texts_of P.units patterns.now)) }
+    ensures few { OnOk result (IfSome max_patterns (λ n. length (kept kind (texts_of P.units patterns.now)) ≤ n)) }
+    ensures err { IfErr result (IsRefusalOf L.width (record { patterns = max_patterns; parents = None }) kind (texts_of P.units patterns.now)) }
+{
+    let mut nfa = NfaBuilder::new(alloc, kind)?;
+    add_all(alloc, &mut nfa, patterns)?;
+    check_count(nfa.num_patterns(), max_patterns)?;
+    let order = build_links(alloc, kind, &mut nfa)?;
+    nfa.build_outputs(&order)?;
+    Ok(nfa)
+}
+
+/// Adds the patterns in order.
+fn add_all<L: EdgeLabel, P: Pattern<L>, V: Copy, A: Allocator + Copy>(
+    alloc: A,
+    nfa: &mut NfaBuilder<L, V, A>,
+    patterns: &[(P, V)],
+) -> Result<()>
+    requires empty { Registered L.cmp L.unit L.width nfa.old [] }
+    requires fits { length (states_of nfa.old) ≤ 4294967296 }
+    ensures kind { kind_of nfa.new ≡ kind_of nfa.old }
+    ensures outputs { outputs_of nfa.new ≡ outputs_of nfa.old }
+    ensures ok { OnOk result (HasTexts L.cmp L.unit L.width nfa.new (texts_of P.units patterns.now)) }
+    ensures fit { OnOk result (Fit L.width (kind_of nfa.old) (texts_of P.units patterns.now)) }
+    ensures fits { OnOk result (length (states_of nfa.new) ≤ 4294967296) }
+    ensures err { IfErr result (λ e. (limits : Limits) → IsRefusalOf L.width limits (kind_of nfa.old) (texts_of P.units patterns.now) e) }
+{
+    let mut buffer = Vec::new(alloc);
+    for (pattern, value) in patterns {
+        nfa.add(pattern.labels(&mut buffer)?, *value)?;
+    }
+    Ok(())
+}
+
+/// Refuses more patterns than may be kept.
+fn check_count(num_patterns: usize, max_patterns: Option<usize>) -> Result<()>
+    ensures ok { OnOk result (IfSome max_patterns (λ n. num_patterns ≤ n)) }
+    ensures err { IfErr result (λ e. (e ≡ DaachorseError.AutomatonScale (record { limit = PatternValues })) × IsSomeAnd max_patterns (λ n. n < num_patterns)) }
+{
+    if let Some(max) = max_patterns
+        && num_patterns > max
+    {
+        return Err(DaachorseError::automaton_scale(Limit::PatternValues));
+    }
+    Ok(())
+}
+
+/// Sets the links of a trie's states, and answers their order.
+fn build_links<L: EdgeLabel, V: Copy, A: Allocator + Copy>(
+    alloc: A,
+    kind: MatchKind,
+    nfa: &mut NfaBuilder<L, V, A>,
+) -> Result<Vec<u32, A>>
+    requires { HoldTrie L.cmp (states_of nfa.old) }
+    ensures kind { kind_of nfa.new ≡ kind_of nfa.old }
+    ensures patterns { count_of nfa.new ≡ count_of nfa.old }
+    ensures outputs { outputs_of nfa.new ≡ outputs_of nfa.old }
+    ensures kept { HasTrieOf (states_of nfa.old) (states_of nfa.new) }
+    ensures standard { IfOk result (λ order. kind ≡ Standard → HoldLinks L.cmp (states_of nfa.new) order.items) }
+    ensures leftmost { IfOk result (λ order. kind ≢ Standard → HoldLeftLinks L.cmp true (states_of nfa.new) order.items) }
+    ensures root { OnOk result (slice_index (fails_of (states_of nfa.new)) 0 ≡ 0) }
+    ensures left { IfOk result (λ order. kind ≢ Standard → (rs : List (List L × V)) → Registered L.cmp L.unit L.width nfa.old rs → AreLeft L.cmp L.unit (kind_of nfa.old) (states_of nfa.old) (states_of nfa.new) rs) }
+    ensures err { IfErr result IsOutOfMemory }
+{
+    match kind {
+        MatchKind::Standard => nfa.build_fails(alloc),
+        MatchKind::LeftmostLongest | MatchKind::LeftmostFirst => nfa.build_fails_leftmost(alloc),
+    }
+}

@@ -1,21 +1,16 @@
 -- The rules can be met: the automata without patterns, whose elements are all vacant.
-use Rattle.std.proofs.Common.{◌≡◌, ℕ, zero, suc, ◌<◌, ◌≤◌, ◌%◌, true, false, List, [], ◌∷◌, map, None, refl, sym, ap, ◌∙◌, subst, arith, slice_index_or}
+use Rattle.std.proofs.Common.{◌≡◌, ℕ, zero, suc, ◌<◌, ◌≤◌, ◌%◌, true, false, List, [], ◌∷◌, map, None, refl, sym, ap, ◌∙◌, subst, arith}
 use Rattle.std.specs.Prelude.{slice_index}
 use Rattle.std.proofs.Math.ListN.{replicate}
 use Rattle.std.proofs.lemmas.List.{length-replicate}
 use Rattle.daachorse_core.specs.declared.outputs.Empty.{Empty}
 use Rattle.daachorse_core.specs.declared.outputs.Output.{Output}
 use Rattle.daachorse_model.specs.declared.MatchKind.TheVariants.{Standard, LeftmostLongest}
-use Rattle.daachorse_machine.proofs.ChildlessLaws.{childless-counted, childless-right}
+use Rattle.daachorse_machine.proofs.ChildlessLaws.{childless-counted, childless-right, replicate-at}
 use Rattle.daachorse_bytewise_states.specs.declared.state.State.{State}
 use Rattle.daachorse_bytewise_states.specs.Elements.{base_in, fail_in, output_in, vacant, vacant_left}
 use Rattle.daachorse_bytewise_states.specs.Parts.{Parts, check_of, child, child_by, count, leftmost_parts, machine, parts_of, standard_parts, without_link}
 use Rattle.daachorse_bytewise_states.specs.Valid.{IsValid}
-
-replicate-at : {X : Type 0} (n i : ℕ) (d : X) → slice_index_or (replicate n d) i d ≡ d
-replicate-at zero i d = refl
-replicate-at (suc n) zero d = refl
-replicate-at (suc n) (suc i) d = replicate-at n i d
 
 module _ (V : Type 0) (n : ℕ) (whole : n % 256 ≡ 0) (some : 0 < n) where
   abbrev pub empty_standard : Parts V

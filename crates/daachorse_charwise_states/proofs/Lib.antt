@@ -1,6 +1,7 @@
 pub mod CharLaws
 pub mod Codes
 pub mod DeadLaws
+pub mod EmptyLaws
 pub mod PackedTrie
 pub mod PackedValid
 pub mod ViewLaws

@@ -1,7 +1,8 @@
 -- A machine that leads nowhere holds the empty text alone, and is right.
-use Rattle.std.proofs.Common.{◌≡◌, ℕ, zero, suc, Bool, true, false, List, [], ◌∷◌, Option, Some, None, refl, sym, ap, ◌∙◌, subst, arith, is_some}
+use Rattle.std.proofs.Common.{◌≡◌, ℕ, zero, suc, Bool, true, false, List, [], ◌∷◌, Option, Some, None, refl, sym, ap, ◌∙◌, subst, arith, is_some, slice_index_or}
 use Rattle.std.specs.Prelude.{IsTrue, Contains, option_and_then}
 use Rattle.std.specs.List.{IsDistinct}
+use Rattle.std.proofs.Math.ListN.{replicate}
 use Rattle.std.proofs.lemmas.Option.{same_Some}
 use Rattle.daachorse_model.specs.Paths.{walk, is_reached, Leads}
 use Rattle.daachorse_model.specs.Units.{same_text}
@@ -52,3 +53,10 @@ module _ {V : Type 0} (width : ℕ → ℕ) (a : Machine V) (leaf : (i c : ℕ) 
 
   pub childless-counted : IsCounted a 1
   childless-counted = record { texts = [] ∷ []; distinct = alone; exactly = λ w. (stays w, leads w); count = refl }
+
+-- ---- elements all alike
+
+pub replicate-at : {X : Type 0} (n i : ℕ) (d : X) → slice_index_or (replicate n d) i d ≡ d
+replicate-at zero i d = refl
+replicate-at (suc n) zero d = refl
+replicate-at (suc n) (suc i) d = replicate-at n i d

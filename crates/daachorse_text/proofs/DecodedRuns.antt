@@ -1,11 +1,13 @@
 -- The characters that a decoder gives are those of the bytes that it takes; and a source whose bytes are known is a text where they are UTF-8.
-use Rattle.std.proofs.Common.{◌≡◌, ℕ, Option, Some, None, List, [], ◌∷◌, ◌++◌, map, Bool, true, ◌&&◌, refl, sym, ap, ◌∙◌, subst, append-nil}
+use Rattle.std.proofs.Common.{◌≡◌, ℕ, Option, Some, None, List, [], ◌∷◌, ◌++◌, map, Bool, true, ◌&&◌, length, arith, refl, sym, ap, ◌∙◌, subst, append-nil}
 use Rattle.std.proofs.lemmas.Iterator.{IsCollectResult}
 use Rattle.std.proofs.lemmas.Str.{chars-encodes}
 use Rattle.std.proofs.Math.Utf8.{scalar, scalars, encode, encodes}
 use Rattle.std.specs.Iterator.{Count, IsFinite, Yields, Drains, YieldsFirst, YieldsFirstBy}
 use Rattle.std.specs.Prelude.{Result, Ok, Err, IfOk, Vec}
 use Rattle.std.specs.Str.{IsUtf8, chars}
+use Rattle.std.specs.Str.Iter.{bytes_rest, bytes_steps}
+use Rattle.std.specs.declared.str.Bytes.{Bytes}
 use Rattle.std.specs.Vec.{vec_items}
 use Rattle.daachorse_search.proofs.SourceLemmas.{Yields_append}
 use Rattle.daachorse_search.proofs.HaystackLemmas.{rest-run}
@@ -40,7 +42,7 @@ module _ {S : Type 0} (can : S → Type 0) (steps : S → Option ℕ → S → T
       (whole.0, subst D is whole.1, d.2.0 ∙ whole.2)
 
 -- a source that shows the bytes which it gives
-module _ {S : Type 0} (can : S → Type 0) (steps : S → Option ℕ → S → Type 0) (left : S → Count) (bytes : S → List ℕ) (gives : (s : S) (r : Option ℕ) (t : S) → steps s r t → YieldsFirst bytes s r t) where
+module _ {S : Type 0} (steps : S → Option ℕ → S → Type 0) (bytes : S → List ℕ) (gives : (s : S) (r : Option ℕ) (t : S) → steps s r t → YieldsFirst bytes s r t) where
   by_units : (s : S) (r : Option ℕ) (t : S) → steps s r t → YieldsFirstBy (λ b. b) bytes s r t
   by_units s None t h = gives s None t h
   by_units s (Some b) t h = gives s (Some b) t h
@@ -52,12 +54,28 @@ module _ {S : Type 0} (can : S → Type 0) (steps : S → Option ℕ → S → T
   given : (s : S) (xs : List ℕ) (t : S) → Yields steps s xs t → bytes s ≡ xs ++ bytes t
   given s xs t run = rest-run steps (λ b. b) bytes by_units s xs t run ∙ ap (λ w. w ++ bytes t) (same_units xs)
 
-  pub IsText-known : (source : S) → can source → IsFinite (left source) → IsUtf8 (bytes source) → IsText can steps left source
-  IsText-known source callable ends utf8 = record {
+  pub all_given : (s : S) (xs : List ℕ) → Drains steps s xs → bytes s ≡ xs
+  all_given s xs drains = let none = gives drains.1.0 None drains.0 drains.1.2 in given s xs drains.1.0 drains.1.1 ∙ ap (λ w. xs ++ w) none.0 ∙ append-nil xs
+
+  pub IsText-known : (can : S → Type 0) (left : S → Count) (source : S) → can source → IsFinite (left source) → IsUtf8 (bytes source) → IsText can steps left source
+  IsText-known can left source callable ends utf8 = record {
     callable = callable;
     ends = ends;
     begins = λ xs rest run. (bytes rest, subst IsUtf8 (given source xs rest run) utf8);
-    whole = λ xs drains.
-        let none = gives drains.1.0 None drains.0 drains.1.2 in
-        subst IsUtf8 (given source xs drains.1.0 drains.1.1 ∙ ap (λ w. xs ++ w) none.0 ∙ append-nil xs) utf8;
+    whole = λ xs drains. subst IsUtf8 (all_given source xs drains) utf8;
   }
+
+empty : (w : List ℕ) → length w ≡ 0 → w ≡ []
+empty [] e = refl
+empty (b ∷ w) e = absurd (omega (arith, e))
+
+bytes_first : (s : Bytes) (r : Option ℕ) (t : Bytes) → bytes_steps s r t → YieldsFirst bytes_rest s r t
+bytes_first s None t h = let none = empty (bytes_rest s) h.0 in (none, ap (λ (x : Bytes). bytes_rest x) h.1 ∙ none)
+bytes_first s (Some b) t h = h
+
+-- the bytes of a string are a text, and all of them are the string
+pub all_bytes : (source : Bytes) (xs : List ℕ) → Drains bytes_steps source xs → bytes_rest source ≡ xs
+all_bytes = all_given bytes_steps (λ s. bytes_rest s) bytes_first
+
+pub IsText-bytes : (can : Bytes → Type 0) (left : Bytes → Count) (source : Bytes) → can source → IsFinite (left source) → IsUtf8 (bytes_rest source) → IsText can bytes_steps left source
+IsText-bytes can left source callable ends utf8 = IsText-known bytes_steps (λ s. bytes_rest s) bytes_first can left source callable ends utf8

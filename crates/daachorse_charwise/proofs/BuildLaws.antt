@@ -1,39 +1,23 @@
 -- From the trie of all patterns and the codes of their characters to what the states are built of, and why that is refused.
-use Rattle.std.proofs.Common.{◌≡◌, ℕ, List, [], ◌∷◌, map, None, refl, ap, subst, inl, inr}
+use Rattle.std.proofs.Common.{◌≡◌, ℕ, List, [], ◌∷◌, map, refl, ap, subst, inl, inr}
 use Rattle.std.specs.Prelude.{Result}
 use Rattle.std.specs.Borrow.{Bor}
-use Rattle.std.specs.Ordering.{nat_cmp}
 use Rattle.std.specs.Str.{chars}
 use Rattle.daachorse_core.specs.declared.errors.DaachorseError.{DaachorseError}
 use Rattle.daachorse_core.specs.declared.errors.DaachorseError.TheVariants.{InvalidArgument, AutomatonScale, InvalidConversion, InvalidAutomaton, OutOfMemory}
 use Rattle.daachorse_core.specs.declared.errors.Limit.TheVariants.{NumElements}
 use Rattle.daachorse_core.specs.Refusals.{IsRefusal}
 use Rattle.daachorse_model.specs.declared.MatchKind.{MatchKind}
-use Rattle.daachorse_model.specs.Dictionary.{Dictionary, dictionary}
+use Rattle.daachorse_model.specs.Dictionary.{dictionary}
 use Rattle.daachorse_model.specs.Units.{char_width}
-use Rattle.daachorse_build.specs.declared.nfa_builder.NfaBuilder.{NfaBuilder}
-use Rattle.daachorse_build.specs.Builders.{states_of}
-use Rattle.daachorse_build.specs.Tables.{child_in, edges_of}
 use Rattle.daachorse_mapper.specs.Codings.{Coding, IsCodingOf}
 use Rattle.daachorse_patterns.specs.Building.{Fit}
 use Rattle.daachorse_patterns.specs.Patterns.{AreIndexed}
-use Rattle.daachorse_patterns.specs.Tries.{IsBuilt}
 use Rattle.daachorse_patterns.proofs.IndexLaws.{refused_build}
-use Rattle.daachorse_patterns.proofs.UnitTries.{own_units}
-use Rattle.daachorse_charwise_states.specs.Packing.{AreCoded, IsBuiltFor, NeedsManyBlocks}
-use Rattle.daachorse_charwise.specs.Building.{AreCodesOf, IsBuildRefusal, IsRefusalOf, limits, registered_texts}
+use Rattle.daachorse_charwise_states.specs.Packing.{AreCoded, NeedsManyBlocks}
+use Rattle.daachorse_charwise.specs.Building.{AreCodesOf, IsBuildRefusal, IsRefusalOf, char_limits, registered_texts}
 use Rattle.daachorse_charwise.specs.Frequencies.{AreFrequencies}
 use Rattle.daachorse_charwise.proofs.CodedLaws.{coded}
-
--- a character is its own unit, so the trie of the patterns is one over characters
-pub built_trie : {V A : Type 0} (kind : MatchKind) (b : NfaBuilder ℕ V A) (K : Dictionary V) → IsBuilt nat_cmp (λ c. c) char_width None kind b K → IsBuiltFor kind b K
-built_trie kind b K is = record {
-  trie = is.trie;
-  holds = is.holds (child_in nat_cmp (edges_of (states_of b))) (own_units nat_cmp (edges_of (states_of b)));
-  root = is.root;
-  positions = is.positions;
-  few_states = is.few_states;
-}
 
 texts_in : {V : Type 0} (patterns : List (Bor (List ℕ) × V)) → map (λ p. chars p.0.now) patterns ≡ map (λ r. r.0) (registered_texts patterns)
 texts_in [] = refl
@@ -63,5 +47,5 @@ elements_refused kind rs coding fit codes (OutOfMemory _) many needs refused = i
 -- a refusal of patterns with the values of their indexes is one of the texts
 pub refused_with_values : {V E : Type 0} (gives : ℕ → Result V E → Type 0) (kind : MatchKind) (texts : List (List ℕ)) (rs : List (List ℕ × V)) → AreIndexed gives 0 texts rs
     → (e : DaachorseError) → IsRefusalOf kind rs e → IsBuildRefusal gives kind texts e
-refused_with_values gives kind texts rs indexed e (inl refused) = inl (refused_build gives char_width limits kind texts rs indexed e refused)
+refused_with_values gives kind texts rs indexed e (inl refused) = inl (refused_build gives char_width char_limits kind texts rs indexed e refused)
 refused_with_values gives kind texts rs indexed e (inr out) = inr (rs, indexed, out)

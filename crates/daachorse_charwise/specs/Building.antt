@@ -9,7 +9,7 @@ use Rattle.daachorse_model.specs.declared.MatchKind.{MatchKind}
 use Rattle.daachorse_model.specs.Dictionary.{dictionary}
 use Rattle.daachorse_model.specs.Units.{char_width}
 use Rattle.daachorse_mapper.specs.Codings.{Coding, IsCodingOf}
-use Rattle.daachorse_patterns.specs.Building.{Fit, Limits, IsRefusalOf as IsTrieRefusal, IsBuildRefusal as IsIndexedRefusal}
+use Rattle.daachorse_patterns.specs.Building.{Fit, IsBuildRefusalWithin, IsRefusalWithin, Limits}
 use Rattle.daachorse_patterns.specs.Patterns.{AreIndexed, texts_of}
 use Rattle.daachorse_charwise_states.specs.Packing.{NeedsManyBlocks}
 use Rattle.daachorse_charwise_states.specs.Parts.{Parts, content}
@@ -27,9 +27,9 @@ registered_texts patterns = texts_of (λ s. chars s.now) patterns
 abbrev pub AreCodesOf : List (List ℕ) → Coding → Type 0
 AreCodesOf texts coding = (freqs : List ℕ) × AreFrequencies texts freqs × IsCodingOf freqs coding
 
--- the patterns have no limit of their own
-abbrev pub limits : Limits
-limits = record { patterns = None; parents = None }
+-- patterns have no limit of their own: that of the outputs holds for them
+abbrev pub char_limits : Limits
+char_limits = record { patterns = None; parents = None }
 
 module _ {V : Type 0} (kind : MatchKind) (rs : List (List ℕ × V)) where
   -- the automaton holds the dictionary of the registrations, and codes for the characters of all of them
@@ -47,7 +47,7 @@ module _ {V : Type 0} (kind : MatchKind) (rs : List (List ℕ × V)) where
 
   -- why a build of patterns with their values refuses: its trie does, or the elements run out
   abbrev pub IsRefusalOf : DaachorseError → Type 0
-  IsRefusalOf e = IsTrieRefusal char_width limits kind rs e ⊎ RunsOut e
+  IsRefusalOf e = IsRefusalWithin char_width char_limits kind rs e ⊎ RunsOut e
 
 module _ {V E : Type 0} (gives : ℕ → Result V E → Type 0) (kind : MatchKind) (texts : List (List ℕ)) where
   -- the automaton holds the texts, each with the value of its index
@@ -56,4 +56,4 @@ module _ {V E : Type 0} (gives : ℕ → Result V E → Type 0) (kind : MatchKin
 
   -- why a build of texts refuses, each of which gets the value of its index
   abbrev pub IsBuildRefusal : DaachorseError → Type 0
-  IsBuildRefusal e = IsIndexedRefusal gives char_width limits kind texts e ⊎ ((rs : List (List ℕ × V)) × AreIndexed gives 0 texts rs × RunsOut kind rs e)
+  IsBuildRefusal e = IsBuildRefusalWithin gives char_width char_limits kind texts e ⊎ ((rs : List (List ℕ × V)) × AreIndexed gives 0 texts rs × RunsOut kind rs e)

@@ -3,3 +3,5 @@ pub mod EdgeLaws
 pub mod Members
 pub mod Orders
 pub mod WalkLaws
+pub mod ListingLaws
+pub mod PatternLaws

@@ -2,3 +2,4 @@ pub mod Linked
 pub mod Edges
 pub mod Trees
 pub mod Depths
+pub mod Listing

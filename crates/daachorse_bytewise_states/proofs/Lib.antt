@@ -15,3 +15,4 @@ pub mod StandardBuilders
 pub mod EmptyLaws
 pub mod Rows
 pub mod EdgeLaws
+pub mod ListingLaws

@@ -13,7 +13,7 @@ ghost use Rattle.daachorse_model.specs.Dictionary.{dictionary, registered};
 ghost use Rattle.daachorse_model.specs.Leftmost.{leftmost};
 ghost use Rattle.daachorse_model.specs.Matches.{no_suffix, overlapping, standard};
 ghost use Rattle.daachorse_search.specs.Searches.{all_found, first_found, standard_found};
-ghost use Rattle.daachorse_model.specs.Prefixes.{HasPrefixes};
+ghost use Rattle.daachorse_model.specs.Prefixes.{HasPrefixes, IsListing};
 ghost use Rattle.daachorse_bytewise.specs.Automata.{HasDepths};
 ghost use Rattle.daachorse_bytewise.specs.Building.{IsBuildRefusal, IsBuiltOf, IsRefusalOf};
 ghost use Rattle.daachorse_bytewise_states.specs.Parts.{content};
@@ -26,7 +26,7 @@ pub use crate::bytewise::builder::DoubleArrayAhoCorasickBuilder;
 use crate::bytewise::iter::{
     FindIterator, FindOverlappingIterator, FindOverlappingNoSuffixIterator,
     FindOverlappingNoSuffixSliceIterator, FindOverlappingSliceIterator, FindOverlappingStepper,
-    FindSliceIterator, FindStepper, LeftmostFindIterator,
+    FindSliceIterator, FindStepper, LeftmostFindIterator, PatternIterator,
 };
 use crate::bytewise::states::States;
 use daachorse_core::MatchKind;
@@ -140,6 +140,21 @@ impl<V: Copy, A: Allocator + Copy> DoubleArrayAhoCorasick<V, A> {
         let depths = self.states.depths(*self.depths.allocator())?;
         self.depths = depths;
         Ok(())
+    }
+
+    /// All patterns that the automaton holds, with their values: in byte order, and equal ones in
+    /// order of registration. [`MatchKind::LeftmostFirst`] leaves out each pattern that extends an
+    /// earlier one.
+    ///
+    /// # Errors
+    ///
+    /// An allocation failed.
+    pub fn iter<'a>(&'a self, alloc: A) -> Result<PatternIterator<'a, V, A>>
+        ensures ok { IfOk result (λ patterns. IsListing (content self.entry.now.parts) patterns) }
+        ensures err { IfErr result IsOutOfMemory }
+    {
+        let walk = self.states.pattern_iter(alloc)?;
+        Ok(PatternIterator { walk })
     }
 
     /// An automaton that keeps the same, in memory of its own.

@@ -92,8 +92,8 @@ fn build<A: Allocator + Copy>(
     kind: MatchKind,
     file: &[u8],
 ) -> Result<DoubleArrayAhoCorasick<u32, A>, DaachorseError>
-    ensures built { IfOk result (IsBuiltOf value_gives kind (pattern_lines file.now)) }
-    ensures kind { IfOk result (λ a. a.kind ≡ kind) }
+    ensures built { IfOk result (λ a. IsBuiltOf value_gives kind (pattern_lines file.now) a.parts) }
+    ensures kind { IfOk result (λ a. a.parts.kind ≡ kind) }
     ensures refused { IfErr result (IsBuildRefusal value_gives kind (pattern_lines file.now)) }
 {
     let patterns = lines(alloc, file)?;
@@ -135,10 +135,10 @@ fn write_mode<S: Sink, A: Allocator + Copy>(
     haystack: &[u8],
     out: &mut S,
 ) -> Result<(), SinkError>
-    requires { automaton.now.kind ≡ kind_of_mode mode }
-    ensures whole { OnOk result (Appends (S.taken out.old) (S.taken out.new) (match_text (found_by mode (content automaton.now) haystack.now))) }
+    requires { automaton.now.parts.kind ≡ kind_of_mode mode }
+    ensures whole { OnOk result (Appends (S.taken out.old) (S.taken out.new) (match_text (found_by mode (content automaton.now.parts) haystack.now))) }
     ensures unfailed { OnOk result (S.failures out.new ≡ S.failures out.old) }
-    ensures beginning { OnErr result (AppendsBeginning (S.taken out.old) (S.taken out.new) (match_text (found_by mode (content automaton.now) haystack.now))) }
+    ensures beginning { OnErr result (AppendsBeginning (S.taken out.old) (S.taken out.new) (match_text (found_by mode (content automaton.now.parts) haystack.now))) }
     ensures failed { OnErr result (S.failures out.new ≡ S.failures out.old + 1) }
 {
     match mode {

@@ -1,2 +1,1 @@
 pub mod TurnLaws
-pub mod SourceLaws

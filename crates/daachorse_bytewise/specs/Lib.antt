@@ -1,2 +1,2 @@
 pub mod Building
-pub mod Sources
+pub mod Automata

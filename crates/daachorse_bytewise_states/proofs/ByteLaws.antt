@@ -1,23 +1,19 @@
 -- Valid parts are a right machine, so that looks, chains and outputs are those of the dictionary that they hold.
-use Rattle.std.proofs.Common.{◌≡◌, ◌≢◌, inl, inr, Bool, true, false, cond, ℕ, zero, suc, ◌-◌, ◌<◌, ◌≤◌, ◌%◌, List, [], ◌∷◌, length, Option, Some, None, refl, sym, ap, ◌∙◌, subst, arith, slice_index_or}
-use Rattle.std.specs.Prelude.{slice_index, slice_get, IfSome, unwrap_or}
-use Rattle.std.proofs.lemmas.Option.{slice_get-get_or, slice_get_cases}
-use Rattle.std.specs.declared.num.NonZeroU32.{NonZeroU32}
-use Rattle.daachorse_core.specs.Outputs.{number, value_of, length_of, parent_of, outputs_at}
-use Rattle.daachorse_core.specs.declared.outputs.Output.{Output}
+use Rattle.std.proofs.Common.{◌≡◌, ◌≢◌, Bool, true, false, cond, ℕ, ◌<◌, ◌≤◌, ◌%◌, List, [], length, Option, Some, None, refl, sym, ap, ◌∙◌, subst, arith}
+use Rattle.std.specs.Prelude.{slice_index, unwrap_or}
+use Rattle.daachorse_core.specs.Outputs.{outputs_at}
 use Rattle.daachorse_core.specs.declared.turns.Look.{Look}
 use Rattle.daachorse_core.specs.declared.turns.Look.TheVariants.{Next, Fail}
-use Rattle.daachorse_core.proofs.OutputLists.{length-list_from, outputs_at-step}
 use Rattle.daachorse_model.specs.declared.MatchKind.TheVariants.{Standard}
 use Rattle.daachorse_model.specs.Kinds.{is_leftmost}
 use Rattle.daachorse_model.specs.Units.{byte_width}
 use Rattle.daachorse_model.specs.Outputs.{IsChain}
 use Rattle.daachorse_search.specs.Looks.{LookGives}
 use Rattle.daachorse_machine.specs.Machines.{IsMachine}
-use Rattle.daachorse_machine.proofs.MachineLaws.{Reached-inside, Reached-root, Reached-chain, text-root, root-text, turn-next, turn-root, turn-dead, turn-fail, standard-alive}
+use Rattle.daachorse_machine.proofs.ChildLaws.{child_at-inside}
+use Rattle.daachorse_machine.proofs.MachineLaws.{Reached-inside, Reached-root, chain-at, position-inside, text-root, root-text, turn-next, turn-root, turn-dead, turn-link, standard-alive}
 use Rattle.daachorse_bytewise_states.specs.Parts.{Parts, base_of, check_of, child, content, count, fail_of, machine, output_of}
 use Rattle.daachorse_bytewise_states.specs.Valid.{IsRootTable, IsState, IsValid, dead, text}
-use Rattle.daachorse_bytewise_states.proofs.ChildLaws.{child_by-inside}
 use Rattle.daachorse_bytewise_states.proofs.DeadLaws.{alive}
 
 below_256 : (b : Bool) (m n : ℕ) → cond b (m % 256) (n % 256) < 256
@@ -36,7 +32,7 @@ module _ {V : Type 0} (p : Parts V) where
   valid_machine valid = record {
     some = valid.some;
     inside = λ i c j e.
-        let parts = child_by-inside (count p) (base_of p i) c j (check_of p) e in
+        let parts = child_at-inside (count p) c (base_of p i) c j (check_of p) e in
         let check : check_of p j ≡ c = parts.1 in
         (parts.0, byte j c check);
     outputs_inside = λ i h. (valid.inside i h).output;
@@ -75,9 +71,7 @@ module _ {V : Type 0} (p : Parts V) where
     look_dead i c r e other one = turn-dead byte_width (machine p) (is_leftmost p.kind) (count p) 256 is_machine i c r e other one
 
     pub look_fail : (i c f : ℕ) → IsState p i → child p i c ≡ None → i ≢ 0 → fail_of p i ≡ f → f ≢ 1 → Gives i c (Fail f)
-    look_fail i c f r e other at live =
-        let P : ℕ → Type 0 = λ x. Gives i c (Fail x) in
-        subst P at (turn-fail byte_width (machine p) (is_leftmost p.kind) (count p) 256 is_machine i c r e other (λ one. live (sym at ∙ one)))
+    look_fail i c f r e other at live = turn-link byte_width (machine p) (is_leftmost p.kind) (count p) 256 is_machine i c f r e other at live
 
     -- no link is dead where the searches are standard
     pub look_link : p.kind ≡ Standard → (i c f : ℕ) → IsState p i → child p i c ≡ None → i ≢ 0 → fail_of p i ≡ f → Gives i c (Fail f)
@@ -97,34 +91,7 @@ module _ {V : Type 0} (p : Parts V) where
     -- ---- outputs
 
     pub chain_at : (i q : ℕ) → IsState p i → output_of p i ≡ q → IsChain byte_width (content p) (dead p) (text p i) (outputs_at p.outputs q)
-    chain_at i q r at =
-        let P : ℕ → Type 0 = λ x. IsChain byte_width (content p) (dead p) (text p i) (outputs_at p.outputs x) in
-        subst P at (Reached-chain byte_width (machine p) (is_leftmost p.kind) (count p) 256 is_machine i r)
+    chain_at i q r at = chain-at byte_width (machine p) (is_leftmost p.kind) (count p) 256 is_machine i q r at
 
     pub position_inside : (i q : ℕ) → IsState p i → output_of p i ≡ q → q ≤ length p.outputs
-    position_inside i q r at = let h : output_of p i ≤ length p.outputs = (valid.inside i (state_inside i r)).output in omega (arith, h, at)
-
-    pub outputs_few : (q : ℕ) → q ≤ length p.outputs → length (outputs_at p.outputs q) ≤ length p.outputs
-    outputs_few q h = let k : length (outputs_at p.outputs q) ≤ q = length-list_from p.outputs q q in omega (arith, h, k)
-
-    -- the output at a position, as it is read
-    pub output_read : (q : ℕ) (o : Output V) → 0 < q → q ≤ length p.outputs → o ≡ slice_index_or p.outputs (q - 1) o
-        → (parent_of o ≤ length p.outputs) × (outputs_at p.outputs q ≡ (value_of o, length_of o) ∷ outputs_at p.outputs (parent_of o))
-    output_read zero o low high is = absurd (omega arith)
-    output_read (suc k) o low high is =
-        let at : suc k - 1 ≡ k = omega arith in
-        let stands : slice_get p.outputs k ≡ Some o = slice_get-get_or p.outputs k o (omega arith) ∙ ap (λ x. Some x) (sym (is ∙ ap (λ x. slice_index_or p.outputs x o) at)) in
-        let falls : parent_of o ≤ k = valid.parents_fall k o stands in
-        (omega (arith, falls, high), outputs_at-step p.outputs valid.parents_fall k o stands)
-
-    pub outputs_some : (o : Option NonZeroU32) → number o ≤ length p.outputs → IfSome o (λ q. 0 < length (outputs_at p.outputs q.value))
-    outputs_some None h = tt
-    outputs_some (Some q) h = go q.value q.ok h
-      where
-        go : (k : ℕ) → 0 < k → k ≤ length p.outputs → 0 < length (outputs_at p.outputs k)
-        go zero low high = absurd (omega arith)
-        go (suc k) low high =
-            elim (slice_get_cases p.outputs k).1 [
-              | inl r ↦ rw (outputs_at-step p.outputs valid.parents_fall k r.0 r.2) (omega arith)
-              | inr past ↦ absurd (omega (arith, past.0, high))
-            ]
+    position_inside i q r at = position-inside byte_width (machine p) (is_leftmost p.kind) (count p) 256 is_machine i q r at

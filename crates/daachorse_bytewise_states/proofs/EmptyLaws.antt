@@ -1,72 +1,16 @@
 -- The rules can be met: the automata without patterns, whose elements are all vacant.
-use Rattle.std.proofs.Common.{◌≡◌, ℕ, zero, suc, ◌<◌, ◌≤◌, ◌%◌, Bool, true, false, List, [], ◌∷◌, map, Option, Some, None, refl, sym, ap, ◌∙◌, subst, arith, slice_index_or, is_some}
-use Rattle.std.specs.Prelude.{IsTrue, Contains, option_and_then, slice_index}
-use Rattle.std.specs.List.{IsDistinct}
+use Rattle.std.proofs.Common.{◌≡◌, ℕ, zero, suc, ◌<◌, ◌≤◌, ◌%◌, true, false, List, [], ◌∷◌, map, None, refl, sym, ap, ◌∙◌, subst, arith}
+use Rattle.std.specs.Prelude.{slice_index}
 use Rattle.std.proofs.Math.ListN.{replicate}
 use Rattle.std.proofs.lemmas.List.{length-replicate}
-use Rattle.std.proofs.lemmas.Option.{same_Some}
 use Rattle.daachorse_core.specs.declared.outputs.Empty.{Empty}
 use Rattle.daachorse_core.specs.declared.outputs.Output.{Output}
 use Rattle.daachorse_model.specs.declared.MatchKind.TheVariants.{Standard, LeftmostLongest}
-use Rattle.daachorse_model.specs.Paths.{walk, is_reached, Leads}
-use Rattle.daachorse_model.specs.Units.{same_text}
-use Rattle.daachorse_machine.specs.Machines.{Machine, IsCounted, IsRight, own_from}
-use Rattle.daachorse_machine.proofs.PathLaws.{and_then_inv}
+use Rattle.daachorse_machine.proofs.ChildlessLaws.{childless-counted, childless-right, replicate-at}
 use Rattle.daachorse_bytewise_states.specs.declared.state.State.{State}
 use Rattle.daachorse_bytewise_states.specs.Elements.{base_in, fail_in, output_in, vacant, vacant_left}
 use Rattle.daachorse_bytewise_states.specs.Parts.{Parts, check_of, child, child_by, count, leftmost_parts, machine, parts_of, standard_parts, without_link}
 use Rattle.daachorse_bytewise_states.specs.Valid.{IsValid}
-
--- a machine that leads nowhere holds the empty text alone
-module _ {V : Type 0} (width : ℕ → ℕ) (a : Machine V) (leaf : (i c : ℕ) → a.child i c ≡ None) where
-  only_empty : (u i : ℕ) (w : List ℕ) → ¬ Leads a.child (u ∷ w) i
-  only_empty u i w e =
-      let step = and_then_inv (λ j. walk a.child j w) (a.child 0 u) i e in
-      let bad : ◌≡◌ {A = Option ℕ} None (Some step.0) = sym (leaf 0 u) ∙ step.1 in
-      cc
-
-  dead : (w : List ℕ) → ¬ Leads a.child w 1
-  dead [] e = let bad : 0 ≡ 1 = same_Some 0 1 e in cc
-  dead (u ∷ w) e = only_empty u 1 w e
-
-  paths : (i : ℕ) (v w : List ℕ) → Leads a.child v i → Leads a.child w i → v ≡ w
-  paths i [] [] d e = refl
-  paths i (u ∷ v) w d e = absurd (only_empty u i v d)
-  paths i [] (u ∷ w) d e = absurd (only_empty u i w e)
-
-  pub childless-right : a.output 0 ≡ 0 → (leftmost : Bool) → IsRight width a leftmost
-  childless-right none leftmost = record {
-    dead_no_child = dead;
-    one_path = paths;
-    leaf_has_own = λ u i w e l. absurd (only_empty u i w e);
-    links = λ u i w e. absurd (only_empty u i w e);
-    chains = λ u i w e. absurd (only_empty u i w e);
-    root_chain = ap (λ q. (own_from a.outputs q 0 q).1) none;
-  }
-
-  stays : (w : List ℕ) → IsTrue (is_reached a.child w) → Contains ([] ∷ []) w
-  stays [] h = (0, omega arith, refl)
-  stays (u ∷ w) h =
-      let P : Option ℕ → Type 0 = λ o. IsTrue (is_some (option_and_then (λ j. walk a.child j w) o)) in
-      let bad : false ≡ true = subst P (leaf 0 u) h in
-      absurd (cc)
-
-  leads : (w : List ℕ) → Contains ([] ∷ []) w → IsTrue (is_reached a.child w)
-  leads [] h = refl
-  leads (u ∷ w) (zero, inside, same) = absurd (cc)
-  leads (u ∷ w) (suc k, inside, same) = absurd (omega arith)
-
-  alone : IsDistinct same_text ([] ∷ [])
-  unfolding IsDistinct
-  alone = (tt, tt)
-
-  pub childless-counted : IsCounted a 1
-  childless-counted = record { texts = [] ∷ []; distinct = alone; exactly = λ w. (stays w, leads w); count = refl }
-
-replicate-at : {X : Type 0} (n i : ℕ) (d : X) → slice_index_or (replicate n d) i d ≡ d
-replicate-at zero i d = refl
-replicate-at (suc n) zero d = refl
-replicate-at (suc n) (suc i) d = replicate-at n i d
 
 module _ (V : Type 0) (n : ℕ) (whole : n % 256 ≡ 0) (some : 0 < n) where
   abbrev pub empty_standard : Parts V

@@ -2,8 +2,6 @@ pub mod WritingLaws
 pub mod PackedTrie
 pub mod PackedParts
 pub mod PackedValid
-pub mod ManyGroups
-pub mod ByteGroups
 pub mod ChildLaws
 pub mod ByteLaws
 pub mod DeadLaws
@@ -13,3 +11,5 @@ pub mod WrittenLaws
 pub mod BuiltLaws
 pub mod EmptyLaws
 pub mod Rows
+pub mod EdgeLaws
+pub mod ListingLaws

@@ -1,9 +1,8 @@
 -- The parts that elements make up have the bases, checks, links and positions of these, whatever the kind, and so they are a copy of the trie.
-use Rattle.std.proofs.Common.{◌≡◌, ℕ, ◌==◌, cond, List, ◌∷◌, length, map, get_or, Some, None, refl, sym, ap, ◌∙◌, inl, inr}
+use Rattle.std.proofs.Common.{◌≡◌, ℕ, ◌==◌, cond, List, ◌∷◌, length, map, get_or, Some, None, refl, sym, ap, ◌∙◌}
 use Rattle.std.specs.Prelude.{bit_xor, nat_lt}
 use Rattle.std.proofs.Math.ListN.{get_or-map}
 use Rattle.std.proofs.lemmas.List.{length-map}
-use Rattle.std.proofs.lemmas.Bool.{cases_eq, cond-true, cond-false, eq-eqb, ne_eqb}
 use Rattle.daachorse_core.specs.declared.outputs.Output.{Output}
 use Rattle.daachorse_model.specs.declared.MatchKind.{MatchKind}
 use Rattle.daachorse_model.specs.declared.MatchKind.TheVariants.{Standard, LeftmostLongest, LeftmostFirst}
@@ -13,8 +12,10 @@ use Rattle.daachorse_machine.specs.Copies.{IsCopy}
 use Rattle.daachorse_bytewise_states.specs.declared.state.State.{State}
 use Rattle.daachorse_bytewise_states.specs.Elements.{base_in, check_in, fail_in, output_in, vacant, vacant_left}
 use Rattle.daachorse_bytewise_states.specs.Parts.{base_of, check_of, child, child_in, count, fail_of, machine, output_of, parts_of, without_link}
-use Rattle.daachorse_bytewise_states.specs.Packing.{element, trie_of, ArePacked}
-use Rattle.daachorse_bytewise_states.proofs.PackedTrie.{element-child, Leads-above, Leads-state, place-above, place-apart, place-dead}
+use Rattle.daachorse_bytewise_states.specs.Packing.{element, ArePacked}
+use Rattle.daachorse_packing.specs.Settled.{trie_of}
+use Rattle.daachorse_packing.proofs.Held.{held-IsCopy}
+use Rattle.daachorse_bytewise_states.proofs.PackedTrie.{element-child, element-states}
 
 -- ---- what the parts say of an element
 module _ {V : Type 0} (es : List (State ℕ)) (outputs : List (Output V)) (n : ℕ) where
@@ -74,21 +75,8 @@ parts-child es outputs n kind i c =
     (parts-count es outputs n kind) (parts-base es outputs n kind) (parts-check es outputs n kind)
 
 module _ {A : Type 0} {gs : List (SiblingGroup A)} {l : Layout} {edges : List (List (ℕ × ℕ))} {depths fails positions : List ℕ} {es : List (State ℕ)} (p : ArePacked gs l edges depths fails positions es) where
-  -- a dead link leads to the dead state
-  link_at : (f : ℕ) → get_or l.idx f 0 ≡ cond (f == 1) 1 (get_or l.idx f 0)
-  link_at f = elim (cases_eq f 1) [
-    | inl e ↦ ap (λ x. get_or l.idx x 0) e ∙ place-dead p.settled ∙ sym (cond-true (f == 1) _ _ (eq-eqb f 1 e))
-    | inr other ↦ sym (cond-false (f == 1) _ _ (ne_eqb f 1 other))
-  ]
-
   -- the parts are a copy of the trie
   pub packed-IsCopy : {V : Type 0} (kind : MatchKind) (outputs : List (Output V)) (n : ℕ) → IsCopy (trie_of edges fails positions) outputs (machine (parts_of kind es outputs n)) (λ t. get_or l.idx t 0)
-  packed-IsCopy kind outputs n = record {
-    root = p.settled.placed.root;
-    above = λ u s w e. (let at = Leads-above p.settled u s w e in place-above p.settled s at.0 at.1);
-    apart = λ r s v w d e same. (let a = Leads-state p.settled r v d in let b = Leads-state p.settled s w e in place-apart p.settled r s a.0 a.1 b.0 b.1 same);
-    children = λ s c w e. (let at = Leads-state p.settled s w e in parts-child es outputs n kind (get_or l.idx s 0) c ∙ element-child p s c at.0 at.1);
-    links = λ u s w e. (let at = Leads-state p.settled s (u ∷ w) e in parts-fail es outputs n kind (get_or l.idx s 0) ∙ (p.held.states s at.0 at.1).fail ∙ link_at (get_or fails s 0));
-    positions = λ s w e. (let at = Leads-state p.settled s w e in parts-output es outputs n kind (get_or l.idx s 0) ∙ (p.held.states s at.0 at.1).output);
-    same_outputs = parts-outputs es outputs n kind;
-  }
+  packed-IsCopy kind outputs n =
+      held-IsCopy p.settled fails positions (element-states p) (machine (parts_of kind es outputs n)) outputs (λ k. λ i. parts-fail es outputs n kind i k) (λ k. λ i. parts-output es outputs n kind i k) (parts-outputs es outputs n kind)
+      (λ s c less alive. parts-child es outputs n kind (get_or l.idx s 0) c ∙ element-child p s c less alive)

@@ -14,7 +14,8 @@ use Rattle.std.specs.Prelude.{slice_index_or}
 use Rattle.daachorse_bytewise_states.specs.declared.state.State.{State}
 use Rattle.daachorse_bytewise_states.specs.Elements.{base_in, check_in, fail_in, output_in, vacant}
 use Rattle.daachorse_bytewise_states.specs.Packing.{IsVacant, element}
-use Rattle.daachorse_bytewise_states.specs.Writing.{ArePlaces, HasPlaced, HasVacants}
+use Rattle.daachorse_bytewise_states.specs.Writing.{HasPlaced, HasVacants}
+use Rattle.daachorse_packing.specs.Settled.{ArePlaces}
 use Rattle.std.proofs.lemmas.List.{get_or-map}
 use Rattle.std.proofs.Common.{◌+◌, ◌-◌, ◌*◌, ◌/◌, ◌%◌, ◌≤◌, bit_xor, Option, None}
 use Rattle.std.specs.Prelude.{unwrap_or, IfNone, IfSome}

@@ -1,20 +1,10 @@
 -- What was written one after another are the elements that hold the trie.
 use Rattle.std.proofs.Common.{◌≡◌, ℕ, ◌<◌, List, ◌++◌, length, take, drop, ◌∙◌, ap, subst, sym, arith}
 use Rattle.std.proofs.Math.Seq.{take-append_seam}
-use Rattle.daachorse_placement.specs.declared.build_helper.SiblingGroup.{SiblingGroup}
 use Rattle.daachorse_placement.specs.Layout.{Layout}
 use Rattle.daachorse_bytewise_states.specs.declared.state.State.{State}
-use Rattle.daachorse_bytewise_states.specs.Packing.{AreSettled, HoldStates, IsVacant}
-use Rattle.daachorse_bytewise_states.specs.Writing.{AreLabelled, ArePlaces, AreVacant, HasPlaced}
-use Rattle.daachorse_bytewise_states.proofs.PackedTrie.{place-apart, place-inside}
-
--- each state was placed apart
-pub settled-places : {A : Type 0} {gs : List (SiblingGroup A)} {l : Layout} {edges : List (List (ℕ × ℕ))} {depths : List ℕ} → AreSettled gs l edges depths → ArePlaces l.idx (length edges) (length l.used)
-settled-places q = record {
-  size = q.sizes.idx;
-  inside = place-inside q;
-  apart = λ s t ls lt left right same. place-apart q s t ls left lt right same;
-}
+use Rattle.daachorse_bytewise_states.specs.Packing.{HoldStates, IsVacant}
+use Rattle.daachorse_bytewise_states.specs.Writing.{AreLabelled, AreVacant, HasPlaced}
 
 pub written-held : (l : Layout) (edges : List (List (ℕ × ℕ))) (labels fails positions : List ℕ) (old new : List (State ℕ)) → 0 < length edges → AreLabelled edges labels → AreVacant l old
     → HasPlaced (length edges) l.idx l.bases labels fails positions old new → HoldStates l edges fails positions new

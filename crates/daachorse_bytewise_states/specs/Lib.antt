@@ -4,3 +4,5 @@ pub mod Valid
 pub mod Packing
 pub mod Writing
 pub mod StateForms
+pub mod Equality
+pub mod Edges

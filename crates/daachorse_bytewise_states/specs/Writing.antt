@@ -27,12 +27,6 @@ pub record HasVacants (n u : ℕ) (old new : List (State ℕ)) : Type 0 where
   pub output : (i : ℕ) → length old ≤ i → i < length new → output_in (element new i) ≡ 0
   pub check : (i : ℕ) → length old ≤ i → i < length new → check_in (element new i) ≡ bit_xor i u % 256
 
--- each of n states but the dead one has a place of its own, among so many elements
-pub record ArePlaces (idx : List ℕ) (n elements : ℕ) : Type 0 where
-  pub size : length idx ≡ n
-  pub inside : (t : ℕ) → t < n → slice_index idx t < elements
-  pub apart : (t v : ℕ) → t < n → v < n → t ≢ 1 → v ≢ 1 → slice_index idx t ≡ slice_index idx v → t ≡ v
-
 -- the first m states but the dead one are written, and nothing else
 pub record HasPlaced (m : ℕ) (idx bases labels fails positions : List ℕ) (old new : List (State ℕ)) : Type 0 where
   pub size : length new ≡ length old

@@ -4,6 +4,7 @@
 //! for, and on what a search sees of it: [`views::Standard`] and [`views::Leftmost`].
 #![tactic(auto)]
 
+mod edges;
 mod leftmost;
 mod packing;
 mod standard;

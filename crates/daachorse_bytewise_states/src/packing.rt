@@ -9,12 +9,13 @@ ghost use Rattle.daachorse_core.specs.Outputs.{number};
 ghost use Rattle.daachorse_core.specs.Refusals.{IsOutOfMemory, IsRefusal};
 ghost use Rattle.daachorse_core.specs.declared.errors.Limit.TheVariants.{NumElements};
 ghost use Rattle.daachorse_build.specs.Builders.{states_of};
-ghost use Rattle.daachorse_bytewise_states.specs.Packing.{AreByteGroups, ArePackedOf, HasManyGroups, HoldStates};
+ghost use Rattle.daachorse_bytewise_states.specs.Packing.{AreByteGroups, ArePackedOf, HoldStates};
 ghost use Rattle.daachorse_placement.specs.Placement.{HasSizes};
 ghost use Rattle.daachorse_build.specs.EdgeMaps.{id_at};
 ghost use Rattle.daachorse_build.specs.Tables.{HoldTrie, depths_of, edges_of, fails_of, positions_of};
 ghost use Rattle.daachorse_bytewise_states.specs.Elements.{base_in, check_in, fail_in, output_in};
-ghost use Rattle.daachorse_bytewise_states.specs.Writing.{AreLabelled, ArePlaces, AreVacant, HasPlaced, HasVacants};
+ghost use Rattle.daachorse_bytewise_states.specs.Writing.{AreLabelled, AreVacant, HasPlaced, HasVacants};
+ghost use Rattle.daachorse_packing.specs.Settled.{ArePlaces, HasManyGroups};
 
 use crate::state::State;
 use daachorse_build::edge_map::EdgeMap;
@@ -43,7 +44,7 @@ pub(crate) fn pack<V: Copy, A: Allocator + Copy>(
     requires links { (t : ℕ) → t < length (states_of nfa.now) → t ≢ 1 → slice_index (fails_of (states_of nfa.now)) t < length (states_of nfa.now) }
     requires outputs { (t : ℕ) → t < length (states_of nfa.now) → t ≢ 1 → slice_index (positions_of (states_of nfa.now)) t < 2 ^ 24 }
     ensures ok { IfOk result (λ elements. ArePackedOf (states_of nfa.now) elements.items) }
-    ensures err { IfErr result (IsRefusal ⊥ NumElements (HasManyGroups (states_of nfa.now))) }
+    ensures err { IfErr result (IsRefusal ⊥ NumElements (HasManyGroups (λ b. b) 256 (states_of nfa.now))) }
 {
     let groups = byte_groups(alloc, nfa)?;
     let helper = BuildHelper::new(alloc, &groups, nfa.states().len(), BLOCK_LEN, true)?;

@@ -3,17 +3,18 @@
 //! The layers above may rely on the parts being those that were stored, on their being valid, and
 //! on the views of them being the same automaton. Only [`States::new`] takes memory.
 
-ghost use Rattle.std.specs.Prelude.{◌≡◌, ◌≢◌, ◌<◌, ◌%◌, ℕ, List, length, map, slice_index_or, IfOk, IfErr};
+ghost use Rattle.std.specs.Prelude.{◌≡◌, ◌≢◌, ◌<◌, ◌%◌, ◌≤◌, ◌-◌, bit_xor, ℕ, Some, slice_get, List, length, map, slice_index_or, IfOk, IfErr};
 ghost use Rattle.daachorse_core.specs.declared.errors.Limit.TheVariants.{NumElements};
+ghost use Rattle.daachorse_core.specs.Outputs.{number};
 ghost use Rattle.daachorse_core.specs.Refusals.{IsOutOfMemory, IsRefusal};
 ghost use Rattle.daachorse_model.specs.Dictionary.{Dictionary};
 ghost use Rattle.daachorse_bytewise_states.specs.Packing.{IsBuiltFor};
 ghost use Rattle.daachorse_patterns.specs.Prefixes.{HasMoreProperPrefixes};
 ghost use Rattle.daachorse_model.specs.declared.MatchKind.TheVariants.{Standard};
 ghost use Rattle.daachorse_model.specs.Paths.{is_reached};
-ghost use Rattle.daachorse_model.specs.Prefixes.{PassesAt};
+ghost use Rattle.daachorse_model.specs.Prefixes.{HasPrefixes, PassesAt};
 ghost use Rattle.daachorse_bytewise_states.specs.Elements.{base_in, fail_in, vacant};
-ghost use Rattle.daachorse_bytewise_states.specs.Parts.{child, child_among, content, count, parts_of, without_link};
+ghost use Rattle.daachorse_bytewise_states.specs.Parts.{base_of, check_of, child, child_among, content, count, fail_of, output_of, parts_of, without_link};
 ghost use Rattle.daachorse_bytewise_states.specs.Valid.{IsRootTable, IsValid};
 
 #[cfg(test)]
@@ -26,7 +27,9 @@ use daachorse_build::nfa_builder::NfaBuilder;
 use daachorse_core::errors::Result;
 use daachorse_core::{Empty, MatchKind, Output, ROOT_STATE_IDX};
 use std::alloc::{Allocator, Global};
+use std::hash::{Hash, Hasher};
 use std::marker::Model;
+use std::num::NonZeroU32;
 
 /// The states and the outputs of an automaton over bytes, with values of type `V`.
 ///
@@ -40,7 +43,7 @@ pub struct States<V: Copy, A: Allocator = Global> {
     leftmost: Vec<State<Empty>, A>,
     fails: Vec<u32, A>,
     outputs: Vec<Output<V>, A>,
-    num_states: u32,
+    pub(crate) num_states: u32,
 }
 
 impl<V: Copy, A: Allocator> Model for States<V, A> {
@@ -151,10 +154,76 @@ impl<V: Copy, A: Allocator> States<V, A> {
         }
     }
 
+    /// The base of an element.
+    #[inline(always)]
+    pub(crate) fn base_at(&self, element: usize) -> Option<NonZeroU32>
+        requires { element < count self.now }
+        ensures { number result ≡ base_of self.now element }
+    {
+        if self.kind.is_leftmost() {
+            self.leftmost[element].base()
+        } else {
+            self.standard[element].base()
+        }
+    }
+
+    /// The check of an element. In whole blocks it leads from an element to an element.
+    #[inline(always)]
+    pub(crate) fn check_at(&self, element: usize) -> u8
+        requires { element < count self.now }
+        ensures value { result ≡ check_of self.now element }
+        ensures inside { bit_xor element result < count self.now }
+    {
+        if self.kind.is_leftmost() {
+            self.leftmost[element].check()
+        } else {
+            self.standard[element].check()
+        }
+    }
+
+    /// The failure link of an element, which is an element.
+    #[inline(always)]
+    pub(crate) fn fail_at(&self, element: usize) -> usize
+        requires { element < count self.now }
+        ensures value { result ≡ fail_of self.now element }
+        ensures inside { result < count self.now }
+    {
+        if self.kind.is_leftmost() {
+            self.fails[element] as usize
+        } else {
+            self.standard[element].fail() as usize
+        }
+    }
+
+    /// The position of an element's first output; 0 if it has none.
+    #[inline(always)]
+    pub(crate) fn output_at(&self, element: usize) -> usize
+        requires { element < count self.now }
+        ensures { result ≡ output_of self.now element }
+    {
+        let position = if self.kind.is_leftmost() {
+            self.leftmost[element].output_pos()
+        } else {
+            self.standard[element].output_pos()
+        };
+        position.map_or(0, NonZeroU32::get) as usize
+    }
+
+    /// The output at a position.
+    #[inline(always)]
+    pub(crate) fn output(&self, position: usize) -> Output<V>
+        requires some { 0 < position }
+        requires inside { position ≤ length self.now.outputs }
+        ensures { slice_get self.now.outputs (position - 1) ≡ Some result }
+    {
+        self.outputs[position - 1]
+    }
+
     /// How many texts begin a pattern, the empty one among them.
     #[inline(always)]
     pub fn num_states(&self) -> u32
-        ensures { PassesAt (is_reached (child self.now)) result }
+        ensures reached { PassesAt (is_reached (child self.now)) result }
+        ensures prefixes { HasPrefixes (content self.now) result }
     {
         self.num_states
     }
@@ -175,7 +244,7 @@ impl<V: Copy, A: Allocator> States<V, A> {
 
     /// What the leftmost searches see.
     #[inline(always)]
-    #[tactic(auto, using(crate::proofs::DeadLaws::leftmost_kind))]
+    #[tactic(auto, using(daachorse_machine::proofs::DeadLaws::leftmost_kind))]
     pub fn leftmost(&self) -> views::Leftmost<'_, V>
         requires { self.now.kind ≢ Standard }
         ensures { result ≡ self.entry.now }
@@ -188,6 +257,76 @@ impl<V: Copy, A: Allocator> States<V, A> {
             self.num_states,
         )
     }
+}
+
+impl<V: Copy, A: Allocator + Copy> States<V, A> {
+    /// The same states, in memory of their own.
+    ///
+    /// # Errors
+    ///
+    /// An allocation failed.
+    pub fn clone(&self) -> Result<Self>
+        ensures same { IfOk result (λ s. s ≡ self.now) }
+        ensures err { IfErr result IsOutOfMemory }
+    {
+        Ok(Self {
+            kind: self.kind,
+            standard: copy_of(&self.standard)?,
+            root: copy_of(&self.root)?,
+            leftmost: copy_of(&self.leftmost)?,
+            fails: copy_of(&self.fails)?,
+            outputs: copy_of(&self.outputs)?,
+            num_states: self.num_states,
+        })
+    }
+}
+
+/// States are equal where all that they store is.
+impl<V: Copy + PartialEq, A: Allocator> PartialEq for States<V, A> {
+    ghost use Rattle.daachorse_bytewise_states.specs.Equality.{parts_eq, parts_per};
+
+    ghost eq = { parts_eq V.eq };
+
+    ghost laws = { parts_per V.laws };
+
+    fn eq(&self, other: &Self) -> bool {
+        self.kind == other.kind
+            && (self.standard == other.standard
+                && (self.leftmost == other.leftmost
+                    && (self.fails == other.fails
+                        && (self.outputs == other.outputs && self.num_states == other.num_states))))
+    }
+}
+
+impl<V: Copy + Eq, A: Allocator> Eq for States<V, A> {
+    ghost use Rattle.daachorse_bytewise_states.specs.Equality.{parts_equiv};
+
+    ghost laws = { parts_equiv V.Eq.laws };
+}
+
+impl<V: Copy + Hash, A: Allocator> Hash for States<V, A> {
+    ghost use Rattle.daachorse_bytewise_states.specs.Equality.{parts_alike, parts_input};
+
+    ghost hash_input = { parts_input V.hash_input };
+
+    ghost respects_eq = { parts_alike V.respects_eq };
+
+    fn hash<H: Hasher>(&self, state: &mut H) {
+        self.kind.hash(state);
+        self.standard.hash(state);
+        self.leftmost.hash(state);
+        self.fails.hash(state);
+        self.outputs.hash(state);
+        self.num_states.hash(state);
+    }
+}
+
+/// A copy of a vector.
+fn copy_of<T: Copy, A: Allocator + Copy>(items: &Vec<T, A>) -> Result<Vec<T, A>>
+    ensures ok { IfOk result (λ v. v.items ≡ items.now.items) }
+    ensures err { IfErr result IsOutOfMemory }
+{
+    Ok(Vec::from_slice(*items.allocator(), items.as_slice())?)
 }
 
 /// The element of each byte's child from the root, the root itself where there is none.

@@ -1,4 +1,7 @@
 pub mod Elements
+pub mod Packing
 pub mod Parts
 pub mod Valid
+pub mod Views
+pub mod Writing
 pub mod Written

@@ -1,9 +1,13 @@
 //! The states of the automaton over characters, in a double array.
 //!
-//! The layers above may rely on an element keeping each of its parts, and on the law of its written
-//! form.
+//! The layers above may rely on [`states::States`] holding just the dictionary that it was built
+//! for, on what a search sees of it ([`view::Standard`] and [`view::Leftmost`]), on an element
+//! keeping each of its parts, and on the law of its written form.
 #![tactic(auto)]
 
+mod packing;
 pub mod state;
+pub mod states;
 #[cfg(test)]
 mod tests;
+pub mod view;

@@ -3,11 +3,12 @@
 //! The layers above may rely on an element keeping its base, its check, its failure link and the
 //! position of its first output, each on its own, and on being read back from what was written.
 
-ghost use Rattle.std.specs.Prelude.{◌≡◌, ◌+◌, ℕ, IfErr, length};
+ghost use Rattle.std.specs.Prelude.{◌≡◌, ◌+◌, ◌<◌, ℕ, IfErr, bit_xor, length, slice_index_or};
 ghost use Rattle.daachorse_core.specs.Outputs.{number};
 ghost use Rattle.daachorse_core.specs.declared.errors.DaachorseError.TheVariants.{InvalidAutomaton};
 ghost use Rattle.daachorse_serializer.specs.Forms.{Gives};
 ghost use Rattle.daachorse_charwise_states.specs.Elements.{base_in, check_in, fail_in, output_in, vacant};
+ghost use Rattle.daachorse_charwise_states.specs.Parts.{child_by};
 ghost use Rattle.daachorse_charwise_states.specs.Written.{IsElement, element_form, take_element, element_law};
 
 use daachorse_core::DEAD_STATE_IDX;
@@ -119,6 +120,21 @@ impl State {
         ensures fail { fail_in self.new ≡ fail_in self.old }
     {
         self.output_pos = position.map_or(0, NonZeroU32::get);
+    }
+
+    /// The index of the element to which a code leads from this one, the element at an index, if
+    /// there is one.
+    #[inline(always)]
+    pub fn child(&self, index: u32, code: u32, states: &[State]) -> Option<u32>
+        requires { bit_xor (base_in self.now) code < length states.now }
+        ensures { result ≡ child_by (length states.now) (λ j. check_in (slice_index_or states.now j vacant)) index (base_in self.now) code }
+    {
+        let child = self.base()?.get() ^ code;
+        if states[child as usize].check() == index {
+            Some(child)
+        } else {
+            None
+        }
     }
 }
 

@@ -1,9 +1,14 @@
 pub mod PathLaws
 pub mod ChainLaws
 pub mod MachineLaws
+pub mod DeadLaws
+pub mod ChildLaws
+pub mod OutputLaws
+pub mod ChildlessLaws
 pub mod CopyPaths
 pub mod CopyChains
 pub mod CopyLinks
 pub mod CopyCount
 pub mod CopyLaws
 pub mod Rows
+pub mod CountLaws

@@ -1,7 +1,7 @@
 -- What a search sees of a right machine: the elements that texts lead to are the prefixes of its keys, and links, chains and looks are those of its dictionary.
 use Rattle.std.proofs.Common.{◌≡◌, ◌≢◌, ℕ, zero, suc, ◌+◌, ◌<◌, ◌≤◌, ◌⊎◌, inl, inr, Bool, true, false, cond, ◌==◌, List, [], ◌∷◌, ◌++◌, map, length, Option, Some, None, refl, sym, ap, ◌∙◌, subst, arith, append_assoc, append-nil, length-append}
 use Rattle.std.proofs.lemmas.Option.{same_Some}
-use Rattle.std.specs.Prelude.{is_some}
+use Rattle.std.specs.Prelude.{is_some, option_and_then}
 use Rattle.daachorse_core.specs.Outputs.{outputs_at}
 use Rattle.daachorse_core.specs.declared.turns.Look.TheVariants.{Next, Fail}
 use Rattle.daachorse_model.specs.Units.{size}
@@ -9,7 +9,7 @@ use Rattle.daachorse_model.specs.Paths.{walk, is_reached, Leads}
 use Rattle.daachorse_model.specs.Prefixes.{IsPrefix, IsLink, IsLeftFail, long, left_fail}
 use Rattle.daachorse_model.specs.Outputs.{own_outputs, IsChain, at_root, at_dead, before_link}
 use Rattle.daachorse_model.proofs.Links.{IsDead-not, link-is, left_fail-is}
-use Rattle.daachorse_search.specs.Looks.{LookGives}
+use Rattle.daachorse_search.specs.Looks.{IsForeign, LookGives}
 use Rattle.daachorse_machine.specs.Texts.{text_of, IsReached}
 use Rattle.daachorse_machine.specs.Machines.{Machine, own, values_at, content, element_of, right_fail, dead_in, IsMachine}
 use Rattle.daachorse_machine.proofs.PathLaws.{walk-split, walk-push, element_reached, reached_element, any_child, Leads-inside, Leads-length, text_of-Leads}
@@ -42,6 +42,14 @@ module _ {V : Type 0} (width : ℕ → ℕ) (a : Machine V) (leftmost : Bool) (n
       let end = element_reached a.child (w ++ rest) (key_reached (w ++ rest) (walk a.child 0 (w ++ rest)) refl key) in
       let halves = walk-split a.child 0 end.0 w rest end.1 in
       reached_element a.child w halves.0 halves.1
+
+  -- no key has a unit that leads nowhere
+  pub foreign : (c : ℕ) → ((i : ℕ) → a.child i c ≡ None) → IsForeign (content width a) c
+  foreign c none w begins =
+      let end = element_reached a.child (w ++ c ∷ []) (back (w ++ c ∷ []) begins) in
+      let halves = walk-split a.child 0 end.0 w (c ∷ []) end.1 in
+      let bad : ◌≡◌ {A = Option ℕ} None (Some end.0) = sym (ap (λ o. option_and_then (λ j. Some j) o) (none halves.0)) ∙ halves.2 in
+      cc
 
   no_child : (i c : ℕ) (o : Option ℕ) → a.child i c ≡ o → ((d : ℕ) → d < m → a.child i d ≡ None) → o ≡ None
   no_child i c None e none = refl
@@ -129,6 +137,15 @@ module _ {V : Type 0} (width : ℕ → ℕ) (a : Machine V) (leftmost : Bool) (n
   pub Reached-chain : (i : ℕ) → IsReached a.child m n i → IsChain width (content width a) (dead_in width a leftmost) (text_of a.child m n i) (outputs_at a.outputs (a.output i))
   Reached-chain i r = Leads-chain (text_of a.child m n i) i r
 
+  -- and so are those from a position that was read
+  pub chain-at : (i q : ℕ) → IsReached a.child m n i → a.output i ≡ q → IsChain width (content width a) (dead_in width a leftmost) (text_of a.child m n i) (outputs_at a.outputs q)
+  chain-at i q r at =
+      let P : ℕ → Type 0 = λ x. IsChain width (content width a) (dead_in width a leftmost) (text_of a.child m n i) (outputs_at a.outputs x) in
+      subst P at (Reached-chain i r)
+
+  pub position-inside : (i q : ℕ) → IsReached a.child m n i → a.output i ≡ q → q ≤ length a.outputs
+  position-inside i q r at = let below : a.output i ≤ length a.outputs = h.outputs_inside i (Reached-inside i r) in omega (arith, below, at)
+
   -- ---- a look at an element
 
   root_or : (i : ℕ) (w : List ℕ) → Leads a.child w i → (i ≡ 0) ⊎ ((u : ℕ) × (v : List ℕ) × (w ≡ u ∷ v))
@@ -187,6 +204,13 @@ module _ {V : Type 0} (width : ℕ → ℕ) (a : Machine V) (leftmost : Bool) (n
       go (to_element {s} link alive leads not) =
           let P : List ℕ → Type 0 = λ x. IsLink (content width a) (text_of a.child m n i) x in
           (Reached-Leads s (a.fail i) leads, not_prefix i c r none, alive, subst P (sym (text-Leads s (a.fail i) leads)) link)
+
+  -- a link that was read, and isn't dead
+  pub turn-link : (i c f : ℕ) → IsReached a.child m n i → a.child i c ≡ None → i ≢ 0 → a.fail i ≡ f → f ≢ 1
+      → LookGives (content width a) (IsReached a.child m n) (text_of a.child m n) (dead_in width a leftmost) (text_of a.child m n i) c (Fail f)
+  turn-link i c f r none other at live =
+      let P : ℕ → Type 0 = λ x. LookGives (content width a) (IsReached a.child m n) (text_of a.child m n) (dead_in width a leftmost) (text_of a.child m n i) c (Fail x) in
+      subst P at (turn-fail i c r none other (λ one. live (sym at ∙ one)))
 
   -- where no text has a dead link, as in a standard machine, no element's link is dead
   pub standard-alive : (i : ℕ) → IsReached a.child m n i → i ≢ 0 → ((w : List ℕ) → ¬ dead_in width a leftmost w) → a.fail i ≢ 1

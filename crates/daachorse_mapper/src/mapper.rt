@@ -3,7 +3,7 @@
 //! The layers above may rely on what a mapper made of frequencies codes, and in what order, on a
 //! mapper that was read being any table and any size, and on the law of its written form.
 
-ghost use Rattle.std.specs.Prelude.{◌≡◌, ◌≢◌, ℕ, ◌<◌, ◌^◌, ◌==◌, ◌++◌, max, length, slice_index, IfOk, IfErr, MatchOption};
+ghost use Rattle.std.specs.Prelude.{◌≡◌, ◌≢◌, ℕ, ◌<◌, ◌^◌, ◌==◌, ◌++◌, max, length, slice_get, slice_index, IfOk, IfErr, MatchOption};
 ghost use Rattle.std.specs.Int.{IsNextPowerOfTwo};
 ghost use Rattle.std.specs.Cmp.Lexicographic.{pointwise};
 ghost use Rattle.std.specs.Cmp.Rules.{comparing, hashing};
@@ -11,7 +11,7 @@ ghost use Rattle.std.specs.Hash as fed;
 ghost use Rattle.std.specs.Ordering.{on, eq_of_both};
 ghost use Rattle.std.proofs.Common.{rules};
 ghost use Rattle.daachorse_core.specs.Refusals.{IsOutOfMemory};
-ghost use Rattle.daachorse_mapper.specs.Codings.{Coding, IsCodingOf, code_of};
+ghost use Rattle.daachorse_mapper.specs.Codings.{Coding, IsCodingOf, code_of, entry_code};
 ghost use Rattle.daachorse_mapper.specs.Ranks.{AreApart, AreRanked, IsFilled, index_at, used_in};
 ghost use Rattle.daachorse_mapper.specs.Written.{AreNumbers, IsCountable, coding_form, coding_law, coding_len, take_coding};
 
@@ -79,10 +79,7 @@ impl<A: Allocator> CodeMapper<A> {
     pub fn get(&self, c: char) -> Option<u32>
         ensures { result ≡ code_of self.now c }
     {
-        match self.table.get(c as usize) {
-            Some(&code) if code != INVALID_CODE => Some(code),
-            _ => None,
-        }
+        code_in(&self.table, c)
     }
 
     /// The size of the alphabet. Of a mapper made of frequencies it is the number of characters
@@ -183,6 +180,17 @@ impl<A: Allocator> SerializableVec for CodeMapper<A> {
     ghost law = { coding_law };
 }
 
+/// The code of a character in a mapper's table, if it has one.
+#[inline(always)]
+pub fn code_in(table: &[u32], c: char) -> Option<u32>
+    ensures { result ≡ entry_code (slice_get table.now c) }
+{
+    match table.get(c as usize) {
+        Some(&code) if code != INVALID_CODE => Some(code),
+        _ => None,
+    }
+}
+
 /// The indexes of frequency above 0 with their frequencies, by falling frequency, and those of one
 /// frequency by index.
 fn rank<A: Allocator>(alloc: A, freqs: &[u32]) -> Result<Vec<(usize, u32), A>>
@@ -194,13 +202,19 @@ fn rank<A: Allocator>(alloc: A, freqs: &[u32]) -> Result<Vec<(usize, u32), A>>
     Ok(ranked)
 }
 
-/// The indexes of frequency above 0 with their frequencies, by index.
+/// The indexes of frequency above 0 with their frequencies, by index. Room is made as they come, and
+/// not by an estimate, so that each refused growth is an error.
 fn used<A: Allocator>(alloc: A, freqs: &[u32]) -> Result<Vec<(usize, u32), A>>
     ensures used { IfOk result (λ v. v.items ≡ used_in freqs.now) }
     ensures err { IfErr result IsOutOfMemory }
 {
-    let indexed = freqs.iter().copied().enumerate();
-    Ok(indexed.filter(|&(_, freq)| freq > 0).collect(alloc)?)
+    let mut used = Vec::new(alloc);
+    for (index, &freq) in freqs.iter().enumerate() {
+        if freq > 0 {
+            used.push((index, freq))?;
+        }
+    }
+    Ok(used)
 }
 
 /// A table of so many entries, with the rank at each index that is ranked.

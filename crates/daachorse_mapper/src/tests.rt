@@ -1,6 +1,6 @@
 //! What no clause says: that each call succeeds where memory is ample, and the worked rows.
 
-use crate::mapper::{CodeMapper, INVALID_CODE};
+use crate::mapper::{CodeMapper, INVALID_CODE, code_in};
 use daachorse_core::errors::DaachorseError;
 use daachorse_serializer::serializer::SerializableVec;
 use std::collections::HashSet;
@@ -21,6 +21,7 @@ fn frequent_characters_have_small_codes(rt: HostRuntime) -> Result<(), Fail> {
     ];
     for (c, code) in ('\u{0}'..='\u{7}').zip(codes) {
         assert_eq!(rt; mapper.get(c), code);
+        assert_eq!(rt; code_in(mapper.table(), c), code);
     }
     assert_eq!(rt; mapper.get('\u{10ffff}'), None);
     assert_eq!(rt; mapper.alphabet_size(), 5);

@@ -18,6 +18,10 @@ same_text_twice_listing = refl
 abbrev five : List (List ℕ × ℕ)
 five = kept LeftmostFirst (numbered 0 (codes "ab" ∷ codes "a" ∷ codes "abcd" ∷ []))
 
+bytes_listing : listing (numbered 0 ((255 ∷ []) ∷ (97 ∷ 0 ∷ []) ∷ (0 ∷ []) ∷ (0 ∷ 255 ∷ []) ∷ []))
+    ≡ (0 ∷ [], 2) ∷ (0 ∷ 255 ∷ [], 3) ∷ (97 ∷ 0 ∷ [], 1) ∷ (255 ∷ [], 0) ∷ []
+bytes_listing = refl
+
 leftmost_first_listing : listing five ≡ (codes "a", 1) ∷ (codes "ab", 0) ∷ []
 leftmost_first_listing = refl
 

@@ -28,6 +28,13 @@ module _ {V : Type 0} (K : Dictionary V) where
   abbrev pub IsPrefix : List ℕ → Type 0
   IsPrefix w = (w ≡ []) ⊎ ((x : List ℕ) × IsKey (w ++ x))
 
+  -- exactly n texts are prefixes of keys
+  pub record HasPrefixes (n : ℕ) : Type 0 where
+    pub texts : List (List ℕ)
+    pub distinct : IsDistinct same_text texts
+    pub exactly : (w : List ℕ) → IsPrefix w ↔ Contains texts w
+    pub count : length texts ≡ n
+
   -- s is the longest end of w that is a prefix of a key: the state after w
   pub record IsLong (w s : List ℕ) : Type 0 where
     pub ends : IsSuffix s w

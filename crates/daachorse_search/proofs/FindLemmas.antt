@@ -225,30 +225,37 @@ module _ {V A : Type 0} (width : ℕ → ℕ) (wide : (u : ℕ) → 1 ≤ width 
       first_of [] some = some
       first_of (x ∷ xs) some = omega arith
 
+  -- what was read since the last match is what the walk read since it last began at the root
+  pub finding-since : (s : Walked A) (o : Option NonZeroU32) → finding s.automaton s.seen s.turns o → (since : List ℕ) → IsSinceMatch width (content s.automaton) (units s.seen) since → since ≡ s.seen.since
+  finding-since s None h since is = IsResumed-since width (content s.automaton) wide s.seen.before s.seen.since h.resumed since is
+  finding-since s (Some p) h since is = empty (content s.automaton) h.keyed (units s.seen) is ∙ sym h.stays
+    where
+      empty : (K : Dictionary V) → K [] ≢ [] → (t : List ℕ) → IsSinceMatch width K t since → since ≡ []
+      empty K keyed t is = by (K []) refl
+        where
+          by : (values : List V) → K [] ≡ values → since ≡ []
+          by [] none = absurd (keyed none)
+          by (v ∷ values) has = IsSinceMatch-empty width K wide v values has t since is
+
+  deep_since : (s : Walked A) (o : Option NonZeroU32) → finding s.automaton s.seen s.turns o → ((t : List ℕ) → IsLong (content s.automaton) s.seen.since t → s.turns + length t ≤ 2 * length (units s.seen))
+      → (since t : List ℕ) → IsSinceMatch width (content s.automaton) (units s.seen) since → IsLong (content s.automaton) since t → s.turns + length t ≤ 2 * length (units s.seen)
+  deep_since s o h deep since t is long = let Q : List ℕ → Type 0 = λ w. IsLong (content s.automaton) w t in deep t (subst Q (finding-since s o h since is) long)
+
   -- the bounds of the turns, of what was read since the last match
   pub finding-bounded : (s : Walked A) (o : Option NonZeroU32) → finding s.automaton s.seen s.turns o → s.turns ≤ 2 * length (units s.seen)
       → ((t : List ℕ) → IsLong (content s.automaton) s.seen.since t → s.turns + length t ≤ 2 * length (units s.seen)) → count_by (has_label s.automaton) s.seen.looked ≤ s.turns
       → AreBoundedSince (content s.automaton) (has_label s.automaton) width (units s.seen) s.turns
   finding-bounded s None h most' deep least =
-      let K = content s.automaton in let P : List ℕ → Type 0 = λ l. count_by (has_label s.automaton) l ≤ s.turns in
+      let P : List ℕ → Type 0 = λ l. count_by (has_label s.automaton) l ≤ s.turns in
       record {
         most = most';
-        deep = λ since t is long. let Q : List ℕ → Type 0 = λ w. IsLong K w t in deep t (subst Q (IsResumed-since width K wide s.seen.before s.seen.since h.resumed since is) long);
+        deep = deep_since s None h deep;
         least = λ _. subst P h.all least;
         idle = λ keyed. absurd (keyed h.resumed.no_empty);
       }
-  finding-bounded s (Some p) h most' deep least =
-      let K = content s.automaton in
-      record {
-        most = most';
-        deep = λ since t is long. let Q : List ℕ → Type 0 = λ w. IsLong K w t in deep t (subst Q (empty K h.keyed (units s.seen) since is ∙ sym h.stays) long);
-        least = λ none. absurd (h.keyed none);
-        idle = λ _. h.idle;
-      }
-    where
-      empty : (K : Dictionary V) → K [] ≢ [] → (t since : List ℕ) → IsSinceMatch width K t since → since ≡ []
-      empty K keyed t since is = by (K []) refl
-        where
-          by : (values : List V) → K [] ≡ values → since ≡ []
-          by [] none = absurd (keyed none)
-          by (v ∷ values) has = IsSinceMatch-empty width K wide v values has t since is
+  finding-bounded s (Some p) h most' deep least = record {
+    most = most';
+    deep = deep_since s (Some p) h deep;
+    least = λ none. absurd (h.keyed none);
+    idle = λ _. h.idle;
+  }

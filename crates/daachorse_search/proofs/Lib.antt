@@ -7,3 +7,4 @@ pub mod HaystackLemmas
 pub mod RunLemmas
 pub mod BestScanLemmas
 pub mod LeftmostLemmas
+pub mod DepthLemmas

@@ -1,8 +1,10 @@
 pub mod Everywhere
 pub mod Looks
 pub mod Walks
+pub mod Depths
 pub mod Nothing
 pub mod Sources
+pub mod ByteSources
 pub mod Stepwise
 pub mod Searches
 pub mod Finds

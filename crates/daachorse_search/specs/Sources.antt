@@ -19,6 +19,13 @@ module _ {S U : Type 0} (can : S → Type 0) (steps : S → Option U → S → T
     pub falls : IsRoom room
     pub fits : place + room source < 2 ^ 64
 
+-- Where these units were read, the source may be called, ends, and has at most as many items as there are places left. For sources of bytes, whose items take one place each.
+module _ {S : Type 0} (can : S → Type 0) (left : S → Count) where
+  pub record MayRead (source : S) (read : List ℕ) : Type 0 where
+    pub callable : can source
+    pub ends : IsFinite (left source)
+    pub fits : length read + items_left left source < 2 ^ 64
+
 -- what f gives of each beginning of the haystack past t, the units read: w is still to read
 abbrev pub past_each_end : {A : Type 0} → (List ℕ → List A) → List ℕ → List ℕ → List A
 past_each_end f t [] = []

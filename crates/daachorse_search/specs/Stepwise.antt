@@ -7,9 +7,10 @@ use Rattle.daachorse_model.specs.Dictionary.{Dictionary}
 use Rattle.daachorse_model.specs.Matches.{IsSinceMatch}
 use Rattle.daachorse_model.specs.Prefixes.{IsLong}
 
--- what callers see of a stepper: the automaton, the units consumed, and the turns taken
+-- what callers see of a stepper: the automaton, the depths of its states if they are kept, the units consumed, and the turns taken
 pub record Stepped (A : Type 0) : Type 0 where
   pub automaton : A
+  pub depths : List ℕ
   pub read : List ℕ
   pub turns : ℕ
 

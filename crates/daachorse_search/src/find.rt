@@ -3,10 +3,16 @@
 //! The layers above may rely on [`FindWalk`] telling the standard search's match that ends where
 //! it stands, if there is one, and on it taking no turn where some key is empty.
 
-ghost use Rattle.std.specs.Prelude.{◌≡◌, ◌<◌, ◌≤◌, ◌^◌, ◌+◌, ℕ, List, [], ◌∷◌, ◌++◌, take};
+ghost use Rattle.std.specs.Prelude.{◌≡◌, ◌≢◌, Some, None, length, ◌<◌, ◌≤◌, ◌^◌, ◌+◌, ℕ, List, [], ◌∷◌, ◌++◌, take};
+ghost use Rattle.daachorse_model.specs.Matches.{IsSinceMatch, standard};
+ghost use Rattle.daachorse_model.specs.Prefixes.{IsLong};
+ghost use Rattle.daachorse_model.specs.Units.{size};
+ghost use Rattle.daachorse_search.specs.Depths.{AreDepths};
 ghost use Rattle.daachorse_search.specs.Nothing.{HasPlace-none, first_from-none};
 
 use crate::automaton::Automaton;
+use crate::haystack::Haystack;
+use crate::matches::Matches;
 use crate::stepwise::Stepwise;
 use crate::walk::Walk;
 use daachorse_core::Match;
@@ -35,7 +41,7 @@ impl<V: Copy, A: Automaton<V>> Model for FindWalk<V, A> {
 }
 
 impl<V: Copy, A: Automaton<V>> FindWalk<V, A> {
-    ghost use Rattle.daachorse_core.specs.Seen.{unread};
+    ghost use Rattle.daachorse_core.specs.Seen.{unread, units};
 
     /// A walk that has read nothing.
     #[inline(always)]
@@ -48,6 +54,18 @@ impl<V: Copy, A: Automaton<V>> FindWalk<V, A> {
         let walk = Walk::new(automaton);
         let everywhere = walk.outputs();
         FindWalk { walk, everywhere }
+    }
+
+    /// The depth of the state: how many of the units read since the last match begin a key. With an
+    /// empty key it is 0, and `None` if no depths are kept.
+    #[inline(always)]
+    pub fn depth(&self, depths: &[u32]) -> Option<u32>
+        requires { AreDepths (A.reached self.now.automaton) (A.text self.now.automaton) depths.now }
+        ensures none { depths.now ≡ [] → result ≡ None }
+        ensures depth { depths.now ≢ [] → (since s : List ℕ) → IsSinceMatch A.Unit.width (A.content self.now.automaton) (units self.now.seen) since
+            → IsLong (A.content self.now.automaton) since s → result ≡ Some (length s) }
+    {
+        self.walk.depth(depths)
     }
 }
 
@@ -126,4 +144,20 @@ impl<V: Copy, A: Automaton<V>> Clone for FindWalk<V, A> {
             everywhere: self.everywhere,
         })
     }
+}
+
+/// The matches of the standard search in a haystack.
+#[inline(always)]
+pub fn find_in<V: Copy, A: Automaton<V>, H: Haystack<A::Unit>>(
+    automaton: A,
+    haystack: H,
+) -> Matches<V, FindWalk<V, A>, H>
+    requires alive { (w : List ℕ) → ¬ A.dead automaton w }
+    requires fits { size A.Unit.width (H.rest haystack) < 2 ^ 64 }
+    ensures automaton { result.automaton ≡ automaton }
+    ensures left { result.left ≡ standard A.Unit.width (A.content automaton) (H.rest haystack) }
+    ensures passed { result.passed ≡ [] }
+    ensures turns { result.turns ≡ 0 }
+{
+    Matches::new(FindWalk::new(automaton), haystack)
 }

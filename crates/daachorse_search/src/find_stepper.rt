@@ -1,11 +1,13 @@
 //! The standard search, one unit at a time.
 //!
 //! The layers above may rely on a stepper telling the match of the standard search that ends with
-//! what was consumed, if there is one.
+//! what was consumed, if there is one, and on the depth of its state.
 
-ghost use Rattle.std.specs.Prelude.{◌≡◌, ◌<◌, ◌^◌, ◌+◌, ℕ, List, [], ◌∷◌, ◌++◌};
-ghost use Rattle.daachorse_model.specs.Matches.{standard_after};
+ghost use Rattle.std.specs.Prelude.{◌≡◌, ◌≢◌, ◌<◌, ◌^◌, ◌+◌, ℕ, List, [], ◌∷◌, ◌++◌, length, Some, None};
+ghost use Rattle.daachorse_model.specs.Matches.{standard_after, IsSinceMatch};
+ghost use Rattle.daachorse_model.specs.Prefixes.{IsLong};
 ghost use Rattle.daachorse_model.specs.Units.{size};
+ghost use Rattle.daachorse_search.specs.Depths.{AreDepths};
 ghost use Rattle.daachorse_search.specs.Stepwise.{AreBoundedSince};
 
 use crate::automaton::Automaton;
@@ -16,57 +18,81 @@ use std::alloc::AllocError;
 use std::marker::Model;
 use std::num::NonZeroU32;
 
-/// The standard search, one unit at a time.
+/// The search for matches that do not overlap, one unit at a time.
+///
+/// It borrows the automaton, and takes no memory.
 #[derive(Drop)]
-pub struct FindStepper<V: Copy, A: Automaton<V>> {
+pub struct FindStepper<'a, V: Copy, A: Automaton<V>> {
     walk: FindWalk<V, A>,
+    // By state the length of its text in units; empty if they are not kept.
+    depths: &'a [u32],
     // The output of the match that ends where the walk stands.
     found: Option<NonZeroU32>,
 }
 
-impl<V: Copy, A: Automaton<V>> Model for FindStepper<V, A> {
-    ghost use Rattle.daachorse_search.specs.Finds.{HasFound};
+impl<'a, V: Copy, A: Automaton<V>> Model for FindStepper<'a, V, A> {
     ghost use Rattle.daachorse_core.specs.Seen.{units};
+    ghost use Rattle.daachorse_search.specs.Depths.{AreDepths};
+    ghost use Rattle.daachorse_search.specs.Finds.{HasFound};
     ghost use Rattle.daachorse_search.specs.Stepwise.{Stepped};
 
     ghost Value = { Stepped A };
 
-    ghost view = { λ s. record { automaton = s.walk.automaton; read = units s.walk.seen; turns = s.walk.turns } };
+    ghost view = { λ s. record { automaton = s.walk.automaton; depths = s.depths.now; read = units s.walk.seen; turns = s.walk.turns } };
 
-    ghost invariant = { λ s. HasFound A.Unit.width A.content A.has_output A.outputs s.walk s.found };
+    ghost invariant = { λ s. HasFound A.Unit.width A.content A.has_output A.outputs s.walk s.found
+        × AreDepths (A.reached s.walk.automaton) (A.text s.walk.automaton) s.depths.now };
 }
 
-impl<V: Copy, A: Automaton<V>> FindStepper<V, A> {
-    /// A stepper that has consumed nothing.
+impl<'a, V: Copy, A: Automaton<V>> FindStepper<'a, V, A> {
+    /// A stepper that has consumed nothing. The depths are those of the automaton's states, or none.
     #[inline(always)]
-    pub fn new(automaton: A) -> Self
-        requires { (w : List ℕ) → ¬ A.dead automaton w }
+    pub fn new(automaton: A, depths: &'a [u32]) -> Self
+        requires alive { (w : List ℕ) → ¬ A.dead automaton w }
+        requires depths { AreDepths (A.reached automaton) (A.text automaton) depths.now }
         ensures automaton { result.automaton ≡ automaton }
+        ensures depths { result.depths ≡ depths.entry.now }
         ensures read { result.read ≡ [] }
         ensures turns { result.turns ≡ 0 }
     {
         let walk = FindWalk::new(automaton);
         let found = walk.begin();
-        FindStepper { walk, found }
+        FindStepper {
+            walk,
+            depths,
+            found,
+        }
     }
 
-    /// Reads one unit.
+    /// Consumes one unit.
     #[inline(always)]
     pub fn consume(&mut self, unit: A::Unit)
         requires { size A.Unit.width self.old.read + A.Unit.width (A.Unit.unit unit) < 2 ^ 64 }
         ensures automaton { self.new.automaton ≡ self.old.automaton }
+        ensures depths { self.new.depths ≡ self.old.depths }
         ensures read { self.new.read ≡ self.old.read ++ A.Unit.unit unit ∷ [] }
     {
         self.found = self.walk.advance(unit);
     }
 
-    /// The match that ends where the search stands.
+    /// The match of the standard search that ends with the units consumed, if there is one.
     #[inline(always)]
     pub fn matches(&self) -> Option<Match<V>>
         ensures { result ≡ standard_after A.Unit.width (A.content self.now.automaton) self.now.read }
     {
         let position = self.found?;
         Some(self.walk.give(position).0)
+    }
+
+    /// How many of the last units consumed since the last match begin a key, at most; with an empty
+    /// key 0. `None` if the automaton keeps no depths.
+    #[inline(always)]
+    pub fn depth(&self) -> Option<u32>
+        ensures none { self.now.depths ≡ [] → result ≡ None }
+        ensures depth { self.now.depths ≢ [] → (since s : List ℕ) → IsSinceMatch A.Unit.width (A.content self.now.automaton) self.now.read since
+            → IsLong (A.content self.now.automaton) since s → result ≡ Some (length s) }
+    {
+        self.walk.depth(self.depths)
     }
 
     /// Does nothing, and promises the bounds of the turns.
@@ -78,7 +104,7 @@ impl<V: Copy, A: Automaton<V>> FindStepper<V, A> {
     }
 }
 
-impl<V: Copy, A: Automaton<V>> Clone for FindStepper<V, A> {
+impl<'a, V: Copy, A: Automaton<V>> Clone for FindStepper<'a, V, A> {
     ghost is_clone = { λ s t. t ≡ s };
 
     ghost is_infallible = { λ _. Unit {0} };
@@ -87,6 +113,7 @@ impl<V: Copy, A: Automaton<V>> Clone for FindStepper<V, A> {
     fn clone(&self) -> Result<Self, AllocError> {
         Ok(FindStepper {
             walk: self.walk.clone()?,
+            depths: self.depths,
             found: self.found,
         })
     }

@@ -18,10 +18,13 @@ pub mod haystack;
 mod left_sample;
 pub mod leftmost;
 pub mod matches;
+pub mod matches_from;
 pub mod overlapping;
+pub mod overlapping_stepper;
 #[cfg(test)]
 mod sample;
 pub mod scan;
 pub mod search;
+pub mod source;
 pub mod stepwise;
 pub mod walk;

@@ -3,11 +3,17 @@
 //! The layers above may rely on [`OverlappingWalk`] telling all matches that end where it stands,
 //! the longest first, and on [`NoSuffixWalk`] telling the first of them.
 
-ghost use Rattle.std.specs.Prelude.{◌≡◌, ◌<◌, ◌≤◌, ◌^◌, ◌+◌, ℕ, List, [], ◌∷◌, ◌++◌, take};
+ghost use Rattle.std.specs.Prelude.{◌≡◌, ◌≢◌, Some, None, length, ◌<◌, ◌≤◌, ◌^◌, ◌+◌, ℕ, List, [], ◌∷◌, ◌++◌, take};
+ghost use Rattle.daachorse_model.specs.Matches.{no_suffix, overlapping};
+ghost use Rattle.daachorse_model.specs.Prefixes.{IsLong};
+ghost use Rattle.daachorse_model.specs.Units.{size};
+ghost use Rattle.daachorse_search.specs.Depths.{AreDepths};
 ghost use Rattle.daachorse_search.specs.Nothing.{HasPlace-none, matches_from-none, first_from-none};
 
 use crate::automaton::Automaton;
 use crate::ending_here::EndingHere;
+use crate::haystack::Haystack;
+use crate::matches::Matches;
 use crate::stepwise::Stepwise;
 use crate::walk::Walk;
 use daachorse_core::Match;
@@ -35,7 +41,6 @@ impl<V: Copy, A: Automaton<V>> Model for OverlappingWalk<V, A> {
 impl<V: Copy, A: Automaton<V>> OverlappingWalk<V, A> {
     ghost use Rattle.daachorse_core.specs.Seen.{unread, units};
     ghost use Rattle.daachorse_model.specs.Matches.{matches_after};
-    ghost use Rattle.daachorse_model.specs.Units.{size};
 
     /// A walk that has read nothing.
     #[inline(always)]
@@ -70,6 +75,17 @@ impl<V: Copy, A: Automaton<V>> OverlappingWalk<V, A> {
             self.walk.place(),
             self.walk.outputs(),
         )
+    }
+
+    /// The depth of the state: how many of the last units read begin a key. `None` if no depths
+    /// are kept.
+    #[inline(always)]
+    pub fn depth(&self, depths: &[u32]) -> Option<u32>
+        requires { AreDepths (A.reached self.now.automaton) (A.text self.now.automaton) depths.now }
+        ensures none { depths.now ≡ [] → result ≡ None }
+        ensures depth { depths.now ≢ [] → (s : List ℕ) → IsLong (A.content self.now.automaton) (units self.now.seen) s → result ≡ Some (length s) }
+    {
+        self.walk.depth(depths)
     }
 }
 
@@ -225,4 +241,36 @@ impl<V: Copy, A: Automaton<V>> Stepwise<V> for NoSuffixWalk<V, A> {
     fn turns_are_bounded(&self) {
         self.all.turns_are_bounded();
     }
+}
+
+/// All matches in a haystack, also those that overlap.
+#[inline(always)]
+pub fn find_overlapping_in<V: Copy, A: Automaton<V>, H: Haystack<A::Unit>>(
+    automaton: A,
+    haystack: H,
+) -> Matches<V, OverlappingWalk<V, A>, H>
+    requires alive { (w : List ℕ) → ¬ A.dead automaton w }
+    requires fits { size A.Unit.width (H.rest haystack) < 2 ^ 64 }
+    ensures automaton { result.automaton ≡ automaton }
+    ensures left { result.left ≡ overlapping A.Unit.width (A.content automaton) (H.rest haystack) }
+    ensures passed { result.passed ≡ [] }
+    ensures turns { result.turns ≡ 0 }
+{
+    Matches::new(OverlappingWalk::new(automaton), haystack)
+}
+
+/// Of all matches in a haystack the longest at each end.
+#[inline(always)]
+pub fn find_overlapping_no_suffix_in<V: Copy, A: Automaton<V>, H: Haystack<A::Unit>>(
+    automaton: A,
+    haystack: H,
+) -> Matches<V, NoSuffixWalk<V, A>, H>
+    requires alive { (w : List ℕ) → ¬ A.dead automaton w }
+    requires fits { size A.Unit.width (H.rest haystack) < 2 ^ 64 }
+    ensures automaton { result.automaton ≡ automaton }
+    ensures left { result.left ≡ no_suffix A.Unit.width (A.content automaton) (H.rest haystack) }
+    ensures passed { result.passed ≡ [] }
+    ensures turns { result.turns ≡ 0 }
+{
+    Matches::new(NoSuffixWalk::new(automaton), haystack)
 }

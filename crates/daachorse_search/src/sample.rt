@@ -197,7 +197,7 @@ fn steps_by_hand(rt: HostRuntime) -> Result<(), Fail> {
         values: &[7, 8],
         leftmost: false,
     };
-    let mut stepper = FindStepper::new(automaton);
+    let mut stepper = FindStepper::new(automaton, &[]);
     assert_eq!(rt; stepper.matches(), Some(at(0, 7)));
     stepper.consume(b'a');
     assert_eq!(rt; stepper.clone()?.matches(), Some(at(1, 7)));

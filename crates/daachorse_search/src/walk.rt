@@ -3,12 +3,13 @@
 //! The layers above may rely on a walk standing at the state of the units that it read since it
 //! last began at the root, and on the bounds of its turns.
 
-ghost use Rattle.std.specs.Prelude.{◌≡◌, ◌+◌, ◌*◌, ◌^◌, ◌<◌, ◌≤◌, ℕ, List, [], ◌∷◌, ◌++◌, IfSome, length, count_by};
+ghost use Rattle.std.specs.Prelude.{◌≡◌, ◌≢◌, Some, None, ◌+◌, ◌*◌, ◌^◌, ◌<◌, ◌≤◌, ℕ, List, [], ◌∷◌, ◌++◌, IfSome, length, count_by};
 ghost use Rattle.daachorse_model.specs.Units.{size};
 ghost use Rattle.daachorse_model.specs.Prefixes.{IsLong};
 ghost use Rattle.daachorse_core.specs.Outputs.{number};
 ghost use Rattle.daachorse_model.specs.Outputs.{AllWithin, matches_of_outputs};
 ghost use Rattle.daachorse_core.specs.Seen.{units, unread};
+ghost use Rattle.daachorse_search.specs.Depths.{AreDepths};
 ghost use Rattle.daachorse_search.specs.Walks.{read_on, skip_on, begin_on, HasOutputs};
 
 use crate::automaton::{Automaton, step};
@@ -120,6 +121,19 @@ impl<V: Copy, A: Automaton<V>> Walk<V, A> {
         ensures some { IfSome result (λ position. 0 < length (A.outputs self.now.automaton position.value)) }
     {
         self.automaton.output_pos(self.state)
+    }
+
+    /// The depth of the state, by a table of depths; `None` if none are kept.
+    #[inline(always)]
+    pub fn depth(&self, depths: &[u32]) -> Option<u32>
+        requires { AreDepths (A.reached self.now.automaton) (A.text self.now.automaton) depths.now }
+        ensures none { depths.now ≡ [] → result ≡ None }
+        ensures depth { depths.now ≢ [] → (s : List ℕ) → IsLong (A.content self.now.automaton) self.now.seen.since s → result ≡ Some (length s) }
+    {
+        if depths.is_empty() {
+            return None;
+        }
+        Some(depths[self.state as usize])
     }
 
     /// The match of the output at a position, which ends here, and the position of the next output.

@@ -19,7 +19,7 @@ fn build<A: Allocator + Copy>(
     alloc: A,
     patterns: &[&[u8]],
 ) -> Result<DoubleArrayAhoCorasick<u32, A>>
-    ensures { IfOk result (λ a. a.kind ≡ Standard) }
+    ensures { IfOk result (λ a. a.parts.kind ≡ Standard) }
 {
     DoubleArrayAhoCorasick::new(alloc, patterns.iter().copied())
 }
@@ -39,7 +39,7 @@ fn build_by<A: Allocator + Copy>(
     alloc: A,
     patvals: &[(&[u8], u32)],
 ) -> Result<DoubleArrayAhoCorasick<u32, A>>
-    ensures { IfOk result (λ a. a.kind ≡ Standard) }
+    ensures { IfOk result (λ a. a.parts.kind ≡ Standard) }
 {
     match way {
         Way::New => DoubleArrayAhoCorasick::new(alloc, patvals.iter().map(|p| p.0)),

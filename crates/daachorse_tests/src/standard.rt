@@ -12,7 +12,7 @@ fn found(start: usize, end: usize, value: u32) -> Match<u32> {
 }
 
 fn build(alloc: Global, patterns: &[&[u8]]) -> Result<DoubleArrayAhoCorasick<u32>>
-    ensures { IfOk result (λ a. a.kind ≡ Standard) }
+    ensures { IfOk result (λ a. a.parts.kind ≡ Standard) }
 {
     DoubleArrayAhoCorasick::new(alloc, patterns.iter().copied())
 }

@@ -90,8 +90,8 @@ impl DoubleArrayAhoCorasickBuilder {
         P::IntoIter: Drop,
         requires { (it : P.IntoIter) → P.into_iter_gives patterns it → P.IntoIter.can_next it × IsFinite (P.IntoIter.remaining it) }
         ensures ok { IfOk result (λ a. (it : P.IntoIter) × P.into_iter_gives patterns it
-            × WholeRun P.IntoIter.next_gives it (λ p. IsBuiltOf V.try_from_gives self (map (λ t. t.now) p.items) a)) }
-        ensures kind { IfOk result (λ a. a.kind ≡ self) }
+            × WholeRun P.IntoIter.next_gives it (λ p. IsBuiltOf V.try_from_gives self (map (λ t. t.now) p.items) a.parts)) }
+        ensures kind { IfOk result (λ a. a.parts.kind ≡ self) }
         ensures err { IfErr result (λ e. IsOutOfMemory e ⊎ ((it : P.IntoIter) × P.into_iter_gives patterns it
             × WholeRun P.IntoIter.next_gives it (λ p. IsBuildRefusal V.try_from_gives self (map (λ t. t.now) p.items) e))) }
     {
@@ -119,8 +119,8 @@ impl DoubleArrayAhoCorasickBuilder {
         P::IntoIter: Drop,
         requires { (it : P.IntoIter) → P.into_iter_gives patvals it → P.IntoIter.can_next it × IsFinite (P.IntoIter.remaining it) }
         ensures ok { IfOk result (λ a. (it : P.IntoIter) × P.into_iter_gives patvals it
-            × WholeRun P.IntoIter.next_gives it (λ p. (w : List ℕ) → content a w ≡ dictionary self (registered p.items) w)) }
-        ensures kind { IfOk result (λ a. a.kind ≡ self) }
+            × WholeRun P.IntoIter.next_gives it (λ p. (w : List ℕ) → content a.parts w ≡ dictionary self (registered p.items) w)) }
+        ensures kind { IfOk result (λ a. a.parts.kind ≡ self) }
         ensures err { IfErr result (λ e. IsOutOfMemory e ⊎ ((it : P.IntoIter) × P.into_iter_gives patvals it
             × WholeRun P.IntoIter.next_gives it (λ p. IsRefusalOf self (registered p.items) e))) }
     {
@@ -137,8 +137,8 @@ fn from_texts<V: Copy + TryFrom<usize>, A: Allocator + Copy>(
 ) -> Result<DoubleArrayAhoCorasick<V, A>>
 where
     V::Error: Drop,
-    ensures ok { IfOk result (λ a. IsBuiltOf V.try_from_gives kind (map (λ t. t.now) texts.now) a) }
-    ensures kind { IfOk result (λ a. a.kind ≡ kind) }
+    ensures ok { IfOk result (λ a. IsBuiltOf V.try_from_gives kind (map (λ t. t.now) texts.now) a.parts) }
+    ensures kind { IfOk result (λ a. a.parts.kind ≡ kind) }
     ensures err { IfErr result (IsBuildRefusal V.try_from_gives kind (map (λ t. t.now) texts.now)) }
 {
     let patterns = indexed(alloc, texts)?;
@@ -151,11 +151,11 @@ fn from_patterns<V: Copy, A: Allocator + Copy>(
     kind: MatchKind,
     patterns: &[(&[u8], V)],
 ) -> Result<DoubleArrayAhoCorasick<V, A>>
-    ensures ok { IfOk result (λ a. (w : List ℕ) → content a w ≡ dictionary kind (registered patterns.now) w) }
-    ensures kind { IfOk result (λ a. a.kind ≡ kind) }
+    ensures ok { IfOk result (λ a. (w : List ℕ) → content a.parts w ≡ dictionary kind (registered patterns.now) w) }
+    ensures kind { IfOk result (λ a. a.parts.kind ≡ kind) }
     ensures err { IfErr result (IsRefusalOf kind (registered patterns.now)) }
 {
     let nfa = build_trie(alloc, kind, Some(MAX_PATTERNS), patterns)?;
     let states = States::build(alloc, kind, nfa)?;
-    Ok(DoubleArrayAhoCorasick { states })
+    Ok(DoubleArrayAhoCorasick::of_states(alloc, states))
 }

@@ -16,8 +16,8 @@ returns-clause-built g c =
     let copied = c.copied.ensures.runs r.2.0 r.2.0.seen (r.2.1 ∙ r.1) in
     let read = c.iter.ensures.runs copied.0 copied.0.seen in
     let items = copied.2.2 ∙ read.4 (copied.2.0 ∙ r.2.2) ∙ ap (λ it. it.rest.now) copied.1 ∙ c.iter.ensures.rest ∙ c.deref.ensures.value in
-    let P : List (List ℕ) → Type 0 = λ ts. IsBuiltOf value_gives c.args.kind ts a in
-    let K : MatchKind → Type 0 = λ k. IsBuiltOf value_gives k (map (λ (t : Bor (List ℕ)). t.now) r.2.0.items) a in
+    let P : List (List ℕ) → Type 0 = λ ts. IsBuiltOf value_gives c.args.kind ts a.parts in
+    let K : MatchKind → Type 0 = λ k. IsBuiltOf value_gives k (map (λ (t : Bor (List ℕ)). t.now) r.2.0.items) a.parts in
     subst P (ap (map (λ (t : Bor (List ℕ)). t.now)) items ∙ c.in_ok-patterns.ensures) (subst K c.match_kind-builder.ensures r.2.3))
     c.build.ensures.ok
 

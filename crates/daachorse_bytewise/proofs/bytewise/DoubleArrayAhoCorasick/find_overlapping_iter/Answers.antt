@@ -1,4 +1,4 @@
--- The view is the automaton.
+-- The view is the automaton, and the haystack has the bytes of the slice.
 use Rattle.std.proofs.Common.{ap, ◌∙◌}
 use Rattle.daachorse_model.specs.Units.{byte_width}
 use Rattle.daachorse_model.specs.Matches.{overlapping}
@@ -7,4 +7,6 @@ use Rattle.daachorse_bytewise.proofs.bytewise.DoubleArrayAhoCorasick.find_overla
 
 pub returns-clause-left : goal.returns-clause-left
 returns-clause-left g c =
-    c.new.ensures.left ∙ ap (λ (p : Parts g.row.V.Denot). overlapping byte_width (content p) c.args.haystack.now) (c.standard.ensures ∙ c.self.view_is)
+    c.find_overlapping_in.ensures.left
+    ∙ ap (λ (p : Parts g.row.V.Denot). overlapping byte_width (content p) c.new.result) (c.standard.ensures ∙ ap (λ a. a.parts) c.self.view_is)
+    ∙ ap (overlapping byte_width (content c.args.self.now.parts)) c.new.ensures.bytes

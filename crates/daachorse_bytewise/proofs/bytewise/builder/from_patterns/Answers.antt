@@ -1,7 +1,9 @@
 -- The states are built of the trie of the patterns; the limit on the elements is tested last.
+use Rattle.std.proofs.Common.{◌≡◌, ℕ, List, sym, subst}
 use Rattle.std.proofs.lemmas.Result.{err_from_is_err_and}
 use Rattle.daachorse_model.specs.Dictionary.{dictionary, registered}
 use Rattle.daachorse_model.specs.Units.{byte_width}
+use Rattle.daachorse_bytewise_states.specs.Parts.{Parts, content}
 use Rattle.daachorse_patterns.proofs.RefusalLaws.{elements_refused, refused_before}
 use Rattle.daachorse_bytewise.specs.Building.{byte_limits}
 use Rattle.daachorse_bytewise.proofs.bytewise.builder.from_patterns.Goals as goal
@@ -21,4 +23,7 @@ returns-in_err-states-clause-err g c =
     rw (p.1, p.2) (elements_refused byte_width byte_limits c.args.kind rs c.in_ok-nfa.ensures.fit c.in_ok-nfa.ensures.few c.in_err-states.field-0.0 _ (λ passed. passed (dictionary c.args.kind rs) c.in_ok-nfa.ensures.ok) c.in_err-states.ensures.err)
 
 pub returns-clause-ok : goal.returns-clause-ok
-returns-clause-ok g c = c.in_ok-states.ensures.ok (dictionary c.args.kind (registered c.args.patterns.now)) c.in_ok-nfa.ensures.ok
+returns-clause-ok g c =
+    let K = dictionary c.args.kind (registered c.args.patterns.now) in
+    let P : Parts g.row.V.Denot → Type 0 = λ p. (w : List ℕ) → content p w ≡ K w in
+    subst P (sym c.of_states.ensures.parts) (c.in_ok-states.ensures.ok K c.in_ok-nfa.ensures.ok)

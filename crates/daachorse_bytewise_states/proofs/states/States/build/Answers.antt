@@ -9,7 +9,8 @@ use Rattle.daachorse_core.proofs.Refusals.{IsRefusal-weaker}
 use Rattle.daachorse_model.specs.Dictionary.{Dictionary}
 use Rattle.daachorse_build.specs.Builders.{outputs_of, states_of}
 use Rattle.daachorse_bytewise_states.specs.Parts.{Parts, content, parts_of}
-use Rattle.daachorse_bytewise_states.specs.Packing.{HasManyGroups, IsBuiltFor}
+use Rattle.daachorse_bytewise_states.specs.Packing.{IsBuiltFor}
+use Rattle.daachorse_packing.specs.Settled.{HasManyGroups}
 use Rattle.daachorse_patterns.specs.Prefixes.{HasMoreProperPrefixes}
 use Rattle.daachorse_bytewise_states.specs.Valid.{IsValid}
 use Rattle.daachorse_bytewise_states.proofs.BuiltLaws.{built-content, built-links, built-many, built-outputs, built-valid}
@@ -26,7 +27,7 @@ pub returns-in_err-elements-clause-err : goal.returns-in_err-elements-clause-err
 returns-in_err-elements-clause-err g c =
     let p = err_from_is_err_and c.from_residual.result c.from_residual.ensures.1 in
     let Passed : Type 0 = (K : Dictionary g.row.V.Denot) → IsBuiltFor c.args.kind c.args.nfa K → HasMoreProperPrefixes K 16777214 in
-    rw (p.1, p.2) (IsRefusal-weaker ⊥ ⊥ NumElements (HasManyGroups (states_of c.args.nfa)) Passed (λ x. x) (λ many K built. built-many c.args.kind c.args.nfa K built many) c.in_err-elements.field-0.0 c.in_err-elements.ensures.err)
+    rw (p.1, p.2) (IsRefusal-weaker ⊥ ⊥ NumElements (HasManyGroups {A = g.row.A.Denot} (λ b. b) 256 (states_of c.args.nfa)) Passed (λ x. x) (λ many K built. built-many c.args.kind c.args.nfa K built many) c.in_err-elements.field-0.0 c.in_err-elements.ensures.err)
 
 pub new-requires : goal.new-requires
 new-requires g c =

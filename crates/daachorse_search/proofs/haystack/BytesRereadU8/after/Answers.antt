@@ -1,4 +1,4 @@
-use Rattle.std.proofs.Common.{◌≡◌, ◌-◌, ◌+◌, ◌≤◌, ℕ, List, ◌++◌, length, drop, refl, sym, ap, ◌∙◌, length-append, arith}
+use Rattle.std.proofs.Common.{◌≡◌, ◌+◌, ◌≤◌, ℕ, List, ◌++◌, length, drop, sym, ap, ◌∙◌, length-append, arith}
 use Rattle.std.proofs.lemmas.List.{length-drop, drop_at, drop-drop}
 use Rattle.daachorse_model.specs.Units.{size, byte_width}
 use Rattle.daachorse_model.proofs.Suffixes.{size-bytes}

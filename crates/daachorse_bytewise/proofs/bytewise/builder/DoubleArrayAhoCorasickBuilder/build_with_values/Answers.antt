@@ -13,8 +13,8 @@ returns-clause-ok g c =
     let r = c.in_ok-patterns.ensures.ok in
     IfOk-weaker c.from_patterns.result _ _
     (λ a built.
-    let K : MatchKind → Type 0 = λ k. (w : List ℕ) → content a w ≡ dictionary k (registered c.deref.result.now) w in
-    let P : List (Bor (List ℕ) × g.row.V.Denot) → Type 0 = λ ps. (w : List ℕ) → content a w ≡ dictionary c.args.self (registered ps) w in
+    let K : MatchKind → Type 0 = λ k. (w : List ℕ) → content a.parts w ≡ dictionary k (registered c.deref.result.now) w in
+    let P : List (Bor (List ℕ) × g.row.V.Denot) → Type 0 = λ ps. (w : List ℕ) → content a.parts w ≡ dictionary c.args.self (registered ps) w in
     (c.into_iter.result, c.into_iter.ensures.into_iter_gives, (r.0, r.1, r.2, subst P (c.deref.ensures.value ∙ r.3) (subst K c.self.view_is built))))
     c.from_patterns.ensures.ok
 

@@ -1,0 +1,27 @@
+-- The texts are all that the iterator gives, and the kind is the builder's.
+use Rattle.std.proofs.Common.{ℕ, List, ◌∙◌, subst, inr}
+use Rattle.std.proofs.lemmas.Result.{IfOk-weaker, IfErr-weaker}
+use Rattle.std.specs.Borrow.{Bor}
+use Rattle.daachorse_model.specs.declared.MatchKind.{MatchKind}
+use Rattle.daachorse_charwise.specs.Building.{IsBuiltOf, IsBuildRefusal, spelled}
+use Rattle.daachorse_charwise.proofs.charwise.builder.CharwiseDoubleArrayAhoCorasickBuilder.build.Goals as goal
+
+pub returns-clause-ok : goal.returns-clause-ok
+returns-clause-ok g c =
+    let r = c.in_ok-texts.ensures.ok in
+    IfOk-weaker c.from_texts.result _ _
+    (λ a built.
+    let K : MatchKind → Type 0 = λ k. IsBuiltOf g.V.TryFrom.try_from_gives k (spelled c.deref.result.now) a in
+    let P : List (Bor (List ℕ)) → Type 0 = λ ts. IsBuiltOf g.V.TryFrom.try_from_gives c.args.self (spelled ts) a in
+    (c.into_iter.result, c.into_iter.ensures.into_iter_gives, (r.0, r.1, r.2, subst P (c.deref.ensures.value ∙ r.3) (subst K c.self.view_is built))))
+    c.from_texts.ensures.ok
+
+pub returns-clause-err : goal.returns-clause-err
+returns-clause-err g c =
+    let r = c.in_ok-texts.ensures.ok in
+    IfErr-weaker c.from_texts.result _ _
+    (λ e refused.
+    let K : MatchKind → Type 0 = λ k. IsBuildRefusal g.V.TryFrom.try_from_gives k (spelled c.deref.result.now) e in
+    let P : List (Bor (List ℕ)) → Type 0 = λ ts. IsBuildRefusal g.V.TryFrom.try_from_gives c.args.self (spelled ts) e in
+    inr (c.into_iter.result, c.into_iter.ensures.into_iter_gives, (r.0, r.1, r.2, subst P (c.deref.ensures.value ∙ r.3) (subst K c.self.view_is refused))))
+    c.from_texts.ensures.err

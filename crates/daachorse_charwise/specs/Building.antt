@@ -1,0 +1,59 @@
+-- What a build over characters promises: the dictionary of its patterns and the codes of their characters, or the first refusal in the order of its work.
+use Rattle.std.specs.Prelude.{◌≡◌, ◌⊎◌, ℕ, List, map, Result, None}
+use Rattle.std.specs.Borrow.{Bor}
+use Rattle.std.specs.Str.{chars}
+use Rattle.daachorse_core.specs.declared.errors.DaachorseError.{DaachorseError}
+use Rattle.daachorse_core.specs.declared.errors.DaachorseError.TheVariants.{AutomatonScale}
+use Rattle.daachorse_core.specs.declared.errors.Limit.TheVariants.{NumElements}
+use Rattle.daachorse_model.specs.declared.MatchKind.{MatchKind}
+use Rattle.daachorse_model.specs.Dictionary.{dictionary}
+use Rattle.daachorse_model.specs.Units.{char_width}
+use Rattle.daachorse_mapper.specs.Codings.{Coding, IsCodingOf}
+use Rattle.daachorse_patterns.specs.Building.{Fit, IsBuildRefusalWithin, IsRefusalWithin, Limits}
+use Rattle.daachorse_patterns.specs.Patterns.{AreIndexed, texts_of}
+use Rattle.daachorse_charwise_states.specs.Packing.{NeedsManyBlocks}
+use Rattle.daachorse_charwise_states.specs.Parts.{Parts, content}
+use Rattle.daachorse_charwise.specs.Frequencies.{AreFrequencies}
+
+-- the texts that strings stand for
+abbrev pub spelled : List (Bor (List ℕ)) → List (List ℕ)
+spelled strings = map (λ s. chars s.now) strings
+
+-- the registrations that strings with values stand for
+abbrev pub registered_texts : {V : Type 0} → List (Bor (List ℕ) × V) → List (List ℕ × V)
+registered_texts patterns = texts_of (λ s. chars s.now) patterns
+
+-- the codes of the characters of these texts: the most frequent have the smallest
+abbrev pub AreCodesOf : List (List ℕ) → Coding → Type 0
+AreCodesOf texts coding = (freqs : List ℕ) × AreFrequencies texts freqs × IsCodingOf freqs coding
+
+-- patterns have no limit of their own: that of the outputs holds for them
+abbrev pub char_limits : Limits
+char_limits = record { patterns = None; parents = None }
+
+module _ {V : Type 0} (kind : MatchKind) (rs : List (List ℕ × V)) where
+  -- the automaton holds the dictionary of the registrations, and codes for the characters of all of them
+  pub record IsHeld (a : Parts V) : Type 0 where
+    pub content : (w : List ℕ) → content a w ≡ dictionary kind rs w
+    pub codes : AreCodesOf (map (λ r. r.0) rs) a.coding
+
+  -- the elements run out: all patterns fit, and more texts begin longer patterns than there are blocks for
+  pub record RunsOut (e : DaachorseError) : Type 0 where
+    pub limit : e ≡ AutomatonScale (record { limit = NumElements })
+    pub fit : Fit char_width kind rs
+    pub coding : Coding
+    pub codes : AreCodesOf (map (λ r. r.0) rs) coding
+    pub blocks : NeedsManyBlocks coding (dictionary kind rs)
+
+  -- why a build of patterns with their values refuses: its trie does, or the elements run out
+  abbrev pub IsRefusalOf : DaachorseError → Type 0
+  IsRefusalOf e = IsRefusalWithin char_width char_limits kind rs e ⊎ RunsOut e
+
+module _ {V E : Type 0} (gives : ℕ → Result V E → Type 0) (kind : MatchKind) (texts : List (List ℕ)) where
+  -- the automaton holds the texts, each with the value of its index
+  abbrev pub IsBuiltOf : Parts V → Type 0
+  IsBuiltOf a = (rs : List (List ℕ × V)) × AreIndexed gives 0 texts rs × IsHeld kind rs a
+
+  -- why a build of texts refuses, each of which gets the value of its index
+  abbrev pub IsBuildRefusal : DaachorseError → Type 0
+  IsBuildRefusal e = IsBuildRefusalWithin gives char_width char_limits kind texts e ⊎ ((rs : List (List ℕ × V)) × AreIndexed gives 0 texts rs × RunsOut kind rs e)

@@ -1,0 +1,280 @@
+//! The automaton over characters.
+//!
+//! The layers above may rely on a build holding just the dictionary of its patterns, and on each
+//! search giving the whole list of matches that the definitions give for that dictionary.
+
+ghost use Rattle.std.specs.Prelude.{◌≡◌, ◌≢◌, ◌⊎◌, [], IfOk, IfErr};
+ghost use Rattle.std.specs.Iterator.{IsFinite};
+ghost use Rattle.std.specs.Iterator.Runs.{WholeRun};
+ghost use Rattle.std.specs.Str.{chars};
+ghost use Rattle.daachorse_core.specs.Refusals.{IsOutOfMemory};
+ghost use Rattle.daachorse_model.specs.declared.MatchKind.TheVariants.{Standard};
+ghost use Rattle.daachorse_model.specs.Units.{char_width};
+ghost use Rattle.daachorse_model.specs.Leftmost.{leftmost};
+ghost use Rattle.daachorse_model.specs.Matches.{no_suffix, overlapping, standard};
+ghost use Rattle.daachorse_search.specs.Searches.{all_found, first_found, standard_found};
+ghost use Rattle.daachorse_charwise.specs.Building.{IsBuildRefusal, IsBuiltOf, IsHeld, IsRefusalOf, registered_texts, spelled};
+ghost use Rattle.daachorse_charwise_states.specs.Parts.{content, count};
+
+pub mod builder;
+mod frequencies;
+pub mod iter;
+pub mod mapper;
+pub mod states;
+
+pub use crate::charwise::builder::CharwiseDoubleArrayAhoCorasickBuilder;
+use crate::charwise::iter::{
+    FindIterator, FindOverlappingIterator, FindOverlappingNoSuffixIterator,
+    FindOverlappingNoSuffixSliceIterator, FindOverlappingSliceIterator, FindOverlappingStepper,
+    FindSliceIterator, FindStepper, LeftmostFindIterator,
+};
+use crate::charwise::states::States;
+use daachorse_core::MatchKind;
+use daachorse_core::errors::Result;
+use daachorse_search::find::{FindWalk, find_in};
+use daachorse_search::leftmost::LeftmostMatches;
+use daachorse_search::matches_from::MatchesFrom;
+use daachorse_search::overlapping::{
+    NoSuffixWalk, OverlappingWalk, find_overlapping_in, find_overlapping_no_suffix_in,
+};
+use daachorse_text::decoding::Decoded;
+use daachorse_text::text::Text;
+use std::alloc::{Allocator, Global};
+use std::marker::Model;
+
+/// An automaton that finds many patterns in text at once.
+///
+/// It is that of Aho and Corasick (1975): a trie of the patterns, with failure links.
+#[derive(Drop)]
+pub struct CharwiseDoubleArrayAhoCorasick<V: Copy, A: Allocator = Global> {
+    states: States<V, A>,
+}
+
+impl<V: Copy, A: Allocator> Model for CharwiseDoubleArrayAhoCorasick<V, A> {
+    ghost use Rattle.daachorse_charwise_states.specs.Parts.{Parts};
+
+    ghost Value = { Parts V };
+
+    ghost view = { λ a. a.states };
+
+    ghost invariant = { λ a. Unit {0} };
+}
+
+impl<V: Copy, A: Allocator + Copy> CharwiseDoubleArrayAhoCorasick<V, A> {
+    /// Makes an automaton of these patterns, for the standard searches. Pattern `i`, counted from
+    /// 0, has the value that the index `i` is converted to. Equal patterns are all kept.
+    ///
+    /// It is [`CharwiseDoubleArrayAhoCorasickBuilder::build`] of the default builder.
+    ///
+    /// # Errors
+    ///
+    /// Those of [`CharwiseDoubleArrayAhoCorasickBuilder::build`].
+    pub fn new<'p, P: IntoIterator<Item = &'p str>>(alloc: A, patterns: P) -> Result<Self>
+    where
+        P::IntoIter: Drop,
+        V: TryFrom<usize>,
+        V::Error: Drop,
+        requires { (it : P.IntoIter) → P.into_iter_gives patterns it → P.IntoIter.can_next it × IsFinite (P.IntoIter.remaining it) }
+        ensures ok { IfOk result (λ a. (it : P.IntoIter) × P.into_iter_gives patterns it
+            × WholeRun P.IntoIter.next_gives it (λ p. IsBuiltOf V.try_from_gives Standard (spelled p.items) a)) }
+        ensures kind { IfOk result (λ a. a.kind ≡ Standard) }
+        ensures err { IfErr result (λ e. IsOutOfMemory e ⊎ ((it : P.IntoIter) × P.into_iter_gives patterns it
+            × WholeRun P.IntoIter.next_gives it (λ p. IsBuildRefusal V.try_from_gives Standard (spelled p.items) e))) }
+    {
+        CharwiseDoubleArrayAhoCorasickBuilder::new().build(alloc, patterns)
+    }
+
+    /// Makes an automaton of these patterns, each with its value, for the standard searches. Equal
+    /// patterns are all kept, and so are equal values.
+    ///
+    /// It is [`CharwiseDoubleArrayAhoCorasickBuilder::build_with_values`] of the default builder.
+    ///
+    /// # Errors
+    ///
+    /// Those of [`CharwiseDoubleArrayAhoCorasickBuilder::build_with_values`].
+    pub fn with_values<'p, P: IntoIterator<Item = (&'p str, V)>>(
+        alloc: A,
+        patvals: P,
+    ) -> Result<Self>
+    where
+        P::IntoIter: Drop,
+        requires { (it : P.IntoIter) → P.into_iter_gives patvals it → P.IntoIter.can_next it × IsFinite (P.IntoIter.remaining it) }
+        ensures ok { IfOk result (λ a. (it : P.IntoIter) × P.into_iter_gives patvals it
+            × WholeRun P.IntoIter.next_gives it (λ p. IsHeld Standard (registered_texts p.items) a)) }
+        ensures kind { IfOk result (λ a. a.kind ≡ Standard) }
+        ensures err { IfErr result (λ e. IsOutOfMemory e ⊎ ((it : P.IntoIter) × P.into_iter_gives patvals it
+            × WholeRun P.IntoIter.next_gives it (λ p. IsRefusalOf Standard (registered_texts p.items) e))) }
+    {
+        CharwiseDoubleArrayAhoCorasickBuilder::new().build_with_values(alloc, patvals)
+    }
+}
+
+impl<V: Copy, A: Allocator> CharwiseDoubleArrayAhoCorasick<V, A> {
+    /// The searches that the automaton is for: the standard ones, or one of the leftmost.
+    pub fn match_kind(&self) -> MatchKind
+        ensures { result ≡ self.now.kind }
+    {
+        self.states.kind()
+    }
+
+    /// The number of elements of the double array, those included that are no state.
+    pub fn num_elements(&self) -> usize
+        ensures { result ≡ count self.now }
+    {
+        self.states.num_elements()
+    }
+
+    /// Finds matches in a haystack that do not overlap: from the end of the one before each ends as
+    /// early as it can, and at that end it is the longest; of equal patterns the first registered.
+    /// With an empty pattern there is one empty match at each boundary.
+    #[inline(always)]
+    #[tactic(auto, using(daachorse_charwise_states::proofs::DeadLaws::alive))]
+    pub fn find_iter<'a>(&'a self, haystack: &'a str) -> FindSliceIterator<'a, V>
+        requires { self.now.kind ≡ Standard }
+        ensures left { result.left ≡ standard char_width (content self.entry.now) (chars haystack.entry.now) }
+        ensures automaton { result.automaton ≡ self.entry.now }
+        ensures passed { result.passed ≡ [] }
+        ensures turns { result.turns ≡ 0 }
+    {
+        find_in(self.states.standard(), Text::new(haystack))
+    }
+
+    /// The same in the text whose bytes a source gives. A match is given before a byte past its end
+    /// is taken; with an empty pattern, before the byte behind its place is.
+    #[inline(always)]
+    #[tactic(auto, using(daachorse_charwise_states::proofs::DeadLaws::alive))]
+    pub fn find_iter_from_iter<'a, P: Iterator<Item = u8>>(
+        &'a self,
+        haystack: P,
+    ) -> FindIterator<'a, P, V>
+        requires { self.now.kind ≡ Standard }
+        ensures automaton { result.automaton ≡ self.entry.now }
+        ensures source { result.source ≡ haystack }
+        ensures read { result.read ≡ [] }
+        ensures pending { result.pending ≡ standard_found char_width content self.entry.now [] }
+        ensures turns { result.turns ≡ 0 }
+    {
+        MatchesFrom::new(
+            FindWalk::new(self.states.standard()),
+            Decoded::new(haystack),
+        )
+    }
+
+    /// Finds every match in a haystack, also those that overlap: ends rise, and of the matches
+    /// that end together the longest comes first; equal patterns come in order of registration.
+    #[inline(always)]
+    #[tactic(auto, using(daachorse_charwise_states::proofs::DeadLaws::alive))]
+    pub fn find_overlapping_iter<'a>(
+        &'a self,
+        haystack: &'a str,
+    ) -> FindOverlappingSliceIterator<'a, V>
+        requires { self.now.kind ≡ Standard }
+        ensures left { result.left ≡ overlapping char_width (content self.entry.now) (chars haystack.entry.now) }
+        ensures automaton { result.automaton ≡ self.entry.now }
+        ensures passed { result.passed ≡ [] }
+        ensures turns { result.turns ≡ 0 }
+    {
+        find_overlapping_in(self.states.standard(), Text::new(haystack))
+    }
+
+    /// The same in the text whose bytes a source gives. A match is given before a byte past its end
+    /// is taken.
+    #[inline(always)]
+    #[tactic(auto, using(daachorse_charwise_states::proofs::DeadLaws::alive))]
+    pub fn find_overlapping_iter_from_iter<'a, P: Iterator<Item = u8>>(
+        &'a self,
+        haystack: P,
+    ) -> FindOverlappingIterator<'a, P, V>
+        requires { self.now.kind ≡ Standard }
+        ensures automaton { result.automaton ≡ self.entry.now }
+        ensures source { result.source ≡ haystack }
+        ensures read { result.read ≡ [] }
+        ensures pending { result.pending ≡ all_found char_width content self.entry.now [] }
+        ensures turns { result.turns ≡ 0 }
+    {
+        MatchesFrom::new(
+            OverlappingWalk::new(self.states.standard()),
+            Decoded::new(haystack),
+        )
+    }
+
+    /// Finds of every match in a haystack the longest at each end; of equal patterns the first
+    /// registered.
+    #[inline(always)]
+    #[tactic(auto, using(daachorse_charwise_states::proofs::DeadLaws::alive))]
+    pub fn find_overlapping_no_suffix_iter<'a>(
+        &'a self,
+        haystack: &'a str,
+    ) -> FindOverlappingNoSuffixSliceIterator<'a, V>
+        requires { self.now.kind ≡ Standard }
+        ensures left { result.left ≡ no_suffix char_width (content self.entry.now) (chars haystack.entry.now) }
+        ensures automaton { result.automaton ≡ self.entry.now }
+        ensures passed { result.passed ≡ [] }
+        ensures turns { result.turns ≡ 0 }
+    {
+        find_overlapping_no_suffix_in(self.states.standard(), Text::new(haystack))
+    }
+
+    /// The same in the text whose bytes a source gives. A match is given before a byte past its end
+    /// is taken.
+    #[inline(always)]
+    #[tactic(auto, using(daachorse_charwise_states::proofs::DeadLaws::alive))]
+    pub fn find_overlapping_no_suffix_iter_from_iter<'a, P: Iterator<Item = u8>>(
+        &'a self,
+        haystack: P,
+    ) -> FindOverlappingNoSuffixIterator<'a, P, V>
+        requires { self.now.kind ≡ Standard }
+        ensures automaton { result.automaton ≡ self.entry.now }
+        ensures source { result.source ≡ haystack }
+        ensures read { result.read ≡ [] }
+        ensures pending { result.pending ≡ first_found char_width content self.entry.now [] }
+        ensures turns { result.turns ≡ 0 }
+    {
+        MatchesFrom::new(
+            NoSuffixWalk::new(self.states.standard()),
+            Decoded::new(haystack),
+        )
+    }
+
+    /// Finds the leftmost matches in a haystack: from the end of the one before each starts as early
+    /// as it can, and there it is the longest pattern that the automaton holds; of equal patterns
+    /// the first registered. For [`MatchKind::LeftmostFirst`], which leaves out each pattern that
+    /// extends an earlier one, it is the earliest registered pattern that starts there.
+    #[inline(always)]
+    #[tactic(auto, using(daachorse_charwise_states::proofs::DeadLaws::is_leftmost_automaton))]
+    pub fn leftmost_find_iter<'a>(&'a self, haystack: &'a str) -> LeftmostFindIterator<'a, V>
+        requires { self.now.kind ≢ Standard }
+        ensures left { result.left ≡ leftmost char_width (content self.entry.now) (chars haystack.entry.now) }
+        ensures automaton { result.automaton ≡ self.entry.now }
+        ensures haystack { result.haystack ≡ chars haystack.entry.now }
+        ensures passed { result.passed ≡ [] }
+        ensures turns { result.turns ≡ 0 }
+        ensures given { result.given ≡ 0 }
+    {
+        LeftmostMatches::new(self.states.leftmost(), Text::new(haystack))
+    }
+
+    /// The search of [`Self::find_iter`], one character at a time.
+    #[inline(always)]
+    #[tactic(auto, using(daachorse_charwise_states::proofs::DeadLaws::alive))]
+    pub fn find_stepper<'a>(&'a self) -> FindStepper<'a, V>
+        requires { self.now.kind ≡ Standard }
+        ensures automaton { result.automaton ≡ self.entry.now }
+        ensures read { result.read ≡ [] }
+        ensures turns { result.turns ≡ 0 }
+    {
+        FindStepper::new(self.states.standard(), &[])
+    }
+
+    /// The search of [`Self::find_overlapping_iter`], one character at a time.
+    #[inline(always)]
+    #[tactic(auto, using(daachorse_charwise_states::proofs::DeadLaws::alive))]
+    pub fn find_overlapping_stepper<'a>(&'a self) -> FindOverlappingStepper<'a, V>
+        requires { self.now.kind ≡ Standard }
+        ensures automaton { result.automaton ≡ self.entry.now }
+        ensures read { result.read ≡ [] }
+        ensures turns { result.turns ≡ 0 }
+    {
+        FindOverlappingStepper::new(self.states.standard(), &[])
+    }
+}

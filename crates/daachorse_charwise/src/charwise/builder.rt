@@ -1,0 +1,161 @@
+//! The builder of the automaton over characters.
+//!
+//! The layers above may rely on a build holding just the dictionary of its patterns, for the
+//! builder's kind, with codes for the characters of all of them, and on the order of its refusals:
+//! all indexes are converted first, then the patterns are added in order, and the limits on the
+//! outputs and on the elements are tested last; the first refusal ends the build.
+
+ghost use Rattle.std.specs.Prelude.{◌≡◌, ◌⊎◌, IfOk, IfErr};
+ghost use Rattle.std.specs.Iterator.{IsFinite};
+ghost use Rattle.std.specs.Iterator.Runs.{WholeRun};
+ghost use Rattle.daachorse_core.specs.Refusals.{IsOutOfMemory};
+ghost use Rattle.daachorse_model.specs.declared.MatchKind.TheVariants.{Standard};
+ghost use Rattle.daachorse_charwise.specs.Building.{IsBuildRefusal, IsBuiltOf, IsHeld, IsRefusalOf, registered_texts, spelled};
+
+use crate::charwise::CharwiseDoubleArrayAhoCorasick;
+use crate::charwise::frequencies::frequencies;
+use crate::charwise::mapper::CodeMapper;
+use crate::charwise::states::States;
+use daachorse_core::MatchKind;
+use daachorse_core::errors::Result;
+use daachorse_patterns::gathering::{gather, indexed};
+use daachorse_patterns::trie::build_trie;
+use std::alloc::Allocator;
+use std::marker::Model;
+
+/// Builder of [`CharwiseDoubleArrayAhoCorasick`].
+#[derive(Drop)]
+pub struct CharwiseDoubleArrayAhoCorasickBuilder {
+    match_kind: MatchKind,
+}
+
+impl Model for CharwiseDoubleArrayAhoCorasickBuilder {
+    ghost use Rattle.daachorse_model.specs.declared.MatchKind.{MatchKind};
+
+    ghost Value = { MatchKind };
+
+    ghost view = { λ b. b.match_kind };
+
+    ghost invariant = { λ b. Unit {0} };
+}
+
+impl Default for CharwiseDoubleArrayAhoCorasickBuilder {
+    ghost use Rattle.std.specs.Prelude.{◌≡◌};
+    ghost use Rattle.daachorse_model.specs.declared.MatchKind.TheVariants.{Standard};
+
+    ghost is_default = { λ b. b ≡ Standard };
+
+    /// The builder that [`CharwiseDoubleArrayAhoCorasickBuilder::new`] makes.
+    fn default() -> Self {
+        Self::new()
+    }
+}
+
+impl CharwiseDoubleArrayAhoCorasickBuilder {
+    /// A builder of automata for the standard searches.
+    pub fn new() -> Self
+        ensures { result ≡ Standard }
+    {
+        Self {
+            match_kind: MatchKind::Standard,
+        }
+    }
+
+    /// The builder of automata for searches of this kind.
+    pub fn match_kind(mut self, kind: MatchKind) -> Self
+        ensures { result ≡ kind }
+    {
+        self.match_kind = kind;
+        self
+    }
+
+    /// Makes an automaton of these patterns. Pattern `i`, counted from 0, has the value that the
+    /// index `i` is converted to. Equal patterns are all kept.
+    ///
+    /// # Errors
+    ///
+    /// `InvalidConversion` where an index has no value: all are converted before the first pattern
+    /// is added. Then those of [`CharwiseDoubleArrayAhoCorasickBuilder::build_with_values`].
+    pub fn build<'p, V, A: Allocator + Copy, P: IntoIterator<Item = &'p str>>(
+        self,
+        alloc: A,
+        patterns: P,
+    ) -> Result<CharwiseDoubleArrayAhoCorasick<V, A>>
+    where
+        V: Copy + TryFrom<usize>,
+        V::Error: Drop,
+        P::IntoIter: Drop,
+        requires { (it : P.IntoIter) → P.into_iter_gives patterns it → P.IntoIter.can_next it × IsFinite (P.IntoIter.remaining it) }
+        ensures ok { IfOk result (λ a. (it : P.IntoIter) × P.into_iter_gives patterns it
+            × WholeRun P.IntoIter.next_gives it (λ p. IsBuiltOf V.try_from_gives self (spelled p.items) a)) }
+        ensures kind { IfOk result (λ a. a.kind ≡ self) }
+        ensures err { IfErr result (λ e. IsOutOfMemory e ⊎ ((it : P.IntoIter) × P.into_iter_gives patterns it
+            × WholeRun P.IntoIter.next_gives it (λ p. IsBuildRefusal V.try_from_gives self (spelled p.items) e))) }
+    {
+        let texts = gather(alloc, patterns.into_iter())?;
+        from_texts(alloc, self.match_kind, &texts)
+    }
+
+    /// Makes an automaton of these patterns, each with its value. Equal patterns are all kept, in
+    /// order, and so are equal values.
+    ///
+    /// # Errors
+    ///
+    /// The patterns are added in order: `InvalidArgument` for one of more than 4,294,967,295 bytes,
+    /// and `AutomatonScale` for one with which there are more than 4,294,967,295 texts that begin a
+    /// pattern. After the last, `AutomatonScale` for more than 4,294,967,295 outputs, and then where
+    /// the double array would need more elements than there are whole blocks of below
+    /// 4,294,967,296; a block is as long as the least power of two that is at least 2 and at least
+    /// the number of characters of the patterns. `OutOfMemory` where an allocation fails.
+    pub fn build_with_values<'p, V, A: Allocator + Copy, P: IntoIterator<Item = (&'p str, V)>>(
+        self,
+        alloc: A,
+        patvals: P,
+    ) -> Result<CharwiseDoubleArrayAhoCorasick<V, A>>
+    where
+        V: Copy,
+        P::IntoIter: Drop,
+        requires { (it : P.IntoIter) → P.into_iter_gives patvals it → P.IntoIter.can_next it × IsFinite (P.IntoIter.remaining it) }
+        ensures ok { IfOk result (λ a. (it : P.IntoIter) × P.into_iter_gives patvals it
+            × WholeRun P.IntoIter.next_gives it (λ p. IsHeld self (registered_texts p.items) a)) }
+        ensures kind { IfOk result (λ a. a.kind ≡ self) }
+        ensures err { IfErr result (λ e. IsOutOfMemory e ⊎ ((it : P.IntoIter) × P.into_iter_gives patvals it
+            × WholeRun P.IntoIter.next_gives it (λ p. IsRefusalOf self (registered_texts p.items) e))) }
+    {
+        let patterns = gather(alloc, patvals.into_iter())?;
+        from_patterns(alloc, self.match_kind, &patterns)
+    }
+}
+
+/// An automaton of these texts, each with the value of its index.
+fn from_texts<V: Copy + TryFrom<usize>, A: Allocator + Copy>(
+    alloc: A,
+    kind: MatchKind,
+    texts: &[&str],
+) -> Result<CharwiseDoubleArrayAhoCorasick<V, A>>
+where
+    V::Error: Drop,
+    ensures ok { IfOk result (IsBuiltOf V.try_from_gives kind (spelled texts.now)) }
+    ensures kind { IfOk result (λ a. a.kind ≡ kind) }
+    ensures err { IfErr result (IsBuildRefusal V.try_from_gives kind (spelled texts.now)) }
+{
+    let patterns = indexed(alloc, texts)?;
+    from_patterns(alloc, kind, &patterns)
+}
+
+/// An automaton of these patterns and values.
+fn from_patterns<V: Copy, A: Allocator + Copy>(
+    alloc: A,
+    kind: MatchKind,
+    patterns: &[(&str, V)],
+) -> Result<CharwiseDoubleArrayAhoCorasick<V, A>>
+    ensures ok { IfOk result (IsHeld kind (registered_texts patterns.now)) }
+    ensures kind { IfOk result (λ a. a.kind ≡ kind) }
+    ensures err { IfErr result (IsRefusalOf kind (registered_texts patterns.now)) }
+{
+    let freqs = frequencies(alloc, patterns)?;
+    let mapper = CodeMapper::new(alloc, &freqs)?;
+    let nfa = build_trie(alloc, kind, None, patterns)?;
+    let states = States::build(alloc, kind, nfa, mapper)?;
+    Ok(CharwiseDoubleArrayAhoCorasick { states })
+}

@@ -1,0 +1,43 @@
+//! How often each character occurs in patterns.
+//!
+//! The layers above may rely on each character's count being there at its code point.
+
+ghost use Rattle.std.specs.Prelude.{◌≡◌, ◌+◌, ◌≤◌, ℕ, List, length, map, min, slice_index, IfOk, IfErr, OnOk};
+ghost use Rattle.std.specs.Str.{chars};
+ghost use Rattle.daachorse_core.specs.Refusals.{IsOutOfMemory};
+ghost use Rattle.daachorse_charwise.specs.Frequencies.{AreFrequencies, HasCounted, many};
+
+use daachorse_core::errors::Result;
+use std::alloc::Allocator;
+
+/// By code point how often each character occurs in the patterns, up to the greatest that does. A
+/// count stays where it can grow no further.
+pub(crate) fn frequencies<V: Copy, A: Allocator>(
+    alloc: A,
+    patterns: &[(&str, V)],
+) -> Result<Vec<u32, A>>
+    ensures ok { IfOk result (λ freqs. AreFrequencies (map (λ p. chars p.0.now) patterns.now) freqs.items) }
+    ensures err { IfErr result IsOutOfMemory }
+{
+    let mut freqs = Vec::new(alloc);
+    for (pattern, _) in patterns {
+        count_chars(&mut freqs, pattern)?;
+    }
+    Ok(freqs)
+}
+
+/// Counts the characters of a text.
+fn count_chars<A: Allocator>(freqs: &mut Vec<u32, A>, text: &str) -> Result<()>
+    requires { length freqs.old.items ≤ 1114112 }
+    ensures ok { OnOk result (HasCounted freqs.old.items (chars text.now) freqs.new.items) }
+    ensures err { IfErr result IsOutOfMemory }
+{
+    for c in text.chars() {
+        let index = c as usize;
+        if index >= freqs.len() {
+            freqs.resize(index + 1, 0)?;
+        }
+        freqs[index] = freqs[index].saturating_add(1);
+    }
+    Ok(())
+}

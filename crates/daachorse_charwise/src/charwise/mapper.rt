@@ -1,0 +1,5 @@
+//! The codes of characters, which stand in a crate of their own.
+//!
+//! The layers above may rely on the contract of [`CodeMapper`].
+
+pub use daachorse_mapper::mapper::{CodeMapper, INVALID_CODE};

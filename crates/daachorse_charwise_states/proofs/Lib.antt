@@ -1,0 +1,9 @@
+pub mod CharLaws
+pub mod Codes
+pub mod DeadLaws
+pub mod EmptyLaws
+pub mod PackedTrie
+pub mod PackedValid
+pub mod ViewLaws
+pub mod WritingLaws
+pub mod WrittenLaws

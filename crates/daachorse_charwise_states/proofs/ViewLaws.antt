@@ -1,0 +1,73 @@
+-- What is read of the parts that a view borrows, element by element.
+use Rattle.std.proofs.Common.{◌≡◌, ◌≢◌, ℕ, ◌<◌, ◌≤◌, Bool, false, bit_xor, max, length, Option, Some, None, sym, ap, ◌∙◌, subst, arith, slice_index_or}
+use Rattle.std.specs.Prelude.{MatchOption}
+use Rattle.std.proofs.lemmas.List.{get_or_default}
+use Rattle.daachorse_model.specs.Kinds.{is_leftmost}
+use Rattle.daachorse_model.specs.Units.{char_width}
+use Rattle.daachorse_machine.specs.Machines.{IsMachine}
+use Rattle.daachorse_search.specs.Looks.{IsForeign}
+use Rattle.daachorse_machine.proofs.ChildLaws.{moved_inside}
+use Rattle.daachorse_machine.proofs.DeadLaws.{kind_standard, none_dead}
+use Rattle.daachorse_machine.proofs.MachineLaws.{Reached-inside, standard-alive}
+use Rattle.daachorse_mapper.specs.Codings.{code_of}
+use Rattle.daachorse_charwise_states.specs.declared.state.State.{State}
+use Rattle.daachorse_charwise_states.specs.Elements.{base_in, check_in, fail_in, output_in, vacant}
+use Rattle.daachorse_charwise_states.specs.Parts.{Parts, base_of, child, child_among, child_by, content, count, fail_of, machine, output_of}
+use Rattle.daachorse_charwise_states.specs.Valid.{IsState, IsValid, has_code}
+use Rattle.daachorse_charwise_states.specs.Views.{IsFor}
+use Rattle.daachorse_charwise_states.proofs.CharLaws.{child_by_code, foreign_char, valid_machine}
+
+-- q is what is borrowed, and p what contracts see of it
+module _ {V : Type 0} (q p : Parts V) (leftmost : Bool) (is : q ≡ p) (kept : IsFor leftmost q) where
+  pub view_kept : IsFor leftmost p
+  view_kept = let P : Parts V → Type 0 = λ x. IsFor leftmost x in subst P is kept
+
+  pub view_valid : IsValid p
+  view_valid = view_kept.valid
+
+  pub view_machine : IsMachine char_width (machine p) (is_leftmost p.kind) (count p) (length p.coding.table)
+  view_machine = valid_machine p view_valid
+
+  pub view_inside : (i : ℕ) → IsState p i → i < length q.states
+  view_inside i r =
+      let inside : i < count p = Reached-inside _ _ _ _ _ view_machine i r in
+      let same : length q.states ≡ count p = ap count is in
+      omega (arith, inside, same)
+
+  -- a character's code leads to an element
+  pub view_moves : (d : State) (i c : ℕ) → IsState p i → (u : ℕ) × (code_of p.coding u ≡ Some c) → bit_xor (base_in (slice_index_or q.states i d)) c < length q.states
+  view_moves d i c r unit =
+      let blocks = view_valid.blocks in
+      let base : base_of p i < count p = (view_valid.inside i (Reached-inside _ _ _ _ _ view_machine i r)).base in
+      let code : c < p.coding.alphabet_size = view_valid.coding.below unit.0 c unit.1 in
+      let most : max 2 p.coding.alphabet_size ≤ blocks.block = blocks.power.1 in
+      let moved : bit_xor (base_of p i) c < count p = moved_inside blocks.block (count p) (base_of p i) c blocks.power.0 blocks.whole base (omega (arith, code, most)) in
+      let read : base_of p i ≡ base_in (slice_index_or q.states i d) = ap (λ x. base_of x i) (sym is) ∙ ap base_in (get_or_default q.states i vacant d (view_inside i r)) in
+      let same : length q.states ≡ count p = ap count is in
+      let B : ℕ → Type 0 = λ b. bit_xor b c < length q.states in
+      subst B read (omega (arith, moved, same))
+
+  -- what a code leads to is read off the element, whatever stands past the last
+  pub view_child : (d : State) (i u c : ℕ) → IsState p i → code_of p.coding u ≡ Some c
+      → child p i u ≡ child_by (length q.states) (λ j. check_in (slice_index_or q.states j vacant)) i (base_in (slice_index_or q.states i d)) c
+  view_child d i u c r e =
+      child_by_code p.states p.coding i u c e
+      ∙ (ap (λ x. child_among x.states i c) (sym is)
+      ∙ ap (λ s. child_by (length q.states) (λ j. check_in (slice_index_or q.states j vacant)) i (base_in s) c) (get_or_default q.states i vacant d (view_inside i r)))
+
+  pub view_fail : (d : State) (i : ℕ) → IsState p i → fail_of p i ≡ fail_in (slice_index_or q.states i d)
+  view_fail d i r = ap (λ x. fail_of x i) (sym is) ∙ ap fail_in (get_or_default q.states i vacant d (view_inside i r))
+
+  pub view_output : (d : State) (i : ℕ) → IsState p i → output_of p i ≡ output_in (slice_index_or q.states i d)
+  view_output d i r = ap (λ x. output_of x i) (sym is) ∙ ap output_in (get_or_default q.states i vacant d (view_inside i r))
+
+  -- no link is dead where the searches are standard
+  pub view_alive : leftmost ≡ false → (i f : ℕ) → IsState p i → i ≢ 0 → fail_of p i ≡ f → f ≢ 1
+  view_alive standard i f r other at one =
+      let kind = kind_standard p.kind (view_kept.kind ∙ standard) in
+      standard-alive _ _ _ _ _ view_machine i r other (none_dead char_width (machine p) p.kind kind) (at ∙ one)
+
+  -- what the table has for a character
+  pub view_label : (u : ℕ) (o : Option ℕ) → o ≡ code_of q.coding u → MatchOption o ((has_code p u ≡ false) × IsForeign (content p) u) (λ c. code_of p.coding u ≡ Some c)
+  view_label u None e = foreign_char p view_valid u (sym (e ∙ ap (λ x. code_of x.coding u) is))
+  view_label u (Some c) e = sym (e ∙ ap (λ x. code_of x.coding u) is)

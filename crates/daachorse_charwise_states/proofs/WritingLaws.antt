@@ -1,0 +1,147 @@
+-- Elements are written one after another: each write keeps those before it.
+use Rattle.std.proofs.Common.{◌≡◌, ◌≢◌, ℕ, ◌+◌, ◌<◌, ◌⊎◌, inl, inr, List, [], length, set, map, get_or, refl, sym, ap, ◌∙◌, subst, arith}
+use Rattle.std.specs.Prelude.{slice_index, slice_index_or}
+use Rattle.std.proofs.lemmas.Bool.{cases_eq}
+use Rattle.std.proofs.lemmas.List.{get_or-map, get_or-set_other, get_or-set_same, length-map, length-set}
+use Rattle.daachorse_placement.specs.declared.build_helper.SiblingGroup.{SiblingGroup}
+use Rattle.daachorse_placement.specs.Placement.{children_of, parent_of}
+use Rattle.daachorse_build.specs.declared.nfa_builder.NfaBuilderState.{NfaBuilderState}
+use Rattle.daachorse_build.specs.Tables.{fails_of, link_of, position_of, positions_of}
+use Rattle.daachorse_packing.specs.Settled.{ArePlaces}
+use Rattle.daachorse_charwise_states.specs.declared.state.State.{State}
+use Rattle.daachorse_charwise_states.specs.Elements.{base_in, check_in, fail_in, output_in, vacant}
+use Rattle.daachorse_charwise_states.specs.Packing.{element}
+use Rattle.daachorse_charwise_states.specs.Writing.{AreGroupsApart, DifferInChecks, HasPlaced, HaveCheck, HaveChecks, place_of}
+
+-- ---- what is read of the states of a builder, and of groups
+module _ {L V A : Type 0} (states : List (NfaBuilderState L V A)) (i : ℕ) (s : NfaBuilderState L V A) (inside : i < length states) (is : s ≡ slice_index_or states i s) where
+  pub link_at : slice_index (fails_of states) i ≡ link_of s
+  link_at = get_or-map link_of states i s 0 inside ∙ ap link_of (sym is)
+
+  pub position_at : slice_index (positions_of states) i ≡ position_of s
+  position_at = get_or-map position_of states i s 0 inside ∙ ap position_of (sym is)
+
+module _ {A : Type 0} (gs : List (SiblingGroup A)) (k : ℕ) (g : SiblingGroup A) (inside : k < length gs) (is : g ≡ slice_index_or gs k g) where
+  pub parent_at : parent_of gs k ≡ g.parent
+  parent_at = get_or-map (λ (x : SiblingGroup A). x.parent) gs k g 0 inside ∙ ap (λ (x : SiblingGroup A). x.parent) (sym is)
+
+  pub children_at : children_of gs k ≡ g.children.items
+  children_at = get_or-map (λ (x : SiblingGroup A). x.children.items) gs k g [] inside ∙ ap (λ (x : SiblingGroup A). x.children.items) (sym is)
+
+below_or_at : (j n : ℕ) → j < n + 1 → (j < n) ⊎ (j ≡ n)
+below_or_at j n less = grind arith
+
+-- ---- one state more is written
+module _ (m n elements : ℕ) (idx bases fails positions : List ℕ) (old new : List State) (places : ArePlaces idx n elements) (was : HasPlaced m idx bases fails positions old new) where
+  -- the dead state is passed over
+  pub placed_dead : m ≡ 1 → HasPlaced (m + 1) idx bases fails positions old new
+  placed_dead dead = record {
+    size = was.size;
+    base = λ t less alive. was.base t (before t less alive) alive;
+    check = λ t less alive. was.check t (before t less alive) alive;
+    fail = λ t less alive. was.fail t (before t less alive) alive;
+    output = λ t less alive. was.output t (before t less alive) alive;
+    others = λ i none. was.others i (λ t less alive. none t (omega (arith, less)) alive);
+  }
+    where
+      before : (t : ℕ) → t < m + 1 → t ≢ 1 → t < m
+      before t less alive = omega (arith, less, alive, dead)
+
+  module _ (e : State) (inside : m < n) (fits : slice_index idx m < length new) (here : m ≢ 1) where
+    -- what f tells of the element of a state so far, it tells of it now
+    at_place : (f : State → ℕ) (x : ℕ → ℕ) → ((t : ℕ) → t < m → t ≢ 1 → f (element new (slice_index idx t)) ≡ x t) → f e ≡ x m
+        → (t : ℕ) → t < m + 1 → t ≢ 1 → f (element (set new (slice_index idx m) e) (slice_index idx t)) ≡ x t
+    at_place f x so_far is t less alive = elim (below_or_at t m less) [
+      | inl before ↦
+          let other : slice_index idx t ≢ slice_index idx m = λ same. (let one : t ≡ m = places.apart t m (omega (arith, before, inside)) inside alive here same in omega (arith, before, one)) in
+          ap f (get_or-set_other new (slice_index idx m) (slice_index idx t) e vacant other) ∙ so_far t before alive
+      | inr same ↦
+          let P : ℕ → Type 0 = λ k. f (element (set new (slice_index idx m) e) (slice_index idx k)) ≡ x k in
+          subst P (sym same) (ap f (get_or-set_same new (slice_index idx m) e vacant fits) ∙ is)
+    ]
+
+    pub placed_more : base_in e ≡ slice_index bases m → check_in e ≡ 1 → fail_in e ≡ slice_index idx (slice_index fails m) → output_in e ≡ slice_index positions m
+        → HasPlaced (m + 1) idx bases fails positions old (set new (slice_index idx m) e)
+    placed_more base check fail output = record {
+      size = length-set new (slice_index idx m) e ∙ was.size;
+      base = at_place base_in (slice_index bases) was.base base;
+      check = at_place check_in (λ t. 1) was.check check;
+      fail = at_place fail_in (λ t. slice_index idx (slice_index fails t)) was.fail fail;
+      output = at_place output_in (slice_index positions) was.output output;
+      others = λ i none.
+          get_or-set_other new (slice_index idx m) i e vacant (λ same. none m (omega arith) here (sym same))
+          ∙ was.others i (λ t less alive. none t (omega (arith, less)) alive);
+    }
+
+-- ---- one child more has the check
+differ-none : (es : List State) → DifferInChecks es es
+differ-none es = record { size = refl; base = λ i. refl; fail = λ i. refl; output = λ i. refl }
+
+differ-more : (old mid new : List State) → DifferInChecks old mid → DifferInChecks mid new → DifferInChecks old new
+differ-more old mid new first then = record {
+  size = then.size ∙ first.size;
+  base = λ i. then.base i ∙ first.base i;
+  fail = λ i. then.fail i ∙ first.fail i;
+  output = λ i. then.output i ∙ first.output i;
+}
+
+-- what f tells of elements, if that of the new one is what the old one's was
+set-same : (f : State → ℕ) (es : List State) (p : ℕ) (e : State) → p < length es → f e ≡ f (element es p) → (i : ℕ) → f (element (set es p e) i) ≡ f (element es i)
+set-same f es p e inside same i = elim (cases_eq i p) [
+  | inl here ↦
+      let P : ℕ → Type 0 = λ k. f (element (set es p e) k) ≡ f (element es k) in
+      subst P (sym here) (ap f (get_or-set_same es p e vacant inside) ∙ same)
+  | inr other ↦ ap f (get_or-set_other es p i e vacant other)
+]
+
+pub check_none : (cs : List (ℕ × ℕ)) (check : ℕ) (idx : List ℕ) (es : List State) → HaveCheck cs 0 check idx es es
+check_none cs check idx es = record { parts = differ-none es; set = λ j less. absurd (omega (arith, less)); kept = λ i none. refl }
+
+module _ (cs : List (ℕ × ℕ)) (n check : ℕ) (idx : List ℕ) (old new : List State) (was : HaveCheck cs n check idx old new) (p : ℕ) (at : p ≡ place_of idx cs n) (e : State) (inside : p < length new) where
+  pub check_more : check_in e ≡ check → base_in e ≡ base_in (element new p) → fail_in e ≡ fail_in (element new p) → output_in e ≡ output_in (element new p) → HaveCheck cs (n + 1) check idx old (set new p e)
+  check_more is base fail output = record {
+    parts = differ-more old new (set new p e) was.parts (record {
+      size = length-set new p e;
+      base = set-same base_in new p e inside base;
+      fail = set-same fail_in new p e inside fail;
+      output = set-same output_in new p e inside output;
+    });
+    set = put;
+    kept = λ i none.
+        ap check_in (get_or-set_other new p i e vacant (λ same. none n (omega arith) (sym at ∙ sym same)))
+        ∙ was.kept i (λ j less. none j (omega (arith, less)));
+  }
+    where
+      here : (i : ℕ) → i ≡ p → check_in (element (set new p e) i) ≡ check
+      here i same =
+          let P : ℕ → Type 0 = λ k. check_in (element (set new p e) k) ≡ check in
+          subst P (sym same) (ap check_in (get_or-set_same new p e vacant inside) ∙ is)
+
+      put : (j : ℕ) → j < n + 1 → check_in (element (set new p e) (place_of idx cs j)) ≡ check
+      put j less = elim (below_or_at j n less) [
+        | inl before ↦ elim (cases_eq (place_of idx cs j) p) [
+          | inl same ↦ here (place_of idx cs j) same
+          | inr other ↦ ap check_in (get_or-set_other new p (place_of idx cs j) e vacant other) ∙ was.set j before
+        ]
+        | inr last ↦ here (place_of idx cs j) (ap (λ k. place_of idx cs k) last ∙ sym at)
+      ]
+
+-- ---- one group more has its checks
+pub checks_none : {A : Type 0} (gs : List (SiblingGroup A)) (idx : List ℕ) (es : List State) → HaveChecks gs 0 idx es es
+checks_none gs idx es = record { parts = differ-none es; set = λ k j less. absurd (omega (arith, less)); kept = λ i none. refl }
+
+module _ {A : Type 0} (gs : List (SiblingGroup A)) (m : ℕ) (idx : List ℕ) (old mid new : List State) (was : HaveChecks gs m idx old mid) (inside : m < length gs) (apart : AreGroupsApart gs idx) where
+  pub checks_more : HaveCheck (children_of gs m) (length (children_of gs m)) (slice_index idx (parent_of gs m)) idx mid new → HaveChecks gs (m + 1) idx old new
+  checks_more more = record {
+    parts = differ-more old mid new was.parts more.parts;
+    set = λ k j less low. put k j low (below_or_at k m less);
+    kept = λ i none. more.kept i (λ j low. none m j (omega arith) low) ∙ was.kept i (λ k j less low. none k j (omega (arith, less)) low);
+  }
+    where
+      put : (k j : ℕ) → j < length (children_of gs k) → (k < m) ⊎ (k ≡ m) → check_in (element new (place_of idx (children_of gs k) j)) ≡ slice_index idx (parent_of gs k)
+      put k j low (inl before) =
+          more.kept (place_of idx (children_of gs k) j) (λ i fits same. (let one : m ≡ k = apart m k i j inside (omega (arith, before, inside)) fits low same in omega (arith, before, one)))
+          ∙ was.set k j before low
+      put k j low (inr same) =
+          let P : ℕ → Type 0 = λ x. j < length (children_of gs x) → check_in (element new (place_of idx (children_of gs x) j)) ≡ slice_index idx (parent_of gs x) in
+          subst P (sym same) (more.set j) low

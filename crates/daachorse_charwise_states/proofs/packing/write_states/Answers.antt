@@ -1,0 +1,73 @@
+-- What was written one after another holds the trie.
+use Rattle.std.proofs.Common.{◌≡◌, ◌≢◌, ◌<◌, ◌++◌, ℕ, List, length, take, drop, ◌∙◌, ap, subst, sym, arith}
+use Rattle.std.specs.Prelude.{slice_index}
+use Rattle.std.proofs.lemmas.List.{length-map}
+use Rattle.daachorse_placement.specs.Placement.{AreIds, children_of, parent_of}
+use Rattle.daachorse_build.specs.Tables.{edge_map, edges_of, fails_of, positions_of}
+use Rattle.daachorse_packing.specs.Settled.{ArePlaces}
+use Rattle.daachorse_packing.proofs.Places.{settled-places}
+use Rattle.daachorse_charwise_states.specs.declared.state.State.{State}
+use Rattle.daachorse_charwise_states.specs.Packing.{HoldElements}
+use Rattle.daachorse_charwise_states.specs.Writing.{AreGroupsApart, HasPlaced, HaveChecks}
+use Rattle.daachorse_charwise_states.proofs.WrittenLaws.{fresh, settled-apart, settled-ids, settled-inside, settled-parents, written-held, written_back}
+use Rattle.daachorse_charwise_states.proofs.packing.write_states.Goals as goal
+
+pub place_states-requires-clause-places : goal.place_states-requires-clause-places
+place_states-requires-clause-places g c =
+    let l = c.args.helper.now in
+    let q = c.requires.settled.2 in
+    let count : length l.used ≡ length c.deref_mut.result.now = omega (arith, ap length c.deref_mut.ensures.value, c.in_ok-elements.ensures.len, c.num_elements.ensures, c.in_ok-elements.elements.ok.0) in
+    let N : ℕ → Type 0 = λ n. ArePlaces l.idx n (length l.used) in
+    let E : ℕ → Type 0 = λ n. ArePlaces l.idx (length c.args.states.now) n in
+    let I : List ℕ → Type 0 = λ is. ArePlaces is (length c.args.states.now) (length c.deref_mut.result.now) in
+    subst I (sym c.idx_map.ensures) (subst E count (subst N (length-map c.args.states.now edge_map) (settled-places q)))
+
+pub set_checks-requires-clause-parents : goal.set_checks-requires-clause-parents
+set_checks-requires-clause-parents g c =
+    let P : List ℕ → Type 0 = λ is. (k : ℕ) → k < length c.args.groups.now → parent_of c.args.groups.now k < length is in
+    subst P (sym c.idx_map-2.ensures) (settled-parents c.requires.settled.2)
+
+pub set_checks-requires-clause-ids : goal.set_checks-requires-clause-ids
+set_checks-requires-clause-ids g c =
+    let P : List ℕ → Type 0 = λ is. (k : ℕ) → k < length c.args.groups.now → AreIds (length is) (children_of c.args.groups.now k) in
+    subst P (sym c.idx_map-2.ensures) (settled-ids c.requires.settled.2)
+
+pub set_checks-requires-clause-inside : goal.set_checks-requires-clause-inside
+set_checks-requires-clause-inside g c =
+    let l = c.args.helper.now in
+    let first : length c.deref_mut.result.now ≡ length l.used = omega (arith, ap length c.deref_mut.ensures.value, c.in_ok-elements.ensures.len, c.num_elements.ensures, c.in_ok-elements.elements.ok.0) in
+    let mid : length c.place_states.new.elements ≡ length l.used = c.place_states.ensures.size ∙ first in
+    let len : c.in_ok-elements.elements.len ≡ length c.place_states.new.elements = omega (arith, mid, c.in_ok-elements.ensures.len, c.num_elements.ensures) in
+    let back = written_back c.place_states.new.elements c.in_ok-elements.elements.items c.in_ok-elements.elements.len len in
+    let count : length l.used ≡ length c.deref_mut-2.result.now = sym (ap length (c.deref_mut-2.ensures.value ∙ back) ∙ mid) in
+    let I : List ℕ → Type 0 = λ is. (t : ℕ) → t < length is → slice_index is t < length c.deref_mut-2.result.now in
+    let E : ℕ → Type 0 = λ n. (t : ℕ) → t < length l.idx → slice_index l.idx t < n in
+    subst I (sym c.idx_map-2.ensures) (subst E count (settled-inside c.requires.settled.2))
+
+pub set_checks-requires-clause-apart : goal.set_checks-requires-clause-apart
+set_checks-requires-clause-apart g c =
+    let P : List ℕ → Type 0 = λ is. AreGroupsApart c.args.groups.now is in
+    subst P (sym c.idx_map-2.ensures) (settled-apart c.requires.settled.2)
+
+pub returns-clause-ok : goal.returns-clause-ok
+returns-clause-ok g c =
+    let states = c.args.states.now in let l = c.args.helper.now in let gs = c.args.groups.now in
+    let q = c.requires.settled.2 in
+    let old = c.in_ok-elements.elements.items in let mid = c.place_states.new.elements in let new = c.set_checks.new.elements in
+    let n = c.in_ok-elements.elements.len in
+    let fails = fails_of states in let positions = positions_of states in
+    let vacants = fresh _ c.default.result old c.default.ensures (c.in_ok-elements.ensures.items_if_clones_equal (λ y same. same)) in
+    let size : length old ≡ length l.used = omega (arith, c.in_ok-elements.ensures.len, c.num_elements.ensures, c.in_ok-elements.elements.ok.0) in
+    let S : List ℕ → Type 0 = λ is. HasPlaced (length states) is c.bases.result.now fails positions c.deref_mut.result.now mid in
+    let B : List ℕ → Type 0 = λ bs. HasPlaced (length states) l.idx bs fails positions c.deref_mut.result.now mid in
+    let O : List State → Type 0 = λ es. HasPlaced (length states) l.idx l.bases fails positions es mid in
+    let N : ℕ → Type 0 = λ m. HasPlaced m l.idx l.bases fails positions old mid in
+    let placed = subst N (sym (length-map states edge_map)) (subst O c.deref_mut.ensures.value (subst B c.bases.ensures (subst S c.idx_map.ensures c.place_states.ensures))) in
+    let len : n ≡ length mid = omega (arith, placed.size, c.in_ok-elements.elements.ok.0) in
+    let back = written_back mid old n len in
+    let I : List ℕ → Type 0 = λ is. HaveChecks gs (length gs) is c.deref_mut-2.result.now new in
+    let M : List State → Type 0 = λ es. HaveChecks gs (length gs) l.idx es new in
+    let checks = subst M (c.deref_mut-2.ensures.value ∙ back) (subst I c.idx_map-2.ensures c.set_checks.ensures) in
+    let H : List State → Type 0 = λ es. HoldElements l (edges_of states) fails positions es in
+    let len_new : n ≡ length new = omega (arith, len, checks.parts.size) in
+    subst H (sym (written_back new (take n (mid ++ drop (length mid) old)) n len_new)) (written-held q fails positions old mid new size vacants placed checks)

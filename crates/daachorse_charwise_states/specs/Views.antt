@@ -1,0 +1,21 @@
+-- The parts that a view borrows, and those that are for the searches of a view.
+use Rattle.std.specs.Prelude.{◌≡◌, ℕ, Bool, List}
+use Rattle.daachorse_core.specs.declared.outputs.Output.{Output}
+use Rattle.daachorse_model.specs.declared.MatchKind.{MatchKind}
+use Rattle.daachorse_model.specs.Kinds.{is_leftmost}
+use Rattle.daachorse_mapper.specs.Codings.{Coding}
+use Rattle.daachorse_charwise_states.specs.declared.state.State.{State}
+use Rattle.daachorse_charwise_states.specs.Parts.{Parts}
+use Rattle.daachorse_charwise_states.specs.Valid.{IsValid}
+
+abbrev pub parts_of : {V : Type 0} → MatchKind → List State → Coding → List (Output V) → ℕ → Parts V
+parts_of kind states coding outputs n =
+    record { kind = kind; states = states; coding = coding; outputs = outputs; num_states = n }
+
+abbrev pub coding_of : List ℕ → ℕ → Coding
+coding_of table size = record { table = table; alphabet_size = size }
+
+-- a valid automaton, for leftmost searches or for standard ones
+pub record IsFor {V : Type 0} (leftmost : Bool) (p : Parts V) : Type 0 where
+  pub valid : IsValid p
+  pub kind : is_leftmost p.kind ≡ leftmost

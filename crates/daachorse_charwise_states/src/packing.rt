@@ -1,0 +1,161 @@
+//! A trie over characters written into the elements of a double array.
+//!
+//! The layers above may rely on each state standing at the index that the placement gave it, with
+//! its base, its link, its outputs and its parent's index for a check, and on no vacant element
+//! being anybody's child.
+
+ghost use Rattle.std.specs.Prelude.{◌≡◌, ◌≢◌, ◌<◌, ◌≤◌, ◌^◌, ℕ, length, false, slice_index, IfOk, IfErr};
+ghost use Rattle.std.specs.Int.{IsPowerOfTwo};
+ghost use Rattle.std.specs.Ordering.{nat_cmp};
+ghost use Rattle.daachorse_core.specs.Outputs.{number};
+ghost use Rattle.daachorse_core.specs.Refusals.{IsOutOfMemory, IsRefusal};
+ghost use Rattle.daachorse_core.specs.declared.errors.Limit.TheVariants.{NumElements};
+ghost use Rattle.daachorse_placement.specs.Placement.{AreIds, children_of, parent_of};
+ghost use Rattle.daachorse_build.specs.Builders.{states_of};
+ghost use Rattle.daachorse_build.specs.Tables.{HoldTrie, depths_of, edges_of, fails_of, positions_of};
+ghost use Rattle.daachorse_mapper.specs.Codings.{IsCoding};
+ghost use Rattle.daachorse_packing.specs.Settled.{AreGroupsOf, ArePlaces, AreSettled, HasManyGroups};
+ghost use Rattle.daachorse_charwise_states.specs.Elements.{base_in, check_in, fail_in, output_in, vacant};
+ghost use Rattle.daachorse_charwise_states.specs.Packing.{AreEdgesCoded, ArePackedOf, HoldElements, code_in};
+ghost use Rattle.daachorse_charwise_states.specs.Writing.{AreGroupsApart, HasPlaced, HaveCheck, HaveChecks};
+
+use crate::state::State;
+use daachorse_build::nfa_builder::{EdgeLabel, NfaBuilder, NfaBuilderState};
+use daachorse_core::DEAD_STATE_IDX;
+use daachorse_core::errors::Result;
+use daachorse_mapper::mapper::CodeMapper;
+use daachorse_placement::build_helper::{BuildHelper, Profile, SiblingGroup};
+use std::alloc::Allocator;
+use std::num::NonZeroU32;
+
+/// The elements that hold the trie of a builder, whose links and outputs are built, in blocks of
+/// this length.
+///
+/// # Errors
+///
+/// [`Limit::NumElements`](daachorse_core::errors::Limit::NumElements) where the groups of siblings
+/// need too many blocks, and out of memory.
+pub(crate) fn pack<V: Copy, A: Allocator + Copy>(
+    alloc: A,
+    nfa: &NfaBuilder<char, V, A>,
+    mapper: &CodeMapper<A>,
+    block_len: u32,
+) -> Result<Vec<State, A>>
+    requires trie { HoldTrie nat_cmp (states_of nfa.now) }
+    requires count { length (states_of nfa.now) ≤ 2 ^ 32 }
+    requires links { (t : ℕ) → t < length (states_of nfa.now) → t ≢ 1 → slice_index (fails_of (states_of nfa.now)) t < length (states_of nfa.now) }
+    requires coding { IsCoding mapper.now }
+    requires coded { AreEdgesCoded mapper.now (edges_of (states_of nfa.now)) }
+    requires power { IsPowerOfTwo block_len }
+    requires block { (2 ≤ block_len) × (mapper.now.alphabet_size ≤ block_len) }
+    ensures ok { IfOk result (λ elements. ArePackedOf mapper.now block_len (states_of nfa.now) elements.items) }
+    ensures err { IfErr result (IsRefusal ⊥ NumElements (HasManyGroups (code_in mapper.now) block_len (states_of nfa.now))) }
+{
+    let groups = coded_groups(alloc, nfa, mapper)?;
+    let helper = BuildHelper::new(alloc, &groups, nfa.states().len(), block_len, false)?;
+    write_states(alloc, nfa.states(), &groups, &helper)
+}
+
+/// The groups of siblings of a trie over characters, with the codes of these for labels.
+fn coded_groups<V: Copy, A: Allocator + Copy>(
+    alloc: A,
+    nfa: &NfaBuilder<char, V, A>,
+    mapper: &CodeMapper<A>,
+) -> Result<Vec<SiblingGroup<A>, A>>
+    requires trie { HoldTrie nat_cmp (states_of nfa.now) }
+    requires coding { IsCoding mapper.now }
+    requires coded { AreEdgesCoded mapper.now (edges_of (states_of nfa.now)) }
+    ensures ok { IfOk result (λ groups. (block : ℕ) → 2 ≤ block → mapper.now.alphabet_size ≤ block → AreGroupsOf (code_in mapper.now) block groups.items (edges_of (states_of nfa.now)) (depths_of (states_of nfa.now))) }
+    ensures err { IfErr result IsOutOfMemory }
+{
+    let no_profile = Profile::new(alloc);
+    let groups = nfa.sibling_groups(
+        alloc,
+        &no_profile,
+        |label: char| -> u32
+            ensures { result ≡ code_in mapper.entry.now label }
+        { mapper.get(label).unwrap_or(0) },
+    )?;
+    Ok(groups)
+}
+
+/// The elements of a placement, with each state written to its own.
+fn write_states<V: Copy, A: Allocator + Copy>(
+    alloc: A,
+    states: &[NfaBuilderState<char, V, A>],
+    groups: &[SiblingGroup<A>],
+    helper: &BuildHelper<A>,
+) -> Result<Vec<State, A>>
+    requires settled { (code : ℕ → ℕ) × (block : ℕ) × AreSettled code block false groups.now helper.now (edges_of states.now) (depths_of states.now) }
+    requires links { (t : ℕ) → t < length states.now → t ≢ 1 → slice_index (fails_of states.now) t < length states.now }
+    ensures ok { IfOk result (λ elements. HoldElements helper.now (edges_of states.now) (fails_of states.now) (positions_of states.now) elements.items) }
+    ensures err { IfErr result IsOutOfMemory }
+{
+    let mut elements = vec![in alloc; State::default(); helper.num_elements() as usize]?;
+    place_states(&mut elements, states, helper.idx_map(), helper.bases());
+    set_checks(&mut elements, groups, helper.idx_map());
+    Ok(elements)
+}
+
+/// Writes each state but the dead one to its element, with the dead state for a check.
+fn place_states<L: EdgeLabel, V: Copy, A: Allocator>(
+    elements: &mut [State],
+    states: &[NfaBuilderState<L, V, A>],
+    idx_map: &[u32],
+    bases: &[u32],
+)
+    requires bases { length bases.now ≡ length states.now }
+    requires places { ArePlaces idx_map.now (length states.now) (length elements.old) }
+    requires links { (t : ℕ) → t < length states.now → t ≢ 1 → slice_index (fails_of states.now) t < length states.now }
+    ensures { HasPlaced (length states.now) idx_map.now bases.now (fails_of states.now) (positions_of states.now) elements.old elements.new }
+{
+    for (id, state) in states.iter().enumerate() {
+        if id == DEAD_STATE_IDX as usize {
+            continue;
+        }
+        let fail = idx_map[state.fail() as usize];
+        let idx = idx_map[id] as usize;
+        elements[idx] = element_of(bases[id], fail, state.output_pos());
+    }
+}
+
+/// An element with these parts, and the dead state for a check.
+fn element_of(base: u32, fail: u32, output_pos: Option<NonZeroU32>) -> State
+    ensures base { base_in result ≡ base }
+    ensures check { check_in result ≡ 1 }
+    ensures fail { fail_in result ≡ fail }
+    ensures output { output_in result ≡ number output_pos }
+{
+    let mut element = State::default();
+    if let Some(base) = NonZeroU32::new(base) {
+        element.set_base(base);
+    }
+    element.set_fail(fail);
+    element.set_output_pos(output_pos);
+    element
+}
+
+/// Gives the children of each group their parent's index for a check.
+fn set_checks<A: Allocator>(elements: &mut [State], groups: &[SiblingGroup<A>], idx_map: &[u32])
+    requires parents { (k : ℕ) → k < length groups.now → parent_of groups.now k < length idx_map.now }
+    requires ids { (k : ℕ) → k < length groups.now → AreIds (length idx_map.now) (children_of groups.now k) }
+    requires inside { (t : ℕ) → t < length idx_map.now → slice_index idx_map.now t < length elements.old }
+    requires apart { AreGroupsApart groups.now idx_map.now }
+    ensures { HaveChecks groups.now (length groups.now) idx_map.now elements.old elements.new }
+{
+    for group in groups {
+        let check = idx_map[group.parent as usize];
+        set_check(elements, &group.children, idx_map, check);
+    }
+}
+
+/// Gives these children the check.
+fn set_check(elements: &mut [State], children: &[(u32, u32)], idx_map: &[u32], check: u32)
+    requires ids { AreIds (length idx_map.now) children.now }
+    requires inside { (t : ℕ) → t < length idx_map.now → slice_index idx_map.now t < length elements.old }
+    ensures { HaveCheck children.now (length children.now) check idx_map.now elements.old elements.new }
+{
+    for (_, child) in children {
+        elements[idx_map[*child as usize] as usize].set_check(check);
+    }
+}

@@ -1,0 +1,168 @@
+//! The states of an automaton over characters, as they are kept.
+//!
+//! The layers above may rely on the parts being valid, and on what is built holding just the
+//! dictionary that it was built for.
+
+ghost use Rattle.std.specs.Prelude.{◌≡◌, ◌≢◌, ◌≤◌, ◌^◌, ℕ, List, IfOk, IfErr};
+ghost use Rattle.daachorse_core.specs.declared.errors.Limit.TheVariants.{NumElements};
+ghost use Rattle.daachorse_core.specs.Refusals.{IsRefusal};
+ghost use Rattle.daachorse_model.specs.declared.MatchKind.TheVariants.{Standard};
+ghost use Rattle.daachorse_model.specs.Dictionary.{Dictionary};
+ghost use Rattle.daachorse_model.specs.Kinds.{is_leftmost};
+ghost use Rattle.daachorse_model.specs.Paths.{is_reached};
+ghost use Rattle.daachorse_model.specs.Prefixes.{PassesAt};
+ghost use Rattle.daachorse_mapper.specs.Codings.{IsCoding};
+ghost use Rattle.daachorse_charwise_states.specs.Packing.{AreCoded, IsBuiltFor, NeedsManyBlocks};
+ghost use Rattle.daachorse_charwise_states.specs.Parts.{child, content, count};
+
+#[cfg(test)]
+mod tests;
+
+use crate::packing::pack;
+use crate::state::State;
+use crate::view::{Leftmost, Searches, Standard, View};
+use daachorse_build::nfa_builder::NfaBuilder;
+use daachorse_core::errors::Result;
+use daachorse_core::{MatchKind, Output};
+use daachorse_mapper::mapper::CodeMapper;
+use std::alloc::{Allocator, Global};
+use std::marker::Model;
+
+/// The states and the outputs of an automaton over characters, with values of type `V`.
+#[derive(Drop)]
+pub struct States<V: Copy, A: Allocator = Global> {
+    kind: MatchKind,
+    states: Vec<State, A>,
+    mapper: CodeMapper<A>,
+    outputs: Vec<Output<V>, A>,
+    num_states: u32,
+}
+
+impl<V: Copy, A: Allocator> Model for States<V, A> {
+    ghost use Rattle.daachorse_charwise_states.specs.Parts.{Parts};
+    ghost use Rattle.daachorse_charwise_states.specs.Valid.{IsValid};
+
+    ghost Value = { Parts V };
+
+    ghost view = { λ s. record {
+      kind = s.kind;
+      states = s.states.items;
+      coding = s.mapper;
+      outputs = s.outputs.items;
+      num_states = s.num_states;
+    } };
+
+    ghost invariant = { λ s. IsValid (record {
+      kind = s.kind;
+      states = s.states.items;
+      coding = s.mapper;
+      outputs = s.outputs.items;
+      num_states = s.num_states;
+    }) };
+}
+
+impl<V: Copy, A: Allocator + Copy> States<V, A> {
+    /// The automaton of a builder whose links and outputs are built, for searches of this kind. The
+    /// mapper has a code for each character of a pattern.
+    ///
+    /// # Errors
+    ///
+    /// [`Limit::NumElements`](daachorse_core::errors::Limit::NumElements), which comes only where
+    /// more texts begin a longer pattern than there are blocks below 4,294,967,296 elements but
+    /// two, and out of memory.
+    pub fn build(
+        alloc: A,
+        kind: MatchKind,
+        nfa: NfaBuilder<char, V, A>,
+        mapper: CodeMapper<A>,
+    ) -> Result<Self>
+        requires built { (K : Dictionary V) × IsBuiltFor kind nfa K × AreCoded mapper K }
+        requires coding { IsCoding mapper }
+        requires block { mapper.alphabet_size ≤ 2 ^ 31 }
+        ensures ok { IfOk result (λ s. (K : Dictionary V) → IsBuiltFor kind nfa K → (w : List ℕ) → content s w ≡ K w) }
+        ensures kind { IfOk result (λ s. s.kind ≡ kind) }
+        ensures mapper { IfOk result (λ s. s.coding ≡ mapper) }
+        ensures err { IfErr result (IsRefusal ⊥ NumElements ((K : Dictionary V) → IsBuiltFor kind nfa K → NeedsManyBlocks mapper K)) }
+    {
+        let block_len = mapper.block_len().unwrap();
+        let states = pack(alloc, &nfa, &mapper, block_len)?;
+        // All states but the dead one.
+        let num_states = (nfa.states().len() - 1) as u32;
+        let (_states, outputs) = nfa.into_parts();
+        Ok(Self {
+            kind,
+            states,
+            mapper,
+            outputs,
+            num_states,
+        })
+    }
+}
+
+impl<V: Copy, A: Allocator> States<V, A> {
+    /// The searches that the automaton is for.
+    #[inline(always)]
+    pub fn kind(&self) -> MatchKind
+        ensures { result ≡ self.now.kind }
+    {
+        self.kind
+    }
+
+    /// The number of elements, those included that are no state.
+    #[inline(always)]
+    pub fn num_elements(&self) -> usize
+        ensures { result ≡ count self.now }
+    {
+        self.states.len()
+    }
+
+    /// How many texts begin a pattern, the empty one among them.
+    #[inline(always)]
+    pub fn num_states(&self) -> u32
+        ensures { PassesAt (is_reached (child self.now)) result }
+    {
+        self.num_states
+    }
+
+    /// The codes of the characters.
+    #[inline(always)]
+    pub fn mapper(&self) -> &CodeMapper<A>
+        ensures { result.now ≡ self.now.coding }
+    {
+        &self.mapper
+    }
+
+    /// What the standard searches see.
+    #[inline(always)]
+    pub fn standard(&self) -> Standard<'_, V>
+        requires { self.now.kind ≡ Standard }
+        ensures { result ≡ self.entry.now }
+    {
+        self.view()
+    }
+
+    /// What the leftmost searches see.
+    #[inline(always)]
+    #[tactic(auto, using(daachorse_machine::proofs::DeadLaws::leftmost_kind))]
+    pub fn leftmost(&self) -> Leftmost<'_, V>
+        requires { self.now.kind ≢ Standard }
+        ensures { result ≡ self.entry.now }
+    {
+        self.view()
+    }
+
+    /// What the searches `S` see.
+    #[inline(always)]
+    fn view<S: Searches>(&self) -> View<'_, V, S>
+        requires { is_leftmost self.now.kind ≡ S.leftmost }
+        ensures { result ≡ self.entry.now }
+    {
+        View::new(
+            self.kind,
+            &self.states,
+            &self.mapper,
+            &self.outputs,
+            self.num_states,
+        )
+    }
+}

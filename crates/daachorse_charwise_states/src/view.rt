@@ -1,0 +1,200 @@
+//! What a search sees of the states.
+//!
+//! The layers above may rely on a [`View`] being the automaton of its parts, on `turn` looking at
+//! one element and its child alone and counting one turn, and on no call taking memory.
+
+ghost use Rattle.std.specs.Prelude.{◌≡◌, Bool, true, false};
+ghost use Rattle.daachorse_charwise_states.specs.Views.{IsFor, parts_of};
+
+use crate::state::State;
+use daachorse_core::turns::{Look, Turns};
+use daachorse_core::{DEAD_STATE_IDX, MatchKind, Output, ROOT_STATE_IDX};
+use daachorse_mapper::mapper::{CodeMapper, code_in};
+use daachorse_search::automaton::Automaton;
+use std::alloc::Allocator;
+use std::marker::{Model, PhantomData};
+use std::num::NonZeroU32;
+
+/// The searches that a view is for.
+pub trait Searches {
+    /// Whether they are leftmost.
+    ghost leftmost: { Bool };
+
+    /// Whether they are leftmost, so that a link may be dead.
+    fn are_leftmost() -> bool
+        ensures { result ≡ leftmost };
+}
+
+/// The standard searches.
+#[derive(Clone, Copy, Debug)]
+pub struct ForStandard;
+
+impl Searches for ForStandard {
+    ghost leftmost = { false };
+
+    #[inline(always)]
+    fn are_leftmost() -> bool {
+        false
+    }
+}
+
+/// The leftmost searches.
+#[derive(Clone, Copy, Debug)]
+pub struct ForLeftmost;
+
+impl Searches for ForLeftmost {
+    ghost leftmost = { true };
+
+    #[inline(always)]
+    fn are_leftmost() -> bool {
+        true
+    }
+}
+
+/// The states as the standard searches see them.
+pub type Standard<'a, V> = View<'a, V, ForStandard>;
+
+/// The states as the leftmost searches see them.
+pub type Leftmost<'a, V> = View<'a, V, ForLeftmost>;
+
+/// The states as the searches `S` see them.
+#[derive(Drop)]
+pub struct View<'a, V: Copy, S: Searches> {
+    states: &'a [State],
+    // The code of each code point.
+    table: &'a [u32],
+    outputs: &'a [Output<V>],
+    // For contracts alone, and so are the two numbers.
+    kind: MatchKind,
+    alphabet_size: u32,
+    num_states: u32,
+    searches: PhantomData<S>,
+}
+
+impl<'a, V: Copy, S: Searches> Model for View<'a, V, S> {
+    ghost use Rattle.daachorse_charwise_states.specs.Parts.{Parts};
+    ghost use Rattle.daachorse_charwise_states.specs.Views.{IsFor, coding_of, parts_of};
+
+    ghost Value = { Parts V };
+
+    ghost view = { λ s. parts_of s.kind s.states.now (coding_of s.table.now s.alphabet_size) s.outputs.now s.num_states };
+
+    ghost invariant = { λ s. IsFor S.leftmost (parts_of s.kind s.states.now (coding_of s.table.now s.alphabet_size) s.outputs.now s.num_states) };
+}
+
+impl<'a, V: Copy, S: Searches> View<'a, V, S> {
+    /// The automaton of these elements, with the codes of a mapper.
+    #[inline(always)]
+    pub(crate) fn new<A: Allocator>(
+        kind: MatchKind,
+        states: &'a [State],
+        mapper: &'a CodeMapper<A>,
+        outputs: &'a [Output<V>],
+        num_states: u32,
+    ) -> Self
+        requires { IsFor S.leftmost (parts_of kind states.now mapper.now outputs.now num_states) }
+        ensures { result ≡ parts_of kind states.entry.now mapper.entry.now outputs.entry.now num_states }
+    {
+        Self {
+            states,
+            table: mapper.table(),
+            outputs,
+            kind,
+            alphabet_size: mapper.alphabet_size(),
+            num_states,
+            searches: PhantomData,
+        }
+    }
+}
+
+impl<'a, V: Copy, S: Searches> Automaton<V> for View<'a, V, S> {
+    ghost use Rattle.std.specs.Prelude.{◌≡◌, ◌≤◌, length, Some};
+    ghost use Rattle.daachorse_core.specs.Outputs.{outputs_at};
+    ghost use Rattle.daachorse_mapper.specs.Codings.{code_of};
+    ghost use Rattle.daachorse_charwise_states.specs.Parts.{content};
+    ghost use Rattle.daachorse_charwise_states.specs.Valid.{IsState, dead, has_code, no_output, text};
+
+    type Unit = char;
+
+    type Label = u32;
+
+    ghost content = { content };
+
+    ghost reached = { IsState };
+
+    ghost text = { text };
+
+    ghost dead = { dead };
+
+    ghost has_label = { has_code };
+
+    ghost labels = { λ p code unit. code_of p.coding unit ≡ Some code };
+
+    ghost has_output = { λ p position. position ≤ length p.outputs };
+
+    ghost outputs = { λ p position. outputs_at p.outputs position };
+
+    ghost most_outputs = { λ p. length p.outputs };
+
+    #[inline(always)]
+    fn root(&self) -> u32 {
+        // A field is read for what the parts keep.
+        let _ = &self.states;
+        ROOT_STATE_IDX
+    }
+
+    #[inline(always)]
+    fn is_root(&self, state: u32) -> bool {
+        // A field is read for what the parts keep.
+        let _ = &self.states;
+        state == ROOT_STATE_IDX
+    }
+
+    #[inline(always)]
+    fn label(&self, unit: char) -> Option<u32> {
+        code_in(self.table, unit)
+    }
+
+    #[inline(always)]
+    fn turn(&self, state: u32, code: u32, turns: &mut Turns) -> Look {
+        turns.tick();
+        let element = &self.states[state as usize];
+        if let Some(child) = element.child(state, code, self.states) {
+            return Look::Next(child);
+        }
+        if state == ROOT_STATE_IDX {
+            return Look::Next(ROOT_STATE_IDX);
+        }
+        let link = element.fail();
+        if S::are_leftmost() && link == DEAD_STATE_IDX {
+            return Look::Next(ROOT_STATE_IDX);
+        }
+        Look::Fail(link)
+    }
+
+    #[inline(always)]
+    fn output_pos(&self, state: u32) -> Option<NonZeroU32> {
+        self.states[state as usize].output_pos()
+    }
+
+    #[inline(always)]
+    fn output(&self, position: NonZeroU32) -> Output<V> {
+        let outputs = self.outputs;
+        outputs[position.get() as usize - 1]
+    }
+
+    #[inline(always)]
+    fn again(&self) -> Self {
+        Self {
+            states: self.states,
+            table: self.table,
+            outputs: self.outputs,
+            kind: self.kind,
+            alphabet_size: self.alphabet_size,
+            num_states: self.num_states,
+            searches: PhantomData,
+        }
+    }
+
+    ghost no_output = { no_output };
+}

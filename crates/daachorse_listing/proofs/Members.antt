@@ -1,0 +1,151 @@
+-- Members of lists, pairs of them, and tables in which the entries of some are written.
+use Rattle.std.proofs.Common.{◌≡◌, ◌≢◌, ℕ, zero, suc, ◌+◌, ◌<◌, ◌≤◌, ◌⊎◌, inl, inr, Bool, true, false, ◌==◌, List, [], ◌∷◌, ◌++◌, length, get_or, set, Option, Some, None, refl, sym, ap, ◌∙◌, arith, subst}
+use Rattle.std.proofs.lemmas.List.{get_or-set_same, get_or-set_other, length-set}
+use Rattle.std.proofs.lemmas.Option.{same_Some}
+use Rattle.std.specs.List.{AllByRecursion}
+use Rattle.daachorse_model.proofs.Booleans.{either}
+use Rattle.daachorse_machine.proofs.PathLaws.{pigeon}
+use Rattle.daachorse_listing.specs.Edges.{put_before, child_before, children}
+use Rattle.daachorse_listing.specs.Trees.{IsAmong, Pairs, IsMarking}
+
+-- ---- members
+
+pub among-append : (xs ys : List ℕ) (k : ℕ) → IsAmong (xs ++ ys) k → IsAmong xs k ⊎ IsAmong ys k
+among-append [] ys k h = inr h
+among-append (x ∷ xs) ys k (inl e) = inl (inl e)
+among-append (x ∷ xs) ys k (inr h) = elim (among-append xs ys k h) [ inl a ↦ inl (inr a) | inr b ↦ inr b ]
+
+pub among-left : (xs ys : List ℕ) (k : ℕ) → IsAmong xs k → IsAmong (xs ++ ys) k
+among-left [] ys k h = absurd h
+among-left (x ∷ xs) ys k (inl e) = inl e
+among-left (x ∷ xs) ys k (inr h) = inr (among-left xs ys k h)
+
+pub among-right : (xs ys : List ℕ) (k : ℕ) → IsAmong ys k → IsAmong (xs ++ ys) k
+among-right [] ys k h = h
+among-right (x ∷ xs) ys k h = inr (among-right xs ys k h)
+
+pub among-put : (xs l : List ℕ) (k : ℕ) → IsAmong (put_before xs l) k → IsAmong xs k ⊎ IsAmong l k
+among-put [] l k h = inr h
+among-put (x ∷ xs) l k h = at (among-put xs (x ∷ l) k h)
+  where
+    at : IsAmong xs k ⊎ IsAmong (x ∷ l) k → IsAmong (x ∷ xs) k ⊎ IsAmong l k
+    at (inl a) = inl (inr a)
+    at (inr (inl e)) = inl (inl e)
+    at (inr (inr b)) = inr b
+
+pub put-right : (xs l : List ℕ) (k : ℕ) → IsAmong l k → IsAmong (put_before xs l) k
+put-right [] l k h = h
+put-right (x ∷ xs) l k h = put-right xs (x ∷ l) k (inr h)
+
+pub put-left : (xs l : List ℕ) (k : ℕ) → IsAmong xs k → IsAmong (put_before xs l) k
+put-left [] l k h = absurd h
+put-left (x ∷ xs) l k (inl e) = put-right xs (x ∷ l) k (inl e)
+put-left (x ∷ xs) l k (inr h) = put-left xs (x ∷ l) k h
+
+pub among-either : (xs : List ℕ) (k : ℕ) → IsAmong xs k ⊎ (¬ IsAmong xs k)
+among-either [] k = inr (λ h. h)
+among-either (x ∷ xs) k = at (either (k == x)) (among-either xs k)
+  where
+    at : ((k == x) ≡ true) ⊎ ((k == x) ≡ false) → IsAmong xs k ⊎ (¬ IsAmong xs k) → IsAmong (x ∷ xs) k ⊎ (¬ IsAmong (x ∷ xs) k)
+    at (inl e) rest = inl (inl (grind (arith, e)))
+    at (inr e) (inl h) = inl (inr h)
+    at (inr e) (inr out) = inr (λ h. elim h [ inl same ↦ (let bad : k ≢ x = grind (arith, e) in bad same) | inr more ↦ out more ])
+
+pub All-among : (P : ℕ → Type 0) (xs : List ℕ) → ((k : ℕ) → IsAmong xs k → P k) → AllByRecursion P xs
+All-among P [] h = tt
+All-among P (x ∷ xs) h = (h x (inl refl), All-among P xs (λ k a. h k (inr a)))
+
+pub among-All : (P : ℕ → Type 0) (xs : List ℕ) (k : ℕ) → AllByRecursion P xs → IsAmong xs k → P k
+among-All P [] k all h = absurd h
+among-All P (x ∷ xs) k all (inl e) = subst P (sym e) all.0
+among-All P (x ∷ xs) k all (inr h) = among-All P xs k all.1 h
+
+-- ---- the children of an element
+
+module _ (child : ℕ → ℕ → Option ℕ) (i : ℕ) where
+  pub among-children : (m k : ℕ) → IsAmong (children child i m) k → (c : ℕ) × (child i c ≡ Some k)
+  among-children zero k h = absurd h
+  among-children (suc u) k h = at (child i u) refl h (among-children u k)
+    where
+      at : (o : Option ℕ) → child i u ≡ o → IsAmong (child_before o (children child i u)) k → (IsAmong (children child i u) k → (c : ℕ) × (child i c ≡ Some k)) → (c : ℕ) × (child i c ≡ Some k)
+      at None e h more = more h
+      at (Some j) e (inl same) more = (u, e ∙ ap (λ x. Some x) (sym same))
+      at (Some j) e (inr h) more = more h
+
+  pub children-among : (m c k : ℕ) → c < m → child i c ≡ Some k → IsAmong (children child i m) k
+  children-among zero c k h e = absurd (omega arith)
+  children-among (suc u) c k h e = at (child i u) refl (λ other. children-among u c k (omega (arith, other)) e)
+    where
+      at : (o : Option ℕ) → child i u ≡ o → (c ≢ u → IsAmong (children child i u) k) → IsAmong (child_before o (children child i u)) k
+      at None is more = more (λ same. let bad : ◌≡◌ {A = Option ℕ} None (Some k) = sym is ∙ (ap (child i) (sym same) ∙ e) in cc)
+      at (Some j) is more = elim (either (c == u)) [
+        | inl same ↦ (let one : c ≡ u = grind (arith, same) in inl (same_Some k j (sym e ∙ (ap (child i) one ∙ is))))
+        | inr other ↦ inr (more (grind (arith, other)))
+      ]
+
+  pub no-children : (m : ℕ) → ((c : ℕ) → child i c ≡ None) → children child i m ≡ []
+  no-children zero none = refl
+  no-children (suc u) none = ap (λ o. child_before o (children child i u)) (none u) ∙ no-children u none
+
+  -- children put before others, where each stands in R to each later one
+  pub Pairs-children : (R : ℕ → ℕ → Type 0) (m : ℕ) (l : List ℕ) → Pairs R l → ((c k : ℕ) → c < m → child i c ≡ Some k → AllByRecursion (R k) l)
+      → ((c d j k : ℕ) → c < d → d < m → child i c ≡ Some j → child i d ≡ Some k → R j k) → Pairs R (put_before (children child i m) l)
+  Pairs-children R zero l pairs before rise = pairs
+  Pairs-children R (suc u) l pairs before rise = at (child i u) refl (λ l. Pairs-children R u l)
+    where
+      at : (o : Option ℕ) → child i u ≡ o
+          → ((l : List ℕ) → Pairs R l → ((c k : ℕ) → c < u → child i c ≡ Some k → AllByRecursion (R k) l) → ((c d j k : ℕ) → c < d → d < u → child i c ≡ Some j → child i d ≡ Some k → R j k) → Pairs R (put_before (children child i u) l))
+          → Pairs R (put_before (child_before o (children child i u)) l)
+      at None is more = more l pairs (λ c k h e. before c k (omega arith) e) (λ c d j k h less a b. rise c d j k h (omega arith) a b)
+      at (Some t) is more =
+          more (t ∷ l) (before u t (omega arith) is, pairs)
+          (λ c k h e. (rise c u k t h (omega arith) e is, before c k (omega arith) e))
+          (λ c d j k h less a b. rise c d j k h (omega arith) a b)
+
+-- ---- pairs
+
+module _ (R : ℕ → ℕ → Type 0) where
+  pub Pairs-push : (xs : List ℕ) (x : ℕ) → Pairs R xs → ((k : ℕ) → IsAmong xs k → R k x) → Pairs R (xs ++ x ∷ [])
+  Pairs-push [] x pairs h = (tt, tt)
+  Pairs-push (y ∷ ys) x pairs h = (
+    All-among (R y) (ys ++ x ∷ []) (λ k a. elim (among-append ys (x ∷ []) k a) [
+      | inl old ↦ among-All (R y) ys k pairs.0 old
+      | inr new ↦ elim new [ inl same ↦ subst (R y) (sym same) (h y (inl refl)) | inr none ↦ absurd none ]
+    ]),
+    Pairs-push ys x pairs.1 (λ k a. h k (inr a)),
+  )
+
+  -- numbers below n, where none stands in R to itself: there are at most n
+  pub Pairs-few : (xs : List ℕ) (n : ℕ) → Pairs R xs → ((k : ℕ) → ¬ R k k) → ((k : ℕ) → IsAmong xs k → k < n) → length xs ≤ n
+  Pairs-few xs n pairs other less = pigeon n (length xs) (λ k. get_or xs k 0) (λ k h. less (get_or xs k 0) (read xs k h)) (λ j k up h same. other (get_or xs k 0) (let P : ℕ → Type 0 = λ x. R x (get_or xs k 0) in subst P same (pair xs pairs j k up h)))
+    where
+      read : (ys : List ℕ) (k : ℕ) → k < length ys → IsAmong ys (get_or ys k 0)
+      read [] k h = absurd (omega arith)
+      read (y ∷ ys) zero h = inl refl
+      read (y ∷ ys) (suc k) h = inr (read ys k (omega arith))
+
+      pair : (ys : List ℕ) → Pairs R ys → (j k : ℕ) → j < k → k < length ys → R (get_or ys j 0) (get_or ys k 0)
+      pair [] p j k up h = absurd (omega arith)
+      pair (y ∷ ys) p zero zero up h = absurd (omega arith)
+      pair (y ∷ ys) p zero (suc k) up h = among-All (R y) ys (get_or ys k 0) p.0 (read ys k (omega arith))
+      pair (y ∷ ys) p (suc j) zero up h = absurd (omega arith)
+      pair (y ∷ ys) p (suc j) (suc k) up h = pair ys p.1 j k (omega arith) (omega arith)
+
+-- ---- tables
+
+pub marking-start : (kids : List ℕ) (x : ℕ) (old : List ℕ) → IsMarking kids kids x old old
+marking-start kids x old = record { size = refl; within = λ k h. h; written = λ k h. inl h; other = λ k h. refl }
+
+pub marking-next : (kids left : List ℕ) (j x : ℕ) (old new : List ℕ) → j < length new → IsMarking kids (j ∷ left) x old new → IsMarking kids left x old (set new j x)
+marking-next kids left j x old new inside m = record {
+  size = length-set new j x ∙ m.size;
+  within = λ k h. m.within k (inr h);
+  written = λ k h. at k (either (k == j)) (m.written k h);
+  other = λ k no. get_or-set_other new j k x 0 (λ same. no (m.within k (inl same))) ∙ m.other k no;
+}
+  where
+    at : (k : ℕ) → ((k == j) ≡ true) ⊎ ((k == j) ≡ false) → IsAmong (j ∷ left) k ⊎ (get_or new k 0 ≡ x) → IsAmong left k ⊎ (get_or (set new j x) k 0 ≡ x)
+    at k (inl e) h = let same : k ≡ j = grind (arith, e) in inr (rw same (get_or-set_same new j x 0 inside))
+    at k (inr e) (inl (inl same)) = absurd (let bad : k ≢ j = grind (arith, e) in bad same)
+    at k (inr e) (inl (inr h)) = inl h
+    at k (inr e) (inr h) = let other : k ≢ j = grind (arith, e) in inr (get_or-set_other new j k x 0 other ∙ h)

@@ -1,0 +1,47 @@
+-- The order of texts: an end keeps two texts apart that differ at a unit, and a text comes before what goes on with it.
+use Rattle.std.proofs.Common.{◌≡◌, ◌≢◌, ℕ, zero, suc, ◌+◌, ◌<◌, ◌≤◌, ◌⊎◌, inl, inr, Bool, true, false, cond, List, [], ◌∷◌, ◌++◌, length, refl, sym, ap, ◌∙◌, arith}
+use Rattle.std.specs.Cmp.Lexicographic.{slice_cmp}
+use Rattle.std.specs.Ordering.{nat_cmp, ordering_then}
+use Rattle.std.specs.declared.cmp.Ordering.{Ordering}
+use Rattle.std.specs.declared.cmp.Ordering.TheVariants.{Less, Equal, Greater}
+use Rattle.std.proofs.lemmas.Bool.Decides.{nat_tests}
+
+abbrev pub order : List ℕ → List ℕ → Ordering
+order = slice_cmp nat_cmp
+
+-- v has the lesser unit where the two first differ
+abbrev pub Diverges : List ℕ → List ℕ → Type 0
+Diverges [] w = ⊥
+Diverges (a ∷ v) [] = ⊥
+Diverges (a ∷ v) (b ∷ w) = (a < b) ⊎ ((a ≡ b) × Diverges v w)
+
+cmp-less : (a b : ℕ) → a < b → nat_cmp a b ≡ Less
+cmp-less a b h = grind (arith, nat_tests)
+
+cmp-same : (a : ℕ) → nat_cmp a a ≡ Equal
+cmp-same a = grind (arith, nat_tests)
+
+pub Diverges-order : (v w : List ℕ) → Diverges v w → order v w ≡ Less
+Diverges-order [] w d = absurd d
+Diverges-order (a ∷ v) [] d = absurd d
+Diverges-order (a ∷ v) (b ∷ w) (inl h) = ap (λ o. ordering_then o (order v w)) (cmp-less a b h)
+Diverges-order (a ∷ v) (b ∷ w) (inr d) = ap (λ x. ordering_then (nat_cmp a x) (order v w)) (sym d.0) ∙ (ap (λ o. ordering_then o (order v w)) (cmp-same a) ∙ Diverges-order v w d.1)
+
+-- what goes on behind the first text changes nothing
+pub Diverges-on : (v w x : List ℕ) → Diverges v w → Diverges (v ++ x) w
+Diverges-on [] w x d = absurd d
+Diverges-on (a ∷ v) [] x d = absurd d
+Diverges-on (a ∷ v) (b ∷ w) x (inl h) = inl h
+Diverges-on (a ∷ v) (b ∷ w) x (inr d) = inr (d.0, Diverges-on v w x d.1)
+
+pub Diverges-last : (v : List ℕ) (a b : ℕ) → a < b → Diverges (v ++ a ∷ []) (v ++ b ∷ [])
+Diverges-last [] a b h = inl h
+Diverges-last (u ∷ v) a b h = inr (refl, Diverges-last v a b h)
+
+pub order-longer : (v : List ℕ) (a : ℕ) (x : List ℕ) → order v (v ++ a ∷ x) ≡ Less
+order-longer [] a x = refl
+order-longer (u ∷ v) a x = ap (λ o. ordering_then o (order v (v ++ a ∷ x))) (cmp-same u) ∙ order-longer v a x
+
+pub order-itself : (v : List ℕ) → order v v ≡ Equal
+order-itself [] = refl
+order-itself (u ∷ v) = ap (λ o. ordering_then o (order v v)) (cmp-same u) ∙ order-itself v

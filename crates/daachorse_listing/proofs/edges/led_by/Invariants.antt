@@ -1,0 +1,11 @@
+-- The lists hold the elements that were passed.
+use Rattle.std.proofs.Common.{◌≡◌, ◌<◌, ℕ, suc, List, [], length, get_or, filter}
+use Rattle.std.specs.List.{AllByRecursion}
+use Rattle.daachorse_listing.specs.Edges.{is_by, is_in, below, put_before, siblings}
+use Rattle.daachorse_listing.proofs.edges.led_by.Given as goal
+
+abbrev pub invariant-loop-element : goal.invariant-loop-element
+invariant-loop-element g l = record {
+  size : length l.led ≡ g.E.Edges.units l.edges;
+  lists : (u : ℕ) → u < g.E.Edges.units l.edges → get_or l.led u [] ≡ below (λ j. is_by u (g.E.Edges.edge l.edges j)) l.element;
+}

@@ -1,0 +1,16 @@
+-- The node of the link, and then the list of its own link.
+use Rattle.std.proofs.Common.{◌≡◌, ◌∷◌, ◌<◌, sym, ◌∙◌, get_or, ◌-◌, rules, arith}
+use Rattle.daachorse_listing.specs.Linked.{list_from, no_node}
+use Rattle.daachorse_listing.proofs.LinkedLaws.{list_from-at}
+use Rattle.daachorse_listing.proofs.lists.ItemsIterator.next.Goals as goal
+
+pub returns-clause-steps : goal.returns-clause-steps
+returns-clause-steps c =
+    let more : 0 < c.self.inside.link = omega arith in
+    sym c.self.view_is ∙ list_from-at c.self.inside.nodes.now c.self.invariant.0 c.self.inside.link more
+
+pub returns-clause-goes : goal.returns-clause-goes
+returns-clause-goes c =
+    let more : 0 < c.self.inside.link = omega arith in
+    let e = sym c.self.view_is ∙ list_from-at c.self.inside.nodes.now c.self.invariant.0 c.self.inside.link more in
+    rw e (search rules)

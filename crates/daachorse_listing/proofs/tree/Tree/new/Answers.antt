@@ -1,0 +1,51 @@
+-- The element that is taken is the first of those that were put aside, and its children come to stand before the others.
+use Rattle.std.proofs.Common.{◌≡◌, ◌<◌, ◌≤◌, ◌+◌, ◌-◌, ℕ, suc, List, [], ◌∷◌, ◌++◌, length, reverse, get_or, set, replicate, Option, Some, None, refl, sym, ap, ◌∙◌, arith, rules, subst, length-append, add-one}
+use Rattle.std.proofs.lemmas.List.{get_or_read, reverse-append}
+use Rattle.daachorse_listing.specs.Edges.{children, put_before}
+use Rattle.daachorse_listing.proofs.WalkLaws.{IsWalk, walk-begin, walk-pop, walk-empty, walk-next, walk-end, taken-inside, taken-shallow, taken-few}
+use Rattle.daachorse_listing.proofs.tree.Tree.new.Given as given
+use Rattle.daachorse_listing.proofs.tree.Tree.new.Goals as goal
+
+pub loop-element-init : goal.loop-element-init
+loop-element-init g c =
+    let n = g.E.Edges.count c.args.edges.now in
+    let aside : reverse c.push.new.self.items ≡ 0 ∷ [] = ap reverse (c.in_ok-push.ensures.items ∙ ap (λ l. l ++ 0 ∷ []) c.new-aside.ensures.items) in
+    let parents : c.in_ok-vec.field-0.items ≡ replicate n 0 = c.in_ok-vec.ensures.items_if_clones_equal (λ y e. e) ∙ ap (λ k. replicate k 0) c.num_elements.ensures in
+    let depths : c.in_ok-vec-2.field-0.items ≡ replicate n 4294967295 =
+    c.in_ok-vec-2.ensures.items_if_clones_equal (λ y e. e) ∙ ap (λ k. replicate k 4294967295) c.num_elements-2.ensures in
+    walk-begin c.requires.tree _ _ _ c.in_ok-vec-2.field-0.items c.new.ensures.items aside parents depths
+
+pub put_aside-requires-clause-element : goal.put_aside-requires-clause-element
+put_aside-requires-clause-element g c =
+    let walk = walk-pop c.loop-element.tree.order.items c.loop-element.tree.parents.items c.loop-element.tree.depths.items c.loop-element.aside.items c.pop.new.self.items c.in-Some.element
+    c.in-Some.ensures.items c.loop-element.invariant in
+    taken-inside c.requires.tree c.loop-element.tree.order.items (reverse c.pop.new.self.items) c.loop-element.tree.parents.items c.loop-element.tree.depths.items c.in-Some.element walk
+
+pub put_aside-requires-clause-shallow : goal.put_aside-requires-clause-shallow
+put_aside-requires-clause-shallow g c =
+    let walk = walk-pop c.loop-element.tree.order.items c.loop-element.tree.parents.items c.loop-element.tree.depths.items c.loop-element.aside.items c.pop.new.self.items c.in-Some.element
+    c.in-Some.ensures.items c.loop-element.invariant in
+    taken-shallow c.requires.tree c.loop-element.tree.order.items (reverse c.pop.new.self.items) c.loop-element.tree.parents.items c.loop-element.tree.depths.items c.in-Some.element walk
+
+pub loop-element-smaller : goal.loop-element-smaller
+loop-element-smaller g c =
+    let walk = walk-pop c.loop-element.tree.order.items c.loop-element.tree.parents.items c.loop-element.tree.depths.items c.loop-element.aside.items c.pop.new.self.items c.in-Some.element
+    c.in-Some.ensures.items c.loop-element.invariant in
+    let few : length c.loop-element.tree.order.items < g.E.Edges.count c.args.edges.now = taken-few c.requires.tree c.loop-element.tree.order.items (reverse c.pop.new.self.items) c.loop-element.tree.parents.items c.loop-element.tree.depths.items c.in-Some.element walk in
+    let order = ap (λ v. length v.items) c.in_ok-put_aside.ensures.order ∙ ap length c.in_ok-push-2.ensures.items in
+    omega (arith, few, order, length-append c.loop-element.tree.order.items (c.in-Some.element ∷ []))
+
+pub loop-element-preserved : goal.loop-element-preserved
+loop-element-preserved g c =
+    let walk = walk-pop c.loop-element.tree.order.items c.loop-element.tree.parents.items c.loop-element.tree.depths.items c.loop-element.aside.items c.pop.new.self.items c.in-Some.element
+    c.in-Some.ensures.items c.loop-element.invariant in
+    let order = ap (λ v. v.items) c.in_ok-put_aside.ensures.order ∙ c.in_ok-push-2.ensures.items in
+    rw (order, c.in_ok-put_aside.ensures.aside)
+    (walk-next c.requires.tree c.loop-element.tree.order.items (reverse c.pop.new.self.items) c.loop-element.tree.parents.items c.loop-element.tree.depths.items c.in-Some.element walk c.put_aside.new.self.parents.items c.put_aside.new.self.depths.items _ (add-one _) c.in_ok-put_aside.ensures.parents c.in_ok-put_aside.ensures.depths)
+
+pub returns-clause-ok : goal.returns-clause-ok
+returns-clause-ok g c =
+    let none : length c.loop-element.aside.items ≡ 0 = omega (arith, c.in_default.ensures.cases.0, c.loop-element.aside.ok) in
+    let walk = walk-empty c.loop-element.tree.order.items c.loop-element.tree.parents.items c.loop-element.tree.depths.items c.loop-element.aside.items
+    none c.loop-element.invariant in
+    walk-end c.requires.tree c.loop-element.tree.order.items c.loop-element.tree.parents.items c.loop-element.tree.depths.items walk

@@ -1,0 +1,6 @@
+pub mod Linked
+pub mod Edges
+pub mod Trees
+pub mod Depths
+pub mod Automata
+pub mod Listing

@@ -1,0 +1,48 @@
+-- The reached elements of an array, as a walk lists them: each after those whose texts come before its own.
+use Rattle.std.specs.Prelude.{◌≡◌, ◌≢◌, ◌⊎◌, ℕ, ◌<◌, List, [], ◌∷◌, length, slice_index, Option, Some}
+use Rattle.std.specs.List.{AllByRecursion}
+use Rattle.std.specs.Cmp.Lexicographic.{slice_cmp}
+use Rattle.std.specs.Ordering.{nat_cmp}
+use Rattle.std.specs.declared.cmp.Ordering.TheVariants.{Less}
+use Rattle.daachorse_machine.specs.Texts.{IsReached, text_of}
+
+-- x is one of these
+abbrev pub IsAmong : List ℕ → ℕ → Type 0
+IsAmong [] x = ⊥
+IsAmong (y ∷ ys) x = (x ≡ y) ⊎ IsAmong ys x
+
+-- R holds of each and each later one
+abbrev pub Pairs : {X : Type 0} → (X → X → Type 0) → List X → Type 0
+Pairs R [] = Unit {0}
+Pairs R (x ∷ xs) = AllByRecursion (R x) xs × Pairs R xs
+
+-- Of a table in which the entries of all kids are to be x, and all others to stay: those of the kids that are left may be not yet written.
+pub record IsMarking (kids left : List ℕ) (x : ℕ) (old new : List ℕ) : Type 0 where
+  pub size : length new ≡ length old
+  pub within : (k : ℕ) → IsAmong left k → IsAmong kids k
+  pub written : (k : ℕ) → IsAmong kids k → IsAmong left k ⊎ (slice_index new k ≡ x)
+  pub other : (k : ℕ) → ¬ IsAmong kids k → slice_index new k ≡ slice_index old k
+
+module _ (child : ℕ → ℕ → Option ℕ) (n m : ℕ) where
+  abbrev pub text : ℕ → List ℕ
+  text i = text_of child m n i
+
+  -- the text of i comes before that of j
+  abbrev pub ComesBefore : ℕ → ℕ → Type 0
+  ComesBefore i j = slice_cmp nat_cmp (text i) (text j) ≡ Less
+
+  -- the parent of a reached element: a reached one, from which a unit leads to it
+  pub record IsParent (i p : ℕ) : Type 0 where
+    pub reached : IsReached child m n p
+    pub leads : (c : ℕ) × (child p c ≡ Some i)
+
+  -- all reached elements in the order of their texts, the parents of all but the root, and the depths, 4294967295 for an element that is not reached
+  pub record IsListed (order parents depths : List ℕ) : Type 0 where
+    pub reached : (i : ℕ) → IsAmong order i → IsReached child m n i
+    pub complete : (i : ℕ) → IsReached child m n i → IsAmong order i
+    pub rising : Pairs ComesBefore order
+    pub parents_size : length parents ≡ n
+    pub parent : (i : ℕ) → IsReached child m n i → i ≢ 0 → IsParent i (slice_index parents i)
+    pub depths_size : length depths ≡ n
+    pub depth : (i : ℕ) → IsReached child m n i → slice_index depths i ≡ length (text i)
+    pub others : (i : ℕ) → i < n → ¬ IsReached child m n i → slice_index depths i ≡ 4294967295

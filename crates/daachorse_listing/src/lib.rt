@@ -1,0 +1,12 @@
+//! The reached elements of an array with children: in the order of their texts, with their parents
+//! and their depths.
+//!
+//! The layers above may rely on [`tree::Tree`] holding each element that a text leads to, once, and
+//! on [`depths::depths`] giving the length of each element's text.
+#![tactic(auto)]
+
+pub mod depths;
+pub mod edges;
+mod lists;
+pub mod patterns;
+mod tree;

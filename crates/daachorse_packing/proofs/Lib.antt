@@ -1,0 +1,7 @@
+pub mod Places
+pub mod Held
+pub mod Counted
+pub mod BuiltLaws
+pub mod Groups
+pub mod Looks
+pub mod Keys

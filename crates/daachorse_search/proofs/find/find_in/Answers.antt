@@ -1,0 +1,12 @@
+-- The standard list is what the search gives end by end.
+use Rattle.std.proofs.Common.{[], ap, ◌∙◌}
+use Rattle.daachorse_model.specs.Matches.{at_each_end}
+use Rattle.daachorse_model.proofs.StandardEnds.{standard-joined}
+use Rattle.daachorse_search.specs.Searches.{standard_found}
+use Rattle.daachorse_search.proofs.find.find_in.Goals as goal
+
+pub returns-clause-left : goal.returns-clause-left
+returns-clause-left g c =
+    let A = g.A.Automaton in let unit = g.A.Unit.EdgeLabel in let haystack = g.H.Haystack.rest c.args.haystack in
+    let found = λ (a : g.row.A.Denot). at_each_end (standard_found unit.width A.content a) [] haystack in
+    c.new-2.ensures.left ∙ ap found c.new.ensures.automaton ∙ standard-joined unit.width (A.content c.args.automaton) g.met.A.Unit.EdgeLabel.wide haystack

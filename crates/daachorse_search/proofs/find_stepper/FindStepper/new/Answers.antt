@@ -1,0 +1,10 @@
+-- The walk holds the automaton whose depths were handed in.
+use Rattle.std.proofs.Common.{subst, sym}
+use Rattle.daachorse_search.specs.Depths.{AreDepths}
+use Rattle.daachorse_search.proofs.find_stepper.FindStepper.new.Goals as goal
+
+pub invariant_of-result : goal.invariant_of-result
+invariant_of-result g c =
+    let A = g.A.Automaton in
+    let P : g.row.A.Denot → Type 0 = λ a. AreDepths (A.reached a) (A.text a) c.args.depths.now in
+    (record { place = c.begin-found.ensures.place; matches = c.begin-found.ensures.matches; some = c.begin-found.ensures.some }, subst P (sym c.new-walk.ensures.automaton) c.requires.depths)

@@ -1,0 +1,71 @@
+//! A search in what a source gives, which says of the source alone when it may be called.
+//!
+//! The layers above may rely on a search giving, of each beginning of what its source gives, all
+//! that there is to give at its end, and on each match being given before a unit past its end is
+//! taken.
+
+ghost use Rattle.std.specs.Prelude.{◌≡◌, ◌+◌, ◌*◌, ℕ, [], length};
+
+use crate::search::Search;
+use crate::source::Source;
+use crate::stepwise::Stepwise;
+use daachorse_core::Match;
+use std::marker::Model;
+
+/// What a search that goes one unit at a time finds in what a source gives, in order.
+#[derive(Drop)]
+pub struct MatchesFrom<V: Copy, W: Stepwise<V>, S: Source<W::Unit>> {
+    search: Search<V, W, S>,
+}
+
+impl<V: Copy, W: Stepwise<V>, S: Source<W::Unit>> Model for MatchesFrom<V, W, S> {
+    ghost use Rattle.daachorse_search.specs.Searches.{SourceProgress};
+
+    ghost Value = { SourceProgress V W.Automaton S };
+
+    ghost view = { λ s. s.search };
+}
+
+impl<V: Copy, W: Stepwise<V>, S: Source<W::Unit>> MatchesFrom<V, W, S> {
+    /// A search that has read nothing.
+    #[inline(always)]
+    pub fn new(walk: W, source: S) -> Self
+        requires { W.read walk ≡ [] }
+        ensures automaton { result.automaton ≡ W.automaton walk }
+        ensures source { result.source ≡ source }
+        ensures read { result.read ≡ [] }
+        ensures pending { result.pending ≡ W.found (W.automaton walk) [] }
+        ensures turns { result.turns ≡ W.turns walk }
+        ensures most { result.most ≡ W.most_found (W.automaton walk) }
+    {
+        Self {
+            search: Search::new(walk, source),
+        }
+    }
+
+    /// Does nothing, and promises the bounds of the turns.
+    #[inline(always)]
+    pub fn turns_are_bounded(&self)
+        ensures { W.bounds self.now.automaton self.now.read self.now.turns }
+    {
+        self.search.turns_are_bounded();
+    }
+}
+
+impl<V: Copy, W: Stepwise<V>, S: Source<W::Unit>> Iterator for MatchesFrom<V, W, S> {
+    ghost use Rattle.std.specs.Iterator.{count_map};
+    ghost use Rattle.daachorse_search.specs.Searches.{GivesFrom};
+
+    type Item = Match<V>;
+
+    ghost can_next = { λ s. S.may_read s.source s.read };
+
+    ghost next_gives = { GivesFrom W.found S.next_gives S.remaining W.Unit.unit W.Unit.width };
+
+    ghost remaining = { λ s. count_map (λ n. length s.pending + s.most * n) (S.remaining s.source) };
+
+    #[inline(always)]
+    fn next(&mut self) -> Option<Match<V>> {
+        self.search.next()
+    }
+}

@@ -1,0 +1,75 @@
+//! Sources of units, which are known only as they give them.
+//!
+//! The layers above may rely on a source that may be read being ready for a search: it may be
+//! called, ends, and ends at a place that fits; and on it staying so while it is read.
+
+ghost use Rattle.std.specs.Prelude.{◌≡◌, ◌+◌, ◌≤◌, ℕ, List, ◌++◌, Option, length, map};
+ghost use Rattle.std.specs.Iterator.{Yields, items_left};
+ghost use Rattle.daachorse_model.specs.Units.{size};
+ghost use Rattle.daachorse_search.specs.Sources.{IsReady};
+
+use daachorse_core::edge_label::EdgeLabel;
+use std::marker::Model;
+
+/// A source of units that a search may read to its end.
+pub trait Source<U: EdgeLabel>: Iterator<Item = U> {
+    /// A search that read these units may go on with the source.
+    ghost may_read: { Self → List ℕ → Type 0 };
+
+    ghost ready: { (s : Self) (read : List ℕ) → may_read s read
+        → IsReady Self.can_next Self.next_gives Self.remaining U.unit U.width s (size U.width read) };
+
+    // It stays so where it gave more units.
+    ghost kept: { (s : Self) (read : List ℕ) (xs : List U) (t : Self) → may_read s read → Yields Self.next_gives s xs t
+        → length xs + items_left Self.remaining t ≤ items_left Self.remaining s
+        → IsReady Self.can_next Self.next_gives Self.remaining U.unit U.width t (size U.width (read ++ map U.unit xs))
+        → may_read t (read ++ map U.unit xs) };
+}
+
+/// The bytes that an iterator gives.
+#[derive(Drop)]
+pub struct Bytes<P: Iterator<Item = u8>> {
+    bytes: P,
+}
+
+impl<P: Iterator<Item = u8>> Model for Bytes<P> {
+    ghost Value = { P };
+
+    ghost view = { λ s. s.bytes };
+}
+
+impl<P: Iterator<Item = u8>> Bytes<P> {
+    /// What the iterator gives from here on.
+    #[inline(always)]
+    pub fn new(bytes: P) -> Self
+        ensures { result ≡ bytes }
+    {
+        Self { bytes }
+    }
+}
+
+impl<P: Iterator<Item = u8>> Iterator for Bytes<P> {
+    type Item = u8;
+
+    ghost can_next = { P.can_next };
+
+    ghost next_gives = { P.next_gives };
+
+    ghost remaining = { P.remaining };
+
+    #[inline(always)]
+    fn next(&mut self) -> Option<u8> {
+        self.bytes.next()
+    }
+}
+
+impl<P: Iterator<Item = u8>> Source<u8> for Bytes<P> {
+    ghost use Rattle.daachorse_search.specs.Sources.{MayRead};
+    ghost use Rattle.daachorse_search.specs.ByteSources.{MayRead-ready, MayRead-kept};
+
+    ghost may_read = { MayRead P.can_next P.remaining };
+
+    ghost ready = { MayRead-ready P.can_next P.next_gives P.remaining };
+
+    ghost kept = { λ s read xs t may took fewer ready. MayRead-kept P.can_next P.next_gives P.remaining s read xs t _ may ready fewer };
+}

@@ -1,0 +1,158 @@
+-- Along a character: the bytes that were taken begin it, and what is still to come completes it.
+use Rattle.std.proofs.Common.{◌≡◌, ℕ, zero, suc, ◌+◌, ◌*◌, ◌-◌, ◌%◌, ◌<◌, ◌≤◌, ◌^◌, ◌⊎◌, inl, inr, Option, Some, None, List, [], ◌∷◌, ◌++◌, length, refl, sym, ap, ◌∙◌, subst, append_assoc, length-append, arith}
+use Rattle.std.proofs.Math.Utf8.{scalar, scalars, encode, encodes}
+use Rattle.std.proofs.lemmas.Bool.{cases_lt}
+use Rattle.std.proofs.lemmas.Bool.Decides.{nat_tests}
+use Rattle.std.proofs.lemmas.Str.{chars-encodes, len_utf8_bounds, length-encode, IsUtf8-past_char}
+use Rattle.std.specs.Char.{IsScalar}
+use Rattle.std.specs.Iterator.{Count, IsFinite, MakesProgress, Yields, items_left}
+use Rattle.std.specs.Str.{chars, chars_after, continuation_len, lead_bits}
+use Rattle.daachorse_model.proofs.Booleans.{both-true}
+use Rattle.daachorse_model.proofs.SameOnText.{IsInner}
+use Rattle.daachorse_search.proofs.SourceLemmas.{Yields_append, Yields_push}
+use Rattle.daachorse_text.specs.TextSources.{IsText, TakesCharacter}
+use Rattle.daachorse_text.proofs.FirstCharacters.{FirstCharacter, first_character, inner_at, same_front}
+
+-- the code fits, whatever the bytes that are still to come
+pub record IsSmall (code more : ℕ) : Type 0 where
+  pub few : more ≤ 3
+  pub last : code < 2 ^ 26
+  pub one : 1 ≤ more → code < 2 ^ 20
+  pub two : 2 ≤ more → code < 2 ^ 14
+  pub three : 3 ≤ more → code < 2 ^ 8
+
+pub IsSmall-start : (first : ℕ) → first < 2 ^ 8 → IsSmall (lead_bits first) (continuation_len first)
+IsSmall-start first h = record {
+  few = grind (arith, nat_tests);
+  last = grind (arith, nat_tests);
+  one = λ k. grind (arith, nat_tests);
+  two = λ k. grind (arith, nat_tests);
+  three = λ k. grind (arith, nat_tests);
+}
+
+pub IsSmall-more : (code n b : ℕ) → IsSmall code (suc n) → IsSmall (code * 64 + b % 64) n
+IsSmall-more code n b h = record { few = omega arith; last = omega arith; one = λ k. omega arith; two = λ k. omega arith; three = λ k. omega arith }
+
+module _ {S : Type 0} (can : S → Type 0) (steps : S → Option ℕ → S → Type 0) (left : S → Count) where
+  -- after the first byte and those inside that were taken, so many more follow
+  pub record IsMidway (source : S) (first code more : ℕ) (now : S) : Type 0 where
+    pub inner : List ℕ
+    pub took : Yields steps source (first ∷ inner) now
+    pub callable : can now
+    pub ends : IsFinite (left now)
+    pub fewer : suc (length inner) + items_left left now ≤ items_left left source
+    pub count : length inner + more ≡ continuation_len first
+    pub code_is : (later : List ℕ) → chars_after more code later ≡ chars (first ∷ (inner ++ later))
+    pub small : IsSmall code more
+
+  -- what the bytes that were taken begin
+  begun : (source : S) → IsText can steps left source → (first code more : ℕ) (now : S) → (h : IsMidway source first code more now) → (later : List ℕ) × FirstCharacter first (h.inner ++ later)
+  begun source text first code more now h = let b = text.begins (first ∷ h.inner) now h.took in (b.0, first_character first (h.inner ++ b.0) b.1)
+
+  started : (source : S) (first : ℕ) (now : S) → IsText can steps left source → first < 2 ^ 8 → steps source (Some first) now → MakesProgress can left source (Some first) now
+      → IsMidway source first (lead_bits first) (continuation_len first) now
+  unfolding chars
+  started source first now text byte step goes =
+      let on = goes.on text.ends in record {
+        inner = [];
+        took = (now, step, refl);
+        callable = on.0;
+        ends = on.1;
+        fewer = omega (arith, on.2);
+        count = omega arith;
+        code_is = λ later. refl;
+        small = IsSmall-start first byte;
+      }
+
+  pub IsMidway-start : (source inside : S) (first code more : ℕ) (now : S) → inside ≡ source → IsText can steps left source → first < 2 ^ 8 → steps inside (Some first) now → MakesProgress can left inside (Some first) now
+      → code ≡ lead_bits first → more ≡ continuation_len first → IsMidway source first code more now
+  IsMidway-start source inside first code more now seen text byte step goes bits follow =
+      let Steps : S → Type 0 = λ s. steps s (Some first) now in
+      let Goes : S → Type 0 = λ s. MakesProgress can left s (Some first) now in
+      let M : ℕ → ℕ → Type 0 = λ c m. IsMidway source first c m now in
+      subst (λ (c : ℕ). M c more) (sym bits) (subst (λ (m : ℕ). M (lead_bits first) m) (sym follow) (started source first now text byte (subst Steps seen step) (subst Goes seen goes)))
+
+  taken : (source : S) (first code n b : ℕ) (now next : S) → IsText can steps left source → IsMidway source first code (suc n) now → steps now (Some b) next → MakesProgress can left now (Some b) next
+      → IsMidway source first (code * 64 + b % 64) n next
+  taken source first code n b now next text h step goes =
+      let on = goes.on h.ends in
+      let took : Yields steps source (first ∷ (h.inner ++ b ∷ [])) next = Yields_push steps source (first ∷ h.inner) now b next h.took step in
+      let more = text.begins (first ∷ (h.inner ++ b ∷ [])) next took in
+      let f = first_character first ((h.inner ++ b ∷ []) ++ more.0) more.1 in
+      let byte : IsInner b = inner_at f.inner (encodes f.others) h.inner b more.0 f.follow (f.parts ∙ append_assoc h.inner (b ∷ []) more.0) (omega (arith, h.count, f.count)) in
+      let digit : b - 128 ≡ b % 64 = omega (arith, byte) in
+      record {
+        inner = h.inner ++ b ∷ [];
+        took = took;
+        callable = on.0;
+        ends = on.1;
+        fewer = omega (arith, on.2, h.fewer, length-append h.inner (b ∷ []));
+        count = omega (arith, h.count, length-append h.inner (b ∷ []));
+        code_is = λ later. ap (λ d. chars_after n (code * 64 + d) later) (sym digit) ∙ h.code_is (b ∷ later) ∙ ap (λ w. chars (first ∷ w)) (sym (append_assoc h.inner (b ∷ []) later));
+        small = IsSmall-more code n b h.small;
+      }
+
+  -- a character's first byte is none of those inside
+  pub lead_byte : (source inside : S) (first : ℕ) (now : S) → inside ≡ source → IsText can steps left source → steps inside (Some first) now → 128 ≤ first → 192 ≤ first
+  lead_byte source inside first now seen text step h =
+      let Steps : S → Type 0 = λ s. steps s (Some first) now in
+      let b = text.begins (first ∷ []) now (now, subst Steps seen step, refl) in
+      by (first_character first b.0 b.1).leads (cases_lt first 192)
+    where
+      by : (¬ IsInner first) → (first < 192) ⊎ (192 ≤ first) → 192 ≤ first
+      by leads (inl low) = absurd (leads (h, low))
+      by leads (inr high) = high
+
+  pub IsMidway-more : (source : S) (first code more b digit : ℕ) (now next : S) → IsText can steps left source → 0 < more → IsMidway source first code more now → steps now (Some b) next → MakesProgress can left now (Some b) next
+      → digit ≡ b → IsMidway source first (code * 64 + digit % 64) (more - 1) next
+  IsMidway-more source first code zero b digit now next text some h step goes is = absurd (omega arith)
+  IsMidway-more source first code (suc n) b digit now next text some h step goes is =
+      let less : n ≡ suc n - 1 = omega arith in
+      let M : ℕ → ℕ → Type 0 = λ d m. IsMidway source first (code * 64 + d % 64) m next in
+      subst (λ (d : ℕ). M d (suc n - 1)) (sym is) (subst (λ (m : ℕ). M b m) less (taken source first code n b now next text h step goes))
+
+  -- the source does not end inside a character
+  pub IsMidway-goes_on : (source : S) (first code more : ℕ) (now last : S) → IsText can steps left source → 0 < more → IsMidway source first code more now → steps now None last → ⊥
+  IsMidway-goes_on source first code more now last text some h step =
+      let f = first_character first h.inner (text.whole (first ∷ h.inner) (last, (now, h.took, step))) in
+      omega (arith, some, h.count, f.count, ap length f.parts, length-append f.inner (encodes f.others))
+
+  front_is : (code : ℕ) (later : List ℕ) (c : ℕ) (cs : List ℕ) → chars_after 0 code later ≡ c ∷ cs → c ≡ code
+  front_is code [] c cs e = cc
+  front_is code (b ∷ later) c cs e = cc
+
+  ended : (source : S) (first code : ℕ) (now : S) → IsText can steps left source → IsMidway source first code 0 now → TakesCharacter can steps left source code now
+  ended source first code now text h =
+      let b = begun source text first code 0 now h in
+      let f = b.1 in
+      let inner : f.inner ≡ h.inner = same_front f.inner h.inner (encodes f.others) b.0 f.parts (omega (arith, h.count, f.count)) in
+      let whole : encodes (f.character ∷ f.others) ≡ first ∷ (h.inner ++ b.0) = ap (λ w. w ++ encodes f.others) f.is ∙ ap (λ w. first ∷ w) f.parts in
+      let same : f.character ≡ code = front_is code b.0 f.character f.others (h.code_is b.0 ∙ ap chars (sym whole) ∙ chars-encodes (f.character ∷ f.others) f.scalar_values) in
+      let is : encode code ≡ first ∷ h.inner = ap encode (sym same) ∙ f.is ∙ ap (λ w. first ∷ w) inner in
+      record {
+        scalar = subst IsScalar same (both-true (scalar f.character) (scalars f.others) f.scalar_values).0;
+        took = let P : List ℕ → Type 0 = λ w. Yields steps source w now in subst P (sym is) h.took;
+        fewer = omega (arith, h.fewer, length-encode code, ap length is);
+      }
+
+  pub IsMidway-end : (source : S) (first code more : ℕ) (now : S) → IsText can steps left source → more ≤ 0 → IsMidway source first code more now → TakesCharacter can steps left source code now
+  IsMidway-end source first code zero now text none h = ended source first code now text h
+  IsMidway-end source first code (suc more) now text none h = absurd (omega arith)
+
+  -- a source that may be decoded still may be after a character
+  text_after : (source : S) (c : ℕ) (rest : S) → IsText can steps left source → TakesCharacter can steps left source c rest → can rest → IsFinite (left rest) → IsText can steps left rest
+  text_after source c rest text took callable ends = record {
+    callable = callable;
+    ends = ends;
+    begins = λ bytes last run.
+        let all = text.begins (encode c ++ bytes) last (Yields_append steps source (encode c) rest bytes last took.took run) in
+        (all.0, IsUtf8-past_char ((encode c ++ bytes) ++ all.0) (bytes ++ all.0) c all.1 (append_assoc (encode c) bytes all.0));
+    whole = λ bytes drains.
+        IsUtf8-past_char (encode c ++ bytes) bytes c
+        (text.whole (encode c ++ bytes) (drains.0, (drains.1.0, Yields_append steps source (encode c) rest bytes drains.1.0 took.took drains.1.1, drains.1.2))) refl;
+  }
+
+  pub goes_after : (source : S) (first code more c : ℕ) (now : S) → IsText can steps left source → IsMidway source first code more now → TakesCharacter can steps left source c now → MakesProgress (IsText can steps left) left source (Some c) now
+  goes_after source first code more c now text h took =
+      let later = text_after source c now text took h.callable h.ends in
+      record { on = λ _. (later, h.ends, omega (arith, took.fewer, len_utf8_bounds c)); keeps = later; rests = λ _. tt }

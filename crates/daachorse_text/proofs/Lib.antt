@@ -1,0 +1,4 @@
+pub mod TextLemmas
+pub mod FirstCharacters
+pub mod DecodingLemmas
+pub mod DecodedRuns

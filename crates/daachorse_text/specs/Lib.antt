@@ -1,0 +1,2 @@
+pub mod TextSources
+pub mod DecodedSources

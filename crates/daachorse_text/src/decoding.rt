@@ -1,0 +1,137 @@
+//! Characters of the bytes that a source gives.
+//!
+//! The layers above may rely on each call taking just the bytes of the character that it gives,
+//! and on the end coming where the source ends. That the bytes are UTF-8 is a condition.
+
+ghost use Rattle.std.specs.Prelude.{◌≡◌, ◌<◌, ◌≤◌};
+ghost use Rattle.std.specs.Str.{continuation_len, lead_bits};
+
+use daachorse_search::source::Source;
+use std::marker::Model;
+
+/// The characters of the bytes that an iterator gives.
+#[derive(Drop)]
+pub struct Decoded<P: Iterator<Item = u8>> {
+    bytes: P,
+}
+
+impl<P: Iterator<Item = u8>> Model for Decoded<P> {
+    ghost Value = { P };
+
+    ghost view = { λ s. s.bytes };
+}
+
+impl<P: Iterator<Item = u8>> Decoded<P> {
+    /// The characters of what the iterator gives from here on.
+    #[inline(always)]
+    pub fn new(bytes: P) -> Self
+        ensures { result ≡ bytes }
+    {
+        Self { bytes }
+    }
+}
+
+impl<P: Iterator<Item = u8>> Iterator for Decoded<P> {
+    ghost use Rattle.daachorse_text.specs.TextSources.{IsText, GivesCharacter};
+
+    type Item = char;
+
+    ghost can_next = { IsText P.can_next P.next_gives P.remaining };
+
+    ghost next_gives = { GivesCharacter P.can_next P.next_gives P.remaining };
+
+    ghost remaining = { P.remaining };
+
+    #[inline(always)]
+    fn next(&mut self) -> Option<char> {
+        let first = self.bytes.next()?;
+        let (mut code, mut more) = lead(first);
+        while more > 0 {
+            let Some(byte) = self.bytes.next() else {
+                unreachable!()
+            };
+            code = code * 64 + u32::from(byte) % 64;
+            more -= 1;
+        }
+        Some(unsafe { char::from_u32_unchecked(code) })
+    }
+}
+
+impl<P: Iterator<Item = u8>> Source<char> for Decoded<P> {
+    ghost use Rattle.daachorse_model.specs.Units.{size, char_width};
+    ghost use Rattle.daachorse_text.specs.TextSources.{IsTextFrom};
+    ghost use Rattle.daachorse_text.specs.DecodedSources.{IsTextFrom-ready, IsTextFrom-kept};
+
+    ghost may_read = { λ s read. IsTextFrom P.can_next P.next_gives P.remaining s (size char_width read) };
+
+    ghost ready = { IsTextFrom-ready P.can_next P.next_gives P.remaining };
+
+    ghost kept = { λ s read xs t may took fewer ready. IsTextFrom-kept P.can_next P.next_gives P.remaining s read xs t may took ready.callable };
+}
+
+/// The characters of the bytes that an iterator gives, each behind the place where it ends.
+#[derive(Drop)]
+pub struct CharWithEndOffsetIterator<P: Iterator<Item = u8>> {
+    characters: Decoded<P>,
+    place: usize,
+}
+
+impl<P: Iterator<Item = u8>> Model for CharWithEndOffsetIterator<P> {
+    ghost use Rattle.daachorse_text.specs.TextSources.{Placed};
+
+    ghost Value = { Placed P };
+
+    ghost view = { λ s. record { source = s.characters; place = s.place } };
+}
+
+impl<P: Iterator<Item = u8>> CharWithEndOffsetIterator<P> {
+    /// The characters of what the iterator gives from here on. Places count from here.
+    #[inline(always)]
+    pub fn new(inner: P) -> Self
+        ensures source { result.source ≡ inner }
+        ensures place { result.place ≡ 0 }
+    {
+        Self {
+            characters: Decoded::new(inner),
+            place: 0,
+        }
+    }
+}
+
+impl<P: Iterator<Item = u8>> Iterator for CharWithEndOffsetIterator<P> {
+    ghost use Rattle.daachorse_text.specs.TextSources.{IsTextFrom, GivesEndAndCharacter};
+
+    type Item = (usize, char);
+
+    ghost can_next = { λ s. IsTextFrom P.can_next P.next_gives P.remaining s.source s.place };
+
+    ghost next_gives = { GivesEndAndCharacter P.can_next P.next_gives P.remaining };
+
+    ghost remaining = { λ s. P.remaining s.source };
+
+    #[inline(always)]
+    fn next(&mut self) -> Option<(usize, char)> {
+        let character = self.characters.next()?;
+        self.place += character.len_utf8();
+        Some((self.place, character))
+    }
+}
+
+/// What the first byte of a character tells: its highest bits, and how many bytes follow.
+#[inline(always)]
+fn lead(first: u8) -> (u32, u32)
+    requires { 128 ≤ first → 192 ≤ first }
+    ensures bits { result.0 ≡ lead_bits first }
+    ensures more { result.1 ≡ continuation_len first }
+{
+    let bits = u32::from(first);
+    if bits < 0x80 {
+        (bits, 0)
+    } else if bits < 0xe0 {
+        (bits - 0xc0, 1)
+    } else if bits < 0xf0 {
+        (bits - 0xe0, 2)
+    } else {
+        (bits - 0xf0, 3)
+    }
+}

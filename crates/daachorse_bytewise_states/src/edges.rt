@@ -1,17 +1,21 @@
 //! The elements and their children, as a listing goes over them.
 //!
-//! The layers above may rely on the table of the depths, which [`States::depths`] makes.
+//! The layers above may rely on the table of the depths, which [`States::depths`] makes, and on
+//! [`States::pattern_iter`] giving the listing of the dictionary.
 
 ghost use Rattle.std.specs.Prelude.{◌≡◌, ◌<◌, IfOk, IfErr};
 ghost use Rattle.daachorse_core.specs.Outputs.{number};
 ghost use Rattle.daachorse_core.specs.Refusals.{IsOutOfMemory};
 ghost use Rattle.daachorse_listing.specs.Depths.{IsDepthTable};
-ghost use Rattle.daachorse_bytewise_states.specs.Parts.{base_of, check_of, child, count};
+ghost use Rattle.daachorse_bytewise_states.specs.Parts.{base_of, check_of, child, content, count, output_of};
+ghost use Rattle.daachorse_model.specs.Prefixes.{IsListing};
 
 use crate::states::States;
 use daachorse_core::errors::Result;
+use daachorse_core::{DEAD_STATE_IDX, Output, ROOT_STATE_IDX};
 use daachorse_listing::depths::depths;
 use daachorse_listing::edges::Edges;
+use daachorse_listing::patterns::{Outputs, PatternWalk};
 use std::alloc::Allocator;
 
 /// The elements of a group are those that the bytes lead to from one base.
@@ -47,6 +51,40 @@ impl<V: Copy, A: Allocator> Edges for States<V, A> {
     }
 }
 
+impl<V: Copy, A: Allocator> Outputs<V> for States<V, A> {
+    ghost use Rattle.daachorse_bytewise_states.specs.Edges.{own_end};
+
+    type Unit = u8;
+
+    ghost number = { λ byte. byte };
+
+    ghost outputs = { λ p. p.outputs };
+
+    ghost first = { output_of };
+
+    ghost stop = { own_end };
+
+    fn unit(&self, element: usize) -> u8 {
+        self.check_at(element)
+    }
+
+    fn own_outputs(&self, element: usize) -> (usize, usize) {
+        let first = self.output_at(element);
+        if element == ROOT_STATE_IDX as usize {
+            return (first, 0);
+        }
+        let link = self.fail_at(element);
+        if link == DEAD_STATE_IDX as usize {
+            return (first, 0);
+        }
+        (first, self.output_at(link))
+    }
+
+    fn output(&self, position: usize) -> Output<V> {
+        self.output(position)
+    }
+}
+
 impl<V: Copy, A: Allocator + Copy> States<V, A> {
     /// Of each element how many bytes lead to it from the root; 4,294,967,295 of one that no text
     /// leads to.
@@ -61,5 +99,20 @@ impl<V: Copy, A: Allocator + Copy> States<V, A> {
         // A field is read for what the parts keep.
         let _num_states = self.num_states;
         depths(alloc, self)
+    }
+
+    /// All patterns with their values, in byte order, and those of one pattern in order of
+    /// registration.
+    ///
+    /// # Errors
+    ///
+    /// An allocation failed.
+    pub fn pattern_iter<'a>(&'a self, alloc: A) -> Result<PatternWalk<'a, V, Self, A>>
+        ensures ok { IfOk result (λ walk. IsListing (content self.entry.now) walk) }
+        ensures err { IfErr result IsOutOfMemory }
+    {
+        // A field is read for what the parts keep.
+        let _num_states = self.num_states;
+        PatternWalk::new(alloc, self)
     }
 }

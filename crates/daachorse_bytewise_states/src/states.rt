@@ -3,7 +3,7 @@
 //! The layers above may rely on the parts being those that were stored, on their being valid, and
 //! on the views of them being the same automaton. Only [`States::new`] takes memory.
 
-ghost use Rattle.std.specs.Prelude.{◌≡◌, ◌≢◌, ◌<◌, ◌%◌, bit_xor, ℕ, List, length, map, slice_index_or, IfOk, IfErr};
+ghost use Rattle.std.specs.Prelude.{◌≡◌, ◌≢◌, ◌<◌, ◌%◌, ◌≤◌, ◌-◌, bit_xor, ℕ, Some, slice_get, List, length, map, slice_index_or, IfOk, IfErr};
 ghost use Rattle.daachorse_core.specs.declared.errors.Limit.TheVariants.{NumElements};
 ghost use Rattle.daachorse_core.specs.Outputs.{number};
 ghost use Rattle.daachorse_core.specs.Refusals.{IsOutOfMemory, IsRefusal};
@@ -14,7 +14,7 @@ ghost use Rattle.daachorse_model.specs.declared.MatchKind.TheVariants.{Standard}
 ghost use Rattle.daachorse_model.specs.Paths.{is_reached};
 ghost use Rattle.daachorse_model.specs.Prefixes.{HasPrefixes, PassesAt};
 ghost use Rattle.daachorse_bytewise_states.specs.Elements.{base_in, fail_in, vacant};
-ghost use Rattle.daachorse_bytewise_states.specs.Parts.{base_of, check_of, child, child_among, content, count, parts_of, without_link};
+ghost use Rattle.daachorse_bytewise_states.specs.Parts.{base_of, check_of, child, child_among, content, count, fail_of, output_of, parts_of, without_link};
 ghost use Rattle.daachorse_bytewise_states.specs.Valid.{IsRootTable, IsValid};
 
 #[cfg(test)]
@@ -179,6 +179,44 @@ impl<V: Copy, A: Allocator> States<V, A> {
         } else {
             self.standard[element].check()
         }
+    }
+
+    /// The failure link of an element, which is an element.
+    #[inline(always)]
+    pub(crate) fn fail_at(&self, element: usize) -> usize
+        requires { element < count self.now }
+        ensures value { result ≡ fail_of self.now element }
+        ensures inside { result < count self.now }
+    {
+        if self.kind.is_leftmost() {
+            self.fails[element] as usize
+        } else {
+            self.standard[element].fail() as usize
+        }
+    }
+
+    /// The position of an element's first output; 0 if it has none.
+    #[inline(always)]
+    pub(crate) fn output_at(&self, element: usize) -> usize
+        requires { element < count self.now }
+        ensures { result ≡ output_of self.now element }
+    {
+        let position = if self.kind.is_leftmost() {
+            self.leftmost[element].output_pos()
+        } else {
+            self.standard[element].output_pos()
+        };
+        position.map_or(0, NonZeroU32::get) as usize
+    }
+
+    /// The output at a position.
+    #[inline(always)]
+    pub(crate) fn output(&self, position: usize) -> Output<V>
+        requires some { 0 < position }
+        requires inside { position ≤ length self.now.outputs }
+        ensures { slice_get self.now.outputs (position - 1) ≡ Some result }
+    {
+        self.outputs[position - 1]
     }
 
     /// How many texts begin a pattern, the empty one among them.

@@ -4,3 +4,5 @@ pub mod Members
 pub mod Orders
 pub mod WalkLaws
 pub mod DepthLaws
+pub mod ListingLaws
+pub mod PatternLaws

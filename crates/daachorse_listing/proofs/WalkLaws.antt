@@ -10,7 +10,8 @@ use Rattle.daachorse_machine.specs.Texts.{IsReached, text_of}
 use Rattle.daachorse_machine.proofs.PathLaws.{walk-push, and_then_inv, text_of-Leads, Leads-inside}
 use Rattle.std.proofs.lemmas.Option.{same_Some, slice_get-get_or}
 use Rattle.daachorse_listing.specs.Depths.{IsDepthTable}
-use Rattle.daachorse_listing.specs.Edges.{put_before, children, IsTree}
+use Rattle.daachorse_listing.specs.Edges.{put_before, children, IsTree, TellChildren}
+use Rattle.daachorse_listing.specs.Listing.{unit_of}
 use Rattle.daachorse_listing.specs.Trees.{IsAmong, Pairs, IsMarking, text, ComesBefore, IsParent, IsListed}
 use Rattle.daachorse_listing.proofs.Members.{among-append, among-left, among-right, among-put, put-left, put-right, among-either, All-among, among-All, among-children, children-among, Pairs-children, Pairs-push, Pairs-few}
 use Rattle.daachorse_listing.proofs.Orders.{order, Diverges, Diverges-order, Diverges-on, Diverges-last, order-longer, order-itself}
@@ -251,3 +252,23 @@ module _ {child : ℕ → ℕ → Option ℕ} {n m : ℕ} (tree : IsTree child n
     reached = λ i r. slice_get-get_or depths i 0 (let less : i < n = reached-inside i r in omega (arith, less, l.depths_size)) ∙ ap (λ k. Some k) (l.depth i r);
     others = λ i less out. slice_get-get_or depths i 0 (omega (arith, less, l.depths_size)) ∙ ap (λ k. Some k) (l.others i less out);
   }
+
+-- the unit of a child's edge is the one that leads to it
+pub unit-is : {child : ℕ → ℕ → Option ℕ} {group : ℕ → Option ℕ} {edge : ℕ → Option (ℕ × ℕ)} {n : ℕ} → TellChildren child group edge n → (p c j : ℕ) → p < n → child p c ≡ Some j → unit_of (edge j) ≡ c
+unit-is {child} {group} {edge} tell p c j real e = at (group p) refl
+  where
+    at : (o : Option ℕ) → group p ≡ o → unit_of (edge j) ≡ c
+    at None own = absurd (let bad : ◌≡◌ {A = Option ℕ} None (Some j) = sym (tell.alone p c real own) ∙ e in cc)
+    at (Some g) own = ap unit_of (tell.from_child p g c j real own e)
+
+-- a reached element that is not the root: its parent is reached, and its text is the parent's and one unit
+pub text-parent : {child : ℕ → ℕ → Option ℕ} {group : ℕ → Option ℕ} {edge : ℕ → Option (ℕ × ℕ)} {n m : ℕ} → IsTree child n m → TellChildren child group edge n → (taken parents depths : List ℕ) → IsListed child n m taken parents depths
+    → (i p : ℕ) → IsReached child m n i → i ≢ 0 → p ≡ get_or parents i 0 → IsReached child m n p × (text child n m i ≡ text child n m p ++ unit_of (edge i) ∷ [])
+text-parent {child} {group} {edge} {n} {m} tree tell taken parents depths l i p r other e =
+    let parent = l.parent i r other in
+    let Reached : ℕ → Type 0 = λ k. IsReached child m n k in
+    let Leads-to : ℕ → Type 0 = λ k. (c : ℕ) × (child k c ≡ Some i) in
+    let reached : IsReached child m n p = subst Reached (sym e) parent.reached in
+    let leads : (c : ℕ) × (child p c ≡ Some i) = subst Leads-to (sym e) parent.leads in
+    let unit : unit_of (edge i) ≡ leads.0 = unit-is tell p leads.0 i (reached-inside tree p reached) leads.1 in
+    (reached, child-text tree p leads.0 i reached leads.1 ∙ ap (λ c. text child n m p ++ c ∷ []) (sym unit))

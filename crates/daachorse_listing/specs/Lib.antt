@@ -3,3 +3,4 @@ pub mod Edges
 pub mod Trees
 pub mod Depths
 pub mod Automata
+pub mod Listing

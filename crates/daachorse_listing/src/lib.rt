@@ -8,4 +8,5 @@
 pub mod depths;
 pub mod edges;
 mod lists;
+pub mod patterns;
 mod tree;

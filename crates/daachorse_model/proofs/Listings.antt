@@ -11,10 +11,10 @@ use Rattle.daachorse_model.specs.Dictionary.{values_of}
 use Rattle.daachorse_model.specs.Prefixes.{insert_entry, listing, IsListing}
 use Rattle.daachorse_model.proofs.Booleans.{either}
 
-abbrev order : List ℕ → List ℕ → Ordering
+abbrev pub order : List ℕ → List ℕ → Ordering
 order = slice_cmp nat_cmp
 
-order-same : (w : List ℕ) → order w w ≡ Equal
+pub order-same : (w : List ℕ) → order w w ≡ Equal
 order-same w = itself (order w w) (nat_list_cmp_total.antisymm w w)
   where
     itself : (o : Ordering) → o ≡ ordering_reverse o → o ≡ Equal
@@ -46,14 +46,14 @@ module _ {V : Type 0} where
       by_order rest Greater e = ap (λ vs. cond (same_text q.0 w) (q.1 ∷ vs) vs) rest ∙ swaps r q w (values_of qs w) e
 
   -- b is not after the first entry
-  abbrev IsAtMostFirst : List ℕ → List (List ℕ × V) → Type 0
+  abbrev pub IsAtMostFirst : List ℕ → List (List ℕ × V) → Type 0
   IsAtMostFirst b [] = Unit {0}
   IsAtMostFirst b (q ∷ qs) = is_lt (order q.0 b) ≡ false
 
-  abbrev Sorted : List (List ℕ × V) → Type 0
+  abbrev pub Sorted : List (List ℕ × V) → Type 0
   Sorted l = IsSortedByKey (λ r. r.0) order l
 
-  sorted-cons : (q : List ℕ × V) (l : List (List ℕ × V)) → IsAtMostFirst q.0 l → Sorted l → Sorted (q ∷ l)
+  pub sorted-cons : (q : List ℕ × V) (l : List (List ℕ × V)) → IsAtMostFirst q.0 l → Sorted l → Sorted (q ∷ l)
   sorted-cons q [] first up = λ k d low high. absurd (omega arith)
   sorted-cons q (r ∷ l) first up = each
     where

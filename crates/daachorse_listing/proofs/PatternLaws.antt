@@ -1,0 +1,74 @@
+-- What is left of a walk over the patterns: an element's values one by one, and then the next element's.
+use Rattle.std.proofs.Common.{◌≡◌, ◌≢◌, ℕ, zero, suc, ◌+◌, ◌-◌, ◌<◌, ◌≤◌, ◌⊎◌, inl, inr, List, [], ◌∷◌, ◌++◌, length, map, get_or, drop, Option, Some, None, refl, sym, ap, ◌∙◌, arith, subst, add-one, sub-one, drop-cons}
+use Rattle.std.specs.Prelude.{flat_map, slice_get}
+use Rattle.std.proofs.lemmas.Option.{slice_get-get_or, slice_get_cases}
+use Rattle.std.proofs.lemmas.List.{drop_all}
+use Rattle.daachorse_core.specs.declared.outputs.Output.{Output}
+use Rattle.daachorse_core.specs.Outputs.{value_of, parent_of, ParentsFall}
+use Rattle.daachorse_machine.specs.Texts.{IsReached, text_of}
+use Rattle.daachorse_listing.specs.Trees.{IsAmong, IsListed}
+use Rattle.daachorse_listing.specs.Listing.{values_until, with_values, patterns_of, left_of, HasPatterns, IsWalking}
+use Rattle.daachorse_listing.proofs.WalkLaws.{reached-inside}
+use Rattle.daachorse_listing.proofs.ListingLaws.{values_until-step, values_until-end}
+
+among-read : (l : List ℕ) (k : ℕ) → k < length l → IsAmong l (get_or l k 0)
+among-read [] k h = absurd (omega arith)
+among-read (x ∷ l) zero h = inl refl
+among-read (x ∷ l) (suc k) h = inr (among-read l k (omega arith))
+
+module _ {V : Type 0} {child : ℕ → ℕ → Option ℕ} {group : ℕ → Option ℕ} {edge : ℕ → Option (ℕ × ℕ)} {n m : ℕ} {outputs : List (Output V)} {first : ℕ → ℕ} (stop : ℕ → ℕ) (order parents depths : List ℕ) (entered element position : ℕ)
+    (w : IsWalking child group edge n m outputs first order parents depths entered element position) where
+  abbrev rest : List (List ℕ × V)
+  rest = patterns_of (text_of child m n) outputs first stop (drop entered order)
+
+  -- nothing is left of the element
+  pub left-of-rest : (end : ℕ) → (position ≡ end) ⊎ (position ≡ 0) → left_of child n m outputs first stop order entered element end position ≡ rest
+  left-of-rest end h = ap (λ vs. with_values (text_of child m n element) vs ++ rest) (values_until-end outputs w.patterns.falls end position h)
+
+  -- nothing is left of the elements
+  pub rest-of-all : entered ≡ length order → rest ≡ []
+  rest-of-all e = ap (λ l. patterns_of (text_of child m n) outputs first stop l) (ap (λ k. drop k order) e ∙ drop_all (length order) order (omega arith))
+
+  -- the next element's values come
+  pub rest-next : (x : ℕ) → entered < length order → x ≡ get_or order entered 0 → rest ≡ left_of child n m outputs first stop order (entered + 1) x (stop x) (first x)
+  rest-next x less e =
+      ap (λ l. patterns_of (text_of child m n) outputs first stop l) (drop-cons order entered 0 less)
+      ∙ (ap (λ y. with_values (text_of child m n y) (values_until outputs (stop y) (first y)) ++ patterns_of (text_of child m n) outputs first stop (drop (suc entered) order)) (sym e)
+      ∙ ap (λ k. with_values (text_of child m n x) (values_until outputs (stop x) (first x)) ++ patterns_of (text_of child m n) outputs first stop (drop k order)) (sym (add-one entered)))
+
+  pub next-reached : (x : ℕ) → entered < length order → x ≡ get_or order entered 0 → IsReached child m n x
+  next-reached x less e = subst (IsReached child m n) (sym e) (w.listed.reached (get_or order entered 0) (among-read order entered less))
+
+  pub next-walking : (x : ℕ) → entered < length order → x ≡ get_or order entered 0 → IsWalking child group edge n m outputs first order parents depths (entered + 1) x (first x)
+  next-walking x less e = record {
+    patterns = w.patterns;
+    listed = w.listed;
+    within = omega (arith, less);
+    reached = next-reached x less e;
+    inside = w.patterns.inside x (reached-inside w.patterns.tree x (next-reached x less e));
+  }
+
+  -- a value is given
+  pub left-of-value : (end : ℕ) (o : Output V) → position ≢ end → position ≢ 0 → slice_get outputs (position - 1) ≡ Some o
+      → left_of child n m outputs first stop order entered element end position ≡ (text_of child m n element, value_of o) ∷ left_of child n m outputs first stop order entered element end (parent_of o)
+  left-of-value end o other some e = at position other some e
+    where
+      at : (p : ℕ) → p ≢ end → p ≢ 0 → slice_get outputs (p - 1) ≡ Some o
+          → left_of child n m outputs first stop order entered element end p ≡ (text_of child m n element, value_of o) ∷ left_of child n m outputs first stop order entered element end (parent_of o)
+      at zero other some e = absurd (some refl)
+      at (suc q) other some e =
+          let here : slice_get outputs q ≡ Some o = ap (slice_get outputs) (sym (sub-one (suc q))) ∙ e in
+          ap (λ vs. with_values (text_of child m n element) vs ++ rest) (values_until-step outputs w.patterns.falls end q o other here)
+
+  pub value-walking : (o : Output V) → position ≢ 0 → slice_get outputs (position - 1) ≡ Some o → IsWalking child group edge n m outputs first order parents depths entered element (parent_of o)
+  value-walking o some e = record {
+    patterns = w.patterns;
+    listed = w.listed;
+    within = w.within;
+    reached = w.reached;
+    inside = let low : parent_of o ≤ position - 1 = w.patterns.falls (position - 1) o e in let high : position ≤ length outputs = w.inside in omega (arith, low, high);
+  }
+
+  -- a walk that gives up has nothing left
+  pub given-up : IsWalking child group edge n m outputs first order parents depths (length order) element 0
+  given-up = record { patterns = w.patterns; listed = w.listed; within = omega arith; reached = w.reached; inside = omega arith }

@@ -1,0 +1,67 @@
+-- The patterns of a tree with outputs: of each element, in the order of the texts, its text with the values of its own outputs.
+use Rattle.std.specs.Prelude.{◌≡◌, ℕ, zero, suc, ◌≤◌, ◌<◌, ◌==◌, cond, List, [], ◌∷◌, ◌++◌, drop, flat_map, length, map, slice_get, Option, Some, None, ◌≢◌, Result, MatchOption, MatchResult}
+use Rattle.daachorse_core.specs.declared.errors.DaachorseError.{DaachorseError}
+use Rattle.daachorse_core.specs.Refusals.{IsOutOfMemory}
+use Rattle.daachorse_core.specs.declared.outputs.Output.{Output}
+use Rattle.daachorse_core.specs.Outputs.{value_of, parent_of, ParentsFall}
+use Rattle.daachorse_machine.specs.Texts.{IsReached, text_of}
+use Rattle.daachorse_listing.specs.Edges.{IsTree, TellChildren}
+use Rattle.daachorse_listing.specs.Trees.{IsListed}
+
+-- the unit of an edge
+abbrev pub unit_of : Option (ℕ × ℕ) → ℕ
+unit_of None = 0
+unit_of (Some e) = e.1
+
+module _ {V : Type 0} (outputs : List (Output V)) where
+  abbrev pub value_then : Option (Output V) → (ℕ → List V) → List V
+  value_then None later = []
+  value_then (Some o) later = value_of o ∷ later (parent_of o)
+
+  -- the values of at most so many outputs, from a position on until another
+  abbrev pub values_from : ℕ → ℕ → ℕ → List V
+  values_from zero stop p = []
+  values_from (suc steps) stop zero = []
+  values_from (suc steps) stop (suc q) = cond (suc q == stop) [] (value_then (slice_get outputs q) (λ r. values_from steps stop r))
+
+  -- the values of a chain from a position on until another: positions fall, so that as many steps are enough
+  abbrev pub values_until : ℕ → ℕ → List V
+  values_until stop p = values_from p stop p
+
+-- a text with each of the values
+abbrev pub with_values : {V : Type 0} → List ℕ → List V → List (List ℕ × V)
+with_values w vs = map (λ v. (w, v)) vs
+
+-- the patterns of elements: `first` is the position of an element's first output, and `stop` that where its own end
+abbrev pub patterns_of : {V : Type 0} → (ℕ → List ℕ) → List (Output V) → (ℕ → ℕ) → (ℕ → ℕ) → List ℕ → List (List ℕ × V)
+patterns_of text outputs first stop order = flat_map (λ i. with_values (text i) (values_until outputs (stop i) (first i))) order
+
+-- What a listing goes over: a tree whose n elements have outputs.
+pub record HasPatterns {V : Type 0} (child : ℕ → ℕ → Option ℕ) (group : ℕ → Option ℕ) (edge : ℕ → Option (ℕ × ℕ)) (n m : ℕ) (outputs : List (Output V)) (first : ℕ → ℕ) : Type 0 where
+  pub tree : IsTree child n m
+  pub tell : TellChildren child group edge n
+  pub falls : ParentsFall outputs
+  pub inside : (i : ℕ) → i < n → first i ≤ length outputs
+
+module _ {V : Type 0} (child : ℕ → ℕ → Option ℕ) (n m : ℕ) (outputs : List (Output V)) (first stop : ℕ → ℕ) where
+  -- all patterns: those of the reached elements, in the order of their texts
+  abbrev pub IsPatterns : List (List ℕ × V) → Type 0
+  IsPatterns entries = (order parents depths : List ℕ) × IsListed child n m order parents depths × (entries ≡ patterns_of (text_of child m n) outputs first stop order)
+
+  -- the patterns that are left: those of one element from a position until the end of its own outputs, and those of the elements that were not entered
+  abbrev pub left_of : List ℕ → ℕ → ℕ → ℕ → ℕ → List (List ℕ × V)
+  left_of order entered element end position =
+      with_values (text_of child m n element) (values_until outputs end position) ++ patterns_of (text_of child m n) outputs first stop (drop entered order)
+
+-- what holds of a walk over the patterns
+pub record IsWalking {V : Type 0} (child : ℕ → ℕ → Option ℕ) (group : ℕ → Option ℕ) (edge : ℕ → Option (ℕ × ℕ)) (n m : ℕ) (outputs : List (Output V)) (first : ℕ → ℕ) (order parents depths : List ℕ) (entered element position : ℕ) : Type 0 where
+  pub patterns : HasPatterns child group edge n m outputs first
+  pub listed : IsListed child n m order parents depths
+  pub within : entered ≤ length order
+  pub reached : IsReached child m n element
+  pub inside : position ≤ length outputs
+
+-- A call gives the first pattern, or an error behind which nothing is left; `text` reads the key.
+abbrev pub GivesPattern : {K V : Type 0} → (K → List ℕ) → List (List ℕ × V) → Option (Result (K × V) DaachorseError) → List (List ℕ × V) → Type 0
+GivesPattern text s r t =
+    MatchOption r ((s ≡ []) × (t ≡ [])) (λ item. MatchResult item (λ e. s ≡ (text e.0, e.1) ∷ t) (λ e. IsOutOfMemory e × (s ≢ []) × (t ≡ [])))

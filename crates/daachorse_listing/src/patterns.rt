@@ -1,0 +1,169 @@
+//! The patterns of an array with outputs, one by one, in the order of their texts.
+//!
+//! The layers above may rely on a walk giving each pattern with each of its values, the values in
+//! order; and on one error, and then the end, where memory is refused.
+
+ghost use Rattle.std.specs.Prelude.{◌≡◌, ◌<◌, ◌≤◌, ◌-◌, ℕ, List, Some, length, map, slice_get, IfOk, IfErr};
+ghost use Rattle.daachorse_core.specs.Refusals.{IsOutOfMemory};
+ghost use Rattle.daachorse_core.specs.declared.outputs.Output.{Output};
+ghost use Rattle.daachorse_machine.specs.Texts.{IsReached, text_of};
+ghost use Rattle.daachorse_listing.specs.Listing.{HasPatterns, IsPatterns, unit_of};
+ghost use Rattle.daachorse_listing.specs.Edges.{IsTree, TellChildren};
+ghost use Rattle.daachorse_listing.specs.Trees.{IsListed};
+
+use crate::edges::Edges;
+use crate::tree::Tree;
+use daachorse_core::Output;
+use daachorse_core::errors::Result;
+use std::alloc::{Allocator, Global};
+use std::marker::{Model, PhantomData};
+use std::num::NonZeroU32;
+
+/// Edges whose elements have outputs.
+pub trait Outputs<V: Copy>: Edges {
+    /// A unit of a text.
+    type Unit: Copy;
+
+    /// The number of a unit.
+    ghost number: { Self.Unit → ℕ };
+
+    /// All outputs.
+    ghost outputs: { Self → List (Output V) };
+
+    /// The position of an element's first output; 0 if there is none.
+    ghost first: { Self → ℕ → ℕ };
+
+    /// The position where an element's own outputs end.
+    ghost stop: { Self → ℕ → ℕ };
+
+    /// The unit that leads to an element.
+    fn unit(&self, element: usize) -> Self::Unit
+        requires { element < Self.count self.now }
+        ensures { number result ≡ unit_of (Self.edge self.now element) };
+
+    /// The position of an element's first output, and that where its own outputs end; 0 is the end
+    /// of all.
+    fn own_outputs(&self, element: usize) -> (usize, usize)
+        requires { element < Self.count self.now }
+        ensures { result ≡ (first self.now element, stop self.now element) };
+
+    /// The output at a position.
+    fn output(&self, position: usize) -> Output<V>
+        requires some { 0 < position }
+        requires inside { position ≤ length (outputs self.now) }
+        ensures { slice_get (outputs self.now) (position - 1) ≡ Some result };
+}
+
+/// The patterns of an array, one by one: in the order of their texts, and those of one text in the
+/// order of its values.
+#[derive(Drop)]
+pub struct PatternWalk<'a, V: Copy, E: Outputs<V>, A: Allocator = Global> {
+    elements: &'a E,
+    tree: Tree<A>,
+    // How many elements of the order were entered, and the last of them.
+    entered: usize,
+    element: usize,
+    // What is left of its own outputs: those from a position until another.
+    position: usize,
+    stop: usize,
+    values: PhantomData<V>,
+}
+
+impl<'a, V: Copy, E: Outputs<V>, A: Allocator> Model for PatternWalk<'a, V, E, A> {
+    ghost use Rattle.std.specs.Prelude.{List, ℕ};
+    ghost use Rattle.daachorse_listing.specs.Listing.{IsWalking, left_of};
+
+    ghost Value = { List (List ℕ × V) };
+
+    ghost view = { λ s. left_of (E.child s.elements.now) (E.count s.elements.now) (E.units s.elements.now)
+        (E.outputs s.elements.now) (E.first s.elements.now) (E.stop s.elements.now)
+        s.tree.order.items s.entered s.element s.stop s.position };
+
+    ghost invariant = { λ s. IsWalking (E.child s.elements.now) (E.group s.elements.now) (E.edge s.elements.now) (E.count s.elements.now) (E.units s.elements.now)
+        (E.outputs s.elements.now) (E.first s.elements.now)
+        s.tree.order.items s.tree.parents.items s.tree.depths.items s.entered s.element s.position };
+}
+
+impl<'a, V: Copy, E: Outputs<V>, A: Allocator + Copy> PatternWalk<'a, V, E, A> {
+    /// A walk over all patterns.
+    ///
+    /// # Errors
+    ///
+    /// An allocation failed.
+    pub fn new(alloc: A, elements: &'a E) -> Result<Self>
+        requires { HasPatterns (E.child elements.now) (E.group elements.now) (E.edge elements.now) (E.count elements.now) (E.units elements.now) (E.outputs elements.now) (E.first elements.now) }
+        ensures ok { IfOk result (λ walk. IsPatterns (E.child elements.entry.now) (E.count elements.entry.now) (E.units elements.entry.now) (E.outputs elements.entry.now) (E.first elements.entry.now) (E.stop elements.entry.now) walk) }
+        ensures err { IfErr result IsOutOfMemory }
+    {
+        Ok(PatternWalk {
+            elements,
+            tree: Tree::new(alloc, elements)?,
+            entered: 0,
+            element: 0,
+            position: 0,
+            stop: 0,
+            values: PhantomData,
+        })
+    }
+}
+
+impl<'a, V: Copy, E: Outputs<V>, A: Allocator + Copy> Iterator for PatternWalk<'a, V, E, A> {
+    ghost use Rattle.std.specs.Prelude.{map};
+    ghost use Rattle.std.specs.Iterator.{item_count};
+    ghost use Rattle.daachorse_listing.specs.Listing.{GivesPattern};
+
+    type Item = Result<(Vec<E::Unit, A>, V)>;
+
+    ghost next_gives = { GivesPattern (λ key. map E.number key.items) };
+
+    ghost remaining = { item_count (λ left. left) };
+
+    fn next(&mut self) -> Option<Result<(Vec<E::Unit, A>, V)>> {
+        while self.position == self.stop || self.position == 0 {
+            if self.entered == self.tree.order.len() {
+                return None;
+            }
+            self.element = self.tree.order[self.entered];
+            self.entered += 1;
+            let (position, stop) = self.elements.own_outputs(self.element);
+            self.position = position;
+            self.stop = stop;
+        }
+        let output = self.elements.output(self.position);
+        match text::<V, E, A>(self.elements, &self.tree, self.element) {
+            Ok(key) => {
+                self.position = output.parent().map_or(0, NonZeroU32::get) as usize;
+                Some(Ok((key, output.value())))
+            }
+            Err(error) => {
+                // Nothing is left behind the error.
+                self.position = 0;
+                self.entered = self.tree.order.len();
+                Some(Err(error))
+            }
+        }
+    }
+}
+
+/// The text of an element.
+fn text<V: Copy, E: Outputs<V>, A: Allocator + Copy>(
+    elements: &E,
+    tree: &Tree<A>,
+    element: usize,
+) -> Result<Vec<E::Unit, A>>
+    requires tree { IsTree (E.child elements.now) (E.count elements.now) (E.units elements.now) }
+    requires tell { TellChildren (E.child elements.now) (E.group elements.now) (E.edge elements.now) (E.count elements.now) }
+    requires listed { IsListed (E.child elements.now) (E.count elements.now) (E.units elements.now) tree.now.order.items tree.now.parents.items tree.now.depths.items }
+    requires reached { IsReached (E.child elements.now) (E.units elements.now) (E.count elements.now) element }
+    ensures ok { IfOk result (λ key. map E.number key.items ≡ text_of (E.child elements.now) (E.units elements.now) (E.count elements.now) element) }
+    ensures err { IfErr result IsOutOfMemory }
+{
+    let mut units = Vec::new(*tree.order.allocator());
+    let mut at = element;
+    while at != 0 {
+        units.push(elements.unit(at))?;
+        at = tree.parents[at];
+    }
+    units.reverse();
+    Ok(units)
+}

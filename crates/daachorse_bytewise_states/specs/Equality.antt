@@ -7,8 +7,6 @@ use Rattle.std.specs.Hash as fed
 use Rattle.std.specs.Hash.{HashWrites, Alike, on_Alike, and-Alike, items_Alike, same_Alike}
 use Rattle.std.proofs.lemmas.Bool.Decides.{Decides-eqb}
 use Rattle.daachorse_core.specs.declared.outputs.Empty.{Empty}
-use Rattle.daachorse_core.specs.declared.outputs.Output.{Output}
-use Rattle.daachorse_core.specs.Outputs.{value_of, length_of, parent_of}
 use Rattle.daachorse_model.specs.declared.MatchKind.{MatchKind}
 use Rattle.daachorse_model.specs.contracts.MatchKindPartialEq.TheImpl.{ghosts as kinds}
 use Rattle.daachorse_model.specs.contracts.MatchKindPartialEq.TheImpl.Laws.{laws-law as kinds_per}
@@ -20,6 +18,7 @@ use Rattle.daachorse_core.specs.contracts.outputs.EmptyHash.TheImpl.Laws.{respec
 use Rattle.daachorse_core.specs.contracts.outputs.EmptyPartialEq.TheImpl.{ghosts as nothing}
 use Rattle.daachorse_core.specs.contracts.outputs.EmptyPartialEq.TheImpl.Laws.{laws-law as nothing_per}
 use Rattle.daachorse_core.specs.contracts.outputs.EmptyEq.TheImpl.Laws.{laws-law as nothing_equiv}
+use Rattle.daachorse_listing.specs.EqualOutputs.{output_eq, output_input, output_per, output_equiv, output_alike}
 use Rattle.daachorse_bytewise_states.specs.declared.state.State.{State}
 use Rattle.daachorse_bytewise_states.specs.Elements.{base_in, fail_in}
 use Rattle.daachorse_bytewise_states.specs.Parts.{Parts}
@@ -27,10 +26,6 @@ use Rattle.daachorse_bytewise_states.specs.Parts.{Parts}
 -- equal bases, links and packed words
 abbrev pub element_eq : {F : Type 0} → (F → F → Bool) → State F → State F → Bool
 element_eq E = eq_of_both (on base_in nat_eq) (eq_of_both (on fail_in E) (on (λ e. e.packed.word) nat_eq))
-
--- equal values, lengths and parents
-abbrev pub output_eq : {V : Type 0} → (V → V → Bool) → Output V → Output V → Bool
-output_eq E = eq_of_both (on value_of E) (eq_of_both (on length_of nat_eq) (on parent_of nat_eq))
 
 -- equal in every part
 abbrev pub parts_eq : {V : Type 0} → (V → V → Bool) → Parts V → Parts V → Bool
@@ -43,9 +38,6 @@ parts_eq E =
 
 abbrev pub element_input : {F : Type 0} → (F → HashWrites) → State F → HashWrites
 element_input G e = fed.u32 (base_in e) ++ (G (fail_in e) ++ fed.u32 e.packed.word)
-
-abbrev pub output_input : {V : Type 0} → (V → HashWrites) → Output V → HashWrites
-output_input G o = G (value_of o) ++ (fed.u32 (length_of o) ++ fed.u32 (parent_of o))
 
 abbrev pub parts_input : {V : Type 0} → (V → HashWrites) → Parts V → HashWrites
 parts_input G p =
@@ -60,12 +52,6 @@ module _ {K : Type 0} {E : K → K → Bool} where
 
   element_equiv : IsEquivalence E → IsEquivalence (element_eq E)
   element_equiv law = and_equiv (on_equiv base_in nat_eq_equiv) (and_equiv (on_equiv fail_in law) (on_equiv (λ e. e.packed.word) nat_eq_equiv))
-
-  output_per : IsPartialEquivalence E → IsPartialEquivalence (output_eq E)
-  output_per law = and_per (on_per value_of law) (and_per (on_per length_of (partial_equiv_from_equiv nat_eq_equiv)) (on_per parent_of (partial_equiv_from_equiv nat_eq_equiv)))
-
-  output_equiv : IsEquivalence E → IsEquivalence (output_eq E)
-  output_equiv law = and_equiv (on_equiv value_of law) (and_equiv (on_equiv length_of nat_eq_equiv) (on_equiv parent_of nat_eq_equiv))
 
 module _ {K : Type 0} {E : K → K → Bool} where
   pub parts_per : IsPartialEquivalence E → IsPartialEquivalence (parts_eq E)
@@ -84,10 +70,6 @@ module _ {K : Type 0} {E : K → K → Bool} {G : K → HashWrites} where
   element_alike : Alike E G → Alike (element_eq E) (element_input G)
   element_alike law =
       and-Alike (on_Alike base_in (same_Alike fed.u32 Decides-eqb)) (and-Alike (on_Alike fail_in law) (on_Alike (λ e. e.packed.word) (same_Alike fed.u32 Decides-eqb)))
-
-  output_alike : Alike E G → Alike (output_eq E) (output_input G)
-  output_alike law =
-      and-Alike (on_Alike value_of law) (and-Alike (on_Alike length_of (same_Alike fed.u32 Decides-eqb)) (on_Alike parent_of (same_Alike fed.u32 Decides-eqb)))
 
 module _ {K : Type 0} {E : K → K → Bool} {G : K → HashWrites} where
   pub parts_alike : ((x y : K) → E x y ≡ true → G x ≡ G y) → (p q : Parts K) → parts_eq E p q ≡ true → parts_input G p ≡ parts_input G q

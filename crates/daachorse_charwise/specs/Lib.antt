@@ -1,2 +1,3 @@
+pub mod Automata
 pub mod Building
 pub mod Frequencies

@@ -12,6 +12,7 @@ ghost use Rattle.daachorse_model.specs.declared.MatchKind.TheVariants.{Standard}
 ghost use Rattle.daachorse_model.specs.Units.{char_width};
 ghost use Rattle.daachorse_model.specs.Leftmost.{leftmost};
 ghost use Rattle.daachorse_model.specs.Matches.{no_suffix, overlapping, standard};
+ghost use Rattle.daachorse_model.specs.Prefixes.{HasPrefixes};
 ghost use Rattle.daachorse_search.specs.Searches.{all_found, first_found, standard_found};
 ghost use Rattle.daachorse_charwise.specs.Building.{IsBuildRefusal, IsBuiltOf, IsHeld, IsRefusalOf, registered_texts, spelled};
 ghost use Rattle.daachorse_charwise_states.specs.Parts.{content, count};
@@ -40,6 +41,7 @@ use daachorse_search::overlapping::{
 use daachorse_text::decoding::Decoded;
 use daachorse_text::text::Text;
 use std::alloc::{Allocator, Global};
+use std::hash::{Hash, Hasher};
 use std::marker::Model;
 
 /// An automaton that finds many patterns in text at once.
@@ -48,16 +50,18 @@ use std::marker::Model;
 #[derive(Drop)]
 pub struct CharwiseDoubleArrayAhoCorasick<V: Copy, A: Allocator = Global> {
     states: States<V, A>,
+    // Of each element how many characters lead to it; empty where depths are not cached.
+    depths: Vec<u32, A>,
 }
 
 impl<V: Copy, A: Allocator> Model for CharwiseDoubleArrayAhoCorasick<V, A> {
-    ghost use Rattle.daachorse_charwise_states.specs.Parts.{Parts};
+    ghost use Rattle.daachorse_charwise.specs.Automata.{Automaton, MayHaveDepths};
 
-    ghost Value = { Parts V };
+    ghost Value = { Automaton V };
 
-    ghost view = { λ a. a.states };
+    ghost view = { λ a. record { parts = a.states; depths = a.depths.items } };
 
-    ghost invariant = { λ a. Unit {0} };
+    ghost invariant = { λ a. MayHaveDepths a.states a.depths.items };
 }
 
 impl<V: Copy, A: Allocator + Copy> CharwiseDoubleArrayAhoCorasick<V, A> {
@@ -76,8 +80,8 @@ impl<V: Copy, A: Allocator + Copy> CharwiseDoubleArrayAhoCorasick<V, A> {
         V::Error: Drop,
         requires { (it : P.IntoIter) → P.into_iter_gives patterns it → P.IntoIter.can_next it × IsFinite (P.IntoIter.remaining it) }
         ensures ok { IfOk result (λ a. (it : P.IntoIter) × P.into_iter_gives patterns it
-            × WholeRun P.IntoIter.next_gives it (λ p. IsBuiltOf V.try_from_gives Standard (spelled p.items) a)) }
-        ensures kind { IfOk result (λ a. a.kind ≡ Standard) }
+            × WholeRun P.IntoIter.next_gives it (λ p. IsBuiltOf V.try_from_gives Standard (spelled p.items) a.parts)) }
+        ensures kind { IfOk result (λ a. a.parts.kind ≡ Standard) }
         ensures err { IfErr result (λ e. IsOutOfMemory e ⊎ ((it : P.IntoIter) × P.into_iter_gives patterns it
             × WholeRun P.IntoIter.next_gives it (λ p. IsBuildRefusal V.try_from_gives Standard (spelled p.items) e))) }
     {
@@ -100,8 +104,8 @@ impl<V: Copy, A: Allocator + Copy> CharwiseDoubleArrayAhoCorasick<V, A> {
         P::IntoIter: Drop,
         requires { (it : P.IntoIter) → P.into_iter_gives patvals it → P.IntoIter.can_next it × IsFinite (P.IntoIter.remaining it) }
         ensures ok { IfOk result (λ a. (it : P.IntoIter) × P.into_iter_gives patvals it
-            × WholeRun P.IntoIter.next_gives it (λ p. IsHeld Standard (registered_texts p.items) a)) }
-        ensures kind { IfOk result (λ a. a.kind ≡ Standard) }
+            × WholeRun P.IntoIter.next_gives it (λ p. IsHeld Standard (registered_texts p.items) a.parts)) }
+        ensures kind { IfOk result (λ a. a.parts.kind ≡ Standard) }
         ensures err { IfErr result (λ e. IsOutOfMemory e ⊎ ((it : P.IntoIter) × P.into_iter_gives patvals it
             × WholeRun P.IntoIter.next_gives it (λ p. IsRefusalOf Standard (registered_texts p.items) e))) }
     {
@@ -109,19 +113,91 @@ impl<V: Copy, A: Allocator + Copy> CharwiseDoubleArrayAhoCorasick<V, A> {
     }
 }
 
+impl<V: Copy, A: Allocator + Copy> CharwiseDoubleArrayAhoCorasick<V, A> {
+    /// The automaton of these states, with no depths cached.
+    pub(crate) fn of_states(alloc: A, states: States<V, A>) -> Self
+        ensures parts { result.parts ≡ states }
+        ensures depths { result.depths ≡ [] }
+    {
+        Self {
+            states,
+            depths: Vec::new(alloc),
+        }
+    }
+
+    /// An automaton that keeps the same, in memory of its own.
+    ///
+    /// # Errors
+    ///
+    /// An allocation failed.
+    pub fn clone(&self) -> Result<Self>
+        ensures same { IfOk result (λ a. a ≡ self.now) }
+        ensures err { IfErr result IsOutOfMemory }
+    {
+        let depths = Vec::from_slice(*self.depths.allocator(), &self.depths)?;
+        Ok(Self {
+            states: self.states.clone()?,
+            depths,
+        })
+    }
+}
+
+/// Automata are equal where all that they keep is, the cached depths included.
+impl<V: Copy + PartialEq, A: Allocator> PartialEq for CharwiseDoubleArrayAhoCorasick<V, A> {
+    ghost use Rattle.daachorse_charwise_states.specs.Equality.{parts_eq, parts_per};
+    ghost use Rattle.daachorse_listing.specs.Automata.{automaton_eq, automaton_per};
+
+    ghost eq = { automaton_eq (parts_eq V.eq) };
+
+    ghost laws = { automaton_per (parts_per V.laws) };
+
+    fn eq(&self, other: &Self) -> bool {
+        self.states == other.states && self.depths == other.depths
+    }
+}
+
+impl<V: Copy + Eq, A: Allocator> Eq for CharwiseDoubleArrayAhoCorasick<V, A> {
+    ghost use Rattle.daachorse_charwise_states.specs.Equality.{parts_equiv};
+    ghost use Rattle.daachorse_listing.specs.Automata.{automaton_equiv};
+
+    ghost laws = { automaton_equiv (parts_equiv V.Eq.laws) };
+}
+
+impl<V: Copy + Hash, A: Allocator> Hash for CharwiseDoubleArrayAhoCorasick<V, A> {
+    ghost use Rattle.daachorse_charwise_states.specs.Equality.{parts_alike, parts_input};
+    ghost use Rattle.daachorse_listing.specs.Automata.{automaton_alike, automaton_input};
+
+    ghost hash_input = { automaton_input (parts_input V.hash_input) };
+
+    ghost respects_eq = { automaton_alike (parts_alike V.respects_eq) };
+
+    fn hash<H: Hasher>(&self, state: &mut H) {
+        self.states.hash(state);
+        self.depths.hash(state);
+    }
+}
+
 impl<V: Copy, A: Allocator> CharwiseDoubleArrayAhoCorasick<V, A> {
     /// The searches that the automaton is for: the standard ones, or one of the leftmost.
     pub fn match_kind(&self) -> MatchKind
-        ensures { result ≡ self.now.kind }
+        ensures { result ≡ self.now.parts.kind }
     {
         self.states.kind()
     }
 
     /// The number of elements of the double array, those included that are no state.
     pub fn num_elements(&self) -> usize
-        ensures { result ≡ count self.now }
+        ensures { result ≡ count self.now.parts }
     {
         self.states.num_elements()
+    }
+
+    /// The number of states: how many texts begin a pattern that the automaton holds, the empty one
+    /// among them.
+    pub fn num_states(&self) -> usize
+        ensures { HasPrefixes (content self.now.parts) result }
+    {
+        self.states.num_states() as usize
     }
 
     /// Finds matches in a haystack that do not overlap: from the end of the one before each ends as
@@ -130,9 +206,9 @@ impl<V: Copy, A: Allocator> CharwiseDoubleArrayAhoCorasick<V, A> {
     #[inline(always)]
     #[tactic(auto, using(daachorse_charwise_states::proofs::DeadLaws::alive))]
     pub fn find_iter<'a>(&'a self, haystack: &'a str) -> FindSliceIterator<'a, V>
-        requires { self.now.kind ≡ Standard }
-        ensures left { result.left ≡ standard char_width (content self.entry.now) (chars haystack.entry.now) }
-        ensures automaton { result.automaton ≡ self.entry.now }
+        requires { self.now.parts.kind ≡ Standard }
+        ensures left { result.left ≡ standard char_width (content self.entry.now.parts) (chars haystack.entry.now) }
+        ensures automaton { result.automaton ≡ self.entry.now.parts }
         ensures passed { result.passed ≡ [] }
         ensures turns { result.turns ≡ 0 }
     {
@@ -147,11 +223,11 @@ impl<V: Copy, A: Allocator> CharwiseDoubleArrayAhoCorasick<V, A> {
         &'a self,
         haystack: P,
     ) -> FindIterator<'a, P, V>
-        requires { self.now.kind ≡ Standard }
-        ensures automaton { result.automaton ≡ self.entry.now }
+        requires { self.now.parts.kind ≡ Standard }
+        ensures automaton { result.automaton ≡ self.entry.now.parts }
         ensures source { result.source ≡ haystack }
         ensures read { result.read ≡ [] }
-        ensures pending { result.pending ≡ standard_found char_width content self.entry.now [] }
+        ensures pending { result.pending ≡ standard_found char_width content self.entry.now.parts [] }
         ensures turns { result.turns ≡ 0 }
     {
         MatchesFrom::new(
@@ -168,9 +244,9 @@ impl<V: Copy, A: Allocator> CharwiseDoubleArrayAhoCorasick<V, A> {
         &'a self,
         haystack: &'a str,
     ) -> FindOverlappingSliceIterator<'a, V>
-        requires { self.now.kind ≡ Standard }
-        ensures left { result.left ≡ overlapping char_width (content self.entry.now) (chars haystack.entry.now) }
-        ensures automaton { result.automaton ≡ self.entry.now }
+        requires { self.now.parts.kind ≡ Standard }
+        ensures left { result.left ≡ overlapping char_width (content self.entry.now.parts) (chars haystack.entry.now) }
+        ensures automaton { result.automaton ≡ self.entry.now.parts }
         ensures passed { result.passed ≡ [] }
         ensures turns { result.turns ≡ 0 }
     {
@@ -185,11 +261,11 @@ impl<V: Copy, A: Allocator> CharwiseDoubleArrayAhoCorasick<V, A> {
         &'a self,
         haystack: P,
     ) -> FindOverlappingIterator<'a, P, V>
-        requires { self.now.kind ≡ Standard }
-        ensures automaton { result.automaton ≡ self.entry.now }
+        requires { self.now.parts.kind ≡ Standard }
+        ensures automaton { result.automaton ≡ self.entry.now.parts }
         ensures source { result.source ≡ haystack }
         ensures read { result.read ≡ [] }
-        ensures pending { result.pending ≡ all_found char_width content self.entry.now [] }
+        ensures pending { result.pending ≡ all_found char_width content self.entry.now.parts [] }
         ensures turns { result.turns ≡ 0 }
     {
         MatchesFrom::new(
@@ -206,9 +282,9 @@ impl<V: Copy, A: Allocator> CharwiseDoubleArrayAhoCorasick<V, A> {
         &'a self,
         haystack: &'a str,
     ) -> FindOverlappingNoSuffixSliceIterator<'a, V>
-        requires { self.now.kind ≡ Standard }
-        ensures left { result.left ≡ no_suffix char_width (content self.entry.now) (chars haystack.entry.now) }
-        ensures automaton { result.automaton ≡ self.entry.now }
+        requires { self.now.parts.kind ≡ Standard }
+        ensures left { result.left ≡ no_suffix char_width (content self.entry.now.parts) (chars haystack.entry.now) }
+        ensures automaton { result.automaton ≡ self.entry.now.parts }
         ensures passed { result.passed ≡ [] }
         ensures turns { result.turns ≡ 0 }
     {
@@ -223,11 +299,11 @@ impl<V: Copy, A: Allocator> CharwiseDoubleArrayAhoCorasick<V, A> {
         &'a self,
         haystack: P,
     ) -> FindOverlappingNoSuffixIterator<'a, P, V>
-        requires { self.now.kind ≡ Standard }
-        ensures automaton { result.automaton ≡ self.entry.now }
+        requires { self.now.parts.kind ≡ Standard }
+        ensures automaton { result.automaton ≡ self.entry.now.parts }
         ensures source { result.source ≡ haystack }
         ensures read { result.read ≡ [] }
-        ensures pending { result.pending ≡ first_found char_width content self.entry.now [] }
+        ensures pending { result.pending ≡ first_found char_width content self.entry.now.parts [] }
         ensures turns { result.turns ≡ 0 }
     {
         MatchesFrom::new(
@@ -243,9 +319,9 @@ impl<V: Copy, A: Allocator> CharwiseDoubleArrayAhoCorasick<V, A> {
     #[inline(always)]
     #[tactic(auto, using(daachorse_charwise_states::proofs::DeadLaws::is_leftmost_automaton))]
     pub fn leftmost_find_iter<'a>(&'a self, haystack: &'a str) -> LeftmostFindIterator<'a, V>
-        requires { self.now.kind ≢ Standard }
-        ensures left { result.left ≡ leftmost char_width (content self.entry.now) (chars haystack.entry.now) }
-        ensures automaton { result.automaton ≡ self.entry.now }
+        requires { self.now.parts.kind ≢ Standard }
+        ensures left { result.left ≡ leftmost char_width (content self.entry.now.parts) (chars haystack.entry.now) }
+        ensures automaton { result.automaton ≡ self.entry.now.parts }
         ensures haystack { result.haystack ≡ chars haystack.entry.now }
         ensures passed { result.passed ≡ [] }
         ensures turns { result.turns ≡ 0 }
@@ -258,23 +334,25 @@ impl<V: Copy, A: Allocator> CharwiseDoubleArrayAhoCorasick<V, A> {
     #[inline(always)]
     #[tactic(auto, using(daachorse_charwise_states::proofs::DeadLaws::alive))]
     pub fn find_stepper<'a>(&'a self) -> FindStepper<'a, V>
-        requires { self.now.kind ≡ Standard }
-        ensures automaton { result.automaton ≡ self.entry.now }
+        requires { self.now.parts.kind ≡ Standard }
+        ensures automaton { result.automaton ≡ self.entry.now.parts }
+        ensures depths { result.depths ≡ self.entry.now.depths }
         ensures read { result.read ≡ [] }
         ensures turns { result.turns ≡ 0 }
     {
-        FindStepper::new(self.states.standard(), &[])
+        FindStepper::new(self.states.standard(), &self.depths)
     }
 
     /// The search of [`Self::find_overlapping_iter`], one character at a time.
     #[inline(always)]
     #[tactic(auto, using(daachorse_charwise_states::proofs::DeadLaws::alive))]
     pub fn find_overlapping_stepper<'a>(&'a self) -> FindOverlappingStepper<'a, V>
-        requires { self.now.kind ≡ Standard }
-        ensures automaton { result.automaton ≡ self.entry.now }
+        requires { self.now.parts.kind ≡ Standard }
+        ensures automaton { result.automaton ≡ self.entry.now.parts }
+        ensures depths { result.depths ≡ self.entry.now.depths }
         ensures read { result.read ≡ [] }
         ensures turns { result.turns ≡ 0 }
     {
-        FindOverlappingStepper::new(self.states.standard(), &[])
+        FindOverlappingStepper::new(self.states.standard(), &self.depths)
     }
 }

@@ -1,4 +1,5 @@
 pub mod Elements
+pub mod Equality
 pub mod Packing
 pub mod Parts
 pub mod Valid

@@ -5,12 +5,12 @@
 
 ghost use Rattle.std.specs.Prelude.{◌≡◌, ◌≢◌, ◌≤◌, ◌^◌, ℕ, List, IfOk, IfErr};
 ghost use Rattle.daachorse_core.specs.declared.errors.Limit.TheVariants.{NumElements};
-ghost use Rattle.daachorse_core.specs.Refusals.{IsRefusal};
+ghost use Rattle.daachorse_core.specs.Refusals.{IsOutOfMemory, IsRefusal};
 ghost use Rattle.daachorse_model.specs.declared.MatchKind.TheVariants.{Standard};
 ghost use Rattle.daachorse_model.specs.Dictionary.{Dictionary};
 ghost use Rattle.daachorse_model.specs.Kinds.{is_leftmost};
 ghost use Rattle.daachorse_model.specs.Paths.{is_reached};
-ghost use Rattle.daachorse_model.specs.Prefixes.{PassesAt};
+ghost use Rattle.daachorse_model.specs.Prefixes.{HasPrefixes, PassesAt};
 ghost use Rattle.daachorse_mapper.specs.Codings.{IsCoding};
 ghost use Rattle.daachorse_charwise_states.specs.Packing.{AreCoded, IsBuiltFor, NeedsManyBlocks};
 ghost use Rattle.daachorse_charwise_states.specs.Parts.{child, content, count};
@@ -26,6 +26,7 @@ use daachorse_core::errors::Result;
 use daachorse_core::{MatchKind, Output};
 use daachorse_mapper::mapper::CodeMapper;
 use std::alloc::{Allocator, Global};
+use std::hash::{Hash, Hasher};
 use std::marker::Model;
 
 /// The states and the outputs of an automaton over characters, with values of type `V`.
@@ -119,7 +120,8 @@ impl<V: Copy, A: Allocator> States<V, A> {
     /// How many texts begin a pattern, the empty one among them.
     #[inline(always)]
     pub fn num_states(&self) -> u32
-        ensures { PassesAt (is_reached (child self.now)) result }
+        ensures reached { PassesAt (is_reached (child self.now)) result }
+        ensures prefixes { HasPrefixes (content self.now) result }
     {
         self.num_states
     }
@@ -164,5 +166,65 @@ impl<V: Copy, A: Allocator> States<V, A> {
             &self.outputs,
             self.num_states,
         )
+    }
+}
+
+impl<V: Copy, A: Allocator + Copy> States<V, A> {
+    /// The same states, in memory of their own.
+    ///
+    /// # Errors
+    ///
+    /// An allocation failed.
+    pub fn clone(&self) -> Result<Self>
+        ensures same { IfOk result (λ s. s ≡ self.now) }
+        ensures err { IfErr result IsOutOfMemory }
+    {
+        let states = Vec::from_slice(*self.states.allocator(), &self.states)?;
+        let outputs = Vec::from_slice(*self.outputs.allocator(), &self.outputs)?;
+        Ok(Self {
+            kind: self.kind,
+            states,
+            mapper: self.mapper.clone()?,
+            outputs,
+            num_states: self.num_states,
+        })
+    }
+}
+
+/// States are equal where all that they store is.
+impl<V: Copy + PartialEq, A: Allocator> PartialEq for States<V, A> {
+    ghost use Rattle.daachorse_charwise_states.specs.Equality.{parts_eq, parts_per};
+
+    ghost eq = { parts_eq V.eq };
+
+    ghost laws = { parts_per V.laws };
+
+    fn eq(&self, other: &Self) -> bool {
+        self.kind == other.kind
+            && (self.states == other.states
+                && (self.mapper == other.mapper
+                    && (self.outputs == other.outputs && self.num_states == other.num_states)))
+    }
+}
+
+impl<V: Copy + Eq, A: Allocator> Eq for States<V, A> {
+    ghost use Rattle.daachorse_charwise_states.specs.Equality.{parts_equiv};
+
+    ghost laws = { parts_equiv V.Eq.laws };
+}
+
+impl<V: Copy + Hash, A: Allocator> Hash for States<V, A> {
+    ghost use Rattle.daachorse_charwise_states.specs.Equality.{parts_alike, parts_input};
+
+    ghost hash_input = { parts_input V.hash_input };
+
+    ghost respects_eq = { parts_alike V.respects_eq };
+
+    fn hash<H: Hasher>(&self, state: &mut H) {
+        self.kind.hash(state);
+        self.states.hash(state);
+        self.mapper.hash(state);
+        self.outputs.hash(state);
+        self.num_states.hash(state);
     }
 }

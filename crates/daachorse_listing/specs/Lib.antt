@@ -4,3 +4,4 @@ pub mod Trees
 pub mod Depths
 pub mod Automata
 pub mod Listing
+pub mod EqualOutputs

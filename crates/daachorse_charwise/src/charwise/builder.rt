@@ -87,8 +87,8 @@ impl CharwiseDoubleArrayAhoCorasickBuilder {
         P::IntoIter: Drop,
         requires { (it : P.IntoIter) → P.into_iter_gives patterns it → P.IntoIter.can_next it × IsFinite (P.IntoIter.remaining it) }
         ensures ok { IfOk result (λ a. (it : P.IntoIter) × P.into_iter_gives patterns it
-            × WholeRun P.IntoIter.next_gives it (λ p. IsBuiltOf V.try_from_gives self (spelled p.items) a)) }
-        ensures kind { IfOk result (λ a. a.kind ≡ self) }
+            × WholeRun P.IntoIter.next_gives it (λ p. IsBuiltOf V.try_from_gives self (spelled p.items) a.parts)) }
+        ensures kind { IfOk result (λ a. a.parts.kind ≡ self) }
         ensures err { IfErr result (λ e. IsOutOfMemory e ⊎ ((it : P.IntoIter) × P.into_iter_gives patterns it
             × WholeRun P.IntoIter.next_gives it (λ p. IsBuildRefusal V.try_from_gives self (spelled p.items) e))) }
     {
@@ -117,8 +117,8 @@ impl CharwiseDoubleArrayAhoCorasickBuilder {
         P::IntoIter: Drop,
         requires { (it : P.IntoIter) → P.into_iter_gives patvals it → P.IntoIter.can_next it × IsFinite (P.IntoIter.remaining it) }
         ensures ok { IfOk result (λ a. (it : P.IntoIter) × P.into_iter_gives patvals it
-            × WholeRun P.IntoIter.next_gives it (λ p. IsHeld self (registered_texts p.items) a)) }
-        ensures kind { IfOk result (λ a. a.kind ≡ self) }
+            × WholeRun P.IntoIter.next_gives it (λ p. IsHeld self (registered_texts p.items) a.parts)) }
+        ensures kind { IfOk result (λ a. a.parts.kind ≡ self) }
         ensures err { IfErr result (λ e. IsOutOfMemory e ⊎ ((it : P.IntoIter) × P.into_iter_gives patvals it
             × WholeRun P.IntoIter.next_gives it (λ p. IsRefusalOf self (registered_texts p.items) e))) }
     {
@@ -135,8 +135,8 @@ fn from_texts<V: Copy + TryFrom<usize>, A: Allocator + Copy>(
 ) -> Result<CharwiseDoubleArrayAhoCorasick<V, A>>
 where
     V::Error: Drop,
-    ensures ok { IfOk result (IsBuiltOf V.try_from_gives kind (spelled texts.now)) }
-    ensures kind { IfOk result (λ a. a.kind ≡ kind) }
+    ensures ok { IfOk result (λ a. IsBuiltOf V.try_from_gives kind (spelled texts.now) a.parts) }
+    ensures kind { IfOk result (λ a. a.parts.kind ≡ kind) }
     ensures err { IfErr result (IsBuildRefusal V.try_from_gives kind (spelled texts.now)) }
 {
     let patterns = indexed(alloc, texts)?;
@@ -149,13 +149,13 @@ fn from_patterns<V: Copy, A: Allocator + Copy>(
     kind: MatchKind,
     patterns: &[(&str, V)],
 ) -> Result<CharwiseDoubleArrayAhoCorasick<V, A>>
-    ensures ok { IfOk result (IsHeld kind (registered_texts patterns.now)) }
-    ensures kind { IfOk result (λ a. a.kind ≡ kind) }
+    ensures ok { IfOk result (λ a. IsHeld kind (registered_texts patterns.now) a.parts) }
+    ensures kind { IfOk result (λ a. a.parts.kind ≡ kind) }
     ensures err { IfErr result (IsRefusalOf kind (registered_texts patterns.now)) }
 {
     let freqs = frequencies(alloc, patterns)?;
     let mapper = CodeMapper::new(alloc, &freqs)?;
     let nfa = build_trie(alloc, kind, None, patterns)?;
     let states = States::build(alloc, kind, nfa, mapper)?;
-    Ok(CharwiseDoubleArrayAhoCorasick { states })
+    Ok(CharwiseDoubleArrayAhoCorasick::of_states(alloc, states))
 }

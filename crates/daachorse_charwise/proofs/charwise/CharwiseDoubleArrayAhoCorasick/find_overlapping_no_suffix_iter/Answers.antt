@@ -8,5 +8,5 @@ use Rattle.daachorse_charwise.proofs.charwise.CharwiseDoubleArrayAhoCorasick.fin
 pub returns-clause-left : goal.returns-clause-left
 returns-clause-left g c =
     c.find_overlapping_no_suffix_in.ensures.left
-    ∙ ap (λ (p : Parts g.row.V.Denot). no_suffix char_width (content p) c.new.result) (c.standard.ensures ∙ c.self.view_is)
-    ∙ ap (no_suffix char_width (content c.args.self.now)) c.new.ensures.characters
+    ∙ ap (λ (p : Parts g.row.V.Denot). no_suffix char_width (content p) c.new.result) (c.standard.ensures ∙ ap (λ a. a.parts) c.self.view_is)
+    ∙ ap (no_suffix char_width (content c.args.self.now.parts)) c.new.ensures.characters

@@ -11,8 +11,8 @@ returns-clause-ok g c =
     let r = c.in_ok-texts.ensures.ok in
     IfOk-weaker c.from_texts.result _ _
     (λ a built.
-    let K : MatchKind → Type 0 = λ k. IsBuiltOf g.V.TryFrom.try_from_gives k (spelled c.deref.result.now) a in
-    let P : List (Bor (List ℕ)) → Type 0 = λ ts. IsBuiltOf g.V.TryFrom.try_from_gives c.args.self (spelled ts) a in
+    let K : MatchKind → Type 0 = λ k. IsBuiltOf g.V.TryFrom.try_from_gives k (spelled c.deref.result.now) a.parts in
+    let P : List (Bor (List ℕ)) → Type 0 = λ ts. IsBuiltOf g.V.TryFrom.try_from_gives c.args.self (spelled ts) a.parts in
     (c.into_iter.result, c.into_iter.ensures.into_iter_gives, (r.0, r.1, r.2, subst P (c.deref.ensures.value ∙ r.3) (subst K c.self.view_is built))))
     c.from_texts.ensures.ok
 

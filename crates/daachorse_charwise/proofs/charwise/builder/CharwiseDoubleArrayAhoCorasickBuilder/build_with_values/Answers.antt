@@ -11,8 +11,8 @@ returns-clause-ok g c =
     let r = c.in_ok-patterns.ensures.ok in
     IfOk-weaker c.from_patterns.result _ _
     (λ a held.
-    let K : MatchKind → Type 0 = λ k. IsHeld k (registered_texts c.deref.result.now) a in
-    let P : List (Bor (List ℕ) × g.row.V.Denot) → Type 0 = λ ps. IsHeld c.args.self (registered_texts ps) a in
+    let K : MatchKind → Type 0 = λ k. IsHeld k (registered_texts c.deref.result.now) a.parts in
+    let P : List (Bor (List ℕ) × g.row.V.Denot) → Type 0 = λ ps. IsHeld c.args.self (registered_texts ps) a.parts in
     (c.into_iter.result, c.into_iter.ensures.into_iter_gives, (r.0, r.1, r.2, subst P (c.deref.ensures.value ∙ r.3) (subst K c.self.view_is held))))
     c.from_patterns.ensures.ok
 

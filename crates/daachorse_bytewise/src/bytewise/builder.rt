@@ -100,6 +100,7 @@ impl DoubleArrayAhoCorasickBuilder {
         ensures ok { IfOk result (λ a. (it : P.IntoIter) × P.into_iter_gives patterns it
             × WholeRun P.IntoIter.next_gives it (λ p. IsBuiltOf V.try_from_gives self (map (λ t. t.now) p.items) a.parts)) }
         ensures kind { IfOk result (λ a. a.parts.kind ≡ self) }
+        ensures depths { IfOk result (λ a. a.depths ≡ []) }
         ensures err { IfErr result (λ e. IsOutOfMemory e ⊎ ((it : P.IntoIter) × P.into_iter_gives patterns it
             × WholeRun P.IntoIter.next_gives it (λ p. IsBuildRefusal V.try_from_gives self (map (λ t. t.now) p.items) e))) }
     {
@@ -129,6 +130,7 @@ impl DoubleArrayAhoCorasickBuilder {
         ensures ok { IfOk result (λ a. (it : P.IntoIter) × P.into_iter_gives patvals it
             × WholeRun P.IntoIter.next_gives it (λ p. (w : List ℕ) → content a.parts w ≡ dictionary self (registered p.items) w)) }
         ensures kind { IfOk result (λ a. a.parts.kind ≡ self) }
+        ensures depths { IfOk result (λ a. a.depths ≡ []) }
         ensures err { IfErr result (λ e. IsOutOfMemory e ⊎ ((it : P.IntoIter) × P.into_iter_gives patvals it
             × WholeRun P.IntoIter.next_gives it (λ p. IsRefusalOf self (registered p.items) e))) }
     {
@@ -165,6 +167,7 @@ where
     V::Error: Drop,
     ensures ok { IfOk result (λ a. IsBuiltOf V.try_from_gives kind (map (λ t. t.now) texts.now) a.parts) }
     ensures kind { IfOk result (λ a. a.parts.kind ≡ kind) }
+    ensures depths { IfOk result (λ a. a.depths ≡ []) }
     ensures err { IfErr result (IsBuildRefusal V.try_from_gives kind (map (λ t. t.now) texts.now)) }
 {
     let patterns = indexed(alloc, texts)?;
@@ -200,6 +203,7 @@ fn from_patterns<V: Copy, A: Allocator + Copy>(
 ) -> Result<DoubleArrayAhoCorasick<V, A>>
     ensures ok { IfOk result (λ a. (w : List ℕ) → content a.parts w ≡ dictionary kind (registered patterns.now) w) }
     ensures kind { IfOk result (λ a. a.parts.kind ≡ kind) }
+    ensures depths { IfOk result (λ a. a.depths ≡ []) }
     ensures err { IfErr result (IsRefusalOf kind (registered patterns.now)) }
 {
     let mut builder = NfaBuilder::new(alloc, kind)?;
@@ -243,6 +247,7 @@ fn finish<V: Copy, A: Allocator + Copy>(
     requires fits { length (states_of builder) ≤ 4294967296 }
     ensures ok { IfOk result (λ a. (rs : List (List ℕ × V)) → Registered nat_cmp (λ b. b) byte_width builder rs → (w : List ℕ) → content a.parts w ≡ dictionary kind rs w) }
     ensures kind { IfOk result (λ a. a.parts.kind ≡ kind) }
+    ensures depths { IfOk result (λ a. a.depths ≡ []) }
     ensures err { IfErr result (λ e. (rs : List (List ℕ × V)) → Registered nat_cmp (λ b. b) byte_width builder rs → IsRefusal ⊥ NumElements (HasMoreProperPrefixes (dictionary kind rs) 16777214) e) }
 {
     let order = build_links(alloc, kind, &mut builder)?;

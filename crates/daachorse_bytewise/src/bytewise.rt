@@ -81,6 +81,7 @@ impl<V: Copy, A: Allocator + Copy> DoubleArrayAhoCorasick<V, A> {
         ensures ok { IfOk result (λ a. (it : P.IntoIter) × P.into_iter_gives patterns it
             × WholeRun P.IntoIter.next_gives it (λ p. IsBuiltOf V.try_from_gives Standard (map (λ t. t.now) p.items) a.parts)) }
         ensures kind { IfOk result (λ a. a.parts.kind ≡ Standard) }
+        ensures depths { IfOk result (λ a. a.depths ≡ []) }
         ensures err { IfErr result (λ e. IsOutOfMemory e ⊎ ((it : P.IntoIter) × P.into_iter_gives patterns it
             × WholeRun P.IntoIter.next_gives it (λ p. IsBuildRefusal V.try_from_gives Standard (map (λ t. t.now) p.items) e))) }
     {
@@ -105,6 +106,7 @@ impl<V: Copy, A: Allocator + Copy> DoubleArrayAhoCorasick<V, A> {
         ensures ok { IfOk result (λ a. (it : P.IntoIter) × P.into_iter_gives patvals it
             × WholeRun P.IntoIter.next_gives it (λ p. (w : List ℕ) → content a.parts w ≡ dictionary Standard (registered p.items) w)) }
         ensures kind { IfOk result (λ a. a.parts.kind ≡ Standard) }
+        ensures depths { IfOk result (λ a. a.depths ≡ []) }
         ensures err { IfErr result (λ e. IsOutOfMemory e ⊎ ((it : P.IntoIter) × P.into_iter_gives patvals it
             × WholeRun P.IntoIter.next_gives it (λ p. IsRefusalOf Standard (registered p.items) e))) }
     {

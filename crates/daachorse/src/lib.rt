@@ -9,11 +9,13 @@
 //! of each call that begins a search names the whole list.
 #![tactic(auto)]
 
-pub mod charwise;
-
 pub use daachorse_build::{edge_map, nfa_builder};
 pub use daachorse_bytewise::bytewise;
 pub use daachorse_bytewise::bytewise::{DoubleArrayAhoCorasick, DoubleArrayAhoCorasickBuilder};
+pub use daachorse_charwise::charwise;
+pub use daachorse_charwise::charwise::{
+    CharwiseDoubleArrayAhoCorasick, CharwiseDoubleArrayAhoCorasickBuilder,
+};
 pub use daachorse_core::errors::Result;
 pub use daachorse_core::{
     DEAD_STATE_IDX, Empty, Match, MatchKind, Output, ROOT_STATE_IDX, errors, turns, utils,

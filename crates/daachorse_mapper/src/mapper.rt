@@ -202,13 +202,19 @@ fn rank<A: Allocator>(alloc: A, freqs: &[u32]) -> Result<Vec<(usize, u32), A>>
     Ok(ranked)
 }
 
-/// The indexes of frequency above 0 with their frequencies, by index.
+/// The indexes of frequency above 0 with their frequencies, by index. Room is made as they come, and
+/// not by an estimate, so that each refused growth is an error.
 fn used<A: Allocator>(alloc: A, freqs: &[u32]) -> Result<Vec<(usize, u32), A>>
     ensures used { IfOk result (λ v. v.items ≡ used_in freqs.now) }
     ensures err { IfErr result IsOutOfMemory }
 {
-    let indexed = freqs.iter().copied().enumerate();
-    Ok(indexed.filter(|&(_, freq)| freq > 0).collect(alloc)?)
+    let mut used = Vec::new(alloc);
+    for (index, &freq) in freqs.iter().enumerate() {
+        if freq > 0 {
+            used.push((index, freq))?;
+        }
+    }
+    Ok(used)
 }
 
 /// A table of so many entries, with the rank at each index that is ranked.

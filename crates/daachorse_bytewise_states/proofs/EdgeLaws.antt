@@ -6,8 +6,8 @@ use Rattle.daachorse_model.specs.Kinds.{is_leftmost}
 use Rattle.daachorse_model.specs.Paths.{Leads}
 use Rattle.daachorse_model.specs.Units.{byte_width}
 use Rattle.daachorse_machine.proofs.ChildLaws.{child_at-from, child_at-inside, child_at-some}
-use Rattle.daachorse_machine.proofs.CountLaws.{shorter-counted}
 use Rattle.daachorse_listing.specs.Edges.{IsTree, TellChildren}
+use Rattle.daachorse_listing.proofs.MachineTrees.{machine_tree}
 use Rattle.daachorse_bytewise_states.specs.Parts.{Parts, base_of, check_of, child, child_by, count, machine}
 use Rattle.daachorse_bytewise_states.specs.Valid.{IsValid}
 use Rattle.daachorse_bytewise_states.specs.Edges.{nonzero, group_of, edge_of}
@@ -23,12 +23,7 @@ nonzero-none (suc b) e = absurd (cc)
 
 module _ {V : Type 0} (p : Parts V) (valid : IsValid p) where
   pub valid_tree : p.num_states < 4294967296 → IsTree (child p) (count p) 256
-  valid_tree few = record {
-    some = valid.some;
-    inside = (valid_machine p valid).inside;
-    one_path = valid.right.one_path;
-    shallow = λ i w e. (let less : length w < p.num_states = shorter-counted (child p) p.num_states valid.counted w i e in omega (arith, less, few));
-  }
+  valid_tree few = machine_tree byte_width (machine p) (is_leftmost p.kind) (count p) 256 p.num_states (valid_machine p valid) valid.counted few
 
   pub valid_tells : TellChildren (child p) (group_of p) (edge_of p) (count p)
   valid_tells = record {

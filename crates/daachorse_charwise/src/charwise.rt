@@ -3,7 +3,7 @@
 //! The layers above may rely on a build holding just the dictionary of its patterns, and on each
 //! search giving the whole list of matches that the definitions give for that dictionary.
 
-ghost use Rattle.std.specs.Prelude.{◌≡◌, ◌≢◌, ◌⊎◌, [], IfOk, IfErr};
+ghost use Rattle.std.specs.Prelude.{◌≡◌, ◌≢◌, ◌⊎◌, [], IfOk, IfErr, OnOk, OnErr};
 ghost use Rattle.std.specs.Iterator.{IsFinite};
 ghost use Rattle.std.specs.Iterator.Runs.{WholeRun};
 ghost use Rattle.std.specs.Str.{chars};
@@ -14,6 +14,7 @@ ghost use Rattle.daachorse_model.specs.Leftmost.{leftmost};
 ghost use Rattle.daachorse_model.specs.Matches.{no_suffix, overlapping, standard};
 ghost use Rattle.daachorse_model.specs.Prefixes.{HasPrefixes};
 ghost use Rattle.daachorse_search.specs.Searches.{all_found, first_found, standard_found};
+ghost use Rattle.daachorse_charwise.specs.Automata.{HasDepths};
 ghost use Rattle.daachorse_charwise.specs.Building.{IsBuildRefusal, IsBuiltOf, IsHeld, IsRefusalOf, registered_texts, spelled};
 ghost use Rattle.daachorse_charwise_states.specs.Parts.{content, count};
 
@@ -82,6 +83,7 @@ impl<V: Copy, A: Allocator + Copy> CharwiseDoubleArrayAhoCorasick<V, A> {
         ensures ok { IfOk result (λ a. (it : P.IntoIter) × P.into_iter_gives patterns it
             × WholeRun P.IntoIter.next_gives it (λ p. IsBuiltOf V.try_from_gives Standard (spelled p.items) a.parts)) }
         ensures kind { IfOk result (λ a. a.parts.kind ≡ Standard) }
+        ensures depths { IfOk result (λ a. a.depths ≡ []) }
         ensures err { IfErr result (λ e. IsOutOfMemory e ⊎ ((it : P.IntoIter) × P.into_iter_gives patterns it
             × WholeRun P.IntoIter.next_gives it (λ p. IsBuildRefusal V.try_from_gives Standard (spelled p.items) e))) }
     {
@@ -106,6 +108,7 @@ impl<V: Copy, A: Allocator + Copy> CharwiseDoubleArrayAhoCorasick<V, A> {
         ensures ok { IfOk result (λ a. (it : P.IntoIter) × P.into_iter_gives patvals it
             × WholeRun P.IntoIter.next_gives it (λ p. IsHeld Standard (registered_texts p.items) a.parts)) }
         ensures kind { IfOk result (λ a. a.parts.kind ≡ Standard) }
+        ensures depths { IfOk result (λ a. a.depths ≡ []) }
         ensures err { IfErr result (λ e. IsOutOfMemory e ⊎ ((it : P.IntoIter) × P.into_iter_gives patvals it
             × WholeRun P.IntoIter.next_gives it (λ p. IsRefusalOf Standard (registered_texts p.items) e))) }
     {
@@ -123,6 +126,24 @@ impl<V: Copy, A: Allocator + Copy> CharwiseDoubleArrayAhoCorasick<V, A> {
             states,
             depths: Vec::new(alloc),
         }
+    }
+
+    /// Computes the depths of all elements, in characters, and keeps them, so that steppers can tell
+    /// the depths of their states. After a refusal the automaton is as it was.
+    ///
+    /// # Errors
+    ///
+    /// An allocation failed.
+    pub fn cache_depths(&mut self) -> Result<()>
+        requires { self.old.parts.kind ≡ Standard }
+        ensures parts { self.new.parts ≡ self.old.parts }
+        ensures ok { OnOk result (HasDepths self.new.parts self.new.depths) }
+        ensures unchanged { OnErr result (self.new ≡ self.old) }
+        ensures err { IfErr result IsOutOfMemory }
+    {
+        let depths = self.states.depths(*self.depths.allocator())?;
+        self.depths = depths;
+        Ok(())
     }
 
     /// An automaton that keeps the same, in memory of its own.

@@ -19,7 +19,7 @@ use Rattle.daachorse_charwise_states.specs.Valid.{IsValid, has_code}
 pub child_by_code : (es : List State) (coding : Coding) (i u c : ℕ) → code_of coding u ≡ Some c → child_of es coding i u ≡ child_among es i c
 child_by_code es coding i u c is = ap (λ o. option_and_then (λ k. child_among es i k) o) is
 
-entry_some : (o : Option ℕ) (k : ℕ) → entry_code o ≡ Some k → (n : ℕ) × (o ≡ Some n)
+pub entry_some : (o : Option ℕ) (k : ℕ) → entry_code o ≡ Some k → (n : ℕ) × (o ≡ Some n)
 entry_some None k e = absurd (cc)
 entry_some (Some n) k e = (n, refl)
 

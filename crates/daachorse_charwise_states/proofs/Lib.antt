@@ -1,6 +1,8 @@
 pub mod CharLaws
+pub mod CharacterLaws
 pub mod Codes
 pub mod DeadLaws
+pub mod EdgeLaws
 pub mod EmptyLaws
 pub mod PackedTrie
 pub mod PackedValid

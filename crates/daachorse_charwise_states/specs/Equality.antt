@@ -6,7 +6,6 @@ use Rattle.std.specs.Ordering.{on, eq_of_both}
 use Rattle.std.specs.Hash as fed
 use Rattle.std.specs.Hash.{HashWrites, Alike, on_Alike, and-Alike, items_Alike, same_Alike}
 use Rattle.std.proofs.lemmas.Bool.Decides.{Decides-eqb}
-use Rattle.daachorse_model.specs.declared.MatchKind.{MatchKind}
 use Rattle.daachorse_model.specs.contracts.MatchKindPartialEq.TheImpl.{ghosts as kinds}
 use Rattle.daachorse_model.specs.contracts.MatchKindPartialEq.TheImpl.Laws.{laws-law as kinds_per}
 use Rattle.daachorse_model.specs.contracts.MatchKindEq.TheImpl.Laws.{laws-law as kinds_equiv}

@@ -1,3 +1,4 @@
+pub mod Edges
 pub mod Elements
 pub mod Equality
 pub mod Packing

@@ -42,6 +42,9 @@ module _ {V : Type 0} (p : Parts V) where
   abbrev pub base_of : ℕ → ℕ
   base_of i = base_in (slice_index_or p.states i vacant)
 
+  abbrev pub check_of : ℕ → ℕ
+  check_of i = check_in (slice_index_or p.states i vacant)
+
   abbrev pub fail_of : ℕ → ℕ
   fail_of i = fail_in (slice_index_or p.states i vacant)
 

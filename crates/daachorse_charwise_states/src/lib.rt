@@ -5,6 +5,7 @@
 //! keeping each of its parts, and on the law of its written form.
 #![tactic(auto)]
 
+pub mod edges;
 mod packing;
 pub mod state;
 pub mod states;

@@ -3,8 +3,9 @@
 //! The layers above may rely on the parts being valid, and on what is built holding just the
 //! dictionary that it was built for.
 
-ghost use Rattle.std.specs.Prelude.{◌≡◌, ◌≢◌, ◌≤◌, ◌^◌, ℕ, List, IfOk, IfErr};
+ghost use Rattle.std.specs.Prelude.{◌≡◌, ◌≢◌, ◌<◌, ◌≤◌, ◌^◌, ℕ, List, IfOk, IfErr};
 ghost use Rattle.daachorse_core.specs.declared.errors.Limit.TheVariants.{NumElements};
+ghost use Rattle.daachorse_core.specs.Outputs.{number};
 ghost use Rattle.daachorse_core.specs.Refusals.{IsOutOfMemory, IsRefusal};
 ghost use Rattle.daachorse_model.specs.declared.MatchKind.TheVariants.{Standard};
 ghost use Rattle.daachorse_model.specs.Dictionary.{Dictionary};
@@ -13,7 +14,7 @@ ghost use Rattle.daachorse_model.specs.Paths.{is_reached};
 ghost use Rattle.daachorse_model.specs.Prefixes.{HasPrefixes, PassesAt};
 ghost use Rattle.daachorse_mapper.specs.Codings.{IsCoding};
 ghost use Rattle.daachorse_charwise_states.specs.Packing.{AreCoded, IsBuiltFor, NeedsManyBlocks};
-ghost use Rattle.daachorse_charwise_states.specs.Parts.{child, content, count};
+ghost use Rattle.daachorse_charwise_states.specs.Parts.{base_of, check_of, child, content, count};
 
 #[cfg(test)]
 mod tests;
@@ -28,6 +29,7 @@ use daachorse_mapper::mapper::CodeMapper;
 use std::alloc::{Allocator, Global};
 use std::hash::{Hash, Hasher};
 use std::marker::Model;
+use std::num::NonZeroU32;
 
 /// The states and the outputs of an automaton over characters, with values of type `V`.
 #[derive(Drop)]
@@ -36,7 +38,7 @@ pub struct States<V: Copy, A: Allocator = Global> {
     states: Vec<State, A>,
     mapper: CodeMapper<A>,
     outputs: Vec<Output<V>, A>,
-    num_states: u32,
+    pub(crate) num_states: u32,
 }
 
 impl<V: Copy, A: Allocator> Model for States<V, A> {
@@ -115,6 +117,23 @@ impl<V: Copy, A: Allocator> States<V, A> {
         ensures { result ≡ count self.now }
     {
         self.states.len()
+    }
+
+    /// The base of an element; `None` also past the last.
+    #[inline(always)]
+    pub(crate) fn base_at(&self, element: usize) -> Option<NonZeroU32>
+        ensures { number result ≡ base_of self.now element }
+    {
+        self.states.get(element)?.base()
+    }
+
+    /// The check of an element.
+    #[inline(always)]
+    pub(crate) fn check_at(&self, element: usize) -> usize
+        requires { element < count self.now }
+        ensures { result ≡ check_of self.now element }
+    {
+        self.states[element].check() as usize
     }
 
     /// How many texts begin a pattern, the empty one among them.

@@ -6,3 +6,4 @@ pub mod WalkLaws
 pub mod DepthLaws
 pub mod ListingLaws
 pub mod PatternLaws
+pub mod MachineTrees

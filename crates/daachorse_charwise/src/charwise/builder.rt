@@ -5,7 +5,7 @@
 //! all indexes are converted first, then the patterns are added in order, and the limits on the
 //! outputs and on the elements are tested last; the first refusal ends the build.
 
-ghost use Rattle.std.specs.Prelude.{◌≡◌, ◌⊎◌, IfOk, IfErr};
+ghost use Rattle.std.specs.Prelude.{◌≡◌, ◌⊎◌, [], IfOk, IfErr};
 ghost use Rattle.std.specs.Iterator.{IsFinite};
 ghost use Rattle.std.specs.Iterator.Runs.{WholeRun};
 ghost use Rattle.daachorse_core.specs.Refusals.{IsOutOfMemory};
@@ -89,6 +89,7 @@ impl CharwiseDoubleArrayAhoCorasickBuilder {
         ensures ok { IfOk result (λ a. (it : P.IntoIter) × P.into_iter_gives patterns it
             × WholeRun P.IntoIter.next_gives it (λ p. IsBuiltOf V.try_from_gives self (spelled p.items) a.parts)) }
         ensures kind { IfOk result (λ a. a.parts.kind ≡ self) }
+        ensures depths { IfOk result (λ a. a.depths ≡ []) }
         ensures err { IfErr result (λ e. IsOutOfMemory e ⊎ ((it : P.IntoIter) × P.into_iter_gives patterns it
             × WholeRun P.IntoIter.next_gives it (λ p. IsBuildRefusal V.try_from_gives self (spelled p.items) e))) }
     {
@@ -119,6 +120,7 @@ impl CharwiseDoubleArrayAhoCorasickBuilder {
         ensures ok { IfOk result (λ a. (it : P.IntoIter) × P.into_iter_gives patvals it
             × WholeRun P.IntoIter.next_gives it (λ p. IsHeld self (registered_texts p.items) a.parts)) }
         ensures kind { IfOk result (λ a. a.parts.kind ≡ self) }
+        ensures depths { IfOk result (λ a. a.depths ≡ []) }
         ensures err { IfErr result (λ e. IsOutOfMemory e ⊎ ((it : P.IntoIter) × P.into_iter_gives patvals it
             × WholeRun P.IntoIter.next_gives it (λ p. IsRefusalOf self (registered_texts p.items) e))) }
     {
@@ -137,6 +139,7 @@ where
     V::Error: Drop,
     ensures ok { IfOk result (λ a. IsBuiltOf V.try_from_gives kind (spelled texts.now) a.parts) }
     ensures kind { IfOk result (λ a. a.parts.kind ≡ kind) }
+    ensures depths { IfOk result (λ a. a.depths ≡ []) }
     ensures err { IfErr result (IsBuildRefusal V.try_from_gives kind (spelled texts.now)) }
 {
     let patterns = indexed(alloc, texts)?;
@@ -151,6 +154,7 @@ fn from_patterns<V: Copy, A: Allocator + Copy>(
 ) -> Result<CharwiseDoubleArrayAhoCorasick<V, A>>
     ensures ok { IfOk result (λ a. IsHeld kind (registered_texts patterns.now) a.parts) }
     ensures kind { IfOk result (λ a. a.parts.kind ≡ kind) }
+    ensures depths { IfOk result (λ a. a.depths ≡ []) }
     ensures err { IfErr result (IsRefusalOf kind (registered_texts patterns.now)) }
 {
     let freqs = frequencies(alloc, patterns)?;

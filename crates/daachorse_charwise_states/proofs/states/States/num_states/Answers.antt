@@ -1,5 +1,4 @@
 -- The texts that lead to an element are the prefixes of the keys.
-use Rattle.std.proofs.Common.{ap}
 use Rattle.daachorse_model.specs.Units.{char_width}
 use Rattle.daachorse_machine.proofs.CountLaws.{counted-prefixes}
 use Rattle.daachorse_charwise_states.proofs.CharLaws.{valid_machine}

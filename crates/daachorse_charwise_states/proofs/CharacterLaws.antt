@@ -1,0 +1,89 @@
+-- Going over a mapper's table one gets the character of each code, since no two characters have the same.
+use Rattle.std.proofs.Common.{◌≡◌, ◌≢◌, ℕ, zero, suc, ◌<◌, ◌==◌, Bool, true, false, List, cond, length, get_or, set, replicate, slice_index, slice_get, Option, Some, None, refl, sym, ap, ◌∙◌, subst, arith}
+use Rattle.std.proofs.lemmas.Option.{same_Some, slice_get-get_or}
+use Rattle.std.proofs.lemmas.List.{get_or-set_same, get_or-set_other, length-set, length-replicate}
+use Rattle.daachorse_mapper.specs.Codings.{Coding, IsCoding, code_of, entry_code}
+use Rattle.daachorse_charwise_states.specs.Edges.{AreCharacters}
+
+-- what an entry of the table says
+module _ (coding : Coding) (table : List ℕ) (same : table ≡ coding.table) (u : ℕ) (less : u < length table) where
+  entry_at : slice_get coding.table u ≡ Some (slice_index table u)
+  entry_at = ap (λ xs. slice_get xs u) (sym same) ∙ slice_get-get_or table u 0 less
+
+  pub code_read : slice_index table u ≢ 4294967295 → code_of coding u ≡ Some (slice_index table u)
+  code_read other = ap entry_code entry_at ∙ (let test : (slice_index table u == 4294967295) ≡ false = grind (arith, other) in ap (λ b. cond {A = Option ℕ} b None (Some (slice_index table u))) test)
+
+  pub none_read : slice_index table u ≡ 4294967295 → code_of coding u ≡ None
+  none_read here = ap entry_code entry_at ∙ (let test : (slice_index table u == 4294967295) ≡ true = grind (arith, here) in ap (λ b. cond {A = Option ℕ} b None (Some (slice_index table u))) test)
+
+module _ (coding : Coding) (is : IsCoding coding) where
+  -- one more code point, which has a code
+  pub character_more : (u k : ℕ) (old : List ℕ) → code_of coding u ≡ Some k → AreCharacters coding u old → AreCharacters coding (suc u) (set old k (suc u))
+  character_more u k old code so = record {
+    size = length-set old k (suc u) ∙ so.size;
+    from_code = λ v j less e. at_code v j less e (v == u) refl;
+    to_code = λ v j e. at_place v j e (j == k) refl;
+  }
+    where
+      low : k < length old
+      low = let below : k < coding.alphabet_size = is.below u k code in omega (arith, below, so.size)
+
+      same : get_or (set old k (suc u)) k 0 ≡ suc u
+      same = get_or-set_same old k (suc u) 0 low
+
+      at_code : (v j : ℕ) → v < suc u → code_of coding v ≡ Some j → (b : Bool) → (v == u) ≡ b → get_or (set old k (suc u)) j 0 ≡ suc v
+      at_code v j less e true test =
+          let here : v ≡ u = grind (arith, test) in
+          let place : j ≡ k = same_Some j k (sym e ∙ (ap (code_of coding) here ∙ code)) in
+          ap (λ i. get_or (set old k (suc u)) i 0) place ∙ (same ∙ ap suc (sym here))
+      at_code v j less e false test =
+          let below : v < u = grind (arith, less, test) in
+          let other : j ≢ k = λ place. (let here : v ≡ u = is.injective v u k (e ∙ ap Some place) code in omega (arith, here, below)) in
+          get_or-set_other old k j (suc u) 0 other ∙ so.from_code v j below e
+
+      at_place : (v j : ℕ) → get_or (set old k (suc u)) j 0 ≡ suc v → (b : Bool) → (j == k) ≡ b → code_of coding v ≡ Some j
+      at_place v j e true test =
+          let place : j ≡ k = grind (arith, test) in
+          let moved : get_or (set old k (suc u)) k 0 ≡ suc v = ap (λ i. get_or (set old k (suc u)) i 0) (sym place) ∙ e in
+          let here : u ≡ v = omega (arith, moved, same) in
+          ap (code_of coding) (sym here) ∙ (code ∙ ap Some (sym place))
+      at_place v j e false test =
+          let other : j ≢ k = grind (arith, test) in
+          so.to_code v j (sym (get_or-set_other old k j (suc u) 0 other) ∙ e)
+
+  -- one more code point, which has none
+  pub character_none : (u : ℕ) (old : List ℕ) → code_of coding u ≡ None → AreCharacters coding u old → AreCharacters coding (suc u) old
+  character_none u old none so = record {
+    size = so.size;
+    from_code = λ v j less e. at_code v j less e (v == u) refl;
+    to_code = so.to_code;
+  }
+    where
+      at_code : (v j : ℕ) → v < suc u → code_of coding v ≡ Some j → (b : Bool) → (v == u) ≡ b → slice_index old j ≡ suc v
+      at_code v j less e true test =
+          let here : v ≡ u = grind (arith, test) in
+          let both : None ≡ Some j = sym none ∙ (ap (code_of coding) (sym here) ∙ e) in absurd (cc)
+      at_code v j less e false test = so.from_code v j (grind (arith, less, test)) e
+
+  -- what is written at the code of the next code point
+  pub character_written : (u n k : ℕ) (old new : List ℕ) → n ≡ suc u → code_of coding u ≡ Some k → new ≡ set old k n → AreCharacters coding u old → AreCharacters coding n new
+  character_written u n k old new next code written so =
+      let P : ℕ → Type 0 = λ m. AreCharacters coding m (set old k m) in
+      let Q : List ℕ → Type 0 = λ l. AreCharacters coding n l in
+      subst Q (sym written) (subst P (sym next) (character_more u k old code so))
+
+  pub character_left : (u n : ℕ) (old : List ℕ) → n ≡ suc u → code_of coding u ≡ None → AreCharacters coding u old → AreCharacters coding n old
+  character_left u n old next none so = let P : ℕ → Type 0 = λ m. AreCharacters coding m old in subst P (sym next) (character_none u old none so)
+
+-- before the first code point
+all_zero : (n k : ℕ) → get_or {A = ℕ} (replicate n 0) k 0 ≡ 0
+all_zero zero k = refl
+all_zero (suc n) zero = refl
+all_zero (suc n) (suc k) = all_zero n k
+
+pub characters_none : (coding : Coding) → AreCharacters coding 0 (replicate coding.alphabet_size 0)
+characters_none coding = record {
+  size = length-replicate coding.alphabet_size 0;
+  from_code = λ u k less e. absurd (omega (arith, less));
+  to_code = λ u k e. absurd (let none : get_or (replicate coding.alphabet_size 0) k 0 ≡ 0 = all_zero coding.alphabet_size k in omega (arith, none, e));
+}

@@ -1,0 +1,139 @@
+//! The elements and their children, as a listing goes over them.
+//!
+//! The layers above may rely on the table of the depths, which [`States::depths`] makes.
+
+ghost use Rattle.std.specs.Prelude.{◌≡◌, ◌<◌, length, IfOk, IfErr};
+ghost use Rattle.daachorse_core.specs.Refusals.{IsOutOfMemory};
+ghost use Rattle.daachorse_listing.specs.Depths.{IsDepthTable};
+ghost use Rattle.daachorse_mapper.specs.Codings.{IsCoding};
+ghost use Rattle.daachorse_charwise_states.specs.Edges.{AreCharacters, character_of};
+ghost use Rattle.daachorse_charwise_states.specs.Parts.{child, count};
+
+use crate::states::States;
+use daachorse_core::errors::Result;
+use daachorse_listing::depths::depths;
+use daachorse_listing::edges::Edges;
+use daachorse_mapper::mapper::{CodeMapper, INVALID_CODE};
+use std::alloc::{Allocator, Global};
+use std::marker::Model;
+
+/// States with the character of each code.
+#[derive(Drop)]
+pub(crate) struct Elements<'a, V: Copy, A: Allocator = Global> {
+    states: &'a States<V, A>,
+    // One more than the code point of each code; 0 where there is none.
+    characters: Vec<usize, A>,
+}
+
+impl<'a, V: Copy, A: Allocator> Model for Elements<'a, V, A> {
+    ghost use Rattle.std.specs.Prelude.{length};
+    ghost use Rattle.daachorse_charwise_states.specs.Edges.{AreCharacters, Lettered};
+
+    ghost Value = { Lettered V };
+
+    ghost view = { λ s. record { parts = s.states.now; characters = s.characters.items } };
+
+    ghost invariant = { λ s. AreCharacters s.states.now.coding (length s.states.now.coding.table) s.characters.items };
+}
+
+impl<'a, V: Copy, A: Allocator + Copy> Elements<'a, V, A> {
+    /// The elements of these states.
+    ///
+    /// # Errors
+    ///
+    /// An allocation failed.
+    pub(crate) fn new(alloc: A, states: &'a States<V, A>) -> Result<Self>
+        ensures ok { IfOk result (λ elements. elements.parts ≡ states.entry.now) }
+        ensures err { IfErr result IsOutOfMemory }
+    {
+        // A field is read for what the parts keep.
+        let _num_states = states.num_states;
+        Ok(Elements {
+            states,
+            characters: characters(alloc, states.mapper())?,
+        })
+    }
+}
+
+impl<'a, V: Copy, A: Allocator> Elements<'a, V, A> {
+    /// The code point of the character of a code, if there is one.
+    fn character(&self, code: usize) -> Option<usize>
+        ensures { result ≡ character_of self.now code }
+    {
+        let entry = *self.characters.get(code)?;
+        if entry == 0 {
+            return None;
+        }
+        Some(entry - 1)
+    }
+}
+
+/// The children of an element are a group of their own, whose number is the element's.
+impl<'a, V: Copy, A: Allocator> Edges for Elements<'a, V, A> {
+    ghost use Rattle.std.specs.Prelude.{length};
+    ghost use Rattle.daachorse_charwise_states.specs.Edges.{edge_of, group_of};
+    ghost use Rattle.daachorse_charwise_states.specs.Parts.{child, count};
+
+    ghost count = { λ a. count a.parts };
+
+    ghost units = { λ a. length a.parts.coding.table };
+
+    ghost child = { λ a. child a.parts };
+
+    ghost group = { group_of };
+
+    ghost edge = { edge_of };
+
+    fn num_elements(&self) -> usize {
+        self.states.num_elements()
+    }
+
+    fn num_units(&self) -> usize {
+        self.states.mapper().table().len()
+    }
+
+    fn group(&self, element: usize) -> Option<usize> {
+        self.states.base_at(element)?;
+        Some(element)
+    }
+
+    fn edge(&self, element: usize) -> Option<(usize, usize)> {
+        let parent = self.states.check_at(element);
+        let base = self.states.base_at(parent)?;
+        let character = self.character(base.get() as usize ^ element)?;
+        Some((parent, character))
+    }
+}
+
+impl<V: Copy, A: Allocator + Copy> States<V, A> {
+    /// Of each element how many characters lead to it from the root; 4,294,967,295 of one that no
+    /// text leads to.
+    ///
+    /// # Errors
+    ///
+    /// An allocation failed.
+    pub fn depths(&self, alloc: A) -> Result<Vec<u32, A>>
+        ensures ok { IfOk result (λ v. IsDepthTable (child self.now) (length self.now.coding.table) (count self.now) v.items) }
+        ensures err { IfErr result IsOutOfMemory }
+    {
+        // A field is read for what the parts keep.
+        let _num_states = self.num_states;
+        let elements = Elements::new(alloc, self)?;
+        depths(alloc, &elements)
+    }
+}
+
+/// The character of each code of a mapper: one more than its code point, or 0 if there is none.
+fn characters<A: Allocator + Copy>(alloc: A, mapper: &CodeMapper<A>) -> Result<Vec<usize, A>>
+    requires { IsCoding mapper.now }
+    ensures ok { IfOk result (λ v. AreCharacters mapper.now (length mapper.now.table) v.items) }
+    ensures err { IfErr result IsOutOfMemory }
+{
+    let mut characters = vec![in alloc; 0; mapper.alphabet_size() as usize]?;
+    for (code_point, &code) in mapper.table().iter().enumerate() {
+        if code != INVALID_CODE {
+            characters[code as usize] = code_point + 1;
+        }
+    }
+    Ok(characters)
+}

@@ -1,11 +1,9 @@
 -- The next element is entered where nothing is left of the last; a value is given with the text of its element.
-use Rattle.std.proofs.Common.{◌≡◌, ◌≢◌, ◌⊎◌, inl, inr, ℕ, ◌<◌, ◌≤◌, ◌+◌, ◌++◌, ◌∷◌, [], List, length, map, get_or, refl, sym, ap, ◌∙◌, arith, rules, subst}
+use Rattle.std.proofs.Common.{◌≡◌, ◌⊎◌, inl, inr, ◌<◌, length, refl, sym, ◌∙◌, arith, rules}
 use Rattle.std.proofs.lemmas.List.{get_or_read}
-use Rattle.daachorse_core.specs.Outputs.{value_of, parent_of}
-use Rattle.daachorse_machine.specs.Texts.{text_of}
-use Rattle.daachorse_listing.specs.Listing.{left_of}
+use Rattle.daachorse_core.specs.Outputs.{parent_of}
 use Rattle.daachorse_listing.proofs.WalkLaws.{reached-inside}
-use Rattle.daachorse_listing.proofs.PatternLaws.{left-of-rest, rest-of-all, rest-next, next-reached, next-walking, left-of-value, value-walking, given-up}
+use Rattle.daachorse_listing.proofs.PatternLaws.{left-of-rest, rest-of-all, rest-next, next-reached, next-walking, left-of-value, given-up}
 use Rattle.daachorse_listing.proofs.patterns.PatternWalkIterator.next.Goals as goal
 use Rattle.daachorse_listing.proofs.patterns.PatternWalkIterator.next.Goals.{then-self, else-self+then-self-eq0}
 

@@ -1,5 +1,5 @@
 -- While nothing is left of an element, the patterns that are left are those of the elements that were not entered.
-use Rattle.std.proofs.Common.{◌≡◌, ◌-◌, ℕ, List, length}
+use Rattle.std.proofs.Common.{◌≡◌, ◌-◌, length}
 use Rattle.daachorse_listing.specs.Listing.{IsWalking, left_of}
 use Rattle.daachorse_listing.proofs.patterns.PatternWalkIterator.next.Given as goal
 

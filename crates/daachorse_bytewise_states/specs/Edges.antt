@@ -1,6 +1,6 @@
 -- The edges of a double array over bytes: an element is in the group of the base from which its check leads to it.
-use Rattle.std.specs.Prelude.{ℕ, zero, suc, ◌==◌, bit_xor, cond, Option, Some, None}
-use Rattle.daachorse_bytewise_states.specs.Parts.{Parts, base_of, check_of, fail_of, output_of}
+use Rattle.std.specs.Prelude.{ℕ, zero, suc, bit_xor, Option, Some, None}
+use Rattle.daachorse_bytewise_states.specs.Parts.{Parts, base_of, check_of}
 
 -- the number, if it is not 0
 abbrev pub nonzero : ℕ → Option ℕ
@@ -15,7 +15,3 @@ module _ {V : Type 0} (p : Parts V) where
   -- an element's group, and its byte
   abbrev pub edge_of : ℕ → Option (ℕ × ℕ)
   edge_of j = Some (bit_xor j (check_of p j), check_of p j)
-
-  -- the position where an element's own outputs end: that of its link, and 0 for the root and behind a dead link
-  abbrev pub own_end : ℕ → ℕ
-  own_end i = cond (i == 0) 0 (cond (fail_of p i == 1) 0 (output_of p (fail_of p i)))

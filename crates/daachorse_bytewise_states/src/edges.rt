@@ -52,7 +52,8 @@ impl<V: Copy, A: Allocator> Edges for States<V, A> {
 }
 
 impl<V: Copy, A: Allocator> Outputs<V> for States<V, A> {
-    ghost use Rattle.daachorse_bytewise_states.specs.Edges.{own_end};
+    ghost use Rattle.daachorse_listing.specs.Listing.{own_end};
+    ghost use Rattle.daachorse_bytewise_states.specs.Parts.{machine};
 
     type Unit = u8;
 
@@ -62,7 +63,7 @@ impl<V: Copy, A: Allocator> Outputs<V> for States<V, A> {
 
     ghost first = { output_of };
 
-    ghost stop = { own_end };
+    ghost stop = { λ p. own_end (machine p) };
 
     fn unit(&self, element: usize) -> u8 {
         self.check_at(element)
@@ -107,7 +108,7 @@ impl<V: Copy, A: Allocator + Copy> States<V, A> {
     /// # Errors
     ///
     /// An allocation failed.
-    pub fn pattern_iter<'a>(&'a self, alloc: A) -> Result<PatternWalk<'a, V, Self, A>>
+    pub fn pattern_iter<'a>(&'a self, alloc: A) -> Result<PatternWalk<V, &'a Self, A>>
         ensures ok { IfOk result (λ walk. IsListing (content self.entry.now) walk) }
         ensures err { IfErr result IsOutOfMemory }
     {

@@ -4,6 +4,7 @@ pub mod Codes
 pub mod DeadLaws
 pub mod EdgeLaws
 pub mod EmptyLaws
+pub mod ListingLaws
 pub mod PackedTrie
 pub mod PackedValid
 pub mod ViewLaws

@@ -1,25 +1,29 @@
 //! The elements and their children, as a listing goes over them.
 //!
-//! The layers above may rely on the table of the depths, which [`States::depths`] makes.
+//! The layers above may rely on the table of the depths, which [`States::depths`] makes, and on
+//! [`States::pattern_iter`] giving the listing of the dictionary.
 
 ghost use Rattle.std.specs.Prelude.{◌≡◌, ◌<◌, length, IfOk, IfErr};
 ghost use Rattle.daachorse_core.specs.Refusals.{IsOutOfMemory};
 ghost use Rattle.daachorse_listing.specs.Depths.{IsDepthTable};
+ghost use Rattle.daachorse_model.specs.Prefixes.{IsListing};
 ghost use Rattle.daachorse_mapper.specs.Codings.{IsCoding};
 ghost use Rattle.daachorse_charwise_states.specs.Edges.{AreCharacters, character_of};
-ghost use Rattle.daachorse_charwise_states.specs.Parts.{child, count};
+ghost use Rattle.daachorse_charwise_states.specs.Parts.{child, content, count};
 
 use crate::states::States;
 use daachorse_core::errors::Result;
+use daachorse_core::{DEAD_STATE_IDX, Output, ROOT_STATE_IDX};
 use daachorse_listing::depths::depths;
 use daachorse_listing::edges::Edges;
+use daachorse_listing::patterns::{Outputs, PatternWalk};
 use daachorse_mapper::mapper::{CodeMapper, INVALID_CODE};
 use std::alloc::{Allocator, Global};
 use std::marker::Model;
 
 /// States with the character of each code.
 #[derive(Drop)]
-pub(crate) struct Elements<'a, V: Copy, A: Allocator = Global> {
+pub struct Elements<'a, V: Copy, A: Allocator = Global> {
     states: &'a States<V, A>,
     // One more than the code point of each code; 0 where there is none.
     characters: Vec<usize, A>,
@@ -43,7 +47,8 @@ impl<'a, V: Copy, A: Allocator + Copy> Elements<'a, V, A> {
     ///
     /// An allocation failed.
     pub(crate) fn new(alloc: A, states: &'a States<V, A>) -> Result<Self>
-        ensures ok { IfOk result (λ elements. elements.parts ≡ states.entry.now) }
+        ensures parts { IfOk result (λ elements. elements.parts ≡ states.entry.now) }
+        ensures characters { IfOk result (λ elements. AreCharacters elements.parts.coding (length elements.parts.coding.table) elements.characters) }
         ensures err { IfErr result IsOutOfMemory }
     {
         // A field is read for what the parts keep.
@@ -105,6 +110,45 @@ impl<'a, V: Copy, A: Allocator> Edges for Elements<'a, V, A> {
     }
 }
 
+/// A unit is the code point of a character.
+impl<'a, V: Copy, A: Allocator> Outputs<V> for Elements<'a, V, A> {
+    ghost use Rattle.daachorse_listing.specs.Listing.{own_end};
+    ghost use Rattle.daachorse_charwise_states.specs.Parts.{machine, output_of};
+
+    type Unit = usize;
+
+    ghost number = { λ code_point. code_point };
+
+    ghost outputs = { λ a. a.parts.outputs };
+
+    ghost first = { λ a. output_of a.parts };
+
+    ghost stop = { λ a. own_end (machine a.parts) };
+
+    fn unit(&self, element: usize) -> usize {
+        match self.edge(element) {
+            Some((_parent, character)) => character,
+            None => 0,
+        }
+    }
+
+    fn own_outputs(&self, element: usize) -> (usize, usize) {
+        let first = self.states.output_at(element);
+        if element == ROOT_STATE_IDX as usize {
+            return (first, 0);
+        }
+        let link = self.states.fail_at(element);
+        if link == DEAD_STATE_IDX as usize {
+            return (first, 0);
+        }
+        (first, self.states.output_at(link))
+    }
+
+    fn output(&self, position: usize) -> Output<V> {
+        self.states.output(position)
+    }
+}
+
 impl<V: Copy, A: Allocator + Copy> States<V, A> {
     /// Of each element how many characters lead to it from the root; 4,294,967,295 of one that no
     /// text leads to.
@@ -120,6 +164,25 @@ impl<V: Copy, A: Allocator + Copy> States<V, A> {
         let _num_states = self.num_states;
         let elements = Elements::new(alloc, self)?;
         depths(alloc, &elements)
+    }
+
+    /// All patterns with their values, as code points: in the order of these, which is the order of
+    /// their bytes, and those of one pattern in order of registration.
+    ///
+    /// # Errors
+    ///
+    /// An allocation failed.
+    pub fn pattern_iter<'a>(
+        &'a self,
+        alloc: A,
+    ) -> Result<PatternWalk<V, Elements<'a, V, A>, A>>
+        ensures ok { IfOk result (λ walk. IsListing (content self.entry.now) walk) }
+        ensures err { IfErr result IsOutOfMemory }
+    {
+        // A field is read for what the parts keep.
+        let _num_states = self.num_states;
+        let elements = Elements::new(alloc, self)?;
+        PatternWalk::new(alloc, elements)
     }
 }
 

@@ -3,7 +3,7 @@
 //! The layers above may rely on the parts being valid, and on what is built holding just the
 //! dictionary that it was built for.
 
-ghost use Rattle.std.specs.Prelude.{◌≡◌, ◌≢◌, ◌<◌, ◌≤◌, ◌^◌, ℕ, List, IfOk, IfErr};
+ghost use Rattle.std.specs.Prelude.{◌≡◌, ◌≢◌, ◌<◌, ◌≤◌, ◌-◌, ◌^◌, ℕ, List, Some, length, slice_get, IfOk, IfErr};
 ghost use Rattle.daachorse_core.specs.declared.errors.Limit.TheVariants.{NumElements};
 ghost use Rattle.daachorse_core.specs.Outputs.{number};
 ghost use Rattle.daachorse_core.specs.Refusals.{IsOutOfMemory, IsRefusal};
@@ -14,7 +14,7 @@ ghost use Rattle.daachorse_model.specs.Paths.{is_reached};
 ghost use Rattle.daachorse_model.specs.Prefixes.{HasPrefixes, PassesAt};
 ghost use Rattle.daachorse_mapper.specs.Codings.{IsCoding};
 ghost use Rattle.daachorse_charwise_states.specs.Packing.{AreCoded, IsBuiltFor, NeedsManyBlocks};
-ghost use Rattle.daachorse_charwise_states.specs.Parts.{base_of, check_of, child, content, count};
+ghost use Rattle.daachorse_charwise_states.specs.Parts.{base_of, check_of, child, content, count, fail_of, output_of};
 
 #[cfg(test)]
 mod tests;
@@ -134,6 +134,36 @@ impl<V: Copy, A: Allocator> States<V, A> {
         ensures { result ≡ check_of self.now element }
     {
         self.states[element].check() as usize
+    }
+
+    /// The failure link of an element, which is an element.
+    #[inline(always)]
+    pub(crate) fn fail_at(&self, element: usize) -> usize
+        requires { element < count self.now }
+        ensures value { result ≡ fail_of self.now element }
+        ensures inside { result < count self.now }
+    {
+        self.states[element].fail() as usize
+    }
+
+    /// The position of an element's first output; 0 if it has none.
+    #[inline(always)]
+    pub(crate) fn output_at(&self, element: usize) -> usize
+        requires { element < count self.now }
+        ensures { result ≡ output_of self.now element }
+    {
+        let position = self.states[element].output_pos();
+        position.map_or(0, NonZeroU32::get) as usize
+    }
+
+    /// The output at a position.
+    #[inline(always)]
+    pub(crate) fn output(&self, position: usize) -> Output<V>
+        requires some { 0 < position }
+        requires inside { position ≤ length self.now.outputs }
+        ensures { slice_get self.now.outputs (position - 1) ≡ Some result }
+    {
+        self.outputs[position - 1]
     }
 
     /// How many texts begin a pattern, the empty one among them.

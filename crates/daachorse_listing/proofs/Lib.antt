@@ -7,3 +7,4 @@ pub mod DepthLaws
 pub mod ListingLaws
 pub mod PatternLaws
 pub mod MachineTrees
+pub mod MachineListings

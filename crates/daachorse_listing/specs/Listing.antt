@@ -4,6 +4,7 @@ use Rattle.daachorse_core.specs.declared.errors.DaachorseError.{DaachorseError}
 use Rattle.daachorse_core.specs.Refusals.{IsOutOfMemory}
 use Rattle.daachorse_core.specs.declared.outputs.Output.{Output}
 use Rattle.daachorse_core.specs.Outputs.{value_of, parent_of, ParentsFall}
+use Rattle.daachorse_machine.specs.Machines.{Machine}
 use Rattle.daachorse_machine.specs.Texts.{IsReached, text_of}
 use Rattle.daachorse_listing.specs.Edges.{IsTree, TellChildren}
 use Rattle.daachorse_listing.specs.Trees.{IsListed}
@@ -35,6 +36,10 @@ with_values w vs = map (λ v. (w, v)) vs
 -- the patterns of elements: `first` is the position of an element's first output, and `stop` that where its own end
 abbrev pub patterns_of : {V : Type 0} → (ℕ → List ℕ) → List (Output V) → (ℕ → ℕ) → (ℕ → ℕ) → List ℕ → List (List ℕ × V)
 patterns_of text outputs first stop order = flat_map (λ i. with_values (text i) (values_until outputs (stop i) (first i))) order
+
+-- the position where an element's own outputs end in a machine: that of its link, and 0 for the root and behind a dead link
+abbrev pub own_end : {V : Type 0} → Machine V → ℕ → ℕ
+own_end a i = cond (i == 0) 0 (cond (a.fail i == 1) 0 (a.output (a.fail i)))
 
 -- What a listing goes over: a tree whose n elements have outputs.
 pub record HasPatterns {V : Type 0} (child : ℕ → ℕ → Option ℕ) (group : ℕ → Option ℕ) (edge : ℕ → Option (ℕ × ℕ)) (n m : ℕ) (outputs : List (Output V)) (first : ℕ → ℕ) : Type 0 where

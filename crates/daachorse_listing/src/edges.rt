@@ -49,6 +49,34 @@ pub trait Edges {
         ensures inside { IfSome result (λ e. (e.0 < count self.now) × (e.1 < units self.now)) };
 }
 
+impl<E: Edges> Edges for &E {
+    ghost count = { λ e. E.count e.now };
+
+    ghost units = { λ e. E.units e.now };
+
+    ghost child = { λ e. E.child e.now };
+
+    ghost group = { λ e. E.group e.now };
+
+    ghost edge = { λ e. E.edge e.now };
+
+    fn num_elements(&self) -> usize {
+        (**self).num_elements()
+    }
+
+    fn num_units(&self) -> usize {
+        (**self).num_units()
+    }
+
+    fn group(&self, element: usize) -> Option<usize> {
+        (**self).group(element)
+    }
+
+    fn edge(&self, element: usize) -> Option<(usize, usize)> {
+        (**self).edge(element)
+    }
+}
+
 /// The elements of each group, the greatest unit first.
 ///
 /// # Errors

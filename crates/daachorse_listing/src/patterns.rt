@@ -3,7 +3,7 @@
 //! The layers above may rely on a walk giving each pattern with each of its values, the values in
 //! order; and on one error, and then the end, where memory is refused.
 
-ghost use Rattle.std.specs.Prelude.{◌≡◌, ◌<◌, ◌≤◌, ◌-◌, ℕ, List, Some, length, map, slice_get, IfOk, IfErr};
+ghost use Rattle.std.specs.Prelude.{◌≡◌, ◌<◌, ◌≤◌, ◌-◌, ℕ, List, [], Some, length, map, slice_get, IfOk, IfErr};
 ghost use Rattle.daachorse_core.specs.Refusals.{IsOutOfMemory};
 ghost use Rattle.daachorse_core.specs.declared.outputs.Output.{Output};
 ghost use Rattle.daachorse_machine.specs.Texts.{IsReached, text_of};
@@ -54,11 +54,35 @@ pub trait Outputs<V: Copy>: Edges {
         ensures { slice_get (outputs self.now) (position - 1) ≡ Some result };
 }
 
+impl<V: Copy, E: Outputs<V>> Outputs<V> for &E {
+    type Unit = E::Unit;
+
+    ghost number = { E.number };
+
+    ghost outputs = { λ e. E.outputs e.now };
+
+    ghost first = { λ e. E.first e.now };
+
+    ghost stop = { λ e. E.stop e.now };
+
+    fn unit(&self, element: usize) -> E::Unit {
+        (**self).unit(element)
+    }
+
+    fn own_outputs(&self, element: usize) -> (usize, usize) {
+        (**self).own_outputs(element)
+    }
+
+    fn output(&self, position: usize) -> Output<V> {
+        (**self).output(position)
+    }
+}
+
 /// The patterns of an array, one by one: in the order of their texts, and those of one text in the
 /// order of its values.
 #[derive(Drop)]
-pub struct PatternWalk<'a, V: Copy, E: Outputs<V>, A: Allocator = Global> {
-    elements: &'a E,
+pub struct PatternWalk<V: Copy, E: Outputs<V>, A: Allocator = Global> {
+    elements: E,
     tree: Tree<A>,
     // How many elements of the order were entered, and the last of them.
     entered: usize,
@@ -69,35 +93,36 @@ pub struct PatternWalk<'a, V: Copy, E: Outputs<V>, A: Allocator = Global> {
     values: PhantomData<V>,
 }
 
-impl<'a, V: Copy, E: Outputs<V>, A: Allocator> Model for PatternWalk<'a, V, E, A> {
+impl<V: Copy, E: Outputs<V>, A: Allocator> Model for PatternWalk<V, E, A> {
     ghost use Rattle.std.specs.Prelude.{List, ℕ};
     ghost use Rattle.daachorse_listing.specs.Listing.{IsWalking, left_of};
 
     ghost Value = { List (List ℕ × V) };
 
-    ghost view = { λ s. left_of (E.child s.elements.now) (E.count s.elements.now) (E.units s.elements.now)
-        (E.outputs s.elements.now) (E.first s.elements.now) (E.stop s.elements.now)
+    ghost view = { λ s. left_of (E.child s.elements) (E.count s.elements) (E.units s.elements)
+        (E.outputs s.elements) (E.first s.elements) (E.stop s.elements)
         s.tree.order.items s.entered s.element s.stop s.position };
 
-    ghost invariant = { λ s. IsWalking (E.child s.elements.now) (E.group s.elements.now) (E.edge s.elements.now) (E.count s.elements.now) (E.units s.elements.now)
-        (E.outputs s.elements.now) (E.first s.elements.now)
+    ghost invariant = { λ s. IsWalking (E.child s.elements) (E.group s.elements) (E.edge s.elements) (E.count s.elements) (E.units s.elements)
+        (E.outputs s.elements) (E.first s.elements)
         s.tree.order.items s.tree.parents.items s.tree.depths.items s.entered s.element s.position };
 }
 
-impl<'a, V: Copy, E: Outputs<V>, A: Allocator + Copy> PatternWalk<'a, V, E, A> {
+impl<V: Copy, E: Outputs<V> + Drop, A: Allocator + Copy> PatternWalk<V, E, A> {
     /// A walk over all patterns.
     ///
     /// # Errors
     ///
     /// An allocation failed.
-    pub fn new(alloc: A, elements: &'a E) -> Result<Self>
-        requires { HasPatterns (E.child elements.now) (E.group elements.now) (E.edge elements.now) (E.count elements.now) (E.units elements.now) (E.outputs elements.now) (E.first elements.now) }
-        ensures ok { IfOk result (λ walk. IsPatterns (E.child elements.entry.now) (E.count elements.entry.now) (E.units elements.entry.now) (E.outputs elements.entry.now) (E.first elements.entry.now) (E.stop elements.entry.now) walk) }
+    pub fn new(alloc: A, elements: E) -> Result<Self>
+        requires { HasPatterns (E.child elements) (E.group elements) (E.edge elements) (E.count elements) (E.units elements) (E.outputs elements) (E.first elements) }
+        ensures ok { IfOk result (λ walk. IsPatterns (E.child elements) (E.count elements) (E.units elements) (E.outputs elements) (E.first elements) (E.stop elements) walk) }
         ensures err { IfErr result IsOutOfMemory }
     {
+        let tree = Tree::new(alloc, &elements)?;
         Ok(PatternWalk {
             elements,
-            tree: Tree::new(alloc, elements)?,
+            tree,
             entered: 0,
             element: 0,
             position: 0,
@@ -107,7 +132,17 @@ impl<'a, V: Copy, E: Outputs<V>, A: Allocator + Copy> PatternWalk<'a, V, E, A> {
     }
 }
 
-impl<'a, V: Copy, E: Outputs<V>, A: Allocator + Copy> Iterator for PatternWalk<'a, V, E, A> {
+impl<V: Copy, E: Outputs<V>, A: Allocator> PatternWalk<V, E, A> {
+    /// Leaves out all patterns that were not given yet.
+    pub fn end(&mut self)
+        ensures { self.new ≡ [] }
+    {
+        self.position = 0;
+        self.entered = self.tree.order.len();
+    }
+}
+
+impl<V: Copy, E: Outputs<V> + Drop, A: Allocator + Copy> Iterator for PatternWalk<V, E, A> {
     ghost use Rattle.std.specs.Prelude.{map};
     ghost use Rattle.std.specs.Iterator.{item_count};
     ghost use Rattle.daachorse_listing.specs.Listing.{GivesPattern};
@@ -130,15 +165,13 @@ impl<'a, V: Copy, E: Outputs<V>, A: Allocator + Copy> Iterator for PatternWalk<'
             self.stop = stop;
         }
         let output = self.elements.output(self.position);
-        match text::<V, E, A>(self.elements, &self.tree, self.element) {
+        match text::<V, E, A>(&self.elements, &self.tree, self.element) {
             Ok(key) => {
                 self.position = output.parent().map_or(0, NonZeroU32::get) as usize;
                 Some(Ok((key, output.value())))
             }
             Err(error) => {
-                // Nothing is left behind the error.
-                self.position = 0;
-                self.entered = self.tree.order.len();
+                self.end();
                 Some(Err(error))
             }
         }

@@ -6,7 +6,7 @@ use Rattle.daachorse_listing.proofs.patterns.PatternWalk.new.Goals as goal
 pub invariant_of-result : goal.invariant_of-result
 invariant_of-result g c = record {
   patterns = c.requires;
-  listed = c.in_ok-new.ensures.ok;
+  listed = c.in_ok-tree.ensures.ok;
   within = omega arith;
   reached = root-reached c.requires.tree;
   inside = omega arith;

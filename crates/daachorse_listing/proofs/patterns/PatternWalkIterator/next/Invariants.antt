@@ -6,7 +6,7 @@ use Rattle.daachorse_listing.proofs.patterns.PatternWalkIterator.next.Given as g
 abbrev pub invariant-loop-self : goal.invariant-loop-self
 invariant-loop-self g l =
     let s = l.self-inside in
-    let elements = s.elements.now in
+    let elements = s.elements in
     record {
       walking : IsWalking (g.E.Edges.child elements) (g.E.Edges.group elements) (g.E.Edges.edge elements) (g.E.Edges.count elements) (g.E.Edges.units elements) (g.E.Outputs.outputs elements) (g.E.Outputs.first elements)
           s.tree.order.items s.tree.parents.items s.tree.depths.items s.entered s.element s.position;

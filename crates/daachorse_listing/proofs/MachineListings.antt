@@ -1,0 +1,38 @@
+-- What a walk over the patterns of a right machine gives is the listing of its dictionary: an element's own outputs end where its chain goes on.
+use Rattle.std.proofs.Common.{◌≡◌, ◌≢◌, ℕ, ◌<◌, ◌==◌, Bool, false, cond, List, [], ◌∷◌, Option, refl, sym, ap, ◌∙◌, arith, subst}
+use Rattle.daachorse_model.specs.Paths.{walk, Leads}
+use Rattle.daachorse_model.specs.Prefixes.{IsListing}
+use Rattle.daachorse_machine.specs.Machines.{Machine, IsCounted, IsMachine, content, own}
+use Rattle.daachorse_machine.specs.Texts.{IsReached, text_of}
+use Rattle.daachorse_machine.proofs.MachineLaws.{root-text, text-root}
+use Rattle.daachorse_listing.specs.Edges.{TellChildren}
+use Rattle.daachorse_listing.specs.Listing.{HasPatterns, IsPatterns, own_end}
+use Rattle.daachorse_listing.proofs.ListingLaws.{listing-is}
+use Rattle.daachorse_listing.proofs.MachineTrees.{machine_tree}
+
+module _ {V : Type 0} (width : ℕ → ℕ) (a : Machine V) (leftmost : Bool) (n m : ℕ) (machine : IsMachine width a leftmost n m) where
+  pub machine_patterns : (k : ℕ) → IsCounted a k → k < 4294967296 → (group : ℕ → Option ℕ) (edge : ℕ → Option (ℕ × ℕ)) → TellChildren a.child group edge n → HasPatterns a.child group edge n m a.outputs a.output
+  machine_patterns k counted few group edge tell = record {
+    tree = machine_tree width a leftmost n m k machine counted few;
+    tell = tell;
+    falls = machine.parents_fall;
+    inside = machine.outputs_inside;
+  }
+
+  ends : (i : ℕ) → IsReached a.child m n i → (own width a (text_of a.child m n i) i).1 ≡ own_end a i
+  ends i r = at (text_of a.child m n i) refl
+    where
+      at : (w : List ℕ) → text_of a.child m n i ≡ w → (own width a w i).1 ≡ own_end a i
+      at [] e =
+          let root : i ≡ 0 = root-text width a leftmost n m machine i r e in
+          ap (λ k. (own width a [] k).1) root ∙ (machine.right.root_chain ∙ sym (ap (own_end a) root))
+      at (u ∷ w) e =
+          let leads : Leads a.child (u ∷ w) i = sym (ap (walk a.child 0) e) ∙ r in
+          let other : i ≢ 0 = λ root. (let none : [] ≡ u ∷ w = sym (text-root width a leftmost n m machine i root) ∙ e in cc) in
+          let test : (i == 0) ≡ false = grind (arith, other) in
+          machine.right.chains u i w leads ∙ sym (ap (λ b. cond b 0 (cond (a.fail i == 1) 0 (a.output (a.fail i)))) test)
+
+  pub machine_listing : (entries : List (List ℕ × V)) → IsPatterns a.child n m a.outputs a.output (own_end a) entries → IsListing (content width a) entries
+  machine_listing entries (taken, parents, depths, listed, is) =
+      let P : List (List ℕ × V) → Type 0 = λ l. IsListing (content width a) l in
+      subst P (sym is) (listing-is width a leftmost n m machine taken parents depths listed (own_end a) ends)

@@ -13,7 +13,7 @@ use std::marker::Model;
 /// the end.
 #[derive(Drop)]
 pub struct PatternIterator<'a, V: Copy, A: Allocator = Global> {
-    pub(crate) walk: PatternWalk<'a, V, States<V, A>, A>,
+    pub(crate) walk: PatternWalk<V, &'a States<V, A>, A>,
 }
 
 impl<'a, V: Copy, A: Allocator> Model for PatternIterator<'a, V, A> {

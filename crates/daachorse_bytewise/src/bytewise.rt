@@ -13,7 +13,7 @@ ghost use Rattle.daachorse_model.specs.Dictionary.{dictionary, registered};
 ghost use Rattle.daachorse_model.specs.Leftmost.{leftmost};
 ghost use Rattle.daachorse_model.specs.Matches.{no_suffix, overlapping, standard};
 ghost use Rattle.daachorse_search.specs.Searches.{all_found, first_found, standard_found};
-ghost use Rattle.daachorse_model.specs.Prefixes.{HasPrefixes};
+ghost use Rattle.daachorse_model.specs.Prefixes.{HasPrefixes, IsListing};
 ghost use Rattle.daachorse_bytewise.specs.Automata.{HasDepths};
 ghost use Rattle.daachorse_bytewise.specs.Building.{IsBuildRefusal, IsBuiltOf, IsRefusalOf};
 ghost use Rattle.daachorse_bytewise_states.specs.Parts.{content};
@@ -26,7 +26,7 @@ pub use crate::bytewise::builder::DoubleArrayAhoCorasickBuilder;
 use crate::bytewise::iter::{
     FindIterator, FindOverlappingIterator, FindOverlappingNoSuffixIterator,
     FindOverlappingNoSuffixSliceIterator, FindOverlappingSliceIterator, FindOverlappingStepper,
-    FindSliceIterator, FindStepper, LeftmostFindIterator,
+    FindSliceIterator, FindStepper, LeftmostFindIterator, PatternIterator,
 };
 use crate::bytewise::states::States;
 use daachorse_core::MatchKind;
@@ -81,6 +81,7 @@ impl<V: Copy, A: Allocator + Copy> DoubleArrayAhoCorasick<V, A> {
         ensures ok { IfOk result (λ a. (it : P.IntoIter) × P.into_iter_gives patterns it
             × WholeRun P.IntoIter.next_gives it (λ p. IsBuiltOf V.try_from_gives Standard (map (λ t. t.now) p.items) a.parts)) }
         ensures kind { IfOk result (λ a. a.parts.kind ≡ Standard) }
+        ensures depths { IfOk result (λ a. a.depths ≡ []) }
         ensures err { IfErr result (λ e. IsOutOfMemory e ⊎ ((it : P.IntoIter) × P.into_iter_gives patterns it
             × WholeRun P.IntoIter.next_gives it (λ p. IsBuildRefusal V.try_from_gives Standard (map (λ t. t.now) p.items) e))) }
     {
@@ -105,6 +106,7 @@ impl<V: Copy, A: Allocator + Copy> DoubleArrayAhoCorasick<V, A> {
         ensures ok { IfOk result (λ a. (it : P.IntoIter) × P.into_iter_gives patvals it
             × WholeRun P.IntoIter.next_gives it (λ p. (w : List ℕ) → content a.parts w ≡ dictionary Standard (registered p.items) w)) }
         ensures kind { IfOk result (λ a. a.parts.kind ≡ Standard) }
+        ensures depths { IfOk result (λ a. a.depths ≡ []) }
         ensures err { IfErr result (λ e. IsOutOfMemory e ⊎ ((it : P.IntoIter) × P.into_iter_gives patvals it
             × WholeRun P.IntoIter.next_gives it (λ p. IsRefusalOf Standard (registered p.items) e))) }
     {
@@ -140,6 +142,21 @@ impl<V: Copy, A: Allocator + Copy> DoubleArrayAhoCorasick<V, A> {
         let depths = self.states.depths(*self.depths.allocator())?;
         self.depths = depths;
         Ok(())
+    }
+
+    /// All patterns that the automaton holds, with their values: in byte order, and equal ones in
+    /// order of registration. [`MatchKind::LeftmostFirst`] leaves out each pattern that extends an
+    /// earlier one.
+    ///
+    /// # Errors
+    ///
+    /// An allocation failed.
+    pub fn iter<'a>(&'a self, alloc: A) -> Result<PatternIterator<'a, V, A>>
+        ensures ok { IfOk result (λ patterns. IsListing (content self.entry.now.parts) patterns) }
+        ensures err { IfErr result IsOutOfMemory }
+    {
+        let walk = self.states.pattern_iter(alloc)?;
+        Ok(PatternIterator { walk })
     }
 
     /// An automaton that keeps the same, in memory of its own.

@@ -1,5 +1,5 @@
 -- The parts that elements make up have the bases, checks, links and positions of these, whatever the kind, and so they are a copy of the trie.
-use Rattle.std.proofs.Common.{◌≡◌, ℕ, ◌==◌, cond, List, ◌∷◌, length, map, get_or, Some, None, refl, sym, ap, ◌∙◌}
+use Rattle.std.proofs.Common.{◌≡◌, ℕ, ◌==◌, cond, List, length, map, get_or, Some, None, refl, ap, ◌∙◌}
 use Rattle.std.specs.Prelude.{bit_xor, nat_lt}
 use Rattle.std.proofs.Math.ListN.{get_or-map}
 use Rattle.std.proofs.lemmas.List.{length-map}

@@ -1,9 +1,7 @@
 -- Parts that hold the trie of a dictionary are valid and hold the dictionary: a copy of the trie is right, and what an element holds is in range, since it is a state's or vacant.
-use Rattle.std.proofs.Common.{◌≡◌, ◌≢◌, ℕ, ◌-◌, ◌%◌, ◌<◌, ◌≤◌, List, [], ◌∷◌, length, get_or, refl, sym, ◌∙◌, subst, inl, inr, arith}
+use Rattle.std.proofs.Common.{◌≡◌, ℕ, ◌-◌, ◌%◌, ◌<◌, ◌≤◌, List, length, get_or, refl, sym, ◌∙◌, subst, arith}
 use Rattle.std.specs.Ordering.{nat_cmp}
 use Rattle.std.proofs.lemmas.List.{length-map}
-use Rattle.std.proofs.lemmas.Bool.{cases_eq}
-use Rattle.std.proofs.lemmas.Option.{same_Some}
 use Rattle.daachorse_core.specs.declared.outputs.Output.{Output}
 use Rattle.daachorse_core.specs.Outputs.{ParentsFall}
 use Rattle.daachorse_model.specs.declared.MatchKind.{MatchKind}
@@ -16,8 +14,7 @@ use Rattle.daachorse_placement.specs.declared.build_helper.SiblingGroup.{Sibling
 use Rattle.daachorse_placement.specs.Layout.{Layout}
 use Rattle.daachorse_build.specs.Tables.{child_in as edge_to}
 use Rattle.daachorse_machine.specs.Machines.{IsCounted, IsRight}
-use Rattle.daachorse_machine.specs.Copies.{HasStates, HoldsDictionary, IsCopy, IsLinkedTo}
-use Rattle.daachorse_build.proofs.Walks.{text_of}
+use Rattle.daachorse_machine.specs.Copies.{HoldsDictionary, IsCopy}
 use Rattle.daachorse_machine.proofs.CopyLaws.{content-same, copy-counted, copy-right}
 use Rattle.daachorse_bytewise_states.specs.declared.state.State.{State}
 use Rattle.daachorse_bytewise_states.specs.Elements.{base_in, fail_in, output_in}

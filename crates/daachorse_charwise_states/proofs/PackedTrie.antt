@@ -1,5 +1,5 @@
 -- Elements that hold a trie are a copy of it: a character leads from a state's element to its child's alone, since a check names one parent, and no state stands at the element that vacant ones name.
-use Rattle.std.proofs.Common.{◌≡◌, ◌≢◌, ℕ, ◌<◌, inl, inr, false, true, List, length, get_or, Option, Some, None, refl, sym, ap, ◌∙◌, subst, arith}
+use Rattle.std.proofs.Common.{◌≡◌, ◌≢◌, ℕ, ◌<◌, inl, inr, false, List, length, get_or, Option, Some, None, refl, sym, ap, ◌∙◌, arith}
 use Rattle.std.specs.Prelude.{bit_xor, option_and_then, option_map, unwrap_or}
 use Rattle.std.specs.Ordering.{nat_cmp}
 use Rattle.daachorse_core.proofs.Xor.{xor_same_left}
@@ -13,9 +13,9 @@ use Rattle.daachorse_mapper.specs.Codings.{Coding, IsCoding, code_of}
 use Rattle.daachorse_packing.specs.Settled.{AreSettled, trie_of}
 use Rattle.daachorse_packing.proofs.Held.{held-IsCopy}
 use Rattle.daachorse_packing.proofs.Looks.{look, look_none, look_some}
-use Rattle.daachorse_packing.proofs.Places.{base_inside, edge-at, place-alive, place-apart, place-inside, place_from, state_from, xor_below}
+use Rattle.daachorse_packing.proofs.Places.{edge-at, place-alive, place-apart, place-inside, place_from, state_from}
 use Rattle.daachorse_charwise_states.specs.declared.state.State.{State}
-use Rattle.daachorse_charwise_states.specs.Elements.{base_in, check_in}
+use Rattle.daachorse_charwise_states.specs.Elements.{check_in}
 use Rattle.daachorse_charwise_states.specs.Parts.{Parts, child_among, child_of, machine}
 use Rattle.daachorse_charwise_states.specs.Packing.{AreEdgesCoded, HoldElements, code_in, element}
 use Rattle.daachorse_charwise_states.proofs.Codes.{code_same}

@@ -1,12 +1,12 @@
 -- What was written one after another are the elements that hold the trie.
-use Rattle.std.proofs.Common.{◌≡◌, ◌≢◌, ℕ, ◌<◌, ◌≤◌, false, List, ◌++◌, length, take, drop, replicate, refl, ◌∙◌, ap, subst, sym, inl, inr, arith}
-use Rattle.std.specs.Prelude.{bit_xor, slice_index}
+use Rattle.std.proofs.Common.{◌≡◌, ◌≢◌, ℕ, ◌<◌, false, List, ◌++◌, length, take, drop, replicate, ◌∙◌, ap, subst, sym, inl, inr, arith}
+use Rattle.std.specs.Prelude.{slice_index}
 use Rattle.std.proofs.Math.Seq.{take-append_seam}
 use Rattle.std.proofs.lemmas.Bool.{cases_lt}
 use Rattle.std.proofs.lemmas.List.{get_or-replicate, get_or_past, length-replicate}
 use Rattle.daachorse_placement.specs.declared.build_helper.SiblingGroup.{SiblingGroup}
 use Rattle.daachorse_placement.specs.Layout.{Layout}
-use Rattle.daachorse_placement.specs.Placement.{AreIds, child_of, children_of, label_of, parent_of}
+use Rattle.daachorse_placement.specs.Placement.{AreIds, child_of, children_of, parent_of}
 use Rattle.daachorse_packing.specs.Settled.{AreSettled}
 use Rattle.daachorse_packing.proofs.Places.{edge-at, place-apart, place-inside}
 use Rattle.daachorse_charwise_states.specs.declared.state.State.{State}

@@ -1,5 +1,5 @@
 -- Elements that hold a trie over characters, at the places of its states.
-use Rattle.std.specs.Prelude.{◌≡◌, ℕ, ◌+◌, ◌-◌, ◌/◌, ◌<◌, ◌^◌, false, max, List, ◌∷◌, ◌++◌, length, slice_index, slice_index_or, unwrap_or, None, Some, IsSome}
+use Rattle.std.specs.Prelude.{◌≡◌, ℕ, ◌-◌, ◌/◌, ◌<◌, ◌^◌, false, max, List, ◌∷◌, ◌++◌, length, slice_index, slice_index_or, unwrap_or, None, Some, IsSome}
 use Rattle.std.specs.Int.{IsNextPowerOfTwo}
 use Rattle.std.specs.Ordering.{nat_cmp}
 use Rattle.daachorse_placement.specs.declared.build_helper.SiblingGroup.{SiblingGroup}
@@ -53,7 +53,7 @@ AreCoded coding K = (v w : List ℕ) (u : ℕ) → IsKey K (v ++ u ∷ w) → Is
 abbrev pub IsBuiltFor : {V A : Type 0} → MatchKind → NfaBuilder ℕ V A → Dictionary V → Type 0
 IsBuiltFor kind b K = IsBuilt nat_cmp (λ u. u) char_width None kind b K
 
--- More texts begin longer keys than there are blocks for: one at most for each text beside the first block, and all of them at most 4294967296 elements less a block.
+-- More texts begin longer keys than there may be blocks behind the first: all blocks have at most 2^32 elements less a block, and each such text needs at most one.
 pub record NeedsManyBlocks {V : Type 0} (coding : Coding) (K : Dictionary V) : Type 0 where
   pub block : ℕ
   pub least : IsNextPowerOfTwo (max 2 coding.alphabet_size) block

@@ -71,8 +71,8 @@ impl<V: Copy, A: Allocator + Copy> States<V, A> {
     /// # Errors
     ///
     /// [`Limit::NumElements`](daachorse_core::errors::Limit::NumElements), which comes only where
-    /// more texts begin a longer pattern than there are blocks below 4,294,967,296 elements but
-    /// two, and out of memory.
+    /// more texts begin a longer pattern than there are blocks but one in 4,294,967,296 elements
+    /// less a block, and out of memory.
     pub fn build(
         alloc: A,
         kind: MatchKind,

@@ -1,11 +1,10 @@
 -- One pass over the elements makes the lists of each unit, one over these the lists of each group, and a group's list is that of the children.
-use Rattle.std.proofs.Common.{◌≡◌, ◌≢◌, ℕ, zero, suc, ◌+◌, ◌<◌, ◌≤◌, ◌⊎◌, inl, inr, Bool, true, false, cond, ◌==◌, List, [], ◌∷◌, ◌++◌, length, get_or, set, filter, Option, Some, None, refl, sym, ap, ◌∙◌, arith, subst, nat_lt}
+use Rattle.std.proofs.Common.{◌≡◌, ◌≢◌, ℕ, zero, suc, ◌<◌, ◌≤◌, ◌⊎◌, inl, inr, Bool, true, false, cond, ◌==◌, List, [], ◌∷◌, length, get_or, set, filter, Option, Some, None, refl, sym, ap, ◌∙◌, arith, nat_lt}
 use Rattle.std.proofs.lemmas.Bool.Decides.{nat_tests}
 use Rattle.std.proofs.lemmas.List.{get_or-set_same, get_or-set_other}
 use Rattle.std.specs.List.{AllByRecursion}
-use Rattle.std.proofs.lemmas.Option.{same_Some}
 use Rattle.daachorse_model.proofs.Booleans.{either}
-use Rattle.daachorse_listing.specs.Edges.{is_by, is_in, below, put_before, led_by, siblings, child_before, children, TellChildren, IsTree}
+use Rattle.daachorse_listing.specs.Edges.{is_by, is_in, below, put_before, siblings, child_before, children, TellChildren}
 
 -- a list after a push at the key k, where the test says whether it is this list
 pub pushed : (ls : List (List ℕ)) (key g x : ℕ) → key < length ls → get_or (set ls key (x ∷ get_or ls key [])) g [] ≡ cond (key == g) (x ∷ get_or ls g []) (get_or ls g [])

@@ -1,10 +1,10 @@
 -- Lists keep their items while nodes are added behind the last: a link leads to nodes before it alone.
-use Rattle.std.proofs.Common.{◌≡◌, ◌≢◌, ℕ, zero, suc, ◌+◌, ◌-◌, ◌<◌, ◌≤◌, ◌⊎◌, inl, inr, List, [], ◌∷◌, ◌++◌, length, map, get_or, set, replicate, refl, sym, ap, ◌∙◌, arith, length-append, sub-one}
+use Rattle.std.proofs.Common.{◌≡◌, ℕ, zero, suc, ◌-◌, ◌<◌, ◌≤◌, ◌⊎◌, inl, inr, List, [], ◌∷◌, ◌++◌, length, map, get_or, set, replicate, refl, sym, ap, ◌∙◌, arith, length-append, sub-one}
 use Rattle.std.proofs.lemmas.List.{map-set, get_or_append_left, get_or_past}
 use Rattle.std.proofs.Math.ListN.{get_or-map}
-use Rattle.std.proofs.Math.Seq.{get_or-append_seam, get_or-append_right}
+use Rattle.std.proofs.Math.Seq.{get_or-append_seam}
 use Rattle.daachorse_listing.specs.declared.lists.Node.{Node}
-use Rattle.daachorse_listing.specs.Linked.{no_node, items_from, list_from, AreLinked}
+use Rattle.daachorse_listing.specs.Linked.{no_node, items_from, list_from}
 
 place : (q n : ℕ) → (q < n) ⊎ ((q ≡ n) ⊎ (n < q))
 place zero zero = inr (inl refl)

@@ -1,9 +1,9 @@
 -- The patterns of all reached elements, in the order of their texts, are the listing of the dictionary.
-use Rattle.std.proofs.Common.{◌≡◌, ◌≢◌, ℕ, zero, suc, ◌+◌, ◌<◌, ◌≤◌, ◌⊎◌, inl, inr, Bool, true, false, cond, ◌==◌, List, [], ◌∷◌, ◌++◌, length, map, get_or, Option, Some, None, refl, sym, ap, ◌∙◌, arith, subst}
+use Rattle.std.proofs.Common.{◌≡◌, ◌≢◌, ℕ, zero, suc, ◌≤◌, ◌⊎◌, inl, inr, Bool, true, false, cond, ◌==◌, List, [], ◌∷◌, ◌++◌, Option, Some, None, refl, sym, ap, ◌∙◌, arith}
 use Rattle.std.specs.Prelude.{flat_map, slice_get}
 use Rattle.std.specs.List.{AllByRecursion}
 use Rattle.std.specs.declared.cmp.Ordering.{Ordering}
-use Rattle.std.specs.declared.cmp.Ordering.TheVariants.{Less, Equal, Greater}
+use Rattle.std.specs.declared.cmp.Ordering.TheVariants.{Less, Equal}
 use Rattle.std.specs.Ordering.{is_lt, ordering_reverse}
 use Rattle.std.specs.Cmp.Lexicographic.{nat_list_cmp_total}
 use Rattle.std.proofs.lemmas.Slice.Eq.{bytes_eq-Decides}
@@ -11,16 +11,16 @@ use Rattle.daachorse_core.specs.declared.outputs.Output.{Output}
 use Rattle.daachorse_core.specs.Outputs.{value_of, length_of, parent_of, ParentsFall}
 use Rattle.daachorse_model.specs.Units.{same_text, size}
 use Rattle.daachorse_model.specs.Dictionary.{values_of}
-use Rattle.daachorse_model.specs.Paths.{walk, Leads}
+use Rattle.daachorse_model.specs.Paths.{walk}
 use Rattle.daachorse_model.specs.Prefixes.{IsListing}
 use Rattle.daachorse_model.proofs.Booleans.{either}
 use Rattle.daachorse_model.proofs.Listings.{order, order-same, IsAtMostFirst, Sorted, sorted-cons}
 use Rattle.daachorse_machine.specs.Machines.{Machine, own_next, own_step, own_from, own, values_at, content, IsMachine}
 use Rattle.daachorse_machine.specs.Texts.{IsReached, text_of}
 use Rattle.daachorse_machine.proofs.MachineLaws.{text-Leads, Reached-Leads}
-use Rattle.daachorse_listing.specs.Trees.{IsAmong, Pairs, ComesBefore, IsListed}
+use Rattle.daachorse_listing.specs.Trees.{IsAmong, Pairs, IsListed}
 use Rattle.daachorse_listing.specs.Listing.{value_then, values_from, values_until, with_values, patterns_of}
-use Rattle.daachorse_listing.proofs.Members.{among-All, All-among}
+use Rattle.daachorse_listing.proofs.Members.{among-All}
 
 -- ---- the values of an element
 

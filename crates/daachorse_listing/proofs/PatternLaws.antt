@@ -1,13 +1,12 @@
 -- What is left of a walk over the patterns: an element's values one by one, and then the next element's.
-use Rattle.std.proofs.Common.{◌≡◌, ◌≢◌, ℕ, zero, suc, ◌+◌, ◌-◌, ◌<◌, ◌≤◌, ◌⊎◌, inl, inr, List, [], ◌∷◌, ◌++◌, length, map, get_or, drop, Option, Some, None, refl, sym, ap, ◌∙◌, arith, subst, add-one, sub-one, drop-cons}
-use Rattle.std.specs.Prelude.{flat_map, slice_get}
-use Rattle.std.proofs.lemmas.Option.{slice_get-get_or, slice_get_cases}
+use Rattle.std.proofs.Common.{◌≡◌, ◌≢◌, ℕ, zero, suc, ◌+◌, ◌-◌, ◌<◌, ◌≤◌, ◌⊎◌, inl, inr, List, [], ◌∷◌, ◌++◌, length, get_or, drop, Option, Some, refl, sym, ap, ◌∙◌, arith, subst, add-one, sub-one, drop-cons}
+use Rattle.std.specs.Prelude.{slice_get}
 use Rattle.std.proofs.lemmas.List.{drop_all}
 use Rattle.daachorse_core.specs.declared.outputs.Output.{Output}
-use Rattle.daachorse_core.specs.Outputs.{value_of, parent_of, ParentsFall}
+use Rattle.daachorse_core.specs.Outputs.{value_of, parent_of}
 use Rattle.daachorse_machine.specs.Texts.{IsReached, text_of}
-use Rattle.daachorse_listing.specs.Trees.{IsAmong, IsListed}
-use Rattle.daachorse_listing.specs.Listing.{values_until, with_values, patterns_of, left_of, HasPatterns, IsWalking}
+use Rattle.daachorse_listing.specs.Trees.{IsAmong}
+use Rattle.daachorse_listing.specs.Listing.{values_until, with_values, patterns_of, left_of, IsWalking}
 use Rattle.daachorse_listing.proofs.WalkLaws.{reached-inside}
 use Rattle.daachorse_listing.proofs.ListingLaws.{values_until-step, values_until-end}
 

@@ -14,7 +14,7 @@ counted-prefixes width a leftmost n m k h counted = record {
   texts = counted.texts;
   distinct = counted.distinct;
   exactly = λ w. (λ p. (counted.exactly w).0 (back width a leftmost n m h w p), λ c. fore width a leftmost n m h w ((counted.exactly w).1 c));
-  count = counted.count
+  count = counted.count;
 }
 
 module _ (child : ℕ → ℕ → Option ℕ) (n : ℕ) (counted : PassesAt (is_reached child) n) where
@@ -36,7 +36,7 @@ module _ (child : ℕ → ℕ → Option ℕ) (n : ℕ) (counted : PassesAt (is_
           let left : get_or counted.texts (place j).0 (take j w) ≡ take j w = (place j).2 in
           let right : get_or counted.texts (place k).0 (take k w) ≡ take k w = (place k).2 in
           let one : take j w ≡ take k w =
-              sym left ∙ (get_or_default counted.texts (place j).0 (take j w) (take k w) (place j).1 ∙ (ap (λ q. get_or counted.texts q (take k w)) same ∙ right)) in
+          sym left ∙ (get_or_default counted.texts (place j).0 (take j w) (take k w) (place j).1 ∙ (ap (λ q. get_or counted.texts q (take k w)) same ∙ right)) in
           let long : length (take j w) ≡ length (take k w) = ap length one in
           let a : length (take j w) ≡ j = length-take-le j w (omega arith) in
           let b : length (take k w) ≡ k = length-take-le k w (omega arith) in

@@ -1,5 +1,5 @@
 -- An array that holds a trie at its places is a copy of it, and what its elements hold is in range: an element is a state's, or vacant.
-use Rattle.std.proofs.Common.{◌≡◌, ◌≢◌, ℕ, ◌<◌, ◌≤◌, ◌==◌, Bool, cond, List, [], ◌∷◌, length, get_or, Option, refl, sym, ap, ◌∙◌, subst, inl, inr, arith}
+use Rattle.std.proofs.Common.{◌≡◌, ◌≢◌, ℕ, ◌<◌, ◌≤◌, ◌==◌, Bool, cond, List, [], ◌∷◌, length, get_or, sym, ap, ◌∙◌, subst, inl, inr, arith}
 use Rattle.std.specs.Prelude.{option_map}
 use Rattle.std.specs.Ordering.{nat_cmp}
 use Rattle.std.proofs.lemmas.Bool.{cases_eq, cond-true, cond-false, eq-eqb, ne_eqb}
@@ -11,9 +11,8 @@ use Rattle.daachorse_placement.specs.declared.build_helper.SiblingGroup.{Sibling
 use Rattle.daachorse_placement.specs.Layout.{Layout}
 use Rattle.daachorse_build.specs.Tables.{child_in}
 use Rattle.daachorse_build.proofs.Walks.{text_of}
-use Rattle.daachorse_machine.specs.Machines.{Machine, content, IsCounted, IsRight}
+use Rattle.daachorse_machine.specs.Machines.{Machine}
 use Rattle.daachorse_machine.specs.Copies.{HasStates, HoldsDictionary, IsCopy, IsLinkedTo}
-use Rattle.daachorse_machine.proofs.CopyLaws.{content-same, copy-counted, copy-right}
 use Rattle.daachorse_packing.specs.Settled.{AreSettled, HoldStates, trie_of}
 use Rattle.daachorse_packing.proofs.Places.{Leads-above, Leads-state, base_inside, place-above, place-apart, place-dead, place-inside, place_from, some-elements}
 

@@ -29,6 +29,7 @@ use Rattle.daachorse_build.proofs.Queue.{all_in_order}
 use Rattle.daachorse_build.proofs.Registrations.{holds_twin}
 use Rattle.daachorse_build.proofs.Walks.{walk-bounds, walk-same}
 use Rattle.daachorse_machine.specs.Copies.{HoldsDictionary, IsLinkedTo, LinkedTrie, next_output}
+use Rattle.daachorse_machine.proofs.DeadLaws.{leftmost_kind}
 use Rattle.daachorse_patterns.specs.Tries.{AreLeft, HasTexts, IsBuilt, LeadsByUnit, trie_by}
 use Rattle.daachorse_patterns.proofs.UnitTries.{long-units, text_of_units, walk-units}
 
@@ -37,11 +38,6 @@ pub standard_or_not : (kind : MatchKind) → (kind ≡ Standard) ⊎ (kind ≢ S
 standard_or_not Standard = inl refl
 standard_or_not LeftmostLongest = inr (λ e. cc)
 standard_or_not LeftmostFirst = inr (λ e. cc)
-
-leftmost_kind : (kind : MatchKind) → kind ≢ Standard → is_leftmost kind ≡ true
-leftmost_kind Standard other = absurd (other refl)
-leftmost_kind LeftmostLongest other = refl
-leftmost_kind LeftmostFirst other = refl
 
 module _ {L V A : Type 0} (cmp : L → L → Ordering) (unit : L → ℕ) (width : ℕ → ℕ) where
   -- what was registered stays so where the trie and its outputs do

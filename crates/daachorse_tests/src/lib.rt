@@ -7,4 +7,6 @@ mod builds;
 #[cfg(test)]
 mod leftmost;
 #[cfg(test)]
+mod listing;
+#[cfg(test)]
 mod standard;

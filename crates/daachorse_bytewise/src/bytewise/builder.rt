@@ -5,7 +5,7 @@
 //! patterns are added in order, and the limit on their number is tested last; the first refusal
 //! ends the build.
 
-ghost use Rattle.std.specs.Prelude.{◌≡◌, ◌⊎◌, ℕ, List, IfOk, IfErr, map};
+ghost use Rattle.std.specs.Prelude.{◌≡◌, ◌⊎◌, ℕ, List, [], IfOk, IfErr, map};
 ghost use Rattle.std.specs.Iterator.{IsFinite};
 ghost use Rattle.std.specs.Iterator.Runs.{WholeRun};
 ghost use Rattle.daachorse_core.specs.Refusals.{IsOutOfMemory};
@@ -92,6 +92,7 @@ impl DoubleArrayAhoCorasickBuilder {
         ensures ok { IfOk result (λ a. (it : P.IntoIter) × P.into_iter_gives patterns it
             × WholeRun P.IntoIter.next_gives it (λ p. IsBuiltOf V.try_from_gives self (map (λ t. t.now) p.items) a.parts)) }
         ensures kind { IfOk result (λ a. a.parts.kind ≡ self) }
+        ensures depths { IfOk result (λ a. a.depths ≡ []) }
         ensures err { IfErr result (λ e. IsOutOfMemory e ⊎ ((it : P.IntoIter) × P.into_iter_gives patterns it
             × WholeRun P.IntoIter.next_gives it (λ p. IsBuildRefusal V.try_from_gives self (map (λ t. t.now) p.items) e))) }
     {
@@ -121,6 +122,7 @@ impl DoubleArrayAhoCorasickBuilder {
         ensures ok { IfOk result (λ a. (it : P.IntoIter) × P.into_iter_gives patvals it
             × WholeRun P.IntoIter.next_gives it (λ p. (w : List ℕ) → content a.parts w ≡ dictionary self (registered p.items) w)) }
         ensures kind { IfOk result (λ a. a.parts.kind ≡ self) }
+        ensures depths { IfOk result (λ a. a.depths ≡ []) }
         ensures err { IfErr result (λ e. IsOutOfMemory e ⊎ ((it : P.IntoIter) × P.into_iter_gives patvals it
             × WholeRun P.IntoIter.next_gives it (λ p. IsRefusalOf self (registered p.items) e))) }
     {
@@ -139,6 +141,7 @@ where
     V::Error: Drop,
     ensures ok { IfOk result (λ a. IsBuiltOf V.try_from_gives kind (map (λ t. t.now) texts.now) a.parts) }
     ensures kind { IfOk result (λ a. a.parts.kind ≡ kind) }
+    ensures depths { IfOk result (λ a. a.depths ≡ []) }
     ensures err { IfErr result (IsBuildRefusal V.try_from_gives kind (map (λ t. t.now) texts.now)) }
 {
     let patterns = indexed(alloc, texts)?;
@@ -153,6 +156,7 @@ fn from_patterns<V: Copy, A: Allocator + Copy>(
 ) -> Result<DoubleArrayAhoCorasick<V, A>>
     ensures ok { IfOk result (λ a. (w : List ℕ) → content a.parts w ≡ dictionary kind (registered patterns.now) w) }
     ensures kind { IfOk result (λ a. a.parts.kind ≡ kind) }
+    ensures depths { IfOk result (λ a. a.depths ≡ []) }
     ensures err { IfErr result (IsRefusalOf kind (registered patterns.now)) }
 {
     let nfa = build_trie(alloc, kind, Some(MAX_PATTERNS), patterns)?;

@@ -4,7 +4,10 @@
 //! each call takes the first off; on a search in a source giving a match before it takes a byte
 //! past the match's end; on a stepper telling the matches that end with the bytes consumed; and on
 //! the bounds of the turns taken so far. They borrow the automaton, and the slice if there is one;
-//! none of them takes memory.
+//! none of them takes memory. The patterns of an automaton are given in the order of the listing,
+//! each in memory of its own.
+
+mod patterns;
 
 use crate::bytewise::states::{Leftmost, Standard};
 use daachorse_search::ending_here::EndingHere;
@@ -14,6 +17,8 @@ use daachorse_search::matches::Matches;
 use daachorse_search::matches_from::MatchesFrom;
 use daachorse_search::overlapping::{NoSuffixWalk, OverlappingWalk};
 use daachorse_search::{find_stepper, haystack, overlapping_stepper, source};
+
+pub use patterns::PatternIterator;
 
 /// Matches in a slice that do not overlap: each ends as early as it can, and at that end it is the
 /// longest. With an empty pattern there is one empty match at each boundary.

@@ -9,7 +9,7 @@ use Rattle.daachorse_core.specs.Refusals.{IsRefusal}
 use Rattle.daachorse_core.proofs.Refusals.{IsRefusal-weaker}
 use Rattle.daachorse_placement.specs.declared.build_helper.SiblingGroup.{SiblingGroup}
 use Rattle.daachorse_placement.specs.Layout.{Layout}
-use Rattle.daachorse_placement.specs.Placement.{AreBlocksFull, HasSizes, IsPlaced}
+use Rattle.daachorse_placement.specs.Placement.{HasSizes, IsPlaced}
 use Rattle.daachorse_build.specs.Builders.{states_of}
 use Rattle.daachorse_build.specs.declared.nfa_builder.NfaBuilderState.{NfaBuilderState}
 use Rattle.daachorse_build.specs.Tables.{depths_of, edge_map, edges_of, fails_of, positions_of}

@@ -1,7 +1,6 @@
 -- The groups are placed, and the states written to their elements.
-use Rattle.std.proofs.Common.{false, ◌≡◌, ◌≢◌, ◌<◌, ◌≤◌, ◌+◌, ◌*◌, ◌^◌, ℕ, List, length, ◌∙◌, ap, subst, sym, arith}
+use Rattle.std.proofs.Common.{false, ◌≢◌, ◌<◌, ◌≤◌, ◌+◌, ◌*◌, ◌^◌, ℕ, List, length, ◌∙◌, ap, subst, sym}
 use Rattle.std.specs.Prelude.{slice_index}
-use Rattle.std.specs.Int.{IsPowerOfTwo}
 use Rattle.std.proofs.lemmas.List.{length-map}
 use Rattle.std.proofs.lemmas.Result.{IfOk-weaker, IfErr-weaker, err_from_is_err_and}
 use Rattle.daachorse_core.specs.declared.errors.DaachorseError.{DaachorseError}
@@ -9,14 +8,12 @@ use Rattle.daachorse_core.specs.declared.errors.Limit.TheVariants.{NumElements}
 use Rattle.daachorse_core.specs.Refusals.{IsRefusal}
 use Rattle.daachorse_core.proofs.Refusals.{IsRefusal-weaker}
 use Rattle.daachorse_placement.specs.declared.build_helper.SiblingGroup.{SiblingGroup}
-use Rattle.daachorse_placement.specs.Layout.{Layout}
-use Rattle.daachorse_placement.specs.Placement.{AreGroups, HasSizes, IsPlaced}
+use Rattle.daachorse_placement.specs.Placement.{AreGroups, HasSizes}
 use Rattle.daachorse_build.specs.Builders.{states_of}
 use Rattle.daachorse_build.specs.declared.nfa_builder.NfaBuilderState.{NfaBuilderState}
 use Rattle.daachorse_build.specs.Tables.{depths_of, edge_map, edges_of, fails_of, positions_of}
-use Rattle.daachorse_packing.specs.Settled.{AreGroupsOf, AreSettled, HasManyGroups}
+use Rattle.daachorse_packing.specs.Settled.{AreSettled, HasManyGroups}
 use Rattle.daachorse_packing.proofs.Groups.{settled-of}
-use Rattle.daachorse_charwise_states.specs.declared.state.State.{State}
 use Rattle.daachorse_charwise_states.specs.Packing.{HoldElements, code_in}
 use Rattle.daachorse_charwise_states.proofs.packing.pack.Goals as goal
 

@@ -1,5 +1,5 @@
 -- Each group's children are given their parent's place.
-use Rattle.std.proofs.Common.{◌≡◌, ◌<◌, ℕ, List, length, ◌∙◌, ap, subst, sym, arith}
+use Rattle.std.proofs.Common.{◌≡◌, ◌<◌, ℕ, List, length, ◌∙◌, subst, sym, arith}
 use Rattle.std.specs.Prelude.{slice_index}
 use Rattle.daachorse_placement.specs.Placement.{AreIds, children_of, parent_of}
 use Rattle.daachorse_charwise_states.specs.Writing.{HaveCheck, HaveChecks}

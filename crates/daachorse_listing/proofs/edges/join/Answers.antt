@@ -1,6 +1,6 @@
 -- The list of the unit has the elements that it leads to.
-use Rattle.std.proofs.Common.{◌≡◌, ◌∙◌, sym, ap, get_or, [], filter}
-use Rattle.daachorse_listing.specs.Edges.{is_by, is_in, put_before, led_by, siblings}
+use Rattle.std.proofs.Common.{◌≡◌, ◌∙◌, ap, filter}
+use Rattle.daachorse_listing.specs.Edges.{is_by, is_in, put_before, led_by}
 use Rattle.daachorse_listing.proofs.EdgeLaws.{below-less}
 use Rattle.daachorse_listing.proofs.edges.join.Goals as goal
 

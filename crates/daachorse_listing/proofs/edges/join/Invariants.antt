@@ -1,7 +1,7 @@
 -- What the elements that are left will put before the lists of the groups makes them whole.
-use Rattle.std.proofs.Common.{◌≡◌, ◌<◌, ℕ, suc, List, [], length, get_or, filter}
+use Rattle.std.proofs.Common.{◌≡◌, ◌<◌, ℕ, suc, [], length, get_or, filter}
 use Rattle.std.specs.List.{AllByRecursion}
-use Rattle.daachorse_listing.specs.Edges.{is_by, is_in, below, put_before, siblings}
+use Rattle.daachorse_listing.specs.Edges.{is_in, put_before, siblings}
 use Rattle.daachorse_listing.proofs.edges.join.Given as goal
 
 abbrev pub invariant-loop-element : goal.invariant-loop-element

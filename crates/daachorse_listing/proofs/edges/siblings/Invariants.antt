@@ -1,7 +1,6 @@
 -- The lists hold the elements of the units that were passed.
-use Rattle.std.proofs.Common.{◌≡◌, ◌<◌, ℕ, suc, List, [], length, get_or, filter}
-use Rattle.std.specs.List.{AllByRecursion}
-use Rattle.daachorse_listing.specs.Edges.{is_by, is_in, below, put_before, siblings}
+use Rattle.std.proofs.Common.{◌≡◌, ◌<◌, ℕ, [], length, get_or}
+use Rattle.daachorse_listing.specs.Edges.{siblings}
 use Rattle.daachorse_listing.proofs.edges.siblings.Given as goal
 
 abbrev pub invariant-loop-unit : goal.invariant-loop-unit

@@ -1,5 +1,5 @@
 -- The parent's text has one unit less, which was read.
-use Rattle.std.proofs.Common.{◌≡◌, ◌≢◌, ℕ, ◌<◌, ◌+◌, ◌++◌, ◌∷◌, [], List, length, map, reverse, get_or, refl, sym, ap, ◌∙◌, arith, length-append, append_assoc}
+use Rattle.std.proofs.Common.{◌≡◌, ◌<◌, ◌++◌, ◌∷◌, [], length, map, reverse, sym, ap, ◌∙◌, arith, length-append, append_assoc}
 use Rattle.std.proofs.lemmas.List.{get_or_read, reverse-append}
 use Rattle.daachorse_machine.specs.Texts.{text_of}
 use Rattle.daachorse_listing.specs.Listing.{unit_of}

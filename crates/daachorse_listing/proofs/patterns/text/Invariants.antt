@@ -1,5 +1,5 @@
 -- The units that were read, the last first, lead from the element that was come to.
-use Rattle.std.proofs.Common.{◌≡◌, ◌++◌, ℕ, List, length, map, reverse}
+use Rattle.std.proofs.Common.{◌≡◌, ◌++◌, length, map, reverse}
 use Rattle.daachorse_machine.specs.Texts.{IsReached, text_of}
 use Rattle.daachorse_listing.proofs.patterns.text.Given as goal
 

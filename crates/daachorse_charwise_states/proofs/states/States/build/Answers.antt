@@ -1,7 +1,5 @@
 -- What is built is packed, and the parts hold the builder's dictionary.
-use Rattle.std.proofs.Common.{◌≡◌, ◌-◌, ◌<◌, ◌≤◌, ◌^◌, ℕ, List, length, None, ◌∙◌, ap, subst, sym, arith}
-use Rattle.std.specs.Prelude.{max}
-use Rattle.std.specs.Int.{IsNextPowerOfTwo}
+use Rattle.std.proofs.Common.{◌≡◌, ◌-◌, ◌<◌, ◌≤◌, ◌^◌, ℕ, List, length, None, ap, subst, sym, arith}
 use Rattle.std.proofs.lemmas.Result.{err_from_is_err_and}
 use Rattle.daachorse_core.specs.declared.errors.Limit.TheVariants.{NumElements}
 use Rattle.daachorse_core.specs.declared.outputs.Output.{Output}

@@ -1,5 +1,5 @@
 -- One pattern more has codes.
-use Rattle.std.proofs.Common.{◌≡◌, ◌+◌, ◌<◌, ℕ, List, length, get_or, take, subst}
+use Rattle.std.proofs.Common.{◌+◌, ◌<◌, ℕ, List, length, get_or, take, subst}
 use Rattle.std.specs.List.{AllByRecursion}
 use Rattle.std.proofs.lemmas.List.{get_or_default}
 use Rattle.daachorse_mapper.specs.Codings.{Coding}

@@ -1,6 +1,5 @@
 -- The node of the link, and then the list of its own link.
-use Rattle.std.proofs.Common.{◌≡◌, ◌∷◌, ◌<◌, sym, ◌∙◌, get_or, ◌-◌, rules, arith}
-use Rattle.daachorse_listing.specs.Linked.{list_from, no_node}
+use Rattle.std.proofs.Common.{◌<◌, sym, ◌∙◌, rules, arith}
 use Rattle.daachorse_listing.proofs.LinkedLaws.{list_from-at}
 use Rattle.daachorse_listing.proofs.lists.ItemsIterator.next.Goals as goal
 

@@ -1,5 +1,5 @@
 -- Each list is empty, since its link is 0.
-use Rattle.std.proofs.Common.{◌≡◌, ap, ◌∙◌, map, replicate, []}
+use Rattle.std.proofs.Common.{ap, ◌∙◌, map}
 use Rattle.daachorse_listing.specs.Linked.{list_from}
 use Rattle.daachorse_listing.proofs.LinkedLaws.{map-replicate}
 use Rattle.daachorse_listing.proofs.lists.Lists.new.Goals as goal

@@ -1,8 +1,8 @@
 -- The pushed node begins the list of its key, and the other lists are as they were.
-use Rattle.std.proofs.Common.{◌≡◌, ℕ, suc, ◌≤◌, ◌<◌, ◌∷◌, [], length, sym, ◌∙◌, ap, arith, rules, get_or, length-append}
+use Rattle.std.proofs.Common.{◌≡◌, suc, ◌≤◌, ◌<◌, ◌∷◌, [], length, sym, ap, arith, get_or, length-append}
 use Rattle.std.proofs.lemmas.List.{get_or_read, length-map}
 use Rattle.daachorse_listing.specs.declared.lists.Node.{Node}
-use Rattle.daachorse_listing.proofs.LinkedLaws.{push-lists, falls-push}
+use Rattle.daachorse_listing.proofs.LinkedLaws.{push-lists}
 use Rattle.daachorse_listing.proofs.lists.Lists.push.Goals as goal
 
 pub returns-clause-ok : goal.returns-clause-ok

@@ -1,9 +1,6 @@
 -- The element that is taken is the first of those that were put aside, and its children come to stand before the others.
-use Rattle.std.proofs.Common.{◌≡◌, ◌<◌, ◌≤◌, ◌+◌, ◌-◌, ℕ, suc, List, [], ◌∷◌, ◌++◌, length, reverse, get_or, set, replicate, Option, Some, None, refl, sym, ap, ◌∙◌, arith, rules, subst, length-append, add-one}
-use Rattle.std.proofs.lemmas.List.{get_or_read, reverse-append}
-use Rattle.daachorse_listing.specs.Edges.{children, put_before}
-use Rattle.daachorse_listing.proofs.WalkLaws.{IsWalk, walk-begin, walk-pop, walk-empty, walk-next, walk-end, taken-inside, taken-shallow, taken-few}
-use Rattle.daachorse_listing.proofs.tree.Tree.new.Given as given
+use Rattle.std.proofs.Common.{◌≡◌, ◌<◌, [], ◌∷◌, ◌++◌, length, reverse, replicate, ap, ◌∙◌, arith, length-append, add-one}
+use Rattle.daachorse_listing.proofs.WalkLaws.{walk-begin, walk-pop, walk-empty, walk-next, walk-end, taken-inside, taken-shallow, taken-few}
 use Rattle.daachorse_listing.proofs.tree.Tree.new.Goals as goal
 
 pub loop-element-init : goal.loop-element-init

@@ -1,5 +1,5 @@
 -- The order holds what was taken, and the rest of the elements is put aside or reached from there.
-use Rattle.std.proofs.Common.{◌≡◌, ◌-◌, ℕ, length, reverse}
+use Rattle.std.proofs.Common.{◌-◌, length, reverse}
 use Rattle.daachorse_listing.proofs.WalkLaws.{IsWalk}
 use Rattle.daachorse_listing.proofs.tree.Tree.new.Given as goal
 

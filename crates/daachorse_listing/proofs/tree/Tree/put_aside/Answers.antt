@@ -1,12 +1,10 @@
 -- A group's list is that of the children; each child is written in both tables and put aside.
-use Rattle.std.proofs.Common.{◌≡◌, ◌<◌, ◌≤◌, ◌+◌, ℕ, suc, List, [], ◌∷◌, ◌++◌, length, reverse, get_or, Option, Some, None, refl, sym, ap, ◌∙◌, arith, rules, subst}
-use Rattle.std.proofs.lemmas.List.{get_or_read, reverse-append}
+use Rattle.std.proofs.Common.{◌≡◌, ◌<◌, ℕ, List, [], ◌∷◌, reverse, Some, refl, sym, ap, ◌∙◌, arith}
+use Rattle.std.proofs.lemmas.List.{reverse-append}
 use Rattle.std.specs.List.{AllByRecursion}
 use Rattle.daachorse_listing.specs.Edges.{children, put_before}
-use Rattle.daachorse_listing.specs.Trees.{IsMarking}
 use Rattle.daachorse_listing.proofs.EdgeLaws.{siblings-children}
 use Rattle.daachorse_listing.proofs.Members.{no-children, among-children, All-among, marking-start, marking-next}
-use Rattle.daachorse_listing.proofs.tree.Tree.put_aside.Given as given
 use Rattle.daachorse_listing.proofs.tree.Tree.put_aside.Goals as goal
 
 pub returns-in_default-clause-aside : goal.returns-in_default-clause-aside

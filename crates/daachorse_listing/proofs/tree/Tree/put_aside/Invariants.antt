@@ -1,5 +1,5 @@
 -- The children that are left will be put aside, and those that were have their entries.
-use Rattle.std.proofs.Common.{◌≡◌, ◌<◌, ℕ, List, length, reverse}
+use Rattle.std.proofs.Common.{◌≡◌, ◌<◌, reverse}
 use Rattle.std.specs.List.{AllByRecursion}
 use Rattle.daachorse_listing.specs.Edges.{children, put_before}
 use Rattle.daachorse_listing.specs.Trees.{IsMarking}

@@ -1,0 +1,16 @@
+-- The bytes of a string are a source that a search may read.
+use Rattle.std.proofs.Common.{◌≡◌, ℕ, ◌<◌, ◌^◌, List, [], length, sym, ap, subst, arith}
+use Rattle.std.specs.Iterator.{at_most}
+use Rattle.std.specs.Str.{IsUtf8}
+use Rattle.std.specs.Str.Iter.{bytes_rest, bytes_steps}
+use Rattle.std.specs.declared.str.Bytes.{Bytes}
+use Rattle.daachorse_model.specs.Units.{char_width, size}
+use Rattle.daachorse_text.specs.TextSources.{IsTextFrom}
+use Rattle.daachorse_text.proofs.DecodedRuns.{IsText-bytes}
+
+pub from_text : (source : Bytes) (text read : List ℕ) → bytes_rest source ≡ text → IsUtf8 text → length text < 2 ^ 64 → read ≡ []
+    → IsTextFrom (λ s. Unit {0}) bytes_steps (λ s. at_most (length (bytes_rest s))) source (size char_width read)
+from_text source text read is utf8 fits none = record {
+  text = IsText-bytes (λ s. Unit {0}) (λ s. at_most (length (bytes_rest s))) source tt tt (subst IsUtf8 (sym is) utf8);
+  fits = omega (arith, ap length is, fits, ap (size char_width) none);
+}

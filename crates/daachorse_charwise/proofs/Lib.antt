@@ -1,3 +1,4 @@
 pub mod CountLaws
 pub mod CodedLaws
 pub mod BuildLaws
+pub mod TextLaws

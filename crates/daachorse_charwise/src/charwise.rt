@@ -12,9 +12,9 @@ ghost use Rattle.daachorse_model.specs.declared.MatchKind.TheVariants.{Standard}
 ghost use Rattle.daachorse_model.specs.Units.{char_width};
 ghost use Rattle.daachorse_model.specs.Leftmost.{leftmost};
 ghost use Rattle.daachorse_model.specs.Matches.{no_suffix, overlapping, standard};
-ghost use Rattle.daachorse_model.specs.Prefixes.{HasPrefixes};
+ghost use Rattle.daachorse_model.specs.Prefixes.{HasPrefixes, IsListing};
 ghost use Rattle.daachorse_search.specs.Searches.{all_found, first_found, standard_found};
-ghost use Rattle.daachorse_charwise.specs.Automata.{HasDepths};
+ghost use Rattle.daachorse_charwise.specs.Automata.{HasDepths, HasTexts};
 ghost use Rattle.daachorse_charwise.specs.Building.{IsBuildRefusal, IsBuiltOf, IsHeld, IsRefusalOf, registered_texts, spelled};
 ghost use Rattle.daachorse_charwise_states.specs.Parts.{content, count};
 
@@ -28,7 +28,7 @@ pub use crate::charwise::builder::CharwiseDoubleArrayAhoCorasickBuilder;
 use crate::charwise::iter::{
     FindIterator, FindOverlappingIterator, FindOverlappingNoSuffixIterator,
     FindOverlappingNoSuffixSliceIterator, FindOverlappingSliceIterator, FindOverlappingStepper,
-    FindSliceIterator, FindStepper, LeftmostFindIterator,
+    FindSliceIterator, FindStepper, LeftmostFindIterator, PatternIterator,
 };
 use crate::charwise::states::States;
 use daachorse_core::MatchKind;
@@ -56,13 +56,13 @@ pub struct CharwiseDoubleArrayAhoCorasick<V: Copy, A: Allocator = Global> {
 }
 
 impl<V: Copy, A: Allocator> Model for CharwiseDoubleArrayAhoCorasick<V, A> {
-    ghost use Rattle.daachorse_charwise.specs.Automata.{Automaton, MayHaveDepths};
+    ghost use Rattle.daachorse_charwise.specs.Automata.{Automaton, HasTexts, MayHaveDepths};
 
     ghost Value = { Automaton V };
 
     ghost view = { λ a. record { parts = a.states; depths = a.depths.items } };
 
-    ghost invariant = { λ a. MayHaveDepths a.states a.depths.items };
+    ghost invariant = { λ a. MayHaveDepths a.states a.depths.items × HasTexts a.states };
 }
 
 impl<V: Copy, A: Allocator + Copy> CharwiseDoubleArrayAhoCorasick<V, A> {
@@ -119,6 +119,7 @@ impl<V: Copy, A: Allocator + Copy> CharwiseDoubleArrayAhoCorasick<V, A> {
 impl<V: Copy, A: Allocator + Copy> CharwiseDoubleArrayAhoCorasick<V, A> {
     /// The automaton of these states, with no depths cached.
     pub(crate) fn of_states(alloc: A, states: States<V, A>) -> Self
+        requires { HasTexts states }
         ensures parts { result.parts ≡ states }
         ensures depths { result.depths ≡ [] }
     {
@@ -144,6 +145,21 @@ impl<V: Copy, A: Allocator + Copy> CharwiseDoubleArrayAhoCorasick<V, A> {
         let depths = self.states.depths(*self.depths.allocator())?;
         self.depths = depths;
         Ok(())
+    }
+
+    /// All patterns that the automaton holds, with their values: in byte order, which is the order
+    /// of the characters, and equal ones in order of registration. [`MatchKind::LeftmostFirst`]
+    /// leaves out each pattern that extends an earlier one.
+    ///
+    /// # Errors
+    ///
+    /// An allocation failed.
+    pub fn iter<'a>(&'a self, alloc: A) -> Result<PatternIterator<'a, V, A>>
+        ensures ok { IfOk result (λ patterns. IsListing (content self.entry.now.parts) patterns) }
+        ensures err { IfErr result IsOutOfMemory }
+    {
+        let walk = self.states.pattern_iter(alloc)?;
+        Ok(PatternIterator { walk, alloc })
     }
 
     /// An automaton that keeps the same, in memory of its own.

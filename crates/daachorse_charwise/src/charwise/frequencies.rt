@@ -1,9 +1,11 @@
 //! How often each character occurs in patterns.
 //!
-//! The layers above may rely on each character's count being there at its code point.
+//! The layers above may rely on each character's count being there at its code point, and on
+//! patterns being of characters alone.
 
-ghost use Rattle.std.specs.Prelude.{◌≡◌, ◌+◌, ◌≤◌, ℕ, List, length, map, min, slice_index, IfOk, IfErr, OnOk};
-ghost use Rattle.std.specs.Str.{chars};
+ghost use Rattle.std.specs.Prelude.{◌≡◌, ◌+◌, ◌≤◌, ℕ, List, length, map, min, slice_index, IsTrue, IfOk, IfErr, OnOk};
+ghost use Rattle.std.specs.List.{AllByRecursion};
+ghost use Rattle.std.specs.Str.{all_scalars, chars};
 ghost use Rattle.daachorse_core.specs.Refusals.{IsOutOfMemory};
 ghost use Rattle.daachorse_charwise.specs.Frequencies.{AreFrequencies, HasCounted, many};
 
@@ -17,6 +19,7 @@ pub(crate) fn frequencies<V: Copy, A: Allocator>(
     patterns: &[(&str, V)],
 ) -> Result<Vec<u32, A>>
     ensures ok { IfOk result (λ freqs. AreFrequencies (map (λ p. chars p.0.now) patterns.now) freqs.items) }
+    ensures texts { OnOk result (AllByRecursion (λ p. IsTrue (all_scalars (chars p.0.now))) patterns.now) }
     ensures err { IfErr result IsOutOfMemory }
 {
     let mut freqs = Vec::new(alloc);
@@ -30,6 +33,7 @@ pub(crate) fn frequencies<V: Copy, A: Allocator>(
 fn count_chars<A: Allocator>(freqs: &mut Vec<u32, A>, text: &str) -> Result<()>
     requires { length freqs.old.items ≤ 1114112 }
     ensures ok { OnOk result (HasCounted freqs.old.items (chars text.now) freqs.new.items) }
+    ensures text { OnOk result (IsTrue (all_scalars (chars text.now))) }
     ensures err { IfErr result IsOutOfMemory }
 {
     for c in text.chars() {

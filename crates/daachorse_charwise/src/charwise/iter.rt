@@ -4,8 +4,12 @@
 //! each call takes the first off; on a search in a source giving a match before it takes a byte
 //! past the match's end; on a stepper telling the matches that end with the characters consumed;
 //! and on the bounds of the turns taken so far. Places count bytes. They borrow the automaton, and
-//! the text if there is one; none of them takes memory.
+//! the text if there is one; none of them takes memory. The patterns of an automaton are given in
+//! the order of the listing, each in memory of its own.
 
+mod patterns;
+
+pub use crate::charwise::iter::patterns::PatternIterator;
 use crate::charwise::states::{Leftmost, Standard};
 use daachorse_search::ending_here::EndingHere;
 use daachorse_search::find::FindWalk;

@@ -1,6 +1,7 @@
 -- A count is one more after its character, and the characters are all when the iterator ends.
 use Rattle.std.proofs.Common.{◌≡◌, ℕ, ◌+◌, ◌<◌, ◌≤◌, List, ◌∷◌, ◌++◌, [], length, set, take, replicate, ◌-◌, sym, ap, map-id, ◌∙◌, subst, arith}
 use Rattle.std.specs.Prelude.{slice_index}
+use Rattle.std.proofs.lemmas.Str.{scalars-chars}
 use Rattle.std.proofs.lemmas.Iterator.{YieldsList-from_chars}
 use Rattle.std.proofs.lemmas.Iterator.Consumers.{YieldsList-end}
 use Rattle.daachorse_charwise.specs.Frequencies.{HasCounted}
@@ -31,3 +32,6 @@ returns-clause-ok g c =
     let P : List ℕ → Type 0 = λ w. HasCounted c.args.freqs.now.items w c.loop-c.freqs.items in
     let all = YieldsList-end (YieldsList-from_chars c.args.text.now c.utf8.text cc) c.loop-c.yielded _ c.loop-c.yielded_by _ _ c.in-None.is c.next.ensures.steps in
     subst P (sym (map-id c.loop-c.yielded) ∙ all.0) c.loop-c.invariant
+
+pub returns-clause-text : goal.returns-clause-text
+returns-clause-text g c = scalars-chars c.args.text.now c.utf8.text

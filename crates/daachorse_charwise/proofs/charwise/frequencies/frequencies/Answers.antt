@@ -1,8 +1,11 @@
 -- The characters of one more pattern are counted after those of the patterns before it.
 use Rattle.std.proofs.Common.{◌≡◌, ℕ, ◌+◌, List, [], ◌∷◌, ◌++◌, map, take, sym, ap, ◌∙◌, subst}
 use Rattle.std.specs.Borrow.{Bor}
-use Rattle.std.specs.Str.{chars}
+use Rattle.std.specs.Prelude.{IsTrue}
+use Rattle.std.specs.List.{AllByRecursion}
+use Rattle.std.specs.Str.{all_scalars, chars}
 use Rattle.std.proofs.lemmas.List.{map_push, take_more}
+use Rattle.daachorse_packing.proofs.Keys.{all-push}
 use Rattle.daachorse_charwise.specs.Frequencies.{HasCounted, joined}
 use Rattle.daachorse_charwise.proofs.CountLaws.{counted_both, joined-push}
 use Rattle.daachorse_charwise.proofs.charwise.frequencies.frequencies.Goals as goal
@@ -13,7 +16,13 @@ loop-pattern-preserved g c =
     let text : Bor (List ℕ) × g.row.V.Denot → List ℕ = λ p. chars p.0.now in
     let i = c.loop-pattern.pattern-index in
     let so_far : List (List ℕ) = map text (take i c.args.patterns.now) in
-    let more : map text (take (i + 1) c.args.patterns.now) ≡ so_far ++ text pair ∷ [] =
-    ap (map text) (take_more c.args.patterns.now i pair c.loop-pattern-test.true ∙ ap (λ x. take i c.args.patterns.now ++ x ∷ []) (sym c.loop-pattern-item.is)) ∙ map_push text (take i c.args.patterns.now) pair in
+    let push : take (i + 1) c.args.patterns.now ≡ take i c.args.patterns.now ++ pair ∷ [] =
+    take_more c.args.patterns.now i pair c.loop-pattern-test.true ∙ ap (λ x. take i c.args.patterns.now ++ x ∷ []) (sym c.loop-pattern-item.is) in
+    let more : map text (take (i + 1) c.args.patterns.now) ≡ so_far ++ text pair ∷ [] = ap (map text) push ∙ map_push text (take i c.args.patterns.now) pair in
     let P : List ℕ → Type 0 = λ w. HasCounted [] w c.count_chars.new.freqs.items in
-    subst P (sym (ap joined more ∙ joined-push so_far (text pair))) (counted_both [] c.loop-pattern.freqs.items c.count_chars.new.freqs.items (joined so_far) (text pair) c.loop-pattern.invariant c.in_ok-count_chars.ensures.ok)
+    let T : Bor (List ℕ) × g.row.V.Denot → Type 0 = λ p. IsTrue (all_scalars (chars p.0.now)) in
+    let A : List (Bor (List ℕ) × g.row.V.Denot) → Type 0 = λ ps. AllByRecursion T ps in
+    record {
+      counted = subst P (sym (ap joined more ∙ joined-push so_far (text pair))) (counted_both [] c.loop-pattern.freqs.items c.count_chars.new.freqs.items (joined so_far) (text pair) c.loop-pattern.invariant.counted c.in_ok-count_chars.ensures.ok);
+      texts = subst A (sym push) (all-push T (take i c.args.patterns.now) pair c.loop-pattern.invariant.texts c.in_ok-count_chars.ensures.text);
+    }

@@ -1,8 +1,13 @@
 use Rattle.std.proofs.Common.{take, map}
-use Rattle.std.specs.Str.{chars}
+use Rattle.std.specs.Prelude.{IsTrue}
+use Rattle.std.specs.List.{AllByRecursion}
+use Rattle.std.specs.Str.{all_scalars, chars}
 use Rattle.daachorse_charwise.specs.Frequencies.{AreFrequencies}
 use Rattle.daachorse_charwise.proofs.charwise.frequencies.frequencies.Given as goal
 
--- the patterns so far are counted
+-- the patterns so far are counted, and are of characters
 abbrev pub invariant-loop-pattern : goal.invariant-loop-pattern
-invariant-loop-pattern g l = AreFrequencies (map (λ p. chars p.0.now) (take l.pattern-index l.patterns)) l.freqs.items
+invariant-loop-pattern g l = record {
+  counted : AreFrequencies (map (λ p. chars p.0.now) (take l.pattern-index l.patterns)) l.freqs.items;
+  texts : AllByRecursion (λ p. IsTrue (all_scalars (chars p.0.now))) (take l.pattern-index l.patterns);
+}

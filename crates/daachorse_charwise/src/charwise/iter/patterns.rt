@@ -1,0 +1,75 @@
+//! The patterns of an automaton over characters, one by one.
+
+ghost use Rattle.std.specs.Prelude.{◌≡◌, IsTrue, IfOk, IfErr};
+ghost use Rattle.std.specs.Str.{all_scalars, chars};
+ghost use Rattle.std.specs.String.{string_bytes};
+ghost use Rattle.daachorse_core.specs.Refusals.{IsOutOfMemory};
+
+use daachorse_charwise_states::edges::Elements;
+use daachorse_core::errors::Result;
+use daachorse_listing::patterns::PatternWalk;
+use std::alloc::{Allocator, Global};
+use std::marker::Model;
+
+/// All patterns that an automaton holds, each with its value: in byte order, which is the order of
+/// the characters, and equal ones in order of registration.
+///
+/// Each pattern is given in memory of its own. Where that is refused there is one error, and then
+/// the end.
+#[derive(Drop)]
+pub struct PatternIterator<'a, V: Copy, A: Allocator = Global> {
+    pub(crate) walk: PatternWalk<V, Elements<'a, V, A>, A>,
+    pub(crate) alloc: A,
+}
+
+impl<'a, V: Copy, A: Allocator> Model for PatternIterator<'a, V, A> {
+    ghost use Rattle.std.specs.Prelude.{List, ℕ};
+    ghost use Rattle.daachorse_charwise.specs.Automata.{AreTexts};
+
+    ghost Value = { List (List ℕ × V) };
+
+    ghost view = { λ s. s.walk };
+
+    ghost invariant = { λ s. AreTexts s.walk };
+}
+
+impl<'a, V: Copy, A: Allocator + Copy> Iterator for PatternIterator<'a, V, A> {
+    ghost use Rattle.std.specs.Iterator.{item_count};
+    ghost use Rattle.std.specs.Str.{chars};
+    ghost use Rattle.std.specs.String.{string_bytes};
+    ghost use Rattle.daachorse_listing.specs.Listing.{GivesPattern};
+
+    type Item = Result<(String<A>, V)>;
+
+    ghost next_gives = { GivesPattern (λ pattern. chars (string_bytes pattern)) };
+
+    ghost remaining = { item_count (λ left. left) };
+
+    fn next(&mut self) -> Option<Result<(String<A>, V)>> {
+        match self.walk.next()? {
+            Ok((code_points, value)) => match text_of(self.alloc, &code_points) {
+                Ok(text) => Some(Ok((text, value))),
+                Err(error) => {
+                    self.walk.end();
+                    Some(Err(error))
+                }
+            },
+            Err(error) => Some(Err(error)),
+        }
+    }
+}
+
+/// The text of these code points.
+fn text_of<A: Allocator>(alloc: A, code_points: &[usize]) -> Result<String<A>>
+    requires { IsTrue (all_scalars code_points.now) }
+    ensures ok { IfOk result (λ text. chars (string_bytes text) ≡ code_points.now) }
+    ensures err { IfErr result IsOutOfMemory }
+{
+    let mut text = String::new(alloc);
+    for &code_point in code_points {
+        if let Some(c) = char::from_u32(code_point as u32) {
+            text.push(c)?;
+        }
+    }
+    Ok(text)
+}

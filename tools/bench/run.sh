@@ -1,10 +1,11 @@
 #!/bin/sh
 # run.sh CRATE WORK WORDS TEXT [WORDS TEXT ..]
 #
-# Measures the automaton over bytes of this repository beside that of the Rust crate daachorse,
-# whose folder is CRATE, with the words of each file WORDS in its TEXT. WORK is a folder to work
-# in; what an earlier run built there is kept.
+# Measures the automata of this repository beside those of the Rust crate daachorse, whose folder
+# is CRATE, with the words of each file WORDS in its TEXT. WORK is a folder to work in; what an
+# earlier run built there is kept.
 #
+# UNITS=bytes or UNITS=chars measures one of the automata.
 # PARTS=counts, PARTS=times or PARTS=build does a part alone. SEEDS is how many links are timed
 # (5), ROUNDS how many rounds in each (15), BYTES the part of a text that instructions are counted
 # in (262144).
@@ -20,6 +21,7 @@ kit=${KIT:-/opt/rattle}
 bytes=${BYTES:-262144}
 rounds=${ROUNDS:-15}
 seeds=${SEEDS:-5}
+units=${UNITS:-bytes chars}
 
 # The sources of a crate, with what its checks kept where there is none yet.
 copy_crate() {
@@ -38,8 +40,10 @@ build_links() {
     for folder in "$top"/crates/* "$here/bench_c"; do
         copy_crate "$folder" "$work/rattle/crates/$(basename "$folder")"
     done
-    # The gate takes each .rt file for one of a crate of its own, so the source has another name here.
-    mv "$work/rattle/crates/bench_c/src/lib.rt.in" "$work/rattle/crates/bench_c/src/lib.rt"
+    # The gate takes each .rt file for one of a crate of its own, so the sources have other names here.
+    for source in "$work"/rattle/crates/bench_c/src/*.rt.in; do
+        mv "$source" "${source%.in}"
+    done
     cat "$top/crates.txt" "$here/crate_line" > "$work/rattle/crates.txt"
     (cd "$work/rattle/crates/bench_c" && RT_ALLOW_C=bench_c rt lib)
     cp -r "$here/driver/src" "$work/driver/"
@@ -62,34 +66,35 @@ instructions() {
         sed -n 's/.*Collected : //p'
 }
 
-# count NAME UNITS PER HEAD..: instructions of one more round or build of either side, each divided by UNITS.
+# count NAME SIZE HEAD..: instructions of one more round or build of either side, each divided by SIZE.
 count() {
-    name=$1 units=$2
+    name=$1 size=$2
     shift 2
     ours=$(($(instructions "$@" 2 0) - $(instructions "$@" 1 0)))
     theirs=$(($(instructions "$@" 0 2) - $(instructions "$@" 0 1)))
-    awk -v n="$name" -v o="$ours" -v t="$theirs" -v u="$units" \
+    awk -v n="$name" -v o="$ours" -v t="$theirs" -v u="$size" \
         'BEGIN { printf "%s\t%.2f\t%.2f\t%.3f\n", n, o / u, t / u, o / t }'
 }
 
+# count_all UNIT WORDS TEXT
 count_all() {
-    size=$(wc -c < "$2")
-    [ "$size" -lt "$bytes" ] || size=$bytes
+    part=$(wc -c < "$3")
+    [ "$part" -lt "$bytes" ] || part=$bytes
     printf 'what\tours instructions a byte\ttheirs\tratio\n'
     for mode in ${MODES-find overlapping no_suffix longest first}; do
-        count "search $mode" "$size" rounds "$mode" "$1" "$2" "$bytes"
+        count "search $mode" "$part" rounds "$1" "$mode" "$2" "$3" "$bytes"
     done
     for mode in ${BUILDS-find longest first}; do
-        count "build for $mode" "$(wc -c < "$1")" builds "$mode" "$1"
+        count "build for $mode" "$(wc -c < "$2")" builds "$1" "$mode" "$2"
     done
 }
 
-# The lines of all links, and then of each column the middle one.
+# time_links UNIT WORDS TEXT: the lines of all links, and then of each column the middle one.
 time_links() {
     seed=1
     while [ "$seed" -le "$seeds" ]; do
         echo "link $seed"
-        "$work/driver-$seed" time "$1" "$2" "$rounds"
+        "$work/driver-$seed" time "$1" "$2" "$3" "$rounds"
         seed=$((seed + 1))
     done | tee "$work/times"
     echo "middle of the links"
@@ -116,8 +121,10 @@ time_links() {
 
 case " $parts " in *" build "*) build_links ;; esac
 while [ $# -ge 2 ]; do
-    echo "# $(basename "$1") in $(basename "$2")"
-    case " $parts " in *" counts "*) count_all "$1" "$2" ;; esac
-    case " $parts " in *" times "*) time_links "$1" "$2" ;; esac
+    for unit in $units; do
+        echo "# $(basename "$1") in $(basename "$2"), $unit"
+        case " $parts " in *" counts "*) count_all "$unit" "$1" "$2" ;; esac
+        case " $parts " in *" times "*) time_links "$unit" "$1" "$2" ;; esac
+    done
     shift 2
 done

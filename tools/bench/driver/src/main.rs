@@ -1,15 +1,15 @@
-//! Times and counts the automaton over bytes of this repository beside that of the Rust crate.
+//! Times and counts the automata of this repository beside those of the Rust crate.
 //!
-//! `driver time WORDS TEXT ROUNDS` prints the least and the median of the rounds of each search and
-//! of each build. `driver rounds MODE WORDS TEXT BYTES OURS THEIRS` and
-//! `driver builds MODE WORDS OURS THEIRS` do so many rounds or builds of either and print nothing
-//! but what they found: they are for counting instructions.
+//! `driver time UNIT WORDS TEXT ROUNDS` prints the least and the median of the rounds of each search
+//! and of each build. `driver rounds UNIT MODE WORDS TEXT BYTES OURS THEIRS` and
+//! `driver builds UNIT MODE WORDS OURS THEIRS` do so many rounds or builds of either and print
+//! nothing but what they found: they are for counting instructions. `UNIT` is `bytes` or `chars`.
 
 mod ours;
 mod theirs;
 
 use std::time::Duration;
-use theirs::Mode;
+use theirs::{Mode, Unit};
 
 /// What a round found.
 #[derive(Clone, Copy, Debug, Default, PartialEq, Eq)]
@@ -77,12 +77,12 @@ fn print_line(name: &str, bytes: usize, ours: Vec<Duration>, theirs: Vec<Duratio
     );
 }
 
-fn time(words: &'static Words, text: &'static [u8], rounds: u32) {
+fn time(words: &'static Words, text: &'static [u8], unit: Unit, rounds: u32) {
     println!(
         "what\tours least ms\tmedian\ttheirs least ms\tmedian\tours MB/s\ttheirs MB/s\tratio of least\tof medians"
     );
     for mode in Mode::ALL {
-        let times = ours::run_beside(words, text, mode, 0, rounds);
+        let times = ours::run_beside(words, text, unit, mode, 0, rounds);
         print_line(
             &format!("search {}", mode.name()),
             text.len(),
@@ -91,7 +91,7 @@ fn time(words: &'static Words, text: &'static [u8], rounds: u32) {
         );
     }
     for mode in [Mode::Find, Mode::Longest, Mode::First] {
-        let times = ours::run_beside(words, text, mode, rounds, 0);
+        let times = ours::run_beside(words, text, unit, mode, rounds, 0);
         print_line(
             &format!("build {}", mode.kind_name()),
             words.bytes.len(),
@@ -101,26 +101,35 @@ fn time(words: &'static Words, text: &'static [u8], rounds: u32) {
     }
 }
 
-fn rounds(words: &Words, text: &[u8], mode: Mode, ours: u32, theirs: u32) {
+fn rounds(words: &Words, text: &[u8], unit: Unit, mode: Mode, ours: u32, theirs: u32) {
     if ours > 0 {
-        println!("{:?}", ours::run_alone(words, text, mode, 0, ours));
+        println!("{:?}", ours::run_alone(words, text, unit, mode, 0, ours));
     }
     if theirs > 0 {
-        let automaton = theirs::build(&words.list(), mode);
+        let automaton = theirs::build(&words.list(), unit, mode);
         for _ in 0..theirs {
             println!("{:?}", theirs::search(&automaton, text, mode));
         }
     }
 }
 
-fn builds(words: &Words, mode: Mode, ours: u32, theirs: u32) {
+fn builds(words: &Words, unit: Unit, mode: Mode, ours: u32, theirs: u32) {
     if ours > 0 {
-        println!("{:?}", ours::run_alone(words, b"", mode, ours, 0));
+        println!("{:?}", ours::run_alone(words, b"", unit, mode, ours, 0));
     }
     let list = words.list();
     for _ in 0..theirs {
-        println!("{}", theirs::build(&list, mode).num_states());
+        println!("{}", theirs::build(&list, unit, mode).num_states());
     }
+}
+
+/// The first bytes of a text, at most so many, that are whole characters.
+fn beginning(text: &[u8], bytes: usize) -> &[u8] {
+    let mut end = text.len().min(bytes);
+    while end < text.len() && text[end] & 0xc0 == 0x80 {
+        end -= 1;
+    }
+    &text[..end]
 }
 
 fn number(word: &str) -> u32 {
@@ -131,26 +140,33 @@ fn main() {
     let args: Vec<String> = std::env::args().skip(1).collect();
     let args: Vec<&str> = args.iter().map(String::as_str).collect();
     match args.as_slice() {
-        ["time", words, text, n] => {
+        ["time", unit, words, text, n] => {
             time(
                 Box::leak(Box::new(Words::read(words))),
                 read(text).leak(),
+                Unit::of(unit),
                 number(n),
             );
         }
-        ["rounds", mode, words, text, bytes, n, m] => {
+        ["rounds", unit, mode, words, text, bytes, n, m] => {
             let text = read(text);
-            let part = &text[..text.len().min(number(bytes) as usize)];
             rounds(
                 &Words::read(words),
-                part,
+                beginning(&text, number(bytes) as usize),
+                Unit::of(unit),
                 Mode::of(mode),
                 number(n),
                 number(m),
             );
         }
-        ["builds", mode, words, n, m] => {
-            builds(&Words::read(words), Mode::of(mode), number(n), number(m));
+        ["builds", unit, mode, words, n, m] => {
+            builds(
+                &Words::read(words),
+                Unit::of(unit),
+                Mode::of(mode),
+                number(n),
+                number(m),
+            );
         }
         _ => panic!("the head of main.rs says how this is called"),
     }

@@ -1,6 +1,6 @@
 //! This repository's side: one call that builds and searches, and marks each beginning and end.
 
-use crate::theirs::{self, Automaton, Mode};
+use crate::theirs::{self, Automaton, Mode, Unit};
 use crate::{Tally, Words};
 use std::cell::RefCell;
 use std::time::{Duration, Instant};
@@ -13,6 +13,7 @@ unsafe extern "C" {
         ends_len: usize,
         haystack: *const u8,
         haystack_len: usize,
+        unit: u32,
         mode: u32,
         builds: u32,
         rounds: u32,
@@ -39,6 +40,7 @@ struct Beside {
     words: Vec<&'static [u8]>,
     text: &'static [u8],
     automaton: Automaton,
+    unit: Unit,
     mode: Mode,
     expected: Tally,
 }
@@ -53,7 +55,7 @@ impl Marks {
         let Some(beside) = &self.beside else { return };
         let began = Instant::now();
         if is_build {
-            let built = theirs::build(&beside.words, beside.mode);
+            let built = theirs::build(&beside.words, beside.unit, beside.mode);
             self.times.theirs.push(began.elapsed());
             drop(built);
         } else {
@@ -99,6 +101,7 @@ extern "C" fn bench_mark(event: u32, count: u64, sum: u64) {
 fn run(
     words: &Words,
     text: &[u8],
+    unit: Unit,
     mode: Mode,
     builds: u32,
     rounds: u32,
@@ -120,6 +123,7 @@ fn run(
             words.ends.len(),
             text.as_ptr(),
             text.len(),
+            unit as u32,
             mode as u32,
             builds,
             rounds,
@@ -130,27 +134,36 @@ fn run(
 }
 
 /// So many builds and rounds of ours alone; what the last round found.
-pub fn run_alone(words: &Words, text: &[u8], mode: Mode, builds: u32, rounds: u32) -> Tally {
-    run(words, text, mode, builds, rounds, None).last
+pub fn run_alone(
+    words: &Words,
+    text: &[u8],
+    unit: Unit,
+    mode: Mode,
+    builds: u32,
+    rounds: u32,
+) -> Tally {
+    run(words, text, unit, mode, builds, rounds, None).last
 }
 
 /// So many builds or rounds of both sides, in turn.
 pub fn run_beside(
     words: &'static Words,
     text: &'static [u8],
+    unit: Unit,
     mode: Mode,
     builds: u32,
     rounds: u32,
 ) -> Times {
     let list = words.list();
-    let automaton = theirs::build(&list, mode);
+    let automaton = theirs::build(&list, unit, mode);
     let expected = theirs::search(&automaton, text, mode);
     let beside = Beside {
         words: list,
         text,
         automaton,
+        unit,
         mode,
         expected,
     };
-    run(words, text, mode, builds, rounds, Some(beside)).times
+    run(words, text, unit, mode, builds, rounds, Some(beside)).times
 }

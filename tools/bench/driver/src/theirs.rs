@@ -1,7 +1,28 @@
 //! The Rust crate's side.
 
 use crate::Tally;
-use daachorse::{DoubleArrayAhoCorasick, DoubleArrayAhoCorasickBuilder, MatchKind};
+use daachorse::{
+    CharwiseDoubleArrayAhoCorasick, CharwiseDoubleArrayAhoCorasickBuilder, DoubleArrayAhoCorasick,
+    DoubleArrayAhoCorasickBuilder, MatchKind,
+};
+use std::str::from_utf8;
+
+/// What an automaton reads: bytes or characters.
+#[derive(Clone, Copy, PartialEq, Eq)]
+pub enum Unit {
+    Byte,
+    Char,
+}
+
+impl Unit {
+    pub fn of(name: &str) -> Unit {
+        match name {
+            "bytes" => Unit::Byte,
+            "chars" => Unit::Char,
+            _ => panic!("no unit: {name}"),
+        }
+    }
+}
 
 #[derive(Clone, Copy, PartialEq, Eq)]
 pub enum Mode {
@@ -43,23 +64,48 @@ impl Mode {
     }
 }
 
-pub type Automaton = DoubleArrayAhoCorasick<u32>;
+pub enum Automaton {
+    Bytes(DoubleArrayAhoCorasick<u32>),
+    Chars(CharwiseDoubleArrayAhoCorasick<u32>),
+}
+
+impl Automaton {
+    pub fn num_states(&self) -> usize {
+        match self {
+            Automaton::Bytes(automaton) => automaton.num_states(),
+            Automaton::Chars(automaton) => automaton.num_states(),
+        }
+    }
+}
+
+fn text_of(bytes: &[u8]) -> &str {
+    from_utf8(bytes).expect("the words and the text are UTF-8")
+}
 
 #[inline(never)]
-pub fn build(words: &[&[u8]], mode: Mode) -> Automaton {
-    let builder = DoubleArrayAhoCorasickBuilder::new();
-    let builder = builder.match_kind(mode.kind()).use_prefilter(false);
-    builder
-        .build(words.iter().copied())
-        .expect("the words build")
+pub fn build(words: &[&[u8]], unit: Unit, mode: Mode) -> Automaton {
+    match unit {
+        Unit::Byte => Automaton::Bytes(
+            DoubleArrayAhoCorasickBuilder::new()
+                .match_kind(mode.kind())
+                .use_prefilter(false)
+                .build(words.iter().copied())
+                .expect("the words build"),
+        ),
+        Unit::Char => Automaton::Chars(
+            CharwiseDoubleArrayAhoCorasickBuilder::new()
+                .match_kind(mode.kind())
+                .use_prefilter(false)
+                .build(words.iter().map(|word| text_of(word)))
+                .expect("the words build"),
+        ),
+    }
 }
 
 pub fn search(automaton: &Automaton, text: &[u8], mode: Mode) -> Tally {
-    match mode {
-        Mode::Find => find(automaton, text),
-        Mode::Overlapping => overlapping(automaton, text),
-        Mode::NoSuffix => no_suffix(automaton, text),
-        Mode::Longest | Mode::First => leftmost(automaton, text),
+    match automaton {
+        Automaton::Bytes(automaton) => bytes::search(automaton, text, mode),
+        Automaton::Chars(automaton) => chars::search(automaton, text_of(text), mode),
     }
 }
 
@@ -71,38 +117,43 @@ impl Tally {
     }
 }
 
-#[inline(never)]
-fn find(automaton: &Automaton, text: &[u8]) -> Tally {
-    let mut tally = Tally::default();
-    for found in automaton.find_iter(text) {
-        tally.add(found.end());
-    }
-    tally
+/// The searches of an automaton, each in a function of its own.
+macro_rules! searches {
+    ($module:ident, $automaton:ty, $text:ty) => {
+        mod $module {
+            use super::*;
+
+            pub fn search(automaton: &$automaton, text: &$text, mode: Mode) -> Tally {
+                match mode {
+                    Mode::Find => find(automaton, text),
+                    Mode::Overlapping => overlapping(automaton, text),
+                    Mode::NoSuffix => no_suffix(automaton, text),
+                    Mode::Longest | Mode::First => leftmost(automaton, text),
+                }
+            }
+
+            searches!(find, find_iter, $automaton, $text);
+            searches!(overlapping, find_overlapping_iter, $automaton, $text);
+            searches!(
+                no_suffix,
+                find_overlapping_no_suffix_iter,
+                $automaton,
+                $text
+            );
+            searches!(leftmost, leftmost_find_iter, $automaton, $text);
+        }
+    };
+    ($name:ident, $iter:ident, $automaton:ty, $text:ty) => {
+        #[inline(never)]
+        fn $name(automaton: &$automaton, text: &$text) -> Tally {
+            let mut tally = Tally::default();
+            for found in automaton.$iter(text) {
+                tally.add(found.end());
+            }
+            tally
+        }
+    };
 }
 
-#[inline(never)]
-fn overlapping(automaton: &Automaton, text: &[u8]) -> Tally {
-    let mut tally = Tally::default();
-    for found in automaton.find_overlapping_iter(text) {
-        tally.add(found.end());
-    }
-    tally
-}
-
-#[inline(never)]
-fn no_suffix(automaton: &Automaton, text: &[u8]) -> Tally {
-    let mut tally = Tally::default();
-    for found in automaton.find_overlapping_no_suffix_iter(text) {
-        tally.add(found.end());
-    }
-    tally
-}
-
-#[inline(never)]
-fn leftmost(automaton: &Automaton, text: &[u8]) -> Tally {
-    let mut tally = Tally::default();
-    for found in automaton.leftmost_find_iter(text) {
-        tally.add(found.end());
-    }
-    tally
-}
+searches!(bytes, DoubleArrayAhoCorasick<u32>, [u8]);
+searches!(chars, CharwiseDoubleArrayAhoCorasick<u32>, str);

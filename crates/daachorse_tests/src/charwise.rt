@@ -23,7 +23,7 @@ fn build<A: Allocator + Copy>(
     alloc: A,
     patterns: &[&str],
 ) -> Result<CharwiseDoubleArrayAhoCorasick<u32, A>>
-    ensures { IfOk result (λ a. a.kind ≡ Standard) }
+    ensures { IfOk result (λ a. a.parts.kind ≡ Standard) }
 {
     CharwiseDoubleArrayAhoCorasick::new(alloc, patterns.iter().copied())
 }
@@ -33,7 +33,7 @@ fn build_for<A: Allocator + Copy>(
     kind: MatchKind,
     patterns: &[&str],
 ) -> Result<CharwiseDoubleArrayAhoCorasick<u32, A>>
-    ensures { IfOk result (λ a. a.kind ≡ kind) }
+    ensures { IfOk result (λ a. a.parts.kind ≡ kind) }
 {
     let builder = CharwiseDoubleArrayAhoCorasickBuilder::default().match_kind(kind);
     builder.build(alloc, patterns.iter().copied())
@@ -45,7 +45,7 @@ fn find_in_bytes(
     automaton: &CharwiseDoubleArrayAhoCorasick<u32>,
     text: &str,
 ) -> Result<Matches, AllocError>
-    requires { automaton.now.kind ≡ Standard }
+    requires { automaton.now.parts.kind ≡ Standard }
 {
     let _len = text.len();
     automaton.find_iter_from_iter(text.bytes()).collect(alloc)
@@ -57,7 +57,7 @@ fn find_overlapping_in_bytes(
     automaton: &CharwiseDoubleArrayAhoCorasick<u32>,
     text: &str,
 ) -> Result<Matches, AllocError>
-    requires { automaton.now.kind ≡ Standard }
+    requires { automaton.now.parts.kind ≡ Standard }
 {
     let _len = text.len();
     automaton
@@ -71,7 +71,7 @@ fn find_no_suffix_in_bytes(
     automaton: &CharwiseDoubleArrayAhoCorasick<u32>,
     text: &str,
 ) -> Result<Matches, AllocError>
-    requires { automaton.now.kind ≡ Standard }
+    requires { automaton.now.parts.kind ≡ Standard }
 {
     let _len = text.len();
     automaton

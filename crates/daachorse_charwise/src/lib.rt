@@ -2,3 +2,5 @@
 #![tactic(auto)]
 
 pub mod charwise;
+#[cfg(test)]
+mod tests;

@@ -91,7 +91,7 @@ module _ {V : Type 0} (a : Lettered V) (letters : AreCharacters a.parts.coding (
           let at = child_at-from (count a.parts) i (base_of a.parts i) c j check_at code.2 in
           let check : check_of a.parts j ≡ i = (child_at-inside (count a.parts) i (base_of a.parts i) c j check_at code.2).1 in
           let back : bit_xor (base_of a.parts i) j ≡ c =
-              ap (bit_xor (base_of a.parts i)) (sym at.1 ∙ xor_comm (base_of a.parts i) c) ∙ (xor_comm (base_of a.parts i) (bit_xor c (base_of a.parts i)) ∙ xor_back c (base_of a.parts i)) in
+          ap (bit_xor (base_of a.parts i)) (sym at.1 ∙ xor_comm (base_of a.parts i) c) ∙ (xor_comm (base_of a.parts i) (bit_xor c (base_of a.parts i)) ∙ xor_back c (base_of a.parts i)) in
           let entry : slice_index a.characters c ≡ suc u = letters.from_code u c (coded_inside u c code.1) code.1 in
           let test : (base_of a.parts i == 0) ≡ false = grind (arith, at.0) in
           let group : i ≡ g = same_Some i g (second (base_of a.parts i == 0) (Some i) g own).1 in
@@ -109,5 +109,5 @@ module _ {V : Type 0} (a : Lettered V) (letters : AreCharacters a.parts.coding (
           let some : base_of a.parts i ≢ 0 = λ zero. parts.1 (ap (base_of a.parts) (sym group) ∙ zero) in
           let check : check_of a.parts j ≡ i = parts.0 ∙ sym group in
           let moved : bit_xor (base_of a.parts i) c ≡ j =
-              ap (bit_xor (base_of a.parts i)) (xor_comm (base_of a.parts i) j) ∙ (xor_comm (base_of a.parts i) (bit_xor j (base_of a.parts i)) ∙ xor_back j (base_of a.parts i)) in
+          ap (bit_xor (base_of a.parts i)) (xor_comm (base_of a.parts i) j) ∙ (xor_comm (base_of a.parts i) (bit_xor j (base_of a.parts i)) ∙ xor_back j (base_of a.parts i)) in
           child_by_code a.parts.states a.parts.coding i u c code ∙ child_at-some (count a.parts) i (base_of a.parts i) c j check_at some moved less check

@@ -172,10 +172,7 @@ impl<V: Copy, A: Allocator + Copy> States<V, A> {
     /// # Errors
     ///
     /// An allocation failed.
-    pub fn pattern_iter<'a>(
-        &'a self,
-        alloc: A,
-    ) -> Result<PatternWalk<V, Elements<'a, V, A>, A>>
+    pub fn pattern_iter<'a>(&'a self, alloc: A) -> Result<PatternWalk<V, Elements<'a, V, A>, A>>
         ensures ok { IfOk result (λ walk. IsListing (content self.entry.now) walk) }
         ensures err { IfErr result IsOutOfMemory }
     {

@@ -17,7 +17,6 @@ use daachorse_search::matches::Matches;
 use daachorse_search::matches_from::MatchesFrom;
 use daachorse_search::overlapping::{NoSuffixWalk, OverlappingWalk};
 use daachorse_search::{find_stepper, haystack, overlapping_stepper, source};
-
 pub use patterns::PatternIterator;
 
 /// Matches in a slice that do not overlap: each ends as early as it can, and at that end it is the

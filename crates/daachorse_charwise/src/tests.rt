@@ -47,8 +47,8 @@ fn depths_are_counted_in_characters(rt: HostRuntime) -> Result<(), Fail> {
 
 #[test]
 fn patterns_are_listed_in_the_order_of_their_characters(rt: HostRuntime) -> Result<(), Fail> {
-    let patvals = [("界", 0), ("世界", 1), ("世", 2), ("ab", 3), ("界", 4)];
-    let listing = [("ab", 3), ("世", 2), ("世界", 1), ("界", 0), ("界", 4)];
+    let patvals = [("全世界", 0), ("世界", 1), ("に", 2), ("世界", 3), ("ab", 4)];
+    let listing = [("ab", 4), ("に", 2), ("世界", 1), ("世界", 3), ("全世界", 0)];
     let automaton = build(rt.alloc(), &patvals)?;
     let mut left = listing.iter();
     for item in automaton.iter(rt.alloc())? {

@@ -103,6 +103,59 @@ fn states_are_the_prefixes(rt: HostRuntime) -> Result<(), Fail> {
     Ok(())
 }
 
+/// The depths of the states of a search for all matches at the start, and after a, b and b.
+fn overlapping_depths(automaton: &DoubleArrayAhoCorasick<u32>) -> [Option<u32>; 4]
+    requires { automaton.now.parts.kind ≡ Standard }
+{
+    let mut stepper = automaton.find_overlapping_stepper();
+    let start = stepper.depth();
+    stepper.consume(b'a');
+    let first = stepper.depth();
+    stepper.consume(b'b');
+    let second = stepper.depth();
+    stepper.consume(b'b');
+    [start, first, second, stepper.depth()]
+}
+
+/// The same of the search for matches that do not overlap.
+fn find_depths(automaton: &DoubleArrayAhoCorasick<u32>) -> [Option<u32>; 4]
+    requires { automaton.now.parts.kind ≡ Standard }
+{
+    let mut stepper = automaton.find_stepper();
+    let start = stepper.depth();
+    stepper.consume(b'a');
+    let first = stepper.depth();
+    stepper.consume(b'b');
+    let second = stepper.depth();
+    stepper.consume(b'b');
+    [start, first, second, stepper.depth()]
+}
+
+#[test]
+fn depths_are_those_of_the_states(rt: HostRuntime) -> Result<(), Fail> {
+    let mut automaton = standard(rt.alloc(), &[(b"ab", 0), (b"b", 1)])?;
+    assert_eq!(rt; overlapping_depths(&automaton), [None, None, None, None]);
+    assert_eq!(rt; find_depths(&automaton), [None, None, None, None]);
+    automaton.cache_depths()?;
+    assert_eq!(rt;
+        overlapping_depths(&automaton),
+        [Some(0), Some(1), Some(2), Some(1)]
+    );
+    // Behind each match it begins again.
+    assert_eq!(rt;
+        find_depths(&automaton),
+        [Some(0), Some(1), Some(0), Some(0)]
+    );
+    // With an empty pattern it stays at the root.
+    let mut everywhere = standard(rt.alloc(), &[(b"ab", 0), (b"", 1)])?;
+    everywhere.cache_depths()?;
+    assert_eq!(rt;
+        find_depths(&everywhere),
+        [Some(0), Some(0), Some(0), Some(0)]
+    );
+    Ok(())
+}
+
 #[test]
 fn equality_and_hash_look_at_cached_depths(rt: HostRuntime) -> Result<(), Fail> {
     let mut automaton = standard(rt.alloc(), &[(b"ab", 0), (b"b", 1)])?;

@@ -1,18 +1,17 @@
 -- What is read of the parts that a view borrows, element by element.
-use Rattle.std.proofs.Common.{◌≡◌, ◌≢◌, ℕ, ◌<◌, ◌≤◌, Bool, false, bit_xor, max, length, Option, Some, None, sym, ap, ◌∙◌, subst, arith, slice_index_or}
+use Rattle.std.proofs.Common.{◌≡◌, ◌≢◌, ℕ, ◌<◌, Bool, false, length, Option, Some, None, sym, ap, ◌∙◌, subst, arith, slice_index_or}
 use Rattle.std.specs.Prelude.{MatchOption}
 use Rattle.std.proofs.lemmas.List.{get_or_default}
 use Rattle.daachorse_model.specs.Kinds.{is_leftmost}
 use Rattle.daachorse_model.specs.Units.{char_width}
 use Rattle.daachorse_machine.specs.Machines.{IsMachine}
 use Rattle.daachorse_search.specs.Looks.{IsForeign}
-use Rattle.daachorse_machine.proofs.ChildLaws.{moved_inside}
 use Rattle.daachorse_machine.proofs.DeadLaws.{kind_standard, none_dead}
 use Rattle.daachorse_machine.proofs.MachineLaws.{Reached-inside, standard-alive}
 use Rattle.daachorse_mapper.specs.Codings.{code_of}
 use Rattle.daachorse_charwise_states.specs.declared.state.State.{State}
 use Rattle.daachorse_charwise_states.specs.Elements.{base_in, check_in, fail_in, output_in, vacant}
-use Rattle.daachorse_charwise_states.specs.Parts.{Parts, base_of, child, child_among, child_by, content, count, fail_of, machine, output_of}
+use Rattle.daachorse_charwise_states.specs.Parts.{Parts, child, child_among, child_by, content, count, fail_of, machine, output_of}
 use Rattle.daachorse_charwise_states.specs.Valid.{IsState, IsValid, has_code}
 use Rattle.daachorse_charwise_states.specs.Views.{IsFor}
 use Rattle.daachorse_charwise_states.proofs.CharLaws.{child_by_code, foreign_char, valid_machine}
@@ -33,19 +32,6 @@ module _ {V : Type 0} (q p : Parts V) (leftmost : Bool) (is : q ≡ p) (kept : I
       let inside : i < count p = Reached-inside _ _ _ _ _ view_machine i r in
       let same : length q.states ≡ count p = ap count is in
       omega (arith, inside, same)
-
-  -- a character's code leads to an element
-  pub view_moves : (d : State) (i c : ℕ) → IsState p i → (u : ℕ) × (code_of p.coding u ≡ Some c) → bit_xor (base_in (slice_index_or q.states i d)) c < length q.states
-  view_moves d i c r unit =
-      let blocks = view_valid.blocks in
-      let base : base_of p i < count p = (view_valid.inside i (Reached-inside _ _ _ _ _ view_machine i r)).base in
-      let code : c < p.coding.alphabet_size = view_valid.coding.below unit.0 c unit.1 in
-      let most : max 2 p.coding.alphabet_size ≤ blocks.block = blocks.power.1 in
-      let moved : bit_xor (base_of p i) c < count p = moved_inside blocks.block (count p) (base_of p i) c blocks.power.0 blocks.whole base (omega (arith, code, most)) in
-      let read : base_of p i ≡ base_in (slice_index_or q.states i d) = ap (λ x. base_of x i) (sym is) ∙ ap base_in (get_or_default q.states i vacant d (view_inside i r)) in
-      let same : length q.states ≡ count p = ap count is in
-      let B : ℕ → Type 0 = λ b. bit_xor b c < length q.states in
-      subst B read (omega (arith, moved, same))
 
   -- what a code leads to is read off the element, whatever stands past the last
   pub view_child : (d : State) (i u c : ℕ) → IsState p i → code_of p.coding u ≡ Some c

@@ -3,7 +3,7 @@
 //! The layers above may rely on an element keeping its base, its check, its failure link and the
 //! position of its first output, each on its own, and on being read back from what was written.
 
-ghost use Rattle.std.specs.Prelude.{◌≡◌, ◌+◌, ◌<◌, ℕ, IfErr, bit_xor, length, slice_index_or};
+ghost use Rattle.std.specs.Prelude.{◌≡◌, ◌+◌, ℕ, IfErr, length, slice_index_or};
 ghost use Rattle.daachorse_core.specs.Outputs.{number};
 ghost use Rattle.daachorse_core.specs.declared.errors.DaachorseError.TheVariants.{InvalidAutomaton};
 ghost use Rattle.daachorse_serializer.specs.Forms.{Gives};
@@ -126,14 +126,12 @@ impl State {
     /// there is one.
     #[inline(always)]
     pub fn child(&self, index: u32, code: u32, states: &[State]) -> Option<u32>
-        requires { bit_xor (base_in self.now) code < length states.now }
         ensures { result ≡ child_by (length states.now) (λ j. check_in (slice_index_or states.now j vacant)) index (base_in self.now) code }
     {
         let child = self.base()?.get() ^ code;
-        if states[child as usize].check() == index {
-            Some(child)
-        } else {
-            None
+        match states.get(child as usize) {
+            Some(element) if element.check() == index => Some(child),
+            _ => None,
         }
     }
 }

@@ -1,16 +1,6 @@
--- What a label leads to in a double array: the element `base XOR label`, if its check is right. Whole blocks keep it inside, and nothing past the end matters.
-use Rattle.std.proofs.Common.{◌≡◌, ◌≢◌, ℕ, ◌+◌, ◌*◌, ◌/◌, ◌%◌, ◌<◌, Bool, true, false, cond, ◌==◌, nat_lt, bit_xor, Option, Some, None, refl, sym, ap, subst, ◌∙◌, arith, add-zero}
-use Rattle.std.specs.Int.{IsPowerOfTwo}
-use Rattle.std.proofs.lemmas.Nat.{div-add-mod'}
+-- What a label leads to in a double array: the element `base XOR label`, if its check is right. Nothing past the end matters.
+use Rattle.std.proofs.Common.{◌≡◌, ◌≢◌, ℕ, ◌<◌, Bool, true, false, cond, ◌==◌, nat_lt, bit_xor, Option, Some, None, refl, sym, ap, ◌∙◌, arith}
 use Rattle.std.proofs.lemmas.Option.{same_Some}
-use Rattle.daachorse_core.proofs.Xor.{xor_inside}
-
--- in whole blocks a label below their length leads from an element to an element
-pub moved_inside : (block n base c : ℕ) → IsPowerOfTwo block → n % block ≡ 0 → base < n → c < block → bit_xor base c < n
-moved_inside block n base c power blocks inside label =
-    let whole : n / block * block ≡ n = sym (add-zero (n / block * block)) ∙ (ap (λ r. n / block * block + r) (sym blocks) ∙ div-add-mod' n block) in
-    let fits : base < n / block * block = subst (λ (m : ℕ). base < m) (sym whole) inside in
-    subst (λ (m : ℕ). bit_xor base c < m) whole (xor_inside block (n / block) base c power label fits)
 
 -- from a base, of n elements, where the check has to be `right`
 abbrev pub child_at : ℕ → (ℕ → ℕ) → ℕ → ℕ → ℕ → Option ℕ

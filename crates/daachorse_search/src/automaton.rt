@@ -69,10 +69,9 @@ pub trait Automaton<V: Copy>: Drop {
         ensures { MatchOption result ((has_label self.now (Self.Unit.unit unit) ≡ false) × IsForeign (content self.now) (Self.Unit.unit unit))
             (λ label. labels self.now label (Self.Unit.unit unit)) };
 
-    /// Looks at one state, for a label that stands for a unit.
+    /// Looks at one state.
     fn turn(&self, state: u32, label: Self::Label, turns: &mut Turns) -> Look
-        requires reached { reached self.now state }
-        requires label { (unit : ℕ) × labels self.now label unit }
+        requires { reached self.now state }
         ensures look { (unit : ℕ) → labels self.now label unit
             → LookGives (content self.now) (reached self.now) (text self.now) (dead self.now) (text self.now state) unit result }
         ensures counted { turns.new ≡ turns.old + 1 };

@@ -6,28 +6,28 @@ use Rattle.daachorse_bytewise_states.proofs.LeftmostLaws.{left_child, left_fail,
 use Rattle.daachorse_bytewise_states.proofs.leftmost.LeftmostAutomaton.turn.Goals as goal
 
 pub bounds-self-inside-state : goal.bounds-self-inside-state
-bounds-self-inside-state g c = left_inside _ _ _ _ _ _ c.self.view_is c.self.invariant c.args.state c.requires.reached
+bounds-self-inside-state g c = left_inside _ _ _ _ _ _ c.self.view_is c.self.invariant c.args.state c.requires
 
 pub returns-in-Some-clause-look : goal.returns-in-Some-clause-look
 returns-in-Some-clause-look g c =
     let next = left_child _ _ _ _ _ _ c.self.view_is c.self.invariant c.args.state c.args.label ∙ sym c.in-Some.ensures in
-    gives_label c.args.self.now c.args.state c.args.label (Next c.in-Some.child) (look_child _ (left_valid _ _ _ _ _ _ c.self.view_is c.self.invariant) c.args.state c.args.label c.in-Some.child c.requires.reached next)
+    gives_label c.args.self.now c.args.state c.args.label (Next c.in-Some.child) (look_child _ (left_valid _ _ _ _ _ _ c.self.view_is c.self.invariant) c.args.state c.args.label c.in-Some.child c.requires next)
 
 pub returns-then-state-eq-ROOT_STATE_IDX-clause-look :
     goal.returns-then-state-eq-ROOT_STATE_IDX-clause-look
 returns-then-state-eq-ROOT_STATE_IDX-clause-look g c =
     let none = left_child _ _ _ _ _ _ c.self.view_is c.self.invariant c.args.state c.args.label ∙ sym c.in_default.ensures in
-    gives_label c.args.self.now c.args.state c.args.label (Next 0) (look_root _ (left_valid _ _ _ _ _ _ c.self.view_is c.self.invariant) c.args.state c.args.label c.requires.reached none c.if-state-eq-ROOT_STATE_IDX.true)
+    gives_label c.args.self.now c.args.state c.args.label (Next 0) (look_root _ (left_valid _ _ _ _ _ _ c.self.view_is c.self.invariant) c.args.state c.args.label c.requires none c.if-state-eq-ROOT_STATE_IDX.true)
 
 pub bounds-self-inside-state-2 : goal.bounds-self-inside-state-2
-bounds-self-inside-state-2 g c = left_inside_fails _ _ _ _ _ _ c.self.view_is c.self.invariant c.args.state c.requires.reached
+bounds-self-inside-state-2 g c = left_inside_fails _ _ _ _ _ _ c.self.view_is c.self.invariant c.args.state c.requires
 
 pub returns-then-link-eq-DEAD_STATE_IDX-clause-look :
     goal.returns-then-link-eq-DEAD_STATE_IDX-clause-look
 returns-then-link-eq-DEAD_STATE_IDX-clause-look g c =
     let none = left_child _ _ _ _ _ _ c.self.view_is c.self.invariant c.args.state c.args.label ∙ sym c.in_default.ensures in
     let link = left_fail _ _ _ _ _ _ c.self.view_is c.self.invariant c.args.state ∙ c.if-link-eq-DEAD_STATE_IDX.true in
-    gives_label c.args.self.now c.args.state c.args.label (Next 0) (look_dead _ (left_valid _ _ _ _ _ _ c.self.view_is c.self.invariant) c.args.state c.args.label c.requires.reached none c.if-state-eq-ROOT_STATE_IDX.false link)
+    gives_label c.args.self.now c.args.state c.args.label (Next 0) (look_dead _ (left_valid _ _ _ _ _ _ c.self.view_is c.self.invariant) c.args.state c.args.label c.requires none c.if-state-eq-ROOT_STATE_IDX.false link)
 
 pub returns-else-link-eq-DEAD_STATE_IDX-clause-look :
     goal.returns-else-link-eq-DEAD_STATE_IDX-clause-look
@@ -35,4 +35,4 @@ returns-else-link-eq-DEAD_STATE_IDX-clause-look g c =
     let none = left_child _ _ _ _ _ _ c.self.view_is c.self.invariant c.args.state c.args.label ∙ sym c.in_default.ensures in
     let at = slice_index c.self.inside.fails.now c.args.state in
     let link = left_fail _ _ _ _ _ _ c.self.view_is c.self.invariant c.args.state in
-    gives_label c.args.self.now c.args.state c.args.label (Fail at) (look_fail _ (left_valid _ _ _ _ _ _ c.self.view_is c.self.invariant) c.args.state c.args.label at c.requires.reached none c.if-state-eq-ROOT_STATE_IDX.false link c.if-link-eq-DEAD_STATE_IDX.false)
+    gives_label c.args.self.now c.args.state c.args.label (Fail at) (look_fail _ (left_valid _ _ _ _ _ _ c.self.view_is c.self.invariant) c.args.state c.args.label at c.requires none c.if-state-eq-ROOT_STATE_IDX.false link c.if-link-eq-DEAD_STATE_IDX.false)

@@ -10,15 +10,15 @@ pub returns-then-state-eq-ROOT_STATE_IDX-clause-look :
 returns-then-state-eq-ROOT_STATE_IDX-clause-look g c =
     let table = standard_table _ _ _ _ _ c.self.view_is c.self.invariant in
     gives_label c.args.self.now c.args.state c.args.label (Next (slice_index c.self.inside.root.now c.args.label))
-    (look_table _ (standard_valid _ _ _ _ _ c.self.view_is c.self.invariant) c.self.inside.root.now table c.args.state c.args.label c.requires.reached (omega arith) c.if-state-eq-ROOT_STATE_IDX.true)
+    (look_table _ (standard_valid _ _ _ _ _ c.self.view_is c.self.invariant) c.self.inside.root.now table c.args.state c.args.label c.requires (omega arith) c.if-state-eq-ROOT_STATE_IDX.true)
 
 pub bounds-self-inside-state : goal.bounds-self-inside-state
-bounds-self-inside-state g c = standard_inside _ _ _ _ _ c.self.view_is c.self.invariant c.args.state c.requires.reached
+bounds-self-inside-state g c = standard_inside _ _ _ _ _ c.self.view_is c.self.invariant c.args.state c.requires
 
 pub returns-in-Some-clause-look : goal.returns-in-Some-clause-look
 returns-in-Some-clause-look g c =
     let next = standard_child _ _ _ _ _ c.self.view_is c.self.invariant c.args.state c.args.label ∙ sym c.in-Some.ensures in
-    gives_label c.args.self.now c.args.state c.args.label (Next c.in-Some.child) (look_child _ (standard_valid _ _ _ _ _ c.self.view_is c.self.invariant) c.args.state c.args.label c.in-Some.child c.requires.reached next)
+    gives_label c.args.self.now c.args.state c.args.label (Next c.in-Some.child) (look_child _ (standard_valid _ _ _ _ _ c.self.view_is c.self.invariant) c.args.state c.args.label c.in-Some.child c.requires next)
 
 pub returns-in-None-clause-look : goal.returns-in-None-clause-look
 returns-in-None-clause-look g c =
@@ -26,4 +26,4 @@ returns-in-None-clause-look g c =
     let none = standard_child _ _ _ _ _ c.self.view_is c.self.invariant c.args.state c.args.label ∙ sym c.in-None.ensures in
     let link = standard_fail _ _ _ _ _ c.self.view_is c.self.invariant c.args.state ∙ sym c.fail.ensures in
     gives_label c.args.self.now c.args.state c.args.label (Fail c.fail.result)
-    (look_link _ (standard_valid _ _ _ _ _ c.self.view_is c.self.invariant) kind c.args.state c.args.label c.fail.result c.requires.reached none c.if-state-eq-ROOT_STATE_IDX.false link)
+    (look_link _ (standard_valid _ _ _ _ _ c.self.view_is c.self.invariant) kind c.args.state c.args.label c.fail.result c.requires none c.if-state-eq-ROOT_STATE_IDX.false link)

@@ -1,41 +1,38 @@
 use Rattle.std.proofs.Common.{◌≢◌, ◌∙◌, sym}
 use Rattle.daachorse_machine.proofs.MachineLaws.{turn-dead, turn-link, turn-next, turn-root}
 use Rattle.daachorse_charwise_states.specs.Elements.{element}
-use Rattle.daachorse_charwise_states.proofs.ViewLaws.{view_alive, view_child, view_fail, view_inside, view_machine, view_moves}
+use Rattle.daachorse_charwise_states.proofs.ViewLaws.{view_alive, view_child, view_fail, view_inside, view_machine}
 use Rattle.daachorse_charwise_states.proofs.view.ViewAutomaton.turn.Goals.{else-are_leftmost-via-then-are_leftmost+else-link-eq-DEAD_STATE_IDX, else-are_leftmost-via-else-are_leftmost}
 use Rattle.daachorse_charwise_states.proofs.view.ViewAutomaton.turn.Goals as goal
 
 pub bounds-self-inside-state : goal.bounds-self-inside-state
-bounds-self-inside-state g c = view_inside _ _ _ c.self.view_is c.self.invariant c.args.state c.requires.reached
-
-pub child-requires : goal.child-requires
-child-requires g c = view_moves _ _ _ c.self.view_is c.self.invariant (element 0 0 0 0) c.args.state c.args.code c.requires.reached c.requires.label
+bounds-self-inside-state g c = view_inside _ _ _ c.self.view_is c.self.invariant c.args.state c.requires
 
 pub returns-in-Some-clause-look : goal.returns-in-Some-clause-look
 returns-in-Some-clause-look g c = λ unit coded.
-    let next = view_child _ _ _ c.self.view_is c.self.invariant (element 0 0 0 0) c.args.state unit c.args.code c.requires.reached coded ∙ sym c.in-Some.ensures in
-    turn-next _ _ _ _ _ (view_machine _ _ _ c.self.view_is c.self.invariant) c.args.state unit c.in-Some.child c.requires.reached next
+    let next = view_child _ _ _ c.self.view_is c.self.invariant (element 0 0 0 0) c.args.state unit c.args.code c.requires coded ∙ sym c.in-Some.ensures in
+    turn-next _ _ _ _ _ (view_machine _ _ _ c.self.view_is c.self.invariant) c.args.state unit c.in-Some.child c.requires next
 
 pub returns-then-state-eq-ROOT_STATE_IDX-clause-look :
     goal.returns-then-state-eq-ROOT_STATE_IDX-clause-look
 returns-then-state-eq-ROOT_STATE_IDX-clause-look g c = λ unit coded.
-    let none = view_child _ _ _ c.self.view_is c.self.invariant (element 0 0 0 0) c.args.state unit c.args.code c.requires.reached coded ∙ sym c.in_default.ensures in
-    turn-root _ _ _ _ _ (view_machine _ _ _ c.self.view_is c.self.invariant) c.args.state unit c.requires.reached none c.if-state-eq-ROOT_STATE_IDX.true
+    let none = view_child _ _ _ c.self.view_is c.self.invariant (element 0 0 0 0) c.args.state unit c.args.code c.requires coded ∙ sym c.in_default.ensures in
+    turn-root _ _ _ _ _ (view_machine _ _ _ c.self.view_is c.self.invariant) c.args.state unit c.requires none c.if-state-eq-ROOT_STATE_IDX.true
 
 pub returns-then-link-eq-DEAD_STATE_IDX-clause-look :
     goal.returns-then-link-eq-DEAD_STATE_IDX-clause-look
 returns-then-link-eq-DEAD_STATE_IDX-clause-look g c = λ unit coded.
-    let none = view_child _ _ _ c.self.view_is c.self.invariant (element 0 0 0 0) c.args.state unit c.args.code c.requires.reached coded ∙ sym c.in_default.ensures in
-    let link = view_fail _ _ _ c.self.view_is c.self.invariant (element 0 0 0 0) c.args.state c.requires.reached ∙ (sym c.fail-link.ensures ∙ c.if-link-eq-DEAD_STATE_IDX.true) in
-    turn-dead _ _ _ _ _ (view_machine _ _ _ c.self.view_is c.self.invariant) c.args.state unit c.requires.reached none c.if-state-eq-ROOT_STATE_IDX.false link
+    let none = view_child _ _ _ c.self.view_is c.self.invariant (element 0 0 0 0) c.args.state unit c.args.code c.requires coded ∙ sym c.in_default.ensures in
+    let link = view_fail _ _ _ c.self.view_is c.self.invariant (element 0 0 0 0) c.args.state c.requires ∙ (sym c.fail-link.ensures ∙ c.if-link-eq-DEAD_STATE_IDX.true) in
+    turn-dead _ _ _ _ _ (view_machine _ _ _ c.self.view_is c.self.invariant) c.args.state unit c.requires none c.if-state-eq-ROOT_STATE_IDX.false link
 
 -- the link was seen not to be dead, or the searches are standard
 pub returns-clause-look : goal.returns-clause-look
 returns-clause-look g c = λ unit coded.
-    let none = view_child _ _ _ c.self.view_is c.self.invariant (element 0 0 0 0) c.args.state unit c.args.code c.requires.reached coded ∙ sym c.in_default.ensures in
-    let link = view_fail _ _ _ c.self.view_is c.self.invariant (element 0 0 0 0) c.args.state c.requires.reached ∙ sym c.fail-link.ensures in
+    let none = view_child _ _ _ c.self.view_is c.self.invariant (element 0 0 0 0) c.args.state unit c.args.code c.requires coded ∙ sym c.in_default.ensures in
+    let link = view_fail _ _ _ c.self.view_is c.self.invariant (element 0 0 0 0) c.args.state c.requires ∙ sym c.fail-link.ensures in
     let live : c.fail-link.result ≢ 1 = elim c.else-are_leftmost.branch [
       | else-are_leftmost-via-then-are_leftmost+else-link-eq-DEAD_STATE_IDX w ↦ w.if-link-eq-DEAD_STATE_IDX.false
-      | else-are_leftmost-via-else-are_leftmost w ↦ view_alive _ _ _ c.self.view_is c.self.invariant (sym c.are_leftmost.ensures ∙ w.if-are_leftmost.false) c.args.state c.fail-link.result c.requires.reached c.if-state-eq-ROOT_STATE_IDX.false link
+      | else-are_leftmost-via-else-are_leftmost w ↦ view_alive _ _ _ c.self.view_is c.self.invariant (sym c.are_leftmost.ensures ∙ w.if-are_leftmost.false) c.args.state c.fail-link.result c.requires c.if-state-eq-ROOT_STATE_IDX.false link
     ] in
-    turn-link _ _ _ _ _ (view_machine _ _ _ c.self.view_is c.self.invariant) c.args.state unit c.fail-link.result c.requires.reached none c.if-state-eq-ROOT_STATE_IDX.false link live
+    turn-link _ _ _ _ _ (view_machine _ _ _ c.self.view_is c.self.invariant) c.args.state unit c.fail-link.result c.requires none c.if-state-eq-ROOT_STATE_IDX.false link live

@@ -1,5 +1,6 @@
 //! Worked rows of the automaton over characters: what is built, in how many elements, what the
-//! searches find in texts and in the bytes of texts, and each growth of a build refused in turn.
+//! searches find in texts and in the bytes of texts, and each growth of a build and of a listing
+//! refused in turn.
 
 ghost use Rattle.std.specs.Prelude.{◌≡◌, IfOk};
 ghost use Rattle.daachorse_model.specs.declared.MatchKind.TheVariants.{Standard};
@@ -274,4 +275,50 @@ fn each_growth_of_a_build_is_refused_in_turn(rt: HostRuntime) {
         }
         assert!(rt; ended);
     }
+}
+
+#[test]
+fn each_growth_of_a_listing_is_refused_in_turn(rt: HostRuntime) -> Result<(), Fail> {
+    let expected = [(1, "世"), (0, "世界")];
+    let mut ended = false;
+    for number in 0..1000u64 {
+        let heap = Refusing::new(rt.alloc(), number);
+        let Ok(automaton) = build(&heap, &["世界", "世"]) else {
+            continue;
+        };
+        let mut given = 0;
+        let mut errors = 0;
+        match automaton.iter(&heap) {
+            Ok(patterns) => {
+                for item in patterns {
+                    assert!(rt; errors == 0);
+                    match item {
+                        Ok((pattern, value)) => {
+                            assert!(rt; given < 2);
+                            let (number, text) = expected[given];
+                            assert_eq!(rt; value, number);
+                            assert_eq!(rt; pattern.as_str(), text);
+                            given += 1;
+                        }
+                        Err(error) => {
+                            assert!(rt; matches!(error, DaachorseError::OutOfMemory(_)));
+                            errors = 1;
+                        }
+                    }
+                }
+            }
+            Err(error) => {
+                assert!(rt; matches!(error, DaachorseError::OutOfMemory(_)));
+                errors = 1;
+            }
+        }
+        if !heap.has_refused() {
+            assert_eq!(rt; (given, errors), (2, 0));
+            ended = true;
+            break;
+        }
+        assert_eq!(rt; errors, 1, "request {number}");
+    }
+    assert!(rt; ended);
+    Ok(())
 }

@@ -8,10 +8,11 @@ use Rattle.daachorse_model.specs.Dictionary.{Dictionary}
 use Rattle.daachorse_model.specs.Prefixes.{IsPrefix, Occurs}
 use Rattle.daachorse_model.specs.Outputs.{IsChain}
 use Rattle.daachorse_model.specs.Best.{IsBest, IsBestSoFar, IsSteady, LeftSteps, IsLeftmost}
-use Rattle.daachorse_model.proofs.Suffixes.{size-push}
+use Rattle.daachorse_model.proofs.Suffixes.{size-append}
 use Rattle.daachorse_model.proofs.Links.{none_before}
 use Rattle.daachorse_model.proofs.BestLemmas.{IsSteady-nil, Told, Told-IsSteady, IsBestSoFar-keeps, IsBest-new}
 use Rattle.daachorse_search.specs.declared.best.Found.{Found}
+use Rattle.daachorse_search.specs.declared.best.Mark.{Mark}
 use Rattle.daachorse_search.specs.BestScans.{HasNoLongerKey, IsOutputOf, IsTheBest, IsClear}
 
 nil_of : {A : Type 0} (xs : List A) → ¬ (xs ≢ []) → xs ≡ []
@@ -45,43 +46,52 @@ module _ {V : Type 0} (K : Dictionary V) where
   final w t u more a k (inl on) empty best = absurd (on.1 empty)
   final w t u more a k (inr stops) empty best = stops.1.best a k more best
 
-module _ {V : Type 0} (width : ℕ → ℕ) (K : Dictionary V) (has_output : ℕ → Type 0) (outputs : ℕ → List (V × ℕ)) where
+-- The scan of `text` keeps the best as a mark, whose haystack shows by `rest` what is behind it.
+module _ {V H : Type 0} (width : ℕ → ℕ) (K : Dictionary V) (has_output : ℕ → Type 0) (outputs : ℕ → List (V × ℕ)) (rest : H → List ℕ) (text : List ℕ) where
+  -- the haystack is behind all of w
+  abbrev pub IsBehind : List ℕ → H → Type 0
+  IsBehind w behind = size width text ≡ size width w + size width (rest behind)
+
+  -- a haystack that shows what is left is behind all that was read
+  pub IsBehind-now : (seen left : List ℕ) (behind : H) → text ≡ seen ++ left → rest behind ≡ left → IsBehind seen behind
+  IsBehind-now seen left behind parts same = omega (arith, ap (size width) parts, size-append width seen left, ap (size width) same)
+
   -- the best in w was found
-  pub record IsFound (w : List ℕ) (f : Found) : Type 0 where
+  pub record IsFound (w : List ℕ) (m : Mark H) : Type 0 where
     pub front : List ℕ
     pub key : List ℕ
     pub best : IsBest K w front key
-    pub ends : f.end ≡ size width (front ++ key)
-    pub output : IsOutputOf width K has_output outputs f.position.value key
+    pub ends : IsBehind (front ++ key) m.behind
+    pub output : IsOutputOf width K has_output outputs m.position.value key
 
   -- the best in w was found, or nothing occurs there
-  abbrev pub IsFoundSoFar : List ℕ → Option Found → Type 0
+  abbrev pub IsFoundSoFar : List ℕ → Option (Mark H) → Type 0
   IsFoundSoFar w None = IsBestSoFar K w None
-  IsFoundSoFar w (Some f) = IsFound w f
+  IsFoundSoFar w (Some m) = IsFound w m
 
   -- an output that a steady state tells of is that of the best
-  found_told : (w : List ℕ) (position : NonZeroU32) (l : List (V × ℕ)) → outputs position.value ≡ l → 0 < length l → has_output position.value → Told width K w l → IsFound w (record { position = position; end = size width w })
-  found_told w position [] is some has tells = absurd (omega arith)
-  found_told w position (o ∷ l) is some has tells =
+  found_told : (w : List ℕ) (position : NonZeroU32) (behind : H) (l : List (V × ℕ)) → IsBehind w behind → outputs position.value ≡ l → 0 < length l → has_output position.value → Told width K w l
+      → IsFound w (record { position = position; behind = behind })
+  found_told w position behind [] past is some has tells = absurd (omega arith)
+  found_told w position behind (o ∷ l) past is some has tells =
       let k = tells.0 in let ends = tells.1 in let values = tells.4 in
       record {
         front = ends.0;
         key = k;
         best = IsBest-new width K w o l tells;
-        ends = ap (size width) (sym ends.1);
+        ends = past ∙ ap (λ x. size width x + size width (rest behind)) (sym ends.1);
         output = record { place = has; value = o.0; others = values.0; more = l; has = values.1; first = is ∙ ap (λ n. (o.0, n) ∷ l) tells.3 };
       }
 
   module _ (dead : List ℕ → Type 0) (kind : IsLeftmost K dead) where
-    pub IsFound-new : (w t : List ℕ) (position : NonZeroU32) (end : ℕ) → IsSteady K w t → IsChain width K dead t (outputs position.value) → 0 < length (outputs position.value) → has_output position.value → end ≡ size width w
-        → IsFound w (record { position = position; end = end })
-    IsFound-new w t position end steady chain some has is =
-        let P : ℕ → Type 0 = λ n. IsFound w (record { position = position; end = n }) in
-        subst P (sym is) (found_told w position (outputs position.value) refl some has (Told-IsSteady width K dead kind w t (outputs position.value) steady chain))
+    pub IsFound-new : (w t : List ℕ) (position : NonZeroU32) (behind : H) → IsSteady K w t → IsChain width K dead t (outputs position.value) → 0 < length (outputs position.value) → has_output position.value → IsBehind w behind
+        → IsFound w (record { position = position; behind = behind })
+    IsFound-new w t position behind steady chain some has past =
+        found_told w position behind (outputs position.value) past refl some has (Told-IsSteady width K dead kind w t (outputs position.value) steady chain)
 
-    pub IsFound-keeps : (w t : List ℕ) (u : ℕ) (best : Option Found) → IsSteady K (w ++ u ∷ []) t → IsChain width K dead t [] → IsFoundSoFar w best → IsFoundSoFar (w ++ u ∷ []) best
+    pub IsFound-keeps : (w t : List ℕ) (u : ℕ) (best : Option (Mark H)) → IsSteady K (w ++ u ∷ []) t → IsChain width K dead t [] → IsFoundSoFar w best → IsFoundSoFar (w ++ u ∷ []) best
     IsFound-keeps w t u None steady chain found = IsBestSoFar-keeps width K w u None (Told-IsSteady width K dead kind (w ++ u ∷ []) t [] steady chain) found
-    IsFound-keeps w t u (Some f) steady chain found = record {
+    IsFound-keeps w t u (Some m) steady chain found = record {
       front = found.front;
       key = found.key;
       best = IsBestSoFar-keeps width K w u (Some (found.front, found.key)) (Told-IsSteady width K dead kind (w ++ u ∷ []) t [] steady chain) found.best;
@@ -121,30 +131,28 @@ module _ {V : Type 0} (width : ℕ → ℕ) (K : Dictionary V) (has_output : ℕ
     labelled-one (x ∷ w) = omega (arith, labelled-append (x ∷ []) w)
 
     -- A scan of `text` that has read all but `left`, with these bounds on its turns.
-    pub record IsScanning (text left t : List ℕ) (best : Option Found) (read before turns : ℕ) : Type 0 where
+    pub record IsScanning (left t : List ℕ) (best : Option (Mark H)) (before turns : ℕ) : Type 0 where
       pub seen : List ℕ
       pub parts : text ≡ seen ++ left
-      pub here : read ≡ size width seen
       pub steady : IsSteady K seen t
       pub found : IsFoundSoFar seen best
       pub counted : turns + length t ≤ before + 2 * length seen
       pub least : before + labelled seen ≤ turns
 
     -- a scan begins at the root
-    pub IsScanning-first : (text left t : List ℕ) (best : Option Found) (read turns : ℕ) → left ≡ text → t ≡ [] → read ≡ 0 → IsFoundSoFar [] best → IsScanning text left t best read turns turns
-    IsScanning-first text left t best read turns all empty none found =
+    pub IsScanning-first : (left t : List ℕ) (best : Option (Mark H)) (turns : ℕ) → left ≡ text → t ≡ [] → IsFoundSoFar [] best → IsScanning left t best turns turns
+    IsScanning-first left t best turns all empty found =
         let P : List ℕ → Type 0 = λ x. IsSteady K [] x in
-        record { seen = []; parts = sym all; here = none; steady = subst P (sym empty) (IsSteady-nil K); found = found; counted = omega (arith, ap length empty); least = omega arith }
+        record { seen = []; parts = sym all; steady = subst P (sym empty) (IsSteady-nil K); found = found; counted = omega (arith, ap length empty); least = omega arith }
 
     -- one more unit
-    pub IsScanning-more : (text left t : List ℕ) (old : Option Found) (read before turns u : ℕ) (rest r : List ℕ) (best : Option Found) (wide later : ℕ)
-        → (was : IsScanning text left t old read before turns) → left ≡ u ∷ rest → wide ≡ width u
+    pub IsScanning-more : (left t : List ℕ) (old : Option (Mark H)) (before turns u : ℕ) (more r : List ℕ) (best : Option (Mark H)) (later : ℕ)
+        → (was : IsScanning left t old before turns) → left ≡ u ∷ more
         → later + length r ≤ turns + length t + 2 → turns + cond (has_label u) 1 0 ≤ later
-        → IsSteady K (was.seen ++ u ∷ []) r → IsFoundSoFar (was.seen ++ u ∷ []) best → IsScanning text rest r best (read + wide) before later
-    IsScanning-more text left t old read before turns u rest r best wide later was next is_wide most least steady found = record {
+        → IsSteady K (was.seen ++ u ∷ []) r → IsFoundSoFar (was.seen ++ u ∷ []) best → IsScanning more r best before later
+    IsScanning-more left t old before turns u more r best later was next most least steady found = record {
       seen = was.seen ++ u ∷ [];
-      parts = was.parts ∙ (ap (λ x. was.seen ++ x) next ∙ sym (append_assoc was.seen (u ∷ []) rest));
-      here = omega (arith, was.here, is_wide, size-push width was.seen u);
+      parts = was.parts ∙ (ap (λ x. was.seen ++ x) next ∙ sym (append_assoc was.seen (u ∷ []) more));
       steady = steady;
       found = found;
       counted = omega (arith, was.counted, most, length-append was.seen (u ∷ []));
@@ -152,35 +160,37 @@ module _ {V : Type 0} (width : ℕ → ℕ) (K : Dictionary V) (has_output : ℕ
     }
 
     -- the scan comes to the root while a match is pending
-    pub IsTheBest-stops : (text left t : List ℕ) (f : Found) (read before turns u : ℕ) (rest r : List ℕ) (later : ℕ)
-        → (was : IsScanning text left t (Some f) read before turns) → left ≡ u ∷ rest → LeftSteps K was.seen u r → r ≡ []
+    pub IsTheBest-stops : (left t : List ℕ) (m : Mark H) (f : Found) (before turns u : ℕ) (more r : List ℕ) (later : ℕ)
+        → (was : IsScanning left t (Some m) before turns) → f.position ≡ m.position → f.end + size width (rest m.behind) ≡ size width text → left ≡ u ∷ more → LeftSteps K was.seen u r → r ≡ []
         → later + length r ≤ turns + length t + 2 → turns + cond (has_label u) 1 0 ≤ later
         → IsTheBest width K has_output outputs has_label text f.position.value f.end before later
-    IsTheBest-stops text left t f read before turns u rest r later was next steps empty most least =
+    IsTheBest-stops left t m f before turns u more r later was same ended next steps empty most least =
         let w = was.seen in
         let found = was.found in
-        let whole : text ≡ w ++ u ∷ rest = was.parts ∙ ap (λ x. w ++ x) next in
+        let Q : NonZeroU32 → Type 0 = λ p. IsOutputOf width K has_output outputs p.value found.key in
+        let whole : text ≡ w ++ u ∷ more = was.parts ∙ ap (λ x. w ++ x) next in
         let P : List ℕ → Type 0 = λ x. IsBest K x found.front found.key in
         let cut : w ≡ (found.front ++ found.key) ++ found.best.rest = found.best.occurs.parts ∙ sym (append_assoc found.front found.key found.best.rest) in
-        let many : length text ≡ length w + (1 + length rest) = ap length whole ∙ (length-append w (u ∷ rest) ∙ (let e : length w + length (u ∷ rest) ≡ length w + (1 + length rest) = omega arith in e)) in
+        let many : length text ≡ length w + (1 + length more) = ap length whole ∙ (length-append w (u ∷ more) ∙ (let e : length w + length (u ∷ more) ≡ length w + (1 + length more) = omega arith in e)) in
         record {
           front = found.front;
           key = found.key;
-          best = subst P (sym whole) (final K w r u rest found.front found.key steps empty found.best);
-          ends = found.ends;
-          output = found.output;
+          best = subst P (sym whole) (final K w r u more found.front found.key steps empty found.best);
+          ends = omega (arith, ended, found.ends);
+          output = subst Q (sym same) found.output;
           most = omega (arith, was.counted, most, many);
           near = λ m bound. omega (arith, was.counted, most, near_occurrence K w t m bound was.steady found.front found.key found.best.rest found.best.occurs);
           least = omega (arith, was.least, least, ap labelled cut, labelled-append (found.front ++ found.key) found.best.rest);
-          first = omega (arith, was.least, least, ap (λ x. labelled (take 1 x)) whole, labelled-first w u rest, labelled-push w u);
+          first = omega (arith, was.least, least, ap (λ x. labelled (take 1 x)) whole, labelled-first w u more, labelled-push w u);
         }
 
     -- the text ends while a match is pending
-    pub IsTheBest-ends : (text left t : List ℕ) (f : Found) (read before turns : ℕ) → IsScanning text left t (Some f) read before turns → left ≡ []
+    pub IsTheBest-ends : (left t : List ℕ) (m : Mark H) (f : Found) (before turns : ℕ) → IsScanning left t (Some m) before turns → f.position ≡ m.position → f.end + size width (rest m.behind) ≡ size width text → left ≡ []
         → IsTheBest width K has_output outputs has_label text f.position.value f.end before turns
-    IsTheBest-ends text left t f read before turns was none =
+    IsTheBest-ends left t m f before turns was same ended none =
         let w = was.seen in
         let found = was.found in
+        let Q : NonZeroU32 → Type 0 = λ p. IsOutputOf width K has_output outputs p.value found.key in
         let whole : text ≡ w = was.parts ∙ (ap (λ x. w ++ x) none ∙ append-nil w) in
         let P : List ℕ → Type 0 = λ x. IsBest K x found.front found.key in
         let cut : w ≡ (found.front ++ found.key) ++ found.best.rest = found.best.occurs.parts ∙ sym (append_assoc found.front found.key found.best.rest) in
@@ -188,8 +198,8 @@ module _ {V : Type 0} (width : ℕ → ℕ) (K : Dictionary V) (has_output : ℕ
           front = found.front;
           key = found.key;
           best = subst P (sym whole) found.best;
-          ends = found.ends;
-          output = found.output;
+          ends = omega (arith, ended, found.ends);
+          output = subst Q (sym same) found.output;
           most = omega (arith, was.counted, ap length whole);
           near = λ m bound. omega (arith, was.counted, near_occurrence K w t m bound was.steady found.front found.key found.best.rest found.best.occurs);
           least = omega (arith, was.least, ap labelled cut, labelled-append (found.front ++ found.key) found.best.rest);
@@ -197,14 +207,14 @@ module _ {V : Type 0} (width : ℕ → ℕ) (K : Dictionary V) (has_output : ℕ
         }
 
     -- the text ends while none is
-    pub IsClear-ends : (text left t : List ℕ) (read before turns : ℕ) → IsScanning text left t None read before turns → left ≡ [] → IsClear width K has_output outputs has_label text read before turns
-    IsClear-ends text left t read before turns was none =
+    pub IsClear-ends : (left t : List ℕ) (end before turns : ℕ) → IsScanning left t None before turns → end ≡ size width text → left ≡ [] → IsClear width K has_output outputs has_label text end before turns
+    IsClear-ends left t end before turns was ended none =
         let w = was.seen in
         let whole : text ≡ w = was.parts ∙ (ap (λ x. w ++ x) none ∙ append-nil w) in
         record {
           none = λ a k b o. absurd (was.found a k b (record { parts = sym whole ∙ o.parts; key = o.key }));
           no_empty = nil_of (K []) (λ key. was.found [] [] w (record { parts = refl; key = key }));
-          ends = was.here ∙ ap (size width) (sym whole);
+          ends = ended;
           most = omega (arith, was.counted, ap length whole);
           least = omega (arith, was.least, ap labelled whole);
         }

@@ -5,7 +5,7 @@
 //! turns: at most twice the units to come, and no more than lead one unit further past the start of
 //! the match than the longest pattern has units.
 
-ghost use Rattle.std.specs.Prelude.{◌<◌, ◌^◌};
+ghost use Rattle.std.specs.Prelude.{◌≡◌, ◌+◌, ◌<◌, ◌≤◌, ◌^◌};
 ghost use Rattle.daachorse_model.specs.Units.{size};
 ghost use Rattle.daachorse_model.specs.Best.{IsLeftmost};
 ghost use Rattle.daachorse_search.specs.BestScans.{IsBestScan};
@@ -34,6 +34,15 @@ pub enum Scanned {
     Clear(usize),
 }
 
+/// The best match so far.
+#[derive(Drop)]
+struct Mark<H> {
+    // The position of its output.
+    position: NonZeroU32,
+    // The haystack behind it.
+    behind: H,
+}
+
 /// The match with the least start of all in the haystack, and of those the longest.
 #[inline(always)]
 pub fn scan_best<V: Copy, A: Automaton<V>, H: Reread<A::Unit>>(
@@ -48,29 +57,39 @@ pub fn scan_best<V: Copy, A: Automaton<V>, H: Reread<A::Unit>>(
 {
     let mut source = haystack.after(0);
     let mut state = automaton.root();
-    let mut read = 0;
     let mut best = None;
     if let Some(position) = automaton.output_pos(state) {
-        best = Some(Found { position, end: 0 });
+        let behind = source.after(0);
+        best = Some(Mark { position, behind });
     }
     'units: loop {
         let Some(unit) = source.next() else {
             return match best {
-                Some(found) => Scanned::Best(found),
-                None => Scanned::Clear(read),
+                Some(mark) => Scanned::Best(found_at(&mark, haystack)),
+                None => Scanned::Clear(haystack.left()),
             };
         };
-        read += unit.num_bytes();
         state = step(automaton, state, unit, turns);
         if automaton.is_root(state) {
-            if let Some(found) = best {
-                return Scanned::Best(found);
+            if let Some(mark) = best {
+                return Scanned::Best(found_at(&mark, haystack));
             }
         } else if let Some(position) = automaton.output_pos(state) {
-            best = Some(Found {
-                position,
-                end: read,
-            });
+            let behind = source.after(0);
+            best = Some(Mark { position, behind });
         }
+    }
+}
+
+/// The match of a mark, with its end counted from the beginning of the haystack.
+#[inline(always)]
+fn found_at<U: EdgeLabel, H: Reread<U>>(mark: &Mark<H>, haystack: &H) -> Found
+    requires { size U.width (H.rest mark.now.behind) ≤ size U.width (H.rest haystack.now) }
+    ensures position { result.position ≡ mark.now.position }
+    ensures end { result.end + size U.width (H.rest mark.now.behind) ≡ size U.width (H.rest haystack.now) }
+{
+    Found {
+        position: mark.position,
+        end: haystack.left() - mark.behind.left(),
     }
 }

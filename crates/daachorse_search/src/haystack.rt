@@ -1,6 +1,7 @@
 //! Haystacks that are known as a whole: sources whose state shows the units to come.
 //!
-//! The layers above may rely on a haystack giving just the units that it shows, in order.
+//! The layers above may rely on a haystack giving just the units that it shows, in order, and on its
+//! count of the bytes that they take.
 
 ghost use Rattle.std.specs.Prelude.{◌≡◌, ◌<◌, ◌^◌, ◌++◌, ℕ, List, Option, length};
 ghost use Rattle.std.specs.Iterator.{IsFinite, YieldsFirstBy};
@@ -28,6 +29,10 @@ pub trait Reread<U: EdgeLabel>: Haystack<U> + Drop {
     fn after(&self, bytes: usize) -> Self
         requires { (front : List ℕ) × (back : List ℕ) × (Self.rest self.now ≡ front ++ back) × (bytes ≡ size U.width front) }
         ensures { (front back : List ℕ) → Self.rest self.now ≡ front ++ back → bytes ≡ size U.width front → Self.rest result ≡ back };
+
+    /// How many bytes are still to come.
+    fn left(&self) -> usize
+        ensures { result ≡ size U.width (Self.rest self.now) };
 }
 
 /// The bytes of a slice.
@@ -100,5 +105,10 @@ impl<'a> Reread<u8> for Bytes<'a> {
             bytes: self.bytes,
             given: self.given + bytes,
         }
+    }
+
+    #[inline(always)]
+    fn left(&self) -> usize {
+        self.bytes.len() - self.given
     }
 }

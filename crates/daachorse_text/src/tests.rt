@@ -48,6 +48,7 @@ fn a_text_gives_its_characters(rt: HostRuntime) {
 #[test]
 fn a_text_is_read_again(rt: HostRuntime) {
     let mut later = Text::new("にé").after(3);
+    assert_eq!(rt; later.left(), 2);
     assert_eq!(rt; later.next(), Some('é'));
     assert_eq!(rt; later.next(), None);
 }

@@ -74,4 +74,9 @@ impl<'a> Reread<char> for Text<'a> {
         let rest = &self.rest.as_str()[bytes..];
         Text { rest: rest.chars() }
     }
+
+    #[inline(always)]
+    fn left(&self) -> usize {
+        self.rest.as_str().len()
+    }
 }

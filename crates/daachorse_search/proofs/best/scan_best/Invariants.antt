@@ -7,7 +7,7 @@ invariant-units g l =
     let A = g.A.Automaton in let a = l.automaton in let rest = g.H.Haystack.rest in
     record {
       reached : A.reached a l.state;
-      scanning : IsScanning g.A.Unit.EdgeLabel.width (A.content a) (A.has_output a) (A.outputs a) (A.has_label a) (rest l.haystack) (rest l.source) (A.text a l.state) l.best l.read l.fn.turns l.turns;
+      scanning : IsScanning g.A.Unit.EdgeLabel.width (A.content a) (A.has_output a) (A.outputs a) rest (rest l.haystack) (A.has_label a) (rest l.source) (A.text a l.state) l.best l.fn.turns l.turns;
     }
 
 abbrev pub decreases-units : goal.decreases-units

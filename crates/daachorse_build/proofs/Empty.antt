@@ -13,7 +13,7 @@ use Rattle.daachorse_model.specs.Units.{size}
 use Rattle.daachorse_model.specs.Dictionary.{dictionary, kept, values_of}
 use Rattle.daachorse_model.specs.Prefixes.{IsPrefix}
 use Rattle.daachorse_model.specs.Paths.{walk, Leads}
-use Rattle.daachorse_build.specs.Tables.{child_in, child_of, edges_of, depths_of, own_of, own_at, output_count, IsTable}
+use Rattle.daachorse_build.specs.Tables.{child_in, child_of, edges_of, own_of, own_at, output_count, IsTable}
 use Rattle.daachorse_build.specs.Holds.{in_units, Holds}
 use Rattle.daachorse_build.proofs.Registrations.{nil_of_units}
 
@@ -26,21 +26,13 @@ module _ {L : Type 0} (cmp : L → L → Ordering) where
   no_child : (s : ℕ) (c : L) → child_in cmp ([] ∷ [] ∷ []) s c ≡ None
   no_child s c = ap (lookup (is_at (cmp c))) (none_at s)
 
-  no_depth : (s : ℕ) → get_or {A = ℕ} (0 ∷ 0 ∷ []) s 0 ≡ 0
-  no_depth zero = refl
-  no_depth (suc zero) = refl
-  no_depth (suc (suc s)) = refl
-
-  empty_table : IsTable cmp ([] ∷ [] ∷ []) (0 ∷ 0 ∷ [])
+  empty_table : IsTable cmp ([] ∷ [] ∷ [])
   unfolding IsStrictlySortedBy
   empty_table = record {
     ordered = λ s. let P : List (L × ℕ) → Type 0 = λ es. IsStrictlySortedBy cmp (keys_of es) in subst P (sym (none_at s)) tt;
     trie = record {
       two = omega arith;
-      root = refl;
       bounds = λ s c t h. absurd (none-some t (sym (no_child s c) ∙ h));
-      deeper = λ s c t h. absurd (none-some t (sym (no_child s c) ∙ h));
-      shallow = λ s h. omega (arith, no_depth s);
       one_parent = λ s c s' c' t h k. absurd (none-some t (sym (no_child s c) ∙ h));
       reached = λ t low high. absurd (omega arith);
     };
@@ -60,9 +52,9 @@ kept_none LeftmostLongest = refl
 kept_none LeftmostFirst = refl
 
 -- two states with no edges and no outputs hold nothing
-pub holds_none : {L V A : Type 0} (cmp : L → L → Ordering) (unit : L → ℕ) (width : ℕ → ℕ) (kind : MatchKind) (states : List (NfaBuilderState L V A)) → edges_of states ≡ [] ∷ [] ∷ [] → depths_of states ≡ 0 ∷ 0 ∷ [] → own_of states ≡ [] ∷ [] ∷ [] → Holds cmp unit width kind states []
-holds_none {L} {V} cmp unit width kind states edges depths outputs = record {
-  trie = rw (edges, depths) (empty_table cmp);
+pub holds_none : {L V A : Type 0} (cmp : L → L → Ordering) (unit : L → ℕ) (width : ℕ → ℕ) (kind : MatchKind) (states : List (NfaBuilderState L V A)) → edges_of states ≡ [] ∷ [] ∷ [] → own_of states ≡ [] ∷ [] ∷ [] → Holds cmp unit width kind states []
+holds_none {L} {V} cmp unit width kind states edges outputs = record {
+  trie = rw edges (empty_table cmp);
   begins = λ w h.
       let P : List L → Type 0 = λ x. Leads (child_of cmp states) x 0 in
       (0, subst P (sym (nil_of_units unit w (only_nil w h))) refl);

@@ -15,7 +15,7 @@ use Rattle.std.specs.Cmp.{IsTotalOrder}
 use Rattle.daachorse_placement.specs.declared.build_helper.SiblingGroup.{SiblingGroup}
 use Rattle.daachorse_placement.specs.Placement.{children_of, parent_of, label_of, child_of, AreGroups}
 use Rattle.daachorse_build.specs.declared.nfa_builder.NfaBuilderState.{NfaBuilderState}
-use Rattle.daachorse_build.specs.Tables.{edges_of, depths_of, child_in, HoldTrie}
+use Rattle.daachorse_build.specs.Tables.{edges_of, child_in, HoldTrie}
 use Rattle.daachorse_build.specs.Orders.{IsIn, StandOnce, children}
 use Rattle.daachorse_build.specs.Groups.{edges_at, coded, GivesCodes, AreCodes, AreTrieGroups, is_some_edge, has_edges, IsWalk, AreGiven, AreFamilies, parents_of}
 use Rattle.daachorse_build.proofs.Queue.{in_equal, in_at, place_of, distinct_once, child_at_place, listed_of_child, value_at, children_once}
@@ -205,7 +205,7 @@ module _ {L V A : Type 0} (cmp : L → L → Ordering) (total : IsTotalOrder cmp
   -- there are fewer than states
   pub few_groups : length gs < length states
   few_groups =
-      omega (arith, length-walk cmp total edges (depths_of states) table order walk, filter_short (has_edges edges) order, ap length parents, length-map first (λ g. g.parent), length_permutation first gs moved, length-map states (λ s. s.edges))
+      omega (arith, length-walk cmp total edges table order walk, filter_short (has_edges edges) order, ap length parents, length-map first (λ g. g.parent), length_permutation first gs moved, length-map states (λ s. s.edges))
 
   -- the groups are those of the trie
   pub trie_groups : (code : L → ℕ) → GivesCodes cmp edges gives code → AreTrieGroups cmp code states gs
@@ -214,15 +214,15 @@ module _ {L V A : Type 0} (cmp : L → L → Ordering) (total : IsTotalOrder cmp
         let at = group_at (λ g. AreGiven gives (edges_at edges g.parent) g.children.items) gs k l all_families in
         at.3
         ∙ coded_given gives code (edges_at edges at.0.parent) at.0.children.items
-        (λ i c t here r h. says at.0.parent c t (child_at_place cmp total edges (depths_of states) table at.0.parent i c t here) r h)
+        (λ i c t here r h. says at.0.parent c t (child_at_place cmp total edges table at.0.parent i c t here) r h)
         at.1
         ∙ ap (λ p. coded code (edges_at edges p)) (sym at.2);
     some = λ k l. some_edge (edges_at edges (parent_of gs k)) (parent_at k l).2;
-    reached = λ k l. let p = parent_at k l in text_of (child_in cmp edges) (λ i. get_or (depths_of states) i 0) (length edges) table.trie (parent_of gs k) p.0 p.1;
+    reached = λ k l. let p = parent_at k l in text_of (child_in cmp edges) (length edges) table.trie (parent_of gs k) p.0 p.1;
     one_each = λ k l hk hl same. one_place (parents_of gs) k l distinct (omega (arith, hk, length-map gs (λ g. g.parent))) (omega (arith, hl, length-map gs (λ g. g.parent))) same;
     all = λ s c t at.
         let b = table.trie.bounds s c t at in
-        let some = edge_of_child (edges_at edges s) t (listed_of_child cmp total edges (depths_of states) table s c t at) in
+        let some = edge_of_child (edges_at edges s) t (listed_of_child cmp total edges table s c t at) in
         let p = is_parent s (omega (arith, b.0, b.3)) b.1 some in
         (p.0, omega (arith, p.1, length-map gs (λ g. g.parent)), get_or_default (parents_of gs) p.0 0 s p.1 ∙ p.2);
   }
@@ -248,7 +248,7 @@ module _ {L V A : Type 0} (cmp : L → L → Ordering) (total : IsTotalOrder cmp
       let at = coded_at code es j (omega (arith, hj, ap length same)) in
       let child : get_or (children_of gs k) j (0, 0) ≡ (code at.0.0, at.0.1) = ap (λ cs. get_or cs j (0, 0)) same ∙ at.2 in
       let id : at.0.1 ≡ child_of (children_of gs k) j = sym (ap (λ (p : ℕ × ℕ). p.1) child) in
-      let edge = child_at_place cmp total (edges_of states) (depths_of states) table s j at.0.0 at.0.1 at.1 in
+      let edge = child_at_place cmp total (edges_of states) table s j at.0.0 at.0.1 at.1 in
       let place = value_at es j at.0.0 at.0.1 at.1 in
       (at.0.0, edge ∙ ap Some id, ap (λ (p : ℕ × ℕ). p.0) child, place.0, place.1 ∙ id)
 
@@ -257,7 +257,7 @@ module _ {L V A : Type 0} (cmp : L → L → Ordering) (total : IsTotalOrder cmp
   child_places k i j hk hi hj same =
       let a = edge_at k i hk hi in
       let b = edge_at k j hk hj in
-      once_place (children (edges_of states) (parent_of gs k)) i j (children_once cmp total (edges_of states) (depths_of states) table (parent_of gs k)) a.3 b.3 (a.4 ∙ same ∙ sym b.4)
+      once_place (children (edges_of states) (parent_of gs k)) i j (children_once cmp total (edges_of states) table (parent_of gs k)) a.3 b.3 (a.4 ∙ same ∙ sym b.4)
 
   pub placed_groups : AreGroups gs (length states) block
   placed_groups = record {
@@ -268,7 +268,7 @@ module _ {L V A : Type 0} (cmp : L → L → Ordering) (total : IsTotalOrder cmp
         let b = edge_at k j l hj in
         let c = codes.apart (parent_of gs k) a.0 b.0 (child_of (children_of gs k) i) (child_of (children_of gs k) j) a.1 b.1 (sym a.2 ∙ same ∙ b.2) in
         child_places k i j l hi hj (same_Some _ _ (sym a.1 ∙ ap (child_in cmp (edges_of states) (parent_of gs k)) c ∙ b.1));
-    parents = λ k l. let r = trie.reached k l in omega (arith, (walk-bounds (child_in cmp (edges_of states)) (λ i. get_or (depths_of states) i 0) (length (edges_of states)) table.trie r.0 (parent_of gs k) r.1).0, length-map states (λ s. s.edges));
+    parents = λ k l. let r = trie.reached k l in omega (arith, (walk-bounds (child_in cmp (edges_of states)) (length (edges_of states)) table.trie r.0 (parent_of gs k) r.1).0, length-map states (λ s. s.edges));
     one_parent = trie.one_each;
     ids = λ k l j h. let a = edge_at k j l h in let b = table.trie.bounds (parent_of gs k) a.0 (child_of (children_of gs k) j) a.1 in omega (arith, b.3, length-map states (λ s. s.edges));
     above = λ k j l h. let a = edge_at k j l h in let b = table.trie.bounds (parent_of gs k) a.0 (child_of (children_of gs k) j) a.1 in b.2;

@@ -1,5 +1,5 @@
 -- Where there are ids for the states, there are few prefixes: texts that differ are those of states that differ.
-use Rattle.std.proofs.Common.{◌≡◌, ◌≢◌, ℕ, ◌+◌, ◌<◌, ◌≤◌, Bool, true, false, cond, ◌||◌, List, [], ◌∷◌, ◌++◌, length, map, get_or, refl, sym, ap, ◌∙◌, subst, inl, inr, arith}
+use Rattle.std.proofs.Common.{◌≡◌, ◌≢◌, ℕ, ◌+◌, ◌<◌, ◌≤◌, Bool, true, false, cond, ◌||◌, List, [], ◌∷◌, ◌++◌, length, map, refl, sym, ap, ◌∙◌, subst, inl, inr, arith}
 use Rattle.std.proofs.Math.Dec.{eqb}
 use Rattle.std.proofs.lemmas.Bool.{cases_Bool, cond-false, eqb-true, false_from_ne_true, false≢true}
 use Rattle.std.proofs.lemmas.List.{length-map}
@@ -13,7 +13,7 @@ use Rattle.daachorse_model.specs.Dictionary.{dictionary, values_of, without_exte
 use Rattle.daachorse_model.specs.Prefixes.{IsPrefix}
 use Rattle.daachorse_model.specs.Paths.{Leads}
 use Rattle.daachorse_build.specs.declared.nfa_builder.NfaBuilderState.{NfaBuilderState}
-use Rattle.daachorse_build.specs.Tables.{child_of, edges_of, depths_of}
+use Rattle.daachorse_build.specs.Tables.{child_of, edges_of}
 use Rattle.daachorse_build.specs.Holds.{in_units, Holds, HasMorePrefixes}
 use Rattle.daachorse_build.proofs.Walks.{walk-same, walk-bounds}
 use Rattle.daachorse_build.proofs.Registrations.{text_same, text_refl}
@@ -99,7 +99,7 @@ module _ {L V A : Type 0} (cmp : L → L → Ordering) (unit : L → ℕ) (width
 
   same_state : (v w : List ℕ) (t : ℕ) → IsAt v t → IsAt w t → v ≡ w
   same_state v w t a b =
-      sym a.1 ∙ ap (map unit) (walk-same (child_of cmp states) (λ i. get_or (depths_of states) i 0) (length (edges_of states)) holds.trie.trie a.0 b.0 t a.2 b.2) ∙ b.1
+      sym a.1 ∙ ap (map unit) (walk-same (child_of cmp states) (length (edges_of states)) holds.trie.trie a.0 b.0 t a.2 b.2) ∙ b.1
 
   apart : (w : List ℕ) (t : ℕ) → IsAt w t → (ws : List (List ℕ)) (ts : List ℕ) → AreAt ws ts → AllByRecursion (λ v. same_text w v ≡ false) ws → AllByRecursion (λ u. eqb t u ≡ false) ts
   apart w t at [] [] h d = tt
@@ -122,7 +122,7 @@ module _ {L V A : Type 0} (cmp : L → L → Ordering) (unit : L → ℕ) (width
   distinct_states (w ∷ ws) (t ∷ ts) h d = (apart w t h.0 ws ts h.1 d.0, distinct_states ws ts h.1 d.1)
 
   bounds : (w : List ℕ) (t : ℕ) → IsAt w t → (t < length (edges_of states)) × (t ≢ 1)
-  bounds w t at = walk-bounds (child_of cmp states) (λ i. get_or (depths_of states) i 0) (length (edges_of states)) holds.trie.trie at.0 t at.2
+  bounds w t at = walk-bounds (child_of cmp states) (length (edges_of states)) holds.trie.trie at.0 t at.2
 
   alive : (ws : List (List ℕ)) (ts : List ℕ) → AreAt ws ts → AllByRecursion (λ u. eqb 1 u ≡ false) ts
   alive [] [] h = tt

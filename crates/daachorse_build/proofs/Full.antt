@@ -1,5 +1,5 @@
 -- Where no id is free: the text of each id but that of the dead state, and the text that needs one more, are prefixes of keys, no two the same.
-use Rattle.std.proofs.Common.{◌≡◌, ◌≢◌, ℕ, zero, suc, ◌+◌, ◌<◌, ◌≤◌, false, List, [], ◌∷◌, ◌++◌, length, map, get_or, Option, None, refl, sym, ap, ◌∙◌, subst, inl, inr, append_assoc, arith}
+use Rattle.std.proofs.Common.{◌≡◌, ◌≢◌, ℕ, zero, suc, ◌+◌, ◌<◌, ◌≤◌, false, List, [], ◌∷◌, ◌++◌, length, map, Option, None, refl, sym, ap, ◌∙◌, subst, inl, inr, append_assoc, arith}
 use Rattle.std.proofs.lemmas.Option.{none-some, same_Some}
 use Rattle.std.proofs.lemmas.Bool.{false_from_ne_true}
 use Rattle.std.proofs.lemmas.List.{length-map}
@@ -12,7 +12,7 @@ use Rattle.daachorse_model.specs.Prefixes.{IsPrefix}
 use Rattle.daachorse_model.specs.Paths.{walk, Leads}
 use Rattle.daachorse_build.specs.declared.nfa_builder.NfaBuilderState.{NfaBuilderState}
 use Rattle.daachorse_build.specs.Trie.{IsTrie}
-use Rattle.daachorse_build.specs.Tables.{child_of, edges_of, depths_of}
+use Rattle.daachorse_build.specs.Tables.{child_of, edges_of}
 use Rattle.daachorse_build.specs.Growth.{Overflows}
 use Rattle.daachorse_build.specs.Holds.{in_units, Holds, HasMorePrefixes}
 use Rattle.daachorse_build.proofs.Labels.{text_exact}
@@ -49,11 +49,11 @@ module _ {A : Type 0} (child : ℕ → A → Option ℕ) where
   lost_text n w none (v ∷ ws) h =
       (λ e. none-some h.0.0 (sym none ∙ ap (walk child 0) e ∙ h.0.2), lost_text n w none ws h.1)
 
-  texts_below : (depth : ℕ → ℕ) (n : ℕ) → IsTrie child depth n → (k : ℕ) → k + 2 ≤ n → TextsBelow child (k + 2)
-  texts_below depth n trie zero h = record { texts = [] ∷ []; count = omega arith; lead = ((0, omega arith, refl), tt); apart = (tt, tt) }
-  texts_below depth n trie (suc k) h =
-      let rest = texts_below depth n trie k (omega arith) in
-      let text = text_of child depth n trie (k + 2) (omega arith) (omega arith) in
+  texts_below : (n : ℕ) → IsTrie child n → (k : ℕ) → k + 2 ≤ n → TextsBelow child (k + 2)
+  texts_below n trie zero h = record { texts = [] ∷ []; count = omega arith; lead = ((0, omega arith, refl), tt); apart = (tt, tt) }
+  texts_below n trie (suc k) h =
+      let rest = texts_below n trie k (omega arith) in
+      let text = text_of child n trie (k + 2) (omega arith) (omega arith) in
       record {
         texts = text.0 ∷ rest.texts;
         count = omega (arith, rest.count);
@@ -62,8 +62,8 @@ module _ {A : Type 0} (child : ℕ → A → Option ℕ) where
       }
 
   -- as many texts as ids, less the dead state's
-  pub all_texts : (depth : ℕ → ℕ) (n : ℕ) → IsTrie child depth n → TextsBelow child n
-  all_texts depth n trie = below n trie.two (texts_below depth n trie)
+  pub all_texts : (n : ℕ) → IsTrie child n → TextsBelow child n
+  all_texts n trie = below n trie.two (texts_below n trie)
     where
       below : (n : ℕ) → 1 < n → ((k : ℕ) → k + 2 ≤ n → TextsBelow child (k + 2)) → TextsBelow child n
       below zero h f = absurd (omega arith)
@@ -89,7 +89,7 @@ module _ {L V A : Type 0} (cmp : L → L → Ordering) (unit : L → ℕ) (exact
   too_many limit over =
       let mid = over.mid in
       let child = child_of cmp mid in
-      let below = all_texts child (λ i. get_or (depths_of mid) i 0) (length (edges_of mid)) over.adding.trie.trie in
+      let below = all_texts child (length (edges_of mid)) over.adding.trie.trie in
       let lost = over.front ++ over.label ∷ [] in
       let none : walk child 0 lost ≡ None = walk-push child 0 over.front over.label over.id over.adding.here ∙ over.none in
       record {

@@ -55,29 +55,13 @@ module _ {A : Type 0} (old new : ℕ → A → Option ℕ) (s : ℕ) (c : A) (t 
       ])
 
   -- the trie with the new edge
-  pub trie_grows : (depth depth' : ℕ → ℕ) → IsTrie old depth t → s < t → s ≢ 1 → ((u : ℕ) → u < t → depth' u ≡ depth u) → depth' t ≡ depth s + 1 → ((a : A) → old t a ≡ None) → new s c ≡ Some t → IsTrie new depth' (t + 1)
-  trie_grows depth depth' trie l ne same last none is = record {
+  pub trie_grows : IsTrie old t → s < t → s ≢ 1 → ((a : A) → old t a ≡ None) → new s c ≡ Some t → IsTrie new (t + 1)
+  trie_grows trie l ne none is = record {
     two = omega (arith, trie.two);
-    root = same 0 (omega (arith, trie.two)) ∙ trie.root;
     bounds = λ u a v h.
         elim (adds.cases u a) [
           | inl r ↦ let e : v ≡ t = same_Some v t (sym h ∙ r.2) in (omega (arith, e, r.0), λ k. ne (sym r.0 ∙ k), omega (arith, e, trie.two), omega (arith, e))
           | inr r ↦ let b = trie.bounds u a v (sym r ∙ h) in (b.0, b.1, b.2, omega (arith, b.3))
-        ];
-    deeper = λ u a v h.
-        elim (adds.cases u a) [
-          | inl r ↦
-              let e : v ≡ t = same_Some v t (sym h ∙ r.2) in
-              ap depth' e ∙ last ∙ ap (λ x. x + 1) (sym (same s l) ∙ ap depth' (sym r.0))
-          | inr r ↦
-              let b = trie.bounds u a v (sym r ∙ h) in
-              let d = trie.deeper u a v (sym r ∙ h) in
-              same v b.3 ∙ d ∙ ap (λ x. x + 1) (sym (same u (omega (arith, b.0, b.3))))
-        ];
-    shallow = λ u h.
-        elim (cases_lt u t) [
-          | inl below ↦ omega (arith, same u below, trie.shallow u below)
-          | inr above ↦ let e : u ≡ t = omega arith in omega (arith, ap depth' e, last, trie.shallow s l)
         ];
     one_parent = λ u a u' a' v h h'.
         elim (adds.cases u a) [
@@ -105,7 +89,7 @@ module _ {A : Type 0} (old new : ℕ → A → Option ℕ) (s : ℕ) (c : A) (t 
 is_at_same : {L : Type 0} (cmp : L → L → Ordering) → ((x y : L) → cmp x y ≡ Equal → x ≡ y) → (q k : L) → is_at (cmp q) k ≡ true → q ≡ k
 is_at_same cmp exact q k h = exact q k ((Equal-is (cmp q k)).0 h)
 
-module _ {L : Type 0} (cmp : L → L → Ordering) (total : IsTotalOrder cmp) (exact : (x y : L) → cmp x y ≡ Equal → x ≡ y) (edges : List (List (L × ℕ))) (depths : List ℕ) (table : IsTable cmp edges depths) (s : ℕ) (c : L) (d : ℕ) (es : List (L × ℕ)) (l : s < length edges) (ne : s ≢ 1) (was : child_in cmp edges s c ≡ None) (sorted : IsStrictlySortedBy cmp (keys_of es)) (found : (q : L) → lookup (is_at (cmp q)) es ≡ cond (is_at (cmp c) q) (Some (length edges)) (lookup (is_at (cmp q)) (get_or edges s []))) where
+module _ {L : Type 0} (cmp : L → L → Ordering) (total : IsTotalOrder cmp) (exact : (x y : L) → cmp x y ≡ Equal → x ≡ y) (edges : List (List (L × ℕ))) (table : IsTable cmp edges) (s : ℕ) (c : L) (es : List (L × ℕ)) (l : s < length edges) (ne : s ≢ 1) (was : child_in cmp edges s c ≡ None) (sorted : IsStrictlySortedBy cmp (keys_of es)) (found : (q : L) → lookup (is_at (cmp q)) es ≡ cond (is_at (cmp c) q) (Some (length edges)) (lookup (is_at (cmp q)) (get_or edges s []))) where
   abbrev pub grown : List (List (L × ℕ))
   grown = set edges s es ++ [] ∷ []
 
@@ -165,11 +149,11 @@ module _ {L : Type 0} (cmp : L → L → Ordering) (total : IsTotalOrder cmp) (e
       subst P (sym (at_other u apart)) (table.ordered u)
 
   -- the table with the new edge
-  pub table_grows : length depths ≡ length edges → d ≡ get_or depths s 0 + 1 → IsTable cmp grown (depths ++ d ∷ [])
-  table_grows len deep =
+  pub table_grows : IsTable cmp grown
+  table_grows =
       let count : length grown ≡ length edges + 1 = length_push (set edges s es) [] ∙ ap (λ x. x + 1) (length-set edges s es) in
-      let trie = trie_grows (child_in cmp edges) (child_in cmp grown) s c (length edges) adds_edge (λ i. get_or depths i 0) (λ i. get_or (depths ++ d ∷ []) i 0) table.trie l ne (λ u h. get_or_append_left depths (d ∷ []) 0 u (omega (arith, len))) (get_or_push depths d 0 (length edges) len ∙ deep) (λ a. none_past (length edges) a (omega arith)) is_here in
-      let P : ℕ → Type 0 = λ n. IsTrie (child_in cmp grown) (λ i. get_or (depths ++ d ∷ []) i 0) n in
+      let trie = trie_grows (child_in cmp edges) (child_in cmp grown) s c (length edges) adds_edge table.trie l ne (λ a. none_past (length edges) a (omega arith)) is_here in
+      let P : ℕ → Type 0 = λ n. IsTrie (child_in cmp grown) n in
       record {
         ordered = λ u. ordered_grown u (cases_eq u s);
         trie = subst P (sym count) trie;

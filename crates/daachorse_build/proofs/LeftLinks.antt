@@ -1,5 +1,5 @@
 -- How the link of a child is found in leftmost searches.
-use Rattle.std.proofs.Common.{◌≡◌, ◌≢◌, ℕ, ◌<◌, ◌≤◌, ◌⊎◌, Bool, true, false, cond, List, [], ◌∷◌, ◌++◌, length, Option, Some, None, option_and_then, is_some, refl, sym, ap, ◌∙◌, subst, inl, inr, arith, unwrap_or}
+use Rattle.std.proofs.Common.{◌≡◌, ◌≢◌, ℕ, ◌<◌, ◌⊎◌, Bool, true, false, cond, List, [], ◌∷◌, ◌++◌, Option, Some, None, option_and_then, is_some, refl, sym, ap, ◌∙◌, subst, inl, inr, arith, unwrap_or}
 use Rattle.std.specs.Prelude.{option_map, ◌||◌}
 use Rattle.std.proofs.lemmas.Option.{none-some, same_Some}
 use Rattle.std.proofs.lemmas.Bool.{cases_Bool, cond-true, cond-false, false≢true, or_parts}
@@ -7,7 +7,7 @@ use Rattle.daachorse_model.specs.Paths.{walk, is_reached}
 use Rattle.daachorse_model.specs.Prefixes.{long}
 use Rattle.daachorse_build.specs.Trie.{IsTrie, IsFailOf}
 use Rattle.daachorse_build.specs.Left.{meets, long_unless_stop, left_link, IsStateOf, IsLeftFailOf}
-use Rattle.daachorse_build.proofs.Walks.{walk-push, is_reached-push, walk-same, text_of, walk-bounds, depth-walk}
+use Rattle.daachorse_build.proofs.Walks.{walk-push, is_reached-push, walk-same, text_of, walk-bounds}
 
 module _ {A : Type 0} (child : ℕ → A → Option ℕ) (stops : ℕ → Bool) where
   -- a label that leads nowhere meets nothing more
@@ -109,10 +109,10 @@ module _ {A : Type 0} (child : ℕ → A → Option ℕ) (stops : ℕ → Bool) 
       left_rest c [] missing (meets_other 0 [] c missing ∙ go)
 
   -- ---- the link of a child of s, whose link is f
-  module _ (depth : ℕ → ℕ) (n : ℕ) (trie : IsTrie child depth n) where
+  module _ (n : ℕ) (trie : IsTrie child n) where
     link_at : (s : ℕ) (c : A) (t r : ℕ) (d : A) (ds : List A) → walk child 0 (d ∷ ds) ≡ Some s → child s c ≡ Some t → IsStateOf child (left_link child stops d (ds ++ c ∷ [])) r → IsLeftFailOf child stops t r
     link_at s c t r d ds at edge is e es h =
-        let same = walk-same child depth n trie (e ∷ es) ((d ∷ ds) ++ c ∷ []) t h (walk-push child 0 (d ∷ ds) c s at ∙ edge) in
+        let same = walk-same child n trie (e ∷ es) ((d ∷ ds) ++ c ∷ []) t h (walk-push child 0 (d ∷ ds) c s at ∙ edge) in
         let head : e ≡ d = cc in
         let tail : es ≡ ds ++ c ∷ [] = cc in
         let P : A → Type 0 = λ a. IsStateOf child (left_link child stops a es) r in
@@ -131,7 +131,7 @@ module _ {A : Type 0} (child : ℕ → A → Option ℕ) (stops : ℕ → Bool) 
         or_true false = refl
 
     none_link : (c : A) (s t : ℕ) (d : A) (ds : List A) → walk child 0 (d ∷ ds) ≡ Some s → child s c ≡ Some t → (o : Option (List A)) → left_link child stops d ds ≡ o → IsStateOf child o 1 → left_link child stops d (ds ++ c ∷ []) ≡ None
-    none_link c s t d ds at edge (Some x) e is = absurd ((walk-bounds child depth n trie x 1 is).1 refl)
+    none_link c s t d ds at edge (Some x) e is = absurd ((walk-bounds child n trie x 1 is).1 refl)
     none_link c s t d ds at edge None e is =
         elim (cases_Bool (meets child stops 0 (d ∷ ds))) [
           | inl yes' ↦ cond-true _ _ _ (meets_push 0 (d ∷ ds) c s t at edge ∙ ap (λ b. b || stops t) yes')
@@ -168,7 +168,7 @@ module _ {A : Type 0} (child : ℕ → A → Option ℕ) (stops : ℕ → Bool) 
     -- a child of the root
     pub link_of_first : (c : A) (t r : ℕ) → child 0 c ≡ Some t → ((stops 0 || stops t) ≡ true → r ≡ 1) → ((stops 0 || stops t) ≡ false → r ≡ 0) → IsLeftFailOf child stops t r
     link_of_first c t r edge dead alive e es h =
-        let same = walk-same child depth n trie (e ∷ es) (c ∷ []) t h (walk-push child 0 [] c 0 refl ∙ edge) in
+        let same = walk-same child n trie (e ∷ es) (c ∷ []) t h (walk-push child 0 [] c 0 refl ∙ edge) in
         let head : e ≡ c = cc in
         let tail : es ≡ [] = cc in
         let P : A → Type 0 = λ a. IsStateOf child (left_link child stops a es) r in
@@ -184,7 +184,7 @@ module _ {A : Type 0} (child : ℕ → A → Option ℕ) (stops : ℕ → Bool) 
     -- ---- along the links of a state, none of which is dead so far
     pub root_goes : (s f : ℕ) → 1 < s → s < n → f ≢ 1 → IsLeftFailOf child stops s f → stops 0 ≡ false
     root_goes s f low high ne link =
-        let text = text_of child depth n trie s high (omega arith) in
+        let text = text_of child n trie s high (omega arith) in
         at text.0 text.1
       where
         met : (d : A) (ds : List A) → (o : Option (List A)) → left_link child stops d ds ≡ o → IsStateOf child o f → meets child stops 0 (d ∷ ds) ≡ false
@@ -221,7 +221,7 @@ module _ {A : Type 0} (child : ℕ → A → Option ℕ) (stops : ℕ → Bool) 
     pub leads_root : (start : ℕ) (c : A) → LeadsAs start c 0 → child 0 c ≡ None → stops 0 ≡ false → LeadsTo start c 0
     leads_root start c same none go w h =
         let v = same w h in
-        let nil : v.0 ≡ [] = walk-same child depth n trie v.0 [] 0 v.1 refl in
+        let nil : v.0 ≡ [] = walk-same child n trie v.0 [] 0 v.1 refl in
         state_along _ _ 0 (sym (ap (λ x. long_unless_stop child stops (x ++ c ∷ [])) nil) ∙ v.2) (state_along (Some []) _ 0 (sym (left_root c none go)) refl)
 
     next_at : (c : A) (id f : ℕ) (v : List A) → walk child 0 v ≡ Some id → id ≢ 0 → child id c ≡ None → IsLeftFailOf child stops id f → ((f ≡ 1) × (long_unless_stop child stops (v ++ c ∷ []) ≡ None)) ⊎ ((u : List A) × (walk child 0 u ≡ Some f) × (long_unless_stop child stops (u ++ c ∷ []) ≡ long_unless_stop child stops (v ++ c ∷ [])))
@@ -233,7 +233,7 @@ module _ {A : Type 0} (child : ℕ → A → Option ℕ) (stops : ℕ → Bool) 
         let v = same w h in
         elim (next_at c id f v.0 v.1 ne none link) [
           | inl a ↦ state_along _ _ 1 (sym a.1 ∙ v.2) refl
-          | inr u ↦ absurd ((walk-bounds child depth n trie u.0 f u.1).1 dead)
+          | inr u ↦ absurd ((walk-bounds child n trie u.0 f u.1).1 dead)
         ]
 
     pub leads_next : (start : ℕ) (c : A) (id f : ℕ) → LeadsAs start c id → id ≢ 0 → child id c ≡ None → IsLeftFailOf child stops id f → f ≢ 1 → LeadsAs start c f
@@ -241,42 +241,6 @@ module _ {A : Type 0} (child : ℕ → A → Option ℕ) (stops : ℕ → Bool) 
         let v = same w h in
         elim (next_at c id f v.0 v.1 ne none link)
         [ inl a ↦ absurd (alive a.0) | inr u ↦ (u.0, u.1, u.2 ∙ v.2) ]
-
-    length_step : (a : A) (as' x : List A) → long_unless_stop child stops (a ∷ as') ≡ Some x → (long_unless_stop child stops as' ≡ Some x → length x ≤ length as') → length x ≤ length (a ∷ as')
-    length_step a as' x h ih =
-        elim (cases_Bool (is_reached child (a ∷ as'))) [
-          | inl state ↦ let e : a ∷ as' ≡ x = same_Some (a ∷ as') x (sym (left_state (a ∷ as') state) ∙ h) in omega (arith, ap length e)
-          | inr other ↦
-              elim (cases_Bool (meets child stops 0 (a ∷ as'))) [
-                | inl yes' ↦ absurd (none-some x (sym (left_met a as' other yes') ∙ h))
-                | inr no' ↦ omega (arith, ih (sym (left_rest a as' other no') ∙ h))
-              ]
-        ]
-
-    length-long_unless_stop : (w x : List A) → long_unless_stop child stops w ≡ Some x → length x ≤ length w
-    length-long_unless_stop [] x h = omega (arith, ap length (same_Some [] x h))
-    length-long_unless_stop (a ∷ as') x h = length_step a as' x h (length-long_unless_stop as' x)
-
-    link_length : (d : A) (ds x : List A) → left_link child stops d ds ≡ Some x → length x ≤ length ds
-    link_length d ds x e =
-        elim (cases_Bool (meets child stops 0 (d ∷ ds))) [
-          | inl yes' ↦ absurd (none-some x (sym (cond-true _ _ _ yes') ∙ e))
-          | inr no' ↦ length-long_unless_stop ds x (sym (cond-false _ _ _ no') ∙ e)
-        ]
-
-    less_at : (id f : ℕ) (w : List A) → walk child 0 w ≡ Some id → 1 < id → f ≢ 1 → IsLeftFailOf child stops id f → depth f < depth id
-    less_at id f [] at low ne link = absurd (omega (arith, same_Some 0 id at, low))
-    less_at id f (d ∷ ds) at low ne link = by (left_link child stops d ds) refl (link d ds at)
-      where
-        by : (o : Option (List A)) → left_link child stops d ds ≡ o → IsStateOf child o f → depth f < depth id
-        by None e is = absurd (ne is)
-        by (Some x) e is = omega (arith, depth-walk child depth n trie 0 (d ∷ ds) id at, depth-walk child depth n trie 0 x f is, link_length d ds x e)
-
-    -- a link that is alive is less deep
-    pub depth-link : (id f : ℕ) → 1 < id → id < n → f ≢ 1 → IsLeftFailOf child stops id f → depth f < depth id
-    depth-link id f low high ne link =
-        let text = text_of child depth n trie id high (omega arith) in
-        less_at id f text.0 text.1 low ne link
 
     dead_at : (s : ℕ) (c : A) (t f : ℕ) (w : List A) → walk child 0 w ≡ Some s → 1 < s → child s c ≡ Some t → IsLeftFailOf child stops s f → (f ≡ 1) ⊎ (stops t ≡ true) → IsLeftFailOf child stops t 1
     dead_at s c t f [] at low edge link why = absurd (omega (arith, same_Some 0 s at, low))
@@ -287,7 +251,7 @@ module _ {A : Type 0} (child : ℕ → A → Option ℕ) (stops : ℕ → Bool) 
     pub link_dead : (s : ℕ) (c : A) (t f : ℕ) → 1 < s → child s c ≡ Some t → IsLeftFailOf child stops s f → (f ≡ 1) ⊎ (stops t ≡ true) → IsLeftFailOf child stops t 1
     link_dead s c t f low edge link why =
         let b = trie.bounds s c t edge in
-        let text = text_of child depth n trie s (omega (arith, b.0, b.3)) b.1 in
+        let text = text_of child n trie s (omega (arith, b.0, b.3)) b.1 in
         dead_at s c t f text.0 text.1 low edge link why
 
     alive_at : (s : ℕ) (c : A) (t f r : ℕ) (w : List A) → walk child 0 w ≡ Some s → 1 < s → child s c ≡ Some t → f ≢ 1 → stops t ≡ false → IsLeftFailOf child stops s f → LeadsTo f c r → IsLeftFailOf child stops t r
@@ -298,7 +262,7 @@ module _ {A : Type 0} (child : ℕ → A → Option ℕ) (stops : ℕ → Bool) 
     pub link_alive : (s : ℕ) (c : A) (t f r : ℕ) → 1 < s → child s c ≡ Some t → f ≢ 1 → stops t ≡ false → IsLeftFailOf child stops s f → LeadsTo f c r → IsLeftFailOf child stops t r
     link_alive s c t f r low edge ne go link to =
         let b = trie.bounds s c t edge in
-        let text = text_of child depth n trie s (omega (arith, b.0, b.3)) b.1 in
+        let text = text_of child n trie s (omega (arith, b.0, b.3)) b.1 in
         alive_at s c t f r text.0 text.1 low edge ne go link to
 
 -- ---- where no state stops, leftmost links are the standard ones
@@ -325,14 +289,14 @@ module _ {A : Type 0} (child : ℕ → A → Option ℕ) (stops : ℕ → Bool) 
       subst P (cond-false _ _ _ (meets_never 0 (c ∷ w)) ∙ long_never w) (link c w h)
 
   -- a standard link is not dead
-  alive_at_text : (depth : ℕ → ℕ) (n : ℕ) → IsTrie child depth n → (t f : ℕ) (w : List A) → walk child 0 w ≡ Some t → 1 < t → IsLeftFailOf child stops t f → f ≢ 1
-  alive_at_text depth n trie t f [] at low link = absurd (omega (arith, same_Some 0 t at, low))
-  alive_at_text depth n trie t f (c ∷ w) at low link = (walk-bounds child depth n trie (long (is_reached child) w) f (fail_of_left t f link c w at)).1
+  alive_at_text : (n : ℕ) → IsTrie child n → (t f : ℕ) (w : List A) → walk child 0 w ≡ Some t → 1 < t → IsLeftFailOf child stops t f → f ≢ 1
+  alive_at_text n trie t f [] at low link = absurd (omega (arith, same_Some 0 t at, low))
+  alive_at_text n trie t f (c ∷ w) at low link = (walk-bounds child n trie (long (is_reached child) w) f (fail_of_left t f link c w at)).1
 
-  pub alive : (depth : ℕ → ℕ) (n : ℕ) → IsTrie child depth n → (t f : ℕ) → 1 < t → t < n → IsLeftFailOf child stops t f → f ≢ 1
-  alive depth n trie t f low high link =
-      let text = text_of child depth n trie t high (omega arith) in
-      alive_at_text depth n trie t f text.0 text.1 low link
+  pub alive : (n : ℕ) → IsTrie child n → (t f : ℕ) → 1 < t → t < n → IsLeftFailOf child stops t f → f ≢ 1
+  alive n trie t f low high link =
+      let text = text_of child n trie t high (omega arith) in
+      alive_at_text n trie t f text.0 text.1 low link
 
   pub left_of_fail : (t f : ℕ) → IsFailOf child t f → IsLeftFailOf child stops t f
   left_of_fail t f link c w h =

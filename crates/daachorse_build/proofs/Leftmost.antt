@@ -11,7 +11,7 @@ use Rattle.daachorse_model.specs.Prefixes.{IsPrefix, IsLeftFail, key_begins, lon
 use Rattle.daachorse_model.specs.Paths.{walk, is_reached, Leads}
 use Rattle.daachorse_model.proofs.Links.{left_fail-is, IsDead-not}
 use Rattle.daachorse_build.specs.declared.nfa_builder.NfaBuilderState.{NfaBuilderState}
-use Rattle.daachorse_build.specs.Tables.{child_in, child_of, edges_of, depths_of, own_at, fails_of, stops_of, HoldTrie}
+use Rattle.daachorse_build.specs.Tables.{child_in, child_of, edges_of, own_at, fails_of, stops_of, HoldTrie}
 use Rattle.daachorse_build.specs.Growth.{HasTrieOf}
 use Rattle.daachorse_build.specs.Orders.{IsIn, IsBreadthFirst, HoldLeftLinks}
 use Rattle.std.specs.Cmp.{IsTotalOrder}
@@ -144,10 +144,10 @@ module _ {L V A : Type 0} (cmp : L → L → Ordering) (total : IsTotalOrder cmp
   -- a state but the root stands in the order
   in_order : (c : L) (w : List L) (t : ℕ) → Leads (child_of cmp old) (c ∷ w) t → IsIn order t
   in_order c w t h =
-      let b = walk-bounds (child_of cmp old) (λ i. get_or (depths_of old) i 0) (length (edges_of old)) table.trie (c ∷ w) t h in
-      let apart : t ≢ 0 = λ e. nil (walk-same (child_of cmp old) (λ i. get_or (depths_of old) i 0) (length (edges_of old)) table.trie (c ∷ w) [] 0 (h ∙ ap Some e) refl) in
+      let b = walk-bounds (child_of cmp old) (length (edges_of old)) table.trie (c ∷ w) t h in
+      let apart : t ≢ 0 = λ e. nil (walk-same (child_of cmp old) (length (edges_of old)) table.trie (c ∷ w) [] 0 (h ∙ ap Some e) refl) in
       let P : List (List (L × ℕ)) → Type 0 = λ es. IsBreadthFirst es order in
-      all_in_order cmp total (edges_of old) (depths_of old) table order (subst P kept'.edges links.first) t (omega (arith, b.1, apart)) b.0
+      all_in_order cmp total (edges_of old) table order (subst P kept'.edges links.first) t (omega (arith, b.1, apart)) b.0
     where
       nil : c ∷ w ≡ [] → ⊥
       nil e = cc

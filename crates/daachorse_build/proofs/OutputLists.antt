@@ -15,7 +15,7 @@ use Rattle.daachorse_model.specs.Outputs.{own_outputs, outputs_of_ends}
 use Rattle.daachorse_model.specs.Paths.{walk, is_reached, Leads}
 use Rattle.daachorse_build.specs.declared.nfa_builder.NfaBuilderState.{NfaBuilderState}
 use Rattle.daachorse_build.specs.Left.{meets, long_unless_stop, left_link, IsStateOf, IsLeftFailOf}
-use Rattle.daachorse_build.specs.Tables.{child_of, edges_of, depths_of, own_of, own_at, held_at, HoldTrie}
+use Rattle.daachorse_build.specs.Tables.{child_of, edges_of, own_of, own_at, held_at, HoldTrie}
 use Rattle.daachorse_build.specs.Orders.{IsIn, IsKnown, IsLinkAmong, children, IsLeftLinked}
 use Rattle.daachorse_build.specs.Holds.{in_units, Holds}
 use Rattle.daachorse_build.specs.Lists.{suffix_outputs, left_outputs, AreListed, PositionsFit, IsParent}
@@ -56,7 +56,7 @@ module _ {L V A : Type 0} (cmp : L → L → Ordering) (total : IsTotalOrder cmp
   pub listed_start : (stops : ℕ → Bool) (states : List (NfaBuilderState L V A)) (outputs : List (Output V)) (positions : List ℕ) → HoldTrie cmp states → outputs_at outputs (get_or positions 0 0) ≡ own_at (own_of states) 0 ++ [] → AreListed cmp stops states [] outputs positions
   listed_start stops states outputs positions table list t (inr none) w at = absurd none
   listed_start stops states outputs positions table list t (inl root) w at =
-      let nil = walk-same (child_of cmp states) (λ i. get_or (depths_of states) i 0) (length (edges_of states)) table.trie w [] 0 (at ∙ ap Some root) refl in
+      let nil = walk-same (child_of cmp states) (length (edges_of states)) table.trie w [] 0 (at ∙ ap Some root) refl in
       ap (λ u. outputs_at outputs (get_or positions u 0)) root ∙ list ∙ append-nil _ ∙ sym (ap (left_outputs cmp stops states) nil)
 
   module _ (stops : ℕ → Bool) (states : List (NfaBuilderState L V A)) (table : HoldTrie cmp states) (order fails : List ℕ) (links : IsLeftLinked cmp stops (edges_of states) fails order) where
@@ -64,25 +64,25 @@ module _ {L V A : Type 0} (cmp : L → L → Ordering) (total : IsTotalOrder cmp
     pub order-bounds : (t : ℕ) → IsIn order t → (1 < t) × (t < length (edges_of states))
     order-bounds t h =
         elim (in_cases (children (edges_of states) 0) (flat_map (children (edges_of states)) order) t (in_same _ _ t links.first h)) [
-          | inl a ↦ bounds_of_listed cmp total (edges_of states) (depths_of states) table 0 t a
-          | inr b ↦ let p = in_flat_map (children (edges_of states)) order t b in bounds_of_listed cmp total (edges_of states) (depths_of states) table p.0 t p.2
+          | inl a ↦ bounds_of_listed cmp total (edges_of states) table 0 t a
+          | inr b ↦ let p = in_flat_map (children (edges_of states)) order t b in bounds_of_listed cmp total (edges_of states) table p.0 t p.2
         ]
 
     -- each state that a text leads to is known
     pub known_of_leads : (w : List L) (t : ℕ) → Leads (child_of cmp states) w t → IsKnown order t
-    known_of_leads w t h = known_below t (walk-bounds (child_of cmp states) (λ i. get_or (depths_of states) i 0) (length (edges_of states)) table.trie w t h)
+    known_of_leads w t h = known_below t (walk-bounds (child_of cmp states) (length (edges_of states)) table.trie w t h)
       where
         known_below : (t : ℕ) → (t < length (edges_of states)) × (t ≢ 1) → IsKnown order t
         known_below zero b = inl refl
         known_below (suc zero) b = absurd (b.1 refl)
-        known_below (suc (suc t)) b = inr (all_in_order cmp total (edges_of states) (depths_of states) table order links.first (suc (suc t)) (omega arith) b.0)
+        known_below (suc (suc t)) b = inr (all_in_order cmp total (edges_of states) table order links.first (suc (suc t)) (omega arith) b.0)
 
     -- the list of the link of c ∷ cs
     list_of_link : (outputs : List (Output V)) (positions : List ℕ) (done : List ℕ) (f p : ℕ) → AreListed cmp stops states done outputs positions → IsLinkAmong done f → IsParent positions f p → (o : Option (List L)) → IsStateOf (child_of cmp states) o f → outputs_at outputs p ≡ link_outputs stops states o
     list_of_link outputs positions done f p listed among parent None is =
         elim parent [ inl dead ↦ ap (outputs_at outputs) dead.1 | inr alive' ↦ absurd (alive'.0 is) ]
     list_of_link outputs positions done f p listed among parent (Some x) is =
-        let ne = (walk-bounds (child_of cmp states) (λ i. get_or (depths_of states) i 0) (length (edges_of states)) table.trie x f is).1 in
+        let ne = (walk-bounds (child_of cmp states) (length (edges_of states)) table.trie x f is).1 in
         elim parent [
           | inl dead ↦ absurd (ne dead.0)
           | inr alive' ↦

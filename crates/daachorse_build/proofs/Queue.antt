@@ -1,5 +1,5 @@
 -- The queue of a breadth-first walk, from step to step.
-use Rattle.std.proofs.Common.{◌≡◌, ◌≢◌, ℕ, zero, suc, ◌+◌, ◌<◌, ◌≤◌, ◌⊎◌, Bool, true, false, eqb, List, [], ◌∷◌, ◌++◌, length, get_or, take, set, replicate, Some, refl, sym, ap, ◌∙◌, subst, inl, inr, arith, append_assoc, get_or-set_same, get_or-set_other}
+use Rattle.std.proofs.Common.{◌≡◌, ◌≢◌, ℕ, zero, suc, ◌+◌, ◌<◌, ◌≤◌, ◌⊎◌, Bool, true, false, cond, eqb, List, [], ◌∷◌, ◌++◌, length, get_or, take, set, replicate, Some, refl, sym, ap, ◌∙◌, subst, inl, inr, arith, append_assoc, get_or-set_same, get_or-set_other}
 use Rattle.std.proofs.lemmas.Option.{none-some, same_Some}
 use Rattle.std.proofs.lemmas.List.{append-nil, take-append-le, get_or_append_left, get_or_push, length_push, length-set, length-replicate, get_or-replicate, take_more, take_all, length-take-le, get_or-take, take_at, flat_map_more, get_or_default}
 use Rattle.std.proofs.lemmas.Map.Entries.{place_from_lookup, lookup_from_place}
@@ -10,7 +10,8 @@ use Rattle.std.specs.declared.cmp.Ordering.{Ordering}
 use Rattle.std.specs.declared.cmp.Ordering.TheVariants.{Less}
 use Rattle.std.proofs.lemmas.Map.Keys.{Less-from_sorted}
 use Rattle.std.specs.List.{list_any, IsDistinct}
-use Rattle.std.proofs.lemmas.Bool.{cases_lt, cases_eq, eqb-true, or_cases, false_from_ne_true, false≢true}
+use Rattle.std.proofs.lemmas.Bool.{cases_lt, cases_eq, cond-true, cond-false, eqb-true, or_cases, false_from_ne_true, false≢true}
+use Rattle.std.proofs.lemmas.Bool.Decides.{eqb_tells}
 use Rattle.std.specs.Ordering.{is_eq}
 use Rattle.std.specs.BTreeMap.{is_at}
 use Rattle.std.specs.List.{flat_map, slice_get}
@@ -89,6 +90,57 @@ link_among fails order n t within earlier h =
     let e : get_or order p.0 0 ≡ t = sym (get_or-take n order p.0 0 short) ∙ p.2 in
     let P : ℕ → Type 0 = λ u. IsLinkAmong (take n order) (get_or fails u 0) in
     subst P e (among_more p.0 n order _ (omega arith) (earlier p.0 low))
+
+-- where t first stands; past the end where it doesn't
+abbrev pub first_place : List ℕ → ℕ → ℕ
+first_place [] t = 0
+first_place (x ∷ xs) t = cond (eqb x t) 0 (first_place xs t + 1)
+
+first_place_here : (x : ℕ) (xs : List ℕ) (t : ℕ) → x ≡ t → first_place (x ∷ xs) t ≡ 0
+first_place_here x xs t e = elim (eqb_tells x t) [ inl same ↦ cond-true _ _ _ same.0 | inr apart ↦ absurd (apart.1 e) ]
+
+first_place_after : (x : ℕ) (xs : List ℕ) (t : ℕ) → x ≢ t → first_place (x ∷ xs) t ≡ first_place xs t + 1
+first_place_after x xs t ne = cond-false _ _ _ (false_from_ne_true (eqb x t) (λ e. ne (eqb-true x t e)))
+
+-- what stands there
+at_first_place : (xs : List ℕ) (t : ℕ) → IsIn xs t → (first_place xs t < length xs) × (get_or xs (first_place xs t) 0 ≡ t)
+at_first_place [] t h = absurd h
+at_first_place (x ∷ xs) t h =
+    elim (cases_eq x t) [
+      | inl e ↦ let here = first_place_here x xs t e in (omega (arith, here), ap (λ i. get_or (x ∷ xs) i 0) here ∙ e)
+      | inr ne ↦
+          let after = first_place_after x xs t ne in
+          let rest = at_first_place xs t (elim h [ inl e ↦ absurd (ne e) | inr k ↦ k ]) in
+          let next : first_place (x ∷ xs) t ≡ suc (first_place xs t) = omega (arith, after) in
+          (omega (arith, after, rest.0), ap (λ i. get_or (x ∷ xs) i 0) next ∙ rest.1)
+    ]
+
+-- what is among the first n stands before the place n
+first_place_among : (n : ℕ) (xs : List ℕ) (t : ℕ) → IsIn (take n xs) t → first_place xs t < n
+first_place_among zero xs t h = absurd h
+first_place_among (suc n) [] t h = absurd h
+first_place_among (suc n) (x ∷ xs) t h =
+    elim (cases_eq x t) [
+      | inl e ↦ omega (arith, first_place_here x xs t e)
+      | inr ne ↦ omega (arith, first_place_after x xs t ne, first_place_among n xs t (elim h [ inl e ↦ absurd (ne e) | inr k ↦ k ]))
+    ]
+
+-- behind the root, a link that is alive stands before its state
+pub link_before : (fails order : List ℕ) (t : ℕ) → LeftLinksComeFirst fails order → IsIn order t → t ≢ 0 → get_or fails t 0 ≢ 1 → first_place (0 ∷ order) (get_or fails t 0) < first_place (0 ∷ order) t
+link_before fails order t earlier h ne alive =
+    let at = at_first_place order t h in
+    let after : first_place (0 ∷ order) t ≡ first_place order t + 1 = first_place_after 0 order t (λ e. ne (sym e)) in
+    let P : ℕ → Type 0 = λ u. IsLinkAmong (take (first_place order t) order) (get_or fails u 0) in
+    elim (subst P at.1 (earlier (first_place order t) at.0)) [
+      | inl dead ↦ absurd (alive dead)
+      | inr (inl root) ↦ omega (arith, after, first_place_here 0 order (get_or fails t 0) (sym root))
+      | inr (inr before) ↦
+          let front = first_place_among (first_place order t) order (get_or fails t 0) before in
+          elim (cases_eq 0 (get_or fails t 0)) [
+            | inl e ↦ omega (arith, after, first_place_here 0 order (get_or fails t 0) e)
+            | inr apart ↦ omega (arith, after, front, first_place_after 0 order (get_or fails t 0) apart)
+          ]
+    ]
 
 pub known_but_root : (xs : List ℕ) (t : ℕ) → t ≢ 0 → IsKnown xs t → IsIn xs t
 known_but_root xs t ne (inl e) = absurd (ne e)
@@ -170,7 +222,7 @@ value_place [] t h = absurd h
 value_place (e ∷ es) t (inl h) = (0, e.0, ap (λ v. Some (e.0, v)) h)
 value_place (e ∷ es) t (inr h) = let p = value_place es t h in (suc p.0, p.1, p.2)
 
-module _ {L : Type 0} (cmp : L → L → Ordering) (total : IsTotalOrder cmp) (edges : List (List (L × ℕ))) (depths : List ℕ) (table : IsTable cmp edges depths) where
+module _ {L : Type 0} (cmp : L → L → Ordering) (total : IsTotalOrder cmp) (edges : List (List (L × ℕ))) (table : IsTable cmp edges) where
   -- what stands in the list of edges
   pub child_at_place : (s i : ℕ) (c : L) (t : ℕ) → slice_get (get_or edges s []) i ≡ Some (c, t) → child_in cmp edges s c ≡ Some t
   child_at_place s i c t h =
@@ -217,10 +269,8 @@ module _ {L : Type 0} (cmp : L → L → Ordering) (total : IsTotalOrder cmp) (e
   complete_step order first s t (inr known) h =
       in_same _ _ t (sym first) (in_right (children edges 0) (flat_map (children edges) order) t (flat_map_in (children edges) order s t known h))
 
-  complete_by : (order : List ℕ) → IsBreadthFirst edges order → (k t : ℕ) → get_or depths t 0 ≤ k → 1 < t → t < length edges → IsIn order t
-  complete_by order first zero t e low high =
-      let r = table.trie.reached t low high in
-      absurd (omega (arith, table.trie.deeper r.0 r.1 t r.2))
+  complete_by : (order : List ℕ) → IsBreadthFirst edges order → (k t : ℕ) → t ≤ k → 1 < t → t < length edges → IsIn order t
+  complete_by order first zero t e low high = absurd (omega (arith, e, low))
   complete_by order first (suc k) t e low high =
       let r = table.trie.reached t low high in
       let b = table.trie.bounds r.0 r.1 t r.2 in
@@ -228,7 +278,7 @@ module _ {L : Type 0} (cmp : L → L → Ordering) (total : IsTotalOrder cmp) (e
       elim (cases_eq r.0 0) [
         | inl root ↦ complete_step order first r.0 t (inl root) child'
         | inr ne ↦
-            let less : get_or depths r.0 0 ≤ k = omega (arith, table.trie.deeper r.0 r.1 t r.2) in
+            let less : r.0 ≤ k = omega (arith, b.0, e) in
             let above : 1 < r.0 = omega (arith, ne, b.1) in
             let below : r.0 < length edges = omega (arith, b.0, high) in
             complete_step order first r.0 t (inr (complete_by order first k r.0 less above below)) child'
@@ -236,7 +286,7 @@ module _ {L : Type 0} (cmp : L → L → Ordering) (total : IsTotalOrder cmp) (e
 
   -- each state stands in the order
   pub all_in_order : (order : List ℕ) → IsBreadthFirst edges order → (t : ℕ) → 1 < t → t < length edges → IsIn order t
-  all_in_order order first t low high = complete_by order first (get_or depths t 0) t (omega arith) low high
+  all_in_order order first t low high = complete_by order first t t (omega arith) low high
 
   -- ---- the walk, where the states that stops names stop
   module _ (stops : ℕ → Bool) where
@@ -434,7 +484,7 @@ module _ {L : Type 0} (cmp : L → L → Ordering) (total : IsTotalOrder cmp) (e
         let h = in_at order i l in
         let b = states t h in
         elim (left.earlier i l) [
-          | inl dead ↦ absurd (alive (child_in cmp edges) stops never (λ j. get_or depths j 0) (length edges) table.trie t (get_or fails t 0) b.0 b.1 (left.linked t h) dead)
+          | inl dead ↦ absurd (alive (child_in cmp edges) stops never (length edges) table.trie t (get_or fails t 0) b.0 b.1 (left.linked t h) dead)
           | inr known ↦ known
         ];
     once = left.once;

@@ -124,7 +124,7 @@ module _ {L V : Type 0} (unit : L → ℕ) (exact : (a b : L) → unit a ≡ uni
 -- the twin of a trie holds what it does
 pub holds_twin : {L V A : Type 0} (cmp : L → L → Ordering) (unit : L → ℕ) (width : ℕ → ℕ) (kind : MatchKind) (old new : List (NfaBuilderState L V A)) (rs : List (List L × V)) → HasTrieOf old new → Holds cmp unit width kind old rs → Holds cmp unit width kind new rs
 holds_twin {L} cmp unit width kind old new rs kept holds = record {
-  trie = rw (kept.edges, kept.depths) holds.trie;
+  trie = rw kept.edges holds.trie;
   begins = λ w h. let s = holds.begins w h in (s.0, subst (leads w s.0) (sym kept.edges) s.1);
   only = λ w s h. holds.only w s (subst (leads w s) kept.edges h);
   outputs = λ w. ap (λ es. unwrap_or (option_map (own_at (own_of new)) (walk (child_in cmp es) 0 w)) []) kept.edges ∙ ap (λ os. unwrap_or (option_map (own_at os) (walk (child_of cmp old) 0 w)) []) kept.outputs ∙ holds.outputs w;

@@ -45,16 +45,16 @@ once_append xs (y ∷ ys) one two apart =
     subst P (append_assoc xs (y ∷ []) ys) rest
 
 -- ---- the walk
-module _ {L : Type 0} (cmp : L → L → Ordering) (total : IsTotalOrder cmp) (edges : List (List (L × ℕ))) (depths : List ℕ) (table : IsTable cmp edges depths) where
+module _ {L : Type 0} (cmp : L → L → Ordering) (total : IsTotalOrder cmp) (edges : List (List (L × ℕ))) (table : IsTable cmp edges) where
   -- a child comes after its parent
   child_above : (s t : ℕ) → IsIn (children edges s) t → s < t
-  child_above s t h = let e = child_of_listed cmp total edges depths table s t h in (table.trie.bounds s e.0 t e.1).0
+  child_above s t h = let e = child_of_listed cmp total edges table s t h in (table.trie.bounds s e.0 t e.1).0
 
   -- a child has one parent
   parent_same : (s u t : ℕ) → IsIn (children edges s) t → IsIn (children edges u) t → s ≡ u
   parent_same s u t h k =
-      let e = child_of_listed cmp total edges depths table s t h in
-      let f = child_of_listed cmp total edges depths table u t k in
+      let e = child_of_listed cmp total edges table s t h in
+      let f = child_of_listed cmp total edges table u t k in
       (table.trie.one_parent s e.0 u f.0 t e.1 f.1).0
 
   pub walk_start : IsWalking edges [] (0 ∷ [])
@@ -128,12 +128,12 @@ module _ {L : Type 0} (cmp : L → L → Ordering) (total : IsTotalOrder cmp) (e
     pub walk_step : IsWalking edges (order ++ s ∷ []) (rest ++ children edges s)
     walk_step = record {
       once = once_push order s walking.once top_new;
-      once_stack = once_append rest (children edges s) (once_front rest s walking.once_stack) (children_once cmp total edges depths table s)
+      once_stack = once_append rest (children edges s) (once_front rest s walking.once_stack) (children_once cmp total edges table s)
           (λ t h k. child_fresh t k (old_place t (inr h)));
       apart = next_apart;
       states = λ t h. elim (comes_from t h) [
         | inl old ↦ walking.states t old
-        | inr c ↦ let b = bounds_of_listed cmp total edges depths table s t c in (b.1, omega (arith, b.0))
+        | inr c ↦ let b = bounds_of_listed cmp total edges table s t c in (b.1, omega (arith, b.0))
       ];
       root = new_place 0 walking.root;
       covers = λ u t h k. elim (in_cases order (s ∷ []) u h) [
@@ -170,7 +170,7 @@ module _ {L : Type 0} (cmp : L → L → Ordering) (total : IsTotalOrder cmp) (e
     all_off (suc k) (suc (suc t)) h l ne =
         let p = table.trie.reached (suc (suc t)) (omega arith) l in
         let b = table.trie.bounds p.0 p.1 (suc (suc t)) p.2 in
-        off (suc (suc t)) (walking.covers p.0 (suc (suc t)) (all_off k p.0 (omega (arith, b.0, h)) (omega (arith, b.0, l)) b.1) (listed_of_child cmp total edges depths table p.0 p.1 (suc (suc t)) p.2))
+        off (suc (suc t)) (walking.covers p.0 (suc (suc t)) (all_off k p.0 (omega (arith, b.0, h)) (omega (arith, b.0, l)) b.1) (listed_of_child cmp total edges table p.0 p.1 (suc (suc t)) p.2))
 
     pub walk_end : IsWalk edges order
     walk_end = record {

@@ -11,7 +11,7 @@ use Rattle.std.specs.Map.{lookup}
 use Rattle.daachorse_build.specs.declared.nfa_builder.NfaBuilderState.{NfaBuilderState}
 use Rattle.daachorse_model.specs.Paths.{walk}
 use Rattle.daachorse_build.specs.EdgeMaps.{IsOrdered, Updates}
-use Rattle.daachorse_build.specs.Tables.{child_in, child_of, edges_of, depths_of, fails_of, own_of, own_at, positions_of, held_at, output_count, HoldTrie}
+use Rattle.daachorse_build.specs.Tables.{child_in, child_of, edges_of, fails_of, own_of, own_at, positions_of, held_at, output_count, HoldTrie}
 use Rattle.daachorse_build.specs.Growth.{IsPrefixOf, AddsEdge, Extends, IsAdding, IsAdded, HasTrieOf}
 use Rattle.std.proofs.lemmas.List.Sums.{sum_by-set, sum_by-append}
 use Rattle.daachorse_build.proofs.Walks.{walk-push, walk-same, walk-bounds, walk-append}
@@ -47,27 +47,23 @@ prefix_more w p c h = (h.0 ++ c ∷ [], sym (append_assoc w h.0 (c ∷ [])) ∙ 
 
 module _ {L V A : Type 0} (cmp : L → L → Ordering) (total : IsTotalOrder cmp) (exact : (x y : L) → cmp x y ≡ Equal → x ≡ y) where
   -- a new child of the state at id
-  pub extends_new : (old new : List (NfaBuilderState L V A)) (id : ℕ) (label : L) (parent : NfaBuilderState L V A) (m : List (L × ℕ)) (state : NfaBuilderState L V A) → HoldTrie cmp old → id < length old → id ≢ 1 → child_of cmp old id label ≡ None → parent ≡ get_or old id parent → IsOrdered cmp m → Updates cmp parent.edges m label (length old) → state.edges ≡ [] → state.depth ≡ parent.depth + 1 → state.output.items ≡ [] → new ≡ set old id (record parent { edges = m }) ++ state ∷ [] → Extends cmp old new id label (length old)
-  extends_new old new id label parent m state table l ne none is ordered updates no_edges deeper no_output e =
+  pub extends_new : (old new : List (NfaBuilderState L V A)) (id : ℕ) (label : L) (parent : NfaBuilderState L V A) (m : List (L × ℕ)) (state : NfaBuilderState L V A) → HoldTrie cmp old → id < length old → id ≢ 1 → child_of cmp old id label ≡ None → parent ≡ get_or old id parent → IsOrdered cmp m → Updates cmp parent.edges m label (length old) → state.edges ≡ [] → state.output.items ≡ [] → new ≡ set old id (record parent { edges = m }) ++ state ∷ [] → Extends cmp old new id label (length old)
+  extends_new old new id label parent m state table l ne none is ordered updates no_edges no_output e =
       let edges = edges_of old in
       let count : length edges ≡ length old = length-map old (λ s. s.edges) in
       let at : get_or edges id [] ≡ parent.edges = get_or-map (λ s. s.edges) old id parent [] l ∙ ap (λ s. s.edges) (sym is) in
-      let deep : get_or (depths_of old) id 0 ≡ parent.depth = get_or-map (λ s. s.depth) old id parent 0 l ∙ ap (λ s. s.depth) (sym is) in
       let low : id < length edges = omega (arith, count, l) in
       let found : (q : L) → lookup (is_at (cmp q)) m ≡ cond (is_at (cmp label) q) (Some (length edges)) (lookup (is_at (cmp q)) (get_or edges id [])) =
       λ q. updates q ∙ ap (λ es. cond (is_at (cmp label) q) (Some (length old)) (lookup (is_at (cmp q)) es)) (sym at) ∙ ap (λ n. cond (is_at (cmp label) q) (Some n) (lookup (is_at (cmp q)) (get_or edges id []))) (sym count) in
       let made : edges_of new ≡ set edges id m ++ [] ∷ [] =
       ap edges_of e ∙ map_edit (λ s. s.edges) old id (record parent { edges = m }) state ∙ ap (λ es. set edges id m ++ es ∷ []) no_edges in
-      let depths : depths_of new ≡ depths_of old ++ state.depth ∷ [] =
-      ap depths_of e ∙ map_edit (λ s. s.depth) old id (record parent { edges = m }) state ∙ ap (λ ds. ds ++ state.depth ∷ []) (map_kept (λ s. s.depth) old id parent (record parent { edges = m }) l is refl) in
       let outputs : own_of new ≡ own_of old ++ [] ∷ [] =
       ap own_of e ∙ map_edit (λ s. s.output.items) old id (record parent { edges = m }) state ∙ ap (λ os. set (own_of old) id parent.output.items ++ os ∷ []) no_output ∙ ap (λ os. os ++ [] ∷ []) (map_kept (λ s. s.output.items) old id parent (record parent { edges = m }) l is refl) in
-      let adds = adds_edge cmp total exact edges (depths_of old) table id label state.depth m low ne none ordered found in
-      let lengths : length (depths_of old) ≡ length edges = length-map old (λ s. s.depth) ∙ sym count in
-      let grown = table_grows cmp total exact edges (depths_of old) table id label state.depth m low ne none ordered found lengths (deeper ∙ ap (λ x. x + 1) (sym deep)) in
-      let hit = is_here cmp total exact edges (depths_of old) table id label state.depth m low ne none ordered found in
+      let adds = adds_edge cmp total exact edges table id label m low ne none ordered found in
+      let grown = table_grows cmp total exact edges table id label m low ne none ordered found in
+      let hit = is_here cmp total exact edges table id label m low ne none ordered found in
       record {
-        trie = rw (made, depths) grown;
+        trie = rw made grown;
         leads = ap (λ es. child_in cmp es id label) made ∙ hit ∙ ap Some count;
         outputs = λ v. ap (λ os. get_or os v []) outputs ∙ own_push (own_of old) v;
         count = ap output_count outputs ∙ (omega (arith, sum_by-append length (own_of old) ([] ∷ [])));
@@ -123,7 +119,7 @@ module _ {L V A : Type 0} (cmp : L → L → Ordering) (total : IsTotalOrder cmp
                     elim (walk_came (child_of cmp mid) (child_of cmp new) id c t adds.0 0 w v h) [
                       | inl came ↦ elim (adding.grows.news w v came) [ inl a ↦ inl a | inr b ↦ inr (b.0, prefix_more w p c b.1) ]
                       | inr came ↦
-                          let front : came.0 ≡ p = walk-same (child_of cmp mid) (λ i. get_or (depths_of mid) i 0) (length (edges_of mid)) mid_trie came.0 p id came.2 adding.here in
+                          let front : came.0 ≡ p = walk-same (child_of cmp mid) (length (edges_of mid)) mid_trie came.0 p id came.2 adding.here in
                           inr (omega (arith, came.3, adds.1, adding.longer), ([], append-nil w ∙ came.1 ∙ ap (λ x. x ++ c ∷ []) front))
                     ];
               };
@@ -157,17 +153,17 @@ module _ {L V A : Type 0} (cmp : L → L → Ordering) (total : IsTotalOrder cmp
           ]
 
   -- the output goes to the state at the end
-  pub added : (old mid new : List (NfaBuilderState L V A)) (p : List L) (id : ℕ) (out : V × ℕ) → HoldTrie cmp old → IsAdding cmp old mid p id → edges_of new ≡ edges_of mid → depths_of new ≡ depths_of mid → own_of new ≡ set (own_of mid) id (own_at (own_of mid) id ++ out ∷ []) → IsAdded cmp old new p out
-  added old mid new p id out table adding edges depths outputs =
+  pub added : (old mid new : List (NfaBuilderState L V A)) (p : List L) (id : ℕ) (out : V × ℕ) → HoldTrie cmp old → IsAdding cmp old mid p id → edges_of new ≡ edges_of mid → own_of new ≡ set (own_of mid) id (own_at (own_of mid) id ++ out ∷ []) → IsAdded cmp old new p out
+  added old mid new p id out table adding edges outputs =
       let kept = outputs_kept old mid p id table adding in
       let W : List L → ℕ → List (List (L × ℕ)) → Type 0 = λ w v es. walk (child_in cmp es) 0 w ≡ Some v in
-      let bound = walk-bounds (child_of cmp mid) (λ i. get_or (depths_of mid) i 0) (length (edges_of mid)) adding.trie.trie p id adding.here in
+      let bound = walk-bounds (child_of cmp mid) (length (edges_of mid)) adding.trie.trie p id adding.here in
       let count : length (edges_of mid) ≡ length (own_of mid) = length-map mid (λ s. s.edges) ∙ sym (length-map mid (λ s. s.output.items)) in
       let low : id < length (own_of mid) = omega (arith, bound.0, count) in
       let same : (w : List L) → held_at cmp new w ≡ unwrap_or (option_map (own_at (set (own_of mid) id (own_at (own_of mid) id ++ out ∷ []))) (walk (child_of cmp mid) 0 w)) [] =
       λ w. ap (λ es. unwrap_or (option_map (own_at (own_of new)) (walk (child_in cmp es) 0 w)) []) edges ∙ ap (λ os. unwrap_or (option_map (own_at os) (walk (child_of cmp mid) 0 w)) []) outputs in
       record {
-        trie = rw (edges, depths) adding.trie;
+        trie = rw edges adding.trie;
         keeps = λ w v h. subst (W w v) (sym edges) (adding.grows.keeps w v h);
         begins = λ w h. begins w h;
         only = λ w v h. elim (adding.grows.news w v (subst (W w v) edges h)) [ inl a ↦ inl a | inr b ↦ inr b.1 ];
@@ -186,7 +182,7 @@ module _ {L V A : Type 0} (cmp : L → L → Ordering) (total : IsTotalOrder cmp
       other w apart None e =
           ap (λ o. unwrap_or (option_map (own_at (set (own_of mid) id (own_at (own_of mid) id ++ out ∷ []))) o) []) e ∙ sym (outputs_missing mid w e)
       other w apart (Some v) e =
-          let ne : v ≢ id = λ k. apart (walk-same (child_of cmp mid) (λ i. get_or (depths_of mid) i 0) (length (edges_of mid)) adding.trie.trie w p id (e ∙ ap Some k) adding.here) in
+          let ne : v ≢ id = λ k. apart (walk-same (child_of cmp mid) (length (edges_of mid)) adding.trie.trie w p id (e ∙ ap Some k) adding.here) in
           ap (λ o. unwrap_or (option_map (own_at (set (own_of mid) id (own_at (own_of mid) id ++ out ∷ []))) o) []) e
           ∙ get_or-set_other (own_of mid) id v (own_at (own_of mid) id ++ out ∷ []) [] ne
           ∙ sym (outputs_found mid w v e)
@@ -207,7 +203,6 @@ link_set old states fails i x y l low is e kept links =
     let count : i < length (fails_of states) = omega (arith, l, length-map states (λ s. s.fail)) in (
       record {
         edges = map_stays (λ s. s.edges) states i x y l is (ap (λ s. s.edges) e) ∙ kept.edges;
-        depths = map_stays (λ s. s.depth) states i x y l is (ap (λ s. s.depth) e) ∙ kept.depths;
         outputs = map_stays (λ s. s.output.items) states i x y l is (ap (λ s. s.output.items) e) ∙ kept.outputs;
       },
       ap (take (i + 1)) (map-set (λ s. s.fail) states i y ∙ ap (λ s. set (fails_of states) i s.fail) e)
@@ -219,7 +214,6 @@ pub position_set : {L V A : Type 0} (states : List (NfaBuilderState L V A)) (i :
 position_set states i x y p l is e = (
   record {
     edges = map_stays (λ s. s.edges) states i x y l is (ap (λ s. s.edges) e);
-    depths = map_stays (λ s. s.depth) states i x y l is (ap (λ s. s.depth) e);
     outputs = map_stays (λ s. s.output.items) states i x y l is (ap (λ s. s.output.items) e);
   },
   map_stays (λ s. s.fail) states i x y l is (ap (λ s. s.fail) e),

@@ -1,5 +1,5 @@
 -- Laws of walks and longest suffixes.
-use Rattle.std.proofs.Common.{◌≡◌, ◌≢◌, ℕ, ◌+◌, ◌<◌, ◌≤◌, ◌⊎◌, true, false, List, [], ◌∷◌, ◌++◌, length, Option, Some, None, option_and_then, is_some, refl, sym, ap, zero, suc, ◌∙◌, inl, inr, arith}
+use Rattle.std.proofs.Common.{◌≡◌, ◌≢◌, ℕ, ◌<◌, ◌≤◌, ◌⊎◌, true, false, List, [], ◌∷◌, ◌++◌, length, Option, Some, None, option_and_then, is_some, refl, sym, ap, zero, suc, ◌∙◌, inl, inr, arith}
 use Rattle.std.proofs.lemmas.Option.{option_and_then_some, same_Some}
 use Rattle.std.proofs.lemmas.List.{length_push}
 use Rattle.std.proofs.lemmas.Bool.{cases_Bool, cond-true, cond-false}
@@ -83,13 +83,7 @@ module _ {A : Type 0} (child : ℕ → A → Option ℕ) where
   long-push (d ∷ ds) c = push_step d ds c (long-push ds c) (cases_Bool (is_reached child (d ∷ ds)))
 
   -- ---- walks in a trie
-  module _ (depth : ℕ → ℕ) (n : ℕ) (trie : IsTrie child depth n) where
-    pub depth-walk : (s : ℕ) (w : List A) (t : ℕ) → walk child s w ≡ Some t → depth t ≡ depth s + length w
-    depth-walk s [] t h = let e : s ≡ t = same_Some s t h in ap depth (sym e) ∙ omega arith
-    depth-walk s (c ∷ cs) t h =
-        option_and_then_some (λ u. walk child u cs) (child s c) t h
-        (λ u e k. let d = depth-walk u cs t k in omega (arith, trie.deeper s c u e))
-
+  module _ (n : ℕ) (trie : IsTrie child n) where
     pub walk-bounds : (w : List A) (t : ℕ) → walk child 0 w ≡ Some t → (t < n) × (t ≢ 1)
     walk-bounds [] t h = let e : 0 ≡ t = same_Some 0 t h in (omega (arith, trie.two), λ k. omega (arith, k))
     walk-bounds (c ∷ cs) t h =
@@ -98,13 +92,20 @@ module _ {A : Type 0} (child : ℕ → A → Option ℕ) where
         let b = trie.bounds parts.0 last.1 t parts.2 in
         (b.3, λ k. omega (arith, b.2, k))
 
+    -- the root has no text but the empty one
+    walk-above : (c : A) (cs : List A) (t : ℕ) → walk child 0 (c ∷ cs) ≡ Some t → 1 < t
+    walk-above c cs t h =
+        let last = last_of c cs in
+        let parts = push-parts 0 last.0 last.1 t (sym (ap (walk child 0) last.2) ∙ h) in
+        (trie.bounds parts.0 last.1 t parts.2).2
+
     -- a text of k labels: two walks to one state have one text
     same_by : (k : ℕ) (xs ys : List A) (t : ℕ) → length xs ≡ k → walk child 0 xs ≡ Some t → walk child 0 ys ≡ Some t → xs ≡ ys
     same_by k [] [] t e h g = refl
     same_by k [] (y ∷ ys) t e h g =
-        absurd (omega (arith, depth-walk 0 [] t h, depth-walk 0 (y ∷ ys) t g))
+        absurd (omega (arith, same_Some 0 t h, walk-above y ys t g))
     same_by k (x ∷ xs) [] t e h g =
-        absurd (omega (arith, depth-walk 0 (x ∷ xs) t h, depth-walk 0 [] t g))
+        absurd (omega (arith, walk-above x xs t h, same_Some 0 t g))
     same_by zero (x ∷ xs) (y ∷ ys) t e h g = absurd (omega (arith, e))
     same_by (suc k) (x ∷ xs) (y ∷ ys) t e h g =
         let a = last_of x xs in
@@ -119,19 +120,18 @@ module _ {A : Type 0} (child : ℕ → A → Option ℕ) where
     pub walk-same : (xs ys : List A) (t : ℕ) → walk child 0 xs ≡ Some t → walk child 0 ys ≡ Some t → xs ≡ ys
     walk-same xs ys t h g = same_by (length xs) xs ys t refl h g
 
-    text_by : (k t : ℕ) → depth t ≤ k → t < n → t ≢ 1 → (w : List A) × (walk child 0 w ≡ Some t)
+    -- a state's parent has a lower number
+    text_by : (k t : ℕ) → t ≤ k → t < n → t ≢ 1 → (w : List A) × (walk child 0 w ≡ Some t)
     text_by k zero e l ne = ([], refl)
-    text_by zero (suc t) e l ne =
-        let r = trie.reached (suc t) (omega (arith, ne)) l in
-        absurd (omega (arith, trie.deeper r.0 r.1 (suc t) r.2))
+    text_by zero (suc t) e l ne = absurd (omega (arith, e))
     text_by (suc k) (suc t) e l ne =
         let r = trie.reached (suc t) (omega (arith, ne)) l in
         let b = trie.bounds r.0 r.1 (suc t) r.2 in
-        let less : depth r.0 ≤ k = omega (arith, trie.deeper r.0 r.1 (suc t) r.2) in
+        let less : r.0 ≤ k = omega (arith, b.0, e) in
         let low : r.0 < n = omega (arith, b.0, l) in
         let text = text_by k r.0 less low b.1 in
         (text.0 ++ r.1 ∷ [], walk-push 0 text.0 r.1 r.0 text.1 ∙ r.2)
 
     -- the text of a state
     pub text_of : (t : ℕ) → t < n → t ≢ 1 → (w : List A) × (walk child 0 w ≡ Some t)
-    text_of t l ne = text_by (depth t) t (omega arith) l ne
+    text_of t l ne = text_by t t (omega arith) l ne

@@ -3,7 +3,7 @@ use Rattle.std.specs.Prelude.{◌≡◌, ◌≢◌, ℕ, ◌+◌, ◌<◌, ◌�
 use Rattle.std.specs.declared.cmp.Ordering.{Ordering}
 use Rattle.daachorse_model.specs.Paths.{Leads}
 use Rattle.daachorse_build.specs.declared.nfa_builder.NfaBuilderState.{NfaBuilderState}
-use Rattle.daachorse_build.specs.Tables.{child_of, edges_of, depths_of, own_of, own_at, held_at, output_count, HoldTrie}
+use Rattle.daachorse_build.specs.Tables.{child_of, edges_of, own_of, own_at, held_at, output_count, HoldTrie}
 
 -- w is a beginning of p
 abbrev pub IsPrefixOf : {A : Type 0} → List A → List A → Type 0
@@ -54,7 +54,6 @@ pub record IsAdded {L V A : Type 0} (cmp : L → L → Ordering) (old new : List
 -- new has the trie of old, and its outputs
 pub record HasTrieOf {L V A : Type 0} (old new : List (NfaBuilderState L V A)) : Type 0 where
   pub edges : edges_of new ≡ edges_of old
-  pub depths : depths_of new ≡ depths_of old
   pub outputs : own_of new ≡ own_of old
 
 -- Each id up to the limit is taken, and the pattern needs a state more, after the beginnings of it that are added first.

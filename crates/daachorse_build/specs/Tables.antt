@@ -1,5 +1,5 @@
 -- The states of a builder as lists, and the trie that they hold.
-use Rattle.std.specs.Prelude.{Bool, not, ◌&&◌, ◌==◌, ℕ, List, [], Option, map, length, slice_index, slice_index_or, unwrap_or, option_map, sum_by}
+use Rattle.std.specs.Prelude.{Bool, not, ◌&&◌, ◌==◌, ℕ, List, [], Option, map, length, slice_index_or, unwrap_or, option_map, sum_by}
 use Rattle.std.specs.declared.cmp.Ordering.{Ordering}
 use Rattle.daachorse_model.specs.Paths.{walk}
 use Rattle.daachorse_build.specs.declared.nfa_builder.NfaBuilderState.{NfaBuilderState}
@@ -10,10 +10,6 @@ use Rattle.daachorse_build.specs.Trie.{IsTrie}
 -- the edges, by rising labels
 abbrev pub edge_map : {L V A : Type 0} → NfaBuilderState L V A → List (L × ℕ)
 edge_map s = s.edges
-
--- the length of its text, in labels
-abbrev pub depth_of : {L V A : Type 0} → NfaBuilderState L V A → ℕ
-depth_of s = s.depth
 
 -- its own outputs: the values of its text, each with the length of the pattern in bytes
 abbrev pub held_by : {L V A : Type 0} → NfaBuilderState L V A → List (V × ℕ)
@@ -31,10 +27,6 @@ position_of s = s.output_pos
 -- the edges of each state, by rising labels
 abbrev pub edges_of : {L V A : Type 0} → List (NfaBuilderState L V A) → List (List (L × ℕ))
 edges_of states = map (λ s. s.edges) states
-
--- the length of each state's text, in labels
-abbrev pub depths_of : {L V A : Type 0} → List (NfaBuilderState L V A) → List ℕ
-depths_of states = map (λ s. s.depth) states
 
 -- the failure link of each state
 abbrev pub fails_of : {L V A : Type 0} → List (NfaBuilderState L V A) → List ℕ
@@ -73,9 +65,9 @@ abbrev pub held_at : {L V A : Type 0} → (L → L → Ordering) → List (NfaBu
 held_at cmp states w = unwrap_or (option_map (own_at (own_of states)) (walk (child_of cmp states) 0 w)) []
 
 -- the edges of each state are in order, and together they make a trie
-pub record IsTable {L : Type 0} (cmp : L → L → Ordering) (edges : List (List (L × ℕ))) (depths : List ℕ) : Type 0 where
+pub record IsTable {L : Type 0} (cmp : L → L → Ordering) (edges : List (List (L × ℕ))) : Type 0 where
   pub ordered : (s : ℕ) → IsOrdered cmp (slice_index_or edges s [])
-  pub trie : IsTrie (child_in cmp edges) (slice_index depths) (length edges)
+  pub trie : IsTrie (child_in cmp edges) (length edges)
 
 abbrev pub HoldTrie : {L V A : Type 0} → (L → L → Ordering) → List (NfaBuilderState L V A) → Type 0
-HoldTrie cmp states = IsTable cmp (edges_of states) (depths_of states)
+HoldTrie cmp states = IsTable cmp (edges_of states)

@@ -1,15 +1,12 @@
 -- A trie by what a label leads to from a state. State 0 is the root, and 1 is no state of the trie.
-use Rattle.std.specs.Prelude.{◌≡◌, ◌≢◌, ℕ, ◌+◌, ◌<◌, ◌≤◌, List, ◌∷◌, Option, Some}
+use Rattle.std.specs.Prelude.{◌≡◌, ◌≢◌, ℕ, ◌<◌, List, ◌∷◌, Option, Some}
 use Rattle.daachorse_model.specs.Paths.{is_reached, Leads}
 use Rattle.daachorse_model.specs.Prefixes.{long}
 
 -- n states, each but 0 and 1 the child of exactly one state, by exactly one label
-pub record IsTrie {A : Type 0} (child : ℕ → A → Option ℕ) (depth : ℕ → ℕ) (n : ℕ) : Type 0 where
+pub record IsTrie {A : Type 0} (child : ℕ → A → Option ℕ) (n : ℕ) : Type 0 where
   pub two : 1 < n
-  pub root : depth 0 ≡ 0
   pub bounds : (s : ℕ) (c : A) (t : ℕ) → child s c ≡ Some t → (s < t) × (s ≢ 1) × (1 < t) × (t < n)
-  pub deeper : (s : ℕ) (c : A) (t : ℕ) → child s c ≡ Some t → depth t ≡ depth s + 1
-  pub shallow : (s : ℕ) → s < n → depth s ≤ s
   pub one_parent : (s : ℕ) (c : A) (s' : ℕ) (c' : A) (t : ℕ) → child s c ≡ Some t → child s' c' ≡ Some t → (s ≡ s') × (c ≡ c')
   pub reached : (t : ℕ) → 1 < t → t < n → (s : ℕ) × (c : A) × (child s c ≡ Some t)
 

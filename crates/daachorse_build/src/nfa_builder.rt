@@ -20,7 +20,7 @@ ghost use Rattle.daachorse_core.specs.Chains.{Passes};
 ghost use Rattle.daachorse_core.specs.declared.errors.Limit.TheVariants.{Outputs, StateId};
 ghost use Rattle.daachorse_core.specs.declared.errors.DaachorseError.TheVariants.{InvalidArgument};
 ghost use Rattle.daachorse_core.specs.declared.outputs.Output.{Output as OutputOf};
-ghost use Rattle.daachorse_build.specs.Tables.{edges_of, fails_of, positions_of, own_of, own_at, output_count, child_of, stops_of, HoldTrie, edge_map, depth_of, held_by, link_of, position_of};
+ghost use Rattle.daachorse_build.specs.Tables.{edges_of, fails_of, positions_of, own_of, own_at, output_count, child_of, stops_of, HoldTrie, edge_map, held_by, link_of, position_of};
 ghost use Rattle.daachorse_build.specs.Orders.{IsIn, IsKnown, IsLinkAmong, HoldLinks, HoldLeftLinks};
 ghost use Rattle.daachorse_build.specs.Left.{IsLeftFailOf, LinksLeft, meets_early};
 ghost use Rattle.daachorse_build.specs.Searches.{Searches, LeadsTo, ComesFrom};
@@ -53,8 +53,6 @@ pub const DEAD_STATE_ID: u32 = 1;
 #[derive(Drop)]
 pub struct NfaBuilderState<L: EdgeLabel, V: Copy, A: Allocator = Global> {
     edges: EdgeMap<L, A>,
-    // The length of the state's text, in labels.
-    depth: u32,
     fail: u32,
     output: Vec<(V, u32), A>,
     // 0 stands for none, since an `Option<NonZeroU32>` would take twice the bytes.
@@ -88,18 +86,21 @@ impl<L: EdgeLabel, V: Copy, A: Allocator + Copy> NfaBuilderState<L, V, A> {
     /// A state with no edges and no outputs. It takes no memory.
     pub fn new(alloc: A) -> Self
         ensures edges { edge_map result ≡ [] }
-        ensures depth { depth_of result ≡ 0 }
         ensures fail { link_of result ≡ 0 }
         ensures outputs { held_by result ≡ [] }
         ensures position { position_of result ≡ 0 }
     {
-        Self::at_depth(alloc, 0)
+        Self {
+            edges: EdgeMap::default(),
+            fail: ROOT_STATE_ID,
+            output: Vec::new(alloc),
+            output_pos: 0,
+        }
     }
 
-    /// A state with the same edges, depth, link, outputs and position.
+    /// A state with the same edges, link, outputs and position.
     pub fn clone(&self) -> Result<Self>
         ensures edges { IfOk result (λ state. edge_map state ≡ edge_map self.now) }
-        ensures depth { IfOk result (λ state. depth_of state ≡ depth_of self.now) }
         ensures fail { IfOk result (λ state. link_of state ≡ link_of self.now) }
         ensures outputs { IfOk result (λ state. held_by state ≡ held_by self.now) }
         ensures position { IfOk result (λ state. position_of state ≡ position_of self.now) }
@@ -107,28 +108,10 @@ impl<L: EdgeLabel, V: Copy, A: Allocator + Copy> NfaBuilderState<L, V, A> {
     {
         Ok(Self {
             edges: self.edges.clone()?,
-            depth: self.depth,
             fail: self.fail,
             output: Vec::from_slice(*self.output.allocator(), &self.output)?,
             output_pos: self.output_pos,
         })
-    }
-
-    /// A state with no edges and no outputs, whose text has `depth` labels.
-    fn at_depth(alloc: A, depth: u32) -> Self
-        ensures edges { result.edges ≡ [] }
-        ensures depth { result.depth ≡ depth }
-        ensures fail { result.fail ≡ 0 }
-        ensures output { result.output.items ≡ [] }
-        ensures position { result.output_pos ≡ 0 }
-    {
-        Self {
-            edges: EdgeMap::default(),
-            depth,
-            fail: ROOT_STATE_ID,
-            output: Vec::new(alloc),
-            output_pos: 0,
-        }
     }
 }
 
@@ -393,10 +376,8 @@ fn child_or_new<L: EdgeLabel, V: Copy, A: Allocator + Copy>(
         return Err(DaachorseError::automaton_scale(Limit::StateId));
     };
     let alloc = *states.allocator();
-    let parent = &mut states[id as usize];
-    let depth = parent.depth + 1;
-    parent.edges.insert(alloc, label, fresh)?;
-    states.push(NfaBuilderState::at_depth(alloc, depth))?;
+    states[id as usize].edges.insert(alloc, label, fresh)?;
+    states.push(NfaBuilderState::new(alloc))?;
     Ok(fresh)
 }
 

@@ -1,7 +1,7 @@
 -- One label more is one state more on the way; the output goes to the last.
-use Rattle.std.proofs.Common.{◌≡◌, ◌+◌, ◌<◌, [], ◌∷◌, ◌++◌, length, take, drop, get_or, set, vec_len, None, refl, sym, ap, ◌∙◌, arith}
+use Rattle.std.proofs.Common.{◌≡◌, ◌+◌, ◌<◌, [], ◌∷◌, ◌++◌, length, take, drop, set, vec_len, None, refl, sym, ap, ◌∙◌, arith}
 use Rattle.std.proofs.lemmas.List.{length-map, take_more, take_all, drop_more, take-append-drop}
-use Rattle.daachorse_build.specs.Tables.{child_of, edges_of, depths_of}
+use Rattle.daachorse_build.specs.Tables.{child_of, edges_of}
 use Rattle.daachorse_build.proofs.Walks.{walk-bounds}
 use Rattle.daachorse_build.proofs.States.{adding_start, adding_more, added, output_pushed, map_stays}
 use Rattle.daachorse_build.proofs.Labels.{label_exact}
@@ -21,14 +21,14 @@ pub child_or_new-requires-clause-in_range : goal.child_or_new-requires-clause-in
 child_or_new-requires-clause-in_range g c =
     let states = c.loop-label.states.items in
     let i = c.loop-label.invariant.0 in
-    let b = walk-bounds (child_of g.L.Ord.cmp states) (λ k. get_or (depths_of states) k 0) (length (edges_of states)) i.trie.trie _ c.loop-label.id i.here in
+    let b = walk-bounds (child_of g.L.Ord.cmp states) (length (edges_of states)) i.trie.trie _ c.loop-label.id i.here in
     omega (arith, b.0, length-map states (λ s. s.edges))
 
 pub child_or_new-requires-clause-alive : goal.child_or_new-requires-clause-alive
 child_or_new-requires-clause-alive g c =
     let states = c.loop-label.states.items in
     let i = c.loop-label.invariant.0 in
-    (walk-bounds (child_of g.L.Ord.cmp states) (λ k. get_or (depths_of states) k 0) (length (edges_of states)) i.trie.trie _ c.loop-label.id i.here).1
+    (walk-bounds (child_of g.L.Ord.cmp states) (length (edges_of states)) i.trie.trie _ c.loop-label.id i.here).1
 
 pub loop-label-preserved : goal.loop-label-preserved
 loop-label-preserved g c =
@@ -43,7 +43,7 @@ pub index_mut-requires : goal.index_mut-requires
 index_mut-requires g c =
     let states = c.loop-label.states.items in
     let i = c.loop-label.invariant.0 in
-    let b = walk-bounds (child_of g.L.Ord.cmp states) (λ k. get_or (depths_of states) k 0) (length (edges_of states)) i.trie.trie _ c.loop-label.id i.here in
+    let b = walk-bounds (child_of g.L.Ord.cmp states) (length (edges_of states)) i.trie.trie _ c.loop-label.id i.here in
     omega (arith, b.0, length-map states (λ s. s.edges))
 
 pub returns-clause-ok : goal.returns-clause-ok
@@ -53,13 +53,12 @@ returns-clause-ok g c =
     let x = c.index_mut.result.now in
     let y = record x { output = c.push.new.self } in
     let i = c.loop-label.invariant.0 in
-    let b = walk-bounds (child_of g.L.Ord.cmp states) (λ k. get_or (depths_of states) k 0) (length (edges_of states)) i.trie.trie _ id i.here in
+    let b = walk-bounds (child_of g.L.Ord.cmp states) (length (edges_of states)) i.trie.trie _ id i.here in
     let low : id < length states = omega (arith, b.0, length-map states (λ s. s.edges)) in
     let whole : take c.loop-label.label-index c.args.pattern.now ≡ c.args.pattern.now = take_all c.loop-label.label-index c.args.pattern.now (omega arith) in
     let out = output_pushed states id x y (c.args.value, c.args.size) low c.index_mut.ensures.value c.in_ok-push.ensures.items in
     let edges = map_stays (λ s. s.edges) states id x y low c.index_mut.ensures.value refl in
-    let depths = map_stays (λ s. s.depth) states id x y low c.index_mut.ensures.value refl in
-    let done = added g.L.Ord.cmp g.met.L.Ord.total (label_exact g.L.EdgeLabel.unit g.L.Ord.cmp g.met.L.EdgeLabel.exact g.met.L.EdgeLabel.by_unit) c.args.states.now.items states (set states id y) (take c.loop-label.label-index c.args.pattern.now) id (c.args.value, c.args.size) c.requires i edges depths out in
+    let done = added g.L.Ord.cmp g.met.L.Ord.total (label_exact g.L.EdgeLabel.unit g.L.Ord.cmp g.met.L.EdgeLabel.exact g.met.L.EdgeLabel.by_unit) c.args.states.now.items states (set states id y) (take c.loop-label.label-index c.args.pattern.now) id (c.args.value, c.args.size) c.requires i edges out in
     rw whole at done
 
 pub returns-in_err-id-clause-refused : goal.returns-in_err-id-clause-refused

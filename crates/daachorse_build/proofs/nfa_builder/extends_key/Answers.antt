@@ -1,9 +1,9 @@
 -- A state that stops is met; else what is met is met after the next label.
-use Rattle.std.proofs.Common.{rules, ◌≡◌, ◌+◌, ◌<◌, ◌∷◌, [], ◌++◌, ◌||◌, ℕ, Bool, true, false, List, Option, Some, None, length, get_or, take, drop, refl, sym, ap, ◌∙◌, arith, unwrap_or}
+use Rattle.std.proofs.Common.{rules, ◌≡◌, ◌+◌, ◌<◌, ◌∷◌, [], ◌++◌, ◌||◌, ℕ, Bool, true, false, List, Option, Some, None, length, take, drop, refl, sym, ap, ◌∙◌, arith, unwrap_or}
 use Rattle.std.specs.Prelude.{option_map}
 use Rattle.std.proofs.lemmas.Bool.{or_left}
 use Rattle.std.proofs.lemmas.List.{length-map, take_more, drop_more, at_drop_all}
-use Rattle.daachorse_build.specs.Tables.{child_of, edges_of, depths_of, stops_of}
+use Rattle.daachorse_build.specs.Tables.{child_of, edges_of, stops_of}
 use Rattle.daachorse_build.specs.Left.{meets_early}
 use Rattle.daachorse_build.proofs.Walks.{walk-bounds, walk-push}
 use Rattle.daachorse_build.proofs.nfa_builder.extends_key.Goals as goal
@@ -11,13 +11,13 @@ use Rattle.daachorse_build.proofs.nfa_builder.extends_key.Goals as goal
 pub stops-requires : goal.stops-requires
 stops-requires g c =
     let states = c.args.states.now in
-    let b = walk-bounds (child_of g.L.Ord.cmp states) (λ k. get_or (depths_of states) k 0) (length (edges_of states)) c.requires.trie _ c.loop-label.id c.loop-label.invariant.here in
+    let b = walk-bounds (child_of g.L.Ord.cmp states) (length (edges_of states)) c.requires.trie _ c.loop-label.id c.loop-label.invariant.here in
     omega (arith, b.0, length-map states (λ s. s.edges))
 
 pub child-requires : goal.child-requires
 child-requires g c =
     let states = c.args.states.now in
-    let b = walk-bounds (child_of g.L.Ord.cmp states) (λ k. get_or (depths_of states) k 0) (length (edges_of states)) c.requires.trie _ c.loop-label.id c.loop-label.invariant.here in
+    let b = walk-bounds (child_of g.L.Ord.cmp states) (length (edges_of states)) c.requires.trie _ c.loop-label.id c.loop-label.invariant.here in
     omega (arith, b.0, length-map states (λ s. s.edges))
 
 module _ {A : Type 0} (child : ℕ → A → Option ℕ) (stops : ℕ → Bool) where

@@ -1,9 +1,9 @@
 -- A child of the root is dead where the root or the child stops, and else its link is the root.
-use Rattle.std.proofs.Common.{◌≡◌, Bool, true, false, length, get_or, refl, sym, ◌∙◌, arith}
+use Rattle.std.proofs.Common.{◌≡◌, Bool, true, false, length, refl, sym, ◌∙◌, arith}
 use Rattle.std.specs.Prelude.{◌||◌}
 use Rattle.std.proofs.lemmas.List.{length-map}
 use Rattle.std.proofs.lemmas.Bool.{false≢true}
-use Rattle.daachorse_build.specs.Tables.{child_in, edges_of, depths_of, stops_of}
+use Rattle.daachorse_build.specs.Tables.{child_in, edges_of, stops_of}
 use Rattle.daachorse_build.proofs.LeftLinks.{link_of_first}
 use Rattle.daachorse_build.proofs.nfa_builder.first_link.Goals.{then-stops-via-then-stops, then-stops-via-else-stops+then-stops-2}
 use Rattle.daachorse_build.proofs.nfa_builder.first_link.Goals as goal
@@ -37,7 +37,7 @@ returns-then-stops-clause-link g c =
       | then-stops-via-then-stops w ↦ or_left (stops 0) (stops t) (sym c.stops.ensures ∙ w.if-stops.true)
       | then-stops-via-else-stops+then-stops-2 w ↦ or_right (stops 0) (stops t) (sym w.stops-else-stops.ensures ∙ w.if-stops-2.true)
     ] in
-    link_of_first (child_in g.L.Ord.cmp (edges_of states)) stops (λ i. get_or (depths_of states) i 0) (length (edges_of states)) c.requires.table.trie e.0 t 1 e.1
+    link_of_first (child_in g.L.Ord.cmp (edges_of states)) stops (length (edges_of states)) c.requires.table.trie e.0 t 1 e.1
     (λ h. refl) (λ h. absurd (false≢true (sym h ∙ some)))
 
 pub returns-clause-link : goal.returns-clause-link
@@ -47,5 +47,5 @@ returns-clause-link g c =
     let t = c.args.child in
     let e = c.requires.edge in
     let none : (stops 0 || stops t) ≡ false = or_none (stops 0) (stops t) (sym c.stops.ensures ∙ c.if-stops.false) (sym c.stops-else-stops.ensures ∙ c.if-stops-2.false) in
-    link_of_first (child_in g.L.Ord.cmp (edges_of states)) stops (λ i. get_or (depths_of states) i 0) (length (edges_of states)) c.requires.table.trie e.0 t 0 e.1
+    link_of_first (child_in g.L.Ord.cmp (edges_of states)) stops (length (edges_of states)) c.requires.table.trie e.0 t 0 e.1
     (λ h. absurd (false≢true (sym none ∙ h))) (λ h. refl)

@@ -24,7 +24,7 @@ use Rattle.daachorse_build.proofs.nfa_builder.put_lists.Goals as goal
 
 -- as many states, at a trie's twin
 same_length : {L V A : Type 0} (old new : List (NfaBuilderState L V A)) → HasTrieOf old new → length new ≡ length old
-same_length old new kept = sym (length-map new (λ s. s.depth)) ∙ ap length kept.depths ∙ length-map old (λ s. s.depth)
+same_length old new kept = sym (length-map new (λ s. s.edges)) ∙ ap length kept.edges ∙ length-map old (λ s. s.edges)
 
 module _ {L V A : Type 0} (cmp : L → L → Ordering) (total : IsTotalOrder cmp) (exact : (x y : L) → cmp x y ≡ Equal → x ≡ y) (old new : List (NfaBuilderState L V A)) (order : List ℕ) (table : HoldTrie cmp old) (stops : ℕ → Bool) (links : IsLeftLinked cmp stops (edges_of old) (fails_of old) order) (kept : HasTrieOf old new) (i : ℕ) (l : i < length order) where
   -- a state of the order, and its link, are within the states
@@ -141,7 +141,7 @@ loop-id-preserved g c =
     let P : List (List (g.row.V.Denot × ℕ)) → Type 0 = λ os. Passes now.outputs.items (get_or (positions_of now.states) t 0) (own_at os t) c.fail_position-parent.result in
     let passes = subst P i.kept.outputs e.passes in
     record {
-      kept = record { edges = e.kept.edges ∙ i.kept.edges; depths = e.kept.depths ∙ i.kept.depths; outputs = e.kept.outputs ∙ i.kept.outputs };
+      kept = record { edges = e.kept.edges ∙ i.kept.edges; outputs = e.kept.outputs ∙ i.kept.outputs };
       fails = e.fails ∙ i.fails;
       parents = e.parents;
       fits = fits_more g.L.Ord.cmp g.met.L.Ord.total (label_exact g.L.EdgeLabel.unit g.L.Ord.cmp g.met.L.EdgeLabel.exact g.met.L.EdgeLabel.by_unit) (stops_of c.requires.links.0 c.args.states.now) c.args.states.now c.requires.trie c.args.order.now (fails_of c.args.states.now) c.requires.links.1 c.loop-id.id-index (get_or c.args.order.now c.loop-id.id-index 0) (get_or (fails_of c.args.states.now) (get_or c.args.order.now c.loop-id.id-index 0) 0) c.loop-id-test.true refl refl c.loop-id.outputs.items now.outputs.items e.longer.0 (positions_of c.loop-id.states) (positions_of now.states) e.longer.1 e.others i.fits (omega (arith, e.fits));

@@ -1,7 +1,7 @@
 -- Where no state stops, the leftmost links are the standard ones.
 use Rattle.std.proofs.Common.{ℕ, false, List, refl, sym, subst, arith, Result, Ok, Err, IfOk}
 use Rattle.std.proofs.lemmas.List.{length-map}
-use Rattle.daachorse_build.specs.Tables.{edges_of, depths_of, fails_of, stops_of, IsTable}
+use Rattle.daachorse_build.specs.Tables.{edges_of, fails_of, stops_of, IsTable}
 use Rattle.daachorse_build.proofs.Queue.{linked_of_left}
 use Rattle.daachorse_build.proofs.nfa_builder.NfaBuilder.build_fails.Goals as goal
 
@@ -15,9 +15,8 @@ returns-clause-links g c =
     let old = c.args.self.now.states.items in
     let cmp = g.L.Ord.cmp in
     let kept = c.find_links.ensures.kept in
-    let E : List (List (g.row.L.Denot × ℕ)) → Type 0 = λ es. IsTable cmp es (depths_of old) in
-    let D : List ℕ → Type 0 = λ ds. IsTable cmp (edges_of new) ds in
-    let table = subst D (sym kept.depths) (subst E (sym kept.edges) c.requires) in
+    let E : List (List (g.row.L.Denot × ℕ)) → Type 0 = λ es. IsTable cmp es in
+    let table = subst E (sym kept.edges) c.requires in
     both_ok c.find_links.result c.find_links.ensures.links c.find_links.ensures.states
-    (λ order left states. linked_of_left cmp g.met.L.Ord.total (edges_of new) (depths_of new) table (stops_of false new) (λ s. refl) (fails_of new) order.items
+    (λ order left states. linked_of_left cmp g.met.L.Ord.total (edges_of new) table (stops_of false new) (λ s. refl) (fails_of new) order.items
     (λ t h. let b = states t h in (b.0, omega (arith, b.1, length-map new (λ s. s.edges)))) left)

@@ -9,7 +9,7 @@ use Rattle.daachorse_model.specs.Outputs.{IsChain}
 use Rattle.daachorse_model.specs.Prefixes.{IsDead}
 use Rattle.daachorse_model.specs.Dictionary.{dictionary}
 use Rattle.daachorse_build.specs.declared.nfa_builder.NfaBuilderState.{NfaBuilderState}
-use Rattle.daachorse_build.specs.Tables.{edges_of, depths_of, fails_of, own_of, positions_of, output_count, stops_of, HoldTrie}
+use Rattle.daachorse_build.specs.Tables.{edges_of, fails_of, own_of, positions_of, output_count, stops_of, HoldTrie}
 use Rattle.daachorse_build.specs.Orders.{IsKnown, HoldLinks, HoldLeftLinks}
 use Rattle.daachorse_build.specs.Lists.{AreListed, AreChained, IsChainedAt}
 use Rattle.daachorse_build.proofs.Labels.{label_exact}
@@ -22,7 +22,7 @@ use Rattle.daachorse_build.proofs.nfa_builder.NfaBuilder.build_outputs.Goals as 
 -- standard links are the leftmost ones where no state stops
 module _ {L V A : Type 0} (cmp : L → L → Ordering) (total : IsTotalOrder cmp) (states : List (NfaBuilderState L V A)) (table : HoldTrie cmp states) (order : List ℕ) where
   never : HoldLinks cmp states order → HoldLeftLinks cmp false states order
-  never links = left_of_linked cmp total (edges_of states) (depths_of states) table (stops_of false states) (λ s. refl) (fails_of states) order links
+  never links = left_of_linked cmp total (edges_of states) table (stops_of false states) (λ s. refl) (fails_of states) order links
 
   either : HoldLinks cmp states order ⊎ HoldLeftLinks cmp true states order → (leftmost : Bool) × HoldLeftLinks cmp leftmost states order
   either (inl links) = (false, never links)

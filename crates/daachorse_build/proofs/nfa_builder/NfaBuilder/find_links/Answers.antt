@@ -3,7 +3,7 @@ use Rattle.std.proofs.Common.{◌≡◌, ◌<◌, ℕ, List, [], length, get_or,
 use Rattle.std.specs.Prelude.{Bool, not, ◌&&◌, ◌==◌}
 use Rattle.std.proofs.lemmas.List.{length-map, take_at}
 use Rattle.std.specs.declared.cmp.Ordering.{Ordering}
-use Rattle.daachorse_build.specs.Tables.{edges_of, depths_of, fails_of, own_of, own_at, stops_of}
+use Rattle.daachorse_build.specs.Tables.{edges_of, fails_of, own_of, own_at, stops_of}
 use Rattle.daachorse_build.specs.declared.nfa_builder.NfaBuilderState.{NfaBuilderState}
 use Rattle.daachorse_build.specs.Orders.{IsLeftLinked}
 use Rattle.daachorse_build.specs.Growth.{HasTrieOf}
@@ -14,7 +14,7 @@ pub loop-search-smaller : goal.loop-search-smaller
 loop-search-smaller g c =
     let s = c.loop-search.search in
     let states = c.args.self.now.states.items in
-    let bound = length-order g.L.Ord.cmp g.met.L.Ord.total (edges_of states) (depths_of states) c.requires (stops_of s.leftmost states) s.links.items s.order.items [] s.next c.loop-search.invariant.search in
+    let bound = length-order g.L.Ord.cmp g.met.L.Ord.total (edges_of states) c.requires (stops_of s.leftmost states) s.links.items s.order.items [] s.next c.loop-search.invariant.search in
     let count = length-map states (λ s. s.edges) in
     let more : s.next < length s.order.items = omega arith in
     omega (arith, bound, count, more, c.in_ok-expand.ensures.next)
@@ -38,7 +38,7 @@ returns-clause-links g c =
     let own : own_of old ≡ own_of new = ap own_of (sym c.deref_mut.ensures.value) ∙ sym c.set_links.ensures.kept.outputs in
     let fails : s.links.items ≡ fails_of new = sym c.deref-2.ensures.value ∙ sym c.set_links.ensures.links in
     let back = take_at new (drop (length new) old) c.args.self.now.states.len same_len in
-    let done : s.order.items ≡ _ = search_end g.L.Ord.cmp g.met.L.Ord.total (edges_of old) (depths_of old) c.requires (stops_of s.leftmost old) s.links.items s.order.items s.next i (omega arith) in
+    let done : s.order.items ≡ _ = search_end g.L.Ord.cmp g.met.L.Ord.total (edges_of old) c.requires (stops_of s.leftmost old) s.links.items s.order.items s.next i (omega arith) in
     rw back (linked_same g.L.Ord.cmp s.leftmost c.args.leftmost (own_of old) (own_of new) (edges_of old) (edges_of new) s.links.items (fails_of new) s.order.items c.loop-search.invariant.kind own edges fails
     (record { first = done; linked = i.linked; earlier = i.earlier; once = i.once }))
 

@@ -5,7 +5,7 @@ use Rattle.std.proofs.lemmas.Map.Iter.{iter_turn, iter_end}
 use Rattle.std.specs.Map.Iter.{deref_pair}
 use Rattle.std.proofs.lemmas.Map.Entries.{length-values_of}
 use Rattle.std.specs.declared.cmp.Ordering.{Ordering}
-use Rattle.daachorse_build.specs.Tables.{edges_of, depths_of, stops_of}
+use Rattle.daachorse_build.specs.Tables.{edges_of, stops_of}
 use Rattle.daachorse_build.specs.Orders.{IsLinkAmong, IsIn, IsSearch, children}
 use Rattle.daachorse_build.specs.declared.nfa_builder.NfaBuilderState.{NfaBuilderState}
 use Rattle.daachorse_build.proofs.Queue.{in_at, in_equal, search_push, search_next, child_at_place}
@@ -65,7 +65,7 @@ link-fail-requires-clause-parent g c =
     let left = left_is g.L.Ord.cmp (stops_of c.args.self.now.leftmost states) (edges_of states) c.args.self.now.links.items c.args.self.now.order.items [] c.args.self.now.next c.index-id.result.now c.requires.search (omega arith) c.index-id.ensures in
     let low : c.index-id.result.now < length states = omega (arith, left.3, length-map states (λ s. s.edges)) in
     let at = entries_at states c.index-id.result.now c.index-states-id.result low c.index-states-id.is in
-    let edge = child_at_place g.L.Ord.cmp g.met.L.Ord.total (edges_of states) (depths_of states) c.requires.table c.index-id.result.now (length c.loop-label.yielded) c.in-Some.label.now c.in-Some.child.now (rw at turn.1) in
+    let edge = child_at_place g.L.Ord.cmp g.met.L.Ord.total (edges_of states) c.requires.table c.index-id.result.now (length c.loop-label.yielded) c.in-Some.label.now c.in-Some.child.now (rw at turn.1) in
     (c.index-id.result.now, left.2, edge, c.loop-label.invariant.link)
 
 pub index_mut-requires : goal.index_mut-requires
@@ -78,7 +78,7 @@ index_mut-requires g c =
     let left = left_is g.L.Ord.cmp (stops_of c.args.self.now.leftmost states) (edges_of states) c.args.self.now.links.items c.args.self.now.order.items [] c.args.self.now.next c.index-id.result.now c.requires.search (omega arith) c.index-id.ensures in
     let low : c.index-id.result.now < length states = omega (arith, left.3, length-map states (λ s. s.edges)) in
     let at = entries_at states c.index-id.result.now c.index-states-id.result low c.index-states-id.is in
-    let edge = child_at_place g.L.Ord.cmp g.met.L.Ord.total (edges_of states) (depths_of states) c.requires.table c.index-id.result.now (length c.loop-label.yielded) c.in-Some.label.now c.in-Some.child.now (rw at turn.1) in
+    let edge = child_at_place g.L.Ord.cmp g.met.L.Ord.total (edges_of states) c.requires.table c.index-id.result.now (length c.loop-label.yielded) c.in-Some.label.now c.in-Some.child.now (rw at turn.1) in
     let b = c.requires.table.trie.bounds c.index-id.result.now c.in-Some.label.now c.in-Some.child.now edge in
     omega (arith, b.3, c.loop-label.invariant.search.one_each)
 
@@ -96,7 +96,7 @@ loop-label-preserved g c =
     let low : id < length states = omega (arith, left.3, length-map states (λ s. s.edges)) in
     let at = entries_at states id c.index-states-id.result low c.index-states-id.is in
     let pushed = c.in_ok-push.ensures.items in
-    let more = search_push g.L.Ord.cmp g.met.L.Ord.total (edges_of states) (depths_of states) c.requires.table (stops_of c.loop-label.self.leftmost states) s.links.items s.order.items s.next (length c.loop-label.yielded) c.in-Some.label.now t id c.link-fail.result i.search i.more i.here (rw at turn.1) c.link-fail.ensures.link c.link-fail.ensures.from in
+    let more = search_push g.L.Ord.cmp g.met.L.Ord.total (edges_of states) c.requires.table (stops_of c.loop-label.self.leftmost states) s.links.items s.order.items s.next (length c.loop-label.yielded) c.in-Some.label.now t id c.link-fail.result i.search i.more i.here (rw at turn.1) c.link-fail.ensures.link c.link-fail.ensures.from in
     let count = length_push c.loop-label.yielded (c.in-Some.label, c.in-Some.child) in
     let front : take s.next (s.order.items ++ t ∷ []) ≡ take s.next s.order.items = take-append-le s.next s.order.items (t ∷ []) (omega (arith, i.more)) in
     record {
@@ -123,7 +123,7 @@ returns-clause-search g c =
     let at = entries_at states id c.index-states-id.result low c.index-states-id.is in
     let whole : take (length c.loop-label.yielded) (children (edges_of states) id) ≡ children (edges_of states) id =
     take_all (length c.loop-label.yielded) (children (edges_of states) id) (omega (arith, end.1, length-values_of (get_or (edges_of states) id []), ap length at)) in
-    search_next g.L.Ord.cmp g.met.L.Ord.total (edges_of states) (depths_of states) c.requires.table (stops_of c.loop-label.self.leftmost states) s.links.items s.order.items s.next id (rw whole at i.search) i.more i.here
+    search_next g.L.Ord.cmp g.met.L.Ord.total (edges_of states) c.requires.table (stops_of c.loop-label.self.leftmost states) s.links.items s.order.items s.next id (rw whole at i.search) i.more i.here
 
 pub offset_bounds-states-id : goal.offset_bounds-states-id
 offset_bounds-states-id g c =

@@ -1,9 +1,10 @@
--- The label leads as far from the state that was reached as from the start; each link is less deep.
-use Rattle.std.proofs.Common.{◌≡◌, List, [], ◌∷◌, ◌++◌, Some, take, get_or}
-use Rattle.daachorse_build.specs.Tables.{child_in, edges_of, depths_of, stops_of}
+-- The label leads as far from the state that was reached as from the start; each link stands earlier in the order.
+use Rattle.std.proofs.Common.{◌≡◌, List, [], ◌∷◌, ◌++◌, Some, take}
+use Rattle.daachorse_build.specs.Tables.{child_in, edges_of, stops_of}
 use Rattle.daachorse_build.specs.Orders.{IsKnown}
 use Rattle.daachorse_model.specs.Paths.{walk}
 use Rattle.daachorse_build.specs.Left.{long_unless_stop}
+use Rattle.daachorse_build.proofs.Queue.{first_place}
 use Rattle.daachorse_build.proofs.nfa_builder.Search.follow.Given as goal
 
 -- `id` is known, and the label leads as far from it as from `start`
@@ -13,6 +14,6 @@ invariant-loop-found g l = record {
   same : (w : List g.row.L.Denot) → walk (child_in g.L.Ord.cmp (edges_of l.states)) 0 w ≡ Some l.start → (v : List g.row.L.Denot) × (walk (child_in g.L.Ord.cmp (edges_of l.states)) 0 v ≡ Some l.id) × (long_unless_stop (child_in g.L.Ord.cmp (edges_of l.states)) (stops_of l.self.leftmost l.states) (v ++ l.label ∷ []) ≡ long_unless_stop (child_in g.L.Ord.cmp (edges_of l.states)) (stops_of l.self.leftmost l.states) (w ++ l.label ∷ []));
 }
 
--- a link that is alive is less deep
+-- a link that is alive stands before its state, and the root before all
 abbrev pub decreases-loop-found : goal.decreases-loop-found
-decreases-loop-found g l = get_or (depths_of l.states) l.id 0
+decreases-loop-found g l = first_place (0 ∷ l.self.order.items) l.id

@@ -4,7 +4,7 @@ use Rattle.std.specs.Map.Iter.{deref_pair}
 use Rattle.std.proofs.lemmas.Map.Iter.{iter_turn, iter_end}
 use Rattle.std.proofs.lemmas.Map.Entries.{length-values_of}
 use Rattle.std.proofs.lemmas.List.{length-map, get_or-map, length_push, take_all}
-use Rattle.daachorse_build.specs.Tables.{edges_of, depths_of, stops_of}
+use Rattle.daachorse_build.specs.Tables.{edges_of, stops_of}
 use Rattle.daachorse_build.specs.Orders.{children}
 use Rattle.daachorse_build.proofs.Queue.{search_start, search_first, child_at_place}
 use Rattle.daachorse_build.proofs.nfa_builder.Search.new.Goals as goal
@@ -13,7 +13,7 @@ pub loop-child-init : goal.loop-child-init
 loop-child-init g c =
     let states = c.args.states.now in
     let zeros : c.in_ok-links.links.items ≡ replicate (length states) 0 = search rules in
-    let start = search_start g.L.Ord.cmp g.met.L.Ord.total (edges_of states) (depths_of states) c.requires (stops_of c.args.leftmost states) (length states) (sym (length-map states (λ s. s.edges))) in
+    let start = search_start g.L.Ord.cmp g.met.L.Ord.total (edges_of states) c.requires (stops_of c.args.leftmost states) (length states) (sym (length-map states (λ s. s.edges))) in
     rw (zeros, c.in_ok-order.ensures.items) start
 
 pub first_link-requires-clause-edge : goal.first_link-requires-clause-edge
@@ -24,7 +24,7 @@ first_link-requires-clause-edge g c =
     let begun : c.into_iter-child-iterator.result ≡ all = cc in
     let turn = iter_turn deref_pair all c.loop-child.yielded c.into_iter-child-iterator.result c.loop-child.child-iterator c.next.new.self c.next.result begun c.loop-child.yielded_by (c.in-Some.field-0-0, c.in-Some.child) c.in-Some.is c.next.ensures.steps in
     let at : get_or (edges_of states) 0 [] ≡ all = get_or-map (λ s. s.edges) states 0 c.index-states-root.result [] two ∙ ap (λ s. s.edges) (sym c.index-states-root.is) in
-    (c.in-Some.field-0-0.now, child_at_place g.L.Ord.cmp g.met.L.Ord.total (edges_of states) (depths_of states) c.requires 0 (length c.loop-child.yielded) c.in-Some.field-0-0.now c.in-Some.child.now (rw at turn.1))
+    (c.in-Some.field-0-0.now, child_at_place g.L.Ord.cmp g.met.L.Ord.total (edges_of states) c.requires 0 (length c.loop-child.yielded) c.in-Some.field-0-0.now c.in-Some.child.now (rw at turn.1))
 
 pub index_mut-requires : goal.index_mut-requires
 index_mut-requires g c =
@@ -34,7 +34,7 @@ index_mut-requires g c =
     let begun : c.into_iter-child-iterator.result ≡ all = cc in
     let turn = iter_turn deref_pair all c.loop-child.yielded c.into_iter-child-iterator.result c.loop-child.child-iterator c.next.new.self c.next.result begun c.loop-child.yielded_by (c.in-Some.field-0-0, c.in-Some.child) c.in-Some.is c.next.ensures.steps in
     let at : get_or (edges_of states) 0 [] ≡ all = get_or-map (λ s. s.edges) states 0 c.index-states-root.result [] two ∙ ap (λ s. s.edges) (sym c.index-states-root.is) in
-    let edge = child_at_place g.L.Ord.cmp g.met.L.Ord.total (edges_of states) (depths_of states) c.requires 0 (length c.loop-child.yielded) c.in-Some.field-0-0.now c.in-Some.child.now (rw at turn.1) in
+    let edge = child_at_place g.L.Ord.cmp g.met.L.Ord.total (edges_of states) c.requires 0 (length c.loop-child.yielded) c.in-Some.field-0-0.now c.in-Some.child.now (rw at turn.1) in
     let b = c.requires.trie.bounds 0 c.in-Some.field-0-0.now c.in-Some.child.now edge in
     omega (arith, b.3, c.loop-child.invariant.one_each)
 
@@ -46,7 +46,7 @@ loop-child-preserved g c =
     let begun : c.into_iter-child-iterator.result ≡ all = cc in
     let turn = iter_turn deref_pair all c.loop-child.yielded c.into_iter-child-iterator.result c.loop-child.child-iterator c.next.new.self c.next.result begun c.loop-child.yielded_by (c.in-Some.field-0-0, c.in-Some.child) c.in-Some.is c.next.ensures.steps in
     let at : get_or (edges_of states) 0 [] ≡ all = get_or-map (λ s. s.edges) states 0 c.index-states-root.result [] two ∙ ap (λ s. s.edges) (sym c.index-states-root.is) in
-    let more = search_first g.L.Ord.cmp g.met.L.Ord.total (edges_of states) (depths_of states) c.requires (stops_of c.args.leftmost states) c.loop-child.links.items c.loop-child.order.items (length c.loop-child.yielded) c.in-Some.field-0-0.now c.in-Some.child.now c.first_link.result c.loop-child.invariant (rw at turn.1) c.first_link.ensures.link
+    let more = search_first g.L.Ord.cmp g.met.L.Ord.total (edges_of states) c.requires (stops_of c.args.leftmost states) c.loop-child.links.items c.loop-child.order.items (length c.loop-child.yielded) c.in-Some.field-0-0.now c.in-Some.child.now c.first_link.result c.loop-child.invariant (rw at turn.1) c.first_link.ensures.link
     (elim c.first_link.ensures.among [ inl dead ↦ inl dead | inr known ↦ inr (elim known [ inl root ↦ inl root | inr none ↦ absurd none ]) ]) in
     rw (c.in_ok-push.ensures.items, length_push c.loop-child.yielded (c.in-Some.field-0-0, c.in-Some.child)) more
 

@@ -3,7 +3,7 @@ use Rattle.std.proofs.Common.{◌≡◌, ◌<◌, ◌++◌, ◌∷◌, [], ℕ, 
 use Rattle.std.proofs.lemmas.List.{length-map, get_or-map, length_push}
 use Rattle.std.specs.Map.{values_of}
 use Rattle.daachorse_build.specs.declared.nfa_builder.NfaBuilderState.{NfaBuilderState}
-use Rattle.daachorse_build.specs.Tables.{edges_of, depths_of}
+use Rattle.daachorse_build.specs.Tables.{edges_of}
 use Rattle.daachorse_build.specs.Orders.{children}
 use Rattle.daachorse_build.specs.Groups.{IsWalking}
 use Rattle.daachorse_build.proofs.StackWalk.{walk_start, walk_step, walk_end, top_bounds, more_states}
@@ -20,7 +20,7 @@ nothing (x ∷ xs) h = absurd (omega arith)
 
 pub loop-id-init : goal.loop-id-init
 loop-id-init g c =
-    let start = walk_start g.L.Ord.cmp g.met.L.Ord.total (edges_of c.args.states.now) (depths_of c.args.states.now) c.requires in
+    let start = walk_start g.L.Ord.cmp g.met.L.Ord.total (edges_of c.args.states.now) c.requires in
     rw (c.in_ok-push.ensures.items, c.new-stack.ensures.items, c.in_ok-order.ensures.items) start
 
 pub bounds-states-id : goal.bounds-states-id
@@ -28,7 +28,7 @@ bounds-states-id g c =
     let edges = edges_of c.args.states.now in
     let P : List ℕ → Type 0 = λ xs. IsWalking edges c.loop-id.order.items xs in
     let walking = subst P c.in-Some.ensures.items c.loop-id.invariant in
-    let b = top_bounds g.L.Ord.cmp g.met.L.Ord.total edges (depths_of c.args.states.now) c.requires c.loop-id.order.items c.pop.new.self.items c.in-Some.id walking in
+    let b = top_bounds g.L.Ord.cmp g.met.L.Ord.total edges c.requires c.loop-id.order.items c.pop.new.self.items c.in-Some.id walking in
     omega (arith, b.0, length-map c.args.states.now (λ s. s.edges))
 
 pub offset_bounds-states-id : goal.offset_bounds-states-id
@@ -36,7 +36,7 @@ offset_bounds-states-id g c =
     let edges = edges_of c.args.states.now in
     let P : List ℕ → Type 0 = λ xs. IsWalking edges c.loop-id.order.items xs in
     let walking = subst P c.in-Some.ensures.items c.loop-id.invariant in
-    let b = top_bounds g.L.Ord.cmp g.met.L.Ord.total edges (depths_of c.args.states.now) c.requires c.loop-id.order.items c.pop.new.self.items c.in-Some.id walking in
+    let b = top_bounds g.L.Ord.cmp g.met.L.Ord.total edges c.requires c.loop-id.order.items c.pop.new.self.items c.in-Some.id walking in
     omega (arith, b.0, length-map c.args.states.now (λ s. s.edges))
 
 pub loop-id-smaller : goal.loop-id-smaller
@@ -44,7 +44,7 @@ loop-id-smaller g c =
     let edges = edges_of c.args.states.now in
     let P : List ℕ → Type 0 = λ xs. IsWalking edges c.loop-id.order.items xs in
     let walking = subst P c.in-Some.ensures.items c.loop-id.invariant in
-    let more = more_states g.L.Ord.cmp g.met.L.Ord.total edges (depths_of c.args.states.now) c.requires c.loop-id.order.items c.pop.new.self.items c.in-Some.id walking in
+    let more = more_states g.L.Ord.cmp g.met.L.Ord.total edges c.requires c.loop-id.order.items c.pop.new.self.items c.in-Some.id walking in
     omega (arith, more, length-map c.args.states.now (λ s. s.edges), ap length c.in_ok-push-2.ensures.items, length_push c.loop-id.order.items c.in-Some.id)
 
 pub loop-id-preserved : goal.loop-id-preserved
@@ -53,10 +53,10 @@ loop-id-preserved g c =
     let edges = edges_of states in
     let P : List ℕ → Type 0 = λ xs. IsWalking edges c.loop-id.order.items xs in
     let walking = subst P c.in-Some.ensures.items c.loop-id.invariant in
-    let b = top_bounds g.L.Ord.cmp g.met.L.Ord.total edges (depths_of states) c.requires c.loop-id.order.items c.pop.new.self.items c.in-Some.id walking in
+    let b = top_bounds g.L.Ord.cmp g.met.L.Ord.total edges c.requires c.loop-id.order.items c.pop.new.self.items c.in-Some.id walking in
     let low : c.in-Some.id < length states = omega (arith, b.0, length-map states (λ s. s.edges)) in
     let here = children_here states c.in-Some.id c.index-states-id.result c.edges.result.now low c.index-states-id.is c.edges.ensures in
-    let step = walk_step g.L.Ord.cmp g.met.L.Ord.total edges (depths_of states) c.requires c.loop-id.order.items c.pop.new.self.items c.in-Some.id walking in
+    let step = walk_step g.L.Ord.cmp g.met.L.Ord.total edges c.requires c.loop-id.order.items c.pop.new.self.items c.in-Some.id walking in
     let Q : List ℕ → Type 0 = λ xs. IsWalking edges xs c.put_children.new.stack.items in
     let R : List ℕ → Type 0 = λ xs. IsWalking edges (c.loop-id.order.items ++ c.in-Some.id ∷ []) xs in
     subst Q (sym c.in_ok-push-2.ensures.items) (subst R (ap (λ xs. c.pop.new.self.items ++ xs) here ∙ sym c.in_ok-put_children.ensures.children) step)
@@ -67,4 +67,4 @@ returns-clause-walk g c =
     let P : List ℕ → Type 0 = λ xs. IsWalking edges c.loop-id.order.items xs in
     let zero' : length c.loop-id.stack.items ≡ 0 = omega (arith, c.in_default.ensures.cases.0) in
     let none = nothing c.loop-id.stack.items zero' in
-    walk_end g.L.Ord.cmp g.met.L.Ord.total edges (depths_of c.args.states.now) c.requires c.loop-id.order.items (subst P none c.loop-id.invariant)
+    walk_end g.L.Ord.cmp g.met.L.Ord.total edges c.requires c.loop-id.order.items (subst P none c.loop-id.invariant)

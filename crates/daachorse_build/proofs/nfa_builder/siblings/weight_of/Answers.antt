@@ -11,7 +11,7 @@ use Rattle.std.specs.Map.Iter.{deref}
 use Rattle.std.specs.declared.cmp.Ordering.{Ordering}
 use Rattle.std.specs.Cmp.{IsTotalOrder}
 use Rattle.daachorse_build.specs.declared.nfa_builder.NfaBuilderState.{NfaBuilderState}
-use Rattle.daachorse_build.specs.Tables.{edges_of, depths_of, HoldTrie}
+use Rattle.daachorse_build.specs.Tables.{edges_of, HoldTrie}
 use Rattle.daachorse_build.specs.Orders.{IsIn, children}
 use Rattle.daachorse_build.specs.Groups.{if_counted}
 use Rattle.daachorse_build.proofs.Queue.{bounds_of_listed}
@@ -32,7 +32,7 @@ children_here states i x edges l is e =
 child_is_state : {L V A : Type 0} (cmp : L → L → Ordering) → IsTotalOrder cmp → (states : List (NfaBuilderState L V A)) → HoldTrie cmp states → (s : ℕ) (all : List ℕ) (i t : ℕ) → children (edges_of states) s ≡ all → slice_get all i ≡ Some t → t < length states
 child_is_state cmp total states table s all i t same at =
     let P : List ℕ → Type 0 = λ xs. IsIn xs t in
-    let b = bounds_of_listed cmp total (edges_of states) (depths_of states) table s t (subst P (sym same) (in_found all i t at)) in
+    let b = bounds_of_listed cmp total (edges_of states) table s t (subst P (sym same) (in_found all i t at)) in
     omega (arith, b.1, length-map states (λ s. s.edges))
 
 weight_start : (p w : ℕ) → w ≡ p → w < 2 ^ 64 → w ≡ min (p + 0) (2 ^ 64 - 1)

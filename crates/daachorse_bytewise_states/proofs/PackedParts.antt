@@ -74,7 +74,7 @@ parts-child es outputs n kind i c =
     same_child (count (parts_of kind es outputs n)) (length es) (base_of (parts_of kind es outputs n)) (λ i. base_in (element es i)) (check_of (parts_of kind es outputs n)) (λ i. check_in (element es i)) i c
     (parts-count es outputs n kind) (parts-base es outputs n kind) (parts-check es outputs n kind)
 
-module _ {A : Type 0} {gs : List (SiblingGroup A)} {l : Layout} {edges : List (List (ℕ × ℕ))} {depths fails positions : List ℕ} {es : List (State ℕ)} (p : ArePacked gs l edges depths fails positions es) where
+module _ {A : Type 0} {gs : List (SiblingGroup A)} {l : Layout} {edges : List (List (ℕ × ℕ))} {fails positions : List ℕ} {es : List (State ℕ)} (p : ArePacked gs l edges fails positions es) where
   -- the parts are a copy of the trie
   pub packed-IsCopy : {V : Type 0} (kind : MatchKind) (outputs : List (Output V)) (n : ℕ) → IsCopy (trie_of edges fails positions) outputs (machine (parts_of kind es outputs n)) (λ t. get_or l.idx t 0)
   packed-IsCopy kind outputs n =

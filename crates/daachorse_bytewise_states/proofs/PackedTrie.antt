@@ -45,7 +45,7 @@ least_or_full marks q = elim (unused_or marks (q * 256) 256) [
 ]
 
 -- ---- a trie whose groups were placed
-module _ {A : Type 0} {gs : List (SiblingGroup A)} {l : Layout} {edges : List (List (ℕ × ℕ))} {depths : List ℕ} (q : AreSettled (λ b. b) 256 true gs l edges depths) where
+module _ {A : Type 0} {gs : List (SiblingGroup A)} {l : Layout} {edges : List (List (ℕ × ℕ))} (q : AreSettled (λ b. b) 256 true gs l edges) where
   -- a state's base is taken
   base_used : (s : ℕ) → s < length edges → get_or l.bases s 0 ≢ 0 → get_or l.marks (get_or l.bases s 0) false ≡ true
   base_used s less some =
@@ -69,7 +69,7 @@ module _ {A : Type 0} {gs : List (SiblingGroup A)} {l : Layout} {edges : List (L
       none (child_of (children_of gs k) i) (q.of_trie.groups.ids k owner.2 i owner.3) (omega arith) at
 
 -- ---- and whose states were written
-module _ {A : Type 0} {gs : List (SiblingGroup A)} {l : Layout} {edges : List (List (ℕ × ℕ))} {depths fails positions : List ℕ} {es : List (State ℕ)} (p : ArePacked gs l edges depths fails positions es) where
+module _ {A : Type 0} {gs : List (SiblingGroup A)} {l : Layout} {edges : List (List (ℕ × ℕ))} {fails positions : List ℕ} {es : List (State ℕ)} (p : ArePacked gs l edges fails positions es) where
   abbrev child_by : ℕ → ℕ → Option ℕ
   child_by s c = edge_to nat_cmp edges s c
 

@@ -35,7 +35,7 @@ parts-shape LeftmostLongest es outputs n = (refl, length-map es fail_in ∙ sym 
 parts-shape LeftmostFirst es outputs n = (refl, length-map es fail_in ∙ sym (length-map es without_link))
 
 -- the parts of a dictionary's trie, whose positions are those of outputs
-module _ {A V : Type 0} {gs : List (SiblingGroup A)} {l : Layout} {edges : List (List (ℕ × ℕ))} {depths fails positions : List ℕ} {es : List (State ℕ)} (p : ArePacked gs l edges depths fails positions es) (kind : MatchKind) (K : Dictionary V) (outputs : List (Output V)) (holds : HoldsDictionary byte_width K (is_leftmost kind) (trie_of edges fails positions) outputs) (root_link : get_or fails 0 0 ≡ 0) (fits : (w : List ℕ) (t : ℕ) → Leads (edge_to nat_cmp edges) w t → get_or positions t 0 ≤ length outputs) (n : ℕ) where
+module _ {A V : Type 0} {gs : List (SiblingGroup A)} {l : Layout} {edges : List (List (ℕ × ℕ))} {fails positions : List ℕ} {es : List (State ℕ)} (p : ArePacked gs l edges fails positions es) (kind : MatchKind) (K : Dictionary V) (outputs : List (Output V)) (holds : HoldsDictionary byte_width K (is_leftmost kind) (trie_of edges fails positions) outputs) (root_link : get_or fails 0 0 ≡ 0) (fits : (w : List ℕ) (t : ℕ) → Leads (edge_to nat_cmp edges) w t → get_or positions t 0 ≤ length outputs) (n : ℕ) where
   abbrev parts : Parts V
   parts = parts_of kind es outputs n
 

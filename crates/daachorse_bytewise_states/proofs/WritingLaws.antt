@@ -137,14 +137,14 @@ module _ {V A : Type 0} (states : List (NfaBuilderState ℕ V A)) (i : ℕ) (s :
 
 -- ---- the labels of the children of one state more
 
-module _ (edges : List (List (ℕ × ℕ))) (depths : List ℕ) (table : IsTable nat_cmp edges depths) (m : ℕ) where
+module _ (edges : List (List (ℕ × ℕ))) (table : IsTable nat_cmp edges) (m : ℕ) where
   pub inside-all : (c t : ℕ) → child_in nat_cmp edges m c ≡ Some t → t < length edges
   inside-all c t e = (table.trie.bounds m c t e).3
 
   pub apart-all : (c d t : ℕ) → child_in nat_cmp edges m c ≡ Some t → child_in nat_cmp edges m d ≡ Some t → c ≡ d
   apart-all c d t e f = (table.trie.one_parent m c m d t e f).1
 
-module _ (edges : List (List (ℕ × ℕ))) (depths : List ℕ) (table : IsTable nat_cmp edges depths) (m : ℕ) (old new : List ℕ)
+module _ (edges : List (List (ℕ × ℕ))) (table : IsTable nat_cmp edges) (m : ℕ) (old new : List ℕ)
     (set_to : (c t : ℕ) → child_in nat_cmp edges m c ≡ Some t → slice_index new t ≡ c)
     (kept : (t : ℕ) → ((c : ℕ) → child_in nat_cmp edges m c ≢ Some t) → slice_index new t ≡ slice_index old t) where
   pub root-kept : slice_index old 0 ≡ 0 → slice_index new 0 ≡ 0

@@ -5,7 +5,7 @@ use Rattle.daachorse_placement.specs.declared.build_helper.SiblingGroup.{Sibling
 use Rattle.daachorse_placement.specs.Layout.{IsLeastUnused, Layout}
 use Rattle.daachorse_placement.specs.Placement.{AreBlocksFull}
 use Rattle.daachorse_build.specs.declared.nfa_builder.NfaBuilderState.{NfaBuilderState}
-use Rattle.daachorse_build.specs.Tables.{child_in as edge_to, depths_of, edges_of, fails_of, positions_of}
+use Rattle.daachorse_build.specs.Tables.{child_in as edge_to, edges_of, fails_of, positions_of}
 use Rattle.daachorse_build.specs.declared.nfa_builder.NfaBuilder.{NfaBuilder}
 use Rattle.daachorse_model.specs.declared.MatchKind.{MatchKind}
 use Rattle.daachorse_model.specs.Dictionary.{Dictionary}
@@ -42,12 +42,12 @@ pub record HoldStates (l : Layout) (edges : List (List (ℕ × ℕ))) (fails pos
   pub others : (i : ℕ) → i < length es → ((t : ℕ) → t < length edges → t ≢ 1 → slice_index l.idx t ≢ i) → IsVacant l i (element es i)
 
 -- Groups that are the edges of a trie over bytes: a byte is its own code.
-abbrev pub AreByteGroups : {A : Type 0} → List (SiblingGroup A) → List (List (ℕ × ℕ)) → List ℕ → Type 0
-AreByteGroups gs edges depths = AreGroupsOf (λ b. b) 256 gs edges depths
+abbrev pub AreByteGroups : {A : Type 0} → List (SiblingGroup A) → List (List (ℕ × ℕ)) → Type 0
+AreByteGroups gs edges = AreGroupsOf (λ b. b) 256 gs edges
 
 -- The groups of a trie over bytes were placed, and the elements hold it.
-pub record ArePacked {A : Type 0} (gs : List (SiblingGroup A)) (l : Layout) (edges : List (List (ℕ × ℕ))) (depths fails positions : List ℕ) (es : List (State ℕ)) : Type 0 where
-  pub settled : AreSettled (λ b. b) 256 true gs l edges depths
+pub record ArePacked {A : Type 0} (gs : List (SiblingGroup A)) (l : Layout) (edges : List (List (ℕ × ℕ))) (fails positions : List ℕ) (es : List (State ℕ)) : Type 0 where
+  pub settled : AreSettled (λ b. b) 256 true gs l edges
   -- a block without an unused base has no vacant element
   pub full : AreBlocksFull l
   pub held : HoldStates l edges fails positions es
@@ -56,7 +56,7 @@ pub record ArePacked {A : Type 0} (gs : List (SiblingGroup A)) (l : Layout) (edg
 pub record ArePackedOf {V A : Type 0} (states : List (NfaBuilderState ℕ V A)) (es : List (State ℕ)) : Type 0 where
   pub groups : List (SiblingGroup A)
   pub layout : Layout
-  pub packed : ArePacked groups layout (edges_of states) (depths_of states) (fails_of states) (positions_of states) es
+  pub packed : ArePacked groups layout (edges_of states) (fails_of states) (positions_of states) es
 
 -- the links and outputs of a builder over bytes are built, and it holds the dictionary K; an automaton can number its outputs and its states
 abbrev pub IsBuiltFor : {V A : Type 0} → MatchKind → NfaBuilder ℕ V A → Dictionary V → Type 0

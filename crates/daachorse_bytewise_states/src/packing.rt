@@ -12,7 +12,7 @@ ghost use Rattle.daachorse_build.specs.Builders.{states_of};
 ghost use Rattle.daachorse_bytewise_states.specs.Packing.{AreByteGroups, ArePackedOf, HoldStates};
 ghost use Rattle.daachorse_placement.specs.Placement.{HasSizes};
 ghost use Rattle.daachorse_build.specs.EdgeMaps.{id_at};
-ghost use Rattle.daachorse_build.specs.Tables.{HoldTrie, depths_of, edges_of, fails_of, positions_of};
+ghost use Rattle.daachorse_build.specs.Tables.{HoldTrie, edges_of, fails_of, positions_of};
 ghost use Rattle.daachorse_bytewise_states.specs.Elements.{base_in, check_in, fail_in, output_in};
 ghost use Rattle.daachorse_bytewise_states.specs.Writing.{AreLabelled, AreVacant, HasPlaced, HasVacants};
 ghost use Rattle.daachorse_packing.specs.Settled.{ArePlaces, HasManyGroups};
@@ -57,7 +57,7 @@ fn byte_groups<V: Copy, A: Allocator + Copy>(
     nfa: &NfaBuilder<u8, V, A>,
 ) -> Result<Vec<SiblingGroup<A>, A>>
     requires { HoldTrie nat_cmp (states_of nfa.now) }
-    ensures ok { IfOk result (λ groups. AreByteGroups groups.items (edges_of (states_of nfa.now)) (depths_of (states_of nfa.now))) }
+    ensures ok { IfOk result (λ groups. AreByteGroups groups.items (edges_of (states_of nfa.now))) }
     ensures err { IfErr result IsOutOfMemory }
 {
     let no_profile = Profile::new(alloc);

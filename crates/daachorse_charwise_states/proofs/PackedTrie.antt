@@ -20,8 +20,8 @@ use Rattle.daachorse_charwise_states.specs.Parts.{Parts, child_among, child_of, 
 use Rattle.daachorse_charwise_states.specs.Packing.{AreEdgesCoded, HoldElements, code_in, element}
 use Rattle.daachorse_charwise_states.proofs.Codes.{code_same}
 
-module _ {A : Type 0} {coding : Coding} {block : ℕ} {gs : List (SiblingGroup A)} {l : Layout} {edges : List (List (ℕ × ℕ))} {depths fails positions : List ℕ} {es : List State}
-    (is : IsCoding coding) (coded : AreEdgesCoded coding edges) (q : AreSettled (code_in coding) block false gs l edges depths) (held : HoldElements l edges fails positions es) where
+module _ {A : Type 0} {coding : Coding} {block : ℕ} {gs : List (SiblingGroup A)} {l : Layout} {edges : List (List (ℕ × ℕ))} {fails positions : List ℕ} {es : List State}
+    (is : IsCoding coding) (coded : AreEdgesCoded coding edges) (q : AreSettled (code_in coding) block false gs l edges) (held : HoldElements l edges fails positions es) where
   abbrev to : ℕ → ℕ → Option ℕ
   to s c = child_in nat_cmp edges s c
 

@@ -25,7 +25,7 @@ fresh n e es is all i = elim (cases_lt i n) [
 pub written_back : (new old : List State) (n : ℕ) → n ≡ length new → take n (new ++ drop (length new) old) ≡ new
 written_back new old n e = ap (λ k. take k (new ++ drop (length new) old)) e ∙ take-append_seam new (drop (length new) old)
 
-module _ {A : Type 0} {code : ℕ → ℕ} {block : ℕ} {gs : List (SiblingGroup A)} {l : Layout} {edges : List (List (ℕ × ℕ))} {depths : List ℕ} (q : AreSettled code block false gs l edges depths) where
+module _ {A : Type 0} {code : ℕ → ℕ} {block : ℕ} {gs : List (SiblingGroup A)} {l : Layout} {edges : List (List (ℕ × ℕ))} (q : AreSettled code block false gs l edges) where
   -- a child is a state, and not the dead one
   child_state : (k j : ℕ) → k < length gs → j < length (children_of gs k) → (child_of (children_of gs k) j < length edges) × (child_of (children_of gs k) j ≢ 1)
   child_state k j inside low =

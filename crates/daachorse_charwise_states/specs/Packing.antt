@@ -6,7 +6,7 @@ use Rattle.daachorse_placement.specs.declared.build_helper.SiblingGroup.{Sibling
 use Rattle.daachorse_placement.specs.Layout.{Layout}
 use Rattle.daachorse_build.specs.declared.nfa_builder.NfaBuilder.{NfaBuilder}
 use Rattle.daachorse_build.specs.declared.nfa_builder.NfaBuilderState.{NfaBuilderState}
-use Rattle.daachorse_build.specs.Tables.{child_in, depths_of, edges_of, fails_of, positions_of}
+use Rattle.daachorse_build.specs.Tables.{child_in, edges_of, fails_of, positions_of}
 use Rattle.daachorse_model.specs.declared.MatchKind.{MatchKind}
 use Rattle.daachorse_model.specs.Dictionary.{Dictionary}
 use Rattle.daachorse_model.specs.Prefixes.{IsKey}
@@ -38,7 +38,7 @@ pub record HoldElements (l : Layout) (edges : List (List (ℕ × ℕ))) (fails p
 pub record ArePackedOf {V A : Type 0} (coding : Coding) (block : ℕ) (states : List (NfaBuilderState ℕ V A)) (es : List State) : Type 0 where
   pub groups : List (SiblingGroup A)
   pub layout : Layout
-  pub settled : AreSettled (code_in coding) block false groups layout (edges_of states) (depths_of states)
+  pub settled : AreSettled (code_in coding) block false groups layout (edges_of states)
   pub held : HoldElements layout (edges_of states) (fails_of states) (positions_of states) es
 
 -- each character that labels an edge has a code

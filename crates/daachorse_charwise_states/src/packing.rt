@@ -12,7 +12,7 @@ ghost use Rattle.daachorse_core.specs.Refusals.{IsOutOfMemory, IsRefusal};
 ghost use Rattle.daachorse_core.specs.declared.errors.Limit.TheVariants.{NumElements};
 ghost use Rattle.daachorse_placement.specs.Placement.{AreIds, children_of, parent_of};
 ghost use Rattle.daachorse_build.specs.Builders.{states_of};
-ghost use Rattle.daachorse_build.specs.Tables.{HoldTrie, depths_of, edges_of, fails_of, positions_of};
+ghost use Rattle.daachorse_build.specs.Tables.{HoldTrie, edges_of, fails_of, positions_of};
 ghost use Rattle.daachorse_mapper.specs.Codings.{IsCoding};
 ghost use Rattle.daachorse_packing.specs.Settled.{AreGroupsOf, ArePlaces, AreSettled, HasManyGroups};
 ghost use Rattle.daachorse_charwise_states.specs.Elements.{base_in, check_in, fail_in, output_in, vacant};
@@ -65,7 +65,7 @@ fn coded_groups<V: Copy, A: Allocator + Copy>(
     requires trie { HoldTrie nat_cmp (states_of nfa.now) }
     requires coding { IsCoding mapper.now }
     requires coded { AreEdgesCoded mapper.now (edges_of (states_of nfa.now)) }
-    ensures ok { IfOk result (λ groups. (block : ℕ) → 2 ≤ block → mapper.now.alphabet_size ≤ block → AreGroupsOf (code_in mapper.now) block groups.items (edges_of (states_of nfa.now)) (depths_of (states_of nfa.now))) }
+    ensures ok { IfOk result (λ groups. (block : ℕ) → 2 ≤ block → mapper.now.alphabet_size ≤ block → AreGroupsOf (code_in mapper.now) block groups.items (edges_of (states_of nfa.now))) }
     ensures err { IfErr result IsOutOfMemory }
 {
     let no_profile = Profile::new(alloc);
@@ -86,7 +86,7 @@ fn write_states<V: Copy, A: Allocator + Copy>(
     groups: &[SiblingGroup<A>],
     helper: &BuildHelper<A>,
 ) -> Result<Vec<State, A>>
-    requires settled { (code : ℕ → ℕ) × (block : ℕ) × AreSettled code block false groups.now helper.now (edges_of states.now) (depths_of states.now) }
+    requires settled { (code : ℕ → ℕ) × (block : ℕ) × AreSettled code block false groups.now helper.now (edges_of states.now) }
     requires links { (t : ℕ) → t < length states.now → t ≢ 1 → slice_index (fails_of states.now) t < length states.now }
     ensures ok { IfOk result (λ elements. HoldElements helper.now (edges_of states.now) (fails_of states.now) (positions_of states.now) elements.items) }
     ensures err { IfErr result IsOutOfMemory }

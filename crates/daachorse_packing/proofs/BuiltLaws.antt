@@ -9,7 +9,7 @@ use Rattle.daachorse_model.specs.Dictionary.{Dictionary}
 use Rattle.daachorse_model.specs.Paths.{Leads}
 use Rattle.daachorse_build.specs.declared.nfa_builder.NfaBuilder.{NfaBuilder}
 use Rattle.daachorse_build.specs.Builders.{outputs_of, states_of}
-use Rattle.daachorse_build.specs.Tables.{child_in, depths_of, edge_map, edges_of, fails_of, positions_of}
+use Rattle.daachorse_build.specs.Tables.{child_in, edge_map, edges_of, fails_of, positions_of}
 use Rattle.daachorse_build.proofs.Walks.{text_of, walk-bounds}
 use Rattle.daachorse_model.specs.Kinds.{is_leftmost}
 use Rattle.daachorse_machine.specs.Copies.{HoldsDictionary}
@@ -32,13 +32,13 @@ module _ {V A : Type 0} (width : ℕ → ℕ) (most : Option ℕ) (kind : MatchK
 
   -- a text leads to each state but the dead one
   pub built-text : (t : ℕ) → t < length (states_of b) → t ≢ 1 → (w : List ℕ) × Leads (child_in nat_cmp (edges_of (states_of b))) w t
-  built-text t less alive = text_of (child_in nat_cmp (edges_of (states_of b))) (slice_index (depths_of (states_of b))) (length (edges_of (states_of b))) built.trie.trie t (omega (arith, less, built-count)) alive
+  built-text t less alive = text_of (child_in nat_cmp (edges_of (states_of b))) (length (edges_of (states_of b))) built.trie.trie t (omega (arith, less, built-count)) alive
 
   linked : (w : List ℕ) (t : ℕ) → Leads (child_in nat_cmp (edges_of (states_of b))) w t → slice_index (fails_of (states_of b)) t < length (states_of b)
   linked [] t e = let root : 0 ≡ t = same_Some 0 t e in let link : slice_index (fails_of (states_of b)) t ≡ 0 = ap (slice_index (fails_of (states_of b))) (sym root) ∙ built.root in omega (arith, link, two, built-count)
   linked (u ∷ w) t e = elim (built-holds.links u t w e) [
     | inl dead ↦ (let one : slice_index (fails_of (states_of b)) t ≡ 1 = dead.0 in omega (arith, one, two, built-count))
-    | inr alive ↦ (let low = (walk-bounds (child_in nat_cmp (edges_of (states_of b))) (slice_index (depths_of (states_of b))) (length (edges_of (states_of b))) built.trie.trie alive.2.0 (slice_index (fails_of (states_of b)) t) alive.2.1).0 in omega (arith, low, built-count))
+    | inr alive ↦ (let low = (walk-bounds (child_in nat_cmp (edges_of (states_of b))) (length (edges_of (states_of b))) built.trie.trie alive.2.0 (slice_index (fails_of (states_of b)) t) alive.2.1).0 in omega (arith, low, built-count))
   ]
 
   pub built-links : (t : ℕ) → t < length (states_of b) → t ≢ 1 → slice_index (fails_of (states_of b)) t < length (states_of b)

@@ -49,7 +49,7 @@ many-blocks groups block some fits full =
     one_group zero h = absurd (omega (arith, fits, h))
     one_group (suc n) h = omega arith
 
-module _ {A : Type 0} {code : ℕ → ℕ} {block : ℕ} {gs : List (SiblingGroup A)} {edges : List (List (ℕ × ℕ))} {depths : List ℕ} (g : AreGroupsOf code block gs edges depths) where
+module _ {A : Type 0} {code : ℕ → ℕ} {block : ℕ} {gs : List (SiblingGroup A)} {edges : List (List (ℕ × ℕ))} (g : AreGroupsOf code block gs edges) where
   -- the text leads to the parent of one of the first m groups
   abbrev IsParentText : ℕ → List ℕ → Type 0
   IsParentText m w = (k : ℕ) × (k < m) × Leads (child_in nat_cmp edges) w (parent_of gs k)
@@ -65,7 +65,7 @@ module _ {A : Type 0} {code : ℕ → ℕ} {block : ℕ} {gs : List (SiblingGrou
   parent_text k inside =
       let edge = parent_edge k inside in
       let alive = (g.table.trie.bounds (parent_of gs k) edge.0 edge.1 edge.2).1 in
-      text_of (child_in nat_cmp edges) (λ t. get_or depths t 0) (length edges) g.table.trie (parent_of gs k) (g.groups.parents k inside) alive
+      text_of (child_in nat_cmp edges) (length edges) g.table.trie (parent_of gs k) (g.groups.parents k inside) alive
 
   record AreTexts (m : ℕ) : Type 0 where
     texts : List (List ℕ)

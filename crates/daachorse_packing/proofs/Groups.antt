@@ -8,11 +8,11 @@ use Rattle.daachorse_placement.specs.Layout.{Layout}
 use Rattle.daachorse_placement.specs.Placement.{AreGroups, HasSizes, IsPlaced}
 use Rattle.daachorse_build.specs.declared.nfa_builder.NfaBuilderState.{NfaBuilderState}
 use Rattle.daachorse_build.specs.Groups.{AreTrieGroups}
-use Rattle.daachorse_build.specs.Tables.{depths_of, edge_map, edges_of, HoldTrie}
+use Rattle.daachorse_build.specs.Tables.{edge_map, edges_of, HoldTrie}
 use Rattle.daachorse_packing.specs.Settled.{AreGroupsOf, AreSettled}
 
 pub groups-of : {V A : Type 0} (code : ℕ → ℕ) (block : ℕ) (states : List (NfaBuilderState ℕ V A)) (gs : List (SiblingGroup A)) → HoldTrie nat_cmp states
-    → AreTrieGroups nat_cmp code states gs → AreGroups gs (length states) block → AreGroupsOf code block gs (edges_of states) (depths_of states)
+    → AreTrieGroups nat_cmp code states gs → AreGroups gs (length states) block → AreGroupsOf code block gs (edges_of states)
 groups-of code block states gs table trie groups = record {
   table = table;
   groups = subst (λ (n : ℕ). AreGroups gs n block) (sym (length-map states edge_map)) groups;
@@ -22,7 +22,7 @@ groups-of code block states gs table trie groups = record {
 
 -- what the placement promises of them, of which it was lent a slice
 pub settled-of : {V A : Type 0} (code : ℕ → ℕ) (block : ℕ) (tracked : Bool) (states : List (NfaBuilderState ℕ V A)) (gs lent : List (SiblingGroup A)) (l : Layout) → IsPowerOfTwo block
-    → AreGroupsOf code block gs (edges_of states) (depths_of states) → lent ≡ gs → IsPlaced lent (length lent) tracked l → HasSizes l block (length states) → AreSettled code block tracked gs l (edges_of states) (depths_of states)
+    → AreGroupsOf code block gs (edges_of states) → lent ≡ gs → IsPlaced lent (length lent) tracked l → HasSizes l block (length states) → AreSettled code block tracked gs l (edges_of states)
 settled-of {V} {A} code block tracked states gs lent l power groups loan placed sizes =
     let P : List (SiblingGroup A) → Type 0 = λ x. IsPlaced x (length x) tracked l in
     let S : ℕ → Type 0 = λ n. HasSizes l block n in

@@ -16,10 +16,10 @@ use Rattle.daachorse_machine.specs.Copies.{HasStates, HoldsDictionary, IsCopy, I
 use Rattle.daachorse_packing.specs.Settled.{AreSettled, HoldStates, trie_of}
 use Rattle.daachorse_packing.proofs.Places.{Leads-above, Leads-state, base_inside, place-above, place-apart, place-dead, place-inside, place_from, some-elements}
 
-module _ {A : Type 0} {code : ℕ → ℕ} {block : ℕ} {tracked : Bool} {gs : List (SiblingGroup A)} {l : Layout} {edges : List (List (ℕ × ℕ))} {depths : List ℕ} (q : AreSettled code block tracked gs l edges depths) (fails positions : List ℕ) where
+module _ {A : Type 0} {code : ℕ → ℕ} {block : ℕ} {tracked : Bool} {gs : List (SiblingGroup A)} {l : Layout} {edges : List (List (ℕ × ℕ))} (q : AreSettled code block tracked gs l edges) (fails positions : List ℕ) where
   -- a text leads to each state
   pub state-text : (s : ℕ) → s < length edges → s ≢ 1 → (w : List ℕ) × Leads (child_in nat_cmp edges) w s
-  state-text s less alive = text_of (child_in nat_cmp edges) (λ t. get_or depths t 0) (length edges) q.of_trie.table.trie s less alive
+  state-text s less alive = text_of (child_in nat_cmp edges) (length edges) q.of_trie.table.trie s less alive
 
   pub settled-states : HasStates (trie_of edges fails positions) (length edges)
   settled-states = record {

@@ -49,7 +49,7 @@ search_below P Q (suc n) h = go (search_below P Q n (λ k less. h k (omega arith
     go (inr none) (inr q) = inr (λ k less. elim (cases_eq k n) [ inl e ↦ subst Q (sym e) q | inr other ↦ none k (omega arith) ])
 
 -- ---- a trie whose groups were placed
-module _ {A : Type 0} {code : ℕ → ℕ} {block : ℕ} {tracked : Bool} {gs : List (SiblingGroup A)} {l : Layout} {edges : List (List (ℕ × ℕ))} {depths : List ℕ} (q : AreSettled code block tracked gs l edges depths) where
+module _ {A : Type 0} {code : ℕ → ℕ} {block : ℕ} {tracked : Bool} {gs : List (SiblingGroup A)} {l : Layout} {edges : List (List (ℕ × ℕ))} (q : AreSettled code block tracked gs l edges) where
   abbrev to : ℕ → ℕ → Option ℕ
   to s c = child_in nat_cmp edges s c
 

@@ -6,7 +6,7 @@ use Rattle.daachorse_placement.specs.declared.build_helper.SiblingGroup.{Sibling
 use Rattle.daachorse_placement.specs.Layout.{Layout}
 use Rattle.daachorse_placement.specs.Placement.{AreGroups, HasSizes, IsPlaced, children_of, parent_of}
 use Rattle.daachorse_build.specs.declared.nfa_builder.NfaBuilderState.{NfaBuilderState}
-use Rattle.daachorse_build.specs.Tables.{child_in, depths_of, edges_of, IsTable}
+use Rattle.daachorse_build.specs.Tables.{child_in, edges_of, IsTable}
 use Rattle.daachorse_build.specs.Groups.{coded, edges_at}
 use Rattle.daachorse_machine.specs.Copies.{LinkedTrie}
 
@@ -15,16 +15,16 @@ abbrev pub trie_of : List (List (ℕ × ℕ)) → List ℕ → List ℕ → Link
 trie_of edges fails positions = record { child = child_in nat_cmp edges; fail = slice_index fails; output = slice_index positions }
 
 -- Groups that are the edges of a trie, with a code below `block` in the place of each unit: one for each state that has some.
-pub record AreGroupsOf {A : Type 0} (code : ℕ → ℕ) (block : ℕ) (gs : List (SiblingGroup A)) (edges : List (List (ℕ × ℕ))) (depths : List ℕ) : Type 0 where
-  pub table : IsTable nat_cmp edges depths
+pub record AreGroupsOf {A : Type 0} (code : ℕ → ℕ) (block : ℕ) (gs : List (SiblingGroup A)) (edges : List (List (ℕ × ℕ))) : Type 0 where
+  pub table : IsTable nat_cmp edges
   pub groups : AreGroups gs (length edges) block
   pub children : (k : ℕ) → k < length gs → children_of gs k ≡ coded code (edges_at edges (parent_of gs k))
   pub all : (s c t : ℕ) → child_in nat_cmp edges s c ≡ Some t → (k : ℕ) × (k < length gs) × (parent_of gs k ≡ s)
 
 -- The groups of a trie were placed.
-pub record AreSettled {A : Type 0} (code : ℕ → ℕ) (block : ℕ) (tracked : Bool) (gs : List (SiblingGroup A)) (l : Layout) (edges : List (List (ℕ × ℕ))) (depths : List ℕ) : Type 0 where
+pub record AreSettled {A : Type 0} (code : ℕ → ℕ) (block : ℕ) (tracked : Bool) (gs : List (SiblingGroup A)) (l : Layout) (edges : List (List (ℕ × ℕ))) : Type 0 where
   pub power : IsPowerOfTwo block
-  pub of_trie : AreGroupsOf code block gs edges depths
+  pub of_trie : AreGroupsOf code block gs edges
   pub placed : IsPlaced gs (length gs) tracked l
   pub sizes : HasSizes l block (length edges)
 
@@ -43,7 +43,7 @@ pub record HoldStates (l : Layout) (n : ℕ) (fails positions : List ℕ) (none 
 
 -- the groups of these states need a block more than there may be
 abbrev pub HasManyGroups : {V A : Type 0} → (ℕ → ℕ) → ℕ → List (NfaBuilderState ℕ V A) → Type 0
-HasManyGroups {V} {A} code block states = (gs : List (SiblingGroup A)) × AreGroupsOf code block gs (edges_of states) (depths_of states) × (2 ^ 32 ≤ (length gs + 1) * block)
+HasManyGroups {V} {A} code block states = (gs : List (SiblingGroup A)) × AreGroupsOf code block gs (edges_of states) × (2 ^ 32 ≤ (length gs + 1) * block)
 
 -- each of n states but the dead one has a place of its own, among so many elements
 pub record ArePlaces (idx : List ℕ) (n elements : ℕ) : Type 0 where

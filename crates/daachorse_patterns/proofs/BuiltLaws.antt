@@ -23,7 +23,7 @@ use Rattle.daachorse_build.specs.Holds.{Holds, in_units}
 use Rattle.daachorse_build.specs.Left.{LinksLeft}
 use Rattle.daachorse_build.specs.Lists.{IsChainedAt, IsRest}
 use Rattle.daachorse_build.specs.Orders.{HoldLinks, IsLinked}
-use Rattle.daachorse_build.specs.Tables.{child_in, child_of, depths_of, edge_map, edges_of, fails_of, held_at, own_at, own_of, positions_of}
+use Rattle.daachorse_build.specs.Tables.{child_in, child_of, edge_map, edges_of, fails_of, held_at, own_at, own_of, positions_of}
 use Rattle.daachorse_build.proofs.Fitting.{state_of}
 use Rattle.daachorse_build.proofs.Queue.{all_in_order}
 use Rattle.daachorse_build.proofs.Registrations.{holds_twin}
@@ -87,7 +87,7 @@ module _ {L V A : Type 0} (cmp : L → L → Ordering) (unit : L → ℕ) (width
   one_path : (s : ℕ) (v w : List ℕ) → Leads child v s → Leads child w s → v ≡ w
   one_path s v w e f =
       let a = read v s e in let b = read w s f in
-      sym a.1 ∙ ap (map unit) (walk-same to (slice_index (depths_of (states_of d))) (length (edges_of (states_of d))) was.holds.trie.trie a.0 b.0 s a.2 b.2) ∙ b.1
+      sym a.1 ∙ ap (map unit) (walk-same to (length (edges_of (states_of d))) was.holds.trie.trie a.0 b.0 s a.2 b.2) ∙ b.1
 
   begins : (w : List ℕ) → IsPrefix K w → (s : ℕ) × Leads child w s
   begins w h =
@@ -113,7 +113,7 @@ module _ {L V A : Type 0} (cmp : L → L → Ordering) (unit : L → ℕ) (width
   bounds : (w : List ℕ) (s : ℕ) → Leads child w s → (s < length (edges_of (states_of d))) × (s ≢ 1)
   bounds w s e =
       let a = read w s e in
-      walk-bounds to (slice_index (depths_of (states_of d))) (length (edges_of (states_of d))) was.holds.trie.trie a.0 s a.2
+      walk-bounds to (length (edges_of (states_of d))) was.holds.trie.trie a.0 s a.2
 
   -- a state with a nonempty text is not the root
   inner : (u s : ℕ) (w : List ℕ) → Leads child (u ∷ w) s → s ≢ 0
@@ -130,7 +130,7 @@ module _ {L V A : Type 0} (cmp : L → L → Ordering) (unit : L → ℕ) (width
       go (c ∷ x) is f =
           let rest : map unit x ≡ w = cc in
           let at = bounds (u ∷ w) s e in let other = inner u s w e in
-          let link = linked.linked s (all_in_order cmp total (edges_of (states_of d)) (depths_of (states_of d)) was.holds.trie order linked.first s (omega (arith, at.1, other)) at.0) c x f in
+          let link = linked.linked s (all_in_order cmp total (edges_of (states_of d)) was.holds.trie order linked.first s (omega (arith, at.1, other)) at.0) c x f in
           let same : map unit (long (is_reached to) x) ≡ long (is_reached child) w = sym (long-units cmp unit (edges_of (states_of d)) child by x) ∙ ap (long (is_reached child)) rest in
           let there = leads (long (is_reached to) x) (long (is_reached child) w) (link_at s) same link in
           inr ((bounds (long (is_reached child) w) (link_at s) there).1, (λ dead. dead), (long (is_reached child) w, there, link-is K (is_reached child) fore back u w))

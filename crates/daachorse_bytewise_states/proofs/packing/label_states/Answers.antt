@@ -4,7 +4,7 @@ use Rattle.std.specs.Prelude.{slice_index}
 use Rattle.std.specs.Ordering.{nat_cmp}
 use Rattle.std.proofs.lemmas.List.{length-map}
 use Rattle.daachorse_build.specs.EdgeMaps.{id_at}
-use Rattle.daachorse_build.specs.Tables.{child_in, depths_of, edge_map, edges_of}
+use Rattle.daachorse_build.specs.Tables.{child_in, edge_map, edges_of}
 use Rattle.daachorse_bytewise_states.proofs.WritingLaws.{apart-all, children-more, edges_at, inside-all, root-kept}
 use Rattle.daachorse_bytewise_states.proofs.packing.label_states.Goals as goal
 
@@ -13,14 +13,14 @@ label_children-requires-clause-inside g c =
     let states = c.args.states.now in let m = c.loop-state.state-index in
     let same = edges_at states m c.state-item.result c.loop-state-test.true c.state-item.is ∙ sym c.edges.ensures in
     let P : List (ℕ × ℕ) → Type 0 = λ es. (d t : ℕ) → id_at nat_cmp es d ≡ Some t → t < length c.loop-state.labels in
-    subst P same (λ d t e. let high : t < length (edges_of states) = inside-all (edges_of states) (depths_of states) c.requires.trie m d t e in omega (arith, high, length-map states edge_map, c.loop-state.invariant.size))
+    subst P same (λ d t e. let high : t < length (edges_of states) = inside-all (edges_of states) c.requires.trie m d t e in omega (arith, high, length-map states edge_map, c.loop-state.invariant.size))
 
 pub label_children-requires-clause-apart : goal.label_children-requires-clause-apart
 label_children-requires-clause-apart g c =
     let states = c.args.states.now in let m = c.loop-state.state-index in
     let same = edges_at states m c.state-item.result c.loop-state-test.true c.state-item.is ∙ sym c.edges.ensures in
     let P : List (ℕ × ℕ) → Type 0 = λ es. (c d t : ℕ) → id_at nat_cmp es c ≡ Some t → id_at nat_cmp es d ≡ Some t → c ≡ d in
-    subst P same (apart-all (edges_of states) (depths_of states) c.requires.trie m)
+    subst P same (apart-all (edges_of states) c.requires.trie m)
 
 pub loop-state-preserved : goal.loop-state-preserved
 loop-state-preserved g c =
@@ -33,8 +33,8 @@ loop-state-preserved g c =
     let kept = subst K (sym same) c.label_children.ensures.kept in
     record {
       size = c.label_children.ensures.size ∙ was.size;
-      root = root-kept (edges_of states) (depths_of states) c.requires.trie m old new set_to kept was.root;
-      children = children-more (edges_of states) (depths_of states) c.requires.trie m old new set_to kept was.children;
+      root = root-kept (edges_of states) c.requires.trie m old new set_to kept was.root;
+      children = children-more (edges_of states) c.requires.trie m old new set_to kept was.children;
     }
 
 pub returns : goal.returns

@@ -12,7 +12,7 @@ use Rattle.daachorse_placement.specs.Layout.{Layout}
 use Rattle.daachorse_placement.specs.Placement.{HasSizes, IsPlaced}
 use Rattle.daachorse_build.specs.Builders.{states_of}
 use Rattle.daachorse_build.specs.declared.nfa_builder.NfaBuilderState.{NfaBuilderState}
-use Rattle.daachorse_build.specs.Tables.{depths_of, edge_map, edges_of, fails_of, positions_of}
+use Rattle.daachorse_build.specs.Tables.{edge_map, edges_of, fails_of, positions_of}
 use Rattle.daachorse_bytewise_states.specs.Packing.{AreByteGroups, HoldStates}
 use Rattle.daachorse_packing.specs.Settled.{ArePlaces, AreSettled, HasManyGroups}
 use Rattle.daachorse_packing.proofs.Groups.{settled-of}
@@ -25,7 +25,7 @@ new-requires-clause-power g c = (8, refl)
 
 -- what the placement promises of the groups, by the states that it was given
 settled : {V A : Type 0} (states given : List (NfaBuilderState ℕ V A)) (gs lent : List (SiblingGroup A)) (l : Layout) → given ≡ states → lent ≡ gs
-    → AreByteGroups gs (edges_of states) (depths_of states) → IsPlaced lent (length lent) true l → HasSizes l 256 (length given) → AreSettled (λ b. b) 256 true gs l (edges_of states) (depths_of states)
+    → AreByteGroups gs (edges_of states) → IsPlaced lent (length lent) true l → HasSizes l 256 (length given) → AreSettled (λ b. b) 256 true gs l (edges_of states)
 settled states given gs lent l same loan groups placed sizes =
     let S : ℕ → Type 0 = λ n. HasSizes l 256 n in
     settled-of (λ b. b) 256 true states gs lent l (8, refl) groups loan placed (subst S (ap length same) sizes)

@@ -11,7 +11,7 @@ use Rattle.daachorse_placement.specs.declared.build_helper.SiblingGroup.{Sibling
 use Rattle.daachorse_placement.specs.Placement.{AreGroups, HasSizes}
 use Rattle.daachorse_build.specs.Builders.{states_of}
 use Rattle.daachorse_build.specs.declared.nfa_builder.NfaBuilderState.{NfaBuilderState}
-use Rattle.daachorse_build.specs.Tables.{depths_of, edge_map, edges_of, fails_of, positions_of}
+use Rattle.daachorse_build.specs.Tables.{edge_map, edges_of, fails_of, positions_of}
 use Rattle.daachorse_packing.specs.Settled.{AreSettled, HasManyGroups}
 use Rattle.daachorse_packing.proofs.Groups.{settled-of}
 use Rattle.daachorse_charwise_states.specs.Packing.{HoldElements, code_in}
@@ -38,8 +38,8 @@ write_states-requires-clause-settled g c =
     let gs = c.in_ok-groups.groups.items in
     let l = c.in_ok-helper.helper in
     let S : ℕ → Type 0 = λ n. HasSizes l c.args.block_len n in
-    let G : List (SiblingGroup g.row.A.Denot) → Type 0 = λ x. AreSettled code c.args.block_len false x l (edges_of states) (depths_of states) in
-    let T : List (NfaBuilderState ℕ g.row.V.Denot g.row.A.Denot) → Type 0 = λ ss. AreSettled code c.args.block_len false c.deref-2.result.now l (edges_of ss) (depths_of ss) in
+    let G : List (SiblingGroup g.row.A.Denot) → Type 0 = λ x. AreSettled code c.args.block_len false x l (edges_of states) in
+    let T : List (NfaBuilderState ℕ g.row.V.Denot g.row.A.Denot) → Type 0 = λ ss. AreSettled code c.args.block_len false c.deref-2.result.now l (edges_of ss) in
     let sizes = subst S (ap length c.states.ensures) c.in_ok-helper.ensures.sizes in
     let settled = settled-of code c.args.block_len false states gs c.deref.result.now l c.requires.power (c.in_ok-groups.ensures.ok c.args.block_len c.requires.block.0 c.requires.block.1) c.deref.ensures.value c.in_ok-helper.ensures.placed sizes in
     (code, c.args.block_len, subst T (sym c.states-2.ensures) (subst G (sym c.deref-2.ensures.value) settled))

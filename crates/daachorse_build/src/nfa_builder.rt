@@ -53,8 +53,9 @@ pub const DEAD_STATE_ID: u32 = 1;
 #[derive(Drop)]
 pub struct NfaBuilderState<L: EdgeLabel, V: Copy, A: Allocator = Global> {
     edges: EdgeMap<L, A>,
-    fail: u32,
     output: Vec<(V, u32), A>,
+    // The two numbers stand together, since fields are laid out in order.
+    fail: u32,
     // 0 stands for none, since an `Option<NonZeroU32>` would take twice the bytes.
     output_pos: u32,
 }
@@ -92,8 +93,8 @@ impl<L: EdgeLabel, V: Copy, A: Allocator + Copy> NfaBuilderState<L, V, A> {
     {
         Self {
             edges: EdgeMap::default(),
-            fail: ROOT_STATE_ID,
             output: Vec::new(alloc),
+            fail: ROOT_STATE_ID,
             output_pos: 0,
         }
     }
@@ -108,8 +109,8 @@ impl<L: EdgeLabel, V: Copy, A: Allocator + Copy> NfaBuilderState<L, V, A> {
     {
         Ok(Self {
             edges: self.edges.clone()?,
-            fail: self.fail,
             output: Vec::from_slice(*self.output.allocator(), &self.output)?,
+            fail: self.fail,
             output_pos: self.output_pos,
         })
     }

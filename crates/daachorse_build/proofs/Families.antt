@@ -1,9 +1,9 @@
 -- Groups as families: the parents are the states with an edge, each once, and that outlasts a sort.
-use Rattle.std.proofs.Common.{◌≡◌, ◌≢◌, ℕ, zero, suc, ◌+◌, ◌<◌, ◌≤◌, ◌⊎◌, Bool, true, false, not, cond, eqb, List, [], ◌∷◌, ◌++◌, length, get_or, take, Some, refl, sym, ap, ◌∙◌, subst, inl, inr, arith}
+use Rattle.std.proofs.Common.{◌≡◌, ◌≢◌, ℕ, zero, suc, ◌<◌, ◌≤◌, ◌⊎◌, Bool, true, false, not, cond, eqb, List, [], ◌∷◌, ◌++◌, length, get_or, Some, refl, sym, ap, ◌∙◌, subst, inl, inr, arith}
 use Rattle.std.proofs.lemmas.Bool.{cases_lt, cases_eq, false≢true, eq-eqb, ne_eqb}
 use Rattle.std.proofs.lemmas.Option.{same_Some}
 use Rattle.std.proofs.lemmas.List.{append-nil, map-append, length-map, get_or_default}
-use Rattle.std.proofs.lemmas.List.Elements.{All-head, All-tail, All-weaker, filter_more}
+use Rattle.std.proofs.lemmas.List.Elements.{All-head, All-tail, All-weaker, filter-append}
 use Rattle.std.proofs.lemmas.List.Sorted.{All-permutation, Contains-permutation, IsPermutation-map, length_permutation}
 use Rattle.std.proofs.lemmas.Map.Keys.{IsDistinct-IsPermutation, apart_from_distinct}
 use Rattle.std.specs.Bool.{IsTrue}
@@ -39,20 +39,18 @@ has_edges_if [] false h = absurd (false≢true (h.1 refl))
 has_edges_if (e ∷ es) true h = let k : e ∷ es ≡ [] = h.0 refl in cc
 has_edges_if (e ∷ es) false h = refl
 
-pub parents_more : {L A : Type 0} (edges : List (List (L × ℕ))) (order : List ℕ) (i : ℕ) (gs : List (SiblingGroup A)) (g : SiblingGroup A) → i < length order → parents_of gs ≡ filter (has_edges edges) (take i order) → g.parent ≡ get_or order i 0 → has_edges edges (get_or order i 0) ≡ true → parents_of (gs ++ g ∷ []) ≡ filter (has_edges edges) (take (i + 1) order)
-parents_more edges order i gs g l before parent some =
-    let t = get_or order i 0 in
+pub parents_more : {L A : Type 0} (edges : List (List (L × ℕ))) (order : List ℕ) (t : ℕ) (gs : List (SiblingGroup A)) (g : SiblingGroup A) → parents_of gs ≡ filter (has_edges edges) order → g.parent ≡ t → has_edges edges t ≡ true → parents_of (gs ++ g ∷ []) ≡ filter (has_edges edges) (order ++ t ∷ [])
+parents_more edges order t gs g before parent some =
     map-append (λ x. x.parent) gs (g ∷ [])
     ∙ ap (λ ps. ps ++ g.parent ∷ []) before
-    ∙ ap (λ p. filter (has_edges edges) (take i order) ++ p ∷ []) parent
-    ∙ sym (filter_more (has_edges edges) order i 0 l ∙ ap (λ b. filter (has_edges edges) (take i order) ++ cond b (t ∷ []) []) some)
+    ∙ ap (λ p. filter (has_edges edges) order ++ p ∷ []) parent
+    ∙ sym (filter-append (has_edges edges) order (t ∷ []) ∙ ap (λ b. filter (has_edges edges) order ++ cond b (t ∷ []) []) some)
 
-pub parents_same : {L A : Type 0} (edges : List (List (L × ℕ))) (order : List ℕ) (i : ℕ) (gs : List (SiblingGroup A)) → i < length order → parents_of gs ≡ filter (has_edges edges) (take i order) → has_edges edges (get_or order i 0) ≡ false → parents_of gs ≡ filter (has_edges edges) (take (i + 1) order)
-parents_same edges order i gs l before none =
-    let t = get_or order i 0 in
+pub parents_same : {L A : Type 0} (edges : List (List (L × ℕ))) (order : List ℕ) (t : ℕ) (gs : List (SiblingGroup A)) → parents_of gs ≡ filter (has_edges edges) order → has_edges edges t ≡ false → parents_of gs ≡ filter (has_edges edges) (order ++ t ∷ [])
+parents_same edges order t gs before none =
     before
     ∙ sym (append-nil _)
-    ∙ sym (filter_more (has_edges edges) order i 0 l ∙ ap (λ b. filter (has_edges edges) (take i order) ++ cond b (t ∷ []) []) none)
+    ∙ sym (filter-append (has_edges edges) order (t ∷ []) ∙ ap (λ b. filter (has_edges edges) order ++ cond b (t ∷ []) []) none)
 
 -- ---- a filter of numbers that each stand once
 once_cons : (x : ℕ) (xs : List ℕ) → (IsIn xs x → ⊥) → StandOnce xs → StandOnce (x ∷ xs)

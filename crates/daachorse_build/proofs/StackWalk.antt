@@ -1,12 +1,16 @@
 -- A walk with a stack over a trie: a state that comes off the stack is new, and so are its children, since each has one parent; so each state comes off once.
-use Rattle.std.proofs.Common.{◌≡◌, ◌≢◌, ℕ, zero, suc, ◌<◌, ◌≤◌, ◌⊎◌, List, [], ◌∷◌, ◌++◌, length, refl, sym, subst, inl, inr, arith, append_assoc}
-use Rattle.std.proofs.lemmas.List.{append-nil, length_push, take-append-le, get_or_append_left, take_at, get_or_push}
+use Rattle.std.proofs.Common.{◌≡◌, ◌≢◌, ℕ, zero, suc, ◌+◌, ◌-◌, ◌*◌, ◌^◌, ◌<◌, ◌≤◌, ◌⊎◌, List, [], ◌∷◌, ◌++◌, length, get_or, sum_by, refl, sym, ap, ◌∙◌, subst, inl, inr, arith, append_assoc}
+use Rattle.std.proofs.Math.Nat.{one-le-pow, pow-le-pow_right, mul-le-mul_right}
+use Rattle.std.proofs.lemmas.Grind.{pow_more}
+use Rattle.std.proofs.lemmas.List.{append-nil, length_push, take-append-le, get_or_append_left, take_at, get_or_push, get_or_default}
+use Rattle.std.proofs.lemmas.List.Sums.{sum_by-le, sum_by-append, sum_by_push}
+use Rattle.std.specs.List.{All}
 use Rattle.std.specs.declared.cmp.Ordering.{Ordering}
 use Rattle.std.specs.Cmp.{IsTotalOrder}
 use Rattle.daachorse_build.specs.Tables.{IsTable}
 use Rattle.daachorse_build.specs.Orders.{IsIn, StandOnce, children}
 use Rattle.daachorse_build.specs.Groups.{IsWalk, IsWalking}
-use Rattle.daachorse_build.proofs.Queue.{in_left, in_right, in_cases, in_same, in_equal, place_of, once_push, length-once, children_once, child_of_listed, listed_of_child, bounds_of_listed}
+use Rattle.daachorse_build.proofs.Queue.{in_left, in_right, in_cases, in_same, in_equal, in_at, place_of, once_push, length-once, children_once, child_of_listed, listed_of_child, bounds_of_listed}
 
 -- ---- lists of numbers that each stand once
 once_none : StandOnce []
@@ -43,6 +47,14 @@ once_append xs (y ∷ ys) one two apart =
       | inr b ↦ elim b [ inl e ↦ once_head y ys two (in_equal ys t y (sym e) k) | inr none ↦ absurd none ]
     ]) in
     subst P (append_assoc xs (y ∷ []) ys) rest
+
+-- ---- how long a walk may take
+-- for each state on the stack a number that is more than those of its children together
+abbrev pub work : {L : Type 0} → List (List (L × ℕ)) → List ℕ → ℕ
+work edges stack = sum_by (λ t. (length edges + 1) ^ (length edges - t)) stack
+
+less_than_all : (p n s l : ℕ) → s ≤ l → l ≤ n * p → 1 ≤ p → s < p * (n + 1)
+less_than_all p n s l h k some = let e : p * (n + 1) ≡ n * p + p = grind arith in omega (arith, e)
 
 -- ---- the walk
 module _ {L : Type 0} (cmp : L → L → Ordering) (total : IsTotalOrder cmp) (edges : List (List (L × ℕ))) (table : IsTable cmp edges) where
@@ -149,13 +161,26 @@ module _ {L : Type 0} (cmp : L → L → Ordering) (total : IsTotalOrder cmp) (e
       ];
     }
 
-    -- there is a state more than have come off
-    pub more_states : length order < length edges
-    more_states =
-        let len = length_push order s in
-        let fits = length-once (order ++ s ∷ []) (length edges) (once_push order s walking.once top_new)
-        (λ t h. (walking.states t (old_place t (inl h))).0) in
-        omega (arith, len, fits)
+    -- no child counts for more than the next lower power
+    child_work : All (λ t. (length edges + 1) ^ (length edges - t) ≤ (length edges + 1) ^ (length edges - (s + 1))) (children edges s)
+    child_work k d l =
+        let h = in_equal (children edges s) _ _ (get_or_default (children edges s) k 0 d l) (in_at (children edges s) k l) in
+        pow-le-pow_right {n = length edges + 1} (omega arith) {i = length edges - get_or (children edges s) k d} {j = length edges - (s + 1)} (omega (arith, child_above s (get_or (children edges s) k d) h))
+
+    -- the children count for less than the state that comes off
+    pub less_work : work edges (rest ++ children edges s) < work edges (rest ++ s ∷ [])
+    less_work =
+        let n = length edges in
+        let count : ℕ → ℕ = λ t. (n + 1) ^ (n - t) in
+        let m = n - (s + 1) in
+        let few = length-once (children edges s) n (children_once cmp total edges table s) (λ t h. (bounds_of_listed cmp total edges table s t h).1) in
+        let sum = sum_by-le count ((n + 1) ^ m) (children edges s) child_work in
+        let more = mul-le-mul_right ((n + 1) ^ m) few in
+        let some = one-le-pow m (n + 1) (omega arith) in
+        let exponent : n - s ≡ m + 1 = omega (arith, top_bounds.0) in
+        let whole = ap (λ k. (n + 1) ^ k) exponent ∙ pow_more (n + 1) m in
+        let less = less_than_all ((n + 1) ^ m) n (sum_by count (children edges s)) (length (children edges s) * (n + 1) ^ m) sum more some in
+        omega (arith, sum_by-append count rest (children edges s), sum_by_push count rest s, whole, less)
 
   -- where the stack is empty, each state has come off
   module _ (order : List ℕ) (walking : IsWalking edges order []) where

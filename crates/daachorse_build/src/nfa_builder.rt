@@ -320,8 +320,7 @@ impl<L: EdgeLabel, V: Copy, A: Allocator + Copy> NfaBuilder<L, V, A> {
         ensures light { profile.now.visits.items ≡ [] → IfOk result (λ groups. AreLight groups.items) }
         ensures refused { IfErr result IsOutOfMemory }
     {
-        let order = siblings::depth_first(alloc, &self.states)?;
-        let mut groups = siblings::groups_of(alloc, &self.states, &order, profile, &map_label)?;
+        let mut groups = siblings::groups_of(alloc, &self.states, profile, &map_label)?;
         if !profile.is_empty() {
             groups.sort_by_key(|group| Reverse(group.weight))?;
         }

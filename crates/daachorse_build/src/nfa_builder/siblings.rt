@@ -3,7 +3,7 @@
 //! The layer above may rely on one group for each state with an edge, in the order in which a
 //! stack of states gives them.
 
-ghost use Rattle.std.specs.Prelude.{◌≡◌, ℕ, ◌<◌, ◌++◌, length, map, filter, IfOk, IfErr, OnOk};
+ghost use Rattle.std.specs.Prelude.{◌≡◌, ℕ, ◌<◌, ◌++◌, List, length, map, filter, IfOk, IfErr, OnOk};
 ghost use Rattle.std.specs.Map.{values_of};
 ghost use Rattle.daachorse_core.specs.Refusals.{IsOutOfMemory};
 ghost use Rattle.daachorse_build.specs.Tables.{edges_of, HoldTrie};
@@ -16,24 +16,35 @@ use daachorse_core::errors::Result;
 use daachorse_placement::build_helper::{Profile, SiblingGroup};
 use std::alloc::Allocator;
 
-/// The states that a text leads to, as a stack gives them that begins with the root: where a state
-/// is taken off, its children are put on in order of labels, so that the last comes off first.
-pub(super) fn depth_first<L: EdgeLabel, V: Copy, A: Allocator + Copy>(
+/// The groups of the states that have edges, as a stack gives them that begins with the root: where
+/// a state is taken off, its children are put on in order of labels, so that the last comes off
+/// first. A state is read once, for its children and for its group.
+pub(super) fn groups_of<L: EdgeLabel, V: Copy, A: Allocator + Copy, F: Fn(L) -> u32>(
     alloc: A,
     states: &[NfaBuilderState<L, V, A>],
-) -> Result<Vec<u32, A>>
-    requires { HoldTrie L.cmp states.now }
-    ensures walk { IfOk result (λ order. IsWalk (edges_of states.now) order.items) }
+    profile: &Profile<A>,
+    map_label: &F,
+) -> Result<Vec<SiblingGroup<A>, A>>
+    requires trie { HoldTrie L.cmp states.now }
+    requires profile { IsProfileOf (length states.now) profile.now }
+    requires callable { F.IsAlwaysCallable map_label.now }
+    ensures parents { IfOk result (λ groups. (order : List ℕ) × IsWalk (edges_of states.now) order × (parents_of groups.items ≡ filter (has_edges (edges_of states.now)) order)) }
+    ensures families { IfOk result (λ groups. AreFamilies (F.post map_label.now) (edges_of states.now) groups.items) }
+    ensures weights { IfOk result (λ groups. AreWeighed (edges_of states.now) profile.now groups.items) }
     ensures refused { IfErr result IsOutOfMemory }
 {
-    let mut order = Vec::with_capacity(alloc, states.len())?;
+    let mut groups = Vec::new(alloc);
     let mut stack = Vec::new(alloc);
     stack.push(ROOT_STATE_ID)?;
     while let Some(id) = stack.pop() {
-        put_children(&mut stack, states[id as usize].edges())?;
-        order.push(id)?;
+        let edges = states[id as usize].edges();
+        if !edges.is_empty() {
+            put_children(&mut stack, edges)?;
+            let weight = weight_of(states, profile, id);
+            groups.push(group_of(alloc, id, edges, weight, map_label)?)?;
+        }
     }
-    Ok(order)
+    Ok(groups)
 }
 
 /// Puts the children of a state on the stack, in order of labels.
@@ -48,34 +59,6 @@ fn put_children<L: EdgeLabel, A: Allocator>(
         stack.push(*id)?;
     }
     Ok(())
-}
-
-/// The groups of the states of `order` that have edges.
-pub(super) fn groups_of<L: EdgeLabel, V: Copy, A: Allocator + Copy, F: Fn(L) -> u32>(
-    alloc: A,
-    states: &[NfaBuilderState<L, V, A>],
-    order: &[u32],
-    profile: &Profile<A>,
-    map_label: &F,
-) -> Result<Vec<SiblingGroup<A>, A>>
-    requires trie { HoldTrie L.cmp states.now }
-    requires order { IsWalk (edges_of states.now) order.now }
-    requires profile { IsProfileOf (length states.now) profile.now }
-    requires callable { F.IsAlwaysCallable map_label.now }
-    ensures parents { IfOk result (λ groups. parents_of groups.items ≡ filter (has_edges (edges_of states.now)) order.now) }
-    ensures families { IfOk result (λ groups. AreFamilies (F.post map_label.now) (edges_of states.now) groups.items) }
-    ensures weights { IfOk result (λ groups. AreWeighed (edges_of states.now) profile.now groups.items) }
-    ensures refused { IfErr result IsOutOfMemory }
-{
-    let mut groups = Vec::new(alloc);
-    for id in order {
-        let edges = states[*id as usize].edges();
-        if !edges.is_empty() {
-            let weight = weight_of(states, profile, *id);
-            groups.push(group_of(alloc, *id, edges, weight, map_label)?)?;
-        }
-    }
-    Ok(groups)
 }
 
 /// The group of a parent with these edges.

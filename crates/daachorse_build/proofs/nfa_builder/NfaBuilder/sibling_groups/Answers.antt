@@ -27,15 +27,15 @@ returns-clause-trie g c = λ code says.
       | else-not-is_empty w ↦ subst P (sym (ap (λ v. v.items) w.groups-is)) (IsPermutation-refl c.in_ok-groups.groups.items)
     ] in
     let old = c.args.self.now.states.items in
-    let order = c.in_ok-order.order.items in
     let first = c.in_ok-groups.groups.items in
     let e = c.in_ok-groups.ensures in
+    let order = e.parents.0 in
     let gives = λ (l : g.row.L.Denot) (r : ℕ). g.F.Fn.post c.args.map_label (l, tt) r in
     let W : List (NfaBuilderState g.row.L.Denot g.row.V.Denot g.row.A.Denot) → Type 0 = λ ss. IsWalk (edges_of ss) order in
-    let walk = subst W c.deref.ensures.value c.in_ok-order.ensures.walk in
-    let parents = e.parents ∙ ap (λ ss. filter (has_edges (edges_of ss)) c.deref-3.result.now) c.deref-2.ensures.value ∙ ap (λ os. filter (has_edges (edges_of old)) os) c.deref-3.ensures.value in
+    let walk = subst W c.deref.ensures.value e.parents.1 in
+    let parents = e.parents.2 ∙ ap (λ ss. filter (has_edges (edges_of ss)) order) c.deref.ensures.value in
     let F : List (NfaBuilderState g.row.L.Denot g.row.V.Denot g.row.A.Denot) → Type 0 = λ ss. AreFamilies gives (edges_of ss) first in
-    let families = subst F c.deref-2.ensures.value e.families in
+    let families = subst F c.deref.ensures.value e.families in
     trie_groups g.L.Ord.cmp g.met.L.Ord.total old c.requires.trie order walk gives first c.if-not-is_empty.groups.items parents families moved code says
 
 pub returns-clause-groups : goal.returns-clause-groups
@@ -43,7 +43,7 @@ returns-clause-groups g c = λ code block says codes.
     let gives = λ (l : g.row.L.Denot) (r : ℕ). g.F.Fn.post c.args.map_label (l, tt) r in
     let old = c.args.self.now.states.items in
     let F : List (NfaBuilderState g.row.L.Denot g.row.V.Denot g.row.A.Denot) → Type 0 = λ ss. AreFamilies gives (edges_of ss) c.in_ok-groups.groups.items in
-    let first = subst F c.deref-2.ensures.value c.in_ok-groups.ensures.families in
+    let first = subst F c.deref.ensures.value c.in_ok-groups.ensures.families in
     let Q : SiblingGroup g.row.A.Denot → Type 0 = λ x. AreGiven gives (edges_at (edges_of old) x.parent) x.children.items in
     let P : List (SiblingGroup g.row.A.Denot) → Type 0 = λ gs. All Q gs in
     let families : All Q c.if-not-is_empty.groups.items = elim c.if-not-is_empty.branch [
@@ -61,21 +61,21 @@ returns-clause-bound g c =
       | else-not-is_empty w ↦ subst P (sym (ap (λ v. v.items) w.groups-is)) (IsPermutation-refl c.in_ok-groups.groups.items)
     ] in
     let old = c.args.self.now.states.items in
-    let order = c.in_ok-order.order.items in
     let first = c.in_ok-groups.groups.items in
     let e = c.in_ok-groups.ensures in
+    let order = e.parents.0 in
     let gives = λ (l : g.row.L.Denot) (r : ℕ). g.F.Fn.post c.args.map_label (l, tt) r in
     let W : List (NfaBuilderState g.row.L.Denot g.row.V.Denot g.row.A.Denot) → Type 0 = λ ss. IsWalk (edges_of ss) order in
-    let walk = subst W c.deref.ensures.value c.in_ok-order.ensures.walk in
-    let parents = e.parents ∙ ap (λ ss. filter (has_edges (edges_of ss)) c.deref-3.result.now) c.deref-2.ensures.value ∙ ap (λ os. filter (has_edges (edges_of old)) os) c.deref-3.ensures.value in
+    let walk = subst W c.deref.ensures.value e.parents.1 in
+    let parents = e.parents.2 ∙ ap (λ ss. filter (has_edges (edges_of ss)) order) c.deref.ensures.value in
     let F : List (NfaBuilderState g.row.L.Denot g.row.V.Denot g.row.A.Denot) → Type 0 = λ ss. AreFamilies gives (edges_of ss) first in
-    let families = subst F c.deref-2.ensures.value e.families in
+    let families = subst F c.deref.ensures.value e.families in
     few_groups g.L.Ord.cmp g.met.L.Ord.total old c.requires.trie order walk gives first c.if-not-is_empty.groups.items parents families moved
 
 pub returns-clause-weights : goal.returns-clause-weights
 returns-clause-weights g c =
     let W : List (NfaBuilderState g.row.L.Denot g.row.V.Denot g.row.A.Denot) → Type 0 = λ ss. AreWeighed (edges_of ss) c.args.profile.now c.in_ok-groups.groups.items in
-    let weighed = subst W c.deref-2.ensures.value c.in_ok-groups.ensures.weights in
+    let weighed = subst W c.deref.ensures.value c.in_ok-groups.ensures.weights in
     let Q : SiblingGroup g.row.A.Denot → Type 0 = λ x. x.weight ≡ weight_at (edges_of c.args.self.now.states.items) c.args.profile.now x.parent in
     let P : List (SiblingGroup g.row.A.Denot) → Type 0 = λ gs. All Q gs in
     elim c.if-not-is_empty.branch [

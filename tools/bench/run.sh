@@ -17,7 +17,7 @@ mkdir -p "$2"
 work=$(CDPATH= cd -- "$2" && pwd)
 shift 2
 parts=${PARTS:-build counts times}
-kit=${KIT:-/opt/rattle}
+kit=${KIT:-$(dirname -- "$(rt doc)")}
 bytes=${BYTES:-262144}
 rounds=${ROUNDS:-15}
 seeds=${SEEDS:-5}

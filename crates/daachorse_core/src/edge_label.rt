@@ -107,8 +107,8 @@ impl EdgeLabel for char {
 
     ghost form = { encode_utf8 };
 
-    // It is `len_utf8`, as a sum of tests: the loops of all searches count places by it, and a sum
-    // takes fewer instructions there than a choice.
+    // It is `len_utf8`, as a sum of tests: the loops of the standard searches count places by it, and
+    // a sum takes fewer instructions there than a choice.
     fn num_bytes(&self) -> usize {
         let code = *self as u32;
         usize::from(code >= 0x80) + usize::from(code >= 0x800) + usize::from(code >= 0x1_0000) + 1

@@ -1,0 +1,149 @@
+#!/usr/bin/env python3
+"""costs.py [FILE]: runs the gate, and tells what each crate costs.
+
+It runs `rt ci` at the top of the repository and passes on what that prints. From this output it
+takes how many functions, tests and wrong bodies each crate has, and from the processes that the gate
+starts how many processor seconds each crate's proof, tests and wrong bodies took. It prints a table
+at the end and, where FILE is given, writes it there between the lines `<!-- costs -->` and
+`<!-- end of costs -->`. Its exit status is the gate's.
+
+The seconds of a process are read twice a second, so a crate's are a little less than it took; the
+sum in the last line is what the system counted.
+"""
+import os
+import re
+import resource
+import subprocess
+import sys
+import threading
+import time
+
+TOP = os.path.dirname(os.path.dirname(os.path.dirname(os.path.abspath(__file__))))
+BEGIN, END = "<!-- costs -->", "<!-- end of costs -->"
+TICKS = os.sysconf("SC_CLK_TCK")
+
+
+def text_of(path):
+    """What a file of /proc holds, or nothing once its process has ended."""
+    try:
+        with open(path, errors="replace") as it:
+            return it.read()
+    except OSError:
+        return ""
+
+
+def below(pid):
+    """The process and all that it started."""
+    found, left = [], [pid]
+    while left:
+        at = left.pop()
+        found.append(at)
+        try:
+            tasks = os.listdir(f"/proc/{at}/task")
+        except OSError:
+            continue
+        for task in tasks:
+            left += [int(it) for it in text_of(f"/proc/{at}/task/{task}/children").split()]
+    return found
+
+
+def work_of(pid):
+    """The crate that a process checks and the part of the work that it does, if it is a check."""
+    words = text_of(f"/proc/{pid}/cmdline").split("\0")
+    if "--crate-name" not in words:
+        return None
+    try:
+        folder = os.path.basename(os.readlink(f"/proc/{pid}/cwd"))
+    except OSError:
+        return None
+    part = 2 if folder.startswith("rt-edit-") else 1 if "--test" in words else 0
+    return words[words.index("--crate-name") + 1], part
+
+
+def seconds_of(pid):
+    """The processor seconds of a process, without those of the processes that it started."""
+    fields = text_of(f"/proc/{pid}/stat").rpartition(")")[2].split()
+    return (int(fields[11]) + int(fields[12])) / TICKS if len(fields) > 12 else 0
+
+
+def watch(gate, taken):
+    """Notes the seconds of each check while the gate runs."""
+    works = {}
+    while gate.poll() is None:
+        for pid in below(gate.pid):
+            works[pid] = works.get(pid) or work_of(pid)
+            if works[pid]:
+                key = pid, works[pid]
+                taken[key] = max(taken.get(key, 0), seconds_of(pid))
+        time.sleep(0.5)
+
+
+def counted(lines):
+    """The numbers of functions, tests and wrong bodies of each crate, by what the gate printed."""
+    counts, name, part = {}, None, 0
+    for line in lines:
+        begun = re.match(r"== (\w+)(: its tests)?$", line)
+        if begun:
+            name, part = begun[1], 1 if begun[2] else 0
+        number = re.match(rf"logic=proved .*?\b{('functions', 'tests')[part]}=(\d+)", line)
+        if name and number:
+            counts.setdefault(name, [0, 0, 0])[part] = int(number[1])
+        tried = re.match(r"rt: (\w+): trying its must-fail edits \((\d+)\)", line)
+        if tried:
+            counts.setdefault(tried[1], [0, 0, 0])[2] = int(tried[2])
+    return counts
+
+
+def in_order():
+    """The crates in the order of crates.txt."""
+    with open(f"{TOP}/crates.txt") as it:
+        lines = [line.partition("#")[0].strip() for line in it]
+    return [re.split(r"[ :]", line)[0] for line in lines if line]
+
+
+def table(counts, taken, processors, wall, total):
+    sums = {}
+    for (_, (name, part)), seconds in taken.items():
+        sums.setdefault(name, [0.0, 0.0, 0.0])[part] += seconds
+    rows = ["| crate | functions | tests | wrong bodies | proof, s | tests, s | wrong bodies, s |", "|---|---|---|---|---|---|---|"]
+    for name in in_order():
+        numbers, seconds = counts.get(name, [0, 0, 0]), sums.get(name, [0.0, 0.0, 0.0])
+        rows.append(f"| `{name}` | " + " | ".join([*map(str, numbers), *(f"{it:.0f}" for it in seconds)]) + " |")
+    numbers = [sum(it[part] for it in counts.values()) for part in range(3)]
+    seconds = [sum(it[part] for it in sums.values()) for part in range(3)]
+    rows.append("| all | " + " | ".join([*map(str, numbers), *(f"{it:.0f}" for it in seconds)]) + " |")
+    rows += ["", f"The whole took {total:.0f} processor seconds, and {wall:.0f} s on {processors} processors."]
+    return "\n".join(rows)
+
+
+def put(file, text):
+    """Writes the table between the two lines of a file."""
+    with open(file) as it:
+        before, begin, rest = it.read().partition(BEGIN)
+    _, end, after = rest.partition(END)
+    if not begin or not end:
+        sys.exit(f"{file} lacks the lines {BEGIN} and {END}")
+    with open(file, "w") as it:
+        it.write(f"{before}{BEGIN}\n{text}\n{END}{after}")
+
+
+def main(files):
+    began, lines, taken = time.monotonic(), [], {}
+    gate = subprocess.Popen(["rt", "ci"], cwd=TOP, stdout=subprocess.PIPE, stderr=subprocess.STDOUT, text=True, errors="replace")
+    watcher = threading.Thread(target=watch, args=(gate, taken))
+    watcher.start()
+    for line in gate.stdout:
+        print(line, end="", flush=True)
+        lines.append(line.rstrip("\n"))
+    status = gate.wait()
+    watcher.join()
+    used = resource.getrusage(resource.RUSAGE_CHILDREN)
+    text = table(counted(lines), taken, len(os.sched_getaffinity(0)), time.monotonic() - began, used.ru_utime + used.ru_stime)
+    print(f"\n{text}")
+    for file in files[:1]:
+        put(file, text)
+    return status
+
+
+if __name__ == "__main__":
+    sys.exit(main(sys.argv[1:]))

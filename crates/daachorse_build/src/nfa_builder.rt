@@ -266,7 +266,7 @@ impl<L: EdgeLabel, V: Copy, A: Allocator + Copy> NfaBuilder<L, V, A> {
 
     /// Makes the lists of outputs: that of the root is its own outputs, and that of each other
     /// state is its own, and then the list of its link, unless that is dead. So there are no more
-    /// outputs than patterns that are kept. `order` is what `build_fails` or
+    /// outputs than patterns that are kept, and no more than a `u32` counts. `order` is what `build_fails` or
     /// `build_fails_leftmost` answered.
     ///
     /// # Errors
@@ -286,6 +286,7 @@ impl<L: EdgeLabel, V: Copy, A: Allocator + Copy> NfaBuilder<L, V, A> {
         ensures chains { OnOk result (HoldLeftLinks L.cmp true (states_of self.old) order.now → (rs : List (List L × V)) → Registered L.cmp L.unit L.width self.old rs → (w : List L) (t : ℕ) → Leads (child_of L.cmp (states_of self.old)) w t → IsChain L.width (dictionary (kind_of self.old) (in_units L.unit rs)) (IsDead (dictionary (kind_of self.old) (in_units L.unit rs))) (map L.unit w) (outputs_at (outputs_of self.new) (slice_index (positions_of (states_of self.new)) t))) }
         ensures follows { OnOk result ((w : List L) (t : ℕ) → Leads (child_of L.cmp (states_of self.old)) w t → IsChainedAt (own_of (states_of self.old)) (fails_of (states_of self.old)) (outputs_of self.new) (positions_of (states_of self.new)) t) }
         ensures bound { OnOk result (length (outputs_of self.new) ≤ output_count (own_of (states_of self.old))) }
+        ensures few { OnOk result (length (outputs_of self.new) ≤ 4294967295) }
         ensures kept_bound { OnOk result ((rs : List (List L × V)) → Registered L.cmp L.unit L.width self.old rs → length (outputs_of self.new) ≤ count_of self.old) }
         ensures refused { IfErr result (IsRefusal ⊥ Outputs ((rs : List (List L × V)) → Registered L.cmp L.unit L.width self.old rs → 4294967295 < length (kept (kind_of self.old) (in_units L.unit rs)))) }
     {
@@ -590,6 +591,7 @@ fn push_chain<V: Copy, A: Allocator>(
     ensures longer { (more : List (OutputOf V)) × (outputs.new.items ≡ outputs.old.items ++ more) }
     ensures parents { ParentsFall outputs.new.items }
     ensures count { OnOk result (vec_len outputs.new ≡ vec_len outputs.old + length own.now) }
+    ensures few { OnOk result (vec_len outputs.old ≤ 4294967295 → vec_len outputs.new ≤ 4294967295) }
     ensures fits { IfOk result (λ position. position ≤ vec_len outputs.new) }
     ensures list { IfOk result (λ position. outputs_at outputs.new.items position ≡ own.now ++ outputs_at outputs.old.items parent) }
     ensures passes { IfOk result (λ position. Passes outputs.new.items position own.now parent) }
@@ -624,6 +626,7 @@ fn put_list<L: EdgeLabel, V: Copy, A: Allocator>(
     ensures longer { (more : List (OutputOf V)) × (outputs.new.items ≡ outputs.old.items ++ more) }
     ensures parents { ParentsFall outputs.new.items }
     ensures count { OnOk result (vec_len outputs.new ≡ vec_len outputs.old + length (own_at (own_of states.old) id)) }
+    ensures few { OnOk result (vec_len outputs.old ≤ 4294967295 → vec_len outputs.new ≤ 4294967295) }
     ensures fits { OnOk result (slice_index (positions_of states.new) id ≤ vec_len outputs.new) }
     ensures list { OnOk result (outputs_at outputs.new.items (slice_index (positions_of states.new) id) ≡ own_at (own_of states.old) id ++ outputs_at outputs.old.items parent) }
     ensures passes { OnOk result (Passes outputs.new.items (slice_index (positions_of states.new) id) (own_at (own_of states.old) id) parent) }
@@ -667,6 +670,7 @@ fn put_lists<L: EdgeLabel, V: Copy, A: Allocator>(
     ensures lists { OnOk result ((leftmost : Bool) → HoldLeftLinks L.cmp leftmost states.old order.now → AreListed L.cmp (stops_of leftmost states.old) states.old order.now outputs.new.items (positions_of states.new)) }
     ensures chained { OnOk result ((leftmost : Bool) → HoldLeftLinks L.cmp leftmost states.old order.now → AreChained (own_of states.old) (fails_of states.old) order.now outputs.new.items (positions_of states.new)) }
     ensures bound { OnOk result (vec_len outputs.new ≤ output_count (own_of states.old)) }
+    ensures few { OnOk result (vec_len outputs.new ≤ 4294967295) }
     ensures refused { IfErr result (IsRefusal ⊥ Outputs (4294967295 < output_count (own_of states.old))) }
 {
     put_list(states, outputs, ROOT_STATE_ID, 0)?;

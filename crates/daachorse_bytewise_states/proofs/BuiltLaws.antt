@@ -30,8 +30,8 @@ module _ {V A : Type 0} (kind : MatchKind) (b : NfaBuilder ℕ V A) (K : Diction
 
   module _ (es : List (State ℕ)) (p : ArePackedOf (states_of b) es) where
     -- the parts are those of an automaton
-    pub built-valid : IsValid (parts_of kind es (outputs_of b) (length (states_of b) - 1))
-    built-valid = packed-IsValid p.packed kind K (outputs_of b) (built-holds byte_width most kind b K built) built.root built.positions (length (states_of b) - 1) (omega (arith, built-count byte_width most kind b K built))
+    pub built-valid : length es < 2 ^ 32 → IsValid (parts_of kind es (outputs_of b) (length (states_of b) - 1))
+    built-valid few = packed-IsValid p.packed kind K (outputs_of b) (built-holds byte_width most kind b K built) built.root built.positions (length (states_of b) - 1) few (omega (arith, built.few_outputs)) (omega (arith, built-count byte_width most kind b K built))
 
     -- which holds the dictionary
     pub built-content : (n : ℕ) (w : List ℕ) → content (parts_of kind es (outputs_of b) n) w ≡ K w

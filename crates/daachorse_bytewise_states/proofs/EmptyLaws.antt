@@ -1,5 +1,5 @@
 -- The rules can be met: the automata without patterns, whose elements are all vacant.
-use Rattle.std.proofs.Common.{◌≡◌, ℕ, zero, suc, ◌<◌, ◌≤◌, ◌%◌, true, false, List, [], ◌∷◌, map, None, refl, sym, ap, ◌∙◌, subst, arith}
+use Rattle.std.proofs.Common.{◌≡◌, ℕ, zero, suc, ◌<◌, ◌≤◌, ◌%◌, ◌^◌, true, false, List, [], ◌∷◌, map, None, refl, sym, ap, ◌∙◌, subst, arith}
 use Rattle.std.specs.Prelude.{slice_index}
 use Rattle.std.proofs.Math.ListN.{replicate}
 use Rattle.std.proofs.lemmas.List.{length-replicate}
@@ -12,7 +12,7 @@ use Rattle.daachorse_bytewise_states.specs.Elements.{base_in, fail_in, output_in
 use Rattle.daachorse_bytewise_states.specs.Parts.{Parts, check_of, child, child_by, count, leftmost_parts, machine, parts_of, standard_parts, without_link}
 use Rattle.daachorse_bytewise_states.specs.Valid.{IsValid}
 
-module _ (V : Type 0) (n : ℕ) (whole : n % 256 ≡ 0) (some : 0 < n) where
+module _ (V : Type 0) (n : ℕ) (whole : n % 256 ≡ 0) (some : 0 < n) (few : n < 2 ^ 32) where
   abbrev pub empty_standard : Parts V
   empty_standard = standard_parts (replicate n vacant) [] 1
 
@@ -29,6 +29,7 @@ module _ (V : Type 0) (n : ℕ) (whole : n % 256 ≡ 0) (some : 0 < n) where
   empty_standard-valid = record {
     blocks = ap (λ x. x % 256) (length-replicate n vacant) ∙ whole;
     some = omega (arith, some, length-replicate n vacant);
+    few = record { elements = omega (arith, few, length-replicate n vacant); outputs = omega arith };
     shape = (refl, refl);
     inside = λ i h.
         let fits : 0 < count empty_standard = omega (arith, some, length-replicate n vacant) in
@@ -44,6 +45,7 @@ module _ (V : Type 0) (n : ℕ) (whole : n % 256 ≡ 0) (some : 0 < n) where
   empty_leftmost-valid = record {
     blocks = ap (λ x. x % 256) (length-replicate n vacant_left) ∙ whole;
     some = omega (arith, some, length-replicate n vacant_left);
+    few = record { elements = omega (arith, few, length-replicate n vacant_left); outputs = omega arith };
     shape = (refl, length-replicate n 0 ∙ sym (length-replicate n vacant_left));
     inside = λ i h.
         let fits : 0 < count empty_leftmost = omega (arith, some, length-replicate n vacant_left) in
@@ -72,12 +74,12 @@ module _ (n : ℕ) (items : List (State ℕ)) (d : State ℕ) (default : (d.base
   map-replicate f zero x = refl
   map-replicate f (suc k) x = ap (λ l. f x ∷ l) (map-replicate f k x)
 
-  module _ {V : Type 0} (outputs : List (Output V)) (none : outputs ≡ []) (whole : n % 256 ≡ 0) (some : 0 < n) where
+  module _ {V : Type 0} (outputs : List (Output V)) (none : outputs ≡ []) (whole : n % 256 ≡ 0) (some : 0 < n) (few : n < 2 ^ 32) where
     pub vacant_standard-valid : IsValid (parts_of Standard items outputs 1)
     vacant_standard-valid =
         let P : List (State ℕ) → Type 0 = λ es. IsValid (parts_of {V = V} Standard es [] 1) in
         let Q : List (Output V) → Type 0 = λ os. IsValid (parts_of Standard items os 1) in
-        subst Q (sym none) (subst P (sym all_vacant) (empty_standard-valid V n whole some))
+        subst Q (sym none) (subst P (sym all_vacant) (empty_standard-valid V n whole some few))
 
     pub vacant_leftmost-valid : IsValid (parts_of LeftmostLongest items outputs 1)
     vacant_leftmost-valid =
@@ -86,4 +88,4 @@ module _ (n : ℕ) (items : List (State ℕ)) (d : State ℕ) (default : (d.base
         let Q : List (Output V) → Type 0 = λ os. IsValid (parts_of LeftmostLongest items os 1) in
         let elements : map without_link items ≡ replicate n vacant_left = ap (λ es. map without_link es) all_vacant ∙ map-replicate without_link n vacant in
         let fails : map fail_in items ≡ replicate n 0 = ap (λ es. map fail_in es) all_vacant ∙ map-replicate fail_in n vacant in
-        subst Q (sym none) (subst F (sym fails) (subst P (sym elements) (empty_leftmost-valid V n whole some)))
+        subst Q (sym none) (subst F (sym fails) (subst P (sym elements) (empty_leftmost-valid V n whole some few)))

@@ -1,5 +1,5 @@
 -- Parts that hold the trie of a dictionary are valid and hold the dictionary: a copy of the trie is right, and what an element holds is in range, since it is a state's or vacant.
-use Rattle.std.proofs.Common.{◌≡◌, ℕ, ◌-◌, ◌%◌, ◌<◌, ◌≤◌, List, length, get_or, refl, sym, ◌∙◌, subst, arith}
+use Rattle.std.proofs.Common.{◌≡◌, ℕ, ◌-◌, ◌%◌, ◌^◌, ◌<◌, ◌≤◌, List, length, get_or, refl, sym, ◌∙◌, subst, arith}
 use Rattle.std.specs.Ordering.{nat_cmp}
 use Rattle.std.proofs.lemmas.List.{length-map}
 use Rattle.daachorse_core.specs.declared.outputs.Output.{Output}
@@ -58,10 +58,14 @@ module _ {A V : Type 0} {gs : List (SiblingGroup A)} {l : Layout} {edges : List 
   copy : IsCopy (trie_of edges fails positions) outputs (machine parts) (λ t. get_or l.idx t 0)
   copy = packed-IsCopy p kind outputs n
 
-  pub packed-IsValid : n ≡ length edges - 1 → IsValid parts
-  packed-IsValid counted = record {
+  pub packed-IsValid : length es < 2 ^ 32 → length outputs < 2 ^ 32 → n ≡ length edges - 1 → IsValid parts
+  packed-IsValid few few_outputs counted = record {
     blocks = subst (λ (x : ℕ). x % 256 ≡ 0) (sym (parts-count es outputs n kind ∙ p.held.size ∙ p.settled.sizes.elements)) (mul-mod_left l.blocks 256);
     some = subst (λ (x : ℕ). 0 < x) (sym (parts-count es outputs n kind)) (subst (λ (x : ℕ). 0 < x) (sym p.held.size) (some-elements p.settled));
+    few = record {
+      elements = subst (λ (x : ℕ). x < 2 ^ 32) (sym (parts-count es outputs n kind)) few;
+      outputs = subst (λ (os : List (Output V)). length os < 2 ^ 32) (sym (parts-outputs es outputs n kind)) few_outputs;
+    };
     shape = parts-shape kind es outputs n;
     inside = inside_at;
     parents_fall = subst (λ (os : List (Output V)). ParentsFall os) (sym (parts-outputs es outputs n kind)) holds.parents_fall;

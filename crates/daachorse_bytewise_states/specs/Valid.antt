@@ -1,5 +1,5 @@
 -- Which parts are those of an automaton, and what a search sees of them.
-use Rattle.std.specs.Prelude.{◌≡◌, ℕ, ◌<◌, ◌≤◌, ◌%◌, Bool, true, false, List, [], length, slice_index, unwrap_or, Option}
+use Rattle.std.specs.Prelude.{◌≡◌, ℕ, ◌<◌, ◌≤◌, ◌%◌, ◌^◌, Bool, true, false, List, [], length, slice_index, unwrap_or, Option}
 use Rattle.std.proofs.Common.{arith, refl}
 use Rattle.daachorse_core.specs.Outputs.{outputs_at, ParentsFall}
 use Rattle.daachorse_model.specs.declared.MatchKind.TheVariants.{Standard}
@@ -21,10 +21,16 @@ module _ {V : Type 0} (p : Parts V) where
     pub fail : fail_of p i < count p
     pub output : output_of p i ≤ length p.outputs
 
+  -- a number of 32 bits counts the elements, and so the links, and one counts the outputs
+  pub record AreFew : Type 0 where
+    pub elements : count p < 2 ^ 32
+    pub outputs : length p.outputs < 2 ^ 32
+
   pub record IsValid : Type 0 where
     -- whole blocks, at least one
     pub blocks : count p % 256 ≡ 0
     pub some : 0 < count p
+    pub few : AreFew
     pub shape : HasShape (is_leftmost p.kind)
     pub inside : (i : ℕ) → i < count p → IsInside i
     pub parents_fall : ParentsFall p.outputs

@@ -44,6 +44,7 @@ pub(crate) fn pack<V: Copy, A: Allocator + Copy>(
     requires links { (t : ℕ) → t < length (states_of nfa.now) → t ≢ 1 → slice_index (fails_of (states_of nfa.now)) t < length (states_of nfa.now) }
     requires outputs { (t : ℕ) → t < length (states_of nfa.now) → t ≢ 1 → slice_index (positions_of (states_of nfa.now)) t < 2 ^ 24 }
     ensures ok { IfOk result (λ elements. ArePackedOf (states_of nfa.now) elements.items) }
+    ensures few { IfOk result (λ elements. length elements.items < 2 ^ 32) }
     ensures err { IfErr result (IsRefusal ⊥ NumElements (HasManyGroups (λ b. b) 256 (states_of nfa.now))) }
 {
     let groups = byte_groups(alloc, nfa)?;
@@ -84,6 +85,7 @@ fn write_states<V: Copy, A: Allocator + Copy>(
     requires links { (t : ℕ) → t < length states.now → t ≢ 1 → slice_index (fails_of states.now) t < length states.now }
     requires outputs { (t : ℕ) → t < length states.now → t ≢ 1 → slice_index (positions_of states.now) t < 2 ^ 24 }
     ensures ok { IfOk result (λ elements. HoldStates helper.now (edges_of states.now) (fails_of states.now) (positions_of states.now) elements.items) }
+    ensures few { IfOk result (λ elements. length elements.items < 2 ^ 32) }
     ensures err { IfErr result IsOutOfMemory }
 {
     let labels = labels(alloc, states)?;
@@ -147,6 +149,7 @@ fn vacant_elements<A: Allocator + Copy>(
     requires block { helper.now.block ≡ 256 }
     requires sizes { length helper.now.used ≡ helper.now.blocks * 256 }
     ensures ok { IfOk result (λ elements. AreVacant helper.now elements.items) }
+    ensures few { IfOk result (λ elements. length elements.items < 2 ^ 32) }
     ensures err { IfErr result IsOutOfMemory }
 {
     let num_elements = helper.num_elements();

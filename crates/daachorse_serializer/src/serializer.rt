@@ -702,12 +702,13 @@ pub trait SerializableVec: Sized {
         ensures kept { Begins dst.old.items dst.new.items }
         ensures refused { IfErr result IsOutOfMemory };
 
-    /// Reads a value, and answers it with the bytes behind it.
+    /// Reads a value, and answers it with the bytes behind it. What was read may be written.
     ///
     /// # Errors
     /// Bytes that give no value, or out of memory.
     fn deserialize_from_slice<'a>(alloc: Self::Alloc, src: &'a [u8]) -> Result<(Self, &'a [u8])>
         ensures given { GivesView shape result (taken src.now) }
+        ensures again { IfOk result (λ r. can_write (shape r.0)) }
         ensures refused { IfErr result (IsReadRefusal own_refusal) };
 
     /// The greatest length of the value's form, in bytes, or `usize::MAX` where it is more.

@@ -9,7 +9,7 @@ use Rattle.daachorse_build.specs.Builders.{kind_of, outputs_of, states_of}
 use Rattle.daachorse_build.specs.Orders.{HoldLeftLinks, HoldLinks}
 use Rattle.daachorse_patterns.specs.Building.{Fit, IsRefusalWithin, Limits}
 use Rattle.daachorse_patterns.specs.Patterns.{texts_of}
-use Rattle.daachorse_patterns.proofs.BuiltLaws.{HasTexts-kept, finished_for, standard_or_not}
+use Rattle.daachorse_patterns.proofs.BuiltLaws.{HasTexts-kept, few_for, finished_for, standard_or_not}
 use Rattle.daachorse_patterns.proofs.RefusalLaws.{HasTexts-count, count_refused, outputs_refused}
 use Rattle.daachorse_patterns.proofs.trie.build_trie.Goals as goal
 
@@ -64,7 +64,7 @@ returns-clause-ok g c =
     let texts = HasTexts-kept cmp unit width o b rs linked.kept linked.kind linked.patterns added.ok in
     let bound = made.kept_bound texts.labels texts.registered in
     let few : IfSome c.args.max_patterns (λ n. length (outputs_of d) ≤ n) = IfSome_then c.args.max_patterns c.in_ok-check_count.ensures.ok (λ n low. omega (arith, low, bound, linked.patterns, c.num_patterns.ensures)) in
-    finished_for cmp unit width g.met.L.Ord.total c.args.max_patterns c.args.kind o b d c.in_ok-order.order.items (added.kind ∙ old) added.fits linked.kept linked.kind linked.patterns linked.root linked.standard linked.left made.kept made.kind made.patterns made.fails made.parents few made.positions made.follows rs added.ok
+    finished_for cmp unit width g.met.L.Ord.total c.args.max_patterns c.args.kind o b d c.in_ok-order.order.items (added.kind ∙ old) added.fits linked.kept linked.kind linked.patterns linked.root linked.standard linked.left made.kept made.kind made.patterns made.fails made.parents (few_for c.args.max_patterns (length (outputs_of d)) few made.few) made.positions made.follows rs added.ok
 
 pub returns-clause-few : goal.returns-clause-few
 returns-clause-few g c =

@@ -34,7 +34,7 @@ new-requires g c =
     let es = c.in_ok-elements.elements.items in
     let P : List (Output g.row.V.Denot) → Type 0 = λ os. IsValid (parts_of c.args.kind es os (length c.states.result.now - 1)) in
     let N : ℕ → Type 0 = λ n. IsValid (parts_of c.args.kind es (outputs_of c.args.nfa) (n - 1)) in
-    subst P (sym c.into_parts-states.ensures.outputs) (subst N (sym (ap length c.states.ensures)) (built-valid c.args.kind c.args.nfa c.requires.0 c.requires.1 es c.in_ok-elements.ensures.ok))
+    subst P (sym c.into_parts-states.ensures.outputs) (subst N (sym (ap length c.states.ensures)) (built-valid c.args.kind c.args.nfa c.requires.0 c.requires.1 es c.in_ok-elements.ensures.ok c.in_ok-elements.ensures.few))
 
 pub returns-clause-ok : goal.returns-clause-ok
 returns-clause-ok g c =

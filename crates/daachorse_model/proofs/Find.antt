@@ -7,11 +7,11 @@ use Rattle.daachorse_model.specs.declared.Match.{Match}
 use Rattle.daachorse_model.specs.Units.{size}
 use Rattle.daachorse_model.specs.Dictionary.{Dictionary}
 use Rattle.daachorse_model.specs.Matches.{matches_of, at_each_end, ending_at, matches_after, no_suffix, empty_matches, standard_from, standard}
-use Rattle.daachorse_model.specs.Laws.{IsOccurrence, Follows, IsLongestAtStart}
+use Rattle.daachorse_model.specs.Laws.{IsOccurrence, Follows}
 use Rattle.daachorse_model.proofs.Suffixes.{size-append}
 use Rattle.daachorse_model.proofs.Occur.{matches_occur, ending_occur}
 use Rattle.daachorse_model.specs.Leftmost.{leftmost}
-use Rattle.daachorse_model.proofs.Longest.{leftmost_longest}
+use Rattle.daachorse_model.proofs.Longest.{IsFoundAtStart, leftmost_found}
 use Rattle.daachorse_model.proofs.Overlap.{Follows-earlier, longest_key-begins}
 use Rattle.daachorse_model.proofs.Searches.{first_or}
 
@@ -104,9 +104,9 @@ module _ {V : Type 0} (width : ℕ → ℕ) (K : Dictionary V) (h : List ℕ) wh
 -- a leftmost match is an occurrence too
 pub leftmost_occur : {V : Type 0} (width : ℕ → ℕ) (K : Dictionary V) (h : List ℕ) → All (IsOccurrence width K h) (leftmost width K h)
 leftmost_occur width K h =
-    All-weaker (IsLongestAtStart width K h) (IsOccurrence width K h) occurs (leftmost width K h) (leftmost_longest width K h)
+    All-weaker (IsFoundAtStart width K h) (IsOccurrence width K h) occurs (leftmost width K h) (leftmost_found width K h)
   where
-    occurs : (m : Match _) → IsLongestAtStart width K h m → IsOccurrence width K h m
+    occurs : (m : Match _) → IsFoundAtStart width K h m → IsOccurrence width K h m
     occurs m l =
         let b = longest_key-begins K [] l.rest (l.key, m.value) l.longest in
         record {

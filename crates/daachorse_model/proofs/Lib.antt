@@ -20,6 +20,7 @@ pub mod SameOnText
 pub mod SameSearches
 pub mod Find
 pub mod Listings
+pub mod PrefixCounts
 pub mod BestLemmas
 pub mod BestMatches
 pub mod StandardEnds

@@ -6,9 +6,10 @@ use Rattle.daachorse_model.specs.Units.{byte_width}
 use Rattle.daachorse_model.specs.Dictionary.{dictionary, kept}
 use Rattle.daachorse_model.specs.Matches.{overlapping, standard, matches_after, standard_after}
 use Rattle.daachorse_model.specs.Leftmost.{leftmost}
-use Rattle.daachorse_model.specs.Prefixes.{listing, prefixes, long, link, cut, left_fail, begins_entry}
+use Rattle.daachorse_model.specs.Prefixes.{HasPrefixes, listing, long, link, cut, left_fail, begins_entry}
 use Rattle.daachorse_model.specs.Filter.{next_position, filter_entry}
 use Rattle.daachorse_model.specs.Program.{numbered, pattern_lines, match_text}
+use Rattle.daachorse_model.proofs.PrefixCounts.{prefixes-is}
 use Rattle.daachorse_model.proofs.Rows.{found, patterns}
 
 same_text_twice_listing : listing {V = ℕ} ((codes "ab", 0) ∷ (codes "a", 1) ∷ (codes "ab", 2) ∷ [])
@@ -25,15 +26,15 @@ bytes_listing = refl
 leftmost_first_listing : listing five ≡ (codes "a", 1) ∷ (codes "ab", 0) ∷ []
 leftmost_first_listing = refl
 
-leftmost_first_states : length (prefixes five) ≡ 3
-leftmost_first_states = refl
+leftmost_first_states : HasPrefixes (dictionary LeftmostFirst (numbered 0 (codes "ab" ∷ codes "a" ∷ codes "abcd" ∷ []))) 3
+leftmost_first_states = prefixes-is five
 
 characters_listing : listing (numbered 0 (codes "全世界" ∷ codes "世界" ∷ codes "に" ∷ []))
     ≡ (codes "に", 2) ∷ (codes "世界", 1) ∷ (codes "全世界", 0) ∷ []
 characters_listing = refl
 
-states_row : length (prefixes (numbered 0 (codes "abba" ∷ codes "baaba" ∷ codes "ababa" ∷ []))) ≡ 13
-states_row = refl
+states_row : HasPrefixes (patterns Standard (codes "abba" ∷ codes "baaba" ∷ codes "ababa" ∷ [])) 13
+states_row = prefixes-is (numbered 0 (codes "abba" ∷ codes "baaba" ∷ codes "ababa" ∷ []))
 
 abbrev aria : ℕ → ℕ
 aria = filter_entry (codes "aria" ∷ codes "iris" ∷ [])

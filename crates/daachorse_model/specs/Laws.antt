@@ -1,9 +1,8 @@
 -- What the lists of matches promise, in the words of the subject.
-use Rattle.std.specs.Prelude.{◌≡◌, ℕ, ◌+◌, ◌≤◌, List, [], ◌∷◌, ◌++◌, Contains, ⊤, Some, find}
+use Rattle.std.specs.Prelude.{◌≡◌, ◌≢◌, ℕ, ◌+◌, ◌≤◌, List, [], ◌∷◌, ◌++◌, length, Contains, ⊤, Some, find, slice_get}
 use Rattle.daachorse_model.specs.declared.Match.{Match}
 use Rattle.daachorse_model.specs.Units.{size}
 use Rattle.daachorse_model.specs.Dictionary.{Dictionary, is_prefix}
-use Rattle.daachorse_model.specs.Leftmost.{longest_key}
 
 -- the haystack has a key where the match says, and the match has one of its values
 pub record IsOccurrence {V : Type 0} (width : ℕ → ℕ) (K : Dictionary V) (h : List ℕ) (m : Match V) : Type 0 where
@@ -23,12 +22,13 @@ Follows s (m ∷ ms) = (s ≤ m.start) × (m.start ≤ m.end) × Follows m.end m
 -- the match is the longest key that occurs at its start, with the first value of that key
 pub record IsLongestAtStart {V : Type 0} (width : ℕ → ℕ) (K : Dictionary V) (h : List ℕ) (m : Match V) : Type 0 where
   pub before : List ℕ
-  pub rest : List ℕ
   pub key : List ℕ
-  pub splits : h ≡ before ++ rest
+  pub after : List ℕ
+  pub splits : h ≡ before ++ (key ++ after)
   pub starts : m.start ≡ size width before
-  pub longest : longest_key K [] rest ≡ Some (key, m.value)
   pub ends : m.end ≡ m.start + size width key
+  pub value : slice_get (K key) 0 ≡ Some m.value
+  pub longest : (k rest : List ℕ) → key ++ after ≡ k ++ rest → K k ≢ [] → length k ≤ length key
 
 -- the match is the earliest registration whose text occurs at its start
 pub record IsEarliestAtStart {V : Type 0} (width : ℕ → ℕ) (registrations : List (List ℕ × V)) (h : List ℕ) (m : Match V) : Type 0 where

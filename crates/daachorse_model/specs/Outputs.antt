@@ -1,5 +1,5 @@
 -- The outputs of a state: the values of its text and of the ends of it, each with the size of its key.
-use Rattle.std.specs.Prelude.{ℕ, ◌-◌, ◌≤◌, List, [], ◌∷◌, ◌++◌, map, Option, Some, None}
+use Rattle.std.specs.Prelude.{ℕ, ◌-◌, ◌≤◌, List, [], ◌∷◌, ◌++◌, map}
 use Rattle.std.specs.List.{AllByRecursion}
 use Rattle.daachorse_model.specs.declared.Match.{Match}
 use Rattle.daachorse_model.specs.Units.{size}
@@ -13,11 +13,6 @@ matches_of_outputs place outputs = map (λ o. record { start = place - o.1; end 
 -- no output is longer than the place where it ends
 abbrev pub AllWithin : {V : Type 0} → ℕ → List (V × ℕ) → Type 0
 AllWithin place outputs = AllByRecursion (λ o. o.1 ≤ place) outputs
-
--- the outputs from a position, where there is one
-abbrev pub outputs_from : {V : Type 0} → (ℕ → List (V × ℕ)) → Option ℕ → List (V × ℕ)
-outputs_from outputs None = []
-outputs_from outputs (Some position) = outputs position
 
 module _ {V : Type 0} (width : ℕ → ℕ) (K : Dictionary V) where
   -- the own outputs of a text: its values

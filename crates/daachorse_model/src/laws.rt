@@ -7,7 +7,7 @@ ghost use Rattle.daachorse_model.specs.Units.{byte_width, char_width};
 ghost use Rattle.daachorse_model.specs.Dictionary.{kept, dictionary, in_bytes};
 ghost use Rattle.daachorse_model.specs.Matches.{overlapping, no_suffix, standard, at_each_end, standard_after};
 ghost use Rattle.daachorse_model.specs.Leftmost.{leftmost};
-ghost use Rattle.daachorse_model.specs.Laws.{IsOccurrence, Follows, IsEarliestAtStart};
+ghost use Rattle.daachorse_model.specs.Laws.{IsOccurrence, Follows, IsLongestAtStart, IsEarliestAtStart};
 
 use crate::MatchKind;
 
@@ -30,6 +30,13 @@ pub fn matches_occur<V: Copy>(kind: MatchKind)
 pub fn matches_follow<V: Copy>(kind: MatchKind)
     ensures standard { (width : ℕ → ℕ) (patterns : List (List ℕ × V)) (h : List ℕ) → Follows 0 (standard width (dictionary kind patterns) h) }
     ensures leftmost { (width : ℕ → ℕ) (patterns : List (List ℕ × V)) (h : List ℕ) → Follows 0 (leftmost width (dictionary kind patterns) h) }
+{}
+
+/// Each leftmost match is the longest kept pattern that occurs at its start, with the value that was
+/// registered first for it. `LeftmostLongest` keeps every pattern.
+pub fn leftmost_is_longest<V: Copy>(kind: MatchKind)
+    ensures { (width : ℕ → ℕ) (patterns : List (List ℕ × V)) (h : List ℕ)
+        → let K = dictionary kind patterns in All (IsLongestAtStart width K h) (leftmost width K h) }
 {}
 
 /// `LeftmostFirst` reports at a start the earliest registered pattern that occurs there,

@@ -30,8 +30,8 @@ returns-in_err-check_count-clause-err g c =
     let p = err_from_is_err_and c.from_residual-in_err-check_count.result c.from_residual-in_err-check_count.ensures.1 in
     rw (p.1, p.2) (count_refused width (record { patterns = c.args.max_patterns; parents = None }) c.args.kind rs c.num_patterns.result c.in_err-check_count.field-0.0 count (subst F old added.fit) c.in_err-check_count.ensures.err)
 
-pub build_outputs-requires-clause-links : goal.build_outputs-requires-clause-links
-build_outputs-requires-clause-links g c =
+pub build_outputs-requires : goal.build_outputs-requires
+build_outputs-requires g c =
     let states = states_of c.build_links.new.nfa in
     let P : List ℕ → Type 0 = λ order. HoldLinks g.L.Ord.cmp states order ⊎ HoldLeftLinks g.L.Ord.cmp true states order in
     subst P (sym c.deref.ensures.value) (elim (standard_or_not c.args.kind) [

@@ -1,5 +1,5 @@
 -- The rules can be met: an automaton without patterns, whose elements are all vacant.
-use Rattle.std.proofs.Common.{◌≡◌, ℕ, ◌/◌, ◌<◌, ◌≤◌, max, [], ◌∷◌, length, Option, Some, None, refl, sym, ap, subst, arith, slice_index_or}
+use Rattle.std.proofs.Common.{◌≡◌, ℕ, ◌/◌, ◌^◌, ◌<◌, ◌≤◌, max, [], ◌∷◌, length, Option, Some, None, refl, sym, ap, subst, arith, slice_index_or}
 use Rattle.std.specs.Prelude.{option_and_then}
 use Rattle.std.proofs.Math.ListN.{replicate}
 use Rattle.std.proofs.lemmas.List.{length-replicate}
@@ -8,6 +8,7 @@ use Rattle.daachorse_model.specs.Kinds.{is_leftmost}
 use Rattle.daachorse_model.specs.Units.{char_width}
 use Rattle.daachorse_machine.proofs.ChildlessLaws.{childless-counted, childless-right, replicate-at}
 use Rattle.daachorse_mapper.specs.Codings.{Coding, IsCoding, IsCodingOf, code_of}
+use Rattle.daachorse_mapper.specs.Written.{IsCountable}
 use Rattle.daachorse_charwise_states.specs.declared.state.State.{State}
 use Rattle.daachorse_charwise_states.specs.Elements.{base_in, check_in, output_in, vacant}
 use Rattle.daachorse_charwise_states.specs.Parts.{Parts, base_of, child, child_among, child_by, count, fail_of, machine, output_of}
@@ -25,13 +26,14 @@ module _ (V : Type 0) (kind : MatchKind) (n : ℕ) (coding : Coding) where
       go None = refl
       go (Some c) = ap (λ (e : State). child_by (count empty) (λ j. check_in (slice_index_or (replicate n vacant) j vacant)) i (base_in e) c) (replicate-at n i vacant)
 
-  pub empty-valid : IsCoding coding → HasBlocks coding n → 1 < n → IsValid empty
-  empty-valid is blocks two =
+  pub empty-valid : IsCoding coding → IsCountable coding → HasBlocks coding n → 1 < n → n < 2 ^ 32 → IsValid empty
+  empty-valid is codes blocks two few =
       let len : length (replicate n vacant) ≡ n = length-replicate n vacant in
       let H : ℕ → Type 0 = λ k. HasBlocks coding k in
       record {
         blocks = subst H (sym len) blocks;
         some = omega (arith, two, len);
+        few = record { elements = omega (arith, few, len); outputs = omega arith; codes = codes };
         coding = is;
         inside = λ i h.
             let at = replicate-at n i vacant in
@@ -52,4 +54,4 @@ two_vacant-valid V kind coding d is of =
     let half : 2 / 2 < max 1 (max 2 coding.alphabet_size) = omega (arith, one) in
     let blocks : HasBlocks coding 2 = record { block = 2; power = ((1, refl), least, half); fits = omega arith; whole = refl } in
     let P : State → Type 0 = λ e. IsValid (parts_of {V = V} kind (e ∷ e ∷ []) coding [] 1) in
-    subst P (sym is) (empty-valid V kind 2 coding of.coding blocks (omega arith))
+    subst P (sym is) (empty-valid V kind 2 coding of.coding (omega (arith, of.entries)) blocks (omega arith) (omega arith))

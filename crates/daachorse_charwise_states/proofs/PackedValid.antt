@@ -1,5 +1,5 @@
 -- Parts that hold the trie of a builder are valid, and hold the builder's dictionary: a copy of the trie is right.
-use Rattle.std.proofs.Common.{◌≡◌, ℕ, ◌-◌, ◌*◌, ◌%◌, ◌<◌, true, List, [], ◌∷◌, ◌++◌, length, get_or, None, sym, ap, ◌∙◌, subst, inl, inr, append_assoc, arith}
+use Rattle.std.proofs.Common.{◌≡◌, ℕ, ◌-◌, ◌*◌, ◌%◌, ◌^◌, ◌<◌, true, List, [], ◌∷◌, ◌++◌, length, get_or, None, sym, ap, ◌∙◌, subst, inl, inr, append_assoc, arith}
 use Rattle.std.specs.Prelude.{is_some, max}
 use Rattle.std.specs.Int.{IsNextPowerOfTwo}
 use Rattle.std.specs.Ordering.{nat_cmp}
@@ -18,6 +18,7 @@ use Rattle.daachorse_build.proofs.Walks.{walk-push}
 use Rattle.daachorse_machine.specs.Copies.{IsCopy}
 use Rattle.daachorse_machine.proofs.CopyLaws.{content-same, copy-counted, copy-right}
 use Rattle.daachorse_mapper.specs.Codings.{Coding, IsCoding, code_of}
+use Rattle.daachorse_mapper.specs.Written.{IsCountable}
 use Rattle.daachorse_packing.specs.Settled.{trie_of}
 use Rattle.daachorse_packing.proofs.BuiltLaws.{built-count, built-holds, built-text}
 use Rattle.daachorse_packing.proofs.Held.{held-in_range, settled-states}
@@ -72,14 +73,15 @@ module _ {V A : Type 0} (kind : MatchKind) (b : NfaBuilder ℕ V A) (K : Diction
         }
 
     -- they are those of an automaton
-    pub built-valid : IsNextPowerOfTwo (max 2 coding.alphabet_size) block → block < 4294967296 → IsValid (parts (length (states_of b) - 1))
-    built-valid least fits =
+    pub built-valid : IsNextPowerOfTwo (max 2 coding.alphabet_size) block → block < 4294967296 → length es < 2 ^ 32 → IsCountable coding → IsValid (parts (length (states_of b) - 1))
+    built-valid least fits few codes =
         let trie = trie_of (edges_of (states_of b)) (fails_of (states_of b)) (positions_of (states_of b)) in
         let n = length (states_of b) - 1 in
         let size : length es ≡ p.layout.blocks * block = p.held.size ∙ p.settled.sizes.elements in
         record {
           blocks = record { block = block; power = least; fits = fits; whole = ap (λ m. m % block) size ∙ mul-mod_left p.layout.blocks block };
           some = (let some : 0 < length p.layout.used = some-elements p.settled in omega (arith, some, p.held.size));
+          few = record { elements = few; outputs = omega (arith, built.few_outputs); codes = codes };
           coding = is;
           inside = inside_at n;
           parents_fall = (built-holds char_width None kind b K built).parents_fall;

@@ -1,5 +1,5 @@
 -- Which parts are those of an automaton, and what a search sees of them.
-use Rattle.std.specs.Prelude.{◌≡◌, ℕ, ◌<◌, ◌≤◌, ◌%◌, Bool, max, List, [], length, is_some}
+use Rattle.std.specs.Prelude.{◌≡◌, ℕ, ◌<◌, ◌≤◌, ◌%◌, ◌^◌, Bool, max, List, [], length, is_some}
 use Rattle.std.specs.Int.{IsNextPowerOfTwo}
 use Rattle.std.proofs.Common.{arith, refl}
 use Rattle.daachorse_core.specs.Outputs.{outputs_at, ParentsFall}
@@ -8,6 +8,7 @@ use Rattle.daachorse_model.specs.Units.{char_width}
 use Rattle.daachorse_machine.specs.Machines.{IsCounted, IsRight, dead_in}
 use Rattle.daachorse_machine.specs.Texts.{IsReached, text_of}
 use Rattle.daachorse_mapper.specs.Codings.{Coding, IsCoding, code_of}
+use Rattle.daachorse_mapper.specs.Written.{IsCountable}
 use Rattle.daachorse_charwise_states.specs.Parts.{Parts, base_of, child, count, fail_of, machine, output_of}
 
 -- n elements are whole blocks. A block is as long as the least power of two that is at least 2 and at least the size of the alphabet, which is a number of 32 bits.
@@ -24,10 +25,17 @@ module _ {V : Type 0} (p : Parts V) where
     pub fail : fail_of p i < count p
     pub output : output_of p i ≤ length p.outputs
 
+  -- a number of 32 bits counts the elements, one the outputs, and one the entries of the table of codes
+  pub record AreFew : Type 0 where
+    pub elements : count p < 2 ^ 32
+    pub outputs : length p.outputs < 2 ^ 32
+    pub codes : IsCountable p.coding
+
   pub record IsValid : Type 0 where
     -- whole blocks, at least one
     pub blocks : HasBlocks p.coding (count p)
     pub some : 0 < count p
+    pub few : AreFew
     pub coding : IsCoding p.coding
     pub inside : (i : ℕ) → i < count p → IsInside i
     pub parents_fall : ParentsFall p.outputs

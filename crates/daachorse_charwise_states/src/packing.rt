@@ -49,6 +49,7 @@ pub(crate) fn pack<V: Copy, A: Allocator + Copy>(
     requires power { IsPowerOfTwo block_len }
     requires block { (2 ≤ block_len) × (mapper.now.alphabet_size ≤ block_len) }
     ensures ok { IfOk result (λ elements. ArePackedOf mapper.now block_len (states_of nfa.now) elements.items) }
+    ensures few { IfOk result (λ elements. length elements.items < 2 ^ 32) }
     ensures err { IfErr result (IsRefusal ⊥ NumElements (HasManyGroups (code_in mapper.now) block_len (states_of nfa.now))) }
 {
     let groups = coded_groups(alloc, nfa, mapper)?;
@@ -89,6 +90,7 @@ fn write_states<V: Copy, A: Allocator + Copy>(
     requires settled { (code : ℕ → ℕ) × (block : ℕ) × AreSettled code block false groups.now helper.now (edges_of states.now) }
     requires links { (t : ℕ) → t < length states.now → t ≢ 1 → slice_index (fails_of states.now) t < length states.now }
     ensures ok { IfOk result (λ elements. HoldElements helper.now (edges_of states.now) (fails_of states.now) (positions_of states.now) elements.items) }
+    ensures few { IfOk result (λ elements. length elements.items < 2 ^ 32) }
     ensures err { IfErr result IsOutOfMemory }
 {
     let mut elements = vec![in alloc; State::default(); helper.num_elements() as usize]?;

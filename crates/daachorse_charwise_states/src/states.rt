@@ -13,6 +13,7 @@ ghost use Rattle.daachorse_model.specs.Kinds.{is_leftmost};
 ghost use Rattle.daachorse_model.specs.Paths.{is_reached};
 ghost use Rattle.daachorse_model.specs.Prefixes.{HasPrefixes, PassesAt};
 ghost use Rattle.daachorse_mapper.specs.Codings.{IsCoding};
+ghost use Rattle.daachorse_mapper.specs.Written.{IsCountable};
 ghost use Rattle.daachorse_charwise_states.specs.Packing.{AreCoded, IsBuiltFor, NeedsManyBlocks};
 ghost use Rattle.daachorse_charwise_states.specs.Parts.{base_of, check_of, child, content, count, fail_of, output_of};
 
@@ -66,7 +67,7 @@ impl<V: Copy, A: Allocator> Model for States<V, A> {
 
 impl<V: Copy, A: Allocator + Copy> States<V, A> {
     /// The automaton of a builder whose links and outputs are built, for searches of this kind. The
-    /// mapper has a code for each character of a pattern.
+    /// mapper has a code for each character of a pattern, and at most 4,294,967,295 entries.
     ///
     /// # Errors
     ///
@@ -81,6 +82,7 @@ impl<V: Copy, A: Allocator + Copy> States<V, A> {
     ) -> Result<Self>
         requires built { (K : Dictionary V) × IsBuiltFor kind nfa K × AreCoded mapper K }
         requires coding { IsCoding mapper }
+        requires codes { IsCountable mapper }
         requires block { mapper.alphabet_size ≤ 2 ^ 31 }
         ensures ok { IfOk result (λ s. (K : Dictionary V) → IsBuiltFor kind nfa K → (w : List ℕ) → content s w ≡ K w) }
         ensures kind { IfOk result (λ s. s.kind ≡ kind) }

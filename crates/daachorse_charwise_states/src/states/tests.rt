@@ -4,6 +4,7 @@ ghost use Rattle.std.specs.Prelude.{◌≡◌, ◌<◌, ℕ, length, slice_index
 ghost use Rattle.std.specs.List.{AllByRecursion};
 ghost use Rattle.daachorse_model.specs.declared.MatchKind.TheVariants.{Standard};
 ghost use Rattle.daachorse_mapper.specs.Codings.{IsCoding, code_of};
+ghost use Rattle.daachorse_mapper.specs.Written.{IsCountable};
 ghost use Rattle.daachorse_patterns.specs.Patterns.{texts_of};
 
 use crate::state::State;
@@ -67,7 +68,8 @@ fn frequencies(alloc: Global, patvals: &[(Characters<'_>, u32)]) -> Result<Vec<u
 
 /// The mapper for these frequencies.
 fn mapper_of(alloc: Global, patvals: &[(Characters<'_>, u32)]) -> Result<CodeMapper>
-    ensures { IfOk result IsCoding }
+    ensures coding { IfOk result IsCoding }
+    ensures codes { IfOk result IsCountable }
 {
     let freqs = frequencies(alloc, patvals)?;
     if freqs.len() > u32::MAX as usize {

@@ -1,5 +1,5 @@
 -- The codes are those of all patterns, so each character of a key has one; a refusal of the elements comes last.
-use Rattle.std.proofs.Common.{ℕ, List, map, sym, subst}
+use Rattle.std.proofs.Common.{ℕ, List, length, map, ap, sym, subst, arith}
 use Rattle.std.proofs.lemmas.Result.{err_from_is_err_and}
 use Rattle.daachorse_model.specs.Dictionary.{Dictionary, dictionary}
 use Rattle.daachorse_mapper.specs.Codings.{Coding, IsCodingOf}
@@ -15,6 +15,11 @@ build-requires-clause-built g c =
     let P : List ℕ → Type 0 = λ freqs. IsCodingOf freqs c.in_ok-mapper.mapper in
     let codes = subst P c.deref.ensures.value c.in_ok-mapper.ensures.ok in
     (K, c.in_ok-nfa.ensures.ok, coded_keys c.args.patterns.now c.in_ok-freqs.freqs.items c.in_ok-mapper.mapper c.in_ok-freqs.ensures.ok codes c.args.kind)
+
+pub build-requires-clause-codes : goal.build-requires-clause-codes
+build-requires-clause-codes g c =
+    let entries = c.in_ok-mapper.ensures.ok.entries in let few = c.in_ok-freqs.ensures.ok.few in
+    omega (arith, entries, few, ap length c.deref.ensures.value)
 
 pub returns-in_err-states-clause-err : goal.returns-in_err-states-clause-err
 returns-in_err-states-clause-err g c =

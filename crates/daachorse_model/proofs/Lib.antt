@@ -21,5 +21,6 @@ pub mod SameSearches
 pub mod Find
 pub mod Listings
 pub mod BestLemmas
+pub mod Cuts
 pub mod BestMatches
 pub mod StandardEnds

@@ -1,6 +1,6 @@
 -- What is read of the parts that a view borrows, element by element.
-use Rattle.std.proofs.Common.{◌≡◌, ◌≢◌, ℕ, ◌<◌, Bool, false, length, Option, Some, None, sym, ap, ◌∙◌, subst, arith, slice_index_or}
-use Rattle.std.specs.Prelude.{MatchOption}
+use Rattle.std.proofs.Common.{◌≡◌, ◌≢◌, ℕ, ◌<◌, Bool, true, false, length, Option, Some, None, sym, ap, ◌∙◌, subst, arith, slice_index_or}
+use Rattle.std.specs.Prelude.{MatchOption, is_some}
 use Rattle.std.proofs.lemmas.List.{get_or_default}
 use Rattle.daachorse_model.specs.Kinds.{is_leftmost}
 use Rattle.daachorse_model.specs.Units.{char_width}
@@ -54,6 +54,6 @@ module _ {V : Type 0} (q p : Parts V) (leftmost : Bool) (is : q ≡ p) (kept : I
       standard-alive _ _ _ _ _ view_machine i r other (none_dead char_width (machine p) p.kind kind) (at ∙ one)
 
   -- what the table has for a character
-  pub view_label : (u : ℕ) (o : Option ℕ) → o ≡ code_of q.coding u → MatchOption o ((has_code p u ≡ false) × IsForeign (content p) u) (λ c. code_of p.coding u ≡ Some c)
+  pub view_label : (u : ℕ) (o : Option ℕ) → o ≡ code_of q.coding u → MatchOption o ((has_code p u ≡ false) × IsForeign (content p) u) (λ c. (code_of p.coding u ≡ Some c) × (has_code p u ≡ true))
   view_label u None e = foreign_char p view_valid u (sym (e ∙ ap (λ x. code_of x.coding u) is))
-  view_label u (Some c) e = sym (e ∙ ap (λ x. code_of x.coding u) is)
+  view_label u (Some c) e = let has : code_of p.coding u ≡ Some c = sym (e ∙ ap (λ x. code_of x.coding u) is) in (has, ap is_some has)

@@ -22,5 +22,6 @@ pub mod Find
 pub mod Listings
 pub mod PrefixCounts
 pub mod BestLemmas
+pub mod Cuts
 pub mod BestMatches
 pub mod StandardEnds

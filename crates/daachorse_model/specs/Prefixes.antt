@@ -66,9 +66,9 @@ module _ {V : Type 0} (K : Dictionary V) where
   IsLeftFail w None = IsDead w
   IsLeftFail w (Some s) = IsLink w s × ¬ StartsBefore w s
 
-  -- the state of a leftmost search after w
+  -- the state of a leftmost search after w: its longest end, or the root where a key starts before that end
   abbrev pub IsCut : List ℕ → List ℕ → Type 0
-  IsCut w c = (IsLong w c × ¬ StartsBefore w c) ⊎ ((c ≡ []) × ((s : List ℕ) × IsLong w s × StartsBefore w s))
+  IsCut w c = (IsLong w c × ¬ StartsBefore w c) ⊎ ((c ≡ []) × ((s : List ℕ) → IsLong w s → StartsBefore w s))
 
   -- the keys in byte order, each with its values in order
   pub record IsListing (entries : List (List ℕ × V)) : Type 0 where

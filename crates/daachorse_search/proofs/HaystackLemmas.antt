@@ -4,6 +4,7 @@ use Rattle.std.specs.Iterator.{Count, IsFinite, MakesProgress, Yields, YieldsFir
 use Rattle.daachorse_model.specs.declared.Match.{Match}
 use Rattle.daachorse_model.specs.Units.{size}
 use Rattle.daachorse_model.proofs.Suffixes.{size-append}
+use Rattle.daachorse_search.specs.ByteSources.{Reads-yields}
 use Rattle.daachorse_search.specs.Sources.{IsReady, past_each_end}
 use Rattle.daachorse_search.specs.Searches.{SourceProgress, Gave, Ended, GivesFrom}
 use Rattle.daachorse_search.specs.Matches.{Progress, matches_left, Fits}
@@ -33,9 +34,9 @@ module _ {S U : Type 0} (steps : S → Option U → S → Type 0) (unit : U → 
   IsReady-haystack can left width s place callable ends fits = record {
     callable = callable s;
     ends = ends s;
-    room = λ x. size width (rest x);
-    falls = λ x u t _ step _. omega (arith, ap (size width) (gives x (Some u) t step));
-    fits = fits;
+    fits = λ xs t reads.
+        let run = Reads-yields can steps left unit width s xs t reads in
+        omega (arith, fits, ap (size width) (rest-run s xs t run), size-append width (map unit xs) (rest t));
   }
 
   module _ {V A : Type 0} (found : A → List ℕ → List (Match V)) (left : S → Count) (width : ℕ → ℕ) where

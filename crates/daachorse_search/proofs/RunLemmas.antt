@@ -9,7 +9,8 @@ use Rattle.daachorse_model.specs.declared.Match.{Match}
 use Rattle.daachorse_model.specs.Matches.{at_each_end}
 use Rattle.daachorse_search.specs.Sources.{past_each_end}
 use Rattle.daachorse_search.specs.Searches.{SourceProgress, Gave, Ended, GivesFrom}
-use Rattle.daachorse_search.proofs.SourceLemmas.{Yields_append, at_each_end-split, past_each_end-append}
+use Rattle.daachorse_search.specs.ByteSources.{Yields_append}
+use Rattle.daachorse_search.proofs.SourceLemmas.{at_each_end-split, past_each_end-append}
 
 module _ {V A S U : Type 0} (found : A → List ℕ → List (Match V)) (steps : S → Option U → S → Type 0) (left : S → Count) (unit : U → ℕ) (width : ℕ → ℕ) where
   -- what a run from s gives, where its source then gives xs and ends

@@ -8,11 +8,8 @@ use Rattle.daachorse_model.specs.declared.Match.{Match}
 use Rattle.daachorse_model.specs.Units.{size, byte_width}
 use Rattle.daachorse_model.specs.Matches.{at_each_end}
 use Rattle.daachorse_model.proofs.Suffixes.{size-push}
+use Rattle.daachorse_search.specs.ByteSources.{Yields_append}
 use Rattle.daachorse_search.specs.Sources.{IsReady, past_each_end, ScansOver}
-
-pub Yields_append : {S A : Type 0} (steps : S → Option A → S → Type 0) (s : S) (xs : List A) (j : S) (ys : List A) (t : S) → Yields steps s xs j → Yields steps j ys t → Yields steps s (xs ++ ys) t
-Yields_append {S} steps s [] j ys t e run = let P : S → Type 0 = λ k. Yields steps k ys t in subst P (sym e) run
-Yields_append steps s (x ∷ xs) j ys t first run = (first.0, first.1, Yields_append steps first.0 xs j ys t first.2 run)
 
 pub Yields_push : {S A : Type 0} (steps : S → Option A → S → Type 0) (s : S) (xs : List A) (j : S) (x : A) (t : S) → Yields steps s xs j → steps j (Some x) t → Yields steps s (xs ++ x ∷ []) t
 Yields_push steps s xs j x t run step = Yields_append steps s xs j (x ∷ []) t run (t, step, refl)
@@ -46,19 +43,12 @@ module _ {S U : Type 0} (can : S → Type 0) (steps : S → Option U → S → T
       → after ≡ seen ++ unit u ∷ [] → IsReady can steps left unit width t (size width after)
   IsReady-more s u t seen after ready step goes read =
       let on = goes.on ready.ends in
-      let falls : width (unit u) + ready.room t ≤ ready.room s = ready.falls s u t ready.ends step goes in
       let place : size width after ≡ size width seen + width (unit u) = ap (size width) read ∙ size-push width seen (unit u) in
-      record { callable = on.0; ends = on.1; room = ready.room; falls = ready.falls; fits = omega (arith, falls, ready.fits, place) }
+      record { callable = on.0; ends = on.1; fits = λ xs rest run. omega (arith, ready.fits (u ∷ xs) rest (t, (step, goes), run), place) }
 
--- a source of bytes is ready where it may be called, and ends within the places
-pub IsReady-bytes : {S U : Type 0} (can : S → Type 0) (steps : S → Option U → S → Type 0) (left : S → Count) (unit : U → ℕ) (s : S) (place : ℕ) → can s → IsFinite (left s) → place + items_left left s < 2 ^ 64 → IsReady can steps left unit byte_width s place
-IsReady-bytes can steps left unit s place callable ends fits = record {
-  callable = callable;
-  ends = ends;
-  room = λ x. items_left left x;
-  falls = λ x u t finite _ goes. omega (arith, (goes.on finite).2);
-  fits = fits;
-}
+  -- and the place behind that unit fits
+  pub IsReady-next : (s : S) (u : U) (t : S) (place : ℕ) → IsReady can steps left unit width s place → steps s (Some u) t → MakesProgress can left s (Some u) t → place + width (unit u) < 2 ^ 64
+  IsReady-next s u t place ready step goes = omega (arith, ready.fits (u ∷ []) t (t, (step, goes), refl))
 
 module _ {V A W S U : Type 0} (automaton : W → A) (text : W → List ℕ) (found : A → List ℕ → List (Match V)) (steps : S → Option U → S → Type 0) (left : S → Count) (unit : U → ℕ) where
   pub ScansOver-first : (from : W) (source : S) → ScansOver automaton text found steps left unit from source [] from source

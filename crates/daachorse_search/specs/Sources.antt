@@ -1,30 +1,30 @@
 -- Sources of units: when a search may read one to its end, and what it took.
 use Rattle.std.specs.Prelude.{◌≡◌, ℕ, ◌+◌, ◌<◌, ◌≤◌, ◌^◌, List, [], ◌∷◌, ◌++◌, map, length, Option, Some, None}
 use Rattle.std.specs.Iterator.{Count, IsFinite, MakesProgress, Yields, items_left}
+use Rattle.std.specs.Iterator.Runs.{CountFits}
 use Rattle.std.specs.declared.num.NonZeroU32.{NonZeroU32}
 use Rattle.daachorse_model.specs.declared.Match.{Match}
+use Rattle.daachorse_model.specs.Units.{size}
 use Rattle.daachorse_model.specs.Matches.{at_each_end}
 
 -- A source with these ghost members, whose items stand for units.
 module _ {S U : Type 0} (can : S → Type 0) (steps : S → Option U → S → Type 0) (left : S → Count) (unit : U → ℕ) (width : ℕ → ℕ) where
-  -- `room` bounds the bytes that are still to come: a unit takes its width from it
-  abbrev pub IsRoom : (S → ℕ) → Type 0
-  IsRoom room = (s : S) (u : U) (t : S) → IsFinite (left s) → steps s (Some u) t → MakesProgress can left s (Some u) t → width (unit u) + room t ≤ room s
+  -- calls from s gave the items and led to t, each with progress
+  abbrev pub Reads : S → List U → S → Type 0
+  Reads = Yields (λ s r t. steps s r t × MakesProgress can left s r t)
 
-  -- the source may be called, ends, and ends at a place that fits
+  -- the source may be called, ends, and whatever is read of it ends at a place that fits
   pub record IsReady (source : S) (place : ℕ) : Type 0 where
     pub callable : can source
     pub ends : IsFinite (left source)
-    pub room : S → ℕ
-    pub falls : IsRoom room
-    pub fits : place + room source < 2 ^ 64
+    pub fits : (xs : List U) (rest : S) → Reads source xs rest → place + size width (map unit xs) < 2 ^ 64
 
--- Where these units were read, the source may be called, ends, and has at most as many items as there are places left. For sources of bytes, whose items take one place each.
-module _ {S : Type 0} (can : S → Type 0) (left : S → Count) where
+-- Where these units were read, the source may be called, ends, and gives no more items than there are places left: by the bound that it declares, or along each run. For sources of bytes, whose items take one place each.
+module _ {S : Type 0} (can : S → Type 0) (steps : S → Option ℕ → S → Type 0) (left : S → Count) where
   pub record MayRead (source : S) (read : List ℕ) : Type 0 where
     pub callable : can source
     pub ends : IsFinite (left source)
-    pub fits : length read + items_left left source < 2 ^ 64
+    pub fits : CountFits steps left (length read) source
 
 -- what f gives of each beginning of the haystack past t, the units read: w is still to read
 abbrev pub past_each_end : {A : Type 0} → (List ℕ → List A) → List ℕ → List ℕ → List A

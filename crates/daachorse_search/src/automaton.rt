@@ -2,12 +2,14 @@
 //!
 //! The layers above may rely on a step leading, in an automaton with no dead link, to the state of
 //! the longest end of the text that begins a key, and in a leftmost one to that of what may still
-//! become a match as early as the best so far; and on its turns: at most two, less what the state's text grew by, and at least
-//! one for a unit that some key has.
-ghost use Rattle.std.specs.Prelude.{◌≡◌, ◌+◌, ◌≤◌, ◌<◌, ℕ, Bool, false, List, [], ◌∷◌, ◌++◌, IfSome, MatchOption, IsTrue, ◌↔◌, length, if◌then◌else◌};
+//! become a match as early as the best so far, which is the cut of what was read; and on its turns:
+//! at most two, less what the state's text grew by, at least one for a unit with a label, and none
+//! for a unit without.
+
+ghost use Rattle.std.specs.Prelude.{◌≡◌, ◌+◌, ◌≤◌, ◌<◌, ℕ, Bool, false, true, List, [], ◌∷◌, ◌++◌, IfSome, MatchOption, IsTrue, ◌↔◌, length, if◌then◌else◌};
 ghost use Rattle.daachorse_model.specs.Dictionary.{Dictionary};
 ghost use Rattle.daachorse_model.specs.Best.{IsLeftmost, IsSteady, LeftSteps};
-ghost use Rattle.daachorse_model.specs.Prefixes.{IsLong};
+ghost use Rattle.daachorse_model.specs.Prefixes.{IsCut, IsLong};
 ghost use Rattle.daachorse_model.specs.Outputs.{IsChain};
 ghost use Rattle.daachorse_core.specs.Outputs.{number, value_of, length_of, parent_of};
 ghost use Rattle.daachorse_search.specs.Looks.{IsForeign, LookGives};
@@ -39,7 +41,7 @@ pub trait Automaton<V: Copy>: Drop {
     /// The texts whose link is dead: none of a standard automaton.
     ghost dead: { Self → List ℕ → Type 0 };
 
-    /// Whether some key has the unit.
+    /// Whether a unit has a label. Each unit of a key has one.
     ghost has_label: { Self → ℕ → Bool };
 
     /// The label stands for the unit.
@@ -64,10 +66,10 @@ pub trait Automaton<V: Copy>: Drop {
         requires { reached self.now state }
         ensures { IsTrue result ↔ (text self.now state ≡ []) };
 
-    /// The label of a unit. There is none only where no key has the unit.
+    /// The label of a unit, if it has one.
     fn label(&self, unit: Self::Unit) -> Option<Self::Label>
         ensures { MatchOption result ((has_label self.now (Self.Unit.unit unit) ≡ false) × IsForeign (content self.now) (Self.Unit.unit unit))
-            (λ label. labels self.now label (Self.Unit.unit unit)) };
+            (λ label. labels self.now label (Self.Unit.unit unit) × (has_label self.now (Self.Unit.unit unit) ≡ true)) };
 
     /// Looks at one state.
     fn turn(&self, state: u32, label: Self::Label, turns: &mut Turns) -> Look
@@ -100,8 +102,7 @@ pub trait Automaton<V: Copy>: Drop {
 }
 
 /// The state after one more unit; in a leftmost automaton the root where no match that goes on past
-/// the unit starts as early as the best so far. A unit that no key has leads to the root with no
-/// turn.
+/// the unit starts as early as the best so far. A unit with no label leads to the root with no turn.
 #[inline(always)]
 pub fn step<V: Copy, A: Automaton<V>>(
     automaton: &A,
@@ -115,8 +116,11 @@ pub fn step<V: Copy, A: Automaton<V>>(
         → IsLong (A.content automaton.now) (A.text automaton.now state ++ A.Unit.unit unit ∷ []) (A.text automaton.now result) }
     ensures leftmost { IsLeftmost (A.content automaton.now) (A.dead automaton.now) → (w : List ℕ) → IsSteady (A.content automaton.now) w (A.text automaton.now state)
         → LeftSteps (A.content automaton.now) w (A.Unit.unit unit) (A.text automaton.now result) }
+    ensures cut { IsLeftmost (A.content automaton.now) (A.dead automaton.now) → (w : List ℕ) → IsSteady (A.content automaton.now) w (A.text automaton.now state)
+        → IsCut (A.content automaton.now) (w ++ A.Unit.unit unit ∷ []) (A.text automaton.now result) }
     ensures most { turns.new + length (A.text automaton.now result) ≤ turns.old + length (A.text automaton.now state) + 2 }
     ensures least { turns.old + (if A.has_label automaton.now (A.Unit.unit unit) then 1 else 0) ≤ turns.new }
+    ensures no_label { A.has_label automaton.now (A.Unit.unit unit) ≡ false → (turns.new ≡ turns.old) × (A.text automaton.now result ≡ []) }
 {
     let Some(label) = automaton.label(unit) else {
         return automaton.root();

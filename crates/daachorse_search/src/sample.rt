@@ -56,7 +56,7 @@ impl<'a> Everywhere<'a> {
 }
 
 impl<'a> Automaton<u32> for Everywhere<'a> {
-    ghost use Rattle.std.specs.Prelude.{◌≡◌, ◌≤◌, ℕ, [], ◌∷◌, false, IsTrue, length};
+    ghost use Rattle.std.specs.Prelude.{◌≡◌, ◌≤◌, ℕ, [], ◌∷◌, true, IsTrue, length};
     ghost use Rattle.daachorse_model.specs.Prefixes.{IsDead};
     ghost use Rattle.daachorse_search.specs.Everywhere.{no_output_of, only_empty, outputs_of};
 
@@ -72,7 +72,7 @@ impl<'a> Automaton<u32> for Everywhere<'a> {
 
     ghost dead = { λ a w. IsTrue a.leftmost × IsDead (only_empty a.values.now) w };
 
-    ghost has_label = { λ a unit. false };
+    ghost has_label = { λ a unit. true };
 
     ghost labels = { λ a label unit. label ≡ unit };
 

@@ -67,9 +67,9 @@ impl<P: Iterator<Item = u8>> Source<u8> for Bytes<P> {
     ghost use Rattle.daachorse_search.specs.Sources.{MayRead};
     ghost use Rattle.daachorse_search.specs.ByteSources.{MayRead-ready, MayRead-kept};
 
-    ghost may_read = { MayRead P.can_next P.remaining };
+    ghost may_read = { MayRead P.can_next P.next_gives P.remaining };
 
     ghost ready = { MayRead-ready P.can_next P.next_gives P.remaining };
 
-    ghost kept = { λ s read xs t may took fewer ready. MayRead-kept P.can_next P.next_gives P.remaining s read xs t _ may ready fewer };
+    ghost kept = { λ s read xs t may took fewer ready. MayRead-kept P.can_next P.next_gives P.remaining s read xs t _ may took fewer ready };
 }

@@ -1,5 +1,5 @@
 -- The bytes of a string are a source that a search may read.
-use Rattle.std.proofs.Common.{◌≡◌, ℕ, ◌<◌, ◌^◌, List, [], length, sym, ap, subst, arith}
+use Rattle.std.proofs.Common.{◌≡◌, ℕ, ◌<◌, ◌^◌, List, [], length, inl, sym, ap, subst, arith}
 use Rattle.std.specs.Iterator.{at_most}
 use Rattle.std.specs.Str.{IsUtf8}
 use Rattle.std.specs.Str.Iter.{bytes_rest, bytes_steps}
@@ -12,5 +12,5 @@ pub from_text : (source : Bytes) (text read : List ℕ) → bytes_rest source �
     → IsTextFrom (λ s. Unit {0}) bytes_steps (λ s. at_most (length (bytes_rest s))) source (size char_width read)
 from_text source text read is utf8 fits none = record {
   text = IsText-bytes (λ s. Unit {0}) (λ s. at_most (length (bytes_rest s))) source tt tt (subst IsUtf8 (sym is) utf8);
-  fits = omega (arith, ap length is, fits, ap (size char_width) none);
+  fits = inl (omega (arith, ap length is, fits, ap (size char_width) none));
 }

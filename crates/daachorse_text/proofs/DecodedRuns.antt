@@ -2,22 +2,18 @@
 use Rattle.std.proofs.Common.{◌≡◌, ℕ, Option, Some, None, List, [], ◌∷◌, ◌++◌, map, Bool, true, ◌&&◌, length, arith, refl, sym, ap, ◌∙◌, subst, append-nil}
 use Rattle.std.proofs.lemmas.Iterator.{IsCollectResult}
 use Rattle.std.proofs.lemmas.Str.{chars-encodes}
-use Rattle.std.proofs.Math.Utf8.{scalar, scalars, encode, encodes}
+use Rattle.std.proofs.Math.Utf8.{scalar, scalars, encodes}
 use Rattle.std.specs.Iterator.{Count, IsFinite, Yields, Drains, YieldsFirst, YieldsFirstBy}
 use Rattle.std.specs.Prelude.{Result, Ok, Err, IfOk, Vec}
 use Rattle.std.specs.Str.{IsUtf8, chars}
 use Rattle.std.specs.Str.Iter.{bytes_rest, bytes_steps}
 use Rattle.std.specs.declared.str.Bytes.{Bytes}
 use Rattle.std.specs.Vec.{vec_items}
-use Rattle.daachorse_search.proofs.SourceLemmas.{Yields_append}
 use Rattle.daachorse_search.proofs.HaystackLemmas.{rest-run}
+use Rattle.daachorse_text.specs.DecodedSources.{Yields-encodes}
 use Rattle.daachorse_text.specs.TextSources.{IsText, GivesCharacter}
 
 module _ {S : Type 0} (can : S → Type 0) (steps : S → Option ℕ → S → Type 0) (left : S → Count) where
-  pub Yields-encodes : (source : S) (cs : List ℕ) (rest : S) → Yields (GivesCharacter can steps left) source cs rest → Yields steps source (encodes cs) rest
-  Yields-encodes source [] rest same = same
-  Yields-encodes source (c ∷ cs) rest run = Yields_append steps source (encode c) run.0 (encodes cs) rest run.1.took (Yields-encodes run.0 cs rest run.2)
-
   pub scalars-run : (source : S) (cs : List ℕ) (rest : S) → Yields (GivesCharacter can steps left) source cs rest → scalars cs ≡ true
   scalars-run source [] rest same = refl
   scalars-run source (c ∷ cs) rest run = both (scalar c) (scalars cs) run.1.scalar (scalars-run run.0 cs rest run.2)
@@ -29,7 +25,7 @@ module _ {S : Type 0} (can : S → Type 0) (steps : S → Option ℕ → S → T
   pub Drains-chars : (source : S) (cs : List ℕ) → Drains (GivesCharacter can steps left) source cs → (bytes : List ℕ) × Drains steps source bytes × (cs ≡ chars bytes)
   Drains-chars source cs drains =
       let rest = drains.1.0 in let run = drains.1.1 in
-      (encodes cs, (drains.0, (rest, Yields-encodes source cs rest run, drains.1.2)), sym (chars-encodes cs (scalars-run source cs rest run)))
+      (encodes cs, (drains.0, (rest, Yields-encodes can steps left source cs rest run, drains.1.2)), sym (chars-encodes cs (scalars-run source cs rest run)))
 
   -- what `collect` made of them
   pub collect-chars : {Z E : Type 0} (source p : S) (r : Result (Vec ℕ Z) E) → source ≡ p → IsCollectResult (GivesCharacter can steps left) source r

@@ -9,8 +9,11 @@ use Rattle.std.specs.Iterator.{Count, IsFinite, MakesProgress, Yields, items_lef
 use Rattle.std.specs.Str.{chars, chars_after, continuation_len, lead_bits}
 use Rattle.daachorse_model.proofs.Booleans.{both-true}
 use Rattle.daachorse_model.proofs.SameOnText.{IsInner}
-use Rattle.daachorse_search.proofs.SourceLemmas.{Yields_append, Yields_push}
-use Rattle.daachorse_text.specs.TextSources.{IsText, TakesCharacter}
+use Rattle.daachorse_search.specs.ByteSources.{Yields_append}
+use Rattle.daachorse_search.proofs.SourceLemmas.{Yields_push}
+use Rattle.daachorse_model.specs.Units.{char_width}
+use Rattle.daachorse_text.specs.DecodedSources.{IsTextFrom-next}
+use Rattle.daachorse_text.specs.TextSources.{Placed, IsText, IsTextFrom, TakesCharacter}
 use Rattle.daachorse_text.proofs.FirstCharacters.{FirstCharacter, first_character, inner_at, same_front}
 
 -- the code fits, whatever the bytes that are still to come
@@ -156,3 +159,11 @@ module _ {S : Type 0} (can : S → Type 0) (steps : S → Option ℕ → S → T
   goes_after source first code more c now text h took =
       let later = text_after source c now text took h.callable h.ends in
       record { on = λ _. (later, h.ends, omega (arith, took.fewer, len_utf8_bounds c)); keeps = later; rests = λ _. tt }
+
+  -- and so does one that tells places
+  pub goes_placed : (source : S) (place c : ℕ) (rest : S) (given later : ℕ) → IsTextFrom can steps left source place → TakesCharacter can steps left source c rest → MakesProgress (IsText can steps left) left source (Some c) rest
+      → later ≡ place + char_width c → MakesProgress {A = ℕ × ℕ} (λ (s : Placed S). IsTextFrom can steps left s.source s.place) (λ s. left s.source) (record { source = source; place = place }) (Some (given, c)) (record { source = rest; place = later })
+  goes_placed source place c rest given later text took goes is =
+      let on = goes.on text.text.ends in
+      let next = IsTextFrom-next can steps left source c rest place text took later is on.0 in
+      record { on = λ _. (next, on.1, on.2); keeps = next; rests = λ _. tt }

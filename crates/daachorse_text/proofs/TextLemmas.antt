@@ -9,10 +9,7 @@ use Rattle.std.specs.Str.Iter.{chars_rest, chars_steps}
 use Rattle.std.specs.declared.str.Chars.{Chars}
 use Rattle.daachorse_model.specs.Units.{size, char_width}
 use Rattle.daachorse_model.proofs.Booleans.{both-true}
-
-pub size-encodes : (cs : List ℕ) → size char_width cs ≡ length (encodes cs)
-size-encodes [] = refl
-size-encodes (c ∷ cs) = omega (arith, length-encode c, length-append (encode c) (encodes cs), size-encodes cs)
+use Rattle.daachorse_text.specs.DecodedSources.{size-encodes}
 
 pub size-chars : (bs : List ℕ) → IsUtf8 bs → size char_width (chars bs) ≡ length bs
 size-chars bs u = size-encodes (chars bs) ∙ ap length (encodes-chars bs u)

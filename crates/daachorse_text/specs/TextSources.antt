@@ -1,6 +1,7 @@
 -- Sources of bytes that give a text: when one may be decoded, and what a character takes from it.
 use Rattle.std.specs.Prelude.{◌≡◌, ℕ, ◌+◌, ◌<◌, ◌≤◌, ◌^◌, List, ◌++◌, Option, Some, None}
 use Rattle.std.specs.Iterator.{Count, IsFinite, Yields, Drains, items_left}
+use Rattle.std.specs.Iterator.Runs.{CountFits}
 use Rattle.std.specs.Char.{IsScalar, encode_utf8}
 use Rattle.std.specs.Str.{IsUtf8}
 use Rattle.daachorse_model.specs.Units.{char_width}
@@ -19,10 +20,10 @@ module _ {S : Type 0} (can : S → Type 0) (steps : S → Option ℕ → S → T
     pub begins : (bytes : List ℕ) (rest : S) → Yields steps source bytes rest → (later : List ℕ) × IsUtf8 (bytes ++ later)
     pub whole : (bytes : List ℕ) → Drains steps source bytes → IsUtf8 bytes
 
-  -- the same where so many bytes were taken before it, and the places of all fit
+  -- the same where so many bytes were taken before it, and the places of all fit, by the bound that the source declares or along each run
   pub record IsTextFrom (source : S) (place : ℕ) : Type 0 where
     pub text : IsText source
-    pub fits : place + items_left left source < 2 ^ 64
+    pub fits : CountFits steps left place source
 
   -- a character came with just its bytes, so as many fewer are left
   pub record TakesCharacter (source : S) (character : ℕ) (rest : S) : Type 0 where

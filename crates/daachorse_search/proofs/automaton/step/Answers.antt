@@ -1,5 +1,6 @@
 use Rattle.std.proofs.Common.{arith}
 use Rattle.daachorse_model.proofs.BestLemmas.{IsLeftCandidate-first, IsLeftCandidate-link, LeftSteps-turn, LeftSteps-foreign}
+use Rattle.daachorse_model.proofs.Cuts.{LeftSteps-IsCut}
 use Rattle.daachorse_model.proofs.Steps.{IsCandidate-first, IsCandidate-link, IsLong-turn, IsLong-no_label}
 use Rattle.daachorse_search.proofs.automaton.step.Goals as goal
 
@@ -12,6 +13,9 @@ pub returns-in_default-clause-leftmost : goal.returns-in_default-clause-leftmost
 returns-in_default-clause-leftmost g c =
     λ kind w h. LeftSteps-foreign (g.A.Automaton.content c.args.automaton.now) w _ _ _ h c.in_default.ensures.1 c.root.ensures.text
 
+pub returns-in_default-clause-cut : goal.returns-in_default-clause-cut
+returns-in_default-clause-cut g c = λ kind w h. LeftSteps-IsCut (g.A.Automaton.content c.args.automaton.now) w _ _ (returns-in_default-clause-leftmost g c kind w h)
+
 pub links-init : goal.links-init
 links-init g c =
     let K = g.A.Automaton.content c.args.automaton.now in
@@ -19,20 +23,23 @@ links-init g c =
 
 pub returns-in-Next-clause-standard : goal.returns-in-Next-clause-standard
 returns-in-Next-clause-standard g c =
-    let looked = c.in-Next.ensures.look _ c.in-Some.ensures in
+    let looked = c.in-Next.ensures.look _ c.in-Some.ensures.0 in
     λ alive. IsLong-turn (g.A.Automaton.content c.args.automaton.now) (g.A.Automaton.dead c.args.automaton.now) _ _ _ _ c.links.invariant.candidate (alive _) looked.1
 
 pub returns-in-Next-clause-leftmost : goal.returns-in-Next-clause-leftmost
 returns-in-Next-clause-leftmost g c =
     let K = g.A.Automaton.content c.args.automaton.now in
-    let looked = c.in-Next.ensures.look _ c.in-Some.ensures in
+    let looked = c.in-Next.ensures.look _ c.in-Some.ensures.0 in
     λ kind w h. LeftSteps-turn K (g.A.Automaton.dead c.args.automaton.now) kind w _ _ _ _ h (c.links.invariant.leftmost kind w h) looked.1
+
+pub returns-in-Next-clause-cut : goal.returns-in-Next-clause-cut
+returns-in-Next-clause-cut g c = λ kind w h. LeftSteps-IsCut (g.A.Automaton.content c.args.automaton.now) w _ _ (returns-in-Next-clause-leftmost g c kind w h)
 
 -- the link is the next candidate
 pub links-preserved : goal.links-preserved
 links-preserved g c =
     let K = g.A.Automaton.content c.args.automaton.now in
-    let looked = c.in-Fail.ensures.look _ c.in-Some.ensures in
+    let looked = c.in-Fail.ensures.look _ c.in-Some.ensures.0 in
     record {
       reached = looked.0;
       candidate = IsCandidate-link K _ _ _ _ c.links.invariant.candidate looked.1 looked.3;

@@ -1,9 +1,9 @@
-use Rattle.std.proofs.Common.{arith, ap, length}
+use Rattle.std.proofs.Common.{arith, inl, ap, length}
 use Rattle.daachorse_core.specs.Seen.{SeenUnits, units}
 use Rattle.daachorse_model.specs.Units.{size, byte_width}
-use Rattle.daachorse_search.proofs.SourceLemmas.{IsReady-bytes}
+use Rattle.daachorse_search.specs.ByteSources.{IsReady-bytes}
 use Rattle.daachorse_search.proofs.sample.scans_to_the_next_match.Goals as goal
 
 pub scan-requires : goal.scan-requires
 scan-requires g c =
-    IsReady-bytes _ _ _ _ _ _ tt tt (omega (arith, ap (λ (s : SeenUnits). size byte_width (units s)) c.new-walk.ensures.seen, ap length c.new-source.ensures.bytes))
+    IsReady-bytes _ _ _ _ _ _ tt tt (inl (omega (arith, ap (λ (s : SeenUnits). size byte_width (units s)) c.new-walk.ensures.seen, ap length c.new-source.ensures.bytes)))

@@ -1,6 +1,12 @@
 use Rattle.std.proofs.Common.{◌≡◌, ◌++◌, ◌∷◌, []}
-use Rattle.daachorse_search.proofs.SourceLemmas.{IsReady-more, ScansOver-more, none_found}
+use Rattle.daachorse_search.proofs.SourceLemmas.{IsReady-more, IsReady-next, ScansOver-more, none_found}
 use Rattle.daachorse_search.proofs.scan.scan.Goals as goal
+
+-- the place behind the unit fits
+pub advance-requires : goal.advance-requires
+advance-requires g c =
+    let S = g.S.Iterator in let unit = g.W.Unit.EdgeLabel in let taken = c.in-Some.ensures in
+    IsReady-next S.can_next S.next_gives S.remaining unit.unit unit.width c.units.source c.in-Some.unit c.next.new.self _ c.units.invariant.ready taken.steps taken.goes
 
 -- the source is ready after one more unit
 pub returns-in-Some-advance-clause-ready : goal.returns-in-Some-advance-clause-ready

@@ -3,9 +3,11 @@
 //! The layers above may rely on a build holding just the dictionary of its patterns, and on each
 //! search giving the whole list of matches that the definitions give for that dictionary.
 
-ghost use Rattle.std.specs.Prelude.{◌≡◌, ◌≢◌, ◌⊎◌, [], IfOk, IfErr, OnOk, OnErr};
+ghost use Rattle.std.specs.Prelude.{◌≡◌, ◌≢◌, ◌⊎◌, [], IfOk, IfErr, OnOk, OnErr, IsSortedByKey, encode_utf8_all};
+ghost use Rattle.std.specs.Cmp.Lexicographic.{slice_cmp};
 ghost use Rattle.std.specs.Iterator.{IsFinite};
 ghost use Rattle.std.specs.Iterator.Runs.{WholeRun};
+ghost use Rattle.std.specs.Ordering.{nat_cmp};
 ghost use Rattle.std.specs.Str.{chars};
 ghost use Rattle.daachorse_core.specs.Refusals.{IsOutOfMemory};
 ghost use Rattle.daachorse_model.specs.declared.MatchKind.TheVariants.{Standard};
@@ -157,6 +159,7 @@ impl<V: Copy, A: Allocator + Copy> CharwiseDoubleArrayAhoCorasick<V, A> {
     pub fn iter<'a>(&'a self, alloc: A) -> Result<PatternIterator<'a, V, A>>
         ensures ok { IfOk result (λ patterns. IsListing (content self.entry.now.parts) patterns) }
         ensures texts { IfOk result AreTexts }
+        ensures by_bytes { IfOk result (IsSortedByKey (λ r. encode_utf8_all r.0) (slice_cmp nat_cmp)) }
         ensures err { IfErr result IsOutOfMemory }
     {
         let walk = self.states.pattern_iter(alloc)?;

@@ -23,3 +23,4 @@ pub mod Listings
 pub mod BestLemmas
 pub mod BestMatches
 pub mod StandardEnds
+pub mod TextOrder

@@ -26,7 +26,7 @@ module _ {L : Type 0} (cmp : L → L → Ordering) where
   no_child : (s : ℕ) (c : L) → child_in cmp ([] ∷ [] ∷ []) s c ≡ None
   no_child s c = ap (lookup (is_at (cmp c))) (none_at s)
 
-  empty_table : IsTable cmp ([] ∷ [] ∷ [])
+  pub empty_table : IsTable cmp ([] ∷ [] ∷ [])
   unfolding IsStrictlySortedBy
   empty_table = record {
     ordered = λ s. let P : List (L × ℕ) → Type 0 = λ es. IsStrictlySortedBy cmp (keys_of es) in subst P (sym (none_at s)) tt;

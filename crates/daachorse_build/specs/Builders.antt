@@ -5,27 +5,31 @@ use Rattle.daachorse_model.specs.declared.MatchKind.{MatchKind}
 use Rattle.daachorse_model.specs.Dictionary.{kept}
 use Rattle.daachorse_core.specs.declared.outputs.Output.{Output}
 use Rattle.daachorse_build.specs.declared.nfa_builder.NfaBuilderState.{NfaBuilderState}
-use Rattle.daachorse_build.specs.declared.nfa_builder.NfaBuilder.{NfaBuilder}
 use Rattle.daachorse_build.specs.Holds.{Holds, in_units}
 
+-- A builder: its states and outputs, the number of patterns that are kept, and the kind of matches.
+pub record Builder (L V A : Type 0) : Type 0 where
+  -- by their ids
+  pub states : List (NfaBuilderState L V A)
+  -- position 1 is the first
+  pub outputs : List (Output V)
+  pub count : ℕ
+  pub kind : MatchKind
+
 module _ {L V A : Type 0} where
-  -- the states, by their ids
-  abbrev pub states_of : NfaBuilder L V A → List (NfaBuilderState L V A)
-  states_of b = b.states.items
+  abbrev pub states_of : Builder L V A → List (NfaBuilderState L V A)
+  states_of b = b.states
 
-  -- the outputs; position 1 is the first
-  abbrev pub outputs_of : NfaBuilder L V A → List (Output V)
-  outputs_of b = b.outputs.items
+  abbrev pub outputs_of : Builder L V A → List (Output V)
+  outputs_of b = b.outputs
 
-  -- the number of patterns that are kept
-  abbrev pub count_of : NfaBuilder L V A → ℕ
-  count_of b = b.len
+  abbrev pub count_of : Builder L V A → ℕ
+  count_of b = b.count
 
-  -- the kind of matches
-  abbrev pub kind_of : NfaBuilder L V A → MatchKind
+  abbrev pub kind_of : Builder L V A → MatchKind
   kind_of b = b.kind
 
   -- just these patterns were registered, in this order
-  pub record Registered (cmp : L → L → Ordering) (unit : L → ℕ) (width : ℕ → ℕ) (b : NfaBuilder L V A) (rs : List (List L × V)) : Type 0 where
+  pub record Registered (cmp : L → L → Ordering) (unit : L → ℕ) (width : ℕ → ℕ) (b : Builder L V A) (rs : List (List L × V)) : Type 0 where
     pub holds : Holds cmp unit width (kind_of b) (states_of b) rs
     pub count : count_of b ≡ length (kept (kind_of b) (in_units unit rs))

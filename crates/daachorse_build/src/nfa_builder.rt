@@ -9,7 +9,7 @@
 //! goes on at the position of the link; and `sibling_groups` has each state with edges once, with
 //! its children.
 
-ghost use Rattle.std.specs.Prelude.{◌≡◌, ◌≢◌, ◌⊎◌, Bool, true, false, Some, ℕ, ◌+◌, ◌<◌, ◌≤◌, ◌++◌, ◌∷◌, [], List, None, length, map, take, slice_index, vec_len, IfOk, IfErr, OnOk};
+ghost use Rattle.std.specs.Prelude.{◌≡◌, ◌≢◌, ◌⊎◌, Bool, true, false, Some, ℕ, ◌+◌, ◌<◌, ◌≤◌, ◌++◌, ◌∷◌, [], List, None, length, map, take, slice_index, vec_len, IfOk, IfErr, OnOk, OnErr};
 ghost use Rattle.daachorse_model.specs.Units.{size};
 ghost use Rattle.daachorse_model.specs.Dictionary.{dictionary, kept};
 ghost use Rattle.daachorse_model.specs.Paths.{Leads};
@@ -41,6 +41,7 @@ use daachorse_core::{MatchKind, Output};
 use daachorse_placement::build_helper::{Profile, SiblingGroup};
 use std::alloc::{Allocator, Global};
 use std::cmp::Reverse;
+use std::marker::Model;
 use std::num::NonZeroU32;
 
 /// The id of the root, the state of the empty text.
@@ -125,6 +126,17 @@ pub struct NfaBuilder<L: EdgeLabel, V: Copy, A: Allocator = Global> {
     kind: MatchKind,
 }
 
+impl<L: EdgeLabel, V: Copy, A: Allocator> Model for NfaBuilder<L, V, A> {
+    ghost use Rattle.daachorse_build.specs.Builders.{Builder};
+    ghost use Rattle.daachorse_build.specs.Tables.{HoldTrie};
+
+    ghost Value = { Builder L V A };
+
+    ghost view = { λ b. record { states = b.states.items; outputs = b.outputs.items; count = b.len; kind = b.kind } };
+
+    ghost invariant = { λ b. HoldTrie L.cmp b.states.items };
+}
+
 impl<L: EdgeLabel, V: Copy, A: Allocator> NfaBuilder<L, V, A> {
     /// The states: the root, the dead state, and one for each other beginning of a pattern.
     pub fn states(&self) -> &[NfaBuilderState<L, V, A>]
@@ -150,6 +162,7 @@ impl<L: EdgeLabel, V: Copy, A: Allocator> NfaBuilder<L, V, A> {
     /// The states and the outputs.
     pub fn into_parts(self) -> (Vec<NfaBuilderState<L, V, A>, A>, Vec<Output<V>, A>)
         ensures states { result.0.items ≡ states_of self }
+        ensures trie { HoldTrie L.cmp result.0.items }
         ensures outputs { result.1.items ≡ outputs_of self }
     {
         (self.states, self.outputs)
@@ -187,7 +200,6 @@ impl<L: EdgeLabel, V: Copy, A: Allocator + Copy> NfaBuilder<L, V, A> {
     /// A pattern of more than 4,294,967,295 bytes is refused, and so is one that needs the
     /// state id 4,294,967,296.
     pub fn add(&mut self, pattern: &[L], value: V) -> Result<()>
-        requires { HoldTrie L.cmp (states_of self.old) }
         ensures kind { kind_of self.new ≡ kind_of self.old }
         ensures outputs { outputs_of self.new ≡ outputs_of self.old }
         ensures trie { OnOk result (HoldTrie L.cmp (states_of self.new)) }
@@ -215,7 +227,6 @@ impl<L: EdgeLabel, V: Copy, A: Allocator + Copy> NfaBuilder<L, V, A> {
     ///
     /// It fails where an allocation does.
     pub fn build_fails(&mut self, alloc: A) -> Result<Vec<u32, A>>
-        requires { HoldTrie L.cmp (states_of self.old) }
         ensures kind { kind_of self.new ≡ kind_of self.old }
         ensures patterns { count_of self.new ≡ count_of self.old }
         ensures outputs { outputs_of self.new ≡ outputs_of self.old }
@@ -231,7 +242,6 @@ impl<L: EdgeLabel, V: Copy, A: Allocator + Copy> NfaBuilder<L, V, A> {
     /// the root, those nearer to it first. The link is that of `build_fails`, but dead where a key
     /// occurs in the state's text and starts before the link does. The root's link is the root.
     pub fn build_fails_leftmost(&mut self, alloc: A) -> Result<Vec<u32, A>>
-        requires { HoldTrie L.cmp (states_of self.old) }
         ensures kind { kind_of self.new ≡ kind_of self.old }
         ensures patterns { count_of self.new ≡ count_of self.old }
         ensures outputs { outputs_of self.new ≡ outputs_of self.old }
@@ -245,7 +255,7 @@ impl<L: EdgeLabel, V: Copy, A: Allocator + Copy> NfaBuilder<L, V, A> {
     }
 
     fn find_links(&mut self, alloc: A, leftmost: bool) -> Result<Vec<u32, A>>
-        requires { HoldTrie L.cmp (states_of self.old) }
+        ensures trie { HoldTrie L.cmp (states_of self.old) }
         ensures kind { kind_of self.new ≡ kind_of self.old }
         ensures patterns { count_of self.new ≡ count_of self.old }
         ensures outputs { outputs_of self.new ≡ outputs_of self.old }
@@ -266,16 +276,14 @@ impl<L: EdgeLabel, V: Copy, A: Allocator + Copy> NfaBuilder<L, V, A> {
 
     /// Makes the lists of outputs: that of the root is its own outputs, and that of each other
     /// state is its own, and then the list of its link, unless that is dead. So there are no more
-    /// outputs than patterns that are kept. `order` is what `build_fails` or
-    /// `build_fails_leftmost` answered.
+    /// outputs than patterns that are kept, and no more than a `u32` counts. Those that were made
+    /// before are dropped. `order` is what `build_fails` or `build_fails_leftmost` answered.
     ///
     /// # Errors
     ///
     /// More than 4,294,967,295 outputs are refused.
     pub fn build_outputs(&mut self, order: &[u32]) -> Result<()>
-        requires trie { HoldTrie L.cmp (states_of self.old) }
-        requires links { HoldLinks L.cmp (states_of self.old) order.now ⊎ HoldLeftLinks L.cmp true (states_of self.old) order.now }
-        requires unbuilt { outputs_of self.old ≡ [] }
+        requires { HoldLinks L.cmp (states_of self.old) order.now ⊎ HoldLeftLinks L.cmp true (states_of self.old) order.now }
         ensures kind { kind_of self.new ≡ kind_of self.old }
         ensures patterns { count_of self.new ≡ count_of self.old }
         ensures kept { HasTrieOf (states_of self.old) (states_of self.new) }
@@ -286,9 +294,11 @@ impl<L: EdgeLabel, V: Copy, A: Allocator + Copy> NfaBuilder<L, V, A> {
         ensures chains { OnOk result (HoldLeftLinks L.cmp true (states_of self.old) order.now → (rs : List (List L × V)) → Registered L.cmp L.unit L.width self.old rs → (w : List L) (t : ℕ) → Leads (child_of L.cmp (states_of self.old)) w t → IsChain L.width (dictionary (kind_of self.old) (in_units L.unit rs)) (IsDead (dictionary (kind_of self.old) (in_units L.unit rs))) (map L.unit w) (outputs_at (outputs_of self.new) (slice_index (positions_of (states_of self.new)) t))) }
         ensures follows { OnOk result ((w : List L) (t : ℕ) → Leads (child_of L.cmp (states_of self.old)) w t → IsChainedAt (own_of (states_of self.old)) (fails_of (states_of self.old)) (outputs_of self.new) (positions_of (states_of self.new)) t) }
         ensures bound { OnOk result (length (outputs_of self.new) ≤ output_count (own_of (states_of self.old))) }
+        ensures few { OnOk result (length (outputs_of self.new) ≤ 4294967295) }
         ensures kept_bound { OnOk result ((rs : List (List L × V)) → Registered L.cmp L.unit L.width self.old rs → length (outputs_of self.new) ≤ count_of self.old) }
         ensures refused { IfErr result (IsRefusal ⊥ Outputs ((rs : List (List L × V)) → Registered L.cmp L.unit L.width self.old rs → 4294967295 < length (kept (kind_of self.old) (in_units L.unit rs)))) }
     {
+        self.outputs.clear();
         put_lists(&mut self.states, &mut self.outputs, order)
     }
 
@@ -309,7 +319,6 @@ impl<L: EdgeLabel, V: Copy, A: Allocator + Copy> NfaBuilder<L, V, A> {
         profile: &Profile<A>,
         map_label: F,
     ) -> Result<Vec<SiblingGroup<A>, A>>
-        requires trie { HoldTrie L.cmp (states_of self.now) }
         requires profile { IsProfileOf (length (states_of self.now)) profile.now }
         requires callable { F.IsAlwaysCallable map_label }
         ensures trie { IfOk result (λ groups. (code : L → ℕ) → GivesCodes L.cmp (edges_of (states_of self.now)) (F.post map_label) code → AreTrieGroups L.cmp code (states_of self.now) groups.items) }
@@ -366,6 +375,7 @@ fn child_or_new<L: EdgeLabel, V: Copy, A: Allocator + Copy>(
     requires in_range { id < vec_len states.old }
     requires alive { id ≢ 1 }
     ensures ok { IfOk result (λ t. Extends L.cmp states.old.items states.new.items id label t) }
+    ensures kept { OnErr result (edges_of states.new.items ≡ edges_of states.old.items) }
     ensures fits { OnOk result (vec_len states.old ≤ 4294967296 → vec_len states.new ≤ 4294967296) }
     ensures refused { IfErr result (IsRefusal ⊥ StateId ((4294967295 < vec_len states.old) × (child_of L.cmp states.old.items id label ≡ None))) }
 {
@@ -376,6 +386,8 @@ fn child_or_new<L: EdgeLabel, V: Copy, A: Allocator + Copy>(
         return Err(DaachorseError::automaton_scale(Limit::StateId));
     };
     let alloc = *states.allocator();
+    // The child comes with its edge, or neither does.
+    states.reserve(1)?;
     states[id as usize].edges.insert(alloc, label, fresh)?;
     states.push(NfaBuilderState::new(alloc))?;
     Ok(fresh)
@@ -411,6 +423,7 @@ fn add_pattern<L: EdgeLabel, V: Copy, A: Allocator + Copy>(
 ) -> Result<()>
     requires { HoldTrie L.cmp states.old.items }
     ensures ok { OnOk result (IsAdded L.cmp states.old.items states.new.items pattern.now (value, size)) }
+    ensures trie { HoldTrie L.cmp states.new.items }
     ensures fits { OnOk result (vec_len states.old ≤ 4294967296 → vec_len states.new ≤ 4294967296) }
     ensures refused { IfErr result (IsRefusal ⊥ StateId (Overflows L.cmp states.old.items pattern.now 4294967295)) }
 {
@@ -590,6 +603,7 @@ fn push_chain<V: Copy, A: Allocator>(
     ensures longer { (more : List (OutputOf V)) × (outputs.new.items ≡ outputs.old.items ++ more) }
     ensures parents { ParentsFall outputs.new.items }
     ensures count { OnOk result (vec_len outputs.new ≡ vec_len outputs.old + length own.now) }
+    ensures few { OnOk result (vec_len outputs.old ≤ 4294967295 → vec_len outputs.new ≤ 4294967295) }
     ensures fits { IfOk result (λ position. position ≤ vec_len outputs.new) }
     ensures list { IfOk result (λ position. outputs_at outputs.new.items position ≡ own.now ++ outputs_at outputs.old.items parent) }
     ensures passes { IfOk result (λ position. Passes outputs.new.items position own.now parent) }
@@ -624,6 +638,7 @@ fn put_list<L: EdgeLabel, V: Copy, A: Allocator>(
     ensures longer { (more : List (OutputOf V)) × (outputs.new.items ≡ outputs.old.items ++ more) }
     ensures parents { ParentsFall outputs.new.items }
     ensures count { OnOk result (vec_len outputs.new ≡ vec_len outputs.old + length (own_at (own_of states.old) id)) }
+    ensures few { OnOk result (vec_len outputs.old ≤ 4294967295 → vec_len outputs.new ≤ 4294967295) }
     ensures fits { OnOk result (slice_index (positions_of states.new) id ≤ vec_len outputs.new) }
     ensures list { OnOk result (outputs_at outputs.new.items (slice_index (positions_of states.new) id) ≡ own_at (own_of states.old) id ++ outputs_at outputs.old.items parent) }
     ensures passes { OnOk result (Passes outputs.new.items (slice_index (positions_of states.new) id) (own_at (own_of states.old) id) parent) }
@@ -667,6 +682,7 @@ fn put_lists<L: EdgeLabel, V: Copy, A: Allocator>(
     ensures lists { OnOk result ((leftmost : Bool) → HoldLeftLinks L.cmp leftmost states.old order.now → AreListed L.cmp (stops_of leftmost states.old) states.old order.now outputs.new.items (positions_of states.new)) }
     ensures chained { OnOk result ((leftmost : Bool) → HoldLeftLinks L.cmp leftmost states.old order.now → AreChained (own_of states.old) (fails_of states.old) order.now outputs.new.items (positions_of states.new)) }
     ensures bound { OnOk result (vec_len outputs.new ≤ output_count (own_of states.old)) }
+    ensures few { OnOk result (vec_len outputs.new ≤ 4294967295) }
     ensures refused { IfErr result (IsRefusal ⊥ Outputs (4294967295 < output_count (own_of states.old))) }
 {
     put_list(states, outputs, ROOT_STATE_ID, 0)?;
@@ -720,6 +736,52 @@ mod tests {
             chain.as_slice(),
             [(2, 1, 0), (4, 1, 0), (3, 1, 2), (1, 2, 3), (0, 3, 0)].as_slice()
         );
+        Ok(())
+    }
+
+    #[test]
+    fn a_clone_has_all_that_the_state_has(rt: HostRuntime) -> Result<(), Fail> {
+        let alloc = rt.alloc();
+        let mut builder = NfaBuilder::<u8, u32>::new(alloc, MatchKind::Standard)?;
+        builder.add(b"ab", 0)?;
+        builder.add(b"abc", 1)?;
+        builder.add(b"abd", 2)?;
+        builder.add(b"b", 3)?;
+        let order = builder.build_fails(alloc)?;
+        builder.build_outputs(&order)?;
+        let states = builder.states();
+        assert_eq!(rt; states.len(), 7);
+        let state = states[3].clone()?;
+        let edges: Vec<(u8, u32)> = state
+            .edges()
+            .iter()
+            .map(|(label, child)| (*label, *child))
+            .collect(alloc)?;
+        assert_eq!(rt; edges.as_slice(), [(b'c', 4), (b'd', 5)].as_slice());
+        assert_eq!(rt; state.fail(), 6);
+        assert_eq!(rt; state.output_pos().map_or(0, NonZeroU32::get), 2);
+        Ok(())
+    }
+
+    #[test]
+    fn outputs_are_made_anew_after_more_patterns(rt: HostRuntime) -> Result<(), Fail> {
+        let alloc = rt.alloc();
+        let mut builder = NfaBuilder::<u8, u32>::new(alloc, MatchKind::Standard)?;
+        builder.add(b"ab", 0)?;
+        let order = builder.build_fails(alloc)?;
+        builder.build_outputs(&order)?;
+        builder.add(b"b", 1)?;
+        let order = builder.build_fails(alloc)?;
+        builder.build_outputs(&order)?;
+        let chain: Vec<(u32, u32, u32)> = builder
+            .outputs()
+            .iter()
+            .map(|output| {
+                let parent = output.parent().map_or(0, NonZeroU32::get);
+                (output.value(), output.length(), parent)
+            })
+            .collect(alloc)?;
+        assert_eq!(rt; chain.as_slice(), [(1, 1, 0), (0, 2, 1)].as_slice());
         Ok(())
     }
 

@@ -191,12 +191,17 @@ module _ {L V A : Type 0} (cmp : L → L → Ordering) (unit : L → ℕ) (width
       let P : Bool → Type 0 = λ b. HoldsDictionary width K b trie (outputs_of d) in
       subst P (sym (leftmost_kind kind other)) (holds true (links-left left) follows parents)
 
+-- a number below a limit, and below the one that holds where none is given
+pub few_for : (most : Option ℕ) (n : ℕ) → IfSome most (λ m. n ≤ m) → n ≤ 4294967295 → n ≤ unwrap_or most 4294967295
+few_for None n low few = few
+few_for (Some m) n low few = low
+
 -- what the builder o becomes: b with its links, and d with its outputs too
 module _ {L V A : Type 0} (cmp : L → L → Ordering) (unit : L → ℕ) (width : ℕ → ℕ) (total : IsTotalOrder cmp) (most : Option ℕ) (kind : MatchKind) (o b d : NfaBuilder L V A) (order : List ℕ) (is_kind : kind_of o ≡ kind) (fits : length (states_of o) ≤ 4294967296)
     (linked : HasTrieOf (states_of o) (states_of b)) (kind-b : kind_of b ≡ kind_of o) (count-b : count_of b ≡ count_of o) (root : slice_index (fails_of (states_of b)) 0 ≡ 0)
     (standard : kind ≡ Standard → HoldLinks cmp (states_of b) order) (left : kind ≢ Standard → (rs : List (List L × V)) → Registered cmp unit width o rs → AreLeft cmp unit (kind_of o) (states_of o) (states_of b) rs)
     (put : HasTrieOf (states_of b) (states_of d)) (kind-d : kind_of d ≡ kind_of b) (count-d : count_of d ≡ count_of b) (fails : fails_of (states_of d) ≡ fails_of (states_of b))
-    (parents : ParentsFall (outputs_of d)) (few : IfSome most (λ n. length (outputs_of d) ≤ n))
+    (parents : ParentsFall (outputs_of d)) (few : length (outputs_of d) ≤ unwrap_or most 4294967295)
     (positions : (w : List L) (t : ℕ) → Leads (child_of cmp (states_of b)) w t → slice_index (positions_of (states_of d)) t ≤ length (outputs_of d))
     (follows : (w : List L) (t : ℕ) → Leads (child_of cmp (states_of b)) w t → IsChainedAt (own_of (states_of b)) (fails_of (states_of b)) (outputs_of d) (positions_of (states_of d)) t) where
   finished : (rs : List (List L × V)) → Registered cmp unit width o rs → IsBuilt cmp unit width most kind d (dictionary (kind_of d) (in_units unit rs))

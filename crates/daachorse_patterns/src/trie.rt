@@ -11,7 +11,7 @@ ghost use Rattle.daachorse_model.specs.Dictionary.{dictionary, kept};
 ghost use Rattle.daachorse_build.specs.Builders.{Registered, count_of, kind_of, outputs_of, states_of};
 ghost use Rattle.daachorse_build.specs.Growth.{HasTrieOf};
 ghost use Rattle.daachorse_build.specs.Orders.{HoldLeftLinks, HoldLinks};
-ghost use Rattle.daachorse_build.specs.Tables.{HoldTrie, fails_of};
+ghost use Rattle.daachorse_build.specs.Tables.{fails_of};
 ghost use Rattle.daachorse_patterns.specs.Building.{Fit, IsRefusalWithin, Limits};
 ghost use Rattle.daachorse_patterns.specs.Patterns.{texts_of};
 ghost use Rattle.daachorse_patterns.specs.Tries.{AreLeft, HasTexts, IsBuilt};
@@ -93,7 +93,6 @@ fn build_links<L: EdgeLabel, V: Copy, A: Allocator + Copy>(
     kind: MatchKind,
     nfa: &mut NfaBuilder<L, V, A>,
 ) -> Result<Vec<u32, A>>
-    requires { HoldTrie L.cmp (states_of nfa.old) }
     ensures kind { kind_of nfa.new ≡ kind_of nfa.old }
     ensures patterns { count_of nfa.new ≡ count_of nfa.old }
     ensures outputs { outputs_of nfa.new ≡ outputs_of nfa.old }

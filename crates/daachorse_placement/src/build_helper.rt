@@ -75,7 +75,7 @@ impl<A: Allocator + Copy> BuildHelper<A> {
     ) -> Result<Self>
         requires power { IsPowerOfTwo block_len }
         requires two { 2 ≤ block_len }
-        requires states { (2 ≤ num_nfa_states) × (num_nfa_states ≤ 2 ^ 32) }
+        requires states { 2 ≤ num_nfa_states }
         requires groups { AreGroups groups.now num_nfa_states block_len }
         ensures placed { IfOk result (IsPlaced groups.now (length groups.now) track_bases) }
         ensures sizes { IfOk result (λ h. HasSizes h block_len num_nfa_states) }

@@ -1,7 +1,7 @@
 -- One label more is one state more on the way; the output goes to the last.
-use Rattle.std.proofs.Common.{◌≡◌, ◌+◌, ◌<◌, [], ◌∷◌, ◌++◌, length, take, drop, set, vec_len, None, refl, sym, ap, ◌∙◌, arith}
+use Rattle.std.proofs.Common.{◌≡◌, ◌+◌, ◌<◌, ℕ, List, [], ◌∷◌, ◌++◌, length, take, drop, set, vec_len, None, refl, sym, ap, ◌∙◌, subst, arith}
 use Rattle.std.proofs.lemmas.List.{length-map, take_more, take_all, drop_more, take-append-drop}
-use Rattle.daachorse_build.specs.Tables.{child_of, edges_of}
+use Rattle.daachorse_build.specs.Tables.{child_of, edges_of, IsTable}
 use Rattle.daachorse_build.proofs.Walks.{walk-bounds}
 use Rattle.daachorse_build.proofs.States.{adding_start, adding_more, added, output_pushed, map_stays}
 use Rattle.daachorse_build.proofs.Labels.{label_exact}
@@ -73,3 +73,30 @@ returns-in_err-id-clause-refused g c =
     rw (p.1, p.2) (IsRefusal-weaker ⊥ ⊥ StateId ((4294967295 < vec_len c.loop-label.states) × (child_of g.L.Ord.cmp c.loop-label.states.items c.loop-label.id x ≡ None)) (Overflows g.L.Ord.cmp c.args.states.now.items pattern 4294967295) (λ none. none)
     (λ h. record { mid = c.loop-label.states.items; front = take i pattern; label = x; rest = drop (i + 1) pattern; splits = splits; id = c.loop-label.id; adding = c.loop-label.invariant.0; full = omega (arith, h.0); none = h.1 })
     _ c.in_err-id.ensures.refused)
+
+pub returns-in_err-id-clause-trie : goal.returns-in_err-id-clause-trie
+returns-in_err-id-clause-trie g c =
+    let E : List (List (g.row.L.Denot × ℕ)) → Type 0 = λ es. IsTable g.L.Ord.cmp es in
+    subst E (sym c.in_err-id.ensures.kept) c.loop-label.invariant.0.trie
+
+pub returns-clause-trie : goal.returns-clause-trie
+returns-clause-trie g c =
+    let states = c.loop-label.states.items in
+    let i = c.loop-label.invariant.0 in
+    let b = walk-bounds (child_of g.L.Ord.cmp states) (length (edges_of states)) i.trie.trie _ c.loop-label.id i.here in
+    let low : c.loop-label.id < length states = omega (arith, b.0, length-map states (λ s. s.edges)) in
+    let x = c.index_mut.result.now in
+    let edges = map_stays (λ s. s.edges) states c.loop-label.id x (record x { output = c.push.new.self }) low c.index_mut.ensures.value refl in
+    let E : List (List (g.row.L.Denot × ℕ)) → Type 0 = λ es. IsTable g.L.Ord.cmp es in
+    subst E (sym edges) i.trie
+
+pub returns-in_err-push-clause-trie : goal.returns-in_err-push-clause-trie
+returns-in_err-push-clause-trie g c =
+    let states = c.loop-label.states.items in
+    let i = c.loop-label.invariant.0 in
+    let b = walk-bounds (child_of g.L.Ord.cmp states) (length (edges_of states)) i.trie.trie _ c.loop-label.id i.here in
+    let low : c.loop-label.id < length states = omega (arith, b.0, length-map states (λ s. s.edges)) in
+    let x = c.index_mut.result.now in
+    let edges = map_stays (λ s. s.edges) states c.loop-label.id x (record x { output = c.push.new.self }) low c.index_mut.ensures.value refl in
+    let E : List (List (g.row.L.Denot × ℕ)) → Type 0 = λ es. IsTable g.L.Ord.cmp es in
+    subst E (sym edges) i.trie

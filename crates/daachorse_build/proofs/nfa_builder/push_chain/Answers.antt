@@ -26,6 +26,7 @@ loop-i-preserved g c =
       longer = (i.longer.0 ++ made ∷ [], pushed ∙ ap (λ os. os ++ made ∷ []) i.longer.1 ∙ append_assoc c.args.outputs.now.items i.longer.0 (made ∷ []));
       parents = rw pushed (ParentsFall-push outputs made c.loop-i.last i.parents parent i.fits);
       fits = omega (arith, ap length pushed, length_push outputs made, count);
+      few = λ was. omega (arith, ap length pushed, length_push outputs made);
       count = omega (arith, ap length pushed, length_push outputs made, i.count, next);
       passes = rw (pushed, rest) (passes_push outputs made x (drop c.loop-i.i own) c.loop-i.last c.len-last.result c.args.parent c.new-in-loop-i.ensures.value c.new-in-loop-i.ensures.length parent count i.passes);
       list = rw (pushed, rest) (list ∙ ap (λ l. x ∷ l) i.list);

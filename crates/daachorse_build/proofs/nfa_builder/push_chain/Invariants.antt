@@ -12,6 +12,7 @@ invariant-loop-i g l = record {
   longer : (more : List (Output g.row.V.Denot)) × (l.outputs.items ≡ l.fn.outputs.items ++ more);
   parents : ParentsFall l.outputs.items;
   fits : l.last ≤ length l.outputs.items;
+  few : length l.fn.outputs.items ≤ 4294967295 → length l.outputs.items ≤ 4294967295;
   count : length l.outputs.items + l.i ≡ length l.fn.outputs.items + length l.own;
   passes : Passes l.outputs.items l.last (drop l.i l.own) l.parent;
   list : outputs_at l.outputs.items l.last ≡ drop l.i l.own ++ outputs_at l.fn.outputs.items l.parent;

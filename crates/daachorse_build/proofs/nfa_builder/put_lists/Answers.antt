@@ -80,6 +80,7 @@ loop-id-init g c =
       fits = λ t h. elim h [ inl root ↦ omega (arith, ap (λ u. get_or (positions_of c.put_list.new.states) u 0) root, e.fits) | inr none ↦ absurd none ];
       lists = λ leftmost links. listed_start g.L.Ord.cmp g.met.L.Ord.total (label_exact g.L.EdgeLabel.unit g.L.Ord.cmp g.met.L.EdgeLabel.exact g.met.L.EdgeLabel.by_unit) (stops_of leftmost states) states c.put_list.new.outputs.items (positions_of c.put_list.new.states) c.requires.trie e.list;
       chained = λ leftmost links. chained_start (own_of states) (fails_of states) c.put_list.new.outputs.items (positions_of c.put_list.new.states) e.passes;
+      few = omega (arith, e.few (omega (arith, ap length c.requires.unbuilt)));
       count = omega (arith, e.count, first_cleared (own_of states) two, ap length c.requires.unbuilt);
     }
 
@@ -147,6 +148,7 @@ loop-id-preserved g c =
       fits = fits_more g.L.Ord.cmp g.met.L.Ord.total (label_exact g.L.EdgeLabel.unit g.L.Ord.cmp g.met.L.EdgeLabel.exact g.met.L.EdgeLabel.by_unit) (stops_of c.requires.links.0 c.args.states.now) c.args.states.now c.requires.trie c.args.order.now (fails_of c.args.states.now) c.requires.links.1 c.loop-id.id-index (get_or c.args.order.now c.loop-id.id-index 0) (get_or (fails_of c.args.states.now) (get_or c.args.order.now c.loop-id.id-index 0) 0) c.loop-id-test.true refl refl c.loop-id.outputs.items now.outputs.items e.longer.0 (positions_of c.loop-id.states) (positions_of now.states) e.longer.1 e.others i.fits (omega (arith, e.fits));
       lists = λ leftmost links. listed_more g.L.Ord.cmp g.met.L.Ord.total (label_exact g.L.EdgeLabel.unit g.L.Ord.cmp g.met.L.EdgeLabel.exact g.met.L.EdgeLabel.by_unit) (stops_of leftmost c.args.states.now) c.args.states.now c.requires.trie c.args.order.now (fails_of c.args.states.now) links c.loop-id.id-index (get_or c.args.order.now c.loop-id.id-index 0) (get_or (fails_of c.args.states.now) (get_or c.args.order.now c.loop-id.id-index 0) 0) c.loop-id-test.true refl refl c.loop-id.outputs.items now.outputs.items e.longer.0 (positions_of c.loop-id.states) (positions_of now.states) e.longer.1 e.others i.fits c.fail_position-parent.result at i.parents (i.lists leftmost links) list;
       chained = λ leftmost links. chained_more g.L.Ord.cmp g.met.L.Ord.total (label_exact g.L.EdgeLabel.unit g.L.Ord.cmp g.met.L.EdgeLabel.exact g.met.L.EdgeLabel.by_unit) (stops_of leftmost states) states c.requires.trie c.args.order.now (fails_of states) links c.loop-id.id-index c.loop-id-test.true c.loop-id.outputs.items now.outputs.items e.longer.0 (positions_of c.loop-id.states) (positions_of now.states) e.longer.1 e.others (own_of states) c.fail_position-parent.result at (i.chained leftmost links) passes;
+      few = omega (arith, e.few (omega (arith, i.few)));
       count = omega (arith, e.count, own, i.count, count_next g.L.Ord.cmp g.met.L.Ord.total (label_exact g.L.EdgeLabel.unit g.L.Ord.cmp g.met.L.EdgeLabel.exact g.met.L.EdgeLabel.by_unit) c.args.states.now c.loop-id.states c.args.order.now c.requires.trie (stops_of c.requires.links.0 c.args.states.now) c.requires.links.1 c.loop-id.invariant.kept c.loop-id.id-index c.loop-id-test.true);
     }
 

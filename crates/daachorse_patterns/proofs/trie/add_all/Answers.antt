@@ -13,9 +13,6 @@ use Rattle.daachorse_patterns.specs.Tries.{HasTexts}
 use Rattle.daachorse_patterns.proofs.RefusalLaws.{Fit-texts, HasTexts-push, add_refused, prefixes_more, texts_around, texts_more}
 use Rattle.daachorse_patterns.proofs.trie.add_all.Goals as goal
 
-pub add-requires : goal.add-requires
-add-requires g c = c.loop-pattern.invariant.so_far.registered.holds.trie
-
 pub returns-in_err-add-clause-err : goal.returns-in_err-add-clause-err
 returns-in_err-add-clause-err g c =
     let p = err_from_is_err_and c.from_residual-in_err-add.result c.from_residual-in_err-add.ensures.1 in

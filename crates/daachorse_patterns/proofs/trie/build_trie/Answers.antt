@@ -9,7 +9,7 @@ use Rattle.daachorse_build.specs.Builders.{kind_of, outputs_of, states_of}
 use Rattle.daachorse_build.specs.Orders.{HoldLeftLinks, HoldLinks}
 use Rattle.daachorse_patterns.specs.Building.{Fit, IsRefusalWithin, Limits}
 use Rattle.daachorse_patterns.specs.Patterns.{texts_of}
-use Rattle.daachorse_patterns.proofs.BuiltLaws.{HasTexts-kept, finished_for, standard_or_not}
+use Rattle.daachorse_patterns.proofs.BuiltLaws.{HasTexts-kept, few_for, finished_for, standard_or_not}
 use Rattle.daachorse_patterns.proofs.RefusalLaws.{HasTexts-count, count_refused, outputs_refused}
 use Rattle.daachorse_patterns.proofs.trie.build_trie.Goals as goal
 
@@ -30,8 +30,8 @@ returns-in_err-check_count-clause-err g c =
     let p = err_from_is_err_and c.from_residual-in_err-check_count.result c.from_residual-in_err-check_count.ensures.1 in
     rw (p.1, p.2) (count_refused width (record { patterns = c.args.max_patterns; parents = None }) c.args.kind rs c.num_patterns.result c.in_err-check_count.field-0.0 count (subst F old added.fit) c.in_err-check_count.ensures.err)
 
-pub build_outputs-requires-clause-links : goal.build_outputs-requires-clause-links
-build_outputs-requires-clause-links g c =
+pub build_outputs-requires : goal.build_outputs-requires
+build_outputs-requires g c =
     let states = states_of c.build_links.new.nfa in
     let P : List ℕ → Type 0 = λ order. HoldLinks g.L.Ord.cmp states order ⊎ HoldLeftLinks g.L.Ord.cmp true states order in
     subst P (sym c.deref.ensures.value) (elim (standard_or_not c.args.kind) [
@@ -64,7 +64,7 @@ returns-clause-ok g c =
     let texts = HasTexts-kept cmp unit width o b rs linked.kept linked.kind linked.patterns added.ok in
     let bound = made.kept_bound texts.labels texts.registered in
     let few : IfSome c.args.max_patterns (λ n. length (outputs_of d) ≤ n) = IfSome_then c.args.max_patterns c.in_ok-check_count.ensures.ok (λ n low. omega (arith, low, bound, linked.patterns, c.num_patterns.ensures)) in
-    finished_for cmp unit width g.met.L.Ord.total c.args.max_patterns c.args.kind o b d c.in_ok-order.order.items (added.kind ∙ old) added.fits linked.kept linked.kind linked.patterns linked.root linked.standard linked.left made.kept made.kind made.patterns made.fails made.parents few made.positions made.follows rs added.ok
+    finished_for cmp unit width g.met.L.Ord.total c.args.max_patterns c.args.kind o b d c.in_ok-order.order.items (added.kind ∙ old) added.fits linked.kept linked.kind linked.patterns linked.root linked.standard linked.left made.kept made.kind made.patterns made.fails made.parents (few_for c.args.max_patterns (length (outputs_of d)) few made.few) made.positions made.follows rs added.ok
 
 pub returns-clause-few : goal.returns-clause-few
 returns-clause-few g c =

@@ -35,7 +35,7 @@ module _ {L V A : Type 0} (cmp : L → L → Ordering) (unit : L → ℕ) (width
 pub returns-in_err-add_pattern-clause-refused : goal.returns-in_err-add_pattern-clause-refused
 returns-in_err-add_pattern-clause-refused g c =
     let p = err_from_is_err_and c.from_residual-in_err-add_pattern.result c.from_residual-in_err-add_pattern.ensures.1 in
-    let b = c.args.self.now in
+    let b = c.self.inside in
     let cmp = g.L.Ord.cmp in
     let unit = g.L.EdgeLabel.unit in
     let width = g.L.EdgeLabel.width in
@@ -44,13 +44,13 @@ returns-in_err-add_pattern-clause-refused g c =
     let why : (is_leftmost_first b.kind ≡ false) ⊎ (early ≡ false) =
     elim c.else-is_leftmost_first.branch [ else-is_leftmost_first-via-then-is_leftmost_first+else-extends_key w ↦ inr (ap (λ (ss : List (NfaBuilderState g.row.L.Denot g.row.V.Denot g.row.A.Denot)). meets_early (child_of cmp ss) (stops_of true ss) 0 c.args.pattern.now) (sym w.deref.ensures.value) ∙ sym w.extends_key.ensures ∙ w.if-extends_key.false) | else-is_leftmost_first-via-else-is_leftmost_first w ↦ inl (sym c.is_leftmost_first.ensures ∙ w.if-is_leftmost_first.false) ] in
     let short : size width (map unit pattern) ≤ 4294967295 = rw (← c.in_ok-size.ensures.size) (search rules) in
-    rw (p.1, p.2) (IsRefusal-weaker ⊥ _ StateId _ _ (λ none. absurd none)
+    rw (← c.self.view_is, p.1, p.2) (IsRefusal-weaker ⊥ _ StateId _ _ (λ none. absurd none)
     (λ over. (short, λ rs reg. too_many cmp unit g.met.L.EdgeLabel.exact width b.kind b.states.items rs pattern c.args.value (counts cmp unit width b.kind b.states.items rs reg.holds pattern c.args.value why) reg.holds 4294967295 over))
     _ c.in_err-add_pattern.ensures.refused)
 
 pub returns-clause-registered : goal.returns-clause-registered
-returns-clause-registered g c = λ rs reg.
-    let b = c.args.self.now in
+returns-clause-registered g c = rw (← c.self.view_is) (λ rs reg.
+    let b = c.self.inside in
     let cmp = g.L.Ord.cmp in
     let unit = g.L.EdgeLabel.unit in
     let width = g.L.EdgeLabel.width in
@@ -64,11 +64,11 @@ returns-clause-registered g c = λ rs reg.
     record {
       holds = holds_more unit g.met.L.EdgeLabel.exact b.kind rs p c.args.value more cmp width b.states.items c.add_pattern.new.states.items reg.holds added;
       count = omega (arith, len, reg.count, ap length more, length_push (kept b.kind (in_units unit rs)) (map unit p, c.args.value));
-    }
+    })
 
 pub returns-then-extends_key-clause-registered : goal.returns-then-extends_key-clause-registered
-returns-then-extends_key-clause-registered g c = λ rs reg.
-    let b = c.args.self.now in
+returns-then-extends_key-clause-registered g c = rw (← c.self.view_is) (λ rs reg.
+    let b = c.self.inside in
     let cmp = g.L.Ord.cmp in
     let unit = g.L.EdgeLabel.unit in
     let width = g.L.EdgeLabel.width in
@@ -79,4 +79,4 @@ returns-then-extends_key-clause-registered g c = λ rs reg.
     record {
       holds = holds_same cmp unit width b.kind b.states.items rs (rs ++ (p, c.args.value) ∷ []) reg.holds same;
       count = reg.count ∙ ap length (sym same);
-    }
+    })

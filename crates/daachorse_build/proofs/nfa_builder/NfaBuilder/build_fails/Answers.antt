@@ -11,12 +11,11 @@ both_ok (Err e) p q f = tt
 
 pub returns-clause-links : goal.returns-clause-links
 returns-clause-links g c =
-    let new = c.find_links.new.self.states.items in
-    let old = c.args.self.now.states.items in
+    let new = c.find_links.new.self.states in
     let cmp = g.L.Ord.cmp in
     let kept = c.find_links.ensures.kept in
     let E : List (List (g.row.L.Denot × ℕ)) → Type 0 = λ es. IsTable cmp es in
-    let table = subst E (sym kept.edges) c.requires in
+    let table = subst E (sym kept.edges) c.find_links.ensures.trie in
     both_ok c.find_links.result c.find_links.ensures.links c.find_links.ensures.states
     (λ order left states. linked_of_left cmp g.met.L.Ord.total (edges_of new) table (stops_of false new) (λ s. refl) (fails_of new) order.items
     (λ t h. let b = states t h in (b.0, omega (arith, b.1, length-map new (λ s. s.edges)))) left)

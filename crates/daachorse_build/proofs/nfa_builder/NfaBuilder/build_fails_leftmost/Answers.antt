@@ -12,4 +12,4 @@ returns-clause-left g c =
     let old = c.args.self.now in
     let new = c.find_links.new.self in
     on_ok_from c.find_links.result c.find_links.ensures.links
-    (λ order links rs reg w t ne h. links_left_built g.L.Ord.cmp g.met.L.Ord.total old.states.items new.states.items c.requires c.find_links.ensures.kept order.items links g.L.EdgeLabel.unit g.L.EdgeLabel.width old.kind rs reg.holds w t ne h)
+    (λ order links rs reg w t ne h. links_left_built g.L.Ord.cmp g.met.L.Ord.total old.states new.states c.find_links.ensures.trie c.find_links.ensures.kept order.items links g.L.EdgeLabel.unit g.L.EdgeLabel.width old.kind rs reg.holds w t ne h)

@@ -31,79 +31,79 @@ module _ {L V A : Type 0} (cmp : L → L → Ordering) (total : IsTotalOrder cmp
 pub put_lists-requires-clause-links : goal.put_lists-requires-clause-links
 put_lists-requires-clause-links g c =
     let P : List (NfaBuilderState g.row.L.Denot g.row.V.Denot g.row.A.Denot) → Type 0 = λ ss. (leftmost : Bool) × HoldLeftLinks g.L.Ord.cmp leftmost ss c.args.order.now in
-    subst P (sym c.deref_mut.ensures.value) (either g.L.Ord.cmp g.met.L.Ord.total c.args.self.now.states.items c.requires.trie c.args.order.now c.requires.links)
+    subst P (sym c.deref_mut.ensures.value) (either g.L.Ord.cmp g.met.L.Ord.total c.self.inside.states.items c.self.invariant c.args.order.now (rw (← c.self.view_is) at c.requires))
 
 pub returns-clause-positions : goal.returns-clause-positions
 returns-clause-positions g c =
-    let old = c.args.self.now.states.items in
+    let old = c.self.inside.states.items in
     let new = c.put_lists.new.states in
-    let same_len : length new ≡ c.args.self.now.states.len = omega (arith, c.put_lists.auto.states, c.deref_mut.ensures.len) in
-    let back = take_at new (drop (length new) old) c.args.self.now.states.len same_len in
-    let links = either g.L.Ord.cmp g.met.L.Ord.total old c.requires.trie c.args.order.now c.requires.links in
-    on_ok_weaker c.put_lists.result
-    (λ fits w t h. rw back (fits t (known_of_leads g.L.Ord.cmp g.met.L.Ord.total (label_exact g.L.EdgeLabel.unit g.L.Ord.cmp g.met.L.EdgeLabel.exact g.met.L.EdgeLabel.by_unit) (stops_of links.0 old) old c.requires.trie c.args.order.now (fails_of old) links.1 w t h)))
-    c.put_lists.ensures.positions
+    let same_len : length new ≡ c.self.inside.states.len = omega (arith, c.put_lists.auto.states, c.deref_mut.ensures.len) in
+    let back = take_at new (drop (length new) old) c.self.inside.states.len same_len in
+    let links = either g.L.Ord.cmp g.met.L.Ord.total old c.self.invariant c.args.order.now (rw (← c.self.view_is) at c.requires) in
+    rw (← c.self.view_is) (on_ok_weaker c.put_lists.result
+    (λ fits w t h. rw back (fits t (known_of_leads g.L.Ord.cmp g.met.L.Ord.total (label_exact g.L.EdgeLabel.unit g.L.Ord.cmp g.met.L.EdgeLabel.exact g.met.L.EdgeLabel.by_unit) (stops_of links.0 old) old c.self.invariant c.args.order.now (fails_of old) links.1 w t h)))
+    c.put_lists.ensures.positions)
 
 pub returns-clause-lists : goal.returns-clause-lists
 returns-clause-lists g c =
-    let old = c.args.self.now.states.items in
+    let old = c.self.inside.states.items in
     let new = c.put_lists.new.states in
     let outputs = c.put_lists.new.outputs.items in
     let order = c.args.order.now in
     let cmp = g.L.Ord.cmp in
-    let same_len : length new ≡ c.args.self.now.states.len = omega (arith, c.put_lists.auto.states, c.deref_mut.ensures.len) in
-    let back = take_at new (drop (length new) old) c.args.self.now.states.len same_len in
+    let same_len : length new ≡ c.self.inside.states.len = omega (arith, c.put_lists.auto.states, c.deref_mut.ensures.len) in
+    let back = take_at new (drop (length new) old) c.self.inside.states.len same_len in
     let P : List (NfaBuilderState g.row.L.Denot g.row.V.Denot g.row.A.Denot) → Type 0 = λ ss. (leftmost : Bool) → HoldLeftLinks cmp leftmost ss order → AreListed cmp (stops_of leftmost ss) ss order outputs (positions_of new) in
-    on_ok_weaker c.put_lists.result
+    rw (← c.self.view_is) (on_ok_weaker c.put_lists.result
     (λ listed standard rs reg w t h.
-    let links = never cmp g.met.L.Ord.total old c.requires.trie order standard in
-    let known = known_of_leads cmp g.met.L.Ord.total (label_exact g.L.EdgeLabel.unit cmp g.met.L.EdgeLabel.exact g.met.L.EdgeLabel.by_unit) (stops_of false old) old c.requires.trie order (fails_of old) links w t h in
+    let links = never cmp g.met.L.Ord.total old c.self.invariant order standard in
+    let known = known_of_leads cmp g.met.L.Ord.total (label_exact g.L.EdgeLabel.unit cmp g.met.L.EdgeLabel.exact g.met.L.EdgeLabel.by_unit) (stops_of false old) old c.self.invariant order (fails_of old) links w t h in
     let list = subst P c.deref_mut.ensures.value listed false links t known w h in
     ap (λ ss. outputs_at outputs (get_or (positions_of ss) t 0)) back ∙ list
     ∙ left_outputs-never cmp (stops_of false old) (λ s. refl) old w
-    ∙ suffix_outputs-held cmp g.L.EdgeLabel.unit g.L.EdgeLabel.width c.args.self.now.kind old rs reg.holds w)
-    c.put_lists.ensures.lists
+    ∙ suffix_outputs-held cmp g.L.EdgeLabel.unit g.L.EdgeLabel.width c.self.inside.kind old rs reg.holds w)
+    c.put_lists.ensures.lists)
 
 pub returns-clause-chains : goal.returns-clause-chains
 returns-clause-chains g c =
-    let old = c.args.self.now.states.items in
+    let old = c.self.inside.states.items in
     let new = c.put_lists.new.states in
     let outputs = c.put_lists.new.outputs.items in
     let order = c.args.order.now in
     let cmp = g.L.Ord.cmp in
     let exact = label_exact g.L.EdgeLabel.unit cmp g.met.L.EdgeLabel.exact g.met.L.EdgeLabel.by_unit in
-    let same_len : length new ≡ c.args.self.now.states.len = omega (arith, c.put_lists.auto.states, c.deref_mut.ensures.len) in
-    let back = take_at new (drop (length new) old) c.args.self.now.states.len same_len in
+    let same_len : length new ≡ c.self.inside.states.len = omega (arith, c.put_lists.auto.states, c.deref_mut.ensures.len) in
+    let back = take_at new (drop (length new) old) c.self.inside.states.len same_len in
     let P : List (NfaBuilderState g.row.L.Denot g.row.V.Denot g.row.A.Denot) → Type 0 = λ ss. (leftmost : Bool) → HoldLeftLinks cmp leftmost ss order → AreListed cmp (stops_of leftmost ss) ss order outputs (positions_of new) in
-    on_ok_weaker c.put_lists.result
+    rw (← c.self.view_is) (on_ok_weaker c.put_lists.result
     (λ listed links rs reg w t h.
-    let known = known_of_leads cmp g.met.L.Ord.total exact (stops_of true old) old c.requires.trie order (fails_of old) links w t h in
+    let known = known_of_leads cmp g.met.L.Ord.total exact (stops_of true old) old c.self.invariant order (fails_of old) links w t h in
     let list = ap (λ ss. outputs_at outputs (get_or (positions_of ss) t 0)) back ∙ subst P c.deref_mut.ensures.value listed true links t known w h in
-    let K = dictionary c.args.self.now.kind (in_units g.L.EdgeLabel.unit rs) in
+    let K = dictionary c.self.inside.kind (in_units g.L.EdgeLabel.unit rs) in
     let C : List (g.row.V.Denot × ℕ) → Type 0 = λ l. IsChain g.L.EdgeLabel.width K (IsDead K) (map g.L.EdgeLabel.unit w) l in
-    subst C (sym list) (chain-left cmp g.met.L.Ord.total exact g.L.EdgeLabel.unit g.L.EdgeLabel.width c.args.self.now.kind old rs reg.holds w))
-    c.put_lists.ensures.lists
+    subst C (sym list) (chain-left cmp g.met.L.Ord.total exact g.L.EdgeLabel.unit g.L.EdgeLabel.width c.self.inside.kind old rs reg.holds w))
+    c.put_lists.ensures.lists)
 
 pub returns-clause-follows : goal.returns-clause-follows
 returns-clause-follows g c =
-    let old = c.args.self.now.states.items in
+    let old = c.self.inside.states.items in
     let new = c.put_lists.new.states in
     let outputs = c.put_lists.new.outputs.items in
     let order = c.args.order.now in
     let cmp = g.L.Ord.cmp in
-    let same_len : length new ≡ c.args.self.now.states.len = omega (arith, c.put_lists.auto.states, c.deref_mut.ensures.len) in
-    let back = take_at new (drop (length new) old) c.args.self.now.states.len same_len in
-    let either = either cmp g.met.L.Ord.total old c.requires.trie order c.requires.links in
+    let same_len : length new ≡ c.self.inside.states.len = omega (arith, c.put_lists.auto.states, c.deref_mut.ensures.len) in
+    let back = take_at new (drop (length new) old) c.self.inside.states.len same_len in
+    let either = either cmp g.met.L.Ord.total old c.self.invariant order (rw (← c.self.view_is) at c.requires) in
     let P : List (NfaBuilderState g.row.L.Denot g.row.V.Denot g.row.A.Denot) → Type 0 = λ ss. (leftmost : Bool) → HoldLeftLinks cmp leftmost ss order → AreChained (own_of ss) (fails_of ss) order outputs (positions_of new) in
     let Q : List (NfaBuilderState g.row.L.Denot g.row.V.Denot g.row.A.Denot) → Type 0 = λ ss. (t : ℕ) → IsKnown order t → IsChainedAt (own_of old) (fails_of old) outputs (positions_of ss) t in
-    on_ok_weaker c.put_lists.result
+    rw (← c.self.view_is) (on_ok_weaker c.put_lists.result
     (λ chained w t h.
-    let known = known_of_leads cmp g.met.L.Ord.total (label_exact g.L.EdgeLabel.unit cmp g.met.L.EdgeLabel.exact g.met.L.EdgeLabel.by_unit) (stops_of either.0 old) old c.requires.trie order (fails_of old) either.1 w t h in
+    let known = known_of_leads cmp g.met.L.Ord.total (label_exact g.L.EdgeLabel.unit cmp g.met.L.EdgeLabel.exact g.met.L.EdgeLabel.by_unit) (stops_of either.0 old) old c.self.invariant order (fails_of old) either.1 w t h in
     subst Q (sym back) (subst P c.deref_mut.ensures.value chained either.0 either.1) t known)
-    c.put_lists.ensures.chained
+    c.put_lists.ensures.chained)
 
 pub returns-clause-kept_bound : goal.returns-clause-kept_bound
 returns-clause-kept_bound g c =
-    on_ok_weaker c.put_lists.result
+    rw (← c.self.view_is) (on_ok_weaker c.put_lists.result
     (λ bound rs reg. omega (arith, bound, ap (λ ss. output_count (own_of ss)) c.deref_mut.ensures.value, reg.holds.count, reg.count))
-    c.put_lists.ensures.bound
+    c.put_lists.ensures.bound)

@@ -13,8 +13,8 @@ use Rattle.daachorse_build.proofs.nfa_builder.NfaBuilder.find_links.Goals as goa
 pub loop-search-smaller : goal.loop-search-smaller
 loop-search-smaller g c =
     let s = c.loop-search.search in
-    let states = c.args.self.now.states.items in
-    let bound = length-order g.L.Ord.cmp g.met.L.Ord.total (edges_of states) c.requires (stops_of s.leftmost states) s.links.items s.order.items [] s.next c.loop-search.invariant.search in
+    let states = c.self.inside.states.items in
+    let bound = length-order g.L.Ord.cmp g.met.L.Ord.total (edges_of states) c.self.invariant (stops_of s.leftmost states) s.links.items s.order.items [] s.next c.loop-search.invariant.search in
     let count = length-map states (λ s. s.edges) in
     let more : s.next < length s.order.items = omega arith in
     omega (arith, bound, count, more, c.in_ok-expand.ensures.next)
@@ -30,41 +30,41 @@ linked_same {L} {V} cmp kind kind' own own' edges edges' fails fails' order k o 
 pub returns-clause-links : goal.returns-clause-links
 returns-clause-links g c =
     let s = c.loop-search.search in
-    let old = c.args.self.now.states.items in
+    let old = c.self.inside.states.items in
     let new = c.set_links.new.states in
     let i = c.loop-search.invariant.search in
-    let same_len : length new ≡ c.args.self.now.states.len = omega (arith, c.set_links.auto.states, c.deref_mut.ensures.len) in
+    let same_len : length new ≡ c.self.inside.states.len = omega (arith, c.set_links.auto.states, c.deref_mut.ensures.len) in
     let edges : edges_of old ≡ edges_of new = ap edges_of (sym c.deref_mut.ensures.value) ∙ sym c.set_links.ensures.kept.edges in
     let own : own_of old ≡ own_of new = ap own_of (sym c.deref_mut.ensures.value) ∙ sym c.set_links.ensures.kept.outputs in
     let fails : s.links.items ≡ fails_of new = sym c.deref-2.ensures.value ∙ sym c.set_links.ensures.links in
-    let back = take_at new (drop (length new) old) c.args.self.now.states.len same_len in
-    let done : s.order.items ≡ _ = search_end g.L.Ord.cmp g.met.L.Ord.total (edges_of old) c.requires (stops_of s.leftmost old) s.links.items s.order.items s.next i (omega arith) in
+    let back = take_at new (drop (length new) old) c.self.inside.states.len same_len in
+    let done : s.order.items ≡ _ = search_end g.L.Ord.cmp g.met.L.Ord.total (edges_of old) c.self.invariant (stops_of s.leftmost old) s.links.items s.order.items s.next i (omega arith) in
     rw back (linked_same g.L.Ord.cmp s.leftmost c.args.leftmost (own_of old) (own_of new) (edges_of old) (edges_of new) s.links.items (fails_of new) s.order.items c.loop-search.invariant.kind own edges fails
     (record { first = done; linked = i.linked; earlier = i.earlier; once = i.once }))
 
 pub returns-clause-root : goal.returns-clause-root
 returns-clause-root g c =
     let s = c.loop-search.search in
-    let old = c.args.self.now.states.items in
+    let old = c.self.inside.states.items in
     let new = c.set_links.new.states in
-    let same_len : length new ≡ c.args.self.now.states.len = omega (arith, c.set_links.auto.states, c.deref_mut.ensures.len) in
+    let same_len : length new ≡ c.self.inside.states.len = omega (arith, c.set_links.auto.states, c.deref_mut.ensures.len) in
     let fails : fails_of new ≡ s.links.items = c.set_links.ensures.links ∙ c.deref-2.ensures.value in
-    let back = take_at new (drop (length new) old) c.args.self.now.states.len same_len in
+    let back = take_at new (drop (length new) old) c.self.inside.states.len same_len in
     rw back (ap (λ fs. get_or fs 0 0) fails ∙ c.loop-search.invariant.search.root)
 
 pub returns-clause-states : goal.returns-clause-states
 returns-clause-states g c =
-    let old = c.args.self.now.states.items in
+    let old = c.self.inside.states.items in
     let new = c.set_links.new.states in
-    let same_len : length new ≡ c.args.self.now.states.len = omega (arith, c.set_links.auto.states, c.deref_mut.ensures.len) in
-    let back = take_at new (drop (length new) old) c.args.self.now.states.len same_len in
+    let same_len : length new ≡ c.self.inside.states.len = omega (arith, c.set_links.auto.states, c.deref_mut.ensures.len) in
+    let back = take_at new (drop (length new) old) c.self.inside.states.len same_len in
     rw back (λ t h. let b = c.loop-search.invariant.search.states t h in (b.0, omega (arith, b.1, length-map old (λ s. s.edges), same_len, c.deref_mut.ensures.len, ap length c.deref_mut.ensures.value)))
 
 pub returns-clause-kept : goal.returns-clause-kept
 returns-clause-kept g c =
-    let old = c.args.self.now.states.items in
+    let old = c.self.inside.states.items in
     let new = c.set_links.new.states in
-    let same_len : length new ≡ c.args.self.now.states.len = omega (arith, c.set_links.auto.states, c.deref_mut.ensures.len) in
-    let back = take_at new (drop (length new) old) c.args.self.now.states.len same_len in
+    let same_len : length new ≡ c.self.inside.states.len = omega (arith, c.set_links.auto.states, c.deref_mut.ensures.len) in
+    let back = take_at new (drop (length new) old) c.self.inside.states.len same_len in
     let P : List (NfaBuilderState g.row.L.Denot g.row.V.Denot g.row.A.Denot) → Type 0 = λ ss. HasTrieOf ss new in
-    rw back (subst P c.deref_mut.ensures.value c.set_links.ensures.kept)
+    rw (← c.self.view_is, back) (subst P c.deref_mut.ensures.value c.set_links.ensures.kept)

@@ -6,10 +6,10 @@ use Rattle.daachorse_build.proofs.nfa_builder.NfaBuilder.find_links.Given as goa
 -- what was left so far is in the walk, and the builder is as it was
 abbrev pub invariant-loop-search : goal.invariant-loop-search
 invariant-loop-search g l = record {
-  search : Searches g.L.Ord.cmp l.self.states.items l.search [];
+  search : Searches g.L.Ord.cmp l.self-inside.states.items l.search [];
   kind : l.search.leftmost ≡ l.fn.leftmost;
 }
 
 -- the states that are still to be left
 abbrev pub decreases-loop-search : goal.decreases-loop-search
-decreases-loop-search g l = length l.self.states.items - l.search.next
+decreases-loop-search g l = length l.self-inside.states.items - l.search.next

@@ -9,7 +9,7 @@ use Rattle.std.proofs.lemmas.Map.Keys.{ge_from_not_lt}
 use Rattle.std.specs.declared.cmp.Reverse.{Reverse}
 use Rattle.daachorse_placement.specs.declared.build_helper.SiblingGroup.{SiblingGroup}
 use Rattle.daachorse_build.specs.declared.nfa_builder.NfaBuilderState.{NfaBuilderState}
-use Rattle.daachorse_build.specs.Tables.{edges_of}
+use Rattle.daachorse_build.specs.Tables.{edges_of, HoldTrie}
 use Rattle.daachorse_build.specs.Groups.{AreGiven, edges_at, has_edges, if_counted, weight_at, IsWalk, AreFamilies, AreWeighed, AreFalling}
 use Rattle.daachorse_build.proofs.Families.{few_groups, labels_below, trie_groups, placed_groups}
 use Rattle.daachorse_build.proofs.nfa_builder.NfaBuilder.sibling_groups.Goals as goal
@@ -26,31 +26,37 @@ returns-clause-trie g c = λ code says.
       | then-not-is_empty+in_ok-sort_by_key w ↦ subst P (sym (ap (λ v. v.items) w.groups-is)) w.in_ok-sort_by_key.ensures.permutation
       | else-not-is_empty w ↦ subst P (sym (ap (λ v. v.items) w.groups-is)) (IsPermutation-refl c.in_ok-groups.groups.items)
     ] in
-    let old = c.args.self.now.states.items in
+    let old = c.args.self.now.states in
+    let lent : c.deref.result.now ≡ old = c.deref.ensures.value ∙ ap (λ b. b.states) c.self.view_is in
+    let H : List (NfaBuilderState g.row.L.Denot g.row.V.Denot g.row.A.Denot) → Type 0 = λ ss. HoldTrie g.L.Ord.cmp ss in
+    let table = subst H (ap (λ b. b.states) c.self.view_is) c.self.invariant in
     let first = c.in_ok-groups.groups.items in
     let e = c.in_ok-groups.ensures in
     let order = e.parents.0 in
     let gives = λ (l : g.row.L.Denot) (r : ℕ). g.F.Fn.post c.args.map_label (l, tt) r in
     let W : List (NfaBuilderState g.row.L.Denot g.row.V.Denot g.row.A.Denot) → Type 0 = λ ss. IsWalk (edges_of ss) order in
-    let walk = subst W c.deref.ensures.value e.parents.1 in
-    let parents = e.parents.2 ∙ ap (λ ss. filter (has_edges (edges_of ss)) order) c.deref.ensures.value in
+    let walk = subst W lent e.parents.1 in
+    let parents = e.parents.2 ∙ ap (λ ss. filter (has_edges (edges_of ss)) order) lent in
     let F : List (NfaBuilderState g.row.L.Denot g.row.V.Denot g.row.A.Denot) → Type 0 = λ ss. AreFamilies gives (edges_of ss) first in
-    let families = subst F c.deref.ensures.value e.families in
-    trie_groups g.L.Ord.cmp g.met.L.Ord.total old c.requires.trie order walk gives first c.if-not-is_empty.groups.items parents families moved code says
+    let families = subst F lent e.families in
+    trie_groups g.L.Ord.cmp g.met.L.Ord.total old table order walk gives first c.if-not-is_empty.groups.items parents families moved code says
 
 pub returns-clause-groups : goal.returns-clause-groups
 returns-clause-groups g c = λ code block says codes.
     let gives = λ (l : g.row.L.Denot) (r : ℕ). g.F.Fn.post c.args.map_label (l, tt) r in
-    let old = c.args.self.now.states.items in
+    let old = c.args.self.now.states in
+    let lent : c.deref.result.now ≡ old = c.deref.ensures.value ∙ ap (λ b. b.states) c.self.view_is in
+    let H : List (NfaBuilderState g.row.L.Denot g.row.V.Denot g.row.A.Denot) → Type 0 = λ ss. HoldTrie g.L.Ord.cmp ss in
+    let table = subst H (ap (λ b. b.states) c.self.view_is) c.self.invariant in
     let F : List (NfaBuilderState g.row.L.Denot g.row.V.Denot g.row.A.Denot) → Type 0 = λ ss. AreFamilies gives (edges_of ss) c.in_ok-groups.groups.items in
-    let first = subst F c.deref.ensures.value c.in_ok-groups.ensures.families in
+    let first = subst F lent c.in_ok-groups.ensures.families in
     let Q : SiblingGroup g.row.A.Denot → Type 0 = λ x. AreGiven gives (edges_at (edges_of old) x.parent) x.children.items in
     let P : List (SiblingGroup g.row.A.Denot) → Type 0 = λ gs. All Q gs in
     let families : All Q c.if-not-is_empty.groups.items = elim c.if-not-is_empty.branch [
       | then-not-is_empty+in_ok-sort_by_key w ↦ subst P (sym (ap (λ v. v.items) w.groups-is)) (All-permutation Q c.in_ok-groups.groups.items _ w.in_ok-sort_by_key.ensures.permutation first)
       | else-not-is_empty w ↦ subst P (sym (ap (λ v. v.items) w.groups-is)) first
     ] in
-    placed_groups g.L.Ord.cmp g.met.L.Ord.total old c.requires.trie gives code block codes c.if-not-is_empty.groups.items (returns-clause-trie g c code says)
+    placed_groups g.L.Ord.cmp g.met.L.Ord.total old table gives code block codes c.if-not-is_empty.groups.items (returns-clause-trie g c code says)
     (labels_below gives (edges_of old) c.if-not-is_empty.groups.items block families codes.below)
 
 pub returns-clause-bound : goal.returns-clause-bound
@@ -60,23 +66,26 @@ returns-clause-bound g c =
       | then-not-is_empty+in_ok-sort_by_key w ↦ subst P (sym (ap (λ v. v.items) w.groups-is)) w.in_ok-sort_by_key.ensures.permutation
       | else-not-is_empty w ↦ subst P (sym (ap (λ v. v.items) w.groups-is)) (IsPermutation-refl c.in_ok-groups.groups.items)
     ] in
-    let old = c.args.self.now.states.items in
+    let old = c.args.self.now.states in
+    let lent : c.deref.result.now ≡ old = c.deref.ensures.value ∙ ap (λ b. b.states) c.self.view_is in
+    let H : List (NfaBuilderState g.row.L.Denot g.row.V.Denot g.row.A.Denot) → Type 0 = λ ss. HoldTrie g.L.Ord.cmp ss in
+    let table = subst H (ap (λ b. b.states) c.self.view_is) c.self.invariant in
     let first = c.in_ok-groups.groups.items in
     let e = c.in_ok-groups.ensures in
     let order = e.parents.0 in
     let gives = λ (l : g.row.L.Denot) (r : ℕ). g.F.Fn.post c.args.map_label (l, tt) r in
     let W : List (NfaBuilderState g.row.L.Denot g.row.V.Denot g.row.A.Denot) → Type 0 = λ ss. IsWalk (edges_of ss) order in
-    let walk = subst W c.deref.ensures.value e.parents.1 in
-    let parents = e.parents.2 ∙ ap (λ ss. filter (has_edges (edges_of ss)) order) c.deref.ensures.value in
+    let walk = subst W lent e.parents.1 in
+    let parents = e.parents.2 ∙ ap (λ ss. filter (has_edges (edges_of ss)) order) lent in
     let F : List (NfaBuilderState g.row.L.Denot g.row.V.Denot g.row.A.Denot) → Type 0 = λ ss. AreFamilies gives (edges_of ss) first in
-    let families = subst F c.deref.ensures.value e.families in
-    few_groups g.L.Ord.cmp g.met.L.Ord.total old c.requires.trie order walk gives first c.if-not-is_empty.groups.items parents families moved
+    let families = subst F lent e.families in
+    few_groups g.L.Ord.cmp g.met.L.Ord.total old table order walk gives first c.if-not-is_empty.groups.items parents families moved
 
 pub returns-clause-weights : goal.returns-clause-weights
 returns-clause-weights g c =
     let W : List (NfaBuilderState g.row.L.Denot g.row.V.Denot g.row.A.Denot) → Type 0 = λ ss. AreWeighed (edges_of ss) c.args.profile.now c.in_ok-groups.groups.items in
-    let weighed = subst W c.deref.ensures.value c.in_ok-groups.ensures.weights in
-    let Q : SiblingGroup g.row.A.Denot → Type 0 = λ x. x.weight ≡ weight_at (edges_of c.args.self.now.states.items) c.args.profile.now x.parent in
+    let weighed = subst W (c.deref.ensures.value ∙ ap (λ b. b.states) c.self.view_is) c.in_ok-groups.ensures.weights in
+    let Q : SiblingGroup g.row.A.Denot → Type 0 = λ x. x.weight ≡ weight_at (edges_of c.args.self.now.states) c.args.profile.now x.parent in
     let P : List (SiblingGroup g.row.A.Denot) → Type 0 = λ gs. All Q gs in
     elim c.if-not-is_empty.branch [
       | then-not-is_empty+in_ok-sort_by_key w ↦ subst P (sym (ap (λ v. v.items) w.groups-is)) (All-permutation Q c.in_ok-groups.groups.items _ w.in_ok-sort_by_key.ensures.permutation weighed)
@@ -85,7 +94,7 @@ returns-clause-weights g c =
 
 pub returns-clause-light : goal.returns-clause-light
 returns-clause-light g c = λ none.
-    All-weaker (λ (x : SiblingGroup g.row.A.Denot). x.weight ≡ weight_at (edges_of c.args.self.now.states.items) c.args.profile.now x.parent) (λ (x : SiblingGroup g.row.A.Denot). x.weight ≡ 0)
+    All-weaker (λ (x : SiblingGroup g.row.A.Denot). x.weight ≡ weight_at (edges_of c.args.self.now.states) c.args.profile.now x.parent) (λ (x : SiblingGroup g.row.A.Denot). x.weight ≡ 0)
     (λ x h. h ∙ if_none c.args.profile.now.visits.items _ none) c.if-not-is_empty.groups.items (returns-clause-weights g c)
 
 pub returns-clause-falling : goal.returns-clause-falling

@@ -1,8 +1,9 @@
 -- From the trie of all patterns and the codes of their characters to what the states are built of, and why that is refused.
 use Rattle.std.proofs.Common.{◌≡◌, ℕ, List, [], ◌∷◌, map, refl, ap, subst, inl, inr}
-use Rattle.std.specs.Prelude.{Result}
+use Rattle.std.specs.Prelude.{IsTrue, Result}
 use Rattle.std.specs.Borrow.{Bor}
-use Rattle.std.specs.Str.{chars}
+use Rattle.std.specs.List.{AllByRecursion}
+use Rattle.std.specs.Str.{all_scalars, chars}
 use Rattle.daachorse_core.specs.declared.errors.DaachorseError.{DaachorseError}
 use Rattle.daachorse_core.specs.declared.errors.DaachorseError.TheVariants.{InvalidArgument, AutomatonScale, InvalidConversion, InvalidAutomaton, OutOfMemory}
 use Rattle.daachorse_core.specs.declared.errors.Limit.TheVariants.{NumElements}
@@ -18,6 +19,7 @@ use Rattle.daachorse_charwise_states.specs.Packing.{AreCoded, NeedsManyBlocks}
 use Rattle.daachorse_charwise.specs.Building.{AreCodesOf, IsBuildRefusal, IsRefusalOf, char_limits, registered_texts}
 use Rattle.daachorse_charwise.specs.Frequencies.{AreFrequencies}
 use Rattle.daachorse_charwise.proofs.CodedLaws.{coded}
+use Rattle.daachorse_charwise.proofs.TextLaws.{registered_scalars}
 
 texts_in : {V : Type 0} (patterns : List (Bor (List ℕ) × V)) → map (λ p. chars p.0.now) patterns ≡ map (λ r. r.0) (registered_texts patterns)
 texts_in [] = refl
@@ -31,8 +33,8 @@ module _ {V : Type 0} (patterns : List (Bor (List ℕ) × V)) (freqs : List ℕ)
   pub codes_of : AreCodesOf (map (λ r. r.0) (registered_texts patterns)) coding
   codes_of = (freqs, counted_texts, codes)
 
-  pub coded_keys : (kind : MatchKind) → AreCoded coding (dictionary kind (registered_texts patterns))
-  coded_keys kind = coded kind (registered_texts patterns) freqs coding counted_texts codes
+  pub coded_keys : AllByRecursion (λ p. IsTrue (all_scalars (chars p.0.now))) patterns → (kind : MatchKind) → AreCoded coding (dictionary kind (registered_texts patterns))
+  coded_keys texts kind = coded kind (registered_texts patterns) freqs coding (registered_scalars patterns texts) counted_texts codes
 
 -- the elements run out, or memory does
 pub elements_refused : {V : Type 0} (kind : MatchKind) (rs : List (List ℕ × V)) (coding : Coding) → Fit char_width kind rs → AreCodesOf (map (λ r. r.0) rs) coding

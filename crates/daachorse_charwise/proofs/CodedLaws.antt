@@ -1,7 +1,8 @@
 -- Each character of a pattern occurs in the patterns, so it has a frequency and a code.
-use Rattle.std.proofs.Common.{◌≡◌, ◌≢◌, ℕ, ◌+◌, ◌<◌, ◌≤◌, Bool, true, false, cond, List, [], ◌∷◌, ◌++◌, map, refl, ap, arith}
-use Rattle.std.specs.Prelude.{nat_eq, count_by, slice_index}
+use Rattle.std.proofs.Common.{◌≡◌, ◌≢◌, ℕ, ◌+◌, ◌<◌, ◌≤◌, Bool, true, false, cond, List, [], ◌∷◌, ◌++◌, map, refl, ap, ◌∙◌, arith}
+use Rattle.std.specs.Prelude.{IsTrue, is_some, nat_eq, count_by, slice_index}
 use Rattle.std.specs.List.{list_any}
+use Rattle.std.specs.Str.{all_scalars}
 use Rattle.std.proofs.lemmas.Bool.{eq-eqb}
 use Rattle.std.proofs.lemmas.Slice.Eq.{bytes_eq-Decides}
 use Rattle.daachorse_model.specs.declared.MatchKind.{MatchKind}
@@ -9,9 +10,13 @@ use Rattle.daachorse_model.specs.declared.MatchKind.TheVariants.{Standard, Leftm
 use Rattle.daachorse_model.specs.Dictionary.{dictionary, is_proper_prefix, kept, values_of, without_extensions}
 use Rattle.daachorse_model.specs.Units.{same_text}
 use Rattle.daachorse_mapper.specs.Codings.{Coding, IsCodingOf}
+use Rattle.daachorse_packing.proofs.Keys.{of_key}
 use Rattle.daachorse_charwise_states.specs.Packing.{AreCoded}
+use Rattle.daachorse_charwise_states.specs.Texts.{AreTexts}
+use Rattle.daachorse_charwise_states.proofs.Codes.{char_code-of}
 use Rattle.daachorse_charwise.specs.Frequencies.{AreFrequencies, joined}
 use Rattle.daachorse_charwise.proofs.CountLaws.{count-append}
+use Rattle.daachorse_charwise.proofs.TextLaws.{scalar_in}
 
 -- how often u is in a text, and in the texts of registrations
 abbrev often : ℕ → List ℕ → ℕ
@@ -49,13 +54,14 @@ module _ {V : Type 0} (u : ℕ) where
       go true is rest key = let same : often u r.0 ≡ often u w = ap (often u) ((bytes_eq-Decides r.0 w).0 is) in omega (arith, same, in_first r rs)
       go false is rest key = omega (arith, rest key, in_first r rs)
 
--- each character of a key has a code, where the codes are those of the characters of all patterns
-pub coded : {V : Type 0} (kind : MatchKind) (rs : List (List ℕ × V)) (freqs : List ℕ) (coding : Coding) → AreFrequencies (map (λ r. r.0) rs) freqs → IsCodingOf freqs coding → AreCoded coding (dictionary kind rs)
-coded {V} kind rs freqs coding counted codes v w u key =
+-- each unit of a key is a character that has a code, where the patterns are texts and the codes are those of their characters
+pub coded : {V : Type 0} (kind : MatchKind) (rs : List (List ℕ × V)) (freqs : List ℕ) (coding : Coding) → AreTexts rs → AreFrequencies (map (λ r. r.0) rs) freqs → IsCodingOf freqs coding → AreCoded coding (dictionary kind rs)
+coded {V} kind rs freqs coding texts counted codes v w u key =
+    let character = scalar_in v w u (of_key (λ t. IsTrue (all_scalars t)) kind rs texts (v ++ u ∷ w) key) in
     let among = key_among u (kept kind rs) (v ++ u ∷ w) key in
     let fewer = kept_fewer u kind rs in
     let here = count-append u v (u ∷ w) in
     let self : often u (u ∷ []) ≡ 1 = ap (λ b. 0 + cond b 1 0) (eq-eqb u u refl) in
     let one : often u (u ∷ w) ≡ often u (u ∷ []) + often u w = count-append u (u ∷ []) w in
     let some : 0 < slice_index freqs u = omega (arith, counted.counts u, among, fewer, here, one, self) in
-    (codes.coded u).1 some
+    ap is_some (char_code-of coding u character) ∙ (codes.coded u).1 some

@@ -1,11 +1,8 @@
 -- What an automaton over characters keeps: its states, and the depths of its elements where they are cached, in characters.
-use Rattle.std.specs.Prelude.{ℕ, List, length, IsTrue}
-use Rattle.std.specs.List.{AllByRecursion}
-use Rattle.std.specs.Str.{all_scalars}
-use Rattle.daachorse_model.specs.Prefixes.{IsKey}
+use Rattle.std.specs.Prelude.{ℕ, List, length}
 use Rattle.daachorse_listing.specs.Automata.{Automaton as Kept, MayHaveDepths as MayHave}
 use Rattle.daachorse_listing.specs.Depths.{IsDepthTable}
-use Rattle.daachorse_charwise_states.specs.Parts.{Parts, child, content, count}
+use Rattle.daachorse_charwise_states.specs.Parts.{Parts, child, count}
 
 abbrev pub Automaton : Type 0 → Type 0
 Automaton V = Kept (Parts V)
@@ -17,11 +14,3 @@ HasDepths p depths = IsDepthTable (child p) (length p.coding.table) (count p) de
 -- no depths are cached, or those of all elements
 abbrev pub MayHaveDepths : {V : Type 0} → Parts V → List ℕ → Type 0
 MayHaveDepths p depths = MayHave (child p) (length p.coding.table) (count p) depths
-
--- the keys of these entries are texts
-abbrev pub AreTexts : {V : Type 0} → List (List ℕ × V) → Type 0
-AreTexts entries = AllByRecursion (λ e. IsTrue (all_scalars e.0)) entries
-
--- each key of the automaton is a text
-abbrev pub HasTexts : {V : Type 0} → Parts V → Type 0
-HasTexts p = (w : List ℕ) → IsKey (content p) w → IsTrue (all_scalars w)

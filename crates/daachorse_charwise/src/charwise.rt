@@ -3,9 +3,11 @@
 //! The layers above may rely on a build holding just the dictionary of its patterns, and on each
 //! search giving the whole list of matches that the definitions give for that dictionary.
 
-ghost use Rattle.std.specs.Prelude.{◌≡◌, ◌≢◌, ◌⊎◌, [], IfOk, IfErr, OnOk, OnErr};
+ghost use Rattle.std.specs.Prelude.{◌≡◌, ◌≢◌, ◌⊎◌, [], IfOk, IfErr, OnOk, OnErr, IsSortedByKey, encode_utf8_all};
+ghost use Rattle.std.specs.Cmp.Lexicographic.{slice_cmp};
 ghost use Rattle.std.specs.Iterator.{IsFinite};
 ghost use Rattle.std.specs.Iterator.Runs.{WholeRun};
+ghost use Rattle.std.specs.Ordering.{nat_cmp};
 ghost use Rattle.std.specs.Str.{chars};
 ghost use Rattle.daachorse_core.specs.Refusals.{IsOutOfMemory};
 ghost use Rattle.daachorse_model.specs.declared.MatchKind.TheVariants.{Standard};
@@ -14,9 +16,10 @@ ghost use Rattle.daachorse_model.specs.Leftmost.{leftmost};
 ghost use Rattle.daachorse_model.specs.Matches.{no_suffix, overlapping, standard};
 ghost use Rattle.daachorse_model.specs.Prefixes.{HasPrefixes, IsListing};
 ghost use Rattle.daachorse_search.specs.Searches.{all_found, first_found, standard_found};
-ghost use Rattle.daachorse_charwise.specs.Automata.{HasDepths, HasTexts};
+ghost use Rattle.daachorse_charwise.specs.Automata.{HasDepths};
 ghost use Rattle.daachorse_charwise.specs.Building.{IsBuildRefusal, IsBuiltOf, IsHeld, IsRefusalOf, registered_texts, spelled};
 ghost use Rattle.daachorse_charwise_states.specs.Parts.{content, count};
+ghost use Rattle.daachorse_charwise_states.specs.Texts.{AreTexts};
 
 pub mod builder;
 mod frequencies;
@@ -56,13 +59,13 @@ pub struct CharwiseDoubleArrayAhoCorasick<V: Copy, A: Allocator = Global> {
 }
 
 impl<V: Copy, A: Allocator> Model for CharwiseDoubleArrayAhoCorasick<V, A> {
-    ghost use Rattle.daachorse_charwise.specs.Automata.{Automaton, HasTexts, MayHaveDepths};
+    ghost use Rattle.daachorse_charwise.specs.Automata.{Automaton, MayHaveDepths};
 
     ghost Value = { Automaton V };
 
     ghost view = { λ a. record { parts = a.states; depths = a.depths.items } };
 
-    ghost invariant = { λ a. MayHaveDepths a.states a.depths.items × HasTexts a.states };
+    ghost invariant = { λ a. MayHaveDepths a.states a.depths.items };
 }
 
 impl<V: Copy, A: Allocator + Copy> CharwiseDoubleArrayAhoCorasick<V, A> {
@@ -119,7 +122,6 @@ impl<V: Copy, A: Allocator + Copy> CharwiseDoubleArrayAhoCorasick<V, A> {
 impl<V: Copy, A: Allocator + Copy> CharwiseDoubleArrayAhoCorasick<V, A> {
     /// The automaton of these states, with no depths cached.
     pub(crate) fn of_states(alloc: A, states: States<V, A>) -> Self
-        requires { HasTexts states }
         ensures parts { result.parts ≡ states }
         ensures depths { result.depths ≡ [] }
     {
@@ -156,6 +158,8 @@ impl<V: Copy, A: Allocator + Copy> CharwiseDoubleArrayAhoCorasick<V, A> {
     /// An allocation failed.
     pub fn iter<'a>(&'a self, alloc: A) -> Result<PatternIterator<'a, V, A>>
         ensures ok { IfOk result (λ patterns. IsListing (content self.entry.now.parts) patterns) }
+        ensures texts { IfOk result AreTexts }
+        ensures by_bytes { IfOk result (IsSortedByKey (λ r. encode_utf8_all r.0) (slice_cmp nat_cmp)) }
         ensures err { IfErr result IsOutOfMemory }
     {
         let walk = self.states.pattern_iter(alloc)?;

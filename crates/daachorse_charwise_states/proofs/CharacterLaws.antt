@@ -1,9 +1,12 @@
 -- Going over a mapper's table one gets the character of each code, since no two characters have the same.
 use Rattle.std.proofs.Common.{◌≡◌, ◌≢◌, ℕ, zero, suc, ◌<◌, ◌==◌, Bool, true, false, List, cond, length, get_or, set, replicate, slice_index, slice_get, Option, Some, None, refl, sym, ap, ◌∙◌, subst, arith}
+use Rattle.std.proofs.Math.Utf8.{scalar}
 use Rattle.std.proofs.lemmas.Option.{same_Some, slice_get-get_or}
 use Rattle.std.proofs.lemmas.List.{get_or-set_same, get_or-set_other, length-set, length-replicate}
 use Rattle.daachorse_mapper.specs.Codings.{Coding, IsCoding, code_of, entry_code}
-use Rattle.daachorse_charwise_states.specs.Edges.{AreCharacters}
+use Rattle.daachorse_charwise_states.specs.Edges.{AreCharacters, character_at}
+use Rattle.daachorse_charwise_states.specs.Parts.{char_code}
+use Rattle.daachorse_charwise_states.proofs.Codes.{char_code-is, char_code-of}
 
 -- what an entry of the table says
 module _ (coding : Coding) (table : List ℕ) (same : table ≡ coding.table) (u : ℕ) (less : u < length table) where
@@ -16,11 +19,19 @@ module _ (coding : Coding) (table : List ℕ) (same : table ≡ coding.table) (u
   pub none_read : slice_index table u ≡ 4294967295 → code_of coding u ≡ None
   none_read here = ap entry_code entry_at ∙ (let test : (slice_index table u == 4294967295) ≡ true = grind (arith, here) in ap (λ b. cond {A = Option ℕ} b None (Some (slice_index table u))) test)
 
+-- the character at a code point is the code point
+character_is : (u v : ℕ) → character_at u ≡ Some v → (scalar u ≡ true) × (u ≡ v)
+character_is u v e = go (scalar u) e
+  where
+    go : (b : Bool) → cond b (Some u) None ≡ Some v → (b ≡ true) × (u ≡ v)
+    go true is = (refl, same_Some u v is)
+    go false is = absurd (cc)
+
 module _ (coding : Coding) (is : IsCoding coding) where
   -- one more code point, which has a code
-  pub character_more : (u k : ℕ) (old : List ℕ) → code_of coding u ≡ Some k → AreCharacters coding u old → AreCharacters coding (suc u) (set old k (suc u))
+  character_more : (u k : ℕ) (old : List (Option ℕ)) → code_of coding u ≡ Some k → AreCharacters coding u old → AreCharacters coding (suc u) (set old k (character_at u))
   character_more u k old code so = record {
-    size = length-set old k (suc u) ∙ so.size;
+    size = length-set old k (character_at u) ∙ so.size;
     from_code = λ v j less e. at_code v j less e (v == u) refl;
     to_code = λ v j e. at_place v j e (j == k) refl;
   }
@@ -28,62 +39,62 @@ module _ (coding : Coding) (is : IsCoding coding) where
       low : k < length old
       low = let below : k < coding.alphabet_size = is.below u k code in omega (arith, below, so.size)
 
-      same : get_or (set old k (suc u)) k 0 ≡ suc u
-      same = get_or-set_same old k (suc u) 0 low
+      same : get_or (set old k (character_at u)) k None ≡ character_at u
+      same = get_or-set_same old k (character_at u) None low
 
-      at_code : (v j : ℕ) → v < suc u → code_of coding v ≡ Some j → (b : Bool) → (v == u) ≡ b → get_or (set old k (suc u)) j 0 ≡ suc v
+      at_code : (v j : ℕ) → v < suc u → char_code coding v ≡ Some j → (b : Bool) → (v == u) ≡ b → get_or (set old k (character_at u)) j None ≡ Some v
       at_code v j less e true test =
           let here : v ≡ u = grind (arith, test) in
-          let place : j ≡ k = same_Some j k (sym e ∙ (ap (code_of coding) here ∙ code)) in
-          ap (λ i. get_or (set old k (suc u)) i 0) place ∙ (same ∙ ap suc (sym here))
+          let own = char_code-is coding v j e in
+          let place : j ≡ k = same_Some j k (sym own.1 ∙ (ap (code_of coding) here ∙ code)) in
+          ap (λ i. get_or (set old k (character_at u)) i None) place ∙ (same ∙ (ap character_at (sym here) ∙ ap (λ b. cond b (Some v) None) own.0))
       at_code v j less e false test =
           let below : v < u = grind (arith, less, test) in
-          let other : j ≢ k = λ place. (let here : v ≡ u = is.injective v u k (e ∙ ap Some place) code in omega (arith, here, below)) in
-          get_or-set_other old k j (suc u) 0 other ∙ so.from_code v j below e
+          let other : j ≢ k = λ place. (let here : v ≡ u = is.injective v u k ((char_code-is coding v j e).1 ∙ ap Some place) code in omega (arith, here, below)) in
+          get_or-set_other old k j (character_at u) None other ∙ so.from_code v j below e
 
-      at_place : (v j : ℕ) → get_or (set old k (suc u)) j 0 ≡ suc v → (b : Bool) → (j == k) ≡ b → code_of coding v ≡ Some j
+      at_place : (v j : ℕ) → get_or (set old k (character_at u)) j None ≡ Some v → (b : Bool) → (j == k) ≡ b → char_code coding v ≡ Some j
       at_place v j e true test =
           let place : j ≡ k = grind (arith, test) in
-          let moved : get_or (set old k (suc u)) k 0 ≡ suc v = ap (λ i. get_or (set old k (suc u)) i 0) (sym place) ∙ e in
-          let here : u ≡ v = omega (arith, moved, same) in
-          ap (code_of coding) (sym here) ∙ (code ∙ ap Some (sym place))
+          let own = character_is u v (sym same ∙ (ap (λ i. get_or (set old k (character_at u)) i None) (sym place) ∙ e)) in
+          ap (char_code coding) (sym own.1) ∙ (char_code-of coding u own.0 ∙ (code ∙ ap Some (sym place)))
       at_place v j e false test =
           let other : j ≢ k = grind (arith, test) in
-          so.to_code v j (sym (get_or-set_other old k j (suc u) 0 other) ∙ e)
+          so.to_code v j (sym (get_or-set_other old k j (character_at u) None other) ∙ e)
 
   -- one more code point, which has none
-  pub character_none : (u : ℕ) (old : List ℕ) → code_of coding u ≡ None → AreCharacters coding u old → AreCharacters coding (suc u) old
+  character_none : (u : ℕ) (old : List (Option ℕ)) → code_of coding u ≡ None → AreCharacters coding u old → AreCharacters coding (suc u) old
   character_none u old none so = record {
     size = so.size;
     from_code = λ v j less e. at_code v j less e (v == u) refl;
     to_code = so.to_code;
   }
     where
-      at_code : (v j : ℕ) → v < suc u → code_of coding v ≡ Some j → (b : Bool) → (v == u) ≡ b → slice_index old j ≡ suc v
+      at_code : (v j : ℕ) → v < suc u → char_code coding v ≡ Some j → (b : Bool) → (v == u) ≡ b → get_or old j None ≡ Some v
       at_code v j less e true test =
           let here : v ≡ u = grind (arith, test) in
-          let both : None ≡ Some j = sym none ∙ (ap (code_of coding) (sym here) ∙ e) in absurd (cc)
+          let both : None ≡ Some j = sym none ∙ (ap (code_of coding) (sym here) ∙ (char_code-is coding v j e).1) in absurd (cc)
       at_code v j less e false test = so.from_code v j (grind (arith, less, test)) e
 
   -- what is written at the code of the next code point
-  pub character_written : (u n k : ℕ) (old new : List ℕ) → n ≡ suc u → code_of coding u ≡ Some k → new ≡ set old k n → AreCharacters coding u old → AreCharacters coding n new
+  pub character_written : (u n k : ℕ) (old new : List (Option ℕ)) → n ≡ suc u → code_of coding u ≡ Some k → new ≡ set old k (character_at u) → AreCharacters coding u old → AreCharacters coding n new
   character_written u n k old new next code written so =
-      let P : ℕ → Type 0 = λ m. AreCharacters coding m (set old k m) in
-      let Q : List ℕ → Type 0 = λ l. AreCharacters coding n l in
+      let P : ℕ → Type 0 = λ m. AreCharacters coding m (set old k (character_at u)) in
+      let Q : List (Option ℕ) → Type 0 = λ l. AreCharacters coding n l in
       subst Q (sym written) (subst P (sym next) (character_more u k old code so))
 
-  pub character_left : (u n : ℕ) (old : List ℕ) → n ≡ suc u → code_of coding u ≡ None → AreCharacters coding u old → AreCharacters coding n old
+  pub character_left : (u n : ℕ) (old : List (Option ℕ)) → n ≡ suc u → code_of coding u ≡ None → AreCharacters coding u old → AreCharacters coding n old
   character_left u n old next none so = let P : ℕ → Type 0 = λ m. AreCharacters coding m old in subst P (sym next) (character_none u old none so)
 
 -- before the first code point
-all_zero : (n k : ℕ) → get_or {A = ℕ} (replicate n 0) k 0 ≡ 0
-all_zero zero k = refl
-all_zero (suc n) zero = refl
-all_zero (suc n) (suc k) = all_zero n k
+all_none : (n k : ℕ) → get_or {A = Option ℕ} (replicate n None) k None ≡ None
+all_none zero k = refl
+all_none (suc n) zero = refl
+all_none (suc n) (suc k) = all_none n k
 
-pub characters_none : (coding : Coding) → AreCharacters coding 0 (replicate coding.alphabet_size 0)
+pub characters_none : (coding : Coding) → AreCharacters coding 0 (replicate coding.alphabet_size None)
 characters_none coding = record {
-  size = length-replicate coding.alphabet_size 0;
+  size = length-replicate coding.alphabet_size None;
   from_code = λ u k less e. absurd (omega (arith, less));
-  to_code = λ u k e. absurd (let none : get_or (replicate coding.alphabet_size 0) k 0 ≡ 0 = all_zero coding.alphabet_size k in omega (arith, none, e));
+  to_code = λ u k e. absurd (let none : get_or {A = Option ℕ} (replicate coding.alphabet_size None) k None ≡ None = all_none coding.alphabet_size k in cc);
 }

@@ -1,22 +1,22 @@
 -- The elements of valid parts are a tree, and checks, bases and codes tell the children.
-use Rattle.std.proofs.Common.{◌≡◌, ◌≢◌, ℕ, zero, suc, ◌<◌, ◌==◌, Bool, true, false, cond, bit_xor, List, [], ◌∷◌, length, slice_index, slice_index_or, Option, Some, None, refl, sym, ap, ◌∙◌, arith}
-use Rattle.std.specs.Prelude.{option_and_then, option_map, slice_get}
-use Rattle.std.proofs.lemmas.Option.{same_Some, slice_get_within}
+use Rattle.std.proofs.Common.{◌≡◌, ◌≢◌, ℕ, zero, suc, ◌<◌, ◌==◌, Bool, true, false, cond, bit_xor, List, [], ◌∷◌, length, slice_index_or, Option, Some, None, refl, sym, ap, ◌∙◌, arith}
+use Rattle.std.specs.Prelude.{option_and_then, option_map}
+use Rattle.std.proofs.lemmas.Option.{same_Some}
 use Rattle.std.proofs.lemmas.Nat.{xor_comm}
 use Rattle.daachorse_core.proofs.Xor.{xor_back}
 use Rattle.daachorse_model.specs.Kinds.{is_leftmost}
 use Rattle.daachorse_model.specs.Units.{char_width}
 use Rattle.daachorse_machine.proofs.ChildLaws.{child_at-from, child_at-inside, child_at-some}
 use Rattle.daachorse_machine.proofs.PathLaws.{and_then_inv}
-use Rattle.daachorse_mapper.specs.Codings.{code_of}
 use Rattle.daachorse_listing.specs.Edges.{IsTree, TellChildren}
 use Rattle.daachorse_listing.proofs.MachineTrees.{machine_tree}
 use Rattle.daachorse_charwise_states.specs.declared.state.State.{State}
-use Rattle.daachorse_charwise_states.specs.Edges.{AreCharacters, Lettered, character_of, code_point, edge_between, edge_of, group_of}
+use Rattle.daachorse_charwise_states.specs.Edges.{AreCharacters, Lettered, character_of, edge_between, edge_of, group_of}
 use Rattle.daachorse_charwise_states.specs.Elements.{base_in, check_in, vacant}
-use Rattle.daachorse_charwise_states.specs.Parts.{Parts, base_of, check_of, child, child_among, child_by, count, machine}
+use Rattle.daachorse_charwise_states.specs.Parts.{Parts, base_of, char_code, check_of, child, child_among, child_by, count, machine}
 use Rattle.daachorse_charwise_states.specs.Valid.{IsValid}
-use Rattle.daachorse_charwise_states.proofs.CharLaws.{child_by_code, entry_some, valid_machine}
+use Rattle.daachorse_charwise_states.proofs.CharLaws.{child_by_code, valid_machine}
+use Rattle.daachorse_charwise_states.proofs.Codes.{coded_inside}
 
 pub valid_tree : {V : Type 0} (p : Parts V) → IsValid p → p.num_states < 4294967296 → IsTree (child p) (count p) (length p.coding.table)
 valid_tree p valid few = machine_tree char_width (machine p) (is_leftmost p.kind) (count p) (length p.coding.table) p.num_states (valid_machine p valid) valid.counted few
@@ -30,11 +30,7 @@ first : {X : Type 0} (b : Bool) (x : X) → cond b None (Some x) ≡ None → b 
 first true x e = refl
 first false x e = absurd (cc)
 
-point_is : (n u : ℕ) → code_point n ≡ Some u → n ≡ suc u
-point_is zero u e = absurd (cc)
-point_is (suc n) u e = ap suc (same_Some n u e)
-
--- an edge is by the code point that is found
+-- an edge is by the character that is found
 edge_is : (o : Option ℕ) (i g u : ℕ) → option_map {U = ℕ × ℕ} (λ v. (i, v)) o ≡ Some (g, u) → (i ≡ g) × (o ≡ Some u)
 edge_is None i g u e = absurd (cc)
 edge_is (Some v) i g u e =
@@ -52,22 +48,18 @@ module _ {V : Type 0} (a : Lettered V) (letters : AreCharacters a.parts.coding (
   check_at j = check_in (slice_index_or a.parts.states j vacant)
 
   -- the parts of an edge
-  pub edge_parts : (j g u : ℕ) → edge_of a j ≡ Some (g, u) → (check_of a.parts j ≡ g) × (base_of a.parts g ≢ 0) × (code_of a.parts.coding u ≡ Some (bit_xor (base_of a.parts g) j))
+  pub edge_parts : (j g u : ℕ) → edge_of a j ≡ Some (g, u) → (check_of a.parts j ≡ g) × (base_of a.parts g ≢ 0) × (char_code a.parts.coding u ≡ Some (bit_xor (base_of a.parts g) j))
   edge_parts j g u e =
       let i : ℕ = check_of a.parts j in
       let way = second (base_of a.parts i == 0) (option_map {U = ℕ × ℕ} (λ v. (i, v)) (character_of a (bit_xor (base_of a.parts i) j))) (g, u) e in
       let edge = edge_is (character_of a (bit_xor (base_of a.parts i) j)) i g u way.1 in
       let base : base_of a.parts i ≢ 0 = grind (arith, way.0) in
-      let entry = point_is (slice_index a.characters (bit_xor (base_of a.parts i) j)) u edge.1 in
-      let code = letters.to_code u (bit_xor (base_of a.parts i) j) entry in
+      let code = letters.to_code u (bit_xor (base_of a.parts i) j) edge.1 in
       (edge.0, λ none. base (ap (base_of a.parts) edge.0 ∙ none), code ∙ ap (λ k. Some (bit_xor (base_of a.parts k) j)) edge.0)
 
-  -- a character with a code stands in the table
-  coded_inside : (u k : ℕ) → code_of a.parts.coding u ≡ Some k → u < length a.parts.coding.table
-  coded_inside u k e = let entry = entry_some (slice_get a.parts.coding.table u) k e in slice_get_within a.parts.coding.table u entry.0 entry.1
-
-  pub edge_inside : (i k u : ℕ) → base_of a.parts i ≢ 0 → character_of a k ≡ Some u → (i < count a.parts) × (u < length a.parts.coding.table)
-  edge_inside i k u some e = (based a.parts.states i some, coded_inside u k (letters.to_code u k (point_is (slice_index a.characters k) u e)))
+  -- an edge is from an element, by a character of the table
+  pub edge_inside : (j g u : ℕ) → edge_of a j ≡ Some (g, u) → (g < count a.parts) × (u < length a.parts.coding.table)
+  edge_inside j g u e = let parts = edge_parts j g u e in (based a.parts.states g parts.1, coded_inside a.parts.coding u _ parts.2)
 
   pub valid_tells : TellChildren (child a.parts) (group_of a) (edge_of a) (count a.parts)
   valid_tells = record {
@@ -78,34 +70,34 @@ module _ {V : Type 0} (a : Lettered V) (letters : AreCharacters a.parts.coding (
   }
     where
       none : (i u : ℕ) → base_of a.parts i ≡ 0 → child a.parts i u ≡ None
-      none i u without = go (code_of a.parts.coding u) refl
+      none i u without = go (char_code a.parts.coding u) refl
         where
-          go : (o : Option ℕ) → code_of a.parts.coding u ≡ o → child a.parts i u ≡ None
+          go : (o : Option ℕ) → char_code a.parts.coding u ≡ o → child a.parts i u ≡ None
           go None e = ap (λ k. option_and_then (λ c. child_among a.parts.states i c) k) e
           go (Some c) e = child_by_code a.parts.states a.parts.coding i u c e ∙ ap (λ b. child_by (count a.parts) check_at i b c) without
 
       from : (i g u j : ℕ) → group_of a i ≡ Some g → child a.parts i u ≡ Some j → edge_of a j ≡ Some (g, u)
       from i g u j own e =
-          let code = and_then_inv (λ c. child_among a.parts.states i c) (code_of a.parts.coding u) j e in
+          let code = and_then_inv (λ c. child_among a.parts.states i c) (char_code a.parts.coding u) j e in
           let c : ℕ = code.0 in
           let at = child_at-from (count a.parts) i (base_of a.parts i) c j check_at code.2 in
           let check : check_of a.parts j ≡ i = (child_at-inside (count a.parts) i (base_of a.parts i) c j check_at code.2).1 in
           let back : bit_xor (base_of a.parts i) j ≡ c =
           ap (bit_xor (base_of a.parts i)) (sym at.1 ∙ xor_comm (base_of a.parts i) c) ∙ (xor_comm (base_of a.parts i) (bit_xor c (base_of a.parts i)) ∙ xor_back c (base_of a.parts i)) in
-          let entry : slice_index a.characters c ≡ suc u = letters.from_code u c (coded_inside u c code.1) code.1 in
+          let entry : character_of a c ≡ Some u = letters.from_code u c (coded_inside a.parts.coding u c code.1) code.1 in
           let test : (base_of a.parts i == 0) ≡ false = grind (arith, at.0) in
           let group : i ≡ g = same_Some i g (second (base_of a.parts i == 0) (Some i) g own).1 in
           ap (λ k. edge_between a k j) check
           ∙ (ap (λ b. cond b None (option_map {U = ℕ × ℕ} (λ v. (i, v)) (character_of a (bit_xor (base_of a.parts i) j)))) test
           ∙ (ap (λ k. option_map {U = ℕ × ℕ} (λ v. (i, v)) (character_of a k)) back
-          ∙ (ap (λ k. option_map {U = ℕ × ℕ} (λ v. (i, v)) (code_point k)) entry ∙ ap (λ k. Some (k, u)) group)))
+          ∙ (ap (option_map {U = ℕ × ℕ} (λ v. (i, v))) entry ∙ ap (λ k. Some (k, u)) group)))
 
       to : (i g u j : ℕ) → group_of a i ≡ Some g → j < count a.parts → edge_of a j ≡ Some (g, u) → child a.parts i u ≡ Some j
       to i g u j own less e =
           let group : i ≡ g = same_Some i g (second (base_of a.parts i == 0) (Some i) g own).1 in
           let parts = edge_parts j g u e in
           let c : ℕ = bit_xor (base_of a.parts i) j in
-          let code : code_of a.parts.coding u ≡ Some c = parts.2 ∙ ap (λ k. Some (bit_xor (base_of a.parts k) j)) (sym group) in
+          let code : char_code a.parts.coding u ≡ Some c = parts.2 ∙ ap (λ k. Some (bit_xor (base_of a.parts k) j)) (sym group) in
           let some : base_of a.parts i ≢ 0 = λ zero. parts.1 (ap (base_of a.parts) (sym group) ∙ zero) in
           let check : check_of a.parts j ≡ i = parts.0 ∙ sym group in
           let moved : bit_xor (base_of a.parts i) c ≡ j =

@@ -16,9 +16,9 @@ use Rattle.daachorse_packing.proofs.Looks.{look, look_none, look_some}
 use Rattle.daachorse_packing.proofs.Places.{edge-at, place-alive, place-apart, place-inside, place_from, state_from}
 use Rattle.daachorse_charwise_states.specs.declared.state.State.{State}
 use Rattle.daachorse_charwise_states.specs.Elements.{check_in}
-use Rattle.daachorse_charwise_states.specs.Parts.{Parts, child_among, child_of, machine}
+use Rattle.daachorse_charwise_states.specs.Parts.{Parts, char_code, child_among, child_of, machine}
 use Rattle.daachorse_charwise_states.specs.Packing.{AreEdgesCoded, HoldElements, code_in, element}
-use Rattle.daachorse_charwise_states.proofs.Codes.{code_same}
+use Rattle.daachorse_charwise_states.proofs.Codes.{char_code-is, code_same}
 
 module _ {A : Type 0} {coding : Coding} {block : ℕ} {gs : List (SiblingGroup A)} {l : Layout} {edges : List (List (ℕ × ℕ))} {fails positions : List ℕ} {es : List State}
     (is : IsCoding coding) (coded : AreEdgesCoded coding edges) (q : AreSettled (code_in coding) block false gs l edges) (held : HoldElements l edges fails positions es) where
@@ -78,15 +78,15 @@ module _ {A : Type 0} {coding : Coding} {block : ℕ} {gs : List (SiblingGroup A
 
   -- what a character leads to from a state's element
   pub element-child : (s c : ℕ) → s < length edges → s ≢ 1 → child_of es coding (place s) c ≡ option_map (λ t. place t) (to s c)
-  element-child s c less alive = go (code_of coding c) refl
+  element-child s c less alive = go (char_code coding c) refl
     where
-      no_edge : (o : Option ℕ) → code_of coding c ≡ None → to s c ≡ o → None ≡ option_map (λ t. place t) o
+      no_edge : (o : Option ℕ) → char_code coding c ≡ None → to s c ≡ o → None ≡ option_map (λ t. place t) o
       no_edge None code e = refl
       no_edge (Some t) code e = (let some = coded s c t e in absurd (cc))
 
-      go : (o : Option ℕ) → code_of coding c ≡ o → option_and_then (λ k. child_among es (place s) k) o ≡ option_map (λ t. place t) (to s c)
+      go : (o : Option ℕ) → char_code coding c ≡ o → option_and_then (λ k. child_among es (place s) k) o ≡ option_map (λ t. place t) (to s c)
       go None code = no_edge (to s c) code refl
-      go (Some k) code = by_code s c k less alive code
+      go (Some k) code = by_code s c k less alive (char_code-is coding c k code).1
 
   abbrev parts : {V : Type 0} → MatchKind → List (Output V) → ℕ → Parts V
   parts kind outputs n = record { kind = kind; states = es; coding = coding; outputs = outputs; num_states = n }

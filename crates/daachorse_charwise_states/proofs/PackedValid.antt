@@ -17,20 +17,24 @@ use Rattle.daachorse_build.specs.Tables.{child_in, edges_of, fails_of, positions
 use Rattle.daachorse_build.proofs.Walks.{walk-push}
 use Rattle.daachorse_machine.specs.Copies.{IsCopy}
 use Rattle.daachorse_machine.proofs.CopyLaws.{content-same, copy-counted, copy-right}
+<<<<<<< HEAD
 use Rattle.daachorse_mapper.specs.Codings.{Coding, IsCoding, code_of}
 use Rattle.daachorse_mapper.specs.Written.{IsCountable}
+=======
+use Rattle.daachorse_mapper.specs.Codings.{Coding, IsCoding}
+>>>>>>> d99031ea73374942b1fd0d7f727acbdfdebca100
 use Rattle.daachorse_packing.specs.Settled.{trie_of}
 use Rattle.daachorse_packing.proofs.BuiltLaws.{built-count, built-holds, built-text}
 use Rattle.daachorse_packing.proofs.Held.{held-in_range, settled-states}
 use Rattle.daachorse_packing.proofs.Places.{place-dead, place-inside, some-elements}
 use Rattle.daachorse_charwise_states.specs.declared.state.State.{State}
 use Rattle.daachorse_charwise_states.specs.Packing.{AreCoded, AreEdgesCoded, ArePackedOf, IsBuiltFor}
-use Rattle.daachorse_charwise_states.specs.Parts.{Parts, content, machine}
+use Rattle.daachorse_charwise_states.specs.Parts.{Parts, char_code, content, machine}
 use Rattle.daachorse_charwise_states.specs.Valid.{IsInside, IsValid}
 use Rattle.daachorse_charwise_states.proofs.PackedTrie.{packed-IsCopy}
 
 -- a character that follows a text in a prefix of a key has a code
-coded_behind : {V : Type 0} (coding : Coding) (K : Dictionary V) → AreCoded coding K → (v : List ℕ) (c : ℕ) → IsPrefix K (v ++ c ∷ []) → is_some (code_of coding c) ≡ true
+coded_behind : {V : Type 0} (coding : Coding) (K : Dictionary V) → AreCoded coding K → (v : List ℕ) (c : ℕ) → IsPrefix K (v ++ c ∷ []) → is_some (char_code coding c) ≡ true
 coded_behind coding K coded [] c (inl none) = absurd (cc)
 coded_behind coding K coded (u ∷ v) c (inl none) = absurd (cc)
 coded_behind coding K coded v c (inr (x, key)) = coded v x c (λ empty. key (ap K (append_assoc v (c ∷ []) x) ∙ empty))

@@ -1,6 +1,12 @@
 -- What is read of the parts that a view borrows, element by element.
+<<<<<<< HEAD
 use Rattle.std.proofs.Common.{◌≡◌, ◌≢◌, ℕ, ◌<◌, Bool, true, false, length, Option, Some, None, sym, ap, ◌∙◌, subst, arith, slice_index_or}
 use Rattle.std.specs.Prelude.{MatchOption, is_some}
+=======
+use Rattle.std.proofs.Common.{◌≡◌, ◌≢◌, ℕ, ◌<◌, Bool, false, length, Option, Some, None, sym, ap, ◌∙◌, subst, arith, slice_index_or}
+use Rattle.std.specs.Char.{IsScalar}
+use Rattle.std.specs.Prelude.{MatchOption}
+>>>>>>> d99031ea73374942b1fd0d7f727acbdfdebca100
 use Rattle.std.proofs.lemmas.List.{get_or_default}
 use Rattle.daachorse_model.specs.Kinds.{is_leftmost}
 use Rattle.daachorse_model.specs.Units.{char_width}
@@ -11,10 +17,11 @@ use Rattle.daachorse_machine.proofs.MachineLaws.{Reached-inside, standard-alive}
 use Rattle.daachorse_mapper.specs.Codings.{code_of}
 use Rattle.daachorse_charwise_states.specs.declared.state.State.{State}
 use Rattle.daachorse_charwise_states.specs.Elements.{base_in, check_in, fail_in, output_in, vacant}
-use Rattle.daachorse_charwise_states.specs.Parts.{Parts, child, child_among, child_by, content, count, fail_of, machine, output_of}
+use Rattle.daachorse_charwise_states.specs.Parts.{Parts, char_code, child, child_among, child_by, content, count, fail_of, machine, output_of}
 use Rattle.daachorse_charwise_states.specs.Valid.{IsState, IsValid, has_code}
 use Rattle.daachorse_charwise_states.specs.Views.{IsFor}
 use Rattle.daachorse_charwise_states.proofs.CharLaws.{child_by_code, foreign_char, valid_machine}
+use Rattle.daachorse_charwise_states.proofs.Codes.{char_code-of}
 
 -- q is what is borrowed, and p what contracts see of it
 module _ {V : Type 0} (q p : Parts V) (leftmost : Bool) (is : q ≡ p) (kept : IsFor leftmost q) where
@@ -34,7 +41,7 @@ module _ {V : Type 0} (q p : Parts V) (leftmost : Bool) (is : q ≡ p) (kept : I
       omega (arith, inside, same)
 
   -- what a code leads to is read off the element, whatever stands past the last
-  pub view_child : (d : State) (i u c : ℕ) → IsState p i → code_of p.coding u ≡ Some c
+  pub view_child : (d : State) (i u c : ℕ) → IsState p i → char_code p.coding u ≡ Some c
       → child p i u ≡ child_by (length q.states) (λ j. check_in (slice_index_or q.states j vacant)) i (base_in (slice_index_or q.states i d)) c
   view_child d i u c r e =
       child_by_code p.states p.coding i u c e
@@ -54,6 +61,12 @@ module _ {V : Type 0} (q p : Parts V) (leftmost : Bool) (is : q ≡ p) (kept : I
       standard-alive _ _ _ _ _ view_machine i r other (none_dead char_width (machine p) p.kind kind) (at ∙ one)
 
   -- what the table has for a character
+<<<<<<< HEAD
   pub view_label : (u : ℕ) (o : Option ℕ) → o ≡ code_of q.coding u → MatchOption o ((has_code p u ≡ false) × IsForeign (content p) u) (λ c. (code_of p.coding u ≡ Some c) × (has_code p u ≡ true))
   view_label u None e = foreign_char p view_valid u (sym (e ∙ ap (λ x. code_of x.coding u) is))
   view_label u (Some c) e = let has : code_of p.coding u ≡ Some c = sym (e ∙ ap (λ x. code_of x.coding u) is) in (has, ap is_some has)
+=======
+  pub view_label : (u : ℕ) → IsScalar u → (o : Option ℕ) → o ≡ code_of q.coding u → MatchOption o ((has_code p u ≡ false) × IsForeign (content p) u) (λ c. char_code p.coding u ≡ Some c)
+  view_label u scalar None e = foreign_char p view_valid u (char_code-of p.coding u scalar ∙ sym (e ∙ ap (λ x. code_of x.coding u) is))
+  view_label u scalar (Some c) e = char_code-of p.coding u scalar ∙ sym (e ∙ ap (λ x. code_of x.coding u) is)
+>>>>>>> d99031ea73374942b1fd0d7f727acbdfdebca100

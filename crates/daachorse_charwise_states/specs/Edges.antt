@@ -1,32 +1,32 @@
 -- The edges of a double array over characters: an element's check is its parent, and the parent's base leads to it by the code of their character.
-use Rattle.std.specs.Prelude.{◌≡◌, ℕ, zero, suc, ◌<◌, ◌==◌, bit_xor, cond, List, length, slice_index, Option, Some, None, option_map}
-use Rattle.daachorse_mapper.specs.Codings.{Coding, code_of}
-use Rattle.daachorse_charwise_states.specs.Parts.{Parts, base_of, check_of}
+use Rattle.std.specs.Prelude.{◌≡◌, ℕ, ◌<◌, ◌==◌, bit_xor, cond, List, length, slice_index_or, Option, Some, None, option_map}
+use Rattle.std.proofs.Math.Utf8.{scalar}
+use Rattle.daachorse_mapper.specs.Codings.{Coding}
+use Rattle.daachorse_charwise_states.specs.Parts.{Parts, base_of, char_code, check_of}
 
--- Of each code its character: one more than the code point, or 0 if no code point below n has the code.
-pub record AreCharacters (coding : Coding) (n : ℕ) (characters : List ℕ) : Type 0 where
+-- the character at a code point, if there is one
+abbrev pub character_at : ℕ → Option ℕ
+character_at u = cond (scalar u) (Some u) None
+
+-- Of each code its character, if a character below n has the code.
+pub record AreCharacters (coding : Coding) (n : ℕ) (characters : List (Option ℕ)) : Type 0 where
   pub size : length characters ≡ coding.alphabet_size
-  pub from_code : (u k : ℕ) → u < n → code_of coding u ≡ Some k → slice_index characters k ≡ suc u
-  pub to_code : (u k : ℕ) → slice_index characters k ≡ suc u → code_of coding u ≡ Some k
+  pub from_code : (u k : ℕ) → u < n → char_code coding u ≡ Some k → slice_index_or characters k None ≡ Some u
+  pub to_code : (u k : ℕ) → slice_index_or characters k None ≡ Some u → char_code coding u ≡ Some k
 
 -- the parts, and the character of each code
 pub record Lettered (V : Type 0) : Type 0 where
   pub parts : Parts V
-  pub characters : List ℕ
-
--- the code point that such an entry stands for
-abbrev pub code_point : ℕ → Option ℕ
-code_point zero = None
-code_point (suc u) = Some u
+  pub characters : List (Option ℕ)
 
 module _ {V : Type 0} (a : Lettered V) where
   -- the children of an element are a group of their own
   abbrev pub group_of : ℕ → Option ℕ
   group_of i = cond (base_of a.parts i == 0) None (Some i)
 
-  -- the character of a code
+  -- the character of a code, if there is one
   abbrev pub character_of : ℕ → Option ℕ
-  character_of k = code_point (slice_index a.characters k)
+  character_of k = slice_index_or a.characters k None
 
   -- the edge from element i to element j, if i has children
   abbrev pub edge_between : ℕ → ℕ → Option (ℕ × ℕ)

@@ -3,6 +3,7 @@ pub mod Elements
 pub mod Equality
 pub mod Packing
 pub mod Parts
+pub mod Texts
 pub mod Valid
 pub mod Views
 pub mod Writing

@@ -17,6 +17,7 @@ use Rattle.daachorse_patterns.specs.Tries.{IsBuilt}
 use Rattle.daachorse_packing.specs.Settled.{AreSettled, HoldStates, IsVacantAt}
 use Rattle.daachorse_charwise_states.specs.declared.state.State.{State}
 use Rattle.daachorse_charwise_states.specs.Elements.{base_in, check_in, fail_in, output_in, vacant}
+use Rattle.daachorse_charwise_states.specs.Parts.{char_code}
 
 -- the element at an index
 abbrev pub element : List State → ℕ → State
@@ -41,13 +42,13 @@ pub record ArePackedOf {V A : Type 0} (coding : Coding) (block : ℕ) (states : 
   pub settled : AreSettled (code_in coding) block false groups layout (edges_of states)
   pub held : HoldElements layout (edges_of states) (fails_of states) (positions_of states) es
 
--- each character that labels an edge has a code
+-- each label of an edge is a character that has a code
 abbrev pub AreEdgesCoded : Coding → List (List (ℕ × ℕ)) → Type 0
-AreEdgesCoded coding edges = (s c t : ℕ) → child_in nat_cmp edges s c ≡ Some t → IsSome (code_of coding c)
+AreEdgesCoded coding edges = (s c t : ℕ) → child_in nat_cmp edges s c ≡ Some t → IsSome (char_code coding c)
 
--- each character of a key has a code
+-- each unit of a key is a character that has a code
 abbrev pub AreCoded : {V : Type 0} → Coding → Dictionary V → Type 0
-AreCoded coding K = (v w : List ℕ) (u : ℕ) → IsKey K (v ++ u ∷ w) → IsSome (code_of coding u)
+AreCoded coding K = (v w : List ℕ) (u : ℕ) → IsKey K (v ++ u ∷ w) → IsSome (char_code coding u)
 
 -- The links and outputs of a builder over characters are built, without a limit of outputs, and it holds the dictionary K.
 abbrev pub IsBuiltFor : {V A : Type 0} → MatchKind → NfaBuilder ℕ V A → Dictionary V → Type 0

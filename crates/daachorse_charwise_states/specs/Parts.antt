@@ -1,5 +1,6 @@
 -- What an automaton over characters stores, and the machine that it is.
 use Rattle.std.specs.Prelude.{ℕ, ◌==◌, bit_xor, nat_lt, cond, List, length, slice_index_or, Option, Some, None, option_and_then}
+use Rattle.std.proofs.Math.Utf8.{scalar}
 use Rattle.daachorse_core.specs.declared.outputs.Output.{Output}
 use Rattle.daachorse_model.specs.declared.MatchKind.{MatchKind}
 use Rattle.daachorse_model.specs.Units.{char_width}
@@ -30,9 +31,13 @@ abbrev pub child_among : List State → ℕ → ℕ → Option ℕ
 child_among elements i c =
     child_by (length elements) (λ j. check_in (slice_index_or elements j vacant)) i (base_in (slice_index_or elements i vacant)) c
 
--- what a character leads to from an element; one without a code leads nowhere
+-- the code of a character; a number that is no character has none, whatever the table has for it
+abbrev pub char_code : Coding → ℕ → Option ℕ
+char_code coding u = cond (scalar u) (code_of coding u) None
+
+-- what a character leads to from an element; one without a code leads nowhere, and so does a number that is no character
 abbrev pub child_of : List State → Coding → ℕ → ℕ → Option ℕ
-child_of elements coding i u = option_and_then (λ c. child_among elements i c) (code_of coding u)
+child_of elements coding i u = option_and_then (λ c. child_among elements i c) (char_code coding u)
 
 module _ {V : Type 0} (p : Parts V) where
   -- the number of elements

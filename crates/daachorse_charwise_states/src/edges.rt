@@ -3,13 +3,14 @@
 //! The layers above may rely on the table of the depths, which [`States::depths`] makes, and on
 //! [`States::pattern_iter`] giving the listing of the dictionary.
 
-ghost use Rattle.std.specs.Prelude.{◌≡◌, ◌<◌, length, IfOk, IfErr};
+ghost use Rattle.std.specs.Prelude.{◌≡◌, ◌<◌, length, IfSome, IfOk, IfErr};
 ghost use Rattle.daachorse_core.specs.Refusals.{IsOutOfMemory};
 ghost use Rattle.daachorse_listing.specs.Depths.{IsDepthTable};
 ghost use Rattle.daachorse_model.specs.Prefixes.{IsListing};
 ghost use Rattle.daachorse_mapper.specs.Codings.{IsCoding};
-ghost use Rattle.daachorse_charwise_states.specs.Edges.{AreCharacters, character_of};
+ghost use Rattle.daachorse_charwise_states.specs.Edges.{AreCharacters, character_at, character_of, edge_of};
 ghost use Rattle.daachorse_charwise_states.specs.Parts.{child, content, count};
+ghost use Rattle.daachorse_charwise_states.specs.Texts.{AreTexts};
 
 use crate::states::States;
 use daachorse_core::errors::Result;
@@ -25,8 +26,8 @@ use std::marker::Model;
 #[derive(Drop)]
 pub struct Elements<'a, V: Copy, A: Allocator = Global> {
     states: &'a States<V, A>,
-    // One more than the code point of each code; 0 where there is none.
-    characters: Vec<usize, A>,
+    // The character of each code, if there is one.
+    characters: Vec<Option<char>, A>,
 }
 
 impl<'a, V: Copy, A: Allocator> Model for Elements<'a, V, A> {
@@ -61,15 +62,24 @@ impl<'a, V: Copy, A: Allocator + Copy> Elements<'a, V, A> {
 }
 
 impl<'a, V: Copy, A: Allocator> Elements<'a, V, A> {
-    /// The code point of the character of a code, if there is one.
-    fn character(&self, code: usize) -> Option<usize>
+    /// The character of a code, if there is one.
+    fn character(&self, code: usize) -> Option<char>
         ensures { result ≡ character_of self.now code }
     {
-        let entry = *self.characters.get(code)?;
-        if entry == 0 {
-            return None;
-        }
-        Some(entry - 1)
+        *self.characters.get(code)?
+    }
+
+    /// The element whose child an element is, and the character that leads to it; `None` where it is
+    /// no child.
+    fn parent(&self, element: usize) -> Option<(usize, char)>
+        requires { element < count self.now.parts }
+        ensures edge { result ≡ edge_of self.now element }
+        ensures inside { IfSome result (λ e. (e.0 < count self.now.parts) × (e.1 < length self.now.parts.coding.table)) }
+    {
+        let parent = self.states.check_at(element);
+        let base = self.states.base_at(parent)?;
+        let character = self.character(base.get() as usize ^ element)?;
+        Some((parent, character))
     }
 }
 
@@ -103,21 +113,19 @@ impl<'a, V: Copy, A: Allocator> Edges for Elements<'a, V, A> {
     }
 
     fn edge(&self, element: usize) -> Option<(usize, usize)> {
-        let parent = self.states.check_at(element);
-        let base = self.states.base_at(parent)?;
-        let character = self.character(base.get() as usize ^ element)?;
-        Some((parent, character))
+        let (parent, character) = self.parent(element)?;
+        Some((parent, character as usize))
     }
 }
 
-/// A unit is the code point of a character.
+/// A unit is a character.
 impl<'a, V: Copy, A: Allocator> Outputs<V> for Elements<'a, V, A> {
     ghost use Rattle.daachorse_listing.specs.Listing.{own_end};
     ghost use Rattle.daachorse_charwise_states.specs.Parts.{machine, output_of};
 
-    type Unit = usize;
+    type Unit = char;
 
-    ghost number = { λ code_point. code_point };
+    ghost number = { λ character. character };
 
     ghost outputs = { λ a. a.parts.outputs };
 
@@ -125,10 +133,10 @@ impl<'a, V: Copy, A: Allocator> Outputs<V> for Elements<'a, V, A> {
 
     ghost stop = { λ a. own_end (machine a.parts) };
 
-    fn unit(&self, element: usize) -> usize {
-        match self.edge(element) {
+    fn unit(&self, element: usize) -> char {
+        match self.parent(element) {
             Some((_parent, character)) => character,
-            None => 0,
+            None => '\0',
         }
     }
 
@@ -166,7 +174,7 @@ impl<V: Copy, A: Allocator + Copy> States<V, A> {
         depths(alloc, &elements)
     }
 
-    /// All patterns with their values, as code points: in the order of these, which is the order of
+    /// All patterns with their values, as characters: in the order of these, which is the order of
     /// their bytes, and those of one pattern in order of registration.
     ///
     /// # Errors
@@ -174,6 +182,7 @@ impl<V: Copy, A: Allocator + Copy> States<V, A> {
     /// An allocation failed.
     pub fn pattern_iter<'a>(&'a self, alloc: A) -> Result<PatternWalk<V, Elements<'a, V, A>, A>>
         ensures ok { IfOk result (λ walk. IsListing (content self.entry.now) walk) }
+        ensures texts { IfOk result AreTexts }
         ensures err { IfErr result IsOutOfMemory }
     {
         // A field is read for what the parts keep.
@@ -183,17 +192,24 @@ impl<V: Copy, A: Allocator + Copy> States<V, A> {
     }
 }
 
-/// The character of each code of a mapper: one more than its code point, or 0 if there is none.
-fn characters<A: Allocator + Copy>(alloc: A, mapper: &CodeMapper<A>) -> Result<Vec<usize, A>>
+/// The character of each code of a mapper, if there is one.
+fn characters<A: Allocator + Copy>(alloc: A, mapper: &CodeMapper<A>) -> Result<Vec<Option<char>, A>>
     requires { IsCoding mapper.now }
     ensures ok { IfOk result (λ v. AreCharacters mapper.now (length mapper.now.table) v.items) }
     ensures err { IfErr result IsOutOfMemory }
 {
-    let mut characters = vec![in alloc; 0; mapper.alphabet_size() as usize]?;
+    let mut characters = vec![in alloc; None; mapper.alphabet_size() as usize]?;
     for (code_point, &code) in mapper.table().iter().enumerate() {
         if code != INVALID_CODE {
-            characters[code as usize] = code_point + 1;
+            characters[code as usize] = character_at(code_point);
         }
     }
     Ok(characters)
+}
+
+/// The character at a code point, if there is one: there is none at a surrogate, nor past the last.
+fn character_at(code_point: usize) -> Option<char>
+    ensures { result ≡ character_at code_point }
+{
+    char::from_u32(u32::try_from(code_point).ok()?)
 }

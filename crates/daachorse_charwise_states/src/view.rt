@@ -110,8 +110,7 @@ impl<'a, V: Copy, S: Searches> View<'a, V, S> {
 impl<'a, V: Copy, S: Searches> Automaton<V> for View<'a, V, S> {
     ghost use Rattle.std.specs.Prelude.{◌≡◌, ◌≤◌, length, Some};
     ghost use Rattle.daachorse_core.specs.Outputs.{outputs_at};
-    ghost use Rattle.daachorse_mapper.specs.Codings.{code_of};
-    ghost use Rattle.daachorse_charwise_states.specs.Parts.{content};
+    ghost use Rattle.daachorse_charwise_states.specs.Parts.{char_code, content};
     ghost use Rattle.daachorse_charwise_states.specs.Valid.{IsState, dead, has_code, no_output, text};
 
     type Unit = char;
@@ -128,7 +127,7 @@ impl<'a, V: Copy, S: Searches> Automaton<V> for View<'a, V, S> {
 
     ghost has_label = { has_code };
 
-    ghost labels = { λ p code unit. code_of p.coding unit ≡ Some code };
+    ghost labels = { λ p code unit. char_code p.coding unit ≡ Some code };
 
     ghost has_output = { λ p position. position ≤ length p.outputs };
 

@@ -25,3 +25,4 @@ pub mod BestLemmas
 pub mod Cuts
 pub mod BestMatches
 pub mod StandardEnds
+pub mod TextOrder

@@ -2,6 +2,8 @@
 //! A haystack and a pattern are lists of units; `width` is `byte_width` or `char_width`, or any other.
 
 ghost use Rattle.std.specs.Prelude.{◌≡◌, ℕ, List, [], All, Contains, encode_utf8_all, option_to_list};
+ghost use Rattle.std.specs.Cmp.Lexicographic.{slice_cmp};
+ghost use Rattle.std.specs.Ordering.{nat_cmp};
 ghost use Rattle.daachorse_model.specs.declared.Match.{Match};
 ghost use Rattle.daachorse_model.specs.Units.{byte_width, char_width};
 ghost use Rattle.daachorse_model.specs.Dictionary.{kept, dictionary, in_bytes};
@@ -59,6 +61,11 @@ pub fn same_on_text<V: Copy>(kind: MatchKind)
         → standard byte_width (dictionary kind (in_bytes patterns)) (encode_utf8_all h) ≡ standard char_width (dictionary kind patterns) h }
     ensures leftmost { (patterns : List (List ℕ × V)) (h : List ℕ) → dictionary kind patterns [] ≡ []
         → leftmost byte_width (dictionary kind (in_bytes patterns)) (encode_utf8_all h) ≡ leftmost char_width (dictionary kind patterns) h }
+{}
+
+/// Texts of characters have one order: by their characters, and by the bytes of their UTF-8.
+pub fn ordered_by_bytes()
+    ensures { (v w : List ℕ) → slice_cmp nat_cmp v w ≡ slice_cmp nat_cmp (encode_utf8_all v) (encode_utf8_all w) }
 {}
 
 /// The standard matches are, in order, those that the search over each beginning of the haystack ends with.

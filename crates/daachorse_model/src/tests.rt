@@ -35,4 +35,5 @@ fn laws_stand_at_a_type() {
     laws::matches_follow::<u32>(MatchKind::LeftmostLongest);
     laws::leftmost_first_is_earliest::<u32>();
     laws::same_on_text::<u32>(MatchKind::LeftmostFirst);
+    laws::ordered_by_bytes();
 }

@@ -3,9 +3,10 @@
 ghost use Rattle.std.specs.Prelude.{◌≡◌, ◌<◌, ℕ, length, slice_index, IsSome, IsTrue, IfOk};
 ghost use Rattle.std.specs.List.{AllByRecursion};
 ghost use Rattle.daachorse_model.specs.declared.MatchKind.TheVariants.{Standard};
-ghost use Rattle.daachorse_mapper.specs.Codings.{IsCoding, code_of};
+ghost use Rattle.daachorse_mapper.specs.Codings.{IsCoding};
 ghost use Rattle.daachorse_mapper.specs.Written.{IsCountable};
 ghost use Rattle.daachorse_patterns.specs.Patterns.{texts_of};
+ghost use Rattle.daachorse_charwise_states.specs.Parts.{char_code};
 
 use crate::state::State;
 use crate::states::States;
@@ -80,7 +81,7 @@ fn mapper_of(alloc: Global, patvals: &[(Characters<'_>, u32)]) -> Result<CodeMap
 
 /// Whether each character of a pattern has a code.
 fn is_coded(pattern: &[char], mapper: &CodeMapper) -> bool
-    ensures { IsTrue result → (i : ℕ) → i < length pattern.now → IsSome (code_of mapper.now (slice_index pattern.now i)) }
+    ensures { IsTrue result → (i : ℕ) → i < length pattern.now → IsSome (char_code mapper.now (slice_index pattern.now i)) }
 {
     for c in pattern {
         if mapper.get(*c).is_none() {
@@ -92,7 +93,7 @@ fn is_coded(pattern: &[char], mapper: &CodeMapper) -> bool
 
 /// Whether each character of the patterns has a code.
 fn are_coded(patvals: &[(Characters<'_>, u32)], mapper: &CodeMapper) -> bool
-    ensures { IsTrue result → AllByRecursion (λ r. (i : ℕ) → i < length r.0 → IsSome (code_of mapper.now (slice_index r.0 i))) (texts_of (λ p. p.0.now) patvals.now) }
+    ensures { IsTrue result → AllByRecursion (λ r. (i : ℕ) → i < length r.0 → IsSome (char_code mapper.now (slice_index r.0 i))) (texts_of (λ p. p.0.now) patvals.now) }
 {
     for (pattern, _) in patvals {
         if !is_coded(pattern.0, mapper) {

@@ -1,7 +1,7 @@
 //! The patterns of an automaton over characters, one by one.
 
-ghost use Rattle.std.specs.Prelude.{◌≡◌, IsTrue, IfOk, IfErr};
-ghost use Rattle.std.specs.Str.{all_scalars, chars};
+ghost use Rattle.std.specs.Prelude.{◌≡◌, IfOk, IfErr};
+ghost use Rattle.std.specs.Str.{chars};
 ghost use Rattle.std.specs.String.{string_bytes};
 ghost use Rattle.daachorse_core.specs.Refusals.{IsOutOfMemory};
 
@@ -24,13 +24,12 @@ pub struct PatternIterator<'a, V: Copy, A: Allocator = Global> {
 
 impl<'a, V: Copy, A: Allocator> Model for PatternIterator<'a, V, A> {
     ghost use Rattle.std.specs.Prelude.{List, ℕ};
-    ghost use Rattle.daachorse_charwise.specs.Automata.{AreTexts};
 
     ghost Value = { List (List ℕ × V) };
 
     ghost view = { λ s. s.walk };
 
-    ghost invariant = { λ s. AreTexts s.walk };
+    ghost invariant = { λ s. Unit {0} };
 }
 
 impl<'a, V: Copy, A: Allocator + Copy> Iterator for PatternIterator<'a, V, A> {
@@ -47,7 +46,7 @@ impl<'a, V: Copy, A: Allocator + Copy> Iterator for PatternIterator<'a, V, A> {
 
     fn next(&mut self) -> Option<Result<(String<A>, V)>> {
         match self.walk.next()? {
-            Ok((code_points, value)) => match text_of(self.alloc, &code_points) {
+            Ok((characters, value)) => match text_of(self.alloc, &characters) {
                 Ok(text) => Some(Ok((text, value))),
                 Err(error) => {
                     self.walk.end();
@@ -59,17 +58,14 @@ impl<'a, V: Copy, A: Allocator + Copy> Iterator for PatternIterator<'a, V, A> {
     }
 }
 
-/// The text of these code points.
-fn text_of<A: Allocator>(alloc: A, code_points: &[usize]) -> Result<String<A>>
-    requires { IsTrue (all_scalars code_points.now) }
-    ensures ok { IfOk result (λ text. chars (string_bytes text) ≡ code_points.now) }
+/// The text of these characters.
+fn text_of<A: Allocator>(alloc: A, characters: &[char]) -> Result<String<A>>
+    ensures ok { IfOk result (λ text. chars (string_bytes text) ≡ characters.now) }
     ensures err { IfErr result IsOutOfMemory }
 {
     let mut text = String::new(alloc);
-    for &code_point in code_points {
-        if let Some(c) = char::from_u32(code_point as u32) {
-            text.push(c)?;
-        }
+    for &c in characters {
+        text.push(c)?;
     }
     Ok(text)
 }

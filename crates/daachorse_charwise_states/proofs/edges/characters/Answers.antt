@@ -1,5 +1,5 @@
 -- A code point with a code is written at the code.
-use Rattle.std.proofs.Common.{◌≡◌, ℕ, ◌+◌, ◌<◌, suc, List, length, slice_index, sym, ap, subst, arith}
+use Rattle.std.proofs.Common.{◌≡◌, ℕ, ◌+◌, ◌<◌, ◌∙◌, suc, List, Option, length, set, slice_index, sym, ap, subst, arith}
 use Rattle.daachorse_charwise_states.specs.Edges.{AreCharacters}
 use Rattle.daachorse_charwise_states.proofs.CharacterLaws.{character_left, character_written, code_read, none_read}
 use Rattle.daachorse_charwise_states.proofs.edges.characters.Goals.{then-code, else-code}
@@ -23,12 +23,12 @@ loop-code_point-preserved g c =
     elim c.if-code.branch [
       | then-code w ↦ record {
         characters = character_written c.args.mapper.now c.requires u (u + 1) (slice_index table u) c.loop-code_point.characters.items c.if-code.characters.items next
-            (code_read c.args.mapper.now table c.table-code-items.ensures u less w.if-code.true) (ap (λ v. v.items) w.characters-is) so;
+            (code_read c.args.mapper.now table c.table-code-items.ensures u less w.if-code.true) (ap (λ v. v.items) w.characters-is ∙ ap (set c.loop-code_point.characters.items (slice_index table u)) w.character_at.ensures) so;
       }
       | else-code w ↦ record {
         characters =
             let left = character_left c.args.mapper.now c.requires u (u + 1) c.loop-code_point.characters.items next (none_read c.args.mapper.now table c.table-code-items.ensures u less w.if-code.false) so in
-            let P : List ℕ → Type 0 = λ l. AreCharacters c.args.mapper.now (u + 1) l in
+            let P : List (Option ℕ) → Type 0 = λ l. AreCharacters c.args.mapper.now (u + 1) l in
             subst P (sym (ap (λ v. v.items) w.characters-is)) left;
       }
     ]

@@ -6,7 +6,6 @@ use Rattle.daachorse_mapper.specs.Codings.{Coding, IsCodingOf}
 use Rattle.daachorse_charwise_states.specs.Parts.{Parts}
 use Rattle.daachorse_charwise.specs.Building.{AreCodesOf, IsHeld, registered_texts}
 use Rattle.daachorse_charwise.proofs.BuildLaws.{codes_of, coded_keys, elements_refused}
-use Rattle.daachorse_charwise.proofs.TextLaws.{held_texts}
 use Rattle.daachorse_charwise.proofs.charwise.builder.from_patterns.Goals as goal
 
 pub build-requires-clause-built : goal.build-requires-clause-built
@@ -14,7 +13,7 @@ build-requires-clause-built g c =
     let K : Dictionary g.row.V.Denot = dictionary c.args.kind (registered_texts c.args.patterns.now) in
     let P : List ℕ → Type 0 = λ freqs. IsCodingOf freqs c.in_ok-mapper.mapper in
     let codes = subst P c.deref.ensures.value c.in_ok-mapper.ensures.ok in
-    (K, c.in_ok-nfa.ensures.ok, coded_keys c.args.patterns.now c.in_ok-freqs.freqs.items c.in_ok-mapper.mapper c.in_ok-freqs.ensures.ok codes c.args.kind)
+    (K, c.in_ok-nfa.ensures.ok, coded_keys c.args.patterns.now c.in_ok-freqs.freqs.items c.in_ok-mapper.mapper c.in_ok-freqs.ensures.ok codes c.in_ok-freqs.ensures.texts c.args.kind)
 
 pub build-requires-clause-codes : goal.build-requires-clause-codes
 build-requires-clause-codes g c =
@@ -29,11 +28,6 @@ returns-in_err-states-clause-err g c =
     let codes = codes_of c.args.patterns.now c.in_ok-freqs.freqs.items c.in_ok-mapper.mapper c.in_ok-freqs.ensures.ok (subst P c.deref.ensures.value c.in_ok-mapper.ensures.ok) in
     let p = err_from_is_err_and c.from_residual-in_err-states.result c.from_residual-in_err-states.ensures.1 in
     rw (p.1, p.2) (elements_refused c.args.kind rs c.in_ok-mapper.mapper c.in_ok-nfa.ensures.fit codes c.in_err-states.field-0.0 _ (λ many. many K c.in_ok-nfa.ensures.ok) c.in_err-states.ensures.err)
-
-pub of_states-requires : goal.of_states-requires
-of_states-requires g c =
-    let K : Dictionary g.row.V.Denot = dictionary c.args.kind (registered_texts c.args.patterns.now) in
-    held_texts c.args.kind c.args.patterns.now c.in_ok-states.states c.in_ok-freqs.ensures.texts (c.in_ok-states.ensures.ok K c.in_ok-nfa.ensures.ok)
 
 pub returns-clause-ok : goal.returns-clause-ok
 returns-clause-ok g c =

@@ -1,11 +1,11 @@
 -- What is kept is valid, so that its patterns are the listing.
-use Rattle.std.proofs.Common.{◌≡◌, ◌<◌, ℕ, List, length, sym, ap, subst, arith}
+use Rattle.std.proofs.Common.{◌<◌, length, sym, ap, subst, arith}
 use Rattle.std.proofs.lemmas.Result.{IfOk-weaker}
 use Rattle.daachorse_model.specs.Prefixes.{IsListing}
 use Rattle.daachorse_charwise_states.specs.Edges.{AreCharacters}
 use Rattle.daachorse_charwise_states.specs.Parts.{Parts, content}
 use Rattle.daachorse_charwise_states.specs.Valid.{IsValid}
-use Rattle.daachorse_charwise_states.proofs.ListingLaws.{valid_patterns, patterns_listing}
+use Rattle.daachorse_charwise_states.proofs.ListingLaws.{listing_texts, valid_patterns, patterns_listing}
 use Rattle.daachorse_charwise_states.proofs.states.States.pattern_iter.Goals as goal
 
 pub new-requires-2 : goal.new-requires-2
@@ -29,3 +29,11 @@ returns-clause-ok g c =
     let L : Parts g.row.V.Denot → Type 0 = λ p. IsListing (content p) walk in
     subst L c.in_ok-elements.ensures.parts (patterns_listing a valid walk is))
     c.new-2.ensures.ok
+
+pub returns-clause-texts : goal.returns-clause-texts
+returns-clause-texts g c =
+    let a = c.in_ok-elements.elements in
+    let own : IsValid c.args.self.now = rw (← c.self.view_is) c.self.invariant in
+    let P : Parts g.row.V.Denot → Type 0 = λ p. IsValid p in
+    let valid : IsValid a.parts = subst P (sym c.in_ok-elements.ensures.parts) own in
+    IfOk-weaker c.new-2.result _ _ (λ walk is. listing_texts a.parts walk (patterns_listing a valid walk is)) c.new-2.ensures.ok

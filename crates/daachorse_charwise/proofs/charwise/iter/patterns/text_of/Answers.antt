@@ -1,36 +1,28 @@
--- Each code point is that of a character, which is written.
-use Rattle.std.proofs.Common.{◌≡◌, ℕ, ◌<◌, ◌≤◌, ◌^◌, length, take, slice_index, refl, sym, ap, ◌∙◌, arith, rules}
-use Rattle.std.proofs.Math.Utf8.{encodes, scalar_fits}
-use Rattle.std.specs.Str.{chars}
+-- Each character is written, and the bytes tell them all.
+use Rattle.std.proofs.Common.{◌≡◌, ℕ, slice_index, sym, ap, ◌∙◌, arith, rules}
+use Rattle.std.proofs.Math.Utf8.{encodes}
+use Rattle.std.specs.Char.{IsScalar}
+use Rattle.std.specs.Str.{all_scalars, chars}
 use Rattle.std.specs.String.{string_bytes}
-use Rattle.std.proofs.lemmas.List.{take_all}
+use Rattle.std.proofs.lemmas.List.{get_or_default, take_all}
 use Rattle.std.proofs.lemmas.Str.{chars-encodes}
-use Rattle.daachorse_charwise.proofs.TextLaws.{scalar_at, written_more}
-use Rattle.daachorse_charwise.proofs.charwise.iter.patterns.text_of.Goals.{in-Some+in_ok-push, in_default}
+use Rattle.daachorse_charwise.proofs.TextLaws.{scalars_more, written_more}
 use Rattle.daachorse_charwise.proofs.charwise.iter.patterns.text_of.Goals as goal
 
-pub overflow_cast-code_point : goal.overflow_cast-code_point
-overflow_cast-code_point g c =
-    let cs = c.args.code_points.now in
-    let i = c.loop-code_point.code_point-index in
-    let fits : slice_index cs i < 2 ^ 32 = scalar_fits (slice_index cs i) (scalar_at cs i c.requires c.loop-code_point-test.true) in
-    search (rules, fits)
-
-pub loop-code_point-preserved : goal.loop-code_point-preserved
-loop-code_point-preserved g c =
-    let cs = c.args.code_points.now in
-    let i = c.loop-code_point.code_point-index in
-    let scalar = scalar_at cs i c.requires c.loop-code_point-test.true in
-    elim c.match-from_u32.branch [
-      | in-Some+in_ok-push w ↦
-          let same : slice_index cs i ≡ w.in-Some.c = search (rules, w.in-Some.ensures.value) in
-          written_more cs i w.in-Some.c (string_bytes c.loop-code_point.text) (string_bytes c.match-from_u32.text) c.loop-code_point-test.true same c.loop-code_point.invariant
-          (ap string_bytes w.text-is ∙ w.in_ok-push.ensures.bytes)
-      | in_default w ↦ absurd (w.in_default.ensures.value scalar)
-    ]
+pub loop-c-preserved : goal.loop-c-preserved
+loop-c-preserved g c =
+    let cs = c.args.characters.now in
+    let i = c.loop-c.c-index in
+    let x : ℕ = c.c-item.result in
+    let at : slice_index cs i ≡ x = sym (c.c-item.is ∙ get_or_default cs i x 0 c.loop-c-test.true) in
+    let character : IsScalar x = search rules in
+    record {
+      written = written_more cs i x (string_bytes c.loop-c.text) (string_bytes c.push.new.self) c.loop-c-test.true at c.loop-c.invariant.written c.in_ok-push.ensures.bytes;
+      scalars = scalars_more cs i x c.loop-c-test.true at c.loop-c.invariant.scalars character;
+    }
 
 pub returns-clause-ok : goal.returns-clause-ok
 returns-clause-ok g c =
-    let cs = c.args.code_points.now in
-    let all = take_all c.loop-code_point.code_point-index cs (let end = c.loop-code_point-test.false in omega (arith, end)) in
-    ap chars (c.loop-code_point.invariant ∙ ap encodes all) ∙ chars-encodes cs c.requires
+    let cs = c.args.characters.now in
+    let all = take_all c.loop-c.c-index cs (let end = c.loop-c-test.false in omega (arith, end)) in
+    ap chars (c.loop-c.invariant.written ∙ ap encodes all) ∙ chars-encodes cs (ap all_scalars (sym all) ∙ c.loop-c.invariant.scalars)

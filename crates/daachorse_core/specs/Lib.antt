@@ -4,6 +4,6 @@ pub mod Histories
 pub mod Outputs
 pub mod Seen
 pub mod Texts
-pub mod Turns
+pub mod Counts
 pub mod Refusals
 pub mod Chains

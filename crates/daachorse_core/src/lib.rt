@@ -5,6 +5,7 @@
 //! with each tick and in no other way.
 #![tactic(auto)]
 
+pub mod counter;
 pub mod edge_label;
 pub mod errors;
 pub mod outputs;

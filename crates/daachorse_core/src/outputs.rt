@@ -2,10 +2,11 @@
 //!
 //! The layers above may rely on an output keeping its value, its length and its parent.
 
-ghost use Rattle.std.specs.Prelude.{◌≡◌, ◌-◌, ◌≤◌};
+ghost use Rattle.std.specs.Prelude.{◌≡◌, ◌-◌, ◌≤◌, IsOk};
 ghost use Rattle.daachorse_core.specs.Outputs.{value_of, length_of, parent_of, number};
 
 use daachorse_model::Match;
+use std::convert::Infallible;
 use std::num::NonZeroU32;
 
 /// One output of a state: a value, the length of its pattern in bytes, and the position of the
@@ -66,12 +67,22 @@ impl<V: Copy> Output<V> {
     }
 }
 
-/// A value type that tells patterns apart by nothing: it accepts every index.
+/// A value type of no size, for automata whose matches need no value. Every index converts to it.
 #[derive(Clone, Copy, Debug, Default, PartialEq, Eq, Hash)]
 pub struct Empty;
 
 impl From<usize> for Empty {
     fn from(_index: usize) -> Self {
         Self
+    }
+}
+
+impl TryFrom<usize> for Empty {
+    type Error = Infallible;
+
+    ghost try_from_gives = { λ _ r. IsOk r };
+
+    fn try_from(_index: usize) -> Result<Self, Infallible> {
+        Ok(Self)
     }
 }

@@ -7,6 +7,7 @@
 ghost use Rattle.std.specs.Prelude.{◌≡◌, ◌+◌, ◌++◌, ◌∷◌, []};
 ghost use Rattle.daachorse_core.specs.Seen.{unread};
 
+use crate::counter::Counter;
 use std::alloc::AllocError;
 use std::marker::Model;
 use std::snapshot::Snapshot;
@@ -20,21 +21,10 @@ pub enum Look {
     Fail(u32),
 }
 
-/// How a count came to be. Only snapshots of it are kept, which take no bytes.
-#[derive(Drop)]
-pub enum Count {
-    /// Nothing was counted.
-    Zero,
-    /// As many as before.
-    Same(Snapshot<Snapshot<Count>>),
-    /// One more than before.
-    More(Snapshot<Snapshot<Count>>),
-}
-
-/// How many looks at a state a search took. It takes no bytes, and has no greatest number.
+/// How many looks at a state a search took. It takes no bytes, and has no greatest value.
 #[derive(Drop)]
 pub struct Turns {
-    count: Snapshot<Count>,
+    count: Counter,
 }
 
 impl Model for Turns {
@@ -42,9 +32,7 @@ impl Model for Turns {
 
     ghost Value = { ℕ };
 
-    ghost use Rattle.daachorse_core.specs.Turns.{number_of};
-
-    ghost view = { λ t. number_of t.count.value };
+    ghost view = { λ t. t.count };
 }
 
 impl Turns {
@@ -53,7 +41,7 @@ impl Turns {
         ensures { result ≡ 0 }
     {
         Turns {
-            count: Snapshot::of(&Count::Zero),
+            count: Counter::new(),
         }
     }
 
@@ -61,17 +49,7 @@ impl Turns {
     pub fn tick(&mut self)
         ensures { self.new ≡ self.old + 1 }
     {
-        let more = Count::More(Snapshot::of(&self.count));
-        self.count = Snapshot::of(&more);
-    }
-
-    fn same(&self) -> Turns
-        ensures { result ≡ self.now }
-    {
-        let same = Count::Same(Snapshot::of(&self.count));
-        Turns {
-            count: Snapshot::of(&same),
-        }
+        self.count.increment();
     }
 }
 
@@ -83,7 +61,9 @@ impl Clone for Turns {
     ghost is_infallible = { λ _. Unit {0} };
 
     fn clone(&self) -> Result<Turns, AllocError> {
-        Ok(self.same())
+        Ok(Turns {
+            count: self.count.clone()?,
+        })
     }
 }
 

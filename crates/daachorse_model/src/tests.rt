@@ -33,7 +33,9 @@ fn kinds_are_told_apart(rt: HostRuntime) {
 fn laws_stand_at_a_type() {
     laws::matches_occur::<u32>(MatchKind::Standard);
     laws::matches_follow::<u32>(MatchKind::LeftmostLongest);
+    laws::leftmost_is_longest::<u32>(MatchKind::LeftmostLongest);
     laws::leftmost_first_is_earliest::<u32>();
     laws::same_on_text::<u32>(MatchKind::LeftmostFirst);
     laws::ordered_by_bytes();
+    laws::standard_end_by_end::<u32>(MatchKind::Standard);
 }

@@ -1,7 +1,7 @@
 -- The number that a count stands for.
 use Rattle.std.specs.Prelude.{ℕ, ◌+◌}
-use Rattle.daachorse_core.specs.declared.turns.Count.{Count, fold-Count}
-use Rattle.daachorse_core.specs.declared.turns.Count.TheOpen.{Count-F, Zero, Same, More}
+use Rattle.daachorse_core.specs.declared.counter.Count.{Count, fold-Count}
+use Rattle.daachorse_core.specs.declared.counter.Count.TheOpen.{Count-F, Zero, Same, More}
 
 -- the number at one step, from that before it
 abbrev pub number_step : Count-F ℕ → ℕ

@@ -3,9 +3,10 @@
 ghost use Rattle.std.specs.Prelude.{◌^◌, ◌≡◌, ◌<◌, ◌≤◌, IsTrue, IfOk, IfSome, length};
 ghost use Rattle.std.specs.Int.{IsPowerOfTwo};
 ghost use Rattle.daachorse_placement.specs.Placement.{AreGroups, HasSizes};
-ghost use Rattle.daachorse_placement.specs.Rising.{AreRising};
+ghost use Rattle.daachorse_part_tests.specs.Rising.{AreRising};
 
-use super::{BuildHelper, ListItem, Profile, SiblingGroup};
+use crate::expect;
+use daachorse_placement::build_helper::{BuildHelper, ListItem, Profile, SiblingGroup};
 use std::alloc::{AllocError, Global};
 use std::process::Abort;
 use std::test::Fail;
@@ -108,13 +109,14 @@ fn place(
     Ok(helper)
 }
 
-/// By block its least base that isn't taken.
-fn unused_bases(
+/// Whether these are by block the least base that isn't taken.
+fn are_unused_bases(
     alloc: Global,
     helper: &BuildHelper,
     block_len: u32,
     num_nfa_states: usize,
-) -> Result<Vec<Option<u32>>, AllocError>
+    expected: &[Option<u32>],
+) -> Result<bool, AllocError>
     requires two { 2 ≤ block_len }
     requires sizes { HasSizes helper.now block_len num_nfa_states }
 {
@@ -122,25 +124,39 @@ fn unused_bases(
     for block_idx in 0..helper.num_elements() / block_len {
         unused.push(helper.unused_base_in_block(block_idx))?;
     }
-    Ok(unused)
+    Ok(unused.as_slice() == expected)
 }
 
-/// By element whether it is used.
-fn used_indexes(alloc: Global, helper: &BuildHelper) -> Result<Vec<bool>, AllocError> {
+/// Whether these are by element whether it is used.
+fn are_used_indexes(
+    alloc: Global,
+    helper: &BuildHelper,
+    expected: &[bool],
+) -> Result<bool, AllocError> {
     let mut used = Vec::new(alloc);
     for idx in 0..helper.num_elements() {
         used.push(helper.is_used_index(idx))?;
     }
-    Ok(used)
+    Ok(used.as_slice() == expected)
 }
 
-/// By base whether it is taken.
-fn used_bases(alloc: Global, helper: &BuildHelper) -> Result<Vec<bool>, AllocError> {
+/// Whether these are by base whether it is taken.
+fn are_used_bases(
+    alloc: Global,
+    helper: &BuildHelper,
+    expected: &[bool],
+) -> Result<bool, AllocError> {
     let mut used = Vec::new(alloc);
     for base in 0..helper.num_elements() {
         used.push(helper.is_used_base(base))?;
     }
-    Ok(used)
+    Ok(used.as_slice() == expected)
+}
+
+/// Whether these are the vacant elements that are listed.
+fn are_vacant(alloc: Global, helper: &BuildHelper, expected: &[u32]) -> Result<bool, AllocError> {
+    let vacant: Vec<u32> = helper.vacant_iter().collect(alloc)?;
+    Ok(vacant.as_slice() == expected)
 }
 
 /// Groups with their weights and labels, and where they stand.
@@ -170,14 +186,19 @@ fn assert_row(rt: &impl Abort, alloc: Global, row: &Row) -> Result<(), Fail> {
         block_len,
         row.track_bases,
     )?;
-    assert_eq!(rt; helper.idx_map(), row.idx_map);
-    assert_eq!(rt; helper.bases(), row.bases);
-    assert_eq!(rt; used_indexes(alloc, &helper)?.as_slice(), row.used_indexes);
-    assert_eq!(rt; used_bases(alloc, &helper)?.as_slice(), row.used_bases);
-    let vacant: Vec<u32> = helper.vacant_iter().collect(alloc)?;
-    assert_eq!(rt; vacant.as_slice(), row.vacant);
-    let unused = unused_bases(alloc, &helper, block_len, num_nfa_states)?;
-    assert_eq!(rt; unused.as_slice(), row.unused);
+    expect(rt, helper.idx_map() == row.idx_map, "the map");
+    expect(rt, helper.bases() == row.bases, "the bases");
+    let used_indexes = are_used_indexes(alloc, &helper, row.used_indexes)?;
+    expect(rt, used_indexes, "the used indexes");
+    let used_bases = are_used_bases(alloc, &helper, row.used_bases)?;
+    expect(rt, used_bases, "the used bases");
+    expect(
+        rt,
+        are_vacant(alloc, &helper, row.vacant)?,
+        "what is vacant",
+    );
+    let unused = are_unused_bases(alloc, &helper, block_len, num_nfa_states, row.unused)?;
+    expect(rt, unused, "the unused bases");
     Ok(())
 }
 
@@ -310,61 +331,144 @@ fn groups_before(
     groups_of(alloc, &rows)
 }
 
+/// So many groups that fill a block, the weight of all groups but the last, the last group, and
+/// then the number of states, the element of the last state, the number of elements, and the vacant
+/// ones that are listed.
+#[derive(Drop)]
+struct LastRow {
+    pairs: usize,
+    weight: usize,
+    last: (usize, &'static [u32]),
+    num_nfa_states: usize,
+    element: u32,
+    num_elements: u32,
+    vacant: &'static [u32],
+}
+
+/// Places the groups of a row, and asserts where the last one stands.
+fn assert_last_row(rt: &impl Abort, alloc: Global, row: &LastRow) -> Result<(), Fail> {
+    let block_len = block_len(rt, 1);
+    let groups = groups_before(alloc, row.pairs, row.weight, row.last)?;
+    let helper = place(rt, alloc, &groups, row.num_nfa_states, block_len, true)?;
+    expect(
+        rt,
+        helper.idx_map().last() == Some(&row.element),
+        "the last state",
+    );
+    expect(
+        rt,
+        helper.num_elements() == row.num_elements,
+        "the elements",
+    );
+    assert!(rt; helper.num_elements() > 3);
+    let is_used = helper.is_used_index(3);
+    expect(rt, is_used == (row.element == 3), "element 3");
+    expect(
+        rt,
+        are_vacant(alloc, &helper, row.vacant)?,
+        "what is vacant",
+    );
+    Ok(())
+}
+
+/// A row by its parts.
+fn last_row(
+    pairs: usize,
+    weight: usize,
+    last: (usize, &'static [u32]),
+    num_nfa_states: usize,
+    (element, num_elements, vacant): (u32, u32, &'static [u32]),
+) -> LastRow {
+    LastRow {
+        pairs,
+        weight,
+        last,
+        num_nfa_states,
+        element,
+        num_elements,
+        vacant,
+    }
+}
+
 #[test]
 fn a_group_of_weight_0_looks_at_the_last_16_blocks(rt: HostRuntime) -> Result<(), Fail> {
-    let alloc = rt.alloc();
-    let block_len = block_len(&rt, 1);
-    // Groups that fill a block, the weight of all but the last group, the last group, and then
-    // the element of its last child, the number of elements, and the vacant ones that are listed.
-    let rows: [(usize, usize, (usize, &[u32]), u32, u32, &[u32]); 6] = [
-        (17, 1, (1, &[0]), 3, 38, &[]),
-        (17, 1, (0, &[0]), 38, 40, &[39]),
-        (15, 0, (0, &[0]), 3, 34, &[]),
-        (16, 0, (0, &[0]), 36, 38, &[37]),
-        (17, 1, (1, &[0, 1]), 39, 40, &[3]),
-        (17, 1, (0, &[0, 1]), 39, 40, &[]),
+    let rows = [
+        last_row(17, 1, (1, &[0]), 38, (3, 38, &[])),
+        last_row(17, 1, (0, &[0]), 38, (38, 40, &[39])),
+        last_row(15, 0, (0, &[0]), 34, (3, 34, &[])),
+        last_row(16, 0, (0, &[0]), 36, (36, 38, &[37])),
+        last_row(17, 1, (1, &[0, 1]), 39, (39, 40, &[3])),
+        last_row(17, 1, (0, &[0, 1]), 39, (39, 40, &[])),
     ];
-    for &(pairs, weight, last, element, num_elements, listed) in &rows {
-        let groups = groups_before(alloc, pairs, weight, last)?;
-        let num_nfa_states = 3 + 2 * pairs + last.1.len();
-        let helper = place(&rt, alloc, &groups, num_nfa_states, block_len, true)?;
-        assert_eq!(rt; helper.idx_map().last(), Some(&element));
-        assert_eq!(rt; helper.num_elements(), num_elements);
-        assert_eq!(rt; helper.is_used_index(3), element == 3);
-        let vacant: Vec<u32> = helper.vacant_iter().collect(alloc)?;
-        assert_eq!(rt; vacant.as_slice(), listed);
+    for row in &rows {
+        assert_last_row(&rt, rt.alloc(), row)?;
     }
     Ok(())
 }
 
-#[test]
-fn a_profile_keeps_its_counts(rt: HostRuntime) -> Result<(), Fail> {
-    let mut profile = Profile::new(rt.alloc());
-    assert!(rt; profile.is_empty());
+/// The counts of a profile with a visit and a probe at place 2, once it has so many places.
+fn counts(alloc: Global, len: usize) -> Result<(Vec<usize>, Vec<usize>), Fail> {
+    let mut profile = Profile::new(alloc);
     profile.resize(2)?;
-    assert!(rt; !profile.is_empty());
     profile.visits.push(5)?;
     profile.probes.push(7)?;
-    profile.resize(4)?;
-    assert_eq!(rt; profile.visits.as_slice(), [0, 0, 5, 0].as_slice());
-    assert_eq!(rt; profile.probes.as_slice(), [0, 0, 7, 0].as_slice());
-    profile.resize(1)?;
-    assert_eq!(rt; profile.visits.as_slice(), [0].as_slice());
-    assert_eq!(rt; profile.probes.as_slice(), [0].as_slice());
+    profile.resize(len)?;
+    Ok((profile.visits, profile.probes))
+}
+
+#[test]
+fn a_profile_keeps_its_counts(rt: HostRuntime) -> Result<(), Fail> {
+    let (visits, probes) = counts(rt.alloc(), 4)?;
+    expect(&rt, visits.as_slice() == [0, 0, 5, 0].as_slice(), "visits");
+    expect(&rt, probes.as_slice() == [0, 0, 7, 0].as_slice(), "probes");
+    let (visits, probes) = counts(rt.alloc(), 1)?;
+    expect(
+        &rt,
+        visits.as_slice() == [0].as_slice(),
+        "the first of the visits",
+    );
+    expect(
+        &rt,
+        probes.as_slice() == [0].as_slice(),
+        "the first of the probes",
+    );
     Ok(())
 }
 
 #[test]
-fn a_list_item_has_two_places_and_two_flags(rt: HostRuntime) -> Result<(), Fail> {
+fn a_new_profile_is_empty(rt: HostRuntime) -> Result<(), Fail> {
+    let mut profile = Profile::new(rt.alloc());
+    expect(&rt, profile.is_empty(), "no place");
+    profile.resize(2)?;
+    expect(&rt, !profile.is_empty(), "two places");
+    Ok(())
+}
+
+#[test]
+fn a_list_item_has_two_places(rt: HostRuntime) {
     let mut item = ListItem::default();
-    assert_eq!(rt; (item.next(), item.prev()), (0, 0));
+    expect(&rt, (item.next(), item.prev()) == (0, 0), "at first");
+    *item.next_mut() = 3;
+    *item.prev_mut() = 5;
+    expect(&rt, (item.next(), item.prev()) == (3, 5), "both");
+}
+
+#[test]
+fn a_list_item_has_two_flags(rt: HostRuntime) -> Result<(), Fail> {
+    let mut item = ListItem::default();
     *item.next_mut() = 3;
     *item.prev_mut() = 5;
     item.use_base();
     let copy = item.clone()?;
     item.use_index();
-    assert_eq!(rt; (copy.next(), copy.prev()), (3, 5));
-    assert_eq!(rt; (copy.is_used_base(), copy.is_used_index()), (true, false));
-    assert_eq!(rt; (item.is_used_base(), item.is_used_index()), (true, true));
+    expect(
+        &rt,
+        (copy.next(), copy.prev()) == (3, 5),
+        "the places of a copy",
+    );
+    let flags = (copy.is_used_base(), copy.is_used_index());
+    expect(&rt, flags == (true, false), "the flags of a copy");
+    let flags = (item.is_used_base(), item.is_used_index());
+    expect(&rt, flags == (true, true), "both flags");
     Ok(())
 }

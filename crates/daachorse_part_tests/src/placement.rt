@@ -160,7 +160,7 @@ fn are_vacant(alloc: Global, helper: &BuildHelper, expected: &[u32]) -> Result<b
 }
 
 /// Groups with their weights and labels, and where they stand.
-#[derive(Drop)]
+#[derive(Clone, Copy)]
 struct Row {
     block_bits: u32,
     track_bases: bool,
@@ -173,142 +173,145 @@ struct Row {
     unused: &'static [Option<u32>],
 }
 
+/// Asserts what the helper tells of the elements and of the bases of a row.
+fn assert_marks(
+    rt: &impl Abort,
+    alloc: Global,
+    helper: &BuildHelper,
+    row: &Row,
+) -> Result<(), AllocError> {
+    let used_indexes = are_used_indexes(alloc, helper, row.used_indexes)?;
+    expect(rt, used_indexes, "the used indexes");
+    let used_bases = are_used_bases(alloc, helper, row.used_bases)?;
+    expect(rt, used_bases, "the used bases");
+    let vacant = are_vacant(alloc, helper, row.vacant)?;
+    expect(rt, vacant, "what is vacant");
+    Ok(())
+}
+
 /// Places the groups of a row, and asserts all that the helper tells of them.
 fn assert_row(rt: &impl Abort, alloc: Global, row: &Row) -> Result<(), Fail> {
     let block_len = block_len(rt, row.block_bits);
     let num_nfa_states = row.idx_map.len();
     let groups = groups_of(alloc, row.groups)?;
-    let helper = place(
-        rt,
-        alloc,
-        &groups,
-        num_nfa_states,
-        block_len,
-        row.track_bases,
-    )?;
+    let tracked = row.track_bases;
+    let helper = place(rt, alloc, &groups, num_nfa_states, block_len, tracked)?;
     expect(rt, helper.idx_map() == row.idx_map, "the map");
     expect(rt, helper.bases() == row.bases, "the bases");
-    let used_indexes = are_used_indexes(alloc, &helper, row.used_indexes)?;
-    expect(rt, used_indexes, "the used indexes");
-    let used_bases = are_used_bases(alloc, &helper, row.used_bases)?;
-    expect(rt, used_bases, "the used bases");
-    expect(
-        rt,
-        are_vacant(alloc, &helper, row.vacant)?,
-        "what is vacant",
-    );
+    assert_marks(rt, alloc, &helper, row)?;
     let unused = are_unused_bases(alloc, &helper, block_len, num_nfa_states, row.unused)?;
     expect(rt, unused, "the unused bases");
     Ok(())
 }
 
+const ROWS: &[Row] = &[
+    // The root and the dead state have elements 0 and 1, another state that is no child has 1.
+    Row {
+        block_bits: 2,
+        track_bases: true,
+        groups: &[],
+        idx_map: &[0, 1, 1],
+        bases: &[0, 0, 0],
+        used_indexes: &[true, true, false, false],
+        used_bases: &[false, false, false, false],
+        vacant: &[2, 3],
+        unused: &[Some(0)],
+    },
+    // A base that is taken is passed over where bases are tracked, and a block is added.
+    Row {
+        block_bits: 2,
+        track_bases: true,
+        groups: &[(1, &[1]), (1, &[0])],
+        idx_map: &[0, 1, 2, 4],
+        bases: &[3, 4, 0, 0],
+        used_indexes: &[true, true, true, false, true, false, false, false],
+        used_bases: &[false, false, false, true, true, false, false, false],
+        vacant: &[3, 5, 6, 7],
+        unused: &[Some(0), Some(5)],
+    },
+    // Where bases are not tracked, two groups may share one.
+    Row {
+        block_bits: 2,
+        track_bases: false,
+        groups: &[(1, &[1]), (1, &[0])],
+        idx_map: &[0, 1, 2, 3],
+        bases: &[3, 3, 0, 0],
+        used_indexes: &[true, true, true, true],
+        used_bases: &[false, false, false, false],
+        vacant: &[],
+        unused: &[Some(0)],
+    },
+    // No base is 0.
+    Row {
+        block_bits: 2,
+        track_bases: true,
+        groups: &[(1, &[2])],
+        idx_map: &[0, 1, 3],
+        bases: &[1, 0, 0],
+        used_indexes: &[true, true, false, true],
+        used_bases: &[false, true, false, false],
+        vacant: &[2],
+        unused: &[Some(0)],
+    },
+    // The tries go by the element of the first child, and all children have to fit.
+    Row {
+        block_bits: 2,
+        track_bases: true,
+        groups: &[(1, &[0, 3]), (1, &[1, 2])],
+        idx_map: &[0, 1, 4, 7, 6, 5],
+        bases: &[4, 7, 0, 0, 0, 0],
+        used_indexes: &[true, true, false, false, true, true, true, true],
+        used_bases: &[false, false, false, false, true, false, false, true],
+        vacant: &[2, 3],
+        unused: &[Some(0), Some(5)],
+    },
+    // The same where bases are not tracked.
+    Row {
+        block_bits: 2,
+        track_bases: false,
+        groups: &[(1, &[0, 3]), (1, &[1, 2])],
+        idx_map: &[0, 1, 4, 7, 5, 6],
+        bases: &[4, 4, 0, 0, 0, 0],
+        used_indexes: &[true, true, false, false, true, true, true, true],
+        used_bases: &[false, false, false, false, false, false, false, false],
+        vacant: &[2, 3],
+        unused: &[Some(0), Some(4)],
+    },
+    // A block with all of its bases taken has no vacant element.
+    Row {
+        block_bits: 1,
+        track_bases: true,
+        groups: &[(1, &[0]), (1, &[0])],
+        idx_map: &[0, 1, 2, 3],
+        bases: &[2, 3, 0, 0],
+        used_indexes: &[true, true, true, true],
+        used_bases: &[false, false, true, true],
+        vacant: &[],
+        unused: &[Some(0), None],
+    },
+    // The groups of the patterns 00 00, 00 02, 01 02 and 02 over bytes.
+    Row {
+        block_bits: 4,
+        track_bases: true,
+        groups: &[(1, &[0, 1, 2]), (1, &[2]), (1, &[0, 2])],
+        idx_map: &[0, 1, 4, 5, 6, 3, 8, 10],
+        bases: &[4, 1, 8, 0, 0, 0, 0, 0],
+        used_indexes: &[
+            true, true, false, true, true, true, true, false, true, false, true, false, false,
+            false, false, false,
+        ],
+        used_bases: &[
+            false, true, false, false, true, false, false, false, true, false, false, false, false,
+            false, false, false,
+        ],
+        vacant: &[2, 7, 9, 11, 12, 13, 14, 15],
+        unused: &[Some(0)],
+    },
+];
+
 #[test]
 fn groups_stand_at_the_first_place_that_fits(rt: HostRuntime) -> Result<(), Fail> {
-    let rows = [
-        // The root and the dead state have elements 0 and 1, another state that is no child has 1.
-        Row {
-            block_bits: 2,
-            track_bases: true,
-            groups: &[],
-            idx_map: &[0, 1, 1],
-            bases: &[0, 0, 0],
-            used_indexes: &[true, true, false, false],
-            used_bases: &[false, false, false, false],
-            vacant: &[2, 3],
-            unused: &[Some(0)],
-        },
-        // A base that is taken is passed over where bases are tracked, and a block is added.
-        Row {
-            block_bits: 2,
-            track_bases: true,
-            groups: &[(1, &[1]), (1, &[0])],
-            idx_map: &[0, 1, 2, 4],
-            bases: &[3, 4, 0, 0],
-            used_indexes: &[true, true, true, false, true, false, false, false],
-            used_bases: &[false, false, false, true, true, false, false, false],
-            vacant: &[3, 5, 6, 7],
-            unused: &[Some(0), Some(5)],
-        },
-        // Where bases are not tracked, two groups may share one.
-        Row {
-            block_bits: 2,
-            track_bases: false,
-            groups: &[(1, &[1]), (1, &[0])],
-            idx_map: &[0, 1, 2, 3],
-            bases: &[3, 3, 0, 0],
-            used_indexes: &[true, true, true, true],
-            used_bases: &[false, false, false, false],
-            vacant: &[],
-            unused: &[Some(0)],
-        },
-        // No base is 0.
-        Row {
-            block_bits: 2,
-            track_bases: true,
-            groups: &[(1, &[2])],
-            idx_map: &[0, 1, 3],
-            bases: &[1, 0, 0],
-            used_indexes: &[true, true, false, true],
-            used_bases: &[false, true, false, false],
-            vacant: &[2],
-            unused: &[Some(0)],
-        },
-        // The tries go by the element of the first child, and all children have to fit.
-        Row {
-            block_bits: 2,
-            track_bases: true,
-            groups: &[(1, &[0, 3]), (1, &[1, 2])],
-            idx_map: &[0, 1, 4, 7, 6, 5],
-            bases: &[4, 7, 0, 0, 0, 0],
-            used_indexes: &[true, true, false, false, true, true, true, true],
-            used_bases: &[false, false, false, false, true, false, false, true],
-            vacant: &[2, 3],
-            unused: &[Some(0), Some(5)],
-        },
-        // The same where bases are not tracked.
-        Row {
-            block_bits: 2,
-            track_bases: false,
-            groups: &[(1, &[0, 3]), (1, &[1, 2])],
-            idx_map: &[0, 1, 4, 7, 5, 6],
-            bases: &[4, 4, 0, 0, 0, 0],
-            used_indexes: &[true, true, false, false, true, true, true, true],
-            used_bases: &[false, false, false, false, false, false, false, false],
-            vacant: &[2, 3],
-            unused: &[Some(0), Some(4)],
-        },
-        // A block with all of its bases taken has no vacant element.
-        Row {
-            block_bits: 1,
-            track_bases: true,
-            groups: &[(1, &[0]), (1, &[0])],
-            idx_map: &[0, 1, 2, 3],
-            bases: &[2, 3, 0, 0],
-            used_indexes: &[true, true, true, true],
-            used_bases: &[false, false, true, true],
-            vacant: &[],
-            unused: &[Some(0), None],
-        },
-        // The groups of the patterns 00 00, 00 02, 01 02 and 02 over bytes.
-        Row {
-            block_bits: 4,
-            track_bases: true,
-            groups: &[(1, &[0, 1, 2]), (1, &[2]), (1, &[0, 2])],
-            idx_map: &[0, 1, 4, 5, 6, 3, 8, 10],
-            bases: &[4, 1, 8, 0, 0, 0, 0, 0],
-            used_indexes: &[
-                true, true, false, true, true, true, true, false, true, false, true, false, false,
-                false, false, false,
-            ],
-            used_bases: &[
-                false, true, false, false, true, false, false, false, true, false, false, false,
-                false, false, false, false,
-            ],
-            vacant: &[2, 7, 9, 11, 12, 13, 14, 15],
-            unused: &[Some(0)],
-        },
-    ];
-    for row in &rows {
+    for row in ROWS {
         assert_row(&rt, rt.alloc(), row)?;
     }
     Ok(())
@@ -334,7 +337,7 @@ fn groups_before(
 /// So many groups that fill a block, the weight of all groups but the last, the last group, and
 /// then the number of states, the element of the last state, the number of elements, and the vacant
 /// ones that are listed.
-#[derive(Drop)]
+#[derive(Clone, Copy)]
 struct LastRow {
     pairs: usize,
     weight: usize,
@@ -371,36 +374,66 @@ fn assert_last_row(rt: &impl Abort, alloc: Global, row: &LastRow) -> Result<(), 
     Ok(())
 }
 
-/// A row by its parts.
-fn last_row(
-    pairs: usize,
-    weight: usize,
-    last: (usize, &'static [u32]),
-    num_nfa_states: usize,
-    (element, num_elements, vacant): (u32, u32, &'static [u32]),
-) -> LastRow {
+const LAST_ROWS: &[LastRow] = &[
     LastRow {
-        pairs,
-        weight,
-        last,
-        num_nfa_states,
-        element,
-        num_elements,
-        vacant,
-    }
-}
+        pairs: 17,
+        weight: 1,
+        last: (1, &[0]),
+        num_nfa_states: 38,
+        element: 3,
+        num_elements: 38,
+        vacant: &[],
+    },
+    LastRow {
+        pairs: 17,
+        weight: 1,
+        last: (0, &[0]),
+        num_nfa_states: 38,
+        element: 38,
+        num_elements: 40,
+        vacant: &[39],
+    },
+    LastRow {
+        pairs: 15,
+        weight: 0,
+        last: (0, &[0]),
+        num_nfa_states: 34,
+        element: 3,
+        num_elements: 34,
+        vacant: &[],
+    },
+    LastRow {
+        pairs: 16,
+        weight: 0,
+        last: (0, &[0]),
+        num_nfa_states: 36,
+        element: 36,
+        num_elements: 38,
+        vacant: &[37],
+    },
+    LastRow {
+        pairs: 17,
+        weight: 1,
+        last: (1, &[0, 1]),
+        num_nfa_states: 39,
+        element: 39,
+        num_elements: 40,
+        vacant: &[3],
+    },
+    LastRow {
+        pairs: 17,
+        weight: 1,
+        last: (0, &[0, 1]),
+        num_nfa_states: 39,
+        element: 39,
+        num_elements: 40,
+        vacant: &[],
+    },
+];
 
 #[test]
 fn a_group_of_weight_0_looks_at_the_last_16_blocks(rt: HostRuntime) -> Result<(), Fail> {
-    let rows = [
-        last_row(17, 1, (1, &[0]), 38, (3, 38, &[])),
-        last_row(17, 1, (0, &[0]), 38, (38, 40, &[39])),
-        last_row(15, 0, (0, &[0]), 34, (3, 34, &[])),
-        last_row(16, 0, (0, &[0]), 36, (36, 38, &[37])),
-        last_row(17, 1, (1, &[0, 1]), 39, (39, 40, &[3])),
-        last_row(17, 1, (0, &[0, 1]), 39, (39, 40, &[])),
-    ];
-    for row in &rows {
+    for row in LAST_ROWS {
         assert_last_row(&rt, rt.alloc(), row)?;
     }
     Ok(())

@@ -5,5 +5,3 @@
 #![tactic(auto)]
 
 pub mod mapper;
-#[cfg(test)]
-mod tests;

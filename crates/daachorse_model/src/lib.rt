@@ -104,5 +104,3 @@ impl<V: Copy> Match<V> {
 
 pub mod laws;
 pub mod slow;
-#[cfg(test)]
-mod tests;

@@ -13,8 +13,6 @@ use crate::{Match, MatchKind};
 use std::alloc::{AllocError, Allocator};
 
 mod leftmost;
-#[cfg(test)]
-mod tests;
 
 pub use leftmost::leftmost_slowly;
 

@@ -3,5 +3,4 @@ pub mod PlaceLinks
 pub mod ElementLaws
 pub mod PlaceStart
 pub mod PlaceSteps
-pub mod RisingLaws
 pub mod VacantLists

@@ -3,4 +3,3 @@ pub mod Layout
 pub mod ListItems
 pub mod Placement
 pub mod Profiles
-pub mod Rising

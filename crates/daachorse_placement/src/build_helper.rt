@@ -264,5 +264,3 @@ fn first_vacant<A: Allocator>(elements: &Elements<A>, start: u32) -> u32
     elements.skip_used(start)
 }
 
-#[cfg(test)]
-mod tests;

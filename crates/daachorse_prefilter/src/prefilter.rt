@@ -19,8 +19,6 @@ ghost use Rattle.daachorse_prefilter.specs.Filters.{Filter, IsFilter, IsNextBoun
 mod builder;
 mod form;
 mod gate;
-#[cfg(test)]
-mod tests;
 
 pub use builder::PrefilterBuilder;
 use daachorse_core::errors::Result;

@@ -7,5 +7,3 @@
 
 pub mod intpack;
 pub mod serializer;
-#[cfg(test)]
-mod tests;

@@ -1,6 +1,11 @@
 //! The worked rows: the plain searches find what a reader expects.
 
-use super::*;
+use crate::expect;
+use daachorse_model::slow::{
+    Width, leftmost_slowly, no_suffix_slowly, overlapping_slowly, standard_slowly,
+};
+use daachorse_model::{Match, MatchKind};
+use std::alloc::{AllocError, Global};
 
 /// Which search a row runs.
 #[derive(Clone, Copy)]
@@ -182,11 +187,7 @@ const ROWS: &[Row] = &[
 ];
 
 /// The units of a text.
-fn units<A: Allocator + Copy>(
-    alloc: A,
-    width: Width,
-    text: &str,
-) -> Result<Vec<u32, A>, AllocError> {
+fn units(alloc: Global, width: Width, text: &str) -> Result<Vec<u32>, AllocError> {
     let mut units = Vec::new(alloc);
     match width {
         Width::Bytes => {
@@ -204,11 +205,11 @@ fn units<A: Allocator + Copy>(
 }
 
 /// The texts with the values of the row's patterns.
-fn with_values<'a, A: Allocator + Copy>(
-    alloc: A,
-    texts: &'a [Vec<u32, A>],
+fn with_values<'a>(
+    alloc: Global,
+    texts: &'a [Vec<u32>],
     row: &Row,
-) -> Result<Vec<(&'a [u32], u32), A>, AllocError> {
+) -> Result<Vec<(&'a [u32], u32)>, AllocError> {
     let mut patterns = Vec::new(alloc);
     for (text, (_, value)) in texts.iter().zip(row.patterns) {
         patterns.push((text.as_slice(), *value))?;
@@ -217,7 +218,7 @@ fn with_values<'a, A: Allocator + Copy>(
 }
 
 /// What the row's search finds.
-fn found<A: Allocator + Copy>(alloc: A, row: &Row) -> Result<Vec<Match<u32>, A>, AllocError> {
+fn found(alloc: Global, row: &Row) -> Result<Vec<Match<u32>>, AllocError> {
     let mut texts = Vec::new(alloc);
     for (text, _) in row.patterns {
         texts.push(units(alloc, row.width, text)?)?;
@@ -232,15 +233,25 @@ fn found<A: Allocator + Copy>(alloc: A, row: &Row) -> Result<Vec<Match<u32>, A>,
     }
 }
 
+/// The matches as (start, end, value).
+fn parts_of(alloc: Global, matches: &[Match<u32>]) -> Result<Vec<(usize, usize, u32)>, AllocError> {
+    let mut parts = Vec::new(alloc);
+    for m in matches {
+        parts.push((m.start(), m.end(), m.value()))?;
+    }
+    Ok(parts)
+}
+
+/// Whether the row's search finds just the row's matches.
+fn is_right(alloc: Global, row: &Row) -> Result<bool, AllocError> {
+    let found = found(alloc, row)?;
+    Ok(parts_of(alloc, &found)?.as_slice() == row.matches)
+}
+
 #[test]
 fn worked_rows(rt: HostRuntime) -> Result<(), AllocError> {
     for row in ROWS {
-        let found = found(rt.alloc(), row)?;
-        let mut parts = Vec::new(rt.alloc());
-        for m in &found {
-            parts.push((m.start(), m.end(), m.value()))?;
-        }
-        assert!(rt; parts.as_slice() == row.matches, "{}", row.shows);
+        expect(&rt, is_right(rt.alloc(), row)?, row.shows);
     }
     Ok(())
 }

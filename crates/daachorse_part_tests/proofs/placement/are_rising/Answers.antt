@@ -2,10 +2,10 @@
 use Rattle.std.proofs.Common.{◌≡◌, ◌+◌, ◌<◌, ◌≤◌, ℕ, List, length, arith, subst, sym, ◌∙◌}
 use Rattle.std.proofs.lemmas.Bool.Decides.{nat_tests}
 use Rattle.daachorse_placement.specs.Placement.{children_of, parent_of}
-use Rattle.daachorse_placement.specs.Rising.{AreRising, RiseTo}
+use Rattle.daachorse_part_tests.specs.Rising.{AreRising, RiseTo}
 use Rattle.daachorse_placement.proofs.PlaceStart.{children_at, parent_at}
-use Rattle.daachorse_placement.proofs.RisingLaws.{rise_more, rising_groups}
-use Rattle.daachorse_placement.proofs.build_helper.tests.are_rising.Goals as goal
+use Rattle.daachorse_part_tests.proofs.RisingLaws.{rise_more, rising_groups}
+use Rattle.daachorse_part_tests.proofs.placement.are_rising.Goals as goal
 
 pub loop-group-preserved : goal.loop-group-preserved
 loop-group-preserved c =

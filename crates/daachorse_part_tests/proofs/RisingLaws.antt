@@ -3,7 +3,7 @@ use Rattle.std.proofs.Common.{◌≡◌, ℕ, ◌+◌, ◌<◌, ◌≤◌, inl, 
 use Rattle.std.proofs.lemmas.Bool.{cases_lt, cases_order}
 use Rattle.daachorse_placement.specs.declared.build_helper.SiblingGroup.{SiblingGroup}
 use Rattle.daachorse_placement.specs.Placement.{AreGroups, children_of, parent_of, label_of, child_of}
-use Rattle.daachorse_placement.specs.Rising.{AreRising, RiseTo}
+use Rattle.daachorse_part_tests.specs.Rising.{AreRising, RiseTo}
 
 -- where a function of the index rises, equal values have equal indexes
 apart_of : (f : ℕ → ℕ) (n i j : ℕ) → ((a b : ℕ) → a < b → b < n → f a < f b) → i < n → j < n → f i ≡ f j → i ≡ j

@@ -1,6 +1,7 @@
 //! The kinds as bytes, and the laws at a type.
 
-use super::*;
+use crate::expect;
+use daachorse_model::{MatchKind, laws};
 
 #[test]
 fn kinds_are_bytes(rt: HostRuntime) {
@@ -11,8 +12,8 @@ fn kinds_are_bytes(rt: HostRuntime) {
         (3, MatchKind::Standard, 0),
         (255, MatchKind::Standard, 0),
     ] {
-        assert!(rt; MatchKind::from(byte) == kind, "from {byte}");
-        assert_eq!(rt; u8::from(kind), same, "back from {byte}");
+        expect(&rt, MatchKind::from(byte) == kind, "the kind");
+        expect(&rt, u8::from(kind) == same, "its byte");
     }
 }
 
@@ -23,9 +24,9 @@ fn kinds_are_told_apart(rt: HostRuntime) {
         (MatchKind::LeftmostLongest, false, true, false),
         (MatchKind::LeftmostFirst, false, true, true),
     ] {
-        assert_eq!(rt; kind.is_standard(), standard);
-        assert_eq!(rt; kind.is_leftmost(), leftmost);
-        assert_eq!(rt; kind.is_leftmost_first(), first);
+        expect(&rt, kind.is_standard() == standard, "standard");
+        expect(&rt, kind.is_leftmost() == leftmost, "leftmost");
+        expect(&rt, kind.is_leftmost_first() == first, "leftmost first");
     }
 }
 

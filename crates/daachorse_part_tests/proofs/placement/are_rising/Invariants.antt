@@ -1,7 +1,7 @@
 -- The groups so far rise.
 use Rattle.std.proofs.Common.{◌≤◌}
-use Rattle.daachorse_placement.specs.Rising.{RiseTo}
-use Rattle.daachorse_placement.proofs.build_helper.tests.are_rising.Given as goal
+use Rattle.daachorse_part_tests.specs.Rising.{RiseTo}
+use Rattle.daachorse_part_tests.proofs.placement.are_rising.Given as goal
 
 abbrev pub invariant-loop-group : goal.invariant-loop-group
 invariant-loop-group l = record {

@@ -1,7 +1,7 @@
 -- The labels and ids so far rise.
 use Rattle.std.proofs.Common.{◌≤◌}
-use Rattle.daachorse_placement.specs.Rising.{AreRising}
-use Rattle.daachorse_placement.proofs.build_helper.tests.rises.Given as goal
+use Rattle.daachorse_part_tests.specs.Rising.{AreRising}
+use Rattle.daachorse_part_tests.proofs.placement.rises.Given as goal
 
 abbrev pub invariant-loop-label : goal.invariant-loop-label
 invariant-loop-label l = record {

@@ -1,0 +1,37 @@
+//! Tests of single crates below the automata, from outside: worked rows, printed texts and written
+//! forms. They stand apart from the crates that they test, since a crate with tests of its own is
+//! proved twice.
+#![tactic(auto)]
+
+#[cfg(test)]
+mod forms;
+#[cfg(test)]
+mod mapper;
+#[cfg(test)]
+mod model;
+#[cfg(test)]
+mod placement;
+#[cfg(test)]
+mod prefilter;
+#[cfg(test)]
+mod serializer;
+#[cfg(test)]
+mod slow_searches;
+
+#[cfg(test)]
+use std::hash::{DefaultHasher, Hash, Hasher};
+#[cfg(test)]
+use std::process::Abort;
+
+/// Ends the test with what went wrong, unless `holds`. A call is proved faster than an assertion.
+#[cfg(test)]
+fn expect(rt: &impl Abort, holds: bool, what: &str) {
+    assert!(rt; holds, "{what}");
+}
+
+#[cfg(test)]
+fn hash_of<T: Hash>(value: &T) -> u64 {
+    let mut state = DefaultHasher::new();
+    value.hash(&mut state);
+    state.finish()
+}

@@ -236,8 +236,10 @@ impl<V: Copy, A: Allocator> DoubleArrayAhoCorasick<V, A> {
         requires { self.now.parts.kind ≡ Standard }
         ensures left { result.left ≡ standard byte_width (content self.entry.now.parts) haystack.entry.now }
         ensures automaton { result.automaton ≡ self.entry.now.parts }
+        ensures haystack { result.haystack ≡ haystack.entry.now }
         ensures passed { result.passed ≡ [] }
         ensures turns { result.turns ≡ 0 }
+        ensures given { result.given ≡ 0 }
     {
         find_in(self.states.standard(), Bytes::new(haystack))
     }
@@ -274,8 +276,10 @@ impl<V: Copy, A: Allocator> DoubleArrayAhoCorasick<V, A> {
         requires { self.now.parts.kind ≡ Standard }
         ensures left { result.left ≡ overlapping byte_width (content self.entry.now.parts) haystack.entry.now }
         ensures automaton { result.automaton ≡ self.entry.now.parts }
+        ensures haystack { result.haystack ≡ haystack.entry.now }
         ensures passed { result.passed ≡ [] }
         ensures turns { result.turns ≡ 0 }
+        ensures given { result.given ≡ 0 }
     {
         find_overlapping_in(self.states.standard(), Bytes::new(haystack))
     }
@@ -312,8 +316,10 @@ impl<V: Copy, A: Allocator> DoubleArrayAhoCorasick<V, A> {
         requires { self.now.parts.kind ≡ Standard }
         ensures left { result.left ≡ no_suffix byte_width (content self.entry.now.parts) haystack.entry.now }
         ensures automaton { result.automaton ≡ self.entry.now.parts }
+        ensures haystack { result.haystack ≡ haystack.entry.now }
         ensures passed { result.passed ≡ [] }
         ensures turns { result.turns ≡ 0 }
+        ensures given { result.given ≡ 0 }
     {
         find_overlapping_no_suffix_in(self.states.standard(), Bytes::new(haystack))
     }

@@ -250,8 +250,10 @@ impl<V: Copy, A: Allocator> CharwiseDoubleArrayAhoCorasick<V, A> {
         requires { self.now.parts.kind ≡ Standard }
         ensures left { result.left ≡ standard char_width (content self.entry.now.parts) (chars haystack.entry.now) }
         ensures automaton { result.automaton ≡ self.entry.now.parts }
+        ensures haystack { result.haystack ≡ chars haystack.entry.now }
         ensures passed { result.passed ≡ [] }
         ensures turns { result.turns ≡ 0 }
+        ensures given { result.given ≡ 0 }
     {
         find_in(self.states.standard(), Text::new(haystack))
     }
@@ -288,8 +290,10 @@ impl<V: Copy, A: Allocator> CharwiseDoubleArrayAhoCorasick<V, A> {
         requires { self.now.parts.kind ≡ Standard }
         ensures left { result.left ≡ overlapping char_width (content self.entry.now.parts) (chars haystack.entry.now) }
         ensures automaton { result.automaton ≡ self.entry.now.parts }
+        ensures haystack { result.haystack ≡ chars haystack.entry.now }
         ensures passed { result.passed ≡ [] }
         ensures turns { result.turns ≡ 0 }
+        ensures given { result.given ≡ 0 }
     {
         find_overlapping_in(self.states.standard(), Text::new(haystack))
     }
@@ -326,8 +330,10 @@ impl<V: Copy, A: Allocator> CharwiseDoubleArrayAhoCorasick<V, A> {
         requires { self.now.parts.kind ≡ Standard }
         ensures left { result.left ≡ no_suffix char_width (content self.entry.now.parts) (chars haystack.entry.now) }
         ensures automaton { result.automaton ≡ self.entry.now.parts }
+        ensures haystack { result.haystack ≡ chars haystack.entry.now }
         ensures passed { result.passed ≡ [] }
         ensures turns { result.turns ≡ 0 }
+        ensures given { result.given ≡ 0 }
     {
         find_overlapping_no_suffix_in(self.states.standard(), Text::new(haystack))
     }

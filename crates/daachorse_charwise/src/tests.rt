@@ -1,9 +1,12 @@
 //! Worked rows of the depths, the listing, the number of states, clones, equality and hashes.
 
-ghost use Rattle.std.specs.Prelude.{◌≡◌, IfOk};
+ghost use Rattle.std.specs.Prelude.{◌≡◌, ◌*◌, ◌≤◌, length, IfOk};
+ghost use Rattle.std.specs.Str.{chars};
 ghost use Rattle.daachorse_model.specs.declared.MatchKind.TheVariants.{Standard};
 
 use crate::charwise::CharwiseDoubleArrayAhoCorasick;
+use crate::charwise::iter::FindOverlappingSliceIterator;
+use daachorse_core::Match;
 use daachorse_core::errors::Result;
 use std::alloc::Global;
 use std::hash::{DefaultHasher, Hash, Hasher};
@@ -33,6 +36,31 @@ fn depths(automaton: &CharwiseDoubleArrayAhoCorasick<u32>) -> [Option<u32>; 4]
     let second = stepper.depth();
     stepper.consume('界');
     [start, first, second, stepper.depth()]
+}
+
+/// A whole search, whose turns are at most twice the characters of the text.
+fn run_overlapping<'a>(
+    automaton: &'a CharwiseDoubleArrayAhoCorasick<u32>,
+    text: &'a str,
+) -> FindOverlappingSliceIterator<'a, u32>
+    requires { automaton.now.parts.kind ≡ Standard }
+    ensures { result.turns ≤ 2 * length (chars text.entry.now) }
+{
+    let mut search = automaton.find_overlapping_iter(text);
+    'matches: loop {
+        let Some(_found) = search.next() else {
+            search.turns_are_bounded();
+            return search;
+        };
+    }
+}
+
+#[test]
+fn a_whole_search_passes_the_whole_text(rt: HostRuntime) -> Result<(), Fail> {
+    let automaton = build(rt.alloc(), &[("世界", 0), ("界", 1)])?;
+    let mut over = run_overlapping(&automaton, "全世界");
+    assert_eq!(rt; over.next(), None::<Match<u32>>);
+    Ok(())
 }
 
 #[test]

@@ -86,6 +86,10 @@ pub enum History {
 
 /// The units that a search has read, the place from which its state counts, the units that it
 /// looked up, and the number of matches that it gave. It takes no bytes.
+///
+/// A walk keeps the units, and gives no match by itself. A search in a haystack, standard or
+/// leftmost, keeps one for the number alone: its units are those of its walk, or those of the
+/// haystack before the place where it goes on. A search in a source, and a stepper, keep no number.
 #[derive(Drop)]
 pub struct Seen {
     history: Snapshot<History>,

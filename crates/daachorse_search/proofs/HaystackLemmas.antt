@@ -1,5 +1,5 @@
 -- A haystack's run gives the units that it showed and no longer shows, so the list of what is left is that of what is read later.
-use Rattle.std.proofs.Common.{◌≡◌, ℕ, ◌+◌, ◌<◌, ◌^◌, List, [], ◌∷◌, ◌++◌, map, length, Option, Some, None, sym, ap, ◌∙◌, subst, append_assoc, append-nil, arith}
+use Rattle.std.proofs.Common.{◌≡◌, ℕ, ◌+◌, ◌<◌, ◌^◌, List, [], ◌∷◌, ◌++◌, map, length, Option, Some, None, refl, sym, ap, ◌∙◌, subst, append_assoc, append-nil, arith}
 use Rattle.std.specs.Iterator.{Count, IsFinite, MakesProgress, Yields, YieldsFirst, YieldsFirstBy, item_count}
 use Rattle.daachorse_model.specs.declared.Match.{Match}
 use Rattle.daachorse_model.specs.Units.{size}
@@ -7,7 +7,7 @@ use Rattle.daachorse_model.proofs.Suffixes.{size-append}
 use Rattle.daachorse_search.specs.ByteSources.{Reads-yields}
 use Rattle.daachorse_search.specs.Sources.{IsReady, past_each_end}
 use Rattle.daachorse_search.specs.Searches.{SourceProgress, Gave, Ended, GivesFrom}
-use Rattle.daachorse_search.specs.Matches.{Progress, matches_left, Fits}
+use Rattle.daachorse_search.specs.Matches.{Progress, GaveMatch, GaveNone, StandsAtEnd, matches_left, Fits}
 use Rattle.daachorse_search.proofs.SourceLemmas.{past_each_end-append}
 
 -- a call that takes the first of a list makes progress
@@ -15,13 +15,15 @@ pub progress_of_first : {S B : Type 0} (rest : S → List B) (can : S → Type 0
 progress_of_first rest can s None t any h = record { on = λ _. tt; keeps = tt; rests = λ _. tt }
 progress_of_first rest can s (Some x) t any h = record { on = λ _. (any t, tt, omega (arith, ap length h)); keeps = any t; rests = λ _. tt }
 
--- what callers see of a search in a haystack
-abbrev pub progress_at : {V A S : Type 0} → (A → List ℕ → List (Match V)) → (S → List ℕ) → SourceProgress V A S → Progress V A
-progress_at found rest s = record {
+-- what callers see of a search in a haystack that gave so many matches
+abbrev pub progress_at : {V A S : Type 0} → (A → List ℕ → List (Match V)) → (S → List ℕ) → SourceProgress V A S → ℕ → Progress V A
+progress_at found rest s given = record {
   automaton = s.automaton;
+  haystack = s.read ++ rest s.source;
   left = matches_left (found s.automaton) s.pending s.read (rest s.source);
   passed = s.read;
   turns = s.turns;
+  given = given;
 }
 
 module _ {S U : Type 0} (steps : S → Option U → S → Type 0) (unit : U → ℕ) (rest : S → List ℕ) (gives : (s : S) (r : Option U) (t : S) → steps s r t → YieldsFirstBy unit rest s r t) where
@@ -59,20 +61,34 @@ module _ {S U : Type 0} (steps : S → Option U → S → Type 0) (unit : U → 
         ∙ ap (λ r. m ∷ (t.pending ++ past_each_end f r (rest t.source))) (sym h.read)
         ∙ ap (λ (a : A). m ∷ (t.pending ++ past_each_end (found a) t.read (rest t.source))) (sym h.same)
 
-    left-Ended : (s : SourceProgress V A S) (xs : List U) (t : SourceProgress V A S) → Ended found steps left unit width s xs t → (left_at s ≡ []) × (left_at t ≡ [])
-    left-Ended s xs t h =
+    -- a call gave a match: the units that it took are passed, and no more
+    pub GaveMatch-Gave : (s : SourceProgress V A S) (xs : List U) (m : Match V) (t : SourceProgress V A S) (given : ℕ) → Gave found steps left unit width s xs m t
+        → GaveMatch (StandsAtEnd width) (progress_at found rest s given) m (progress_at found rest t (given + 1))
+    GaveMatch-Gave s xs m t given h = record {
+      automaton = h.same;
+      haystack = ap (λ r. r ++ rest t.source) h.read ∙ append_assoc s.read (map unit xs) (rest t.source) ∙ ap (λ w. s.read ++ w) (sym (rest-run s.source xs t.source h.took));
+      first = left-Gave s xs m t h;
+      counted = refl;
+      behind = h.ends;
+    }
+
+    -- a call gave nothing: all that was left is passed
+    pub GaveNone-Ended : (s : SourceProgress V A S) (xs : List U) (t : SourceProgress V A S) (given : ℕ) → Ended found steps left unit width s xs t
+        → GaveNone (StandsAtEnd width) (progress_at found rest s given) (progress_at found rest t given)
+    GaveNone-Ended s xs t given h =
         let f = found s.automaton in
         let last = h.took.0 in
         let none = gives last None t.source h.took.2 in
-        let all : rest s.source ≡ map unit xs = rest-run s.source xs last h.took.1 ∙ ap (λ w. map unit xs ++ w) none.0 ∙ append-nil (map unit xs) in (
-          ap (λ w. s.pending ++ past_each_end f s.read w) all ∙ h.matches,
-          ap (λ l. l ++ past_each_end (found t.automaton) t.read (rest t.source)) h.none ∙ ap (past_each_end (found t.automaton) t.read) none.1,
-        )
-
-    -- each call takes the first of the matches that are left
-    pub left-first : (s : SourceProgress V A S) (r : Option (Match V)) (t : SourceProgress V A S) → GivesFrom found steps left unit width s r t → YieldsFirst left_at s r t
-    left-first s None t h = left-Ended s h.0 t h.1
-    left-first s (Some m) t h = left-Gave s h.0 m t h.1
+        let took : rest s.source ≡ map unit xs = rest-run s.source xs last h.took.1 ∙ ap (λ w. map unit xs ++ w) none.0 ∙ append-nil (map unit xs) in
+        let all : t.read ++ rest t.source ≡ t.read = ap (λ w. t.read ++ w) none.1 ∙ append-nil t.read in
+        record {
+          automaton = h.same;
+          haystack = all ∙ h.read ∙ ap (λ w. s.read ++ w) (sym took);
+          none = ap (λ w. s.pending ++ past_each_end f s.read w) took ∙ h.matches;
+          still_none = ap (λ l. l ++ past_each_end (found t.automaton) t.read (rest t.source)) h.none ∙ ap (past_each_end (found t.automaton) t.read) none.1;
+          counted = refl;
+          all = sym all;
+        }
 
     pub Fits-first : (s : SourceProgress V A S) (r : Option (Match V)) (t : SourceProgress V A S) → GivesFrom found steps left unit width s r t → Fits width s.read (rest s.source) → Fits width t.read (rest t.source)
     Fits-first s None t h fits =

@@ -1,8 +1,6 @@
 -- One scan of a leftmost search: what is left after it, and how the bounds on the turns grow.
 use Rattle.std.proofs.Common.{◌≡◌, ◌≢◌, ℕ, ◌+◌, ◌-◌, ◌*◌, ◌<◌, ◌≤◌, inl, inr, Bool, true, false, cond, List, [], ◌∷◌, ◌++◌, length, take, Some, refl, sym, ap, ◌∙◌, subst, append_assoc, append-nil, length-append, arith}
 use Rattle.std.specs.Prelude.{count_by}
-use Rattle.std.proofs.lemmas.Iterator.{YieldsList}
-use Rattle.std.proofs.lemmas.Iterator.Consumers.{YieldsList-from_shown}
 use Rattle.std.proofs.lemmas.List.Sums.{sum_by-append}
 use Rattle.daachorse_model.specs.declared.Match.{Match}
 use Rattle.daachorse_model.specs.Units.{size}
@@ -13,17 +11,13 @@ use Rattle.daachorse_model.proofs.Suffixes.{size-append}
 use Rattle.daachorse_model.proofs.Overlap.{take-append}
 use Rattle.daachorse_model.proofs.BestMatches.{leftmost_from-clear, leftmost_from-key, leftmost_from-empty, leftmost_from-last, leftmost_from-none, longest-best, none_starts-best}
 use Rattle.daachorse_search.specs.BestScans.{IsTheBest, IsClear}
-use Rattle.daachorse_search.specs.LeftmostSearches.{LeftmostProgress, GivesLeftmost, SkipsUnit, before_rest, leftmost_left, spare, IsWithin, IsResting}
+use Rattle.daachorse_search.specs.LeftmostSearches.{StandsBehind, SkipsUnit, before_rest, leftmost_left, spare, IsWithin, IsResting}
 
 -- the units that come before the rest
 pub before_rest-is : (whole passed rest : List ℕ) → whole ≡ passed ++ rest → before_rest whole rest ≡ passed
 before_rest-is whole passed rest parts =
     let count : length whole - length rest ≡ length passed = omega (arith, ap length parts, length-append passed rest) in
     ap (λ n. take n whole) count ∙ ap (take (length passed)) parts ∙ take-append passed rest
-
--- the calls of a search give the matches that are left
-pub YieldsList-leftmost : {V A : Type 0} (s : LeftmostProgress V A) → YieldsList GivesLeftmost (λ (m : Match V). m) s s.left
-YieldsList-leftmost {V} {A} s = YieldsList-from_shown GivesLeftmost (λ (m : Match V). m) (λ (p : LeftmostProgress V A). p.left) (λ s t h. ap length h.1.0) (λ s m t h. h.1) s
 
 times_one_more : (m n : ℕ) → m * (n + 1) ≡ m * n + m
 times_one_more m n = grind arith
@@ -68,6 +62,19 @@ module _ {V : Type 0} (width : ℕ → ℕ) (K : Dictionary V) where
       ended = λ e. absurd (cc);
       most = λ m bound. omega (arith, most m bound, length-append was.passed front);
       least = omega (arith, was.least, least, labelled-append was.passed front);
+    }
+
+    -- the haystack begins with the units passed
+    pub passed_parts : (whole rest : List ℕ) (place : ℕ) (after done : Bool) (turns given : ℕ) → IsResting width K dead has_label whole rest place after done turns given
+        → (back : List ℕ) × (whole ≡ before_rest whole rest ++ back)
+    passed_parts whole rest place after done turns given was = (rest, was.parts ∙ ap (λ x. x ++ rest) (sym (before_rest-is whole was.passed rest was.parts)))
+
+    -- behind a nonempty match the search goes on where the match ends
+    pub stands_key : (whole later : List ℕ) (place len : ℕ) (value : V) (after done : Bool) (turns given : ℕ) → IsResting width K dead has_label whole later place after done turns given → 0 < len → len ≤ place
+        → StandsBehind width (record { start = place - len; end = place; value = value }) whole (before_rest whole later)
+    stands_key whole later place len value after done turns given now some fits = record {
+      nonempty = λ _. ap (size width) (before_rest-is whole now.passed later now.parts) ∙ sym now.here;
+      empty = λ e. absurd (omega (arith, e, some, fits));
     }
 
     -- nothing starts in the rest: the search is over
@@ -213,3 +220,21 @@ module _ {V : Type 0} (width : ℕ → ℕ) (K : Dictionary V) where
                   ∙ (λ i. unless after (record { start = start i; end = finish i; value = value }))
                   ∙ sym (append-nil (unless after (record { start = place + end - len; end = place + end; value = value }))),
             )
+
+        -- behind an empty match the search goes on one unit later, or is over
+        pub stands_empty : (whole rest later : List ℕ) (place to position end : ℕ) (after over : Bool) (turns next given : ℕ) (value : V) (len : ℕ) (more : List (V × ℕ)) → IsResting width K dead has_label whole rest place after false turns given
+            → IsTheBest width K has_output outputs has_label rest position end turns next → outputs position ≡ (value, len) ∷ more → len ≤ 0 → SkipsUnit width rest place later to over
+            → StandsBehind width (record { start = place + end - len; end = place + end; value = value }) whole (before_rest whole later)
+        stands_empty whole rest later place to position end after false turns next given value len more was best is none (u, cut, at) =
+            let empty = empty_best rest position end turns next value len more best is none in
+            record {
+              nonempty = λ lt. absurd (omega (arith, lt, none));
+              empty = λ _. inl (was.passed, u, before_rest-is whole (was.passed ++ u ∷ []) later (was.parts ∙ (ap (λ x. was.passed ++ x) cut ∙ sym (append_assoc was.passed (u ∷ []) later))), omega (arith, was.here, empty.1));
+            }
+        stands_empty whole rest later place to position end after true turns next given value len more was best is none (at_end, over, at) =
+            let empty = empty_best rest position end turns next value len more best is none in
+            let all : before_rest whole later ≡ whole = before_rest-is whole whole later (sym (append-nil whole) ∙ ap (λ x. whole ++ x) (sym over)) in
+            record {
+              nonempty = λ lt. absurd (omega (arith, lt, none));
+              empty = λ _. inr (all, omega (arith, ap (size width) all, was.here, empty.1, ap (size width) was.parts, size-append width was.passed rest, ap (size width) at_end));
+            }

@@ -1,5 +1,5 @@
 -- A leftmost search between two calls.
-use Rattle.std.specs.Prelude.{◌≡◌, ℕ, ◌+◌, ◌-◌, ◌*◌, ◌<◌, ◌≤◌, ◌^◌, Bool, true, false, cond, IsTrue, List, [], ◌∷◌, ◌++◌, length, take, count_by, Option, Some, None}
+use Rattle.std.specs.Prelude.{◌≡◌, ℕ, ◌+◌, ◌-◌, ◌*◌, ◌<◌, ◌≤◌, ◌^◌, ◌⊎◌, Bool, true, false, cond, IsTrue, List, [], ◌∷◌, ◌++◌, length, take, count_by}
 use Rattle.daachorse_model.specs.declared.Match.{Match}
 use Rattle.daachorse_model.specs.Units.{size}
 use Rattle.daachorse_model.specs.Dictionary.{Dictionary}
@@ -7,25 +7,15 @@ use Rattle.daachorse_model.specs.Leftmost.{leftmost_from}
 use Rattle.daachorse_model.specs.Best.{IsLeftmost}
 use Rattle.daachorse_search.specs.BestScans.{HasNoLongerKey}
 
--- what callers see of a search with an automaton A: the whole haystack, the matches that are left, the units behind the place where the search goes on, the turns taken, and the number of matches given
-pub record LeftmostProgress (V A : Type 0) : Type 0 where
-  pub automaton : A
-  pub haystack : List ℕ
-  pub left : List (Match V)
-  pub passed : List ℕ
-  pub turns : ℕ
-  pub given : ℕ
+-- the units passed end one unit behind the place, or at it where they are the whole haystack
+abbrev pub EndsUnitBehind : (ℕ → ℕ) → ℕ → List ℕ → List ℕ → Type 0
+EndsUnitBehind width place haystack passed =
+    ((front : List ℕ) × (u : ℕ) × (passed ≡ front ++ u ∷ []) × (size width front ≡ place)) ⊎ ((passed ≡ haystack) × (size width passed ≡ place))
 
-module _ {V A : Type 0} where
-  -- the same automaton and haystack
-  pub record IsSameSearch (s t : LeftmostProgress V A) : Type 0 where
-    pub automaton : t.automaton ≡ s.automaton
-    pub haystack : t.haystack ≡ s.haystack
-
-  -- a call gives the first of the matches that are left, and counts it; with none left all units are passed
-  abbrev pub GivesLeftmost : LeftmostProgress V A → Option (Match V) → LeftmostProgress V A → Type 0
-  GivesLeftmost s (Some m) t = IsSameSearch s t × (s.left ≡ m ∷ t.left) × (t.given ≡ s.given + 1)
-  GivesLeftmost s None t = IsSameSearch s t × ((s.left ≡ []) × (t.left ≡ [])) × (t.given ≡ s.given) × (t.passed ≡ t.haystack)
+-- Where a leftmost search goes on behind a match: at its end, and behind an empty one at the next boundary or at the haystack's end.
+pub record StandsBehind {V : Type 0} (width : ℕ → ℕ) (m : Match V) (haystack passed : List ℕ) : Type 0 where
+  pub nonempty : m.start < m.end → size width passed ≡ m.end
+  pub empty : m.start ≡ m.end → EndsUnitBehind width m.end haystack passed
 
 -- one unit was taken off the rest, or there was none
 abbrev pub SkipsUnit : (ℕ → ℕ) → List ℕ → ℕ → List ℕ → ℕ → Bool → Type 0

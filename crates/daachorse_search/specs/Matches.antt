@@ -1,15 +1,45 @@
--- A search in a haystack that is known as a whole.
-use Rattle.std.specs.Prelude.{ℕ, ◌+◌, ◌<◌, ◌^◌, List, ◌++◌}
+-- A search in a haystack that is known as a whole: what callers see of it, and what each call gives.
+use Rattle.std.specs.Prelude.{◌≡◌, ℕ, ◌+◌, ◌<◌, ◌^◌, List, [], ◌∷◌, ◌++◌, Option, Some, None}
 use Rattle.daachorse_model.specs.declared.Match.{Match}
 use Rattle.daachorse_model.specs.Units.{size}
 use Rattle.daachorse_search.specs.Sources.{past_each_end}
 
--- what callers see of it: the automaton, the matches that are left, the units passed, and the turns taken
+-- what callers see of a search with an automaton A: the whole haystack, the matches that are left, the units behind which the search goes on, the turns taken, and the number of matches given
 pub record Progress (V A : Type 0) : Type 0 where
   pub automaton : A
+  pub haystack : List ℕ
   pub left : List (Match V)
   pub passed : List ℕ
   pub turns : ℕ
+  pub given : ℕ
+
+-- `stands` says of a match, the haystack and the units passed whether the search goes on where it should behind the match.
+module _ {V A : Type 0} (stands : Match V → List ℕ → List ℕ → Type 0) where
+  -- a call gave the first of the matches that are left
+  pub record GaveMatch (s : Progress V A) (m : Match V) (t : Progress V A) : Type 0 where
+    pub automaton : t.automaton ≡ s.automaton
+    pub haystack : t.haystack ≡ s.haystack
+    pub first : s.left ≡ m ∷ t.left
+    pub counted : t.given ≡ s.given + 1
+    pub behind : stands m t.haystack t.passed
+
+  -- no match was left, and all units are passed
+  pub record GaveNone (s t : Progress V A) : Type 0 where
+    pub automaton : t.automaton ≡ s.automaton
+    pub haystack : t.haystack ≡ s.haystack
+    pub none : s.left ≡ []
+    pub still_none : t.left ≡ []
+    pub counted : t.given ≡ s.given
+    pub all : t.passed ≡ t.haystack
+
+  -- what a call gives
+  abbrev pub GivesFirst : Progress V A → Option (Match V) → Progress V A → Type 0
+  GivesFirst s (Some m) t = GaveMatch s m t
+  GivesFirst s None t = GaveNone s t
+
+-- the units passed end where the match does
+abbrev pub StandsAtEnd : {V : Type 0} → (ℕ → ℕ) → Match V → List ℕ → List ℕ → Type 0
+StandsAtEnd width m haystack passed = m.end ≡ size width passed
 
 -- the pending matches, and what `found` gives of each beginning of the haystack that is to come: `read` was read
 abbrev pub matches_left : {V : Type 0} → (List ℕ → List (Match V)) → List (Match V) → List ℕ → List ℕ → List (Match V)

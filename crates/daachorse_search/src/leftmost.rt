@@ -1,12 +1,14 @@
 //! The search for leftmost matches, which do not overlap, in a haystack that is known as a whole.
 //!
 //! The layers above may rely on the list of the matches that are left: it begins as the leftmost
-//! matches of the haystack, and each call takes the first off it; and on the bounds of the turns.
+//! matches of the haystack, and each call takes the first off it; on the units passed, which end
+//! where the match does, or at the next boundary behind an empty one; and on the bounds of the
+//! turns for them.
 //!
 //! Each scan begins in [`LeftmostMatches::next`] where the search goes on: a filter of places would
 //! move that place on just before the scan.
 
-ghost use Rattle.std.specs.Prelude.{◌≡◌, ◌+◌, ◌*◌, ◌^◌, ◌<◌, ◌≤◌, ℕ, List, [], length, count_by};
+ghost use Rattle.std.specs.Prelude.{◌≡◌, ◌+◌, ◌*◌, ◌^◌, ◌<◌, ◌≤◌, ◌++◌, ℕ, List, [], length, count_by};
 ghost use Rattle.daachorse_model.specs.Units.{size};
 ghost use Rattle.daachorse_model.specs.Best.{IsLeftmost};
 ghost use Rattle.daachorse_model.specs.Leftmost.{leftmost};
@@ -42,9 +44,10 @@ pub struct LeftmostMatches<V: Copy, A: Automaton<V>, H: Reread<A::Unit>> {
 }
 
 impl<V: Copy, A: Automaton<V>, H: Reread<A::Unit>> Model for LeftmostMatches<V, A, H> {
-    ghost use Rattle.daachorse_search.specs.LeftmostSearches.{LeftmostProgress, before_rest, leftmost_left, IsResting};
+    ghost use Rattle.daachorse_search.specs.Matches.{Progress};
+    ghost use Rattle.daachorse_search.specs.LeftmostSearches.{before_rest, leftmost_left, IsResting};
 
-    ghost Value = { LeftmostProgress V A };
+    ghost Value = { Progress V A };
 
     ghost view = { λ s. record {
       automaton = s.automaton;
@@ -86,12 +89,14 @@ impl<V: Copy, A: Automaton<V>, H: Reread<A::Unit>> LeftmostMatches<V, A, H> {
     }
 
     /// Does nothing, and promises that the turns are at most twice the units passed and four times
-    /// the units of the longest key for each match, and at least the units passed that some key has.
+    /// the units of the longest key for each match, and at least the units passed that some key has;
+    /// and that the haystack begins with the units passed.
     #[inline(always)]
     pub fn turns_are_bounded(&self)
         ensures most { (m : ℕ) → HasNoLongerKey (A.content self.now.automaton) m
             → self.now.turns ≤ 2 * length self.now.passed + 4 * (m * self.now.given) }
         ensures least { count_by (A.has_label self.now.automaton) self.now.passed ≤ self.now.turns }
+        ensures passed { (rest : List ℕ) × (self.now.haystack ≡ self.now.passed ++ rest) }
     {
         let _ = &self.place;
     }
@@ -99,11 +104,12 @@ impl<V: Copy, A: Automaton<V>, H: Reread<A::Unit>> LeftmostMatches<V, A, H> {
 
 impl<V: Copy, A: Automaton<V>, H: Reread<A::Unit>> Iterator for LeftmostMatches<V, A, H> {
     ghost use Rattle.std.specs.Iterator.{item_count};
-    ghost use Rattle.daachorse_search.specs.LeftmostSearches.{GivesLeftmost};
+    ghost use Rattle.daachorse_search.specs.Matches.{GivesFirst};
+    ghost use Rattle.daachorse_search.specs.LeftmostSearches.{StandsBehind};
 
     type Item = Match<V>;
 
-    ghost next_gives = { GivesLeftmost };
+    ghost next_gives = { GivesFirst (StandsBehind A.Unit.width) };
 
     ghost remaining = { item_count (λ s. s.left) };
 

@@ -252,9 +252,11 @@ pub fn find_overlapping_in<V: Copy, A: Automaton<V>, H: Haystack<A::Unit>>(
     requires alive { (w : List ℕ) → ¬ A.dead automaton w }
     requires fits { size A.Unit.width (H.rest haystack) < 2 ^ 64 }
     ensures automaton { result.automaton ≡ automaton }
+    ensures haystack { result.haystack ≡ H.rest haystack }
     ensures left { result.left ≡ overlapping A.Unit.width (A.content automaton) (H.rest haystack) }
     ensures passed { result.passed ≡ [] }
     ensures turns { result.turns ≡ 0 }
+    ensures given { result.given ≡ 0 }
 {
     Matches::new(OverlappingWalk::new(automaton), haystack)
 }
@@ -268,9 +270,11 @@ pub fn find_overlapping_no_suffix_in<V: Copy, A: Automaton<V>, H: Haystack<A::Un
     requires alive { (w : List ℕ) → ¬ A.dead automaton w }
     requires fits { size A.Unit.width (H.rest haystack) < 2 ^ 64 }
     ensures automaton { result.automaton ≡ automaton }
+    ensures haystack { result.haystack ≡ H.rest haystack }
     ensures left { result.left ≡ no_suffix A.Unit.width (A.content automaton) (H.rest haystack) }
     ensures passed { result.passed ≡ [] }
     ensures turns { result.turns ≡ 0 }
+    ensures given { result.given ≡ 0 }
 {
     Matches::new(NoSuffixWalk::new(automaton), haystack)
 }

@@ -1,14 +1,15 @@
 //! A smallest automaton, to run the searches on: its one key is empty.
 
-ghost use Rattle.std.specs.Prelude.{◌≡◌, ◌+◌, ◌<◌, ◌≤◌, ◌^◌, ℕ, List, map, length, IfOk, MatchOption};
+ghost use Rattle.std.specs.Prelude.{◌≡◌, ◌≢◌, ◌+◌, ◌*◌, ◌<◌, ◌≤◌, ◌^◌, ℕ, List, [], map, length, count_by, IfOk, MatchOption};
 ghost use Rattle.std.specs.Iterator.{Drains};
-ghost use Rattle.daachorse_model.specs.Matches.{overlapping};
+ghost use Rattle.daachorse_model.specs.Units.{size};
+ghost use Rattle.daachorse_model.specs.Matches.{at_each_end, overlapping};
 ghost use Rattle.daachorse_search.specs.Sources.{IsReady};
 
 use crate::automaton::Automaton;
 use crate::find::FindWalk;
 use crate::find_stepper::FindStepper;
-use crate::haystack::Bytes;
+use crate::haystack::{Bytes, Haystack};
 use crate::matches::Matches;
 use crate::overlapping::{NoSuffixWalk, OverlappingWalk};
 use crate::scan::scan;
@@ -129,6 +130,53 @@ fn collect_from<V: Copy, A: Automaton<V>, S: Iterator<Item = A::Unit>>(
     Search::new(OverlappingWalk::new(automaton), source).collect(alloc)
 }
 
+/// A whole search in a haystack, with its turns bounded and its matches counted.
+fn run_matches<V: Copy, W: Stepwise<V>, H: Haystack<W::Unit>>(
+    walk: W,
+    haystack: H,
+) -> Matches<V, W, H>
+    requires begins { W.read walk ≡ [] }
+    requires fits { size W.Unit.width (H.rest haystack) < 2 ^ 64 }
+    ensures bounds { W.bounds (W.automaton walk) (H.rest haystack) result.turns }
+    ensures given { result.given ≡ length (at_each_end (W.found (W.automaton walk)) [] (H.rest haystack)) }
+{
+    let mut search = Matches::new(walk, haystack);
+    'matches: loop {
+        let Some(_found) = search.next() else {
+            search.turns_are_bounded();
+            return search;
+        };
+    }
+}
+
+/// The whole overlapping search: its turns are at most twice the units of the haystack, and at
+/// least those that some key has.
+fn run_overlapping<V: Copy, A: Automaton<V>, H: Haystack<A::Unit>>(
+    automaton: A,
+    haystack: H,
+) -> Matches<V, OverlappingWalk<V, A>, H>
+    requires alive { (w : List ℕ) → ¬ A.dead automaton w }
+    requires fits { size A.Unit.width (H.rest haystack) < 2 ^ 64 }
+    ensures most { result.turns ≤ 2 * length (H.rest haystack) }
+    ensures least { count_by (A.has_label automaton) (H.rest haystack) ≤ result.turns }
+{
+    run_matches(OverlappingWalk::new(automaton), haystack)
+}
+
+/// The whole standard search: the same, and with an empty key no turn.
+fn run_find<V: Copy, A: Automaton<V>, H: Haystack<A::Unit>>(
+    automaton: A,
+    haystack: H,
+) -> Matches<V, FindWalk<V, A>, H>
+    requires alive { (w : List ℕ) → ¬ A.dead automaton w }
+    requires fits { size A.Unit.width (H.rest haystack) < 2 ^ 64 }
+    ensures most { result.turns ≤ 2 * length (H.rest haystack) }
+    ensures least { A.content automaton [] ≡ [] → count_by (A.has_label automaton) (H.rest haystack) ≤ result.turns }
+    ensures idle { A.content automaton [] ≢ [] → result.turns ≡ 0 }
+{
+    run_matches(FindWalk::new(automaton), haystack)
+}
+
 #[test]
 fn gives_the_matches_at_each_boundary(rt: HostRuntime) -> Result<(), Fail> {
     let automaton = Everywhere {
@@ -143,6 +191,8 @@ fn gives_the_matches_at_each_boundary(rt: HostRuntime) -> Result<(), Fail> {
     assert_eq!(rt; search.next(), Some(at(1, 8)));
     assert_eq!(rt; search.next(), None);
     assert_eq!(rt; search.next(), None);
+    let mut over = run_overlapping(automaton, Bytes::new(b"a"));
+    assert_eq!(rt; over.next(), None);
     Ok(())
 }
 
@@ -175,6 +225,8 @@ fn gives_the_first_at_each_boundary(rt: HostRuntime) -> Result<(), Fail> {
     assert_eq!(rt; standard.next(), Some(at(1, 7)));
     assert_eq!(rt; standard.next(), Some(at(2, 7)));
     assert_eq!(rt; standard.next(), None);
+    let mut over = run_find(automaton, Bytes::new(b"ab"));
+    assert_eq!(rt; over.next(), None);
     Ok(())
 }
 

@@ -1,10 +1,7 @@
-use Rattle.std.proofs.Common.{subst}
-use Rattle.std.proofs.lemmas.Iterator.{YieldsList, items_from_collect}
-use Rattle.daachorse_model.specs.declared.Match.{Match}
-use Rattle.daachorse_search.specs.LeftmostSearches.{GivesLeftmost}
-use Rattle.daachorse_search.proofs.LeftmostLemmas.{YieldsList-leftmost}
+use Rattle.std.proofs.lemmas.Iterator.{items_from_collect}
+use Rattle.daachorse_search.specs.LeftmostSearches.{StandsBehind}
+use Rattle.daachorse_search.proofs.MatchesLemmas.{YieldsList-from_progress}
 use Rattle.daachorse_search.proofs.left_sample.collect_leftmost.Goals as goal
 
 pub returns : goal.returns
-returns g c =
-    items_from_collect _ c.collect.ensures.ran (subst (YieldsList GivesLeftmost (λ (m : Match g.row.V.Denot). m) c.new.result) c.new.ensures.left (YieldsList-leftmost c.new.result))
+returns g c = items_from_collect _ c.collect.ensures.ran (YieldsList-from_progress (StandsBehind g.A.Unit.EdgeLabel.width) c.new.result _ c.new.ensures.left)

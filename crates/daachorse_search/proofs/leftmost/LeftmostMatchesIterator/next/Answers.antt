@@ -4,8 +4,8 @@ use Rattle.daachorse_core.specs.Seen.{SeenUnits}
 use Rattle.daachorse_model.specs.declared.Match.{Match}
 use Rattle.daachorse_model.specs.Units.{size}
 use Rattle.daachorse_model.proofs.Suffixes.{size-append}
-use Rattle.daachorse_search.specs.LeftmostSearches.{IsResting, leftmost_left}
-use Rattle.daachorse_search.proofs.LeftmostLemmas.{cleared, best_ends, best_fits, output_fits, gives_key, gives_empty}
+use Rattle.daachorse_search.specs.LeftmostSearches.{StandsBehind, IsResting, before_rest, leftmost_left}
+use Rattle.daachorse_search.proofs.LeftmostLemmas.{cleared, best_ends, best_fits, output_fits, gives_key, gives_empty, stands_key, stands_empty}
 use Rattle.daachorse_search.proofs.leftmost.LeftmostMatchesIterator.next.Goals as goal
 
 pub scan_best-requires-clause-fits : goal.scan_best-requires-clause-fits
@@ -77,7 +77,11 @@ returns-then-length-gt0-clause-steps g c =
     (omega (arith, c.if-length-gt0.true, c.length.ensures)) c.after-then-length-gt0.ensures in
     let fewer : c.args.self.now.left ≡ c.to_match-best.result ∷ leftmost_left width K (s.place + n) later true s.done =
     sym left ∙ next.1 ∙ ap (λ x. x ∷ leftmost_left width K (s.place + n) later true false) (sym is) ∙ ap (λ d. c.to_match-best.result ∷ leftmost_left width K (s.place + n) later true d) (sym c.if-self.false) in
-    (record { automaton = was.automaton; haystack = was.haystack }, fewer, ap (λ (x : SeenUnits). x.given) c.give.ensures ∙ ap (λ k. k + 1) was.given)
+    let stands : StandsBehind width m whole (before_rest whole later) =
+    stands_key width K dead has whole later (s.place + n) (length_of o) (value_of o) true false c.scan_best.new.turns (s.seen.given + 1) next.0 (omega (arith, c.if-length-gt0.true, c.length.ensures))
+    (output_fits width K dead has (A.has_output a) (A.outputs a) (rest s.rest) s.place c.in-Best.found.position.value n s.turns c.scan_best.new.turns _ _ _ c.in-Best.ensures c.output-output.ensures.value) in
+    let B : Match g.row.V.Denot → Type 0 = λ x. StandsBehind width x whole (before_rest whole later) in
+    record { automaton = was.automaton; haystack = was.haystack; first = fewer; counted = ap (λ (x : SeenUnits). x.given) c.give.ensures ∙ ap (λ k. k + 1) was.given; behind = subst B (sym is) stands }
 
 pub returns-then-length-gt0-clause-goes : goal.returns-then-length-gt0-clause-goes
 returns-then-length-gt0-clause-goes g c =
@@ -146,7 +150,11 @@ returns-then-not-passed_over-clause-steps g c =
     (omega (arith, c.if-length-gt0.false, c.length.ensures)) c.skip_unit-self-inside.ensures in
     let fewer : c.args.self.now.left ≡ c.to_match-best.result ∷ leftmost_left width K to later false over =
     sym left ∙ next.1 ∙ ap (λ b. cond b [] (m ∷ []) ++ leftmost_left width K to later false over) c.if-not-passed_over.true ∙ ap (λ x. x ∷ leftmost_left width K to later false over) (sym is) in
-    (record { automaton = was.automaton; haystack = was.haystack }, fewer, ap (λ (x : SeenUnits). x.given) c.give-then-not-passed_over.ensures ∙ ap (λ k. k + 1) was.given)
+    let stands : StandsBehind width m whole (before_rest whole later) =
+    stands_empty width K dead has (A.has_output a) (A.outputs a) g.met.A.Unit.EdgeLabel.wide whole (rest s.rest) later s.place to c.in-Best.found.position.value n s.after over s.turns c.scan_best.new.turns s.seen.given (value_of o) (length_of o) _ resting c.in-Best.ensures c.output-output.ensures.value
+    (omega (arith, c.if-length-gt0.false, c.length.ensures)) c.skip_unit-self-inside.ensures in
+    let B : Match g.row.V.Denot → Type 0 = λ x. StandsBehind width x whole (before_rest whole later) in
+    record { automaton = was.automaton; haystack = was.haystack; first = fewer; counted = ap (λ (x : SeenUnits). x.given) c.give-then-not-passed_over.ensures ∙ ap (λ k. k + 1) was.given; behind = subst B (sym is) stands }
 
 pub returns-then-not-passed_over-clause-goes : goal.returns-then-not-passed_over-clause-goes
 returns-then-not-passed_over-clause-goes g c =

@@ -1,0 +1,9 @@
+use Rattle.std.proofs.Common.{◌≡◌, length}
+use Rattle.std.specs.Str.{chars}
+use Rattle.daachorse_charwise.proofs.tests.run_overlapping.Given as goal
+
+abbrev pub invariant-matches : goal.invariant-matches
+invariant-matches l = l.search.haystack ≡ chars l.fn.text
+
+abbrev pub decreases-matches : goal.decreases-matches
+decreases-matches l = length l.search.left

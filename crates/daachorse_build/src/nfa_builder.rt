@@ -212,6 +212,7 @@ impl<L: EdgeLabel, V: Copy, A: Allocator + Copy> NfaBuilder<L, V, A> {
         if self.kind.is_leftmost_first() && extends_key(&self.states, pattern) {
             return Ok(());
         }
+        // No growth is refused here, and none will be: to add 2^64 patterns takes centuries.
         let Some(len) = self.len.checked_add(1) else {
             return Err(DaachorseError::OutOfMemory(OutOfMemoryError));
         };

@@ -1,7 +1,7 @@
 //! The states of an automaton over bytes, as they are kept.
 //!
-//! The layers above may rely on the parts being those that were stored, on their being valid, and
-//! on the views of them being the same automaton. Only [`States::new`] takes memory.
+//! The layers above may rely on the parts being valid, on what is built holding just the dictionary
+//! that it was built for, and on the views of them being the same automaton.
 
 ghost use Rattle.std.specs.Prelude.{◌≡◌, ◌≢◌, ◌<◌, ◌%◌, ◌≤◌, ◌-◌, bit_xor, ℕ, Some, slice_get, List, length, map, slice_index_or, IfOk, IfErr};
 ghost use Rattle.daachorse_core.specs.declared.errors.Limit.TheVariants.{NumElements};

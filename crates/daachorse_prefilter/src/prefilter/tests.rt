@@ -44,6 +44,8 @@ fn the_first_place_that_passes_is_found(rt: HostRuntime) -> Result<(), Fail> {
 
 #[test]
 fn a_window_has_at_most_9_bytes(rt: HostRuntime) -> Result<(), Fail> {
+    assert_eq!(rt; Prefilter::<Global>::MIN_WINDOW_LEN, 2);
+    assert_eq!(rt; Prefilter::<Global>::MAX_WINDOW_LEN, 9);
     let filter = filter_of(rt.alloc(), &[b"neovenezia"])?.ok_or("no filter")?;
     assert_eq!(rt; filter.next_position(b"xxneovenezix", 0), 2);
     assert_eq!(rt; filter.next_position(b"xxneovenezxx", 0), 12);

@@ -43,6 +43,8 @@ fn the_first_place_that_passes_is_found(rt: HostRuntime) -> Result<(), Fail> {
 
 #[test]
 fn a_window_has_at_most_9_bytes(rt: HostRuntime) -> Result<(), Fail> {
+    expect(&rt, Prefilter::<Global>::MIN_WINDOW_LEN == 2, "the least");
+    expect(&rt, Prefilter::<Global>::MAX_WINDOW_LEN == 9, "the most");
     let filter = filter_of(rt.alloc(), &[b"neovenezia"])?.ok_or("no filter")?;
     expect(
         &rt,

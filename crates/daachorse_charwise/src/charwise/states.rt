@@ -6,4 +6,5 @@
 pub use daachorse_charwise_states::state::State;
 pub use daachorse_charwise_states::states::States;
 pub use daachorse_charwise_states::view::{Leftmost, Standard};
-pub use daachorse_core::turns::{Look, Turns};
+pub use daachorse_core::turns::{Look, Seen, Turns};
+pub use daachorse_search::automaton::Automaton;

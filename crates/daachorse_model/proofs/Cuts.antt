@@ -2,7 +2,7 @@
 use Rattle.std.proofs.Common.{◌≡◌, ℕ, ◌+◌, ◌<◌, ◌≤◌, ◌⊎◌, inl, inr, List, [], ◌∷◌, ◌++◌, length, None, refl, sym, ap, ◌∙◌, subst, append_assoc, append-nil, length-append, arith}
 use Rattle.daachorse_model.specs.Dictionary.{Dictionary}
 use Rattle.daachorse_model.specs.Prefixes.{IsKey, IsPrefix, IsLong, IsCut, Occurs, StartsBefore}
-use Rattle.daachorse_model.specs.Best.{IsBest, IsBestSoFar, IsFinalAt, IsSteady, LeftSteps}
+use Rattle.daachorse_model.specs.Best.{IsBest, IsBestSoFar, IsFinalAt, LeftSteps}
 use Rattle.daachorse_model.proofs.Occurrences.{occurs_length, occurs_more}
 
 -- no key begins w

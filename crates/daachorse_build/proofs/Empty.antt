@@ -63,6 +63,7 @@ holds_none {L} {V} cmp unit width kind states edges outputs = record {
       ap (λ os. unwrap_or (option_map (own_at os) (walk (child_of cmp states) 0 w)) []) outputs
       ∙ no_outputs (walk (child_of cmp states) 0 w)
       ∙ sym (ap (map (λ v. (v, size width (map unit w)))) (no_value (map unit w)));
+  dead = ap (λ os. own_at os 1) outputs;
   count = ap output_count outputs ∙ sym (ap length (kept_none {V = V} kind));
 }
   where

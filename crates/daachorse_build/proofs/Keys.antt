@@ -159,5 +159,6 @@ holds_same {L} {V} cmp unit width kind states rs rs' holds e = record {
   begins = λ w h. holds.begins w (subst (λ ks. IsPrefix (values_of ks) (map unit w)) e h);
   only = λ w s h. subst (λ ks. IsPrefix (values_of ks) (map unit w)) (sym e) (holds.only w s h);
   outputs = λ w. holds.outputs w ∙ ap (λ ks. own_outputs width (values_of ks) (map unit w)) (sym e);
+  dead = holds.dead;
   count = holds.count ∙ ap length (sym e);
 }

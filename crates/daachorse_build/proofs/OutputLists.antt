@@ -2,7 +2,7 @@
 use Rattle.std.proofs.Common.{◌≡◌, ◌≢◌, ℕ, ◌+◌, ◌<◌, ◌≤◌, ◌⊎◌, Bool, true, false, cond, List, [], ◌∷◌, ◌++◌, length, map, get_or, take, Option, Some, None, is_some, zero, suc, refl, sym, ap, ◌∙◌, subst, inl, inr, length-append, arith}
 use Rattle.std.proofs.lemmas.Option.{same_Some}
 use Rattle.std.proofs.lemmas.Bool.{cases_Bool}
-use Rattle.std.proofs.lemmas.List.{append-nil, take_more}
+use Rattle.std.proofs.lemmas.List.{append-nil, length-map, take_more}
 use Rattle.std.specs.declared.cmp.Ordering.{Ordering}
 use Rattle.std.specs.declared.cmp.Ordering.TheVariants.{Equal}
 use Rattle.std.specs.Cmp.{IsTotalOrder}
@@ -15,13 +15,14 @@ use Rattle.daachorse_model.specs.Outputs.{own_outputs, outputs_of_ends}
 use Rattle.daachorse_model.specs.Paths.{walk, is_reached, Leads}
 use Rattle.daachorse_build.specs.declared.nfa_builder.NfaBuilderState.{NfaBuilderState}
 use Rattle.daachorse_build.specs.Left.{meets, long_unless_stop, left_link, IsStateOf, IsLeftFailOf}
-use Rattle.daachorse_build.specs.Tables.{child_of, edges_of, own_of, own_at, held_at, HoldTrie}
+use Rattle.daachorse_build.specs.Tables.{child_of, edges_of, own_of, own_at, held_at, output_count, HoldTrie}
 use Rattle.daachorse_build.specs.Orders.{IsIn, IsKnown, IsLinkAmong, children, IsLeftLinked}
 use Rattle.daachorse_build.specs.Holds.{in_units, Holds}
 use Rattle.daachorse_build.specs.Lists.{suffix_outputs, left_outputs, AreListed, PositionsFit, IsParent}
 use Rattle.daachorse_build.proofs.Walks.{walk-same, walk-bounds}
 use Rattle.daachorse_build.proofs.LeftLinks.{left_state, left_met, left_rest, meets_never}
 use Rattle.daachorse_build.proofs.Queue.{in_cases, in_same, in_equal, in_at, in_flat_map, bounds_of_listed, all_in_order}
+use Rattle.daachorse_build.proofs.Cleared.{all_cleared, cleared}
 use Rattle.daachorse_build.proofs.States.{outputs_missing, outputs_found}
 use Rattle.daachorse_build.proofs.OutputChains.{outputs_at-longer}
 
@@ -67,6 +68,15 @@ module _ {L V A : Type 0} (cmp : L → L → Ordering) (total : IsTotalOrder cmp
           | inl a ↦ bounds_of_listed cmp total (edges_of states) table 0 t a
           | inr b ↦ let p = in_flat_map (children (edges_of states)) order t b in bounds_of_listed cmp total (edges_of states) table p.0 t p.2
         ]
+
+    -- each state but the dead one is known, so only it can have outputs that are left
+    pub none_left : own_at (own_of states) 1 ≡ [] → output_count (cleared (own_of states) (0 ∷ order)) ≡ 0
+    none_left dead = all_cleared (own_of states) (0 ∷ order) (λ t low. done t (omega (arith, low, length-map states (λ s. s.edges), length-map states (λ s. s.output.items))))
+      where
+        done : (t : ℕ) → t < length (edges_of states) → IsIn (0 ∷ order) t ⊎ (own_at (own_of states) t ≡ [])
+        done zero low = inl (inl refl)
+        done (suc zero) low = inr dead
+        done (suc (suc t)) low = inl (inr (all_in_order cmp total (edges_of states) table order links.first (suc (suc t)) (omega arith) low))
 
     -- each state that a text leads to is known
     pub known_of_leads : (w : List L) (t : ℕ) → Leads (child_of cmp states) w t → IsKnown order t

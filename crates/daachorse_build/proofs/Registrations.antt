@@ -118,6 +118,7 @@ module _ {L V : Type 0} (unit : L → ℕ) (exact : (a b : L) → unit a ≡ uni
             | inr front ↦ prefix_now w front
           ];
       outputs = λ w. outputs w (same_text (map unit p) (map unit w)) refl ∙ ap (map (λ x. (x, size width (map unit w)))) (sym (after_is (map unit w)));
+      dead = added.dead ∙ holds.dead;
       count = omega (arith, added.count, holds.count, ap length adds, length_push (kept kind (in_units unit rs)) (map unit p, v));
     }
 
@@ -128,6 +129,7 @@ holds_twin {L} cmp unit width kind old new rs kept holds = record {
   begins = λ w h. let s = holds.begins w h in (s.0, subst (leads w s.0) (sym kept.edges) s.1);
   only = λ w s h. holds.only w s (subst (leads w s) kept.edges h);
   outputs = λ w. ap (λ es. unwrap_or (option_map (own_at (own_of new)) (walk (child_in cmp es) 0 w)) []) kept.edges ∙ ap (λ os. unwrap_or (option_map (own_at os) (walk (child_of cmp old) 0 w)) []) kept.outputs ∙ holds.outputs w;
+  dead = ap (λ os. own_at os 1) kept.outputs ∙ holds.dead;
   count = ap output_count kept.outputs ∙ holds.count;
 }
   where

@@ -173,6 +173,7 @@ module _ {L V A : Type 0} (cmp : L → L → Ordering) (total : IsTotalOrder cmp
             ∙ get_or-set_same (own_of mid) id (own_at (own_of mid) id ++ out ∷ []) [] low
             ∙ ap (λ os. os ++ out ∷ []) (sym (outputs_found mid p id adding.here) ∙ kept p);
         others = λ w apart. same w ∙ other w apart (walk (child_of cmp mid) 0 w) refl ∙ kept w;
+        dead = ap (λ os. own_at os 1) outputs ∙ (get_or-set_other (own_of mid) id 1 (own_at (own_of mid) id ++ out ∷ []) [] (λ one. bound.1 (sym one)) ∙ adding.outputs 1);
         count =
             let set' = sum_by-set length (own_of mid) id (own_at (own_of mid) id ++ out ∷ []) [] low in
             omega (arith, set', ap output_count outputs, adding.count, length_push (own_at (own_of mid) id) out);

@@ -49,6 +49,8 @@ pub record IsAdded {L V A : Type 0} (cmp : L → L → Ordering) (old new : List
   -- the pattern has one output more, and each other text keeps its outputs
   pub here : held_at cmp new p ≡ held_at cmp old p ++ out ∷ []
   pub others : (w : List L) → w ≢ p → held_at cmp new w ≡ held_at cmp old w
+  -- and so does the dead state
+  pub dead : own_at (own_of new) 1 ≡ own_at (own_of old) 1
   pub count : output_count (own_of new) ≡ output_count (own_of old) + 1
 
 -- new has the trie of old, and its outputs

@@ -276,8 +276,8 @@ impl<L: EdgeLabel, V: Copy, A: Allocator + Copy> NfaBuilder<L, V, A> {
     }
 
     /// Makes the lists of outputs: that of the root is its own outputs, and that of each other
-    /// state is its own, and then the list of its link, unless that is dead. So there are no more
-    /// outputs than patterns that are kept, and no more than a `u32` counts. Those that were made
+    /// state is its own, and then the list of its link, unless that is dead. So there are as many
+    /// outputs as patterns that are kept, and no more than a `u32` counts. Those that were made
     /// before are dropped. `order` is what `build_fails` or `build_fails_leftmost` answered.
     ///
     /// # Errors
@@ -296,7 +296,7 @@ impl<L: EdgeLabel, V: Copy, A: Allocator + Copy> NfaBuilder<L, V, A> {
         ensures follows { OnOk result ((w : List L) (t : ℕ) → Leads (child_of L.cmp (states_of self.old)) w t → IsChainedAt (own_of (states_of self.old)) (fails_of (states_of self.old)) (outputs_of self.new) (positions_of (states_of self.new)) t) }
         ensures bound { OnOk result (length (outputs_of self.new) ≤ output_count (own_of (states_of self.old))) }
         ensures few { OnOk result (length (outputs_of self.new) ≤ 4294967295) }
-        ensures kept_bound { OnOk result ((rs : List (List L × V)) → Registered L.cmp L.unit L.width self.old rs → length (outputs_of self.new) ≤ count_of self.old) }
+        ensures all_kept { OnOk result ((rs : List (List L × V)) → Registered L.cmp L.unit L.width self.old rs → length (outputs_of self.new) ≡ count_of self.old) }
         ensures refused { IfErr result (IsRefusal ⊥ Outputs ((rs : List (List L × V)) → Registered L.cmp L.unit L.width self.old rs → 4294967295 < length (kept (kind_of self.old) (in_units L.unit rs)))) }
     {
         self.outputs.clear();
@@ -683,6 +683,7 @@ fn put_lists<L: EdgeLabel, V: Copy, A: Allocator>(
     ensures lists { OnOk result ((leftmost : Bool) → HoldLeftLinks L.cmp leftmost states.old order.now → AreListed L.cmp (stops_of leftmost states.old) states.old order.now outputs.new.items (positions_of states.new)) }
     ensures chained { OnOk result ((leftmost : Bool) → HoldLeftLinks L.cmp leftmost states.old order.now → AreChained (own_of states.old) (fails_of states.old) order.now outputs.new.items (positions_of states.new)) }
     ensures bound { OnOk result (vec_len outputs.new ≤ output_count (own_of states.old)) }
+    ensures whole { OnOk result (own_at (own_of states.old) 1 ≡ [] → vec_len outputs.new ≡ output_count (own_of states.old)) }
     ensures few { OnOk result (vec_len outputs.new ≤ 4294967295) }
     ensures refused { IfErr result (IsRefusal ⊥ Outputs (4294967295 < output_count (own_of states.old))) }
 {

@@ -1,5 +1,5 @@
 -- From the trie of all patterns and the codes of their characters to what the states are built of, and why that is refused.
-use Rattle.std.proofs.Common.{◌≡◌, ℕ, List, [], ◌∷◌, map, refl, ap, subst, inl, inr}
+use Rattle.std.proofs.Common.{◌≡◌, ◌≤◌, ℕ, List, [], length, ◌∷◌, map, refl, ap, subst, inl, inr}
 use Rattle.std.specs.Prelude.{IsTrue, Result}
 use Rattle.std.specs.Borrow.{Bor}
 use Rattle.std.specs.List.{AllByRecursion}
@@ -9,7 +9,7 @@ use Rattle.daachorse_core.specs.declared.errors.DaachorseError.TheVariants.{Inva
 use Rattle.daachorse_core.specs.declared.errors.Limit.TheVariants.{NumElements}
 use Rattle.daachorse_core.specs.Refusals.{IsRefusal}
 use Rattle.daachorse_model.specs.declared.MatchKind.{MatchKind}
-use Rattle.daachorse_model.specs.Dictionary.{dictionary}
+use Rattle.daachorse_model.specs.Dictionary.{dictionary, kept}
 use Rattle.daachorse_model.specs.Units.{char_width}
 use Rattle.daachorse_mapper.specs.Codings.{Coding, IsCodingOf}
 use Rattle.daachorse_patterns.specs.Building.{Fit}
@@ -37,14 +37,14 @@ module _ {V : Type 0} (patterns : List (Bor (List ℕ) × V)) (freqs : List ℕ)
   coded_keys texts kind = coded kind (registered_texts patterns) freqs coding (registered_scalars patterns texts) counted_texts codes
 
 -- the elements run out, or memory does
-pub elements_refused : {V : Type 0} (kind : MatchKind) (rs : List (List ℕ × V)) (coding : Coding) → Fit char_width kind rs → AreCodesOf (map (λ r. r.0) rs) coding
+pub elements_refused : {V : Type 0} (kind : MatchKind) (rs : List (List ℕ × V)) (coding : Coding) → Fit char_width kind rs → length (kept kind rs) ≤ 4294967295 → AreCodesOf (map (λ r. r.0) rs) coding
     → (e : DaachorseError) (many : Type 0) → (many → NeedsManyBlocks coding (dictionary kind rs)) → IsRefusal ⊥ NumElements many e → IsRefusalOf kind rs e
-elements_refused kind rs coding fit codes (InvalidArgument _) many needs refused = absurd refused
-elements_refused kind rs coding fit codes (AutomatonScale s) many needs refused =
-    inr (record { limit = ap (λ l. AutomatonScale (record { limit = l })) refused.0; fit = fit; coding = coding; codes = codes; blocks = needs refused.1 })
-elements_refused kind rs coding fit codes (InvalidConversion _) many needs refused = absurd refused
-elements_refused kind rs coding fit codes (InvalidAutomaton _) many needs refused = absurd refused
-elements_refused kind rs coding fit codes (OutOfMemory _) many needs refused = inl tt
+elements_refused kind rs coding fit few codes (InvalidArgument _) many needs refused = absurd refused
+elements_refused kind rs coding fit few codes (AutomatonScale s) many needs refused =
+    inr (record { limit = ap (λ l. AutomatonScale (record { limit = l })) refused.0; fit = fit; outputs = few; coding = coding; codes = codes; blocks = needs refused.1 })
+elements_refused kind rs coding fit few codes (InvalidConversion _) many needs refused = absurd refused
+elements_refused kind rs coding fit few codes (InvalidAutomaton _) many needs refused = absurd refused
+elements_refused kind rs coding fit few codes (OutOfMemory _) many needs refused = inl tt
 
 -- a refusal of patterns with the values of their indexes is one of the texts
 pub refused_with_values : {V E : Type 0} (gives : ℕ → Result V E → Type 0) (kind : MatchKind) (texts : List (List ℕ)) (rs : List (List ℕ × V)) → AreIndexed gives 0 texts rs

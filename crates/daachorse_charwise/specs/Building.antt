@@ -1,12 +1,12 @@
 -- What a build over characters promises: the dictionary of its patterns and the codes of their characters, or the first refusal in the order of its work.
-use Rattle.std.specs.Prelude.{◌≡◌, ◌⊎◌, ℕ, List, map, Result, None}
+use Rattle.std.specs.Prelude.{◌≡◌, ◌≤◌, ◌⊎◌, ℕ, List, length, map, Result, None}
 use Rattle.std.specs.Borrow.{Bor}
 use Rattle.std.specs.Str.{chars}
 use Rattle.daachorse_core.specs.declared.errors.DaachorseError.{DaachorseError}
 use Rattle.daachorse_core.specs.declared.errors.DaachorseError.TheVariants.{AutomatonScale}
 use Rattle.daachorse_core.specs.declared.errors.Limit.TheVariants.{NumElements}
 use Rattle.daachorse_model.specs.declared.MatchKind.{MatchKind}
-use Rattle.daachorse_model.specs.Dictionary.{dictionary}
+use Rattle.daachorse_model.specs.Dictionary.{dictionary, kept}
 use Rattle.daachorse_model.specs.Units.{char_width}
 use Rattle.daachorse_mapper.specs.Codings.{Coding, IsCodingOf}
 use Rattle.daachorse_patterns.specs.Building.{Fit, IsBuildRefusalWithin, IsRefusalWithin, Limits}
@@ -37,10 +37,11 @@ module _ {V : Type 0} (kind : MatchKind) (rs : List (List ℕ × V)) where
     pub content : (w : List ℕ) → content a w ≡ dictionary kind rs w
     pub codes : AreCodesOf (map (λ r. r.0) rs) a.coding
 
-  -- the elements run out: all patterns fit, and more texts begin longer patterns than there are blocks for
+  -- the elements run out: all patterns fit, their outputs are within the limit, and more texts begin longer patterns than there are blocks for
   pub record RunsOut (e : DaachorseError) : Type 0 where
     pub limit : e ≡ AutomatonScale (record { limit = NumElements })
     pub fit : Fit char_width kind rs
+    pub outputs : length (kept kind rs) ≤ 4294967295
     pub coding : Coding
     pub codes : AreCodesOf (map (λ r. r.0) rs) coding
     pub blocks : NeedsManyBlocks coding (dictionary kind rs)

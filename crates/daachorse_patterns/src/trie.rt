@@ -41,6 +41,7 @@ pub fn build_trie<L: EdgeLabel, P: Pattern<L>, V: Copy, A: Allocator + Copy>(
     requires { IfSome max_patterns (λ n. n ≤ 4294967295) }
     ensures ok { IfOk result (λ nfa. IsBuilt L.cmp L.unit L.width max_patterns kind nfa (dictionary kind (texts_of P.units patterns.now))) }
     ensures fit { OnOk result (Fit L.width kind (texts_of P.units patterns.now)) }
+    ensures outputs { OnOk result (length (kept kind (texts_of P.units patterns.now)) ≤ 4294967295) }
     ensures few { OnOk result (IfSome max_patterns (λ n. length (kept kind (texts_of P.units patterns.now)) ≤ n)) }
     ensures err { IfErr result (IsRefusalWithin L.width (record { patterns = max_patterns; parents = None }) kind (texts_of P.units patterns.now)) }
 {

@@ -17,7 +17,7 @@ use Rattle.daachorse_build.proofs.Labels.{label_exact}
 use Rattle.daachorse_build.proofs.Queue.{in_at, in_take}
 use Rattle.daachorse_build.proofs.Cleared.{cleared, count-cleared}
 use Rattle.daachorse_build.proofs.Passes.{chained_start, chained_more}
-use Rattle.daachorse_build.proofs.OutputLists.{listed_start, listed_more, fits_more, fail_known, order-bounds}
+use Rattle.daachorse_build.proofs.OutputLists.{listed_start, listed_more, fits_more, fail_known, none_left, order-bounds}
 use Rattle.daachorse_core.proofs.Refusals.{IsRefusal-weaker}
 use Rattle.daachorse_core.specs.Chains.{Passes}
 use Rattle.daachorse_build.proofs.nfa_builder.put_lists.Goals as goal
@@ -151,6 +151,14 @@ loop-id-preserved g c =
       few = omega (arith, e.few (omega (arith, i.few)));
       count = omega (arith, e.count, own, i.count, count_next g.L.Ord.cmp g.met.L.Ord.total (label_exact g.L.EdgeLabel.unit g.L.Ord.cmp g.met.L.EdgeLabel.exact g.met.L.EdgeLabel.by_unit) c.args.states.now c.loop-id.states c.args.order.now c.requires.trie (stops_of c.requires.links.0 c.args.states.now) c.requires.links.1 c.loop-id.invariant.kept c.loop-id.id-index c.loop-id-test.true);
     }
+
+pub returns-clause-whole : goal.returns-clause-whole
+returns-clause-whole g c = λ dead.
+    let states = c.args.states.now in
+    let exact = label_exact g.L.EdgeLabel.unit g.L.Ord.cmp g.met.L.EdgeLabel.exact g.met.L.EdgeLabel.by_unit in
+    let none = none_left g.L.Ord.cmp g.met.L.Ord.total exact (stops_of c.requires.links.0 states) states c.requires.trie c.args.order.now (fails_of states) c.requires.links.1 dead in
+    let all = take_all c.loop-id.id-index c.args.order.now c.loop-id-test.false in
+    omega (arith, none, c.loop-id.invariant.count, ap (λ ts. output_count (cleared (own_of states) (0 ∷ ts))) all)
 
 pub returns-clause-positions : goal.returns-clause-positions
 returns-clause-positions g c =

@@ -62,9 +62,21 @@ returns-clause-ok g c =
     let linked = c.in_ok-order.ensures in let made = c.in_ok-build_outputs.ensures in
     let o = c.add_all.new.nfa in let b = c.build_links.new.nfa in let d = c.build_outputs.new.self in
     let texts = HasTexts-kept cmp unit width o b rs linked.kept linked.kind linked.patterns added.ok in
-    let bound = made.kept_bound texts.labels texts.registered in
+    let bound = made.all_kept texts.labels texts.registered in
     let few : IfSome c.args.max_patterns (λ n. length (outputs_of d) ≤ n) = IfSome_then c.args.max_patterns c.in_ok-check_count.ensures.ok (λ n low. omega (arith, low, bound, linked.patterns, c.num_patterns.ensures)) in
     finished_for cmp unit width g.met.L.Ord.total c.args.max_patterns c.args.kind o b d c.in_ok-order.order.items (added.kind ∙ old) added.fits linked.kept linked.kind linked.patterns linked.root linked.standard linked.left made.kept made.kind made.patterns made.fails made.parents (few_for c.args.max_patterns (length (outputs_of d)) few made.few) made.positions made.follows rs added.ok
+
+pub returns-clause-outputs : goal.returns-clause-outputs
+returns-clause-outputs g c =
+    let cmp = g.L.Ord.cmp in let unit = g.L.EdgeLabel.unit in let width = g.L.EdgeLabel.width in
+    let rs : List (List ℕ × g.row.V.Denot) = texts_of g.P.Pattern.units c.args.patterns.now in
+    let added = c.in_ok-add_all.ensures in let old = c.in_ok-nfa.ensures.kind in
+    let linked = c.in_ok-order.ensures in let made = c.in_ok-build_outputs.ensures in
+    let o = c.add_all.new.nfa in let b = c.build_links.new.nfa in
+    let texts = HasTexts-kept cmp unit width o b rs linked.kept linked.kind linked.patterns added.ok in
+    let all = made.all_kept texts.labels texts.registered in
+    let count : c.num_patterns.result ≡ length (kept c.args.kind rs) = c.num_patterns.ensures ∙ HasTexts-count cmp unit width o rs added.ok ∙ ap (λ k. length (kept k rs)) (added.kind ∙ old) in
+    omega (arith, all, made.few, linked.patterns, c.num_patterns.ensures, count)
 
 pub returns-clause-few : goal.returns-clause-few
 returns-clause-few g c =

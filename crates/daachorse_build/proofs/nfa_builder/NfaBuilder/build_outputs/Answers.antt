@@ -9,7 +9,7 @@ use Rattle.daachorse_model.specs.Outputs.{IsChain}
 use Rattle.daachorse_model.specs.Prefixes.{IsDead}
 use Rattle.daachorse_model.specs.Dictionary.{dictionary}
 use Rattle.daachorse_build.specs.declared.nfa_builder.NfaBuilderState.{NfaBuilderState}
-use Rattle.daachorse_build.specs.Tables.{edges_of, fails_of, own_of, positions_of, output_count, stops_of, HoldTrie}
+use Rattle.daachorse_build.specs.Tables.{edges_of, fails_of, own_at, own_of, positions_of, output_count, stops_of, HoldTrie}
 use Rattle.daachorse_build.specs.Orders.{IsKnown, HoldLinks, HoldLeftLinks}
 use Rattle.daachorse_build.specs.Lists.{AreListed, AreChained, IsChainedAt}
 use Rattle.daachorse_build.proofs.Labels.{label_exact}
@@ -102,8 +102,11 @@ returns-clause-follows g c =
     subst Q (sym back) (subst P c.deref_mut.ensures.value chained either.0 either.1) t known)
     c.put_lists.ensures.chained)
 
-pub returns-clause-kept_bound : goal.returns-clause-kept_bound
-returns-clause-kept_bound g c =
+pub returns-clause-all_kept : goal.returns-clause-all_kept
+returns-clause-all_kept g c =
+    let same = c.deref_mut.ensures.value in
     rw (← c.self.view_is) (on_ok_weaker c.put_lists.result
-    (λ bound rs reg. omega (arith, bound, ap (λ ss. output_count (own_of ss)) c.deref_mut.ensures.value, reg.holds.count, reg.count))
-    c.put_lists.ensures.bound)
+    (λ whole rs reg.
+    let count = whole (ap (λ ss. own_at (own_of ss) 1) same ∙ reg.holds.dead) in
+    omega (arith, count, ap (λ ss. output_count (own_of ss)) same, reg.holds.count, reg.count))
+    c.put_lists.ensures.whole)

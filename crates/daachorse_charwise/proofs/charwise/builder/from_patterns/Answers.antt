@@ -27,7 +27,7 @@ returns-in_err-states-clause-err g c =
     let P : List ℕ → Type 0 = λ freqs. IsCodingOf freqs c.in_ok-mapper.mapper in
     let codes = codes_of c.args.patterns.now c.in_ok-freqs.freqs.items c.in_ok-mapper.mapper c.in_ok-freqs.ensures.ok (subst P c.deref.ensures.value c.in_ok-mapper.ensures.ok) in
     let p = err_from_is_err_and c.from_residual-in_err-states.result c.from_residual-in_err-states.ensures.1 in
-    rw (p.1, p.2) (elements_refused c.args.kind rs c.in_ok-mapper.mapper c.in_ok-nfa.ensures.fit codes c.in_err-states.field-0.0 _ (λ many. many K c.in_ok-nfa.ensures.ok) c.in_err-states.ensures.err)
+    rw (p.1, p.2) (elements_refused c.args.kind rs c.in_ok-mapper.mapper c.in_ok-nfa.ensures.fit c.in_ok-nfa.ensures.outputs codes c.in_err-states.field-0.0 _ (λ many. many K c.in_ok-nfa.ensures.ok) c.in_err-states.ensures.err)
 
 pub returns-clause-ok : goal.returns-clause-ok
 returns-clause-ok g c =

@@ -1,5 +1,5 @@
 -- Counts that grow by one character, and those of joined texts.
-use Rattle.std.proofs.Common.{◌≡◌, ◌≢◌, ℕ, ◌+◌, ◌-◌, ◌<◌, ◌≤◌, Bool, true, false, cond, List, [], ◌∷◌, ◌++◌, length, get_or, set, take, replicate, refl, sym, ap, ◌∙◌, subst, arith, get_or-set_same, get_or-set_other}
+use Rattle.std.proofs.Common.{◌≡◌, ◌≢◌, ℕ, ◌+◌, ◌-◌, ◌<◌, ◌≤◌, Bool, true, false, cond, List, [], ◌∷◌, ◌++◌, length, get_or, set, take, replicate, refl, sym, ap, ◌∙◌, subst, arith, rules, get_or-set_same, get_or-set_other}
 use Rattle.std.specs.Prelude.{nat_eq, count_by, slice_index}
 use Rattle.std.proofs.lemmas.List.{append-nil, append_assoc, take_all, get_or_append_left, get_or-append_right, get_or-replicate, get_or_past, length-set, length-replicate}
 use Rattle.std.proofs.lemmas.List.Sums.{sum_by-append}
@@ -11,6 +11,10 @@ use Rattle.daachorse_charwise.specs.Frequencies.{HasCounted, joined, many}
 -- how often u is in two texts
 pub count-append : (u : ℕ) (v w : List ℕ) → count_by (nat_eq u) (v ++ w) ≡ count_by (nat_eq u) v + count_by (nat_eq u) w
 count-append u v w = sum_by-append (λ x. cond (nat_eq u x) 1 0) v w
+
+-- no character is counted at first
+pub none_counted : (new : List ℕ) → new ≡ [] → HasCounted [] [] new
+none_counted new e = subst (λ xs. HasCounted [] [] xs) (sym e) (record { few = omega arith; counts = λ u. search rules })
 
 zeros : (k i : ℕ) → slice_index (replicate k 0) i ≡ 0
 zeros k i = grind (arith, get_or-replicate {A = ℕ}, get_or_past {X = ℕ}, length-replicate {A = ℕ})

@@ -1,13 +1,13 @@
 -- The characters of one more pattern are counted after those of the patterns before it.
-use Rattle.std.proofs.Common.{◌≡◌, ℕ, ◌+◌, List, [], ◌∷◌, ◌++◌, map, take, sym, ap, ◌∙◌, subst}
+use Rattle.std.proofs.Common.{◌≡◌, ℕ, ◌+◌, List, [], ◌∷◌, ◌++◌, map, take, sym, ap, ◌∙◌, subst, arith, rules}
 use Rattle.std.specs.Borrow.{Bor}
 use Rattle.std.specs.Prelude.{IsTrue}
 use Rattle.std.specs.List.{AllByRecursion}
 use Rattle.std.specs.Str.{all_scalars, chars}
-use Rattle.std.proofs.lemmas.List.{map_push, take_more}
+use Rattle.std.proofs.lemmas.List.{map_push, take_all, take_more}
 use Rattle.daachorse_packing.proofs.Keys.{all-push}
-use Rattle.daachorse_charwise.specs.Frequencies.{HasCounted, joined}
-use Rattle.daachorse_charwise.proofs.CountLaws.{counted_both, joined-push}
+use Rattle.daachorse_charwise.specs.Frequencies.{AreFrequencies, HasCounted, joined}
+use Rattle.daachorse_charwise.proofs.CountLaws.{counted_both, joined-push, none_counted}
 use Rattle.daachorse_charwise.proofs.charwise.frequencies.frequencies.Goals as goal
 
 pub loop-pattern-preserved : goal.loop-pattern-preserved
@@ -26,3 +26,21 @@ loop-pattern-preserved g c =
       counted = subst P (sym (ap joined more ∙ joined-push so_far (text pair))) (counted_both [] c.loop-pattern.freqs.items c.count_chars.new.freqs.items (joined so_far) (text pair) c.loop-pattern.invariant.counted c.in_ok-count_chars.ensures.ok);
       texts = subst A (sym push) (all-push T (take i c.args.patterns.now) pair c.loop-pattern.invariant.texts c.in_ok-count_chars.ensures.text);
     }
+
+pub loop-pattern-init : goal.loop-pattern-init
+loop-pattern-init g c =
+    let none : c.new-freqs.result.items ≡ [] = search rules in
+    record { counted = none_counted c.new-freqs.result.items none; texts = tt }
+
+pub count_chars-requires : goal.count_chars-requires
+count_chars-requires g c = c.loop-pattern.invariant.counted.few
+
+pub returns-clause-ok : goal.returns-clause-ok
+returns-clause-ok g c =
+    let F : List (Bor (List ℕ) × g.row.V.Denot) → Type 0 = λ ps. AreFrequencies (map (λ p. chars p.0.now) ps) c.loop-pattern.freqs.items in
+    subst F (take_all c.loop-pattern.pattern-index c.args.patterns.now (omega arith)) c.loop-pattern.invariant.counted
+
+pub returns-clause-texts : goal.returns-clause-texts
+returns-clause-texts g c =
+    let T : List (Bor (List ℕ) × g.row.V.Denot) → Type 0 = λ ps. AllByRecursion (λ p. IsTrue (all_scalars (chars p.0.now))) ps in
+    subst T (take_all c.loop-pattern.pattern-index c.args.patterns.now (omega arith)) c.loop-pattern.invariant.texts

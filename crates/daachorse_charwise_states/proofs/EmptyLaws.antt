@@ -7,12 +7,8 @@ use Rattle.daachorse_model.specs.declared.MatchKind.{MatchKind}
 use Rattle.daachorse_model.specs.Kinds.{is_leftmost}
 use Rattle.daachorse_model.specs.Units.{char_width}
 use Rattle.daachorse_machine.proofs.ChildlessLaws.{childless-counted, childless-right, replicate-at}
-<<<<<<< HEAD
-use Rattle.daachorse_mapper.specs.Codings.{Coding, IsCoding, IsCodingOf, code_of}
-use Rattle.daachorse_mapper.specs.Written.{IsCountable}
-=======
 use Rattle.daachorse_mapper.specs.Codings.{Coding, IsCoding, IsCodingOf}
->>>>>>> d99031ea73374942b1fd0d7f727acbdfdebca100
+use Rattle.daachorse_mapper.specs.Written.{IsCountable}
 use Rattle.daachorse_charwise_states.specs.declared.state.State.{State}
 use Rattle.daachorse_charwise_states.specs.Elements.{base_in, check_in, output_in, vacant}
 use Rattle.daachorse_charwise_states.specs.Parts.{Parts, base_of, char_code, child, child_among, child_by, count, fail_of, machine, output_of}

@@ -17,12 +17,8 @@ use Rattle.daachorse_build.specs.Tables.{child_in, edges_of, fails_of, positions
 use Rattle.daachorse_build.proofs.Walks.{walk-push}
 use Rattle.daachorse_machine.specs.Copies.{IsCopy}
 use Rattle.daachorse_machine.proofs.CopyLaws.{content-same, copy-counted, copy-right}
-<<<<<<< HEAD
-use Rattle.daachorse_mapper.specs.Codings.{Coding, IsCoding, code_of}
-use Rattle.daachorse_mapper.specs.Written.{IsCountable}
-=======
 use Rattle.daachorse_mapper.specs.Codings.{Coding, IsCoding}
->>>>>>> d99031ea73374942b1fd0d7f727acbdfdebca100
+use Rattle.daachorse_mapper.specs.Written.{IsCountable}
 use Rattle.daachorse_packing.specs.Settled.{trie_of}
 use Rattle.daachorse_packing.proofs.BuiltLaws.{built-count, built-holds, built-text}
 use Rattle.daachorse_packing.proofs.Held.{held-in_range, settled-states}

@@ -1,12 +1,7 @@
 -- What is read of the parts that a view borrows, element by element.
-<<<<<<< HEAD
 use Rattle.std.proofs.Common.{◌≡◌, ◌≢◌, ℕ, ◌<◌, Bool, true, false, length, Option, Some, None, sym, ap, ◌∙◌, subst, arith, slice_index_or}
-use Rattle.std.specs.Prelude.{MatchOption, is_some}
-=======
-use Rattle.std.proofs.Common.{◌≡◌, ◌≢◌, ℕ, ◌<◌, Bool, false, length, Option, Some, None, sym, ap, ◌∙◌, subst, arith, slice_index_or}
 use Rattle.std.specs.Char.{IsScalar}
-use Rattle.std.specs.Prelude.{MatchOption}
->>>>>>> d99031ea73374942b1fd0d7f727acbdfdebca100
+use Rattle.std.specs.Prelude.{MatchOption, is_some}
 use Rattle.std.proofs.lemmas.List.{get_or_default}
 use Rattle.daachorse_model.specs.Kinds.{is_leftmost}
 use Rattle.daachorse_model.specs.Units.{char_width}
@@ -61,12 +56,6 @@ module _ {V : Type 0} (q p : Parts V) (leftmost : Bool) (is : q ≡ p) (kept : I
       standard-alive _ _ _ _ _ view_machine i r other (none_dead char_width (machine p) p.kind kind) (at ∙ one)
 
   -- what the table has for a character
-<<<<<<< HEAD
-  pub view_label : (u : ℕ) (o : Option ℕ) → o ≡ code_of q.coding u → MatchOption o ((has_code p u ≡ false) × IsForeign (content p) u) (λ c. (code_of p.coding u ≡ Some c) × (has_code p u ≡ true))
-  view_label u None e = foreign_char p view_valid u (sym (e ∙ ap (λ x. code_of x.coding u) is))
-  view_label u (Some c) e = let has : code_of p.coding u ≡ Some c = sym (e ∙ ap (λ x. code_of x.coding u) is) in (has, ap is_some has)
-=======
-  pub view_label : (u : ℕ) → IsScalar u → (o : Option ℕ) → o ≡ code_of q.coding u → MatchOption o ((has_code p u ≡ false) × IsForeign (content p) u) (λ c. char_code p.coding u ≡ Some c)
+  pub view_label : (u : ℕ) → IsScalar u → (o : Option ℕ) → o ≡ code_of q.coding u → MatchOption o ((has_code p u ≡ false) × IsForeign (content p) u) (λ c. (char_code p.coding u ≡ Some c) × (has_code p u ≡ true))
   view_label u scalar None e = foreign_char p view_valid u (char_code-of p.coding u scalar ∙ sym (e ∙ ap (λ x. code_of x.coding u) is))
-  view_label u scalar (Some c) e = char_code-of p.coding u scalar ∙ sym (e ∙ ap (λ x. code_of x.coding u) is)
->>>>>>> d99031ea73374942b1fd0d7f727acbdfdebca100
+  view_label u scalar (Some c) e = let has : char_code p.coding u ≡ Some c = char_code-of p.coding u scalar ∙ sym (e ∙ ap (λ x. code_of x.coding u) is) in (has, ap is_some has)

@@ -7,14 +7,9 @@ use Rattle.daachorse_model.specs.Kinds.{is_leftmost}
 use Rattle.daachorse_model.specs.Units.{char_width}
 use Rattle.daachorse_machine.specs.Machines.{IsCounted, IsRight, dead_in}
 use Rattle.daachorse_machine.specs.Texts.{IsReached, text_of}
-<<<<<<< HEAD
-use Rattle.daachorse_mapper.specs.Codings.{Coding, IsCoding, code_of}
-use Rattle.daachorse_mapper.specs.Written.{IsCountable}
-use Rattle.daachorse_charwise_states.specs.Parts.{Parts, base_of, child, count, fail_of, machine, output_of}
-=======
 use Rattle.daachorse_mapper.specs.Codings.{Coding, IsCoding}
+use Rattle.daachorse_mapper.specs.Written.{IsCountable}
 use Rattle.daachorse_charwise_states.specs.Parts.{Parts, base_of, char_code, child, count, fail_of, machine, output_of}
->>>>>>> d99031ea73374942b1fd0d7f727acbdfdebca100
 
 -- n elements are whole blocks. A block is as long as the least power of two that is at least 2 and at least the size of the alphabet, which is a number of 32 bits.
 pub record HasBlocks (coding : Coding) (n : ℕ) : Type 0 where

@@ -1,11 +1,11 @@
 -- One unit of a source further: the run grows at its end, and so does the list of matches.
-use Rattle.std.proofs.Common.{◌≡◌, ℕ, ◌+◌, ◌<◌, ◌≤◌, ◌^◌, List, [], ◌∷◌, ◌++◌, map, Option, Some, None, refl, sym, ap, ◌∙◌, subst, append_assoc, append-nil, length-append, arith}
+use Rattle.std.proofs.Common.{◌≡◌, ℕ, ◌+◌, ◌<◌, ◌^◌, List, [], ◌∷◌, ◌++◌, map, Option, Some, None, refl, sym, ap, ◌∙◌, append_assoc, append-nil, length-append, arith}
 use Rattle.std.proofs.lemmas.List.{map-append}
-use Rattle.std.specs.Iterator.{Count, IsFinite, MakesProgress, Yields, items_left}
+use Rattle.std.specs.Iterator.{Count, MakesProgress, Yields, items_left}
 use Rattle.std.specs.declared.num.NonZeroU32.{NonZeroU32}
 use Rattle.daachorse_core.specs.Outputs.{number}
 use Rattle.daachorse_model.specs.declared.Match.{Match}
-use Rattle.daachorse_model.specs.Units.{size, byte_width}
+use Rattle.daachorse_model.specs.Units.{size}
 use Rattle.daachorse_model.specs.Matches.{at_each_end}
 use Rattle.daachorse_model.proofs.Suffixes.{size-push}
 use Rattle.daachorse_search.specs.ByteSources.{Yields_append}

@@ -1,8 +1,8 @@
 -- A text's bytes are those of its characters in a row, so the first characters and the others stand apart in it.
-use Rattle.std.proofs.Common.{◌≡◌, ℕ, Option, Some, None, List, [], ◌∷◌, ◌++◌, length, drop, true, refl, sym, ap, ◌∙◌, subst, length-append, arith}
+use Rattle.std.proofs.Common.{◌≡◌, ℕ, Option, Some, None, List, [], ◌∷◌, ◌++◌, length, drop, true, refl, sym, ap, ◌∙◌, subst, arith}
 use Rattle.std.proofs.lemmas.List.{drop_at}
-use Rattle.std.proofs.lemmas.Str.{chars-nil, chars-encodes, encodes-append, encodes-chars, scalars-chars, length-encode, chars_past_char, IsUtf8-past_char, IsCharBoundary-at_seam}
-use Rattle.std.proofs.Math.Utf8.{scalar, scalars, encode, encodes}
+use Rattle.std.proofs.lemmas.Str.{chars-nil, chars-encodes, encodes-append, encodes-chars, scalars-chars, chars_past_char, IsUtf8-past_char, IsCharBoundary-at_seam}
+use Rattle.std.proofs.Math.Utf8.{scalar, scalars, encodes}
 use Rattle.std.specs.Iterator.{YieldsFirst}
 use Rattle.std.specs.Str.{chars, IsUtf8, IsCharBoundary}
 use Rattle.std.specs.Str.Iter.{chars_rest, chars_steps}

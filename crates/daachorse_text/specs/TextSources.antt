@@ -1,5 +1,5 @@
 -- Sources of bytes that give a text: when one may be decoded, and what a character takes from it.
-use Rattle.std.specs.Prelude.{◌≡◌, ℕ, ◌+◌, ◌<◌, ◌≤◌, ◌^◌, List, ◌++◌, Option, Some, None}
+use Rattle.std.specs.Prelude.{◌≡◌, ℕ, ◌+◌, ◌≤◌, List, ◌++◌, Option, Some, None}
 use Rattle.std.specs.Iterator.{Count, IsFinite, Yields, Drains, items_left}
 use Rattle.std.specs.Iterator.Runs.{CountFits}
 use Rattle.std.specs.Char.{IsScalar, encode_utf8}

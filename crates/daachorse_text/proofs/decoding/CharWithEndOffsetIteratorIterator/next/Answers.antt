@@ -1,5 +1,5 @@
 -- The place behind the character fits, since the source gave its bytes.
-use Rattle.std.proofs.Common.{◌+◌, ◌≡◌, ℕ, Some, subst, sym, ap, arith}
+use Rattle.std.proofs.Common.{◌+◌, ℕ, Some, subst, sym, ap, arith}
 use Rattle.std.specs.Iterator.{MakesProgress}
 use Rattle.daachorse_text.specs.DecodedSources.{IsTextFrom-place}
 use Rattle.daachorse_text.specs.TextSources.{Placed, IsTextFrom}

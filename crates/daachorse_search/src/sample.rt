@@ -130,6 +130,19 @@ fn collect_from<V: Copy, A: Automaton<V>, S: Iterator<Item = A::Unit>>(
     Search::new(OverlappingWalk::new(automaton), source).collect(alloc)
 }
 
+/// All that a search finds in a haystack.
+fn collect_matches<V: Copy, W: Stepwise<V>, H: Haystack<W::Unit>>(
+    alloc: Global,
+    walk: W,
+    haystack: H,
+) -> Result<Vec<Match<V>>, AllocError>
+    requires begins { W.read walk ≡ [] }
+    requires fits { size W.Unit.width (H.rest haystack) < 2 ^ 64 }
+    ensures { IfOk result (λ v. v.items ≡ at_each_end (W.found (W.automaton walk)) [] (H.rest haystack)) }
+{
+    Matches::new(walk, haystack).collect(alloc)
+}
+
 /// A whole search in a haystack, with its turns bounded and its matches counted.
 fn run_matches<V: Copy, W: Stepwise<V>, H: Haystack<W::Unit>>(
     walk: W,
@@ -215,8 +228,7 @@ fn gives_the_first_at_each_boundary(rt: HostRuntime) -> Result<(), Fail> {
         leftmost: false,
     };
     let haystack = Bytes::new(b"ab");
-    let no_suffix = Matches::new(NoSuffixWalk::new(automaton), haystack);
-    let found: Vec<Match<u32>> = no_suffix.collect(rt.alloc())?;
+    let found = collect_matches(rt.alloc(), NoSuffixWalk::new(automaton), haystack)?;
     assert_eq!(rt; found.as_slice(), [at(0, 7), at(1, 7), at(2, 7)].as_slice());
     let haystack = Bytes::new(b"ab");
     let mut standard = Matches::new(FindWalk::new(automaton), haystack);

@@ -1,4 +1,4 @@
-//! What the lists of matches promise: functions that do nothing, for their contracts.
+//! What the lists of matches and of patterns promise: functions that do nothing, for their contracts.
 //! A haystack and a pattern are lists of units; `width` is `byte_width` or `char_width`, or any other.
 
 ghost use Rattle.std.specs.Prelude.{◌≡◌, ℕ, List, [], All, Contains, encode_utf8_all, option_to_list};

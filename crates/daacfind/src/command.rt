@@ -1,11 +1,12 @@
 //! The command: from arguments to a status, and to a line on standard error where it fails.
 
-use crate::inputs::Inputs;
+use crate::inputs::{Arguments, Inputs};
 use crate::mode::Mode;
 use crate::run::{RunError, run};
 use crate::sink::{Sink, write_whole};
-use std::alloc::Allocator;
+use std::alloc::{AllocError, Allocator, Global};
 use std::fmt::{self, Write};
+use std::rt::Env;
 use thiserror::Error;
 
 /// Why a command failed. Its text is the line for standard error.
@@ -19,14 +20,31 @@ enum CommandError<'a> {
     Run(#[from] RunError),
 }
 
-/// Runs the command, and answers its status.
+/// Runs the command with the program's arguments, as [`command`] does, and returns its status.
+///
+/// # Errors
+///
+/// An allocation failed while the arguments were read.
+pub fn run_program<R: Env, I: Inputs, S: Sink, E: Sink>(
+    env: &R,
+    alloc: Global,
+    files: &mut I,
+    out: &mut S,
+    err: &mut E,
+) -> Result<u8, AllocError> {
+    let arguments = Arguments::read(env, alloc)?;
+    let texts = arguments.texts(alloc)?;
+    Ok(command(alloc, &texts, files, out, err))
+}
+
+/// Runs the command, and returns its status.
 ///
 /// The arguments are a mode and the names of two files: of the patterns, one a line, and of the
-/// haystack. An argument that is not UTF-8 is none. The matches go to `out`. Status 0 says that all
-/// of them were written. Otherwise a line on `err` tells the cause: the usage, with status 2, where
-/// the arguments are no such three, and nothing was read then; else, with status 1, a file that
-/// could not be read, the refusal of a build, or a failure to write. A failure of `err` is passed
-/// over.
+/// haystack. An argument that is not UTF-8 is `None`. The matches go to `out`. Status 0 says that
+/// all of them were written. Otherwise a line on `err` tells the cause: the usage, with status 2,
+/// where the arguments are no such three, and nothing was read then; else, with status 1, a file
+/// that could not be read, the refusal of a build, or a failure to write. A failure of `err` is
+/// passed over.
 pub fn command<A: Allocator + Copy, I: Inputs, S: Sink, E: Sink>(
     alloc: A,
     args: &[Option<&str>],

@@ -10,7 +10,7 @@ const MOST_ARGUMENTS: usize = 4;
 
 /// Files by their names.
 pub trait Inputs {
-    /// The bytes of the file, or none where it cannot be read for any cause.
+    /// Reads the bytes of a file. It is `None` where the file cannot be read for any cause.
     fn read(&mut self, name: &str) -> Option<Vec<u8>>;
 }
 
@@ -21,7 +21,7 @@ pub struct FileInputs<'a, R: Files + AllocGlobal> {
 }
 
 impl<'a, R: Files + AllocGlobal> FileInputs<'a, R> {
-    /// The files that `rt` reaches.
+    /// Makes a view of the files that `rt` reaches.
     pub fn new(rt: &'a R) -> Self {
         FileInputs { rt }
     }
@@ -40,7 +40,11 @@ pub struct Arguments {
 }
 
 impl Arguments {
-    /// The arguments that `rt` has.
+    /// Reads the arguments that `rt` has, behind the program's name.
+    ///
+    /// # Errors
+    ///
+    /// An allocation failed.
     pub fn read(rt: &impl Env, alloc: Global) -> Result<Arguments, AllocError> {
         let mut list = Vec::new(alloc);
         for place in 1..=MOST_ARGUMENTS {
@@ -52,7 +56,11 @@ impl Arguments {
         Ok(Arguments { list })
     }
 
-    /// Each argument as text, or none where it is not UTF-8.
+    /// Returns each argument as text, or `None` for one that is not UTF-8.
+    ///
+    /// # Errors
+    ///
+    /// An allocation failed.
     pub fn texts(&self, alloc: Global) -> Result<Vec<Option<&str>>, AllocError> {
         let mut texts = Vec::with_capacity(alloc, self.list.len())?;
         for argument in &self.list {

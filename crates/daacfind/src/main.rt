@@ -2,8 +2,8 @@
 //! the number of its pattern.
 #![tactic(auto)]
 
-use crate::command::command;
-use crate::inputs::{Arguments, FileInputs};
+use crate::command::run_program;
+use crate::inputs::FileInputs;
 use crate::sink::WriterSink;
 use daachorse::errors::DaachorseError;
 use std::alloc::AllocError;
@@ -26,18 +26,17 @@ fn main(rt: HostRuntime) -> ExitCode {
     }
 }
 
-// The status of the command with the program's own arguments.
+// The status of the command with the program's own arguments, files and streams.
 fn status(rt: &HostRuntime) -> Result<u8, DaachorseError> {
-    let arguments = Arguments::read(rt, rt.alloc())?;
-    let texts = arguments.texts(rt.alloc())?;
     let out = BufWriter::new(rt.alloc(), io::writer(rt)).map_err(|_| AllocError)?;
-    Ok(command(
+    let status = run_program(
+        rt,
         rt.alloc(),
-        &texts,
         &mut FileInputs::new(rt),
         &mut WriterSink::new(out),
         &mut WriterSink::new(rt.stderr()),
-    ))
+    )?;
+    Ok(status)
 }
 
 #[cfg(test)]

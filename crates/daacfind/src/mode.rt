@@ -10,7 +10,7 @@ use daachorse::MatchKind;
 pub enum Mode {
     /// Every match, also those that overlap.
     Overlapping,
-    /// Of every match the longest at each end.
+    /// The longest match at each end.
     NoSuffix,
     /// Matches that do not overlap, each as early as it can end.
     Find,
@@ -21,7 +21,7 @@ pub enum Mode {
 }
 
 impl Mode {
-    /// The mode that the word names.
+    /// Returns the mode that the word names, if there is one.
     pub fn from_word(word: &str) -> Option<Mode>
         ensures { (mode : Mode) → (result ≡ Some mode) ↔ (word.now ≡ word_of mode) }
     {
@@ -34,7 +34,7 @@ impl Mode {
             _ => None,
         }
     }
-    /// The searches that the automaton is to be built for.
+    /// Returns the kind of searches that the automaton is to be built for.
     pub fn match_kind(self) -> MatchKind
         ensures { result ≡ kind_of_mode self }
     {

@@ -8,7 +8,7 @@ ghost use Rattle.std.specs.Io.KnownBytes.{Appends, Keeps, WriteAppends};
 ghost use Rattle.daacfind.specs.Failures.{failures_after_write, failures_after_flush};
 ghost use Rattle.daacfind.specs.Runs.{AppendsBeginning};
 
-use daachorse_core::turns::Turns;
+use daachorse_core::counter::Counter;
 use std::io::Write;
 use std::marker::Model;
 
@@ -16,8 +16,9 @@ use std::marker::Model;
 #[derive(Clone, Copy, Debug, PartialEq, Eq)]
 pub struct SinkError;
 
-/// What takes bytes, perhaps only some at a time, and counts its failures: an error is one, and
-/// so is a write that takes no byte of some.
+/// A place that takes bytes, perhaps only some at a time, and counts its failures.
+///
+/// An error is a failure, and so is a write that takes no byte of some.
 pub trait Sink {
     // The bytes that the sink took, where it tells them.
     ghost taken: { Self → Option (List ℕ) };
@@ -25,7 +26,7 @@ pub trait Sink {
     // The number of failures.
     ghost failures: { Self → ℕ };
 
-    /// Takes the first `n` of the bytes, and answers `n`. An error takes none.
+    /// Takes the first `n` of the bytes, and returns `n`. Where it returns an error, it took none.
     fn write(&mut self, bytes: &[u8]) -> Result<usize, SinkError>
         ensures bound { IfOk result (λ n. n ≤ length bytes.now) }
         ensures taken { WriteAppends (taken self.old) (taken self.new) result bytes.now }
@@ -41,7 +42,7 @@ pub trait Sink {
 #[derive(Drop)]
 pub struct WriterSink<W: Write> {
     writer: W,
-    failures: Turns,
+    failures: Counter,
 }
 
 impl<W: Write> Model for WriterSink<W> {
@@ -53,18 +54,18 @@ impl<W: Write> Model for WriterSink<W> {
 }
 
 impl<W: Write> WriterSink<W> {
-    /// A sink over the writer, with no failure yet.
+    /// Makes a sink over the writer, with no failure yet.
     pub fn new(writer: W) -> Self
         ensures writer { result.writer ≡ writer }
         ensures failures { result.failures ≡ 0 }
     {
         WriterSink {
             writer,
-            failures: Turns::new(),
+            failures: Counter::new(),
         }
     }
 
-    /// The writer.
+    /// Returns the writer.
     pub fn writer(&self) -> &W
         ensures { result.now ≡ self.now.writer }
     {
@@ -75,7 +76,7 @@ impl<W: Write> WriterSink<W> {
         ensures writer { self.new.writer ≡ self.old.writer }
         ensures failures { self.new.failures ≡ self.old.failures + 1 }
     {
-        self.failures.tick();
+        self.failures.increment();
         SinkError
     }
 }
@@ -104,7 +105,11 @@ impl<W: Write> Sink for WriterSink<W> {
     }
 }
 
-/// Writes all of the bytes, in as many writes as the sink needs. It stops at the first failure.
+/// Writes all of the bytes, in as many writes as the sink needs.
+///
+/// # Errors
+///
+/// The sink failed: a beginning of the bytes was taken, and no write came after the failure.
 pub fn write_whole<S: Sink>(out: &mut S, bytes: &[u8]) -> Result<(), SinkError>
     ensures whole { OnOk result (Appends (S.taken out.old) (S.taken out.new) bytes.now) }
     ensures unfailed { OnOk result (S.failures out.new ≡ S.failures out.old) }

@@ -1,5 +1,5 @@
-//! What the lists of matches promise: functions that do nothing, for their contracts.
-//! A haystack and a pattern are lists of units; `width` is `byte_width` or `char_width`, or any other.
+//! What the lists of matches promise: functions that do nothing, for their contracts. A haystack
+//! and a pattern are lists of units; `width` is `byte_width` or `char_width`, or any other.
 
 ghost use Rattle.std.specs.Prelude.{◌≡◌, ℕ, List, [], All, Contains, encode_utf8_all, option_to_list};
 ghost use Rattle.daachorse_model.specs.declared.Match.{Match};
@@ -32,8 +32,8 @@ pub fn matches_follow<V: Copy>(kind: MatchKind)
     ensures leftmost { (width : ℕ → ℕ) (patterns : List (List ℕ × V)) (h : List ℕ) → Follows 0 (leftmost width (dictionary kind patterns) h) }
 {}
 
-/// Each leftmost match is the longest kept pattern that occurs at its start, with the value that was
-/// registered first for it. `LeftmostLongest` keeps every pattern.
+/// Each leftmost match is the longest kept pattern that occurs at its start, with the value that
+/// was registered first for it. `LeftmostLongest` keeps every pattern.
 pub fn leftmost_is_longest<V: Copy>(kind: MatchKind)
     ensures { (width : ℕ → ℕ) (patterns : List (List ℕ × V)) (h : List ℕ)
         → let K = dictionary kind patterns in All (IsLongestAtStart width K h) (leftmost width K h) }
@@ -61,7 +61,8 @@ pub fn same_on_text<V: Copy>(kind: MatchKind)
         → leftmost byte_width (dictionary kind (in_bytes patterns)) (encode_utf8_all h) ≡ leftmost char_width (dictionary kind patterns) h }
 {}
 
-/// The standard matches are, in order, those that the search over each beginning of the haystack ends with.
+/// The standard matches are, in order, those that the search over each beginning of the haystack
+/// ends with.
 pub fn standard_end_by_end<V: Copy>(kind: MatchKind)
     ensures bytes { (patterns : List (List ℕ × V)) (h : List ℕ) → let K = dictionary kind patterns in
         at_each_end (λ t. option_to_list (standard_after byte_width K t)) [] h ≡ standard byte_width K h }

@@ -69,10 +69,15 @@ impl<V: Copy, A: Allocator> Model for CharwiseDoubleArrayAhoCorasick<V, A> {
 }
 
 impl<V: Copy, A: Allocator + Copy> CharwiseDoubleArrayAhoCorasick<V, A> {
-    /// Makes an automaton of these patterns, for the standard searches. Pattern `i`, counted from
-    /// 0, has the value that the index `i` is converted to. Equal patterns are all kept.
+    /// Builds an automaton of these patterns, for the standard searches.
     ///
-    /// It is [`CharwiseDoubleArrayAhoCorasickBuilder::build`] of the default builder.
+    /// Pattern `i`, counted from 0, has the value that the index `i` converts to. Equal patterns
+    /// are all kept. The automaton keeps `alloc` and takes its memory from it. The default
+    /// builder's [`CharwiseDoubleArrayAhoCorasickBuilder::build`] does the same.
+    ///
+    /// # Conditions
+    ///
+    /// The iterator over the patterns ends.
     ///
     /// # Errors
     ///
@@ -93,10 +98,15 @@ impl<V: Copy, A: Allocator + Copy> CharwiseDoubleArrayAhoCorasick<V, A> {
         CharwiseDoubleArrayAhoCorasickBuilder::new().build(alloc, patterns)
     }
 
-    /// Makes an automaton of these patterns, each with its value, for the standard searches. Equal
-    /// patterns are all kept, and so are equal values.
+    /// Builds an automaton of these patterns, each with its value, for the standard searches.
     ///
-    /// It is [`CharwiseDoubleArrayAhoCorasickBuilder::build_with_values`] of the default builder.
+    /// Equal patterns are all kept, and so are equal values. The automaton keeps `alloc` and takes
+    /// its memory from it. The default builder's
+    /// [`CharwiseDoubleArrayAhoCorasickBuilder::build_with_values`] does the same.
+    ///
+    /// # Conditions
+    ///
+    /// The iterator over the patterns ends.
     ///
     /// # Errors
     ///
@@ -131,8 +141,14 @@ impl<V: Copy, A: Allocator + Copy> CharwiseDoubleArrayAhoCorasick<V, A> {
         }
     }
 
-    /// Computes the depths of all elements, in characters, and keeps them, so that steppers can tell
-    /// the depths of their states. After a refusal the automaton is as it was.
+    /// Computes the depth of each element in characters, and keeps the depths for steppers.
+    ///
+    /// A stepper that is made from then on returns the depth of its state. After an error the
+    /// automaton is unchanged.
+    ///
+    /// # Conditions
+    ///
+    /// The automaton is for the standard searches: its kind is [`MatchKind::Standard`].
     ///
     /// # Errors
     ///
@@ -149,9 +165,11 @@ impl<V: Copy, A: Allocator + Copy> CharwiseDoubleArrayAhoCorasick<V, A> {
         Ok(())
     }
 
-    /// All patterns that the automaton holds, with their values: in byte order, which is the order
-    /// of the characters, and equal ones in order of registration. [`MatchKind::LeftmostFirst`]
-    /// leaves out each pattern that extends an earlier one.
+    /// Lists all patterns that the automaton holds, each with its value.
+    ///
+    /// They come in byte order, which is the order of their characters, and equal ones in order of
+    /// registration. A build for [`MatchKind::LeftmostFirst`] leaves out each pattern that extends
+    /// an earlier one.
     ///
     /// # Errors
     ///
@@ -166,7 +184,7 @@ impl<V: Copy, A: Allocator + Copy> CharwiseDoubleArrayAhoCorasick<V, A> {
         Ok(PatternIterator { walk, alloc })
     }
 
-    /// An automaton that keeps the same, in memory of its own.
+    /// Makes a copy of the automaton, in memory of its own.
     ///
     /// # Errors
     ///
@@ -183,7 +201,7 @@ impl<V: Copy, A: Allocator + Copy> CharwiseDoubleArrayAhoCorasick<V, A> {
     }
 }
 
-/// Automata are equal where all that they keep is, the cached depths included.
+/// Automata are equal where all that they keep is equal, the cached depths included.
 impl<V: Copy + PartialEq, A: Allocator> PartialEq for CharwiseDoubleArrayAhoCorasick<V, A> {
     ghost use Rattle.daachorse_charwise_states.specs.Equality.{parts_eq, parts_per};
     ghost use Rattle.daachorse_listing.specs.Automata.{automaton_eq, automaton_per};
@@ -219,31 +237,39 @@ impl<V: Copy + Hash, A: Allocator> Hash for CharwiseDoubleArrayAhoCorasick<V, A>
 }
 
 impl<V: Copy, A: Allocator> CharwiseDoubleArrayAhoCorasick<V, A> {
-    /// The searches that the automaton is for: the standard ones, or one of the leftmost.
+    /// Returns the kind of searches that the automaton is for.
     pub fn match_kind(&self) -> MatchKind
         ensures { result ≡ self.now.parts.kind }
     {
         self.states.kind()
     }
 
-    /// The number of elements of the double array, those included that are no state.
+    /// Returns the number of elements of the double array, those included that are no state.
     pub fn num_elements(&self) -> usize
         ensures { result ≡ count self.now.parts }
     {
         self.states.num_elements()
     }
 
-    /// The number of states: how many texts begin a pattern that the automaton holds, the empty one
-    /// among them.
+    /// Returns the number of states.
+    ///
+    /// A state stands for each text that begins a pattern of the automaton, the empty text
+    /// included.
     pub fn num_states(&self) -> usize
         ensures { HasPrefixes (content self.now.parts) result }
     {
         self.states.num_states() as usize
     }
 
-    /// Finds matches in a haystack that do not overlap: from the end of the one before each ends as
-    /// early as it can, and at that end it is the longest; of equal patterns the first registered.
-    /// With an empty pattern there is one empty match at each boundary.
+    /// Finds non-overlapping matches in a haystack, each of which ends as early as possible.
+    ///
+    /// The search goes on from the end of each match. Of the matches that end together it takes the
+    /// longest, and of equal patterns the one that was registered first. With an empty pattern
+    /// there is one empty match at each boundary.
+    ///
+    /// # Conditions
+    ///
+    /// The automaton is for the standard searches: its kind is [`MatchKind::Standard`].
     #[inline(always)]
     #[tactic(auto, using(daachorse_charwise_states::proofs::DeadLaws::alive))]
     pub fn find_iter<'a>(&'a self, haystack: &'a str) -> FindSliceIterator<'a, V>
@@ -258,8 +284,15 @@ impl<V: Copy, A: Allocator> CharwiseDoubleArrayAhoCorasick<V, A> {
         find_in(self.states.standard(), Text::new(haystack))
     }
 
-    /// The same in the text whose bytes a source gives. A match is given before a byte past its end
-    /// is taken; with an empty pattern, before the byte behind its place is.
+    /// Finds non-overlapping matches in the text whose bytes `haystack` yields.
+    ///
+    /// They are the matches of [`Self::find_iter`]. Each is returned before a byte past its end is
+    /// taken; with an empty pattern, before the byte behind its place is taken.
+    ///
+    /// # Conditions
+    ///
+    /// The automaton is for the standard searches: its kind is [`MatchKind::Standard`]. What may be
+    /// read of the source is a condition of the search's `next`.
     #[inline(always)]
     #[tactic(auto, using(daachorse_charwise_states::proofs::DeadLaws::alive))]
     pub fn find_iter_from_iter<'a, P: Iterator<Item = u8>>(
@@ -279,8 +312,14 @@ impl<V: Copy, A: Allocator> CharwiseDoubleArrayAhoCorasick<V, A> {
         )
     }
 
-    /// Finds every match in a haystack, also those that overlap: ends rise, and of the matches
-    /// that end together the longest comes first; equal patterns come in order of registration.
+    /// Finds every match in a haystack, also those that overlap.
+    ///
+    /// Matches come by rising ends. Of those that end together the longest comes first, and equal
+    /// patterns come in order of registration.
+    ///
+    /// # Conditions
+    ///
+    /// The automaton is for the standard searches: its kind is [`MatchKind::Standard`].
     #[inline(always)]
     #[tactic(auto, using(daachorse_charwise_states::proofs::DeadLaws::alive))]
     pub fn find_overlapping_iter<'a>(
@@ -298,8 +337,15 @@ impl<V: Copy, A: Allocator> CharwiseDoubleArrayAhoCorasick<V, A> {
         find_overlapping_in(self.states.standard(), Text::new(haystack))
     }
 
-    /// The same in the text whose bytes a source gives. A match is given before a byte past its end
-    /// is taken.
+    /// Finds every match in the text whose bytes `haystack` yields.
+    ///
+    /// They are the matches of [`Self::find_overlapping_iter`]. Each is returned before a byte past
+    /// its end is taken.
+    ///
+    /// # Conditions
+    ///
+    /// The automaton is for the standard searches: its kind is [`MatchKind::Standard`]. What may be
+    /// read of the source is a condition of the search's `next`.
     #[inline(always)]
     #[tactic(auto, using(daachorse_charwise_states::proofs::DeadLaws::alive))]
     pub fn find_overlapping_iter_from_iter<'a, P: Iterator<Item = u8>>(
@@ -319,8 +365,14 @@ impl<V: Copy, A: Allocator> CharwiseDoubleArrayAhoCorasick<V, A> {
         )
     }
 
-    /// Finds of every match in a haystack the longest at each end; of equal patterns the first
-    /// registered.
+    /// Finds the longest match at each end in a haystack.
+    ///
+    /// Of equal patterns it takes the one that was registered first. Matches come by rising ends,
+    /// and may overlap.
+    ///
+    /// # Conditions
+    ///
+    /// The automaton is for the standard searches: its kind is [`MatchKind::Standard`].
     #[inline(always)]
     #[tactic(auto, using(daachorse_charwise_states::proofs::DeadLaws::alive))]
     pub fn find_overlapping_no_suffix_iter<'a>(
@@ -338,8 +390,15 @@ impl<V: Copy, A: Allocator> CharwiseDoubleArrayAhoCorasick<V, A> {
         find_overlapping_no_suffix_in(self.states.standard(), Text::new(haystack))
     }
 
-    /// The same in the text whose bytes a source gives. A match is given before a byte past its end
-    /// is taken.
+    /// Finds the longest match at each end in the text whose bytes `haystack` yields.
+    ///
+    /// They are the matches of [`Self::find_overlapping_no_suffix_iter`]. Each is returned before a
+    /// byte past its end is taken.
+    ///
+    /// # Conditions
+    ///
+    /// The automaton is for the standard searches: its kind is [`MatchKind::Standard`]. What may be
+    /// read of the source is a condition of the search's `next`.
     #[inline(always)]
     #[tactic(auto, using(daachorse_charwise_states::proofs::DeadLaws::alive))]
     pub fn find_overlapping_no_suffix_iter_from_iter<'a, P: Iterator<Item = u8>>(
@@ -359,10 +418,17 @@ impl<V: Copy, A: Allocator> CharwiseDoubleArrayAhoCorasick<V, A> {
         )
     }
 
-    /// Finds the leftmost matches in a haystack: from the end of the one before each starts as early
-    /// as it can, and there it is the longest pattern that the automaton holds; of equal patterns
-    /// the first registered. For [`MatchKind::LeftmostFirst`], which leaves out each pattern that
-    /// extends an earlier one, it is the earliest registered pattern that starts there.
+    /// Finds non-overlapping matches in a haystack, each of which starts as early as possible.
+    ///
+    /// The search goes on from the end of each match. At a start it takes the longest pattern that
+    /// the automaton holds, and of equal patterns the one that was registered first. For
+    /// [`MatchKind::LeftmostFirst`], which leaves out each pattern that extends an earlier one,
+    /// that is the earliest registered pattern that occurs there. An empty match right behind a
+    /// nonempty one is passed over.
+    ///
+    /// # Conditions
+    ///
+    /// The automaton is for a leftmost search: its kind is not [`MatchKind::Standard`].
     #[inline(always)]
     #[tactic(auto, using(daachorse_charwise_states::proofs::DeadLaws::is_leftmost_automaton))]
     pub fn leftmost_find_iter<'a>(&'a self, haystack: &'a str) -> LeftmostFindIterator<'a, V>
@@ -377,7 +443,11 @@ impl<V: Copy, A: Allocator> CharwiseDoubleArrayAhoCorasick<V, A> {
         LeftmostMatches::new(self.states.leftmost(), Text::new(haystack))
     }
 
-    /// The search of [`Self::find_iter`], one character at a time.
+    /// Starts the search of [`Self::find_iter`], to be given one character at a time.
+    ///
+    /// # Conditions
+    ///
+    /// The automaton is for the standard searches: its kind is [`MatchKind::Standard`].
     #[inline(always)]
     #[tactic(auto, using(daachorse_charwise_states::proofs::DeadLaws::alive))]
     pub fn find_stepper<'a>(&'a self) -> FindStepper<'a, V>
@@ -390,7 +460,11 @@ impl<V: Copy, A: Allocator> CharwiseDoubleArrayAhoCorasick<V, A> {
         FindStepper::new(self.states.standard(), &self.depths)
     }
 
-    /// The search of [`Self::find_overlapping_iter`], one character at a time.
+    /// Starts the search of [`Self::find_overlapping_iter`], to be given one character at a time.
+    ///
+    /// # Conditions
+    ///
+    /// The automaton is for the standard searches: its kind is [`MatchKind::Standard`].
     #[inline(always)]
     #[tactic(auto, using(daachorse_charwise_states::proofs::DeadLaws::alive))]
     pub fn find_overlapping_stepper<'a>(&'a self) -> FindOverlappingStepper<'a, V>

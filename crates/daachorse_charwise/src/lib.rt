@@ -1,4 +1,4 @@
-//! The automaton over characters, under the paths that the facade gives it.
+//! The automaton over characters, its builder, and its searches.
 #![tactic(auto)]
 
 pub mod charwise;

@@ -21,11 +21,11 @@ pub trait EdgeLabel: Copy + Ord + Drop {
     /// The bytes of the label.
     ghost form: { Self → List ℕ };
 
-    /// How many bytes the label takes: 1 to 4.
+    /// Returns how many bytes the label takes: 1 to 4.
     fn num_bytes(&self) -> usize
         ensures { result ≡ width (unit self.now) };
 
-    /// The unit as a number.
+    /// Returns the unit as a number.
     fn code(&self) -> u32
         ensures { result ≡ unit self.now };
 

@@ -11,10 +11,10 @@ use std::alloc::{AllocError, AllocFailed, Allocator, Global};
 use std::error::Error;
 use std::{fmt, result};
 
-/// What daachorse answers, or an error of its own.
+/// A `Result` whose error is [`DaachorseError`] unless another is named.
 pub type Result<T, E = DaachorseError> = result::Result<T, E>;
 
-/// Errors in daachorse.
+/// The errors that the calls of daachorse return.
 #[derive(Clone, Copy, Debug, PartialEq, Eq)]
 pub enum DaachorseError {
     /// A pattern is too long.
@@ -23,13 +23,13 @@ pub enum DaachorseError {
     AutomatonScale(AutomatonScaleError),
     /// The index of a pattern has no value of the type asked for.
     InvalidConversion(InvalidConversionError),
-    /// The bytes are no automaton's.
+    /// The bytes are not those of an automaton.
     InvalidAutomaton(InvalidAutomatonError),
     /// An allocation failed.
     OutOfMemory(OutOfMemoryError),
 }
 
-/// What an automaton has at most so many of.
+/// A limit that an automaton may not exceed.
 #[derive(Clone, Copy, Debug, PartialEq, Eq)]
 pub enum Limit {
     /// 16,777,215 patterns that are kept, over bytes.
@@ -59,7 +59,7 @@ pub struct AutomatonScaleError {
 #[derive(Clone, Copy, Debug, PartialEq, Eq)]
 pub struct InvalidConversionError;
 
-/// The bytes are no automaton's.
+/// The bytes are not those of an automaton.
 #[derive(Clone, Copy, Debug, PartialEq, Eq)]
 pub struct InvalidAutomatonError;
 
@@ -67,7 +67,7 @@ pub struct InvalidAutomatonError;
 #[derive(Clone, Copy, Debug, PartialEq, Eq)]
 pub struct OutOfMemoryError;
 
-/// A pattern was registered twice. No call answers this error.
+/// A pattern was registered twice. No call returns this error.
 #[derive(Debug, Drop)]
 pub struct DuplicatePatternError<A: Allocator = Global> {
     /// The pattern.
@@ -75,28 +75,28 @@ pub struct DuplicatePatternError<A: Allocator = Global> {
 }
 
 impl DaachorseError {
-    /// The refusal of a pattern that is too long.
+    /// Makes the error for a pattern that is too long.
     pub fn invalid_argument() -> DaachorseError
         ensures { result ≡ DaachorseError.InvalidArgument (record {}) }
     {
         DaachorseError::InvalidArgument(InvalidArgumentError)
     }
 
-    /// The refusal of an automaton that would pass a limit.
+    /// Makes the error for an automaton that would pass a limit.
     pub fn automaton_scale(limit: Limit) -> DaachorseError
         ensures { result ≡ DaachorseError.AutomatonScale (record { limit = limit }) }
     {
         DaachorseError::AutomatonScale(AutomatonScaleError { limit })
     }
 
-    /// The refusal of an index that has no value.
+    /// Makes the error for an index that has no value.
     pub fn invalid_conversion() -> DaachorseError
         ensures { result ≡ DaachorseError.InvalidConversion (record {}) }
     {
         DaachorseError::InvalidConversion(InvalidConversionError)
     }
 
-    /// The refusal of bytes that are no automaton's.
+    /// Makes the error for bytes that are not those of an automaton.
     pub fn invalid_automaton() -> DaachorseError
         ensures { result ≡ DaachorseError.InvalidAutomaton (record {}) }
     {

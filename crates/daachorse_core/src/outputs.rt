@@ -20,7 +20,7 @@ pub struct Output<V> {
 }
 
 impl<V: Copy> Output<V> {
-    /// An output with these parts.
+    /// Makes an output of these parts.
     pub fn new(value: V, length: u32, parent: Option<NonZeroU32>) -> Self
         ensures value { value_of result ≡ value }
         ensures length { length_of result ≡ length }
@@ -33,28 +33,32 @@ impl<V: Copy> Output<V> {
         }
     }
 
-    /// The value of the pattern.
+    /// Returns the value of the pattern.
     pub fn value(&self) -> V
         ensures { result ≡ value_of self.now }
     {
         self.value
     }
 
-    /// The length of the pattern, in bytes.
+    /// Returns the length of the pattern, in bytes.
     pub fn length(&self) -> u32
         ensures { result ≡ length_of self.now }
     {
         self.length
     }
 
-    /// The position of the next output of the state, if there is one.
+    /// Returns the position of the next output of the state, if there is one.
     pub fn parent(&self) -> Option<NonZeroU32>
         ensures { number result ≡ parent_of self.now }
     {
         NonZeroU32::new(self.parent)
     }
 
-    /// The output as a match that ends at `end`.
+    /// Returns the output as a match that ends at `end`, a place in bytes.
+    ///
+    /// # Conditions
+    ///
+    /// `end` is at least the length of the pattern.
     pub fn to_match(&self, end: usize) -> Match<V>
         requires { length_of self.now ≤ end }
         ensures { result ≡ record { start = end - length_of self.now; end = end; value = value_of self.now } }

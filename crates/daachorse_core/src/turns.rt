@@ -12,7 +12,7 @@ use std::alloc::AllocError;
 use std::marker::Model;
 use std::snapshot::Snapshot;
 
-/// What a look at one state answers.
+/// What a look at one state returns.
 #[derive(Clone, Copy, Debug, PartialEq, Eq)]
 pub enum Look {
     /// The step ends at this state.
@@ -36,7 +36,7 @@ impl Model for Turns {
 }
 
 impl Turns {
-    /// No turn. It is for a search's own use.
+    /// Makes a count of no turns. It is for a search's own use.
     pub fn new() -> Turns
         ensures { result ≡ 0 }
     {
@@ -106,7 +106,7 @@ impl Model for Seen {
 }
 
 impl Seen {
-    /// Nothing was read. It is for a search's own use.
+    /// Makes the record of a search that has read nothing. It is for a search's own use.
     pub fn new() -> Seen
         ensures { result ≡ unread }
     {
@@ -115,7 +115,7 @@ impl Seen {
         }
     }
 
-    /// One more unit was read, and looked up.
+    /// Notes that one more unit was read, and looked up.
     pub fn push(&mut self, unit: u32)
         ensures { self.new ≡ record self.old { since = self.old.since ++ unit ∷ []; looked = self.old.looked ++ unit ∷ [] } }
     {
@@ -123,7 +123,8 @@ impl Seen {
         self.history = Snapshot::of(&read);
     }
 
-    /// One more unit was read and not looked up: the search begins again at the root behind it.
+    /// Notes that one more unit was read and not looked up: the search begins again at the root
+    /// behind it.
     pub fn skip(&mut self, unit: u32)
         ensures { self.new ≡ record self.old { before = (self.old.before ++ self.old.since) ++ unit ∷ []; since = [] } }
     {
@@ -131,7 +132,7 @@ impl Seen {
         self.history = Snapshot::of(&skip);
     }
 
-    /// The search begins again at the root: its state counts from here on.
+    /// Notes that the search begins again at the root: its state counts from here on.
     pub fn restart(&mut self)
         ensures { self.new ≡ record self.old { before = self.old.before ++ self.old.since; since = [] } }
     {
@@ -139,7 +140,7 @@ impl Seen {
         self.history = Snapshot::of(&restart);
     }
 
-    /// One more match was given.
+    /// Notes that one more match was given.
     pub fn give(&mut self)
         ensures { self.new ≡ record self.old { given = self.old.given + 1 } }
     {

@@ -2,12 +2,12 @@
 
 ghost use Rattle.std.specs.Prelude.{◌≡◌, ℕ};
 
-/// Makes a value of a `u32`, without loss.
+/// A type that holds the value of each `u32`.
 pub trait FromU32 {
     /// The number that the value stands for.
     ghost number: { Self → ℕ };
 
-    /// The value of this number.
+    /// Returns the value of this number.
     fn from_u32(src: u32) -> Self
         ensures { number result ≡ src };
 }

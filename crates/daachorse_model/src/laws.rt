@@ -34,8 +34,8 @@ pub fn matches_follow<V: Copy>(kind: MatchKind)
     ensures leftmost { (width : ℕ → ℕ) (patterns : List (List ℕ × V)) (h : List ℕ) → Follows 0 (leftmost width (dictionary kind patterns) h) }
 {}
 
-/// Each leftmost match is the longest kept pattern that occurs at its start, with the value that was
-/// registered first for it. `LeftmostLongest` keeps every pattern.
+/// Each leftmost match is the longest kept pattern that occurs at its start, with the value that
+/// was registered first for it. `LeftmostLongest` keeps every pattern.
 pub fn leftmost_is_longest<V: Copy>(kind: MatchKind)
     ensures { (width : ℕ → ℕ) (patterns : List (List ℕ × V)) (h : List ℕ)
         → let K = dictionary kind patterns in All (IsLongestAtStart width K h) (leftmost width K h) }
@@ -68,7 +68,8 @@ pub fn ordered_by_bytes()
     ensures { (v w : List ℕ) → slice_cmp nat_cmp v w ≡ slice_cmp nat_cmp (encode_utf8_all v) (encode_utf8_all w) }
 {}
 
-/// The standard matches are, in order, those that the search over each beginning of the haystack ends with.
+/// The standard matches are, in order, those that the search over each beginning of the haystack
+/// ends with.
 pub fn standard_end_by_end<V: Copy>(kind: MatchKind)
     ensures bytes { (patterns : List (List ℕ × V)) (h : List ℕ) → let K = dictionary kind patterns in
         at_each_end (λ t. option_to_list (standard_after byte_width K t)) [] h ≡ standard byte_width K h }

@@ -1,7 +1,8 @@
 //! What the searches mean: the definitions, in `specs/`, and plain slow searches that compute them.
 //!
 //! The layers above take from here the words of their contracts (which values a text has, which
-//! matches a haystack has, what the states of an automaton are) and the lemmas about them, in `proofs/`.
+//! matches a haystack has, what the states of an automaton are) and the lemmas about them, in
+//! `proofs/`.
 #![tactic(auto)]
 
 ghost use Rattle.std.specs.Prelude.{◌≡◌};
@@ -10,30 +11,33 @@ ghost use Rattle.daachorse_model.specs.Kinds.{is_standard, is_leftmost, is_leftm
 /// How matches are found.
 #[derive(Clone, Copy, Debug, PartialEq, Eq, Hash)]
 pub enum MatchKind {
-    /// From the end of the last match the first place where a match ends, and there the longest.
+    /// Finds non-overlapping matches, each of which ends as early as possible; of those that end
+    /// there it finds the longest.
     Standard,
-    /// From the end of the last match the first place where a match starts, and there the longest.
+    /// Finds non-overlapping matches, each of which starts as early as possible; of those that
+    /// start there it finds the longest.
     LeftmostLongest,
-    /// The same start, and there the pattern that was registered first.
+    /// Finds non-overlapping matches, each of which starts as early as possible; of those that
+    /// start there it finds the one whose pattern was registered first.
     LeftmostFirst,
 }
 
 impl MatchKind {
-    /// Whether matches are found by where they end.
+    /// Returns whether matches are found by where they end.
     pub fn is_standard(self) -> bool
         ensures { result ≡ is_standard self }
     {
         matches!(self, MatchKind::Standard)
     }
 
-    /// Whether matches are found by where they start.
+    /// Returns whether matches are found by where they start.
     pub fn is_leftmost(self) -> bool
         ensures { result ≡ is_leftmost self }
     {
         !self.is_standard()
     }
 
-    /// Whether the pattern registered first wins at a start.
+    /// Returns whether the pattern that was registered first wins at a start.
     pub fn is_leftmost_first(self) -> bool
         ensures { result ≡ is_leftmost_first self }
     {
@@ -80,21 +84,21 @@ pub struct Match<V> {
 }
 
 impl<V: Copy> Match<V> {
-    /// Where the match starts, in bytes.
+    /// Returns where the match starts, in bytes.
     pub fn start(&self) -> usize
         ensures { result ≡ self.now.start }
     {
         self.start
     }
 
-    /// Where the match ends, in bytes: one past its last.
+    /// Returns where the match ends, in bytes: one past its last.
     pub fn end(&self) -> usize
         ensures { result ≡ self.now.end }
     {
         self.end
     }
 
-    /// The value of the match's pattern.
+    /// Returns the value of the match's pattern.
     pub fn value(&self) -> V
         ensures { result ≡ self.now.value }
     {

@@ -26,7 +26,7 @@ pub enum Width {
 }
 
 impl Width {
-    /// The bytes that one unit takes.
+    /// Returns how many bytes one unit takes.
     pub fn of(self, unit: u32) -> usize
         ensures { result ≡ width_of self unit }
     {
@@ -39,7 +39,7 @@ impl Width {
         }
     }
 
-    /// The bytes that a text takes.
+    /// Returns how many bytes a text takes.
     pub fn size_of(self, text: &[u32]) -> usize
         ensures { result ≡ size (width_of self) text.now }
     {
@@ -176,9 +176,13 @@ fn search_each_end<V: Copy, A: Allocator + Copy>(
     Ok(found)
 }
 
-/// Every match of the patterns in the haystack, overlapping ones too.
+/// Finds every match of the patterns in the haystack, also those that overlap.
 ///
-/// Ends rise, and at one end the longest pattern comes first. It fails where memory is refused.
+/// Matches come by rising ends, and at one end the longest pattern comes first.
+///
+/// # Errors
+///
+/// An allocation failed.
 pub fn overlapping_slowly<V: Copy, A: Allocator + Copy>(
     alloc: A,
     width: Width,
@@ -190,9 +194,11 @@ pub fn overlapping_slowly<V: Copy, A: Allocator + Copy>(
     search_each_end(alloc, AtEnd::Every, width, patterns, haystack)
 }
 
-/// Of every match the first at each end, which is of the longest pattern there.
+/// Finds the match of the longest pattern at each end.
 ///
-/// It fails where memory is refused.
+/// # Errors
+///
+/// An allocation failed.
 pub fn no_suffix_slowly<V: Copy, A: Allocator + Copy>(
     alloc: A,
     width: Width,
@@ -216,7 +222,8 @@ fn first_value<V: Copy>(patterns: &[(&[u32], V)], text: &[u32]) -> Option<V>
     None
 }
 
-/// From the end of the last match the first end, and there the longest pattern: where none is empty.
+/// From the end of the last match the first end, and there the longest pattern: where none is
+/// empty.
 fn search_nonempty<V: Copy, A: Allocator + Copy>(
     alloc: A,
     width: Width,
@@ -239,10 +246,13 @@ fn search_nonempty<V: Copy, A: Allocator + Copy>(
     Ok(found)
 }
 
-/// Matches that do not overlap: from the end of the last one the first end, and there the longest
-/// pattern. With an empty pattern: one empty match at each boundary.
+/// Finds non-overlapping matches, each of which ends as early as possible, and there the longest.
 ///
-/// It fails where memory is refused.
+/// With an empty pattern there is one empty match at each boundary.
+///
+/// # Errors
+///
+/// An allocation failed.
 pub fn standard_slowly<V: Copy, A: Allocator + Copy>(
     alloc: A,
     width: Width,

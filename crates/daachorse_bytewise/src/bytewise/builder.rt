@@ -23,10 +23,10 @@ use daachorse_patterns::trie::build_trie;
 use std::alloc::Allocator;
 use std::marker::Model;
 
-/// An automaton may hold so many patterns.
+/// The greatest number of patterns that an automaton may hold.
 const MAX_PATTERNS: usize = 0x00ff_ffff;
 
-/// Builder of [`DoubleArrayAhoCorasick`].
+/// A builder of [`DoubleArrayAhoCorasick`].
 #[derive(Drop)]
 pub struct DoubleArrayAhoCorasickBuilder {
     match_kind: MatchKind,
@@ -48,14 +48,14 @@ impl Default for DoubleArrayAhoCorasickBuilder {
 
     ghost is_default = { λ b. b ≡ Standard };
 
-    /// The builder that [`DoubleArrayAhoCorasickBuilder::new`] makes.
+    /// Makes the builder that [`DoubleArrayAhoCorasickBuilder::new`] makes.
     fn default() -> Self {
         Self::new()
     }
 }
 
 impl DoubleArrayAhoCorasickBuilder {
-    /// A builder of automata for the standard searches.
+    /// Makes a builder of automata for the standard searches.
     pub fn new() -> Self
         ensures { result ≡ Standard }
     {
@@ -64,7 +64,7 @@ impl DoubleArrayAhoCorasickBuilder {
         }
     }
 
-    /// The builder of automata for searches of this kind.
+    /// Sets the kind of searches that the automaton is built for.
     pub fn match_kind(mut self, kind: MatchKind) -> Self
         ensures { result ≡ kind }
     {
@@ -72,13 +72,19 @@ impl DoubleArrayAhoCorasickBuilder {
         self
     }
 
-    /// Makes an automaton of these patterns. Pattern `i`, counted from 0, has the value that the
-    /// index `i` is converted to. Equal patterns are all kept.
+    /// Builds an automaton of these patterns.
+    ///
+    /// Pattern `i`, counted from 0, has the value that the index `i` converts to. Equal patterns
+    /// are all kept. The automaton keeps `alloc` and takes its memory from it.
+    ///
+    /// # Conditions
+    ///
+    /// The iterator over the patterns ends.
     ///
     /// # Errors
     ///
-    /// `InvalidConversion` where an index has no value: all are converted before the first pattern
-    /// is added. Then those of [`DoubleArrayAhoCorasickBuilder::build_with_values`].
+    /// `InvalidConversion` where an index has no value: all indexes are converted before the first
+    /// pattern is added. Then the errors of [`DoubleArrayAhoCorasickBuilder::build_with_values`].
     pub fn build<'p, V, A: Allocator + Copy, P: IntoIterator<Item = &'p [u8]>>(
         self,
         alloc: A,
@@ -100,8 +106,14 @@ impl DoubleArrayAhoCorasickBuilder {
         from_texts(alloc, self.match_kind, &texts)
     }
 
-    /// Makes an automaton of these patterns, each with its value. Equal patterns are all kept, in
-    /// order, and so are equal values.
+    /// Builds an automaton of these patterns, each with its value.
+    ///
+    /// Equal patterns are all kept, in order, and so are equal values. The automaton keeps `alloc`
+    /// and takes its memory from it.
+    ///
+    /// # Conditions
+    ///
+    /// The iterator over the patterns ends.
     ///
     /// # Errors
     ///

@@ -19,55 +19,68 @@ use daachorse_search::overlapping::{NoSuffixWalk, OverlappingWalk};
 use daachorse_search::{find_stepper, haystack, overlapping_stepper, source};
 pub use patterns::PatternIterator;
 
-/// Matches in a slice that do not overlap: each ends as early as it can, and at that end it is the
-/// longest. With an empty pattern there is one empty match at each boundary.
+/// An iterator over non-overlapping matches in a slice, each of which ends as early as possible.
+///
+/// Of the matches that end together it gives the longest. With an empty pattern there is one empty
+/// match at each boundary.
 pub type FindSliceIterator<'a, V> = Matches<V, FindWalk<V, Standard<'a, V>>, haystack::Bytes<'a>>;
 
-/// The same in what a source gives. It takes no byte past the end of the match that it gives.
+/// An iterator over non-overlapping matches in the bytes that a source yields.
+///
+/// It takes no byte past the end of the match that it returns.
 pub type FindIterator<'a, P, V> = MatchesFrom<V, FindWalk<V, Standard<'a, V>>, source::Bytes<P>>;
 
-/// All matches in a slice: ends rise, and of those that end together the longest comes first.
+/// An iterator over all matches in a slice, by rising ends.
+///
+/// Of the matches that end together the longest comes first.
 pub type FindOverlappingSliceIterator<'a, V> = Matches<
     V,
     OverlappingWalk<V, Standard<'a, V>>,
     haystack::Bytes<'a>,
 >;
 
-/// The same in what a source gives. It takes no byte past the end of the match that it gives.
+/// An iterator over all matches in the bytes that a source yields.
+///
+/// It takes no byte past the end of the match that it returns.
 pub type FindOverlappingIterator<'a, P, V> = MatchesFrom<
     V,
     OverlappingWalk<V, Standard<'a, V>>,
     source::Bytes<P>,
 >;
 
-/// Of all matches in a slice the longest at each end; of equal patterns the first registered.
+/// An iterator over the longest match at each end in a slice.
+///
+/// Of equal patterns it gives the one that was registered first.
 pub type FindOverlappingNoSuffixSliceIterator<'a, V> = Matches<
     V,
     NoSuffixWalk<V, Standard<'a, V>>,
     haystack::Bytes<'a>,
 >;
 
-/// The same in what a source gives. It takes no byte past the end of the match that it gives.
+/// An iterator over the longest match at each end in the bytes that a source yields.
+///
+/// It takes no byte past the end of the match that it returns.
 pub type FindOverlappingNoSuffixIterator<'a, P, V> = MatchesFrom<
     V,
     NoSuffixWalk<V, Standard<'a, V>>,
     source::Bytes<P>,
 >;
 
-/// The leftmost matches in a slice: from the end of the one before each starts as early as it can,
-/// and there it is the longest that the automaton holds.
+/// An iterator over non-overlapping matches in a slice, each of which starts as early as possible.
+///
+/// At a start it gives the longest pattern that the automaton holds.
 pub type LeftmostFindIterator<'a, V> = LeftmostMatches<V, Leftmost<'a, V>, haystack::Bytes<'a>>;
 
-/// The search for matches that do not overlap, one byte at a time.
+/// A search for non-overlapping matches that is given one byte at a time.
 pub type FindStepper<'a, V> = find_stepper::FindStepper<'a, V, Standard<'a, V>>;
 
-/// The search for all matches, one byte at a time.
+/// A search for all matches that is given one byte at a time.
 pub type FindOverlappingStepper<'a, V> = overlapping_stepper::FindOverlappingStepper<
     'a,
     V,
     Standard<'a, V>,
 >;
 
-/// The matches that end with the bytes that a stepper consumed, the longest first. It keeps its
-/// place while the stepper goes on.
+/// An iterator over the matches that end with the bytes that a stepper consumed, the longest first.
+/// It keeps its place while the stepper goes on.
 pub type FindOverlappingStepperIterator<'a, V> = EndingHere<V, Standard<'a, V>>;

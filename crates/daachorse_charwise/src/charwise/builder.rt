@@ -23,7 +23,7 @@ use daachorse_patterns::trie::build_trie;
 use std::alloc::Allocator;
 use std::marker::Model;
 
-/// Builder of [`CharwiseDoubleArrayAhoCorasick`].
+/// A builder of [`CharwiseDoubleArrayAhoCorasick`].
 #[derive(Drop)]
 pub struct CharwiseDoubleArrayAhoCorasickBuilder {
     match_kind: MatchKind,
@@ -45,14 +45,14 @@ impl Default for CharwiseDoubleArrayAhoCorasickBuilder {
 
     ghost is_default = { λ b. b ≡ Standard };
 
-    /// The builder that [`CharwiseDoubleArrayAhoCorasickBuilder::new`] makes.
+    /// Makes the builder that [`CharwiseDoubleArrayAhoCorasickBuilder::new`] makes.
     fn default() -> Self {
         Self::new()
     }
 }
 
 impl CharwiseDoubleArrayAhoCorasickBuilder {
-    /// A builder of automata for the standard searches.
+    /// Makes a builder of automata for the standard searches.
     pub fn new() -> Self
         ensures { result ≡ Standard }
     {
@@ -61,7 +61,7 @@ impl CharwiseDoubleArrayAhoCorasickBuilder {
         }
     }
 
-    /// The builder of automata for searches of this kind.
+    /// Sets the kind of searches that the automaton is built for.
     pub fn match_kind(mut self, kind: MatchKind) -> Self
         ensures { result ≡ kind }
     {
@@ -69,13 +69,20 @@ impl CharwiseDoubleArrayAhoCorasickBuilder {
         self
     }
 
-    /// Makes an automaton of these patterns. Pattern `i`, counted from 0, has the value that the
-    /// index `i` is converted to. Equal patterns are all kept.
+    /// Builds an automaton of these patterns.
+    ///
+    /// Pattern `i`, counted from 0, has the value that the index `i` converts to. Equal patterns
+    /// are all kept. The automaton keeps `alloc` and takes its memory from it.
+    ///
+    /// # Conditions
+    ///
+    /// The iterator over the patterns ends.
     ///
     /// # Errors
     ///
-    /// `InvalidConversion` where an index has no value: all are converted before the first pattern
-    /// is added. Then those of [`CharwiseDoubleArrayAhoCorasickBuilder::build_with_values`].
+    /// `InvalidConversion` where an index has no value: all indexes are converted before the first
+    /// pattern is added. Then the errors of
+    /// [`CharwiseDoubleArrayAhoCorasickBuilder::build_with_values`].
     pub fn build<'p, V, A: Allocator + Copy, P: IntoIterator<Item = &'p str>>(
         self,
         alloc: A,
@@ -97,17 +104,23 @@ impl CharwiseDoubleArrayAhoCorasickBuilder {
         from_texts(alloc, self.match_kind, &texts)
     }
 
-    /// Makes an automaton of these patterns, each with its value. Equal patterns are all kept, in
-    /// order, and so are equal values.
+    /// Builds an automaton of these patterns, each with its value.
+    ///
+    /// Equal patterns are all kept, in order, and so are equal values. The automaton keeps `alloc`
+    /// and takes its memory from it.
+    ///
+    /// # Conditions
+    ///
+    /// The iterator over the patterns ends.
     ///
     /// # Errors
     ///
     /// The patterns are added in order: `InvalidArgument` for one of more than 4,294,967,295 bytes,
     /// and `AutomatonScale` for one with which there are more than 4,294,967,295 texts that begin a
-    /// pattern. After the last, `AutomatonScale` for more than 4,294,967,295 outputs, and then where
-    /// the double array would need more elements than there are whole blocks of below
-    /// 4,294,967,296; a block is as long as the least power of two that is at least 2 and at least
-    /// the number of characters of the patterns. `OutOfMemory` where an allocation fails.
+    /// pattern. After the last, `AutomatonScale` for more than 4,294,967,295 outputs, and then
+    /// where the double array would need 4,294,967,296 elements or more, in whole blocks; a block
+    /// is as long as the least power of two that is at least 2 and at least the number of
+    /// characters of the patterns. `OutOfMemory` where an allocation fails.
     pub fn build_with_values<'p, V, A: Allocator + Copy, P: IntoIterator<Item = (&'p str, V)>>(
         self,
         alloc: A,

@@ -152,10 +152,13 @@ fn search_starts<V: Copy, A: Allocator>(
     Ok(found)
 }
 
-/// Matches that do not overlap: from the end of the last one the first start, and there the longest
-/// pattern that counts by `kind`: under `LeftmostFirst` none that extends an earlier one.
+/// Finds non-overlapping matches, each of which starts as early as possible, and there the longest.
 ///
-/// It fails where memory is refused.
+/// By `kind` some patterns do not count: under `LeftmostFirst` each that extends an earlier one.
+///
+/// # Errors
+///
+/// An allocation failed.
 pub fn leftmost_slowly<V: Copy, A: Allocator + Copy>(
     alloc: A,
     kind: MatchKind,

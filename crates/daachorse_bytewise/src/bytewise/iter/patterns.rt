@@ -6,11 +6,10 @@ use daachorse_listing::patterns::PatternWalk;
 use std::alloc::{Allocator, Global};
 use std::marker::Model;
 
-/// All patterns that an automaton holds, each with its value: in byte order, and equal ones in
-/// order of registration.
+/// An iterator over all patterns that an automaton holds, each with its value.
 ///
-/// Each pattern is given in memory of its own. Where that is refused there is one error, and then
-/// the end.
+/// They come in byte order, and equal ones in order of registration. Each pattern is a vector in
+/// memory of its own. Where an allocation fails there is one error, and then the end.
 #[derive(Drop)]
 pub struct PatternIterator<'a, V: Copy, A: Allocator = Global> {
     pub(crate) walk: PatternWalk<V, &'a States<V, A>, A>,

@@ -11,11 +11,11 @@ use daachorse_listing::patterns::PatternWalk;
 use std::alloc::{Allocator, Global};
 use std::marker::Model;
 
-/// All patterns that an automaton holds, each with its value: in byte order, which is the order of
-/// the characters, and equal ones in order of registration.
+/// An iterator over all patterns that an automaton holds, each with its value.
 ///
-/// Each pattern is given in memory of its own. Where that is refused there is one error, and then
-/// the end.
+/// They come in byte order, which is the order of their characters, and equal ones in order of
+/// registration. Each pattern is a string in memory of its own. Where an allocation fails there is
+/// one error, and then the end.
 #[derive(Drop)]
 pub struct PatternIterator<'a, V: Copy, A: Allocator = Global> {
     pub(crate) walk: PatternWalk<V, Elements<'a, V, A>, A>,
@@ -58,7 +58,7 @@ impl<'a, V: Copy, A: Allocator + Copy> Iterator for PatternIterator<'a, V, A> {
     }
 }
 
-/// The text of these characters.
+/// Makes the text of these characters.
 fn text_of<A: Allocator>(alloc: A, characters: &[char]) -> Result<String<A>>
     ensures ok { IfOk result (λ text. chars (string_bytes text) ≡ characters.now) }
     ensures err { IfErr result IsOutOfMemory }

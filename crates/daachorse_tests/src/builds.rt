@@ -6,7 +6,9 @@ ghost use Rattle.daachorse_model.specs.declared.MatchKind.TheVariants.{Standard}
 
 use daachorse::edge_map::EdgeMap;
 use daachorse::errors::DaachorseError;
-use daachorse::{DoubleArrayAhoCorasick, DoubleArrayAhoCorasickBuilder, Match, MatchKind, Result};
+use daachorse::{
+    DoubleArrayAhoCorasick, DoubleArrayAhoCorasickBuilder, Empty, Match, MatchKind, Result,
+};
 use refusing::Refusing;
 use std::alloc::{Allocator, Global};
 use std::test::Fail;
@@ -155,6 +157,19 @@ fn an_index_without_a_value_is_refused(rt: HostRuntime) -> Result<(), Fail> {
     for (i, found) in matches.iter().enumerate() {
         assert_eq!(rt; usize::from(found.value), i);
     }
+    Ok(())
+}
+
+#[test]
+fn every_index_is_an_empty_value(rt: HostRuntime) -> Result<(), Fail> {
+    let patterns = [b"a".as_slice(); 300];
+    let automaton = DoubleArrayAhoCorasick::<Empty>::new(rt.alloc(), patterns.iter().copied())?;
+    let matches: Vec<Match<Empty>> = automaton.find_overlapping_iter(b"a").collect(rt.alloc())?;
+    assert_eq!(rt; matches.len(), 300);
+    let builder = DoubleArrayAhoCorasickBuilder::new().match_kind(MatchKind::Standard);
+    let automaton = builder.build::<Empty, _, _>(rt.alloc(), patterns.iter().copied())?;
+    let matches: Vec<Match<Empty>> = automaton.find_overlapping_iter(b"a").collect(rt.alloc())?;
+    assert_eq!(rt; matches.len(), 300);
     Ok(())
 }
 

@@ -8,7 +8,7 @@ ghost use Rattle.daachorse_model.specs.declared.MatchKind.TheVariants.{Standard}
 use daachorse::errors::DaachorseError;
 use daachorse::{
     CharwiseDoubleArrayAhoCorasick, CharwiseDoubleArrayAhoCorasickBuilder, DoubleArrayAhoCorasick,
-    Match, MatchKind, Result,
+    Empty, Match, MatchKind, Result,
 };
 use refusing::Refusing;
 use std::alloc::{AllocError, Allocator, Global};
@@ -78,6 +78,22 @@ fn find_no_suffix_in_bytes(
     automaton
         .find_overlapping_no_suffix_iter_from_iter(text.bytes())
         .collect(alloc)
+}
+
+#[test]
+fn every_index_is_an_empty_value(rt: HostRuntime) -> Result<(), Fail> {
+    let patterns = ["あ"; 300];
+    let automaton = CharwiseDoubleArrayAhoCorasick::<Empty>::new(
+        rt.alloc(),
+        patterns.iter().copied(),
+    )?;
+    let matches: Vec<Match<Empty>> = automaton.find_overlapping_iter("あ").collect(rt.alloc())?;
+    assert_eq!(rt; matches.len(), 300);
+    let builder = CharwiseDoubleArrayAhoCorasickBuilder::new().match_kind(MatchKind::Standard);
+    let automaton = builder.build::<Empty, _, _>(rt.alloc(), patterns.iter().copied())?;
+    let matches: Vec<Match<Empty>> = automaton.find_overlapping_iter("あ").collect(rt.alloc())?;
+    assert_eq!(rt; matches.len(), 300);
+    Ok(())
 }
 
 #[test]

@@ -1,5 +1,5 @@
-//! Tests that cross the crates, by the paths of `daachorse`: worked rows of what is built and of what
-//! the searches find, refusals and their texts, and each growth refused in turn.
+//! Tests that cross the crates, by the paths of `daachorse`: each public path, worked rows of what is
+//! built and of what the searches find, refusals and their texts, and each growth refused in turn.
 #![tactic(auto)]
 
 #[cfg(test)]
@@ -10,5 +10,7 @@ mod charwise;
 mod leftmost;
 #[cfg(test)]
 mod listing;
+#[cfg(test)]
+mod paths;
 #[cfg(test)]
 mod standard;

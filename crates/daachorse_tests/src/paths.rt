@@ -1,0 +1,109 @@
+//! The public paths of `daachorse`: each name that users have stands there, and a state can be
+//! looked at by them.
+
+ghost use Rattle.std.specs.Prelude.{◌≡◌, IfOk};
+ghost use Rattle.daachorse_model.specs.declared.MatchKind.TheVariants.{Standard};
+
+use daachorse::MatchKind;
+pub use daachorse::build_helper::{BuildHelper, ListItem, Profile, SiblingGroup, VacantIter};
+use daachorse::bytewise::states::{Automaton, Look, States, Turns};
+pub use daachorse::edge_map::{EdgeMap, Iter, Values};
+use daachorse::errors::Result;
+pub use daachorse::errors::{
+    AutomatonScaleError, DaachorseError, DuplicatePatternError, InvalidArgumentError,
+    InvalidAutomatonError, InvalidConversionError, Limit, OutOfMemoryError,
+};
+pub use daachorse::intpack::{U24, U24nU8};
+pub use daachorse::laws::{
+    leftmost_first_is_earliest, leftmost_is_longest, matches_follow, matches_occur, same_on_text,
+    standard_end_by_end,
+};
+pub use daachorse::nfa_builder::{
+    DEAD_STATE_ID, EdgeLabel, NfaBuilder, NfaBuilderState, ROOT_STATE_ID,
+};
+pub use daachorse::prefilter::{Prefilter, PrefilterBuilder, PrefilterGate};
+pub use daachorse::serializer::{SerializableVec, Table};
+pub use daachorse::utils::FromU32;
+pub use daachorse::{
+    CharwiseDoubleArrayAhoCorasick, CharwiseDoubleArrayAhoCorasickBuilder, DEAD_STATE_IDX,
+    DoubleArrayAhoCorasick, DoubleArrayAhoCorasickBuilder, Empty, Match, Output, ROOT_STATE_IDX,
+    Serializable,
+};
+use daachorse_patterns::trie::build_trie;
+use std::alloc::Global;
+use std::num::NonZeroU32;
+use std::test::Fail;
+
+/// The names of the automaton over bytes.
+mod over_bytes {
+    pub use daachorse::bytewise::builder::DoubleArrayAhoCorasickBuilder;
+    pub use daachorse::bytewise::iter::{
+        FindIterator, FindOverlappingIterator, FindOverlappingNoSuffixIterator,
+        FindOverlappingNoSuffixSliceIterator, FindOverlappingSliceIterator, FindOverlappingStepper,
+        FindOverlappingStepperIterator, FindSliceIterator, FindStepper, LeftmostFindIterator,
+        PatternIterator,
+    };
+    pub use daachorse::bytewise::states::{Leftmost, Seen, Standard, State};
+    pub use daachorse::bytewise::{
+        DoubleArrayAhoCorasick, DoubleArrayAhoCorasickBuilder as Builder,
+    };
+}
+
+/// The names of the automaton over characters.
+mod over_characters {
+    pub use daachorse::charwise::builder::CharwiseDoubleArrayAhoCorasickBuilder;
+    pub use daachorse::charwise::iter::{
+        CharWithEndOffsetIterator, FindIterator, FindOverlappingIterator,
+        FindOverlappingNoSuffixIterator, FindOverlappingNoSuffixSliceIterator,
+        FindOverlappingSliceIterator, FindOverlappingStepper, FindOverlappingStepperIterator,
+        FindSliceIterator, FindStepper, LeftmostFindIterator, PatternIterator,
+    };
+    pub use daachorse::charwise::mapper::{CodeMapper, INVALID_CODE};
+    pub use daachorse::charwise::states::{
+        Automaton, Leftmost, Look, Seen, Standard, State, States, Turns,
+    };
+    pub use daachorse::charwise::{
+        CharwiseDoubleArrayAhoCorasick, CharwiseDoubleArrayAhoCorasickBuilder as Builder,
+    };
+}
+
+/// Looks at the root by a label: where that leads, and the position of the root's outputs.
+fn look_at_root<A: Automaton<u32>>(
+    automaton: &A,
+    label: A::Label,
+    turns: &mut Turns,
+) -> (Look, Option<NonZeroU32>) {
+    let root = automaton.root();
+    (
+        automaton.turn(root, label, turns),
+        automaton.output_pos(root),
+    )
+}
+
+/// Looks at the root of an automaton over characters by the code 0.
+fn look_by_code(
+    automaton: &over_characters::Standard<'_, u32>,
+    turns: &mut over_characters::Turns,
+) -> (over_characters::Look, Option<NonZeroU32>) {
+    look_at_root(automaton, 0, turns)
+}
+
+/// The states of an automaton over bytes for the standard searches.
+fn states_of(alloc: Global, patvals: &[(&[u8], u32)]) -> Result<States<u32>>
+    ensures { IfOk result (λ s. s.kind ≡ Standard) }
+{
+    let nfa = build_trie(alloc, MatchKind::Standard, Some(0x00ff_ffff), patvals)?;
+    States::build(alloc, MatchKind::Standard, nfa)
+}
+
+#[test]
+fn a_state_is_looked_at_by_public_paths(rt: HostRuntime) -> Result<(), Fail> {
+    let states = states_of(rt.alloc(), &[(b"a", 7), (b"", 8)])?;
+    let mut turns = Turns::new();
+    let (look, position) = look_at_root(&states.standard(), b'a', &mut turns);
+    assert!(rt; matches!(look, Look::Next(state) if state != daachorse::ROOT_STATE_IDX));
+    assert!(rt; position.is_some());
+    let (look, _) = look_at_root(&states.standard(), b'b', &mut turns);
+    assert_eq!(rt; look, Look::Next(daachorse::ROOT_STATE_IDX));
+    Ok(())
+}

@@ -263,4 +263,3 @@ fn first_vacant<A: Allocator>(elements: &Elements<A>, start: u32) -> u32
 {
     elements.skip_used(start)
 }
-

@@ -17,6 +17,8 @@ mod prefilter;
 mod serializer;
 #[cfg(test)]
 mod slow_searches;
+#[cfg(test)]
+mod trie;
 
 #[cfg(test)]
 use std::hash::{DefaultHasher, Hash, Hasher};

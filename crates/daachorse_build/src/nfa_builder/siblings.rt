@@ -106,6 +106,3 @@ fn weight_of<L: EdgeLabel, V: Copy, A: Allocator>(
     }
     weight
 }
-
-#[cfg(test)]
-mod tests;

@@ -1,17 +1,17 @@
 -- Valid parts are a right machine, so that looks, chains and outputs are those of the dictionary that they hold.
 use Rattle.std.proofs.Common.{◌≡◌, ◌≢◌, Bool, true, false, cond, ℕ, ◌<◌, ◌≤◌, ◌%◌, List, [], length, Option, Some, None, refl, sym, ap, ◌∙◌, subst, arith}
 use Rattle.std.specs.Prelude.{slice_index, unwrap_or}
-use Rattle.daachorse_core.specs.Outputs.{outputs_at}
+use Rattle.std.specs.declared.num.NonZeroU32.{NonZeroU32}
+use Rattle.daachorse_core.specs.Outputs.{number, outputs_at}
 use Rattle.daachorse_core.specs.declared.turns.Look.{Look}
 use Rattle.daachorse_core.specs.declared.turns.Look.TheVariants.{Next, Fail}
 use Rattle.daachorse_model.specs.declared.MatchKind.TheVariants.{Standard}
 use Rattle.daachorse_model.specs.Kinds.{is_leftmost}
 use Rattle.daachorse_model.specs.Units.{byte_width}
-use Rattle.daachorse_model.specs.Outputs.{IsChain}
-use Rattle.daachorse_search.specs.Looks.{LookGives}
+use Rattle.daachorse_core.specs.Looks.{IsFirstOutput, LookGives}
 use Rattle.daachorse_machine.specs.Machines.{IsMachine}
 use Rattle.daachorse_machine.proofs.ChildLaws.{child_at-inside}
-use Rattle.daachorse_machine.proofs.MachineLaws.{Reached-inside, Reached-root, chain-at, position-inside, text-root, root-text, turn-next, turn-root, turn-dead, turn-link, standard-alive}
+use Rattle.daachorse_machine.proofs.MachineLaws.{Reached-inside, Reached-root, first-output, text-root, root-text, turn-next, turn-root, turn-dead, turn-link, standard-alive}
 use Rattle.daachorse_bytewise_states.specs.Parts.{Parts, base_of, check_of, child, content, count, fail_of, machine, output_of}
 use Rattle.daachorse_bytewise_states.specs.Valid.{IsRootTable, IsState, IsValid, dead, text}
 use Rattle.daachorse_bytewise_states.proofs.DeadLaws.{alive}
@@ -61,14 +61,14 @@ module _ {V : Type 0} (p : Parts V) where
 
     -- ---- a look at an element
 
-    pub look_child : (i c j : ℕ) → IsState p i → child p i c ≡ Some j → Gives i c (Next j)
-    look_child i c j r e = turn-next byte_width (machine p) (is_leftmost p.kind) (count p) 256 is_machine i c j r e
+    pub look_child : (i c j : ℕ) → IsState p i → child p i c ≡ Some j → (o : Option NonZeroU32) → Gives i c (Next j o)
+    look_child i c j r e o = turn-next byte_width (machine p) (is_leftmost p.kind) (count p) 256 is_machine i c j r e o
 
-    pub look_root : (i c : ℕ) → IsState p i → child p i c ≡ None → i ≡ 0 → Gives i c (Next 0)
-    look_root i c r e root = turn-root byte_width (machine p) (is_leftmost p.kind) (count p) 256 is_machine i c r e root
+    pub look_root : (i c : ℕ) → IsState p i → child p i c ≡ None → i ≡ 0 → (o : Option NonZeroU32) → Gives i c (Next 0 o)
+    look_root i c r e root o = turn-root byte_width (machine p) (is_leftmost p.kind) (count p) 256 is_machine i c r e root o
 
-    pub look_dead : (i c : ℕ) → IsState p i → child p i c ≡ None → i ≢ 0 → fail_of p i ≡ 1 → Gives i c (Next 0)
-    look_dead i c r e other one = turn-dead byte_width (machine p) (is_leftmost p.kind) (count p) 256 is_machine i c r e other one
+    pub look_dead : (i c : ℕ) → IsState p i → child p i c ≡ None → i ≢ 0 → fail_of p i ≡ 1 → (o : Option NonZeroU32) → Gives i c (Next 0 o)
+    look_dead i c r e other one o = turn-dead byte_width (machine p) (is_leftmost p.kind) (count p) 256 is_machine i c r e other one o
 
     pub look_fail : (i c f : ℕ) → IsState p i → child p i c ≡ None → i ≢ 0 → fail_of p i ≡ f → f ≢ 1 → Gives i c (Fail f)
     look_fail i c f r e other at live = turn-link byte_width (machine p) (is_leftmost p.kind) (count p) 256 is_machine i c f r e other at live
@@ -79,19 +79,18 @@ module _ {V : Type 0} (p : Parts V) where
         look_fail i c f r e other at (λ one. standard-alive byte_width (machine p) (is_leftmost p.kind) (count p) 256 is_machine i r other (alive p standard) (at ∙ one))
 
     -- by the table of the root
-    pub look_table : (root : List ℕ) → IsRootTable (child p 0) 256 root → (i c : ℕ) → IsState p i → c < 256 → i ≡ 0 → Gives i c (Next (slice_index root c))
-    look_table root table i c r byte top =
-        let P : ℕ → Type 0 = λ x. Gives i c (Next x) in
+    pub look_table : (root : List ℕ) → IsRootTable (child p 0) 256 root → (i c : ℕ) → IsState p i → c < 256 → i ≡ 0 → (o : Option NonZeroU32) → Gives i c (Next (slice_index root c) o)
+    look_table root table i c r byte top o =
+        let P : ℕ → Type 0 = λ x. Gives i c (Next x o) in
         subst P (sym (table.right c byte)) (go (child p 0 c) refl)
       where
-        go : (o : Option ℕ) → child p 0 c ≡ o → Gives i c (Next (unwrap_or o 0))
-        go None e = look_root i c r (ap (λ x. child p x c) top ∙ e) top
-        go (Some j) e = look_child i c j r (ap (λ x. child p x c) top ∙ e)
+        go : (j : Option ℕ) → child p 0 c ≡ j → Gives i c (Next (unwrap_or j 0) o)
+        go None e = look_root i c r (ap (λ x. child p x c) top ∙ e) top o
+        go (Some j) e = look_child i c j r (ap (λ x. child p x c) top ∙ e) o
 
     -- ---- outputs
 
-    pub chain_at : (i q : ℕ) → IsState p i → output_of p i ≡ q → IsChain byte_width (content p) (dead p) (text p i) (outputs_at p.outputs q)
-    chain_at i q r at = chain-at byte_width (machine p) (is_leftmost p.kind) (count p) 256 is_machine i q r at
-
-    pub position_inside : (i q : ℕ) → IsState p i → output_of p i ≡ q → q ≤ length p.outputs
-    position_inside i q r at = position-inside byte_width (machine p) (is_leftmost p.kind) (count p) 256 is_machine i q r at
+    -- the first output of an element, as it was read off it
+    pub first_at : (i : ℕ) (o : Option NonZeroU32) → IsState p i → output_of p i ≡ number o
+        → IsFirstOutput byte_width (content p) (dead p) (λ position. position ≤ length p.outputs) (outputs_at p.outputs) (length p.outputs) (text p i) o
+    first_at i o r at = first-output byte_width (machine p) (is_leftmost p.kind) (count p) 256 is_machine i o r at

@@ -115,14 +115,14 @@ impl<'a, V: Copy> Automaton<V> for Leftmost<'a, V> {
         turns.tick();
         let element = &self.states[state as usize];
         if let Some(child) = element.child(label, self.states) {
-            return Look::Next(child);
+            return Look::Next(child, self.output_pos(child));
         }
         if state == ROOT_STATE_IDX {
-            return Look::Next(ROOT_STATE_IDX);
+            return Look::Next(ROOT_STATE_IDX, self.output_pos(ROOT_STATE_IDX));
         }
         let link = self.fails[state as usize];
         if link == DEAD_STATE_IDX {
-            Look::Next(ROOT_STATE_IDX)
+            Look::Next(ROOT_STATE_IDX, self.output_pos(ROOT_STATE_IDX))
         } else {
             Look::Fail(link)
         }

@@ -107,12 +107,13 @@ impl<'a, V: Copy> Automaton<V> for Standard<'a, V> {
     fn turn(&self, state: u32, label: u8, turns: &mut Turns) -> Look {
         turns.tick();
         if state == ROOT_STATE_IDX {
-            return Look::Next(self.root[label as usize]);
+            let child = self.root[label as usize];
+            return Look::Next(child, self.output_pos(child));
         }
         // A copy loads base and link at once, and then its place isn't needed again.
         let element = self.states[state as usize];
         match element.child(label, self.states) {
-            Some(child) => Look::Next(child),
+            Some(child) => Look::Next(child, self.output_pos(child)),
             None => Look::Fail(element.fail()),
         }
     }

@@ -6,7 +6,7 @@ use Rattle.daachorse_model.specs.Kinds.{is_leftmost}
 use Rattle.daachorse_model.specs.Paths.{walk}
 use Rattle.daachorse_model.specs.Prefixes.{IsKey}
 use Rattle.daachorse_model.specs.Units.{char_width}
-use Rattle.daachorse_search.specs.Looks.{IsForeign}
+use Rattle.daachorse_core.specs.Looks.{IsForeign}
 use Rattle.daachorse_machine.specs.Machines.{IsMachine, values_at}
 use Rattle.daachorse_machine.proofs.PathLaws.{and_then_inv}
 use Rattle.daachorse_machine.proofs.MachineLaws.{foreign}

@@ -6,7 +6,7 @@ use Rattle.std.proofs.lemmas.List.{get_or_default}
 use Rattle.daachorse_model.specs.Kinds.{is_leftmost}
 use Rattle.daachorse_model.specs.Units.{char_width}
 use Rattle.daachorse_machine.specs.Machines.{IsMachine}
-use Rattle.daachorse_search.specs.Looks.{IsForeign}
+use Rattle.daachorse_core.specs.Looks.{IsForeign}
 use Rattle.daachorse_machine.proofs.DeadLaws.{kind_standard, none_dead}
 use Rattle.daachorse_machine.proofs.MachineLaws.{Reached-inside, standard-alive}
 use Rattle.daachorse_mapper.specs.Codings.{code_of}

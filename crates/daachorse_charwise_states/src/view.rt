@@ -159,14 +159,14 @@ impl<'a, V: Copy, S: Searches> Automaton<V> for View<'a, V, S> {
         turns.tick();
         let element = &self.states[state as usize];
         if let Some(child) = element.child(state, code, self.states) {
-            return Look::Next(child);
+            return Look::Next(child, self.states[child as usize].output_pos());
         }
         if state == ROOT_STATE_IDX {
-            return Look::Next(ROOT_STATE_IDX);
+            return Look::Next(ROOT_STATE_IDX, self.output_pos(ROOT_STATE_IDX));
         }
         let link = element.fail();
         if S::are_leftmost() && link == DEAD_STATE_IDX {
-            return Look::Next(ROOT_STATE_IDX);
+            return Look::Next(ROOT_STATE_IDX, self.output_pos(ROOT_STATE_IDX));
         }
         Look::Fail(link)
     }

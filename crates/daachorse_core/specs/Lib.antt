@@ -7,3 +7,5 @@ pub mod Texts
 pub mod Counts
 pub mod Refusals
 pub mod Chains
+pub mod Depths
+pub mod Looks

@@ -10,13 +10,14 @@ ghost use Rattle.daachorse_core.specs.Seen.{unread};
 use crate::counter::Counter;
 use std::alloc::AllocError;
 use std::marker::Model;
+use std::num::NonZeroU32;
 use std::snapshot::Snapshot;
 
 /// What a look at one state returns.
 #[derive(Clone, Copy, Debug, PartialEq, Eq)]
 pub enum Look {
-    /// The step ends at this state.
-    Next(u32),
+    /// The step ends at this state. Its first output, if it has one, is at this position.
+    Next(u32, Option<NonZeroU32>),
     /// The failure link leads to this state, which is to be looked at next.
     Fail(u32),
 }

@@ -3,7 +3,7 @@ use Rattle.std.proofs.Common.{◌≡◌, ℕ, ◌<◌, ◌⊎◌, inl, inr, List
 use Rattle.std.specs.Prelude.{slice_get, slice_index}
 use Rattle.std.proofs.lemmas.Option.{slice_get_within, get_or_from_slice_get}
 use Rattle.daachorse_machine.specs.Texts.{IsReached, text_of}
-use Rattle.daachorse_search.specs.Depths.{AreDepths}
+use Rattle.daachorse_core.specs.Depths.{AreDepths}
 use Rattle.daachorse_listing.specs.Depths.{IsDepthTable}
 
 pub table_tells : (child : ℕ → ℕ → Option ℕ) (m n : ℕ) (depths : List ℕ) → (depths ≡ []) ⊎ IsDepthTable child m n depths → AreDepths (λ i. IsReached child m n i) (λ i. text_of child m n i) depths

@@ -2,18 +2,20 @@
 use Rattle.std.proofs.Common.{◌≡◌, ◌≢◌, ℕ, zero, suc, ◌+◌, ◌<◌, ◌≤◌, ◌⊎◌, inl, inr, Bool, true, false, cond, ◌==◌, List, [], ◌∷◌, ◌++◌, map, length, Option, Some, None, refl, sym, ap, ◌∙◌, subst, arith, append_assoc, append-nil, length-append}
 use Rattle.std.proofs.lemmas.Option.{same_Some}
 use Rattle.std.specs.Prelude.{is_some, option_and_then}
-use Rattle.daachorse_core.specs.Outputs.{outputs_at}
+use Rattle.std.specs.declared.num.NonZeroU32.{NonZeroU32}
+use Rattle.daachorse_core.specs.Outputs.{number, outputs_at}
 use Rattle.daachorse_core.specs.declared.turns.Look.TheVariants.{Next, Fail}
 use Rattle.daachorse_model.specs.Units.{size}
 use Rattle.daachorse_model.specs.Paths.{walk, is_reached, Leads}
 use Rattle.daachorse_model.specs.Prefixes.{IsPrefix, IsLink, IsLeftFail, long, left_fail}
 use Rattle.daachorse_model.specs.Outputs.{own_outputs, IsChain, at_root, at_dead, before_link}
 use Rattle.daachorse_model.proofs.Links.{IsDead-not, link-is, left_fail-is}
-use Rattle.daachorse_search.specs.Looks.{IsForeign, LookGives}
+use Rattle.daachorse_core.specs.Looks.{IsFirstOutput, IsForeign, LookGives}
 use Rattle.daachorse_machine.specs.Texts.{text_of, IsReached}
 use Rattle.daachorse_machine.specs.Machines.{Machine, own, values_at, content, element_of, right_fail, dead_in, IsMachine}
 use Rattle.daachorse_machine.proofs.PathLaws.{walk-split, walk-push, element_reached, reached_element, any_child, Leads-inside, Leads-length, text_of-Leads}
 use Rattle.daachorse_machine.proofs.ChainLaws.{outputs_at-own}
+use Rattle.daachorse_machine.proofs.OutputLaws.{outputs_few, outputs_some}
 
 module _ {V : Type 0} (width : ℕ → ℕ) (a : Machine V) (leftmost : Bool) (n m : ℕ) (h : IsMachine width a leftmost n m) where
   -- an element's text is what leads to it
@@ -146,6 +148,13 @@ module _ {V : Type 0} (width : ℕ → ℕ) (a : Machine V) (leftmost : Bool) (n
   pub position-inside : (i q : ℕ) → IsReached a.child m n i → a.output i ≡ q → q ≤ length a.outputs
   position-inside i q r at = let below : a.output i ≤ length a.outputs = h.outputs_inside i (Reached-inside i r) in omega (arith, below, at)
 
+  -- the first output of an element, as it was read off it
+  pub first-output : (i : ℕ) (o : Option NonZeroU32) → IsReached a.child m n i → a.output i ≡ number o
+      → IsFirstOutput width (content width a) (dead_in width a leftmost) (λ position. position ≤ length a.outputs) (outputs_at a.outputs) (length a.outputs) (text_of a.child m n i) o
+  first-output i o r at =
+      let inside = position-inside i (number o) r at in
+      record { place = inside; some = outputs_some a.outputs h.parents_fall o inside; few = outputs_few a.outputs (number o) inside; chain = chain-at i (number o) r at }
+
   -- ---- a look at an element
 
   root_or : (i : ℕ) (w : List ℕ) → Leads a.child w i → (i ≡ 0) ⊎ ((u : ℕ) × (v : List ℕ) × (w ≡ u ∷ v))
@@ -166,16 +175,16 @@ module _ {V : Type 0} (width : ℕ → ℕ) (a : Machine V) (leftmost : Bool) (n
       cc
 
   -- a child is the next element
-  pub turn-next : (i c j : ℕ) → IsReached a.child m n i → a.child i c ≡ Some j
-      → LookGives (content width a) (IsReached a.child m n) (text_of a.child m n) (dead_in width a leftmost) (text_of a.child m n i) c (Next j)
-  turn-next i c j r e =
+  pub turn-next : (i c j : ℕ) → IsReached a.child m n i → a.child i c ≡ Some j → (o : Option NonZeroU32)
+      → LookGives (content width a) (IsReached a.child m n) (text_of a.child m n) (dead_in width a leftmost) (text_of a.child m n i) c (Next j o)
+  turn-next i c j r e o =
       let leads : Leads a.child (text_of a.child m n i ++ c ∷ []) j = walk-push a.child 0 i (text_of a.child m n i) c r ∙ e in
       (Reached-Leads _ j leads, inl (fore _ (reached_element a.child _ j leads), text-Leads _ j leads))
 
   -- the root stays where it has no child
-  pub turn-root : (i c : ℕ) → IsReached a.child m n i → a.child i c ≡ None → i ≡ 0
-      → LookGives (content width a) (IsReached a.child m n) (text_of a.child m n) (dead_in width a leftmost) (text_of a.child m n i) c (Next 0)
-  turn-root i c r none root = (Reached-root, inr (not_prefix i c r none, inl (text-root i root), text-root 0 refl))
+  pub turn-root : (i c : ℕ) → IsReached a.child m n i → a.child i c ≡ None → i ≡ 0 → (o : Option NonZeroU32)
+      → LookGives (content width a) (IsReached a.child m n) (text_of a.child m n) (dead_in width a leftmost) (text_of a.child m n i) c (Next 0 o)
+  turn-root i c r none root o = (Reached-root, inr (not_prefix i c r none, inl (text-root i root), text-root 0 refl))
 
   link_at : (i : ℕ) → IsReached a.child m n i → i ≢ 0 → LinkOf (text_of a.child m n i) (a.fail i)
   link_at i r other = elim (root_or i (text_of a.child m n i) r) [
@@ -186,11 +195,11 @@ module _ {V : Type 0} (width : ℕ → ℕ) (a : Machine V) (leftmost : Bool) (n
   ]
 
   -- a dead link leads to the root
-  pub turn-dead : (i c : ℕ) → IsReached a.child m n i → a.child i c ≡ None → i ≢ 0 → a.fail i ≡ 1
-      → LookGives (content width a) (IsReached a.child m n) (text_of a.child m n) (dead_in width a leftmost) (text_of a.child m n i) c (Next 0)
-  turn-dead i c r none other one = go (link_at i r other)
+  pub turn-dead : (i c : ℕ) → IsReached a.child m n i → a.child i c ≡ None → i ≢ 0 → a.fail i ≡ 1 → (o : Option NonZeroU32)
+      → LookGives (content width a) (IsReached a.child m n) (text_of a.child m n) (dead_in width a leftmost) (text_of a.child m n i) c (Next 0 o)
+  turn-dead i c r none other one o = go (link_at i r other)
     where
-      go : LinkOf (text_of a.child m n i) (a.fail i) → LookGives (content width a) (IsReached a.child m n) (text_of a.child m n) (dead_in width a leftmost) (text_of a.child m n i) c (Next 0)
+      go : LinkOf (text_of a.child m n i) (a.fail i) → LookGives (content width a) (IsReached a.child m n) (text_of a.child m n) (dead_in width a leftmost) (text_of a.child m n i) c (Next 0 o)
       go (to_dead dead is) = (Reached-root, inr (not_prefix i c r none, inr dead, text-root 0 refl))
       go (to_element {s} link alive leads not_one) = absurd (not_one one)
 

@@ -4,7 +4,7 @@ use Rattle.std.specs.Prelude.{slice_index}
 use Rattle.daachorse_model.specs.Dictionary.{Dictionary}
 use Rattle.daachorse_model.specs.Prefixes.{IsLong}
 use Rattle.daachorse_model.proofs.Steps.{IsLong-same}
-use Rattle.daachorse_search.specs.Depths.{AreDepths}
+use Rattle.daachorse_core.specs.Depths.{AreDepths}
 
 pub depth-inside : (reached : ℕ → Type 0) (text : ℕ → List ℕ) (depths : List ℕ) (state : ℕ) → AreDepths reached text depths → depths ≢ [] → reached state → state < length depths
 depth-inside reached text depths state (inl none) some at = absurd (some none)

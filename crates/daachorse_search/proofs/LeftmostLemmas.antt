@@ -126,6 +126,11 @@ module _ {V : Type 0} (width : ℕ → ℕ) (K : Dictionary V) where
           → outputs position ≡ (value, len) ∷ more → len ≤ place + end
       output_fits rest place position end turns next value len more best is = omega (arith, (output_of rest position end turns next value len more best is).0, best.ends, size-append width best.front best.key)
 
+      -- a best that ends where the scan began is empty
+      pub ends_at_once : (rest : List ℕ) (position end turns next : ℕ) (value : V) (len : ℕ) (more : List (V × ℕ)) → IsTheBest width K has_output outputs has_label rest position end turns next
+          → outputs position ≡ (value, len) ∷ more → end ≤ 0 → len ≤ 0
+      ends_at_once rest position end turns next value len more best is none = omega (arith, none, (output_of rest position end turns next value len more best is).0, best.ends, size-append width best.front best.key)
+
       -- at a nonempty best: where the key takes bytes it has units
       pub gives_key : (whole rest later : List ℕ) (place position end : ℕ) (after : Bool) (turns next given : ℕ) (value : V) (len : ℕ) (more : List (V × ℕ)) → IsResting width K dead has_label whole rest place after false turns given
           → IsTheBest width K has_output outputs has_label rest position end turns next → outputs position ≡ (value, len) ∷ more → 0 < len
@@ -163,6 +168,19 @@ module _ {V : Type 0} (width : ℕ → ℕ) (K : Dictionary V) where
               )
 
       module _ (wide : (u : ℕ) → 1 ≤ width u) where
+        -- a best that ends behind where the scan began takes bytes, since an empty key would have been the best there
+        pub ends_behind : (rest : List ℕ) (position end turns next : ℕ) (value : V) (len : ℕ) (more : List (V × ℕ)) → IsTheBest width K has_output outputs has_label rest position end turns next
+            → outputs position ≡ (value, len) ∷ more → 0 < end → 0 < len
+        ends_behind rest position end turns next value len more best is some = at_front best.key refl best.front refl
+          where
+            at_front : (k : List ℕ) → best.key ≡ k → (f : List ℕ) → best.front ≡ f → 0 < len
+            at_front (u ∷ k) e f e' = let out = output_of rest position end turns next value len more best is in omega (arith, out.0, ap (size width) e, wide u)
+            at_front [] e (u ∷ f) e' =
+                let out = output_of rest position end turns next value len more best is in
+                let key : K [] ≢ [] = λ bad. (let both : value ∷ out.1.0 ≡ [] = sym out.1.1 ∙ (ap K e ∙ bad) in cc) in
+                absurd (elim (best.best.least [] [] rest (record { parts = refl; key = key })) [ inl p ↦ omega (arith, p) | inr q ↦ omega (arith, q.0, ap length e') ])
+            at_front [] e [] e' = absurd (omega (arith, some, best.ends, size-append width best.front best.key, ap (size width) e, ap (size width) e'))
+
         -- an empty best stands where the scan began
         empty_best : (rest : List ℕ) (position end turns next : ℕ) (value : V) (len : ℕ) (more : List (V × ℕ)) → (best : IsTheBest width K has_output outputs has_label rest position end turns next)
             → outputs position ≡ (value, len) ∷ more → len ≤ 0 → (length best.front ≡ 0) × (end ≡ 0) × (longest_key K [] rest ≡ Some ([], value))

@@ -2,13 +2,18 @@
 use Rattle.std.proofs.Common.{◌≡◌, ℕ, ◌+◌, ◌≤◌, Bool, cond, List, [], ◌∷◌, ◌++◌, length, sym, ap, ◌∙◌, subst, append_assoc, append-nil, length-append, arith}
 use Rattle.std.specs.Prelude.{count_by}
 use Rattle.std.proofs.lemmas.List.Sums.{sum_by_push}
+use Rattle.std.specs.Prelude.{Option}
+use Rattle.std.specs.declared.num.NonZeroU32.{NonZeroU32}
+use Rattle.daachorse_core.specs.Outputs.{number}
 use Rattle.daachorse_core.specs.Seen.{SeenUnits, units}
 use Rattle.daachorse_model.specs.Units.{size}
 use Rattle.daachorse_model.specs.Dictionary.{Dictionary}
 use Rattle.daachorse_model.specs.Prefixes.{IsLong}
-use Rattle.daachorse_model.proofs.Suffixes.{size-push}
+use Rattle.daachorse_model.proofs.Chains.{AllWithin-IsChain, ending_at-IsChain}
+use Rattle.daachorse_model.proofs.Suffixes.{IsSuffix-append, size-push}
 use Rattle.daachorse_model.proofs.Steps.{IsLong-nil, IsLong-step}
-use Rattle.daachorse_search.specs.Walks.{IsWalking, read_on, skip_on}
+use Rattle.daachorse_core.specs.Looks.{IsFirstOutput}
+use Rattle.daachorse_search.specs.Walks.{HasOutputs, IsWalking, read_on, skip_on}
 
 -- all units, after more were read
 pub units-read_on : (s : SeenUnits) (more : List ℕ) → units (read_on s more) ≡ units s ++ more
@@ -61,3 +66,13 @@ module _ {V : Type 0} (width : ℕ → ℕ) (K : Dictionary V) (reached : ℕ �
         most = omega (arith, was.most, many, ap length empty);
         least = omega (arith, was.least, ap (λ s. count_by has_label s.looked) skipped');
       }
+
+  -- the first output of a walk's state is that of all that was read since the walk last began at the root
+  pub HasOutputs-first : (has_output : ℕ → Type 0) (outputs : ℕ → List (V × ℕ)) (few : ℕ) (seen : SeenUnits) (state place turns : ℕ) (position : Option NonZeroU32)
+      → IsWalking width K reached text dead has_label seen state place turns → IsFirstOutput width K dead has_output outputs few (text state) position → HasOutputs width K has_output outputs few seen (number position)
+  HasOutputs-first has_output outputs few seen state place turns position walking first = record {
+    place = first.place;
+    few = first.few;
+    fits = AllWithin-IsChain width K dead walking.alive (units seen) (text state) _ (IsSuffix-append seen.before (text state) seen.since walking.long.ends) first.chain;
+    matches = ending_at-IsChain width K dead walking.alive seen.before seen.since (text state) _ walking.long first.chain;
+  }

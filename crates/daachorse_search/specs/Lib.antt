@@ -1,7 +1,5 @@
 pub mod Everywhere
-pub mod Looks
 pub mod Walks
-pub mod Depths
 pub mod Nothing
 pub mod Sources
 pub mod ByteSources

@@ -10,9 +10,8 @@ ghost use Rattle.std.specs.Prelude.{◌≡◌, ◌+◌, ◌≤◌, ◌<◌, ℕ,
 ghost use Rattle.daachorse_model.specs.Dictionary.{Dictionary};
 ghost use Rattle.daachorse_model.specs.Best.{IsLeftmost, IsSteady, LeftSteps};
 ghost use Rattle.daachorse_model.specs.Prefixes.{IsCut, IsLong};
-ghost use Rattle.daachorse_model.specs.Outputs.{IsChain};
-ghost use Rattle.daachorse_core.specs.Outputs.{number, value_of, length_of, parent_of};
-ghost use Rattle.daachorse_search.specs.Looks.{IsForeign, LookGives};
+ghost use Rattle.daachorse_core.specs.Outputs.{value_of, length_of, parent_of};
+ghost use Rattle.daachorse_core.specs.Looks.{IsFirstOutput, IsForeign, LookGives, TellsOutput};
 
 use daachorse_core::Output;
 use daachorse_core::edge_label::EdgeLabel;
@@ -71,20 +70,19 @@ pub trait Automaton<V: Copy>: Drop {
         ensures { MatchOption result ((has_label self.now (Self.Unit.unit unit) ≡ false) × IsForeign (content self.now) (Self.Unit.unit unit))
             (λ label. labels self.now label (Self.Unit.unit unit) × (has_label self.now (Self.Unit.unit unit) ≡ true)) };
 
-    /// Looks at one state.
+    /// Looks at one state. Where the step ends, it tells the first output of the state there.
     fn turn(&self, state: u32, label: Self::Label, turns: &mut Turns) -> Look
         requires { reached self.now state }
         ensures look { (unit : ℕ) → labels self.now label unit
             → LookGives (content self.now) (reached self.now) (text self.now) (dead self.now) (text self.now state) unit result }
+        ensures output { (unit : ℕ) → labels self.now label unit
+            → TellsOutput Self.Unit.width (content self.now) (dead self.now) (has_output self.now) (outputs self.now) (most_outputs self.now) (text self.now) result }
         ensures counted { turns.new ≡ turns.old + 1 };
 
     /// The position of a state's first output.
     fn output_pos(&self, state: u32) -> Option<NonZeroU32>
         requires { reached self.now state }
-        ensures place { has_output self.now (number result) }
-        ensures some { IfSome result (λ position. 0 < length (outputs self.now position.value)) }
-        ensures most { length (outputs self.now (number result)) ≤ most_outputs self.now }
-        ensures chain { IsChain Self.Unit.width (content self.now) (dead self.now) (text self.now state) (outputs self.now (number result)) };
+        ensures { IsFirstOutput Self.Unit.width (content self.now) (dead self.now) (has_output self.now) (outputs self.now) (most_outputs self.now) (text self.now state) result };
 
     /// The output at a position.
     fn output(&self, position: NonZeroU32) -> Output<V>
@@ -101,34 +99,37 @@ pub trait Automaton<V: Copy>: Drop {
     ghost no_output: { (a : Self) → has_output a 0 × (outputs a 0 ≡ []) };
 }
 
-/// The state after one more unit; in a leftmost automaton the root where no match that goes on past
-/// the unit starts as early as the best so far. A unit with no label leads to the root with no turn.
+/// The state after one more unit, and the position of its first output; in a leftmost automaton the
+/// root where no match that goes on past the unit starts as early as the best so far. A unit with no
+/// label leads to the root with no turn.
 #[inline(always)]
 pub fn step<V: Copy, A: Automaton<V>>(
     automaton: &A,
     state: u32,
     unit: A::Unit,
     turns: &mut Turns,
-) -> u32
+) -> (u32, Option<NonZeroU32>)
     requires { A.reached automaton.now state }
-    ensures reached { A.reached automaton.now result }
+    ensures reached { A.reached automaton.now result.0 }
+    ensures output { IsFirstOutput A.Unit.width (A.content automaton.now) (A.dead automaton.now) (A.has_output automaton.now) (A.outputs automaton.now) (A.most_outputs automaton.now) (A.text automaton.now result.0) result.1 }
     ensures standard { ((w : List ℕ) → ¬ A.dead automaton.now w)
-        → IsLong (A.content automaton.now) (A.text automaton.now state ++ A.Unit.unit unit ∷ []) (A.text automaton.now result) }
+        → IsLong (A.content automaton.now) (A.text automaton.now state ++ A.Unit.unit unit ∷ []) (A.text automaton.now result.0) }
     ensures leftmost { IsLeftmost (A.content automaton.now) (A.dead automaton.now) → (w : List ℕ) → IsSteady (A.content automaton.now) w (A.text automaton.now state)
-        → LeftSteps (A.content automaton.now) w (A.Unit.unit unit) (A.text automaton.now result) }
+        → LeftSteps (A.content automaton.now) w (A.Unit.unit unit) (A.text automaton.now result.0) }
     ensures cut { IsLeftmost (A.content automaton.now) (A.dead automaton.now) → (w : List ℕ) → IsSteady (A.content automaton.now) w (A.text automaton.now state)
-        → IsCut (A.content automaton.now) (w ++ A.Unit.unit unit ∷ []) (A.text automaton.now result) }
-    ensures most { turns.new + length (A.text automaton.now result) ≤ turns.old + length (A.text automaton.now state) + 2 }
+        → IsCut (A.content automaton.now) (w ++ A.Unit.unit unit ∷ []) (A.text automaton.now result.0) }
+    ensures most { turns.new + length (A.text automaton.now result.0) ≤ turns.old + length (A.text automaton.now state) + 2 }
     ensures least { turns.old + (if A.has_label automaton.now (A.Unit.unit unit) then 1 else 0) ≤ turns.new }
-    ensures no_label { A.has_label automaton.now (A.Unit.unit unit) ≡ false → (turns.new ≡ turns.old) × (A.text automaton.now result ≡ []) }
+    ensures no_label { A.has_label automaton.now (A.Unit.unit unit) ≡ false → (turns.new ≡ turns.old) × (A.text automaton.now result.0 ≡ []) }
 {
     let Some(label) = automaton.label(unit) else {
-        return automaton.root();
+        let root = automaton.root();
+        return (root, automaton.output_pos(root));
     };
     let mut at = state;
     'links: loop {
         match automaton.turn(at, label, turns) {
-            Look::Next(next) => return next,
+            Look::Next(next, position) => return (next, position),
             Look::Fail(link) => at = link,
         }
     }

@@ -69,12 +69,13 @@ pub fn scan_best<V: Copy, A: Automaton<V>, H: Reread<A::Unit>>(
                 None => Scanned::Clear(haystack.left()),
             };
         };
-        state = step(automaton, state, unit, turns);
+        let (next, position) = step(automaton, state, unit, turns);
+        state = next;
         if automaton.is_root(state) {
             if let Some(mark) = best {
                 return Scanned::Best(found_at(&mark, haystack));
             }
-        } else if let Some(position) = automaton.output_pos(state) {
+        } else if let Some(position) = position {
             let behind = source.after(0);
             best = Some(Mark { position, behind });
         }

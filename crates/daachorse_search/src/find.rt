@@ -7,7 +7,7 @@ ghost use Rattle.std.specs.Prelude.{◌≡◌, ◌≢◌, Some, None, length, �
 ghost use Rattle.daachorse_model.specs.Matches.{IsSinceMatch, standard};
 ghost use Rattle.daachorse_model.specs.Prefixes.{IsLong};
 ghost use Rattle.daachorse_model.specs.Units.{size};
-ghost use Rattle.daachorse_search.specs.Depths.{AreDepths};
+ghost use Rattle.daachorse_core.specs.Depths.{AreDepths};
 ghost use Rattle.daachorse_search.specs.Nothing.{HasPlace-none, first_from-none};
 
 use crate::automaton::Automaton;
@@ -106,8 +106,7 @@ impl<V: Copy, A: Automaton<V>> Stepwise<V> for FindWalk<V, A> {
             self.walk.skip(unit);
             return self.everywhere;
         }
-        self.walk.consume(unit);
-        let found = self.walk.outputs();
+        let found = self.walk.consume(unit);
         if found.is_some() {
             self.walk.restart();
         }

@@ -7,7 +7,7 @@ ghost use Rattle.std.specs.Prelude.{◌≡◌, ◌≢◌, ◌<◌, ◌^◌, ◌+
 ghost use Rattle.daachorse_model.specs.Matches.{standard_after, IsSinceMatch};
 ghost use Rattle.daachorse_model.specs.Prefixes.{IsLong};
 ghost use Rattle.daachorse_model.specs.Units.{size};
-ghost use Rattle.daachorse_search.specs.Depths.{AreDepths};
+ghost use Rattle.daachorse_core.specs.Depths.{AreDepths};
 ghost use Rattle.daachorse_search.specs.Stepwise.{AreBoundedSince};
 
 use crate::automaton::Automaton;
@@ -32,7 +32,7 @@ pub struct FindStepper<'a, V: Copy, A: Automaton<V>> {
 
 impl<'a, V: Copy, A: Automaton<V>> Model for FindStepper<'a, V, A> {
     ghost use Rattle.daachorse_core.specs.Seen.{units};
-    ghost use Rattle.daachorse_search.specs.Depths.{AreDepths};
+    ghost use Rattle.daachorse_core.specs.Depths.{AreDepths};
     ghost use Rattle.daachorse_search.specs.Finds.{HasFound};
     ghost use Rattle.daachorse_search.specs.Stepwise.{Stepped};
 

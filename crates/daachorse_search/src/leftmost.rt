@@ -128,7 +128,8 @@ impl<V: Copy, A: Automaton<V>, H: Reread<A::Unit>> Iterator for LeftmostMatches<
                 Scanned::Best(found) => {
                     let output = self.automaton.output(found.position);
                     let best = output.to_match(self.place + found.end);
-                    if output.length() > 0 {
+                    // An empty match ends where the scan began, and any other behind it.
+                    if found.end > 0 {
                         self.rest = self.rest.after(found.end);
                         self.place += found.end;
                         self.after = true;

@@ -7,7 +7,7 @@ ghost use Rattle.std.specs.Prelude.{◌≡◌, ◌≢◌, Some, None, length, �
 ghost use Rattle.daachorse_model.specs.Matches.{no_suffix, overlapping};
 ghost use Rattle.daachorse_model.specs.Prefixes.{IsLong};
 ghost use Rattle.daachorse_model.specs.Units.{size};
-ghost use Rattle.daachorse_search.specs.Depths.{AreDepths};
+ghost use Rattle.daachorse_core.specs.Depths.{AreDepths};
 ghost use Rattle.daachorse_search.specs.Nothing.{HasPlace-none, matches_from-none, first_from-none};
 
 use crate::automaton::Automaton;
@@ -124,8 +124,7 @@ impl<V: Copy, A: Automaton<V>> Stepwise<V> for OverlappingWalk<V, A> {
 
     #[inline(always)]
     fn advance(&mut self, unit: A::Unit) -> Option<NonZeroU32> {
-        self.consume(unit);
-        self.walk.outputs()
+        self.walk.consume(unit)
     }
 
     #[inline(always)]

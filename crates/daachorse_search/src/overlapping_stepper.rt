@@ -7,7 +7,7 @@ ghost use Rattle.std.specs.Prelude.{◌≡◌, ◌≢◌, ◌<◌, ◌^◌, ◌+
 ghost use Rattle.daachorse_model.specs.Matches.{matches_after};
 ghost use Rattle.daachorse_model.specs.Prefixes.{IsLong};
 ghost use Rattle.daachorse_model.specs.Units.{size};
-ghost use Rattle.daachorse_search.specs.Depths.{AreDepths};
+ghost use Rattle.daachorse_core.specs.Depths.{AreDepths};
 ghost use Rattle.daachorse_search.specs.Stepwise.{AreBounded};
 
 use crate::automaton::Automaton;
@@ -29,7 +29,7 @@ pub struct FindOverlappingStepper<'a, V: Copy, A: Automaton<V>> {
 
 impl<'a, V: Copy, A: Automaton<V>> Model for FindOverlappingStepper<'a, V, A> {
     ghost use Rattle.daachorse_core.specs.Seen.{units};
-    ghost use Rattle.daachorse_search.specs.Depths.{AreDepths};
+    ghost use Rattle.daachorse_core.specs.Depths.{AreDepths};
     ghost use Rattle.daachorse_search.specs.Stepwise.{Stepped};
 
     ghost Value = { Stepped A };

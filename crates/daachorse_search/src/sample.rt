@@ -97,7 +97,7 @@ impl<'a> Automaton<u32> for Everywhere<'a> {
 
     fn turn(&self, _state: u32, _label: u8, turns: &mut Turns) -> Look {
         turns.tick();
-        Look::Next(0)
+        Look::Next(0, self.position(0))
     }
 
     fn output_pos(&self, _state: u32) -> Option<NonZeroU32> {

@@ -9,7 +9,7 @@ ghost use Rattle.daachorse_model.specs.Prefixes.{IsLong};
 ghost use Rattle.daachorse_core.specs.Outputs.{number};
 ghost use Rattle.daachorse_model.specs.Outputs.{AllWithin, matches_of_outputs};
 ghost use Rattle.daachorse_core.specs.Seen.{units, unread};
-ghost use Rattle.daachorse_search.specs.Depths.{AreDepths};
+ghost use Rattle.daachorse_core.specs.Depths.{AreDepths};
 ghost use Rattle.daachorse_search.specs.Walks.{read_on, skip_on, begin_on, HasOutputs};
 
 use crate::automaton::{Automaton, step};
@@ -61,16 +61,22 @@ impl<V: Copy, A: Automaton<V>> Walk<V, A> {
         }
     }
 
-    /// Reads one unit, and looks it up.
+    /// Reads one unit, looks it up, and tells the position of the first output of the matches that
+    /// end behind it.
     #[inline(always)]
-    pub fn consume(&mut self, unit: A::Unit)
+    pub fn consume(&mut self, unit: A::Unit) -> Option<NonZeroU32>
         requires { size A.Unit.width (units self.old.seen) + A.Unit.width (A.Unit.unit unit) < 2 ^ 64 }
         ensures automaton { self.new.automaton ≡ self.old.automaton }
         ensures seen { self.new.seen ≡ read_on self.old.seen (A.Unit.unit unit ∷ []) }
+        ensures outputs { HasOutputs A.Unit.width (A.content self.new.automaton) (A.has_output self.new.automaton) (A.outputs self.new.automaton) (A.most_outputs self.new.automaton)
+            self.new.seen (number result) }
+        ensures some { IfSome result (λ position. 0 < length (A.outputs self.new.automaton position.value)) }
     {
-        self.state = step(&self.automaton, self.state, unit, &mut self.turns);
+        let (state, position) = step(&self.automaton, self.state, unit, &mut self.turns);
+        self.state = state;
         self.place += unit.num_bytes();
         self.seen.push(unit.code());
+        position
     }
 
     /// Passes one unit with no look, and begins again at the root behind it.

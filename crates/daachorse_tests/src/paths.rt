@@ -101,9 +101,9 @@ fn a_state_is_looked_at_by_public_paths(rt: HostRuntime) -> Result<(), Fail> {
     let states = states_of(rt.alloc(), &[(b"a", 7), (b"", 8)])?;
     let mut turns = Turns::new();
     let (look, position) = look_at_root(&states.standard(), b'a', &mut turns);
-    assert!(rt; matches!(look, Look::Next(state) if state != daachorse::ROOT_STATE_IDX));
+    assert!(rt; matches!(look, Look::Next(state, _) if state != daachorse::ROOT_STATE_IDX));
     assert!(rt; position.is_some());
-    let (look, _) = look_at_root(&states.standard(), b'b', &mut turns);
-    assert_eq!(rt; look, Look::Next(daachorse::ROOT_STATE_IDX));
+    let (look, position) = look_at_root(&states.standard(), b'b', &mut turns);
+    assert_eq!(rt; look, Look::Next(daachorse::ROOT_STATE_IDX, position));
     Ok(())
 }

@@ -7,11 +7,11 @@ use Rattle.daachorse_search.proofs.automaton.step.Goals as goal
 -- no key has the unit
 pub returns-in_default-clause-standard : goal.returns-in_default-clause-standard
 returns-in_default-clause-standard g c = λ alive.
-    IsLong-no_label (g.A.Automaton.content c.args.automaton.now) _ _ _ c.in_default.ensures.1 c.root.ensures.text
+    IsLong-no_label (g.A.Automaton.content c.args.automaton.now) _ _ _ c.in_default.ensures.1 c.root-root.ensures.text
 
 pub returns-in_default-clause-leftmost : goal.returns-in_default-clause-leftmost
 returns-in_default-clause-leftmost g c =
-    λ kind w h. LeftSteps-foreign (g.A.Automaton.content c.args.automaton.now) w _ _ _ h c.in_default.ensures.1 c.root.ensures.text
+    λ kind w h. LeftSteps-foreign (g.A.Automaton.content c.args.automaton.now) w _ _ _ h c.in_default.ensures.1 c.root-root.ensures.text
 
 pub returns-in_default-clause-cut : goal.returns-in_default-clause-cut
 returns-in_default-clause-cut g c = λ kind w h. LeftSteps-IsCut (g.A.Automaton.content c.args.automaton.now) w _ _ (returns-in_default-clause-leftmost g c kind w h)
@@ -20,6 +20,9 @@ pub links-init : goal.links-init
 links-init g c =
     let K = g.A.Automaton.content c.args.automaton.now in
     record { reached = c.requires; candidate = IsCandidate-first K _ _; leftmost = λ kind w h. IsLeftCandidate-first K w _ _ h; counted = omega arith; more = omega arith }
+
+pub returns-in-Next-clause-output : goal.returns-in-Next-clause-output
+returns-in-Next-clause-output g c = c.in-Next.ensures.output _ c.in-Some.ensures.0
 
 pub returns-in-Next-clause-standard : goal.returns-in-Next-clause-standard
 returns-in-Next-clause-standard g c =

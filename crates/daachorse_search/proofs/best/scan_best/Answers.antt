@@ -1,5 +1,6 @@
 use Rattle.std.proofs.Common.{◌≡◌, ◌≢◌, ℕ, List, [], ◌∷◌, ◌++◌, Option, refl, sym, ap, ◌∙◌, subst, append_assoc}
 use Rattle.std.specs.Iterator.{YieldsFirstBy}
+use Rattle.std.specs.declared.num.NonZeroU32.{NonZeroU32}
 use Rattle.daachorse_core.specs.Outputs.{number}
 use Rattle.daachorse_model.specs.Outputs.{IsChain}
 use Rattle.daachorse_model.specs.Best.{IsSteady}
@@ -7,6 +8,7 @@ use Rattle.daachorse_model.proofs.BestLemmas.{IsSteady-nil}
 use Rattle.daachorse_search.specs.declared.best.Mark.{Mark}
 use Rattle.daachorse_search.specs.declared.best.Scanned.{Scanned}
 use Rattle.daachorse_search.specs.BestScans.{IsBestScan}
+use Rattle.daachorse_core.specs.Looks.{IsFirstOutput}
 use Rattle.daachorse_search.proofs.BestScanLemmas.{IsScanning, IsScanning-first, IsScanning-more, IsBehind-now, IsFoundSoFar, IsFound-new, IsFound-keeps, IsFound-none, IsTheBest-stops, IsTheBest-ends, IsClear-ends, steady_of, steady_none}
 use Rattle.daachorse_search.proofs.best.scan_best.Goals as goal
 use Rattle.daachorse_search.proofs.best.scan_best.Goals.{in-Some, in_default, in-Some-best, in-None}
@@ -55,55 +57,57 @@ returns-in-Some-best-2 g c =
     let text = rest c.args.haystack.now in let u : ℕ = g.A.Unit.EdgeLabel.unit c.in-Some-next.unit in
     let P : Option (Mark g.row.H.Denot) → Type 0 = λ o. IsScanning width (A.content a) (A.has_output a) (A.outputs a) rest text (A.has_label a) (rest c.units.source) (A.text a c.units.state) o c.args.turns.now c.units.turns in
     let was = subst P c.in-Some-best-2.is c.units.invariant.scanning in let found = c.found_at-in-Some-best-2 in
-    IsTheBest-stops width (A.content a) (A.has_output a) (A.outputs a) rest text (A.has_label a) (rest c.units.source) (A.text a c.units.state) c.in-Some-best-2.mark found.result c.args.turns.now c.units.turns u (rest c.next.new.self) (A.text a c.step-state.result) c.step-state.new.turns
-    was found.ensures.position found.ensures.end (g.met.H.Haystack.gives _ _ _ c.in-Some-next.ensures.steps) (c.step-state.ensures.leftmost c.requires.kind was.seen was.steady) (c.if-is_root.ensures.0 refl) c.step-state.ensures.most c.step-state.ensures.least
+    IsTheBest-stops width (A.content a) (A.has_output a) (A.outputs a) rest text (A.has_label a) (rest c.units.source) (A.text a c.units.state) c.in-Some-best-2.mark found.result c.args.turns.now c.units.turns u (rest c.next.new.self) (A.text a c.step-next.result.0) c.step-next.new.turns
+    was found.ensures.position found.ensures.end (g.met.H.Haystack.gives _ _ _ c.in-Some-next.ensures.steps) (c.step-next.ensures.leftmost c.requires.kind was.seen was.steady) (c.if-is_root.ensures.0 refl) c.step-next.ensures.most c.step-next.ensures.least
 
 -- one more unit, and nothing occurs so far
 pub units-preserved-in_default-best : goal.units-preserved-in_default-best
 units-preserved-in_default-best g c =
     let A = g.A.Automaton in let a = c.args.automaton.now in let width = g.A.Unit.EdgeLabel.width in let rest = g.H.Haystack.rest in
-    let text = rest c.args.haystack.now in let u : ℕ = g.A.Unit.EdgeLabel.unit c.in-Some-next.unit in let t = A.text a c.step-state.result in
+    let text = rest c.args.haystack.now in let u : ℕ = g.A.Unit.EdgeLabel.unit c.in-Some-next.unit in let t = A.text a c.step-next.result.0 in
     let was = c.units.invariant.scanning in
     let F : Option (Mark g.row.H.Denot) → Type 0 = λ o. IsFoundSoFar width (A.content a) (A.has_output a) (A.outputs a) rest text was.seen o in
     let G : Option (Mark g.row.H.Denot) → Type 0 = λ o. IsFoundSoFar width (A.content a) (A.has_output a) (A.outputs a) rest text (was.seen ++ u ∷ []) o in
-    let on = steady_none (A.content a) was.seen t u (c.step-state.ensures.leftmost c.requires.kind was.seen was.steady) (c.if-is_root.ensures.0 refl) (subst F c.in_default-best.is was.found) in
+    let on = steady_none (A.content a) was.seen t u (c.step-next.ensures.leftmost c.requires.kind was.seen was.steady) (c.if-is_root.ensures.0 refl) (subst F c.in_default-best.is was.found) in
     record {
-      reached = c.step-state.ensures.reached;
-      scanning = IsScanning-more width (A.content a) (A.has_output a) (A.outputs a) rest text (A.has_label a) (rest c.units.source) (A.text a c.units.state) c.units.best c.args.turns.now c.units.turns u (rest c.next.new.self) t c.units.best c.step-state.new.turns
-          was (g.met.H.Haystack.gives _ _ _ c.in-Some-next.ensures.steps) c.step-state.ensures.most c.step-state.ensures.least on.0 (subst G (sym c.in_default-best.is) on.1);
+      reached = c.step-next.ensures.reached;
+      scanning = IsScanning-more width (A.content a) (A.has_output a) (A.outputs a) rest text (A.has_label a) (rest c.units.source) (A.text a c.units.state) c.units.best c.args.turns.now c.units.turns u (rest c.next.new.self) t c.units.best c.step-next.new.turns
+          was (g.met.H.Haystack.gives _ _ _ c.in-Some-next.ensures.steps) c.step-next.ensures.most c.step-next.ensures.least on.0 (subst G (sym c.in_default-best.is) on.1);
     }
 
 -- one more unit, and a match that is better
-pub units-preserved-in-Some-output_pos : goal.units-preserved-in-Some-output_pos
-units-preserved-in-Some-output_pos g c =
+pub units-preserved-in-Some-position : goal.units-preserved-in-Some-position
+units-preserved-in-Some-position g c =
     let A = g.A.Automaton in let a = c.args.automaton.now in let width = g.A.Unit.EdgeLabel.width in let rest = g.H.Haystack.rest in
-    let text = rest c.args.haystack.now in let u : ℕ = g.A.Unit.EdgeLabel.unit c.in-Some-next.unit in let t = A.text a c.step-state.result in
-    let was = c.units.invariant.scanning in let o = c.in-Some-output_pos.ensures in let left = rest c.next.new.self in let behind = c.after-behind-in-Some-output_pos.result in
+    let text = rest c.args.haystack.now in let u : ℕ = g.A.Unit.EdgeLabel.unit c.in-Some-next.unit in let t = A.text a c.step-next.result.0 in
+    let was = c.units.invariant.scanning in let left = rest c.next.new.self in let behind = c.after-behind-in-Some-position.result in
+    let F : Option NonZeroU32 → Type 0 = λ p. IsFirstOutput width (A.content a) (A.dead a) (A.has_output a) (A.outputs a) (A.most_outputs a) t p in
+    let o = subst F c.in-Some-position.is c.step-next.ensures.output in
     let next : rest c.units.source ≡ u ∷ left = g.met.H.Haystack.gives _ _ _ c.in-Some-next.ensures.steps in
     let not_root : t ≢ [] = λ e. let bad = c.if-is_root.ensures.1 e in cc in
-    let steady = steady_of (A.content a) was.seen t u (c.step-state.ensures.leftmost c.requires.kind was.seen was.steady) not_root in
+    let steady = steady_of (A.content a) was.seen t u (c.step-next.ensures.leftmost c.requires.kind was.seen was.steady) not_root in
     let parts : text ≡ (was.seen ++ u ∷ []) ++ left = was.parts ∙ (ap (λ x. was.seen ++ x) next ∙ sym (append_assoc was.seen (u ∷ []) left)) in
     record {
-      reached = c.step-state.ensures.reached;
-      scanning = IsScanning-more width (A.content a) (A.has_output a) (A.outputs a) rest text (A.has_label a) (rest c.units.source) (A.text a c.units.state) c.units.best c.args.turns.now c.units.turns u left t _ c.step-state.new.turns
-          was next c.step-state.ensures.most c.step-state.ensures.least steady
-          (IsFound-new width (A.content a) (A.has_output a) (A.outputs a) rest text (A.dead a) c.requires.kind (was.seen ++ u ∷ []) t c.in-Some-output_pos.position behind steady o.chain o.some o.place
-          (IsBehind-now width (A.content a) (A.has_output a) (A.outputs a) rest text (was.seen ++ u ∷ []) left behind parts (c.after-behind-in-Some-output_pos.ensures [] left refl refl)));
+      reached = c.step-next.ensures.reached;
+      scanning = IsScanning-more width (A.content a) (A.has_output a) (A.outputs a) rest text (A.has_label a) (rest c.units.source) (A.text a c.units.state) c.units.best c.args.turns.now c.units.turns u left t _ c.step-next.new.turns
+          was next c.step-next.ensures.most c.step-next.ensures.least steady
+          (IsFound-new width (A.content a) (A.has_output a) (A.outputs a) rest text (A.dead a) c.requires.kind (was.seen ++ u ∷ []) t c.in-Some-position.position behind steady o.chain o.some o.place
+          (IsBehind-now width (A.content a) (A.has_output a) (A.outputs a) rest text (was.seen ++ u ∷ []) left behind parts (c.after-behind-in-Some-position.ensures [] left refl refl)));
     }
 
 -- one more unit with no output
 pub units-preserved : goal.units-preserved
 units-preserved g c =
     let A = g.A.Automaton in let a = c.args.automaton.now in let width = g.A.Unit.EdgeLabel.width in let rest = g.H.Haystack.rest in
-    let text = rest c.args.haystack.now in let u : ℕ = g.A.Unit.EdgeLabel.unit c.in-Some-next.unit in let t = A.text a c.step-state.result in
-    let was = c.units.invariant.scanning in let o = c.output_pos-else-is_root.ensures in
+    let text = rest c.args.haystack.now in let u : ℕ = g.A.Unit.EdgeLabel.unit c.in-Some-next.unit in let t = A.text a c.step-next.result.0 in
+    let was = c.units.invariant.scanning in let o = c.step-next.ensures.output in
     let not_root : t ≢ [] = λ e. let bad = c.if-is_root.ensures.1 e in cc in
-    let steady = steady_of (A.content a) was.seen t u (c.step-state.ensures.leftmost c.requires.kind was.seen was.steady) not_root in
+    let steady = steady_of (A.content a) was.seen t u (c.step-next.ensures.leftmost c.requires.kind was.seen was.steady) not_root in
     let C : List (g.row.V.Denot × ℕ) → Type 0 = λ l. IsChain width (A.content a) (A.dead a) t l in
-    let chain : C [] = subst C (ap (λ p. A.outputs a (number p)) c.in_default-output_pos.is ∙ (g.met.A.Automaton.no_output a).1) o.chain in
+    let chain : C [] = subst C (ap (λ p. A.outputs a (number p)) c.in_default-position.is ∙ (g.met.A.Automaton.no_output a).1) o.chain in
     record {
-      reached = c.step-state.ensures.reached;
-      scanning = IsScanning-more width (A.content a) (A.has_output a) (A.outputs a) rest text (A.has_label a) (rest c.units.source) (A.text a c.units.state) c.units.best c.args.turns.now c.units.turns u (rest c.next.new.self) t c.units.best c.step-state.new.turns
-          was (g.met.H.Haystack.gives _ _ _ c.in-Some-next.ensures.steps) c.step-state.ensures.most c.step-state.ensures.least steady
+      reached = c.step-next.ensures.reached;
+      scanning = IsScanning-more width (A.content a) (A.has_output a) (A.outputs a) rest text (A.has_label a) (rest c.units.source) (A.text a c.units.state) c.units.best c.args.turns.now c.units.turns u (rest c.next.new.self) t c.units.best c.step-next.new.turns
+          was (g.met.H.Haystack.gives _ _ _ c.in-Some-next.ensures.steps) c.step-next.ensures.most c.step-next.ensures.least steady
           (IsFound-keeps width (A.content a) (A.has_output a) (A.outputs a) rest text (A.dead a) c.requires.kind was.seen t u c.units.best steady chain was.found);
     }

@@ -1,6 +1,6 @@
 -- The walk holds the automaton whose depths were handed in.
 use Rattle.std.proofs.Common.{subst, sym}
-use Rattle.daachorse_search.specs.Depths.{AreDepths}
+use Rattle.daachorse_core.specs.Depths.{AreDepths}
 use Rattle.daachorse_search.proofs.find_stepper.FindStepper.new.Goals as goal
 
 pub invariant_of-result : goal.invariant_of-result

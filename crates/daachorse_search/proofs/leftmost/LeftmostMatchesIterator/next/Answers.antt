@@ -5,7 +5,7 @@ use Rattle.daachorse_model.specs.declared.Match.{Match}
 use Rattle.daachorse_model.specs.Units.{size}
 use Rattle.daachorse_model.proofs.Suffixes.{size-append}
 use Rattle.daachorse_search.specs.LeftmostSearches.{StandsBehind, IsResting, before_rest, leftmost_left}
-use Rattle.daachorse_search.proofs.LeftmostLemmas.{cleared, best_ends, best_fits, output_fits, gives_key, gives_empty, stands_key, stands_empty}
+use Rattle.daachorse_search.proofs.LeftmostLemmas.{cleared, best_ends, best_fits, ends_at_once, ends_behind, output_fits, gives_key, gives_empty, stands_key, stands_empty}
 use Rattle.daachorse_search.proofs.leftmost.LeftmostMatchesIterator.next.Goals as goal
 
 pub scan_best-requires-clause-fits : goal.scan_best-requires-clause-fits
@@ -40,29 +40,29 @@ to_match-best-requires g c =
     let K = A.content a in let dead = A.dead a in let has = A.has_label a in let whole = rest s.whole.value in
     output_fits width K dead has (A.has_output a) (A.outputs a) (rest s.rest) s.place c.in-Best.found.position.value c.in-Best.found.end s.turns c.scan_best.new.turns _ _ _ c.in-Best.ensures c.output-output.ensures.value
 
-pub after-requires-then-length-gt0 : goal.after-requires-then-length-gt0
-after-requires-then-length-gt0 g c =
+pub after-requires-then-found-gt0 : goal.after-requires-then-found-gt0
+after-requires-then-found-gt0 g c =
     let A = g.A.Automaton in let width = g.A.Unit.EdgeLabel.width in let rest = g.H.Haystack.rest in let s = c.scans.self-inside in let a = s.automaton in let was = c.scans.invariant in
     let K = A.content a in let dead = A.dead a in let has = A.has_label a in let whole = rest s.whole.value in
     best_ends width K dead has (A.has_output a) (A.outputs a) (rest s.rest) c.in-Best.found.position.value c.in-Best.found.end s.turns c.scan_best.new.turns c.in-Best.ensures
 
-pub invariant_of-self-then-length-gt0 : goal.invariant_of-self-then-length-gt0
-invariant_of-self-then-length-gt0 g c =
+pub invariant_of-self-then-found-gt0 : goal.invariant_of-self-then-found-gt0
+invariant_of-self-then-found-gt0 g c =
     let A = g.A.Automaton in let width = g.A.Unit.EdgeLabel.width in let rest = g.H.Haystack.rest in let s = c.scans.self-inside in let a = s.automaton in let was = c.scans.invariant in
     let K = A.content a in let dead = A.dead a in let has = A.has_label a in let whole = rest s.whole.value in
     let R : Bool → Type 0 = λ d. IsResting width K dead has whole (rest s.rest) s.place s.after d s.turns s.seen.given in
     let resting : R false = subst R c.if-self.false was.resting in
     let o = c.output-output.result in let n : ℕ = c.in-Best.found.end in
-    let later = rest c.after-then-length-gt0.result in
+    let later = rest c.after-then-found-gt0.result in
     let m : Match g.row.V.Denot = record { start = s.place + n - length_of o; end = s.place + n; value = value_of o } in
     let is : c.to_match-best.result ≡ m = c.to_match-best.ensures in
     let next = gives_key width K dead has (A.has_output a) (A.outputs a) whole (rest s.rest) later s.place c.in-Best.found.position.value n s.after s.turns c.scan_best.new.turns s.seen.given (value_of o) (length_of o) _ resting c.in-Best.ensures c.output-output.ensures.value
-    (omega (arith, c.if-length-gt0.true, c.length.ensures)) c.after-then-length-gt0.ensures in
+    (ends_behind width K dead has (A.has_output a) (A.outputs a) g.met.A.Unit.EdgeLabel.wide (rest s.rest) c.in-Best.found.position.value c.in-Best.found.end s.turns c.scan_best.new.turns _ _ _ c.in-Best.ensures c.output-output.ensures.value (omega (arith, c.if-found-gt0.true))) c.after-then-found-gt0.ensures in
     let P : Bool → ℕ → Type 0 = λ d k. IsResting width K dead has whole later (s.place + n) true d c.scan_best.new.turns k in
     subst (P s.done) (sym (ap (λ (x : SeenUnits). x.given) c.give.ensures)) (subst (λ d. P d (s.seen.given + 1)) (sym c.if-self.false) next.0)
 
-pub returns-then-length-gt0-clause-steps : goal.returns-then-length-gt0-clause-steps
-returns-then-length-gt0-clause-steps g c =
+pub returns-then-found-gt0-clause-steps : goal.returns-then-found-gt0-clause-steps
+returns-then-found-gt0-clause-steps g c =
     let A = g.A.Automaton in let width = g.A.Unit.EdgeLabel.width in let rest = g.H.Haystack.rest in let s = c.scans.self-inside in let a = s.automaton in let was = c.scans.invariant in
     let K = A.content a in let dead = A.dead a in let has = A.has_label a in let whole = rest s.whole.value in
     let R : Bool → Type 0 = λ d. IsResting width K dead has whole (rest s.rest) s.place s.after d s.turns s.seen.given in
@@ -70,21 +70,21 @@ returns-then-length-gt0-clause-steps g c =
     let L : Bool → Type 0 = λ d. leftmost_left width K s.place (rest s.rest) s.after d ≡ c.args.self.now.left in
     let left : L false = subst L c.if-self.false was.left in
     let o = c.output-output.result in let n : ℕ = c.in-Best.found.end in
-    let later = rest c.after-then-length-gt0.result in
+    let later = rest c.after-then-found-gt0.result in
     let m : Match g.row.V.Denot = record { start = s.place + n - length_of o; end = s.place + n; value = value_of o } in
     let is : c.to_match-best.result ≡ m = c.to_match-best.ensures in
     let next = gives_key width K dead has (A.has_output a) (A.outputs a) whole (rest s.rest) later s.place c.in-Best.found.position.value n s.after s.turns c.scan_best.new.turns s.seen.given (value_of o) (length_of o) _ resting c.in-Best.ensures c.output-output.ensures.value
-    (omega (arith, c.if-length-gt0.true, c.length.ensures)) c.after-then-length-gt0.ensures in
+    (ends_behind width K dead has (A.has_output a) (A.outputs a) g.met.A.Unit.EdgeLabel.wide (rest s.rest) c.in-Best.found.position.value c.in-Best.found.end s.turns c.scan_best.new.turns _ _ _ c.in-Best.ensures c.output-output.ensures.value (omega (arith, c.if-found-gt0.true))) c.after-then-found-gt0.ensures in
     let fewer : c.args.self.now.left ≡ c.to_match-best.result ∷ leftmost_left width K (s.place + n) later true s.done =
     sym left ∙ next.1 ∙ ap (λ x. x ∷ leftmost_left width K (s.place + n) later true false) (sym is) ∙ ap (λ d. c.to_match-best.result ∷ leftmost_left width K (s.place + n) later true d) (sym c.if-self.false) in
     let stands : StandsBehind width m whole (before_rest whole later) =
-    stands_key width K dead has whole later (s.place + n) (length_of o) (value_of o) true false c.scan_best.new.turns (s.seen.given + 1) next.0 (omega (arith, c.if-length-gt0.true, c.length.ensures))
+    stands_key width K dead has whole later (s.place + n) (length_of o) (value_of o) true false c.scan_best.new.turns (s.seen.given + 1) next.0 (ends_behind width K dead has (A.has_output a) (A.outputs a) g.met.A.Unit.EdgeLabel.wide (rest s.rest) c.in-Best.found.position.value c.in-Best.found.end s.turns c.scan_best.new.turns _ _ _ c.in-Best.ensures c.output-output.ensures.value (omega (arith, c.if-found-gt0.true)))
     (output_fits width K dead has (A.has_output a) (A.outputs a) (rest s.rest) s.place c.in-Best.found.position.value n s.turns c.scan_best.new.turns _ _ _ c.in-Best.ensures c.output-output.ensures.value) in
     let B : Match g.row.V.Denot → Type 0 = λ x. StandsBehind width x whole (before_rest whole later) in
     record { automaton = was.automaton; haystack = was.haystack; first = fewer; counted = ap (λ (x : SeenUnits). x.given) c.give.ensures ∙ ap (λ k. k + 1) was.given; behind = subst B (sym is) stands }
 
-pub returns-then-length-gt0-clause-goes : goal.returns-then-length-gt0-clause-goes
-returns-then-length-gt0-clause-goes g c =
+pub returns-then-found-gt0-clause-goes : goal.returns-then-found-gt0-clause-goes
+returns-then-found-gt0-clause-goes g c =
     let A = g.A.Automaton in let width = g.A.Unit.EdgeLabel.width in let rest = g.H.Haystack.rest in let s = c.scans.self-inside in let a = s.automaton in let was = c.scans.invariant in
     let K = A.content a in let dead = A.dead a in let has = A.has_label a in let whole = rest s.whole.value in
     let R : Bool → Type 0 = λ d. IsResting width K dead has whole (rest s.rest) s.place s.after d s.turns s.seen.given in
@@ -92,11 +92,11 @@ returns-then-length-gt0-clause-goes g c =
     let L : Bool → Type 0 = λ d. leftmost_left width K s.place (rest s.rest) s.after d ≡ c.args.self.now.left in
     let left : L false = subst L c.if-self.false was.left in
     let o = c.output-output.result in let n : ℕ = c.in-Best.found.end in
-    let later = rest c.after-then-length-gt0.result in
+    let later = rest c.after-then-found-gt0.result in
     let m : Match g.row.V.Denot = record { start = s.place + n - length_of o; end = s.place + n; value = value_of o } in
     let is : c.to_match-best.result ≡ m = c.to_match-best.ensures in
     let next = gives_key width K dead has (A.has_output a) (A.outputs a) whole (rest s.rest) later s.place c.in-Best.found.position.value n s.after s.turns c.scan_best.new.turns s.seen.given (value_of o) (length_of o) _ resting c.in-Best.ensures c.output-output.ensures.value
-    (omega (arith, c.if-length-gt0.true, c.length.ensures)) c.after-then-length-gt0.ensures in
+    (ends_behind width K dead has (A.has_output a) (A.outputs a) g.met.A.Unit.EdgeLabel.wide (rest s.rest) c.in-Best.found.position.value c.in-Best.found.end s.turns c.scan_best.new.turns _ _ _ c.in-Best.ensures c.output-output.ensures.value (omega (arith, c.if-found-gt0.true))) c.after-then-found-gt0.ensures in
     let fewer : c.args.self.now.left ≡ c.to_match-best.result ∷ leftmost_left width K (s.place + n) later true s.done =
     sym left ∙ next.1 ∙ ap (λ x. x ∷ leftmost_left width K (s.place + n) later true false) (sym is) ∙ ap (λ d. c.to_match-best.result ∷ leftmost_left width K (s.place + n) later true d) (sym c.if-self.false) in
     record { on = λ _. (tt, tt, omega (arith, ap length fewer)); keeps = tt; rests = λ _. tt }
@@ -130,7 +130,7 @@ invariant_of-self-then-not-passed_over g c =
     let m : Match g.row.V.Denot = record { start = s.place + n - length_of o; end = s.place + n; value = value_of o } in
     let is : c.to_match-best.result ≡ m = c.to_match-best.ensures in
     let next = gives_empty width K dead has (A.has_output a) (A.outputs a) g.met.A.Unit.EdgeLabel.wide whole (rest s.rest) later s.place to c.in-Best.found.position.value n s.after over s.turns c.scan_best.new.turns s.seen.given (value_of o) (length_of o) _ resting c.in-Best.ensures c.output-output.ensures.value
-    (omega (arith, c.if-length-gt0.false, c.length.ensures)) c.skip_unit-self-inside.ensures in
+    (ends_at_once width K dead has (A.has_output a) (A.outputs a) (rest s.rest) c.in-Best.found.position.value c.in-Best.found.end s.turns c.scan_best.new.turns _ _ _ c.in-Best.ensures c.output-output.ensures.value (omega (arith, c.if-found-gt0.false))) c.skip_unit-self-inside.ensures in
     let P : ℕ → Type 0 = λ k. IsResting width K dead has whole later to false over c.scan_best.new.turns k in
     subst P (ap (λ b. cond b s.seen.given (s.seen.given + 1)) c.if-not-passed_over.true ∙ sym (ap (λ (x : SeenUnits). x.given) c.give-then-not-passed_over.ensures)) next.0
 
@@ -147,12 +147,12 @@ returns-then-not-passed_over-clause-steps g c =
     let m : Match g.row.V.Denot = record { start = s.place + n - length_of o; end = s.place + n; value = value_of o } in
     let is : c.to_match-best.result ≡ m = c.to_match-best.ensures in
     let next = gives_empty width K dead has (A.has_output a) (A.outputs a) g.met.A.Unit.EdgeLabel.wide whole (rest s.rest) later s.place to c.in-Best.found.position.value n s.after over s.turns c.scan_best.new.turns s.seen.given (value_of o) (length_of o) _ resting c.in-Best.ensures c.output-output.ensures.value
-    (omega (arith, c.if-length-gt0.false, c.length.ensures)) c.skip_unit-self-inside.ensures in
+    (ends_at_once width K dead has (A.has_output a) (A.outputs a) (rest s.rest) c.in-Best.found.position.value c.in-Best.found.end s.turns c.scan_best.new.turns _ _ _ c.in-Best.ensures c.output-output.ensures.value (omega (arith, c.if-found-gt0.false))) c.skip_unit-self-inside.ensures in
     let fewer : c.args.self.now.left ≡ c.to_match-best.result ∷ leftmost_left width K to later false over =
     sym left ∙ next.1 ∙ ap (λ b. cond b [] (m ∷ []) ++ leftmost_left width K to later false over) c.if-not-passed_over.true ∙ ap (λ x. x ∷ leftmost_left width K to later false over) (sym is) in
     let stands : StandsBehind width m whole (before_rest whole later) =
     stands_empty width K dead has (A.has_output a) (A.outputs a) g.met.A.Unit.EdgeLabel.wide whole (rest s.rest) later s.place to c.in-Best.found.position.value n s.after over s.turns c.scan_best.new.turns s.seen.given (value_of o) (length_of o) _ resting c.in-Best.ensures c.output-output.ensures.value
-    (omega (arith, c.if-length-gt0.false, c.length.ensures)) c.skip_unit-self-inside.ensures in
+    (ends_at_once width K dead has (A.has_output a) (A.outputs a) (rest s.rest) c.in-Best.found.position.value c.in-Best.found.end s.turns c.scan_best.new.turns _ _ _ c.in-Best.ensures c.output-output.ensures.value (omega (arith, c.if-found-gt0.false))) c.skip_unit-self-inside.ensures in
     let B : Match g.row.V.Denot → Type 0 = λ x. StandsBehind width x whole (before_rest whole later) in
     record { automaton = was.automaton; haystack = was.haystack; first = fewer; counted = ap (λ (x : SeenUnits). x.given) c.give-then-not-passed_over.ensures ∙ ap (λ k. k + 1) was.given; behind = subst B (sym is) stands }
 
@@ -169,7 +169,7 @@ returns-then-not-passed_over-clause-goes g c =
     let m : Match g.row.V.Denot = record { start = s.place + n - length_of o; end = s.place + n; value = value_of o } in
     let is : c.to_match-best.result ≡ m = c.to_match-best.ensures in
     let next = gives_empty width K dead has (A.has_output a) (A.outputs a) g.met.A.Unit.EdgeLabel.wide whole (rest s.rest) later s.place to c.in-Best.found.position.value n s.after over s.turns c.scan_best.new.turns s.seen.given (value_of o) (length_of o) _ resting c.in-Best.ensures c.output-output.ensures.value
-    (omega (arith, c.if-length-gt0.false, c.length.ensures)) c.skip_unit-self-inside.ensures in
+    (ends_at_once width K dead has (A.has_output a) (A.outputs a) (rest s.rest) c.in-Best.found.position.value c.in-Best.found.end s.turns c.scan_best.new.turns _ _ _ c.in-Best.ensures c.output-output.ensures.value (omega (arith, c.if-found-gt0.false))) c.skip_unit-self-inside.ensures in
     let fewer : c.args.self.now.left ≡ c.to_match-best.result ∷ leftmost_left width K to later false over =
     sym left ∙ next.1 ∙ ap (λ b. cond b [] (m ∷ []) ++ leftmost_left width K to later false over) c.if-not-passed_over.true ∙ ap (λ x. x ∷ leftmost_left width K to later false over) (sym is) in
     record { on = λ _. (tt, tt, omega (arith, ap length fewer)); keeps = tt; rests = λ _. tt }
@@ -187,7 +187,7 @@ scans-preserved g c =
     let m : Match g.row.V.Denot = record { start = s.place + n - length_of o; end = s.place + n; value = value_of o } in
     let is : c.to_match-best.result ≡ m = c.to_match-best.ensures in
     let next = gives_empty width K dead has (A.has_output a) (A.outputs a) g.met.A.Unit.EdgeLabel.wide whole (rest s.rest) later s.place to c.in-Best.found.position.value n s.after over s.turns c.scan_best.new.turns s.seen.given (value_of o) (length_of o) _ resting c.in-Best.ensures c.output-output.ensures.value
-    (omega (arith, c.if-length-gt0.false, c.length.ensures)) c.skip_unit-self-inside.ensures in
+    (ends_at_once width K dead has (A.has_output a) (A.outputs a) (rest s.rest) c.in-Best.found.position.value c.in-Best.found.end s.turns c.scan_best.new.turns _ _ _ c.in-Best.ensures c.output-output.ensures.value (omega (arith, c.if-found-gt0.false))) c.skip_unit-self-inside.ensures in
     let P : ℕ → Type 0 = λ k. IsResting width K dead has whole later to false over c.scan_best.new.turns k in
     record {
       resting = subst P (ap (λ b. cond b s.seen.given (s.seen.given + 1)) c.if-not-passed_over.false) next.0;

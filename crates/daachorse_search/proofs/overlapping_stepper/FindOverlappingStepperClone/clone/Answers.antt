@@ -1,6 +1,6 @@
 -- The clone's walk is the stepper's.
 use Rattle.std.proofs.Common.{subst, sym}
-use Rattle.daachorse_search.specs.Depths.{AreDepths}
+use Rattle.daachorse_core.specs.Depths.{AreDepths}
 use Rattle.daachorse_search.specs.Walks.{Walked}
 use Rattle.daachorse_search.proofs.overlapping_stepper.FindOverlappingStepperClone.clone.Goals as goal
 

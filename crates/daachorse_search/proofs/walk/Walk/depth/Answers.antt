@@ -1,7 +1,7 @@
 -- The state stands for the longest end of what was read since the walk last began at the root.
 use Rattle.std.proofs.Common.{Some, subst, sym, ap}
 use Rattle.daachorse_model.specs.Prefixes.{IsLong}
-use Rattle.daachorse_search.specs.Depths.{AreDepths}
+use Rattle.daachorse_core.specs.Depths.{AreDepths}
 use Rattle.daachorse_search.specs.Walks.{Walked}
 use Rattle.daachorse_search.proofs.DepthLemmas.{depth-of}
 use Rattle.daachorse_search.proofs.walk.Walk.depth.Goals as goal

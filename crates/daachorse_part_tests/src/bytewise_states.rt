@@ -118,7 +118,7 @@ fn without_patterns_a_standard_search_stays_at_the_root(rt: HostRuntime) -> Resu
     expect(&rt, search.is_root(root), "the root");
     expect(&rt, search.label(b'a') == Some(b'a'), "the label");
     let look = search.again().turn(root, b'a', &mut Turns::new());
-    expect(&rt, look == Look::Next(root), "the look");
+    expect(&rt, look == Look::Next(root, None), "the look");
     expect(&rt, search.output_pos(root).is_none(), "no output");
     Ok(())
 }
@@ -133,7 +133,7 @@ fn without_patterns_a_leftmost_search_stays_at_the_root(rt: HostRuntime) -> Resu
     expect(&rt, search.is_root(root), "the root");
     expect(&rt, search.label(b'a') == Some(b'a'), "the label");
     let look = search.again().turn(root, b'a', &mut Turns::new());
-    expect(&rt, look == Look::Next(root), "the look");
+    expect(&rt, look == Look::Next(root, None), "the look");
     expect(&rt, search.output_pos(root).is_none(), "no output");
     Ok(())
 }

@@ -203,7 +203,7 @@ fn stays_at_the_root<S: Searches>(rt: &impl Abort, search: &View<u32, S>) -> Res
     expect(rt, search.label('a').is_none(), "without a code");
     let code = search.label('\u{0}').ok_or("no code")?;
     let look = search.again().turn(root, code, &mut Turns::new());
-    expect(rt, look == Look::Next(root), "the look");
+    expect(rt, look == Look::Next(root, None), "the look");
     expect(rt, search.output_pos(root).is_none(), "no output");
     Ok(())
 }

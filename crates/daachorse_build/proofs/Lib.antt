@@ -19,3 +19,5 @@ pub mod Full
 pub mod Fitting
 pub mod StackWalk
 pub mod Families
+pub mod GrownCounts
+pub mod LinksBack

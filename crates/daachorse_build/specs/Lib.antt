@@ -9,3 +9,4 @@ pub mod Holds
 pub mod Lists
 pub mod Builders
 pub mod Groups
+pub mod Counts

@@ -1,13 +1,13 @@
 //! The trie of the patterns, with its failure links and its lists of outputs.
 //!
 //! A builder has a state for each beginning of a pattern that counts. The layers above may rely on
-//! five things: after `add` the trie holds the patterns that were registered, after `build_fails`
+//! six things: after `add` the trie holds the patterns that were registered, after `build_fails`
 //! the link of each state is that of the longest proper suffix which is a state's text, after
 //! `build_fails_leftmost` it is dead instead where a key starts before that suffix does, after
 //! `build_outputs` the list at a state's position has the values of its text and of each of its
 //! suffixes, the longest first, as far as the links go: it is the state's own outputs, and then
-//! goes on at the position of the link; and `sibling_groups` has each state with edges once, with
-//! its children.
+//! goes on at the position of the link; `profile_haystack` ends for every document, and no count
+//! falls; and `sibling_groups` has each state with edges once, with its children.
 
 ghost use Rattle.std.specs.Prelude.{◌≡◌, ◌≢◌, ◌⊎◌, Bool, true, false, Some, ℕ, ◌+◌, ◌<◌, ◌≤◌, ◌++◌, ◌∷◌, [], List, None, length, map, take, slice_index, vec_len, IfOk, IfErr, OnOk, OnErr};
 ghost use Rattle.daachorse_model.specs.Units.{size};
@@ -27,11 +27,13 @@ ghost use Rattle.daachorse_build.specs.Searches.{Searches, LeadsTo, ComesFrom};
 ghost use Rattle.daachorse_build.specs.Growth.{Extends, IsAdded, HasTrieOf, Overflows};
 ghost use Rattle.daachorse_build.specs.Holds.{in_units, HasMorePrefixes};
 ghost use Rattle.daachorse_build.specs.Lists.{PositionsFit, AreListed, AreChained, IsChainedAt, IsParent};
+ghost use Rattle.daachorse_build.specs.Counts.{HasCounts, HasSameCounts, IsCounted, LinksLeadBack};
 ghost use Rattle.daachorse_build.specs.Groups.{GivesCodes, AreCodes, AreTrieGroups, AreWeighed, AreFalling, AreLight, IsProfileOf};
 ghost use Rattle.daachorse_placement.specs.Placement.{AreGroups};
 ghost use Rattle.daachorse_build.specs.Builders.{states_of, outputs_of, count_of, kind_of, Registered};
 ghost use Rattle.daachorse_core.specs.Refusals.{IsRefusal, IsOutOfMemory};
 
+mod profile;
 mod siblings;
 
 use crate::edge_map::EdgeMap;
@@ -301,6 +303,48 @@ impl<L: EdgeLabel, V: Copy, A: Allocator + Copy> NfaBuilder<L, V, A> {
     {
         self.outputs.clear();
         put_lists(&mut self.states, &mut self.outputs, order)
+    }
+
+    /// Counts into the profile what a search over a document reads. The search begins at the root
+    /// and takes one label after the other.
+    ///
+    /// A label that `has_label` denies leads to the root, and nothing is counted. Where
+    /// `dense_root` says that a table tells what each label leads to from the root, nothing is
+    /// counted there. At any other state a visit of it is counted, and then a visit of the child
+    /// that the label leads to; where the state has edges but not this one, a probe of the state.
+    /// The label is sought again from the state's link: the step ends at the root where the root
+    /// has no such child, and where a link is dead.
+    ///
+    /// A leftmost search remembers the place behind the last label that led to a state with
+    /// outputs, but for the root. Where a label leads to the root, it begins again at that place
+    /// and forgets it.
+    ///
+    /// A count stays at the greatest number. It takes no memory.
+    ///
+    /// # Conditions
+    ///
+    /// The links are built, and the profile was given a count of each kind for each state.
+    pub fn profile_haystack<H: Fn(L) -> bool + Drop>(
+        &self,
+        haystack: &[L],
+        profile: &mut Profile<A>,
+        dense_root: bool,
+        has_label: H,
+    )
+        requires links { LinksLeadBack L.cmp (states_of self.now) }
+        requires counts { HasCounts (length (states_of self.now)) profile.old }
+        requires callable { H.IsAlwaysCallable has_label }
+        ensures counted { IsCounted profile.old profile.new }
+        ensures empty { haystack.now ≡ [] → HasSameCounts profile.old profile.new }
+    {
+        profile::count_document(
+            &self.states,
+            self.kind.is_leftmost(),
+            haystack,
+            profile,
+            dense_root,
+            &has_label,
+        );
     }
 
     /// The groups of siblings: for each state with edges its children, in order of labels, each as

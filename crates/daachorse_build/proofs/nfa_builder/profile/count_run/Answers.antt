@@ -1,0 +1,52 @@
+-- A place that is remembered is behind a label, and within the document.
+use Rattle.std.proofs.Common.{ℕ, ◌+◌, ◌<◌, ◌≤◌, Option, Some, None, IfSome, length, sym, subst, arith}
+use Rattle.std.proofs.lemmas.List.{length-map}
+use Rattle.daachorse_build.proofs.GrownCounts.{counted_same, counted_twice, counts_stay, same_counts}
+use Rattle.daachorse_build.proofs.nfa_builder.profile.count_run.Goals as goal
+use Rattle.daachorse_build.proofs.nfa_builder.profile.count_run.Goals.{then-is_leftmost+then-is_match, else-is_leftmost}
+
+abbrev IsBehind : ℕ → Option ℕ → Type 0
+IsBehind p o = IfSome o (λ n. (0 < n) × (n ≤ p))
+
+-- a place that was passed stays behind
+behind_more : (p q : ℕ) (o : Option ℕ) → p ≤ q → IsBehind p o → IsBehind q o
+behind_more p q None l h = tt
+behind_more p q (Some n) l h = (h.0, omega (arith, h.1, l))
+
+pub loop-place-init : goal.loop-place-init
+loop-place-init g c = record {
+  counted = counted_same c.args.profile.now;
+  begun = λ _. same_counts c.args.profile.now;
+  state = omega (arith, c.requires.trie.trie.two, length-map c.args.states.now (λ s. s.edges));
+  alive = λ e. omega (arith, e);
+  match = tt;
+}
+
+pub count_label-id-requires-clause-counts : goal.count_label-id-requires-clause-counts
+count_label-id-requires-clause-counts g c =
+    counts_stay (length c.args.states.now) c.args.profile.now c.loop-place.profile c.requires.counts c.loop-place.invariant.counted
+
+pub returns-then-is_some-clause-counted : goal.returns-then-is_some-clause-counted
+returns-then-is_some-clause-counted g c =
+    counted_twice c.args.profile.now c.loop-place.profile c.count_label-id.new.profile c.loop-place.invariant.counted c.count_label-id.ensures.counted
+
+pub returns-then-is_some-clause-on : goal.returns-then-is_some-clause-on
+returns-then-is_some-clause-on g c =
+    behind_more c.loop-place.place (length c.args.haystack.now) c.loop-place.match_end (omega arith) c.loop-place.invariant.match
+
+pub loop-place-preserved : goal.loop-place-preserved
+loop-place-preserved g c =
+    let P : Option ℕ → Type 0 = IsBehind (c.loop-place.place + 1) in
+    record {
+      counted = counted_twice c.args.profile.now c.loop-place.profile c.count_label-id.new.profile c.loop-place.invariant.counted c.count_label-id.ensures.counted;
+      begun = λ e. absurd (omega (arith, e));
+      state = c.count_label-id.ensures.state;
+      alive = c.count_label-id.ensures.alive;
+      match =
+          elim c.if-is_leftmost.branch [
+            | then-is_leftmost+then-is_match w ↦
+                let now : P (Some (c.loop-place.place + 1)) = (omega arith, omega arith) in
+                subst P (sym w.match_end-is) now
+            | else-is_leftmost w ↦ subst P (sym w.match_end-is) (behind_more c.loop-place.place (c.loop-place.place + 1) c.loop-place.match_end (omega arith) c.loop-place.invariant.match)
+          ];
+    }

@@ -13,3 +13,4 @@ pub mod EmptyLaws
 pub mod Rows
 pub mod EdgeLaws
 pub mod ListingLaws
+pub mod FormLaws

@@ -1,3 +1,4 @@
 pub mod Automata
 pub mod Building
 pub mod Frequencies
+pub mod WrittenForms

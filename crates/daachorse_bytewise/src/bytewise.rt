@@ -21,6 +21,7 @@ ghost use Rattle.daachorse_bytewise.specs.Building.{HoldsPatterns, IsBuildRefusa
 pub mod builder;
 pub mod iter;
 pub mod states;
+mod written;
 
 pub use crate::bytewise::builder::DoubleArrayAhoCorasickBuilder;
 use crate::bytewise::iter::{

@@ -12,3 +12,4 @@ pub mod BuiltLaws
 pub mod Rows
 pub mod EdgeLaws
 pub mod ListingLaws
+pub mod FormLaws

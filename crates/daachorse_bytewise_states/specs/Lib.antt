@@ -6,3 +6,4 @@ pub mod Writing
 pub mod StateForms
 pub mod Equality
 pub mod Edges
+pub mod PartForms

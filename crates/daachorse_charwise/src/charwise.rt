@@ -26,6 +26,7 @@ mod frequencies;
 pub mod iter;
 pub mod mapper;
 pub mod states;
+mod written;
 
 pub use crate::charwise::builder::CharwiseDoubleArrayAhoCorasickBuilder;
 use crate::charwise::iter::{

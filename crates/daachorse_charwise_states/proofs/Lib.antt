@@ -9,3 +9,4 @@ pub mod PackedValid
 pub mod ViewLaws
 pub mod WritingLaws
 pub mod WrittenLaws
+pub mod FormLaws

@@ -8,3 +8,4 @@ pub mod Valid
 pub mod Views
 pub mod Writing
 pub mod Written
+pub mod PartForms

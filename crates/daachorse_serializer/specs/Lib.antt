@@ -1,3 +1,4 @@
+pub mod Endings
 pub mod Forms
 pub mod Kinds
 pub mod Laws

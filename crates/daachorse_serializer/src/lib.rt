@@ -5,5 +5,6 @@
 //! of its two parts while the other is set.
 #![tactic(auto)]
 
+pub mod ending;
 pub mod intpack;
 pub mod serializer;

@@ -14,3 +14,5 @@ mod listing;
 mod paths;
 #[cfg(test)]
 mod standard;
+#[cfg(test)]
+mod written;

@@ -1,0 +1,113 @@
+-- The written form of an automaton over bytes: its parts, and its filter, if it has one. And what bytes give: nothing, or
+-- parts, a filter that there may be, and the bytes behind them.
+use Rattle.std.specs.Prelude.{ℕ, ◌+◌, ◌*◌, ◌<◌, ◌^◌, List, [], ◌++◌, length, All, Option, Some, None, IfSome, refl}
+use Rattle.std.specs.Int.{w32}
+use Rattle.daachorse_core.specs.declared.outputs.Empty.{Empty}
+use Rattle.daachorse_prefilter.specs.Filters.{Filter, IsFilter}
+use Rattle.daachorse_prefilter.specs.FilterForms.{filter_form, filter_law, take_filter}
+use Rattle.daachorse_serializer.specs.Endings.{Ending, ending_form, ending_law, ending_most, take_ending}
+use Rattle.daachorse_serializer.specs.Forms.{Begins, IsForm, Taken, list_form, number_form, over, pair_form, take_list, take_number, take_pair}
+use Rattle.daachorse_serializer.specs.Laws.{empty_law, law_through, list_law, number_law, pair_law}
+use Rattle.daachorse_serializer.specs.Outputs.{IsOutput}
+use Rattle.daachorse_bytewise_states.specs.declared.state.State.{State}
+use Rattle.daachorse_bytewise_states.specs.declared.states.form.Lists.{Lists}
+use Rattle.daachorse_bytewise_states.specs.Parts.{Parts}
+use Rattle.daachorse_bytewise_states.specs.StateForms.{IsState, state_form, state_law, take_state}
+use Rattle.daachorse_bytewise_states.specs.Valid.{IsValid}
+
+-- the lists one after the other, and what the form ends with
+abbrev pub Row : Type 0 → Type 0
+Row V = List (State ℕ) × (List (State Empty) × (List ℕ × Ending V Filter))
+
+abbrev pub row_of : {V : Type 0} → Parts V × Option Filter → Row V
+row_of w = (w.0.standard, (w.0.leftmost, (w.0.fails, (w.0.outputs, (w.0.kind, (w.0.num_states, w.1))))))
+
+abbrev pub of_row : {V : Type 0} → Row V → Parts V × Option Filter
+of_row r =
+    let parts : Parts _ = record {
+      kind = r.1.1.1.1.0;
+      standard = r.0;
+      leftmost = r.1.0;
+      fails = r.1.1.0;
+      outputs = r.1.1.1.0;
+      num_states = r.1.1.1.1.1.0;
+    } in (parts, r.1.1.1.1.1.1)
+
+-- what lists that were read are
+abbrev pub parts_in : {V A : Type 0} → Lists V A → Parts V × Option Filter
+parts_in l = of_row (l.standard.items, (l.leftmost.items, (l.fails.items, (l.ending.outputs.items, (l.ending.kind, (l.ending.num_states, l.ending.filter))))))
+
+abbrev pub take_nothing : List ℕ → Taken Empty
+take_nothing bytes = Some (record {}, bytes)
+
+module _ {V : Type 0} where
+  unfoldable pub parts_form : (V → List ℕ) → Parts V → Option Filter → List ℕ
+  parts_form value p filter =
+      list_form (state_form (number_form w32)) p.standard ++ (list_form (state_form (λ _. [])) p.leftmost
+      ++ (list_form (number_form w32) p.fails ++ ending_form value filter_form (p.outputs, (p.kind, (p.num_states, filter)))))
+
+  unfoldable pub take_parts : (List ℕ → Taken V) → List ℕ → Taken (Parts V × Option Filter)
+  take_parts take_value bytes =
+      over of_row
+      (take_pair (take_list (take_state (take_number w32)))
+      (take_pair (take_list (take_state take_nothing)) (take_pair (take_list (take_number w32)) (take_ending take_value take_filter)))
+      bytes)
+
+  -- a number of 32 bits counts each list
+  pub record AreCounted (p : Parts V) : Type 0 where
+    pub standard : length p.standard < 2 ^ 32
+    pub leftmost : length p.leftmost < 2 ^ 32
+    pub fails : length p.fails < 2 ^ 32
+    pub outputs : length p.outputs < 2 ^ 32
+
+  -- each number is one of 32 bits, and each value is of its type
+  pub record AreNumbers (is_value : V → Type 0) (p : Parts V) : Type 0 where
+    pub standard : All (IsState (λ n. n < 2 ^ 32)) p.standard
+    pub leftmost : All (IsState (λ e. Unit {0})) p.leftmost
+    pub fails : All (λ n. n < 2 ^ 32) p.fails
+    pub outputs : All (IsOutput is_value) p.outputs
+    pub num_states : p.num_states < 2 ^ 32
+
+  -- the parts of an automaton in hand
+  pub record IsAutomaton (is_value : V → Type 0) (p : Parts V) : Type 0 where
+    pub valid : IsValid p
+    pub numbers : AreNumbers is_value p
+
+  -- the bytes begin with the written form of an automaton
+  pub record BeginsWithAutomaton (is_value : V → Type 0) (value : V → List ℕ) (bytes : List ℕ) : Type 0 where
+    pub parts : Parts V
+    pub automaton : IsAutomaton is_value parts
+    pub begins : Begins (parts_form value parts None) bytes
+
+  -- how long the form is at most, where a value takes at most n bytes
+  abbrev pub parts_most : ℕ → Parts V → Option Filter → ℕ
+  parts_most n p filter =
+      (12 * length p.standard + 4) + ((8 * length p.leftmost + 4) + ((4 * length p.fails + 4) + ending_most n (λ _. 65537) p.outputs filter))
+
+-- an element of an automaton for leftmost searches
+left_law : IsForm (IsState (λ e. Unit {0})) (state_form (λ (e : Empty). [])) (take_state take_nothing) (λ _. 8)
+left_law = state_law (empty_law (record {}) (λ y. refl))
+
+-- Parts are read back from their form, whatever follows it.
+pub parts_law : {V : Type 0} {P : V → Type 0} {value : V → List ℕ} {take_value : List ℕ → Taken V} {n : ℕ}
+    → IsForm P value take_value (λ _. n)
+    → IsForm (λ w. AreCounted w.0 × (AreNumbers P w.0 × IfSome w.1 IsFilter)) (λ w. parts_form value w.0 w.1) (take_parts take_value) (λ w. parts_most n w.0 w.1)
+unfolding parts_form take_parts
+parts_law {P = P} value_law =
+    law_through of_row row_of (λ w. AreCounted w.0 × (AreNumbers P w.0 × IfSome w.1 IsFilter))
+    (λ w h. (
+      (h.0.standard, h.1.0.standard),
+      (
+        (h.0.leftmost, h.1.0.leftmost),
+        (
+          (h.0.fails, h.1.0.fails),
+          ((h.0.outputs, both w.1), (h.1.0.outputs, h.1.0.num_states, h.1.1)),
+        ),
+      ),
+    ))
+    (λ w h. refl)
+    (pair_law (list_law (state_law (number_law w32))) (pair_law (list_law left_law) (pair_law (list_law (number_law w32)) (ending_law value_law filter_law))))
+  where
+    both : (v : Option Filter) → IfSome v (λ f. Unit {0})
+    both None = tt
+    both (Some f) = tt

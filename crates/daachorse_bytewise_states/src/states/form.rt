@@ -1,0 +1,165 @@
+//! The written form of the states.
+//!
+//! The layers above may rely on the bytes of [`States::serialize`] being the form of the parts, and
+//! on [`States::deserialize_unchecked`] giving back the parts whose form the bytes begin with.
+
+ghost use Rattle.std.specs.Prelude.{◌≡◌, ◌++◌, ◌-◌, ◌^◌, List, ℕ, None, Some, min, IfOk, IfErr};
+ghost use Rattle.daachorse_core.specs.Refusals.{IsOutOfMemory};
+ghost use Rattle.daachorse_serializer.specs.Forms.{GivesView, IsReadRefusal};
+ghost use Rattle.daachorse_bytewise_states.specs.PartForms.{AreCounted, AreNumbers, BeginsWithAutomaton, IsAutomaton, parts_form, parts_in, parts_most, take_parts};
+ghost use Rattle.daachorse_bytewise_states.specs.Parts.{Parts};
+ghost use Rattle.daachorse_bytewise_states.specs.Valid.{IsValid};
+
+use super::{States, root_table};
+use crate::state::State;
+use daachorse_core::Empty;
+use daachorse_core::errors::Result;
+use daachorse_prefilter::prefilter::Prefilter;
+use daachorse_serializer::ending::{Ending, ending_bytes, read_ending, write_ending};
+use daachorse_serializer::serializer::{Serializable, SerializableVec};
+use std::alloc::Allocator;
+
+/// The parts of an automaton as they were read. Nothing is known of what stands in them.
+#[derive(Drop)]
+struct Lists<V: Copy, A: Allocator> {
+    standard: Vec<State<u32>, A>,
+    leftmost: Vec<State<Empty>, A>,
+    fails: Vec<u32, A>,
+    ending: Ending<V, Prefilter<A>, A>,
+}
+
+/// Reads parts, and answers them with the bytes behind them.
+///
+/// # Errors
+///
+/// Bytes that give no parts, or out of memory.
+#[tactic(auto, unfolding(crate::specs::PartForms::take_parts))]
+fn read_lists<V: Serializable + Copy, A: Allocator + Copy>(
+    alloc: A,
+    src: &[u8],
+) -> Result<(Lists<V, A>, &[u8])>
+    ensures given { GivesView parts_in result (take_parts V.taken src.now) }
+    ensures again { IfOk result (λ r. AreCounted (parts_in r.0).0) }
+    ensures refused { IfErr result (IsReadRefusal V.own_refusal) }
+{
+    let (standard, rest) = <Vec<State<u32>, A>>::deserialize_from_slice(alloc, src)?;
+    let (leftmost, rest) = <Vec<State<Empty>, A>>::deserialize_from_slice(alloc, rest)?;
+    let (fails, rest) = <Vec<u32, A>>::deserialize_from_slice(alloc, rest)?;
+    let (ending, rest) = read_ending(alloc, rest)?;
+    let lists = Lists {
+        standard,
+        leftmost,
+        fails,
+        ending,
+    };
+    Ok((lists, rest))
+}
+
+impl<V: Serializable + Copy, A: Allocator> States<V, A> {
+    /// The written form of the states.
+    ///
+    /// # Errors
+    ///
+    /// An allocation failed.
+    pub fn serialize<B: Allocator>(&self, alloc: B) -> Result<Vec<u8, B>>
+        ensures ok { IfOk result (λ bytes. bytes.items ≡ parts_form V.form self.now None) }
+        ensures automaton { IsAutomaton V.is_value self.now }
+        ensures err { IfErr result IsOutOfMemory }
+    {
+        self.in_range();
+        let mut bytes = Vec::with_capacity(alloc, self.serialized_bytes())?;
+        self.write(&mut bytes)?;
+        Ok(bytes)
+    }
+
+    /// Appends the form.
+    #[tactic(auto, unfolding(crate::specs::PartForms::parts_form))]
+    fn write<B: Allocator>(&self, dst: &mut Vec<u8, B>) -> Result<()>
+        ensures written { IfOk result (λ done. dst.new.items ≡ dst.old.items ++ parts_form V.form self.now None) }
+        ensures refused { IfErr result IsOutOfMemory }
+    {
+        let filter: Option<Prefilter<A>> = None;
+        self.standard.serialize_to_vec(dst)?;
+        self.leftmost.serialize_to_vec(dst)?;
+        self.fails.serialize_to_vec(dst)?;
+        write_ending(&self.outputs, self.kind, self.num_states, &filter, dst)
+    }
+
+    /// How long the form is at most, in bytes, or `usize::MAX` where it is more.
+    fn serialized_bytes(&self) -> usize
+        ensures { result ≡ min (parts_most V.form_len self.now None) (2 ^ 64 - 1) }
+    {
+        let filter: Option<Prefilter<A>> = None;
+        self.standard
+            .serialized_bytes()
+            .saturating_add(self.leftmost.serialized_bytes())
+            .saturating_add(self.fails.serialized_bytes())
+            .saturating_add(ending_bytes(&self.outputs, &filter))
+    }
+
+    /// Does nothing, and promises that states in hand are those of an automaton.
+    fn in_range(&self)
+        ensures { IsAutomaton V.is_value self.now }
+    {
+        self.standard.in_range();
+        self.leftmost.in_range();
+        self.fails.in_range();
+        self.outputs.in_range();
+        self.num_states.in_range();
+    }
+}
+
+impl<V: Serializable + Copy, A: Allocator + Copy> States<V, A> {
+    /// The states whose written form the bytes begin with, and the bytes behind it.
+    ///
+    /// # Errors
+    ///
+    /// An allocation failed.
+    pub fn deserialize_unchecked(alloc: A, src: &[u8]) -> Result<(Self, &[u8])>
+        requires { BeginsWithAutomaton V.is_value V.form src.now }
+        ensures ok { IfOk result (λ r. (p : Parts V) (rest : List ℕ) → IsAutomaton V.is_value p → src.now ≡ parts_form V.form p None ++ rest
+            → (r.0 ≡ p) × (r.1.now ≡ rest)) }
+        ensures err { IfErr result IsOutOfMemory }
+    {
+        let (lists, rest) = read_lists(alloc, src)?;
+        Ok((Self::of_lists(alloc, lists)?, rest))
+    }
+
+    /// The states that these lists make up. The filter is left.
+    ///
+    /// # Errors
+    ///
+    /// An allocation failed.
+    fn of_lists(alloc: A, lists: Lists<V, A>) -> Result<Self>
+        requires { IsValid (parts_in lists).0 }
+        ensures ok { IfOk result (λ s. s ≡ (parts_in lists).0) }
+        ensures err { IfErr result IsOutOfMemory }
+    {
+        let Lists {
+            standard,
+            leftmost,
+            fails,
+            ending,
+        } = lists;
+        let Ending {
+            outputs,
+            kind,
+            num_states,
+            filter: _,
+        } = ending;
+        let root = if kind.is_leftmost() {
+            Vec::new(alloc)
+        } else {
+            root_table(alloc, standard.as_slice())?
+        };
+        Ok(Self {
+            kind,
+            standard,
+            root,
+            leftmost,
+            fails,
+            outputs,
+            num_states,
+        })
+    }
+}

@@ -1,0 +1,28 @@
+-- The written form of an automaton over characters: that of its states and outputs. Cached depths are not written.
+use Rattle.std.specs.Prelude.{◌≡◌, ℕ, List, [], ◌++◌, None}
+use Rattle.daachorse_serializer.specs.Forms.{Begins}
+use Rattle.daachorse_charwise_states.specs.PartForms.{IsAutomaton as HasParts, parts_form}
+use Rattle.daachorse_charwise.specs.Automata.{Automaton}
+
+module _ {V : Type 0} where
+  abbrev pub written_form : (V → List ℕ) → Automaton V → List ℕ
+  written_form value a = parts_form value a.parts None
+
+  -- an automaton in hand, whose values are of their type
+  abbrev pub IsAutomaton : (V → Type 0) → Automaton V → Type 0
+  IsAutomaton is_value a = HasParts is_value a.parts
+
+  -- the same, where no depths are cached
+  abbrev pub without_depths : Automaton V → Automaton V
+  without_depths a = record { parts = a.parts; depths = [] }
+
+  -- the bytes begin with the written form of an automaton
+  pub record BeginsWithAutomaton (is_value : V → Type 0) (value : V → List ℕ) (bytes : List ℕ) : Type 0 where
+    pub automaton : Automaton V
+    pub is_one : IsAutomaton is_value automaton
+    pub begins : Begins (written_form value automaton) bytes
+
+  -- what was written begins so, whatever follows it
+  pub begins-written : {is_value : V → Type 0} {value : V → List ℕ} (a : Automaton V) (bytes rest : List ℕ) → IsAutomaton is_value a
+      → bytes ≡ written_form value a ++ rest → BeginsWithAutomaton is_value value bytes
+  begins-written a bytes rest is begins = record { automaton = a; is_one = is; begins = (rest, begins) }

@@ -1,0 +1,99 @@
+//! What the written forms of both automata end with: the outputs, the kind, the number of states,
+//! and the filter, if there is one.
+//!
+//! The layers above may rely on a read giving what the bytes give, and on the law of the form,
+//! which follows from those of a value and of a filter.
+
+ghost use Rattle.std.specs.Prelude.{◌≡◌, ◌⊎◌, ◌+◌, ◌-◌, ◌<◌, ◌^◌, ◌++◌, length, min, vec_len, IfErr, IfOk, IfSome, OnOk};
+ghost use Rattle.daachorse_core.specs.Refusals.{IsOutOfMemory};
+ghost use Rattle.daachorse_serializer.specs.Endings.{ending_form, ending_most, take_ending};
+ghost use Rattle.daachorse_serializer.specs.Forms.{Begins, GivesView, IsReadRefusal, option_shape};
+
+use crate::serializer::{Serializable, SerializableVec};
+use daachorse_core::errors::Result;
+use daachorse_core::{MatchKind, Output};
+use std::alloc::{Allocator, Global};
+
+/// What an ending holds.
+#[derive(Drop)]
+pub struct Ending<V, F, A: Allocator = Global> {
+    /// The outputs.
+    pub outputs: Vec<Output<V>, A>,
+    /// The kind of searches.
+    pub kind: MatchKind,
+    /// The number of states.
+    pub num_states: u32,
+    /// The filter, if there is one.
+    pub filter: Option<F>,
+}
+
+/// Appends an ending.
+///
+/// # Conditions
+///
+/// There are at most 4,294,967,295 outputs, and the filter may be written.
+///
+/// # Errors
+///
+/// An allocation failed; `dst` then still begins with what it held.
+pub fn write_ending<V: Serializable + Copy, F: SerializableVec + Drop, A: Allocator, B: Allocator>(
+    outputs: &Vec<Output<V>, A>,
+    kind: MatchKind,
+    num_states: u32,
+    filter: &Option<F>,
+    dst: &mut Vec<u8, B>,
+) -> Result<()>
+    requires few { vec_len outputs.now < 2 ^ 32 }
+    requires filter { IfSome (option_shape F.shape filter.now) F.can_write }
+    ensures written { OnOk result (dst.new.items ≡ dst.old.items
+        ++ ending_form V.form F.form (outputs.now.items, (kind, (num_states, option_shape F.shape filter.now)))) }
+    ensures kept { Begins dst.old.items dst.new.items }
+    ensures refused { IfErr result IsOutOfMemory }
+{
+    outputs.serialize_to_vec(dst)?;
+    kind.serialize_to_vec(dst)?;
+    num_states.serialize_to_vec(dst)?;
+    filter.serialize_to_vec(dst)
+}
+
+/// Reads an ending, and answers it with the bytes behind it. What was read may be written.
+///
+/// # Errors
+///
+/// Bytes that give no ending, or out of memory.
+pub fn read_ending<
+    V: Serializable + Copy,
+    F: SerializableVec<Alloc = A> + Drop,
+    A: Allocator + Copy,
+>(alloc: A, src: &[u8]) -> Result<(Ending<V, F, A>, &[u8])>
+    ensures given { GivesView (λ e. (e.outputs.items, (e.kind, (e.num_states, option_shape F.shape e.filter))))
+        result (take_ending V.taken F.taken src.now) }
+    ensures few { IfOk result (λ r. vec_len r.0.outputs < 2 ^ 32) }
+    ensures again { IfOk result (λ r. IfSome (option_shape F.shape r.0.filter) F.can_write) }
+    ensures refused { IfErr result (IsReadRefusal (λ e. V.own_refusal e ⊎ F.own_refusal e)) }
+{
+    let (outputs, rest) = <Vec<Output<V>, A>>::deserialize_from_slice(alloc, src)?;
+    let (kind, rest) = MatchKind::deserialize_from_slice(rest)?;
+    let (num_states, rest) = u32::deserialize_from_slice(rest)?;
+    let (filter, rest) = <Option<F>>::deserialize_from_slice(alloc, rest)?;
+    let ending = Ending {
+        outputs,
+        kind,
+        num_states,
+        filter,
+    };
+    Ok((ending, rest))
+}
+
+/// The greatest length of an ending, in bytes, or `usize::MAX` where it is more.
+pub fn ending_bytes<V: Serializable + Copy, F: SerializableVec + Drop, A: Allocator>(
+    outputs: &Vec<Output<V>, A>,
+    filter: &Option<F>,
+) -> usize
+    ensures { result ≡ min (ending_most V.form_len F.form_len outputs.now.items (option_shape F.shape filter.now)) (2 ^ 64 - 1) }
+{
+    outputs
+        .serialized_bytes()
+        .saturating_add(5)
+        .saturating_add(filter.serialized_bytes())
+}

@@ -4,11 +4,17 @@
 #![tactic(auto)]
 
 #[cfg(test)]
+mod errors;
+#[cfg(test)]
 mod forms;
+#[cfg(test)]
+mod labels;
 #[cfg(test)]
 mod mapper;
 #[cfg(test)]
 mod model;
+#[cfg(test)]
+mod patterns;
 #[cfg(test)]
 mod placement;
 #[cfg(test)]
@@ -17,6 +23,8 @@ mod prefilter;
 mod serializer;
 #[cfg(test)]
 mod slow_searches;
+#[cfg(test)]
+mod texts;
 #[cfg(test)]
 mod trie;
 

@@ -8,6 +8,4 @@
 
 pub mod gathering;
 pub mod pattern;
-#[cfg(test)]
-mod tests;
 pub mod trie;

@@ -5,6 +5,8 @@
 #[cfg(test)]
 mod builds;
 #[cfg(test)]
+mod characters;
+#[cfg(test)]
 mod charwise;
 #[cfg(test)]
 mod leftmost;

@@ -7,16 +7,24 @@ use crate::mode::Mode;
 use crate::run::{RunError, run};
 use crate::sink::WriterSink;
 use daachorse::errors::{DaachorseError, Limit};
-use std::alloc::Global;
+use std::alloc::{AllocError, Global};
 use std::env::FillError;
 use std::io::{self, Write};
+use std::process::Abort;
 use std::rt::Env;
 use std::test::Fail;
 
+// Ends the test with what went wrong, unless `holds`. A call is proved faster than an assertion.
+fn expect(rt: &impl Abort, holds: bool, what: &str) {
+    assert!(rt; holds, "{what}");
+}
+
 // The name of a file that is not there.
-static LONG: [u8; 300] = [b'p'; 300];
+const LONG: &[u8] = &[b'p'; 300];
 
 const USAGE: &[u8] = b"usage: daacfind overlapping|nosuffix|find|longest|first PATTERNS HAYSTACK\n";
+
+const PATTERNS: &[u8] = b"bcd\nab\na\n";
 
 // A few files, and the number of attempts to read one.
 #[derive(Drop)]
@@ -29,7 +37,7 @@ impl Inputs for Memory {
     fn read(&mut self, name: &str) -> Option<Vec<u8>> {
         self.reads = self.reads.wrapping_add(1);
         match name {
-            "patterns" => Vec::from_slice(self.alloc, b"bcd\nab\na\n").ok(),
+            "patterns" => Vec::from_slice(self.alloc, PATTERNS).ok(),
             "haystack" => Vec::from_slice(self.alloc, b"abcd").ok(),
             "line feed" => Vec::from_slice(self.alloc, b"\n").ok(),
             "chain" => Vec::from_slice(self.alloc, b"ab\na\nabcd\n").ok(),
@@ -98,229 +106,306 @@ impl Write for Halting {
     }
 }
 
+// A command line, and how the command ends: its status, what it writes, what it tells on standard
+// error, and how often it reads a file.
+#[derive(Clone, Copy)]
+struct Row {
+    shows: &'static str,
+    args: &'static [Option<&'static str>],
+    status: u8,
+    written: &'static [u8],
+    told: &'static [u8],
+    reads: u64,
+}
+
+const ROWS: &[Row] = &[
+    Row {
+        shows: "no argument",
+        args: &[],
+        status: 2,
+        written: b"",
+        told: USAGE,
+        reads: 0,
+    },
+    Row {
+        shows: "two arguments",
+        args: &[Some("overlapping"), Some("patterns")],
+        status: 2,
+        written: b"",
+        told: USAGE,
+        reads: 0,
+    },
+    Row {
+        shows: "four arguments",
+        args: &[
+            Some("overlapping"),
+            Some("patterns"),
+            Some("haystack"),
+            Some("more"),
+        ],
+        status: 2,
+        written: b"",
+        told: USAGE,
+        reads: 0,
+    },
+    Row {
+        shows: "no mode",
+        args: &[Some("shortest"), Some("patterns"), Some("haystack")],
+        status: 2,
+        written: b"",
+        told: USAGE,
+        reads: 0,
+    },
+    Row {
+        shows: "no text",
+        args: &[Some("overlapping"), None, Some("haystack")],
+        status: 2,
+        written: b"",
+        told: USAGE,
+        reads: 0,
+    },
+    Row {
+        shows: "no patterns",
+        args: &[Some("overlapping"), Some("lost"), Some("haystack")],
+        status: 1,
+        written: b"",
+        told: b"daacfind: cannot read lost\n",
+        reads: 1,
+    },
+    Row {
+        shows: "no haystack",
+        args: &[Some("overlapping"), Some("patterns"), Some("lost")],
+        status: 1,
+        written: b"",
+        told: b"daacfind: cannot read lost\n",
+        reads: 2,
+    },
+    Row {
+        shows: "overlapping",
+        args: &[Some("overlapping"), Some("patterns"), Some("haystack")],
+        status: 0,
+        written: b"0 1 2\n0 2 1\n1 4 0\n",
+        told: b"",
+        reads: 2,
+    },
+    Row {
+        shows: "nosuffix",
+        args: &[Some("nosuffix"), Some("patterns"), Some("haystack")],
+        status: 0,
+        written: b"0 1 2\n0 2 1\n1 4 0\n",
+        told: b"",
+        reads: 2,
+    },
+    Row {
+        shows: "find",
+        args: &[Some("find"), Some("patterns"), Some("haystack")],
+        status: 0,
+        written: b"0 1 2\n1 4 0\n",
+        told: b"",
+        reads: 2,
+    },
+    Row {
+        shows: "an empty pattern",
+        args: &[Some("find"), Some("line feed"), Some("letter")],
+        status: 0,
+        written: b"0 0 0\n1 1 0\n",
+        told: b"",
+        reads: 2,
+    },
+    Row {
+        shows: "longest",
+        args: &[Some("longest"), Some("chain"), Some("haystack")],
+        status: 0,
+        written: b"0 4 2\n",
+        told: b"",
+        reads: 2,
+    },
+    Row {
+        shows: "first",
+        args: &[Some("first"), Some("chain"), Some("haystack")],
+        status: 0,
+        written: b"0 2 0\n",
+        told: b"",
+        reads: 2,
+    },
+    Row {
+        shows: "an empty file",
+        args: &[Some("find"), Some("nothing"), Some("letter")],
+        status: 0,
+        written: b"",
+        told: b"",
+        reads: 2,
+    },
+];
+
+// Whether the command ends as the row says.
+fn ends_so(alloc: Global, row: &Row) -> bool {
+    let mut files = Memory { alloc, reads: 0 };
+    let mut out = WriterSink::new(Vec::new(alloc));
+    let mut err = WriterSink::new(Vec::new(alloc));
+    let status = command(alloc, row.args, &mut files, &mut out, &mut err);
+    status == row.status
+        && out.writer().as_slice() == row.written
+        && err.writer().as_slice() == row.told
+        && files.reads == row.reads
+}
+
 #[test]
-fn a_command_tells_its_status_and_its_cause(rt: HostRuntime) -> Result<(), Fail> {
-    let rows: [(&[Option<&str>], u8, &[u8], &[u8], u64); 14] = [
-        (&[], 2, b"", USAGE, 0),
-        (&[Some("overlapping"), Some("patterns")], 2, b"", USAGE, 0),
-        (
-            &[
-                Some("overlapping"),
-                Some("patterns"),
-                Some("haystack"),
-                Some("more"),
-            ],
-            2,
-            b"",
-            USAGE,
-            0,
-        ),
-        (
-            &[Some("shortest"), Some("patterns"), Some("haystack")],
-            2,
-            b"",
-            USAGE,
-            0,
-        ),
-        (
-            &[Some("overlapping"), None, Some("haystack")],
-            2,
-            b"",
-            USAGE,
-            0,
-        ),
-        (
-            &[Some("overlapping"), Some("lost"), Some("haystack")],
-            1,
-            b"",
-            b"daacfind: cannot read lost\n",
-            1,
-        ),
-        (
-            &[Some("overlapping"), Some("patterns"), Some("lost")],
-            1,
-            b"",
-            b"daacfind: cannot read lost\n",
-            2,
-        ),
-        (
-            &[Some("overlapping"), Some("patterns"), Some("haystack")],
-            0,
-            b"0 1 2\n0 2 1\n1 4 0\n",
-            b"",
-            2,
-        ),
-        (
-            &[Some("nosuffix"), Some("patterns"), Some("haystack")],
-            0,
-            b"0 1 2\n0 2 1\n1 4 0\n",
-            b"",
-            2,
-        ),
-        (
-            &[Some("find"), Some("patterns"), Some("haystack")],
-            0,
-            b"0 1 2\n1 4 0\n",
-            b"",
-            2,
-        ),
-        (
-            &[Some("find"), Some("line feed"), Some("letter")],
-            0,
-            b"0 0 0\n1 1 0\n",
-            b"",
-            2,
-        ),
-        (
-            &[Some("longest"), Some("chain"), Some("haystack")],
-            0,
-            b"0 4 2\n",
-            b"",
-            2,
-        ),
-        (
-            &[Some("first"), Some("chain"), Some("haystack")],
-            0,
-            b"0 2 0\n",
-            b"",
-            2,
-        ),
-        (
-            &[Some("find"), Some("nothing"), Some("letter")],
-            0,
-            b"",
-            b"",
-            2,
-        ),
-    ];
-    for (i, (args, status, written, told, reads)) in rows.iter().enumerate() {
-        let mut files = Memory {
-            alloc: rt.alloc(),
-            reads: 0,
-        };
-        let mut out = WriterSink::new(Vec::new(rt.alloc()));
-        let mut err = WriterSink::new(Vec::new(rt.alloc()));
-        assert_eq!(rt;
-            command(rt.alloc(), args, &mut files, &mut out, &mut err),
-            *status,
-            "row {i}"
-        );
-        assert_eq!(rt; out.writer().as_slice(), *written, "row {i}");
-        assert_eq!(rt; err.writer().as_slice(), *told, "row {i}");
-        assert_eq!(rt; files.reads, *reads, "row {i}");
+fn a_command_tells_its_status_and_its_cause(rt: HostRuntime) {
+    for row in ROWS {
+        expect(&rt, ends_so(rt.alloc(), row), row.shows);
     }
-    Ok(())
+}
+
+// The words of a command line, and how the program ends: its status, what it writes, and how often
+// it reads a file.
+#[derive(Clone, Copy)]
+struct Call {
+    words: &'static [&'static [u8]],
+    status: u8,
+    written: &'static [u8],
+    reads: u64,
+}
+
+const CALLS: &[Call] = &[
+    Call {
+        words: &[b"daacfind"],
+        status: 2,
+        written: b"",
+        reads: 0,
+    },
+    Call {
+        words: &[b"daacfind", b"overlapping", b"patterns", b"haystack"],
+        status: 0,
+        written: b"0 1 2\n0 2 1\n1 4 0\n",
+        reads: 2,
+    },
+    Call {
+        words: &[b"daacfind", b"find", b"patterns", b"haystack", b"more"],
+        status: 2,
+        written: b"",
+        reads: 0,
+    },
+    Call {
+        words: &[b"daacfind", b"find", b"patterns", b"haystack", b"", b""],
+        status: 2,
+        written: b"",
+        reads: 0,
+    },
+    Call {
+        words: &[b"daacfind", b"find", b"\xff", b"haystack"],
+        status: 2,
+        written: b"",
+        reads: 0,
+    },
+    Call {
+        words: &[b"daacfind", b"find", LONG, b"haystack"],
+        status: 1,
+        written: b"",
+        reads: 1,
+    },
+];
+
+// Whether the program ends as the call says.
+fn runs_so(alloc: Global, call: &Call) -> Result<bool, AllocError> {
+    let mut files = Memory { alloc, reads: 0 };
+    let mut out = WriterSink::new(Vec::new(alloc));
+    let mut err = WriterSink::new(Vec::new(alloc));
+    let words = Words { words: call.words };
+    let status = run_program(&words, alloc, &mut files, &mut out, &mut err)?;
+    Ok(
+        status == call.status
+            && out.writer().as_slice() == call.written
+            && files.reads == call.reads,
+    )
 }
 
 #[test]
 fn the_program_has_three_arguments(rt: HostRuntime) -> Result<(), Fail> {
-    let rows: [(&[&[u8]], u8, &[u8], u64); 6] = [
-        (&[b"daacfind"], 2, b"", 0),
-        (
-            &[b"daacfind", b"overlapping", b"patterns", b"haystack"],
-            0,
-            b"0 1 2\n0 2 1\n1 4 0\n",
-            2,
-        ),
-        (
-            &[b"daacfind", b"find", b"patterns", b"haystack", b"more"],
-            2,
-            b"",
-            0,
-        ),
-        (
-            &[b"daacfind", b"find", b"patterns", b"haystack", b"", b""],
-            2,
-            b"",
-            0,
-        ),
-        (&[b"daacfind", b"find", b"\xff", b"haystack"], 2, b"", 0),
-        (&[b"daacfind", b"find", &LONG, b"haystack"], 1, b"", 1),
-    ];
-    for (i, (words, status, written, reads)) in rows.iter().enumerate() {
-        let mut files = Memory {
-            alloc: rt.alloc(),
-            reads: 0,
-        };
-        let mut out = WriterSink::new(Vec::new(rt.alloc()));
-        let mut err = WriterSink::new(Vec::new(rt.alloc()));
-        let ended = run_program(&Words { words }, rt.alloc(), &mut files, &mut out, &mut err)?;
-        assert_eq!(rt; ended, *status, "row {i}");
-        assert_eq!(rt; out.writer().as_slice(), *written, "row {i}");
-        assert_eq!(rt; files.reads, *reads, "row {i}");
+    for call in CALLS {
+        expect(&rt, runs_so(rt.alloc(), call)?, "the call");
     }
     Ok(())
+}
+
+// Whether a lone argument is read whole.
+fn is_read(alloc: Global, word: &[u8]) -> Result<bool, AllocError> {
+    let words = Words {
+        words: &[b"daacfind", word],
+    };
+    let arguments = Arguments::read(&words, alloc)?;
+    let texts = arguments.texts(alloc)?;
+    Ok(
+        texts.len() == 1
+            && texts
+                .first()
+                .is_some_and(|text| text.is_some_and(|text| text.as_bytes() == word)),
+    )
 }
 
 #[test]
 fn an_argument_has_any_length(rt: HostRuntime) -> Result<(), Fail> {
     let word = [b'w'; 5000];
     for len in [0, 1, 255, 256, 257, 512, 5000] {
-        let word = &word[..len];
-        let words = Words {
-            words: &[b"daacfind", word],
-        };
-        let arguments = Arguments::read(&words, rt.alloc())?;
-        let texts = arguments.texts(rt.alloc())?;
-        assert_eq!(rt; texts.len(), 1, "{len} bytes");
-        let text = texts[0].ok_or("no text")?;
-        assert_eq!(rt; text.as_bytes(), word, "{len} bytes");
+        expect(&rt, is_read(rt.alloc(), &word[..len])?, "the argument");
     }
     Ok(())
+}
+
+// Whether an error is printed as this text.
+fn prints(alloc: Global, error: &RunError, text: &str) -> Result<bool, AllocError> {
+    let printed = error.to_string(alloc)?;
+    Ok(printed.as_str() == text)
 }
 
 #[test]
 fn a_run_error_prints_its_cause(rt: HostRuntime) -> Result<(), Fail> {
     let refusal = RunError::Build(DaachorseError::automaton_scale(Limit::PatternValues));
-    assert_eq!(rt;
-        refusal.to_string(rt.alloc())?.as_str(),
-        "AutomatonScaleError: patvals.len() must be <= 16777215"
-    );
-    assert_eq!(rt;
-        RunError::Write.to_string(rt.alloc())?.as_str(),
-        "daacfind: cannot write"
+    let text = "AutomatonScaleError: patvals.len() must be <= 16777215";
+    expect(&rt, prints(rt.alloc(), &refusal, text)?, "a refusal");
+    let text = "daacfind: cannot write";
+    expect(
+        &rt,
+        prints(rt.alloc(), &RunError::Write, text)?,
+        "a failure",
     );
     Ok(())
 }
 
+// After how many bytes a writer fails, whether it can flush, what it takes, how many bytes it took
+// before each flush, and whether the run succeeds.
+type Halt = (u64, bool, &'static [u8], &'static [usize], bool);
+
+const HALTS: [Halt; 5] = [
+    (0, true, b"", &[], false),
+    (5, true, b"0 1 2", &[], false),
+    (17, true, b"0 1 2\n0 2 1\n1 4 0", &[], false),
+    (99, false, b"0 1 2\n0 2 1\n1 4 0\n", &[18], false),
+    (99, true, b"0 1 2\n0 2 1\n1 4 0\n", &[18], true),
+];
+
+// Whether a run over a writer that fails ends so.
+fn halts_so(alloc: Global, halt: Halt) -> bool {
+    let (left, can_flush, written, flushes, succeeds) = halt;
+    let mut out = WriterSink::new(Halting {
+        left,
+        taken: Vec::new(alloc),
+        can_flush,
+        flushes: Vec::new(alloc),
+    });
+    let is_right = match run(alloc, Mode::Overlapping, PATTERNS, b"abcd", &mut out) {
+        Ok(()) => succeeds,
+        Err(RunError::Write) => !succeeds,
+        Err(RunError::Build(_)) => false,
+    };
+    is_right
+        && out.writer().taken.as_slice() == written
+        && out.writer().flushes.as_slice() == flushes
+}
+
 #[test]
 fn a_run_flushes_once_at_the_end(rt: HostRuntime) {
-    let text = b"0 1 2\n0 2 1\n1 4 0\n";
-    let rows: [(u64, bool, &[u8], &[usize], bool); 5] = [
-        (0, true, b"", &[], false),
-        (5, true, b"0 1 2", &[], false),
-        (17, true, b"0 1 2\n0 2 1\n1 4 0", &[], false),
-        (99, false, text, &[18], false),
-        (99, true, text, &[18], true),
-    ];
-    for (left, can_flush, written, flushes, succeeds) in rows {
-        let mut out = WriterSink::new(Halting {
-            left,
-            taken: Vec::new(rt.alloc()),
-            can_flush,
-            flushes: Vec::new(rt.alloc()),
-        });
-        let ended = run(
-            rt.alloc(),
-            Mode::Overlapping,
-            b"bcd\nab\na\n",
-            b"abcd",
-            &mut out,
-        );
-        match ended {
-            Ok(()) => assert!(rt; succeeds, "after {left} bytes"),
-            Err(RunError::Write) => assert!(rt; !succeeds, "after {left} bytes"),
-            Err(RunError::Build(_)) => panic!(rt; "the patterns were refused"),
-        }
-        assert_eq!(rt;
-            out.writer().taken.as_slice(),
-            written,
-            "after {left} bytes"
-        );
-        assert_eq!(rt;
-            out.writer().flushes.as_slice(),
-            flushes,
-            "after {left} bytes"
-        );
+    for halt in HALTS {
+        expect(&rt, halts_so(rt.alloc(), halt), "the run");
     }
 }

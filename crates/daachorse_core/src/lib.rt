@@ -20,6 +20,3 @@ pub const ROOT_STATE_IDX: u32 = 0;
 
 /// The index of the dead state, at which a leftmost search stops.
 pub const DEAD_STATE_IDX: u32 = 1;
-
-#[cfg(test)]
-mod tests;

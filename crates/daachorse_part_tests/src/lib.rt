@@ -8,11 +8,17 @@ mod bytewise_states;
 #[cfg(test)]
 mod charwise_states;
 #[cfg(test)]
+mod errors;
+#[cfg(test)]
 mod forms;
+#[cfg(test)]
+mod labels;
 #[cfg(test)]
 mod mapper;
 #[cfg(test)]
 mod model;
+#[cfg(test)]
+mod patterns;
 #[cfg(test)]
 mod placement;
 #[cfg(test)]
@@ -21,6 +27,8 @@ mod prefilter;
 mod serializer;
 #[cfg(test)]
 mod slow_searches;
+#[cfg(test)]
+mod texts;
 #[cfg(test)]
 mod trie;
 

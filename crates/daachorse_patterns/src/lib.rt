@@ -9,6 +9,4 @@
 pub mod gathering;
 pub mod pattern;
 pub mod settings;
-#[cfg(test)]
-mod tests;
 pub mod trie;

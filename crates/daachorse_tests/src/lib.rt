@@ -5,6 +5,8 @@
 #[cfg(test)]
 mod builds;
 #[cfg(test)]
+mod text_automata;
+#[cfg(test)]
 mod charwise;
 #[cfg(test)]
 mod leftmost;

@@ -5,6 +5,4 @@
 #![tactic(auto)]
 
 pub mod decoding;
-#[cfg(test)]
-mod tests;
 pub mod text;

@@ -1,11 +1,20 @@
 -- The group at hand is one that may be placed, and with it one group more is.
 use Rattle.std.specs.Prelude.{IfErr}
 use Rattle.std.proofs.Common.{rules, Err, ◌≤◌, ◌*◌, ◌^◌, ◌≡◌, ◌<◌, ℕ, List, length, sym, ◌∙◌, subst, arith, ap, set, ◌+◌, ◌||◌}
-use Rattle.daachorse_placement.specs.Elements.{count_of, HasPlaced, IsMapOf, layout_of}
+use Rattle.daachorse_placement.specs.Elements.{count_of, HasPlaced, IsFull, IsMapOf, layout_of}
 use Rattle.daachorse_placement.specs.Placement.{IsPlaceRefusal, AreApart, AreGroups, AreIds, AreLabels, IsPlaced, children_of, is_light, parent_of}
 use Rattle.daachorse_placement.proofs.PlaceStart.{children_at, parent_at, placed_weighed, block_kept, light_more, refusal, refusal_under}
 use Rattle.daachorse_placement.proofs.PlaceSteps.{placed_more}
 use Rattle.daachorse_placement.proofs.build_helper.place_all.Goals as goal
+
+pub weigh-requires : goal.weigh-requires
+weigh-requires g c = c.loop-group.invariant.whole
+
+pub place-requires-clause-whole : goal.place-requires-clause-whole
+place-requires-clause-whole g c = c.weigh.ensures.whole
+
+pub place-requires-clause-full : goal.place-requires-clause-full
+place-requires-clause-full g c = subst (λ v. IsFull v) (sym c.weigh.ensures.windowed) c.loop-group.invariant.full
 
 pub place-requires-clause-some : goal.place-requires-clause-some
 place-requires-clause-some g c =
@@ -85,3 +94,12 @@ returns-in_err-base-clause-refused g c =
     let is_err : c.from_residual.result ≡ Err c.in_err-base.field-0.0 = search rules in
     subst (λ r. IfErr r (IsPlaceRefusal (2 ^ 32 ≤ (m + 1) * n))) (sym is_err)
     (refusal_under (2 ^ 32 ≤ count_of w + w.block_len) (2 ^ 32 ≤ (m + 1) * n) c.in_err-base.field-0.0 passed c.in_err-base.ensures.refused)
+
+pub returns-clause-whole : goal.returns-clause-whole
+returns-clause-whole g c = c.loop-group.invariant.whole
+
+pub returns-clause-full : goal.returns-clause-full
+returns-clause-full g c = c.loop-group.invariant.full
+
+pub returns-clause-block : goal.returns-clause-block
+returns-clause-block g c = c.loop-group.invariant.block

@@ -6,6 +6,9 @@ use Rattle.daachorse_placement.proofs.FlagCounts.{none-vacant}
 use Rattle.daachorse_placement.proofs.PlaceStart.{placed_start, full_start}
 use Rattle.daachorse_placement.proofs.build_helper.BuildHelper.new.Goals as goal
 
+pub place_all-requires-clause-whole : goal.place_all-requires-clause-whole
+place_all-requires-clause-whole g c = c.in_ok-elements.ensures.whole
+
 pub place_all-requires-clause-placed : goal.place_all-requires-clause-placed
 place_all-requires-clause-placed g c =
     let e = c.in_ok-elements.elements in

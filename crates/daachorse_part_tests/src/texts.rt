@@ -1,14 +1,15 @@
-//! What no clause says: that each call runs, and the characters of a few texts.
+//! What no clause says of texts: that each call runs, and the characters of a few of them.
 
 ghost use Rattle.std.specs.Prelude.{◌≡◌, ℕ, List, [], IfOk};
 ghost use Rattle.std.specs.Iterator.{Drains};
 ghost use Rattle.std.specs.Str.{chars};
 ghost use Rattle.daachorse_text.specs.TextSources.{IsText};
 
-use crate::decoding::{CharWithEndOffsetIterator, Decoded};
-use crate::text::Text;
+use crate::expect;
 use daachorse_search::haystack::{Bytes, Reread};
 use daachorse_search::source::Source;
+use daachorse_text::decoding::{CharWithEndOffsetIterator, Decoded};
+use daachorse_text::text::Text;
 use std::alloc::{AllocError, Global};
 use std::test::Fail;
 
@@ -27,6 +28,11 @@ fn characters_in(alloc: Global, text: &str) -> Result<Vec<char>, AllocError>
     characters_of(alloc, text.bytes())
 }
 
+/// The characters of a string with their ends, by way of its bytes.
+fn characters_with_ends(alloc: Global, text: &str) -> Result<Vec<(usize, char)>, AllocError> {
+    CharWithEndOffsetIterator::new(Bytes::new(text.as_bytes())).collect(alloc)
+}
+
 /// The last character of a source that a search may read.
 fn last_of<S: Source<char>>(source: S) -> Option<char>
     requires { S.may_read source [] }
@@ -34,42 +40,68 @@ fn last_of<S: Source<char>>(source: S) -> Option<char>
     source.last()
 }
 
+/// The last character of a string, by way of its bytes.
+fn last_in(text: &str) -> Option<char> {
+    last_of(Decoded::new(Bytes::new(text.as_bytes())))
+}
+
+/// What the next calls on a text give.
+const NEXT: [Option<char>; 6] = [
+    Some('a'),
+    Some('é'),
+    Some('に'),
+    Some('\u{10000}'),
+    None,
+    None,
+];
+
 #[test]
 fn a_text_gives_its_characters(rt: HostRuntime) {
     let mut text = Text::new("aéに\u{10000}");
-    assert_eq!(rt; text.next(), Some('a'));
-    assert_eq!(rt; text.next(), Some('é'));
-    assert_eq!(rt; text.next(), Some('に'));
-    assert_eq!(rt; text.next(), Some('\u{10000}'));
-    assert_eq!(rt; text.next(), None);
-    assert_eq!(rt; text.next(), None);
+    for wanted in &NEXT {
+        expect(&rt, text.next() == *wanted, "the character");
+    }
 }
 
 #[test]
 fn a_text_is_read_again(rt: HostRuntime) {
     let mut later = Text::new("にé").after(3);
-    assert_eq!(rt; later.left(), 2);
-    assert_eq!(rt; later.next(), Some('é'));
-    assert_eq!(rt; later.next(), None);
+    expect(&rt, later.left() == 2, "what is left");
+    expect(&rt, later.next() == Some('é'), "the character");
+    expect(&rt, later.next().is_none(), "the end");
 }
 
 #[test]
 fn characters_come_with_their_ends(rt: HostRuntime) -> Result<(), Fail> {
-    let bytes = Bytes::new("aéに\u{10000}".as_bytes());
-    let pairs: Vec<(usize, char)> = CharWithEndOffsetIterator::new(bytes).collect(rt.alloc())?;
+    let pairs = characters_with_ends(rt.alloc(), "aéに\u{10000}")?;
     let all = [(1, 'a'), (3, 'é'), (6, 'に'), (10, '\u{10000}')];
-    assert_eq!(rt; pairs.as_slice(), all.as_slice());
-    let last = last_of(Decoded::new(Bytes::new("aに".as_bytes())));
-    assert_eq!(rt; last, Some('に'));
+    expect(&rt, pairs.as_slice() == all.as_slice(), "the pairs");
+    expect(&rt, last_in("aに") == Some('に'), "the last");
     Ok(())
 }
+
+/// The first and the last character of each width, and those beside the surrogates.
+const BOUNDS: [char; 10] = [
+    '\0',
+    '\u{7f}',
+    '\u{80}',
+    '\u{7ff}',
+    '\u{800}',
+    '\u{d7ff}',
+    '\u{e000}',
+    '\u{ffff}',
+    '\u{10000}',
+    '\u{10ffff}',
+];
 
 #[test]
 fn each_width_has_its_first_and_last(rt: HostRuntime) -> Result<(), Fail> {
     let text = "\0\u{7f}\u{80}\u{7ff}\u{800}\u{d7ff}\u{e000}\u{ffff}\u{10000}\u{10ffff}";
     let decoded = characters_in(rt.alloc(), text)?;
-    let all: Vec<char> = text.chars().collect(rt.alloc())?;
-    assert_eq!(rt; decoded.len(), 10);
-    assert_eq!(rt; decoded.as_slice(), all.as_slice());
+    expect(
+        &rt,
+        decoded.as_slice() == BOUNDS.as_slice(),
+        "the characters",
+    );
     Ok(())
 }

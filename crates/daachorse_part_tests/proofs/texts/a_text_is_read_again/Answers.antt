@@ -1,6 +1,6 @@
 use Rattle.std.proofs.Common.{◌≡◌, [], ◌∷◌, ◌++◌, ◌∙◌, refl}
 use Rattle.std.specs.Str.{chars}
-use Rattle.daachorse_text.proofs.tests.a_text_is_read_again.Goals as goal
+use Rattle.daachorse_part_tests.proofs.texts.a_text_is_read_again.Goals as goal
 
 parts : chars (227 ∷ 129 ∷ 171 ∷ 195 ∷ 169 ∷ []) ≡ (12395 ∷ []) ++ (233 ∷ [])
 unfolding chars

@@ -5,7 +5,7 @@ use Rattle.std.specs.Str.{IsUtf8, chars}
 use Rattle.std.specs.Str.Iter.{bytes_rest, bytes_steps}
 use Rattle.std.specs.declared.str.Bytes.{Bytes}
 use Rattle.daachorse_text.proofs.DecodedRuns.{IsText-bytes, all_bytes}
-use Rattle.daachorse_text.proofs.tests.characters_in.Goals as goal
+use Rattle.daachorse_part_tests.proofs.texts.characters_in.Goals as goal
 
 pub characters_of-requires : goal.characters_of-requires
 characters_of-requires c = IsText-bytes _ _ c.bytes.result tt tt (subst IsUtf8 (sym c.bytes.ensures.rest) c.utf8.text)

@@ -1,16 +1,21 @@
-//! Worked rows of the depths, the listing, the number of states, clones, equality and hashes.
+//! The automaton over characters: its depths, its listing, its clones, and the turns of a whole
+//! search.
 
 ghost use Rattle.std.specs.Prelude.{◌≡◌, ◌*◌, ◌≤◌, length, IfOk};
 ghost use Rattle.std.specs.Str.{chars};
 ghost use Rattle.daachorse_model.specs.declared.MatchKind.TheVariants.{Standard};
 
-use crate::charwise::CharwiseDoubleArrayAhoCorasick;
-use crate::charwise::iter::FindOverlappingSliceIterator;
-use daachorse_core::Match;
-use daachorse_core::errors::Result;
+use daachorse::charwise::iter::FindOverlappingSliceIterator;
+use daachorse::{CharwiseDoubleArrayAhoCorasick, Result};
 use std::alloc::Global;
 use std::hash::{DefaultHasher, Hash, Hasher};
+use std::process::Abort;
 use std::test::Fail;
+
+/// Ends the test with what went wrong, unless `holds`. A call is proved faster than an assertion.
+fn expect(rt: &impl Abort, holds: bool, what: &str) {
+    assert!(rt; holds, "{what}");
+}
 
 fn build(alloc: Global, patvals: &[(&str, u32)]) -> Result<CharwiseDoubleArrayAhoCorasick<u32>>
     ensures { IfOk result (λ a. a.parts.kind ≡ Standard) }
@@ -55,52 +60,68 @@ fn run_overlapping<'a>(
     }
 }
 
+/// Two patterns, one of them the end of the other.
+const PATTERNS: [(&str, u32); 2] = [("世界", 0), ("界", 1)];
+
 #[test]
 fn a_whole_search_passes_the_whole_text(rt: HostRuntime) -> Result<(), Fail> {
-    let automaton = build(rt.alloc(), &[("世界", 0), ("界", 1)])?;
+    let automaton = build(rt.alloc(), &PATTERNS)?;
     let mut over = run_overlapping(&automaton, "全世界");
-    assert_eq!(rt; over.next(), None::<Match<u32>>);
+    expect(&rt, over.next().is_none(), "the end");
     Ok(())
 }
 
 #[test]
 fn depths_are_counted_in_characters(rt: HostRuntime) -> Result<(), Fail> {
-    let mut automaton = build(rt.alloc(), &[("世界", 0), ("界", 1)])?;
-    assert_eq!(rt; automaton.num_states(), 4);
-    assert_eq!(rt; depths(&automaton), [None, None, None, None]);
+    let mut automaton = build(rt.alloc(), &PATTERNS)?;
+    expect(&rt, automaton.num_states() == 4, "the states");
+    expect(&rt, depths(&automaton) == [None, None, None, None], "none");
     automaton.cache_depths()?;
-    assert_eq!(rt; depths(&automaton), [Some(0), Some(1), Some(2), Some(1)]);
+    let wanted = [Some(0), Some(1), Some(2), Some(1)];
+    expect(&rt, depths(&automaton) == wanted, "cached");
     Ok(())
+}
+
+/// The patterns with their values, as they are given.
+const GIVEN: [(&str, u32); 5] = [("全世界", 0), ("世界", 1), ("に", 2), ("世界", 3), ("ab", 4)];
+
+/// The same in the order of their characters.
+const LISTED: [(&str, u32); 5] = [("ab", 4), ("に", 2), ("世界", 1), ("世界", 3), ("全世界", 0)];
+
+/// Whether these are the patterns that the automaton lists.
+fn lists(
+    alloc: Global,
+    automaton: &CharwiseDoubleArrayAhoCorasick<u32>,
+    wanted: &[(&str, u32)],
+) -> Result<bool> {
+    let mut left = wanted.iter();
+    for item in automaton.iter(alloc)? {
+        let (pattern, value) = item?;
+        match left.next() {
+            Some((text, number)) if pattern.as_str() == *text && value == *number => {}
+            _ => return Ok(false),
+        }
+    }
+    Ok(left.next().is_none())
 }
 
 #[test]
 fn patterns_are_listed_in_the_order_of_their_characters(rt: HostRuntime) -> Result<(), Fail> {
-    let patvals = [("全世界", 0), ("世界", 1), ("に", 2), ("世界", 3), ("ab", 4)];
-    let listing = [("ab", 4), ("に", 2), ("世界", 1), ("世界", 3), ("全世界", 0)];
-    let automaton = build(rt.alloc(), &patvals)?;
-    let mut left = listing.iter();
-    for item in automaton.iter(rt.alloc())? {
-        let (pattern, value) = item?;
-        let Some((text, number)) = left.next() else {
-            panic!(rt; "there is one more");
-        };
-        assert_eq!(rt; pattern.as_str(), *text);
-        assert_eq!(rt; value, *number);
-    }
-    assert!(rt; left.next().is_none());
+    let automaton = build(rt.alloc(), &GIVEN)?;
+    expect(&rt, lists(rt.alloc(), &automaton, &LISTED)?, "the listing");
     Ok(())
 }
 
 #[test]
 fn equality_and_hash_look_at_cached_depths(rt: HostRuntime) -> Result<(), Fail> {
     let empty = build(rt.alloc(), &[])?;
-    assert_eq!(rt; empty.num_states(), 1);
+    expect(&rt, empty.num_states() == 1, "the states");
     let mut automaton = build(rt.alloc(), &[("世", 1)])?;
-    assert!(rt; automaton != empty);
+    expect(&rt, automaton != empty, "other patterns");
     let before = automaton.clone()?;
-    assert!(rt; automaton == before);
-    assert_eq!(rt; hash_of(&automaton), hash_of(&before));
+    expect(&rt, automaton == before, "a clone");
+    expect(&rt, hash_of(&automaton) == hash_of(&before), "the hash");
     automaton.cache_depths()?;
-    assert!(rt; automaton != before);
+    expect(&rt, automaton != before, "cached depths");
     Ok(())
 }

@@ -1,6 +1,6 @@
 -- Valid parts are a right machine, so that looks, chains and outputs are those of the dictionary that they hold.
 use Rattle.std.proofs.Common.{◌≡◌, ◌≢◌, Bool, true, false, cond, ℕ, ◌<◌, ◌≤◌, ◌%◌, List, [], length, Option, Some, None, refl, sym, ap, ◌∙◌, subst, arith}
-use Rattle.std.specs.Prelude.{slice_index, unwrap_or}
+use Rattle.std.specs.Prelude.{slice_index_or, unwrap_or}
 use Rattle.std.specs.declared.num.NonZeroU32.{NonZeroU32}
 use Rattle.daachorse_core.specs.Outputs.{number, outputs_at}
 use Rattle.daachorse_core.specs.declared.turns.Look.{Look}
@@ -79,14 +79,20 @@ module _ {V : Type 0} (p : Parts V) where
         look_fail i c f r e other at (λ one. standard-alive byte_width (machine p) (is_leftmost p.kind) (count p) 256 is_machine i r other (alive p standard) (at ∙ one))
 
     -- by the table of the root
-    pub look_table : (root : List ℕ) → IsRootTable (child p 0) 256 root → (i c : ℕ) → IsState p i → c < 256 → i ≡ 0 → (o : Option NonZeroU32) → Gives i c (Next (slice_index root c) o)
-    look_table root table i c r byte top o =
+    pub look_table : (root : List (ℕ × ℕ)) → IsRootTable (child p 0) (output_of p) 256 root → (i c j : ℕ) → IsState p i → c < 256 → i ≡ 0 → j ≡ (slice_index_or root c (0, 0)).0 → (o : Option NonZeroU32) → Gives i c (Next j o)
+    look_table root table i c j r byte top is o =
         let P : ℕ → Type 0 = λ x. Gives i c (Next x o) in
-        subst P (sym (table.right c byte)) (go (child p 0 c) refl)
+        subst P (sym (is ∙ ap (λ e. e.0) (table.right c byte))) (go (child p 0 c) refl)
       where
-        go : (j : Option ℕ) → child p 0 c ≡ j → Gives i c (Next (unwrap_or j 0) o)
+        go : (x : Option ℕ) → child p 0 c ≡ x → Gives i c (Next (unwrap_or x 0) o)
         go None e = look_root i c r (ap (λ x. child p x c) top ∙ e) top o
-        go (Some j) e = look_child i c j r (ap (λ x. child p x c) top ∙ e) o
+        go (Some k) e = look_child i c k r (ap (λ x. child p x c) top ∙ e) o
+
+    -- the table has the first output of each element that it has
+    pub table_output : (root : List (ℕ × ℕ)) → IsRootTable (child p 0) (output_of p) 256 root → (c : ℕ) → c < 256 → output_of p (slice_index_or root c (0, 0)).0 ≡ (slice_index_or root c (0, 0)).1
+    table_output root table c byte =
+        let at = table.right c byte in
+        ap (λ e. output_of p e.0) at ∙ sym (ap (λ e. e.1) at)
 
     -- ---- outputs
 

@@ -1,6 +1,7 @@
 -- What is read of leftmost parts, element by element: the elements without links, and the links beside them.
 use Rattle.std.proofs.Common.{◌≡◌, ℕ, ◌<◌, Bool, true, cond, List, [], length, refl, sym, ap, ◌∙◌, subst, arith, slice_index_or}
 use Rattle.std.specs.Prelude.{slice_index}
+use Rattle.std.proofs.lemmas.List.{get_or_default}
 use Rattle.daachorse_core.specs.declared.outputs.Empty.{Empty}
 use Rattle.daachorse_core.specs.declared.outputs.Output.{Output}
 use Rattle.daachorse_model.specs.declared.MatchKind.{MatchKind}
@@ -42,3 +43,7 @@ module _ {V : Type 0} (p : Parts V) (kind : MatchKind) (es : List (State Empty))
 
   pub left_output : (i : ℕ) → output_of p i ≡ output_in (slice_index_or es i vacant_left)
   left_output i = ap (λ x. output_of x i) (sym is) ∙ ap (λ b. cond b (output_in (slice_index_or es i vacant_left)) (output_in (slice_index_or [] i vacant))) kept.1
+
+  -- the same, whatever stands past the last
+  pub left_output_at : (i : ℕ) (d : State Empty) → IsState p i → output_of p i ≡ output_in (slice_index_or es i d)
+  left_output_at i d r = left_output i ∙ ap output_in (get_or_default es i vacant_left d (left_inside i r))

@@ -1,5 +1,6 @@
 -- What is read of standard parts, element by element.
 use Rattle.std.proofs.Common.{◌≡◌, ℕ, ◌<◌, List, length, refl, sym, ap, ◌∙◌, subst, arith, slice_index_or}
+use Rattle.std.proofs.lemmas.List.{get_or_default}
 use Rattle.daachorse_core.specs.declared.outputs.Output.{Output}
 use Rattle.daachorse_model.specs.declared.MatchKind.TheVariants.{Standard}
 use Rattle.daachorse_bytewise_states.specs.declared.state.State.{State}
@@ -9,7 +10,7 @@ use Rattle.daachorse_bytewise_states.specs.Valid.{IsRootTable, IsState, IsStored
 use Rattle.daachorse_bytewise_states.proofs.ByteLaws.{state_inside}
 use Rattle.daachorse_bytewise_states.proofs.ChildLaws.{child_read}
 
-module _ {V : Type 0} (p : Parts V) (es : List (State ℕ)) (outs : List (Output V)) (n : ℕ) (root : List ℕ) (is : standard_parts es outs n ≡ p) (stored : IsStored (standard_parts es outs n) root) where
+module _ {V : Type 0} (p : Parts V) (es : List (State ℕ)) (outs : List (Output V)) (n : ℕ) (root : List (ℕ × ℕ)) (is : standard_parts es outs n ≡ p) (stored : IsStored (standard_parts es outs n) root) where
   pub standard_stored : IsStored p root
   standard_stored = let P : Parts V → Type 0 = λ q. IsStored q root in subst P is stored
 
@@ -19,7 +20,7 @@ module _ {V : Type 0} (p : Parts V) (es : List (State ℕ)) (outs : List (Output
   pub standard_kind : p.kind ≡ Standard
   standard_kind = ap (λ q. q.kind) (sym is)
 
-  pub standard_table : IsRootTable (child p 0) 256 root
+  pub standard_table : IsRootTable (child p 0) (output_of p) 256 root
   standard_table = standard_stored.table standard_kind
 
   pub standard_inside : (i : ℕ) → IsState p i → i < length es
@@ -36,3 +37,7 @@ module _ {V : Type 0} (p : Parts V) (es : List (State ℕ)) (outs : List (Output
 
   pub standard_output : (i : ℕ) → output_of p i ≡ output_in (slice_index_or es i vacant)
   standard_output i = ap (λ q. output_of q i) (sym is)
+
+  -- the same, whatever stands past the last
+  pub standard_output_at : (i : ℕ) (d : State ℕ) → IsState p i → output_of p i ≡ output_in (slice_index_or es i d)
+  standard_output_at i d r = standard_output i ∙ ap output_in (get_or_default es i vacant d (standard_inside i r))

@@ -1,5 +1,6 @@
 pub mod Elements
 pub mod Parts
+pub mod Children
 pub mod Valid
 pub mod Packing
 pub mod Writing

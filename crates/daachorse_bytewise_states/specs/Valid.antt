@@ -1,5 +1,5 @@
 -- Which parts are those of an automaton, and what a search sees of them.
-use Rattle.std.specs.Prelude.{◌≡◌, ℕ, ◌<◌, ◌≤◌, ◌%◌, ◌^◌, Bool, true, false, List, [], length, slice_index, unwrap_or, Option}
+use Rattle.std.specs.Prelude.{◌≡◌, ℕ, ◌<◌, ◌≤◌, ◌%◌, ◌^◌, Bool, true, false, List, [], length, slice_index_or, unwrap_or, Option}
 use Rattle.std.proofs.Common.{arith, refl}
 use Rattle.daachorse_core.specs.Outputs.{outputs_at, ParentsFall}
 use Rattle.daachorse_model.specs.declared.MatchKind.TheVariants.{Standard}
@@ -37,15 +37,15 @@ module _ {V : Type 0} (p : Parts V) where
     pub right : IsRight byte_width (machine p) (is_leftmost p.kind)
     pub counted : IsCounted (machine p) p.num_states
 
--- the element of the child of each byte below n, the root where there is none
-pub record IsRootTable (child : ℕ → Option ℕ) (n : ℕ) (table : List ℕ) : Type 0 where
+-- the element of the child of each byte below n, the root where there is none, and the position of its first output
+pub record IsRootTable (child : ℕ → Option ℕ) (output : ℕ → ℕ) (n : ℕ) (table : List (ℕ × ℕ)) : Type 0 where
   pub size : length table ≡ n
-  pub right : (c : ℕ) → c < n → slice_index table c ≡ unwrap_or (child c) 0
+  pub right : (c : ℕ) → c < n → slice_index_or table c (0, 0) ≡ (unwrap_or (child c) 0, output (unwrap_or (child c) 0))
 
 -- what an automaton keeps: valid parts, and the table of the root if the searches are standard
-pub record IsStored {V : Type 0} (p : Parts V) (root : List ℕ) : Type 0 where
+pub record IsStored {V : Type 0} (p : Parts V) (root : List (ℕ × ℕ)) : Type 0 where
   pub valid : IsValid p
-  pub table : p.kind ≡ Standard → IsRootTable (child p 0) 256 root
+  pub table : p.kind ≡ Standard → IsRootTable (child p 0) (output_of p) 256 root
 
 -- ---- what a search sees
 module _ {V : Type 0} (p : Parts V) where

@@ -114,8 +114,8 @@ impl<'a, V: Copy> Automaton<V> for Leftmost<'a, V> {
     fn turn(&self, state: u32, label: u8, turns: &mut Turns) -> Look {
         turns.tick();
         let element = &self.states[state as usize];
-        if let Some(child) = element.child(label, self.states) {
-            return Look::Next(child, self.output_pos(child));
+        if let Some((child, position)) = element.child_and_output(label, self.states) {
+            return Look::Next(child, position);
         }
         if state == ROOT_STATE_IDX {
             return Look::Next(ROOT_STATE_IDX, self.output_pos(ROOT_STATE_IDX));

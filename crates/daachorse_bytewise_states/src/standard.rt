@@ -18,7 +18,7 @@ use std::num::NonZeroU32;
 #[derive(Drop)]
 pub struct Standard<'a, V: Copy> {
     states: &'a [State<u32>],
-    root: &'a [u32],
+    root: &'a [(u32, u32)],
     outputs: &'a [Output<V>],
     // For contracts alone.
     num_states: u32,
@@ -40,7 +40,7 @@ impl<'a, V: Copy> Standard<'a, V> {
     #[inline(always)]
     pub(crate) fn new(
         states: &'a [State<u32>],
-        root: &'a [u32],
+        root: &'a [(u32, u32)],
         outputs: &'a [Output<V>],
         num_states: u32,
     ) -> Self
@@ -107,13 +107,13 @@ impl<'a, V: Copy> Automaton<V> for Standard<'a, V> {
     fn turn(&self, state: u32, label: u8, turns: &mut Turns) -> Look {
         turns.tick();
         if state == ROOT_STATE_IDX {
-            let child = self.root[label as usize];
-            return Look::Next(child, self.output_pos(child));
+            let (child, position) = self.root[label as usize];
+            return Look::Next(child, NonZeroU32::new(position));
         }
         // A copy loads base and link at once, and then its place isn't needed again.
         let element = self.states[state as usize];
-        match element.child(label, self.states) {
-            Some(child) => Look::Next(child, self.output_pos(child)),
+        match element.child_and_output(label, self.states) {
+            Some((child, position)) => Look::Next(child, position),
             None => Look::Fail(element.fail()),
         }
     }

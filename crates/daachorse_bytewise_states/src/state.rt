@@ -8,6 +8,7 @@ ghost use Rattle.std.specs.Prelude.{◌≡◌, ◌+◌, ◌<◌, ◌≤◌, ◌^
 ghost use Rattle.daachorse_core.specs.declared.errors.Limit.TheVariants.{OutputPos};
 ghost use Rattle.daachorse_core.specs.Outputs.{number};
 ghost use Rattle.daachorse_bytewise_states.specs.Elements.{base_in, check_in, fail_in, output_in};
+ghost use Rattle.daachorse_bytewise_states.specs.Children.{TellsChild};
 ghost use Rattle.daachorse_bytewise_states.specs.Parts.{child_by, without_link};
 ghost use Rattle.daachorse_bytewise_states.specs.StateForms.{IsState, state_form, state_law, take_state};
 
@@ -125,10 +126,27 @@ impl<F: Copy> State<F> {
         requires inside { base_in self.now < length states.now }
         ensures { result ≡ child_by (length states.now) (base_in self.now) (λ i. check_in (slice_index_or states.now i self.now)) label }
     {
+        let (child, _) = self.child_and_output(label, states)?;
+        Some(child)
+    }
+
+    /// The index of the element that a byte leads to, if there is one, and the position of its
+    /// first output.
+    #[inline(always)]
+    pub fn child_and_output(
+        &self,
+        label: u8,
+        states: &[State<F>],
+    ) -> Option<(u32, Option<NonZeroU32>)>
+        requires blocks { length states.now % 256 ≡ 0 }
+        requires inside { base_in self.now < length states.now }
+        ensures { TellsChild states.now self.now label result }
+    {
         let base = self.base()?;
         let child = base.get() ^ u32::from(label);
-        if states[child as usize].check() == label {
-            Some(child)
+        let element = &states[child as usize];
+        if element.check() == label {
+            Some((child, element.output_pos()))
         } else {
             None
         }

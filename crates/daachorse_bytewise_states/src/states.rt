@@ -13,7 +13,7 @@ ghost use Rattle.daachorse_patterns.specs.Prefixes.{HasMoreProperPrefixes};
 ghost use Rattle.daachorse_model.specs.declared.MatchKind.TheVariants.{Standard};
 ghost use Rattle.daachorse_model.specs.Paths.{is_reached};
 ghost use Rattle.daachorse_model.specs.Prefixes.{HasPrefixes, PassesAt};
-ghost use Rattle.daachorse_bytewise_states.specs.Elements.{base_in, fail_in, vacant};
+ghost use Rattle.daachorse_bytewise_states.specs.Elements.{base_in, fail_in, output_in, vacant};
 ghost use Rattle.daachorse_bytewise_states.specs.Parts.{base_of, check_of, child, child_among, content, count, fail_of, output_of, parts_of, without_link};
 ghost use Rattle.daachorse_bytewise_states.specs.Valid.{IsRootTable, IsValid};
 
@@ -38,7 +38,7 @@ use std::num::NonZeroU32;
 pub struct States<V: Copy, A: Allocator = Global> {
     kind: MatchKind,
     standard: Vec<State<u32>, A>,
-    root: Vec<u32, A>,
+    root: Vec<(u32, u32), A>,
     leftmost: Vec<State<Empty>, A>,
     fails: Vec<u32, A>,
     outputs: Vec<Output<V>, A>,
@@ -328,18 +328,21 @@ fn copy_of<T: Copy, A: Allocator + Copy>(items: &Vec<T, A>) -> Result<Vec<T, A>>
     Ok(Vec::from_slice(*items.allocator(), items.as_slice())?)
 }
 
-/// The element of each byte's child from the root, the root itself where there is none.
-fn root_table<A: Allocator>(alloc: A, states: &[State<u32>]) -> Result<Vec<u32, A>>
+/// The element of each byte's child from the root, the root itself where there is none, and the
+/// position of its first output, 0 for none.
+fn root_table<A: Allocator>(alloc: A, states: &[State<u32>]) -> Result<Vec<(u32, u32), A>>
     requires blocks { length states.now % 256 ≡ 0 }
     requires some { 0 < length states.now }
     requires inside { base_in (slice_index_or states.now 0 vacant) < length states.now }
-    ensures ok { IfOk result (λ table. IsRootTable (child_among vacant states.now 0) 256 table.items) }
+    ensures ok { IfOk result (λ table. IsRootTable (child_among vacant states.now 0) (λ i. output_in (slice_index_or states.now i vacant)) 256 table.items) }
     ensures err { IfErr result IsOutOfMemory }
 {
     let root = &states[ROOT_STATE_IDX as usize];
+    let stay = (ROOT_STATE_IDX, root.output_pos());
     let mut table = Vec::with_capacity(alloc, 256)?;
     for label in 0..256u32 {
-        table.push(root.child(label as u8, states).unwrap_or(ROOT_STATE_IDX))?;
+        let (child, position) = root.child_and_output(label as u8, states).unwrap_or(stay);
+        table.push((child, position.map_or(0, NonZeroU32::get)))?;
     }
     Ok(table)
 }

@@ -16,8 +16,8 @@ bounds-states-child g c =
     let base : c.get.result < length c.args.states.now = omega arith in
     moved_inside (length c.args.states.now) c.get.result c.from.result c.requires.blocks base (omega arith)
 
-pub returns-then-b-label : goal.returns-then-b-label
-returns-then-b-label g c =
+pub returns-then-check-label : goal.returns-then-check-label
+returns-then-check-label g c =
     let states = c.args.states.now in
     let inside : c.get.result < length states = omega arith in
     let moved = moved_inside (length states) c.get.result c.from.result c.requires.blocks inside (omega arith) in
@@ -25,6 +25,6 @@ returns-then-b-label g c =
     let some : base_in c.args.self.now ≢ 0 = omega arith in
     let at : bit_xor (base_in c.args.self.now) c.args.label ≡ bit_xor c.get.result c.from.result = cc in
     let read : slice_index_or states (bit_xor c.get.result c.from.result) c.args.self.now ≡ c.index-states-child.result = get_or_default states _ c.args.self.now c.index-states-child.result moved ∙ sym c.index-states-child.is in (
-      child_at-some (length states) c.args.label (base_in c.args.self.now) c.args.label (bit_xor c.get.result c.from.result) (λ i. check_in (slice_index_or states i c.args.self.now)) some at moved (ap check_in read ∙ (sym c.b.ensures ∙ c.if-b-label.true)),
-      c.new.ensures ∙ (c.get-2.ensures ∙ sym (ap output_in read)),
+      child_at-some (length states) c.args.label (base_in c.args.self.now) c.args.label (bit_xor c.get.result c.from.result) (λ i. check_in (slice_index_or states i c.args.self.now)) some at moved (ap check_in read ∙ (sym c.check.ensures ∙ c.if-check-label.true)),
+      c.output_pos.ensures ∙ sym (ap output_in read),
     )

@@ -1,8 +1,8 @@
 //! The reached elements of an array with children.
 //!
 //! The layers above may rely on the order being that of the texts, on each reached element standing
-//! in it once, and on the tables of the parents and the depths. All takes time and memory linear in
-//! the numbers of elements and units.
+//! in it once, and on the tables of the parents and the depths. The memory is linear in the number
+//! of elements, and so is the time but for the sorting of each element's children.
 
 ghost use Rattle.std.specs.Prelude.{◌≡◌, ◌+◌, ◌<◌, ◌^◌, ℕ, [], length, reverse, slice_index, slice_index_or, IfOk, IfErr, OnOk};
 ghost use Rattle.daachorse_core.specs.Refusals.{IsOutOfMemory};
@@ -43,12 +43,16 @@ impl<A: Allocator + Copy> Tree<A> {
         ensures err { IfErr result IsOutOfMemory }
     {
         let groups = Siblings::new(alloc, edges)?;
+        let count = edges.num_elements();
+        let order = Vec::with_capacity(alloc, count)?;
+        let parents = vec![in alloc; 0; count]?;
+        let mut depths = vec![in alloc; NOT_REACHED; count]?;
+        depths[0] = 0;
         let mut tree = Tree {
-            order: Vec::new(alloc),
-            parents: vec![in alloc; 0; edges.num_elements()]?,
-            depths: vec![in alloc; NOT_REACHED; edges.num_elements()]?,
+            order,
+            parents,
+            depths,
         };
-        tree.depths[0] = 0;
         let mut children = Vec::new(alloc);
         let mut aside = Vec::new(alloc);
         aside.push(0)?;

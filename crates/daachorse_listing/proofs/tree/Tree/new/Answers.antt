@@ -11,10 +11,9 @@ pub loop-element-init : goal.loop-element-init
 loop-element-init g c =
     let n = g.E.Edges.count c.args.edges.now in
     let aside : reverse c.push.new.self.items ≡ 0 ∷ [] = ap reverse (c.in_ok-push.ensures.items ∙ ap (λ l. l ++ 0 ∷ []) c.new-aside.ensures.items) in
-    let parents : c.in_ok-vec.field-0.items ≡ replicate n 0 = c.in_ok-vec.ensures.items_if_clones_equal (λ y e. e) ∙ ap (λ k. replicate k 0) c.num_elements.ensures.all in
-    let depths : c.in_ok-vec-2.field-0.items ≡ replicate n 4294967295 =
-    c.in_ok-vec-2.ensures.items_if_clones_equal (λ y e. e) ∙ ap (λ k. replicate k 4294967295) c.num_elements-2.ensures.all in
-    walk-begin c.requires.tree _ _ _ c.in_ok-vec-2.field-0.items c.new-2.ensures.items aside parents depths
+    let parents : c.in_ok-parents.parents.items ≡ replicate n 0 = c.in_ok-parents.ensures.items_if_clones_equal (λ y e. e) ∙ ap (λ k. replicate k 0) c.num_elements-count.ensures.all in
+    let depths : c.in_ok-depths.depths.items ≡ replicate n 4294967295 = c.in_ok-depths.ensures.items_if_clones_equal (λ y e. e) ∙ ap (λ k. replicate k 4294967295) c.num_elements-count.ensures.all in
+    walk-begin c.requires.tree _ _ _ c.in_ok-depths.depths.items c.in_ok-order.ensures.items aside parents depths
 
 pub list_children-requires-clause-element : goal.list_children-requires-clause-element
 list_children-requires-clause-element g c =

@@ -36,10 +36,6 @@ impl<V: Copy, A: Allocator> Edges for States<V, A> {
         self.num_elements()
     }
 
-    fn num_units(&self) -> usize {
-        256
-    }
-
     fn group(&self, element: usize) -> Option<usize> {
         let base = self.base_at(element)?;
         Some(base.get() as usize)

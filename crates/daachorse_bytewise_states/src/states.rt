@@ -3,7 +3,7 @@
 //! The layers above may rely on the parts being valid, on what is built holding just the dictionary
 //! that it was built for, and on the views of the parts being the same automaton.
 
-ghost use Rattle.std.specs.Prelude.{◌≡◌, ◌≢◌, ◌<◌, ◌%◌, ◌≤◌, ◌-◌, bit_xor, ℕ, Some, slice_get, List, length, map, slice_index_or, IfOk, IfErr};
+ghost use Rattle.std.specs.Prelude.{◌≡◌, ◌≢◌, ◌<◌, ◌%◌, ◌≤◌, ◌-◌, ◌^◌, bit_xor, ℕ, Some, slice_get, List, length, map, slice_index_or, IfOk, IfErr};
 ghost use Rattle.daachorse_core.specs.declared.errors.Limit.TheVariants.{NumElements};
 ghost use Rattle.daachorse_core.specs.Outputs.{number};
 ghost use Rattle.daachorse_core.specs.Refusals.{IsOutOfMemory, IsRefusal};
@@ -144,7 +144,8 @@ impl<V: Copy, A: Allocator> States<V, A> {
     /// The number of elements, those included that are no state.
     #[inline(always)]
     pub fn num_elements(&self) -> usize
-        ensures { result ≡ count self.now }
+        ensures all { result ≡ count self.now }
+        ensures few { result < 2 ^ 32 }
     {
         if self.kind.is_leftmost() {
             self.leftmost.len()

@@ -103,10 +103,6 @@ impl<'a, V: Copy, A: Allocator> Edges for Elements<'a, V, A> {
         self.states.num_elements()
     }
 
-    fn num_units(&self) -> usize {
-        self.states.mapper().table().len()
-    }
-
     fn group(&self, element: usize) -> Option<usize> {
         self.states.base_at(element)?;
         Some(element)

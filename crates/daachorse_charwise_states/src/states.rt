@@ -115,7 +115,8 @@ impl<V: Copy, A: Allocator> States<V, A> {
     /// The number of elements, those included that are no state.
     #[inline(always)]
     pub fn num_elements(&self) -> usize
-        ensures { result ≡ count self.now }
+        ensures all { result ≡ count self.now }
+        ensures few { result < 2 ^ 32 }
     {
         self.states.len()
     }

@@ -1,6 +1,5 @@
 -- A table of the depths of all elements tells those of the states that can be reached.
-use Rattle.std.proofs.Common.{◌≡◌, ℕ, ◌<◌, ◌⊎◌, inl, inr, List, [], length, Option, Some}
-use Rattle.std.specs.Prelude.{slice_get, slice_index}
+use Rattle.std.proofs.Common.{◌≡◌, ℕ, ◌⊎◌, inl, inr, List, [], length, Option}
 use Rattle.std.proofs.lemmas.Option.{slice_get_within, get_or_from_slice_get}
 use Rattle.daachorse_machine.specs.Texts.{IsReached, text_of}
 use Rattle.daachorse_core.specs.Depths.{AreDepths}

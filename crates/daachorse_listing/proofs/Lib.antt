@@ -1,5 +1,5 @@
 pub mod LinkedLaws
-pub mod EdgeLaws
+pub mod SortLaws
 pub mod Members
 pub mod Orders
 pub mod WalkLaws

@@ -1,10 +1,10 @@
--- Lists keep their items while nodes are added behind the last: a link leads to nodes before it alone.
-use Rattle.std.proofs.Common.{◌≡◌, ℕ, zero, suc, ◌-◌, ◌<◌, ◌≤◌, ◌⊎◌, inl, inr, List, [], ◌∷◌, ◌++◌, length, map, get_or, set, replicate, refl, sym, ap, ◌∙◌, arith, length-append, sub-one}
-use Rattle.std.proofs.lemmas.List.{map-set, get_or_append_left, get_or_past}
-use Rattle.std.proofs.Math.ListN.{get_or-map}
+-- Lists keep their numbers while the table grows: a link leads to numbers before it alone. So one pass over the elements, each put before the others of its group, makes the list of each group.
+use Rattle.std.proofs.Common.{◌≡◌, ◌≢◌, ℕ, zero, suc, ◌+◌, ◌-◌, ◌<◌, ◌≤◌, ◌⊎◌, inl, inr, true, false, cond, ◌==◌, List, [], ◌∷◌, ◌++◌, length, map, get_or, set, replicate, Option, Some, None, refl, sym, ap, ◌∙◌, arith, length-append, add-one, sub-one}
+use Rattle.std.proofs.lemmas.List.{get_or_append_left, get_or_past, get_or-replicate, get_or-set_same, get_or-set_other, length-set, length-replicate}
 use Rattle.std.proofs.Math.Seq.{get_or-append_seam}
-use Rattle.daachorse_listing.specs.declared.lists.Node.{Node}
-use Rattle.daachorse_listing.specs.Linked.{no_node, items_from, list_from}
+use Rattle.daachorse_model.proofs.Booleans.{either}
+use Rattle.daachorse_listing.specs.Edges.{is_in, members}
+use Rattle.daachorse_listing.specs.Linked.{numbers_from, list_from, IsPut}
 
 place : (q n : ℕ) → (q < n) ⊎ ((q ≡ n) ⊎ (n < q))
 place zero zero = inr (inl refl)
@@ -12,13 +12,9 @@ place zero (suc n) = inl (omega arith)
 place (suc q) zero = inr (inr (omega arith))
 place (suc q) (suc n) = elim (place q n) [ inl h ↦ inl (omega arith) | inr r ↦ elim r [ inl e ↦ inr (inl (ap (λ k. suc k) e)) | inr h ↦ inr (inr (omega arith)) ] ]
 
-pub map-replicate : {A B : Type 0} (f : A → B) (n : ℕ) (x : A) → map f (replicate n x) ≡ replicate n (f x)
-map-replicate f zero x = refl
-map-replicate f (suc n) x = ap (λ l. f x ∷ l) (map-replicate f n x)
-
-module _ (nodes : List Node) (fall : (q : ℕ) → (get_or nodes q no_node).next ≤ q) where
+module _ (next : List ℕ) (fall : (q : ℕ) → get_or next q 0 ≤ q) where
   -- any number of steps that is enough gives the same
-  steps-same : (s t link : ℕ) → link ≤ s → link ≤ t → items_from nodes s link ≡ items_from nodes t link
+  steps-same : (s t link : ℕ) → link ≤ s → link ≤ t → numbers_from next s link ≡ numbers_from next t link
   steps-same zero zero link h k = refl
   steps-same zero (suc t) zero h k = refl
   steps-same zero (suc t) (suc q) h k = absurd (omega arith)
@@ -26,60 +22,146 @@ module _ (nodes : List Node) (fall : (q : ℕ) → (get_or nodes q no_node).next
   steps-same (suc s) zero (suc q) h k = absurd (omega arith)
   steps-same (suc s) (suc t) zero h k = refl
   steps-same (suc s) (suc t) (suc q) h k =
-      let node = get_or nodes q no_node in
-      let back : node.next ≤ q = fall q in
-      ap (λ l. node.item ∷ l) (steps-same s t node.next (omega (arith, back)) (omega (arith, back)))
+      let back : get_or next q 0 ≤ q = fall q in
+      ap (λ l. q ∷ l) (steps-same s t (get_or next q 0) (omega (arith, back)) (omega (arith, back)))
 
-  -- the list of a link is the node's item, and then the list of its link
-  pub list_from-cons : (q : ℕ) → list_from nodes (suc q) ≡ (get_or nodes q no_node).item ∷ list_from nodes (get_or nodes q no_node).next
+  -- the list of a link is its number, and then the list that this one goes on with
+  pub list_from-cons : (q : ℕ) → list_from next (suc q) ≡ q ∷ list_from next (get_or next q 0)
   list_from-cons q =
-      let node = get_or nodes q no_node in
-      let back : node.next ≤ q = fall q in
-      ap (λ l. node.item ∷ l) (steps-same q node.next node.next back (omega arith))
+      let back : get_or next q 0 ≤ q = fall q in
+      ap (λ l. q ∷ l) (steps-same q (get_or next q 0) (get_or next q 0) back (omega arith))
 
   -- the same at a link that ends no list
-  pub list_from-at : (link : ℕ) → 0 < link → list_from nodes link ≡ (get_or nodes (link - 1) no_node).item ∷ list_from nodes (get_or nodes (link - 1) no_node).next
+  pub list_from-at : (link : ℕ) → 0 < link → list_from next link ≡ (link - 1) ∷ list_from next (get_or next (link - 1) 0)
   list_from-at zero h = absurd (omega arith)
   list_from-at (suc q) h = rw sub-one (list_from-cons q)
 
-  -- ---- one more node
-  module _ (x : Node) (back : x.next ≤ length nodes) where
-    fall-push : (q : ℕ) → (q < length nodes) ⊎ ((q ≡ length nodes) ⊎ (length nodes < q)) → (get_or (nodes ++ x ∷ []) q no_node).next ≤ q
-    fall-push q (inl h) = let e : get_or (nodes ++ x ∷ []) q no_node ≡ get_or nodes q no_node = get_or_append_left nodes (x ∷ []) no_node q h in rw e (fall q)
-    fall-push q (inr (inl h)) = let e : get_or (nodes ++ x ∷ []) (length nodes) no_node ≡ x = get_or-append_seam nodes x [] no_node in rw (h, e) back
+  -- ---- one more number
+  module _ (x : ℕ) (back : x ≤ length next) where
+    fall-push : (q : ℕ) → (q < length next) ⊎ ((q ≡ length next) ⊎ (length next < q)) → get_or (next ++ x ∷ []) q 0 ≤ q
+    fall-push q (inl h) = let e : get_or (next ++ x ∷ []) q 0 ≡ get_or next q 0 = get_or_append_left next (x ∷ []) 0 q h in rw e (fall q)
+    fall-push q (inr (inl h)) = let e : get_or (next ++ x ∷ []) (length next) 0 ≡ x = get_or-append_seam next x [] 0 in rw (h, e) back
     fall-push q (inr (inr h)) =
-        let none : get_or (nodes ++ x ∷ []) q no_node ≡ no_node = get_or_past (nodes ++ x ∷ []) q no_node (omega (arith, length-append nodes (x ∷ []))) in
+        let none : get_or (next ++ x ∷ []) q 0 ≡ 0 = get_or_past (next ++ x ∷ []) q 0 (omega (arith, length-append next (x ∷ []))) in
         rw none (omega arith)
 
-    pub falls-push : (q : ℕ) → (get_or (nodes ++ x ∷ []) q no_node).next ≤ q
-    falls-push q = fall-push q (place q (length nodes))
+    pub falls-push : (q : ℕ) → get_or (next ++ x ∷ []) q 0 ≤ q
+    falls-push q = fall-push q (place q (length next))
 
-    steps-push : (s link : ℕ) → link ≤ length nodes → items_from (nodes ++ x ∷ []) s link ≡ items_from nodes s link
+    steps-push : (s link : ℕ) → link ≤ length next → numbers_from (next ++ x ∷ []) s link ≡ numbers_from next s link
     steps-push zero link h = refl
     steps-push (suc s) zero h = refl
     steps-push (suc s) (suc q) h =
-        let node = get_or nodes q no_node in
-        let same : get_or (nodes ++ x ∷ []) q no_node ≡ node = get_or_append_left nodes (x ∷ []) no_node q (omega arith) in
-        let back : node.next ≤ q = fall q in
-        ap (λ n. n.item ∷ items_from (nodes ++ x ∷ []) s n.next) same ∙ ap (λ l. node.item ∷ l) (steps-push s node.next (omega (arith, back)))
+        let same : get_or (next ++ x ∷ []) q 0 ≡ get_or next q 0 = get_or_append_left next (x ∷ []) 0 q (omega arith) in
+        let back : get_or next q 0 ≤ q = fall q in
+        ap (λ n. q ∷ numbers_from (next ++ x ∷ []) s n) same ∙ ap (λ l. q ∷ l) (steps-push s (get_or next q 0) (omega (arith, back)))
 
-    list_from-push : list_from (nodes ++ x ∷ []) (suc (length nodes)) ≡ x.item ∷ list_from nodes x.next
-    list_from-push =
-        let last : get_or (nodes ++ x ∷ []) (length nodes) no_node ≡ x = get_or-append_seam nodes x [] no_node in
-        ap (λ n. n.item ∷ items_from (nodes ++ x ∷ []) (length nodes) n.next) last
-        ∙ ap (λ l. x.item ∷ l) (steps-push (length nodes) x.next back ∙ steps-same (length nodes) x.next x.next back (omega arith))
+    -- the list of another number stays
+    pub list-push-other : (link : ℕ) → link ≤ length next → list_from (next ++ x ∷ []) link ≡ list_from next link
+    list-push-other link h = steps-push link link h
 
-    lists-push : (first : List ℕ) → ((k : ℕ) → k < length first → get_or first k 0 ≤ length nodes) → map (list_from (nodes ++ x ∷ [])) first ≡ map (list_from nodes) first
-    lists-push [] h = refl
-    lists-push (p ∷ ps) h =
-        let head : p ≤ length nodes = h 0 (omega arith) in
-        ap (λ l. l ∷ map (list_from (nodes ++ x ∷ [])) ps) (steps-push p p head)
-        ∙ ap (λ ls. list_from nodes p ∷ ls) (lists-push ps (λ k less. h (suc k) (omega arith)))
+    -- the list that the new number begins
+    pub list-push-first : list_from (next ++ x ∷ []) (suc (length next)) ≡ length next ∷ list_from next x
+    list-push-first =
+        let last : get_or (next ++ x ∷ []) (length next) 0 ≡ x = get_or-append_seam next x [] 0 in
+        ap (λ n. length next ∷ numbers_from (next ++ x ∷ []) (length next) n) last
+        ∙ ap (λ l. length next ∷ l) (steps-push (length next) x back ∙ steps-same (length next) x x back (omega arith))
 
-    -- the lists after a push
-    pub push-lists : (first : List ℕ) (key : ℕ) → ((k : ℕ) → k < length first → get_or first k 0 ≤ length nodes) → get_or first key 0 ≡ x.next
-        → map (list_from (nodes ++ x ∷ [])) (set first key (suc (length nodes))) ≡ set (map (list_from nodes) first) key (x.item ∷ get_or (map (list_from nodes) first) key [])
-    push-lists first key h e =
-        map-set (list_from (nodes ++ x ∷ [])) first key (suc (length nodes))
-        ∙ ap (λ ls. set ls key (list_from (nodes ++ x ∷ []) (suc (length nodes)))) (lists-push first h)
-        ∙ ap (λ l. set (map (list_from nodes) first) key l) (list_from-push ∙ ap (λ l. x.item ∷ l) (sym (get_or-map (list_from nodes) first key 0 ∙ ap (list_from nodes) e)))
+-- the lists of n groups, of the first k elements
+pub record IsGrouped (edge : ℕ → Option (ℕ × ℕ)) (n k : ℕ) (first next : List ℕ) : Type 0 where
+  pub size : length first ≡ n
+  pub made : length next ≡ k
+  pub fall : (q : ℕ) → get_or next q 0 ≤ q
+  pub inside : (g : ℕ) → g < n → get_or first g 0 ≤ k
+  pub lists : (g : ℕ) → g < n → list_from next (get_or first g 0) ≡ members edge g k
+
+abbrev zeros : ℕ → List ℕ
+zeros n = replicate n 0
+
+zero-at : (n g : ℕ) → g < n → get_or (zeros n) g 0 ≡ 0
+zero-at n g h = get_or-replicate n g 0 0 h
+
+grouped-empty : (edge : ℕ → Option (ℕ × ℕ)) (n : ℕ) → IsGrouped edge n 0 (zeros n) []
+grouped-empty edge n = record {
+  size = length-replicate n 0;
+  made = refl;
+  fall = λ q. omega arith;
+  inside = λ g h. (let z = zero-at n g h in omega (arith, z));
+  lists = λ g h. ap (list_from []) (zero-at n g h);
+}
+
+pub grouped-start : (edge : ℕ → Option (ℕ × ℕ)) (n : ℕ) (first next : List ℕ) → first ≡ zeros n → next ≡ [] → IsGrouped edge n 0 first next
+grouped-start edge n first next a b = rw (a, b) (grouped-empty edge n)
+
+module _ (edge : ℕ → Option (ℕ × ℕ)) (n k : ℕ) (first next : List ℕ) (h : IsGrouped edge n k first next) where
+  one-more : (x : ℕ) → length (next ++ x ∷ []) ≡ suc k
+  one-more x = let made = h.made in omega (arith, length-append next (x ∷ []), made)
+
+  -- an element of no group
+  pub grouped-none : edge k ≡ None → IsGrouped edge n (suc k) first (next ++ 0 ∷ [])
+  grouped-none e = record {
+    size = h.size;
+    made = one-more 0;
+    fall = falls-push next h.fall 0 (omega arith);
+    inside = λ g less. (let low = h.inside g less in omega (arith, low));
+    lists = λ g less.
+        list-push-other next h.fall 0 (omega arith) (get_or first g 0) (let low = h.inside g less in let made = h.made in omega (arith, low, made))
+        ∙ (h.lists g less ∙ ap (λ o. cond (is_in g o) (k ∷ members edge g k) (members edge g k)) (sym e));
+  }
+
+  -- an element of group g
+  pub grouped-some : (g u : ℕ) → edge k ≡ Some (g, u) → g < n → IsGrouped edge n (suc k) (set first g (suc k)) (next ++ get_or first g 0 ∷ [])
+  grouped-some g u e real = record {
+    size = length-set first g (suc k) ∙ h.size;
+    made = one-more (get_or first g 0);
+    fall = falls-push next h.fall (get_or first g 0) back;
+    inside = λ q less. elim (either (q == g)) [
+      | inl t ↦ (let same : q ≡ g = grind (arith, t) in let z : get_or (set first g (suc k)) g 0 ≡ suc k = get_or-set_same first g (suc k) 0 within in rw (same, z) (omega arith))
+      | inr t ↦ (let other : q ≢ g = grind (arith, t) in let z : get_or (set first g (suc k)) q 0 ≡ get_or first q 0 = get_or-set_other first g q (suc k) 0 other in let low = h.inside q less in rw z (omega (arith, low)))
+    ];
+    lists = λ q less. at q less (either (g == q));
+  }
+    where
+      back : get_or first g 0 ≤ length next
+      back = let low = h.inside g real in let made = h.made in omega (arith, low, made)
+
+      within : g < length first
+      within = let size = h.size in omega (arith, size, real)
+
+      at : (q : ℕ) → q < n → ((g == q) ≡ true) ⊎ ((g == q) ≡ false)
+          → list_from (next ++ get_or first g 0 ∷ []) (get_or (set first g (suc k)) q 0) ≡ members edge q (suc k)
+      at q less (inl t) =
+          let same : g ≡ q = grind (arith, t) in
+          let z : get_or (set first g (suc k)) q 0 ≡ suc (length next) = ap (λ i. get_or (set first g (suc k)) i 0) (sym same) ∙ (get_or-set_same first g (suc k) 0 within ∙ ap (λ i. suc i) (sym h.made)) in
+          let test : is_in q (edge k) ≡ true = ap (is_in q) e ∙ t in
+          ap (list_from (next ++ get_or first g 0 ∷ [])) z
+          ∙ (list-push-first next h.fall (get_or first g 0) back
+          ∙ (ap (λ i. i ∷ list_from next (get_or first g 0)) h.made
+          ∙ (ap (λ l. k ∷ l) (h.lists g real ∙ ap (λ i. members edge i k) same) ∙ ap (λ b. cond b (k ∷ members edge q k) (members edge q k)) (sym test))))
+      at q less (inr t) =
+          let other : q ≢ g = grind (arith, t) in
+          let z : get_or (set first g (suc k)) q 0 ≡ get_or first q 0 = get_or-set_other first g q (suc k) 0 other in
+          let test : is_in q (edge k) ≡ false = ap (is_in q) e ∙ t in
+          let low : get_or first q 0 ≤ length next = let l = h.inside q less in let made = h.made in omega (arith, l, made) in
+          ap (list_from (next ++ get_or first g 0 ∷ [])) z
+          ∙ (list-push-other next h.fall (get_or first g 0) back (get_or first q 0) low
+          ∙ (h.lists q less ∙ ap (λ b. cond b (k ∷ members edge q k) (members edge q k)) (sym test)))
+
+pub grouped-next : (edge : ℕ → Option (ℕ × ℕ)) (n k : ℕ) (first new next then : List ℕ) (link : ℕ) → IsGrouped edge n k first next → IsPut (edge k) k first new link → then ≡ next ++ link ∷ [] → IsGrouped edge n (k + 1) new then
+grouped-next edge n k first new next then link h put e = rw (e, add-one k) (at (edge k) refl put)
+  where
+    at : (o : Option (ℕ × ℕ)) → edge k ≡ o → IsPut o k first new link → IsGrouped edge n (suc k) new (next ++ link ∷ [])
+    at None is (same, none) = rw (same, none) (grouped-none edge n k first next h is)
+    at (Some x) is (less, changed, taken) =
+        let size = h.size in
+        let done : new ≡ set first x.0 (suc k) = changed ∙ ap (λ i. set first x.0 i) (add-one k) in
+        rw (done, taken) (grouped-some edge n k first next h x.0 x.1 is (omega (arith, less, size)))
+
+-- the lists of all groups, read as one table
+pub grouped-list : (edge : ℕ → Option (ℕ × ℕ)) (n k : ℕ) (first next : List ℕ) → IsGrouped edge n k first next → (g : ℕ) → g < n → get_or (map (list_from next) first) g [] ≡ members edge g k
+grouped-list edge n k first next h g less = get_or-mapped first g (let size = h.size in omega (arith, size, less)) ∙ h.lists g less
+  where
+    get_or-mapped : (l : List ℕ) (i : ℕ) → i < length l → get_or (map (list_from next) l) i [] ≡ list_from next (get_or l i 0)
+    get_or-mapped [] i less = absurd (omega arith)
+    get_or-mapped (x ∷ l) zero less = refl
+    get_or-mapped (x ∷ l) (suc i) less = get_or-mapped l i (omega arith)

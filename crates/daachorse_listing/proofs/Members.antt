@@ -1,12 +1,12 @@
 -- Members of lists, pairs of them, and tables in which the entries of some are written.
-use Rattle.std.proofs.Common.{◌≡◌, ◌≢◌, ℕ, zero, suc, ◌<◌, ◌≤◌, ◌⊎◌, inl, inr, true, false, ◌==◌, List, [], ◌∷◌, ◌++◌, length, get_or, set, Option, Some, None, refl, sym, ap, ◌∙◌, arith, subst}
-use Rattle.std.proofs.lemmas.List.{get_or-set_same, get_or-set_other, length-set}
+use Rattle.std.proofs.Common.{◌≡◌, ◌≢◌, ℕ, zero, suc, ◌<◌, ◌≤◌, ◌⊎◌, inl, inr, true, false, ◌==◌, List, [], ◌∷◌, ◌++◌, length, map, get_or, set, Option, Some, None, refl, sym, ap, ◌∙◌, arith, subst}
+use Rattle.std.proofs.lemmas.List.{get_or-set_same, get_or-set_other, length-set, reverse-append}
 use Rattle.std.proofs.lemmas.Option.{same_Some}
 use Rattle.std.specs.List.{AllByRecursion}
 use Rattle.daachorse_model.proofs.Booleans.{either}
 use Rattle.daachorse_machine.proofs.PathLaws.{pigeon}
 use Rattle.daachorse_listing.specs.Edges.{put_before, child_before, children}
-use Rattle.daachorse_listing.specs.Trees.{IsAmong, Pairs, IsMarking}
+use Rattle.daachorse_listing.specs.Trees.{IsAmong, Pairs, IsMarking, elements_of}
 
 -- ---- members
 
@@ -149,3 +149,11 @@ marking-next kids left j x old new inside m = record {
     at k (inr e) (inl (inl same)) = absurd (let bad : k ≢ j = grind (arith, e) in bad same)
     at k (inr e) (inl (inr h)) = inl h
     at k (inr e) (inr h) = let other : k ≢ j = grind (arith, e) in inr (get_or-set_other new j k x 0 other ∙ h)
+
+-- the last pair of a list is the first of its elements, read backwards
+pub elements-pop : (stack rest : List (ℕ × ℕ)) (x : ℕ × ℕ) → stack ≡ rest ++ x ∷ [] → elements_of stack ≡ x.1 ∷ elements_of rest
+elements-pop stack rest x e = ap elements_of e ∙ ap (λ l. map (λ p. p.1) l) (reverse-append rest (x ∷ []))
+
+pub elements-none : (stack : List (ℕ × ℕ)) → length stack ≡ 0 → elements_of stack ≡ []
+elements-none [] e = refl
+elements-none (x ∷ stack) e = absurd (omega arith)

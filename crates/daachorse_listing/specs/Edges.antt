@@ -1,11 +1,6 @@
 -- The edges of an array: which element belongs to which group of siblings, and the unit that leads to it.
-use Rattle.std.specs.Prelude.{◌≡◌, ℕ, zero, suc, ◌<◌, Bool, false, cond, ◌==◌, List, [], ◌∷◌, length, filter, Option, Some, None}
+use Rattle.std.specs.Prelude.{◌≡◌, ℕ, zero, suc, ◌<◌, Bool, false, cond, ◌==◌, List, [], ◌∷◌, length, Option, Some, None}
 use Rattle.daachorse_model.specs.Paths.{Leads}
-
--- an edge by this unit
-abbrev pub is_by : ℕ → Option (ℕ × ℕ) → Bool
-is_by u None = false
-is_by u (Some e) = e.1 == u
 
 -- an edge to an element of this group
 abbrev pub is_in : ℕ → Option (ℕ × ℕ) → Bool
@@ -17,20 +12,14 @@ abbrev pub below : (ℕ → Bool) → ℕ → List ℕ
 below test zero = []
 below test (suc j) = cond (test j) (j ∷ below test j) (below test j)
 
--- the numbers xs, put one by one before a list
-abbrev pub put_before : List ℕ → List ℕ → List ℕ
+-- the elements of group g among the first n, the last first
+abbrev pub members : (ℕ → Option (ℕ × ℕ)) → ℕ → ℕ → List ℕ
+members edge g n = below (λ j. is_in g (edge j)) n
+
+-- these, put one by one before a list
+abbrev pub put_before : {X : Type 0} → List X → List X → List X
 put_before [] l = l
 put_before (x ∷ xs) l = put_before xs (x ∷ l)
-
-module _ (edge : ℕ → Option (ℕ × ℕ)) (n : ℕ) where
-  -- the elements that the unit u leads to, the last first
-  abbrev pub led_by : ℕ → List ℕ
-  led_by u = below (λ j. is_by u (edge j)) n
-
-  -- the elements of group g that a unit below m leads to, the greatest unit first
-  abbrev pub siblings : ℕ → ℕ → List ℕ
-  siblings g zero = []
-  siblings g (suc u) = put_before (filter (λ j. is_in g (edge j)) (led_by u)) (siblings g u)
 
 -- the child, if there is one, before others
 abbrev pub child_before : Option ℕ → List ℕ → List ℕ

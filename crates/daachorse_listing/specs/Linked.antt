@@ -1,23 +1,22 @@
--- Lists whose nodes are kept in one store. A link is the place of a node, counted from 1, and 0 ends a list.
-use Rattle.std.specs.Prelude.{ℕ, zero, suc, ◌<◌, ◌≤◌, List, [], ◌∷◌, length, slice_index, slice_index_or}
-use Rattle.daachorse_listing.specs.declared.lists.Node.{Node}
+-- Lists of numbers in one table: of each number it keeps the one that its list goes on with. A link is a number counted from 1, and 0 ends a list.
+use Rattle.std.specs.Prelude.{◌≡◌, ℕ, zero, suc, ◌+◌, ◌<◌, ◌≤◌, List, [], ◌∷◌, length, slice_index, slice_set, Option, MatchOption}
 
--- what stands past the last node
-abbrev pub no_node : Node
-no_node = record { item = 0; next = 0 }
-
-module _ (nodes : List Node) where
-  -- at most so many items from a link on
-  abbrev pub items_from : ℕ → ℕ → List ℕ
-  items_from zero link = []
-  items_from (suc steps) zero = []
-  items_from (suc steps) (suc q) = let node = slice_index_or nodes q no_node in node.item ∷ items_from steps node.next
+module _ (next : List ℕ) where
+  -- at most so many numbers from a link on
+  abbrev pub numbers_from : ℕ → ℕ → List ℕ
+  numbers_from zero link = []
+  numbers_from (suc steps) zero = []
+  numbers_from (suc steps) (suc q) = q ∷ numbers_from steps (slice_index next q)
 
   -- the list that a link begins; links fall along a list, so that as many steps are enough
   abbrev pub list_from : ℕ → List ℕ
-  list_from link = items_from link link
+  list_from link = numbers_from link link
 
--- links fall, and each is one of a node or ends the list
-pub record AreLinked (first : List ℕ) (nodes : List Node) : Type 0 where
-  pub fall : (q : ℕ) → (slice_index_or nodes q no_node).next ≤ q
-  pub inside : (key : ℕ) → key < length first → slice_index first key ≤ length nodes
+-- links fall, and each is one of a number of the table or ends the list
+pub record AreLinked (first next : List ℕ) : Type 0 where
+  pub fall : (q : ℕ) → slice_index next q ≤ q
+  pub inside : (key : ℕ) → key < length first → slice_index first key ≤ length next
+
+-- Number k, whose edge this is, was put before the others of its group, and the link to these is told; of no group nothing changes.
+abbrev pub IsPut : Option (ℕ × ℕ) → ℕ → List ℕ → List ℕ → ℕ → Type 0
+IsPut edge k first new link = MatchOption edge ((new ≡ first) × (link ≡ 0)) (λ e. (e.0 < length first) × (new ≡ slice_set first e.0 (k + 1)) × (link ≡ slice_index first e.0))

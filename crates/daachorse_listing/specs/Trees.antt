@@ -1,5 +1,5 @@
 -- The reached elements of an array, as a walk lists them: each after those whose texts come before its own.
-use Rattle.std.specs.Prelude.{◌≡◌, ◌≢◌, ◌⊎◌, ℕ, ◌<◌, List, [], ◌∷◌, length, slice_index, Option, Some}
+use Rattle.std.specs.Prelude.{◌≡◌, ◌≢◌, ◌⊎◌, ℕ, ◌<◌, List, [], ◌∷◌, length, map, reverse, slice_index, Option, Some}
 use Rattle.std.specs.List.{AllByRecursion}
 use Rattle.std.specs.Cmp.Lexicographic.{slice_cmp}
 use Rattle.std.specs.Ordering.{nat_cmp}
@@ -15,6 +15,10 @@ IsAmong (y ∷ ys) x = (x ≡ y) ⊎ IsAmong ys x
 abbrev pub Pairs : {X : Type 0} → (X → X → Type 0) → List X → Type 0
 Pairs R [] = Unit {0}
 Pairs R (x ∷ xs) = AllByRecursion (R x) xs × Pairs R xs
+
+-- the elements of children with their units, the last first
+abbrev pub elements_of : List (ℕ × ℕ) → List ℕ
+elements_of list = map (λ child. child.1) (reverse list)
 
 -- Of a table in which the entries of all kids are to be x, and all others to stay: those of the kids that are left may be not yet written.
 pub record IsMarking (kids left : List ℕ) (x : ℕ) (old new : List ℕ) : Type 0 where

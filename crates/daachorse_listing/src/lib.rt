@@ -5,8 +5,9 @@
 //! on [`depths::depths`] giving the length of each element's text.
 #![tactic(auto)]
 
+mod children;
 pub mod depths;
 pub mod edges;
-mod lists;
 pub mod patterns;
+mod siblings;
 mod tree;

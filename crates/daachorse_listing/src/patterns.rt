@@ -158,7 +158,7 @@ impl<V: Copy, E: Outputs<V> + Drop, A: Allocator + Copy> Iterator for PatternWal
             if self.entered == self.tree.order.len() {
                 return None;
             }
-            self.element = self.tree.order[self.entered];
+            self.element = self.tree.order[self.entered] as usize;
             self.entered += 1;
             let (position, stop) = self.elements.own_outputs(self.element);
             self.position = position;
@@ -191,11 +191,12 @@ fn text<V: Copy, E: Outputs<V>, A: Allocator + Copy>(
     ensures ok { IfOk result (λ key. map E.number key.items ≡ text_of (E.child elements.now) (E.units elements.now) (E.count elements.now) element) }
     ensures err { IfErr result IsOutOfMemory }
 {
-    let mut units = Vec::new(*tree.order.allocator());
+    let length = tree.depths[element] as usize;
+    let mut units = Vec::with_capacity(*tree.order.allocator(), length)?;
     let mut at = element;
     while at != 0 {
         units.push(elements.unit(at))?;
-        at = tree.parents[at];
+        at = tree.parents[at] as usize;
     }
     units.reverse();
     Ok(units)

@@ -1,16 +1,18 @@
 //! The reached elements of an array with children.
 //!
 //! The layers above may rely on the order being that of the texts, on each reached element standing
-//! in it once, and on the tables of the parents and the depths. All takes time and memory linear in
-//! the numbers of elements and units.
+//! in it once, and on the tables of the parents and the depths. The memory is linear in the number
+//! of elements, and so is the time but for the sorting of each element's children.
 
 ghost use Rattle.std.specs.Prelude.{◌≡◌, ◌+◌, ◌<◌, ◌^◌, ℕ, [], length, reverse, slice_index, slice_index_or, IfOk, IfErr, OnOk};
 ghost use Rattle.daachorse_core.specs.Refusals.{IsOutOfMemory};
-ghost use Rattle.daachorse_listing.specs.Edges.{IsTree, TellChildren, children, put_before, siblings};
-ghost use Rattle.daachorse_listing.specs.Trees.{IsListed, IsMarking};
+ghost use Rattle.daachorse_listing.specs.Edges.{IsTree, TellChildren, put_before};
+ghost use Rattle.daachorse_listing.specs.Trees.{IsListed, IsMarking, elements_of};
+ghost use Rattle.std.specs.List.{AllByRecursion};
 
-use crate::edges::{Edges, siblings};
-use crate::lists::Lists;
+use crate::children::list_children;
+use crate::edges::Edges;
+use crate::siblings::Siblings;
 use daachorse_core::errors::Result;
 use std::alloc::{Allocator, Global};
 
@@ -21,9 +23,9 @@ const NOT_REACHED: u32 = u32::MAX;
 #[derive(Drop)]
 pub(crate) struct Tree<A: Allocator = Global> {
     /// The elements, in the order of their texts.
-    pub(crate) order: Vec<usize, A>,
+    pub(crate) order: Vec<u32, A>,
     /// The parent of each element that is reached, but for the root's.
-    pub(crate) parents: Vec<usize, A>,
+    pub(crate) parents: Vec<u32, A>,
     /// Of each element the length of its text, or `NOT_REACHED`.
     pub(crate) depths: Vec<u32, A>,
 }
@@ -40,55 +42,52 @@ impl<A: Allocator + Copy> Tree<A> {
         ensures ok { IfOk result (λ t. IsListed (E.child edges.now) (E.count edges.now) (E.units edges.now) t.order.items t.parents.items t.depths.items) }
         ensures err { IfErr result IsOutOfMemory }
     {
-        let groups = siblings(alloc, edges)?;
+        let groups = Siblings::new(alloc, edges)?;
+        let count = edges.num_elements();
+        let order = Vec::with_capacity(alloc, count)?;
+        let parents = vec![in alloc; 0; count]?;
+        let mut depths = vec![in alloc; NOT_REACHED; count]?;
+        depths[0] = 0;
         let mut tree = Tree {
-            order: Vec::new(alloc),
-            parents: vec![in alloc; 0; edges.num_elements()]?,
-            depths: vec![in alloc; NOT_REACHED; edges.num_elements()]?,
+            order,
+            parents,
+            depths,
         };
-        tree.depths[0] = 0;
+        let mut children = Vec::new(alloc);
         let mut aside = Vec::new(alloc);
         aside.push(0)?;
         while let Some(element) = aside.pop() {
             tree.order.push(element)?;
-            tree.put_aside(edges, &groups, element, &mut aside)?;
+            list_children(edges, &groups, element as usize, &mut children)?;
+            tree.put_aside(element, &mut children, &mut aside)?;
         }
         Ok(tree)
     }
 }
 
 impl<A: Allocator> Tree<A> {
-    /// Puts the children of an element aside, the greatest unit first, and notes their parent and
+    /// Puts the children of an element aside, the last of the list first, and notes their parent and
     /// their depth.
-    fn put_aside<E: Edges>(
+    fn put_aside(
         &mut self,
-        edges: &E,
-        groups: &Lists<A>,
-        element: usize,
-        aside: &mut Vec<usize, A>,
+        element: u32,
+        children: &mut Vec<(u32, u32), A>,
+        aside: &mut Vec<u32, A>,
     ) -> Result<()>
-        requires inside { (i c j : ℕ) → E.child edges.now i c ≡ Some j → j < E.count edges.now }
-        requires tell { TellChildren (E.child edges.now) (E.group edges.now) (E.edge edges.now) (E.count edges.now) }
-        requires groups { (g : ℕ) → g < E.count edges.now
-            → slice_index_or groups.now g [] ≡ siblings (E.edge edges.now) (E.count edges.now) g (E.units edges.now) }
-        requires each { length groups.now ≡ E.count edges.now }
-        requires element { element < E.count edges.now }
-        requires parents { length self.old.parents.items ≡ E.count edges.now }
-        requires depths { length self.old.depths.items ≡ E.count edges.now }
+        requires inside { AllByRecursion (λ j. j < length self.old.parents.items) (elements_of children.old.items) }
+        requires element { element < length self.old.parents.items }
+        requires tables { length self.old.depths.items ≡ length self.old.parents.items }
         requires shallow { slice_index self.old.depths.items element < 4294967295 }
         ensures order { self.new.order ≡ self.old.order }
-        ensures aside { OnOk result (reverse aside.new.items ≡ put_before (children (E.child edges.now) element (E.units edges.now)) (reverse aside.old.items)) }
-        ensures parents { OnOk result (IsMarking (children (E.child edges.now) element (E.units edges.now)) [] element self.old.parents.items self.new.parents.items) }
-        ensures depths { OnOk result (IsMarking (children (E.child edges.now) element (E.units edges.now)) [] (slice_index self.old.depths.items element + 1) self.old.depths.items self.new.depths.items) }
+        ensures aside { OnOk result (reverse aside.new.items ≡ put_before (elements_of children.old.items) (reverse aside.old.items)) }
+        ensures parents { OnOk result (IsMarking (elements_of children.old.items) [] element self.old.parents.items self.new.parents.items) }
+        ensures depths { OnOk result (IsMarking (elements_of children.old.items) [] (slice_index self.old.depths.items element + 1) self.old.depths.items self.new.depths.items) }
         ensures err { IfErr result IsOutOfMemory }
     {
-        let Some(group) = edges.group(element) else {
-            return Ok(());
-        };
-        let depth = self.depths[element] + 1;
-        for child in groups.list(group) {
-            self.parents[child] = element;
-            self.depths[child] = depth;
+        let depth = self.depths[element as usize] + 1;
+        while let Some((_unit, child)) = children.pop() {
+            self.parents[child as usize] = element;
+            self.depths[child as usize] = depth;
             aside.push(child)?;
         }
         Ok(())

@@ -11,20 +11,20 @@ loop-at-smaller g c =
     let at = c.loop-at.at in
     let parents = c.args.tree.now.parents.items in
     let inside : at < g.E.Edges.count c.args.elements.now = reached-inside c.requires.tree at c.loop-at.invariant.reached in
-    let read = get_or_read parents at c.index-at.result.now (omega (arith, inside, c.requires.listed.parents_size)) c.index-at.ensures 0 in
-    let step = text-parent c.requires.tree c.requires.tell _ parents _ c.requires.listed at c.index-at.result.now c.loop-at.invariant.reached c.loop-at-test.true read in
+    let read = get_or_read parents at c.index-in-loop-at.result.now (omega (arith, inside, c.requires.listed.parents_size)) c.index-in-loop-at.ensures 0 in
+    let step = text-parent c.requires.tree c.requires.tell _ parents _ c.requires.listed at c.index-in-loop-at.result.now c.loop-at.invariant.reached c.loop-at-test.true read in
     let child = g.E.Edges.child c.args.elements.now in
     let n = g.E.Edges.count c.args.elements.now in
     let m = g.E.Edges.units c.args.elements.now in
-    omega (arith, ap length step.1, length-append (text_of child m n c.index-at.result.now) (unit_of (g.E.Edges.edge c.args.elements.now at) ∷ []))
+    omega (arith, ap length step.1, length-append (text_of child m n c.index-in-loop-at.result.now) (unit_of (g.E.Edges.edge c.args.elements.now at) ∷ []))
 
 pub loop-at-preserved : goal.loop-at-preserved
 loop-at-preserved g c =
     let at = c.loop-at.at in
     let parents = c.args.tree.now.parents.items in
     let inside : at < g.E.Edges.count c.args.elements.now = reached-inside c.requires.tree at c.loop-at.invariant.reached in
-    let read = get_or_read parents at c.index-at.result.now (omega (arith, inside, c.requires.listed.parents_size)) c.index-at.ensures 0 in
-    let step = text-parent c.requires.tree c.requires.tell _ parents _ c.requires.listed at c.index-at.result.now c.loop-at.invariant.reached c.loop-at-test.true read in
+    let read = get_or_read parents at c.index-in-loop-at.result.now (omega (arith, inside, c.requires.listed.parents_size)) c.index-in-loop-at.ensures 0 in
+    let step = text-parent c.requires.tree c.requires.tell _ parents _ c.requires.listed at c.index-in-loop-at.result.now c.loop-at.invariant.reached c.loop-at-test.true read in
     let child = g.E.Edges.child c.args.elements.now in
     let n = g.E.Edges.count c.args.elements.now in
     let m = g.E.Edges.units c.args.elements.now in
@@ -33,8 +33,8 @@ loop-at-preserved g c =
     let pushed = ap (λ l. map number (reverse l)) c.in_ok-push.ensures.items ∙ (ap (map number) (reverse-append c.loop-at.units.items (c.unit.result ∷ [])) ∙ ap (λ u. u ∷ before) c.unit.ensures) in
     record {
       reached = step.0;
-      text = c.loop-at.invariant.text ∙ (ap (λ t. t ++ before) step.1 ∙ (append_assoc (text_of child m n c.index-at.result.now) (unit_of (g.E.Edges.edge c.args.elements.now at) ∷ []) before
-          ∙ ap (λ l. text_of child m n c.index-at.result.now ++ l) (sym pushed)));
+      text = c.loop-at.invariant.text ∙ (ap (λ t. t ++ before) step.1 ∙ (append_assoc (text_of child m n c.index-in-loop-at.result.now) (unit_of (g.E.Edges.edge c.args.elements.now at) ∷ []) before
+          ∙ ap (λ l. text_of child m n c.index-in-loop-at.result.now ++ l) (sym pushed)));
     }
 
 pub returns-clause-ok : goal.returns-clause-ok

@@ -1,17 +1,21 @@
 -- The children that are left will be put aside, and those that were have their entries.
-use Rattle.std.proofs.Common.{◌≡◌, ◌<◌, reverse}
+use Rattle.std.proofs.Common.{◌≡◌, ◌<◌, length, reverse}
 use Rattle.std.specs.List.{AllByRecursion}
-use Rattle.daachorse_listing.specs.Edges.{children, put_before}
-use Rattle.daachorse_listing.specs.Trees.{IsMarking}
+use Rattle.daachorse_listing.specs.Edges.{put_before}
+use Rattle.daachorse_listing.specs.Trees.{IsMarking, elements_of}
 use Rattle.daachorse_listing.proofs.tree.Tree.put_aside.Given as goal
 
-abbrev pub invariant-loop-child : goal.invariant-loop-child
-invariant-loop-child g l =
-    let kids = children (g.E.Edges.child l.edges) l.element (g.E.Edges.units l.edges) in
+abbrev pub invariant-loop-unit : goal.invariant-loop-unit
+invariant-loop-unit g l =
+    let kids = elements_of l.fn.children.items in
+    let left = elements_of l.children.items in
     record {
       order : l.self.order ≡ l.fn.self.order;
-      less : AllByRecursion (λ j. j < g.E.Edges.count l.edges) l.child-iterator;
-      aside : put_before l.child-iterator (reverse l.aside.items) ≡ put_before kids (reverse l.fn.aside.items);
-      parents : IsMarking kids l.child-iterator l.element l.fn.self.parents.items l.self.parents.items;
-      depths : IsMarking kids l.child-iterator l.depth l.fn.self.depths.items l.self.depths.items;
+      less : AllByRecursion (λ j. j < length l.fn.self.parents.items) left;
+      aside : put_before left (reverse l.aside.items) ≡ put_before kids (reverse l.fn.aside.items);
+      parents : IsMarking kids left l.element l.fn.self.parents.items l.self.parents.items;
+      depths : IsMarking kids left l.depth l.fn.self.depths.items l.self.depths.items;
     }
+
+abbrev pub decreases-loop-unit : goal.decreases-loop-unit
+decreases-loop-unit g l = length l.children.items

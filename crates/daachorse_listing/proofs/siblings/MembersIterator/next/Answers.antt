@@ -1,15 +1,15 @@
--- The node of the link, and then the list of its own link.
+-- The number of the link, and then the list that it goes on with.
 use Rattle.std.proofs.Common.{◌<◌, sym, ◌∙◌, rules, arith}
 use Rattle.daachorse_listing.proofs.LinkedLaws.{list_from-at}
-use Rattle.daachorse_listing.proofs.lists.ItemsIterator.next.Goals as goal
+use Rattle.daachorse_listing.proofs.siblings.MembersIterator.next.Goals as goal
 
 pub returns-clause-steps : goal.returns-clause-steps
 returns-clause-steps c =
     let more : 0 < c.self.inside.link = omega arith in
-    sym c.self.view_is ∙ list_from-at c.self.inside.nodes.now c.self.invariant.0 c.self.inside.link more
+    sym c.self.view_is ∙ list_from-at c.self.inside.next.now c.self.invariant.0 c.self.inside.link more
 
 pub returns-clause-goes : goal.returns-clause-goes
 returns-clause-goes c =
     let more : 0 < c.self.inside.link = omega arith in
-    let e = sym c.self.view_is ∙ list_from-at c.self.inside.nodes.now c.self.invariant.0 c.self.inside.link more in
+    let e = sym c.self.view_is ∙ list_from-at c.self.inside.next.now c.self.invariant.0 c.self.inside.link more in
     rw e (search rules)

@@ -1,0 +1,34 @@
+-- Each member of the group is a child, with its unit; the pairs are sorted.
+use Rattle.std.proofs.Common.{◌≡◌, ◌++◌, sym, ap, ◌∙◌, map}
+use Rattle.std.proofs.lemmas.List.{append-nil}
+use Rattle.daachorse_listing.specs.Edges.{is_in, members}
+use Rattle.daachorse_listing.specs.Trees.{elements_of}
+use Rattle.daachorse_listing.proofs.Members.{no-children}
+use Rattle.daachorse_listing.proofs.SortLaws.{below-All, kid_of, sorted-children}
+use Rattle.daachorse_listing.proofs.children.list_children.Goals as goal
+
+pub returns-in_default-clause-ok : goal.returns-in_default-clause-ok
+returns-in_default-clause-ok g c =
+    let none = no-children (g.E.Edges.child c.args.edges.now) c.args.element (g.E.Edges.units c.args.edges.now)
+    (λ u. c.requires.tell.alone c.args.element u c.requires.element (sym c.in_default.ensures)) in
+    ap elements_of c.clear.ensures.items ∙ sym none
+
+pub loop-member-init : goal.loop-member-init
+loop-member-init g c =
+    let edge = g.E.Edges.edge c.args.edges.now in
+    let count = g.E.Edges.count c.args.edges.now in
+    let is : c.into_iter-member-iterator.result ≡ members edge c.in-Some.group count =
+    c.into_iter-member-iterator.ensures.into_iter_gives ∙ c.members-member-items.ensures ∙ c.requires.groups c.in-Some.group (c.requires.tell.inside c.args.element c.in-Some.group c.requires.element (sym c.in-Some.ensures)) in
+    record {
+      less = rw is (below-All (λ j. is_in c.in-Some.group (edge j)) count);
+      done = ap (λ l. l ++ map (kid_of edge) c.into_iter-member-iterator.result) c.clear.ensures.items ∙ ap (map (kid_of edge)) is;
+    }
+
+pub returns-clause-ok : goal.returns-clause-ok
+returns-clause-ok g c =
+    let edge = g.E.Edges.edge c.args.edges.now in
+    let count = g.E.Edges.count c.args.edges.now in
+    let all : c.loop-member.list.items ≡ map (kid_of edge) (members edge c.in-Some.group count) =
+    sym (append-nil c.loop-member.list.items) ∙ (ap (λ l. c.loop-member.list.items ++ map (kid_of edge) l) (sym c.in-None.ensures.steps.0) ∙ c.loop-member.invariant.done) in
+    sorted-children c.requires.tell c.requires.inside c.args.element c.in-Some.group c.requires.element (sym c.in-Some.ensures) c.loop-member.list.items c.sort_unstable.new.self.items all
+    c.sort_unstable.ensures.permutation c.sort_unstable.ensures.sorted

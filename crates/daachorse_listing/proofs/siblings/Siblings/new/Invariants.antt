@@ -1,0 +1,6 @@
+-- The elements that were passed stand in the lists of their groups.
+use Rattle.daachorse_listing.proofs.LinkedLaws.{IsGrouped}
+use Rattle.daachorse_listing.proofs.siblings.Siblings.new.Given as goal
+
+abbrev pub invariant-loop-element : goal.invariant-loop-element
+invariant-loop-element g l = IsGrouped (g.E.Edges.edge l.edges) (g.E.Edges.count l.edges) l.element l.first.items l.next.items

@@ -1,8 +1,8 @@
 //! Written forms of values, and the packing of two small numbers into one word.
 //!
 //! The layers above may rely on the law of [`serializer::Serializable`] and of
-//! [`serializer::SerializableVec`], which each type proves, and on [`intpack::U24nU8`] keeping each
-//! of its two parts while the other is set.
+//! [`serializer::SerializableVec`], which each type proves, on [`intpack::U24nU8`] keeping each of its
+//! two parts while the other is set, and on [`ending`] for what the forms of both automata end with.
 #![tactic(auto)]
 
 pub mod ending;

@@ -735,7 +735,8 @@ fn write_items<S: Serializable, A: Allocator>(items: &[S], dst: &mut Vec<u8, A>)
     Ok(())
 }
 
-/// Reads so many items. The memory grows with the items, so that a count alone asks for none.
+/// Reads so many items. Room is made at first for as many as the bytes can hold, so that a count alone
+/// asks for none.
 fn read_items<'a, S: Serializable, A: Allocator>(
     alloc: A,
     src: &'a [u8],
@@ -745,7 +746,8 @@ fn read_items<'a, S: Serializable, A: Allocator>(
     ensures full { IfOk result (λ r. vec_len r.0 ≡ count) }
     ensures refused { IfErr result (IsReadRefusal S.own_refusal) }
 {
-    let mut items = Vec::new(alloc);
+    let fitting = src.len() / S::serialized_bytes().max(1);
+    let mut items = Vec::with_capacity(alloc, count.min(fitting))?;
     let mut rest = src;
     for i in 0..count {
         let (item, after) = S::deserialize_from_slice(rest)?;

@@ -12,7 +12,7 @@ returns-in_err-item-clause-given g c =
     let items = c.loop-i.items.items in
     let n : ℕ = c.args.count - (c.loop-i.i + 1) in
     let e : c.args.count - c.loop-i.i ≡ suc n = omega (arith, c.loop-i-test.true) in
-    let p = err_from_is_err_and c.from_residual.result c.from_residual.ensures.1 in
+    let p = err_from_is_err_and c.from_residual-in_err-item.result c.from_residual-in_err-item.ensures.1 in
     rw (p.1, p.2)
     (refuses_along _ (t c.loop-i.rest.now) (take_items t c.args.count c.args.src.now)
     (λ none. sym c.loop-i.invariant.0 ∙ (ap (λ k. over (λ ys. items ++ ys) (take_items t k c.loop-i.rest.now)) e ∙ ap (over (λ ys. items ++ ys)) (no_item t n c.loop-i.rest.now none)))

@@ -21,24 +21,6 @@ list_children-requires-clause-element g c =
     c.in-Some.ensures.items c.loop-element.invariant in
     taken-inside c.requires.tree c.loop-element.tree.order.items (reverse c.pop.new.self.items) c.loop-element.tree.parents.items c.loop-element.tree.depths.items c.in-Some.element walk
 
-pub put_aside-requires-clause-inside : goal.put_aside-requires-clause-inside
-put_aside-requires-clause-inside g c = λ i u j e. (c.requires.tree.inside i u j e).0
-
-pub put_aside-requires-clause-tell : goal.put_aside-requires-clause-tell
-put_aside-requires-clause-tell g c = c.requires.tell
-
-pub put_aside-requires-clause-groups : goal.put_aside-requires-clause-groups
-put_aside-requires-clause-groups g c = c.in_ok-groups.ensures.ok
-
-pub put_aside-requires-clause-each : goal.put_aside-requires-clause-each
-put_aside-requires-clause-each g c = c.in_ok-groups.ensures.size
-
-pub put_aside-requires-clause-parents : goal.put_aside-requires-clause-parents
-put_aside-requires-clause-parents g c = c.loop-element.invariant.parents_size
-
-pub put_aside-requires-clause-depths : goal.put_aside-requires-clause-depths
-put_aside-requires-clause-depths g c = c.loop-element.invariant.depths_size
-
 pub put_aside-requires-clause-element : goal.put_aside-requires-clause-element
 put_aside-requires-clause-element g c =
     let walk = walk-pop c.loop-element.tree.order.items c.loop-element.tree.parents.items c.loop-element.tree.depths.items c.loop-element.aside.items c.pop.new.self.items c.in-Some.element

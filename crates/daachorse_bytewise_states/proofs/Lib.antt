@@ -9,7 +9,6 @@ pub mod StandardLaws
 pub mod LeftmostLaws
 pub mod WrittenLaws
 pub mod BuiltLaws
-pub mod EmptyLaws
 pub mod Rows
 pub mod EdgeLaws
 pub mod ListingLaws

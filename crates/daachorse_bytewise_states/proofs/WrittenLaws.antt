@@ -23,5 +23,5 @@ written-held l edges labels fails positions old new some labelled vacant placed 
 }
 
 -- a slice of a whole list that was written to is the list
-pub written_back : (new old : List (State ℕ)) (n : ℕ) → n ≡ length new → take n (new ++ drop (length new) old) ≡ new
+pub written_back : {A : Type 0} (new old : List A) (n : ℕ) → n ≡ length new → take n (new ++ drop (length new) old) ≡ new
 written_back new old n e = ap (λ k. take k (new ++ drop (length new) old)) e ∙ take-append_seam new (drop (length new) old)

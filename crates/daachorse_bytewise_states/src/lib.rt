@@ -10,6 +10,4 @@ mod packing;
 mod standard;
 pub mod state;
 pub mod states;
-#[cfg(test)]
-mod tests;
 pub mod views;

@@ -11,9 +11,6 @@ ghost use Rattle.daachorse_bytewise_states.specs.Elements.{base_in, check_in, fa
 ghost use Rattle.daachorse_bytewise_states.specs.Parts.{child_by, without_link};
 ghost use Rattle.daachorse_bytewise_states.specs.StateForms.{IsState, state_form, state_law, take_state};
 
-#[cfg(test)]
-mod tests;
-
 use daachorse_core::Empty;
 use daachorse_core::errors::{DaachorseError, Limit, Result};
 use daachorse_serializer::intpack::{U24, U24nU8};

@@ -17,9 +17,6 @@ ghost use Rattle.daachorse_bytewise_states.specs.Elements.{base_in, fail_in, vac
 ghost use Rattle.daachorse_bytewise_states.specs.Parts.{base_of, check_of, child, child_among, content, count, fail_of, output_of, parts_of, without_link};
 ghost use Rattle.daachorse_bytewise_states.specs.Valid.{IsRootTable, IsValid};
 
-#[cfg(test)]
-mod tests;
-
 use crate::packing::pack;
 use crate::state::State;
 use crate::views;

@@ -1,19 +1,14 @@
 -- The codes of the characters that label edges tell them apart, and are below the length of a block.
-use Rattle.std.proofs.Common.{◌≡◌, ℕ, ◌<◌, ◌≤◌, Bool, true, false, cond, List, ◌∷◌, ◌++◌, length, length-append, Option, Some, None, refl, sym, ap, ◌∙◌, subst, arith}
+use Rattle.std.proofs.Common.{◌≡◌, ℕ, ◌<◌, ◌≤◌, Bool, true, false, cond, List, length, Option, Some, None, refl, sym, ap, ◌∙◌, subst, arith}
 use Rattle.std.specs.Char.{IsScalar}
-use Rattle.std.specs.Prelude.{◌^◌, MatchOption, is_some, max, slice_get, slice_index, unwrap_or}
+use Rattle.std.specs.Prelude.{◌^◌, MatchOption, is_some, max, slice_get, unwrap_or}
 use Rattle.std.specs.Int.{IsNextPowerOfTwo}
 use Rattle.std.proofs.Math.Utf8.{scalar}
 use Rattle.std.proofs.lemmas.Option.{same_Some, slice_get_within}
 use Rattle.std.specs.Ordering.{nat_cmp}
 use Rattle.daachorse_build.specs.Tables.{child_in}
-use Rattle.std.specs.List.{AllByRecursion}
-use Rattle.std.proofs.Math.Seq.{get_or-append_seam}
-use Rattle.daachorse_model.specs.declared.MatchKind.{MatchKind}
-use Rattle.daachorse_model.specs.Dictionary.{dictionary}
-use Rattle.daachorse_packing.proofs.Keys.{of_key}
 use Rattle.daachorse_mapper.specs.Codings.{Coding, IsCoding, code_of, entry_code}
-use Rattle.daachorse_charwise_states.specs.Packing.{AreCoded, AreEdgesCoded, code_in}
+use Rattle.daachorse_charwise_states.specs.Packing.{AreEdgesCoded, code_in}
 use Rattle.daachorse_charwise_states.specs.Parts.{char_code}
 
 entry_some : (o : Option ℕ) (k : ℕ) → entry_code o ≡ Some k → (n : ℕ) × (o ≡ Some n)
@@ -79,15 +74,3 @@ block_least n (Some q) p least is = let same : q ≡ p = same_Some q p is in sub
 
 pub block_holds : (n p : ℕ) → IsNextPowerOfTwo (max 2 n) p → (2 ≤ p) × (n ≤ p)
 block_holds n p least = let fits : max 2 n ≤ p = least.1 in (grind (arith, fits), grind (arith, fits))
-
--- ---- the characters of keys
--- each unit of a text is a character that has a code
-abbrev pub IsTextCoded : Coding → List ℕ → Type 0
-IsTextCoded coding w = (i : ℕ) → i < length w → is_some (char_code coding (slice_index w i)) ≡ true
-
--- where the registered texts have codes, the keys do
-pub coded-keys : {V : Type 0} (coding : Coding) (kind : MatchKind) (rs : List (List ℕ × V)) → AllByRecursion (λ r. IsTextCoded coding r.0) rs → AreCoded coding (dictionary kind rs)
-coded-keys coding kind rs all v w u key =
-    let long : length v < length (v ++ u ∷ w) = omega (arith, length-append v (u ∷ w)) in
-    let P : ℕ → Type 0 = λ x. is_some (char_code coding x) ≡ true in
-    subst P (get_or-append_seam v u w 0) (of_key (IsTextCoded coding) kind rs all (v ++ u ∷ w) key (length v) long)

@@ -3,7 +3,6 @@ pub mod CharacterLaws
 pub mod Codes
 pub mod DeadLaws
 pub mod EdgeLaws
-pub mod EmptyLaws
 pub mod ListingLaws
 pub mod PackedTrie
 pub mod PackedValid

@@ -9,6 +9,4 @@ pub mod edges;
 mod packing;
 pub mod state;
 pub mod states;
-#[cfg(test)]
-mod tests;
 pub mod view;

@@ -17,9 +17,6 @@ ghost use Rattle.daachorse_mapper.specs.Written.{IsCountable};
 ghost use Rattle.daachorse_charwise_states.specs.Packing.{AreCoded, IsBuiltFor, NeedsManyBlocks};
 ghost use Rattle.daachorse_charwise_states.specs.Parts.{base_of, check_of, child, content, count, fail_of, output_of};
 
-#[cfg(test)]
-mod tests;
-
 use crate::packing::pack;
 use crate::state::State;
 use crate::view::{Leftmost, Searches, Standard, View};

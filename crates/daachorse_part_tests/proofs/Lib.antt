@@ -1,1 +1,2 @@
+pub mod CodedTexts
 pub mod RisingLaws

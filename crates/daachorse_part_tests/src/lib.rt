@@ -4,6 +4,10 @@
 #![tactic(auto)]
 
 #[cfg(test)]
+mod bytewise_states;
+#[cfg(test)]
+mod charwise_states;
+#[cfg(test)]
 mod forms;
 #[cfg(test)]
 mod mapper;

@@ -1,12 +1,43 @@
 -- What was written one after another holds the trie.
-use Rattle.std.proofs.Common.{◌≡◌, ℕ, ◌<◌, List, length, subst, sym, arith}
+use Rattle.std.proofs.Common.{◌≡◌, ℕ, ◌<◌, List, length, ◌∙◌, ap, subst, sym, arith}
 use Rattle.std.proofs.lemmas.List.{length-map}
+use Rattle.std.proofs.lemmas.Result.{err_from_is_err_and}
 use Rattle.daachorse_build.specs.Tables.{edge_map, edges_of, fails_of, positions_of}
+use Rattle.daachorse_packing.specs.Settled.{ArePlaces}
 use Rattle.daachorse_bytewise_states.specs.declared.state.State.{State}
 use Rattle.daachorse_bytewise_states.specs.Packing.{HoldStates}
 use Rattle.daachorse_bytewise_states.specs.Writing.{HasPlaced}
 use Rattle.daachorse_bytewise_states.proofs.WrittenLaws.{written-held, written_back}
 use Rattle.daachorse_bytewise_states.proofs.packing.write_states.Goals as goal
+
+pub labels-requires : goal.labels-requires
+labels-requires g c = c.requires.trie
+
+pub vacant_elements-requires : goal.vacant_elements-requires
+vacant_elements-requires g c = record { block = c.requires.sizes.block; sizes = c.requires.sizes.elements }
+
+pub place_states-requires : goal.place_states-requires
+place_states-requires g c =
+    let states = c.args.states.now in let l = c.args.helper.now in
+    let P : ℕ → Type 0 = λ n. ArePlaces l.idx (length states) n in
+    let I : List ℕ → Type 0 = λ is. ArePlaces is (length states) (length c.deref_mut.result.now) in
+    record {
+      labels = ap length c.deref.ensures.value ∙ (c.in_ok-labels.ensures.ok.size ∙ length-map states edge_map);
+      bases = ap length c.bases.ensures ∙ c.requires.sizes.bases;
+      places = subst I (sym c.idx_map.ensures) (subst P (sym (ap length c.deref_mut.ensures.value ∙ c.in_ok-elements.ensures.ok.size)) c.requires.places);
+      links = c.requires.links;
+      outputs = c.requires.outputs;
+    }
+
+pub returns-in_err-labels : goal.returns-in_err-labels
+returns-in_err-labels g c =
+    let p = err_from_is_err_and c.from_residual.result c.from_residual.ensures.1 in
+    rw (p.1, p.2) (record { ok = tt; few = tt; err = c.in_err-labels.ensures.err })
+
+pub returns-in_err-elements : goal.returns-in_err-elements
+returns-in_err-elements g c =
+    let p = err_from_is_err_and c.from_residual-in_err-elements.result c.from_residual-in_err-elements.ensures.1 in
+    rw (p.1, p.2) (record { ok = tt; few = tt; err = c.in_err-elements.ensures.err })
 
 pub returns-clause-ok : goal.returns-clause-ok
 returns-clause-ok g c =
@@ -26,3 +57,15 @@ returns-clause-ok g c =
     let H : List (State ℕ) → Type 0 = λ es. HoldStates l (edges_of states) (fails_of states) (positions_of states) es in
     let len : c.in_ok-elements.elements.len ≡ length new = omega (arith, placed.size, c.in_ok-elements.elements.ok.0) in
     subst H (sym (written_back new old c.in_ok-elements.elements.len len)) held
+
+pub returns-clause-few : goal.returns-clause-few
+returns-clause-few g c =
+    let old = c.in_ok-elements.elements.items in let new = c.place_states.new.elements in
+    let P : List (State ℕ) → Type 0 = λ es. length es < 4294967296 in
+    let same : length new ≡ length old = c.place_states.ensures.size ∙ ap length c.deref_mut.ensures.value in
+    let small : length old < 4294967296 = c.in_ok-elements.ensures.few in
+    let len : c.in_ok-elements.elements.len ≡ length new = omega (arith, same, c.in_ok-elements.elements.ok.0) in
+    subst P (sym (written_back new old c.in_ok-elements.elements.len len)) (omega (arith, same, small))
+
+pub returns-clause-err : goal.returns-clause-err
+returns-clause-err g c = tt

@@ -1,5 +1,5 @@
 -- The groups are placed, and the states written to their elements.
-use Rattle.std.proofs.Common.{false, ◌≢◌, ◌<◌, ◌≤◌, ◌+◌, ◌*◌, ◌^◌, ℕ, List, length, ◌∙◌, ap, subst, sym}
+use Rattle.std.proofs.Common.{false, ◌≢◌, ◌<◌, ◌≤◌, ◌+◌, ◌*◌, ◌^◌, ℕ, List, length, ◌∙◌, ap, subst, sym, arith}
 use Rattle.std.specs.Prelude.{slice_index}
 use Rattle.std.proofs.lemmas.List.{length-map}
 use Rattle.std.proofs.lemmas.Result.{IfOk-weaker, IfErr-weaker, err_from_is_err_and}
@@ -17,12 +17,38 @@ use Rattle.daachorse_packing.proofs.Groups.{settled-of}
 use Rattle.daachorse_charwise_states.specs.Packing.{HoldElements, code_in}
 use Rattle.daachorse_charwise_states.proofs.packing.pack.Goals as goal
 
+pub coded_groups-requires : goal.coded_groups-requires
+coded_groups-requires g c = record { trie = c.requires.trie; coding = c.requires.coding; coded = c.requires.coded }
+
+pub returns-in_err-groups : goal.returns-in_err-groups
+returns-in_err-groups g c =
+    let p = err_from_is_err_and c.from_residual.result c.from_residual.ensures.1 in
+    let P : DaachorseError → Type 0 = λ x. IsRefusal ⊥ NumElements (HasManyGroups {A = g.row.A.Denot} (code_in c.args.mapper.now) c.args.block_len (states_of c.args.nfa.now)) x in
+    rw (p.1, p.2) (record { ok = tt; few = tt; err = subst P (sym c.in_err-groups.ensures.err) tt })
+
+pub new-requires-clause-power : goal.new-requires-clause-power
+new-requires-clause-power g c = c.requires.power
+
+pub new-requires-clause-two : goal.new-requires-clause-two
+new-requires-clause-two g c = c.requires.block.0
+
+pub new-requires-clause-states : goal.new-requires-clause-states
+new-requires-clause-states g c =
+    let two : 1 < length (edges_of (states_of c.args.nfa.now)) = c.requires.trie.trie.two in
+    omega (arith, two, length-map (states_of c.args.nfa.now) edge_map, ap length c.states.ensures)
+
 pub new-requires-clause-groups : goal.new-requires-clause-groups
 new-requires-clause-groups g c =
     let states = states_of c.args.nfa.now in
     let G : List (SiblingGroup g.row.A.Denot) → Type 0 = λ gs. AreGroups gs (length c.states.result.now) c.args.block_len in
     let N : ℕ → Type 0 = λ n. AreGroups c.in_ok-groups.groups.items n c.args.block_len in
     subst G (sym c.deref.ensures.value) (subst N (length-map states edge_map ∙ sym (ap length c.states.ensures)) (c.in_ok-groups.ensures.ok c.args.block_len c.requires.block.0 c.requires.block.1).groups)
+
+pub returns-in_err-helper-clause-ok : goal.returns-in_err-helper-clause-ok
+returns-in_err-helper-clause-ok g c = let p = err_from_is_err_and c.from_residual-in_err-helper.result c.from_residual-in_err-helper.ensures.1 in rw p.1 tt
+
+pub returns-in_err-helper-clause-few : goal.returns-in_err-helper-clause-few
+returns-in_err-helper-clause-few g c = let p = err_from_is_err_and c.from_residual-in_err-helper.result c.from_residual-in_err-helper.ensures.1 in rw p.1 tt
 
 pub returns-in_err-helper-clause-err : goal.returns-in_err-helper-clause-err
 returns-in_err-helper-clause-err g c =
@@ -71,3 +97,6 @@ returns-clause-err g c =
     IfErr-weaker c.write_states.result _ _
     (λ e out. let P : DaachorseError → Type 0 = λ x. IsRefusal ⊥ NumElements (HasManyGroups (code_in c.args.mapper.now) c.args.block_len (states_of c.args.nfa.now)) x in subst P (sym out) tt)
     c.write_states.ensures.err
+
+pub returns-clause-few : goal.returns-clause-few
+returns-clause-few g c = c.write_states.ensures.few

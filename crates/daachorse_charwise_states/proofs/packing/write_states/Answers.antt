@@ -1,7 +1,8 @@
 -- What was written one after another holds the trie.
-use Rattle.std.proofs.Common.{◌≡◌, ◌<◌, ◌++◌, ℕ, List, length, take, drop, ◌∙◌, ap, subst, sym, arith}
+use Rattle.std.proofs.Common.{◌≡◌, ◌<◌, ◌++◌, ℕ, List, length, take, drop, refl, ◌∙◌, ap, subst, sym, arith}
 use Rattle.std.specs.Prelude.{slice_index}
 use Rattle.std.proofs.lemmas.List.{length-map}
+use Rattle.std.proofs.lemmas.Result.{err_from_is_err_and}
 use Rattle.daachorse_placement.specs.Placement.{AreIds, children_of, parent_of}
 use Rattle.daachorse_build.specs.Tables.{edge_map, edges_of, fails_of, positions_of}
 use Rattle.daachorse_packing.specs.Settled.{ArePlaces}
@@ -11,6 +12,17 @@ use Rattle.daachorse_charwise_states.specs.Packing.{HoldElements}
 use Rattle.daachorse_charwise_states.specs.Writing.{AreGroupsApart, HasPlaced, HaveChecks}
 use Rattle.daachorse_charwise_states.proofs.WrittenLaws.{fresh, settled-apart, settled-ids, settled-inside, settled-parents, written-held, written_back}
 use Rattle.daachorse_charwise_states.proofs.packing.write_states.Goals as goal
+
+pub returns-in_err-elements : goal.returns-in_err-elements
+returns-in_err-elements g c =
+    let p = err_from_is_err_and c.from_residual.result c.from_residual.ensures.1 in
+    rw (p.1, p.2) (record { ok = tt; few = tt; err = refl })
+
+pub place_states-requires-clause-bases : goal.place_states-requires-clause-bases
+place_states-requires-clause-bases g c = ap length c.bases.ensures ∙ (c.requires.settled.2.sizes.bases ∙ length-map c.args.states.now edge_map)
+
+pub place_states-requires-clause-links : goal.place_states-requires-clause-links
+place_states-requires-clause-links g c = c.requires.links
 
 pub place_states-requires-clause-places : goal.place_states-requires-clause-places
 place_states-requires-clause-places g c =
@@ -71,3 +83,16 @@ returns-clause-ok g c =
     let H : List State → Type 0 = λ es. HoldElements l (edges_of states) fails positions es in
     let len_new : n ≡ length new = omega (arith, len, checks.parts.size) in
     subst H (sym (written_back new (take n (mid ++ drop (length mid) old)) n len_new)) (written-held q fails positions old mid new size vacants placed checks)
+
+pub returns-clause-few : goal.returns-clause-few
+returns-clause-few g c =
+    let old = c.in_ok-elements.elements.items in let mid = c.place_states.new.elements in let new = c.set_checks.new.elements in
+    let n = c.in_ok-elements.elements.len in
+    let len : n ≡ length mid = omega (arith, c.place_states.ensures.size, ap length c.deref_mut.ensures.value, c.in_ok-elements.elements.ok.0) in
+    let len_new : n ≡ length new = omega (arith, len, ap length (written_back mid old n len), ap length c.deref_mut-2.ensures.value, c.set_checks.ensures.parts.size) in
+    let small : length new < 4294967296 = omega (arith, len_new, c.in_ok-elements.ensures.len, c.num_elements.type_inv) in
+    let P : List State → Type 0 = λ es. length es < 4294967296 in
+    subst P (sym (written_back new (take n (mid ++ drop (length mid) old)) n len_new)) small
+
+pub returns-clause-err : goal.returns-clause-err
+returns-clause-err g c = tt

@@ -17,11 +17,23 @@ use Rattle.daachorse_bytewise_states.proofs.BuiltLaws.{built-content, built-link
 use Rattle.daachorse_bytewise_states.proofs.PackedParts.{parts-kind}
 use Rattle.daachorse_bytewise_states.proofs.states.States.build.Goals as goal
 
+pub pack-requires-clause-trie : goal.pack-requires-clause-trie
+pack-requires-clause-trie g c = c.requires.1.trie
+
+pub pack-requires-clause-count : goal.pack-requires-clause-count
+pack-requires-clause-count g c = c.requires.1.few_states
+
 pub pack-requires-clause-links : goal.pack-requires-clause-links
 pack-requires-clause-links g c = built-links c.args.kind c.args.nfa c.requires.0 c.requires.1
 
 pub pack-requires-clause-outputs : goal.pack-requires-clause-outputs
 pack-requires-clause-outputs g c = built-outputs c.args.kind c.args.nfa c.requires.0 c.requires.1
+
+pub returns-in_err-elements-clause-ok : goal.returns-in_err-elements-clause-ok
+returns-in_err-elements-clause-ok g c = let p = err_from_is_err_and c.from_residual.result c.from_residual.ensures.1 in rw p.1 tt
+
+pub returns-in_err-elements-clause-kind : goal.returns-in_err-elements-clause-kind
+returns-in_err-elements-clause-kind g c = let p = err_from_is_err_and c.from_residual.result c.from_residual.ensures.1 in rw p.1 tt
 
 pub returns-in_err-elements-clause-err : goal.returns-in_err-elements-clause-err
 returns-in_err-elements-clause-err g c =

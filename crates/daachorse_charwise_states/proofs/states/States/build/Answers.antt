@@ -1,5 +1,5 @@
 -- What is built is packed, and the parts hold the builder's dictionary.
-use Rattle.std.proofs.Common.{◌≡◌, ◌-◌, ◌<◌, ◌≤◌, ◌^◌, ℕ, List, length, None, ap, subst, sym, arith}
+use Rattle.std.proofs.Common.{◌≡◌, ◌-◌, ◌<◌, ◌≤◌, ◌^◌, ℕ, List, length, None, refl, ap, subst, sym, arith}
 use Rattle.std.proofs.lemmas.Result.{err_from_is_err_and}
 use Rattle.daachorse_core.specs.declared.errors.Limit.TheVariants.{NumElements}
 use Rattle.daachorse_core.specs.declared.outputs.Output.{Output}
@@ -19,11 +19,37 @@ use Rattle.daachorse_charwise_states.proofs.states.States.build.Goals as goal
 pub unwrap-block_len-requires : goal.unwrap-block_len-requires
 unwrap-block_len-requires g c = block_some c.args.mapper.alphabet_size c.block_len.result c.block_len.ensures c.requires.block
 
+pub pack-requires-clause-trie : goal.pack-requires-clause-trie
+pack-requires-clause-trie g c = c.requires.built.1.trie
+
+pub pack-requires-clause-count : goal.pack-requires-clause-count
+pack-requires-clause-count g c = c.requires.built.1.few_states
+
+pub pack-requires-clause-coding : goal.pack-requires-clause-coding
+pack-requires-clause-coding g c = c.requires.coding
+
+pub pack-requires-clause-power : goal.pack-requires-clause-power
+pack-requires-clause-power g c = (block_least c.args.mapper.alphabet_size c.block_len.result c.unwrap-block_len.result c.block_len.ensures c.unwrap-block_len.ensures).0
+
+pub pack-requires-clause-block : goal.pack-requires-clause-block
+pack-requires-clause-block g c =
+    let least = block_least c.args.mapper.alphabet_size c.block_len.result c.unwrap-block_len.result c.block_len.ensures c.unwrap-block_len.ensures in
+    block_holds c.args.mapper.alphabet_size c.unwrap-block_len.result least
+
 pub pack-requires-clause-links : goal.pack-requires-clause-links
 pack-requires-clause-links g c = built-links char_width None c.args.kind c.args.nfa c.requires.built.0 c.requires.built.1
 
 pub pack-requires-clause-coded : goal.pack-requires-clause-coded
 pack-requires-clause-coded g c = edges-coded c.args.kind c.args.nfa c.requires.built.0 c.requires.built.1 c.args.mapper c.requires.built.2
+
+pub returns-in_err-states-clause-ok : goal.returns-in_err-states-clause-ok
+returns-in_err-states-clause-ok g c = let p = err_from_is_err_and c.from_residual.result c.from_residual.ensures.1 in rw p.1 tt
+
+pub returns-in_err-states-clause-kind : goal.returns-in_err-states-clause-kind
+returns-in_err-states-clause-kind g c = let p = err_from_is_err_and c.from_residual.result c.from_residual.ensures.1 in rw p.1 tt
+
+pub returns-in_err-states-clause-mapper : goal.returns-in_err-states-clause-mapper
+returns-in_err-states-clause-mapper g c = let p = err_from_is_err_and c.from_residual.result c.from_residual.ensures.1 in rw p.1 tt
 
 pub returns-in_err-states-clause-err : goal.returns-in_err-states-clause-err
 returns-in_err-states-clause-err g c =
@@ -58,3 +84,12 @@ returns-clause-ok g c K built w =
     let coded = edges-coded c.args.kind c.args.nfa c.requires.built.0 c.requires.built.1 c.args.mapper c.requires.built.2 in
     let O : List (Output g.row.V.Denot) → Type 0 = λ os. content (record { kind = c.args.kind; states = es; coding = c.args.mapper; outputs = os; num_states = n }) w ≡ K w in
     subst O (sym c.into_parts-states.ensures.outputs) (built-content c.args.kind c.args.nfa K built c.args.mapper c.unwrap-block_len.result c.requires.coding coded es c.in_ok-states.ensures.ok n w)
+
+pub returns-clause-kind : goal.returns-clause-kind
+returns-clause-kind g c = refl
+
+pub returns-clause-mapper : goal.returns-clause-mapper
+returns-clause-mapper g c = refl
+
+pub returns-clause-err : goal.returns-clause-err
+returns-clause-err g c = tt

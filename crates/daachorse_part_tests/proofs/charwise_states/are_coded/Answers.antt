@@ -6,9 +6,9 @@ use Rattle.daachorse_mapper.specs.Codings.{Coding}
 use Rattle.daachorse_patterns.specs.Patterns.{texts_of}
 use Rattle.daachorse_patterns.proofs.RefusalLaws.{texts_more}
 use Rattle.daachorse_packing.proofs.Keys.{all-push}
-use Rattle.daachorse_charwise_states.specs.declared.states.tests.Characters.{Characters}
-use Rattle.daachorse_charwise_states.proofs.Codes.{IsTextCoded}
-use Rattle.daachorse_charwise_states.proofs.states.tests.are_coded.Goals as goal
+use Rattle.daachorse_part_tests.specs.declared.charwise_states.Characters.{Characters}
+use Rattle.daachorse_part_tests.proofs.CodedTexts.{IsTextCoded}
+use Rattle.daachorse_part_tests.proofs.charwise_states.are_coded.Goals as goal
 
 coded_more : (coding : Coding) (ps : List (Characters × ℕ)) (i : ℕ) (d : Characters × ℕ) → i < length ps → AllByRecursion (λ r. IsTextCoded coding r.0) (texts_of (λ p. p.0.now) (take i ps))
     → IsTextCoded coding ((get_or ps i d).0.0).now → AllByRecursion (λ r. IsTextCoded coding r.0) (texts_of (λ p. p.0.now) (take (i + 1) ps))

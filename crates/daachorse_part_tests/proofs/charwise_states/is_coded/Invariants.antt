@@ -2,7 +2,7 @@
 use Rattle.std.proofs.Common.{ℕ, ◌<◌}
 use Rattle.std.specs.Prelude.{IsSome, slice_index}
 use Rattle.daachorse_charwise_states.specs.Parts.{char_code}
-use Rattle.daachorse_charwise_states.proofs.states.tests.is_coded.Given as goal
+use Rattle.daachorse_part_tests.proofs.charwise_states.is_coded.Given as goal
 
 abbrev pub invariant-loop-c : goal.invariant-loop-c
 invariant-loop-c l = record {

@@ -2,8 +2,8 @@
 use Rattle.std.proofs.Common.{take}
 use Rattle.std.specs.List.{AllByRecursion}
 use Rattle.daachorse_patterns.specs.Patterns.{texts_of}
-use Rattle.daachorse_charwise_states.proofs.Codes.{IsTextCoded}
-use Rattle.daachorse_charwise_states.proofs.states.tests.are_coded.Given as goal
+use Rattle.daachorse_part_tests.proofs.CodedTexts.{IsTextCoded}
+use Rattle.daachorse_part_tests.proofs.charwise_states.are_coded.Given as goal
 
 abbrev pub invariant-loop-pattern : goal.invariant-loop-pattern
 invariant-loop-pattern l = record {

@@ -3,9 +3,9 @@ use Rattle.std.proofs.Common.{◌≡◌, ℕ, ◌+◌, List, [], ◌∷◌, refl
 use Rattle.daachorse_model.specs.declared.MatchKind.{MatchKind}
 use Rattle.daachorse_model.specs.Dictionary.{dictionary}
 use Rattle.daachorse_model.specs.Program.{numbered, pattern_lines, match_text}
+use Rattle.daachorse_bytewise.specs.Automata.{Automaton, dictionary_of}
 use Rattle.daachorse_bytewise.specs.Building.{IsBuiltOf}
-use Rattle.daachorse_patterns.specs.Patterns.{AreIndexed}
-use Rattle.daachorse_bytewise_states.specs.Parts.{Parts, content}
+use Rattle.daachorse_bytewise.specs.Patterns.{AreIndexed}
 use Rattle.daacfind.specs.declared.mode.Mode.{Mode}
 use Rattle.daacfind.specs.Modes.{found_by, kind_of_mode, text_of_mode}
 use Rattle.daacfind.specs.Runs.{value_gives}
@@ -16,11 +16,11 @@ numbered_of i [] ((u, v) ∷ rs) h = absurd h
 numbered_of i (t ∷ ts) [] h = absurd h
 numbered_of i (t ∷ ts) ((u, v) ∷ rs) h = let first = h.1.1 in let rest = numbered_of (i + 1) ts rs h.2 in cc (first, rest, h.0)
 
-content_of : (kind : MatchKind) (texts : List (List ℕ)) (a : Parts ℕ) → IsBuiltOf value_gives kind texts a → content a ≡ dictionary kind (numbered 0 texts)
-content_of kind texts a h = let held : content a ≡ dictionary kind h.0 = λ i w. h.2 w i in held ∙ ap (dictionary kind) (numbered_of 0 texts h.0 h.1)
+dictionary_of_built : (kind : MatchKind) (texts : List (List ℕ)) (a : Automaton ℕ) → IsBuiltOf value_gives kind texts a → dictionary_of a ≡ dictionary kind (numbered 0 texts)
+dictionary_of_built kind texts a h = let held : dictionary_of a ≡ dictionary kind h.0 = λ i w. h.2 w i in held ∙ ap (dictionary kind) (numbered_of 0 texts h.0 h.1)
 
 -- so what a mode writes is the text that the pattern file asks for
-pub text_of_built : (mode : Mode) (patterns haystack : List ℕ) (a : Parts ℕ) (kind : MatchKind) → kind ≡ kind_of_mode mode → IsBuiltOf value_gives kind (pattern_lines patterns) a
-    → match_text (found_by mode (content a) haystack) ≡ text_of_mode mode patterns haystack
+pub text_of_built : (mode : Mode) (patterns haystack : List ℕ) (a : Automaton ℕ) (kind : MatchKind) → kind ≡ kind_of_mode mode → IsBuiltOf value_gives kind (pattern_lines patterns) a
+    → match_text (found_by mode (dictionary_of a) haystack) ≡ text_of_mode mode patterns haystack
 text_of_built mode patterns haystack a kind is h =
-    ap (λ K. match_text (found_by mode K haystack)) (content_of kind (pattern_lines patterns) a h ∙ ap (λ k. dictionary k (numbered 0 (pattern_lines patterns))) is)
+    ap (λ K. match_text (found_by mode K haystack)) (dictionary_of_built kind (pattern_lines patterns) a h ∙ ap (λ k. dictionary k (numbered 0 (pattern_lines patterns))) is)

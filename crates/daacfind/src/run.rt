@@ -9,8 +9,8 @@ ghost use Rattle.std.specs.List.{slice_split};
 ghost use Rattle.std.specs.Io.KnownBytes.{Appends, Keeps};
 ghost use Rattle.daachorse_model.specs.declared.Match.{Match};
 ghost use Rattle.daachorse_model.specs.Program.{pattern_lines, match_line, match_text};
+ghost use Rattle.daachorse_bytewise.specs.Automata.{dictionary_of, kind_of};
 ghost use Rattle.daachorse_bytewise.specs.Building.{IsBuiltOf, IsBuildRefusal};
-ghost use Rattle.daachorse_bytewise_states.specs.Parts.{content};
 ghost use Rattle.daacfind.specs.declared.run.RunError.TheVariants.{Build, Write};
 ghost use Rattle.daacfind.specs.Modes.{found_by, kind_of_mode, text_of_mode};
 ghost use Rattle.daacfind.specs.Runs.{AppendsBeginning, IfBuild, OnWrite, value_gives};
@@ -92,8 +92,8 @@ fn build<A: Allocator + Copy>(
     kind: MatchKind,
     file: &[u8],
 ) -> Result<DoubleArrayAhoCorasick<u32, A>, DaachorseError>
-    ensures built { IfOk result (λ a. IsBuiltOf value_gives kind (pattern_lines file.now) a.parts) }
-    ensures kind { IfOk result (λ a. a.parts.kind ≡ kind) }
+    ensures built { IfOk result (IsBuiltOf value_gives kind (pattern_lines file.now)) }
+    ensures kind { IfOk result (λ a. kind_of a ≡ kind) }
     ensures refused { IfErr result (IsBuildRefusal value_gives kind (pattern_lines file.now)) }
 {
     let patterns = lines(alloc, file)?;
@@ -135,10 +135,10 @@ fn write_mode<S: Sink, A: Allocator + Copy>(
     haystack: &[u8],
     out: &mut S,
 ) -> Result<(), SinkError>
-    requires { automaton.now.parts.kind ≡ kind_of_mode mode }
-    ensures whole { OnOk result (Appends (S.taken out.old) (S.taken out.new) (match_text (found_by mode (content automaton.now.parts) haystack.now))) }
+    requires { kind_of automaton.now ≡ kind_of_mode mode }
+    ensures whole { OnOk result (Appends (S.taken out.old) (S.taken out.new) (match_text (found_by mode (dictionary_of automaton.now) haystack.now))) }
     ensures unfailed { OnOk result (S.failures out.new ≡ S.failures out.old) }
-    ensures beginning { OnErr result (AppendsBeginning (S.taken out.old) (S.taken out.new) (match_text (found_by mode (content automaton.now.parts) haystack.now))) }
+    ensures beginning { OnErr result (AppendsBeginning (S.taken out.old) (S.taken out.new) (match_text (found_by mode (dictionary_of automaton.now) haystack.now))) }
     ensures failed { OnErr result (S.failures out.new ≡ S.failures out.old + 1) }
 {
     match mode {

@@ -1,1 +1,2 @@
 pub mod TurnLaws
+pub use Rattle.daachorse_search.proofs.MatchesLemmas

@@ -1,16 +1,41 @@
--- What an automaton over bytes keeps: its states, and the depths of its elements where they are cached.
-use Rattle.std.specs.Prelude.{ℕ, List}
-use Rattle.daachorse_listing.specs.Automata.{Automaton as Kept, MayHaveDepths as MayHave}
+-- What callers see of an automaton over bytes: the patterns that it holds, the kind of its searches, its states, and the depths of its elements where they are cached.
+use Rattle.std.specs.Prelude.{ℕ, Bool, List}
+use Rattle.std.specs.Hash.{HashWrites}
+use Rattle.daachorse_model.specs.declared.MatchKind.{MatchKind}
+use Rattle.daachorse_model.specs.Dictionary.{Dictionary}
+use Rattle.daachorse_listing.specs.Automata.{Automaton as Kept, MayHaveDepths as MayHave, automaton_eq as kept_eq, automaton_input as kept_input}
 use Rattle.daachorse_listing.specs.Depths.{IsDepthTable}
-use Rattle.daachorse_bytewise_states.specs.Parts.{Parts, child, count}
+use Rattle.daachorse_bytewise_states.specs.Equality.{parts_eq, parts_input}
+use Rattle.daachorse_bytewise_states.specs.Parts.{Parts, child, content, count}
 
 abbrev pub Automaton : Type 0 → Type 0
 Automaton V = Kept (Parts V)
 
--- these are the depths of all elements
-abbrev pub HasDepths : {V : Type 0} → Parts V → List ℕ → Type 0
-HasDepths p depths = IsDepthTable (child p) 256 (count p) depths
+module _ {V : Type 0} (a : Automaton V) where
+  -- the patterns that the automaton holds: each text with its values, in order
+  abbrev pub dictionary_of : Dictionary V
+  dictionary_of = content a.parts
+
+  -- the kind of searches that it is for
+  abbrev pub kind_of : MatchKind
+  kind_of = a.parts.kind
+
+  -- its states, through which its searches go
+  abbrev pub states_of : Parts V
+  states_of = a.parts
+
+  -- the depths of all elements are cached
+  abbrev pub HasDepths : Type 0
+  HasDepths = IsDepthTable (child a.parts) 256 (count a.parts) a.depths
 
 -- no depths are cached, or those of all elements
 abbrev pub MayHaveDepths : {V : Type 0} → Parts V → List ℕ → Type 0
 MayHaveDepths p depths = MayHave (child p) 256 (count p) depths
+
+-- all that the automata keep is equal, the cached depths included
+abbrev pub automaton_eq : {V : Type 0} → (V → V → Bool) → Automaton V → Automaton V → Bool
+automaton_eq E = kept_eq (parts_eq E)
+
+-- what an automaton feeds a hasher: all that it keeps
+abbrev pub automaton_input : {V : Type 0} → (V → HashWrites) → Automaton V → HashWrites
+automaton_input G = kept_input (parts_input G)

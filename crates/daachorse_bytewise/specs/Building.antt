@@ -1,23 +1,28 @@
 -- What a build of an automaton over bytes promises.
-use Rattle.std.specs.Prelude.{ℕ, List, Result, Some}
+use Rattle.std.specs.Prelude.{◌≡◌, ℕ, List, Result, Some}
 use Rattle.daachorse_core.specs.declared.errors.DaachorseError.{DaachorseError}
 use Rattle.daachorse_model.specs.declared.MatchKind.{MatchKind}
+use Rattle.daachorse_model.specs.Dictionary.{dictionary}
 use Rattle.daachorse_model.specs.Units.{byte_width}
-use Rattle.daachorse_bytewise_states.specs.Parts.{Parts, content}
 use Rattle.daachorse_patterns.specs.Building.{IsBuildRefusalWithin, IsDictionaryOf, IsRefusalWithin, Limits}
+use Rattle.daachorse_bytewise.specs.Automata.{Automaton, dictionary_of}
 
 -- 16,777,215 patterns may be kept, and as long as 16,777,214 texts begin longer patterns elements do not run out
 abbrev pub byte_limits : Limits
 byte_limits = record { patterns = Some 16777215; parents = Some 16777214 }
+
+-- the automaton holds these patterns with their values, less those that its kind leaves out
+abbrev pub HoldsPatterns : {V : Type 0} → MatchKind → List (List ℕ × V) → Automaton V → Type 0
+HoldsPatterns kind rs a = (w : List ℕ) → dictionary_of a w ≡ dictionary kind rs w
 
 -- why a build of patterns with their values refuses
 abbrev pub IsRefusalOf : {V : Type 0} → MatchKind → List (List ℕ × V) → DaachorseError → Type 0
 IsRefusalOf kind rs e = IsRefusalWithin byte_width byte_limits kind rs e
 
 module _ {V E : Type 0} (gives : ℕ → Result V E → Type 0) where
-  -- the automaton holds the dictionary of the texts
-  abbrev pub IsBuiltOf : MatchKind → List (List ℕ) → Parts V → Type 0
-  IsBuiltOf kind texts a = IsDictionaryOf gives kind texts (content a)
+  -- the automaton holds the texts, each with the value of its index
+  abbrev pub IsBuiltOf : MatchKind → List (List ℕ) → Automaton V → Type 0
+  IsBuiltOf kind texts a = IsDictionaryOf gives kind texts (dictionary_of a)
 
   -- why a build of texts refuses, each of which gets the value of its index
   abbrev pub IsBuildRefusal : MatchKind → List (List ℕ) → DaachorseError → Type 0

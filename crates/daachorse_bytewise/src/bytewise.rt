@@ -3,20 +3,20 @@
 //! The layers above may rely on a build holding just the dictionary of its patterns, and on each
 //! search giving the whole list of matches that the definitions give for that dictionary.
 
-ghost use Rattle.std.specs.Prelude.{◌≡◌, ◌≢◌, ◌⊎◌, ℕ, List, [], IfOk, IfErr, OnOk, OnErr, map};
+ghost use Rattle.std.specs.Prelude.{◌≡◌, ◌≢◌, ◌⊎◌, ℕ, List, [], IfOk, IfErr, OnOk, OnErr, map, take};
 ghost use Rattle.std.specs.Iterator.{IsFinite};
 ghost use Rattle.std.specs.Iterator.Runs.{WholeRun};
+ghost use Rattle.std.specs.Option.{option_to_list};
 ghost use Rattle.daachorse_core.specs.Refusals.{IsOutOfMemory};
 ghost use Rattle.daachorse_model.specs.declared.MatchKind.TheVariants.{Standard};
 ghost use Rattle.daachorse_model.specs.Units.{byte_width};
-ghost use Rattle.daachorse_model.specs.Dictionary.{dictionary, registered};
+ghost use Rattle.daachorse_model.specs.Dictionary.{registered};
 ghost use Rattle.daachorse_model.specs.Leftmost.{leftmost};
-ghost use Rattle.daachorse_model.specs.Matches.{no_suffix, overlapping, standard};
-ghost use Rattle.daachorse_search.specs.Searches.{all_found, first_found, standard_found};
+ghost use Rattle.daachorse_model.specs.Matches.{matches_after, no_suffix, overlapping, standard, standard_after};
 ghost use Rattle.daachorse_model.specs.Prefixes.{HasPrefixes, IsListing};
-ghost use Rattle.daachorse_bytewise.specs.Automata.{HasDepths};
-ghost use Rattle.daachorse_bytewise.specs.Building.{IsBuildRefusal, IsBuiltOf, IsRefusalOf};
-ghost use Rattle.daachorse_bytewise_states.specs.Parts.{content};
+ghost use Rattle.daachorse_search.specs.Beginnings.{BeginsFrom, BeginsStepping, BeginsWith};
+ghost use Rattle.daachorse_bytewise.specs.Automata.{HasDepths, dictionary_of, kind_of, states_of};
+ghost use Rattle.daachorse_bytewise.specs.Building.{HoldsPatterns, IsBuildRefusal, IsBuiltOf, IsRefusalOf};
 
 pub mod builder;
 pub mod iter;
@@ -84,8 +84,8 @@ impl<V: Copy, A: Allocator + Copy> DoubleArrayAhoCorasick<V, A> {
         V::Error: Drop,
         requires { (it : P.IntoIter) → P.into_iter_gives patterns it → P.IntoIter.can_next it × IsFinite (P.IntoIter.remaining it) }
         ensures ok { IfOk result (λ a. (it : P.IntoIter) × P.into_iter_gives patterns it
-            × WholeRun P.IntoIter.next_gives it (λ p. IsBuiltOf V.try_from_gives Standard (map (λ t. t.now) p.items) a.parts)) }
-        ensures kind { IfOk result (λ a. a.parts.kind ≡ Standard) }
+            × WholeRun P.IntoIter.next_gives it (λ p. IsBuiltOf V.try_from_gives Standard (map (λ t. t.now) p.items) a)) }
+        ensures kind { IfOk result (λ a. kind_of a ≡ Standard) }
         ensures depths { IfOk result (λ a. a.depths ≡ []) }
         ensures err { IfErr result (λ e. IsOutOfMemory e ⊎ ((it : P.IntoIter) × P.into_iter_gives patterns it
             × WholeRun P.IntoIter.next_gives it (λ p. IsBuildRefusal V.try_from_gives Standard (map (λ t. t.now) p.items) e))) }
@@ -114,8 +114,8 @@ impl<V: Copy, A: Allocator + Copy> DoubleArrayAhoCorasick<V, A> {
         P::IntoIter: Drop,
         requires { (it : P.IntoIter) → P.into_iter_gives patvals it → P.IntoIter.can_next it × IsFinite (P.IntoIter.remaining it) }
         ensures ok { IfOk result (λ a. (it : P.IntoIter) × P.into_iter_gives patvals it
-            × WholeRun P.IntoIter.next_gives it (λ p. (w : List ℕ) → content a.parts w ≡ dictionary Standard (registered p.items) w)) }
-        ensures kind { IfOk result (λ a. a.parts.kind ≡ Standard) }
+            × WholeRun P.IntoIter.next_gives it (λ p. HoldsPatterns Standard (registered p.items) a)) }
+        ensures kind { IfOk result (λ a. kind_of a ≡ Standard) }
         ensures depths { IfOk result (λ a. a.depths ≡ []) }
         ensures err { IfErr result (λ e. IsOutOfMemory e ⊎ ((it : P.IntoIter) × P.into_iter_gives patvals it
             × WholeRun P.IntoIter.next_gives it (λ p. IsRefusalOf Standard (registered p.items) e))) }
@@ -127,7 +127,7 @@ impl<V: Copy, A: Allocator + Copy> DoubleArrayAhoCorasick<V, A> {
 impl<V: Copy, A: Allocator + Copy> DoubleArrayAhoCorasick<V, A> {
     /// The automaton of these states, with no depths cached.
     pub(crate) fn of_states(alloc: A, states: States<V, A>) -> Self
-        ensures parts { result.parts ≡ states }
+        ensures states { states_of result ≡ states }
         ensures depths { result.depths ≡ [] }
     {
         Self {
@@ -149,9 +149,9 @@ impl<V: Copy, A: Allocator + Copy> DoubleArrayAhoCorasick<V, A> {
     ///
     /// An allocation failed.
     pub fn cache_depths(&mut self) -> Result<()>
-        requires { self.old.parts.kind ≡ Standard }
-        ensures parts { self.new.parts ≡ self.old.parts }
-        ensures ok { OnOk result (HasDepths self.new.parts self.new.depths) }
+        requires { kind_of self.old ≡ Standard }
+        ensures states { states_of self.new ≡ states_of self.old }
+        ensures ok { OnOk result (HasDepths self.new) }
         ensures unchanged { OnErr result (self.new ≡ self.old) }
         ensures err { IfErr result IsOutOfMemory }
     {
@@ -169,7 +169,7 @@ impl<V: Copy, A: Allocator + Copy> DoubleArrayAhoCorasick<V, A> {
     ///
     /// An allocation failed.
     pub fn iter<'a>(&'a self, alloc: A) -> Result<PatternIterator<'a, V, A>>
-        ensures ok { IfOk result (λ patterns. IsListing (content self.entry.now.parts) patterns) }
+        ensures ok { IfOk result (λ patterns. IsListing (dictionary_of self.entry.now) patterns) }
         ensures err { IfErr result IsOutOfMemory }
     {
         let walk = self.states.pattern_iter(alloc)?;
@@ -195,10 +195,11 @@ impl<V: Copy, A: Allocator + Copy> DoubleArrayAhoCorasick<V, A> {
 
 /// Automata are equal where all that they keep is equal, the cached depths included.
 impl<V: Copy + PartialEq, A: Allocator> PartialEq for DoubleArrayAhoCorasick<V, A> {
-    ghost use Rattle.daachorse_bytewise_states.specs.Equality.{parts_eq, parts_per};
-    ghost use Rattle.daachorse_listing.specs.Automata.{automaton_eq, automaton_per};
+    ghost use Rattle.daachorse_bytewise_states.specs.Equality.{parts_per};
+    ghost use Rattle.daachorse_listing.specs.Automata.{automaton_per};
+    ghost use Rattle.daachorse_bytewise.specs.Automata.{automaton_eq};
 
-    ghost eq = { automaton_eq (parts_eq V.eq) };
+    ghost eq = { automaton_eq V.eq };
 
     ghost laws = { automaton_per (parts_per V.laws) };
 
@@ -215,10 +216,11 @@ impl<V: Copy + Eq, A: Allocator> Eq for DoubleArrayAhoCorasick<V, A> {
 }
 
 impl<V: Copy + Hash, A: Allocator> Hash for DoubleArrayAhoCorasick<V, A> {
-    ghost use Rattle.daachorse_bytewise_states.specs.Equality.{parts_alike, parts_input};
-    ghost use Rattle.daachorse_listing.specs.Automata.{automaton_alike, automaton_input};
+    ghost use Rattle.daachorse_bytewise_states.specs.Equality.{parts_alike};
+    ghost use Rattle.daachorse_listing.specs.Automata.{automaton_alike};
+    ghost use Rattle.daachorse_bytewise.specs.Automata.{automaton_input};
 
-    ghost hash_input = { automaton_input (parts_input V.hash_input) };
+    ghost hash_input = { automaton_input V.hash_input };
 
     ghost respects_eq = { automaton_alike (parts_alike V.respects_eq) };
 
@@ -231,7 +233,7 @@ impl<V: Copy + Hash, A: Allocator> Hash for DoubleArrayAhoCorasick<V, A> {
 impl<V: Copy, A: Allocator> DoubleArrayAhoCorasick<V, A> {
     /// Returns the kind of searches that the automaton is for.
     pub fn match_kind(&self) -> MatchKind
-        ensures { result ≡ self.now.parts.kind }
+        ensures { result ≡ kind_of self.now }
     {
         self.states.kind()
     }
@@ -241,7 +243,7 @@ impl<V: Copy, A: Allocator> DoubleArrayAhoCorasick<V, A> {
     /// A state stands for each text that begins a pattern of the automaton, the empty text
     /// included.
     pub fn num_states(&self) -> usize
-        ensures { HasPrefixes (content self.now.parts) result }
+        ensures { HasPrefixes (dictionary_of self.now) result }
     {
         self.states.num_states() as usize
     }
@@ -258,13 +260,9 @@ impl<V: Copy, A: Allocator> DoubleArrayAhoCorasick<V, A> {
     #[inline(always)]
     #[tactic(auto, using(daachorse_bytewise_states::proofs::DeadLaws::alive))]
     pub fn find_iter<'a>(&'a self, haystack: &'a [u8]) -> FindSliceIterator<'a, V>
-        requires { self.now.parts.kind ≡ Standard }
-        ensures left { result.left ≡ standard byte_width (content self.entry.now.parts) haystack.entry.now }
-        ensures automaton { result.automaton ≡ self.entry.now.parts }
-        ensures haystack { result.haystack ≡ haystack.entry.now }
-        ensures passed { result.passed ≡ [] }
-        ensures turns { result.turns ≡ 0 }
-        ensures given { result.given ≡ 0 }
+        requires { kind_of self.now ≡ Standard }
+        ensures { BeginsWith (states_of self.entry.now) haystack.entry.now
+            (standard byte_width (dictionary_of self.entry.now) haystack.entry.now) result }
     {
         find_in(self.states.standard(), Bytes::new(haystack))
     }
@@ -284,12 +282,9 @@ impl<V: Copy, A: Allocator> DoubleArrayAhoCorasick<V, A> {
         &'a self,
         haystack: P,
     ) -> FindIterator<'a, P, V>
-        requires { self.now.parts.kind ≡ Standard }
-        ensures automaton { result.automaton ≡ self.entry.now.parts }
-        ensures source { result.source ≡ haystack }
-        ensures read { result.read ≡ [] }
-        ensures pending { result.pending ≡ standard_found byte_width content self.entry.now.parts [] }
-        ensures turns { result.turns ≡ 0 }
+        requires { kind_of self.now ≡ Standard }
+        ensures { BeginsFrom (states_of self.entry.now) haystack
+            (option_to_list (standard_after byte_width (dictionary_of self.entry.now) [])) result }
     {
         MatchesFrom::new(
             FindWalk::new(self.states.standard()),
@@ -311,13 +306,9 @@ impl<V: Copy, A: Allocator> DoubleArrayAhoCorasick<V, A> {
         &'a self,
         haystack: &'a [u8],
     ) -> FindOverlappingSliceIterator<'a, V>
-        requires { self.now.parts.kind ≡ Standard }
-        ensures left { result.left ≡ overlapping byte_width (content self.entry.now.parts) haystack.entry.now }
-        ensures automaton { result.automaton ≡ self.entry.now.parts }
-        ensures haystack { result.haystack ≡ haystack.entry.now }
-        ensures passed { result.passed ≡ [] }
-        ensures turns { result.turns ≡ 0 }
-        ensures given { result.given ≡ 0 }
+        requires { kind_of self.now ≡ Standard }
+        ensures { BeginsWith (states_of self.entry.now) haystack.entry.now
+            (overlapping byte_width (dictionary_of self.entry.now) haystack.entry.now) result }
     {
         find_overlapping_in(self.states.standard(), Bytes::new(haystack))
     }
@@ -337,12 +328,9 @@ impl<V: Copy, A: Allocator> DoubleArrayAhoCorasick<V, A> {
         &'a self,
         haystack: P,
     ) -> FindOverlappingIterator<'a, P, V>
-        requires { self.now.parts.kind ≡ Standard }
-        ensures automaton { result.automaton ≡ self.entry.now.parts }
-        ensures source { result.source ≡ haystack }
-        ensures read { result.read ≡ [] }
-        ensures pending { result.pending ≡ all_found byte_width content self.entry.now.parts [] }
-        ensures turns { result.turns ≡ 0 }
+        requires { kind_of self.now ≡ Standard }
+        ensures { BeginsFrom (states_of self.entry.now) haystack
+            (matches_after byte_width (dictionary_of self.entry.now) []) result }
     {
         MatchesFrom::new(
             OverlappingWalk::new(self.states.standard()),
@@ -364,13 +352,9 @@ impl<V: Copy, A: Allocator> DoubleArrayAhoCorasick<V, A> {
         &'a self,
         haystack: &'a [u8],
     ) -> FindOverlappingNoSuffixSliceIterator<'a, V>
-        requires { self.now.parts.kind ≡ Standard }
-        ensures left { result.left ≡ no_suffix byte_width (content self.entry.now.parts) haystack.entry.now }
-        ensures automaton { result.automaton ≡ self.entry.now.parts }
-        ensures haystack { result.haystack ≡ haystack.entry.now }
-        ensures passed { result.passed ≡ [] }
-        ensures turns { result.turns ≡ 0 }
-        ensures given { result.given ≡ 0 }
+        requires { kind_of self.now ≡ Standard }
+        ensures { BeginsWith (states_of self.entry.now) haystack.entry.now
+            (no_suffix byte_width (dictionary_of self.entry.now) haystack.entry.now) result }
     {
         find_overlapping_no_suffix_in(self.states.standard(), Bytes::new(haystack))
     }
@@ -390,12 +374,9 @@ impl<V: Copy, A: Allocator> DoubleArrayAhoCorasick<V, A> {
         &'a self,
         haystack: P,
     ) -> FindOverlappingNoSuffixIterator<'a, P, V>
-        requires { self.now.parts.kind ≡ Standard }
-        ensures automaton { result.automaton ≡ self.entry.now.parts }
-        ensures source { result.source ≡ haystack }
-        ensures read { result.read ≡ [] }
-        ensures pending { result.pending ≡ first_found byte_width content self.entry.now.parts [] }
-        ensures turns { result.turns ≡ 0 }
+        requires { kind_of self.now ≡ Standard }
+        ensures { BeginsFrom (states_of self.entry.now) haystack
+            (take 1 (matches_after byte_width (dictionary_of self.entry.now) [])) result }
     {
         MatchesFrom::new(
             NoSuffixWalk::new(self.states.standard()),
@@ -417,13 +398,9 @@ impl<V: Copy, A: Allocator> DoubleArrayAhoCorasick<V, A> {
     #[inline(always)]
     #[tactic(auto, using(daachorse_bytewise_states::proofs::DeadLaws::is_leftmost_automaton))]
     pub fn leftmost_find_iter<'a>(&'a self, haystack: &'a [u8]) -> LeftmostFindIterator<'a, V>
-        requires { self.now.parts.kind ≢ Standard }
-        ensures left { result.left ≡ leftmost byte_width (content self.entry.now.parts) haystack.entry.now }
-        ensures automaton { result.automaton ≡ self.entry.now.parts }
-        ensures haystack { result.haystack ≡ haystack.entry.now }
-        ensures passed { result.passed ≡ [] }
-        ensures turns { result.turns ≡ 0 }
-        ensures given { result.given ≡ 0 }
+        requires { kind_of self.now ≢ Standard }
+        ensures { BeginsWith (states_of self.entry.now) haystack.entry.now
+            (leftmost byte_width (dictionary_of self.entry.now) haystack.entry.now) result }
     {
         LeftmostMatches::new(self.states.leftmost(), Bytes::new(haystack))
     }
@@ -436,11 +413,8 @@ impl<V: Copy, A: Allocator> DoubleArrayAhoCorasick<V, A> {
     #[inline(always)]
     #[tactic(auto, using(daachorse_bytewise_states::proofs::DeadLaws::alive))]
     pub fn find_stepper<'a>(&'a self) -> FindStepper<'a, V>
-        requires { self.now.parts.kind ≡ Standard }
-        ensures automaton { result.automaton ≡ self.entry.now.parts }
-        ensures depths { result.depths ≡ self.entry.now.depths }
-        ensures read { result.read ≡ [] }
-        ensures turns { result.turns ≡ 0 }
+        requires { kind_of self.now ≡ Standard }
+        ensures { BeginsStepping (states_of self.entry.now) self.entry.now.depths result }
     {
         FindStepper::new(self.states.standard(), &self.depths)
     }
@@ -453,11 +427,8 @@ impl<V: Copy, A: Allocator> DoubleArrayAhoCorasick<V, A> {
     #[inline(always)]
     #[tactic(auto, using(daachorse_bytewise_states::proofs::DeadLaws::alive))]
     pub fn find_overlapping_stepper<'a>(&'a self) -> FindOverlappingStepper<'a, V>
-        requires { self.now.parts.kind ≡ Standard }
-        ensures automaton { result.automaton ≡ self.entry.now.parts }
-        ensures depths { result.depths ≡ self.entry.now.depths }
-        ensures read { result.read ≡ [] }
-        ensures turns { result.turns ≡ 0 }
+        requires { kind_of self.now ≡ Standard }
+        ensures { BeginsStepping (states_of self.entry.now) self.entry.now.depths result }
     {
         FindOverlappingStepper::new(self.states.standard(), &self.depths)
     }

@@ -2,3 +2,4 @@ pub mod CountLaws
 pub mod CodedLaws
 pub mod BuildLaws
 pub mod TextLaws
+pub use Rattle.daachorse_search.proofs.MatchesLemmas

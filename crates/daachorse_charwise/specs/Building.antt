@@ -12,7 +12,7 @@ use Rattle.daachorse_mapper.specs.Codings.{Coding, IsCodingOf}
 use Rattle.daachorse_patterns.specs.Building.{Fit, IsBuildRefusalWithin, IsRefusalWithin, Limits}
 use Rattle.daachorse_patterns.specs.Patterns.{AreIndexed, texts_of}
 use Rattle.daachorse_charwise_states.specs.Packing.{NeedsManyBlocks}
-use Rattle.daachorse_charwise_states.specs.Parts.{Parts, content}
+use Rattle.daachorse_charwise.specs.Automata.{Automaton, coding_of, dictionary_of}
 use Rattle.daachorse_charwise.specs.Frequencies.{AreFrequencies}
 
 -- the texts that strings stand for
@@ -32,10 +32,10 @@ abbrev pub char_limits : Limits
 char_limits = record { patterns = None; parents = None }
 
 module _ {V : Type 0} (kind : MatchKind) (rs : List (List ℕ × V)) where
-  -- the automaton holds the dictionary of the registrations, and codes for the characters of all of them
-  pub record IsHeld (a : Parts V) : Type 0 where
-    pub content : (w : List ℕ) → content a w ≡ dictionary kind rs w
-    pub codes : AreCodesOf (map (λ r. r.0) rs) a.coding
+  -- the automaton holds these patterns with their values, less those that its kind leaves out, and codes for the characters of all of them
+  pub record HoldsPatterns (a : Automaton V) : Type 0 where
+    pub patterns : (w : List ℕ) → dictionary_of a w ≡ dictionary kind rs w
+    pub codes : AreCodesOf (map (λ r. r.0) rs) (coding_of a)
 
   -- the elements run out: all patterns fit, their outputs are within the limit, and more texts begin longer patterns than there are blocks for
   pub record RunsOut (e : DaachorseError) : Type 0 where
@@ -52,8 +52,8 @@ module _ {V : Type 0} (kind : MatchKind) (rs : List (List ℕ × V)) where
 
 module _ {V E : Type 0} (gives : ℕ → Result V E → Type 0) (kind : MatchKind) (texts : List (List ℕ)) where
   -- the automaton holds the texts, each with the value of its index
-  abbrev pub IsBuiltOf : Parts V → Type 0
-  IsBuiltOf a = (rs : List (List ℕ × V)) × AreIndexed gives 0 texts rs × IsHeld kind rs a
+  abbrev pub IsBuiltOf : Automaton V → Type 0
+  IsBuiltOf a = (rs : List (List ℕ × V)) × AreIndexed gives 0 texts rs × HoldsPatterns kind rs a
 
   -- why a build of texts refuses, each of which gets the value of its index
   abbrev pub IsBuildRefusal : DaachorseError → Type 0

@@ -1,3 +1,13 @@
 pub mod Automata
 pub mod Building
 pub mod Frequencies
+pub use Rattle.daachorse_core.specs.Refusals
+pub use Rattle.daachorse_listing.specs.Listing
+pub use Rattle.daachorse_patterns.specs.Patterns
+pub use Rattle.daachorse_patterns.specs.declared.settings.Settings
+pub use Rattle.daachorse_search.specs.Beginnings
+pub use Rattle.daachorse_search.specs.LeftmostSearches
+pub use Rattle.daachorse_search.specs.Matches
+pub use Rattle.daachorse_search.specs.Searches
+pub use Rattle.daachorse_search.specs.Stepwise
+pub use Rattle.daachorse_charwise_states.specs.Texts

@@ -3,22 +3,22 @@
 //! The layers above may rely on a build holding just the dictionary of its patterns, and on each
 //! search giving the whole list of matches that the definitions give for that dictionary.
 
-ghost use Rattle.std.specs.Prelude.{◌≡◌, ◌≢◌, ◌⊎◌, [], IfOk, IfErr, OnOk, OnErr, IsSortedByKey, encode_utf8_all};
+ghost use Rattle.std.specs.Prelude.{◌≡◌, ◌≢◌, ◌⊎◌, [], IfOk, IfErr, OnOk, OnErr, IsSortedByKey, encode_utf8_all, take};
 ghost use Rattle.std.specs.Cmp.Lexicographic.{slice_cmp};
 ghost use Rattle.std.specs.Iterator.{IsFinite};
 ghost use Rattle.std.specs.Iterator.Runs.{WholeRun};
+ghost use Rattle.std.specs.Option.{option_to_list};
 ghost use Rattle.std.specs.Ordering.{nat_cmp};
 ghost use Rattle.std.specs.Str.{chars};
 ghost use Rattle.daachorse_core.specs.Refusals.{IsOutOfMemory};
 ghost use Rattle.daachorse_model.specs.declared.MatchKind.TheVariants.{Standard};
 ghost use Rattle.daachorse_model.specs.Units.{char_width};
 ghost use Rattle.daachorse_model.specs.Leftmost.{leftmost};
-ghost use Rattle.daachorse_model.specs.Matches.{no_suffix, overlapping, standard};
+ghost use Rattle.daachorse_model.specs.Matches.{matches_after, no_suffix, overlapping, standard, standard_after};
 ghost use Rattle.daachorse_model.specs.Prefixes.{HasPrefixes, IsListing};
-ghost use Rattle.daachorse_search.specs.Searches.{all_found, first_found, standard_found};
-ghost use Rattle.daachorse_charwise.specs.Automata.{HasDepths};
-ghost use Rattle.daachorse_charwise.specs.Building.{IsBuildRefusal, IsBuiltOf, IsHeld, IsRefusalOf, registered_texts, spelled};
-ghost use Rattle.daachorse_charwise_states.specs.Parts.{content, count};
+ghost use Rattle.daachorse_search.specs.Beginnings.{BeginsFrom, BeginsStepping, BeginsWith};
+ghost use Rattle.daachorse_charwise.specs.Automata.{HasDepths, dictionary_of, element_count, kind_of, states_of};
+ghost use Rattle.daachorse_charwise.specs.Building.{HoldsPatterns, IsBuildRefusal, IsBuiltOf, IsRefusalOf, registered_texts, spelled};
 ghost use Rattle.daachorse_charwise_states.specs.Texts.{AreTexts};
 
 pub mod builder;
@@ -89,8 +89,8 @@ impl<V: Copy, A: Allocator + Copy> CharwiseDoubleArrayAhoCorasick<V, A> {
         V::Error: Drop,
         requires { (it : P.IntoIter) → P.into_iter_gives patterns it → P.IntoIter.can_next it × IsFinite (P.IntoIter.remaining it) }
         ensures ok { IfOk result (λ a. (it : P.IntoIter) × P.into_iter_gives patterns it
-            × WholeRun P.IntoIter.next_gives it (λ p. IsBuiltOf V.try_from_gives Standard (spelled p.items) a.parts)) }
-        ensures kind { IfOk result (λ a. a.parts.kind ≡ Standard) }
+            × WholeRun P.IntoIter.next_gives it (λ p. IsBuiltOf V.try_from_gives Standard (spelled p.items) a)) }
+        ensures kind { IfOk result (λ a. kind_of a ≡ Standard) }
         ensures depths { IfOk result (λ a. a.depths ≡ []) }
         ensures err { IfErr result (λ e. IsOutOfMemory e ⊎ ((it : P.IntoIter) × P.into_iter_gives patterns it
             × WholeRun P.IntoIter.next_gives it (λ p. IsBuildRefusal V.try_from_gives Standard (spelled p.items) e))) }
@@ -119,8 +119,8 @@ impl<V: Copy, A: Allocator + Copy> CharwiseDoubleArrayAhoCorasick<V, A> {
         P::IntoIter: Drop,
         requires { (it : P.IntoIter) → P.into_iter_gives patvals it → P.IntoIter.can_next it × IsFinite (P.IntoIter.remaining it) }
         ensures ok { IfOk result (λ a. (it : P.IntoIter) × P.into_iter_gives patvals it
-            × WholeRun P.IntoIter.next_gives it (λ p. IsHeld Standard (registered_texts p.items) a.parts)) }
-        ensures kind { IfOk result (λ a. a.parts.kind ≡ Standard) }
+            × WholeRun P.IntoIter.next_gives it (λ p. HoldsPatterns Standard (registered_texts p.items) a)) }
+        ensures kind { IfOk result (λ a. kind_of a ≡ Standard) }
         ensures depths { IfOk result (λ a. a.depths ≡ []) }
         ensures err { IfErr result (λ e. IsOutOfMemory e ⊎ ((it : P.IntoIter) × P.into_iter_gives patvals it
             × WholeRun P.IntoIter.next_gives it (λ p. IsRefusalOf Standard (registered_texts p.items) e))) }
@@ -132,7 +132,7 @@ impl<V: Copy, A: Allocator + Copy> CharwiseDoubleArrayAhoCorasick<V, A> {
 impl<V: Copy, A: Allocator + Copy> CharwiseDoubleArrayAhoCorasick<V, A> {
     /// The automaton of these states, with no depths cached.
     pub(crate) fn of_states(alloc: A, states: States<V, A>) -> Self
-        ensures parts { result.parts ≡ states }
+        ensures states { states_of result ≡ states }
         ensures depths { result.depths ≡ [] }
     {
         Self {
@@ -154,9 +154,9 @@ impl<V: Copy, A: Allocator + Copy> CharwiseDoubleArrayAhoCorasick<V, A> {
     ///
     /// An allocation failed.
     pub fn cache_depths(&mut self) -> Result<()>
-        requires { self.old.parts.kind ≡ Standard }
-        ensures parts { self.new.parts ≡ self.old.parts }
-        ensures ok { OnOk result (HasDepths self.new.parts self.new.depths) }
+        requires { kind_of self.old ≡ Standard }
+        ensures states { states_of self.new ≡ states_of self.old }
+        ensures ok { OnOk result (HasDepths self.new) }
         ensures unchanged { OnErr result (self.new ≡ self.old) }
         ensures err { IfErr result IsOutOfMemory }
     {
@@ -175,7 +175,7 @@ impl<V: Copy, A: Allocator + Copy> CharwiseDoubleArrayAhoCorasick<V, A> {
     ///
     /// An allocation failed.
     pub fn iter<'a>(&'a self, alloc: A) -> Result<PatternIterator<'a, V, A>>
-        ensures ok { IfOk result (λ patterns. IsListing (content self.entry.now.parts) patterns) }
+        ensures ok { IfOk result (λ patterns. IsListing (dictionary_of self.entry.now) patterns) }
         ensures texts { IfOk result AreTexts }
         ensures by_bytes { IfOk result (IsSortedByKey (λ r. encode_utf8_all r.0) (slice_cmp nat_cmp)) }
         ensures err { IfErr result IsOutOfMemory }
@@ -203,10 +203,11 @@ impl<V: Copy, A: Allocator + Copy> CharwiseDoubleArrayAhoCorasick<V, A> {
 
 /// Automata are equal where all that they keep is equal, the cached depths included.
 impl<V: Copy + PartialEq, A: Allocator> PartialEq for CharwiseDoubleArrayAhoCorasick<V, A> {
-    ghost use Rattle.daachorse_charwise_states.specs.Equality.{parts_eq, parts_per};
-    ghost use Rattle.daachorse_listing.specs.Automata.{automaton_eq, automaton_per};
+    ghost use Rattle.daachorse_charwise_states.specs.Equality.{parts_per};
+    ghost use Rattle.daachorse_listing.specs.Automata.{automaton_per};
+    ghost use Rattle.daachorse_charwise.specs.Automata.{automaton_eq};
 
-    ghost eq = { automaton_eq (parts_eq V.eq) };
+    ghost eq = { automaton_eq V.eq };
 
     ghost laws = { automaton_per (parts_per V.laws) };
 
@@ -223,10 +224,11 @@ impl<V: Copy + Eq, A: Allocator> Eq for CharwiseDoubleArrayAhoCorasick<V, A> {
 }
 
 impl<V: Copy + Hash, A: Allocator> Hash for CharwiseDoubleArrayAhoCorasick<V, A> {
-    ghost use Rattle.daachorse_charwise_states.specs.Equality.{parts_alike, parts_input};
-    ghost use Rattle.daachorse_listing.specs.Automata.{automaton_alike, automaton_input};
+    ghost use Rattle.daachorse_charwise_states.specs.Equality.{parts_alike};
+    ghost use Rattle.daachorse_listing.specs.Automata.{automaton_alike};
+    ghost use Rattle.daachorse_charwise.specs.Automata.{automaton_input};
 
-    ghost hash_input = { automaton_input (parts_input V.hash_input) };
+    ghost hash_input = { automaton_input V.hash_input };
 
     ghost respects_eq = { automaton_alike (parts_alike V.respects_eq) };
 
@@ -239,14 +241,14 @@ impl<V: Copy + Hash, A: Allocator> Hash for CharwiseDoubleArrayAhoCorasick<V, A>
 impl<V: Copy, A: Allocator> CharwiseDoubleArrayAhoCorasick<V, A> {
     /// Returns the kind of searches that the automaton is for.
     pub fn match_kind(&self) -> MatchKind
-        ensures { result ≡ self.now.parts.kind }
+        ensures { result ≡ kind_of self.now }
     {
         self.states.kind()
     }
 
     /// Returns the number of elements of the double array, those included that are no state.
     pub fn num_elements(&self) -> usize
-        ensures { result ≡ count self.now.parts }
+        ensures { result ≡ element_count self.now }
     {
         self.states.num_elements()
     }
@@ -256,7 +258,7 @@ impl<V: Copy, A: Allocator> CharwiseDoubleArrayAhoCorasick<V, A> {
     /// A state stands for each text that begins a pattern of the automaton, the empty text
     /// included.
     pub fn num_states(&self) -> usize
-        ensures { HasPrefixes (content self.now.parts) result }
+        ensures { HasPrefixes (dictionary_of self.now) result }
     {
         self.states.num_states() as usize
     }
@@ -273,13 +275,9 @@ impl<V: Copy, A: Allocator> CharwiseDoubleArrayAhoCorasick<V, A> {
     #[inline(always)]
     #[tactic(auto, using(daachorse_charwise_states::proofs::DeadLaws::alive))]
     pub fn find_iter<'a>(&'a self, haystack: &'a str) -> FindSliceIterator<'a, V>
-        requires { self.now.parts.kind ≡ Standard }
-        ensures left { result.left ≡ standard char_width (content self.entry.now.parts) (chars haystack.entry.now) }
-        ensures automaton { result.automaton ≡ self.entry.now.parts }
-        ensures haystack { result.haystack ≡ chars haystack.entry.now }
-        ensures passed { result.passed ≡ [] }
-        ensures turns { result.turns ≡ 0 }
-        ensures given { result.given ≡ 0 }
+        requires { kind_of self.now ≡ Standard }
+        ensures { BeginsWith (states_of self.entry.now) (chars haystack.entry.now)
+            (standard char_width (dictionary_of self.entry.now) (chars haystack.entry.now)) result }
     {
         find_in(self.states.standard(), Text::new(haystack))
     }
@@ -299,12 +297,9 @@ impl<V: Copy, A: Allocator> CharwiseDoubleArrayAhoCorasick<V, A> {
         &'a self,
         haystack: P,
     ) -> FindIterator<'a, P, V>
-        requires { self.now.parts.kind ≡ Standard }
-        ensures automaton { result.automaton ≡ self.entry.now.parts }
-        ensures source { result.source ≡ haystack }
-        ensures read { result.read ≡ [] }
-        ensures pending { result.pending ≡ standard_found char_width content self.entry.now.parts [] }
-        ensures turns { result.turns ≡ 0 }
+        requires { kind_of self.now ≡ Standard }
+        ensures { BeginsFrom (states_of self.entry.now) haystack
+            (option_to_list (standard_after char_width (dictionary_of self.entry.now) [])) result }
     {
         MatchesFrom::new(
             FindWalk::new(self.states.standard()),
@@ -326,13 +321,9 @@ impl<V: Copy, A: Allocator> CharwiseDoubleArrayAhoCorasick<V, A> {
         &'a self,
         haystack: &'a str,
     ) -> FindOverlappingSliceIterator<'a, V>
-        requires { self.now.parts.kind ≡ Standard }
-        ensures left { result.left ≡ overlapping char_width (content self.entry.now.parts) (chars haystack.entry.now) }
-        ensures automaton { result.automaton ≡ self.entry.now.parts }
-        ensures haystack { result.haystack ≡ chars haystack.entry.now }
-        ensures passed { result.passed ≡ [] }
-        ensures turns { result.turns ≡ 0 }
-        ensures given { result.given ≡ 0 }
+        requires { kind_of self.now ≡ Standard }
+        ensures { BeginsWith (states_of self.entry.now) (chars haystack.entry.now)
+            (overlapping char_width (dictionary_of self.entry.now) (chars haystack.entry.now)) result }
     {
         find_overlapping_in(self.states.standard(), Text::new(haystack))
     }
@@ -352,12 +343,9 @@ impl<V: Copy, A: Allocator> CharwiseDoubleArrayAhoCorasick<V, A> {
         &'a self,
         haystack: P,
     ) -> FindOverlappingIterator<'a, P, V>
-        requires { self.now.parts.kind ≡ Standard }
-        ensures automaton { result.automaton ≡ self.entry.now.parts }
-        ensures source { result.source ≡ haystack }
-        ensures read { result.read ≡ [] }
-        ensures pending { result.pending ≡ all_found char_width content self.entry.now.parts [] }
-        ensures turns { result.turns ≡ 0 }
+        requires { kind_of self.now ≡ Standard }
+        ensures { BeginsFrom (states_of self.entry.now) haystack
+            (matches_after char_width (dictionary_of self.entry.now) []) result }
     {
         MatchesFrom::new(
             OverlappingWalk::new(self.states.standard()),
@@ -379,13 +367,9 @@ impl<V: Copy, A: Allocator> CharwiseDoubleArrayAhoCorasick<V, A> {
         &'a self,
         haystack: &'a str,
     ) -> FindOverlappingNoSuffixSliceIterator<'a, V>
-        requires { self.now.parts.kind ≡ Standard }
-        ensures left { result.left ≡ no_suffix char_width (content self.entry.now.parts) (chars haystack.entry.now) }
-        ensures automaton { result.automaton ≡ self.entry.now.parts }
-        ensures haystack { result.haystack ≡ chars haystack.entry.now }
-        ensures passed { result.passed ≡ [] }
-        ensures turns { result.turns ≡ 0 }
-        ensures given { result.given ≡ 0 }
+        requires { kind_of self.now ≡ Standard }
+        ensures { BeginsWith (states_of self.entry.now) (chars haystack.entry.now)
+            (no_suffix char_width (dictionary_of self.entry.now) (chars haystack.entry.now)) result }
     {
         find_overlapping_no_suffix_in(self.states.standard(), Text::new(haystack))
     }
@@ -405,12 +389,9 @@ impl<V: Copy, A: Allocator> CharwiseDoubleArrayAhoCorasick<V, A> {
         &'a self,
         haystack: P,
     ) -> FindOverlappingNoSuffixIterator<'a, P, V>
-        requires { self.now.parts.kind ≡ Standard }
-        ensures automaton { result.automaton ≡ self.entry.now.parts }
-        ensures source { result.source ≡ haystack }
-        ensures read { result.read ≡ [] }
-        ensures pending { result.pending ≡ first_found char_width content self.entry.now.parts [] }
-        ensures turns { result.turns ≡ 0 }
+        requires { kind_of self.now ≡ Standard }
+        ensures { BeginsFrom (states_of self.entry.now) haystack
+            (take 1 (matches_after char_width (dictionary_of self.entry.now) [])) result }
     {
         MatchesFrom::new(
             NoSuffixWalk::new(self.states.standard()),
@@ -432,13 +413,9 @@ impl<V: Copy, A: Allocator> CharwiseDoubleArrayAhoCorasick<V, A> {
     #[inline(always)]
     #[tactic(auto, using(daachorse_charwise_states::proofs::DeadLaws::is_leftmost_automaton))]
     pub fn leftmost_find_iter<'a>(&'a self, haystack: &'a str) -> LeftmostFindIterator<'a, V>
-        requires { self.now.parts.kind ≢ Standard }
-        ensures left { result.left ≡ leftmost char_width (content self.entry.now.parts) (chars haystack.entry.now) }
-        ensures automaton { result.automaton ≡ self.entry.now.parts }
-        ensures haystack { result.haystack ≡ chars haystack.entry.now }
-        ensures passed { result.passed ≡ [] }
-        ensures turns { result.turns ≡ 0 }
-        ensures given { result.given ≡ 0 }
+        requires { kind_of self.now ≢ Standard }
+        ensures { BeginsWith (states_of self.entry.now) (chars haystack.entry.now)
+            (leftmost char_width (dictionary_of self.entry.now) (chars haystack.entry.now)) result }
     {
         LeftmostMatches::new(self.states.leftmost(), Text::new(haystack))
     }
@@ -451,11 +428,8 @@ impl<V: Copy, A: Allocator> CharwiseDoubleArrayAhoCorasick<V, A> {
     #[inline(always)]
     #[tactic(auto, using(daachorse_charwise_states::proofs::DeadLaws::alive))]
     pub fn find_stepper<'a>(&'a self) -> FindStepper<'a, V>
-        requires { self.now.parts.kind ≡ Standard }
-        ensures automaton { result.automaton ≡ self.entry.now.parts }
-        ensures depths { result.depths ≡ self.entry.now.depths }
-        ensures read { result.read ≡ [] }
-        ensures turns { result.turns ≡ 0 }
+        requires { kind_of self.now ≡ Standard }
+        ensures { BeginsStepping (states_of self.entry.now) self.entry.now.depths result }
     {
         FindStepper::new(self.states.standard(), &self.depths)
     }
@@ -468,11 +442,8 @@ impl<V: Copy, A: Allocator> CharwiseDoubleArrayAhoCorasick<V, A> {
     #[inline(always)]
     #[tactic(auto, using(daachorse_charwise_states::proofs::DeadLaws::alive))]
     pub fn find_overlapping_stepper<'a>(&'a self) -> FindOverlappingStepper<'a, V>
-        requires { self.now.parts.kind ≡ Standard }
-        ensures automaton { result.automaton ≡ self.entry.now.parts }
-        ensures depths { result.depths ≡ self.entry.now.depths }
-        ensures read { result.read ≡ [] }
-        ensures turns { result.turns ≡ 0 }
+        requires { kind_of self.now ≡ Standard }
+        ensures { BeginsStepping (states_of self.entry.now) self.entry.now.depths result }
     {
         FindOverlappingStepper::new(self.states.standard(), &self.depths)
     }

@@ -8,6 +8,7 @@
 
 pub mod gathering;
 pub mod pattern;
+pub mod settings;
 #[cfg(test)]
 mod tests;
 pub mod trie;

@@ -9,3 +9,4 @@ pub mod RunLemmas
 pub mod BestScanLemmas
 pub mod LeftmostLemmas
 pub mod DepthLemmas
+pub mod BeginningLaws

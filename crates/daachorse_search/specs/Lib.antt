@@ -11,3 +11,4 @@ pub mod Finds
 pub mod Matches
 pub mod BestScans
 pub mod LeftmostSearches
+pub mod Beginnings

@@ -5,20 +5,21 @@
 //! patterns are added in order, and the limit on their number is tested last; the first refusal
 //! ends the build.
 
-ghost use Rattle.std.specs.Prelude.{◌≡◌, ◌⊎◌, ℕ, List, [], IfOk, IfErr, map};
+ghost use Rattle.std.specs.Prelude.{◌≡◌, ◌⊎◌, [], IfOk, IfErr, map};
 ghost use Rattle.std.specs.Iterator.{IsFinite};
 ghost use Rattle.std.specs.Iterator.Runs.{WholeRun};
 ghost use Rattle.daachorse_core.specs.Refusals.{IsOutOfMemory};
 ghost use Rattle.daachorse_model.specs.declared.MatchKind.TheVariants.{Standard};
-ghost use Rattle.daachorse_model.specs.Dictionary.{dictionary, registered};
-ghost use Rattle.daachorse_bytewise.specs.Building.{IsBuildRefusal, IsBuiltOf, IsRefusalOf};
-ghost use Rattle.daachorse_bytewise_states.specs.Parts.{content};
+ghost use Rattle.daachorse_model.specs.Dictionary.{registered};
+ghost use Rattle.daachorse_bytewise.specs.Automata.{kind_of};
+ghost use Rattle.daachorse_bytewise.specs.Building.{HoldsPatterns, IsBuildRefusal, IsBuiltOf, IsRefusalOf};
 
 use crate::bytewise::DoubleArrayAhoCorasick;
 use crate::bytewise::states::States;
 use daachorse_core::MatchKind;
 use daachorse_core::errors::Result;
 use daachorse_patterns::gathering::{gather, indexed};
+use daachorse_patterns::settings::Settings;
 use daachorse_patterns::trie::build_trie;
 use std::alloc::Allocator;
 use std::marker::Model;
@@ -29,15 +30,15 @@ const MAX_PATTERNS: usize = 0x00ff_ffff;
 /// A builder of [`DoubleArrayAhoCorasick`].
 #[derive(Drop)]
 pub struct DoubleArrayAhoCorasickBuilder {
-    match_kind: MatchKind,
+    settings: Settings,
 }
 
 impl Model for DoubleArrayAhoCorasickBuilder {
-    ghost use Rattle.daachorse_model.specs.declared.MatchKind.{MatchKind};
+    ghost use Rattle.daachorse_patterns.specs.declared.settings.Settings.{Settings};
 
-    ghost Value = { MatchKind };
+    ghost Value = { Settings };
 
-    ghost view = { λ b. b.match_kind };
+    ghost view = { λ b. b.settings };
 
     ghost invariant = { λ b. Unit {0} };
 }
@@ -46,7 +47,7 @@ impl Default for DoubleArrayAhoCorasickBuilder {
     ghost use Rattle.std.specs.Prelude.{◌≡◌};
     ghost use Rattle.daachorse_model.specs.declared.MatchKind.TheVariants.{Standard};
 
-    ghost is_default = { λ b. b ≡ Standard };
+    ghost is_default = { λ b. b.match_kind ≡ Standard };
 
     /// Makes the builder that [`DoubleArrayAhoCorasickBuilder::new`] makes.
     fn default() -> Self {
@@ -57,18 +58,18 @@ impl Default for DoubleArrayAhoCorasickBuilder {
 impl DoubleArrayAhoCorasickBuilder {
     /// Makes a builder of automata for the standard searches.
     pub fn new() -> Self
-        ensures { result ≡ Standard }
+        ensures { result.match_kind ≡ Standard }
     {
         Self {
-            match_kind: MatchKind::Standard,
+            settings: Settings::new(),
         }
     }
 
     /// Sets the kind of searches that the automaton is built for.
     pub fn match_kind(mut self, kind: MatchKind) -> Self
-        ensures { result ≡ kind }
+        ensures { result ≡ record self { match_kind = kind } }
     {
-        self.match_kind = kind;
+        self.settings.match_kind = kind;
         self
     }
 
@@ -96,14 +97,14 @@ impl DoubleArrayAhoCorasickBuilder {
         P::IntoIter: Drop,
         requires { (it : P.IntoIter) → P.into_iter_gives patterns it → P.IntoIter.can_next it × IsFinite (P.IntoIter.remaining it) }
         ensures ok { IfOk result (λ a. (it : P.IntoIter) × P.into_iter_gives patterns it
-            × WholeRun P.IntoIter.next_gives it (λ p. IsBuiltOf V.try_from_gives self (map (λ t. t.now) p.items) a.parts)) }
-        ensures kind { IfOk result (λ a. a.parts.kind ≡ self) }
+            × WholeRun P.IntoIter.next_gives it (λ p. IsBuiltOf V.try_from_gives self.match_kind (map (λ t. t.now) p.items) a)) }
+        ensures kind { IfOk result (λ a. kind_of a ≡ self.match_kind) }
         ensures depths { IfOk result (λ a. a.depths ≡ []) }
         ensures err { IfErr result (λ e. IsOutOfMemory e ⊎ ((it : P.IntoIter) × P.into_iter_gives patterns it
-            × WholeRun P.IntoIter.next_gives it (λ p. IsBuildRefusal V.try_from_gives self (map (λ t. t.now) p.items) e))) }
+            × WholeRun P.IntoIter.next_gives it (λ p. IsBuildRefusal V.try_from_gives self.match_kind (map (λ t. t.now) p.items) e))) }
     {
         let texts = gather(alloc, patterns.into_iter())?;
-        from_texts(alloc, self.match_kind, &texts)
+        from_texts(alloc, self.settings.match_kind, &texts)
     }
 
     /// Builds an automaton of these patterns, each with its value.
@@ -132,14 +133,14 @@ impl DoubleArrayAhoCorasickBuilder {
         P::IntoIter: Drop,
         requires { (it : P.IntoIter) → P.into_iter_gives patvals it → P.IntoIter.can_next it × IsFinite (P.IntoIter.remaining it) }
         ensures ok { IfOk result (λ a. (it : P.IntoIter) × P.into_iter_gives patvals it
-            × WholeRun P.IntoIter.next_gives it (λ p. (w : List ℕ) → content a.parts w ≡ dictionary self (registered p.items) w)) }
-        ensures kind { IfOk result (λ a. a.parts.kind ≡ self) }
+            × WholeRun P.IntoIter.next_gives it (λ p. HoldsPatterns self.match_kind (registered p.items) a)) }
+        ensures kind { IfOk result (λ a. kind_of a ≡ self.match_kind) }
         ensures depths { IfOk result (λ a. a.depths ≡ []) }
         ensures err { IfErr result (λ e. IsOutOfMemory e ⊎ ((it : P.IntoIter) × P.into_iter_gives patvals it
-            × WholeRun P.IntoIter.next_gives it (λ p. IsRefusalOf self (registered p.items) e))) }
+            × WholeRun P.IntoIter.next_gives it (λ p. IsRefusalOf self.match_kind (registered p.items) e))) }
     {
         let patterns = gather(alloc, patvals.into_iter())?;
-        from_patterns(alloc, self.match_kind, &patterns)
+        from_patterns(alloc, self.settings.match_kind, &patterns)
     }
 }
 
@@ -151,8 +152,8 @@ fn from_texts<V: Copy + TryFrom<usize>, A: Allocator + Copy>(
 ) -> Result<DoubleArrayAhoCorasick<V, A>>
 where
     V::Error: Drop,
-    ensures ok { IfOk result (λ a. IsBuiltOf V.try_from_gives kind (map (λ t. t.now) texts.now) a.parts) }
-    ensures kind { IfOk result (λ a. a.parts.kind ≡ kind) }
+    ensures ok { IfOk result (λ a. IsBuiltOf V.try_from_gives kind (map (λ t. t.now) texts.now) a) }
+    ensures kind { IfOk result (λ a. kind_of a ≡ kind) }
     ensures depths { IfOk result (λ a. a.depths ≡ []) }
     ensures err { IfErr result (IsBuildRefusal V.try_from_gives kind (map (λ t. t.now) texts.now)) }
 {
@@ -166,8 +167,8 @@ fn from_patterns<V: Copy, A: Allocator + Copy>(
     kind: MatchKind,
     patterns: &[(&[u8], V)],
 ) -> Result<DoubleArrayAhoCorasick<V, A>>
-    ensures ok { IfOk result (λ a. (w : List ℕ) → content a.parts w ≡ dictionary kind (registered patterns.now) w) }
-    ensures kind { IfOk result (λ a. a.parts.kind ≡ kind) }
+    ensures ok { IfOk result (HoldsPatterns kind (registered patterns.now)) }
+    ensures kind { IfOk result (λ a. kind_of a ≡ kind) }
     ensures depths { IfOk result (λ a. a.depths ≡ []) }
     ensures err { IfErr result (IsRefusalOf kind (registered patterns.now)) }
 {

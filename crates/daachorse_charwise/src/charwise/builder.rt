@@ -10,7 +10,8 @@ ghost use Rattle.std.specs.Iterator.{IsFinite};
 ghost use Rattle.std.specs.Iterator.Runs.{WholeRun};
 ghost use Rattle.daachorse_core.specs.Refusals.{IsOutOfMemory};
 ghost use Rattle.daachorse_model.specs.declared.MatchKind.TheVariants.{Standard};
-ghost use Rattle.daachorse_charwise.specs.Building.{IsBuildRefusal, IsBuiltOf, IsHeld, IsRefusalOf, registered_texts, spelled};
+ghost use Rattle.daachorse_charwise.specs.Automata.{kind_of};
+ghost use Rattle.daachorse_charwise.specs.Building.{HoldsPatterns, IsBuildRefusal, IsBuiltOf, IsRefusalOf, registered_texts, spelled};
 
 use crate::charwise::CharwiseDoubleArrayAhoCorasick;
 use crate::charwise::frequencies::frequencies;
@@ -19,6 +20,7 @@ use crate::charwise::states::States;
 use daachorse_core::MatchKind;
 use daachorse_core::errors::Result;
 use daachorse_patterns::gathering::{gather, indexed};
+use daachorse_patterns::settings::Settings;
 use daachorse_patterns::trie::build_trie;
 use std::alloc::Allocator;
 use std::marker::Model;
@@ -26,15 +28,15 @@ use std::marker::Model;
 /// A builder of [`CharwiseDoubleArrayAhoCorasick`].
 #[derive(Drop)]
 pub struct CharwiseDoubleArrayAhoCorasickBuilder {
-    match_kind: MatchKind,
+    settings: Settings,
 }
 
 impl Model for CharwiseDoubleArrayAhoCorasickBuilder {
-    ghost use Rattle.daachorse_model.specs.declared.MatchKind.{MatchKind};
+    ghost use Rattle.daachorse_patterns.specs.declared.settings.Settings.{Settings};
 
-    ghost Value = { MatchKind };
+    ghost Value = { Settings };
 
-    ghost view = { λ b. b.match_kind };
+    ghost view = { λ b. b.settings };
 
     ghost invariant = { λ b. Unit {0} };
 }
@@ -43,7 +45,7 @@ impl Default for CharwiseDoubleArrayAhoCorasickBuilder {
     ghost use Rattle.std.specs.Prelude.{◌≡◌};
     ghost use Rattle.daachorse_model.specs.declared.MatchKind.TheVariants.{Standard};
 
-    ghost is_default = { λ b. b ≡ Standard };
+    ghost is_default = { λ b. b.match_kind ≡ Standard };
 
     /// Makes the builder that [`CharwiseDoubleArrayAhoCorasickBuilder::new`] makes.
     fn default() -> Self {
@@ -54,18 +56,18 @@ impl Default for CharwiseDoubleArrayAhoCorasickBuilder {
 impl CharwiseDoubleArrayAhoCorasickBuilder {
     /// Makes a builder of automata for the standard searches.
     pub fn new() -> Self
-        ensures { result ≡ Standard }
+        ensures { result.match_kind ≡ Standard }
     {
         Self {
-            match_kind: MatchKind::Standard,
+            settings: Settings::new(),
         }
     }
 
     /// Sets the kind of searches that the automaton is built for.
     pub fn match_kind(mut self, kind: MatchKind) -> Self
-        ensures { result ≡ kind }
+        ensures { result ≡ record self { match_kind = kind } }
     {
-        self.match_kind = kind;
+        self.settings.match_kind = kind;
         self
     }
 
@@ -94,14 +96,14 @@ impl CharwiseDoubleArrayAhoCorasickBuilder {
         P::IntoIter: Drop,
         requires { (it : P.IntoIter) → P.into_iter_gives patterns it → P.IntoIter.can_next it × IsFinite (P.IntoIter.remaining it) }
         ensures ok { IfOk result (λ a. (it : P.IntoIter) × P.into_iter_gives patterns it
-            × WholeRun P.IntoIter.next_gives it (λ p. IsBuiltOf V.try_from_gives self (spelled p.items) a.parts)) }
-        ensures kind { IfOk result (λ a. a.parts.kind ≡ self) }
+            × WholeRun P.IntoIter.next_gives it (λ p. IsBuiltOf V.try_from_gives self.match_kind (spelled p.items) a)) }
+        ensures kind { IfOk result (λ a. kind_of a ≡ self.match_kind) }
         ensures depths { IfOk result (λ a. a.depths ≡ []) }
         ensures err { IfErr result (λ e. IsOutOfMemory e ⊎ ((it : P.IntoIter) × P.into_iter_gives patterns it
-            × WholeRun P.IntoIter.next_gives it (λ p. IsBuildRefusal V.try_from_gives self (spelled p.items) e))) }
+            × WholeRun P.IntoIter.next_gives it (λ p. IsBuildRefusal V.try_from_gives self.match_kind (spelled p.items) e))) }
     {
         let texts = gather(alloc, patterns.into_iter())?;
-        from_texts(alloc, self.match_kind, &texts)
+        from_texts(alloc, self.settings.match_kind, &texts)
     }
 
     /// Builds an automaton of these patterns, each with its value.
@@ -131,14 +133,14 @@ impl CharwiseDoubleArrayAhoCorasickBuilder {
         P::IntoIter: Drop,
         requires { (it : P.IntoIter) → P.into_iter_gives patvals it → P.IntoIter.can_next it × IsFinite (P.IntoIter.remaining it) }
         ensures ok { IfOk result (λ a. (it : P.IntoIter) × P.into_iter_gives patvals it
-            × WholeRun P.IntoIter.next_gives it (λ p. IsHeld self (registered_texts p.items) a.parts)) }
-        ensures kind { IfOk result (λ a. a.parts.kind ≡ self) }
+            × WholeRun P.IntoIter.next_gives it (λ p. HoldsPatterns self.match_kind (registered_texts p.items) a)) }
+        ensures kind { IfOk result (λ a. kind_of a ≡ self.match_kind) }
         ensures depths { IfOk result (λ a. a.depths ≡ []) }
         ensures err { IfErr result (λ e. IsOutOfMemory e ⊎ ((it : P.IntoIter) × P.into_iter_gives patvals it
-            × WholeRun P.IntoIter.next_gives it (λ p. IsRefusalOf self (registered_texts p.items) e))) }
+            × WholeRun P.IntoIter.next_gives it (λ p. IsRefusalOf self.match_kind (registered_texts p.items) e))) }
     {
         let patterns = gather(alloc, patvals.into_iter())?;
-        from_patterns(alloc, self.match_kind, &patterns)
+        from_patterns(alloc, self.settings.match_kind, &patterns)
     }
 }
 
@@ -150,8 +152,8 @@ fn from_texts<V: Copy + TryFrom<usize>, A: Allocator + Copy>(
 ) -> Result<CharwiseDoubleArrayAhoCorasick<V, A>>
 where
     V::Error: Drop,
-    ensures ok { IfOk result (λ a. IsBuiltOf V.try_from_gives kind (spelled texts.now) a.parts) }
-    ensures kind { IfOk result (λ a. a.parts.kind ≡ kind) }
+    ensures ok { IfOk result (λ a. IsBuiltOf V.try_from_gives kind (spelled texts.now) a) }
+    ensures kind { IfOk result (λ a. kind_of a ≡ kind) }
     ensures depths { IfOk result (λ a. a.depths ≡ []) }
     ensures err { IfErr result (IsBuildRefusal V.try_from_gives kind (spelled texts.now)) }
 {
@@ -165,8 +167,8 @@ fn from_patterns<V: Copy, A: Allocator + Copy>(
     kind: MatchKind,
     patterns: &[(&str, V)],
 ) -> Result<CharwiseDoubleArrayAhoCorasick<V, A>>
-    ensures ok { IfOk result (λ a. IsHeld kind (registered_texts patterns.now) a.parts) }
-    ensures kind { IfOk result (λ a. a.parts.kind ≡ kind) }
+    ensures ok { IfOk result (HoldsPatterns kind (registered_texts patterns.now)) }
+    ensures kind { IfOk result (λ a. kind_of a ≡ kind) }
     ensures depths { IfOk result (λ a. a.depths ≡ []) }
     ensures err { IfErr result (IsRefusalOf kind (registered_texts patterns.now)) }
 {

@@ -2,9 +2,9 @@
 use Rattle.std.proofs.Common.{ℕ, List, map, ◌∙◌, ap, sym, subst, inl, inr}
 use Rattle.std.proofs.lemmas.Result.{IfOk-weaker, IfErr-weaker}
 use Rattle.std.specs.Borrow.{Bor}
+use Rattle.daachorse_bytewise.specs.Settings.{Settings}
 use Rattle.daachorse_bytewise.specs.Building.{IsBuiltOf, IsBuildRefusal}
 use Rattle.daachorse_core.specs.declared.errors.DaachorseError.{DaachorseError}
-use Rattle.daachorse_model.specs.declared.MatchKind.{MatchKind}
 use Rattle.daachorse_model.specs.Program.{pattern_lines}
 use Rattle.daacfind.specs.Runs.{value_gives}
 use Rattle.daacfind.proofs.run.build.Goals as goal
@@ -16,8 +16,8 @@ returns-clause-built g c =
     let copied = c.copied.ensures.runs r.2.0 r.2.0.seen (r.2.1 ∙ r.1) in
     let read = c.iter.ensures.runs copied.0 copied.0.seen in
     let items = copied.2.2 ∙ read.4 (copied.2.0 ∙ r.2.2) ∙ ap (λ it. it.rest.now) copied.1 ∙ c.iter.ensures.rest ∙ c.deref.ensures.value in
-    let P : List (List ℕ) → Type 0 = λ ts. IsBuiltOf value_gives c.args.kind ts a.parts in
-    let K : MatchKind → Type 0 = λ k. IsBuiltOf value_gives k (map (λ (t : Bor (List ℕ)). t.now) r.2.0.items) a.parts in
+    let P : List (List ℕ) → Type 0 = λ ts. IsBuiltOf value_gives c.args.kind ts a in
+    let K : Settings → Type 0 = λ s. IsBuiltOf value_gives s.match_kind (map (λ (t : Bor (List ℕ)). t.now) r.2.0.items) a in
     subst P (ap (map (λ (t : Bor (List ℕ)). t.now)) items ∙ c.in_ok-patterns.ensures) (subst K c.match_kind-builder.ensures r.2.3))
     c.build.ensures.ok
 
@@ -32,7 +32,7 @@ returns-clause-refused g c =
           let read = c.iter.ensures.runs copied.0 copied.0.seen in
           let items = copied.2.2 ∙ read.4 (copied.2.0 ∙ r.2.2) ∙ ap (λ it. it.rest.now) copied.1 ∙ c.iter.ensures.rest ∙ c.deref.ensures.value in
           let P : List (List ℕ) → Type 0 = λ ts. IsBuildRefusal value_gives c.args.kind ts e in
-          let K : MatchKind → Type 0 = λ k. IsBuildRefusal value_gives k (map (λ (t : Bor (List ℕ)). t.now) r.2.0.items) e in
+          let K : Settings → Type 0 = λ s. IsBuildRefusal value_gives s.match_kind (map (λ (t : Bor (List ℕ)). t.now) r.2.0.items) e in
           subst P (ap (map (λ (t : Bor (List ℕ)). t.now)) items ∙ c.in_ok-patterns.ensures) (subst K c.match_kind-builder.ensures r.2.3)
     ])
     c.build.ensures.err

@@ -6,9 +6,9 @@ use Rattle.daachorse_model.specs.Dictionary.{Dictionary}
 use Rattle.daachorse_model.specs.Units.{byte_width}
 use Rattle.daacfind.specs.declared.mode.Mode.{Mode}
 use Rattle.daacfind.specs.declared.mode.Mode.TheVariants.{Overlapping, NoSuffix, Find, Longest, First}
-use Rattle.daachorse_search.specs.Matches.{StandsAtEnd}
-use Rattle.daachorse_search.specs.LeftmostSearches.{StandsBehind}
-use Rattle.daachorse_search.proofs.MatchesLemmas.{YieldsList-from_progress}
+use Rattle.daachorse_bytewise.specs.Matches.{StandsAtEnd}
+use Rattle.daachorse_bytewise.specs.LeftmostSearches.{StandsBehind}
+use Rattle.daachorse_bytewise.proofs.MatchesLemmas.{YieldsList-from_progress}
 use Rattle.daacfind.specs.Modes.{found_by}
 use Rattle.daacfind.proofs.run.write_mode.Goals as goal
 

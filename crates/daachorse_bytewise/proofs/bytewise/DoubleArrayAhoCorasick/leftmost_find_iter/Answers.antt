@@ -2,11 +2,12 @@
 use Rattle.std.proofs.Common.{ap, ◌∙◌}
 use Rattle.daachorse_model.specs.Units.{byte_width}
 use Rattle.daachorse_model.specs.Leftmost.{leftmost}
+use Rattle.daachorse_search.proofs.BeginningLaws.{BeginsWith-along}
 use Rattle.daachorse_bytewise_states.specs.Parts.{Parts, content}
 use Rattle.daachorse_bytewise.proofs.bytewise.DoubleArrayAhoCorasick.leftmost_find_iter.Goals as goal
 
-pub returns-clause-left : goal.returns-clause-left
-returns-clause-left g c =
-    c.new-2.ensures.left
-    ∙ ap (λ (p : Parts g.row.V.Denot). leftmost byte_width (content p) c.new.result) (c.leftmost.ensures ∙ ap (λ a. a.parts) c.self.view_is)
-    ∙ ap (leftmost byte_width (content c.args.self.now.parts)) c.new.ensures.bytes
+pub returns : goal.returns
+returns g c =
+    let e = c.new-2.ensures in
+    BeginsWith-along (λ (p : Parts g.row.V.Denot). leftmost byte_width (content p)) _ _ _ _ _ (c.leftmost.ensures ∙ ap (λ a. a.parts) c.self.view_is) c.new.ensures.bytes
+    (record { automaton = e.automaton; haystack = e.haystack; left = e.left; passed = e.passed; turns = e.turns; given = e.given })

@@ -26,4 +26,4 @@ pub returns-clause-ok : goal.returns-clause-ok
 returns-clause-ok g c =
     let K = dictionary c.args.kind (registered c.args.patterns.now) in
     let P : Parts g.row.V.Denot → Type 0 = λ p. (w : List ℕ) → content p w ≡ K w in
-    subst P (sym c.of_states.ensures.parts) (c.in_ok-states.ensures.ok K c.in_ok-nfa.ensures.ok)
+    subst P (sym c.of_states.ensures.states) (c.in_ok-states.ensures.ok K c.in_ok-nfa.ensures.ok)

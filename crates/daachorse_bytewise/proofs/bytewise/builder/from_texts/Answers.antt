@@ -21,7 +21,7 @@ returns-clause-ok g c =
     let now : Bor (List ℕ) → List ℕ = λ t. t.now in
     let P : List (Bor (List ℕ) × g.row.V.Denot) → Type 0 = λ ps. AreIndexed gives 0 (map now c.args.texts.now) (registered ps) in
     let indexed = subst P (sym c.deref.ensures.value) (AreIndexed-texts gives now 0 c.args.texts.now c.in_ok-patterns.patterns.items c.in_ok-patterns.ensures.ok) in
-    IfOk-weaker c.from_patterns.result _ (λ a. IsBuiltOf gives c.args.kind (map now c.args.texts.now) a.parts) (λ a built. (registered c.deref.result.now, indexed, built)) c.from_patterns.ensures.ok
+    IfOk-weaker c.from_patterns.result _ (IsBuiltOf gives c.args.kind (map now c.args.texts.now)) (λ a built. (registered c.deref.result.now, indexed, built)) c.from_patterns.ensures.ok
 
 pub returns-clause-err : goal.returns-clause-err
 returns-clause-err g c =

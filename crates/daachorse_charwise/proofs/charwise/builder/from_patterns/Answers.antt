@@ -1,10 +1,10 @@
 -- The codes are those of all patterns, so each character of a key has one; a refusal of the elements comes last.
-use Rattle.std.proofs.Common.{ℕ, List, length, map, ap, sym, subst, arith}
+use Rattle.std.proofs.Common.{◌≡◌, ℕ, List, length, map, ap, sym, subst, arith}
 use Rattle.std.proofs.lemmas.Result.{err_from_is_err_and}
 use Rattle.daachorse_model.specs.Dictionary.{Dictionary, dictionary}
 use Rattle.daachorse_mapper.specs.Codings.{Coding, IsCodingOf}
-use Rattle.daachorse_charwise_states.specs.Parts.{Parts}
-use Rattle.daachorse_charwise.specs.Building.{AreCodesOf, IsHeld, registered_texts}
+use Rattle.daachorse_charwise_states.specs.Parts.{Parts, content}
+use Rattle.daachorse_charwise.specs.Building.{AreCodesOf, registered_texts}
 use Rattle.daachorse_charwise.proofs.BuildLaws.{codes_of, coded_keys, elements_refused}
 use Rattle.daachorse_charwise.proofs.charwise.builder.from_patterns.Goals as goal
 
@@ -36,8 +36,6 @@ returns-clause-ok g c =
     let P : List ℕ → Type 0 = λ freqs. IsCodingOf freqs c.in_ok-mapper.mapper in
     let codes = codes_of c.args.patterns.now c.in_ok-freqs.freqs.items c.in_ok-mapper.mapper c.in_ok-freqs.ensures.ok (subst P c.deref.ensures.value c.in_ok-mapper.ensures.ok) in
     let C : Coding → Type 0 = λ coding. AreCodesOf (map (λ r. r.0) rs) coding in
-    let H : Parts g.row.V.Denot → Type 0 = λ p. IsHeld c.args.kind rs p in
-    subst H (sym c.of_states.ensures.parts) (record {
-      content = c.in_ok-states.ensures.ok K c.in_ok-nfa.ensures.ok;
-      codes = subst C (sym c.in_ok-states.ensures.mapper) codes;
-    })
+    let H : Parts g.row.V.Denot → Type 0 = λ p. ((w : List ℕ) → content p w ≡ K w) × C p.coding in
+    let held = subst H (sym c.of_states.ensures.states) (c.in_ok-states.ensures.ok K c.in_ok-nfa.ensures.ok, subst C (sym c.in_ok-states.ensures.mapper) codes) in
+    record { patterns = held.0; codes = held.1 }

@@ -2,8 +2,8 @@
 use Rattle.std.proofs.Common.{ℕ, List, ◌∙◌, subst, inr}
 use Rattle.std.proofs.lemmas.Result.{IfOk-weaker, IfErr-weaker}
 use Rattle.std.specs.Borrow.{Bor}
-use Rattle.daachorse_model.specs.declared.MatchKind.{MatchKind}
-use Rattle.daachorse_charwise.specs.Building.{IsHeld, IsRefusalOf, registered_texts}
+use Rattle.daachorse_patterns.specs.declared.settings.Settings.{Settings}
+use Rattle.daachorse_charwise.specs.Building.{HoldsPatterns, IsRefusalOf, registered_texts}
 use Rattle.daachorse_charwise.proofs.charwise.builder.CharwiseDoubleArrayAhoCorasickBuilder.build_with_values.Goals as goal
 
 pub returns-clause-ok : goal.returns-clause-ok
@@ -11,8 +11,8 @@ returns-clause-ok g c =
     let r = c.in_ok-patterns.ensures.ok in
     IfOk-weaker c.from_patterns.result _ _
     (λ a held.
-    let K : MatchKind → Type 0 = λ k. IsHeld k (registered_texts c.deref.result.now) a.parts in
-    let P : List (Bor (List ℕ) × g.row.V.Denot) → Type 0 = λ ps. IsHeld c.args.self (registered_texts ps) a.parts in
+    let K : Settings → Type 0 = λ s. HoldsPatterns s.match_kind (registered_texts c.deref.result.now) a in
+    let P : List (Bor (List ℕ) × g.row.V.Denot) → Type 0 = λ ps. HoldsPatterns c.args.self.match_kind (registered_texts ps) a in
     (c.into_iter.result, c.into_iter.ensures.into_iter_gives, (r.0, r.1, r.2, subst P (c.deref.ensures.value ∙ r.3) (subst K c.self.view_is held))))
     c.from_patterns.ensures.ok
 
@@ -21,7 +21,7 @@ returns-clause-err g c =
     let r = c.in_ok-patterns.ensures.ok in
     IfErr-weaker c.from_patterns.result _ _
     (λ e refused.
-    let K : MatchKind → Type 0 = λ k. IsRefusalOf k (registered_texts c.deref.result.now) e in
-    let P : List (Bor (List ℕ) × g.row.V.Denot) → Type 0 = λ ps. IsRefusalOf c.args.self (registered_texts ps) e in
+    let K : Settings → Type 0 = λ s. IsRefusalOf s.match_kind (registered_texts c.deref.result.now) e in
+    let P : List (Bor (List ℕ) × g.row.V.Denot) → Type 0 = λ ps. IsRefusalOf c.args.self.match_kind (registered_texts ps) e in
     inr (c.into_iter.result, c.into_iter.ensures.into_iter_gives, (r.0, r.1, r.2, subst P (c.deref.ensures.value ∙ r.3) (subst K c.self.view_is refused))))
     c.from_patterns.ensures.err

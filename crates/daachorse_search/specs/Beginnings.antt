@@ -1,0 +1,30 @@
+-- How a search begins: nothing was read, and no turn was taken.
+use Rattle.std.specs.Prelude.{◌≡◌, ℕ, List, []}
+use Rattle.daachorse_model.specs.declared.Match.{Match}
+use Rattle.daachorse_search.specs.Matches.{Progress}
+use Rattle.daachorse_search.specs.Searches.{SourceProgress}
+use Rattle.daachorse_search.specs.Stepwise.{Stepped}
+
+-- in a haystack: these matches are left, and none was given
+pub record BeginsWith {V A : Type 0} (a : A) (units : List ℕ) (matches : List (Match V)) (s : Progress V A) : Type 0 where
+  pub automaton : s.automaton ≡ a
+  pub haystack : s.haystack ≡ units
+  pub left : s.left ≡ matches
+  pub passed : s.passed ≡ []
+  pub turns : s.turns ≡ 0
+  pub given : s.given ≡ 0
+
+-- in what a source gives: these matches end where nothing was read, and are still to come
+pub record BeginsFrom {V A S : Type 0} (a : A) (from : S) (matches : List (Match V)) (s : SourceProgress V A S) : Type 0 where
+  pub automaton : s.automaton ≡ a
+  pub source : s.source ≡ from
+  pub pending : s.pending ≡ matches
+  pub read : s.read ≡ []
+  pub turns : s.turns ≡ 0
+
+-- in units that it is given one at a time, with these depths of the states
+pub record BeginsStepping {A : Type 0} (a : A) (table : List ℕ) (s : Stepped A) : Type 0 where
+  pub automaton : s.automaton ≡ a
+  pub depths : s.depths ≡ table
+  pub read : s.read ≡ []
+  pub turns : s.turns ≡ 0

@@ -12,6 +12,7 @@ ghost use Rattle.daachorse_build.specs.Builders.{states_of};
 ghost use Rattle.daachorse_bytewise_states.specs.Packing.{AreByteGroups, ArePackedOf, HoldStates};
 ghost use Rattle.daachorse_placement.specs.Placement.{HasSizes};
 ghost use Rattle.daachorse_build.specs.EdgeMaps.{id_at};
+ghost use Rattle.daachorse_build.specs.Groups.{IsProfileOf};
 ghost use Rattle.daachorse_build.specs.Tables.{HoldTrie, edges_of, fails_of, positions_of};
 ghost use Rattle.daachorse_bytewise_states.specs.Elements.{base_in, check_in, fail_in, output_in};
 ghost use Rattle.daachorse_bytewise_states.specs.Writing.{AreLabelled, AreVacant, HasPlaced, HasVacants};
@@ -29,7 +30,8 @@ use std::num::NonZeroU32;
 /// The length of a block: each byte leads to an element of the parent's block.
 pub(crate) const BLOCK_LEN: u32 = 256;
 
-/// The elements that hold the trie of a builder, whose links and outputs are built.
+/// The elements that hold the trie of a builder, whose links and outputs are built. What the
+/// profile counted decides which groups of siblings are placed first.
 ///
 /// # Errors
 ///
@@ -38,33 +40,36 @@ pub(crate) const BLOCK_LEN: u32 = 256;
 pub(crate) fn pack<V: Copy, A: Allocator + Copy>(
     alloc: A,
     nfa: &NfaBuilder<u8, V, A>,
+    profile: &Profile<A>,
 ) -> Result<Vec<State<u32>, A>>
     requires trie { HoldTrie nat_cmp (states_of nfa.now) }
     requires count { length (states_of nfa.now) ≤ 2 ^ 32 }
+    requires profile { IsProfileOf (length (states_of nfa.now)) profile.now }
     requires links { (t : ℕ) → t < length (states_of nfa.now) → t ≢ 1 → slice_index (fails_of (states_of nfa.now)) t < length (states_of nfa.now) }
     requires outputs { (t : ℕ) → t < length (states_of nfa.now) → t ≢ 1 → slice_index (positions_of (states_of nfa.now)) t < 2 ^ 24 }
     ensures ok { IfOk result (λ elements. ArePackedOf (states_of nfa.now) elements.items) }
     ensures few { IfOk result (λ elements. length elements.items < 2 ^ 32) }
     ensures err { IfErr result (IsRefusal ⊥ NumElements (HasManyGroups (λ b. b) 256 (states_of nfa.now))) }
 {
-    let groups = byte_groups(alloc, nfa)?;
+    let groups = byte_groups(alloc, nfa, profile)?;
     let helper = BuildHelper::new(alloc, &groups, nfa.states().len(), BLOCK_LEN, true)?;
     write_states(alloc, nfa.states(), &helper)
 }
 
-/// The groups of siblings of a trie over bytes, in the order of its states.
+/// The groups of siblings of a trie over bytes, the heaviest first.
 fn byte_groups<V: Copy, A: Allocator + Copy>(
     alloc: A,
     nfa: &NfaBuilder<u8, V, A>,
+    profile: &Profile<A>,
 ) -> Result<Vec<SiblingGroup<A>, A>>
-    requires { HoldTrie nat_cmp (states_of nfa.now) }
+    requires trie { HoldTrie nat_cmp (states_of nfa.now) }
+    requires profile { IsProfileOf (length (states_of nfa.now)) profile.now }
     ensures ok { IfOk result (λ groups. AreByteGroups groups.items (edges_of (states_of nfa.now))) }
     ensures err { IfErr result IsOutOfMemory }
 {
-    let no_profile = Profile::new(alloc);
     let groups = nfa.sibling_groups(
         alloc,
-        &no_profile,
+        profile,
         |label: u8| -> u32
             ensures same { result ≡ label }
             ensures below { result < 256 }

@@ -8,6 +8,8 @@ ghost use Rattle.daachorse_core.specs.declared.errors.Limit.TheVariants.{NumElem
 ghost use Rattle.daachorse_core.specs.Outputs.{number};
 ghost use Rattle.daachorse_core.specs.Refusals.{IsOutOfMemory, IsRefusal};
 ghost use Rattle.daachorse_model.specs.Dictionary.{Dictionary};
+ghost use Rattle.daachorse_build.specs.Builders.{states_of};
+ghost use Rattle.daachorse_build.specs.Groups.{IsProfileOf};
 ghost use Rattle.daachorse_bytewise_states.specs.Packing.{IsBuiltFor};
 ghost use Rattle.daachorse_patterns.specs.Prefixes.{HasMoreProperPrefixes};
 ghost use Rattle.daachorse_model.specs.declared.MatchKind.TheVariants.{Standard};
@@ -25,6 +27,7 @@ use crate::views;
 use daachorse_build::nfa_builder::NfaBuilder;
 use daachorse_core::errors::Result;
 use daachorse_core::{Empty, MatchKind, Output, ROOT_STATE_IDX};
+use daachorse_placement::build_helper::Profile;
 use std::alloc::{Allocator, Global};
 use std::hash::{Hash, Hasher};
 use std::marker::Model;
@@ -71,19 +74,26 @@ impl<V: Copy, A: Allocator> Model for States<V, A> {
 }
 
 impl<V: Copy, A: Allocator + Copy> States<V, A> {
-    /// The automaton of a builder whose links and outputs are built, for searches of this kind.
+    /// The automaton of a builder whose links and outputs are built, for searches of this kind. The
+    /// profile, if it has counts, decides where the states stand, and nothing else.
     ///
     /// # Errors
     ///
     /// [`Limit::NumElements`](daachorse_core::errors::Limit::NumElements), which comes only where
     /// more than 16,777,214 texts begin a longer pattern, and out of memory.
-    pub fn build(alloc: A, kind: MatchKind, nfa: NfaBuilder<u8, V, A>) -> Result<Self>
-        requires { (K : Dictionary V) × IsBuiltFor kind nfa K }
+    pub fn build(
+        alloc: A,
+        kind: MatchKind,
+        nfa: NfaBuilder<u8, V, A>,
+        profile: &Profile<A>,
+    ) -> Result<Self>
+        requires built { (K : Dictionary V) × IsBuiltFor kind nfa K }
+        requires profile { IsProfileOf (length (states_of nfa)) profile.now }
         ensures ok { IfOk result (λ s. (K : Dictionary V) → IsBuiltFor kind nfa K → (w : List ℕ) → content s w ≡ K w) }
         ensures kind { IfOk result (λ s. s.kind ≡ kind) }
         ensures err { IfErr result (IsRefusal ⊥ NumElements ((K : Dictionary V) → IsBuiltFor kind nfa K → HasMoreProperPrefixes K 16777214)) }
     {
-        let elements = pack(alloc, &nfa)?;
+        let elements = pack(alloc, &nfa, profile)?;
         // All states but the dead one.
         let num_states = (nfa.states().len() - 1) as u32;
         let (_states, outputs) = nfa.into_parts();

@@ -12,6 +12,7 @@ ghost use Rattle.daachorse_core.specs.Refusals.{IsOutOfMemory, IsRefusal};
 ghost use Rattle.daachorse_core.specs.declared.errors.Limit.TheVariants.{NumElements};
 ghost use Rattle.daachorse_placement.specs.Placement.{AreIds, children_of, parent_of};
 ghost use Rattle.daachorse_build.specs.Builders.{states_of};
+ghost use Rattle.daachorse_build.specs.Groups.{IsProfileOf};
 ghost use Rattle.daachorse_build.specs.Tables.{HoldTrie, edges_of, fails_of, positions_of};
 ghost use Rattle.daachorse_mapper.specs.Codings.{IsCoding};
 ghost use Rattle.daachorse_packing.specs.Settled.{AreGroupsOf, ArePlaces, AreSettled, HasManyGroups};
@@ -29,7 +30,7 @@ use std::alloc::Allocator;
 use std::num::NonZeroU32;
 
 /// The elements that hold the trie of a builder, whose links and outputs are built, in blocks of
-/// this length.
+/// this length. What the profile counted decides which groups of siblings are placed first.
 ///
 /// # Errors
 ///
@@ -38,11 +39,13 @@ use std::num::NonZeroU32;
 pub(crate) fn pack<V: Copy, A: Allocator + Copy>(
     alloc: A,
     nfa: &NfaBuilder<char, V, A>,
+    profile: &Profile<A>,
     mapper: &CodeMapper<A>,
     block_len: u32,
 ) -> Result<Vec<State, A>>
     requires trie { HoldTrie nat_cmp (states_of nfa.now) }
     requires count { length (states_of nfa.now) ≤ 2 ^ 32 }
+    requires profile { IsProfileOf (length (states_of nfa.now)) profile.now }
     requires links { (t : ℕ) → t < length (states_of nfa.now) → t ≢ 1 → slice_index (fails_of (states_of nfa.now)) t < length (states_of nfa.now) }
     requires coding { IsCoding mapper.now }
     requires coded { AreEdgesCoded mapper.now (edges_of (states_of nfa.now)) }
@@ -52,27 +55,29 @@ pub(crate) fn pack<V: Copy, A: Allocator + Copy>(
     ensures few { IfOk result (λ elements. length elements.items < 2 ^ 32) }
     ensures err { IfErr result (IsRefusal ⊥ NumElements (HasManyGroups (code_in mapper.now) block_len (states_of nfa.now))) }
 {
-    let groups = coded_groups(alloc, nfa, mapper)?;
+    let groups = coded_groups(alloc, nfa, profile, mapper)?;
     let helper = BuildHelper::new(alloc, &groups, nfa.states().len(), block_len, false)?;
     write_states(alloc, nfa.states(), &groups, &helper)
 }
 
-/// The groups of siblings of a trie over characters, with the codes of these for labels.
+/// The groups of siblings of a trie over characters, with the codes of these for labels, the
+/// heaviest first.
 fn coded_groups<V: Copy, A: Allocator + Copy>(
     alloc: A,
     nfa: &NfaBuilder<char, V, A>,
+    profile: &Profile<A>,
     mapper: &CodeMapper<A>,
 ) -> Result<Vec<SiblingGroup<A>, A>>
     requires trie { HoldTrie nat_cmp (states_of nfa.now) }
+    requires profile { IsProfileOf (length (states_of nfa.now)) profile.now }
     requires coding { IsCoding mapper.now }
     requires coded { AreEdgesCoded mapper.now (edges_of (states_of nfa.now)) }
     ensures ok { IfOk result (λ groups. (block : ℕ) → 2 ≤ block → mapper.now.alphabet_size ≤ block → AreGroupsOf (code_in mapper.now) block groups.items (edges_of (states_of nfa.now))) }
     ensures err { IfErr result IsOutOfMemory }
 {
-    let no_profile = Profile::new(alloc);
     let groups = nfa.sibling_groups(
         alloc,
-        &no_profile,
+        profile,
         |label: char| -> u32
             ensures { result ≡ code_in mapper.entry.now label }
         { mapper.get(label).unwrap_or(0) },

@@ -12,6 +12,8 @@ ghost use Rattle.daachorse_model.specs.Dictionary.{Dictionary};
 ghost use Rattle.daachorse_model.specs.Kinds.{is_leftmost};
 ghost use Rattle.daachorse_model.specs.Paths.{is_reached};
 ghost use Rattle.daachorse_model.specs.Prefixes.{HasPrefixes, PassesAt};
+ghost use Rattle.daachorse_build.specs.Builders.{states_of};
+ghost use Rattle.daachorse_build.specs.Groups.{IsProfileOf};
 ghost use Rattle.daachorse_mapper.specs.Codings.{IsCoding};
 ghost use Rattle.daachorse_mapper.specs.Written.{IsCountable};
 ghost use Rattle.daachorse_charwise_states.specs.Packing.{AreCoded, IsBuiltFor, NeedsManyBlocks};
@@ -26,6 +28,7 @@ use daachorse_build::nfa_builder::NfaBuilder;
 use daachorse_core::errors::Result;
 use daachorse_core::{MatchKind, Output};
 use daachorse_mapper::mapper::CodeMapper;
+use daachorse_placement::build_helper::Profile;
 use std::alloc::{Allocator, Global};
 use std::hash::{Hash, Hasher};
 use std::marker::Model;
@@ -66,7 +69,8 @@ impl<V: Copy, A: Allocator> Model for States<V, A> {
 
 impl<V: Copy, A: Allocator + Copy> States<V, A> {
     /// The automaton of a builder whose links and outputs are built, for searches of this kind. The
-    /// mapper has a code for each character of a pattern, and at most 4,294,967,295 entries.
+    /// mapper has a code for each character of a pattern, and at most 4,294,967,295 entries. The
+    /// profile, if it has counts, decides where the states stand, and nothing else.
     ///
     /// # Errors
     ///
@@ -77,9 +81,11 @@ impl<V: Copy, A: Allocator + Copy> States<V, A> {
         alloc: A,
         kind: MatchKind,
         nfa: NfaBuilder<char, V, A>,
+        profile: &Profile<A>,
         mapper: CodeMapper<A>,
     ) -> Result<Self>
         requires built { (K : Dictionary V) × IsBuiltFor kind nfa K × AreCoded mapper K }
+        requires profile { IsProfileOf (length (states_of nfa)) profile.now }
         requires coding { IsCoding mapper }
         requires codes { IsCountable mapper }
         requires block { mapper.alphabet_size ≤ 2 ^ 31 }
@@ -89,7 +95,7 @@ impl<V: Copy, A: Allocator + Copy> States<V, A> {
         ensures err { IfErr result (IsRefusal ⊥ NumElements ((K : Dictionary V) → IsBuiltFor kind nfa K → NeedsManyBlocks mapper K)) }
     {
         let block_len = mapper.block_len().unwrap();
-        let states = pack(alloc, &nfa, &mapper, block_len)?;
+        let states = pack(alloc, &nfa, profile, &mapper, block_len)?;
         // All states but the dead one.
         let num_states = (nfa.states().len() - 1) as u32;
         let (_states, outputs) = nfa.into_parts();

@@ -24,6 +24,8 @@ mod placement;
 #[cfg(test)]
 mod prefilter;
 #[cfg(test)]
+mod profile;
+#[cfg(test)]
 mod serializer;
 #[cfg(test)]
 mod slow_searches;

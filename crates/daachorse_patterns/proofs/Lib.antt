@@ -2,3 +2,4 @@ pub mod UnitTries
 pub mod BuiltLaws
 pub mod RefusalLaws
 pub mod IndexLaws
+pub mod LinksBack

@@ -2,3 +2,4 @@ pub mod Prefixes
 pub mod Tries
 pub mod Patterns
 pub mod Building
+pub mod Documents

@@ -6,6 +6,7 @@
 //! and the limit on their number is tested last; the first refusal ends the build.
 #![tactic(auto)]
 
+pub mod corpus;
 pub mod gathering;
 pub mod pattern;
 pub mod settings;

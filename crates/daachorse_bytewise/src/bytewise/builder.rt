@@ -5,10 +5,15 @@
 //! patterns are added in order, and the limit on their number is tested last; the first refusal
 //! ends the build.
 
-ghost use Rattle.std.specs.Prelude.{◌≡◌, ◌⊎◌, [], IfOk, IfErr, map};
+ghost use Rattle.std.specs.Prelude.{◌≡◌, ◌⊎◌, [], length, IfOk, IfErr, IsSomeAnd, map};
 ghost use Rattle.std.specs.Iterator.{IsFinite};
 ghost use Rattle.std.specs.Iterator.Runs.{WholeRun};
+ghost use Rattle.std.specs.Ordering.{nat_cmp};
 ghost use Rattle.daachorse_core.specs.Refusals.{IsOutOfMemory};
+ghost use Rattle.daachorse_build.specs.Builders.{states_of};
+ghost use Rattle.daachorse_build.specs.Counts.{LinksLeadBack};
+ghost use Rattle.daachorse_build.specs.Groups.{IsProfileOf};
+ghost use Rattle.daachorse_patterns.specs.Documents.{documents_of};
 ghost use Rattle.daachorse_model.specs.declared.MatchKind.TheVariants.{Standard};
 ghost use Rattle.daachorse_model.specs.Dictionary.{registered};
 ghost use Rattle.daachorse_bytewise.specs.Automata.{kind_of};
@@ -16,12 +21,15 @@ ghost use Rattle.daachorse_bytewise.specs.Building.{HoldsPatterns, IsBuildRefusa
 
 use crate::bytewise::DoubleArrayAhoCorasick;
 use crate::bytewise::states::States;
+use daachorse_build::nfa_builder::NfaBuilder;
 use daachorse_core::MatchKind;
 use daachorse_core::errors::Result;
+use daachorse_patterns::corpus::Corpus;
 use daachorse_patterns::gathering::{gather, indexed};
 use daachorse_patterns::settings::Settings;
 use daachorse_patterns::trie::build_trie;
-use std::alloc::Allocator;
+use daachorse_placement::build_helper::Profile;
+use std::alloc::{Allocator, Global};
 use std::marker::Model;
 
 /// The greatest number of patterns that an automaton may hold.
@@ -29,21 +37,22 @@ const MAX_PATTERNS: usize = 0x00ff_ffff;
 
 /// A builder of [`DoubleArrayAhoCorasick`].
 #[derive(Drop)]
-pub struct DoubleArrayAhoCorasickBuilder {
-    settings: Settings,
+pub struct DoubleArrayAhoCorasickBuilder<A: Allocator = Global> {
+    settings: Settings<u8, A>,
 }
 
-impl Model for DoubleArrayAhoCorasickBuilder {
+impl<A: Allocator> Model for DoubleArrayAhoCorasickBuilder<A> {
+    ghost use Rattle.std.specs.Prelude.{ℕ};
     ghost use Rattle.daachorse_patterns.specs.declared.settings.Settings.{Settings};
 
-    ghost Value = { Settings };
+    ghost Value = { Settings ℕ A };
 
     ghost view = { λ b. b.settings };
 
     ghost invariant = { λ b. Unit {0} };
 }
 
-impl Default for DoubleArrayAhoCorasickBuilder {
+impl<A: Allocator> Default for DoubleArrayAhoCorasickBuilder<A> {
     ghost use Rattle.std.specs.Prelude.{◌≡◌};
     ghost use Rattle.daachorse_model.specs.declared.MatchKind.TheVariants.{Standard};
 
@@ -55,7 +64,7 @@ impl Default for DoubleArrayAhoCorasickBuilder {
     }
 }
 
-impl DoubleArrayAhoCorasickBuilder {
+impl<A: Allocator> DoubleArrayAhoCorasickBuilder<A> {
     /// Makes a builder of automata for the standard searches.
     pub fn new() -> Self
         ensures { result.match_kind ≡ Standard }
@@ -72,6 +81,39 @@ impl DoubleArrayAhoCorasickBuilder {
         self.settings.match_kind = kind;
         self
     }
+}
+
+impl<A: Allocator + Copy> DoubleArrayAhoCorasickBuilder<A> {
+    /// Sets the documents by which the states of the automaton are laid out: the states that
+    /// searches over them read most often stand closest together. They are copied, and take the
+    /// place of those that were set before.
+    ///
+    /// A search in the automaton, and what it lists, is the same with any documents and with none.
+    ///
+    /// # Conditions
+    ///
+    /// The iterator over the documents ends.
+    ///
+    /// # Errors
+    ///
+    /// An allocation failed.
+    pub fn corpus<'d, D: IntoIterator<Item = &'d [u8]>>(
+        mut self,
+        alloc: A,
+        haystacks: D,
+    ) -> Result<Self>
+    where
+        D::IntoIter: Drop,
+        requires { (it : D.IntoIter) → D.into_iter_gives haystacks it → D.IntoIter.can_next it × IsFinite (D.IntoIter.remaining it) }
+        ensures kind { IfOk result (λ b. b.match_kind ≡ self.match_kind) }
+        ensures copies { IfOk result (λ b. (it : D.IntoIter) × D.into_iter_gives haystacks it
+            × WholeRun D.IntoIter.next_gives it (λ p. IsSomeAnd b.corpus (λ corpus. documents_of (λ u. u) corpus ≡ map (λ t. t.now) p.items))) }
+        ensures err { IfErr result IsOutOfMemory }
+    {
+        let documents = gather(alloc, haystacks.into_iter())?;
+        self.settings.corpus = Some(Corpus::copy_of(alloc, &documents)?);
+        Ok(self)
+    }
 
     /// Builds an automaton of these patterns.
     ///
@@ -86,7 +128,7 @@ impl DoubleArrayAhoCorasickBuilder {
     ///
     /// `InvalidConversion` where an index has no value: all indexes are converted before the first
     /// pattern is added. Then the errors of [`DoubleArrayAhoCorasickBuilder::build_with_values`].
-    pub fn build<'p, V, A: Allocator + Copy, P: IntoIterator<Item = &'p [u8]>>(
+    pub fn build<'p, V, P: IntoIterator<Item = &'p [u8]>>(
         self,
         alloc: A,
         patterns: P,
@@ -104,7 +146,12 @@ impl DoubleArrayAhoCorasickBuilder {
             × WholeRun P.IntoIter.next_gives it (λ p. IsBuildRefusal V.try_from_gives self.match_kind (map (λ t. t.now) p.items) e))) }
     {
         let texts = gather(alloc, patterns.into_iter())?;
-        from_texts(alloc, self.settings.match_kind, &texts)
+        from_texts(
+            alloc,
+            self.settings.match_kind,
+            &self.settings.corpus,
+            &texts,
+        )
     }
 
     /// Builds an automaton of these patterns, each with its value.
@@ -123,7 +170,7 @@ impl DoubleArrayAhoCorasickBuilder {
     /// pattern. After the last, `AutomatonScale` for more than 16,777,215 patterns, and then where
     /// the double array would need more than 4,294,967,295 elements, which it may only where more
     /// than 16,777,214 texts begin a longer pattern. `OutOfMemory` where an allocation fails.
-    pub fn build_with_values<'p, V, A: Allocator + Copy, P: IntoIterator<Item = (&'p [u8], V)>>(
+    pub fn build_with_values<'p, V, P: IntoIterator<Item = (&'p [u8], V)>>(
         self,
         alloc: A,
         patvals: P,
@@ -140,7 +187,12 @@ impl DoubleArrayAhoCorasickBuilder {
             × WholeRun P.IntoIter.next_gives it (λ p. IsRefusalOf self.match_kind (registered p.items) e))) }
     {
         let patterns = gather(alloc, patvals.into_iter())?;
-        from_patterns(alloc, self.settings.match_kind, &patterns)
+        from_patterns(
+            alloc,
+            self.settings.match_kind,
+            &self.settings.corpus,
+            &patterns,
+        )
     }
 }
 
@@ -148,6 +200,7 @@ impl DoubleArrayAhoCorasickBuilder {
 fn from_texts<V: Copy + TryFrom<usize>, A: Allocator + Copy>(
     alloc: A,
     kind: MatchKind,
+    corpus: &Option<Corpus<u8, A>>,
     texts: &[&[u8]],
 ) -> Result<DoubleArrayAhoCorasick<V, A>>
 where
@@ -158,13 +211,14 @@ where
     ensures err { IfErr result (IsBuildRefusal V.try_from_gives kind (map (λ t. t.now) texts.now)) }
 {
     let patterns = indexed(alloc, texts)?;
-    from_patterns(alloc, kind, &patterns)
+    from_patterns(alloc, kind, corpus, &patterns)
 }
 
 /// An automaton of these patterns and values.
 fn from_patterns<V: Copy, A: Allocator + Copy>(
     alloc: A,
     kind: MatchKind,
+    corpus: &Option<Corpus<u8, A>>,
     patterns: &[(&[u8], V)],
 ) -> Result<DoubleArrayAhoCorasick<V, A>>
     ensures ok { IfOk result (HoldsPatterns kind (registered patterns.now)) }
@@ -173,6 +227,26 @@ fn from_patterns<V: Copy, A: Allocator + Copy>(
     ensures err { IfErr result (IsRefusalOf kind (registered patterns.now)) }
 {
     let nfa = build_trie(alloc, kind, Some(MAX_PATTERNS), patterns)?;
-    let states = States::build(alloc, kind, nfa)?;
+    let profile = profile_of(alloc, kind, corpus, &nfa)?;
+    let states = States::build(alloc, kind, nfa, &profile)?;
     Ok(DoubleArrayAhoCorasick::of_states(alloc, states))
+}
+
+/// What searches of this kind over a corpus read of a trie: nothing is counted without a document.
+/// A table tells a standard search what each byte leads to from the root.
+fn profile_of<V: Copy, A: Allocator + Copy>(
+    alloc: A,
+    kind: MatchKind,
+    corpus: &Option<Corpus<u8, A>>,
+    nfa: &NfaBuilder<u8, V, A>,
+) -> Result<Profile<A>>
+    requires { LinksLeadBack nat_cmp (states_of nfa.now) }
+    ensures ok { IfOk result (IsProfileOf (length (states_of nfa.now))) }
+    ensures err { IfErr result IsOutOfMemory }
+{
+    let Some(corpus) = corpus else {
+        return Ok(Profile::new(alloc));
+    };
+    let dense_root = kind.is_standard();
+    corpus.profile(alloc, nfa, dense_root, &|_label: u8| true)
 }

@@ -5,10 +5,15 @@
 //! all indexes are converted first, then the patterns are added in order, and the limits on the
 //! outputs and on the elements are tested last; the first refusal ends the build.
 
-ghost use Rattle.std.specs.Prelude.{◌≡◌, ◌⊎◌, [], IfOk, IfErr};
+ghost use Rattle.std.specs.Prelude.{◌≡◌, ◌⊎◌, [], length, IfOk, IfErr, IsSomeAnd};
 ghost use Rattle.std.specs.Iterator.{IsFinite};
 ghost use Rattle.std.specs.Iterator.Runs.{WholeRun};
+ghost use Rattle.std.specs.Ordering.{nat_cmp};
 ghost use Rattle.daachorse_core.specs.Refusals.{IsOutOfMemory};
+ghost use Rattle.daachorse_build.specs.Builders.{states_of};
+ghost use Rattle.daachorse_build.specs.Counts.{LinksLeadBack};
+ghost use Rattle.daachorse_build.specs.Groups.{IsProfileOf};
+ghost use Rattle.daachorse_patterns.specs.Documents.{documents_of};
 ghost use Rattle.daachorse_model.specs.declared.MatchKind.TheVariants.{Standard};
 ghost use Rattle.daachorse_charwise.specs.Automata.{kind_of};
 ghost use Rattle.daachorse_charwise.specs.Building.{HoldsPatterns, IsBuildRefusal, IsBuiltOf, IsRefusalOf, registered_texts, spelled};
@@ -17,31 +22,35 @@ use crate::charwise::CharwiseDoubleArrayAhoCorasick;
 use crate::charwise::frequencies::frequencies;
 use crate::charwise::mapper::CodeMapper;
 use crate::charwise::states::States;
+use daachorse_build::nfa_builder::NfaBuilder;
 use daachorse_core::MatchKind;
 use daachorse_core::errors::Result;
+use daachorse_patterns::corpus::Corpus;
 use daachorse_patterns::gathering::{gather, indexed};
 use daachorse_patterns::settings::Settings;
 use daachorse_patterns::trie::build_trie;
-use std::alloc::Allocator;
+use daachorse_placement::build_helper::Profile;
+use std::alloc::{Allocator, Global};
 use std::marker::Model;
 
 /// A builder of [`CharwiseDoubleArrayAhoCorasick`].
 #[derive(Drop)]
-pub struct CharwiseDoubleArrayAhoCorasickBuilder {
-    settings: Settings,
+pub struct CharwiseDoubleArrayAhoCorasickBuilder<A: Allocator = Global> {
+    settings: Settings<char, A>,
 }
 
-impl Model for CharwiseDoubleArrayAhoCorasickBuilder {
+impl<A: Allocator> Model for CharwiseDoubleArrayAhoCorasickBuilder<A> {
+    ghost use Rattle.std.specs.Prelude.{ℕ};
     ghost use Rattle.daachorse_patterns.specs.declared.settings.Settings.{Settings};
 
-    ghost Value = { Settings };
+    ghost Value = { Settings ℕ A };
 
     ghost view = { λ b. b.settings };
 
     ghost invariant = { λ b. Unit {0} };
 }
 
-impl Default for CharwiseDoubleArrayAhoCorasickBuilder {
+impl<A: Allocator> Default for CharwiseDoubleArrayAhoCorasickBuilder<A> {
     ghost use Rattle.std.specs.Prelude.{◌≡◌};
     ghost use Rattle.daachorse_model.specs.declared.MatchKind.TheVariants.{Standard};
 
@@ -53,7 +62,7 @@ impl Default for CharwiseDoubleArrayAhoCorasickBuilder {
     }
 }
 
-impl CharwiseDoubleArrayAhoCorasickBuilder {
+impl<A: Allocator> CharwiseDoubleArrayAhoCorasickBuilder<A> {
     /// Makes a builder of automata for the standard searches.
     pub fn new() -> Self
         ensures { result.match_kind ≡ Standard }
@@ -70,6 +79,39 @@ impl CharwiseDoubleArrayAhoCorasickBuilder {
         self.settings.match_kind = kind;
         self
     }
+}
+
+impl<A: Allocator + Copy> CharwiseDoubleArrayAhoCorasickBuilder<A> {
+    /// Sets the documents by which the states of the automaton are laid out: the states that
+    /// searches over them read most often stand closest together. They are copied, and take the
+    /// place of those that were set before.
+    ///
+    /// A search in the automaton, and what it lists, is the same with any documents and with none.
+    ///
+    /// # Conditions
+    ///
+    /// The iterator over the documents ends.
+    ///
+    /// # Errors
+    ///
+    /// An allocation failed.
+    pub fn corpus<'d, D: IntoIterator<Item = &'d str>>(
+        mut self,
+        alloc: A,
+        haystacks: D,
+    ) -> Result<Self>
+    where
+        D::IntoIter: Drop,
+        requires { (it : D.IntoIter) → D.into_iter_gives haystacks it → D.IntoIter.can_next it × IsFinite (D.IntoIter.remaining it) }
+        ensures kind { IfOk result (λ b. b.match_kind ≡ self.match_kind) }
+        ensures copies { IfOk result (λ b. (it : D.IntoIter) × D.into_iter_gives haystacks it
+            × WholeRun D.IntoIter.next_gives it (λ p. IsSomeAnd b.corpus (λ corpus. documents_of (λ u. u) corpus ≡ spelled p.items))) }
+        ensures err { IfErr result IsOutOfMemory }
+    {
+        let documents = gather(alloc, haystacks.into_iter())?;
+        self.settings.corpus = Some(Corpus::copy_of(alloc, &documents)?);
+        Ok(self)
+    }
 
     /// Builds an automaton of these patterns.
     ///
@@ -85,7 +127,7 @@ impl CharwiseDoubleArrayAhoCorasickBuilder {
     /// `InvalidConversion` where an index has no value: all indexes are converted before the first
     /// pattern is added. Then the errors of
     /// [`CharwiseDoubleArrayAhoCorasickBuilder::build_with_values`].
-    pub fn build<'p, V, A: Allocator + Copy, P: IntoIterator<Item = &'p str>>(
+    pub fn build<'p, V, P: IntoIterator<Item = &'p str>>(
         self,
         alloc: A,
         patterns: P,
@@ -103,7 +145,12 @@ impl CharwiseDoubleArrayAhoCorasickBuilder {
             × WholeRun P.IntoIter.next_gives it (λ p. IsBuildRefusal V.try_from_gives self.match_kind (spelled p.items) e))) }
     {
         let texts = gather(alloc, patterns.into_iter())?;
-        from_texts(alloc, self.settings.match_kind, &texts)
+        from_texts(
+            alloc,
+            self.settings.match_kind,
+            &self.settings.corpus,
+            &texts,
+        )
     }
 
     /// Builds an automaton of these patterns, each with its value.
@@ -123,7 +170,7 @@ impl CharwiseDoubleArrayAhoCorasickBuilder {
     /// where the double array would need 4,294,967,296 elements or more, in whole blocks; a block
     /// is as long as the least power of two that is at least 2 and at least the number of
     /// characters of the patterns. `OutOfMemory` where an allocation fails.
-    pub fn build_with_values<'p, V, A: Allocator + Copy, P: IntoIterator<Item = (&'p str, V)>>(
+    pub fn build_with_values<'p, V, P: IntoIterator<Item = (&'p str, V)>>(
         self,
         alloc: A,
         patvals: P,
@@ -140,7 +187,12 @@ impl CharwiseDoubleArrayAhoCorasickBuilder {
             × WholeRun P.IntoIter.next_gives it (λ p. IsRefusalOf self.match_kind (registered_texts p.items) e))) }
     {
         let patterns = gather(alloc, patvals.into_iter())?;
-        from_patterns(alloc, self.settings.match_kind, &patterns)
+        from_patterns(
+            alloc,
+            self.settings.match_kind,
+            &self.settings.corpus,
+            &patterns,
+        )
     }
 }
 
@@ -148,6 +200,7 @@ impl CharwiseDoubleArrayAhoCorasickBuilder {
 fn from_texts<V: Copy + TryFrom<usize>, A: Allocator + Copy>(
     alloc: A,
     kind: MatchKind,
+    corpus: &Option<Corpus<char, A>>,
     texts: &[&str],
 ) -> Result<CharwiseDoubleArrayAhoCorasick<V, A>>
 where
@@ -158,13 +211,14 @@ where
     ensures err { IfErr result (IsBuildRefusal V.try_from_gives kind (spelled texts.now)) }
 {
     let patterns = indexed(alloc, texts)?;
-    from_patterns(alloc, kind, &patterns)
+    from_patterns(alloc, kind, corpus, &patterns)
 }
 
 /// An automaton of these patterns and values.
 fn from_patterns<V: Copy, A: Allocator + Copy>(
     alloc: A,
     kind: MatchKind,
+    corpus: &Option<Corpus<char, A>>,
     patterns: &[(&str, V)],
 ) -> Result<CharwiseDoubleArrayAhoCorasick<V, A>>
     ensures ok { IfOk result (HoldsPatterns kind (registered_texts patterns.now)) }
@@ -175,6 +229,30 @@ fn from_patterns<V: Copy, A: Allocator + Copy>(
     let freqs = frequencies(alloc, patterns)?;
     let mapper = CodeMapper::new(alloc, &freqs)?;
     let nfa = build_trie(alloc, kind, None, patterns)?;
-    let states = States::build(alloc, kind, nfa, mapper)?;
+    let profile = profile_of(alloc, corpus, &nfa, &mapper)?;
+    let states = States::build(alloc, kind, nfa, &profile, mapper)?;
     Ok(CharwiseDoubleArrayAhoCorasick::of_states(alloc, states))
+}
+
+/// What searches over a corpus read of a trie, where a character without a code is no label:
+/// nothing is counted without a document.
+fn profile_of<V: Copy, A: Allocator + Copy>(
+    alloc: A,
+    corpus: &Option<Corpus<char, A>>,
+    nfa: &NfaBuilder<char, V, A>,
+    mapper: &CodeMapper<A>,
+) -> Result<Profile<A>>
+    requires { LinksLeadBack nat_cmp (states_of nfa.now) }
+    ensures ok { IfOk result (IsProfileOf (length (states_of nfa.now))) }
+    ensures err { IfErr result IsOutOfMemory }
+{
+    let Some(corpus) = corpus else {
+        return Ok(Profile::new(alloc));
+    };
+    corpus.profile(
+        alloc,
+        nfa,
+        false,
+        &|label: char| mapper.get(label).is_some(),
+    )
 }

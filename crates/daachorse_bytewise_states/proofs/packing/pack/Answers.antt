@@ -22,7 +22,7 @@ use Rattle.daachorse_bytewise_states.specs.declared.state.State.{State}
 use Rattle.daachorse_bytewise_states.proofs.packing.pack.Goals as goal
 
 pub byte_groups-requires : goal.byte_groups-requires
-byte_groups-requires g c = c.requires.trie
+byte_groups-requires g c = record { trie = c.requires.trie; profile = c.requires.profile }
 
 pub returns-in_err-groups : goal.returns-in_err-groups
 returns-in_err-groups g c =

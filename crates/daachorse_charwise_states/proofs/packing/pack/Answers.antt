@@ -18,7 +18,7 @@ use Rattle.daachorse_charwise_states.specs.Packing.{HoldElements, code_in}
 use Rattle.daachorse_charwise_states.proofs.packing.pack.Goals as goal
 
 pub coded_groups-requires : goal.coded_groups-requires
-coded_groups-requires g c = record { trie = c.requires.trie; coding = c.requires.coding; coded = c.requires.coded }
+coded_groups-requires g c = record { trie = c.requires.trie; profile = c.requires.profile; coding = c.requires.coding; coded = c.requires.coded }
 
 pub returns-in_err-groups : goal.returns-in_err-groups
 returns-in_err-groups g c =

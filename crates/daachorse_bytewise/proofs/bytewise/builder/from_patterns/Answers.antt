@@ -1,9 +1,10 @@
 -- The states are built of the trie of the patterns; the limit on the elements is tested last.
-use Rattle.std.proofs.Common.{◌≡◌, ℕ, List, sym, subst}
+use Rattle.std.proofs.Common.{◌≡◌, ℕ, List, sym, subst, Some}
 use Rattle.std.proofs.lemmas.Result.{err_from_is_err_and}
 use Rattle.daachorse_model.specs.Dictionary.{dictionary, registered}
 use Rattle.daachorse_model.specs.Units.{byte_width}
 use Rattle.daachorse_bytewise_states.specs.Parts.{Parts, content}
+use Rattle.daachorse_patterns.proofs.LinksBack.{links_back}
 use Rattle.daachorse_patterns.proofs.RefusalLaws.{elements_refused, refused_before}
 use Rattle.daachorse_bytewise.specs.Building.{byte_limits}
 use Rattle.daachorse_bytewise.proofs.bytewise.builder.from_patterns.Goals as goal
@@ -13,8 +14,12 @@ returns-in_err-nfa-clause-err g c =
     let p = err_from_is_err_and c.from_residual.result c.from_residual.ensures.1 in
     rw (p.1, p.2) (refused_before byte_width byte_limits c.args.kind (registered c.args.patterns.now) c.in_err-nfa.field-0.0 c.in_err-nfa.ensures.err)
 
-pub build-requires : goal.build-requires
-build-requires g c = (dictionary c.args.kind (registered c.args.patterns.now), c.in_ok-nfa.ensures.ok)
+pub profile_of-requires : goal.profile_of-requires
+profile_of-requires g c =
+    links_back byte_width (Some 16777215) c.args.kind c.in_ok-nfa.nfa (dictionary c.args.kind (registered c.args.patterns.now)) c.in_ok-nfa.ensures.ok
+
+pub build-requires-clause-built : goal.build-requires-clause-built
+build-requires-clause-built g c = (dictionary c.args.kind (registered c.args.patterns.now), c.in_ok-nfa.ensures.ok)
 
 pub returns-in_err-states-clause-err : goal.returns-in_err-states-clause-err
 returns-in_err-states-clause-err g c =

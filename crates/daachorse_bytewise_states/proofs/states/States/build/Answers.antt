@@ -18,16 +18,16 @@ use Rattle.daachorse_bytewise_states.proofs.PackedParts.{parts-kind}
 use Rattle.daachorse_bytewise_states.proofs.states.States.build.Goals as goal
 
 pub pack-requires-clause-trie : goal.pack-requires-clause-trie
-pack-requires-clause-trie g c = c.requires.1.trie
+pack-requires-clause-trie g c = c.requires.built.1.trie
 
 pub pack-requires-clause-count : goal.pack-requires-clause-count
-pack-requires-clause-count g c = c.requires.1.few_states
+pack-requires-clause-count g c = c.requires.built.1.few_states
 
 pub pack-requires-clause-links : goal.pack-requires-clause-links
-pack-requires-clause-links g c = built-links c.args.kind c.args.nfa c.requires.0 c.requires.1
+pack-requires-clause-links g c = built-links c.args.kind c.args.nfa c.requires.built.0 c.requires.built.1
 
 pub pack-requires-clause-outputs : goal.pack-requires-clause-outputs
-pack-requires-clause-outputs g c = built-outputs c.args.kind c.args.nfa c.requires.0 c.requires.1
+pack-requires-clause-outputs g c = built-outputs c.args.kind c.args.nfa c.requires.built.0 c.requires.built.1
 
 pub returns-in_err-elements-clause-ok : goal.returns-in_err-elements-clause-ok
 returns-in_err-elements-clause-ok g c = let p = err_from_is_err_and c.from_residual.result c.from_residual.ensures.1 in rw p.1 tt
@@ -46,7 +46,7 @@ new-requires g c =
     let es = c.in_ok-elements.elements.items in
     let P : List (Output g.row.V.Denot) → Type 0 = λ os. IsValid (parts_of c.args.kind es os (length c.states.result.now - 1)) in
     let N : ℕ → Type 0 = λ n. IsValid (parts_of c.args.kind es (outputs_of c.args.nfa) (n - 1)) in
-    subst P (sym c.into_parts-states.ensures.outputs) (subst N (sym (ap length c.states.ensures)) (built-valid c.args.kind c.args.nfa c.requires.0 c.requires.1 es c.in_ok-elements.ensures.ok c.in_ok-elements.ensures.few))
+    subst P (sym c.into_parts-states.ensures.outputs) (subst N (sym (ap length c.states.ensures)) (built-valid c.args.kind c.args.nfa c.requires.built.0 c.requires.built.1 es c.in_ok-elements.ensures.ok c.in_ok-elements.ensures.few))
 
 pub returns-clause-ok : goal.returns-clause-ok
 returns-clause-ok g c =

@@ -1,12 +1,18 @@
 -- The codes are those of all patterns, so each character of a key has one; a refusal of the elements comes last.
-use Rattle.std.proofs.Common.{◌≡◌, ℕ, List, length, map, ap, sym, subst, arith}
+use Rattle.std.proofs.Common.{◌≡◌, ℕ, List, length, map, ap, sym, subst, arith, None}
 use Rattle.std.proofs.lemmas.Result.{err_from_is_err_and}
 use Rattle.daachorse_model.specs.Dictionary.{Dictionary, dictionary}
+use Rattle.daachorse_model.specs.Units.{char_width}
+use Rattle.daachorse_patterns.proofs.LinksBack.{links_back}
 use Rattle.daachorse_mapper.specs.Codings.{Coding, IsCodingOf}
 use Rattle.daachorse_charwise_states.specs.Parts.{Parts, content}
 use Rattle.daachorse_charwise.specs.Building.{AreCodesOf, registered_texts}
 use Rattle.daachorse_charwise.proofs.BuildLaws.{codes_of, coded_keys, elements_refused}
 use Rattle.daachorse_charwise.proofs.charwise.builder.from_patterns.Goals as goal
+
+pub profile_of-requires : goal.profile_of-requires
+profile_of-requires g c =
+    links_back char_width None c.args.kind c.in_ok-nfa.nfa (dictionary c.args.kind (registered_texts c.args.patterns.now)) c.in_ok-nfa.ensures.ok
 
 pub build-requires-clause-built : goal.build-requires-clause-built
 build-requires-clause-built g c =

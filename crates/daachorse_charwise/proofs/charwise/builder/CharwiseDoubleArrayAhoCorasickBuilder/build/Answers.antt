@@ -11,7 +11,7 @@ returns-clause-ok g c =
     let r = c.in_ok-texts.ensures.ok in
     IfOk-weaker c.from_texts.result _ _
     (λ a built.
-    let K : Settings → Type 0 = λ s. IsBuiltOf g.V.TryFrom.try_from_gives s.match_kind (spelled c.deref.result.now) a in
+    let K : Settings ℕ g.row.A.Denot → Type 0 = λ s. IsBuiltOf g.V.TryFrom.try_from_gives s.match_kind (spelled c.deref.result.now) a in
     let P : List (Bor (List ℕ)) → Type 0 = λ ts. IsBuiltOf g.V.TryFrom.try_from_gives c.args.self.match_kind (spelled ts) a in
     (c.into_iter.result, c.into_iter.ensures.into_iter_gives, (r.0, r.1, r.2, subst P (c.deref.ensures.value ∙ r.3) (subst K c.self.view_is built))))
     c.from_texts.ensures.ok
@@ -21,7 +21,7 @@ returns-clause-err g c =
     let r = c.in_ok-texts.ensures.ok in
     IfErr-weaker c.from_texts.result _ _
     (λ e refused.
-    let K : Settings → Type 0 = λ s. IsBuildRefusal g.V.TryFrom.try_from_gives s.match_kind (spelled c.deref.result.now) e in
+    let K : Settings ℕ g.row.A.Denot → Type 0 = λ s. IsBuildRefusal g.V.TryFrom.try_from_gives s.match_kind (spelled c.deref.result.now) e in
     let P : List (Bor (List ℕ)) → Type 0 = λ ts. IsBuildRefusal g.V.TryFrom.try_from_gives c.args.self.match_kind (spelled ts) e in
     inr (c.into_iter.result, c.into_iter.ensures.into_iter_gives, (r.0, r.1, r.2, subst P (c.deref.ensures.value ∙ r.3) (subst K c.self.view_is refused))))
     c.from_texts.ensures.err

@@ -11,7 +11,7 @@ returns-clause-ok g c =
     let r = c.in_ok-patterns.ensures.ok in
     IfOk-weaker c.from_patterns.result _ _
     (λ a held.
-    let K : Settings → Type 0 = λ s. HoldsPatterns s.match_kind (registered_texts c.deref.result.now) a in
+    let K : Settings ℕ g.row.A.Denot → Type 0 = λ s. HoldsPatterns s.match_kind (registered_texts c.deref.result.now) a in
     let P : List (Bor (List ℕ) × g.row.V.Denot) → Type 0 = λ ps. HoldsPatterns c.args.self.match_kind (registered_texts ps) a in
     (c.into_iter.result, c.into_iter.ensures.into_iter_gives, (r.0, r.1, r.2, subst P (c.deref.ensures.value ∙ r.3) (subst K c.self.view_is held))))
     c.from_patterns.ensures.ok
@@ -21,7 +21,7 @@ returns-clause-err g c =
     let r = c.in_ok-patterns.ensures.ok in
     IfErr-weaker c.from_patterns.result _ _
     (λ e refused.
-    let K : Settings → Type 0 = λ s. IsRefusalOf s.match_kind (registered_texts c.deref.result.now) e in
+    let K : Settings ℕ g.row.A.Denot → Type 0 = λ s. IsRefusalOf s.match_kind (registered_texts c.deref.result.now) e in
     let P : List (Bor (List ℕ) × g.row.V.Denot) → Type 0 = λ ps. IsRefusalOf c.args.self.match_kind (registered_texts ps) e in
     inr (c.into_iter.result, c.into_iter.ensures.into_iter_gives, (r.0, r.1, r.2, subst P (c.deref.ensures.value ∙ r.3) (subst K c.self.view_is refused))))
     c.from_patterns.ensures.err

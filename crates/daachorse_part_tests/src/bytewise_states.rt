@@ -12,6 +12,7 @@ use daachorse_core::turns::{Look, Turns};
 use daachorse_core::{Empty, MatchKind, Output};
 use daachorse_listing::edges::Edges;
 use daachorse_patterns::trie::build_trie;
+use daachorse_placement::build_helper::Profile;
 use daachorse_search::automaton::Automaton;
 use daachorse_serializer::serializer::Serializable;
 use std::alloc::Global;
@@ -100,7 +101,7 @@ fn built(alloc: Global, kind: MatchKind, patvals: &[(&[u8], u32)]) -> Result<Sta
     ensures { IfOk result (λ s. s.kind ≡ kind) }
 {
     let nfa = build_trie(alloc, kind, Some(0x00ff_ffff), patvals)?;
-    States::build(alloc, kind, nfa)
+    States::build(alloc, kind, nfa, &Profile::new(alloc))
 }
 
 /// Whether there are so many elements and states.

@@ -21,6 +21,7 @@ use daachorse_core::{MatchKind, Output};
 use daachorse_mapper::mapper::CodeMapper;
 use daachorse_patterns::pattern::Pattern;
 use daachorse_patterns::trie::build_trie;
+use daachorse_placement::build_helper::Profile;
 use daachorse_search::automaton::{Automaton, step};
 use daachorse_serializer::serializer::Serializable;
 use std::alloc::{Allocator, Global};
@@ -183,7 +184,7 @@ fn built_by(
         return Err(DaachorseError::invalid_argument());
     }
     let nfa = build_trie(alloc, kind, None, patvals)?;
-    States::build(alloc, kind, nfa, mapper)
+    States::build(alloc, kind, nfa, &Profile::new(alloc), mapper)
 }
 
 /// The states of these patterns and values for the standard searches, with the codes of their

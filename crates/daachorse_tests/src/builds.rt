@@ -126,7 +126,7 @@ fn patterns_have_the_values_that_they_are_given(rt: HostRuntime) -> Result<(), F
 fn a_builder_gives_each_pattern_its_index(rt: HostRuntime) -> Result<(), Fail> {
     let patterns = [b"bcd".as_slice(), b"ab", b"a"];
     let builder = DoubleArrayAhoCorasickBuilder::default().match_kind(MatchKind::Standard);
-    let Ok(automaton) = builder.build::<u32, _, _>(rt.alloc(), patterns) else {
+    let Ok(automaton) = builder.build::<u32, _>(rt.alloc(), patterns) else {
         panic!(rt; "the patterns were refused");
     };
     let matches: Vec<Match<u32>> = automaton
@@ -167,7 +167,7 @@ fn every_index_is_an_empty_value(rt: HostRuntime) -> Result<(), Fail> {
     let matches: Vec<Match<Empty>> = automaton.find_overlapping_iter(b"a").collect(rt.alloc())?;
     assert_eq!(rt; matches.len(), 300);
     let builder = DoubleArrayAhoCorasickBuilder::new().match_kind(MatchKind::Standard);
-    let automaton = builder.build::<Empty, _, _>(rt.alloc(), patterns.iter().copied())?;
+    let automaton = builder.build::<Empty, _>(rt.alloc(), patterns.iter().copied())?;
     let matches: Vec<Match<Empty>> = automaton.find_overlapping_iter(b"a").collect(rt.alloc())?;
     assert_eq!(rt; matches.len(), 300);
     Ok(())

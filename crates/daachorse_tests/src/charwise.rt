@@ -90,7 +90,7 @@ fn every_index_is_an_empty_value(rt: HostRuntime) -> Result<(), Fail> {
     let matches: Vec<Match<Empty>> = automaton.find_overlapping_iter("あ").collect(rt.alloc())?;
     assert_eq!(rt; matches.len(), 300);
     let builder = CharwiseDoubleArrayAhoCorasickBuilder::new().match_kind(MatchKind::Standard);
-    let automaton = builder.build::<Empty, _, _>(rt.alloc(), patterns.iter().copied())?;
+    let automaton = builder.build::<Empty, _>(rt.alloc(), patterns.iter().copied())?;
     let matches: Vec<Match<Empty>> = automaton.find_overlapping_iter("あ").collect(rt.alloc())?;
     assert_eq!(rt; matches.len(), 300);
     Ok(())

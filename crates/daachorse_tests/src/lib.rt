@@ -9,6 +9,8 @@ mod text_automata;
 #[cfg(test)]
 mod charwise;
 #[cfg(test)]
+mod corpus;
+#[cfg(test)]
 mod leftmost;
 #[cfg(test)]
 mod listing;

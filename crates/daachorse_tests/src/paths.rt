@@ -93,7 +93,7 @@ fn states_of(alloc: Global, patvals: &[(&[u8], u32)]) -> Result<States<u32>>
     ensures { IfOk result (λ s. s.kind ≡ Standard) }
 {
     let nfa = build_trie(alloc, MatchKind::Standard, Some(0x00ff_ffff), patvals)?;
-    States::build(alloc, MatchKind::Standard, nfa)
+    States::build(alloc, MatchKind::Standard, nfa, &Profile::new(alloc))
 }
 
 #[test]

@@ -230,7 +230,7 @@ fn state_of(search: &Standard<'_, u32>, text: &[char]) -> u32
     let mut turns = Turns::new();
     let mut state = search.root();
     for unit in text {
-        state = step(search, state, *unit, &mut turns);
+        state = step(search, state, *unit, &mut turns).0;
     }
     state
 }

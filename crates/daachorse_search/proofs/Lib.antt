@@ -10,3 +10,4 @@ pub mod BestScanLemmas
 pub mod LeftmostLemmas
 pub mod DepthLemmas
 pub mod BeginningLaws
+mod EverywhereLemmas

@@ -5,8 +5,6 @@
 #[cfg(test)]
 mod builds;
 #[cfg(test)]
-mod text_automata;
-#[cfg(test)]
 mod charwise;
 #[cfg(test)]
 mod corpus;
@@ -18,5 +16,7 @@ mod listing;
 mod paths;
 #[cfg(test)]
 mod standard;
+#[cfg(test)]
+mod text_automata;
 #[cfg(test)]
 mod written;

@@ -1,12 +1,12 @@
 //! An allocator for tests, which refuses one request, chosen by its number.
 //!
 //! A test runs a call over `Refusing::new(rt.alloc(), n)` for each `n` in turn, until a run meets
-//! no refusal: so each growth of the call is refused once. The allocator is shared as a reference,
-//! `&Refusing<Global>`, which is `Copy`. That the blocks are those of the inner allocator is proved;
+//! no refusal: so each growth of the call is refused once, as [`each_request`] does. The allocator
+//! is shared as a reference, `&Refusing<Global>`, which is `Copy`. That the blocks are those of the inner allocator is proved;
 //! which request is refused is shown by a test, since no contract can say what a cell holds.
 #![tactic(auto)]
 
-use std::alloc::{AllocError, Allocator};
+use std::alloc::{AllocError, Allocator, Global};
 use std::cell::Cell;
 
 /// An allocator that passes each request on to the inner one, but refuses one of them.
@@ -57,6 +57,36 @@ unsafe impl<B: Allocator> Allocator for Refusing<B> {
     unsafe fn deallocate(&self, ptr: *mut u8, size: usize, align: usize) {
         self.inner.deallocate(ptr, size, align);
     }
+}
+
+/// What came of a call that may lack memory.
+#[derive(Clone, Copy, PartialEq, Eq, Debug, Drop)]
+pub enum Answer {
+    Right,
+    Refused,
+    Wrong,
+}
+
+/// A call that asks for memory.
+pub trait Call {
+    /// Makes the call with this memory: right as it is meant to be, refused for want of memory with
+    /// everything left as it should be, or else wrong.
+    fn answer(&self, heap: &Refusing<Global>) -> Answer;
+}
+
+/// Whether a call is refused at each request in turn, and right where none is refused.
+pub fn each_request<C: Call>(alloc: Global, call: &C) -> bool {
+    for number in 0..100_000u64 {
+        let heap = Refusing::new(alloc, number);
+        let answer = call.answer(&heap);
+        if !heap.has_refused() {
+            return answer == Answer::Right;
+        }
+        if answer != Answer::Refused {
+            return false;
+        }
+    }
+    false
 }
 
 #[cfg(test)]

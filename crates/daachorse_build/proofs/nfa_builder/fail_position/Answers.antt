@@ -1,5 +1,5 @@
 -- The link and the position that are read are those of the states at their indexes.
-use Rattle.std.proofs.Common.{◌≡◌, ◌<◌, ℕ, List, length, get_or, sym, ◌∙◌, subst, inl, inr, refl}
+use Rattle.std.proofs.Common.{◌≡◌, ◌<◌, ℕ, List, length, get_or, sym, ◌∙◌, subst, inl, inr, refl, arith}
 use Rattle.std.proofs.lemmas.List.{get_or-map}
 use Rattle.daachorse_build.specs.declared.nfa_builder.NfaBuilderState.{NfaBuilderState}
 use Rattle.daachorse_build.specs.Lists.{IsParent}
@@ -30,3 +30,9 @@ returns g c =
     let inside : fail < length states = subst (λ (f : ℕ). f < length states) here c.requires.fail in
     let position = position_here states fail c.index-states-fail.result inside in
     subst (λ (f : ℕ). IsParent (positions_of states) f (get_or states fail c.index-states-fail.result).output_pos) (sym here) (inr (c.if-fail-eq-DEAD_STATE_ID.false, sym position))
+
+pub offset_bounds-states-id : goal.offset_bounds-states-id
+offset_bounds-states-id g c = omega (arith, c.requires.id)
+
+pub offset_bounds-states-fail : goal.offset_bounds-states-fail
+offset_bounds-states-fail g c = omega (arith, bounds-states-fail g c)

@@ -176,3 +176,17 @@ returns-clause-chained g c = λ leftmost links.
     let whole = take_all c.loop-id.id-index c.args.order.now c.loop-id-test.false in
     let chained = c.loop-id.invariant.chained leftmost links in
     rw whole at chained
+
+pub put_list-requires-clause-id : goal.put_list-requires-clause-id
+put_list-requires-clause-id g c = omega (arith, c.requires.trie.trie.two, length-map c.args.states.now (λ s. s.edges))
+
+pub returns-in_err-put_list-2-clause-kept : goal.returns-in_err-put_list-2-clause-kept
+returns-in_err-put_list-2-clause-kept g c =
+    let e = c.in_err-put_list-2.ensures in
+    record { edges = e.kept.edges ∙ c.loop-id.invariant.kept.edges; outputs = e.kept.outputs ∙ c.loop-id.invariant.kept.outputs }
+
+pub returns-in_err-put_list-2-clause-fails : goal.returns-in_err-put_list-2-clause-fails
+returns-in_err-put_list-2-clause-fails g c = c.in_err-put_list-2.ensures.fails ∙ c.loop-id.invariant.fails
+
+pub returns-clause-bound : goal.returns-clause-bound
+returns-clause-bound g c = omega (arith, c.loop-id.invariant.count)

@@ -16,6 +16,7 @@ use Rattle.daachorse_build.proofs.Labels.{label_exact}
 use Rattle.daachorse_build.proofs.Queue.{left_of_linked}
 use Rattle.daachorse_build.proofs.OutputLists.{known_of_leads, suffix_outputs-held, left_outputs-never}
 use Rattle.daachorse_build.proofs.LeftChains.{chain-left}
+use Rattle.daachorse_build.specs.Growth.{HasTrieOf}
 use Rattle.daachorse_build.specs.Holds.{in_units}
 use Rattle.daachorse_build.proofs.nfa_builder.NfaBuilder.build_outputs.Goals as goal
 
@@ -110,3 +111,20 @@ returns-clause-all_kept g c =
     let count = whole (ap (λ ss. own_at (own_of ss) 1) same ∙ reg.holds.dead) in
     omega (arith, count, ap (λ ss. output_count (own_of ss)) same, reg.holds.count, reg.count))
     c.put_lists.ensures.whole)
+
+pub returns-clause-kept : goal.returns-clause-kept
+returns-clause-kept g c =
+    let old = c.self.inside.states.items in
+    let new = c.put_lists.new.states in
+    let same_len : length new ≡ c.self.inside.states.len = omega (arith, c.put_lists.auto.states, c.deref_mut.ensures.len) in
+    let back = take_at new (drop (length new) old) c.self.inside.states.len same_len in
+    let P : List (NfaBuilderState g.row.L.Denot g.row.V.Denot g.row.A.Denot) → Type 0 = λ ss. HasTrieOf ss new in
+    rw (← c.self.view_is, back) (subst P c.deref_mut.ensures.value c.put_lists.ensures.kept)
+
+pub returns-clause-fails : goal.returns-clause-fails
+returns-clause-fails g c =
+    let old = c.self.inside.states.items in
+    let new = c.put_lists.new.states in
+    let same_len : length new ≡ c.self.inside.states.len = omega (arith, c.put_lists.auto.states, c.deref_mut.ensures.len) in
+    let back = take_at new (drop (length new) old) c.self.inside.states.len same_len in
+    rw (← c.self.view_is, back) (c.put_lists.ensures.fails ∙ ap fails_of c.deref_mut.ensures.value)

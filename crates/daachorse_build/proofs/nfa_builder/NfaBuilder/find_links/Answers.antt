@@ -3,7 +3,7 @@ use Rattle.std.proofs.Common.{◌≡◌, ◌<◌, ℕ, List, [], length, get_or,
 use Rattle.std.specs.Prelude.{Bool, not, ◌&&◌, ◌==◌}
 use Rattle.std.proofs.lemmas.List.{length-map, take_at}
 use Rattle.std.specs.declared.cmp.Ordering.{Ordering}
-use Rattle.daachorse_build.specs.Tables.{edges_of, fails_of, own_of, own_at, stops_of}
+use Rattle.daachorse_build.specs.Tables.{edges_of, fails_of, own_of, own_at, stops_of, IsTable}
 use Rattle.daachorse_build.specs.declared.nfa_builder.NfaBuilderState.{NfaBuilderState}
 use Rattle.daachorse_build.specs.Orders.{IsLeftLinked}
 use Rattle.daachorse_build.specs.Growth.{HasTrieOf}
@@ -68,3 +68,17 @@ returns-clause-kept g c =
     let back = take_at new (drop (length new) old) c.self.inside.states.len same_len in
     let P : List (NfaBuilderState g.row.L.Denot g.row.V.Denot g.row.A.Denot) → Type 0 = λ ss. HasTrieOf ss new in
     rw (← c.self.view_is, back) (subst P c.deref_mut.ensures.value c.set_links.ensures.kept)
+
+pub set_links-requires : goal.set_links-requires
+set_links-requires g c =
+    omega (arith, ap length c.deref-2.ensures.value, c.loop-search.invariant.search.one_each, length-map c.self.inside.states.items (λ s. s.edges), ap length c.deref_mut.ensures.value)
+
+pub invariant_of-self : goal.invariant_of-self
+invariant_of-self g c =
+    let old = c.self.inside.states.items in
+    let new = c.set_links.new.states in
+    let same_len : length new ≡ c.self.inside.states.len = omega (arith, c.set_links.auto.states, c.deref_mut.ensures.len) in
+    let back = take_at new (drop (length new) old) c.self.inside.states.len same_len in
+    let edges : edges_of old ≡ edges_of new = ap edges_of (sym c.deref_mut.ensures.value) ∙ sym c.set_links.ensures.kept.edges in
+    let P : List (List (g.row.L.Denot × ℕ)) → Type 0 = λ es. IsTable g.L.Ord.cmp es in
+    rw back (subst P edges c.self.invariant)

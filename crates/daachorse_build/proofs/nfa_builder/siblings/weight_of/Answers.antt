@@ -106,3 +106,6 @@ returns g c =
     c.loop-id.invariant
     ∙ ap (λ xs. weight (sum_by f xs)) (end.0 ∙ sym here)
     ∙ sym (if_counted-some visits (weight (sum_by f (children (edges_of states) c.args.parent))) (λ none. false≢true (c.if-is_empty.ensures.1 none)))
+
+pub offset_bounds-states-parent : goal.offset_bounds-states-parent
+offset_bounds-states-parent g c = omega (arith, c.requires.parent)

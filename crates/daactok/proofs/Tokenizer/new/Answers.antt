@@ -14,8 +14,8 @@ invariant_of-result g c =
     let end = subst P c.in-None.is c.next.ensures.steps in
     (c.requires, no_empty_key (dictionary_of c.args.words.now) _ c.leftmost_find_iter.ensures.left end.none)
 
-pub returns-in-None : goal.returns-in-None
-returns-in-None g c =
+pub returns : goal.returns
+returns g c =
     let P : Option (Match g.row.V.Denot) → Type 0 = λ o. GivesFirst (StandsBehind char_width) c.leftmost_find_iter.result o c.next.new.self in
     let end = subst P c.in-None.is c.next.ensures.steps in
     (no_empty_key (dictionary_of c.args.words.now) _ c.leftmost_find_iter.ensures.left end.none, refl)

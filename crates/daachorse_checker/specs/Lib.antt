@@ -1,0 +1,5 @@
+pub mod Places
+pub mod Runs
+pub mod Links
+pub mod Sizes
+pub mod Chains

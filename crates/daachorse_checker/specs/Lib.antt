@@ -3,3 +3,4 @@ pub mod Runs
 pub mod Links
 pub mod Sizes
 pub mod Chains
+pub mod Sound

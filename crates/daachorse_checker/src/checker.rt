@@ -14,12 +14,14 @@ ghost use Rattle.daachorse_checker.specs.Links.{HasRightLinks};
 ghost use Rattle.daachorse_checker.specs.Places.{HasOnePath, ArePlaces};
 ghost use Rattle.daachorse_checker.specs.Runs.{AreRuns};
 ghost use Rattle.daachorse_checker.specs.Sizes.{AreSizes};
+ghost use Rattle.daachorse_checker.specs.Sound.{IsSoundArray};
 
 use crate::array::Array;
 use crate::chains::{chain_holds, leaves, sizes};
 use crate::links::link_places;
 use crate::places::Places;
-use crate::runs::{has_own, rest_at, runs};
+use crate::ranges::ranges_hold;
+use crate::runs::{has_own, parents_fall, rest_at, runs};
 use daachorse_core::Output;
 use daachorse_core::errors::Result;
 use daachorse_links::trie::Trie;
@@ -176,5 +178,37 @@ pub fn is_right<V: Copy, E: Array, A: Allocator + Copy>(
         return Ok(false);
     }
     let right = links_hold(alloc, array, outputs, places, &sizes, leftmost)?;
+    Ok(right)
+}
+
+/// Whether an array with these outputs is sound: whether all that it names is there, and it is a right
+/// machine, leftmost or standard, to whose elements so many texts lead.
+///
+/// # Errors
+///
+/// An allocation failed.
+pub fn is_sound<V: Copy, E: Array, A: Allocator + Copy>(
+    alloc: A,
+    array: &E,
+    outputs: &[Output<V>],
+    leftmost: bool,
+    num_states: u32,
+) -> Result<bool>
+    requires inside { (i c j : ℕ) → E.child array.now i c ≡ Some j → (j < E.count array.now) × (c < E.units array.now) }
+    requires tell { TellChildren (E.child array.now) (E.group array.now) (E.edge array.now) (E.count array.now) }
+    requires some { 0 < E.count array.now }
+    requires few { E.count array.now < 2 ^ 32 }
+    requires outputs { length outputs.now < 2 ^ 32 }
+    ensures yes { IfOk result (λ sound. sound ≡ true → IsSoundArray (E.width array.now) (machine_of (E.child array.now) (E.fail array.now) (E.first array.now) outputs.now) leftmost (E.count array.now) num_states) }
+    ensures no { IfOk result (λ sound. sound ≡ false → IsSoundArray (E.width array.now) (machine_of (E.child array.now) (E.fail array.now) (E.first array.now) outputs.now) leftmost (E.count array.now) num_states → ⊥) }
+    ensures err { IfErr result IsOutOfMemory }
+{
+    if !ranges_hold(array, outputs.len()) {
+        return Ok(false);
+    }
+    if !parents_fall(outputs) {
+        return Ok(false);
+    }
+    let right = is_right(alloc, array, outputs, leftmost, num_states)?;
     Ok(right)
 }

@@ -10,4 +10,5 @@ pub mod chains;
 pub mod checker;
 pub mod links;
 pub mod places;
+pub mod ranges;
 pub mod runs;

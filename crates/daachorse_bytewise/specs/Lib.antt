@@ -1,6 +1,7 @@
 pub mod Building
 pub mod Automata
 pub mod WrittenForms
+pub mod ReadForms
 pub use Rattle.daachorse_core.specs.Refusals
 pub use Rattle.daachorse_listing.specs.Listing
 pub use Rattle.daachorse_patterns.specs.Patterns

@@ -1,9 +1,8 @@
 -- The elements of valid parts are a tree, and bases and checks tell the children.
-use Rattle.std.proofs.Common.{◌≡◌, ◌≢◌, ℕ, zero, suc, ◌+◌, ◌<◌, ◌≤◌, ◌^◌, Bool, bit_xor, List, length, Option, Some, None, refl, sym, ap, ◌∙◌, arith}
+use Rattle.std.proofs.Common.{◌≡◌, ◌≢◌, ℕ, zero, suc, ◌<◌, bit_xor, Some, None, refl, sym, ap, ◌∙◌, arith}
 use Rattle.std.proofs.lemmas.Option.{same_Some}
 use Rattle.daachorse_core.proofs.Xor.{xor_back}
 use Rattle.daachorse_model.specs.Kinds.{is_leftmost}
-use Rattle.daachorse_model.specs.Paths.{Leads}
 use Rattle.daachorse_model.specs.Units.{byte_width}
 use Rattle.daachorse_machine.proofs.ChildLaws.{child_at-from, child_at-inside, child_at-some}
 use Rattle.daachorse_listing.specs.Edges.{IsTree, TellChildren}
@@ -21,13 +20,14 @@ nonzero-none : (b : ℕ) → nonzero b ≡ None → b ≡ 0
 nonzero-none zero e = refl
 nonzero-none (suc b) e = absurd (cc)
 
-module _ {V : Type 0} (p : Parts V) (valid : IsValid p) where
-  pub valid_tree : p.num_states < 4294967296 → IsTree (child p) (count p) 256
-  valid_tree few = machine_tree byte_width (machine p) (is_leftmost p.kind) (count p) 256 p.num_states (valid_machine p valid) valid.counted few
+module _ {V : Type 0} (p : Parts V) where
+  pub valid_tree : IsValid p → p.num_states < 4294967296 → IsTree (child p) (count p) 256
+  valid_tree valid few = machine_tree byte_width (machine p) (is_leftmost p.kind) (count p) 256 p.num_states (valid_machine p valid) valid.counted few
 
-  pub valid_tells : TellChildren (child p) (group_of p) (edge_of p) (count p)
-  valid_tells = record {
-    inside = λ i g h e. (let same = (nonzero-is (base_of p i) g e).0 in let inner : base_of p i < count p = (valid.inside i h).base in omega (arith, same, inner));
+  -- bases that are elements are enough
+  pub bases_tell : ((i : ℕ) → i < count p → base_of p i < count p) → TellChildren (child p) (group_of p) (edge_of p) (count p)
+  bases_tell bases = record {
+    inside = λ i g h e. (let same = (nonzero-is (base_of p i) g e).0 in let inner : base_of p i < count p = bases i h in omega (arith, same, inner));
     alone = λ i c h e. none i c (nonzero-none (base_of p i) e);
     from_child = λ i g c j h own e. from i g c j own e;
     to_child = λ i g c j h own less e. to i g c j own less e;
@@ -53,3 +53,6 @@ module _ {V : Type 0} (p : Parts V) (valid : IsValid p) where
           let moved : bit_xor (base_of p i) c ≡ j =
           ap (λ b. bit_xor b c) (base.0 ∙ sym group) ∙ (ap (λ k. bit_xor (bit_xor j k) c) check ∙ xor_back j c) in
           child_at-some (count p) c (base_of p i) c j (check_of p) base.1 moved less check
+
+  pub valid_tells : IsValid p → TellChildren (child p) (group_of p) (edge_of p) (count p)
+  valid_tells valid = bases_tell (λ i h. (valid.inside i h).base)

@@ -1,13 +1,11 @@
 -- Equal states: all that they store is equal. And what they feed a hasher.
-use Rattle.std.specs.Prelude.{◌≡◌, ℕ, Bool, true, List, ◌++◌, nat_eq}
+use Rattle.std.specs.Prelude.{◌≡◌, Bool, true, ◌++◌, nat_eq}
 use Rattle.std.specs.Cmp.{IsPartialEquivalence, IsEquivalence, and_per, on_per, and_equiv, on_equiv, partial_equiv_from_equiv, nat_eq_equiv}
 use Rattle.std.specs.Cmp.Lexicographic.{pointwise, lists_per, lists_equiv}
 use Rattle.std.specs.Ordering.{on, eq_of_both}
 use Rattle.std.specs.Hash as fed
 use Rattle.std.specs.Hash.{HashWrites, Alike, on_Alike, and-Alike, items_Alike, same_Alike}
 use Rattle.std.proofs.lemmas.Bool.Decides.{Decides-eqb}
-use Rattle.daachorse_core.specs.declared.outputs.Empty.{Empty}
-use Rattle.daachorse_model.specs.declared.MatchKind.{MatchKind}
 use Rattle.daachorse_model.specs.contracts.MatchKindPartialEq.TheImpl.{ghosts as kinds}
 use Rattle.daachorse_model.specs.contracts.MatchKindPartialEq.TheImpl.Laws.{laws-law as kinds_per}
 use Rattle.daachorse_model.specs.contracts.MatchKindEq.TheImpl.Laws.{laws-law as kinds_equiv}

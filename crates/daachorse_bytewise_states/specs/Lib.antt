@@ -8,3 +8,4 @@ pub mod StateForms
 pub mod Equality
 pub mod Edges
 pub mod PartForms
+pub mod Grouped

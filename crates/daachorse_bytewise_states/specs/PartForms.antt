@@ -6,7 +6,7 @@ use Rattle.daachorse_core.specs.declared.outputs.Empty.{Empty}
 use Rattle.daachorse_prefilter.specs.Filters.{Filter, IsFilter}
 use Rattle.daachorse_prefilter.specs.FilterForms.{filter_form, filter_law, take_filter}
 use Rattle.daachorse_serializer.specs.Endings.{Ending, ending_form, ending_law, ending_most, take_ending}
-use Rattle.daachorse_serializer.specs.Forms.{Begins, IsForm, Taken, list_form, number_form, over, pair_form, take_list, take_number, take_pair}
+use Rattle.daachorse_serializer.specs.Forms.{Begins, IsForm, Taken, list_form, number_form, over, take_list, take_number, take_pair}
 use Rattle.daachorse_serializer.specs.Laws.{empty_law, law_through, list_law, number_law, pair_law}
 use Rattle.daachorse_serializer.specs.Outputs.{IsOutput}
 use Rattle.daachorse_bytewise_states.specs.declared.state.State.{State}

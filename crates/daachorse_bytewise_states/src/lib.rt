@@ -10,4 +10,5 @@ mod packing;
 mod standard;
 pub mod state;
 pub mod states;
+mod unchecked;
 pub mod views;

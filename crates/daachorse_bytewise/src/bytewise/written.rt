@@ -1,16 +1,19 @@
 //! The automaton over bytes, written and read back.
 //!
 //! The layers above may rely on the bytes being the written form of the automaton, and on a read of
-//! them giving the automaton back, whatever follows them.
+//! them giving the automaton back, whatever follows them. [`DoubleArrayAhoCorasick::deserialize`] reads any bytes,
+//! and refuses them exactly where they give no automaton.
 
-ghost use Rattle.std.specs.Prelude.{◌≡◌, ◌++◌, ℕ, List, IfOk, IfErr};
+ghost use Rattle.std.specs.Prelude.{◌≡◌, ◌⊎◌, ◌++◌, ℕ, List, [], IfOk, IfErr};
 ghost use Rattle.daachorse_core.specs.Refusals.{IsOutOfMemory};
 ghost use Rattle.daachorse_bytewise.specs.Automata.{Automaton};
+ghost use Rattle.daachorse_serializer.specs.Forms.{IsReadRefusal};
+ghost use Rattle.daachorse_bytewise.specs.ReadForms.{GivesAutomaton, GivesNoAutomaton};
 ghost use Rattle.daachorse_bytewise.specs.WrittenForms.{BeginsWithAutomaton, IsAutomaton, without_depths, written_form};
 
 use super::DoubleArrayAhoCorasick;
 use super::states::States;
-use daachorse_core::errors::Result;
+use daachorse_core::errors::{DaachorseError, Result};
 use daachorse_serializer::serializer::Serializable;
 use std::alloc::Allocator;
 
@@ -32,6 +35,32 @@ impl<V: Serializable + Copy, A: Allocator> DoubleArrayAhoCorasick<V, A> {
 }
 
 impl<V: Serializable + Copy, A: Allocator + Copy> DoubleArrayAhoCorasick<V, A> {
+    /// Reads an automaton from any bytes, and returns it with the bytes behind it.
+    ///
+    /// What is accepted is a right automaton, whoever wrote the bytes: its searches yield the
+    /// matches of the patterns that its listing has. Its depths are not cached. It keeps `alloc`
+    /// and takes its memory from it.
+    ///
+    /// # Errors
+    ///
+    /// Bytes that give no automaton, told as
+    /// [`InvalidAutomaton`](daachorse_core::errors::DaachorseError::InvalidAutomaton) or by the read
+    /// of a value, or out of memory. Bytes that have a filter give none: no automaton has one.
+    #[tactic(auto, using(crate::proofs::ReadLaws::refused_filter, crate::proofs::ReadLaws::without_filter))]
+    pub fn deserialize(alloc: A, source: &[u8]) -> Result<(Self, &[u8])>
+        ensures given { IfOk result (λ r. GivesAutomaton V.taken source.now r.0 r.1.now) }
+        ensures depths { IfOk result (λ r. r.0.depths ≡ []) }
+        ensures refused { IfErr result (λ e. IsOutOfMemory e ⊎ GivesNoAutomaton V.taken source.now) }
+        ensures cause { IfErr result (IsReadRefusal V.own_refusal) }
+    {
+        let (read, rest) = States::deserialize(alloc, source)?;
+        let (states, filter) = read;
+        if filter.is_some() {
+            return Err(DaachorseError::invalid_automaton());
+        }
+        Ok((Self::of_states(alloc, states), rest))
+    }
+
     /// Reads an automaton that was written, and returns it with the bytes behind it.
     ///
     /// It equals the automaton that was written in all but the depths, which are not cached. It
@@ -40,8 +69,7 @@ impl<V: Serializable + Copy, A: Allocator + Copy> DoubleArrayAhoCorasick<V, A> {
     /// # Conditions
     ///
     /// The bytes begin with the written form of an automaton, as [`Self::serialize`] makes it. For
-    /// bytes that may hold anything else, such as those of a stranger, use a read that checks them;
-    /// there is none yet.
+    /// bytes that may hold anything else, such as those of a stranger, use [`Self::deserialize`].
     ///
     /// # Errors
     ///

@@ -2,18 +2,21 @@
 //!
 //! The layers above may rely on the bytes of [`States::serialize`] being the form of the parts, and
 //! on [`States::deserialize_unchecked`] giving back the parts whose form the bytes begin with.
+//! [`States::deserialize`] does so for any bytes, and refuses them exactly where they give no valid parts.
 
-ghost use Rattle.std.specs.Prelude.{◌≡◌, ◌++◌, ◌-◌, ◌^◌, List, ℕ, None, Some, min, IfOk, IfErr};
+ghost use Rattle.std.specs.Prelude.{◌≡◌, ◌⊎◌, ◌++◌, ◌-◌, ◌^◌, List, ℕ, None, Some, true, false, min, IfOk, IfErr};
 ghost use Rattle.daachorse_core.specs.Refusals.{IsOutOfMemory};
 ghost use Rattle.daachorse_serializer.specs.Forms.{GivesView, IsReadRefusal};
+ghost use Rattle.daachorse_bytewise_states.specs.Grouped.{HasNoAutomaton};
 ghost use Rattle.daachorse_bytewise_states.specs.PartForms.{AreCounted, AreNumbers, BeginsWithAutomaton, IsAutomaton, parts_form, parts_in, parts_most, take_parts};
 ghost use Rattle.daachorse_bytewise_states.specs.Parts.{Parts};
 ghost use Rattle.daachorse_bytewise_states.specs.Valid.{IsValid};
 
 use super::{States, root_table};
 use crate::state::State;
+use crate::unchecked::Unchecked;
 use daachorse_core::Empty;
-use daachorse_core::errors::Result;
+use daachorse_core::errors::{DaachorseError, Result};
 use daachorse_prefilter::prefilter::Prefilter;
 use daachorse_serializer::ending::{Ending, ending_bytes, read_ending, write_ending};
 use daachorse_serializer::serializer::{Serializable, SerializableVec};
@@ -53,6 +56,33 @@ fn read_lists<V: Serializable + Copy, A: Allocator + Copy>(
         ending,
     };
     Ok((lists, rest))
+}
+
+impl<V: Copy, A: Allocator + Copy> Lists<V, A> {
+    /// Whether the lists are an automaton's.
+    ///
+    /// # Errors
+    ///
+    /// An allocation failed.
+    fn is_valid(&self, alloc: A) -> Result<bool>
+        requires { AreCounted (parts_in self.now).0 }
+        ensures yes { IfOk result (λ valid. valid ≡ true → IsValid (parts_in self.now).0) }
+        ensures no { IfOk result (λ valid. valid ≡ false → IsValid (parts_in self.now).0 → ⊥) }
+        ensures err { IfErr result IsOutOfMemory }
+    {
+        let Some(parts) = Unchecked::new(
+            self.ending.kind,
+            self.standard.as_slice(),
+            self.leftmost.as_slice(),
+            self.fails.as_slice(),
+            self.ending.outputs.as_slice(),
+            self.ending.num_states,
+        ) else {
+            return Ok(false);
+        };
+        let valid = parts.is_valid(alloc)?;
+        Ok(valid)
+    }
 }
 
 impl<V: Serializable + Copy, A: Allocator> States<V, A> {
@@ -122,17 +152,41 @@ impl<V: Serializable + Copy, A: Allocator + Copy> States<V, A> {
         ensures err { IfErr result IsOutOfMemory }
     {
         let (lists, rest) = read_lists(alloc, src)?;
-        Ok((Self::of_lists(alloc, lists)?, rest))
+        let (states, _filter) = Self::of_lists(alloc, lists)?;
+        Ok((states, rest))
     }
 
-    /// The states that these lists make up. The filter is left.
+    /// The states that the bytes begin with, whoever wrote them, with the filter behind them, if there is one, and
+    /// the bytes that are left. Of the filter nothing is known.
+    ///
+    /// # Errors
+    ///
+    /// Bytes that give no valid parts, as
+    /// [`InvalidAutomaton`](daachorse_core::errors::DaachorseError::InvalidAutomaton) or by what is a value's own, or
+    /// out of memory.
+    pub fn deserialize(alloc: A, src: &[u8]) -> Result<((Self, Option<Prefilter<A>>), &[u8])>
+        ensures given { IfOk result (λ r. take_parts V.taken src.now ≡ Some ((r.0.0, r.0.1), r.1.now)) }
+        ensures valid { IfOk result (λ r. IsValid r.0.0) }
+        ensures refused { IfErr result (λ e. IsOutOfMemory e ⊎ HasNoAutomaton (take_parts V.taken src.now)) }
+        ensures cause { IfErr result (IsReadRefusal V.own_refusal) }
+    {
+        let (lists, rest) = read_lists(alloc, src)?;
+        if !lists.is_valid(alloc)? {
+            return Err(DaachorseError::invalid_automaton());
+        }
+        let states = Self::of_lists(alloc, lists)?;
+        Ok((states, rest))
+    }
+
+    /// The states that these lists make up, and the filter.
     ///
     /// # Errors
     ///
     /// An allocation failed.
-    fn of_lists(alloc: A, lists: Lists<V, A>) -> Result<Self>
+    fn of_lists(alloc: A, lists: Lists<V, A>) -> Result<(Self, Option<Prefilter<A>>)>
         requires { IsValid (parts_in lists).0 }
-        ensures ok { IfOk result (λ s. s ≡ (parts_in lists).0) }
+        ensures ok { IfOk result (λ r. r.0 ≡ (parts_in lists).0) }
+        ensures filter { IfOk result (λ r. r.1 ≡ (parts_in lists).1) }
         ensures err { IfErr result IsOutOfMemory }
     {
         let Lists {
@@ -145,14 +199,14 @@ impl<V: Serializable + Copy, A: Allocator + Copy> States<V, A> {
             outputs,
             kind,
             num_states,
-            filter: _,
+            filter,
         } = ending;
         let root = if kind.is_leftmost() {
             Vec::new(alloc)
         } else {
             root_table(alloc, standard.as_slice())?
         };
-        Ok(Self {
+        let states = Self {
             kind,
             standard,
             root,
@@ -160,6 +214,7 @@ impl<V: Serializable + Copy, A: Allocator + Copy> States<V, A> {
             fails,
             outputs,
             num_states,
-        })
+        };
+        Ok((states, filter))
     }
 }

@@ -1,5 +1,5 @@
 -- In whole blocks a byte leads from an element to an element.
-use Rattle.std.proofs.Common.{◌≡◌, ℕ, ◌%◌, ap, sym}
+use Rattle.std.proofs.Common.{◌≡◌, ◌%◌}
 use Rattle.daachorse_bytewise_states.specs.Parts.{count}
 use Rattle.daachorse_bytewise_states.proofs.ChildLaws.{moved_inside}
 use Rattle.daachorse_bytewise_states.proofs.states.States.check_at.Goals as goal

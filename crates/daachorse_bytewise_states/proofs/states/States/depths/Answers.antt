@@ -1,5 +1,5 @@
 -- What is stored is valid, so that its elements are a tree.
-use Rattle.std.proofs.Common.{◌≡◌, ◌<◌, ap, arith}
+use Rattle.std.proofs.Common.{◌<◌, ap, arith}
 use Rattle.daachorse_bytewise_states.specs.Valid.{IsValid}
 use Rattle.daachorse_bytewise_states.proofs.EdgeLaws.{valid_tree, valid_tells}
 use Rattle.daachorse_bytewise_states.proofs.states.States.depths.Goals as goal

@@ -1,5 +1,5 @@
 -- What is read is what was written.
-use Rattle.std.proofs.Common.{◌≡◌, ◌++◌, ap, subst, sym, ◌∙◌}
+use Rattle.std.proofs.Common.{subst, sym, ◌∙◌}
 use Rattle.std.proofs.lemmas.Result.{err_from_is_err_and}
 use Rattle.daachorse_bytewise_states.specs.Valid.{IsValid}
 use Rattle.daachorse_bytewise_states.proofs.FormLaws.{parts-of, reads-written, refuses-form}
@@ -19,4 +19,4 @@ of_lists-requires g c =
 pub returns-clause-ok : goal.returns-clause-ok
 returns-clause-ok g c p rest a is =
     let same = reads-written g.met.V.Serializable.law c.args.src.now rest p a is _ c.in_ok-lists.ensures.given in
-    (c.in_ok-of_lists.ensures.ok ∙ parts-of same.0, same.1)
+    (c.in_ok-states.ensures.ok ∙ parts-of same.0, same.1)

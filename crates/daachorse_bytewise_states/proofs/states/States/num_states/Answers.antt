@@ -1,9 +1,6 @@
 -- The texts that lead to an element are the prefixes of the keys.
-use Rattle.std.proofs.Common.{ap}
-use Rattle.daachorse_model.specs.Kinds.{is_leftmost}
 use Rattle.daachorse_model.specs.Units.{byte_width}
 use Rattle.daachorse_machine.proofs.CountLaws.{counted-prefixes}
-use Rattle.daachorse_bytewise_states.specs.Parts.{count, machine}
 use Rattle.daachorse_bytewise_states.proofs.ByteLaws.{valid_machine}
 use Rattle.daachorse_bytewise_states.proofs.states.States.num_states.Goals as goal
 

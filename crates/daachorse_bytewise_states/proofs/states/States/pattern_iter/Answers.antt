@@ -1,5 +1,5 @@
 -- What is stored is valid, so that its patterns are the listing.
-use Rattle.std.proofs.Common.{◌≡◌, ◌<◌, ap, arith}
+use Rattle.std.proofs.Common.{◌<◌, ap, arith}
 use Rattle.std.proofs.lemmas.Result.{IfOk-weaker}
 use Rattle.daachorse_bytewise_states.specs.Valid.{IsValid}
 use Rattle.daachorse_bytewise_states.proofs.ListingLaws.{valid_patterns, patterns_listing}

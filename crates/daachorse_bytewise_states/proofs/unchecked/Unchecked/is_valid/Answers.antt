@@ -1,0 +1,30 @@
+-- The array is sound exactly where the parts, which may be looked at, are valid.
+use Rattle.std.proofs.Common.{◌≡◌, ◌∙◌, ap}
+use Rattle.daachorse_model.specs.Kinds.{is_leftmost}
+use Rattle.daachorse_bytewise_states.specs.Grouped.{IsGrouped}
+use Rattle.daachorse_bytewise_states.specs.Parts.{Parts}
+use Rattle.daachorse_bytewise_states.proofs.EdgeLaws.{bases_tell}
+use Rattle.daachorse_bytewise_states.proofs.GroupedLaws.{sound_valid, valid_sound, told_sound, sound_told}
+use Rattle.daachorse_bytewise_states.proofs.unchecked.Unchecked.is_valid.Goals as goal
+
+pub is_sound-requires-clause-tell : goal.is_sound-requires-clause-tell
+is_sound-requires-clause-tell g c =
+    let grouped : IsGrouped c.args.self.now = rw (← c.self.view_is) c.self.invariant in
+    bases_tell c.args.self.now grouped.bases
+
+pub returns-clause-yes : goal.returns-clause-yes
+returns-clause-yes g c e =
+    let p = c.args.self.now in
+    let grouped : IsGrouped p = rw (← c.self.view_is) c.self.invariant in
+    let kind : c.is_leftmost-leftmost.result ≡ is_leftmost p.kind = c.is_leftmost-leftmost.ensures ∙ ap (λ (q : Parts g.row.V.Denot). is_leftmost q.kind) c.self.view_is in
+    let outputs : c.self.inside.outputs.now ≡ p.outputs = ap (λ (q : Parts g.row.V.Denot). q.outputs) c.self.view_is in
+    let count : c.self.inside.num_states ≡ p.num_states = ap (λ (q : Parts g.row.V.Denot). q.num_states) c.self.view_is in
+    sound_valid p grouped (told_sound p c.is_leftmost-leftmost.result c.self.inside.outputs.now c.self.inside.num_states kind outputs count (c.in_ok-valid.ensures.yes e))
+
+pub returns-clause-no : goal.returns-clause-no
+returns-clause-no g c e valid =
+    let p = c.args.self.now in
+    let kind : c.is_leftmost-leftmost.result ≡ is_leftmost p.kind = c.is_leftmost-leftmost.ensures ∙ ap (λ (q : Parts g.row.V.Denot). is_leftmost q.kind) c.self.view_is in
+    let outputs : c.self.inside.outputs.now ≡ p.outputs = ap (λ (q : Parts g.row.V.Denot). q.outputs) c.self.view_is in
+    let count : c.self.inside.num_states ≡ p.num_states = ap (λ (q : Parts g.row.V.Denot). q.num_states) c.self.view_is in
+    c.in_ok-valid.ensures.no e (sound_told p c.is_leftmost-leftmost.result c.self.inside.outputs.now c.self.inside.num_states kind outputs count (valid_sound p valid))

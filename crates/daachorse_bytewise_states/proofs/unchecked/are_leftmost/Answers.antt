@@ -1,0 +1,12 @@
+use Rattle.std.proofs.Common.{◌≡◌, length, arith}
+use Rattle.std.proofs.lemmas.Grind.{common_steps}
+use Rattle.daachorse_bytewise_states.specs.Elements.{vacant_left}
+use Rattle.daachorse_bytewise_states.proofs.unchecked.are_leftmost.Goals as goal
+
+pub returns-clause-yes : goal.returns-clause-yes
+returns-clause-yes c e =
+    let none : length c.args.standard.now ≡ 0 = grind (arith, common_steps, c.is_empty.ensures, c.if-not-is_empty.false) in
+    (none, omega (arith, c.if-fails-leftmost.false), c.are_blocks.ensures.yes e vacant_left)
+
+pub returns-clause-no : goal.returns-clause-no
+returns-clause-no c e are = c.are_blocks.ensures.no e vacant_left are.2

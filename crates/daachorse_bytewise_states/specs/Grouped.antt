@@ -1,0 +1,41 @@
+-- Parts that were read: which may be looked at, and which are no automaton's.
+use Rattle.std.specs.Prelude.{◌≡◌, ℕ, ◌<◌, ◌%◌, Bool, true, false, List, length, slice_index_or, Option, Some}
+use Rattle.daachorse_core.specs.declared.outputs.Empty.{Empty}
+use Rattle.daachorse_core.specs.declared.outputs.Output.{Output}
+use Rattle.daachorse_model.specs.declared.MatchKind.{MatchKind}
+use Rattle.daachorse_model.specs.Kinds.{is_leftmost}
+use Rattle.daachorse_prefilter.specs.Filters.{Filter}
+use Rattle.daachorse_serializer.specs.Forms.{Taken}
+use Rattle.daachorse_bytewise_states.specs.declared.state.State.{State}
+use Rattle.daachorse_bytewise_states.specs.Elements.{base_in, vacant, vacant_left}
+use Rattle.daachorse_bytewise_states.specs.Parts.{Parts, base_of, count}
+use Rattle.daachorse_bytewise_states.specs.Valid.{AreFew, HasShape, IsValid}
+
+-- the parts of these lists
+abbrev pub parts_read : {V : Type 0} → MatchKind → List (State ℕ) → List (State Empty) → List ℕ → List (Output V) → ℕ → Parts V
+parts_read kind standard leftmost fails outputs n =
+    record { kind = kind; standard = standard; leftmost = leftmost; fails = fails; outputs = outputs; num_states = n }
+
+-- Elements in whole blocks, at least one, whose bases are elements. So a base leads by each byte to an element.
+pub record AreBlocks {F : Type 0} (default : State F) (elements : List (State F)) : Type 0 where
+  pub blocks : length elements % 256 ≡ 0
+  pub some : 0 < length elements
+  pub bases : (i : ℕ) → i < length elements → base_in (slice_index_or elements i default) < length elements
+
+-- the lists of leftmost searches, or of standard ones
+abbrev pub AreLists : Bool → List (State ℕ) → List (State Empty) → List ℕ → Type 0
+AreLists false standard leftmost fails = (length leftmost ≡ 0) × (length fails ≡ 0) × AreBlocks vacant standard
+AreLists true standard leftmost fails = (length standard ≡ 0) × (length fails ≡ length leftmost) × AreBlocks vacant_left leftmost
+
+-- What a look at an element rests on, whatever else the parts are: the lists are those of the kind, and each base leads by each byte to an element.
+pub record IsGrouped {V : Type 0} (p : Parts V) : Type 0 where
+  -- whole blocks, at least one
+  pub blocks : count p % 256 ≡ 0
+  pub some : 0 < count p
+  pub few : AreFew p
+  pub shape : HasShape p (is_leftmost p.kind)
+  pub bases : (i : ℕ) → i < count p → base_of p i < count p
+
+-- no parts were taken, or such as are no automaton's
+abbrev pub HasNoAutomaton : {V : Type 0} → Taken (Parts V × Option Filter) → Type 0
+HasNoAutomaton {V} t = (w : Parts V × Option Filter) (rest : List ℕ) → t ≡ Some (w, rest) → IsValid w.0 → ⊥

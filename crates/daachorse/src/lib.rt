@@ -5,6 +5,8 @@
 //! of Aho and Corasick (1975); the compact layout of its automata is described by Kanda, Akabe and
 //! Oda (Engineering faster double-array Aho-Corasick automata, arXiv 2207.13870).
 //!
+//! The crate `daactok`, a tokenizer, is a small example of what stands on this one.
+//!
 //! What a search yields is said by the definitions of `daachorse_model`, and proved: the contract
 //! of each call that begins a search names the whole list.
 #![tactic(auto)]

@@ -4,9 +4,13 @@
 //! position of its first output, each on its own. An element written and read is the same element,
 //! in 12 bytes with a link and in 8 without.
 
-ghost use Rattle.std.specs.Prelude.{◌≡◌, ◌+◌, ◌<◌, ◌≤◌, ◌^◌, ◌%◌, IfErr, OnOk, OnErr, length, slice_index_or};
+ghost use Rattle.std.specs.Prelude.{◌≡◌, ◌+◌, ◌<◌, ◌≤◌, ◌^◌, ◌%◌, ◌++◌, IfErr, OnOk, OnErr, length, slice_index_or};
 ghost use Rattle.daachorse_core.specs.declared.errors.Limit.TheVariants.{OutputPos};
+ghost use Rattle.std.specs.Int.{w32};
 ghost use Rattle.daachorse_core.specs.Outputs.{number};
+ghost use Rattle.daachorse_core.specs.Refusals.{IsOutOfMemory};
+ghost use Rattle.daachorse_serializer.specs.Forms.{Begins, number_form};
+ghost use Rattle.daachorse_serializer.specs.Packed.{packed_form};
 ghost use Rattle.daachorse_bytewise_states.specs.Elements.{base_in, check_in, fail_in, output_in};
 ghost use Rattle.daachorse_bytewise_states.specs.Children.{TellsChild};
 ghost use Rattle.daachorse_bytewise_states.specs.Parts.{child_by, without_link};
@@ -15,7 +19,8 @@ ghost use Rattle.daachorse_bytewise_states.specs.StateForms.{IsState, state_form
 use daachorse_core::Empty;
 use daachorse_core::errors::{DaachorseError, Limit, Result};
 use daachorse_serializer::intpack::{U24, U24nU8};
-use daachorse_serializer::serializer::Serializable;
+use daachorse_serializer::serializer::{Serializable, append};
+use daachorse_serializer::words::{three_words, two_words};
 use std::alloc::Allocator;
 use std::num::NonZeroU32;
 
@@ -167,8 +172,49 @@ impl State<u32> {
     }
 }
 
+/// What an element has as its failure link.
+pub trait Link: Serializable + Copy {
+    /// Appends an element's base, this link, and the word of its other parts, all at once.
+    ///
+    /// # Errors
+    /// Out of memory; `dst` then still begins with what it held.
+    fn append_element<A: Allocator>(
+        self,
+        base: u32,
+        packed: U24nU8,
+        dst: &mut Vec<u8, A>,
+    ) -> Result<()>
+        ensures written { OnOk result (dst.new.items ≡ dst.old.items ++ (number_form w32 base ++ (Self.form self ++ packed_form packed))) }
+        ensures kept { Begins dst.old.items dst.new.items }
+        ensures refused { IfErr result IsOutOfMemory };
+}
+
+impl Link for u32 {
+    #[inline(always)]
+    fn append_element<A: Allocator>(
+        self,
+        base: u32,
+        packed: U24nU8,
+        dst: &mut Vec<u8, A>,
+    ) -> Result<()> {
+        append(dst, &three_words(base, self, packed.word()))
+    }
+}
+
+impl Link for Empty {
+    #[inline(always)]
+    fn append_element<A: Allocator>(
+        self,
+        base: u32,
+        packed: U24nU8,
+        dst: &mut Vec<u8, A>,
+    ) -> Result<()> {
+        append(dst, &two_words(base, packed.word()))
+    }
+}
+
 /// The base, 0 for none; the failure link; and a word, the output position times 256 and the check.
-impl<F: Serializable + Copy> Serializable for State<F> {
+impl<F: Link> Serializable for State<F> {
     ghost is_value = { IsState F.is_value };
 
     ghost form = { state_form F.form };
@@ -180,9 +226,7 @@ impl<F: Serializable + Copy> Serializable for State<F> {
     ghost own_refusal = { F.own_refusal };
 
     fn serialize_to_vec<A: Allocator>(&self, dst: &mut Vec<u8, A>) -> Result<()> {
-        self.base.serialize_to_vec(dst)?;
-        self.fail.serialize_to_vec(dst)?;
-        self.packed.serialize_to_vec(dst)
+        self.fail.append_element(self.base, self.packed, dst)
     }
 
     fn deserialize_from_slice(src: &[u8]) -> Result<(Self, &[u8])> {

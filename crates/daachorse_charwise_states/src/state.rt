@@ -13,7 +13,8 @@ ghost use Rattle.daachorse_charwise_states.specs.Written.{IsElement, element_for
 
 use daachorse_core::DEAD_STATE_IDX;
 use daachorse_core::errors::Result;
-use daachorse_serializer::serializer::Serializable;
+use daachorse_serializer::serializer::{Serializable, append};
+use daachorse_serializer::words::four_words;
 use std::alloc::Allocator;
 use std::num::NonZeroU32;
 
@@ -148,10 +149,10 @@ impl Serializable for State {
 
     #[inline(always)]
     fn serialize_to_vec<A: Allocator>(&self, dst: &mut Vec<u8, A>) -> Result<()> {
-        self.base.serialize_to_vec(dst)?;
-        self.check.serialize_to_vec(dst)?;
-        self.fail.serialize_to_vec(dst)?;
-        self.output_pos.serialize_to_vec(dst)
+        append(
+            dst,
+            &four_words(self.base, self.check, self.fail, self.output_pos),
+        )
     }
 
     #[inline(always)]

@@ -77,6 +77,7 @@ impl<V: Copy, A: Allocator + Copy> States<V, A> {
     /// [`Limit::NumElements`](daachorse_core::errors::Limit::NumElements), which comes only where
     /// more texts begin a longer pattern than there are blocks but one in 4,294,967,296 elements
     /// less a block, and out of memory.
+    #[inline(always)]
     pub fn build(
         alloc: A,
         kind: MatchKind,

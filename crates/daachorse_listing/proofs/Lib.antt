@@ -6,5 +6,6 @@ pub mod WalkLaws
 pub mod DepthLaws
 pub mod ListingLaws
 pub mod PatternLaws
+pub mod ReachLaws
 pub mod MachineTrees
 pub mod MachineListings

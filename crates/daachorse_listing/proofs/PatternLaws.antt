@@ -10,7 +10,7 @@ use Rattle.daachorse_listing.specs.Listing.{values_until, with_values, patterns_
 use Rattle.daachorse_listing.proofs.WalkLaws.{reached-inside}
 use Rattle.daachorse_listing.proofs.ListingLaws.{values_until-step, values_until-end}
 
-among-read : (l : List ℕ) (k : ℕ) → k < length l → IsAmong l (get_or l k 0)
+pub among-read : (l : List ℕ) (k : ℕ) → k < length l → IsAmong l (get_or l k 0)
 among-read [] k h = absurd (omega arith)
 among-read (x ∷ l) zero h = inl refl
 among-read (x ∷ l) (suc k) h = inr (among-read l k (omega arith))

@@ -209,7 +209,7 @@ below-All test n = go n (omega arith)
     go zero h = tt
     go (suc k) h = elim (either (test k)) [ inl e ↦ rw e ((omega arith, e), go k (omega arith)) | inr e ↦ rw e (go k (omega arith)) ]
 
-below-falls : (test : ℕ → Bool) (n : ℕ) → Pairs (λ a b. b < a) (below test n)
+pub below-falls : (test : ℕ → Bool) (n : ℕ) → Pairs (λ a b. b < a) (below test n)
 below-falls test zero = tt
 below-falls test (suc n) = elim (either (test n)) [ inl e ↦ rw e (less n (below-All test n), below-falls test n) | inr e ↦ rw e (below-falls test n) ]
   where
@@ -220,7 +220,7 @@ below-falls test (suc n) = elim (either (test n)) [ inl e ↦ rw e (less n (belo
         go [] a = tt
         go (x ∷ l) a = (a.0.0, go l a.1)
 
-below-has : (test : ℕ → Bool) (n j : ℕ) → j < n → test j ≡ true → (k : ℕ) × (k < length (below test n)) × (get_or (below test n) k 0 ≡ j)
+pub below-has : (test : ℕ → Bool) (n j : ℕ) → j < n → test j ≡ true → (k : ℕ) × (k < length (below test n)) × (get_or (below test n) k 0 ≡ j)
 below-has test zero j h e = absurd (omega arith)
 below-has test (suc n) j h e = at (either (test n)) (λ less. below-has test n j less e)
   where
@@ -259,11 +259,11 @@ map-read edge [] k h = absurd (omega arith)
 map-read edge (x ∷ l) zero h = refl
 map-read edge (x ∷ l) (suc k) h = map-read edge l k (omega arith)
 
-in-edge : (g : ℕ) (o : Option (ℕ × ℕ)) → is_in g o ≡ true → o ≡ Some (g, unit_of o)
+pub in-edge : (g : ℕ) (o : Option (ℕ × ℕ)) → is_in g o ≡ true → o ≡ Some (g, unit_of o)
 in-edge g None e = absurd (cc)
 in-edge g (Some x) e = let same : x.0 ≡ g = grind (arith, e) in ap (λ a. Some (a, x.1)) same
 
-edge-in : (g u : ℕ) (o : Option (ℕ × ℕ)) → o ≡ Some (g, u) → (is_in g o ≡ true) × (unit_of o ≡ u)
+pub edge-in : (g u : ℕ) (o : Option (ℕ × ℕ)) → o ≡ Some (g, u) → (is_in g o ≡ true) × (unit_of o ≡ u)
 edge-in g u None e = absurd (cc)
 edge-in g u (Some x) e = let same : x ≡ (g, u) = same_Some x (g, u) e in let first : x.0 ≡ g = ap (λ p. p.0) same in (grind (arith, first), ap (λ p. p.1) same)
 

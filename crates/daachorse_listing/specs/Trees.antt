@@ -1,5 +1,5 @@
 -- The reached elements of an array, as a walk lists them: each after those whose texts come before its own.
-use Rattle.std.specs.Prelude.{◌≡◌, ◌≢◌, ◌⊎◌, ℕ, ◌<◌, List, [], ◌∷◌, length, map, reverse, slice_index, Option, Some}
+use Rattle.std.specs.Prelude.{◌≡◌, ◌≢◌, ◌⊎◌, ℕ, ◌<◌, List, [], ◌∷◌, ◌++◌, length, map, reverse, slice_index, Option, Some}
 use Rattle.std.specs.List.{AllByRecursion}
 use Rattle.std.specs.Cmp.Lexicographic.{slice_cmp}
 use Rattle.std.specs.Ordering.{nat_cmp}
@@ -26,6 +26,15 @@ pub record IsMarking (kids left : List ℕ) (x : ℕ) (old new : List ℕ) : Typ
   pub within : (k : ℕ) → IsAmong left k → IsAmong kids k
   pub written : (k : ℕ) → IsAmong kids k → IsAmong left k ⊎ (slice_index new k ≡ x)
   pub other : (k : ℕ) → ¬ IsAmong kids k → slice_index new k ≡ slice_index old k
+
+-- What the children of one element are noted as: each was put at the end of the list once, and has this depth.
+pub record IsNoting (from : ℕ → Option ℕ) (depth : ℕ) (reached depths more deeper : List ℕ) : Type 0 where
+  pub kids : List ℕ
+  pub all : more ≡ reached ++ kids
+  pub child : (j : ℕ) → IsAmong kids j → (c : ℕ) × (from c ≡ Some j)
+  pub complete : (c j : ℕ) → from c ≡ Some j → IsAmong kids j
+  pub once : Pairs ◌≢◌ kids
+  pub marked : IsMarking kids [] depth depths deeper
 
 module _ (child : ℕ → ℕ → Option ℕ) (n m : ℕ) where
   abbrev pub text : ℕ → List ℕ

@@ -9,5 +9,5 @@ mod children;
 pub mod depths;
 pub mod edges;
 pub mod patterns;
-mod siblings;
+pub mod siblings;
 mod tree;

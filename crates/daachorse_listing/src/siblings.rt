@@ -15,7 +15,7 @@ use std::marker::Model;
 
 /// The elements of each group. A link is the number of an element, counted from 1, or 0 for none.
 #[derive(Drop)]
-pub(crate) struct Siblings<A: Allocator = Global> {
+pub struct Siblings<A: Allocator = Global> {
     // The first of each group.
     first: Vec<u32, A>,
     // Behind each element the next of its group.
@@ -39,7 +39,7 @@ impl<A: Allocator + Copy> Siblings<A> {
     /// # Errors
     ///
     /// An allocation failed.
-    pub(crate) fn new<E: Edges>(alloc: A, edges: &E) -> Result<Self>
+    pub fn new<E: Edges>(alloc: A, edges: &E) -> Result<Self>
         ensures ok { IfOk result (λ groups. (g : ℕ) → g < E.count edges.now
             → slice_index_or groups g [] ≡ members (E.edge edges.now) g (E.count edges.now)) }
         ensures size { IfOk result (λ groups. length groups ≡ E.count edges.now) }
@@ -57,7 +57,7 @@ impl<A: Allocator + Copy> Siblings<A> {
 
 impl<A: Allocator> Siblings<A> {
     /// The elements of a group, the last first.
-    pub(crate) fn members(&self, group: usize) -> Members<'_>
+    pub fn members(&self, group: usize) -> Members<'_>
         requires { group < length self.now }
         ensures { result ≡ slice_index_or self.entry.now group [] }
     {
@@ -86,7 +86,7 @@ fn put_first<E: Edges, A: Allocator>(edges: &E, element: usize, first: &mut Vec<
 
 /// The elements of one group.
 #[derive(Drop)]
-pub(crate) struct Members<'a> {
+pub struct Members<'a> {
     next: &'a [u32],
     link: u32,
 }

@@ -17,7 +17,7 @@ use daachorse_core::errors::Result;
 use std::alloc::{Allocator, Global};
 
 /// The depth of an element that is not reached.
-const NOT_REACHED: u32 = u32::MAX;
+pub(crate) const NOT_REACHED: u32 = u32::MAX;
 
 /// The elements that texts lead to.
 #[derive(Drop)]

@@ -6,11 +6,10 @@ use Rattle.std.specs.Prelude.{Option}
 use Rattle.std.specs.declared.num.NonZeroU32.{NonZeroU32}
 use Rattle.daachorse_core.specs.Outputs.{number}
 use Rattle.daachorse_core.specs.Seen.{SeenUnits, units}
-use Rattle.daachorse_model.specs.Units.{size}
 use Rattle.daachorse_model.specs.Dictionary.{Dictionary}
 use Rattle.daachorse_model.specs.Prefixes.{IsLong}
 use Rattle.daachorse_model.proofs.Chains.{AllWithin-IsChain, ending_at-IsChain}
-use Rattle.daachorse_model.proofs.Suffixes.{IsSuffix-append, size-push}
+use Rattle.daachorse_model.proofs.Suffixes.{IsSuffix-append}
 use Rattle.daachorse_model.proofs.Steps.{IsLong-nil, IsLong-step}
 use Rattle.daachorse_core.specs.Looks.{IsFirstOutput}
 use Rattle.daachorse_search.specs.Walks.{HasOutputs, IsWalking, read_on, skip_on}
@@ -19,42 +18,35 @@ use Rattle.daachorse_search.specs.Walks.{HasOutputs, IsWalking, read_on, skip_on
 pub units-read_on : (s : SeenUnits) (more : List ℕ) → units (read_on s more) ≡ units s ++ more
 units-read_on s more = sym (append_assoc s.before s.since more)
 
--- the place after one more unit
-pub size-read_on : (width : ℕ → ℕ) (s : SeenUnits) (u : ℕ) → size width (units (read_on s (u ∷ []))) ≡ size width (units s) + width u
-size-read_on width s u = ap (size width) (units-read_on s (u ∷ [])) ∙ size-push width (units s) u
-
-module _ {V : Type 0} (width : ℕ → ℕ) (K : Dictionary V) (reached : ℕ → Type 0) (text : ℕ → List ℕ) (dead : List ℕ → Type 0) (has_label : ℕ → Bool) where
-  -- a walk after one more unit, which has this code and takes so many bytes
-  pub IsWalking-read : (seen after : SeenUnits) (u code wide state place turns next later : ℕ) → IsWalking width K reached text dead has_label seen state place turns
-      → after ≡ read_on seen (code ∷ []) → code ≡ u → wide ≡ width u
+module _ {V : Type 0} (K : Dictionary V) (reached : ℕ → Type 0) (text : ℕ → List ℕ) (dead : List ℕ → Type 0) (has_label : ℕ → Bool) where
+  -- a walk after one more unit, which has this code
+  pub IsWalking-read : (seen after : SeenUnits) (u code state turns next later : ℕ) → IsWalking K reached text dead has_label seen state turns
+      → after ≡ read_on seen (code ∷ []) → code ≡ u
       → reached next → IsLong K (text state ++ u ∷ []) (text next) → later + length (text next) ≤ turns + length (text state) + 2 → turns + cond (has_label u) 1 0 ≤ later
-      → IsWalking width K reached text dead has_label after next (place + wide) later
-  IsWalking-read seen after u code wide state place turns next later was read is_code is_wide at_next stepped most least =
+      → IsWalking K reached text dead has_label after next later
+  IsWalking-read seen after u code state turns next later was read is_code at_next stepped most least =
       let read' : after ≡ read_on seen (u ∷ []) = read ∙ ap (λ n. read_on seen (n ∷ [])) is_code in
       let all : units after ≡ units seen ++ u ∷ [] = ap units read' ∙ units-read_on seen (u ∷ []) in
       let many : length (units after) ≡ length (units seen) + 1 = omega (arith, ap length all, length-append (units seen) (u ∷ [])) in
       let labelled : count_by has_label after.looked ≡ count_by has_label seen.looked + cond (has_label u) 1 0 =
       ap (λ s. count_by has_label s.looked) read' ∙ sum_by_push (λ x. cond (has_label x) 1 0) seen.looked u in
-      let sized : size width (units after) ≡ size width (units seen) + width u = ap (size width) all ∙ size-push width (units seen) u in
       let P : List ℕ → Type 0 = λ w. IsLong K w (text next) in
       record {
         alive = was.alive;
         at_state = at_next;
         long = subst P (sym (ap (λ s. s.since) read')) (IsLong-step K seen.since (text state) (text next) u was.long stepped);
-        here = omega (arith, was.here, is_wide, sized);
         most = omega (arith, was.most, most, many);
         least = omega (arith, was.least, least, labelled);
       }
 
   -- a walk that passed one more unit with no look stands at the root, whose text is empty
-  pub IsWalking-skip : (seen after : SeenUnits) (u code wide state place turns root : ℕ) → IsWalking width K reached text dead has_label seen state place turns
-      → after ≡ record seen { before = units seen ++ code ∷ []; since = [] } → code ≡ u → wide ≡ width u → reached root → text root ≡ []
-      → IsWalking width K reached text dead has_label after root (place + wide) turns
-  IsWalking-skip seen after u code wide state place turns root was skipped is_code is_wide at_root empty =
+  pub IsWalking-skip : (seen after : SeenUnits) (u code state turns root : ℕ) → IsWalking K reached text dead has_label seen state turns
+      → after ≡ record seen { before = units seen ++ code ∷ []; since = [] } → code ≡ u → reached root → text root ≡ []
+      → IsWalking K reached text dead has_label after root turns
+  IsWalking-skip seen after u code state turns root was skipped is_code at_root empty =
       let skipped' : after ≡ skip_on seen u = skipped ∙ ap (skip_on seen) is_code in
       let all : units after ≡ units seen ++ u ∷ [] = ap units skipped' ∙ append-nil (units seen ++ u ∷ []) in
       let many : length (units after) ≡ length (units seen) + 1 = omega (arith, ap length all, length-append (units seen) (u ∷ [])) in
-      let sized : size width (units after) ≡ size width (units seen) + width u = ap (size width) all ∙ size-push width (units seen) u in
       let since : after.since ≡ [] = ap (λ s. s.since) skipped' in
       let Q : List ℕ → Type 0 = λ t. IsLong K [] t in
       let R : List ℕ → Type 0 = λ w. IsLong K w (text root) in
@@ -62,15 +54,14 @@ module _ {V : Type 0} (width : ℕ → ℕ) (K : Dictionary V) (reached : ℕ �
         alive = was.alive;
         at_state = at_root;
         long = subst R (sym since) (subst Q (sym empty) (IsLong-nil K));
-        here = omega (arith, was.here, is_wide, sized);
         most = omega (arith, was.most, many, ap length empty);
         least = omega (arith, was.least, ap (λ s. count_by has_label s.looked) skipped');
       }
 
   -- the first output of a walk's state is that of all that was read since the walk last began at the root
-  pub HasOutputs-first : (has_output : ℕ → Type 0) (outputs : ℕ → List (V × ℕ)) (few : ℕ) (seen : SeenUnits) (state place turns : ℕ) (position : Option NonZeroU32)
-      → IsWalking width K reached text dead has_label seen state place turns → IsFirstOutput width K dead has_output outputs few (text state) position → HasOutputs width K has_output outputs few seen (number position)
-  HasOutputs-first has_output outputs few seen state place turns position walking first = record {
+  pub HasOutputs-first : (width : ℕ → ℕ) (has_output : ℕ → Type 0) (outputs : ℕ → List (V × ℕ)) (few : ℕ) (seen : SeenUnits) (state turns : ℕ) (position : Option NonZeroU32)
+      → IsWalking K reached text dead has_label seen state turns → IsFirstOutput width K dead has_output outputs few (text state) position → HasOutputs width K has_output outputs few seen (number position)
+  HasOutputs-first width has_output outputs few seen state turns position walking first = record {
     place = first.place;
     few = first.few;
     fits = AllWithin-IsChain width K dead walking.alive (units seen) (text state) _ (IsSuffix-append seen.before (text state) seen.since walking.long.ends) first.chain;

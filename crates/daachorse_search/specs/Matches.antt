@@ -1,5 +1,7 @@
 -- A search in a haystack that is known as a whole: what callers see of it, and what each call gives.
-use Rattle.std.specs.Prelude.{◌≡◌, ℕ, ◌+◌, ◌<◌, ◌^◌, List, [], ◌∷◌, ◌++◌, Option, Some, None}
+use Rattle.std.specs.Prelude.{◌≡◌, ℕ, ◌+◌, List, [], ◌∷◌, ◌++◌, Option, Some, None, IfNone}
+use Rattle.std.specs.declared.num.NonZeroU32.{NonZeroU32}
+use Rattle.daachorse_core.specs.Outputs.{number}
 use Rattle.daachorse_model.specs.declared.Match.{Match}
 use Rattle.daachorse_model.specs.Units.{size}
 use Rattle.daachorse_search.specs.Sources.{past_each_end}
@@ -45,6 +47,17 @@ StandsAtEnd width m haystack passed = m.end ≡ size width passed
 abbrev pub matches_left : {V : Type 0} → (List ℕ → List (Match V)) → List (Match V) → List ℕ → List ℕ → List (Match V)
 matches_left found pending read rest = pending ++ past_each_end found read rest
 
--- the place after the rest of the haystack fits
-abbrev pub Fits : (ℕ → ℕ) → List ℕ → List ℕ → Type 0
-Fits width read rest = size width read + size width rest < 2 ^ 64
+-- between two calls: the next output to give stands at the position, and what was read and the rest take so many bytes together
+module _ (width : ℕ → ℕ) (has_output : ℕ → Type 0) where
+  pub record IsReading (read rest : List ℕ) (position whole : ℕ) : Type 0 where
+    pub output : has_output position
+    pub spans : whole ≡ size width read + size width rest
+
+module _ {V A W : Type 0} (automaton : W → A) (text : W → List ℕ) (found : A → List ℕ → List (Match V)) (has_output : W → ℕ → Type 0) (given_from : W → ℕ → List (Match V)) where
+  -- A walk read on in a haystack, from where nothing was pending to where there is something to give, or to the end. No match was passed over.
+  pub record ReadsOn (from : W) (rest : List ℕ) (position : Option NonZeroU32) (to : W) (later : List ℕ) : Type 0 where
+    pub same : automaton to ≡ automaton from
+    pub haystack : text to ++ later ≡ text from ++ rest
+    pub left : past_each_end (found (automaton from)) (text from) rest ≡ matches_left (found (automaton to)) (given_from to (number position)) (text to) later
+    pub output : has_output to (number position)
+    pub ended : IfNone position (later ≡ [])

@@ -3,9 +3,14 @@ use Rattle.std.specs.Prelude.{◌≡◌, ℕ, ◌+◌, ◌*◌, ◌<◌, ◌≤�
 use Rattle.std.specs.declared.num.NonZeroU32.{NonZeroU32}
 use Rattle.daachorse_core.specs.Outputs.{number}
 use Rattle.daachorse_model.specs.declared.Match.{Match}
+use Rattle.daachorse_model.specs.Units.{size}
 use Rattle.daachorse_model.specs.Dictionary.{Dictionary}
 use Rattle.daachorse_model.specs.Matches.{IsSinceMatch}
 use Rattle.daachorse_model.specs.Prefixes.{IsLong}
+
+-- the place, in bytes, is that after the units read
+abbrev pub StandsAt : (ℕ → ℕ) → List ℕ → ℕ → Type 0
+StandsAt width read place = place ≡ size width read
 
 -- what callers see of a stepper: the automaton, the depths of its states if they are kept, the units consumed, and the turns taken
 pub record Stepped (A : Type 0) : Type 0 where

@@ -11,7 +11,7 @@ ghost use Rattle.daachorse_core.specs.Depths.{AreDepths};
 ghost use Rattle.daachorse_search.specs.Nothing.{HasPlace-none, first_from-none};
 
 use crate::automaton::Automaton;
-use crate::haystack::Haystack;
+use crate::haystack::Reread;
 use crate::matches::Matches;
 use crate::stepwise::Stepwise;
 use crate::walk::Walk;
@@ -114,8 +114,8 @@ impl<V: Copy, A: Automaton<V>> Stepwise<V> for FindWalk<V, A> {
     }
 
     #[inline(always)]
-    fn give(&self, position: NonZeroU32) -> (Match<V>, Option<NonZeroU32>) {
-        (self.walk.give(position).0, None)
+    fn give(&self, position: NonZeroU32, place: usize) -> (Match<V>, Option<NonZeroU32>) {
+        (self.walk.give(position, place).0, None)
     }
 
     #[inline(always)]
@@ -147,7 +147,7 @@ impl<V: Copy, A: Automaton<V>> Clone for FindWalk<V, A> {
 
 /// The matches of the standard search in a haystack.
 #[inline(always)]
-pub fn find_in<V: Copy, A: Automaton<V>, H: Haystack<A::Unit>>(
+pub fn find_in<V: Copy, A: Automaton<V>, H: Reread<A::Unit>>(
     automaton: A,
     haystack: H,
 ) -> Matches<V, FindWalk<V, A>, H>

@@ -14,6 +14,7 @@ use crate::automaton::Automaton;
 use crate::find::FindWalk;
 use crate::stepwise::Stepwise;
 use daachorse_core::Match;
+use daachorse_core::edge_label::EdgeLabel;
 use std::alloc::AllocError;
 use std::marker::Model;
 use std::num::NonZeroU32;
@@ -24,6 +25,8 @@ use std::num::NonZeroU32;
 #[derive(Drop)]
 pub struct FindStepper<'a, V: Copy, A: Automaton<V>> {
     walk: FindWalk<V, A>,
+    // How many bytes were consumed.
+    place: usize,
     // By state the length of its text in units; empty if they are not kept.
     depths: &'a [u32],
     // The output of the match that ends where the walk stands.
@@ -34,13 +37,14 @@ impl<'a, V: Copy, A: Automaton<V>> Model for FindStepper<'a, V, A> {
     ghost use Rattle.daachorse_core.specs.Seen.{units};
     ghost use Rattle.daachorse_core.specs.Depths.{AreDepths};
     ghost use Rattle.daachorse_search.specs.Finds.{HasFound};
-    ghost use Rattle.daachorse_search.specs.Stepwise.{Stepped};
+    ghost use Rattle.daachorse_search.specs.Stepwise.{Stepped, StandsAt};
 
     ghost Value = { Stepped A };
 
     ghost view = { λ s. record { automaton = s.walk.automaton; depths = s.depths.now; read = units s.walk.seen; turns = s.walk.turns } };
 
-    ghost invariant = { λ s. HasFound A.Unit.width A.content A.has_output A.outputs s.walk s.found
+    ghost invariant = { λ s. StandsAt A.Unit.width (units s.walk.seen) s.place
+        × HasFound A.Unit.width A.content A.has_output A.outputs s.walk s.found
         × AreDepths (A.reached s.walk.automaton) (A.text s.walk.automaton) s.depths.now };
 }
 
@@ -59,6 +63,7 @@ impl<'a, V: Copy, A: Automaton<V>> FindStepper<'a, V, A> {
         let found = walk.begin();
         FindStepper {
             walk,
+            place: 0,
             depths,
             found,
         }
@@ -72,6 +77,7 @@ impl<'a, V: Copy, A: Automaton<V>> FindStepper<'a, V, A> {
         ensures depths { self.new.depths ≡ self.old.depths }
         ensures read { self.new.read ≡ self.old.read ++ A.Unit.unit unit ∷ [] }
     {
+        self.place += unit.num_bytes();
         self.found = self.walk.advance(unit);
     }
 
@@ -81,7 +87,7 @@ impl<'a, V: Copy, A: Automaton<V>> FindStepper<'a, V, A> {
         ensures { result ≡ standard_after A.Unit.width (A.content self.now.automaton) self.now.read }
     {
         let position = self.found?;
-        Some(self.walk.give(position).0)
+        Some(self.walk.give(position, self.place).0)
     }
 
     /// How many of the last units consumed since the last match begin a key, at most; with an empty
@@ -113,6 +119,7 @@ impl<'a, V: Copy, A: Automaton<V>> Clone for FindStepper<'a, V, A> {
     fn clone(&self) -> Result<Self, AllocError> {
         Ok(FindStepper {
             walk: self.walk.clone()?,
+            place: self.place,
             depths: self.depths,
             found: self.found,
         })

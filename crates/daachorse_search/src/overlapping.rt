@@ -12,7 +12,7 @@ ghost use Rattle.daachorse_search.specs.Nothing.{HasPlace-none, matches_from-non
 
 use crate::automaton::Automaton;
 use crate::ending_here::EndingHere;
-use crate::haystack::Haystack;
+use crate::haystack::Reread;
 use crate::matches::Matches;
 use crate::stepwise::Stepwise;
 use crate::walk::Walk;
@@ -58,23 +58,20 @@ impl<V: Copy, A: Automaton<V>> OverlappingWalk<V, A> {
     /// Reads one unit.
     #[inline(always)]
     pub fn consume(&mut self, unit: A::Unit)
-        requires { size A.Unit.width (units self.old.seen) + A.Unit.width (A.Unit.unit unit) < 2 ^ 64 }
         ensures automaton { self.new.automaton ≡ self.old.automaton }
         ensures read { units self.new.seen ≡ units self.old.seen ++ A.Unit.unit unit ∷ [] }
     {
         self.walk.consume(unit);
     }
 
-    /// The matches that end where the walk stands. They stay what they are while it goes on.
+    /// The matches that end where the walk stands, which is this place. They stay what they are while it
+    /// goes on.
     #[inline(always)]
-    pub fn matches(&self) -> EndingHere<V, A>
+    pub fn matches(&self, place: usize) -> EndingHere<V, A>
+        requires { place ≡ size A.Unit.width (units self.now.seen) }
         ensures { result ≡ matches_after A.Unit.width (A.content self.now.automaton) (units self.now.seen) }
     {
-        EndingHere::new(
-            self.walk.automaton(),
-            self.walk.place(),
-            self.walk.outputs(),
-        )
+        EndingHere::new(self.walk.automaton(), place, self.walk.outputs())
     }
 
     /// The depth of the state: how many of the last units read begin a key. `None` if no depths
@@ -128,8 +125,8 @@ impl<V: Copy, A: Automaton<V>> Stepwise<V> for OverlappingWalk<V, A> {
     }
 
     #[inline(always)]
-    fn give(&self, position: NonZeroU32) -> (Match<V>, Option<NonZeroU32>) {
-        self.walk.give(position)
+    fn give(&self, position: NonZeroU32, place: usize) -> (Match<V>, Option<NonZeroU32>) {
+        self.walk.give(position, place)
     }
 
     #[inline(always)]
@@ -227,8 +224,8 @@ impl<V: Copy, A: Automaton<V>> Stepwise<V> for NoSuffixWalk<V, A> {
     }
 
     #[inline(always)]
-    fn give(&self, position: NonZeroU32) -> (Match<V>, Option<NonZeroU32>) {
-        (self.all.give(position).0, None)
+    fn give(&self, position: NonZeroU32, place: usize) -> (Match<V>, Option<NonZeroU32>) {
+        (self.all.give(position, place).0, None)
     }
 
     #[inline(always)]
@@ -244,7 +241,7 @@ impl<V: Copy, A: Automaton<V>> Stepwise<V> for NoSuffixWalk<V, A> {
 
 /// All matches in a haystack, also those that overlap.
 #[inline(always)]
-pub fn find_overlapping_in<V: Copy, A: Automaton<V>, H: Haystack<A::Unit>>(
+pub fn find_overlapping_in<V: Copy, A: Automaton<V>, H: Reread<A::Unit>>(
     automaton: A,
     haystack: H,
 ) -> Matches<V, OverlappingWalk<V, A>, H>
@@ -262,7 +259,7 @@ pub fn find_overlapping_in<V: Copy, A: Automaton<V>, H: Haystack<A::Unit>>(
 
 /// Of all matches in a haystack the longest at each end.
 #[inline(always)]
-pub fn find_overlapping_no_suffix_in<V: Copy, A: Automaton<V>, H: Haystack<A::Unit>>(
+pub fn find_overlapping_no_suffix_in<V: Copy, A: Automaton<V>, H: Reread<A::Unit>>(
     automaton: A,
     haystack: H,
 ) -> Matches<V, NoSuffixWalk<V, A>, H>

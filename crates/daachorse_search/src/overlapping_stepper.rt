@@ -14,6 +14,7 @@ use crate::automaton::Automaton;
 use crate::ending_here::EndingHere;
 use crate::overlapping::OverlappingWalk;
 use crate::stepwise::Stepwise;
+use daachorse_core::edge_label::EdgeLabel;
 use std::alloc::AllocError;
 use std::marker::Model;
 
@@ -23,6 +24,8 @@ use std::marker::Model;
 #[derive(Drop)]
 pub struct FindOverlappingStepper<'a, V: Copy, A: Automaton<V>> {
     walk: OverlappingWalk<V, A>,
+    // How many bytes were consumed.
+    place: usize,
     // By state the length of its text in units; empty if they are not kept.
     depths: &'a [u32],
 }
@@ -30,13 +33,14 @@ pub struct FindOverlappingStepper<'a, V: Copy, A: Automaton<V>> {
 impl<'a, V: Copy, A: Automaton<V>> Model for FindOverlappingStepper<'a, V, A> {
     ghost use Rattle.daachorse_core.specs.Seen.{units};
     ghost use Rattle.daachorse_core.specs.Depths.{AreDepths};
-    ghost use Rattle.daachorse_search.specs.Stepwise.{Stepped};
+    ghost use Rattle.daachorse_search.specs.Stepwise.{Stepped, StandsAt};
 
     ghost Value = { Stepped A };
 
     ghost view = { λ s. record { automaton = s.walk.automaton; depths = s.depths.now; read = units s.walk.seen; turns = s.walk.turns } };
 
-    ghost invariant = { λ s. AreDepths (A.reached s.walk.automaton) (A.text s.walk.automaton) s.depths.now };
+    ghost invariant = { λ s. StandsAt A.Unit.width (units s.walk.seen) s.place
+        × AreDepths (A.reached s.walk.automaton) (A.text s.walk.automaton) s.depths.now };
 }
 
 impl<'a, V: Copy, A: Automaton<V>> FindOverlappingStepper<'a, V, A> {
@@ -52,6 +56,7 @@ impl<'a, V: Copy, A: Automaton<V>> FindOverlappingStepper<'a, V, A> {
     {
         FindOverlappingStepper {
             walk: OverlappingWalk::new(automaton),
+            place: 0,
             depths,
         }
     }
@@ -64,6 +69,7 @@ impl<'a, V: Copy, A: Automaton<V>> FindOverlappingStepper<'a, V, A> {
         ensures depths { self.new.depths ≡ self.old.depths }
         ensures read { self.new.read ≡ self.old.read ++ A.Unit.unit unit ∷ [] }
     {
+        self.place += unit.num_bytes();
         self.walk.consume(unit);
     }
 
@@ -74,7 +80,7 @@ impl<'a, V: Copy, A: Automaton<V>> FindOverlappingStepper<'a, V, A> {
     pub fn matches(&self) -> EndingHere<V, A>
         ensures { result ≡ matches_after A.Unit.width (A.content self.now.automaton) self.now.read }
     {
-        self.walk.matches()
+        self.walk.matches(self.place)
     }
 
     /// How many of the last units consumed begin a key, at most. `None` if the automaton keeps no
@@ -105,6 +111,7 @@ impl<'a, V: Copy, A: Automaton<V>> Clone for FindOverlappingStepper<'a, V, A> {
     fn clone(&self) -> Result<Self, AllocError> {
         Ok(FindOverlappingStepper {
             walk: self.walk.clone()?,
+            place: self.place,
             depths: self.depths,
         })
     }

@@ -9,7 +9,7 @@ ghost use Rattle.daachorse_search.specs.Sources.{IsReady};
 use crate::automaton::Automaton;
 use crate::find::FindWalk;
 use crate::find_stepper::FindStepper;
-use crate::haystack::{Bytes, Haystack};
+use crate::haystack::{Bytes, Reread};
 use crate::matches::Matches;
 use crate::overlapping::{NoSuffixWalk, OverlappingWalk};
 use crate::scan::scan;
@@ -131,7 +131,7 @@ fn collect_from<V: Copy, A: Automaton<V>, S: Iterator<Item = A::Unit>>(
 }
 
 /// All that a search finds in a haystack.
-fn collect_matches<V: Copy, W: Stepwise<V>, H: Haystack<W::Unit>>(
+fn collect_matches<V: Copy, W: Stepwise<V>, H: Reread<W::Unit>>(
     alloc: Global,
     walk: W,
     haystack: H,
@@ -144,7 +144,7 @@ fn collect_matches<V: Copy, W: Stepwise<V>, H: Haystack<W::Unit>>(
 }
 
 /// A whole search in a haystack, with its turns bounded and its matches counted.
-fn run_matches<V: Copy, W: Stepwise<V>, H: Haystack<W::Unit>>(
+fn run_matches<V: Copy, W: Stepwise<V>, H: Reread<W::Unit>>(
     walk: W,
     haystack: H,
 ) -> Matches<V, W, H>
@@ -164,7 +164,7 @@ fn run_matches<V: Copy, W: Stepwise<V>, H: Haystack<W::Unit>>(
 
 /// The whole overlapping search: its turns are at most twice the units of the haystack, and at
 /// least those that some key has.
-fn run_overlapping<V: Copy, A: Automaton<V>, H: Haystack<A::Unit>>(
+fn run_overlapping<V: Copy, A: Automaton<V>, H: Reread<A::Unit>>(
     automaton: A,
     haystack: H,
 ) -> Matches<V, OverlappingWalk<V, A>, H>
@@ -177,7 +177,7 @@ fn run_overlapping<V: Copy, A: Automaton<V>, H: Haystack<A::Unit>>(
 }
 
 /// The whole standard search: the same, and with an empty key no turn.
-fn run_find<V: Copy, A: Automaton<V>, H: Haystack<A::Unit>>(
+fn run_find<V: Copy, A: Automaton<V>, H: Reread<A::Unit>>(
     automaton: A,
     haystack: H,
 ) -> Matches<V, FindWalk<V, A>, H>
@@ -268,7 +268,7 @@ fn steps_by_hand(rt: HostRuntime) -> Result<(), Fail> {
     stepper.turns_are_bounded();
     let mut walk = OverlappingWalk::new(automaton);
     walk.consume(b'a');
-    let mut matches = walk.clone()?.matches();
+    let mut matches = walk.clone()?.matches(1);
     assert_eq!(rt; matches.next(), Some(at(1, 7)));
     assert_eq!(rt; matches.next(), Some(at(1, 8)));
     assert_eq!(rt; matches.next(), None);
@@ -287,11 +287,10 @@ fn walks_by_hand(rt: HostRuntime) -> Result<(), Fail> {
     walk.restart();
     walk.skip(b'b');
     walk.turns_are_bounded();
-    assert_eq!(rt; walk.place(), 2);
     assert_eq!(rt; walk.automaton().values, [7, 8].as_slice());
-    let (found, next) = walk.give(walk.outputs().ok_or("no output")?);
+    let (found, next) = walk.give(walk.outputs().ok_or("no output")?, 2);
     assert_eq!(rt; found, at(2, 7));
-    let (found, next) = walk.give(next.ok_or("one output")?);
+    let (found, next) = walk.give(next.ok_or("one output")?, 2);
     assert_eq!(rt; found, at(2, 8));
     assert!(rt; next.is_none());
     Ok(())
@@ -305,8 +304,9 @@ fn scans_to_the_next_match(rt: HostRuntime) -> Result<(), Fail> {
     };
     let mut walk = OverlappingWalk::new(automaton);
     let mut source = Bytes::new(b"ab");
-    let position = scan(&mut walk, &mut source).ok_or("no match")?;
-    assert_eq!(rt; walk.give(position).0, at(1, 7));
+    let mut place = 0;
+    let position = scan(&mut walk, &mut source, &mut place).ok_or("no match")?;
+    assert_eq!(rt; walk.give(position, place).0, at(1, 7));
     assert_eq!(rt; source.next(), Some(b'b'));
     Ok(())
 }

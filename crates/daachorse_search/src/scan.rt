@@ -10,17 +10,21 @@ ghost use Rattle.daachorse_search.specs.Sources.{IsReady, ScanGives};
 ghost use Rattle.daachorse_search.specs.Stepwise.{Stops};
 
 use crate::stepwise::Stepwise;
+use daachorse_core::edge_label::EdgeLabel;
 use std::num::NonZeroU32;
 
 /// Reads on until there is something to give, and answers the position of its first output;
-/// `None` where the source ends first.
+/// `None` where the source ends first. The place is that after the units read, in bytes.
 #[inline(always)]
 pub fn scan<V: Copy, W: Stepwise<V>, S: Iterator<Item = W::Unit>>(
     walk: &mut W,
     source: &mut S,
+    place: &mut usize,
 ) -> Option<NonZeroU32>
-    requires { IsReady S.can_next S.next_gives S.remaining W.Unit.unit W.Unit.width source.old (size W.Unit.width (W.read walk.old)) }
+    requires ready { IsReady S.can_next S.next_gives S.remaining W.Unit.unit W.Unit.width source.old (size W.Unit.width (W.read walk.old)) }
+    requires here { place.old ≡ size W.Unit.width (W.read walk.old) }
     ensures took { ScanGives W.automaton W.read W.found S.next_gives S.remaining W.Unit.unit walk.old source.old result walk.new source.new }
+    ensures here { place.new ≡ size W.Unit.width (W.read walk.new) }
     ensures ready { MatchOption result (IsFinite (S.remaining source.new))
         (λ _. IsReady S.can_next S.next_gives S.remaining W.Unit.unit W.Unit.width source.new (size W.Unit.width (W.read walk.new))) }
     ensures stops { IfSome result (λ _. Stops W.automaton W.read W.found W.most_found W.has_output W.given_from walk.new result) }
@@ -29,6 +33,7 @@ pub fn scan<V: Copy, W: Stepwise<V>, S: Iterator<Item = W::Unit>>(
         let Some(unit) = source.next() else {
             return None;
         };
+        *place += unit.num_bytes();
         if let Some(position) = walk.advance(unit) {
             return Some(position);
         }

@@ -17,6 +17,8 @@ use std::num::NonZeroU32;
 pub struct Search<V: Copy, W: Stepwise<V>, S: Iterator<Item = W::Unit>> {
     walk: W,
     source: S,
+    // How many bytes were read.
+    place: usize,
     output: Option<NonZeroU32>,
     // The walk has it too. It stands here so that a field's type names what it borrows; no search
     // reads it.
@@ -27,6 +29,7 @@ pub struct Search<V: Copy, W: Stepwise<V>, S: Iterator<Item = W::Unit>> {
 impl<V: Copy, W: Stepwise<V>, S: Iterator<Item = W::Unit>> Model for Search<V, W, S> {
     ghost use Rattle.daachorse_core.specs.Outputs.{number};
     ghost use Rattle.daachorse_search.specs.Searches.{SourceProgress};
+    ghost use Rattle.daachorse_search.specs.Stepwise.{StandsAt};
 
     ghost Value = { SourceProgress V W.Automaton S };
 
@@ -39,7 +42,7 @@ impl<V: Copy, W: Stepwise<V>, S: Iterator<Item = W::Unit>> Model for Search<V, W
       most = W.most_found (W.automaton s.walk);
     } };
 
-    ghost invariant = { λ s. W.has_output s.walk (number s.output) };
+    ghost invariant = { λ s. W.has_output s.walk (number s.output) × StandsAt W.Unit.width (W.read s.walk) s.place };
 }
 
 impl<V: Copy, W: Stepwise<V>, S: Iterator<Item = W::Unit>> Search<V, W, S> {
@@ -59,6 +62,7 @@ impl<V: Copy, W: Stepwise<V>, S: Iterator<Item = W::Unit>> Search<V, W, S> {
         Search {
             walk,
             source,
+            place: 0,
             output,
             automaton,
             of: PhantomData,
@@ -92,9 +96,9 @@ impl<V: Copy, W: Stepwise<V>, S: Iterator<Item = W::Unit>> Iterator for Search<V
     fn next(&mut self) -> Option<Match<V>> {
         let position = match self.output {
             Some(position) => position,
-            None => scan(&mut self.walk, &mut self.source)?,
+            None => scan(&mut self.walk, &mut self.source, &mut self.place)?,
         };
-        let (found, next) = self.walk.give(position);
+        let (found, next) = self.walk.give(position, self.place);
         self.output = next;
         Some(found)
     }

@@ -51,15 +51,15 @@ pub trait Stepwise<V: Copy>: Drop {
 
     /// Reads one unit, and answers the position of the first output behind it.
     fn advance(&mut self, unit: Self::Unit) -> Option<NonZeroU32>
-        requires { size Self.Unit.width (read self.old) + Self.Unit.width (Self.Unit.unit unit) < 2 ^ 64 }
         ensures automaton { automaton self.new ≡ automaton self.old }
         ensures read { read self.new ≡ read self.old ++ Self.Unit.unit unit ∷ [] }
         ensures stops { Stops automaton read found most_found has_output given_from self.new result };
 
     /// The match of the output at a position, which ends where the search stands, and the position
-    /// of the next output to give there.
-    fn give(&self, position: NonZeroU32) -> (Match<V>, Option<NonZeroU32>)
-        requires { has_output self.now position.value }
+    /// of the next output to give there. The place is that after the units read, in bytes.
+    fn give(&self, position: NonZeroU32, place: usize) -> (Match<V>, Option<NonZeroU32>)
+        requires here { place ≡ size Self.Unit.width (read self.now) }
+        requires output { has_output self.now position.value }
         ensures place { has_output self.now (number result.1) }
         ensures given { given_from self.now position.value ≡ result.0 ∷ given_from self.now (number result.1) }
         ensures ends { result.0.end ≡ size Self.Unit.width (read self.now) };

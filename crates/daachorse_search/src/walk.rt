@@ -1,7 +1,8 @@
 //! A walk through an automaton, one unit at a time.
 //!
 //! The layers above may rely on a walk standing at the state of the units that it read since it
-//! last began at the root, and on the bounds of its turns.
+//! last began at the root, and on the bounds of its turns. It counts no bytes: whoever asks for a match
+//! tells the place where the walk stands.
 
 ghost use Rattle.std.specs.Prelude.{◌≡◌, ◌≢◌, Some, None, ◌+◌, ◌*◌, ◌^◌, ◌<◌, ◌≤◌, ℕ, List, [], ◌∷◌, ◌++◌, IfSome, length, count_by};
 ghost use Rattle.daachorse_model.specs.Units.{size};
@@ -20,12 +21,11 @@ use std::alloc::AllocError;
 use std::marker::{Model, PhantomData};
 use std::num::NonZeroU32;
 
-/// Where a search stands in an automaton with no dead link, and in its haystack.
+/// Where a search stands in an automaton with no dead link.
 #[derive(Drop)]
 pub struct Walk<V: Copy, A: Automaton<V>> {
     automaton: A,
     state: u32,
-    place: usize,
     turns: Turns,
     seen: Seen,
     of: PhantomData<V>,
@@ -38,7 +38,7 @@ impl<V: Copy, A: Automaton<V>> Model for Walk<V, A> {
 
     ghost view = { λ s. record { automaton = s.automaton; seen = s.seen; turns = s.turns } };
 
-    ghost invariant = { λ s. IsWalking A.Unit.width (A.content s.automaton) (A.reached s.automaton) (A.text s.automaton) (A.dead s.automaton) (A.has_label s.automaton) s.seen s.state s.place s.turns };
+    ghost invariant = { λ s. IsWalking (A.content s.automaton) (A.reached s.automaton) (A.text s.automaton) (A.dead s.automaton) (A.has_label s.automaton) s.seen s.state s.turns };
 }
 
 impl<V: Copy, A: Automaton<V>> Walk<V, A> {
@@ -54,7 +54,6 @@ impl<V: Copy, A: Automaton<V>> Walk<V, A> {
         Walk {
             automaton,
             state,
-            place: 0,
             turns: Turns::new(),
             seen: Seen::new(),
             of: PhantomData,
@@ -65,7 +64,6 @@ impl<V: Copy, A: Automaton<V>> Walk<V, A> {
     /// end behind it.
     #[inline(always)]
     pub fn consume(&mut self, unit: A::Unit) -> Option<NonZeroU32>
-        requires { size A.Unit.width (units self.old.seen) + A.Unit.width (A.Unit.unit unit) < 2 ^ 64 }
         ensures automaton { self.new.automaton ≡ self.old.automaton }
         ensures seen { self.new.seen ≡ read_on self.old.seen (A.Unit.unit unit ∷ []) }
         ensures outputs { HasOutputs A.Unit.width (A.content self.new.automaton) (A.has_output self.new.automaton) (A.outputs self.new.automaton) (A.most_outputs self.new.automaton)
@@ -74,7 +72,6 @@ impl<V: Copy, A: Automaton<V>> Walk<V, A> {
     {
         let (state, position) = step(&self.automaton, self.state, unit, &mut self.turns);
         self.state = state;
-        self.place += unit.num_bytes();
         self.seen.push(unit.code());
         position
     }
@@ -82,13 +79,11 @@ impl<V: Copy, A: Automaton<V>> Walk<V, A> {
     /// Passes one unit with no look, and begins again at the root behind it.
     #[inline(always)]
     pub fn skip(&mut self, unit: A::Unit)
-        requires { size A.Unit.width (units self.old.seen) + A.Unit.width (A.Unit.unit unit) < 2 ^ 64 }
         ensures automaton { self.new.automaton ≡ self.old.automaton }
         ensures seen { self.new.seen ≡ skip_on self.old.seen (A.Unit.unit unit) }
         ensures turns { self.new.turns ≡ self.old.turns }
     {
         self.state = self.automaton.root();
-        self.place += unit.num_bytes();
         self.seen.skip(unit.code());
     }
 
@@ -109,14 +104,6 @@ impl<V: Copy, A: Automaton<V>> Walk<V, A> {
         ensures { result ≡ self.now.automaton }
     {
         self.automaton.again()
-    }
-
-    /// The place after the units read, in bytes.
-    #[inline(always)]
-    pub fn place(&self) -> usize
-        ensures { result ≡ size A.Unit.width (units self.now.seen) }
-    {
-        self.place
     }
 
     /// The position of the first output of the matches that end here.
@@ -143,18 +130,20 @@ impl<V: Copy, A: Automaton<V>> Walk<V, A> {
     }
 
     /// The match of the output at a position, which ends here, and the position of the next output.
+    /// The place is that after the units read, in bytes.
     #[inline(always)]
-    pub fn give(&self, position: NonZeroU32) -> (Match<V>, Option<NonZeroU32>)
+    pub fn give(&self, position: NonZeroU32, place: usize) -> (Match<V>, Option<NonZeroU32>)
+        requires here { place ≡ size A.Unit.width (units self.now.seen) }
         requires place { A.has_output self.now.automaton position.value }
         requires fits { AllWithin (size A.Unit.width (units self.now.seen)) (A.outputs self.now.automaton position.value) }
         ensures place { A.has_output self.now.automaton (number result.1) }
-        ensures matches { let place = size A.Unit.width (units self.now.seen) in
-            matches_of_outputs place (A.outputs self.now.automaton position.value) ≡ result.0 ∷ matches_of_outputs place (A.outputs self.now.automaton (number result.1)) }
+        ensures matches { let end = size A.Unit.width (units self.now.seen) in
+            matches_of_outputs end (A.outputs self.now.automaton position.value) ≡ result.0 ∷ matches_of_outputs end (A.outputs self.now.automaton (number result.1)) }
         ensures fits { AllWithin (size A.Unit.width (units self.now.seen)) (A.outputs self.now.automaton (number result.1)) }
         ensures ends { result.0.end ≡ size A.Unit.width (units self.now.seen) }
     {
         let output = self.automaton.output(position);
-        (output.to_match(self.place), output.parent())
+        (output.to_match(place), output.parent())
     }
 
     /// Does nothing, and promises that the turns are at most twice the units read, less the
@@ -166,7 +155,7 @@ impl<V: Copy, A: Automaton<V>> Walk<V, A> {
             → self.now.turns + length s ≤ 2 * length (units self.now.seen) }
         ensures least { count_by (A.has_label self.now.automaton) self.now.seen.looked ≤ self.now.turns }
     {
-        let _ = &self.place;
+        let _ = &self.state;
     }
 }
 
@@ -182,7 +171,6 @@ impl<V: Copy, A: Automaton<V>> Clone for Walk<V, A> {
         Ok(Walk {
             automaton: self.automaton.again(),
             state: self.state,
-            place: self.place,
             turns: self.turns.clone()?,
             seen: self.seen.clone()?,
             of: PhantomData,

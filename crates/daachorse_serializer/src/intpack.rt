@@ -103,6 +103,14 @@ impl U24nU8 {
         (self.word % 256) as u8
     }
 
+    /// Both numbers in one word.
+    #[inline(always)]
+    pub fn word(self) -> u32
+        ensures { result ≡ word_of self }
+    {
+        self.word
+    }
+
     /// Sets the number of 24 bits, and keeps the other.
     #[inline(always)]
     pub fn set_a(&mut self, a: U24)

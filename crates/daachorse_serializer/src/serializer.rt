@@ -17,6 +17,7 @@ ghost use Rattle.daachorse_serializer.specs.Laws.{empty_law, kind_law, list_law,
 ghost use Rattle.daachorse_serializer.specs.Outputs.{IsOutput, output_form, take_output};
 ghost use Rattle.daachorse_serializer.specs.Positions.{position_form, take_position};
 
+use crate::words::two_words;
 use daachorse_core::errors::{DaachorseError, Result};
 use daachorse_core::{Empty, MatchKind, Output};
 use std::alloc::{Allocator, Global};
@@ -69,7 +70,11 @@ pub trait Serializable: Sized + Drop {
 }
 
 /// Appends these bytes.
-fn append<A: Allocator>(dst: &mut Vec<u8, A>, bytes: &[u8]) -> Result<()>
+///
+/// # Errors
+/// Out of memory; `dst` then still begins with what it held.
+#[inline(always)]
+pub fn append<A: Allocator>(dst: &mut Vec<u8, A>, bytes: &[u8]) -> Result<()>
     ensures written { OnOk result (dst.new.items ≡ dst.old.items ++ bytes.now) }
     ensures kept { Begins dst.old.items dst.new.items }
     ensures refused { IfErr result IsOutOfMemory }
@@ -594,8 +599,8 @@ impl<V: Serializable + Copy> Serializable for Output<V> {
 
     fn serialize_to_vec<A: Allocator>(&self, dst: &mut Vec<u8, A>) -> Result<()> {
         self.value().serialize_to_vec(dst)?;
-        self.length().serialize_to_vec(dst)?;
-        self.parent().serialize_to_vec(dst)
+        let parent = self.parent().map_or(0, NonZeroU32::get);
+        append(dst, &two_words(self.length(), parent))
     }
 
     fn deserialize_from_slice(src: &[u8]) -> Result<(Self, &[u8])> {

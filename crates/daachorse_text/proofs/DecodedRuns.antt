@@ -1,15 +1,14 @@
 -- The characters that a decoder gives are those of the bytes that it takes; and a source whose bytes are known is a text where they are UTF-8.
-use Rattle.std.proofs.Common.{◌≡◌, ℕ, Option, Some, None, List, [], ◌∷◌, ◌++◌, map, Bool, true, ◌&&◌, length, arith, refl, sym, ap, ◌∙◌, subst, append-nil}
+use Rattle.std.proofs.Common.{◌≡◌, ℕ, Option, Some, None, List, [], ◌∷◌, ◌++◌, Bool, true, ◌&&◌, length, arith, refl, sym, ap, ◌∙◌, subst, append-nil}
 use Rattle.std.proofs.lemmas.Iterator.{IsCollectResult}
 use Rattle.std.proofs.lemmas.Str.{chars-encodes}
 use Rattle.std.proofs.Math.Utf8.{scalar, scalars, encodes}
-use Rattle.std.specs.Iterator.{Count, IsFinite, Yields, Drains, YieldsFirst, YieldsFirstBy}
+use Rattle.std.specs.Iterator.{Count, IsFinite, Yields, Drains, YieldsFirst}
 use Rattle.std.specs.Prelude.{Result, Ok, Err, IfOk, Vec}
 use Rattle.std.specs.Str.{IsUtf8, chars}
 use Rattle.std.specs.Str.Iter.{bytes_rest, bytes_steps}
 use Rattle.std.specs.declared.str.Bytes.{Bytes}
 use Rattle.std.specs.Vec.{vec_items}
-use Rattle.daachorse_search.proofs.HaystackLemmas.{rest-run}
 use Rattle.daachorse_text.specs.DecodedSources.{Yields-encodes}
 use Rattle.daachorse_text.specs.TextSources.{IsText, GivesCharacter}
 
@@ -39,16 +38,9 @@ module _ {S : Type 0} (can : S → Type 0) (steps : S → Option ℕ → S → T
 
 -- a source that shows the bytes which it gives
 module _ {S : Type 0} (steps : S → Option ℕ → S → Type 0) (bytes : S → List ℕ) (gives : (s : S) (r : Option ℕ) (t : S) → steps s r t → YieldsFirst bytes s r t) where
-  by_units : (s : S) (r : Option ℕ) (t : S) → steps s r t → YieldsFirstBy (λ b. b) bytes s r t
-  by_units s None t h = gives s None t h
-  by_units s (Some b) t h = gives s (Some b) t h
-
-  same_units : (w : List ℕ) → map (λ b. b) w ≡ w
-  same_units [] = refl
-  same_units (b ∷ w) = ap (λ v. b ∷ v) (same_units w)
-
   given : (s : S) (xs : List ℕ) (t : S) → Yields steps s xs t → bytes s ≡ xs ++ bytes t
-  given s xs t run = rest-run steps (λ b. b) bytes by_units s xs t run ∙ ap (λ w. w ++ bytes t) (same_units xs)
+  given s [] t same = ap bytes same
+  given s (b ∷ xs) t run = gives s (Some b) run.0 run.1 ∙ ap (λ w. b ∷ w) (given run.0 xs t run.2)
 
   pub all_given : (s : S) (xs : List ℕ) → Drains steps s xs → bytes s ≡ xs
   all_given s xs drains = let none = gives drains.1.0 None drains.0 drains.1.2 in given s xs drains.1.0 drains.1.1 ∙ ap (λ w. xs ++ w) none.0 ∙ append-nil xs

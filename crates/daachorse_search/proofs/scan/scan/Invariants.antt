@@ -1,4 +1,4 @@
-use Rattle.std.proofs.Common.{List}
+use Rattle.std.proofs.Common.{◌≡◌, List}
 use Rattle.std.specs.Iterator.{items_left}
 use Rattle.daachorse_model.specs.Units.{size}
 use Rattle.daachorse_search.specs.Sources.{IsReady, ScansOver}
@@ -10,6 +10,7 @@ invariant-units g l =
     record {
       over : (xs : List g.row.W-Unit.Denot) × ScansOver W.automaton W.read W.found S.next_gives S.remaining unit.unit l.fn.walk l.fn.source xs l.walk l.source;
       ready : IsReady S.can_next S.next_gives S.remaining unit.unit unit.width l.source (size unit.width (W.read l.walk));
+      here : l.place ≡ size unit.width (W.read l.walk);
     }
 
 abbrev pub decreases-units : goal.decreases-units

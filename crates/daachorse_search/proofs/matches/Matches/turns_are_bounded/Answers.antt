@@ -6,4 +6,4 @@ use Rattle.daachorse_search.proofs.matches.Matches.turns_are_bounded.Goals as go
 pub returns-clause-passed : goal.returns-clause-passed
 returns-clause-passed g c =
     let P : Progress g.row.V.Denot g.row.W-Automaton.Denot → Type 0 = λ p. (back : List ℕ) × (p.haystack ≡ p.passed ++ back) in
-    subst P c.self.view_is (g.H.Haystack.rest c.self.inside.search.source, refl)
+    subst P c.self.view_is (g.H.Haystack.rest c.self.inside.rest, refl)

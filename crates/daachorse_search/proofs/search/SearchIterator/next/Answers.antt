@@ -22,7 +22,7 @@ reached g c =
           (IsReached-pending_at W.automaton W.read W.turns W.found W.most_found W.has_output W.given_from S.can_next S.next_gives S.remaining unit.unit unit.width c.args.self.now was.walk was.source (number was.output) c.self.view_is c.requires)))
       | in-None+in_ok-position-in-None w ↦
           let to = w.scan.new in let scanned = w.in_ok-position-in-None in
-          let after : I = record { walk = to.walk; source = to.source; output = was.output; automaton = was.automaton; of = was.of } in
+          let after : I = record { walk = to.walk; source = to.source; place = to.place; output = was.output; automaton = was.automaton; of = was.of } in
           subst P (sym w.self-inside-is) (subst (Q after) (sym w.position-is)
           (IsReached-scan_at W.automaton W.read W.turns W.found W.most_found W.has_output W.given_from S.can_next S.next_gives S.remaining unit.unit unit.width c.args.self.now was.walk was.source (number was.output) scanned.position to.walk to.source
           c.self.view_is (ap number w.in-None.is) (g.met.W.Stepwise.no_output was.walk).1 scanned.ensures.took scanned.ensures.stops scanned.ensures.ready))
@@ -32,7 +32,7 @@ reached g c =
 pub invariant_of-self : goal.invariant_of-self
 invariant_of-self g c =
     let P : ℕ → Type 0 = λ n. g.W.Stepwise.has_output c.scan.new.walk n in
-    subst P (sym (ap number c.in-None.is)) (g.met.W.Stepwise.no_output c.scan.new.walk).0
+    (subst P (sym (ap number c.in-None.is)) (g.met.W.Stepwise.no_output c.scan.new.walk).0, c.scan.ensures.here)
 
 pub returns-clause-steps : goal.returns-clause-steps
 returns-clause-steps g c =

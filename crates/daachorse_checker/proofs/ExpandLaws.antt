@@ -1,0 +1,161 @@
+-- How the walk goes over the children of the element at one place.
+use Rattle.std.proofs.Common.{◌≡◌, ℕ, ◌+◌, ◌<◌, ◌≤◌, List, [], ◌∷◌, ◌++◌, length, Option, Some, None, sym, ap, ◌∙◌, subst, inl, inr, refl, arith, get_or, set, ◌⊎◌}
+use Rattle.std.proofs.lemmas.List.{length-set, length_push, get_or_push}
+use Rattle.std.proofs.lemmas.Option.{none-some}
+use Rattle.std.proofs.lemmas.Bool.{cases_lt, cases_eq}
+use Rattle.daachorse_listing.specs.Edges.{TellChildren, is_in, members}
+use Rattle.daachorse_checker.specs.Places.{HasOnePath, HasPlaces, HasEntry, IsClosed, IsWalk}
+use Rattle.daachorse_checker.proofs.MemberLaws.{IsLast, below-none, below-cons, label, one_unit, member_child, child_member}
+use Rattle.daachorse_checker.proofs.PlaceLaws.{old_at, few, places_push, entry_push, entry_new, closed_push, parents_push}
+use Rattle.daachorse_checker.proofs.TreeLaws.{one_path_from, no_root, no_second}
+
+module _ (child : ℕ → ℕ → Option ℕ) (edge : ℕ → Option (ℕ × ℕ)) (n : ℕ) where
+  -- At place k, with all before it done: its children from element r on have places, and none of its children before r has one under it.
+  pub record IsExpanding (order parents labels marks : List ℕ) (k r : ℕ) : Type 0 where
+    pub places : HasPlaces child (label edge) order parents labels marks
+    pub closed : IsClosed child order parents k
+    pub marks_each : length marks ≡ n
+    pub here : k < length order
+    pub recent : (m : ℕ) → 0 < m → m < length order → get_or parents m 0 ≤ k
+    pub latest : (m : ℕ) → 0 < m → m < length order → get_or parents m 0 ≡ k → r ≤ get_or order m 0
+    pub seen : (c t : ℕ) → child (get_or order k 0) c ≡ Some t → r ≤ t → HasEntry order parents k t
+
+  -- the members of group g below some element are left, at place k
+  pub record IsLeft (left order parents labels marks : List ℕ) (g k : ℕ) : Type 0 where
+    pub bound : ℕ
+    pub most : bound ≤ n
+    pub is : left ≡ members edge g bound
+    pub walk : IsExpanding order parents labels marks k bound
+
+module _ (child : ℕ → ℕ → Option ℕ) (group : ℕ → Option ℕ) (edge : ℕ → Option (ℕ × ℕ)) (n : ℕ) (tell : TellChildren child group edge n) (inside : (i c j : ℕ) → child i c ≡ Some j → j < n) where
+  module _ (order parents labels marks : List ℕ) where
+    at_place : HasPlaces child (label edge) order parents labels marks → length marks ≡ n → (k : ℕ) → k < length order → get_or order k 0 < n
+    at_place places each k here = omega (arith, places.inside k here, each)
+
+    pub expand_start : (g k : ℕ) → IsWalk child (label edge) n order parents labels marks k → k < length order → IsLeft child edge n (members edge g n) order parents labels marks g k
+    expand_start g k walk here = record {
+      bound = n;
+      most = omega arith;
+      is = refl;
+      walk = record {
+        places = walk.places;
+        closed = walk.closed;
+        marks_each = walk.marks_each;
+        here = here;
+        recent = λ m pos lt. omega (arith, walk.recent m pos lt);
+        latest = λ m pos lt e. absurd (omega (arith, walk.recent m pos lt, e));
+        seen = λ c t e less. absurd (omega (arith, inside (get_or order k 0) c t e, less));
+      };
+    }
+
+    -- an element with no group has no child
+    pub expand_none : (k : ℕ) → IsWalk child (label edge) n order parents labels marks k → k < length order → group (get_or order k 0) ≡ None → IsWalk child (label edge) n order parents labels marks (k + 1)
+    expand_none k walk here none = record {
+      places = walk.places;
+      closed = λ l less c t e. elim (cases_lt l k) [
+        | inl a ↦ walk.closed l a c t e
+        | inr b ↦
+            let same : l ≡ k = omega (arith, less, b) in
+            absurd (none-some t (sym (tell.alone (get_or order k 0) c (at_place walk.places walk.marks_each k here) none) ∙ (ap (λ i. child (get_or order i 0) c) (sym same) ∙ e)))
+      ];
+      recent = λ m pos lt. omega (arith, walk.recent m pos lt);
+      marks_each = walk.marks_each;
+      within = omega (arith, here);
+    }
+
+    module _ (g k : ℕ) (is : group (get_or order k 0) ≡ Some g) where
+      module _ (x : ℕ) (rest : List ℕ) (left : IsLeft child edge n (x ∷ rest) order parents labels marks g k) where
+        last : IsLast (λ j. is_in g (edge j)) left.bound x rest
+        last = below-cons (λ j. is_in g (edge j)) left.bound x rest (sym left.is)
+
+        pub next_in : x < n
+        next_in = omega (arith, last.less, left.most)
+
+        parent_in : get_or order k 0 < n
+        parent_in = at_place left.walk.places left.walk.marks_each k left.walk.here
+
+        -- the walk is at a child
+        edge_at : child (get_or order k 0) (label edge x) ≡ Some x
+        edge_at = member_child child group edge n tell (get_or order k 0) g parent_in is x next_in last.passes
+
+        pub expand_next : 1 < x → get_or marks x 0 ≡ 0 → (u : ℕ) → u ≡ label edge x → IsLeft child edge n rest (order ++ x ∷ []) (parents ++ k ∷ []) (labels ++ u ∷ []) (set marks x (length order)) g k
+        expand_next low none u same =
+            let walk = left.walk in
+            let high : x < length marks = omega (arith, next_in, walk.marks_each) in
+            let here' : get_or (order ++ x ∷ []) k 0 ≡ get_or order k 0 = old_at order x k walk.here in
+            record {
+              bound = x;
+              most = omega (arith, next_in);
+              is = last.before;
+              walk = record {
+                places = places_push child (label edge) order parents labels marks walk.places k x u walk.here edge_at same low none high walk.recent;
+                closed = closed_push child (label edge) order parents labels marks walk.places k x u walk.here edge_at same low none high walk.recent k (omega (arith, walk.here)) walk.closed;
+                marks_each = length-set marks x (length order) ∙ walk.marks_each;
+                here = omega (arith, walk.here, length_push order x);
+                recent = parents_push child (label edge) order parents labels marks walk.places k x u walk.here edge_at same low none high walk.recent;
+                latest = λ m pos less e. elim (cases_lt m (length order)) [
+                  | inl a ↦ omega (arith, old_at order x m a, walk.latest m pos a (sym (old_at parents k m (omega (arith, a, walk.places.one_each))) ∙ e), last.less)
+                  | inr b ↦ newest m b less
+                ];
+                seen = λ c t e less. elim (cases_eq t x) [
+                  | inl one ↦ subst (λ i. HasEntry (order ++ x ∷ []) (parents ++ k ∷ []) k i) (sym one) (entry_new child (label edge) order parents labels marks walk.places k x u walk.here edge_at same low none high walk.recent)
+                  | inr other ↦
+                      let e' : child (get_or order k 0) c ≡ Some t = ap (λ s. child s c) (sym here') ∙ e in
+                      elim (cases_lt t left.bound) [
+                        | inl a ↦ absurd (last.none t (omega (arith, less, other)) a (child_member child group edge n tell (get_or order k 0) g parent_in is c t e'))
+                        | inr b ↦ entry_push child (label edge) order parents labels marks walk.places k x u walk.here edge_at same low none high walk.recent k t (walk.seen c t e' b)
+                      ]
+                ];
+              };
+            }
+          where
+            newest : (m : ℕ) → length order ≤ m → m < length (order ++ x ∷ []) → x ≤ get_or (order ++ x ∷ []) m 0
+            newest m b less =
+                let top : length order ≡ m = omega (arith, b, less, length_push order x) in
+                omega (arith, get_or_push order x 0 m top)
+
+        pub refuse_low : x ≤ 1 → HasOnePath child → ⊥
+        refuse_low low = no_root child (label edge) order parents labels marks left.walk.places k (label edge x) x left.walk.here edge_at low
+
+        pub refuse_marked : 0 < get_or marks x 0 → HasOnePath child → ⊥
+        refuse_marked pos tree =
+            let places = left.walk.places in
+            let at = places.marked x pos in
+            let m = get_or marks x 0 in
+            let p = get_or parents m 0 in
+            let up = places.earlier m pos at.0 in
+            let e : child (get_or order p 0) (label edge (get_or order m 0)) ≡ Some x = places.edge m pos at.0 ∙ ap Some at.1 in
+            no_second child (label edge) order parents labels marks places k p (label edge x) (label edge (get_or order m 0)) x left.walk.here (omega (arith, up, at.0))
+            (λ same. omega (arith, left.walk.latest m pos at.0 (sym same), at.1, last.less))
+            edge_at e tree
+
+      pub expand_done : IsLeft child edge n [] order parents labels marks g k → IsWalk child (label edge) n order parents labels marks (k + 1)
+      expand_done left = record {
+        places = walk.places;
+        closed = λ l less c t e. elim (cases_lt l k) [
+          | inl a ↦ walk.closed l a c t e
+          | inr b ↦
+              let same : l ≡ k = omega (arith, less, b) in
+              let e' : child (get_or order k 0) c ≡ Some t = ap (λ i. child (get_or order i 0) c) (sym same) ∙ e in
+              subst (λ i. HasEntry order parents i t) (sym same) (at c t e' (cases_lt t left.bound))
+        ];
+        recent = λ m pos lt. omega (arith, walk.recent m pos lt);
+        marks_each = walk.marks_each;
+        within = omega (arith, walk.here);
+      }
+        where
+          walk : IsExpanding child edge n order parents labels marks k left.bound
+          walk = left.walk
+
+          at : (c t : ℕ) → child (get_or order k 0) c ≡ Some t → (t < left.bound) ⊎ (left.bound ≤ t) → HasEntry order parents k t
+          at c t e (inl a) = absurd (below-none (λ j. is_in g (edge j)) left.bound t (sym left.is) a (child_member child group edge n tell (get_or order k 0) g (at_place walk.places walk.marks_each k walk.here) is c t e))
+          at c t e (inr b) = walk.seen c t e b
+
+    pub few_places : HasPlaces child (label edge) order parents labels marks → length marks ≡ n → length order ≤ n
+    few_places places each = omega (arith, few child (label edge) order parents labels marks places, each)
+
+    pub all_placed : IsWalk child (label edge) n order parents labels marks (length order) → HasOnePath child
+    all_placed walk =
+        one_path_from child (label edge) order parents labels marks walk.places
+        (λ s c t found e. one_unit child group edge n tell s c t (omega (arith, at_place walk.places walk.marks_each found.0 found.1, found.2)) e)
+        walk.closed

@@ -1,0 +1,13 @@
+pub mod MemberLaws
+pub mod PlaceLaws
+pub mod TreeLaws
+pub mod ExpandLaws
+pub mod RunLaws
+pub mod JoinLaws
+pub mod RightLinks
+pub mod SizeLaws
+pub mod CountLaws
+pub mod LeafLaws
+pub mod LinkPlaces
+pub mod ChainedLaws
+pub mod CheckedLaws

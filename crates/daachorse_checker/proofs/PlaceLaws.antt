@@ -1,0 +1,144 @@
+-- How places grow by one child.
+use Rattle.std.proofs.Common.{◌≡◌, ℕ, ◌+◌, ◌<◌, ◌≤◌, ◌⊎◌, List, [], ◌∷◌, ◌++◌, length, Option, Some, refl, sym, ap, zero, suc, ◌∙◌, inl, inr, arith, get_or, set, replicate, get_or-set_other, get_or-set_same}
+use Rattle.std.proofs.lemmas.List.{length-set, length-replicate, get_or-replicate, length_push, get_or_push, get_or_append_left, get_or_past}
+use Rattle.std.proofs.lemmas.Bool.{cases_lt, cases_eq}
+use Rattle.daachorse_machine.proofs.PathLaws.{pigeon}
+use Rattle.daachorse_checker.specs.Places.{HasPlaces, HasEntry, IsClosed}
+
+pub old_at : (xs : List ℕ) (y i : ℕ) → i < length xs → get_or (xs ++ y ∷ []) i 0 ≡ get_or xs i 0
+old_at xs y i lt = get_or_append_left xs (y ∷ []) 0 i lt
+
+zeros : (n i : ℕ) → get_or {A = ℕ} (replicate n 0) i 0 ≡ 0
+zeros n i = elim (cases_lt i n) [ inl h ↦ get_or-replicate n i 0 0 h | inr h ↦ get_or_past (replicate n 0) i 0 (omega (arith, h, length-replicate {A = ℕ} n 0)) ]
+
+module _ (child : ℕ → ℕ → Option ℕ) (label : ℕ → ℕ) where
+  module _ (order parents labels marks : List ℕ) (h : HasPlaces child label order parents labels marks) where
+    -- an element has one place
+    pub same_place : (l m : ℕ) → l < length order → m < length order → get_or order l 0 ≡ get_or order m 0 → l ≡ m
+    same_place l m hl hm e = sym (h.placed l hl) ∙ ap (λ i. get_or marks i 0) e ∙ h.placed m hm
+
+    -- there are at most as many places as elements
+    pub few : length order ≤ length marks
+    few = pigeon (length marks) (length order) (λ m. get_or order m 0) h.inside (λ l m less lt e. omega (arith, less, same_place l m (omega (arith, less, lt)) lt e))
+
+    -- what has no mark has no place
+    pub fresh : (j m : ℕ) → 1 < j → get_or marks j 0 ≡ 0 → m < length order → get_or order m 0 ≡ j → ⊥
+    fresh j zero low none lt e = omega (arith, h.first, e, low)
+    fresh j (suc m) low none lt e =
+        let d = ap (λ i. get_or marks i 0) e in
+        omega (arith, h.placed (suc m) lt, d, none)
+
+    module _ (k j u : ℕ) (here : k < length order) (edge : child (get_or order k 0) (label j) ≡ Some j) (is : u ≡ label j) (low : 1 < j) (none : get_or marks j 0 ≡ 0) (high : j < length marks) (last : (m : ℕ) → 0 < m → m < length order → get_or parents m 0 ≤ k) where
+      abbrev new : List ℕ
+      new = set marks j (length order)
+
+      kept : (m : ℕ) → m < length order → get_or new (get_or (order ++ j ∷ []) m 0) 0 ≡ get_or marks (get_or order m 0) 0
+      kept m lt =
+          ap (λ i. get_or new i 0) (old_at order j m lt)
+          ∙ get_or-set_other marks j (get_or order m 0) (length order) 0 (fresh j m low none lt)
+
+      old_or_new : (m : ℕ) → m < length (order ++ j ∷ []) → (m < length order) ⊎ (m ≡ length order)
+      old_or_new m lt = elim (cases_lt m (length order)) [ inl a ↦ inl a | inr b ↦ inr (omega (arith, lt, b, length_push order j)) ]
+
+      new_order : (m : ℕ) → m ≡ length order → get_or (order ++ j ∷ []) m 0 ≡ j
+      new_order m e = get_or_push order j 0 m (sym e)
+
+      new_parents : (m : ℕ) → m ≡ length order → get_or (parents ++ k ∷ []) m 0 ≡ k
+      new_parents m e = get_or_push parents k 0 m (h.one_each ∙ sym e)
+
+      old_parents : (m : ℕ) → m < length order → get_or (parents ++ k ∷ []) m 0 ≡ get_or parents m 0
+      old_parents m lt = old_at parents k m (omega (arith, lt, h.one_each))
+
+      pub places_push : HasPlaces child label (order ++ j ∷ []) (parents ++ k ∷ []) (labels ++ u ∷ []) new
+      places_push = record {
+        some = omega (arith, length_push order j);
+        first = old_at order j 0 h.some ∙ h.first;
+        one_each = length_push parents k ∙ ap (λ n. n + 1) h.one_each ∙ sym (length_push order j);
+        label_each = length_push labels u ∙ ap (λ n. n + 1) h.label_each ∙ sym (length_push order j);
+        earlier = λ m pos lt. elim (old_or_new m lt) [
+          | inl a ↦ omega (arith, old_parents m a, h.earlier m pos a)
+          | inr b ↦ omega (arith, new_parents m b, here, b)
+        ];
+        edge = λ m pos lt. elim (old_or_new m lt) [
+          | inl a ↦
+              let up = h.earlier m pos a in
+              let p : get_or (order ++ j ∷ []) (get_or (parents ++ k ∷ []) m 0) 0 ≡ get_or order (get_or parents m 0) 0 =
+              ap (λ i. get_or (order ++ j ∷ []) i 0) (old_parents m a) ∙ old_at order j (get_or parents m 0) (omega (arith, up, a)) in
+              ap (λ s. child s (label (get_or (order ++ j ∷ []) m 0))) p
+              ∙ ap (λ t. child (get_or order (get_or parents m 0) 0) (label t)) (old_at order j m a)
+              ∙ h.edge m pos a ∙ ap Some (sym (old_at order j m a))
+          | inr b ↦
+              let p : get_or (order ++ j ∷ []) (get_or (parents ++ k ∷ []) m 0) 0 ≡ get_or order k 0 =
+              ap (λ i. get_or (order ++ j ∷ []) i 0) (new_parents m b) ∙ old_at order j k here in
+              ap (λ s. child s (label (get_or (order ++ j ∷ []) m 0))) p
+              ∙ ap (λ t. child (get_or order k 0) (label t)) (new_order m b)
+              ∙ edge ∙ ap Some (sym (new_order m b))
+        ];
+        labelled = λ m pos lt. elim (old_or_new m lt) [
+          | inl a ↦ old_at labels u m (omega (arith, a, h.label_each)) ∙ h.labelled m pos a ∙ ap label (sym (old_at order j m a))
+          | inr b ↦ get_or_push labels u 0 m (h.label_each ∙ sym b) ∙ is ∙ ap label (sym (new_order m b))
+        ];
+        alive = λ m pos lt. elim (old_or_new m lt) [
+          | inl a ↦ omega (arith, old_at order j m a, h.alive m pos a)
+          | inr b ↦ omega (arith, new_order m b, low)
+        ];
+        inside = λ m lt. elim (old_or_new m lt) [
+          | inl a ↦ omega (arith, old_at order j m a, h.inside m a, length-set marks j (length order))
+          | inr b ↦ omega (arith, new_order m b, high, length-set marks j (length order))
+        ];
+        placed = λ m lt. elim (old_or_new m lt) [
+          | inl a ↦ kept m a ∙ h.placed m a
+          | inr b ↦ ap (λ i. get_or new i 0) (new_order m b) ∙ get_or-set_same marks j (length order) 0 high ∙ sym b
+        ];
+        marked = λ i pos. elim (cases_eq i j) [
+          | inl g ↦
+              let at : get_or new i 0 ≡ length order = ap (λ q. get_or new q 0) g ∙ get_or-set_same marks j (length order) 0 high in
+              (omega (arith, at, length_push order j), new_order (get_or new i 0) at ∙ sym g)
+          | inr g ↦
+              let at : get_or new i 0 ≡ get_or marks i 0 = get_or-set_other marks j i (length order) 0 g in
+              let old = h.marked i (omega (arith, pos, at)) in
+              (omega (arith, at, old.0, length_push order j), ap (λ q. get_or (order ++ j ∷ []) q 0) at ∙ old_at order j (get_or marks i 0) old.0 ∙ old.1)
+        ];
+        rising = λ l m pos less lt. elim (old_or_new m (omega (arith, lt, length_push parents k, h.one_each, length_push order j))) [
+          | inl a ↦ omega (arith, old_parents m a, old_parents l (omega (arith, less, a)), h.rising l m pos less (omega (arith, a, h.one_each)))
+          | inr b ↦
+              let l_in : l < length order = omega (arith, less, b) in
+              omega (arith, new_parents m b, old_parents l l_in, last l pos l_in)
+        ];
+      }
+
+      pub entry_push : (l i : ℕ) → HasEntry order parents l i → HasEntry (order ++ j ∷ []) (parents ++ k ∷ []) l i
+      entry_push l i e = (e.0, e.1, omega (arith, e.2, length_push order j), old_at order j e.0 e.2 ∙ e.3, old_parents e.0 e.2 ∙ e.4)
+
+      pub entry_new : HasEntry (order ++ j ∷ []) (parents ++ k ∷ []) k j
+      entry_new = (length order, h.some, omega (arith, length_push order j), new_order (length order) refl, new_parents (length order) refl)
+
+      pub closed_push : (next : ℕ) → next ≤ length order → IsClosed child order parents next → IsClosed child (order ++ j ∷ []) (parents ++ k ∷ []) next
+      closed_push next le closed l less c t e =
+          entry_push l t (closed l less c t (ap (λ s. child s c) (sym (old_at order j l (omega (arith, less, le)))) ∙ e))
+
+      pub parents_push : (m : ℕ) → 0 < m → m < length (order ++ j ∷ []) → get_or (parents ++ k ∷ []) m 0 ≤ k
+      parents_push m pos lt = elim (old_or_new m lt) [ inl a ↦ omega (arith, old_parents m a, last m pos a) | inr b ↦ omega (arith, new_parents m b) ]
+
+  -- the root alone
+  pub places_root : (order parents labels marks : List ℕ) (n : ℕ) → 0 < n → order ≡ 0 ∷ [] → parents ≡ 0 ∷ [] → labels ≡ 0 ∷ [] → marks ≡ replicate n 0 → HasPlaces child label order parents labels marks
+  places_root order parents labels marks n pos o p l d =
+      let flat : (i : ℕ) → get_or marks i 0 ≡ 0 = λ i. ap (λ xs. get_or xs i 0) d ∙ zeros n i in
+      let len : length order ≡ 1 = ap length o in
+      let lenp : length parents ≡ 1 = ap length p in
+      record {
+        some = omega (arith, len);
+        first = ap (λ xs. get_or xs 0 0) o;
+        one_each = lenp ∙ sym len;
+        label_each = ap length l ∙ sym len;
+        earlier = λ m low high. absurd (omega (arith, len, low, high));
+        edge = λ m low high. absurd (omega (arith, len, low, high));
+        labelled = λ m low high. absurd (omega (arith, len, low, high));
+        alive = λ m low high. absurd (omega (arith, len, low, high));
+        inside = λ m high.
+            let is : m ≡ 0 = omega (arith, len, high) in
+            omega (arith, ap (λ k. get_or order k 0) is, ap (λ xs. get_or xs 0 0) o, ap length d, length-replicate {A = ℕ} n 0, pos);
+        placed = λ m high. flat (get_or order m 0) ∙ (let is : 0 ≡ m = omega (arith, len, high) in is);
+        marked = λ j low. absurd (omega (arith, flat j, low));
+        rising = λ i m low less high. absurd (omega (arith, lenp, low, less, high));
+      }

@@ -1,0 +1,13 @@
+use Rattle.std.proofs.Common.{◌<◌, ◌≤◌, ◌-◌, length}
+use Rattle.daachorse_checker.specs.Chains.{AreLeavesOf}
+use Rattle.daachorse_checker.proofs.chains.leaves.Given as goal
+
+abbrev pub invariant-loop-place : goal.invariant-loop-place
+invariant-loop-place g l = record {
+  low : 0 < l.place;
+  within : l.place ≤ length l.parents;
+  are : AreLeavesOf l.parents l.leaves.items l.place;
+}
+
+abbrev pub decreases-loop-place : goal.decreases-loop-place
+decreases-loop-place g l = length l.parents - l.place

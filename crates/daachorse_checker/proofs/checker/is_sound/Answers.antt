@@ -1,0 +1,11 @@
+use Rattle.std.proofs.Common.{refl}
+use Rattle.daachorse_checker.proofs.checker.is_sound.Goals as goal
+
+pub returns-clause-yes : goal.returns-clause-yes
+returns-clause-yes g c e =
+    let ranges = c.if-not-ranges_hold.ensures.yes refl in
+    let both = c.in_ok-right.ensures.yes e in
+    record { ranges = ranges; parents_fall = c.if-not-parents_fall.ensures.yes refl; right = both.0; counted = both.1 }
+
+pub returns-clause-no : goal.returns-clause-no
+returns-clause-no g c e sound = c.in_ok-right.ensures.no e sound.right sound.counted

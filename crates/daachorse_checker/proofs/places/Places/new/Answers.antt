@@ -1,0 +1,33 @@
+use Rattle.std.proofs.Common.{◌≡◌, length, subst, arith}
+use Rattle.daachorse_listing.specs.Listing.{unit_of}
+use Rattle.daachorse_checker.specs.Places.{IsWalk}
+use Rattle.daachorse_checker.proofs.ExpandLaws.{few_places, all_placed}
+use Rattle.daachorse_checker.proofs.places.Places.new.Goals as goal
+
+pub overflow_add-next : goal.overflow_add-next
+overflow_add-next g c =
+    let t = c.loop-next.places in
+    let a = c.args.array.now in
+    let walk = c.loop-next.invariant.walk in
+    let most = few_places (g.E.Edges.child a) (g.E.Edges.group a) (g.E.Edges.edge a) (g.E.Edges.count a) c.requires.tell (λ i u j h. (c.requires.inside i u j h).0) t.order.items t.parents.items t.labels.items t.marks.items walk.places walk.marks_each in
+    omega (arith, most, c.num_elements.ensures.all, c.num_elements.ensures.few, c.loop-next-test.true, c.len.ensures)
+
+pub loop-next-smaller : goal.loop-next-smaller
+loop-next-smaller g c =
+    let t = c.loop-next.places in
+    let a = c.args.array.now in
+    let walk = c.loop-next.invariant.walk in
+    let most = few_places (g.E.Edges.child a) (g.E.Edges.group a) (g.E.Edges.edge a) (g.E.Edges.count a) c.requires.tell (λ i u j h. (c.requires.inside i u j h).0) t.order.items t.parents.items t.labels.items t.marks.items walk.places walk.marks_each in
+    omega (arith, most, c.loop-next-test.true, c.len.ensures)
+
+pub returns-clause-yes : goal.returns-clause-yes
+returns-clause-yes g c =
+    let t = c.loop-next.places in
+    let a = c.args.array.now in
+    let walk = c.loop-next.invariant.walk in
+    let done : c.loop-next.next ≡ length t.order.items = omega (arith, walk.within, c.loop-next-test.false, c.len.ensures) in
+    let all : IsWalk (g.E.Edges.child a) (λ j. unit_of (g.E.Edges.edge a j)) (g.E.Edges.count a) t.order.items t.parents.items t.labels.items t.marks.items (length t.order.items) =
+    subst (λ k. IsWalk (g.E.Edges.child a) (λ j. unit_of (g.E.Edges.edge a j)) (g.E.Edges.count a) t.order.items t.parents.items t.labels.items t.marks.items k) done walk in (
+      all_placed (g.E.Edges.child a) (g.E.Edges.group a) (g.E.Edges.edge a) (g.E.Edges.count a) c.requires.tell (λ i u j h. (c.requires.inside i u j h).0) t.order.items t.parents.items t.labels.items t.marks.items all,
+      record { places = all.places; closed = all.closed; marks_each = all.marks_each },
+    )

@@ -1,0 +1,12 @@
+use Rattle.std.proofs.Common.{◌-◌}
+use Rattle.daachorse_listing.specs.Listing.{unit_of}
+use Rattle.daachorse_checker.specs.Places.{IsWalk}
+use Rattle.daachorse_checker.proofs.places.Places.new.Given as goal
+
+abbrev pub invariant-loop-next : goal.invariant-loop-next
+invariant-loop-next g l = record {
+  walk : IsWalk (g.E.Edges.child l.array) (λ j. unit_of (g.E.Edges.edge l.array j)) (g.E.Edges.count l.array) l.places.order.items l.places.parents.items l.places.labels.items l.places.marks.items l.next;
+}
+
+abbrev pub decreases-loop-next : goal.decreases-loop-next
+decreases-loop-next g l = g.E.Edges.count l.array - l.next

@@ -1,0 +1,6 @@
+pub mod Places
+pub mod Runs
+pub mod Links
+pub mod Sizes
+pub mod Chains
+pub mod Sound

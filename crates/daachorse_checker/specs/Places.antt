@@ -1,0 +1,46 @@
+-- The elements of an array that texts lead to, at places: breadth first, each behind its parent.
+use Rattle.std.specs.Prelude.{◌≡◌, ℕ, ◌<◌, ◌≤◌, List, length, Option, Some, slice_index}
+use Rattle.daachorse_model.specs.Paths.{Leads}
+
+-- no text leads to the dead element, and no two texts lead to one element
+pub record HasOnePath (child : ℕ → ℕ → Option ℕ) : Type 0 where
+  pub dead_no_child : (w : List ℕ) → ¬ Leads child w 1
+  pub one_path : (i : ℕ) (v w : List ℕ) → Leads child v i → Leads child w i → v ≡ w
+
+-- Elements at places, the root at place 0. `label` is the unit that leads to an element, and `marks` has the place of each element, 0 for one that has none.
+pub record HasPlaces (child : ℕ → ℕ → Option ℕ) (label : ℕ → ℕ) (order parents labels marks : List ℕ) : Type 0 where
+  pub some : 0 < length order
+  pub first : slice_index order 0 ≡ 0
+  pub one_each : length parents ≡ length order
+  pub label_each : length labels ≡ length order
+  pub earlier : (m : ℕ) → 0 < m → m < length order → slice_index parents m < m
+  pub edge : (m : ℕ) → 0 < m → m < length order → child (slice_index order (slice_index parents m)) (label (slice_index order m)) ≡ Some (slice_index order m)
+  pub labelled : (m : ℕ) → 0 < m → m < length order → slice_index labels m ≡ label (slice_index order m)
+  pub alive : (m : ℕ) → 0 < m → m < length order → 1 < slice_index order m
+  pub inside : (m : ℕ) → m < length order → slice_index order m < length marks
+  pub placed : (m : ℕ) → m < length order → slice_index marks (slice_index order m) ≡ m
+  pub marked : (j : ℕ) → 0 < slice_index marks j → (slice_index marks j < length order) × (slice_index order (slice_index marks j) ≡ j)
+  -- parents come in the order of the places
+  pub rising : (l m : ℕ) → 0 < l → l < m → m < length parents → slice_index parents l ≤ slice_index parents m
+
+-- element j has a place, and its parent is at place k
+abbrev pub HasEntry : List ℕ → List ℕ → ℕ → ℕ → Type 0
+HasEntry order parents k j = (m : ℕ) × (0 < m) × (m < length order) × (slice_index order m ≡ j) × (slice_index parents m ≡ k)
+
+-- the children of the elements at the first k places have places
+abbrev pub IsClosed : (ℕ → ℕ → Option ℕ) → List ℕ → List ℕ → ℕ → Type 0
+IsClosed child order parents next = (k : ℕ) → k < next → (c j : ℕ) → child (slice_index order k) c ≡ Some j → HasEntry order parents k j
+
+-- Of n elements those at the first places, whose children have places too; all others that have one are children of these.
+pub record IsWalk (child : ℕ → ℕ → Option ℕ) (label : ℕ → ℕ) (n : ℕ) (order parents labels marks : List ℕ) (next : ℕ) : Type 0 where
+  pub places : HasPlaces child label order parents labels marks
+  pub closed : IsClosed child order parents next
+  pub recent : (m : ℕ) → 0 < m → m < length order → slice_index parents m < next
+  pub marks_each : length marks ≡ n
+  pub within : next ≤ length order
+
+-- of n elements just those that texts lead to have places
+pub record ArePlaces (child : ℕ → ℕ → Option ℕ) (label : ℕ → ℕ) (n : ℕ) (order parents labels marks : List ℕ) : Type 0 where
+  pub places : HasPlaces child label order parents labels marks
+  pub closed : IsClosed child order parents (length order)
+  pub marks_each : length marks ≡ n

@@ -1,0 +1,100 @@
+//! The chains of outputs of the elements at places, and the sizes of their texts.
+//!
+//! The layers above may rely on [`chain_holds`] telling whether an element's chain is the right one, in one
+//! step, where the runs of the outputs are at hand.
+
+ghost use Rattle.std.specs.Prelude.{◌≡◌, ◌<◌, ◌≤◌, ◌^◌, ℕ, Some, true, false, length, slice_index, IfOk, IfErr};
+ghost use Rattle.daachorse_core.specs.Refusals.{IsOutOfMemory};
+ghost use Rattle.daachorse_listing.specs.Listing.{unit_of};
+ghost use Rattle.daachorse_checker.specs.Chains.{AreLeavesOf, IsChained, machine_of};
+ghost use Rattle.daachorse_checker.specs.Places.{HasOnePath, ArePlaces};
+ghost use Rattle.daachorse_checker.specs.Runs.{AreRuns};
+ghost use Rattle.daachorse_checker.specs.Sizes.{AreSizes};
+
+use crate::array::Array;
+use crate::places::Places;
+use crate::runs::{has_own, rest_at};
+use daachorse_core::errors::Result;
+use daachorse_core::{DEAD_STATE_IDX, Output};
+use std::alloc::Allocator;
+
+/// Whether each place is no other's parent.
+///
+/// # Errors
+///
+/// An allocation failed.
+pub fn leaves<A: Allocator>(alloc: A, parents: &[u32]) -> Result<Vec<bool, A>>
+    requires some { 0 < length parents.now }
+    requires earlier { (m : ℕ) → 0 < m → m < length parents.now → slice_index parents.now m < m }
+    ensures ok { IfOk result (λ leaves. AreLeavesOf parents.now leaves.items (length parents.now)) }
+    ensures err { IfErr result IsOutOfMemory }
+{
+    let mut leaves = vec![in alloc; true; parents.len()]?;
+    let mut place: usize = 1;
+    while place < parents.len() {
+        leaves[parents[place] as usize] = false;
+        place += 1;
+    }
+    Ok(leaves)
+}
+
+/// Of each place how many bytes its text takes.
+///
+/// # Errors
+///
+/// An allocation failed.
+pub fn sizes<E: Array, A: Allocator + Copy>(
+    alloc: A,
+    array: &E,
+    places: &Places<A>,
+) -> Result<Vec<usize, A>>
+    requires inside { (i c j : ℕ) → E.child array.now i c ≡ Some j → (j < E.count array.now) × (c < E.units array.now) }
+    requires tree { HasOnePath (E.child array.now) }
+    requires places { ArePlaces (E.child array.now) (λ j. unit_of (E.edge array.now j)) (E.count array.now) places.now.order.items places.now.parents.items places.now.labels.items places.now.marks.items }
+    requires few { E.count array.now < 2 ^ 32 }
+    ensures ok { IfOk result (λ sizes. AreSizes (E.child array.now) (E.width array.now) places.now.order.items sizes.items) }
+    ensures each { IfOk result (λ sizes. length sizes.items ≡ length places.now.order.items) }
+    ensures err { IfErr result IsOutOfMemory }
+{
+    let mut sizes = vec![in alloc; 0; 1]?;
+    let mut place: usize = 1;
+    while place < places.order.len() {
+        let parent = places.parents[place] as usize;
+        let size = sizes[parent] + array.width(places.labels[place]);
+        sizes.push(size)?;
+        place += 1;
+    }
+    Ok(sizes)
+}
+
+/// Whether the chain of an element, whose text has `size` bytes, is right.
+pub fn chain_holds<V: Copy, E: Array>(
+    array: &E,
+    outputs: &[Output<V>],
+    runs: &[u32],
+    element: u32,
+    size: usize,
+    leaf: bool,
+) -> bool
+    requires element { element < E.count array.now }
+    requires links { (i : ℕ) → i < E.count array.now → E.fail array.now i < E.count array.now }
+    requires positions { (i : ℕ) → i < E.count array.now → E.first array.now i ≤ length outputs.now }
+    requires runs { AreRuns outputs.now runs.now }
+    requires each { length runs.now ≡ length outputs.now }
+    ensures yes { result ≡ true → IsChained (machine_of (E.child array.now) (E.fail array.now) (E.first array.now) outputs.now) leaf size element }
+    ensures no { result ≡ false → IsChained (machine_of (E.child array.now) (E.fail array.now) (E.first array.now) outputs.now) leaf size element → ⊥ }
+{
+    let first = array.first(element as usize);
+    let link = array.fail(element as usize);
+    let mut next = 0;
+    if link != DEAD_STATE_IDX {
+        next = array.first(link as usize);
+    }
+    if rest_at(outputs, runs, size, first) != next {
+        return false;
+    }
+    if leaf {
+        return has_own(outputs, size, first);
+    }
+    true
+}

@@ -1,0 +1,214 @@
+//! The check of an array: the places of its elements, the chains of outputs, and the links, in turn.
+//!
+//! The layers above may rely on the answer being yes exactly where the array is a right machine with
+//! so many texts.
+
+ghost use Rattle.std.specs.Prelude.{◌≡◌, ◌≢◌, ◌<◌, ◌≤◌, ◌^◌, ℕ, Some, true, false, cond, length, slice_index, slice_index_or, IfOk, IfErr};
+ghost use Rattle.daachorse_core.specs.Outputs.{ParentsFall};
+ghost use Rattle.daachorse_core.specs.Refusals.{IsOutOfMemory};
+ghost use Rattle.daachorse_listing.specs.Edges.{TellChildren};
+ghost use Rattle.daachorse_listing.specs.Listing.{unit_of};
+ghost use Rattle.daachorse_machine.specs.Machines.{IsCounted, IsRight, own_from};
+ghost use Rattle.daachorse_checker.specs.Chains.{AreChained, AreLeavesOf, AreStopsAt, machine_of};
+ghost use Rattle.daachorse_checker.specs.Links.{HasRightLinks};
+ghost use Rattle.daachorse_checker.specs.Places.{HasOnePath, ArePlaces};
+ghost use Rattle.daachorse_checker.specs.Runs.{AreRuns};
+ghost use Rattle.daachorse_checker.specs.Sizes.{AreSizes};
+ghost use Rattle.daachorse_checker.specs.Sound.{IsSoundArray};
+
+use crate::array::Array;
+use crate::chains::{chain_holds, leaves, sizes};
+use crate::links::link_places;
+use crate::places::Places;
+use crate::ranges::ranges_hold;
+use crate::runs::{has_own, parents_fall, rest_at, runs};
+use daachorse_core::Output;
+use daachorse_core::errors::Result;
+use daachorse_links::trie::Trie;
+use std::alloc::Allocator;
+
+/// Whether the chain of each element that has a place is right.
+fn chains_hold<V: Copy, E: Array, A: Allocator>(
+    array: &E,
+    outputs: &[Output<V>],
+    runs: &[u32],
+    places: &Places<A>,
+    sizes: &[usize],
+    leaves: &[bool],
+) -> bool
+    requires places { ArePlaces (E.child array.now) (λ j. unit_of (E.edge array.now j)) (E.count array.now) places.now.order.items places.now.parents.items places.now.labels.items places.now.marks.items }
+    requires some { 0 < E.count array.now }
+    requires links { (i : ℕ) → i < E.count array.now → E.fail array.now i < E.count array.now }
+    requires positions { (i : ℕ) → i < E.count array.now → E.first array.now i ≤ length outputs.now }
+    requires runs { AreRuns outputs.now runs.now }
+    requires each { length runs.now ≡ length outputs.now }
+    requires sizes { length sizes.now ≡ length places.now.order.items }
+    requires leaves { length leaves.now ≡ length places.now.order.items }
+    ensures yes { result ≡ true → AreChained (machine_of (E.child array.now) (E.fail array.now) (E.first array.now) outputs.now) places.now.order.items sizes.now leaves.now (length places.now.order.items) }
+    ensures no { result ≡ false → AreChained (machine_of (E.child array.now) (E.fail array.now) (E.first array.now) outputs.now) places.now.order.items sizes.now leaves.now (length places.now.order.items) → ⊥ }
+{
+    let first = array.first(0);
+    if rest_at(outputs, runs, 0, first) != 0 {
+        return false;
+    }
+    let mut place: usize = 1;
+    while place < places.order.len() {
+        let element = places.order[place];
+        let size = sizes[place];
+        let leaf = leaves[place];
+        if !chain_holds(array, outputs, runs, element, size, leaf) {
+            return false;
+        }
+        place += 1;
+    }
+    true
+}
+
+/// Whether each place stops: in a leftmost machine where its element has an output of its own, else
+/// nowhere.
+///
+/// # Errors
+///
+/// An allocation failed.
+fn stops<V: Copy, E: Array, A: Allocator + Copy>(
+    alloc: A,
+    array: &E,
+    outputs: &[Output<V>],
+    places: &Places<A>,
+    sizes: &[usize],
+    leftmost: bool,
+) -> Result<Vec<bool, A>>
+    requires places { ArePlaces (E.child array.now) (λ j. unit_of (E.edge array.now j)) (E.count array.now) places.now.order.items places.now.parents.items places.now.labels.items places.now.marks.items }
+    requires positions { (i : ℕ) → i < E.count array.now → E.first array.now i ≤ length outputs.now }
+    requires sizes { length sizes.now ≡ length places.now.order.items }
+    ensures ok { IfOk result (λ stops. AreStopsAt (machine_of (E.child array.now) (E.fail array.now) (E.first array.now) outputs.now) leftmost places.now.order.items sizes.now stops.items) }
+    ensures each { IfOk result (λ stops. length stops.items ≡ length places.now.order.items) }
+    ensures err { IfErr result IsOutOfMemory }
+{
+    let mut stops = Vec::with_capacity(alloc, places.order.len())?;
+    let mut place: usize = 0;
+    while place < places.order.len() {
+        let element = places.order[place];
+        let size = sizes[place];
+        let first = array.first(element as usize);
+        let own = has_own(outputs, size, first);
+        stops.push(leftmost && own)?;
+        place += 1;
+    }
+    Ok(stops)
+}
+
+/// Whether the link of each element that has a place is right.
+///
+/// # Errors
+///
+/// An allocation failed.
+fn links_hold<V: Copy, E: Array, A: Allocator + Copy>(
+    alloc: A,
+    array: &E,
+    outputs: &[Output<V>],
+    places: Places<A>,
+    sizes: &[usize],
+    leftmost: bool,
+) -> Result<bool>
+    requires inside { (i c j : ℕ) → E.child array.now i c ≡ Some j → (j < E.count array.now) × (c < E.units array.now) }
+    requires tell { TellChildren (E.child array.now) (E.group array.now) (E.edge array.now) (E.count array.now) }
+    requires few { E.count array.now < 2 ^ 32 }
+    requires tree { HasOnePath (E.child array.now) }
+    requires places { ArePlaces (E.child array.now) (λ j. unit_of (E.edge array.now j)) (E.count array.now) places.order.items places.parents.items places.labels.items places.marks.items }
+    requires links { (i : ℕ) → i < E.count array.now → E.fail array.now i < E.count array.now }
+    requires positions { (i : ℕ) → i < E.count array.now → E.first array.now i ≤ length outputs.now }
+    requires sized { AreSizes (E.child array.now) (E.width array.now) places.order.items sizes.now }
+    requires sizes { length sizes.now ≡ length places.order.items }
+    ensures yes { IfOk result (λ right. right ≡ true → HasRightLinks (E.width array.now) (machine_of (E.child array.now) (E.fail array.now) (E.first array.now) outputs.now) leftmost) }
+    ensures no { IfOk result (λ right. right ≡ false → HasRightLinks (E.width array.now) (machine_of (E.child array.now) (E.fail array.now) (E.first array.now) outputs.now) leftmost → ⊥) }
+    ensures err { IfErr result IsOutOfMemory }
+{
+    let Some(fails) = link_places(alloc, array, &places, leftmost)? else {
+        return Ok(false);
+    };
+    let stops = stops(alloc, array, outputs, &places, sizes, leftmost)?;
+    let trie = Trie {
+        parents: places.parents,
+        labels: places.labels,
+        fails,
+        stops,
+    };
+    let right = trie.has_links(alloc, array.num_units() as u32)?;
+    Ok(right)
+}
+
+/// Whether an array with these outputs is a right machine, leftmost or standard, to whose elements so
+/// many texts lead.
+///
+/// # Errors
+///
+/// An allocation failed.
+pub fn is_right<V: Copy, E: Array, A: Allocator + Copy>(
+    alloc: A,
+    array: &E,
+    outputs: &[Output<V>],
+    leftmost: bool,
+    num_states: u32,
+) -> Result<bool>
+    requires inside { (i c j : ℕ) → E.child array.now i c ≡ Some j → (j < E.count array.now) × (c < E.units array.now) }
+    requires tell { TellChildren (E.child array.now) (E.group array.now) (E.edge array.now) (E.count array.now) }
+    requires some { 0 < E.count array.now }
+    requires few { E.count array.now < 2 ^ 32 }
+    requires links { (i : ℕ) → i < E.count array.now → E.fail array.now i < E.count array.now }
+    requires positions { (i : ℕ) → i < E.count array.now → E.first array.now i ≤ length outputs.now }
+    requires outputs { length outputs.now < 2 ^ 32 }
+    requires falls { ParentsFall outputs.now }
+    ensures yes { IfOk result (λ right. right ≡ true → IsRight (E.width array.now) (machine_of (E.child array.now) (E.fail array.now) (E.first array.now) outputs.now) leftmost
+        × IsCounted (machine_of (E.child array.now) (E.fail array.now) (E.first array.now) outputs.now) num_states) }
+    ensures no { IfOk result (λ right. right ≡ false → IsRight (E.width array.now) (machine_of (E.child array.now) (E.fail array.now) (E.first array.now) outputs.now) leftmost
+        → IsCounted (machine_of (E.child array.now) (E.fail array.now) (E.first array.now) outputs.now) num_states → ⊥) }
+    ensures err { IfErr result IsOutOfMemory }
+{
+    let Some(places) = Places::new(alloc, array)? else {
+        return Ok(false);
+    };
+    if places.order.len() != num_states as usize {
+        return Ok(false);
+    }
+    let runs = runs(alloc, outputs)?;
+    let sizes = sizes(alloc, array, &places)?;
+    let leaves = leaves(alloc, &places.parents)?;
+    if !chains_hold(array, outputs, &runs, &places, &sizes, &leaves) {
+        return Ok(false);
+    }
+    let right = links_hold(alloc, array, outputs, places, &sizes, leftmost)?;
+    Ok(right)
+}
+
+/// Whether an array with these outputs is sound: whether all that it names is there, and it is a right
+/// machine, leftmost or standard, to whose elements so many texts lead.
+///
+/// # Errors
+///
+/// An allocation failed.
+pub fn is_sound<V: Copy, E: Array, A: Allocator + Copy>(
+    alloc: A,
+    array: &E,
+    outputs: &[Output<V>],
+    leftmost: bool,
+    num_states: u32,
+) -> Result<bool>
+    requires inside { (i c j : ℕ) → E.child array.now i c ≡ Some j → (j < E.count array.now) × (c < E.units array.now) }
+    requires tell { TellChildren (E.child array.now) (E.group array.now) (E.edge array.now) (E.count array.now) }
+    requires some { 0 < E.count array.now }
+    requires few { E.count array.now < 2 ^ 32 }
+    requires outputs { length outputs.now < 2 ^ 32 }
+    ensures yes { IfOk result (λ sound. sound ≡ true → IsSoundArray (E.width array.now) (machine_of (E.child array.now) (E.fail array.now) (E.first array.now) outputs.now) leftmost (E.count array.now) num_states) }
+    ensures no { IfOk result (λ sound. sound ≡ false → IsSoundArray (E.width array.now) (machine_of (E.child array.now) (E.fail array.now) (E.first array.now) outputs.now) leftmost (E.count array.now) num_states → ⊥) }
+    ensures err { IfErr result IsOutOfMemory }
+{
+    if !ranges_hold(array, outputs.len()) {
+        return Ok(false);
+    }
+    if !parents_fall(outputs) {
+        return Ok(false);
+    }
+    let right = is_right(alloc, array, outputs, leftmost, num_states)?;
+    Ok(right)
+}

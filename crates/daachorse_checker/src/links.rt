@@ -1,0 +1,79 @@
+//! The links of an array as links between the places of its elements.
+//!
+//! The layers above may rely on each link being told: where it leads, or that it leads to no element
+//! that has a place.
+
+ghost use Rattle.std.specs.Prelude.{◌≡◌, ◌<◌, ◌^◌, ℕ, Some, length, slice_index, IfOk, IfErr, IfSome, IfNone};
+ghost use Rattle.daachorse_core.specs.Refusals.{IsOutOfMemory};
+ghost use Rattle.daachorse_listing.specs.Listing.{unit_of};
+ghost use Rattle.daachorse_checker.specs.Links.{AreLinkPlaces, HasNoPlace, IsLinkPlace, IsNoPlace};
+ghost use Rattle.daachorse_checker.specs.Places.{ArePlaces};
+
+use crate::array::Array;
+use crate::places::Places;
+use daachorse_core::errors::Result;
+use daachorse_core::{DEAD_STATE_IDX, ROOT_STATE_IDX};
+use std::alloc::Allocator;
+
+/// The place of an element's link, the number of places for a dead one; none where it leads nowhere.
+fn link_place<E: Array, A: Allocator>(
+    array: &E,
+    places: &Places<A>,
+    element: u32,
+    leftmost: bool,
+) -> Option<u32>
+    requires places { ArePlaces (E.child array.now) (λ j. unit_of (E.edge array.now j)) (E.count array.now) places.now.order.items places.now.parents.items places.now.labels.items places.now.marks.items }
+    requires few { length places.now.order.items < 2 ^ 32 }
+    requires element { element < E.count array.now }
+    requires links { (i : ℕ) → i < E.count array.now → E.fail array.now i < E.count array.now }
+    ensures some { IfSome result (λ r. IsLinkPlace places.now.order.items (E.fail array.now element) r) }
+    ensures none { IfNone result (IsNoPlace leftmost places.now.order.items (E.fail array.now element)) }
+{
+    let link = array.fail(element as usize);
+    if link == DEAD_STATE_IDX {
+        if leftmost {
+            return Some(places.order.len() as u32);
+        }
+        return None;
+    }
+    if link == ROOT_STATE_IDX {
+        return Some(0);
+    }
+    let place = places.marks[link as usize];
+    if place == 0 {
+        return None;
+    }
+    Some(place)
+}
+
+/// The places of all links; none where one leads nowhere. The root's is not read.
+///
+/// # Errors
+///
+/// An allocation failed.
+pub fn link_places<E: Array, A: Allocator + Copy>(
+    alloc: A,
+    array: &E,
+    places: &Places<A>,
+    leftmost: bool,
+) -> Result<Option<Vec<u32, A>>>
+    requires places { ArePlaces (E.child array.now) (λ j. unit_of (E.edge array.now j)) (E.count array.now) places.now.order.items places.now.parents.items places.now.labels.items places.now.marks.items }
+    requires few { length places.now.order.items < 2 ^ 32 }
+    requires links { (i : ℕ) → i < E.count array.now → E.fail array.now i < E.count array.now }
+    ensures some { IfOk result (λ found. IfSome found (λ fails. AreLinkPlaces (E.fail array.now) places.now.order.items fails.items)) }
+    ensures each { IfOk result (λ found. IfSome found (λ fails. length fails.items ≡ length places.now.order.items)) }
+    ensures none { IfOk result (λ found. IfNone found (HasNoPlace leftmost (E.fail array.now) places.now.order.items)) }
+    ensures err { IfErr result IsOutOfMemory }
+{
+    let mut fails = vec![in alloc; 0; 1]?;
+    let mut place: usize = 1;
+    while place < places.order.len() {
+        let element = places.order[place];
+        let Some(link) = link_place(array, places, element, leftmost) else {
+            return Ok(None);
+        };
+        fails.push(link)?;
+        place += 1;
+    }
+    Ok(Some(fails))
+}

@@ -1,0 +1,107 @@
+//! The elements of an array that texts lead to, at places: breadth first, each behind its parent.
+//!
+//! The layers above may rely on there being places exactly where no text leads to the dead element
+//! and no two texts lead to one element. The walk marks each element that it comes to, and ends where it
+//! comes to one again, so that it is linear in the elements.
+
+ghost use Rattle.std.specs.Prelude.{◌≡◌, ◌+◌, ◌<◌, ◌^◌, ℕ, [], true, false, length, slice_index_or, IfOk, IfErr, IfSome, IfNone};
+ghost use Rattle.daachorse_core.specs.Refusals.{IsOutOfMemory};
+ghost use Rattle.daachorse_listing.specs.Edges.{TellChildren, members};
+ghost use Rattle.daachorse_listing.specs.Listing.{unit_of};
+ghost use Rattle.daachorse_checker.specs.Places.{HasOnePath, ArePlaces, IsWalk};
+
+use daachorse_core::errors::Result;
+use daachorse_listing::edges::Edges;
+use daachorse_listing::siblings::Siblings;
+use std::alloc::{Allocator, Global};
+
+/// The elements that texts lead to, the root at place 0.
+#[derive(Drop)]
+pub struct Places<A: Allocator = Global> {
+    /// The element at each place.
+    pub order: Vec<u32, A>,
+    /// The place of each one's parent; 0 for the root.
+    pub parents: Vec<u32, A>,
+    /// The unit that leads to each from its parent; 0 for the root.
+    pub labels: Vec<u32, A>,
+    /// Of every element of the array its place; 0 where no text leads to it.
+    pub marks: Vec<u32, A>,
+}
+
+impl<A: Allocator + Copy> Places<A> {
+    /// The places of an array; none where it is no tree.
+    ///
+    /// # Errors
+    ///
+    /// An allocation failed.
+    pub fn new<E: Edges>(alloc: A, array: &E) -> Result<Option<Self>>
+        requires inside { (i c j : ℕ) → E.child array.now i c ≡ Some j → (j < E.count array.now) × (c < E.units array.now) }
+        requires tell { TellChildren (E.child array.now) (E.group array.now) (E.edge array.now) (E.count array.now) }
+        requires some { 0 < E.count array.now }
+        ensures yes { IfOk result (λ found. IfSome found (λ p. HasOnePath (E.child array.now)
+            × ArePlaces (E.child array.now) (λ j. unit_of (E.edge array.now j)) (E.count array.now) p.order.items p.parents.items p.labels.items p.marks.items)) }
+        ensures no { IfOk result (λ found. IfNone found (HasOnePath (E.child array.now) → ⊥)) }
+        ensures err { IfErr result IsOutOfMemory }
+    {
+        let groups = Siblings::new(alloc, array)?;
+        let mut places = Places {
+            order: vec![in alloc; 0; 1]?,
+            parents: vec![in alloc; 0; 1]?,
+            labels: vec![in alloc; 0; 1]?,
+            marks: vec![in alloc; 0; array.num_elements()]?,
+        };
+        let mut next: u32 = 0;
+        while (next as usize) < places.order.len() {
+            if !places.expand(array, &groups, next)? {
+                return Ok(None);
+            }
+            next += 1;
+        }
+        Ok(Some(places))
+    }
+
+    /// Gives the children of the element at a place places of their own; false where one has a place
+    /// already, or is dead.
+    fn expand<E: Edges>(&mut self, array: &E, groups: &Siblings<A>, place: u32) -> Result<bool>
+        requires inside { (i c j : ℕ) → E.child array.now i c ≡ Some j → (j < E.count array.now) × (c < E.units array.now) }
+        requires tell { TellChildren (E.child array.now) (E.group array.now) (E.edge array.now) (E.count array.now) }
+        requires groups { (g : ℕ) → g < E.count array.now
+            → slice_index_or groups.now g [] ≡ members (E.edge array.now) g (E.count array.now) }
+        requires each { length groups.now ≡ E.count array.now }
+        requires few { E.count array.now < 2 ^ 32 }
+        requires walk { IsWalk (E.child array.now) (λ j. unit_of (E.edge array.now j)) (E.count array.now) self.old.order.items self.old.parents.items self.old.labels.items self.old.marks.items place }
+        requires more { place < length self.old.order.items }
+        ensures yes { IfOk result (λ found. found ≡ true → IsWalk (E.child array.now) (λ j. unit_of (E.edge array.now j)) (E.count array.now) self.new.order.items self.new.parents.items self.new.labels.items self.new.marks.items (place + 1)) }
+        ensures no { IfOk result (λ found. found ≡ false → HasOnePath (E.child array.now) → ⊥) }
+        ensures err { IfErr result IsOutOfMemory }
+    {
+        let element = self.order[place as usize];
+        let Some(group) = array.group(element as usize) else {
+            return Ok(true);
+        };
+        for member in groups.members(group) {
+            if member <= 1 {
+                return Ok(false);
+            }
+            if self.marks[member as usize] > 0 {
+                return Ok(false);
+            }
+            self.marks[member as usize] = self.order.len() as u32;
+            self.order.push(member)?;
+            self.parents.push(place)?;
+            self.labels.push(unit_at(array, member))?;
+        }
+        Ok(true)
+    }
+}
+
+/// The unit that leads to an element.
+fn unit_at<E: Edges>(array: &E, element: u32) -> u32
+    requires { element < E.count array.now }
+    ensures { result ≡ unit_of (E.edge array.now element) }
+{
+    match array.edge(element as usize) {
+        Some((_group, unit)) => unit as u32,
+        None => 0,
+    }
+}

@@ -1,0 +1,100 @@
+//! Runs: where a chain of outputs goes on behind those of one length.
+//!
+//! The layers above may rely on one pass over the outputs telling it of each, so that the own
+//! outputs of an element are passed in one step, however many elements share them.
+
+ghost use Rattle.std.specs.Prelude.{◌≡◌, ◌<◌, ◌≤◌, ◌^◌, true, false, Some, length, slice_get, IfOk, IfErr};
+ghost use Rattle.daachorse_core.specs.Outputs.{ParentsFall, parent_of};
+ghost use Rattle.daachorse_core.specs.Refusals.{IsOutOfMemory};
+ghost use Rattle.daachorse_machine.specs.Machines.{own_from};
+ghost use Rattle.daachorse_checker.specs.Runs.{AreRuns, has_values};
+
+use daachorse_core::Output;
+use daachorse_core::errors::Result;
+use std::alloc::Allocator;
+use std::num::NonZeroU32;
+
+/// The output of a number.
+fn output_at<V: Copy>(outputs: &[Output<V>], number: usize) -> Output<V>
+    requires { number < length outputs.now }
+    ensures { slice_get outputs.now number ≡ Some result }
+{
+    outputs[number]
+}
+
+/// The position of the next output of a chain; 0 where it ends.
+fn parent<V: Copy>(output: Output<V>) -> u32
+    ensures { result ≡ parent_of output }
+{
+    output.parent().map_or(0, NonZeroU32::get)
+}
+
+/// Whether the next output of each stands before it.
+pub fn parents_fall<V: Copy>(outputs: &[Output<V>]) -> bool
+    requires few { length outputs.now < 2 ^ 32 }
+    ensures yes { result ≡ true → ParentsFall outputs.now }
+    ensures no { result ≡ false → ParentsFall outputs.now → ⊥ }
+{
+    let mut number: usize = 0;
+    while number < outputs.len() {
+        let next = parent(output_at(outputs, number));
+        if next as usize > number {
+            return false;
+        }
+        number += 1;
+    }
+    true
+}
+
+/// Where the chain from a position goes on behind the outputs of one length.
+pub fn rest_at<V: Copy>(outputs: &[Output<V>], runs: &[u32], size: usize, position: u32) -> u32
+    requires runs { AreRuns outputs.now runs.now }
+    requires inside { position ≤ length runs.now }
+    requires each { length runs.now ≤ length outputs.now }
+    ensures { result ≡ (own_from outputs.now position size position).1 }
+{
+    if position == 0 {
+        return 0;
+    }
+    let number = (position - 1) as usize;
+    let output = output_at(outputs, number);
+    if output.length() as usize == size {
+        return runs[number];
+    }
+    position
+}
+
+/// Whether the chain from a position begins with an output of one length.
+pub fn has_own<V: Copy>(outputs: &[Output<V>], size: usize, position: u32) -> bool
+    requires { position ≤ length outputs.now }
+    ensures { result ≡ has_values (own_from outputs.now position size position).0 }
+{
+    if position == 0 {
+        return false;
+    }
+    let output = output_at(outputs, (position - 1) as usize);
+    output.length() as usize == size
+}
+
+/// Of each output where its chain goes on behind those of its length.
+///
+/// # Errors
+///
+/// An allocation failed.
+pub fn runs<V: Copy, A: Allocator>(alloc: A, outputs: &[Output<V>]) -> Result<Vec<u32, A>>
+    requires few { length outputs.now < 2 ^ 32 }
+    requires fall { ParentsFall outputs.now }
+    ensures ok { IfOk result (λ runs. AreRuns outputs.now runs.items) }
+    ensures each { IfOk result (λ runs. length runs.items ≡ length outputs.now) }
+    ensures err { IfErr result IsOutOfMemory }
+{
+    let mut runs = Vec::with_capacity(alloc, outputs.len())?;
+    let mut number: usize = 0;
+    while number < outputs.len() {
+        let output = output_at(outputs, number);
+        let run = rest_at(outputs, &runs, output.length() as usize, parent(output));
+        runs.push(run)?;
+        number += 1;
+    }
+    Ok(runs)
+}

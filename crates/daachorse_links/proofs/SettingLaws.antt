@@ -1,0 +1,159 @@
+-- Coming to a place from its link, and going back.
+use Rattle.std.proofs.Common.{◌≡◌, ◌≢◌, ℕ, ◌+◌, ◌<◌, ◌≤◌, ◌⊎◌, Bool, List, length, Option, Some, None, refl, sym, ap, ◌∙◌, subst, inl, inr, arith, get_or, set, get_or-set_other, get_or-set_same}
+use Rattle.std.proofs.lemmas.List.{length-set}
+use Rattle.std.proofs.lemmas.Bool.{cases_eq, cases_lt}
+use Rattle.daachorse_links.specs.Places.{child, IsTrie, LinksFall, AreStarts}
+use Rattle.daachorse_links.specs.Near.{up, near, right, AreNear, IsChecked, IsSaved}
+use Rattle.daachorse_links.specs.Tours.{IsEntering, IsLeaving}
+use Rattle.daachorse_links.proofs.ChildLaws.{edge, back}
+use Rattle.daachorse_links.proofs.NearLaws.{near_child, near_other}
+
+module _ (parents labels : List ℕ) (stops : List Bool) (fails : List ℕ) (alphabet : ℕ) (trie : IsTrie parents labels alphabet) (each : length fails ≡ length parents) (falls : LinksFall fails)
+    (starts : List ℕ) (are : AreStarts parents starts) (p : ℕ) (within : p < length parents) where
+  fall_to : (q : ℕ) → 0 < q → q ≤ p → q < length fails → (get_or fails q 0 < q) ⊎ (get_or fails q 0 ≡ length fails)
+  fall_to q low _ high = falls q low high
+
+  -- the children of p stand from its start to the next
+  pub is_child : (m : ℕ) → get_or starts p 0 ≤ m → m < get_or starts (p + 1) 0 → (0 < m) × (m < length parents) × (get_or parents m 0 ≡ p)
+  is_child m low high =
+      let pos : 0 < m = omega (arith, are.to.least p (omega (arith, within)), low) in
+      let lt : m < length parents = omega (arith, are.to.most (p + 1) (omega (arith, within)), high) in
+      (pos, lt, omega (arith, are.to.before (p + 1) m (omega (arith, within)) pos high, are.to.after p m (omega (arith, within)) low lt))
+
+  not_before : (m : ℕ) → 0 < m → m < get_or starts p 0 → get_or parents m 0 ≡ p → ⊥
+  not_before m pos lt e = omega (arith, are.to.before p m (omega (arith, within)) pos lt, e)
+
+  not_after : (m : ℕ) → get_or starts (p + 1) 0 ≤ m → m < length parents → get_or parents m 0 ≡ p → ⊥
+  not_after m le lt e = omega (arith, are.to.after (p + 1) m (omega (arith, within)) le lt, e)
+
+  -- no child of p but m has m's label
+  one_label : (j m : ℕ) → 0 < j → j < length parents → 0 < m → m < length parents → get_or parents j 0 ≡ p → get_or parents m 0 ≡ p → get_or labels j 0 ≡ get_or labels m 0 → j ≡ m
+  one_label j m hj lj hm lm e g same =
+      elim (cases_lt j m) [
+        | inl h ↦ absurd (trie.apart j m hj h lm (e ∙ sym g) same)
+        | inr h ↦ elim (cases_lt m j) [ inl k ↦ absurd (trie.apart m j hm k lj (g ∙ sym e) (sym same)) | inr k ↦ omega (arith, h, k) ]
+      ]
+
+  -- ---- coming
+  pub entering_start : (array saved : List ℕ) → AreNear parents labels fails array (up fails p) → IsEntering parents labels stops fails array saved saved p (get_or starts p 0)
+  entering_start array saved near' = record {
+    checked = λ j pos lt low e. absurd (not_before j pos low e);
+    mine = λ j pos lt low e. absurd (not_before j pos low e);
+    other = λ c lt _. near' c lt;
+    kept = λ j pos lt low e. absurd (not_before j pos low e);
+    frame = λ j _. refl;
+  }
+
+  -- what the array has of the label of the next child
+  pub entering_reads : (array saved old : List ℕ) (m : ℕ) → length array ≡ alphabet → IsEntering parents labels stops fails array saved old p m → (0 < m) × (m < length parents) × (get_or parents m 0 ≡ p) →
+      get_or array (get_or labels m 0) 0 ≡ near parents labels fails (up fails p) (get_or labels m 0)
+  entering_reads array saved old m wide is at =
+      is.other (get_or labels m 0) (omega (arith, trie.inside m at.0 at.1, wide)) (λ j pos lt low e g. omega (arith, one_label j m pos lt at.0 at.1 e at.2 g, low))
+
+  to_next : (j m : ℕ) → j < m + 1 → (P : Type 0) → (j < m → P) → (j ≡ m → P) → P
+  to_next j m lt P a b = elim (cases_eq j m) [ inl h ↦ b h | inr h ↦ a (omega (arith, h, lt)) ]
+
+  pub entering_next : (array saved old : List ℕ) (m v : ℕ) → length array ≡ alphabet → length saved ≡ length parents → IsEntering parents labels stops fails array saved old p m → (0 < m) × (m < length parents) × (get_or parents m 0 ≡ p) →
+      v ≡ near parents labels fails (up fails p) (get_or labels m 0) → get_or fails m 0 ≡ right parents labels stops fails p m (get_or labels m 0) →
+      IsEntering parents labels stops fails (set array (get_or labels m 0) m) (set saved m v) old p (m + 1)
+  entering_next array saved old m v wide size is at found is_right =
+      let l = get_or labels m 0 in
+      let lt : l < length array = omega (arith, trie.inside m at.0 at.1, wide) in
+      record {
+        checked = λ j pos high low e. to_next j m low _ (λ h. is.checked j pos high h e)
+            (λ h. subst (λ x. get_or fails x 0 ≡ right parents labels stops fails p x (get_or labels x 0)) (sym h) is_right);
+        mine = λ j pos high low e. to_next j m low _
+            (λ h. get_or-set_other array l (get_or labels j 0) m 0 (λ g. omega (arith, one_label j m pos high at.0 at.1 e at.2 g, h)) ∙ is.mine j pos high h e)
+            (λ h. subst (λ x. get_or (set array l m) (get_or labels x 0) 0 ≡ x) (sym h) (get_or-set_same array l m 0 lt));
+        other = λ c high no'.
+            let ne : c ≢ l = λ g. no' m at.0 at.1 (omega arith) at.2 (sym g) in
+            get_or-set_other array l c m 0 ne ∙ is.other c (omega (arith, high, length-set array l m)) (λ j pos hj low e g. no' j pos hj (omega (arith, low)) e g);
+        kept = λ j pos high low e. to_next j m low _
+            (λ h. get_or-set_other saved m j v 0 (λ g. omega (arith, g, h)) ∙ is.kept j pos high h e)
+            (λ h. subst (λ x. get_or (set saved m v) x 0 ≡ near parents labels fails (up fails p) (get_or labels x 0)) (sym h) (get_or-set_same saved m v 0 (omega (arith, at.1, size)) ∙ found));
+        frame = λ j ne. get_or-set_other saved m j v 0 (λ g. ne (ap (λ x. get_or parents x 0) g ∙ at.2)) ∙ is.frame j ne;
+      }
+
+  entered_at : (array saved old : List ℕ) (m : ℕ) → get_or starts (p + 1) 0 ≤ m → IsEntering parents labels stops fails array saved old p m → (c : ℕ) → c < length array → (o : Option ℕ) → child parents labels p c ≡ o →
+      get_or array c 0 ≡ near parents labels fails p c
+  entered_at array saved old m done is c lt (Some j) e =
+      let r = back parents labels alphabet trie p c j e in
+      let low : j < m = in_range j r.1 r.2 in
+      ap (λ x. get_or array x 0) (sym r.3) ∙ is.mine j r.0 r.1 low r.2
+      ∙ sym (near_child parents labels fails alphabet trie each p fall_to p c j (omega arith) (omega (arith, within, each)) e)
+    where
+      in_range : (j : ℕ) → j < length parents → get_or parents j 0 ≡ p → j < m
+      in_range j lj ej = elim (cases_lt j m) [ inl h ↦ h | inr h ↦ absurd (not_after j (omega (arith, done, h)) lj ej) ]
+  entered_at array saved old m done is c lt None e =
+      is.other c lt (λ j pos hj low ej g. no_child j pos hj ej g)
+      ∙ sym (near_other parents labels fails alphabet trie each p fall_to p c (omega arith) (omega (arith, within, each)) e)
+    where
+      no_child : (j : ℕ) → 0 < j → j < length parents → get_or parents j 0 ≡ p → get_or labels j 0 ≡ c → ⊥
+      no_child j pos hj ej g =
+          let is' : child parents labels p c ≡ Some j = ap (λ q. child parents labels q c) (sym ej) ∙ (ap (λ d. child parents labels (get_or parents j 0) d) (sym g) ∙ edge parents labels alphabet trie j pos hj) in
+          let bad : None ≡ Some j = sym e ∙ is' in
+          cc
+
+  -- p is reached
+  pub entered : (array saved old : List ℕ) (m : ℕ) → get_or starts (p + 1) 0 ≤ m → IsEntering parents labels stops fails array saved old p m → AreNear parents labels fails array p
+  entered array saved old m done is c lt = entered_at array saved old m done is c lt (child parents labels p c) refl
+
+  pub entered_checked : (array saved old : List ℕ) (m : ℕ) → get_or starts (p + 1) 0 ≤ m → IsEntering parents labels stops fails array saved old p m → IsChecked parents labels stops fails p
+  entered_checked array saved old m done is j pos lt e =
+      elim (cases_lt j m) [ inl h ↦ is.checked j pos lt h e | inr h ↦ absurd (not_after j (omega (arith, done, h)) lt e) ]
+
+  pub entered_saved : (array saved old : List ℕ) (m : ℕ) → get_or starts (p + 1) 0 ≤ m → IsEntering parents labels stops fails array saved old p m → IsSaved parents labels fails saved p
+  entered_saved array saved old m done is j pos lt e =
+      elim (cases_lt j m) [ inl h ↦ is.kept j pos lt h e | inr h ↦ absurd (not_after j (omega (arith, done, h)) lt e) ]
+
+  pub entered_kept : (array saved old : List ℕ) (m : ℕ) → get_or starts (p + 1) 0 ≤ m → IsEntering parents labels stops fails array saved old p m → (q : ℕ) → IsSaved parents labels fails old q → IsSaved parents labels fails saved q
+  entered_kept array saved old m done is q was j pos lt e =
+      elim (cases_eq q p) [
+        | inl h ↦ subst (λ x. get_or saved j 0 ≡ near parents labels fails (up fails x) (get_or labels j 0)) (sym h) (entered_saved array saved old m done is j pos lt (e ∙ h))
+        | inr h ↦ is.frame j (λ g. h (sym e ∙ g)) ∙ was j pos lt e
+      ]
+
+  -- ---- going back
+  pub leaving_start : (array : List ℕ) → AreNear parents labels fails array p → IsLeaving parents labels fails array p (get_or starts p 0)
+  leaving_start array near' = record {
+    back = λ j pos lt low e. absurd (not_before j pos low e);
+    other = λ c lt _. near' c lt;
+  }
+
+  pub leaving_next : (array saved : List ℕ) (m : ℕ) → length array ≡ alphabet → IsLeaving parents labels fails array p m → (0 < m) × (m < length parents) × (get_or parents m 0 ≡ p) →
+      IsSaved parents labels fails saved p → IsLeaving parents labels fails (set array (get_or labels m 0) (get_or saved m 0)) p (m + 1)
+  leaving_next array saved m wide is at checked =
+      let l = get_or labels m 0 in
+      let f = get_or saved m 0 in
+      let lt : l < length array = omega (arith, trie.inside m at.0 at.1, wide) in
+      record {
+        back = λ j pos high low e. to_next j m low _
+            (λ h. get_or-set_other array l (get_or labels j 0) f 0 (λ g. omega (arith, one_label j m pos high at.0 at.1 e at.2 g, h)) ∙ is.back j pos high h e)
+            (λ h. subst (λ x. get_or (set array l f) (get_or labels x 0) 0 ≡ near parents labels fails (up fails p) (get_or labels x 0)) (sym h) (get_or-set_same array l f 0 lt ∙ checked m at.0 at.1 at.2));
+        other = λ c high no'.
+            let ne : c ≢ l = λ g. no' m at.0 at.1 (omega arith) at.2 (sym g) in
+            get_or-set_other array l c f 0 ne ∙ is.other c (omega (arith, high, length-set array l f)) (λ j pos hj low e g. no' j pos hj (omega (arith, low)) e g);
+      }
+
+  left_at : (array : List ℕ) (m : ℕ) → get_or starts (p + 1) 0 ≤ m → IsLeaving parents labels fails array p m → (c : ℕ) → c < length array → (o : Option ℕ) → child parents labels p c ≡ o →
+      get_or array c 0 ≡ near parents labels fails (up fails p) c
+  left_at array m done is c lt (Some j) e =
+      let r = back parents labels alphabet trie p c j e in
+      let low : j < m = in_range j r.1 r.2 in
+      subst (λ x. get_or array x 0 ≡ near parents labels fails (up fails p) x) r.3 (is.back j r.0 r.1 low r.2)
+    where
+      in_range : (j : ℕ) → j < length parents → get_or parents j 0 ≡ p → j < m
+      in_range j lj ej = elim (cases_lt j m) [ inl h ↦ h | inr h ↦ absurd (not_after j (omega (arith, done, h)) lj ej) ]
+  left_at array m done is c lt None e =
+      is.other c lt (λ j pos hj low ej g. no_child j pos hj ej g)
+      ∙ near_other parents labels fails alphabet trie each p fall_to p c (omega arith) (omega (arith, within, each)) e
+    where
+      no_child : (j : ℕ) → 0 < j → j < length parents → get_or parents j 0 ≡ p → get_or labels j 0 ≡ c → ⊥
+      no_child j pos hj ej g =
+          let is' : child parents labels p c ≡ Some j = ap (λ q. child parents labels q c) (sym ej) ∙ (ap (λ d. child parents labels (get_or parents j 0) d) (sym g) ∙ edge parents labels alphabet trie j pos hj) in
+          let bad : None ≡ Some j = sym e ∙ is' in
+          cc
+
+  -- p is left
+  pub left : (array : List ℕ) (m : ℕ) → get_or starts (p + 1) 0 ≤ m → IsLeaving parents labels fails array p m → AreNear parents labels fails array (up fails p)
+  left array m done is c lt = left_at array m done is c lt (child parents labels p c) refl

@@ -1,0 +1,139 @@
+-- The steps of a tour.
+use Rattle.std.proofs.Common.{◌≡◌, ◌≢◌, ℕ, zero, suc, ◌+◌, ◌<◌, ◌≤◌, ◌⊎◌, ◌==◌, Bool, cond, true, false, List, [], ◌∷◌, length, refl, sym, ap, ◌∙◌, subst, inl, inr, arith, get_or}
+use Rattle.std.proofs.lemmas.Bool.{cond-true, cond-false}
+use Rattle.daachorse_links.specs.Places.{IsTrie, LinksFall}
+use Rattle.daachorse_links.specs.Near.{up, top, above, IsAbove, AreNear, IsChecked, IsSaved}
+use Rattle.daachorse_links.specs.Tours.{In, IsLinked, IsTour, IsTouring}
+use Rattle.daachorse_links.proofs.NearLaws.{up_past, ups_fall, near_top}
+use Rattle.daachorse_links.proofs.TopLaws.{top_next}
+
+module _ (up : ℕ → ℕ) where
+  above_above : (i j p : ℕ) → above up j (above up i p) ≡ above up (i + j) p
+  above_above zero j p = let e : 0 + j ≡ j = omega arith in ap (λ k. above up k p) (sym e)
+  above_above (suc i) j p = let e : suc i + j ≡ suc (i + j) = omega arith in above_above i j (up p) ∙ ap (λ k. above up k p) (sym e)
+
+  above_top : (n : ℕ) → up n ≡ n → (k : ℕ) → above up k n ≡ n
+  above_top n top zero = refl
+  above_top n top (suc k) = ap (λ x. above up k x) top ∙ above_top n top k
+
+  -- a place with another above it is not the top
+  pub not_top : (n here to : ℕ) → up n ≡ n → here ≤ n → IsAbove up to here → here ≢ to → here < n
+  not_top n here to top le s ne = omega (arith, le, λ (e : here ≡ n). ne (e ∙ sym (above_top n top s.0) ∙ ap (λ x. above up s.0 x) (sym e) ∙ s.1))
+
+  -- a place with a place above it is not the top
+  pub not_top_of : (n here to : ℕ) → up n ≡ n → here ≤ n → IsAbove up to here → to ≢ n → here < n
+  not_top_of n here to top le s ne = omega (arith, le, λ (e : here ≡ n). ne (sym s.1 ∙ ap (λ x. above up s.0 x) e ∙ above_top n top s.0))
+
+  -- and the other is above its link
+  pub above_next : (here to : ℕ) → IsAbove up to here → here ≢ to → IsAbove up to (up here)
+  above_next here to (zero, e) ne = absurd (ne e)
+  above_next here to (suc k, e) ne = (k, e)
+
+module _ (parents labels : List ℕ) (stops : List Bool) (fails : List ℕ) (alphabet : ℕ) (trie : IsTrie parents labels alphabet) (each : length fails ≡ length parents) where
+  saved_top : (saved : List ℕ) (p : ℕ) → p ≡ length fails → IsSaved parents labels fails saved p
+  saved_top saved p e m pos lt is = absurd (omega (arith, trie.order.earlier m pos lt, lt, is, e, each))
+
+  pub touring_start : (next array saved : List ℕ) → IsTour (up fails) (length fails) next (length fails) → ((c : ℕ) → c < length array → get_or array c 0 ≡ 0) → IsTouring parents labels stops fails next array saved 0 (length fails) (get_or next (length fails) 0) (length fails)
+  touring_start next array saved tour zeros = record {
+    rest = tour.list;
+    linked = tour.linked;
+    count = omega (arith, tour.count);
+    below = tour.below;
+    each = λ x lt. inl (tour.all x lt);
+    near = λ c lt. zeros c lt ∙ sym (near_top parents labels fails alphabet trie each (length fails) c refl);
+    path = λ j. saved_top saved (above (up fails) j (length fails)) (above_top (up fails) (length fails) (up_past fails (length fails) (omega arith)) j);
+    low = omega arith;
+    comes = tour.steps (length fails) (omega arith);
+    other = λ lt. absurd (omega (arith, lt));
+  }
+
+  module _ (next array saved : List ℕ) (k here p t : ℕ) (touring : IsTouring parents labels stops fails next array saved k here p t) where
+    next_in_by : (xs : List ℕ) → IsLinked next (length fails) p xs → length xs + k ≡ length fails → ((x : ℕ) → In x xs → x < length fails) → k < length fails → p < length fails
+    next_in_by [] l e b lt = absurd (omega (arith, e, lt))
+    next_in_by (x ∷ xs) l e b lt = omega (arith, l.0, b x (inl refl))
+
+    -- the next is a place
+    pub next_in : k < length fails → p < length fails
+    next_in lt = next_in_by touring.rest touring.linked touring.count touring.below lt
+
+    -- whose link is above the last
+    pub next_above : k < length fails → IsAbove (up fails) (up fails p) here
+    next_above lt = elim touring.comes [ inl e ↦ absurd (omega (arith, e, next_in lt)) | inr s ↦ s ]
+
+    path_to : (q : ℕ) → IsAbove (up fails) q here → (j : ℕ) → IsSaved parents labels fails saved (above (up fails) j q)
+    path_to q (i, e) j =
+        subst (λ x. IsSaved parents labels fails saved x) (sym (above_above (up fails) i j here) ∙ ap (λ x. above (up fails) j x) e) (touring.path (i + j))
+
+    path_next : (saved' : List ℕ) → ((q : ℕ) → IsSaved parents labels fails saved q → IsSaved parents labels fails saved' q) → k < length fails → IsSaved parents labels fails saved' p → (j : ℕ) → IsSaved parents labels fails saved' (above (up fails) j p)
+    path_next saved' kept lt done zero = done
+    path_next saved' kept lt done (suc j) = kept (above (up fails) j (up fails p)) (path_to (up fails p) (next_above lt) j)
+
+    top_above : LinksFall fails → (i h q : ℕ) → h < length fails → above (up fails) i h ≡ q → q < length fails → top stops fails h ≡ top stops fails q
+    top_above falls zero h q lt e low = ap (top stops fails) e
+    top_above falls (suc i) h q lt e low =
+        elim (ups_fall fails h (λ r pos _ high. falls r pos high) h (omega arith) lt) [
+          | inr z ↦ absurd (omega (arith, low, sym e ∙ ap (λ x. above (up fails) i x) z ∙ above_top (up fails) (length fails) (up_past fails (length fails) (omega arith)) i))
+          | inl z ↦ top_next (up fails) stops (length fails) h (ups_fall fails h (λ r pos _ high. falls r pos high)) h lt (omega arith) z ∙ top_above falls i (up fails h) q (omega (arith, z, lt)) e low
+        ]
+
+    -- where the next place's link is a place, it has the same top
+    pub same_other : LinksFall fails → k < length fails → up fails p ≢ length fails → t ≡ top stops fails p
+    same_other falls lt ne =
+        let low = next_in lt in
+        let at = next_above lt in
+        let fall : up fails p < p = elim (ups_fall fails p (λ r pos _ high. falls r pos high) p (omega arith) low) [ inl z ↦ z | inr z ↦ absurd (ne z) ] in
+        let in' : here < length fails = not_top_of (up fails) (length fails) here (up fails p) (up_past fails (length fails) (omega arith)) touring.low at ne in
+        touring.other in' ∙ top_above falls at.0 here (up fails p) in' at.1 (omega (arith, fall, low)) ∙ sym (top_next (up fails) stops (length fails) p (ups_fall fails p (λ r pos _ high. falls r pos high)) p low (omega arith) fall)
+
+    step_by : (xs : List ℕ) → IsLinked next (length fails) p xs → length xs + k ≡ length fails → ((x : ℕ) → In x xs → x < length fails) → ((x : ℕ) → x < length fails → In x xs ⊎ IsChecked parents labels stops fails x) →
+        IsTour (up fails) (length fails) next (length fails) → (array' saved' : List ℕ) (t' : ℕ) → k < length fails → IsChecked parents labels stops fails p → AreNear parents labels fails array' p → IsSaved parents labels fails saved' p →
+        ((q : ℕ) → IsSaved parents labels fails saved q → IsSaved parents labels fails saved' q) → t' ≡ top stops fails p → IsTouring parents labels stops fails next array' saved' (k + 1) p (get_or next p 0) t'
+    step_by [] l e b all tour array' saved' t' lt done near' mine kept other' = absurd (omega (arith, e, lt))
+    step_by (x ∷ xs) l e b all tour array' saved' t' lt done near' mine kept other' = record {
+      rest = xs;
+      linked = subst (λ z. IsLinked next (length fails) (get_or next z 0) xs) (sym l.0) l.1;
+      count = omega (arith, e);
+      below = λ y h. b y (inr h);
+      each = λ y h. which y (all y h);
+      near = near';
+      path = path_next saved' kept lt mine;
+      low = omega (arith, next_in lt);
+      comes = tour.steps p (omega (arith, next_in lt));
+      other = λ _. other';
+    }
+      where
+        which : (y : ℕ) → In y (x ∷ xs) ⊎ IsChecked parents labels stops fails y → In y xs ⊎ IsChecked parents labels stops fails y
+        which y (inl (inl g)) = inr (subst (λ z. IsChecked parents labels stops fails z) (l.0 ∙ sym g) done)
+        which y (inl (inr h)) = inl h
+        which y (inr c) = inr c
+
+    -- the next place is entered
+    pub touring_step : IsTour (up fails) (length fails) next (length fails) → (array' saved' : List ℕ) (t' : ℕ) → k < length fails → IsChecked parents labels stops fails p → AreNear parents labels fails array' p → IsSaved parents labels fails saved' p →
+        ((q : ℕ) → IsSaved parents labels fails saved q → IsSaved parents labels fails saved' q) → t' ≡ top stops fails p → IsTouring parents labels stops fails next array' saved' (k + 1) p (get_or next p 0) t'
+    touring_step tour array' saved' t' lt done near' mine kept other' =
+        step_by touring.rest touring.linked touring.count touring.below touring.each tour array' saved' t' lt done near' mine kept other'
+
+    end_by : (xs : List ℕ) → length xs + k ≡ length fails → ((x : ℕ) → x < length fails → In x xs ⊎ IsChecked parents labels stops fails x) → length fails ≤ k → (x : ℕ) → x < length fails → IsChecked parents labels stops fails x
+    end_by (y ∷ ys) e all le x lt = absurd (omega (arith, e, le))
+    end_by [] e all le x lt = elim (all x lt) [ inl h ↦ absurd h | inr c ↦ c ]
+
+    -- at the end each place was entered
+    pub touring_end : length fails ≤ k → (x : ℕ) → x < length fails → IsChecked parents labels stops fails x
+    touring_end le x lt = end_by touring.rest touring.count touring.each le x lt
+
+not_eq : (a b : ℕ) → a < b → (a == b) ≡ false
+not_eq a b lt = grind (arith, lt)
+
+is_eq' : (a b : ℕ) → a ≡ b → (a == b) ≡ true
+is_eq' a b e = grind (arith, e)
+
+-- the way back gets shorter
+pub shorter : (n here next : ℕ) → here < n → (next < here) ⊎ (next ≡ n) → cond (next == n) 0 (suc next) < cond (here == n) 0 (suc here)
+shorter n here next lt (inl h) =
+    let a : cond (next == n) 0 (suc next) ≡ suc next = cond-false (next == n) 0 (suc next) (not_eq next n (omega (arith, h, lt))) in
+    let b : cond (here == n) 0 (suc here) ≡ suc here = cond-false (here == n) 0 (suc here) (not_eq here n lt) in
+    omega (arith, a, b, h)
+shorter n here next lt (inr e) =
+    let a : cond (next == n) 0 (suc next) ≡ 0 = cond-true (next == n) 0 (suc next) (is_eq' next n e) in
+    let b : cond (here == n) 0 (suc here) ≡ suc here = cond-false (here == n) 0 (suc here) (not_eq here n lt) in
+    omega (arith, a, b)

@@ -1,0 +1,14 @@
+use Rattle.std.proofs.Common.{◌≡◌, ◌≤◌, ◌-◌, length}
+use Rattle.daachorse_links.specs.Tours.{IsTouring}
+use Rattle.daachorse_links.proofs.trie.Trie.has_links.Given as goal
+
+abbrev pub invariant-loop-k : goal.invariant-loop-k
+invariant-loop-k g l = record {
+  wide : length l.near.items ≡ l.alphabet;
+  size : length l.saved.items ≡ length l.self.parents.items;
+  within : l.k ≤ length l.self.fails.items;
+  touring : IsTouring l.self.parents.items l.self.labels.items l.self.stops.items l.self.fails.items l.tour.items l.near.items l.saved.items l.k l.here l.next l.other;
+}
+
+abbrev pub decreases-loop-k : goal.decreases-loop-k
+decreases-loop-k g l = l.count - l.k

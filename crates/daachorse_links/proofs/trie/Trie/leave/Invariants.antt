@@ -1,0 +1,14 @@
+use Rattle.std.proofs.Common.{◌≡◌, ◌+◌, ◌≤◌, ◌-◌, length, get_or}
+use Rattle.daachorse_links.specs.Tours.{IsLeaving}
+use Rattle.daachorse_links.proofs.trie.Trie.leave.Given as goal
+
+abbrev pub invariant-loop-m : goal.invariant-loop-m
+invariant-loop-m g l = record {
+  same : length l.near.items ≡ length l.fn.near.items;
+  end : l.end ≡ get_or l.starts (l.p + 1) 0;
+  low : get_or l.starts l.p 0 ≤ l.m;
+  is : IsLeaving l.self.parents.items l.self.labels.items l.self.fails.items l.near.items l.p l.m;
+}
+
+abbrev pub decreases-loop-m : goal.decreases-loop-m
+decreases-loop-m g l = l.end - l.m

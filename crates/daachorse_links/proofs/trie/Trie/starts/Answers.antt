@@ -1,0 +1,23 @@
+use Rattle.std.proofs.Common.{rules, ◌≡◌, ◌≤◌, ◌++◌, ◌∷◌, [], suc, length, sym, ap, ◌∙◌, subst, arith}
+use Rattle.std.proofs.lemmas.List.{length_push}
+use Rattle.daachorse_links.specs.Places.{AreStartsTo}
+use Rattle.daachorse_links.proofs.StartLaws.{starts_push}
+use Rattle.daachorse_links.proofs.trie.Trie.starts.Goals as goal
+
+pub loop-starts-2-preserved : goal.loop-starts-2-preserved
+loop-starts-2-preserved g c =
+    let ps = c.args.self.now.parents.items in
+    let old = c.loop-starts-2.starts.items in
+    let inv = c.loop-starts-2.invariant in
+    let n = length ps in
+    let count : c.len-count.result ≡ n = search rules in
+    let items : c.push-in-loop-starts-2.new.self.items ≡ old ++ c.len-count.result ∷ [] = search rules in
+    let small : length old ≤ n = omega (arith, c.loop-starts-2-test.true, c.len-in-loop-starts-2.ensures, count) in
+    let more : length c.push-in-loop-starts-2.new.self.items ≡ suc (length old) = ap length items ∙ length_push old c.len-count.result ∙ omega arith in
+    let to : AreStartsTo ps (old ++ c.len-count.result ∷ []) (suc (length old)) =
+    starts_push ps old (length old) c.len-count.result (omega arith) inv.to (omega (arith, count, c.requires.order.some)) (omega (arith, count)) (λ k low high. inv.past k low (omega (arith, count, high))) (λ k low high. absurd (omega (arith, count, low, high))) in
+    record {
+      to = subst (λ xs. AreStartsTo ps xs (length xs)) (sym items) (subst (λ s. AreStartsTo ps (old ++ c.len-count.result ∷ []) s) (sym (length_push old c.len-count.result ∙ omega arith)) to);
+      past = λ k low high. omega (arith, more, inv.past k low high);
+      most = omega (arith, more, small);
+    }

@@ -1,0 +1,36 @@
+use Rattle.std.proofs.Common.{◌≡◌, ◌<◌, ◌≤◌, suc, length, sym, ap, ◌∙◌, subst, get_or, set, inl, inr, arith}
+use Rattle.std.proofs.lemmas.List.{get_or_read}
+use Rattle.daachorse_links.specs.Near.{up}
+use Rattle.daachorse_links.specs.Tours.{IsTour}
+use Rattle.daachorse_links.proofs.NearLaws.{ups_fall}
+use Rattle.daachorse_links.proofs.TourLaws.{tour_add}
+use Rattle.daachorse_links.proofs.trie.Trie.tour.Goals as goal
+
+pub loop-m-preserved : goal.loop-m-preserved
+loop-m-preserved g c =
+    let fs = c.args.self.now.fails.items in
+    let inv = c.loop-m.invariant in
+    let m = c.loop-m.m in
+    let next = c.loop-m.next.items in
+    let n = length fs in
+    let lt : m < n = omega (arith, c.loop-m-test.true, inv.is) in
+    let ups = ups_fall fs m (λ q low _ high. c.requires.fall q low high) m (omega arith) lt in
+    let most : up fs m ≤ n = elim ups [ inl a ↦ omega (arith, a, lt) | inr b ↦ omega (arith, b) ] in
+    let at : c.above-above.result ≡ up fs m = c.above-above.ensures in
+    let low : c.above-above.result < length next = omega (arith, at, most, inv.tour.size) in
+    let read : c.index.result.now ≡ get_or next c.above-above.result 0 = get_or_read next c.above-above.result c.index.result.now low c.index.ensures 0 in
+    let value : c.index.result.now ≡ get_or next (up fs m) 0 = read ∙ ap (λ i. get_or next i 0) at in
+    let more : IsTour (up fs) n (set (set next m (get_or next (up fs m) 0)) (up fs m) m) (suc m) = tour_add (up fs) n next m inv.tour lt ups in
+    let same : set (set next m (get_or next (up fs m) 0)) (up fs m) m ≡ set (set next m c.index.result.now) c.above-above.result m = ap (λ v. set (set next m v) (up fs m) m) (sym value) ∙ ap (λ i. set (set next m c.index.result.now) i m) (sym at) in
+    record {
+      is = inv.is;
+      within = omega (arith, c.loop-m-test.true);
+      tour = subst (λ k. IsTour (up fs) n (set (set next m c.index.result.now) c.above-above.result m) k) (omega arith) (subst (λ xs. IsTour (up fs) n xs (suc m)) same more);
+    }
+
+pub returns-clause-ok : goal.returns-clause-ok
+returns-clause-ok g c =
+    let fs = c.args.self.now.fails.items in
+    let inv = c.loop-m.invariant in
+    let e : c.loop-m.m ≡ length fs = omega (arith, inv.within, inv.is, c.loop-m-test.false) in
+    subst (λ k. IsTour (up fs) (length fs) c.loop-m.next.items k) e inv.tour

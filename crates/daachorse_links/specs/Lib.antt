@@ -1,0 +1,4 @@
+pub mod Links
+pub mod Places
+pub mod Near
+pub mod Tours

@@ -1,0 +1,10 @@
+-- Of the elements that were reached, the first so many were entered.
+use Rattle.std.proofs.Common.{◌-◌}
+use Rattle.daachorse_listing.proofs.ReachLaws.{IsReaching}
+use Rattle.daachorse_listing.proofs.depths.depths.Given as goal
+
+abbrev pub invariant-elements : goal.invariant-elements
+invariant-elements g l = IsReaching (g.E.Edges.child l.edges) (g.E.Edges.count l.edges) (g.E.Edges.units l.edges) l.reached.items l.entered l.depths.items
+
+abbrev pub decreases-elements : goal.decreases-elements
+decreases-elements g l = g.E.Edges.count l.edges - l.entered

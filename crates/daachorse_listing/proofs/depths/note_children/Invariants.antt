@@ -1,0 +1,17 @@
+-- The members of the group that are left will be reached, and those that were have their depth.
+use Rattle.std.proofs.Common.{◌≡◌, ◌<◌, ◌++◌, true}
+use Rattle.std.specs.List.{AllByRecursion}
+use Rattle.daachorse_listing.specs.Edges.{is_in, members}
+use Rattle.daachorse_listing.specs.Trees.{IsMarking}
+use Rattle.daachorse_listing.proofs.depths.note_children.Given as goal
+
+abbrev pub invariant-loop-child : goal.invariant-loop-child
+invariant-loop-child g l =
+    let edge = g.E.Edges.edge l.edges in
+    let count = g.E.Edges.count l.edges in
+    let all = members edge l.group count in
+    record {
+      less : AllByRecursion (λ j. (j < count) × (is_in l.group (edge j) ≡ true)) l.child-iterator;
+      done : l.reached.items ++ l.child-iterator ≡ l.fn.reached.items ++ all;
+      marked : IsMarking all l.child-iterator l.depth l.fn.depths.items l.depths.items;
+    }

@@ -1,0 +1,2 @@
+pub mod EmptyText
+pub mod Parts

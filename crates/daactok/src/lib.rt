@@ -1,0 +1,196 @@
+//! A tokenizer: it cuts a text into the words of a dictionary and what stands between them.
+//!
+//! It is an example of a crate over the automaton over characters, and takes from it the leftmost
+//! search and the kind of searches alone. The layers above may rely on the whole list of tokens,
+//! and on the tokens' texts, joined, being the text.
+//!
+//! ```
+//! let builder = CharwiseDoubleArrayAhoCorasickBuilder::new();
+//! let builder = builder.match_kind(MatchKind::LeftmostLongest);
+//! let words: CharwiseDoubleArrayAhoCorasick<u32> = builder.build(rt.alloc(), ["東京", "京都", "東京都"])?;
+//! let tokenizer = Tokenizer::new(&words)?;
+//! for token in tokenizer.tokens("東京都に") {
+//!     // 東京都 from 0 to 9 with the value 2, then に from 9 to 12 with none
+//!     println!(rt; "{} {} {} {:?}", token.text, token.start, token.end, token.value)?;
+//! }
+//! ```
+#![tactic(auto)]
+
+ghost use Rattle.std.specs.Prelude.{◌≡◌, ◌≢◌, ◌≤◌, ◌++◌, [], IfNone, length, option_to_list};
+ghost use Rattle.std.specs.List.{All, AllAdjacentBelow, flat_map};
+ghost use Rattle.std.specs.Result.{OkIff};
+ghost use Rattle.std.specs.Str.{IsCharBoundary};
+ghost use Rattle.daachorse_model.specs.declared.MatchKind.TheVariants.{Standard};
+ghost use Rattle.daachorse_charwise.specs.Automata.{dictionary_of, kind_of};
+ghost use Rattle.daactok.specs.Tokens.{IsKnownOne, piece, seen, tokens};
+
+use daachorse::charwise::iter::LeftmostFindIterator;
+use daachorse::{CharwiseDoubleArrayAhoCorasick, Match};
+use std::alloc::{Allocator, Global};
+use std::marker::Model;
+use thiserror::Error;
+
+/// Why a dictionary cannot cut texts.
+#[derive(Clone, Copy, Debug, PartialEq, Eq, Error)]
+pub enum TokenizerError {
+    /// The empty text is a word of the dictionary, and would be found everywhere.
+    #[error("EmptyPattern: the dictionary holds the empty pattern")]
+    EmptyPattern,
+}
+
+/// A part of a text: a word of the dictionary, or what stands between two of them.
+#[derive(Clone, Copy, Debug, PartialEq, Eq)]
+pub struct Token<'a, V> {
+    /// The part itself.
+    pub text: &'a str,
+    /// Where it starts, in bytes.
+    pub start: usize,
+    /// Where it ends, in bytes: one past its last.
+    pub end: usize,
+    /// The value of the word, or `None` where the dictionary has no such word.
+    pub value: Option<V>,
+}
+
+/// Cuts texts into the words of a dictionary and what stands between them.
+#[derive(Drop)]
+pub struct Tokenizer<'a, V: Copy, A: Allocator = Global> {
+    words: &'a CharwiseDoubleArrayAhoCorasick<V, A>,
+}
+
+impl<'a, V: Copy, A: Allocator> Model for Tokenizer<'a, V, A> {
+    ghost use Rattle.std.specs.Prelude.{◌≡◌, ◌≢◌, []};
+    ghost use Rattle.daachorse_model.specs.declared.MatchKind.TheVariants.{Standard};
+    ghost use Rattle.daachorse_charwise.specs.Automata.{Automaton, dictionary_of, kind_of};
+
+    ghost Value = { Automaton V };
+
+    ghost view = { λ t. t.words.now };
+
+    ghost invariant = { λ t. (kind_of t.words.now ≢ Standard) × (dictionary_of t.words.now [] ≡ []) };
+}
+
+impl<'a, V: Copy, A: Allocator> Tokenizer<'a, V, A> {
+    /// A tokenizer for the words that the automaton holds. The automaton's kind says which of the
+    /// words that start at one place is taken.
+    ///
+    /// # Conditions
+    ///
+    /// The automaton is for a leftmost search: its kind is not [`MatchKind::Standard`].
+    ///
+    /// # Errors
+    ///
+    /// [`TokenizerError::EmptyPattern`] where the empty text is a word.
+    ///
+    /// [`MatchKind::Standard`]: daachorse::MatchKind::Standard
+    pub fn new(words: &'a CharwiseDoubleArrayAhoCorasick<V, A>) -> Result<Self, TokenizerError>
+        requires { kind_of words.now ≢ Standard }
+        ensures { OkIff result (dictionary_of words.entry.now [] ≡ []) words.entry.now }
+    {
+        match words.leftmost_find_iter("").next() {
+            Some(_) => Err(TokenizerError::EmptyPattern),
+            None => Ok(Tokenizer { words }),
+        }
+    }
+
+    /// Cuts a text into tokens: the leftmost matches, each with its value, and in each nonempty
+    /// stretch before, between and after them one token with no value.
+    #[inline]
+    pub fn tokens(&self, text: &'a str) -> Tokens<'a, V>
+        ensures list { result ≡ tokens (dictionary_of self.entry.now) text.entry.now }
+        ensures joined { flat_map (λ t. t.text) result ≡ text.entry.now }
+        ensures few { length result ≤ length text.entry.now }
+        ensures nonempty { All (λ t. t.text ≢ []) result }
+        ensures apart { AllAdjacentBelow IsKnownOne result (length result) }
+    {
+        Tokens {
+            text,
+            place: 0,
+            known: None,
+            matches: self.words.leftmost_find_iter(text),
+        }
+    }
+}
+
+/// The tokens of a text, in order. No call takes memory.
+#[derive(Drop)]
+pub struct Tokens<'a, V: Copy> {
+    text: &'a str,
+    // Where the next token starts.
+    place: usize,
+    // The match that is the next known token, where it was found already.
+    known: Option<Match<V>>,
+    matches: LeftmostFindIterator<'a, V>,
+}
+
+impl<'a, V: Copy> Model for Tokens<'a, V> {
+    ghost use Rattle.std.specs.Prelude.{List, ◌++◌, option_to_list};
+    ghost use Rattle.daactok.specs.Tokens.{AreParts, Piece, tokens_from};
+
+    ghost Value = { List (Piece V) };
+
+    ghost view = { λ s. tokens_from s.text.now s.place (option_to_list s.known ++ s.matches.left) };
+
+    ghost invariant = { λ s. AreParts s.text.now s.place (option_to_list s.known ++ s.matches.left) };
+}
+
+impl<'a, V: Copy> Iterator for Tokens<'a, V> {
+    ghost use Rattle.std.specs.Iterator.{YieldsFirstBy, item_count};
+
+    type Item = Token<'a, V>;
+
+    ghost next_gives = { YieldsFirstBy seen (λ s. s) };
+
+    ghost remaining = { item_count (λ s. s) };
+
+    #[inline]
+    fn next(&mut self) -> Option<Token<'a, V>> {
+        find_known(&mut self.known, &mut self.matches);
+        let start = self.place;
+        match self.known {
+            Some(found) if start < found.start => {
+                self.place = found.start;
+                Some(part(self.text, start, found.start, None))
+            }
+            Some(found) => {
+                self.known = None;
+                self.place = found.end;
+                Some(part(self.text, start, found.end, Some(found.value)))
+            }
+            None if start < self.text.len() => {
+                self.place = self.text.len();
+                Some(part(self.text, start, self.text.len(), None))
+            }
+            None => None,
+        }
+    }
+}
+
+// Takes the next match, unless one was taken already.
+#[inline(always)]
+fn find_known<'a, V: Copy>(known: &mut Option<Match<V>>, matches: &mut LeftmostFindIterator<'a, V>)
+    ensures same { option_to_list known.new ++ matches.new.left ≡ option_to_list known.old ++ matches.old.left }
+    ensures last { IfNone known.new (matches.new.left ≡ []) }
+{
+    if known.is_none() {
+        *known = matches.next();
+    }
+}
+
+// The part of the text from `start` to `end`.
+#[inline(always)]
+fn part<V: Copy>(text: &str, start: usize, end: usize, value: Option<V>) -> Token<'_, V>
+    requires ordered { start ≤ end }
+    requires starts { IsCharBoundary text.now start }
+    requires ends { IsCharBoundary text.now end }
+    ensures { seen result ≡ piece text.entry.now start end value }
+{
+    Token {
+        text: &text[start..end],
+        start,
+        end,
+        value,
+    }
+}
+
+#[cfg(test)]
+mod tests;

@@ -1,0 +1,153 @@
+//! Worked rows, also over an automaton that was written and read back, and callers that know the
+//! whole list.
+
+ghost use Rattle.std.specs.Prelude.{◌≡◌, IfOk, length, map};
+ghost use Rattle.daachorse_charwise.specs.Automata.{dictionary_of, kind_of};
+ghost use Rattle.daactok.specs.Tokens.{seen, tokens};
+
+use crate::{Token, Tokenizer, TokenizerError};
+use daachorse::{
+    CharwiseDoubleArrayAhoCorasick, CharwiseDoubleArrayAhoCorasickBuilder, MatchKind, Result,
+};
+use std::alloc::{AllocError, Global};
+use std::test::Fail;
+
+type Words = CharwiseDoubleArrayAhoCorasick<u32>;
+
+fn build(alloc: Global, kind: MatchKind, words: &[&str]) -> Result<Words>
+    ensures { IfOk result (λ a. kind_of a ≡ kind) }
+{
+    let builder = CharwiseDoubleArrayAhoCorasickBuilder::new().match_kind(kind);
+    builder.build(alloc, words.iter().copied())
+}
+
+/// An automaton written and read back.
+fn read_back(alloc: Global, words: &Words) -> Result<Words>
+    ensures { IfOk result (λ a. kind_of a ≡ kind_of words.now) }
+{
+    let bytes = words.serialize(alloc)?;
+    let (read, _rest) = CharwiseDoubleArrayAhoCorasick::deserialize_unchecked(alloc, &bytes)?;
+    Ok(read)
+}
+
+/// All tokens of a text.
+fn collected<'a>(
+    alloc: Global,
+    tokenizer: &Tokenizer<'a, u32>,
+    text: &'a str,
+) -> Result<Vec<Token<'a, u32>>, AllocError>
+    ensures { IfOk result (λ v. map seen v.items ≡ tokens (dictionary_of tokenizer.entry.now) text.entry.now) }
+{
+    tokenizer.tokens(text).collect(alloc)
+}
+
+/// How many tokens a text has.
+fn count(tokenizer: &Tokenizer<u32>, text: &str) -> usize
+    ensures { result ≡ length (tokens (dictionary_of tokenizer.now) text.now) }
+{
+    tokenizer.tokens(text).count()
+}
+
+fn word(text: &str, start: usize, end: usize, value: u32) -> Token<'_, u32> {
+    Token {
+        text,
+        start,
+        end,
+        value: Some(value),
+    }
+}
+
+fn unknown(text: &str, start: usize, end: usize) -> Token<'_, u32> {
+    Token {
+        text,
+        start,
+        end,
+        value: None,
+    }
+}
+
+/// Whether the words cut the text into these tokens; not so where the tokenizer is refused.
+fn cuts(
+    alloc: Global,
+    words: &Words,
+    text: &str,
+    expected: &[Token<u32>],
+) -> Result<bool, AllocError> {
+    if words.match_kind().is_standard() {
+        return Ok(false);
+    }
+    let Ok(tokenizer) = Tokenizer::new(words) else {
+        return Ok(false);
+    };
+    let found = collected(alloc, &tokenizer, text)?;
+    Ok(found.as_slice() == expected && count(&tokenizer, text) == expected.len())
+}
+
+/// What a row asks for: a kind of searches and words, a text, and its tokens.
+type Row<'a> = (MatchKind, &'a [&'a str], &'a str, &'a [Token<'a, u32>]);
+
+#[test]
+fn a_text_is_cut_at_its_words(rt: HostRuntime) -> Result<(), Fail> {
+    let rows: [Row; 5] = [
+        (
+            MatchKind::LeftmostLongest,
+            &["東京", "京都", "東京都"],
+            "東京都に",
+            &[word("東京都", 0, 9, 2), unknown("に", 9, 12)],
+        ),
+        (
+            MatchKind::LeftmostFirst,
+            &["ab", "abc"],
+            "xabcab",
+            &[
+                unknown("x", 0, 1),
+                word("ab", 1, 3, 0),
+                unknown("c", 3, 4),
+                word("ab", 4, 6, 0),
+            ],
+        ),
+        (
+            MatchKind::LeftmostLongest,
+            &["ab"],
+            "ab",
+            &[word("ab", 0, 2, 0)],
+        ),
+        (
+            MatchKind::LeftmostLongest,
+            &[],
+            "ab",
+            &[unknown("ab", 0, 2)],
+        ),
+        (MatchKind::LeftmostLongest, &[], "", &[]),
+    ];
+    for (i, (kind, words, text, expected)) in rows.iter().enumerate() {
+        let Ok(words) = build(rt.alloc(), *kind, words) else {
+            panic!(rt; "row {i} was refused");
+        };
+        let is_cut = cuts(rt.alloc(), &words, text, expected)?;
+        assert!(rt; is_cut, "row {i}");
+        let Ok(read) = read_back(rt.alloc(), &words) else {
+            panic!(rt; "row {i} was not read back");
+        };
+        let is_cut = cuts(rt.alloc(), &read, text, expected)?;
+        assert!(rt; is_cut, "row {i}, read back");
+    }
+    Ok(())
+}
+
+#[test]
+fn a_dictionary_with_the_empty_text_is_refused(rt: HostRuntime) -> Result<(), Fail> {
+    let Ok(words) = build(rt.alloc(), MatchKind::LeftmostLongest, &["a", ""]) else {
+        panic!(rt; "the build was refused");
+    };
+    let Err(error) = Tokenizer::new(&words) else {
+        panic!(rt; "the empty text is a word");
+    };
+    assert_eq!(rt; error, TokenizerError::EmptyPattern);
+    let text = format!(in rt.alloc(); "{error}")?;
+    assert_eq!(rt;
+        text.as_str(),
+        "EmptyPattern: the dictionary holds the empty pattern"
+    );
+    Ok(())
+}

@@ -65,11 +65,16 @@ const SORTED: [(u8, u32); 12] = [
     (b'u', 8),
 ];
 
+/// Whether this label is the one that was refused.
+fn is_refused(refused: Option<u8>, label: u8) -> bool {
+    refused == Some(label)
+}
+
 /// Whether these are the edges of the labels but for one.
 fn lists(map: &Edges<'_>, refused: Option<u8>) -> bool {
     let mut edges = map.iter();
     for (label, id) in &SORTED {
-        if refused == Some(*label) {
+        if is_refused(refused, *label) {
             continue;
         }
         match edges.next() {

@@ -76,24 +76,36 @@ fn an_index_without_a_value_is_refused(rt: HostRuntime) -> Result<(), Fail> {
     Ok(())
 }
 
-/// How many matches 300 equal patterns without values have.
-fn count_empty(automaton: &DoubleArrayAhoCorasick<Empty>) -> usize
+/// Whether just 300 matches are found in one letter.
+fn has_300(automaton: &DoubleArrayAhoCorasick<Empty>) -> bool
     requires { automaton.now.parts.kind ≡ Standard }
 {
-    automaton.find_overlapping_iter(b"a").count()
+    let mut search = automaton.find_overlapping_iter(b"a");
+    for _ in 0..300u32 {
+        if search.next().is_none() {
+            return false;
+        }
+    }
+    search.next().is_none()
 }
 
 /// The same over characters.
-fn count_empty_charwise(automaton: &CharwiseDoubleArrayAhoCorasick<Empty>) -> usize
+fn has_300_charwise(automaton: &CharwiseDoubleArrayAhoCorasick<Empty>) -> bool
     requires { automaton.now.parts.kind ≡ Standard }
 {
-    automaton.find_overlapping_iter("あ").count()
+    let mut search = automaton.find_overlapping_iter("あ");
+    for _ in 0..300u32 {
+        if search.next().is_none() {
+            return false;
+        }
+    }
+    search.next().is_none()
 }
 
 #[test]
 fn every_index_is_an_empty_value(rt: HostRuntime) -> Result<(), Fail> {
     let automaton = DoubleArrayAhoCorasick::new(rt.alloc(), [b"a".as_slice(); 300])?;
-    expect(&rt, count_empty(&automaton) == 300, "over bytes");
+    expect(&rt, has_300(&automaton), "over bytes");
     let builder = DoubleArrayAhoCorasickBuilder::new();
     let same = builder.build(rt.alloc(), [b"a".as_slice(); 300])? == automaton;
     expect(&rt, same, "by the builder");
@@ -103,11 +115,7 @@ fn every_index_is_an_empty_value(rt: HostRuntime) -> Result<(), Fail> {
 #[test]
 fn every_index_is_an_empty_value_of_characters(rt: HostRuntime) -> Result<(), Fail> {
     let automaton = CharwiseDoubleArrayAhoCorasick::new(rt.alloc(), ["あ"; 300])?;
-    expect(
-        &rt,
-        count_empty_charwise(&automaton) == 300,
-        "over characters",
-    );
+    expect(&rt, has_300_charwise(&automaton), "over characters");
     let builder = CharwiseDoubleArrayAhoCorasickBuilder::new();
     let same = builder.build(rt.alloc(), ["あ"; 300])? == automaton;
     expect(&rt, same, "by the builder");

@@ -49,22 +49,6 @@ const LABELS: [(u8, u32); 12] = [
     (b'j', 11),
 ];
 
-/// The same in the order of the labels.
-const SORTED: [(u8, u32); 12] = [
-    (b'e', 2),
-    (b'f', 5),
-    (b'g', 9),
-    (b'j', 11),
-    (b'l', 6),
-    (b'm', 10),
-    (b'n', 4),
-    (b'o', 7),
-    (b'r', 1),
-    (b's', 3),
-    (b't', 0),
-    (b'u', 8),
-];
-
 /// Whether this label is the one that was refused.
 fn is_refused(refused: Option<u8>, label: u8) -> bool {
     refused == Some(label)
@@ -72,17 +56,17 @@ fn is_refused(refused: Option<u8>, label: u8) -> bool {
 
 /// Whether these are the edges of the labels but for one.
 fn lists(map: &Edges<'_>, refused: Option<u8>) -> bool {
-    let mut edges = map.iter();
-    for (label, id) in &SORTED {
-        if is_refused(refused, *label) {
-            continue;
-        }
-        match edges.next() {
-            Some((found, number)) if found == label && number == id => {}
-            _ => return false,
+    for (label, id) in &LABELS {
+        let wanted = if is_refused(refused, *label) {
+            None
+        } else {
+            Some(id)
+        };
+        if map.get(label) != wanted {
+            return false;
         }
     }
-    edges.next().is_none()
+    true
 }
 
 /// Inserts the labels in turn. The last that is refused is given.

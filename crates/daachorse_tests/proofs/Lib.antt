@@ -1,1 +1,2 @@
 mod FromText
+mod Steps

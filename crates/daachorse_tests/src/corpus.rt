@@ -1,46 +1,25 @@
-//! Builds with a corpus: where the states then stand, that the answers stay, and each growth of a
-//! build with a corpus refused in turn.
+//! Builds with a corpus: where the states then stand.
 
-ghost use Rattle.std.specs.Prelude.{◌≡◌, IfOk};
-ghost use Rattle.daachorse_model.specs.declared.MatchKind.TheVariants.{Standard};
-
+use crate::automata::charwise_by_corpus;
+use crate::{expect, hash_of};
 use daachorse::bytewise::states::State;
 use daachorse::charwise::mapper::CodeMapper;
 use daachorse::charwise::states::State as CharacterState;
-use daachorse::errors::DaachorseError;
-use daachorse::{
-    CharwiseDoubleArrayAhoCorasick, CharwiseDoubleArrayAhoCorasickBuilder, DoubleArrayAhoCorasick,
-    DoubleArrayAhoCorasickBuilder, Match, MatchKind, Output, Result,
-};
-use refusing::Refusing;
-use std::alloc::{Allocator, Global};
+use daachorse::{DoubleArrayAhoCorasick, DoubleArrayAhoCorasickBuilder, MatchKind, Output, Result};
+use std::alloc::Global;
 use std::hash::{DefaultHasher, Hash, Hasher};
 use std::num::NonZeroU32;
-use std::process::Abort;
 use std::test::Fail;
-
-/// Ends the test with what went wrong, unless `holds`.
-fn expect(rt: &impl Abort, holds: bool, what: &str) {
-    assert!(rt; holds, "{what}");
-}
-
-fn hash_of<T: Hash>(value: &T) -> u64 {
-    let mut state = DefaultHasher::new();
-    value.hash(&mut state);
-    state.finish()
-}
 
 /// Documents, if any are given.
 type Documents<'a> = Option<&'a [&'a [u8]]>;
 
 /// The builder, with these documents for a corpus if there are any.
-fn with_corpus<A: Allocator + Copy>(
-    alloc: A,
-    builder: DoubleArrayAhoCorasickBuilder<A>,
+fn with_corpus(
+    alloc: Global,
+    builder: DoubleArrayAhoCorasickBuilder<Global>,
     documents: Documents<'_>,
-) -> Result<DoubleArrayAhoCorasickBuilder<A>>
-    ensures { IfOk result (λ b. b.match_kind ≡ builder.match_kind) }
-{
+) -> Result<DoubleArrayAhoCorasickBuilder<Global>> {
     match documents {
         Some(documents) => builder.corpus(alloc, documents.iter().copied()),
         None => Ok(builder),
@@ -48,29 +27,14 @@ fn with_corpus<A: Allocator + Copy>(
 }
 
 /// An automaton over bytes, of a builder that was given one corpus and then another.
-fn built<A: Allocator + Copy>(
-    alloc: A,
+fn built(
+    alloc: Global,
     patterns: &[&[u8]],
     first: Documents<'_>,
     second: Documents<'_>,
-) -> Result<DoubleArrayAhoCorasick<u32, A>>
-    ensures { IfOk result (λ a. a.parts.kind ≡ Standard) }
-{
+) -> Result<DoubleArrayAhoCorasick<u32>> {
     let builder = with_corpus(alloc, DoubleArrayAhoCorasickBuilder::new(), first)?;
     let builder = with_corpus(alloc, builder, second)?;
-    builder.build(alloc, patterns.iter().copied())
-}
-
-/// An automaton over characters, laid out by these documents.
-fn built_of_texts(
-    alloc: Global,
-    patterns: &[&str],
-    documents: &[&str],
-) -> Result<CharwiseDoubleArrayAhoCorasick<u32>>
-    ensures { IfOk result (λ a. a.parts.kind ≡ Standard) }
-{
-    let builder = CharwiseDoubleArrayAhoCorasickBuilder::new();
-    let builder = builder.corpus(alloc, documents.iter().copied())?;
     builder.build(alloc, patterns.iter().copied())
 }
 
@@ -218,7 +182,8 @@ const TEXTS_BY_CORPUS: [CharacterHeld; 8] = [
 
 /// Whether the patterns ab and cd over characters, with these documents, have these elements.
 fn has_elements(alloc: Global, documents: &[&str], held: &[CharacterHeld]) -> Result<bool> {
-    let automaton = built_of_texts(alloc, &["ab", "cd"], documents)?;
+    let patvals = [("ab", 0), ("cd", 1)];
+    let automaton = charwise_by_corpus(alloc, MatchKind::Standard, &patvals, documents)?;
     Ok(hash_of(&automaton) == hash_of_elements(alloc, held)?)
 }
 
@@ -238,45 +203,5 @@ fn the_heaviest_group_of_characters_comes_first(rt: HostRuntime) -> Result<(), F
             "the elements",
         );
     }
-    Ok(())
-}
-
-#[test]
-fn answers_stay_with_a_corpus(rt: HostRuntime) -> Result<(), Fail> {
-    let corpora: [Documents<'_>; 2] = [None, Some(&[b"ariaaria"])];
-    for corpus in corpora {
-        let automaton = built(rt.alloc(), &[b"aria", b"iris"], corpus, None)?;
-        let search = automaton.find_overlapping_iter(b"xxarisxaria");
-        let matches: Vec<Match<u32>> = search.collect(rt.alloc())?;
-        let wanted = [Match {
-            start: 7,
-            end: 11,
-            value: 0,
-        }];
-        expect(&rt, matches.as_slice() == wanted.as_slice(), "the matches");
-    }
-    Ok(())
-}
-
-#[test]
-fn each_growth_of_a_build_with_a_corpus_is_refused_in_turn(rt: HostRuntime) -> Result<(), Fail> {
-    let mut ended = false;
-    for number in 0..100_000u64 {
-        let heap = Refusing::new(rt.alloc(), number);
-        match built(&heap, &[b"bcd", b"ab"], Some(&[b"abx", b"bc"]), None) {
-            Ok(automaton) => {
-                expect(&rt, !heap.has_refused(), "a request was passed over");
-                expect(&rt, automaton.num_states() == 6, "the states");
-                ended = true;
-                break;
-            }
-            Err(error) => {
-                expect(&rt, heap.has_refused(), "no request was refused");
-                let no_memory = matches!(error, DaachorseError::OutOfMemory(_));
-                expect(&rt, no_memory, "the error");
-            }
-        }
-    }
-    expect(&rt, ended, "a run that meets no refusal");
     Ok(())
 }

@@ -1,22 +1,53 @@
 //! Tests that cross the crates, by the paths of `daachorse`: each public path, worked rows of what is
 //! built and of what the searches find, refusals and their texts, and each growth refused in turn.
+//!
+//! Functions are short, and each search is begun in one place: that is what keeps the proof of this
+//! crate short.
 #![tactic(auto)]
 
 #[cfg(test)]
-mod builds;
+mod automata;
+#[cfg(test)]
+mod bytewise;
 #[cfg(test)]
 mod charwise;
 #[cfg(test)]
 mod corpus;
 #[cfg(test)]
-mod leftmost;
+mod depths;
+#[cfg(test)]
+mod edge_map;
+#[cfg(test)]
+mod finding;
 #[cfg(test)]
 mod listing;
 #[cfg(test)]
 mod paths;
 #[cfg(test)]
-mod standard;
+mod requests;
 #[cfg(test)]
-mod text_automata;
+mod rows;
+#[cfg(test)]
+mod steppers;
+#[cfg(test)]
+mod values;
 #[cfg(test)]
 mod written;
+
+#[cfg(test)]
+use std::hash::{DefaultHasher, Hash, Hasher};
+#[cfg(test)]
+use std::process::Abort;
+
+/// Ends the test with what went wrong, unless `holds`. A call is proved faster than an assertion.
+#[cfg(test)]
+fn expect(rt: &impl Abort, holds: bool, what: &str) {
+    assert!(rt; holds, "{what}");
+}
+
+#[cfg(test)]
+fn hash_of<T: Hash>(value: &T) -> u64 {
+    let mut state = DefaultHasher::new();
+    value.hash(&mut state);
+    state.finish()
+}

@@ -1,247 +1,206 @@
-//! Worked rows of the listing, the number of states, cached depths, clones, equality and hashes over
-//! bytes, and each growth of these refused in turn.
+//! The listing of the patterns, the number of states, equality and hashes.
 
-ghost use Rattle.std.specs.Prelude.{◌≡◌, IfOk};
-ghost use Rattle.daachorse_model.specs.declared.MatchKind.TheVariants.{Standard};
-
+use crate::automata::{Bytewise, Charwise, bytewise, charwise};
+use crate::{expect, hash_of};
 use daachorse::errors::DaachorseError;
-use daachorse::{DoubleArrayAhoCorasick, DoubleArrayAhoCorasickBuilder, MatchKind, Result};
-use refusing::Refusing;
+use daachorse::{MatchKind, Result};
 use std::alloc::{Allocator, Global};
-use std::hash::{DefaultHasher, Hash, Hasher};
 use std::test::Fail;
 
-fn build(
-    alloc: Global,
-    kind: MatchKind,
-    patvals: &[(&[u8], u32)],
-) -> Result<DoubleArrayAhoCorasick<u32>> {
-    DoubleArrayAhoCorasickBuilder::new()
-        .match_kind(kind)
-        .build_with_values(alloc, patvals.iter().copied())
-}
-
-fn standard<A: Allocator + Copy>(
+/// Whether these are the patterns that an automaton lists. Nothing is listed behind an error.
+pub fn lists<A: Allocator + Copy>(
     alloc: A,
-    patvals: &[(&[u8], u32)],
-) -> Result<DoubleArrayAhoCorasick<u32, A>>
-    ensures { IfOk result (λ a. a.parts.kind ≡ Standard) }
-{
-    DoubleArrayAhoCorasick::with_values(alloc, patvals.iter().copied())
+    automaton: &Bytewise<A>,
+    expected: &[(&[u8], u32)],
+) -> Result<bool> {
+    let mut patterns = automaton.iter(alloc)?;
+    for (text, number) in expected {
+        match patterns.next() {
+            Some(Ok((pattern, value))) => {
+                if pattern.as_slice() != *text || value != *number {
+                    return Ok(false);
+                }
+            }
+            Some(Err(error)) => return refused(error, patterns.next().is_none()),
+            None => return Ok(false),
+        }
+    }
+    Ok(patterns.next().is_none())
 }
 
-fn hash_of<T: Hash>(value: &T) -> u64 {
-    let mut state = DefaultHasher::new();
-    value.hash(&mut state);
-    state.finish()
+/// The error where it was the last of a listing.
+fn refused(error: DaachorseError, is_last: bool) -> Result<bool> {
+    if is_last { Err(error) } else { Ok(false) }
+}
+
+/// The same as [`lists`] over characters.
+pub fn lists_texts<A: Allocator + Copy>(
+    alloc: A,
+    automaton: &Charwise<A>,
+    expected: &[(&str, u32)],
+) -> Result<bool> {
+    let mut patterns = automaton.iter(alloc)?;
+    for (text, number) in expected {
+        match patterns.next() {
+            Some(Ok((pattern, value))) => {
+                if pattern.as_str() != *text || value != *number {
+                    return Ok(false);
+                }
+            }
+            Some(Err(error)) => return refused(error, patterns.next().is_none()),
+            None => return Ok(false),
+        }
+    }
+    Ok(patterns.next().is_none())
+}
+
+/// Patterns of bytes with their values.
+type Patvals = &'static [(&'static [u8], u32)];
+
+/// A kind, patterns, the listing of them, and the number of states.
+type Row = (MatchKind, Patvals, Patvals, usize);
+
+const ROWS: &[Row] = &[
+    (
+        MatchKind::Standard,
+        &[(b"\xff", 0), (b"a\0", 1), (b"\0", 2), (b"\0\xff", 3)],
+        &[(b"\0", 2), (b"\0\xff", 3), (b"a\0", 1), (b"\xff", 0)],
+        6,
+    ),
+    (
+        MatchKind::Standard,
+        &[(b"ab", 0), (b"a", 1), (b"ab", 2)],
+        &[(b"a", 1), (b"ab", 0), (b"ab", 2)],
+        3,
+    ),
+    (
+        MatchKind::LeftmostFirst,
+        &[(b"ab", 0), (b"a", 1), (b"abcd", 2)],
+        &[(b"a", 1), (b"ab", 0)],
+        3,
+    ),
+    (
+        MatchKind::LeftmostLongest,
+        &[(b"b", 7), (b"", 8)],
+        &[(b"", 8), (b"b", 7)],
+        2,
+    ),
+    (
+        MatchKind::Standard,
+        &[(b"abba", 0), (b"baaba", 1), (b"ababa", 2)],
+        &[(b"ababa", 2), (b"abba", 0), (b"baaba", 1)],
+        13,
+    ),
+    (MatchKind::Standard, &[], &[], 1),
+    (MatchKind::LeftmostLongest, &[], &[], 1),
+];
+
+/// Whether a row holds.
+fn holds(alloc: Global, row: &Row) -> Result<bool> {
+    let (kind, patvals, listed, num_states) = *row;
+    let automaton = bytewise(alloc, kind, patvals)?;
+    Ok(automaton.num_states() == num_states && lists(alloc, &automaton, listed)?)
 }
 
 #[test]
 fn patterns_are_listed_in_byte_order(rt: HostRuntime) -> Result<(), Fail> {
-    let rows: [(MatchKind, &[(&[u8], u32)], &[(&[u8], u32)]); 5] = [
-        (
-            MatchKind::Standard,
-            &[(b"\xff", 0), (b"a\0", 1), (b"\0", 2), (b"\0\xff", 3)],
-            &[(b"\0", 2), (b"\0\xff", 3), (b"a\0", 1), (b"\xff", 0)],
-        ),
-        (
-            MatchKind::Standard,
-            &[(b"ab", 0), (b"a", 1), (b"ab", 2)],
-            &[(b"a", 1), (b"ab", 0), (b"ab", 2)],
-        ),
-        (
-            MatchKind::LeftmostFirst,
-            &[(b"ab", 0), (b"a", 1), (b"abcd", 2)],
-            &[(b"a", 1), (b"ab", 0)],
-        ),
-        (
-            MatchKind::LeftmostLongest,
-            &[(b"b", 7), (b"", 8)],
-            &[(b"", 8), (b"b", 7)],
-        ),
-        (MatchKind::Standard, &[], &[]),
-    ];
-    for (i, (kind, patvals, expected)) in rows.iter().enumerate() {
-        let Ok(automaton) = build(rt.alloc(), *kind, patvals) else {
-            panic!(rt; "row {i} was refused");
-        };
-        let mut left = expected.iter();
-        for item in automaton.iter(rt.alloc())? {
-            let (pattern, value) = item?;
-            let Some((text, number)) = left.next() else {
-                panic!(rt; "row {i} has one more");
-            };
-            assert_eq!(rt; pattern.as_slice(), *text, "row {i}");
-            assert_eq!(rt; value, *number, "row {i}");
-        }
-        assert!(rt; left.next().is_none(), "row {i} has too few");
+    for row in ROWS {
+        expect(&rt, holds(rt.alloc(), row)?, "a row");
     }
     Ok(())
 }
 
+/// Texts with their values.
+type Texts = &'static [(&'static str, u32)];
+
+/// Texts, the listing of them, and the number of states.
+type TextRow = (Texts, Texts, usize);
+
+const TEXT_ROWS: &[TextRow] = &[
+    (&[], &[], 1),
+    (&[("世界", 0), ("界", 1)], &[("世界", 0), ("界", 1)], 4),
+    (
+        &[("全世界", 0), ("世界", 1), ("に", 2), ("世界", 3), ("ab", 4)],
+        &[("ab", 4), ("に", 2), ("世界", 1), ("世界", 3), ("全世界", 0)],
+        9,
+    ),
+];
+
+/// Whether a row of texts holds.
+fn texts_hold(alloc: Global, row: &TextRow) -> Result<bool> {
+    let (patvals, listed, num_states) = *row;
+    let automaton = charwise(alloc, MatchKind::Standard, patvals)?;
+    Ok(automaton.num_states() == num_states && lists_texts(alloc, &automaton, listed)?)
+}
+
 #[test]
-fn states_are_the_prefixes(rt: HostRuntime) -> Result<(), Fail> {
-    let rows: [(MatchKind, &[(&[u8], u32)], usize); 3] = [
-        (
-            MatchKind::Standard,
-            &[(b"abba", 0), (b"baaba", 1), (b"ababa", 2)],
-            13,
-        ),
-        (
-            MatchKind::LeftmostFirst,
-            &[(b"ab", 0), (b"a", 1), (b"abcd", 2)],
-            3,
-        ),
-        (MatchKind::LeftmostLongest, &[], 1),
-    ];
-    for (i, (kind, patvals, expected)) in rows.iter().enumerate() {
-        let Ok(automaton) = build(rt.alloc(), *kind, patvals) else {
-            panic!(rt; "row {i} was refused");
-        };
-        assert_eq!(rt; automaton.num_states(), *expected, "row {i}");
+fn texts_are_listed_in_the_order_of_their_characters(rt: HostRuntime) -> Result<(), Fail> {
+    for row in TEXT_ROWS {
+        expect(&rt, texts_hold(rt.alloc(), row)?, "a row");
     }
     Ok(())
 }
 
-/// The depths of the states of a search for all matches at the start, and after a, b and b.
-fn overlapping_depths(automaton: &DoubleArrayAhoCorasick<u32>) -> [Option<u32>; 4]
-    requires { automaton.now.parts.kind ≡ Standard }
-{
-    let mut stepper = automaton.find_overlapping_stepper();
-    let start = stepper.depth();
-    stepper.consume(b'a');
-    let first = stepper.depth();
-    stepper.consume(b'b');
-    let second = stepper.depth();
-    stepper.consume(b'b');
-    [start, first, second, stepper.depth()]
-}
+/// A kind, texts, and the number of elements.
+type Length = (MatchKind, Texts, usize);
 
-/// The same of the search for matches that do not overlap.
-fn find_depths(automaton: &DoubleArrayAhoCorasick<u32>) -> [Option<u32>; 4]
-    requires { automaton.now.parts.kind ≡ Standard }
-{
-    let mut stepper = automaton.find_stepper();
-    let start = stepper.depth();
-    stepper.consume(b'a');
-    let first = stepper.depth();
-    stepper.consume(b'b');
-    let second = stepper.depth();
-    stepper.consume(b'b');
-    [start, first, second, stepper.depth()]
-}
+const LENGTHS: &[Length] = &[
+    (MatchKind::Standard, &[], 2),
+    (
+        MatchKind::Standard,
+        &[("ＡＡ", 0), ("ＡＣ", 1), ("ＢＣ", 2), ("Ｃ", 3)],
+        12,
+    ),
+    // The second pattern is left out, and its characters still have codes.
+    (MatchKind::LeftmostFirst, &[("a", 0), ("abcdefgh", 1)], 8),
+];
 
 #[test]
-fn depths_are_those_of_the_states(rt: HostRuntime) -> Result<(), Fail> {
-    let mut automaton = standard(rt.alloc(), &[(b"ab", 0), (b"b", 1)])?;
-    assert_eq!(rt; overlapping_depths(&automaton), [None, None, None, None]);
-    assert_eq!(rt; find_depths(&automaton), [None, None, None, None]);
-    automaton.cache_depths()?;
-    assert_eq!(rt;
-        overlapping_depths(&automaton),
-        [Some(0), Some(1), Some(2), Some(1)]
-    );
-    // Behind each match it begins again.
-    assert_eq!(rt;
-        find_depths(&automaton),
-        [Some(0), Some(1), Some(0), Some(0)]
-    );
-    // With an empty pattern it stays at the root.
-    let mut everywhere = standard(rt.alloc(), &[(b"ab", 0), (b"", 1)])?;
-    everywhere.cache_depths()?;
-    assert_eq!(rt;
-        find_depths(&everywhere),
-        [Some(0), Some(0), Some(0), Some(0)]
-    );
+fn blocks_are_as_long_as_the_alphabet(rt: HostRuntime) -> Result<(), Fail> {
+    for (kind, patvals, num_elements) in LENGTHS {
+        let automaton = charwise(rt.alloc(), *kind, patvals)?;
+        let same = automaton.num_elements() == *num_elements;
+        expect(&rt, same, "the elements");
+    }
     Ok(())
 }
 
+/// Whether two automata over bytes are the same, and have the same hash.
+fn are_same(one: &Bytewise<Global>, other: &Bytewise<Global>) -> bool {
+    one == other && hash_of(one) == hash_of(other)
+}
+
 #[test]
-fn equality_and_hash_look_at_cached_depths(rt: HostRuntime) -> Result<(), Fail> {
-    let mut automaton = standard(rt.alloc(), &[(b"ab", 0), (b"b", 1)])?;
-    let other = standard(rt.alloc(), &[(b"ab", 0), (b"b", 2)])?;
+fn equality_over_bytes_looks_at_cached_depths(rt: HostRuntime) -> Result<(), Fail> {
+    let kind = MatchKind::Standard;
+    let mut automaton = bytewise(rt.alloc(), kind, &[(b"ab", 0), (b"b", 1)])?;
+    let other = bytewise(rt.alloc(), kind, &[(b"ab", 0), (b"b", 2)])?;
+    expect(&rt, automaton != other, "another value");
     let before = automaton.clone()?;
-    assert!(rt; automaton == before);
-    assert!(rt; automaton != other);
-    assert_eq!(rt; hash_of(&automaton), hash_of(&before));
+    expect(&rt, are_same(&automaton, &before), "a clone");
     automaton.cache_depths()?;
-    assert!(rt; automaton != before);
-    let after = automaton.clone()?;
-    assert!(rt; automaton == after);
-    assert_eq!(rt; hash_of(&automaton), hash_of(&after));
+    expect(&rt, automaton != before, "cached depths");
+    expect(
+        &rt,
+        are_same(&automaton, &automaton.clone()?),
+        "cloned depths",
+    );
     Ok(())
 }
 
-#[test]
-fn each_growth_of_a_listing_is_refused_in_turn(rt: HostRuntime) -> Result<(), Fail> {
-    let patvals: [(&[u8], u32); 3] = [(b"ab", 0), (b"a", 1), (b"b", 2)];
-    let mut ended = false;
-    for number in 0..1000u64 {
-        let heap = Refusing::new(rt.alloc(), number);
-        let Ok(automaton) = standard(&heap, &patvals) else {
-            continue;
-        };
-        let mut given = 0;
-        let mut errors = 0;
-        match automaton.iter(&heap) {
-            Ok(patterns) => {
-                for item in patterns {
-                    match item {
-                        Ok((_pattern, value)) => {
-                            let expected = [1, 0, 2];
-                            assert!(rt; given < 3 && errors == 0);
-                            assert_eq!(rt; value, expected[given]);
-                            given += 1;
-                        }
-                        Err(error) => {
-                            assert!(rt; matches!(error, DaachorseError::OutOfMemory(_)));
-                            assert!(rt; errors == 0);
-                            errors += 1;
-                        }
-                    }
-                }
-            }
-            Err(error) => {
-                assert!(rt; matches!(error, DaachorseError::OutOfMemory(_)));
-                errors = 1;
-            }
-        }
-        if !heap.has_refused() {
-            assert_eq!(rt; given, 3);
-            assert_eq!(rt; errors, 0);
-            ended = true;
-            break;
-        }
-        assert_eq!(rt; errors, 1, "request {number}");
-    }
-    assert!(rt; ended);
-    Ok(())
+/// The same as [`are_same`] over characters.
+fn are_same_charwise(one: &Charwise<Global>, other: &Charwise<Global>) -> bool {
+    one == other && hash_of(one) == hash_of(other)
 }
 
 #[test]
-fn refused_depths_leave_the_automaton_as_it_was(rt: HostRuntime) -> Result<(), Fail> {
-    let patvals: [(&[u8], u32); 2] = [(b"ab", 0), (b"b", 1)];
-    let mut ended = false;
-    for number in 0..1000u64 {
-        let heap = Refusing::new(rt.alloc(), number);
-        let Ok(mut automaton) = standard(&heap, &patvals) else {
-            continue;
-        };
-        let Ok(before) = automaton.clone() else {
-            continue;
-        };
-        match automaton.cache_depths() {
-            Ok(()) => assert!(rt; automaton != before),
-            Err(error) => {
-                assert!(rt; matches!(error, DaachorseError::OutOfMemory(_)));
-                assert!(rt; automaton == before);
-            }
-        }
-        if !heap.has_refused() {
-            ended = true;
-            break;
-        }
-    }
-    assert!(rt; ended);
+fn equality_over_characters_looks_at_cached_depths(rt: HostRuntime) -> Result<(), Fail> {
+    let empty = charwise(rt.alloc(), MatchKind::Standard, &[])?;
+    let mut automaton = charwise(rt.alloc(), MatchKind::Standard, &[("世", 1)])?;
+    expect(&rt, automaton != empty, "other patterns");
+    let before = automaton.clone()?;
+    expect(&rt, are_same_charwise(&automaton, &before), "a clone");
+    automaton.cache_depths()?;
+    expect(&rt, automaton != before, "cached depths");
     Ok(())
 }

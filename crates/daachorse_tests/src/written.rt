@@ -1,71 +1,10 @@
-//! Automata written, by tables of bytes, and read back; and each growth of these refused in turn.
+//! Automata written, by tables of bytes, and read back.
 
-ghost use Rattle.std.specs.Prelude.{◌≡◌, IfOk};
-
-use daachorse::errors::DaachorseError;
-use daachorse::{
-    CharwiseDoubleArrayAhoCorasick, CharwiseDoubleArrayAhoCorasickBuilder, DoubleArrayAhoCorasick,
-    DoubleArrayAhoCorasickBuilder, Match, MatchKind, Result, Serializable,
-};
-use refusing::Refusing;
-use std::alloc::{AllocError, Allocator, Global};
-use std::process::Abort;
+use crate::automata::{KINDS, bytewise, charwise, read_back, read_back_charwise};
+use crate::expect;
+use daachorse::{DoubleArrayAhoCorasick, MatchKind, Result};
+use std::alloc::{AllocError, Global};
 use std::test::Fail;
-
-/// Ends the test with what went wrong, unless `holds`. A call is proved faster than an assertion.
-fn expect(rt: &impl Abort, holds: bool, what: &str) {
-    assert!(rt; holds, "{what}");
-}
-
-fn build<A: Allocator + Copy>(
-    alloc: A,
-    kind: MatchKind,
-    patterns: &[&[u8]],
-) -> Result<DoubleArrayAhoCorasick<u32, A>>
-    ensures { IfOk result (λ a. a.parts.kind ≡ kind) }
-{
-    let builder = DoubleArrayAhoCorasickBuilder::new().match_kind(kind);
-    builder.build(alloc, patterns.iter().copied())
-}
-
-fn build_charwise<A: Allocator + Copy>(
-    alloc: A,
-    kind: MatchKind,
-    patterns: &[&str],
-) -> Result<CharwiseDoubleArrayAhoCorasick<u32, A>>
-    ensures { IfOk result (λ a. a.parts.kind ≡ kind) }
-{
-    let builder = CharwiseDoubleArrayAhoCorasickBuilder::new().match_kind(kind);
-    builder.build(alloc, patterns.iter().copied())
-}
-
-/// An automaton written and read back with a byte 42 behind it, and whether that byte alone is left.
-fn read_back<V: Serializable + Copy, A: Allocator + Copy>(
-    alloc: A,
-    automaton: &DoubleArrayAhoCorasick<V, A>,
-) -> Result<(DoubleArrayAhoCorasick<V, A>, bool)>
-    ensures { IfOk result (λ r. r.0.parts ≡ automaton.now.parts) }
-{
-    let mut bytes = automaton.serialize(alloc)?;
-    bytes.push(42)?;
-    let (read, rest) = DoubleArrayAhoCorasick::deserialize_unchecked(alloc, &bytes)?;
-    let is_left = matches!(rest, [42]);
-    Ok((read, is_left))
-}
-
-/// The same over characters.
-fn read_back_charwise<V: Serializable + Copy, A: Allocator + Copy>(
-    alloc: A,
-    automaton: &CharwiseDoubleArrayAhoCorasick<V, A>,
-) -> Result<(CharwiseDoubleArrayAhoCorasick<V, A>, bool)>
-    ensures { IfOk result (λ r. r.0.parts ≡ automaton.now.parts) }
-{
-    let mut bytes = automaton.serialize(alloc)?;
-    bytes.push(42)?;
-    let (read, rest) = CharwiseDoubleArrayAhoCorasick::deserialize_unchecked(alloc, &bytes)?;
-    let is_left = matches!(rest, [42]);
-    Ok((read, is_left))
-}
 
 /// An element that is not vacant: its index, base, link and packed word.
 type Element = (u32, u32, u32, u32);
@@ -93,14 +32,14 @@ fn bytes_of(alloc: Global, elements: &[Element], ending: &[u8]) -> Result<Vec<u8
 
 /// A row over bytes: patterns, and the elements and the ending that they are written as.
 struct Row {
-    patterns: &'static [&'static [u8]],
+    patvals: &'static [(&'static [u8], u32)],
     elements: &'static [Element],
     ending: &'static [u8],
 }
 
 const ROWS: [Row; 2] = [
     Row {
-        patterns: &[],
+        patvals: &[],
         elements: &[],
         ending: &[
             0, 0, 0, 0, // No leftmost states,
@@ -112,7 +51,7 @@ const ROWS: [Row; 2] = [
         ],
     },
     Row {
-        patterns: &[b"ab", b"b"],
+        patvals: &[(b"ab", 0), (b"b", 1)],
         elements: &[
             (0, 101, 0, 0),
             (2, 0, 7, 610),
@@ -132,13 +71,16 @@ const ROWS: [Row; 2] = [
     },
 ];
 
+/// Whether the row's patterns are written as the row's bytes.
+fn is_written(alloc: Global, row: &Row) -> Result<bool> {
+    let bytes = bytewise(alloc, MatchKind::Standard, row.patvals)?.serialize(alloc)?;
+    Ok(bytes == bytes_of(alloc, row.elements, row.ending)?)
+}
+
 #[test]
 fn automata_have_their_bytes(rt: HostRuntime) -> Result<(), Fail> {
     for row in &ROWS {
-        let automaton = build(rt.alloc(), MatchKind::Standard, row.patterns)?;
-        let bytes = automaton.serialize(rt.alloc())?;
-        let expected = bytes_of(rt.alloc(), row.elements, row.ending)?;
-        expect(&rt, bytes == expected, "the bytes");
+        expect(&rt, is_written(rt.alloc(), row)?, "the bytes");
     }
     Ok(())
 }
@@ -158,161 +100,62 @@ const NO_CHARACTERS: [u8; 54] = [
 
 #[test]
 fn no_characters_have_their_bytes(rt: HostRuntime) -> Result<(), Fail> {
-    let automaton = build_charwise(rt.alloc(), MatchKind::Standard, &[])?;
-    let bytes = automaton.serialize(rt.alloc())?;
-    expect(
-        &rt,
-        bytes.as_slice() == NO_CHARACTERS.as_slice(),
-        "the bytes",
-    );
+    let bytes = charwise(rt.alloc(), MatchKind::Standard, &[])?.serialize(rt.alloc())?;
+    let same = bytes.as_slice() == NO_CHARACTERS.as_slice();
+    expect(&rt, same, "the bytes");
     Ok(())
 }
 
 #[test]
-fn lengths_follow_the_parts(rt: HostRuntime) -> Result<(), Fail> {
-    let pair: [&[u8]; 2] = [b"aria", b"iris"];
-    let bytes = build(rt.alloc(), MatchKind::Standard, &pair)?.serialize(rt.alloc())?;
+fn elements_and_outputs_take_their_bytes(rt: HostRuntime) -> Result<(), Fail> {
+    let pair = [(b"aria".as_slice(), 0), (b"iris", 1)];
+    let bytes = bytewise(rt.alloc(), MatchKind::Standard, &pair)?.serialize(rt.alloc())?;
     expect(&rt, bytes.len() == 3118, "of two words");
-    let letters: [&[u8]; 3] = [b"a", b"b", b"c"];
-    let small: DoubleArrayAhoCorasick<u8> = DoubleArrayAhoCorasick::new(
-        rt.alloc(),
-        letters.iter().copied(),
-    )?;
-    let bytes = small.serialize(rt.alloc())?;
-    expect(&rt, bytes.len() == 3121, "with values of a byte");
+    Ok(())
+}
+
+#[test]
+fn values_of_a_byte_take_a_byte(rt: HostRuntime) -> Result<(), Fail> {
+    let letters = [b"a".as_slice(), b"b", b"c"];
+    let small = DoubleArrayAhoCorasick::<u8>::new(rt.alloc(), letters)?;
+    expect(&rt, small.serialize(rt.alloc())?.len() == 3121, "the bytes");
     let (read, is_left) = read_back(rt.alloc(), &small)?;
     expect(&rt, read == small && is_left, "read back");
     Ok(())
 }
 
-const KINDS: [MatchKind; 3] = [
-    MatchKind::Standard,
-    MatchKind::LeftmostLongest,
-    MatchKind::LeftmostFirst,
-];
+/// Whether an automaton over bytes equals what is read back of it, and nothing more is read.
+fn is_read_back(alloc: Global, kind: MatchKind) -> Result<bool> {
+    let patvals = [(b"aria".as_slice(), 0), (b"", 1), (b"iris", 2), (b"ar", 3)];
+    let automaton = bytewise(alloc, kind, &patvals)?;
+    let (read, is_left) = read_back(alloc, &automaton)?;
+    Ok(read == automaton && is_left)
+}
 
-#[test]
-fn what_was_written_is_read_back(rt: HostRuntime) -> Result<(), Fail> {
-    let patterns: [&[u8]; 4] = [b"aria", b"", b"iris", b"ar"];
-    for kind in KINDS {
-        let automaton = build(rt.alloc(), kind, &patterns)?;
-        let (read, is_left) = read_back(rt.alloc(), &automaton)?;
-        expect(&rt, read == automaton, "an equal automaton");
-        expect(&rt, is_left, "the byte behind it");
-    }
-    Ok(())
+/// The same over characters.
+fn is_read_back_charwise(alloc: Global, kind: MatchKind) -> Result<bool> {
+    let patvals = [("全世界", 0), ("世界", 1), ("", 2), ("に", 3)];
+    let automaton = charwise(alloc, kind, &patvals)?;
+    let (read, is_left) = read_back_charwise(alloc, &automaton)?;
+    Ok(read == automaton && is_left)
 }
 
 #[test]
-fn what_was_written_is_read_back_over_characters(rt: HostRuntime) -> Result<(), Fail> {
+fn what_was_written_is_read_back(rt: HostRuntime) -> Result<(), Fail> {
     for kind in KINDS {
-        let automaton = build_charwise(rt.alloc(), kind, &["全世界", "世界", "", "に"])?;
-        let (read, is_left) = read_back_charwise(rt.alloc(), &automaton)?;
-        expect(&rt, read == automaton, "an equal automaton");
-        expect(&rt, is_left, "the byte behind it");
+        expect(&rt, is_read_back(rt.alloc(), kind)?, "over bytes");
+        expect(&rt, is_read_back_charwise(rt.alloc(), kind)?, "characters");
     }
     Ok(())
 }
 
 #[test]
 fn cached_depths_are_not_written(rt: HostRuntime) -> Result<(), Fail> {
-    let patterns: [&[u8]; 2] = [b"ab", b"b"];
-    let before = build(rt.alloc(), MatchKind::Standard, &patterns)?;
+    let patvals = [(b"ab".as_slice(), 0), (b"b", 1)];
+    let before = bytewise(rt.alloc(), MatchKind::Standard, &patvals)?;
     let mut automaton = before.clone()?;
     automaton.cache_depths()?;
     let (read, _) = read_back(rt.alloc(), &automaton)?;
     expect(&rt, read != automaton && read == before, "no depths");
     Ok(())
-}
-
-/// The matches of the leftmost search of an automaton for `LeftmostFirst` that was read back.
-fn first_found(alloc: Global, patterns: &[&[u8]], haystack: &[u8]) -> Result<Vec<Match<u32>>> {
-    let automaton = build(alloc, MatchKind::LeftmostFirst, patterns)?;
-    let (read, _) = read_back(alloc, &automaton)?;
-    Ok(read.leftmost_find_iter(haystack).collect(alloc)?)
-}
-
-/// The same over characters.
-fn first_found_in_text(alloc: Global, patterns: &[&str], text: &str) -> Result<Vec<Match<u32>>> {
-    let automaton = build_charwise(alloc, MatchKind::LeftmostFirst, patterns)?;
-    let (read, _) = read_back_charwise(alloc, &automaton)?;
-    Ok(read.leftmost_find_iter(text).collect(alloc)?)
-}
-
-#[test]
-fn registration_is_read_back(rt: HostRuntime) -> Result<(), Fail> {
-    let expected = [
-        Match {
-            start: 0,
-            end: 4,
-            value: 0,
-        },
-        Match {
-            start: 5,
-            end: 7,
-            value: 1,
-        },
-    ];
-    let found = first_found(rt.alloc(), &[b"abcd", b"ab"], b"abcd abx")?;
-    expect(&rt, found.as_slice() == expected.as_slice(), "over bytes");
-    let found = first_found_in_text(rt.alloc(), &["abcd", "ab"], "abcd abx")?;
-    expect(
-        &rt,
-        found.as_slice() == expected.as_slice(),
-        "over characters",
-    );
-    Ok(())
-}
-
-/// Whether an automaton over bytes equals what is read back of it.
-fn is_same<A: Allocator + Copy>(alloc: A, kind: MatchKind) -> Result<bool> {
-    let automaton = build(alloc, kind, &[b"ab", b"b"])?;
-    let (read, is_left) = read_back(alloc, &automaton)?;
-    Ok(read == automaton && is_left)
-}
-
-/// The same over characters.
-fn is_same_charwise<A: Allocator + Copy>(alloc: A, kind: MatchKind) -> Result<bool> {
-    let automaton = build_charwise(alloc, kind, &["ab", "b"])?;
-    let (read, is_left) = read_back_charwise(alloc, &automaton)?;
-    Ok(read == automaton && is_left)
-}
-
-/// Whether an equal automaton was read back, or memory was wanting.
-fn is_answered(outcome: &Result<bool>) -> bool {
-    matches!(outcome, Ok(true) | Err(DaachorseError::OutOfMemory(_)))
-}
-
-#[test]
-fn each_growth_may_be_refused(rt: HostRuntime) {
-    for kind in KINDS {
-        let mut ended = false;
-        for number in 0..1000u64 {
-            let heap = Refusing::new(rt.alloc(), number);
-            let outcome = is_same(&heap, kind);
-            expect(&rt, is_answered(&outcome), "over bytes");
-            ended = !heap.has_refused();
-            if ended {
-                break;
-            }
-        }
-        expect(&rt, ended, "a run without a refusal");
-    }
-}
-
-#[test]
-fn each_growth_may_be_refused_over_characters(rt: HostRuntime) {
-    for kind in KINDS {
-        let mut ended = false;
-        for number in 0..1000u64 {
-            let heap = Refusing::new(rt.alloc(), number);
-            let outcome = is_same_charwise(&heap, kind);
-            expect(&rt, is_answered(&outcome), "over characters");
-            ended = !heap.has_refused();
-            if ended {
-                break;
-            }
-        }
-        expect(&rt, ended, "a run without a refusal");
-    }
 }

@@ -2,9 +2,9 @@
 use Rattle.std.proofs.Common.{◌∙◌, ap, arith}
 use Rattle.std.specs.Str.Iter.{bytes_rest}
 use Rattle.daachorse_tests.proofs.FromText.{from_text}
-use Rattle.daachorse_tests.proofs.charwise.find_in_bytes.Goals as goal
+use Rattle.daachorse_tests.proofs.charwise.standard_of_source.Goals as goal
 
-pub collect-requires-clause-can : goal.collect-requires-clause-can
-collect-requires-clause-can c =
+pub are-requires-clause-can : goal.are-requires-clause-can
+are-requires-clause-can c =
     let search = c.find_iter_from_iter in
     from_text search.result.source c.args.text.now search.result.read (ap bytes_rest search.ensures.source ∙ c.bytes.ensures.rest) c.utf8.text (omega arith) search.ensures.read

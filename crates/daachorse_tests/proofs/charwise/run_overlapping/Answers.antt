@@ -3,7 +3,7 @@ use Rattle.std.proofs.Common.{ℕ, Option, ap, ◌∙◌, subst, arith, length}
 use Rattle.daachorse_model.specs.declared.Match.{Match}
 use Rattle.daachorse_model.specs.Units.{char_width}
 use Rattle.daachorse_search.specs.Matches.{GivesFirst, StandsAtEnd}
-use Rattle.daachorse_tests.proofs.text_automata.run_overlapping.Goals as goal
+use Rattle.daachorse_tests.proofs.charwise.run_overlapping.Goals as goal
 
 pub matches-preserved : goal.matches-preserved
 matches-preserved c =

@@ -1,6 +1,6 @@
 use Rattle.std.proofs.Common.{◌≡◌, length}
 use Rattle.std.specs.Str.{chars}
-use Rattle.daachorse_tests.proofs.text_automata.run_overlapping.Given as goal
+use Rattle.daachorse_tests.proofs.charwise.run_overlapping.Given as goal
 
 abbrev pub invariant-matches : goal.invariant-matches
 invariant-matches l = l.search.haystack ≡ chars l.fn.text

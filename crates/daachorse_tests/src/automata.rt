@@ -1,0 +1,148 @@
+//! Automata for the tests: built, laid out by a corpus, and read back.
+
+ghost use Rattle.std.specs.Prelude.{◌≡◌, IfOk};
+
+use crate::rows::Way;
+use daachorse::{
+    CharwiseDoubleArrayAhoCorasick, CharwiseDoubleArrayAhoCorasickBuilder, DoubleArrayAhoCorasick,
+    DoubleArrayAhoCorasickBuilder, MatchKind, Result, Serializable,
+};
+use std::alloc::{AllocError, Allocator, Global};
+
+pub type Bytewise<A> = DoubleArrayAhoCorasick<u32, A>;
+
+pub type Charwise<A> = CharwiseDoubleArrayAhoCorasick<u32, A>;
+
+pub const KINDS: [MatchKind; 3] = [
+    MatchKind::Standard,
+    MatchKind::LeftmostLongest,
+    MatchKind::LeftmostFirst,
+];
+
+/// The texts as bytes, with their values.
+pub fn in_bytes<'a>(
+    alloc: Global,
+    patvals: &[(&'a str, u32)],
+) -> Result<Vec<(&'a [u8], u32)>, AllocError> {
+    let mut all = Vec::new(alloc);
+    for (text, value) in patvals {
+        all.push((text.as_bytes(), *value))?;
+    }
+    Ok(all)
+}
+
+/// An automaton over bytes.
+pub fn bytewise<A: Allocator + Copy>(
+    alloc: A,
+    kind: MatchKind,
+    patvals: &[(&[u8], u32)],
+) -> Result<Bytewise<A>>
+    ensures { IfOk result (λ a. a.parts.kind ≡ kind) }
+{
+    DoubleArrayAhoCorasickBuilder::new()
+        .match_kind(kind)
+        .build_with_values(alloc, patvals.iter().copied())
+}
+
+/// The same, laid out by these documents.
+pub fn bytewise_by_corpus<A: Allocator + Copy>(
+    alloc: A,
+    kind: MatchKind,
+    patvals: &[(&[u8], u32)],
+    documents: &[&[u8]],
+) -> Result<Bytewise<A>>
+    ensures { IfOk result (λ a. a.parts.kind ≡ kind) }
+{
+    DoubleArrayAhoCorasickBuilder::new()
+        .match_kind(kind)
+        .corpus(alloc, documents.iter().copied())?
+        .build_with_values(alloc, patvals.iter().copied())
+}
+
+/// An automaton written and read back with a byte 42 behind it, and whether that byte alone is left.
+pub fn read_back<V: Serializable + Copy, A: Allocator + Copy>(
+    alloc: A,
+    automaton: &DoubleArrayAhoCorasick<V, A>,
+) -> Result<(DoubleArrayAhoCorasick<V, A>, bool)>
+    ensures { IfOk result (λ r. r.0.parts ≡ automaton.now.parts) }
+{
+    let mut bytes = automaton.serialize(alloc)?;
+    bytes.push(42)?;
+    let (read, rest) = DoubleArrayAhoCorasick::deserialize_unchecked(alloc, &bytes)?;
+    let is_left = matches!(rest, [42]);
+    Ok((read, is_left))
+}
+
+/// An automaton over bytes that comes about this way.
+pub fn bytewise_by(
+    alloc: Global,
+    way: Way,
+    kind: MatchKind,
+    patvals: &[(&[u8], u32)],
+) -> Result<Bytewise<Global>>
+    ensures { IfOk result (λ a. a.parts.kind ≡ kind) }
+{
+    match way {
+        Way::Built => bytewise(alloc, kind, patvals),
+        Way::ByCorpus => bytewise_by_corpus(alloc, kind, patvals, &[b"ariaaria", b"abcd"]),
+        Way::ReadBack => Ok(read_back(alloc, &bytewise(alloc, kind, patvals)?)?.0),
+    }
+}
+
+/// An automaton over characters.
+pub fn charwise<A: Allocator + Copy>(
+    alloc: A,
+    kind: MatchKind,
+    patvals: &[(&str, u32)],
+) -> Result<Charwise<A>>
+    ensures { IfOk result (λ a. a.parts.kind ≡ kind) }
+{
+    CharwiseDoubleArrayAhoCorasickBuilder::new()
+        .match_kind(kind)
+        .build_with_values(alloc, patvals.iter().copied())
+}
+
+/// The same, laid out by these documents.
+pub fn charwise_by_corpus<A: Allocator + Copy>(
+    alloc: A,
+    kind: MatchKind,
+    patvals: &[(&str, u32)],
+    documents: &[&str],
+) -> Result<Charwise<A>>
+    ensures { IfOk result (λ a. a.parts.kind ≡ kind) }
+{
+    CharwiseDoubleArrayAhoCorasickBuilder::new()
+        .match_kind(kind)
+        .corpus(alloc, documents.iter().copied())?
+        .build_with_values(alloc, patvals.iter().copied())
+}
+
+/// The same as [`read_back`] over characters.
+pub fn read_back_charwise<V: Serializable + Copy, A: Allocator + Copy>(
+    alloc: A,
+    automaton: &CharwiseDoubleArrayAhoCorasick<V, A>,
+) -> Result<(CharwiseDoubleArrayAhoCorasick<V, A>, bool)>
+    ensures { IfOk result (λ r. r.0.parts ≡ automaton.now.parts) }
+{
+    let mut bytes = automaton.serialize(alloc)?;
+    bytes.push(42)?;
+    let (read, rest) = CharwiseDoubleArrayAhoCorasick::deserialize_unchecked(alloc, &bytes)?;
+    let is_left = matches!(rest, [42]);
+    Ok((read, is_left))
+}
+
+/// An automaton over characters that comes about this way.
+pub fn charwise_by(
+    alloc: Global,
+    way: Way,
+    kind: MatchKind,
+    patvals: &[(&str, u32)],
+) -> Result<Charwise<Global>>
+    ensures { IfOk result (λ a. a.parts.kind ≡ kind) }
+{
+    match way {
+        Way::Built => charwise(alloc, kind, patvals),
+        Way::ByCorpus => charwise_by_corpus(alloc, kind, patvals, &["世界中に", "abcd"]),
+        Way::ReadBack => Ok(read_back_charwise(alloc, &charwise(alloc, kind, patvals)?)?.0),
+    }
+}

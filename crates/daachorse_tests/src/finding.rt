@@ -1,0 +1,143 @@
+//! What a search finds, beside what is expected: of an iterator, and of a stepper after each unit.
+//!
+//! All of it holds for bytes and characters alike.
+
+ghost use Rattle.std.specs.Iterator.{IsFinite};
+ghost use Rattle.std.specs.Prelude.{◌≡◌, []};
+
+use daachorse::Match;
+use daachorse_core::edge_label::EdgeLabel;
+use daachorse_search::automaton::Automaton;
+use daachorse_search::find_stepper::FindStepper;
+use daachorse_search::overlapping_stepper::FindOverlappingStepper;
+use std::slice::Iter;
+
+/// The start, the end and the value of a match.
+pub type Found = (usize, usize, u32);
+
+/// The matches that are still expected, and whether all that came were expected.
+#[derive(Drop)]
+struct Expected<'a> {
+    left: Iter<'a, Found>,
+    holds: bool,
+}
+
+impl<'a> Expected<'a> {
+    fn new(matches: &'a [Found]) -> Self {
+        Self {
+            left: matches.iter(),
+            holds: true,
+        }
+    }
+
+    /// Takes the next match.
+    fn take(&mut self, found: Match<u32>) {
+        match self.left.next() {
+            Some((start, end, value)) => {
+                let same = found.start() == *start && found.end() == *end;
+                self.holds = self.holds && same && found.value() == *value;
+            }
+            None => self.holds = false,
+        }
+    }
+
+    /// Takes the matches in turn.
+    fn take_all<I: Iterator<Item = Match<u32>> + Drop>(&mut self, matches: I)
+        requires can { I.can_next matches }
+        requires ends { IsFinite (I.remaining matches) }
+    {
+        for found in matches {
+            self.take(found);
+        }
+    }
+
+    /// Whether just the expected matches came.
+    fn is_met(&self) -> bool {
+        self.holds && self.left.len() == 0
+    }
+}
+
+/// Whether these are the expected matches, in this order.
+pub fn are<I: Iterator<Item = Match<u32>> + Drop>(matches: I, expected: &[Found]) -> bool
+    requires can { I.can_next matches }
+    requires ends { IsFinite (I.remaining matches) }
+{
+    let mut expected = Expected::new(expected);
+    expected.take_all(matches);
+    expected.is_met()
+}
+
+/// Whether a stepper that has consumed nothing tells just these matches, before the units and after
+/// each of the first hundred.
+pub fn are_found<A: Automaton<u32>>(
+    stepper: &mut FindStepper<'_, u32, A>,
+    units: &[A::Unit],
+    expected: &[Found],
+) -> bool
+    requires { stepper.old.read ≡ [] }
+{
+    let mut expected = Expected::new(expected);
+    expected.take_all(stepper.matches().into_iter());
+    for place in 0..units.len().min(100) {
+        let unit = units[place];
+        unit.in_range();
+        stepper.consume(unit);
+        expected.take_all(stepper.matches().into_iter());
+    }
+    stepper.turns_are_bounded();
+    expected.is_met()
+}
+
+/// The same of a stepper for all matches.
+pub fn are_found_overlapping<A: Automaton<u32>>(
+    stepper: &mut FindOverlappingStepper<'_, u32, A>,
+    units: &[A::Unit],
+    expected: &[Found],
+) -> bool
+    requires { stepper.old.read ≡ [] }
+{
+    let mut expected = Expected::new(expected);
+    expected.take_all(stepper.matches());
+    for place in 0..units.len().min(100) {
+        let unit = units[place];
+        unit.in_range();
+        stepper.consume(unit);
+        expected.take_all(stepper.matches());
+    }
+    stepper.turns_are_bounded();
+    expected.is_met()
+}
+
+/// The depths that a stepper tells, before and after each of three units.
+pub fn depths<A: Automaton<u32>>(
+    stepper: &mut FindStepper<'_, u32, A>,
+    units: &[A::Unit; 3],
+) -> [Option<u32>; 4]
+    requires { stepper.old.read ≡ [] }
+{
+    let mut depths = [stepper.depth(); 4];
+    for place in 0..3usize {
+        let unit = units[place];
+        unit.in_range();
+        stepper.consume(unit);
+        depths[place + 1] = stepper.depth();
+    }
+    depths
+}
+
+/// The same of a stepper for all matches.
+pub fn depths_overlapping<A: Automaton<u32>>(
+    stepper: &mut FindOverlappingStepper<'_, u32, A>,
+    units: &[A::Unit; 3],
+) -> [Option<u32>; 4]
+    requires { stepper.old.read ≡ [] }
+{
+    let mut depths = [stepper.depth(); 4];
+    for place in 0..3usize {
+        let unit = units[place];
+        unit.in_range();
+        stepper.consume(unit);
+        depths[place + 1] = stepper.depth();
+    }
+    depths
+}

@@ -6,6 +6,7 @@ ghost use Rattle.daachorse_charwise.specs.Automata.{dictionary_of, kind_of};
 ghost use Rattle.daactok.specs.Tokens.{seen, tokens};
 
 use crate::{Token, Tokenizer, TokenizerError};
+use daachorse::errors::DaachorseError;
 use daachorse::{
     CharwiseDoubleArrayAhoCorasick, CharwiseDoubleArrayAhoCorasickBuilder, MatchKind, Result,
 };
@@ -27,7 +28,11 @@ fn read_back(alloc: Global, words: &Words) -> Result<Words>
 {
     let bytes = words.serialize(alloc)?;
     let (read, _rest) = CharwiseDoubleArrayAhoCorasick::deserialize_unchecked(alloc, &bytes)?;
-    Ok(read)
+    if read.match_kind() == words.match_kind() {
+        Ok(read)
+    } else {
+        Err(DaachorseError::invalid_automaton())
+    }
 }
 
 /// All tokens of a text.

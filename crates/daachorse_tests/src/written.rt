@@ -2,6 +2,7 @@
 
 use crate::automata::{KINDS, bytewise, charwise, read_back, read_back_charwise};
 use crate::expect;
+use daachorse::errors::DaachorseError;
 use daachorse::{DoubleArrayAhoCorasick, MatchKind, Result};
 use std::alloc::{AllocError, Global};
 use std::test::Fail;
@@ -31,6 +32,7 @@ fn bytes_of(alloc: Global, elements: &[Element], ending: &[u8]) -> Result<Vec<u8
 }
 
 /// A row over bytes: patterns, and the elements and the ending that they are written as.
+#[derive(Clone, Copy)]
 struct Row {
     patvals: &'static [(&'static [u8], u32)],
     elements: &'static [Element],
@@ -132,7 +134,38 @@ fn is_read_back(alloc: Global, kind: MatchKind) -> Result<bool> {
     Ok(read == automaton && is_left)
 }
 
-/// The same over characters.
+/// Whether a read that checks gives back an automaton over bytes that was written.
+fn is_accepted(alloc: Global, kind: MatchKind) -> Result<bool> {
+    let patvals = [(b"aria".as_slice(), 0), (b"", 1), (b"iris", 2), (b"ar", 3)];
+    let automaton = bytewise(alloc, kind, &patvals)?;
+    let bytes = automaton.serialize(alloc)?;
+    let (read, rest) = DoubleArrayAhoCorasick::<u32>::deserialize(alloc, &bytes)?;
+    Ok(read == automaton && rest.is_empty())
+}
+
+#[test]
+fn a_read_that_checks_accepts_what_was_written(rt: HostRuntime) -> Result<(), Fail> {
+    for kind in KINDS {
+        expect(&rt, is_accepted(rt.alloc(), kind)?, "accepted");
+    }
+    Ok(())
+}
+
+#[test]
+fn a_wrong_link_is_refused(rt: HostRuntime) -> Result<(), Fail> {
+    let row = ROWS[1];
+    let mut bytes = bytes_of(rt.alloc(), row.elements, row.ending)?;
+    // The link of element 2, which is 7, behind the count, two elements and a base.
+    if let Some(link) = bytes.get_mut(32) {
+        *link = 4;
+    }
+    let read = DoubleArrayAhoCorasick::<u32>::deserialize(rt.alloc(), &bytes);
+    let is_refused = matches!(read, Err(DaachorseError::InvalidAutomaton(_)));
+    expect(&rt, is_refused, "refused");
+    Ok(())
+}
+
+/// Whether an automaton over characters equals what is read back of it, and nothing more is read.
 fn is_read_back_charwise(alloc: Global, kind: MatchKind) -> Result<bool> {
     let patvals = [("全世界", 0), ("世界", 1), ("", 2), ("に", 3)];
     let automaton = charwise(alloc, kind, &patvals)?;

@@ -2,7 +2,7 @@
 //!
 //! It is an example of a crate over the automaton over characters, and takes from it the leftmost
 //! search and the kind of searches alone. The layers above may rely on the whole list of tokens,
-//! and on the tokens' texts, joined, being the text.
+//! and on the tokens' texts, joined, being the text. The program `quick_start` runs this:
 //!
 //! ```
 //! let builder = CharwiseDoubleArrayAhoCorasickBuilder::new();

@@ -1,0 +1,30 @@
+//! What the tokens of a text say of it.
+
+ghost use Rattle.std.specs.Prelude.{◌≡◌, count_by, fold, length, map, max};
+ghost use Rattle.std.specs.Option.{is_some};
+ghost use Rattle.daachorse_charwise.specs.Automata.{dictionary_of};
+ghost use Rattle.daactok.specs.Tokens.{tokens};
+
+use daactok::Tokenizer;
+
+/// How many tokens of a text are words of the dictionary.
+pub fn count_words<V: Copy>(tokenizer: &Tokenizer<V>, text: &str) -> usize
+    ensures { result ≡ count_by (λ t. is_some t.value) (tokens (dictionary_of tokenizer.now) text.now) }
+{
+    let mut words = 0;
+    for token in tokenizer.tokens(text) {
+        if token.value.is_some() {
+            words += 1;
+        }
+    }
+    words
+}
+
+/// How many bytes the longest token has, and 0 where there is none.
+pub fn longest_token<V: Copy>(tokenizer: &Tokenizer<V>, text: &str) -> usize
+    ensures { result ≡ fold max 0 (map (λ t. length t.text) (tokens (dictionary_of tokenizer.now) text.now)) }
+{
+    tokenizer
+        .tokens(text)
+        .fold(0, |longest: usize, token| longest.max(token.text.len()))
+}

@@ -8,7 +8,8 @@
 # UNITS=bytes or UNITS=chars measures one of the automata.
 # PARTS=counts, PARTS=times or PARTS=build does a part alone. SEEDS is how many links are timed
 # (5), ROUNDS how many rounds in each (15), BYTES the part of a text that instructions are counted
-# in (262144).
+# in (262144). MODES names what is counted, and BUILDS of which kinds a build is. With FILTER=1 the filter
+# of places of both sides is on.
 set -eu
 here=$(CDPATH= cd -- "$(dirname -- "$0")" && pwd)
 top=$(CDPATH= cd -- "$here/../.." && pwd)
@@ -22,6 +23,8 @@ bytes=${BYTES:-262144}
 rounds=${ROUNDS:-15}
 seeds=${SEEDS:-5}
 units=${UNITS:-bytes chars}
+searches="find overlapping no_suffix longest first tokens find_source overlapping_source no_suffix_source find_stepper overlapping_stepper"
+others="list depths write read_unchecked read"
 
 # The sources of a crate, with what its checks kept where there is none yet.
 copy_crate() {
@@ -40,8 +43,8 @@ build_links() {
     for folder in "$top"/crates/* "$here/bench_c"; do
         copy_crate "$folder" "$work/rattle/crates/$(basename "$folder")"
     done
-    # The gate takes each .rt file for one of a crate of its own, so the sources have other names here.
-    for source in "$work"/rattle/crates/bench_c/src/*.rt.in; do
+    # The gate takes each source for one of a crate of its own, so they have other names here.
+    find "$work/rattle/crates/bench_c" -name '*.in' | while read -r source; do
         mv "$source" "${source%.in}"
     done
     cat "$top/crates.txt" "$here/crate_line" > "$work/rattle/crates.txt"
@@ -81,8 +84,10 @@ count_all() {
     part=$(wc -c < "$3")
     [ "$part" -lt "$bytes" ] || part=$bytes
     printf 'what\tours instructions a byte\ttheirs\tratio\n'
-    for mode in ${MODES-find overlapping no_suffix longest first}; do
-        count "search $mode" "$part" rounds "$1" "$mode" "$2" "$3" "$bytes"
+    for mode in ${MODES-$searches $others}; do
+        case "$1 $mode" in "bytes tokens") continue ;; esac
+        case " $others " in *" $mode "*) size=$(wc -c < "$2") ;; *) size=$part ;; esac
+        count "$mode" "$size" rounds "$1" "$mode" "$2" "$3" "$bytes"
     done
     for mode in ${BUILDS-find longest first}; do
         count "build for $mode" "$(wc -c < "$2")" builds "$1" "$mode" "$2"

@@ -1,9 +1,10 @@
 //! Times and counts the automata of this repository beside those of the Rust crate.
 //!
-//! `driver time UNIT WORDS TEXT ROUNDS` prints the least and the median of the rounds of each search
+//! `driver time UNIT WORDS TEXT ROUNDS` prints the least and the median of the rounds of each mode
 //! and of each build. `driver rounds UNIT MODE WORDS TEXT BYTES OURS THEIRS` and
 //! `driver builds UNIT MODE WORDS OURS THEIRS` do so many rounds or builds of either and print
 //! nothing but what they found: they are for counting instructions. `UNIT` is `bytes` or `chars`.
+//! With `FILTER` in the environment the filter of places of both sides is on.
 
 mod ours;
 mod theirs;
@@ -77,21 +78,26 @@ fn print_line(name: &str, bytes: usize, ours: Vec<Duration>, theirs: Vec<Duratio
     );
 }
 
+/// Whether the filter of places of both sides is on.
+fn filter() -> bool {
+    std::env::var_os("FILTER").is_some()
+}
+
 fn time(words: &'static Words, text: &'static [u8], unit: Unit, rounds: u32) {
     println!(
         "what\tours least ms\tmedian\ttheirs least ms\tmedian\tours MB/s\ttheirs MB/s\tratio of least\tof medians"
     );
-    for mode in Mode::ALL {
-        let times = ours::run_beside(words, text, unit, mode, 0, rounds);
+    for mode in Mode::all(unit) {
+        let times = ours::run_beside(words, text, unit, mode, filter(), 0, rounds);
         print_line(
-            &format!("search {}", mode.name()),
-            text.len(),
+            mode.name(),
+            if mode.is_search() { text.len() } else { words.bytes.len() },
             times.ours,
             times.theirs,
         );
     }
     for mode in [Mode::Find, Mode::Longest, Mode::First] {
-        let times = ours::run_beside(words, text, unit, mode, rounds, 0);
+        let times = ours::run_beside(words, text, unit, mode, filter(), rounds, 0);
         print_line(
             &format!("build {}", mode.kind_name()),
             words.bytes.len(),
@@ -103,23 +109,24 @@ fn time(words: &'static Words, text: &'static [u8], unit: Unit, rounds: u32) {
 
 fn rounds(words: &Words, text: &[u8], unit: Unit, mode: Mode, ours: u32, theirs: u32) {
     if ours > 0 {
-        println!("{:?}", ours::run_alone(words, text, unit, mode, 0, ours));
+        println!("{:?}", ours::run_alone(words, text, unit, mode, filter(), 0, ours));
     }
     if theirs > 0 {
-        let automaton = theirs::build(&words.list(), unit, mode);
+        let mut automaton = theirs::build(&words.list(), unit, mode, filter());
+        theirs::prepare(&mut automaton, text, mode);
         for _ in 0..theirs {
-            println!("{:?}", theirs::search(&automaton, text, mode));
+            println!("{:?}", theirs::round(&mut automaton, text, mode));
         }
     }
 }
 
 fn builds(words: &Words, unit: Unit, mode: Mode, ours: u32, theirs: u32) {
     if ours > 0 {
-        println!("{:?}", ours::run_alone(words, b"", unit, mode, ours, 0));
+        println!("{:?}", ours::run_alone(words, b"", unit, mode, filter(), ours, 0));
     }
     let list = words.list();
     for _ in 0..theirs {
-        println!("{}", theirs::build(&list, unit, mode).num_states());
+        println!("{}", theirs::build(&list, unit, mode, filter()).num_states());
     }
 }
 

@@ -15,6 +15,7 @@ unsafe extern "C" {
         haystack_len: usize,
         unit: u32,
         mode: u32,
+        filter: u32,
         builds: u32,
         rounds: u32,
     ) -> i32;
@@ -42,6 +43,7 @@ struct Beside {
     automaton: Automaton,
     unit: Unit,
     mode: Mode,
+    filter: bool,
     expected: Tally,
 }
 
@@ -52,14 +54,14 @@ thread_local! {
 impl Marks {
     /// A build or a round of the other side.
     fn run_theirs(&mut self, is_build: bool) {
-        let Some(beside) = &self.beside else { return };
+        let Some(beside) = &mut self.beside else { return };
         let began = Instant::now();
         if is_build {
-            let built = theirs::build(&beside.words, beside.unit, beside.mode);
+            let built = theirs::build(&beside.words, beside.unit, beside.mode, beside.filter);
             self.times.theirs.push(began.elapsed());
             drop(built);
         } else {
-            let tally = theirs::search(&beside.automaton, beside.text, beside.mode);
+            let tally = theirs::round(&mut beside.automaton, beside.text, beside.mode);
             self.times.theirs.push(began.elapsed());
             assert_eq!(tally, beside.expected);
         }
@@ -103,6 +105,7 @@ fn run(
     text: &[u8],
     unit: Unit,
     mode: Mode,
+    filter: bool,
     builds: u32,
     rounds: u32,
     beside: Option<Beside>,
@@ -125,6 +128,7 @@ fn run(
             text.len(),
             unit as u32,
             mode as u32,
+            filter as u32,
             builds,
             rounds,
         )
@@ -139,10 +143,11 @@ pub fn run_alone(
     text: &[u8],
     unit: Unit,
     mode: Mode,
+    filter: bool,
     builds: u32,
     rounds: u32,
 ) -> Tally {
-    run(words, text, unit, mode, builds, rounds, None).last
+    run(words, text, unit, mode, filter, builds, rounds, None).last
 }
 
 /// So many builds or rounds of both sides, in turn.
@@ -151,19 +156,22 @@ pub fn run_beside(
     text: &'static [u8],
     unit: Unit,
     mode: Mode,
+    filter: bool,
     builds: u32,
     rounds: u32,
 ) -> Times {
     let list = words.list();
-    let automaton = theirs::build(&list, unit, mode);
-    let expected = theirs::search(&automaton, text, mode);
+    let mut automaton = theirs::build(&list, unit, mode, filter);
+    theirs::prepare(&mut automaton, text, mode);
+    let expected = theirs::round(&mut automaton, text, mode);
     let beside = Beside {
         words: list,
         text,
         automaton,
         unit,
         mode,
+        filter,
         expected,
     };
-    run(words, text, unit, mode, builds, rounds, Some(beside)).times
+    run(words, text, unit, mode, filter, builds, rounds, Some(beside)).times
 }

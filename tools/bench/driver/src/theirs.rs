@@ -3,11 +3,10 @@
 use crate::Tally;
 use daachorse::{
     CharwiseDoubleArrayAhoCorasick, CharwiseDoubleArrayAhoCorasickBuilder, DoubleArrayAhoCorasick,
-    DoubleArrayAhoCorasickBuilder, MatchKind,
+    DoubleArrayAhoCorasickBuilder, Match, MatchKind,
 };
 use std::str::from_utf8;
 
-/// What an automaton reads: bytes or characters.
 #[derive(Clone, Copy, PartialEq, Eq)]
 pub enum Unit {
     Byte,
@@ -24,6 +23,7 @@ impl Unit {
     }
 }
 
+/// What a round does. Ours counts them by the same numbers.
 #[derive(Clone, Copy, PartialEq, Eq)]
 pub enum Mode {
     Find,
@@ -31,33 +31,73 @@ pub enum Mode {
     NoSuffix,
     Longest,
     First,
+    /// Ours cuts the text into tokens, of which the words count; the Rust crate's is the leftmost loop.
+    Tokens,
+    FindSource,
+    OverlappingSource,
+    NoSuffixSource,
+    FindStepper,
+    OverlappingStepper,
+    List,
+    Depths,
+    Write,
+    ReadUnchecked,
+    Read,
 }
 
+const MODES: [(Mode, &str); 16] = [
+    (Mode::Find, "find"),
+    (Mode::Overlapping, "overlapping"),
+    (Mode::NoSuffix, "no_suffix"),
+    (Mode::Longest, "longest"),
+    (Mode::First, "first"),
+    (Mode::Tokens, "tokens"),
+    (Mode::FindSource, "find_source"),
+    (Mode::OverlappingSource, "overlapping_source"),
+    (Mode::NoSuffixSource, "no_suffix_source"),
+    (Mode::FindStepper, "find_stepper"),
+    (Mode::OverlappingStepper, "overlapping_stepper"),
+    (Mode::List, "list"),
+    (Mode::Depths, "depths"),
+    (Mode::Write, "write"),
+    (Mode::ReadUnchecked, "read_unchecked"),
+    (Mode::Read, "read"),
+];
+
 impl Mode {
-    pub const ALL: [Mode; 5] = [
-        Mode::Find,
-        Mode::Overlapping,
-        Mode::NoSuffix,
-        Mode::Longest,
-        Mode::First,
-    ];
+    pub fn all(unit: Unit) -> impl Iterator<Item = Mode> {
+        // Tokens are parts of a text.
+        MODES
+            .into_iter()
+            .map(|(mode, _)| mode)
+            .filter(move |mode| unit == Unit::Char || *mode != Mode::Tokens)
+    }
 
     pub fn name(self) -> &'static str {
-        ["find", "overlapping", "no_suffix", "longest", "first"][self as usize]
+        MODES[self as usize].1
     }
 
     pub fn kind_name(self) -> &'static str {
-        ["standard", "standard", "standard", "longest", "first"][self as usize]
+        match self.kind() {
+            MatchKind::LeftmostLongest => "longest",
+            MatchKind::LeftmostFirst => "first",
+            _ => "standard",
+        }
     }
 
     pub fn of(name: &str) -> Mode {
-        let found = Mode::ALL.into_iter().find(|mode| mode.name() == name);
-        found.unwrap_or_else(|| panic!("no mode: {name}"))
+        let found = MODES.into_iter().find(|(_, other)| *other == name);
+        found.unwrap_or_else(|| panic!("no mode: {name}")).0
+    }
+
+    /// Whether a round goes over the text, and not over the automaton.
+    pub fn is_search(self) -> bool {
+        (self as u32) < Mode::List as u32
     }
 
     fn kind(self) -> MatchKind {
         match self {
-            Mode::Longest => MatchKind::LeftmostLongest,
+            Mode::Longest | Mode::Tokens => MatchKind::LeftmostLongest,
             Mode::First => MatchKind::LeftmostFirst,
             _ => MatchKind::Standard,
         }
@@ -65,15 +105,15 @@ impl Mode {
 }
 
 pub enum Automaton {
-    Bytes(DoubleArrayAhoCorasick<u32>),
-    Chars(CharwiseDoubleArrayAhoCorasick<u32>),
+    Bytes(DoubleArrayAhoCorasick<u32>, Vec<u8>),
+    Chars(CharwiseDoubleArrayAhoCorasick<u32>, Vec<u8>, Vec<char>),
 }
 
 impl Automaton {
     pub fn num_states(&self) -> usize {
         match self {
-            Automaton::Bytes(automaton) => automaton.num_states(),
-            Automaton::Chars(automaton) => automaton.num_states(),
+            Automaton::Bytes(automaton, _) => automaton.num_states(),
+            Automaton::Chars(automaton, _, _) => automaton.num_states(),
         }
     }
 }
@@ -83,77 +123,197 @@ fn text_of(bytes: &[u8]) -> &str {
 }
 
 #[inline(never)]
-pub fn build(words: &[&[u8]], unit: Unit, mode: Mode) -> Automaton {
+pub fn build(words: &[&[u8]], unit: Unit, mode: Mode, filter: bool) -> Automaton {
     match unit {
-        Unit::Byte => Automaton::Bytes(
-            DoubleArrayAhoCorasickBuilder::new()
-                .match_kind(mode.kind())
-                .use_prefilter(false)
-                .build(words.iter().copied())
-                .expect("the words build"),
-        ),
-        Unit::Char => Automaton::Chars(
-            CharwiseDoubleArrayAhoCorasickBuilder::new()
-                .match_kind(mode.kind())
-                .use_prefilter(false)
-                .build(words.iter().map(|word| text_of(word)))
-                .expect("the words build"),
-        ),
+        Unit::Byte => {
+            let builder = DoubleArrayAhoCorasickBuilder::new().match_kind(mode.kind());
+            let built = builder.use_prefilter(filter).build(words.iter().copied());
+            Automaton::Bytes(built.expect("the words build"), Vec::new())
+        }
+        Unit::Char => {
+            let builder = CharwiseDoubleArrayAhoCorasickBuilder::new().match_kind(mode.kind());
+            let built = builder.use_prefilter(filter).build(words.iter().map(|word| text_of(word)));
+            Automaton::Chars(built.expect("the words build"), Vec::new(), Vec::new())
+        }
     }
 }
 
-pub fn search(automaton: &Automaton, text: &[u8], mode: Mode) -> Tally {
+/// Makes what rounds need beside the automaton: its written form, and the characters of the text.
+pub fn prepare(automaton: &mut Automaton, text: &[u8], mode: Mode) {
+    let reads = matches!(mode, Mode::Read | Mode::ReadUnchecked);
     match automaton {
-        Automaton::Bytes(automaton) => bytes::search(automaton, text, mode),
-        Automaton::Chars(automaton) => chars::search(automaton, text_of(text), mode),
+        Automaton::Bytes(automaton, written) if reads => *written = automaton.serialize(),
+        Automaton::Chars(automaton, written, _) if reads => *written = automaton.serialize(),
+        Automaton::Chars(_, _, units) => *units = text_of(text).chars().collect(),
+        _ => {}
+    }
+}
+
+pub fn round(automaton: &mut Automaton, text: &[u8], mode: Mode) -> Tally {
+    match automaton {
+        Automaton::Bytes(automaton, written) => bytes::round(automaton, written, text, text, mode),
+        Automaton::Chars(automaton, written, units) => chars::round(automaton, written, text_of(text), units, mode),
     }
 }
 
 impl Tally {
     #[inline(always)]
-    fn add(&mut self, end: usize) {
+    fn add(&mut self, found: Match<u32>) {
+        self.add_numbers(found.start() as u64, found.end() as u64, u64::from(found.value()));
+    }
+
+    #[inline(always)]
+    fn add_numbers(&mut self, start: u64, end: u64, value: u64) {
         self.count = self.count.wrapping_add(1);
-        self.sum = self.sum.wrapping_add(end as u64);
+        self.sum = self.sum.wrapping_add(start).wrapping_add(end).wrapping_add(value);
     }
 }
 
-/// The searches of an automaton, each in a function of its own.
-macro_rules! searches {
-    ($module:ident, $automaton:ty, $text:ty) => {
+fn count_all(matches: impl Iterator<Item = Match<u32>>) -> Tally {
+    let mut tally = Tally::default();
+    for found in matches {
+        tally.add(found);
+    }
+    tally
+}
+
+/// The rounds of an automaton, each search in a function of its own.
+macro_rules! rounds {
+    ($module:ident, $automaton:ident, $text:ty, $unit:ty, $source:ident) => {
         mod $module {
             use super::*;
 
-            pub fn search(automaton: &$automaton, text: &$text, mode: Mode) -> Tally {
+            type Automaton = $automaton<u32>;
+
+            pub fn round(automaton: &mut Automaton, written: &[u8], text: &$text, units: &[$unit], mode: Mode) -> Tally {
                 match mode {
                     Mode::Find => find(automaton, text),
                     Mode::Overlapping => overlapping(automaton, text),
                     Mode::NoSuffix => no_suffix(automaton, text),
-                    Mode::Longest | Mode::First => leftmost(automaton, text),
+                    Mode::Longest | Mode::First | Mode::Tokens => leftmost(automaton, text),
+                    Mode::FindSource => find_source(automaton, text),
+                    Mode::OverlappingSource => overlapping_source(automaton, text),
+                    Mode::NoSuffixSource => no_suffix_source(automaton, text),
+                    Mode::FindStepper => find_stepper(automaton, units),
+                    Mode::OverlappingStepper => overlapping_stepper(automaton, units),
+                    Mode::List => list(automaton),
+                    Mode::Depths => depths(automaton),
+                    Mode::Write => write(automaton),
+                    Mode::ReadUnchecked => read_unchecked(written),
+                    Mode::Read => read(written),
                 }
             }
 
-            searches!(find, find_iter, $automaton, $text);
-            searches!(overlapping, find_overlapping_iter, $automaton, $text);
-            searches!(
-                no_suffix,
-                find_overlapping_no_suffix_iter,
-                $automaton,
-                $text
-            );
-            searches!(leftmost, leftmost_find_iter, $automaton, $text);
-        }
-    };
-    ($name:ident, $iter:ident, $automaton:ty, $text:ty) => {
-        #[inline(never)]
-        fn $name(automaton: &$automaton, text: &$text) -> Tally {
-            let mut tally = Tally::default();
-            for found in automaton.$iter(text) {
-                tally.add(found.end());
+            #[inline(never)]
+            fn find(automaton: &Automaton, text: &$text) -> Tally {
+                count_all(automaton.find_iter(text))
             }
-            tally
+
+            #[inline(never)]
+            fn overlapping(automaton: &Automaton, text: &$text) -> Tally {
+                count_all(automaton.find_overlapping_iter(text))
+            }
+
+            #[inline(never)]
+            fn no_suffix(automaton: &Automaton, text: &$text) -> Tally {
+                count_all(automaton.find_overlapping_no_suffix_iter(text))
+            }
+
+            #[inline(never)]
+            fn leftmost(automaton: &Automaton, text: &$text) -> Tally {
+                count_all(automaton.leftmost_find_iter(text))
+            }
+
+            // The three below are unsafe over characters, and the bytes of a text are UTF-8.
+            #[inline(never)]
+            #[allow(unused_unsafe)]
+            fn find_source(automaton: &Automaton, text: &$text) -> Tally {
+                count_all(unsafe { automaton.find_iter_from_iter($source(text)) })
+            }
+
+            #[inline(never)]
+            #[allow(unused_unsafe)]
+            fn overlapping_source(automaton: &Automaton, text: &$text) -> Tally {
+                count_all(unsafe { automaton.find_overlapping_iter_from_iter($source(text)) })
+            }
+
+            #[inline(never)]
+            #[allow(unused_unsafe)]
+            fn no_suffix_source(automaton: &Automaton, text: &$text) -> Tally {
+                count_all(unsafe { automaton.find_overlapping_no_suffix_iter_from_iter($source(text)) })
+            }
+
+            #[inline(never)]
+            fn find_stepper(automaton: &Automaton, units: &[$unit]) -> Tally {
+                let mut tally = Tally::default();
+                let mut stepper = automaton.find_stepper();
+                for unit in units {
+                    stepper.consume(*unit);
+                    if let Some(found) = stepper.matches() {
+                        tally.add(found);
+                    }
+                }
+                tally
+            }
+
+            #[inline(never)]
+            fn overlapping_stepper(automaton: &Automaton, units: &[$unit]) -> Tally {
+                let mut tally = Tally::default();
+                let mut stepper = automaton.find_overlapping_stepper();
+                for unit in units {
+                    stepper.consume(*unit);
+                    for found in stepper.matches() {
+                        tally.add(found);
+                    }
+                }
+                tally
+            }
+
+            #[inline(never)]
+            fn list(automaton: &Automaton) -> Tally {
+                let mut tally = Tally::default();
+                for (pattern, value) in automaton.iter() {
+                    tally.add_numbers(0, pattern.len() as u64, u64::from(value));
+                }
+                tally
+            }
+
+            #[inline(never)]
+            fn depths(automaton: &mut Automaton) -> Tally {
+                automaton.cache_depths().expect("the kind is standard");
+                Tally::default()
+            }
+
+            #[inline(never)]
+            fn write(automaton: &Automaton) -> Tally {
+                let mut tally = Tally::default();
+                tally.add_numbers(0, automaton.serialize().len() as u64, 0);
+                tally
+            }
+
+            #[inline(never)]
+            fn read_unchecked(written: &[u8]) -> Tally {
+                // SAFETY: `serialize` wrote the bytes.
+                let (read, rest) = unsafe { Automaton::deserialize_unchecked(written) };
+                Tally { count: read.num_states() as u64, sum: rest.len() as u64 }
+            }
+
+            #[inline(never)]
+            fn read(written: &[u8]) -> Tally {
+                let (read, rest) = Automaton::deserialize(written).expect("it was written");
+                Tally { count: read.num_states() as u64, sum: rest.len() as u64 }
+            }
         }
     };
 }
 
-searches!(bytes, DoubleArrayAhoCorasick<u32>, [u8]);
-searches!(chars, CharwiseDoubleArrayAhoCorasick<u32>, str);
+fn bytes_of(text: &[u8]) -> impl Iterator<Item = u8> {
+    text.iter().copied()
+}
+
+fn bytes_of_text(text: &str) -> impl Iterator<Item = u8> {
+    text.bytes()
+}
+
+rounds!(bytes, DoubleArrayAhoCorasick, [u8], u8, bytes_of);
+rounds!(chars, CharwiseDoubleArrayAhoCorasick, str, char, bytes_of_text);

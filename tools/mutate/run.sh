@@ -3,7 +3,8 @@
 #
 # Changes COUNT written automata (1000000) at random from the seed SEED (1), has each read by
 # `deserialize`, and searches those that are accepted, beside the plain definitions over the patterns
-# that they list. WORK is a folder to work in; what an earlier run proved there is kept.
+# that they list. WORK is a folder to work in; what an earlier run proved there is kept. With `shapes` for
+# COUNT it times the read of automata of hostile shapes instead.
 set -eu
 here=$(CDPATH= cd -- "$(dirname -- "$0")" && pwd)
 top=$(CDPATH= cd -- "$here/../.." && pwd)
@@ -25,7 +26,7 @@ for folder in "$top"/crates/* "$here/mutate_c"; do
     copy_crate "$folder" "$work/rattle/crates/$(basename "$folder")"
 done
 # The gate takes each .rt file for one of a crate of its own, so the sources have other names here.
-for source in "$work"/rattle/crates/mutate_c/src/*.rt.in; do
+find "$work/rattle/crates/mutate_c" -name '*.in' | while read -r source; do
     mv "$source" "${source%.in}"
 done
 cat "$top/crates.txt" "$here/crate_line" > "$work/rattle/crates.txt"

@@ -26,6 +26,8 @@ unsafe extern "C" {
         out: *mut u32,
         out_len: usize,
     ) -> usize;
+
+    fn mutate_is_accepted(bytes: *const u8, bytes_len: usize, unit: u32) -> u32;
 }
 
 pub type Found = (u32, u32, u32);
@@ -37,12 +39,12 @@ pub struct Read {
     pub found: Vec<Vec<Found>>,
 }
 
-/// The written form of an automaton, with room of its own.
-pub fn build(words: &[Vec<u8>], unit: u32, kind: u32, filter: bool) -> Vec<u8> {
+/// The written form of an automaton, which has at most so many bytes.
+pub fn build(words: &[Vec<u8>], unit: u32, kind: u32, filter: bool, room: usize) -> Vec<u8> {
     let bytes = words.concat();
     let mut end = 0;
     let ends: Vec<u32> = words.iter().map(|word| { end += word.len() as u32; end }).collect();
-    let mut out = vec![0; 1 << 21];
+    let mut out = vec![0; room];
     // SAFETY: each slice goes by its own pointer and length.
     let len = unsafe {
         mutate_build(bytes.as_ptr(), bytes.len(), ends.as_ptr(), ends.len(), unit, kind, filter as u32,
@@ -51,6 +53,12 @@ pub fn build(words: &[Vec<u8>], unit: u32, kind: u32, filter: bool) -> Vec<u8> {
     assert!(len > 0, "the words build");
     out.truncate(len);
     out
+}
+
+/// Whether the bytes are read as an automaton.
+pub fn is_accepted(bytes: &[u8], unit: u32) -> bool {
+    // SAFETY: the slice goes by its own pointer and length.
+    unsafe { mutate_is_accepted(bytes.as_ptr(), bytes.len(), unit) == 1 }
 }
 
 /// Reads and searches; `None` where the bytes are refused. `room` is used again by each call.

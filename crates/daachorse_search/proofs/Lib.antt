@@ -10,4 +10,5 @@ pub mod BestScanLemmas
 pub mod LeftmostLemmas
 pub mod DepthLemmas
 pub mod BeginningLaws
+pub mod AfreshLemmas
 mod EverywhereLemmas

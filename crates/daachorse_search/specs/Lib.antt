@@ -10,3 +10,4 @@ pub mod Matches
 pub mod BestScans
 pub mod LeftmostSearches
 pub mod Beginnings
+pub mod Afresh

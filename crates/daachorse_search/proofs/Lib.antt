@@ -4,6 +4,7 @@ pub mod SearchLemmas
 pub mod OverlappingLemmas
 pub mod FindLemmas
 pub mod HaystackLemmas
+pub mod FilterLemmas
 pub mod MatchesLemmas
 pub mod RunLemmas
 pub mod BestScanLemmas

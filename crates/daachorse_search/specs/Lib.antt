@@ -6,6 +6,7 @@ pub mod ByteSources
 pub mod Stepwise
 pub mod Searches
 pub mod Finds
+pub mod Filters
 pub mod Matches
 pub mod BestScans
 pub mod LeftmostSearches

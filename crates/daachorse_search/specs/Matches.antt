@@ -6,9 +6,10 @@ use Rattle.daachorse_model.specs.declared.Match.{Match}
 use Rattle.daachorse_model.specs.Units.{size}
 use Rattle.daachorse_search.specs.Sources.{past_each_end}
 
--- what callers see of a search with an automaton A: the whole haystack, the matches that are left, the units behind which the search goes on, the turns taken, and the number of matches given
-pub record Progress (V A : Type 0) : Type 0 where
+-- what callers see of a search with an automaton A and a filter F: the filter as it began, the whole haystack, the matches that are left, the units behind which the search goes on, the turns taken, and the number of matches given
+pub record Progress (V A F : Type 0) : Type 0 where
   pub automaton : A
+  pub filter : F
   pub haystack : List ℕ
   pub left : List (Match V)
   pub passed : List ℕ
@@ -16,18 +17,20 @@ pub record Progress (V A : Type 0) : Type 0 where
   pub given : ℕ
 
 -- `stands` says of a match, the haystack and the units passed whether the search goes on where it should behind the match.
-module _ {V A : Type 0} (stands : Match V → List ℕ → List ℕ → Type 0) where
+module _ {V A F : Type 0} (stands : Match V → List ℕ → List ℕ → Type 0) where
   -- a call gave the first of the matches that are left
-  pub record GaveMatch (s : Progress V A) (m : Match V) (t : Progress V A) : Type 0 where
+  pub record GaveMatch (s : Progress V A F) (m : Match V) (t : Progress V A F) : Type 0 where
     pub automaton : t.automaton ≡ s.automaton
+    pub filter : t.filter ≡ s.filter
     pub haystack : t.haystack ≡ s.haystack
     pub first : s.left ≡ m ∷ t.left
     pub counted : t.given ≡ s.given + 1
     pub behind : stands m t.haystack t.passed
 
   -- no match was left, and all units are passed
-  pub record GaveNone (s t : Progress V A) : Type 0 where
+  pub record GaveNone (s t : Progress V A F) : Type 0 where
     pub automaton : t.automaton ≡ s.automaton
+    pub filter : t.filter ≡ s.filter
     pub haystack : t.haystack ≡ s.haystack
     pub none : s.left ≡ []
     pub still_none : t.left ≡ []
@@ -35,7 +38,7 @@ module _ {V A : Type 0} (stands : Match V → List ℕ → List ℕ → Type 0) 
     pub all : t.passed ≡ t.haystack
 
   -- what a call gives
-  abbrev pub GivesFirst : Progress V A → Option (Match V) → Progress V A → Type 0
+  abbrev pub GivesFirst : Progress V A F → Option (Match V) → Progress V A F → Type 0
   GivesFirst s (Some m) t = GaveMatch s m t
   GivesFirst s None t = GaveNone s t
 

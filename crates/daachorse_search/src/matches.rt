@@ -9,6 +9,7 @@ ghost use Rattle.daachorse_model.specs.Units.{size};
 ghost use Rattle.daachorse_model.specs.Matches.{at_each_end};
 ghost use Rattle.daachorse_search.specs.Matches.{ReadsOn};
 
+use crate::filter::NoFilter;
 use crate::haystack::{Haystack, Reread};
 use crate::stepwise::Stepwise;
 use daachorse_core::Match;
@@ -31,18 +32,21 @@ pub struct Matches<V: Copy, W: Stepwise<V>, H: Reread<W::Unit>> {
     automaton: W::Automaton,
     // It counts the matches given.
     seen: Seen,
+    filter: NoFilter,
     of: PhantomData<V>,
 }
 
 impl<V: Copy, W: Stepwise<V>, H: Reread<W::Unit>> Model for Matches<V, W, H> {
     ghost use Rattle.std.specs.Prelude.{◌++◌};
     ghost use Rattle.daachorse_core.specs.Outputs.{number};
+    ghost use Rattle.daachorse_search.specs.declared.filter.NoFilter.{NoFilter};
     ghost use Rattle.daachorse_search.specs.Matches.{Progress, matches_left, IsReading};
 
-    ghost Value = { Progress V W.Automaton };
+    ghost Value = { Progress V W.Automaton NoFilter };
 
     ghost view = { λ s. record {
       automaton = W.automaton s.walk;
+      filter = s.filter;
       haystack = W.read s.walk ++ H.rest s.rest;
       left = matches_left (W.found (W.automaton s.walk)) (W.given_from s.walk (number s.output)) (W.read s.walk) (H.rest s.rest);
       passed = W.read s.walk;
@@ -76,6 +80,7 @@ impl<V: Copy, W: Stepwise<V>, H: Reread<W::Unit>> Matches<V, W, H> {
             output,
             automaton,
             seen: Seen::new(),
+            filter: NoFilter,
             of: PhantomData,
         }
     }

@@ -32,6 +32,19 @@ shifted-none {V} (m ∷ ms) =
     ∙ ap (λ n. record { start = m.start; end = n; value = m.value } ∷ map (shifted 0) ms) to
     ∙ ap (λ l. m ∷ l) (shifted-none ms)
 
+-- where matches that are no further on begin with one, so do they themselves
+pub unshifted : {V : Type 0} (ms ns : List (Match V)) (m : Match V) → map (shifted 0) ms ≡ m ∷ map (shifted 0) ns → ms ≡ m ∷ ns
+unshifted ms ns m e = sym (shifted-none ms) ∙ e ∙ ap (λ l. m ∷ l) (shifted-none ns)
+
+-- the first of the matches further on, alone
+pub first_shifted : {V : Type 0} (d : ℕ) (ms ns none : List (Match V)) (m : Match V) → map (shifted d) ms ≡ m ∷ ns → none ≡ [] → map (shifted d) (take 1 ms) ≡ m ∷ map (shifted d) none
+first_shifted d [] ns none m e nothing = absurd (omega (arith, ap length e))
+first_shifted {V} d (x ∷ ms) ns none m e nothing =
+    let here : Match V = shifted d x in
+    let rest : List (Match V) = map (shifted d) ms in
+    let same : here ≡ m = cc in
+    ap (λ y. y ∷ []) same ∙ ap (λ l. m ∷ map (shifted d) l) (sym nothing)
+
 -- further on twice is further on by both
 pub shifted-twice : {V : Type 0} (a b : ℕ) (ms : List (Match V)) → map (shifted a) (map (shifted b) ms) ≡ map (shifted (a + b)) ms
 shifted-twice a b [] = refl

@@ -12,4 +12,5 @@ pub mod LeftmostLemmas
 pub mod DepthLemmas
 pub mod BeginningLaws
 pub mod AfreshLemmas
+pub mod SkipLemmas
 mod EverywhereLemmas

@@ -12,3 +12,4 @@ pub mod BestScans
 pub mod LeftmostSearches
 pub mod Beginnings
 pub mod Afresh
+pub mod Skipping

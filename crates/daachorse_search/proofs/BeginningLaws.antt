@@ -4,8 +4,8 @@ use Rattle.daachorse_model.specs.declared.Match.{Match}
 use Rattle.daachorse_search.specs.Beginnings.{BeginsWith}
 use Rattle.daachorse_search.specs.Matches.{Progress}
 
-module _ {V A : Type 0} where
-  pub BeginsWith-along : (found : A → List ℕ → List (Match V)) (a b : A) (v w : List ℕ) (s : Progress V A) → a ≡ b → v ≡ w → BeginsWith a v (found a v) s → BeginsWith b w (found b w) s
+module _ {V A F : Type 0} where
+  pub BeginsWith-along : (found : A → List ℕ → List (Match V)) (a b : A) (v w : List ℕ) (s : Progress V A F) → a ≡ b → v ≡ w → BeginsWith a v (found a v) s → BeginsWith b w (found b w) s
   BeginsWith-along found a b v w s same units begins =
       let P : A → Type 0 = λ x. BeginsWith x v (found x v) s in
       let Q : List ℕ → Type 0 = λ x. BeginsWith b x (found b x) s in

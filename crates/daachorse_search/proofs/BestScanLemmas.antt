@@ -1,5 +1,5 @@
 -- A scan for the leftmost match, one unit further: the best of what was read, and what is final where the scan stops.
-use Rattle.std.proofs.Common.{◌≡◌, ◌≢◌, ℕ, ◌+◌, ◌*◌, ◌<◌, ◌≤◌, inl, inr, Bool, cond, List, [], ◌∷◌, ◌++◌, length, take, Option, Some, None, refl, sym, ap, ◌∙◌, subst, append_assoc, append-nil, length-append, arith}
+use Rattle.std.proofs.Common.{◌≡◌, ◌≢◌, ℕ, ◌+◌, ◌*◌, ◌<◌, ◌≤◌, inl, inr, Bool, cond, true, List, [], ◌∷◌, ◌++◌, length, take, Option, Some, None, refl, sym, ap, ◌∙◌, subst, append_assoc, append-nil, length-append, arith}
 use Rattle.std.specs.Prelude.{count_by}
 use Rattle.std.specs.declared.num.NonZeroU32.{NonZeroU32}
 use Rattle.std.proofs.lemmas.List.Sums.{sum_by-append, sum_by_push}
@@ -7,9 +7,10 @@ use Rattle.daachorse_model.specs.Units.{size}
 use Rattle.daachorse_model.specs.Dictionary.{Dictionary}
 use Rattle.daachorse_model.specs.Prefixes.{IsPrefix, Occurs}
 use Rattle.daachorse_model.specs.Outputs.{IsChain}
-use Rattle.daachorse_model.specs.Best.{IsBest, IsBestSoFar, IsSteady, LeftSteps, IsLeftmost}
-use Rattle.daachorse_model.proofs.Suffixes.{size-append}
+use Rattle.daachorse_model.specs.Best.{IsBest, IsBestSoFar, NoneStarts, IsSteady, LeftSteps, IsLeftmost}
+use Rattle.daachorse_model.proofs.Suffixes.{size-append, le_or_lt}
 use Rattle.daachorse_model.proofs.Links.{none_before}
+use Rattle.daachorse_model.proofs.Occurrences.{split_after}
 use Rattle.daachorse_model.proofs.BestLemmas.{IsSteady-nil, Told, Told-IsSteady, IsBestSoFar-keeps, IsBest-new}
 use Rattle.daachorse_search.specs.declared.best.Found.{Found}
 use Rattle.daachorse_search.specs.declared.best.Mark.{Mark}
@@ -45,6 +46,26 @@ module _ {V : Type 0} (K : Dictionary V) where
   final : (w t : List ℕ) (u : ℕ) (more a k : List ℕ) → LeftSteps K w u t → t ≡ [] → IsBest K w a k → IsBest K (w ++ u ∷ more) a k
   final w t u more a k (inl on) empty best = absurd (on.1 empty)
   final w t u more a k (inr stops) empty best = stops.1.best a k more best
+
+  -- where nothing occurs in w and no end of w begins a key, nothing starts in w, whatever follows
+  none_starts : (w more : List ℕ) → IsSteady K w [] → IsBestSoFar K w None → NoneStarts K (length w) (w ++ more)
+  none_starts w more steady none a k b o =
+      elim (le_or_lt (length w) (length a)) [
+        | inl past ↦ past
+        | inr less ↦
+            let r = split_after a (k ++ b) w more (sym o.parts) (omega (arith, less)) in
+            let sized : length w ≡ length a + length r.0 = ap length r.1 ∙ length-append a r.0 in
+            elim (le_or_lt (length k) (length r.0)) [
+              | inl fits ↦
+                  let q = split_after k b r.0 more r.2 fits in
+                  absurd (none a k q.0 (record { parts = r.1 ∙ ap (λ x. a ++ x) q.1; key = o.key }))
+              | inr over ↦
+                  let q = split_after r.0 more k b (sym r.2) (omega (arith, over)) in
+                  let begins : IsPrefix K r.0 = inr (q.0, λ e. o.key (ap K q.1 ∙ e)) in
+                  let here : length r.0 ≤ length {A = ℕ} [] = steady.long.longest r.0 (a, sym r.1) begins in
+                  absurd (omega (arith, here, sized, less))
+            ]
+      ]
 
 -- The scan of `text` keeps the best as a mark, whose haystack shows by `rest` what is behind it.
 module _ {V H : Type 0} (width : ℕ → ℕ) (K : Dictionary V) (has_output : ℕ → Type 0) (outputs : ℕ → List (V × ℕ)) (rest : H → List ℕ) (text : List ℕ) where
@@ -206,15 +227,47 @@ module _ {V H : Type 0} (width : ℕ → ℕ) (K : Dictionary V) (has_output : �
           first = omega (arith, was.least, ap (λ x. labelled (take 1 x)) whole, labelled-one w);
         }
 
+    -- where none is pending, no key is empty
+    no_empty_of : (w : List ℕ) → IsBestSoFar K w None → K [] ≡ []
+    no_empty_of w none = nil_of (K []) (λ key. none [] [] w (record { parts = refl; key = key }))
+
     -- the text ends while none is
-    pub IsClear-ends : (left t : List ℕ) (end before turns : ℕ) → IsScanning left t None before turns → end ≡ size width text → left ≡ [] → IsClear width K has_output outputs has_label text end before turns
-    IsClear-ends left t end before turns was ended none =
+    pub IsClear-ends : (left t : List ℕ) (may_stop : Bool) (end before turns : ℕ) → IsScanning left t None before turns → end ≡ size width text → left ≡ [] → IsClear width K has_output outputs has_label text may_stop end before turns
+    IsClear-ends left t may_stop end before turns was ended none =
         let w = was.seen in
         let whole : text ≡ w = was.parts ∙ (ap (λ x. w ++ x) none ∙ append-nil w) in
         record {
+          front = w;
+          rest = left;
+          parts = was.parts;
           none = λ a k b o. absurd (was.found a k b (record { parts = sym whole ∙ o.parts; key = o.key }));
-          no_empty = nil_of (K []) (λ key. was.found [] [] w (record { parts = refl; key = key }));
-          ends = ended;
-          most = omega (arith, was.counted, ap length whole);
-          least = omega (arith, was.least, ap labelled whole);
+          no_empty = no_empty_of w was.found;
+          ends = ended ∙ ap (size width) whole;
+          some = λ h. omega (arith, h, ap length whole);
+          all = λ _. none;
+          most = omega (arith, was.counted);
+          least = was.least;
+        }
+
+    -- the scan comes to the root while none is
+    pub IsClear-stops : (left t : List ℕ) (end before turns u : ℕ) (more r : List ℕ) (later : ℕ)
+        → (was : IsScanning left t None before turns) → end + size width more ≡ size width text → left ≡ u ∷ more → LeftSteps K was.seen u r → r ≡ []
+        → later + length r ≤ turns + length t + 2 → turns + cond (has_label u) 1 0 ≤ later
+        → IsClear width K has_output outputs has_label text true end before later
+    IsClear-stops left t end before turns u more r later was ended next steps empty most least =
+        let w = was.seen ++ u ∷ [] in
+        let on = steady_none K was.seen r u steps empty was.found in
+        let P : List ℕ → Type 0 = λ x. IsSteady K w x in
+        let whole : text ≡ w ++ more = was.parts ∙ (ap (λ x. was.seen ++ x) next ∙ sym (append_assoc was.seen (u ∷ []) more)) in
+        record {
+          front = w;
+          rest = more;
+          parts = whole;
+          none = λ a k b o. none_starts K w more (subst P empty on.0) on.1 a k b (record { parts = sym whole ∙ o.parts; key = o.key });
+          no_empty = no_empty_of w on.1;
+          ends = omega (arith, ended, ap (size width) whole, size-append width w more);
+          some = λ h. omega (arith, length-append was.seen (u ∷ []));
+          all = λ e. absurd (cc);
+          most = omega (arith, was.counted, most, length-append was.seen (u ∷ []));
+          least = omega (arith, was.least, least, labelled-push was.seen u);
         }

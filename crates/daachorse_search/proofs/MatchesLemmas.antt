@@ -7,13 +7,13 @@ use Rattle.daachorse_model.specs.declared.Match.{Match}
 use Rattle.daachorse_search.specs.Matches.{Progress, GivesFirst}
 use Rattle.daachorse_search.proofs.HaystackLemmas.{progress_of_first}
 
-module _ {V A : Type 0} (stands : Match V → List ℕ → List ℕ → Type 0) where
-  pub YieldsList-from_progress : (s : Progress V A) (xs : List (Match V)) → s.left ≡ xs → YieldsList (GivesFirst {V = V} {A = A} stands) (λ (m : Match V). m) s xs
+module _ {V A F : Type 0} (stands : Match V → List ℕ → List ℕ → Type 0) where
+  pub YieldsList-from_progress : (s : Progress V A F) (xs : List (Match V)) → s.left ≡ xs → YieldsList (GivesFirst {V = V} {A = A} {F = F} stands) (λ (m : Match V). m) s xs
   YieldsList-from_progress s xs is =
-      let P : List (Match V) → Type 0 = λ l. YieldsList (GivesFirst {V = V} {A = A} stands) (λ (m : Match V). m) s l in
-      subst P is (YieldsList-from_shown (GivesFirst {V = V} {A = A} stands) (λ (m : Match V). m) (λ (p : Progress V A). p.left) (λ s t h. ap length h.none) (λ s m t h. h.first) s)
+      let P : List (Match V) → Type 0 = λ l. YieldsList (GivesFirst {V = V} {A = A} {F = F} stands) (λ (m : Match V). m) s l in
+      subst P is (YieldsList-from_shown (GivesFirst {V = V} {A = A} {F = F} stands) (λ (m : Match V). m) (λ (p : Progress V A F). p.left) (λ s t h. ap length h.none) (λ s m t h. h.first) s)
 
   -- a call that gives the first of the matches that are left makes progress
-  pub GivesFirst-progress : (can : Progress V A → Type 0) (s : Progress V A) (r : Option (Match V)) (t : Progress V A) → ((p : Progress V A) → can p) → GivesFirst stands s r t → MakesProgress can (item_count (λ (p : Progress V A). p.left)) s r t
-  GivesFirst-progress can s None t any h = progress_of_first (λ (p : Progress V A). p.left) can s None t any (h.none, h.still_none)
-  GivesFirst-progress can s (Some m) t any h = progress_of_first (λ (p : Progress V A). p.left) can s (Some m) t any h.first
+  pub GivesFirst-progress : (can : Progress V A F → Type 0) (s : Progress V A F) (r : Option (Match V)) (t : Progress V A F) → ((p : Progress V A F) → can p) → GivesFirst stands s r t → MakesProgress can (item_count (λ (p : Progress V A F). p.left)) s r t
+  GivesFirst-progress can s None t any h = progress_of_first (λ (p : Progress V A F). p.left) can s None t any (h.none, h.still_none)
+  GivesFirst-progress can s (Some m) t any h = progress_of_first (λ (p : Progress V A F). p.left) can s (Some m) t any h.first

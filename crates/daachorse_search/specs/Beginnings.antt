@@ -6,7 +6,7 @@ use Rattle.daachorse_search.specs.Searches.{SourceProgress}
 use Rattle.daachorse_search.specs.Stepwise.{Stepped}
 
 -- in a haystack: these matches are left, and none was given
-pub record BeginsWith {V A : Type 0} (a : A) (units : List ℕ) (matches : List (Match V)) (s : Progress V A) : Type 0 where
+pub record BeginsWith {V A F : Type 0} (a : A) (units : List ℕ) (matches : List (Match V)) (s : Progress V A F) : Type 0 where
   pub automaton : s.automaton ≡ a
   pub haystack : s.haystack ≡ units
   pub left : s.left ≡ matches

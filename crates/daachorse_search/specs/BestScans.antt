@@ -1,5 +1,5 @@
 -- A scan for the leftmost match from one place of a haystack: what it answers.
-use Rattle.std.specs.Prelude.{◌≡◌, ℕ, ◌+◌, ◌*◌, ◌≤◌, Bool, List, [], ◌∷◌, ◌++◌, length, take, count_by}
+use Rattle.std.specs.Prelude.{◌≡◌, ℕ, ◌+◌, ◌*◌, ◌≤◌, ◌<◌, Bool, false, List, [], ◌∷◌, ◌++◌, length, take, count_by}
 use Rattle.daachorse_model.specs.Units.{size}
 use Rattle.daachorse_model.specs.Dictionary.{Dictionary}
 use Rattle.daachorse_model.specs.Prefixes.{IsKey}
@@ -34,14 +34,19 @@ module _ {V : Type 0} (width : ℕ → ℕ) (K : Dictionary V) (has_output : ℕ
     pub least : before + count_by has_label (front ++ key) ≤ turns
     pub first : before + count_by has_label (take 1 text) ≤ turns
 
-  -- nothing starts in `text`
-  pub record IsClear (text : List ℕ) (end before turns : ℕ) : Type 0 where
-    pub none : NoneStarts K (length text) text
+  -- nothing starts in the units of `text` before `rest`: in the first of them, and in all where the scan may not stop
+  pub record IsClear (text : List ℕ) (may_stop : Bool) (end before turns : ℕ) : Type 0 where
+    pub front : List ℕ
+    pub rest : List ℕ
+    pub parts : text ≡ front ++ rest
+    pub none : NoneStarts K (length front) text
     pub no_empty : K [] ≡ []
-    pub ends : end ≡ size width text
-    pub most : turns ≤ before + 2 * length text
-    pub least : before + count_by has_label text ≤ turns
+    pub ends : end ≡ size width front
+    pub some : 0 < length text → 0 < length front
+    pub all : may_stop ≡ false → rest ≡ []
+    pub most : turns ≤ before + 2 * length front
+    pub least : before + count_by has_label front ≤ turns
 
-  abbrev pub IsBestScan : List ℕ → ℕ → ℕ → Scanned → Type 0
-  IsBestScan text before turns (Best found) = IsTheBest text found.position.value found.end before turns
-  IsBestScan text before turns (Clear end) = IsClear text end before turns
+  abbrev pub IsBestScan : List ℕ → Bool → ℕ → ℕ → Scanned → Type 0
+  IsBestScan text may_stop before turns (Best found) = IsTheBest text found.position.value found.end before turns
+  IsBestScan text may_stop before turns (Clear end) = IsClear text may_stop end before turns

@@ -1,11 +1,12 @@
 -- A leftmost search between two calls.
-use Rattle.std.specs.Prelude.{◌≡◌, ℕ, ◌+◌, ◌-◌, ◌*◌, ◌<◌, ◌≤◌, ◌^◌, ◌⊎◌, Bool, true, false, cond, IsTrue, List, [], ◌∷◌, ◌++◌, length, take, count_by}
+use Rattle.std.specs.Prelude.{◌≡◌, ℕ, ◌+◌, ◌-◌, ◌*◌, ◌<◌, ◌≤◌, ◌^◌, ◌⊎◌, Bool, true, false, cond, IsTrue, List, [], ◌∷◌, ◌++◌, length, take}
 use Rattle.daachorse_model.specs.declared.Match.{Match}
 use Rattle.daachorse_model.specs.Units.{size}
 use Rattle.daachorse_model.specs.Dictionary.{Dictionary}
 use Rattle.daachorse_model.specs.Leftmost.{leftmost_from}
 use Rattle.daachorse_model.specs.Best.{IsLeftmost}
 use Rattle.daachorse_search.specs.BestScans.{HasNoLongerKey}
+use Rattle.daachorse_search.specs.Filters.{IsSoundFor, PassesNoneBefore, PassesNowhere, count_passing}
 
 -- the units passed end one unit behind the place, or at it where they are the whole haystack
 abbrev pub EndsUnitBehind : (ℕ → ℕ) → ℕ → List ℕ → List ℕ → Type 0
@@ -21,6 +22,14 @@ pub record StandsBehind {V : Type 0} (width : ℕ → ℕ) (m : Match V) (haysta
 abbrev pub SkipsUnit : (ℕ → ℕ) → List ℕ → ℕ → List ℕ → ℕ → Bool → Type 0
 SkipsUnit width rest place later to false = (u : ℕ) × (rest ≡ u ∷ later) × (to ≡ place + width u)
 SkipsUnit width rest place later to true = (rest ≡ []) × (later ≡ []) × (to ≡ place)
+
+-- The rest is moved on to `later` over units where a filter does not pass, from place to place; where the filter is open, to the first place that passes, or to the end.
+pub record IsSkipped (width : ℕ → ℕ) (passes : List ℕ → Bool) (opened : Type 0) (rest : List ℕ) (place : ℕ) (later : List ℕ) (to : ℕ) : Type 0 where
+  pub front : List ℕ
+  pub parts : rest ≡ front ++ later
+  pub none : PassesNoneBefore passes later rest
+  pub ends : to ≡ place + size width front
+  pub here : opened → (later ≡ []) ⊎ (passes later ≡ true)
 
 -- the units of the whole haystack that come before the rest
 abbrev pub before_rest : List ℕ → List ℕ → List ℕ
@@ -39,14 +48,16 @@ module _ {V : Type 0} (width : ℕ → ℕ) (K : Dictionary V) where
   abbrev pub IsWithin : ℕ → Bool → ℕ → ℕ → Type 0
   IsWithin passed after turns given = (m : ℕ) → HasNoLongerKey K m → turns + spare m after ≤ 2 * passed + 4 * (m * given)
 
-module _ {V : Type 0} (width : ℕ → ℕ) (K : Dictionary V) (dead : List ℕ → Type 0) (has_label : ℕ → Bool) where
-  -- the search goes on where `rest` begins
-  pub record IsResting (whole rest : List ℕ) (place : ℕ) (after done : Bool) (turns given : ℕ) : Type 0 where
+module _ {V : Type 0} (width : ℕ → ℕ) (K : Dictionary V) (dead : List ℕ → Type 0) (has_label : ℕ → Bool) (passes : List ℕ → Bool) (asked : Type 0) where
+  -- The search goes on where `rest` begins. It asks a filter that passes by `passes`, where `asked` says that it was open at the beginning, and `opened` that it is.
+  pub record IsResting (opened : Type 0) (whole rest : List ℕ) (place : ℕ) (after done : Bool) (turns given : ℕ) : Type 0 where
     pub kind : IsLeftmost K dead
+    pub sound : IsSoundFor passes K
     pub passed : List ℕ
     pub parts : whole ≡ passed ++ rest
     pub here : place ≡ size width passed
     pub fits : size width whole < 2 ^ 64
     pub ended : IsTrue done → rest ≡ []
     pub most : IsWithin width K (length passed) after turns given
-    pub least : count_by has_label passed ≤ turns
+    pub least : count_passing passes has_label whole passed ≤ turns
+    pub idle : asked → PassesNowhere passes whole → (turns ≡ 0) × (opened ⊎ (rest ≡ []))

@@ -6,7 +6,10 @@ pub mod ByteSources
 pub mod Stepwise
 pub mod Searches
 pub mod Finds
+pub mod Filters
 pub mod Matches
 pub mod BestScans
 pub mod LeftmostSearches
 pub mod Beginnings
+pub mod Afresh
+pub mod Skipping

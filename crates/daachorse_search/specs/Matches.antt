@@ -6,9 +6,10 @@ use Rattle.daachorse_model.specs.declared.Match.{Match}
 use Rattle.daachorse_model.specs.Units.{size}
 use Rattle.daachorse_search.specs.Sources.{past_each_end}
 
--- what callers see of a search with an automaton A: the whole haystack, the matches that are left, the units behind which the search goes on, the turns taken, and the number of matches given
-pub record Progress (V A : Type 0) : Type 0 where
+-- what callers see of a search with an automaton A and a filter F: the filter as it began, the whole haystack, the matches that are left, the units behind which the search goes on, the turns taken, and the number of matches given
+pub record Progress (V A F : Type 0) : Type 0 where
   pub automaton : A
+  pub filter : F
   pub haystack : List ℕ
   pub left : List (Match V)
   pub passed : List ℕ
@@ -16,18 +17,20 @@ pub record Progress (V A : Type 0) : Type 0 where
   pub given : ℕ
 
 -- `stands` says of a match, the haystack and the units passed whether the search goes on where it should behind the match.
-module _ {V A : Type 0} (stands : Match V → List ℕ → List ℕ → Type 0) where
+module _ {V A F : Type 0} (stands : Match V → List ℕ → List ℕ → Type 0) where
   -- a call gave the first of the matches that are left
-  pub record GaveMatch (s : Progress V A) (m : Match V) (t : Progress V A) : Type 0 where
+  pub record GaveMatch (s : Progress V A F) (m : Match V) (t : Progress V A F) : Type 0 where
     pub automaton : t.automaton ≡ s.automaton
+    pub filter : t.filter ≡ s.filter
     pub haystack : t.haystack ≡ s.haystack
     pub first : s.left ≡ m ∷ t.left
     pub counted : t.given ≡ s.given + 1
     pub behind : stands m t.haystack t.passed
 
   -- no match was left, and all units are passed
-  pub record GaveNone (s t : Progress V A) : Type 0 where
+  pub record GaveNone (s t : Progress V A F) : Type 0 where
     pub automaton : t.automaton ≡ s.automaton
+    pub filter : t.filter ≡ s.filter
     pub haystack : t.haystack ≡ s.haystack
     pub none : s.left ≡ []
     pub still_none : t.left ≡ []
@@ -35,7 +38,7 @@ module _ {V A : Type 0} (stands : Match V → List ℕ → List ℕ → Type 0) 
     pub all : t.passed ≡ t.haystack
 
   -- what a call gives
-  abbrev pub GivesFirst : Progress V A → Option (Match V) → Progress V A → Type 0
+  abbrev pub GivesFirst : Progress V A F → Option (Match V) → Progress V A F → Type 0
   GivesFirst s (Some m) t = GaveMatch s m t
   GivesFirst s None t = GaveNone s t
 
@@ -46,12 +49,6 @@ StandsAtEnd width m haystack passed = m.end ≡ size width passed
 -- the pending matches, and what `found` gives of each beginning of the haystack that is to come: `read` was read
 abbrev pub matches_left : {V : Type 0} → (List ℕ → List (Match V)) → List (Match V) → List ℕ → List ℕ → List (Match V)
 matches_left found pending read rest = pending ++ past_each_end found read rest
-
--- between two calls: the next output to give stands at the position, and what was read and the rest take so many bytes together
-module _ (width : ℕ → ℕ) (has_output : ℕ → Type 0) where
-  pub record IsReading (read rest : List ℕ) (position whole : ℕ) : Type 0 where
-    pub output : has_output position
-    pub spans : whole ≡ size width read + size width rest
 
 module _ {V A W : Type 0} (automaton : W → A) (text : W → List ℕ) (found : A → List ℕ → List (Match V)) (has_output : W → ℕ → Type 0) (given_from : W → ℕ → List (Match V)) where
   -- A walk read on in a haystack, from where nothing was pending to where there is something to give, or to the end. No match was passed over.

@@ -30,7 +30,7 @@ pub struct Found {
 pub enum Scanned {
     /// The best match.
     Best(Found),
-    /// Nothing starts in so many bytes, and they are all.
+    /// Nothing starts in so many bytes: all of them, or those behind which the scan stopped.
     Clear(usize),
 }
 
@@ -43,17 +43,19 @@ struct Mark<H> {
     behind: H,
 }
 
-/// The match with the least start of all in the haystack, and of those the longest.
+/// The match with the least start of all in the haystack, and of those the longest. A scan that
+/// may stop does so at the root, where no match is pending.
 #[inline(always)]
 pub fn scan_best<V: Copy, A: Automaton<V>, H: Reread<A::Unit>>(
     automaton: &A,
     haystack: &H,
+    may_stop: bool,
     turns: &mut Turns,
 ) -> Scanned
     requires kind { IsLeftmost (A.content automaton.now) (A.dead automaton.now) }
     requires fits { size A.Unit.width (H.rest haystack.now) < 2 ^ 64 }
     ensures { IsBestScan A.Unit.width (A.content automaton.now) (A.has_output automaton.now) (A.outputs automaton.now) (A.has_label automaton.now)
-        (H.rest haystack.now) turns.old turns.new result }
+        (H.rest haystack.now) may_stop turns.old turns.new result }
 {
     let mut source = haystack.after(0);
     let mut state = automaton.root();
@@ -74,6 +76,9 @@ pub fn scan_best<V: Copy, A: Automaton<V>, H: Reread<A::Unit>>(
         if automaton.is_root(state) {
             if let Some(mark) = best {
                 return Scanned::Best(found_at(&mark, haystack));
+            }
+            if may_stop {
+                return Scanned::Clear(haystack.left() - source.left());
             }
         } else if let Some(position) = position {
             let behind = source.after(0);

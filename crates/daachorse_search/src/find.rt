@@ -3,11 +3,13 @@
 //! The layers above may rely on [`FindWalk`] telling the standard search's match that ends where
 //! it stands, if there is one, and on it taking no turn where some key is empty.
 
-ghost use Rattle.std.specs.Prelude.{◌≡◌, ◌≢◌, Some, None, length, ◌<◌, ◌≤◌, ◌^◌, ◌+◌, ℕ, List, [], ◌∷◌, ◌++◌, take};
+ghost use Rattle.std.specs.Prelude.{◌≡◌, ◌≢◌, Some, None, length, ◌<◌, ◌≤◌, ◌^◌, ◌+◌, ◌*◌, ℕ, List, [], ◌∷◌, ◌++◌, IsTrue, count_by, map, take};
+ghost use Rattle.std.specs.Bool.{OnTrue};
 ghost use Rattle.daachorse_model.specs.Matches.{IsSinceMatch, standard};
 ghost use Rattle.daachorse_model.specs.Prefixes.{IsLong};
 ghost use Rattle.daachorse_model.specs.Units.{size};
 ghost use Rattle.daachorse_core.specs.Depths.{AreDepths};
+ghost use Rattle.daachorse_search.specs.Afresh.{GoesOnAfresh, shifted};
 ghost use Rattle.daachorse_search.specs.Nothing.{HasPlace-none, first_from-none};
 
 use crate::automaton::Automaton;
@@ -16,6 +18,7 @@ use crate::matches::Matches;
 use crate::stepwise::Stepwise;
 use crate::walk::Walk;
 use daachorse_core::Match;
+use daachorse_core::turns::Turns;
 use std::alloc::AllocError;
 use std::marker::Model;
 use std::num::NonZeroU32;
@@ -72,7 +75,7 @@ impl<V: Copy, A: Automaton<V>> FindWalk<V, A> {
 impl<V: Copy, A: Automaton<V>> Stepwise<V> for FindWalk<V, A> {
     ghost use Rattle.daachorse_core.specs.Seen.{units};
     ghost use Rattle.daachorse_search.specs.Searches.{standard_found};
-    ghost use Rattle.daachorse_search.specs.Stepwise.{AreBoundedSince};
+    ghost use Rattle.daachorse_search.specs.Stepwise.{AreBoundedSince, looks_unless_empty};
     ghost use Rattle.daachorse_search.specs.Walks.{HasPlace, matches_from};
 
     type Unit = A::Unit;
@@ -80,6 +83,8 @@ impl<V: Copy, A: Automaton<V>> Stepwise<V> for FindWalk<V, A> {
     type Automaton = A;
 
     ghost automaton = { λ s. s.automaton };
+
+    ghost content = { A.content };
 
     ghost read = { λ s. units s.seen };
 
@@ -92,6 +97,8 @@ impl<V: Copy, A: Automaton<V>> Stepwise<V> for FindWalk<V, A> {
     ghost has_output = { λ s position. HasPlace A.Unit.width (A.has_output s.automaton) (A.outputs s.automaton) s.seen position };
 
     ghost given_from = { λ s position. take 1 (matches_from A.Unit.width (A.outputs s.automaton) s.seen position) };
+
+    ghost looks_at = { λ a. looks_unless_empty (A.content a) (A.has_label a) };
 
     ghost bounds = { λ a read turns. AreBoundedSince (A.content a) (A.has_label a) A.Unit.width read turns };
 
@@ -111,6 +118,16 @@ impl<V: Copy, A: Automaton<V>> Stepwise<V> for FindWalk<V, A> {
             self.walk.restart();
         }
         found
+    }
+
+    #[inline(always)]
+    fn is_at_root(&self) -> bool {
+        self.walk.is_at_root()
+    }
+
+    #[inline(always)]
+    fn begin_again(&mut self, taken: &mut Turns) {
+        self.walk.begin_again(taken);
     }
 
     #[inline(always)]

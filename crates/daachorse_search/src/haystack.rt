@@ -66,6 +66,14 @@ impl<'a> Bytes<'a> {
             given: 0,
         }
     }
+
+    /// The bytes that are still to come.
+    #[inline(always)]
+    pub fn bytes(&self) -> &'a [u8]
+        ensures { result.now ≡ self.now }
+    {
+        &self.bytes[self.given..]
+    }
 }
 
 impl<'a> Iterator for Bytes<'a> {

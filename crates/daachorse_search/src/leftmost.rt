@@ -5,18 +5,21 @@
 //! where the match does, or at the next boundary behind an empty one; and on the bounds of the
 //! turns for them.
 //!
-//! Each scan begins in [`LeftmostMatches::next`] where the search goes on: a filter of places would
-//! move that place on just before the scan.
+//! Each scan begins in [`LeftmostMatches::next`] where the search goes on. Just before it a filter
+//! that is open moves that place on, and a scan then stops where nothing is pending, so that the
+//! filter is asked again. No match depends on it.
 
-ghost use Rattle.std.specs.Prelude.{◌≡◌, ◌+◌, ◌*◌, ◌^◌, ◌<◌, ◌≤◌, ◌++◌, ℕ, List, [], length, count_by};
+ghost use Rattle.std.specs.Prelude.{◌≡◌, ◌+◌, ◌*◌, ◌^◌, ◌<◌, ◌≤◌, ◌++◌, ℕ, true, List, [], length, count_by, IsTrue};
 ghost use Rattle.daachorse_model.specs.Units.{size};
 ghost use Rattle.daachorse_model.specs.Best.{IsLeftmost};
 ghost use Rattle.daachorse_model.specs.Leftmost.{leftmost};
 ghost use Rattle.daachorse_search.specs.BestScans.{HasNoLongerKey};
-ghost use Rattle.daachorse_search.specs.LeftmostSearches.{SkipsUnit};
+ghost use Rattle.daachorse_search.specs.Filters.{IsSoundFor, PassesNowhere, count_passing};
+ghost use Rattle.daachorse_search.specs.LeftmostSearches.{SkipsUnit, IsSkipped};
 
 use crate::automaton::Automaton;
 use crate::best::{Scanned, scan_best};
+use crate::filter::{Filter, NoFilter};
 use crate::haystack::Reread;
 use daachorse_core::Match;
 use daachorse_core::edge_label::EdgeLabel;
@@ -26,9 +29,16 @@ use std::snapshot::Snapshot;
 
 /// The leftmost matches in a haystack.
 #[derive(Drop)]
-pub struct LeftmostMatches<V: Copy, A: Automaton<V>, H: Reread<A::Unit>> {
+pub struct LeftmostMatches<
+    V: Copy,
+    A: Automaton<V>,
+    H: Reread<A::Unit>,
+    F: Filter<A::Unit, H> = NoFilter,
+> {
     automaton: A,
-    // The whole haystack, for contracts alone.
+    filter: F,
+    // The filter and the whole haystack as the search began, for contracts alone.
+    first_filter: Snapshot<F>,
     whole: Snapshot<H>,
     // The haystack from where the search goes on.
     rest: H,
@@ -43,14 +53,17 @@ pub struct LeftmostMatches<V: Copy, A: Automaton<V>, H: Reread<A::Unit>> {
     of: PhantomData<V>,
 }
 
-impl<V: Copy, A: Automaton<V>, H: Reread<A::Unit>> Model for LeftmostMatches<V, A, H> {
+impl<V: Copy, A: Automaton<V>, H: Reread<A::Unit>, F: Filter<A::Unit, H>> Model
+    for LeftmostMatches<V, A, H, F> {
+    ghost use Rattle.std.specs.Prelude.{◌≡◌, ℕ, List};
     ghost use Rattle.daachorse_search.specs.Matches.{Progress};
     ghost use Rattle.daachorse_search.specs.LeftmostSearches.{before_rest, leftmost_left, IsResting};
 
-    ghost Value = { Progress V A };
+    ghost Value = { Progress V A F };
 
     ghost view = { λ s. record {
       automaton = s.automaton;
+      filter = s.first_filter.value;
       haystack = H.rest s.whole.value;
       left = leftmost_left A.Unit.width (A.content s.automaton) s.place (H.rest s.rest) s.after s.done;
       passed = before_rest (H.rest s.whole.value) (H.rest s.rest);
@@ -58,11 +71,12 @@ impl<V: Copy, A: Automaton<V>, H: Reread<A::Unit>> Model for LeftmostMatches<V, 
       given = s.seen.given;
     } };
 
-    ghost invariant = { λ s. IsResting A.Unit.width (A.content s.automaton) (A.dead s.automaton) (A.has_label s.automaton)
-        (H.rest s.whole.value) (H.rest s.rest) s.place s.after s.done s.turns s.seen.given };
+    ghost invariant = { λ s. ((w : List ℕ) → F.passes s.filter w ≡ F.passes s.first_filter.value w)
+        × IsResting A.Unit.width (A.content s.automaton) (A.dead s.automaton) (A.has_label s.automaton) (F.passes s.first_filter.value) (F.opened s.first_filter.value)
+        (F.opened s.filter) (H.rest s.whole.value) (H.rest s.rest) s.place s.after s.done s.turns s.seen.given };
 }
 
-impl<V: Copy, A: Automaton<V>, H: Reread<A::Unit>> LeftmostMatches<V, A, H> {
+impl<V: Copy, A: Automaton<V>, H: Reread<A::Unit>> LeftmostMatches<V, A, H, NoFilter> {
     /// A search from the beginning of the haystack.
     #[inline(always)]
     pub fn new(automaton: A, haystack: H) -> Self
@@ -75,8 +89,34 @@ impl<V: Copy, A: Automaton<V>, H: Reread<A::Unit>> LeftmostMatches<V, A, H> {
         ensures turns { result.turns ≡ 0 }
         ensures given { result.given ≡ 0 }
     {
+        Self::with_filter(automaton, haystack, NoFilter)
+    }
+}
+
+impl<V: Copy, A: Automaton<V>, H: Reread<A::Unit>, F: Filter<A::Unit, H>> LeftmostMatches<
+    V,
+    A,
+    H,
+    F,
+> {
+    /// A search from the beginning of the haystack, which asks a filter where it goes on.
+    #[inline(always)]
+    pub fn with_filter(automaton: A, haystack: H, filter: F) -> Self
+        requires kind { IsLeftmost (A.content automaton) (A.dead automaton) }
+        requires fits { size A.Unit.width (H.rest haystack) < 2 ^ 64 }
+        requires sound { IsSoundFor (F.passes filter) (A.content automaton) }
+        ensures automaton { result.automaton ≡ automaton }
+        ensures filter { result.filter ≡ filter }
+        ensures haystack { result.haystack ≡ H.rest haystack }
+        ensures left { result.left ≡ leftmost A.Unit.width (A.content automaton) (H.rest haystack) }
+        ensures passed { result.passed ≡ [] }
+        ensures turns { result.turns ≡ 0 }
+        ensures given { result.given ≡ 0 }
+    {
         LeftmostMatches {
             automaton,
+            first_filter: Snapshot::of(&filter),
+            filter,
             whole: Snapshot::of(&haystack),
             rest: haystack,
             place: 0,
@@ -89,20 +129,25 @@ impl<V: Copy, A: Automaton<V>, H: Reread<A::Unit>> LeftmostMatches<V, A, H> {
     }
 
     /// Does nothing, and promises that the turns are at most twice the units passed and four times
-    /// the units of the longest key for each match, and at least the units passed that some key has;
-    /// and that the haystack begins with the units passed.
+    /// the units of the longest key for each match, and at least the units passed that some key has
+    /// and at which the filter passes; that there are none where a filter that was open passes
+    /// nowhere; and that the haystack begins with the units passed.
     #[inline(always)]
     pub fn turns_are_bounded(&self)
         ensures most { (m : ℕ) → HasNoLongerKey (A.content self.now.automaton) m
             → self.now.turns ≤ 2 * length self.now.passed + 4 * (m * self.now.given) }
-        ensures least { count_by (A.has_label self.now.automaton) self.now.passed ≤ self.now.turns }
+        ensures passing { count_passing (F.passes self.now.filter) (A.has_label self.now.automaton) self.now.haystack self.now.passed ≤ self.now.turns }
+        ensures least { ((w : List ℕ) → F.passes self.now.filter w ≡ true)
+            → count_by (A.has_label self.now.automaton) self.now.passed ≤ self.now.turns }
+        ensures idle { F.opened self.now.filter → PassesNowhere (F.passes self.now.filter) self.now.haystack → self.now.turns ≡ 0 }
         ensures passed { (rest : List ℕ) × (self.now.haystack ≡ self.now.passed ++ rest) }
     {
         let _ = &self.place;
     }
 }
 
-impl<V: Copy, A: Automaton<V>, H: Reread<A::Unit>> Iterator for LeftmostMatches<V, A, H> {
+impl<V: Copy, A: Automaton<V>, H: Reread<A::Unit>, F: Filter<A::Unit, H>> Iterator
+    for LeftmostMatches<V, A, H, F> {
     ghost use Rattle.std.specs.Iterator.{item_count};
     ghost use Rattle.daachorse_search.specs.Matches.{GivesFirst};
     ghost use Rattle.daachorse_search.specs.LeftmostSearches.{StandsBehind};
@@ -119,11 +164,12 @@ impl<V: Copy, A: Automaton<V>, H: Reread<A::Unit>> Iterator for LeftmostMatches<
             if self.done {
                 return None;
             }
-            match scan_best(&self.automaton, &self.rest, &mut self.turns) {
+            let may_stop = skip_places(&mut self.filter, &mut self.rest, &mut self.place);
+            match scan_best(&self.automaton, &self.rest, may_stop, &mut self.turns) {
                 Scanned::Clear(end) => {
                     self.rest = self.rest.after(end);
                     self.place += end;
-                    self.done = true;
+                    self.done = self.rest.left() == 0;
                 }
                 Scanned::Best(found) => {
                     let output = self.automaton.output(found.position);
@@ -148,6 +194,26 @@ impl<V: Copy, A: Automaton<V>, H: Reread<A::Unit>> Iterator for LeftmostMatches<
             }
         }
     }
+}
+
+/// Moves on to the first place that passes, if the filter is open, and answers whether it is.
+#[inline(always)]
+fn skip_places<U: EdgeLabel, H: Reread<U>, F: Filter<U, H>>(
+    filter: &mut F,
+    rest: &mut H,
+    place: &mut usize,
+) -> bool
+    requires { place.old + size U.width (H.rest rest.old) < 2 ^ 64 }
+    ensures passes { (w : List ℕ) → F.passes filter.new w ≡ F.passes filter.old w }
+    ensures skipped { IsSkipped U.width (F.passes filter.old) (F.opened filter.old) (H.rest rest.old) place.old (H.rest rest.new) place.new }
+{
+    if !filter.is_open() {
+        return false;
+    }
+    let before = rest.left();
+    filter.skip(rest);
+    *place += before - rest.left();
+    true
 }
 
 /// Takes one unit off the haystack, and answers whether there was none.

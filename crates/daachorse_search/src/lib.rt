@@ -11,6 +11,7 @@
 pub mod automaton;
 pub mod best;
 pub mod ending_here;
+pub mod filter;
 pub mod find;
 pub mod find_stepper;
 pub mod haystack;

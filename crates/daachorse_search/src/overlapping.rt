@@ -3,11 +3,13 @@
 //! The layers above may rely on [`OverlappingWalk`] telling all matches that end where it stands,
 //! the longest first, and on [`NoSuffixWalk`] telling the first of them.
 
-ghost use Rattle.std.specs.Prelude.{◌≡◌, ◌≢◌, Some, None, length, ◌<◌, ◌≤◌, ◌^◌, ◌+◌, ℕ, List, [], ◌∷◌, ◌++◌, take};
+ghost use Rattle.std.specs.Prelude.{◌≡◌, ◌≢◌, Some, None, length, ◌<◌, ◌≤◌, ◌^◌, ◌+◌, ◌*◌, ◌↔◌, ℕ, List, [], ◌∷◌, ◌++◌, IsTrue, count_by, map, take};
+ghost use Rattle.std.specs.Bool.{OnTrue};
 ghost use Rattle.daachorse_model.specs.Matches.{no_suffix, overlapping};
 ghost use Rattle.daachorse_model.specs.Prefixes.{IsLong};
 ghost use Rattle.daachorse_model.specs.Units.{size};
 ghost use Rattle.daachorse_core.specs.Depths.{AreDepths};
+ghost use Rattle.daachorse_search.specs.Afresh.{GoesOnAfresh, shifted};
 ghost use Rattle.daachorse_search.specs.Nothing.{HasPlace-none, matches_from-none, first_from-none};
 
 use crate::automaton::Automaton;
@@ -17,6 +19,7 @@ use crate::matches::Matches;
 use crate::stepwise::Stepwise;
 use crate::walk::Walk;
 use daachorse_core::Match;
+use daachorse_core::turns::Turns;
 use std::alloc::AllocError;
 use std::marker::Model;
 use std::num::NonZeroU32;
@@ -74,6 +77,14 @@ impl<V: Copy, A: Automaton<V>> OverlappingWalk<V, A> {
         EndingHere::new(self.walk.automaton(), place, self.walk.outputs())
     }
 
+    /// Whether no key that began before goes on here.
+    #[inline(always)]
+    pub fn stands_at_root(&self) -> bool
+        ensures { IsTrue result ↔ IsLong (A.content self.now.automaton) (units self.now.seen) [] }
+    {
+        self.walk.is_at_root()
+    }
+
     /// The depth of the state: how many of the last units read begin a key. `None` if no depths
     /// are kept.
     #[inline(always)]
@@ -98,6 +109,8 @@ impl<V: Copy, A: Automaton<V>> Stepwise<V> for OverlappingWalk<V, A> {
 
     ghost automaton = { λ s. s.automaton };
 
+    ghost content = { A.content };
+
     ghost read = { λ s. units s.seen };
 
     ghost turns = { λ s. s.turns };
@@ -112,6 +125,8 @@ impl<V: Copy, A: Automaton<V>> Stepwise<V> for OverlappingWalk<V, A> {
 
     ghost no_output = { λ s. (HasPlace-none A.Unit.width (A.has_output s.automaton) (A.outputs s.automaton) s.seen (A.no_output s.automaton), matches_from-none A.Unit.width (A.has_output s.automaton) (A.outputs s.automaton) s.seen (A.no_output s.automaton)) };
 
+    ghost looks_at = { A.has_label };
+
     ghost bounds = { λ a read turns. AreBounded (A.content a) (A.has_label a) read turns };
 
     #[inline(always)]
@@ -122,6 +137,16 @@ impl<V: Copy, A: Automaton<V>> Stepwise<V> for OverlappingWalk<V, A> {
     #[inline(always)]
     fn advance(&mut self, unit: A::Unit) -> Option<NonZeroU32> {
         self.walk.consume(unit)
+    }
+
+    #[inline(always)]
+    fn is_at_root(&self) -> bool {
+        self.stands_at_root()
+    }
+
+    #[inline(always)]
+    fn begin_again(&mut self, taken: &mut Turns) {
+        self.walk.begin_again(taken);
     }
 
     #[inline(always)]
@@ -197,6 +222,8 @@ impl<V: Copy, A: Automaton<V>> Stepwise<V> for NoSuffixWalk<V, A> {
 
     ghost automaton = { λ s. s.automaton };
 
+    ghost content = { A.content };
+
     ghost read = { λ s. units s.seen };
 
     ghost turns = { λ s. s.turns };
@@ -211,6 +238,8 @@ impl<V: Copy, A: Automaton<V>> Stepwise<V> for NoSuffixWalk<V, A> {
 
     ghost no_output = { λ s. (HasPlace-none A.Unit.width (A.has_output s.automaton) (A.outputs s.automaton) s.seen (A.no_output s.automaton), first_from-none A.Unit.width (A.has_output s.automaton) (A.outputs s.automaton) s.seen (A.no_output s.automaton)) };
 
+    ghost looks_at = { A.has_label };
+
     ghost bounds = { λ a read turns. AreBounded (A.content a) (A.has_label a) read turns };
 
     #[inline(always)]
@@ -221,6 +250,16 @@ impl<V: Copy, A: Automaton<V>> Stepwise<V> for NoSuffixWalk<V, A> {
     #[inline(always)]
     fn advance(&mut self, unit: A::Unit) -> Option<NonZeroU32> {
         self.all.advance(unit)
+    }
+
+    #[inline(always)]
+    fn is_at_root(&self) -> bool {
+        self.all.stands_at_root()
+    }
+
+    #[inline(always)]
+    fn begin_again(&mut self, taken: &mut Turns) {
+        self.all.begin_again(taken);
     }
 
     #[inline(always)]

@@ -41,6 +41,14 @@ impl<'a> Text<'a> {
             rest: haystack.chars(),
         }
     }
+
+    /// The text that is still to come.
+    #[inline(always)]
+    pub fn text(&self) -> &'a str
+        ensures { chars result.now ≡ self.now }
+    {
+        self.rest.as_str()
+    }
 }
 
 impl<'a> Iterator for Text<'a> {

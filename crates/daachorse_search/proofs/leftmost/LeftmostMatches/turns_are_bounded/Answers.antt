@@ -1,11 +1,31 @@
 -- The units passed are what the rest is cut off from.
-use Rattle.std.proofs.Common.{◌≡◌, ◌++◌, ℕ, List, subst}
+use Rattle.std.proofs.Common.{◌≡◌, ◌≤◌, ◌++◌, ℕ, true, List, subst}
+use Rattle.std.specs.Prelude.{count_by}
+use Rattle.daachorse_search.specs.Filters.{PassesNowhere, count_passing}
 use Rattle.daachorse_search.specs.Matches.{Progress}
-use Rattle.daachorse_search.proofs.LeftmostLemmas.{passed_parts}
+use Rattle.daachorse_search.proofs.LeftmostLemmas.{passed_parts, passing_least, labelled_least}
 use Rattle.daachorse_search.proofs.leftmost.LeftmostMatches.turns_are_bounded.Goals as goal
 
 pub returns-clause-passed : goal.returns-clause-passed
 returns-clause-passed g c =
-    let A = g.A.Automaton in let rest = g.H.Haystack.rest in let s = c.self.inside in let a = s.automaton in
-    let P : Progress g.row.V.Denot g.row.A.Denot → Type 0 = λ p. (back : List ℕ) × (p.haystack ≡ p.passed ++ back) in
-    subst P c.self.view_is (passed_parts g.A.Unit.EdgeLabel.width (A.content a) (A.dead a) (A.has_label a) (rest s.whole.value) (rest s.rest) s.place s.after s.done s.turns s.seen.given c.self.invariant)
+    let A = g.A.Automaton in let F = g.F.Filter in let rest = g.H.Haystack.rest in let s = c.self.inside in let a = s.automaton in let first = s.first_filter.value in
+    let P : Progress g.row.V.Denot g.row.A.Denot g.row.F.Denot → Type 0 = λ p. (back : List ℕ) × (p.haystack ≡ p.passed ++ back) in
+    subst P c.self.view_is (passed_parts g.A.Unit.EdgeLabel.width (A.content a) (A.dead a) (A.has_label a) (F.passes first) (F.opened first) (F.opened s.filter) (rest s.whole.value) (rest s.rest) s.place s.after s.done s.turns s.seen.given c.self.invariant.1)
+
+pub returns-clause-passing : goal.returns-clause-passing
+returns-clause-passing g c =
+    let A = g.A.Automaton in let F = g.F.Filter in let rest = g.H.Haystack.rest in let s = c.self.inside in let a = s.automaton in let first = s.first_filter.value in
+    let P : Progress g.row.V.Denot g.row.A.Denot g.row.F.Denot → Type 0 = λ p. count_passing (F.passes p.filter) (A.has_label p.automaton) p.haystack p.passed ≤ p.turns in
+    subst P c.self.view_is (passing_least g.A.Unit.EdgeLabel.width (A.content a) (A.dead a) (A.has_label a) (F.passes first) (F.opened first) (F.opened s.filter) (rest s.whole.value) (rest s.rest) s.place s.after s.done s.turns s.seen.given c.self.invariant.1)
+
+pub returns-clause-least : goal.returns-clause-least
+returns-clause-least g c =
+    let A = g.A.Automaton in let F = g.F.Filter in let rest = g.H.Haystack.rest in let s = c.self.inside in let a = s.automaton in let first = s.first_filter.value in
+    let P : Progress g.row.V.Denot g.row.A.Denot g.row.F.Denot → Type 0 = λ p. ((w : List ℕ) → F.passes p.filter w ≡ true) → count_by (A.has_label p.automaton) p.passed ≤ p.turns in
+    subst P c.self.view_is (labelled_least g.A.Unit.EdgeLabel.width (A.content a) (A.dead a) (A.has_label a) (F.passes first) (F.opened first) (F.opened s.filter) (rest s.whole.value) (rest s.rest) s.place s.after s.done s.turns s.seen.given c.self.invariant.1)
+
+pub returns-clause-idle : goal.returns-clause-idle
+returns-clause-idle g c =
+    let F = g.F.Filter in
+    let P : Progress g.row.V.Denot g.row.A.Denot g.row.F.Denot → Type 0 = λ p. F.opened p.filter → PassesNowhere (F.passes p.filter) p.haystack → p.turns ≡ 0 in
+    subst P c.self.view_is (λ was_open nowhere. (c.self.invariant.1.idle was_open nowhere).0)

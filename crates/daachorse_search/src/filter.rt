@@ -1,0 +1,46 @@
+//! Filters of places, which pass over units of a haystack where no key begins.
+//!
+//! The layers above may rely on a filter that is asked moving its haystack on to the first place
+//! that passes, or to the end, and on it passing at the same places ever after.
+
+ghost use Rattle.std.specs.Prelude.{◌≡◌, ℕ, Bool, true, List, IsTrue};
+ghost use Rattle.daachorse_search.specs.Filters.{IsNextPassing};
+
+use crate::haystack::Reread;
+use daachorse_core::edge_label::EdgeLabel;
+
+/// A filter of the places of a haystack.
+pub trait Filter<U: EdgeLabel, H: Reread<U>>: Drop {
+    /// Whether it passes where these units are all that is still to come.
+    ghost passes: { Self → List ℕ → Bool };
+
+    /// It is worth asking for sure.
+    ghost opened: { Self → Type 0 };
+
+    /// Whether it is worth asking.
+    fn is_open(&self) -> bool
+        ensures { opened self.now → IsTrue result };
+
+    /// Moves the haystack on to the first place that passes, or to its end.
+    fn skip(&mut self, rest: &mut H)
+        ensures passes { (w : List ℕ) → passes self.new w ≡ passes self.old w }
+        ensures goes { IsNextPassing (passes self.old) (H.rest rest.old) (H.rest rest.new) };
+}
+
+/// The filter that passes everywhere, and is never worth asking.
+#[derive(Clone, Copy, Debug, PartialEq, Eq)]
+pub struct NoFilter;
+
+impl<U: EdgeLabel, H: Reread<U>> Filter<U, H> for NoFilter {
+    ghost passes = { λ s w. true };
+
+    ghost opened = { λ s. ⊥ };
+
+    #[inline(always)]
+    fn is_open(&self) -> bool {
+        false
+    }
+
+    #[inline(always)]
+    fn skip(&mut self, _rest: &mut H) {}
+}

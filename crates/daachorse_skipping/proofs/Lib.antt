@@ -1,0 +1,2 @@
+pub mod SkipLemmas
+pub mod Soundness

@@ -1,0 +1,25 @@
+-- The filter is asked over the text that is still to come, at its boundaries.
+use Rattle.std.proofs.Common.{◌≡◌, ℕ, List, take, drop, Option, Some, sym, ap, ◌∙◌, subst}
+use Rattle.std.specs.Borrow.{Bor}
+use Rattle.std.specs.Prelude.{option_map, encode_utf8_all}
+use Rattle.std.specs.Str.{chars}
+use Rattle.daachorse_prefilter.specs.Filters.{Filter}
+use Rattle.daachorse_search.specs.Filters.{IsNextPassing}
+use Rattle.daachorse_skipping.specs.Asked.{Asked, lets_pass}
+use Rattle.daachorse_skipping.proofs.SkipLemmas.{chars_cut, chars_sized, skipped_chars}
+use Rattle.daachorse_skipping.proofs.skipping.SkippingFilterCharText.skip.Goals as goal
+
+pub after-requires : goal.after-requires
+after-requires g c =
+    let bs = c.text.result.now in let r : ℕ = c.next_position_at_char_boundary-gain.result in let boundary = c.next_position_at_char_boundary-gain.ensures.boundary in
+    (chars (take r bs), chars (drop r bs), sym c.text.ensures ∙ chars_cut bs r c.text.utf8 boundary, chars_sized bs r c.text.utf8 boundary)
+
+pub returns-in-Some-clause-goes : goal.returns-in-Some-clause-goes
+returns-in-Some-clause-goes g c =
+    let f = c.in-Some.filter.now in let bs = c.text.result.now in let r : ℕ = c.next_position_at_char_boundary-gain.result in let later = c.after.result in
+    let next = c.next_position_at_char_boundary-gain.ensures in
+    let shown : c.args.self.now.filter ≡ Some f = sym (ap (λ (s : Asked). s.filter) c.self.view_is) ∙ ap (option_map (λ (x : Bor Filter). x.now)) c.in-Some.is in
+    let P : Option Filter → Type 0 = λ o. IsNextPassing (λ w. lets_pass o (encode_utf8_all w)) c.args.rest.now later in
+    let Q : List ℕ → Type 0 = λ h. IsNextPassing (λ w. lets_pass (Some f) (encode_utf8_all w)) h later in
+    let behind : later ≡ chars (drop r bs) = c.after.ensures (chars (take r bs)) (chars (drop r bs)) (sym c.text.ensures ∙ chars_cut bs r c.text.utf8 next.boundary) (chars_sized bs r c.text.utf8 next.boundary) in
+    subst P (sym shown) (subst Q c.text.ensures (skipped_chars f bs later r c.text.utf8 next behind))

@@ -1,0 +1,104 @@
+//! A filter with a gate, which moves a haystack on to the next place where a pattern may begin.
+//!
+//! The layers above may rely on the filter being asked where there is one, from the place of the
+//! haystack on, and on each gain being recorded at the gate. No search's answer rests on the gate.
+
+ghost use Rattle.std.specs.Prelude.{◌≡◌, ℕ, List, [], option_map, encode_utf8_all, IsTrue};
+ghost use Rattle.daachorse_prefilter.specs.Gates.{HasRecorded};
+ghost use Rattle.daachorse_search.specs.Filters.{IsNextPassing};
+ghost use Rattle.daachorse_skipping.specs.Asked.{IsUnused, lets_pass};
+
+use daachorse_prefilter::prefilter::{Prefilter, PrefilterGate};
+use daachorse_search::filter::Filter;
+use daachorse_search::haystack::{Bytes, Reread};
+use daachorse_text::text::Text;
+use std::alloc::{Allocator, Global};
+use std::marker::Model;
+
+/// The filter of an automaton, if it has one, for the time of one search.
+#[derive(Drop)]
+pub struct Skipping<'a, A: Allocator = Global> {
+    filter: Option<&'a Prefilter<A>>,
+    gate: PrefilterGate,
+}
+
+impl<'a, A: Allocator> Model for Skipping<'a, A> {
+    ghost use Rattle.std.specs.Prelude.{option_map};
+    ghost use Rattle.daachorse_skipping.specs.Asked.{Asked};
+
+    ghost Value = { Asked };
+
+    ghost view = { λ s. record { filter = option_map (λ f. f.now) s.filter; gate = s.gate } };
+}
+
+impl<'a, A: Allocator> Skipping<'a, A> {
+    /// The filter, if there is one, behind a gate that is open.
+    #[inline(always)]
+    pub fn new(filter: Option<&'a Prefilter<A>>) -> Self
+        ensures filter { result.filter ≡ option_map (λ f. f.now) filter.entry }
+        ensures gate { HasRecorded result.gate [] }
+    {
+        Self {
+            filter,
+            gate: PrefilterGate::new(),
+        }
+    }
+
+    /// Whether there is a filter behind an open gate.
+    #[inline(always)]
+    fn is_worth(&self) -> bool
+        ensures { IsUnused self.now → IsTrue result }
+    {
+        self.filter.is_some() && self.gate.is_enabled()
+    }
+}
+
+impl<'a, 'h, A: Allocator> Filter<u8, Bytes<'h>> for Skipping<'a, A> {
+    ghost passes = { λ s w. lets_pass s.filter w };
+
+    ghost opened = { λ s. IsUnused s };
+
+    #[inline(always)]
+    fn is_open(&self) -> bool
+        ensures { IsUnused self.now → IsTrue result }
+    {
+        self.is_worth()
+    }
+
+    #[inline(always)]
+    fn skip(&mut self, rest: &mut Bytes<'h>)
+        ensures passes { (w : List ℕ) → lets_pass self.new.filter w ≡ lets_pass self.old.filter w }
+        ensures goes { IsNextPassing (λ w. lets_pass self.old.filter w) rest.old rest.new }
+    {
+        if let Some(filter) = self.filter {
+            let gain = filter.next_position(rest.bytes(), 0);
+            self.gate.record(gain);
+            *rest = rest.after(gain);
+        }
+    }
+}
+
+impl<'a, 'h, A: Allocator> Filter<char, Text<'h>> for Skipping<'a, A> {
+    ghost passes = { λ s w. lets_pass s.filter (encode_utf8_all w) };
+
+    ghost opened = { λ s. IsUnused s };
+
+    #[inline(always)]
+    fn is_open(&self) -> bool
+        ensures { IsUnused self.now → IsTrue result }
+    {
+        self.is_worth()
+    }
+
+    #[inline(always)]
+    fn skip(&mut self, rest: &mut Text<'h>)
+        ensures passes { (w : List ℕ) → lets_pass self.new.filter (encode_utf8_all w) ≡ lets_pass self.old.filter (encode_utf8_all w) }
+        ensures goes { IsNextPassing (λ w. lets_pass self.old.filter (encode_utf8_all w)) rest.old rest.new }
+    {
+        if let Some(filter) = self.filter {
+            let gain = filter.next_position_at_char_boundary(rest.text(), 0);
+            self.gate.record(gain);
+            *rest = rest.after(gain);
+        }
+    }
+}

@@ -3,3 +3,4 @@ pub mod Building
 pub mod Builders
 pub mod Gates
 pub mod FilterForms
+pub mod Windows

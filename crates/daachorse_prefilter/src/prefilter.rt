@@ -19,6 +19,7 @@ ghost use Rattle.daachorse_prefilter.specs.Filters.{Filter, IsFilter, IsNextBoun
 mod builder;
 mod form;
 mod gate;
+mod window;
 
 pub use builder::PrefilterBuilder;
 use daachorse_core::errors::Result;
@@ -26,6 +27,7 @@ pub use gate::PrefilterGate;
 use std::alloc::{Allocator, Global};
 use std::hash::{Hash, Hasher};
 use std::marker::Model;
+pub use window::Window;
 
 /// How many pairs of bytes there are.
 const NUM_PAIRS: usize = 65536;

@@ -8,6 +8,7 @@ use Rattle.daachorse_model.specs.declared.MatchKind.{MatchKind}
 use Rattle.daachorse_model.specs.declared.MatchKind.TheVariants.{Standard, LeftmostLongest, LeftmostFirst}
 use Rattle.daachorse_model.specs.Dictionary.{dictionary, is_proper_prefix, values_of, without_extensions}
 use Rattle.daachorse_model.specs.Units.{same_text}
+use Rattle.daachorse_patterns.specs.Patterns.{texts_of}
 use Rattle.daachorse_prefilter.specs.Filters.{Filter, IsSoundFor, PassesKeys, admits}
 
 module _ {V : Type 0} where
@@ -51,3 +52,8 @@ module _ {V : Type 0} where
   pub sound_passes : (spell : List ℕ → List ℕ) (rs : List (List ℕ × V)) (filter : Option Filter) → IfSome filter (λ f. IsSoundFor f (words spell rs)) → (kind : MatchKind) → PassesKeys spell (dictionary kind rs) filter
   sound_passes spell rs None sound kind = tt
   sound_passes spell rs (Some f) sound kind = λ k key. key_holds (λ w. admits f (spell w) ≡ true) kind rs (each_word (λ p. admits f p ≡ true) spell rs sound) k key
+
+-- the texts of patterns with values
+pub texts-first : {P V : Type 0} (units : P → List ℕ) (ps : List (P × V)) → map (λ r. r.0) (texts_of units ps) ≡ map (λ p. units p.0) ps
+texts-first units [] = refl
+texts-first units (p ∷ ps) = ap (λ ws. units p.0 ∷ ws) (texts-first units ps)

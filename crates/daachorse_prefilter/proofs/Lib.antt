@@ -10,3 +10,4 @@ pub mod GateSteps
 pub mod Skipping
 pub mod Counting
 pub mod WindowLaws
+pub mod KeyLaws

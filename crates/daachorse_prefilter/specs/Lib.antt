@@ -4,3 +4,4 @@ pub mod Builders
 pub mod Gates
 pub mod FilterForms
 pub mod Windows
+pub mod Equality

@@ -67,8 +67,8 @@ returns-then-not-passes_key-2-clause-no g c e all =
     let up = are.places.earlier m inv.low lt in
     let read_before : IsRead child edge n order parents labels marks are c.requires.tree bytes f (get_or parents m 0) before =
     λ w leads. (
-        let P : Window → Type 0 = λ x. HasRead f (flat_map bytes w) x in
-        subst P (sym c.index-before.ensures) (inv.read parent w before (omega (arith, at, up, inv.each)) (leads ∙ ap (λ i. Some (get_or order i 0)) (sym at)))) in
+    let P : Window → Type 0 = λ x. HasRead f (flat_map bytes w) x in
+    subst P (sym c.index-before.ensures) (inv.read parent w before (omega (arith, at, up, inv.each)) (leads ∙ ap (λ i. Some (get_or order i 0)) (sym at)))) in
     let read : IsRead child edge n order parents labels marks are c.requires.tree bytes f m window =
     read_place child edge n order parents labels marks are c.requires.tree bytes f m before window inv.low lt read_before
     (λ text was. (let P : ℕ → Type 0 = λ i. HasRead f (text ++ bytes (unit_of (edge i))) window in subst P here (c.read-window.ensures text was))) in
@@ -90,8 +90,8 @@ loop-place-preserved g c =
     let up = are.places.earlier m inv.low lt in
     let read_before : IsRead child edge n order parents labels marks are c.requires.tree bytes f (get_or parents m 0) before =
     λ w leads. (
-        let P : Window → Type 0 = λ x. HasRead f (flat_map bytes w) x in
-        subst P (sym c.index-before.ensures) (inv.read parent w before (omega (arith, at, up, inv.each)) (leads ∙ ap (λ i. Some (get_or order i 0)) (sym at)))) in
+    let P : Window → Type 0 = λ x. HasRead f (flat_map bytes w) x in
+    subst P (sym c.index-before.ensures) (inv.read parent w before (omega (arith, at, up, inv.each)) (leads ∙ ap (λ i. Some (get_or order i 0)) (sym at)))) in
     let read : IsRead child edge n order parents labels marks are c.requires.tree bytes f m window =
     read_place child edge n order parents labels marks are c.requires.tree bytes f m before window inv.low lt read_before
     (λ text was. (let P : ℕ → Type 0 = λ i. HasRead f (text ++ bytes (unit_of (edge i))) window in subst P here (c.read-window.ensures text was))) in

@@ -22,14 +22,14 @@ returns g c text read =
     let less : s.len < f.window = omega (arith, size, c.if-window-self.false) in
     let wide : 2 ≤ f.window = omega (arith, size, c.self.invariant.low) in
     elim c.if-window-gt0.branch [
-      then-window-gt0+then-passes w ↦
-        let entry : w.index-entry.result.now ≡ entry_of f (s.last * 256 + c.args.byte) =
-            get_or_read c.self.inside.table.items (s.last * 256 + c.args.byte) w.index-entry.result.now (omega (arith, c.self.invariant.sized)) w.index-entry.ensures 0
-            ∙ ap (λ f. get_or f.entries (s.last * 256 + c.args.byte) 0) c.self.view_is in
-        next_read f text s wide read c.args.byte c.if-window-gt0.passes w.if-window-gt0.true less
-        (w.passes-is ∙ ap (λ n. is_clear n (s.len - 1)) entry ∙ ap (λ b. b && is_clear (entry_of f (s.last * 256 + c.args.byte)) (s.len - 1)) (sym w.if-passes.true))
-    | then-window-gt0+else-passes w ↦
-        next_read f text s wide read c.args.byte c.if-window-gt0.passes w.if-window-gt0.true less
-        (w.passes-is ∙ w.if-passes.false ∙ ap (λ b. b && is_clear (entry_of f (s.last * 256 + c.args.byte)) (s.len - 1)) (sym w.if-passes.false))
-    | else-window-gt0 w ↦ rw w.passes-is (first_read f text s wide read c.args.byte (omega (arith, w.if-window-gt0.false)))
+      | then-window-gt0+then-passes w ↦
+          let entry : w.index-entry.result.now ≡ entry_of f (s.last * 256 + c.args.byte) =
+          get_or_read c.self.inside.table.items (s.last * 256 + c.args.byte) w.index-entry.result.now (omega (arith, c.self.invariant.sized)) w.index-entry.ensures 0
+          ∙ ap (λ f. get_or f.entries (s.last * 256 + c.args.byte) 0) c.self.view_is in
+          next_read f text s wide read c.args.byte c.if-window-gt0.passes w.if-window-gt0.true less
+          (w.passes-is ∙ ap (λ n. is_clear n (s.len - 1)) entry ∙ ap (λ b. b && is_clear (entry_of f (s.last * 256 + c.args.byte)) (s.len - 1)) (sym w.if-passes.true))
+      | then-window-gt0+else-passes w ↦
+          next_read f text s wide read c.args.byte c.if-window-gt0.passes w.if-window-gt0.true less
+          (w.passes-is ∙ w.if-passes.false ∙ ap (λ b. b && is_clear (entry_of f (s.last * 256 + c.args.byte)) (s.len - 1)) (sym w.if-passes.false))
+      | else-window-gt0 w ↦ rw w.passes-is (first_read f text s wide read c.args.byte (omega (arith, w.if-window-gt0.false)))
     ]

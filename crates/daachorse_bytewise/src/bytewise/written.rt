@@ -20,7 +20,7 @@ use std::alloc::Allocator;
 impl<V: Serializable + Copy, A: Allocator> DoubleArrayAhoCorasick<V, A> {
     /// Writes the automaton to bytes, whose memory is taken from `alloc`.
     ///
-    /// Cached depths are not written. [`Self::deserialize_unchecked`] reads the automaton back.
+    /// Cached depths are not written. [`Self::deserialize`] reads the automaton back.
     ///
     /// # Errors
     ///
@@ -38,7 +38,8 @@ impl<V: Serializable + Copy, A: Allocator + Copy> DoubleArrayAhoCorasick<V, A> {
     /// Reads an automaton from any bytes, and returns it with the bytes behind it.
     ///
     /// What is accepted is a right automaton, whoever wrote the bytes: its searches yield the
-    /// matches of the patterns that its listing has. Its depths are not cached. It keeps `alloc`
+    /// matches of the patterns that its listing has. What [`Self::serialize`] wrote is accepted, and gives an
+    /// automaton that equals the one that was written in all but the depths, which are not cached. It keeps `alloc`
     /// and takes its memory from it.
     ///
     /// # Errors
@@ -52,6 +53,10 @@ impl<V: Serializable + Copy, A: Allocator + Copy> DoubleArrayAhoCorasick<V, A> {
         ensures depths { IfOk result (λ r. r.0.depths ≡ []) }
         ensures refused { IfErr result (λ e. IsOutOfMemory e ⊎ GivesNoAutomaton V.taken source.now) }
         ensures cause { IfErr result (IsReadRefusal V.own_refusal) }
+        // Of what was written.
+        ensures back { IfOk result (λ r. (a : Automaton V) (rest : List ℕ) → IsAutomaton V.is_value a → source.now ≡ written_form V.form a ++ rest
+            → (r.0 ≡ without_depths a) × (r.1.now ≡ rest)) }
+        ensures memory { IfErr result (λ e. BeginsWithAutomaton V.is_value V.form source.now → IsOutOfMemory e) }
     {
         let (read, rest) = States::deserialize(alloc, source)?;
         let (states, filter) = read;

@@ -32,6 +32,7 @@ use crate::bytewise::iter::{
 use crate::bytewise::states::States;
 use daachorse_core::MatchKind;
 use daachorse_core::errors::Result;
+use daachorse_search::filter::NoFilter;
 use daachorse_search::find::{FindWalk, find_in};
 use daachorse_search::haystack::Bytes;
 use daachorse_search::leftmost::LeftmostMatches;
@@ -265,7 +266,7 @@ impl<V: Copy, A: Allocator> DoubleArrayAhoCorasick<V, A> {
         ensures { BeginsWith (states_of self.entry.now) haystack.entry.now
             (standard byte_width (dictionary_of self.entry.now) haystack.entry.now) result }
     {
-        find_in(self.states.standard(), Bytes::new(haystack))
+        find_in(self.states.standard(), Bytes::new(haystack), NoFilter)
     }
 
     /// Finds non-overlapping matches in the bytes that `haystack` yields.
@@ -311,7 +312,7 @@ impl<V: Copy, A: Allocator> DoubleArrayAhoCorasick<V, A> {
         ensures { BeginsWith (states_of self.entry.now) haystack.entry.now
             (overlapping byte_width (dictionary_of self.entry.now) haystack.entry.now) result }
     {
-        find_overlapping_in(self.states.standard(), Bytes::new(haystack))
+        find_overlapping_in(self.states.standard(), Bytes::new(haystack), NoFilter)
     }
 
     /// Finds every match in the bytes that `haystack` yields.
@@ -357,7 +358,7 @@ impl<V: Copy, A: Allocator> DoubleArrayAhoCorasick<V, A> {
         ensures { BeginsWith (states_of self.entry.now) haystack.entry.now
             (no_suffix byte_width (dictionary_of self.entry.now) haystack.entry.now) result }
     {
-        find_overlapping_no_suffix_in(self.states.standard(), Bytes::new(haystack))
+        find_overlapping_no_suffix_in(self.states.standard(), Bytes::new(haystack), NoFilter)
     }
 
     /// Finds the longest match at each end in the bytes that `haystack` yields.

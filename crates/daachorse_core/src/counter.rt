@@ -1,7 +1,7 @@
 //! A count that contracts alone see, and that takes no byte at run time.
 //!
-//! The layers above may rely on a [`Counter`] growing by one with each increment and in no other
-//! way.
+//! The layers above may rely on a [`Counter`] growing by one with each increment, by another count
+//! where that is added, and in no other way.
 
 ghost use Rattle.std.specs.Prelude.{◌≡◌, ◌+◌};
 
@@ -18,6 +18,8 @@ pub enum Count {
     Same(Snapshot<Snapshot<Count>>),
     /// One more than before.
     More(Snapshot<Snapshot<Count>>),
+    /// As many as two counts together.
+    Sum(Snapshot<Snapshot<Count>>, Snapshot<Snapshot<Count>>),
 }
 
 /// A number that contracts alone see. It takes no byte, and has no greatest value.
@@ -52,6 +54,14 @@ impl Counter {
     {
         let more = Count::More(Snapshot::of(&self.count));
         self.count = Snapshot::of(&more);
+    }
+
+    /// Counts as many more as another counter did.
+    pub fn add(&mut self, other: &Counter)
+        ensures { self.new ≡ self.old + other.now }
+    {
+        let sum = Count::Sum(Snapshot::of(&self.count), Snapshot::of(&other.count));
+        self.count = Snapshot::of(&sum);
     }
 
     fn same(&self) -> Counter

@@ -1,8 +1,9 @@
 //! What a search did, for contracts alone: how many turns it took, and which units it read.
 //!
 //! Neither [`Turns`] nor [`Seen`] takes a byte at run time. The layers above may rely on the
-//! number of `Turns` growing by one with each tick and in no other way, and on `Seen` holding
-//! just what was pushed. Only a search makes either; a search learns where to go by looks alone.
+//! number of `Turns` growing by one with each tick, by the turns of another walk where these are
+//! added, and in no other way, and on `Seen` holding just what was pushed. Only a search makes
+//! either; a search learns where to go by looks alone.
 
 ghost use Rattle.std.specs.Prelude.{◌≡◌, ◌+◌, ◌++◌, ◌∷◌, []};
 ghost use Rattle.daachorse_core.specs.Seen.{unread};
@@ -51,6 +52,13 @@ impl Turns {
         ensures { self.new ≡ self.old + 1 }
     {
         self.count.increment();
+    }
+
+    /// Counts the turns of another walk too. It is for a search's own use.
+    pub fn add(&mut self, other: &Turns)
+        ensures { self.new ≡ self.old + other.now }
+    {
+        self.count.add(&other.count);
     }
 }
 

@@ -205,10 +205,11 @@ module _ {V : Type 0} (width : ℕ → ℕ) (K : Dictionary V) (wide : (u : ℕ)
   -- ---- the whole list
 
   -- the match of the standard search that ends with t, as a list
-  abbrev one_after : List ℕ → List (Match V)
+  abbrev pub one_after : List ℕ → List (Match V)
   one_after t = option_to_list (standard_after width K t)
 
-  joined-from : (before since w : List ℕ) → IsResumed width K before since
+  -- what ends where the walk stands, and then what it goes on to find
+  pub joined-from : (before since w : List ℕ) → IsResumed width K before since
       → at_each_end one_after (before ++ since) w ≡ one_after (before ++ since) ++ standard_from width K (size width before) since w
   joined-from before since [] r = sym (append-nil (one_after (before ++ since)))
   joined-from before since (u ∷ w) r =

@@ -1,6 +1,8 @@
 -- The standard search, one unit further: with an empty key each place has its match; without one the walk since the last match finds the next, or none.
 use Rattle.std.proofs.Common.{◌≡◌, ◌≢◌, ℕ, ◌+◌, ◌*◌, ◌-◌, ◌<◌, ◌≤◌, Bool, true, false, cond, List, [], ◌∷◌, ◌++◌, map, take, length, Option, Some, None, refl, sym, ap, ◌∙◌, subst, append_assoc, append-nil, arith}
-use Rattle.std.specs.Prelude.{count_by, option_to_list, IfSome}
+use Rattle.std.specs.Bool.{OnTrue}
+use Rattle.std.specs.Prelude.{◌↔◌, count_by, option_to_list, IfSome, IsTrue}
+use Rattle.std.proofs.lemmas.List.Sums.{sum_by-append}
 use Rattle.std.specs.Option.{is_some}
 use Rattle.std.specs.declared.num.NonZeroU32.{NonZeroU32}
 use Rattle.daachorse_core.specs.Outputs.{number}
@@ -10,14 +12,16 @@ use Rattle.daachorse_model.specs.Units.{size}
 use Rattle.daachorse_model.specs.Dictionary.{Dictionary}
 use Rattle.daachorse_model.specs.Matches.{standard_after, IsSinceMatch}
 use Rattle.daachorse_model.specs.Outputs.{AllWithin, matches_of_outputs}
-use Rattle.daachorse_model.specs.Prefixes.{IsLong}
+use Rattle.daachorse_model.specs.Prefixes.{IsLong, is_key}
 use Rattle.daachorse_model.proofs.StandardEnds.{IsResumed-begin, IsResumed-passes, IsResumed-finds, IsResumed-since, IsSinceMatch-empty, standard_after-empty, standard_after-nil}
 use Rattle.daachorse_search.specs.Walks.{Walked, read_on, skip_on, begin_on, matches_since, matches_from, HasPlace, HasOutputs}
 use Rattle.daachorse_search.specs.Nothing.{HasPlace-none, first_from-none}
 use Rattle.daachorse_search.specs.Finds.{IsResuming, IsEverywhere, IsFinding}
 use Rattle.daachorse_search.specs.Searches.{standard_found}
-use Rattle.daachorse_search.specs.Stepwise.{Stops, AreBoundedSince}
-use Rattle.daachorse_search.proofs.OverlappingLemmas.{length-matches}
+use Rattle.daachorse_search.specs.Afresh.{GoesOnAfresh}
+use Rattle.daachorse_search.specs.Stepwise.{Stops, AreBoundedSince, looks_unless_empty}
+use Rattle.daachorse_search.proofs.AfreshLemmas.{GoesOnAfresh-standard, GoesOnAfresh-empty}
+use Rattle.daachorse_search.proofs.OverlappingLemmas.{length-matches, on_true}
 
 -- a list is empty where its map is
 map-empty : {X Y : Type 0} (f : X → Y) (xs : List X) → map f xs ≡ [] → xs ≡ []
@@ -225,6 +229,31 @@ module _ {V A : Type 0} (width : ℕ → ℕ) (wide : (u : ℕ) → 1 ≤ width 
       first_of [] some = some
       first_of (x ∷ xs) some = omega arith
 
+  -- a walk that begins again with nothing read
+  pub finding-again : (was now : Walked A) (o : Option NonZeroU32) → finding was.automaton was.seen was.turns o → now.automaton ≡ was.automaton → now.seen ≡ unread → now.turns ≡ 0 → finding now.automaton now.seen now.turns o
+  finding-again was now o h same began idle =
+      let P : A → Type 0 = λ a. finding a now.seen now.turns o in
+      let Q : SeenUnits → Type 0 = λ s. finding was.automaton s now.turns o in
+      subst P (sym same) (subst Q (sym began) (by o h))
+    where
+      by : (o : Option NonZeroU32) → finding was.automaton was.seen was.turns o → finding was.automaton unread now.turns o
+      by None h = record { resumed = IsResumed-begin width (content was.automaton) wide h.resumed.no_empty; all = refl }
+      by (Some p) h = record { keyed = h.keyed; stays = refl; idle = idle; place = h.place; own = h.own }
+
+  -- at the root the matches are found as by a walk that begins there
+  pub finding-afresh : (s : Walked A) (o : Option NonZeroU32) (b : Bool) → finding s.automaton s.seen s.turns o → (IsTrue b ↔ IsLong (content s.automaton) s.seen.since [])
+      → OnTrue b (GoesOnAfresh width (content s.automaton) (standard_found width content s.automaton) (units s.seen))
+  finding-afresh s o b h at =
+      on_true b (GoesOnAfresh width (content s.automaton) (standard_found width content s.automaton) (units s.seen)) (IsLong (content s.automaton) s.seen.since []) at (λ long. by o h long)
+    where
+      keyed : (vs : List V) → content s.automaton [] ≡ vs → content s.automaton [] ≢ [] → GoesOnAfresh width (content s.automaton) (standard_found width content s.automaton) (units s.seen)
+      keyed [] none some = absurd (some none)
+      keyed (v ∷ vs) has some = GoesOnAfresh-empty width (content s.automaton) wide v vs has (units s.seen)
+
+      by : (o : Option NonZeroU32) → finding s.automaton s.seen s.turns o → IsLong (content s.automaton) s.seen.since [] → GoesOnAfresh width (content s.automaton) (standard_found width content s.automaton) (units s.seen)
+      by None h long = GoesOnAfresh-standard width (content s.automaton) wide s.seen.before s.seen.since h.resumed long
+      by (Some p) h long = keyed (content s.automaton []) refl h.keyed
+
   -- what was read since the last match is what the walk read since it last began at the root
   pub finding-since : (s : Walked A) (o : Option NonZeroU32) → finding s.automaton s.seen s.turns o → (since : List ℕ) → IsSinceMatch width (content s.automaton) (units s.seen) since → since ≡ s.seen.since
   finding-since s None h since is = IsResumed-since width (content s.automaton) wide s.seen.before s.seen.since h.resumed since is
@@ -240,6 +269,27 @@ module _ {V A : Type 0} (width : ℕ → ℕ) (wide : (u : ℕ) → 1 ≤ width 
   deep_since : (s : Walked A) (o : Option NonZeroU32) → finding s.automaton s.seen s.turns o → ((t : List ℕ) → IsLong (content s.automaton) s.seen.since t → s.turns + length t ≤ 2 * length (units s.seen))
       → (since t : List ℕ) → IsSinceMatch width (content s.automaton) (units s.seen) since → IsLong (content s.automaton) since t → s.turns + length t ≤ 2 * length (units s.seen)
   deep_since s o h deep since t is long = let Q : List ℕ → Type 0 = λ w. IsLong (content s.automaton) w t in deep t (subst Q (finding-since s o h since is) long)
+
+  none_counted : (l : List ℕ) → count_by (λ u. false) l ≡ 0
+  none_counted [] = refl
+  none_counted (u ∷ l) = omega (arith, none_counted l, sum_by-append (λ (x : ℕ). 0) (u ∷ []) l)
+
+  -- at least the units that it looks at
+  pub finding-least : (s : Walked A) (o : Option NonZeroU32) → finding s.automaton s.seen s.turns o → count_by (has_label s.automaton) s.seen.looked ≤ s.turns
+      → count_by (looks_unless_empty (content s.automaton) (has_label s.automaton)) (units s.seen) ≤ s.turns
+  finding-least s None h least =
+      let P : List ℕ → Type 0 = λ l. count_by (has_label s.automaton) l ≤ s.turns in
+      let Q : Bool → Type 0 = λ b. count_by (λ u. cond b false (has_label s.automaton u)) (units s.seen) ≤ s.turns in
+      let unkeyed : is_key (content s.automaton) [] ≡ false = ap {B = Bool} (λ vs. elim vs [ [] ↦ false | _ ∷ _ ↦ true ]) h.resumed.no_empty in
+      subst Q (sym unkeyed) (subst P h.all least)
+  finding-least s (Some p) h least = by (content s.automaton []) refl
+    where
+      by : (vs : List V) → content s.automaton [] ≡ vs → count_by (looks_unless_empty (content s.automaton) (has_label s.automaton)) (units s.seen) ≤ s.turns
+      by [] none = absurd (h.keyed none)
+      by (v ∷ vs) has =
+          let Q : Bool → Type 0 = λ b. count_by (λ u. cond b false (has_label s.automaton u)) (units s.seen) ≤ s.turns in
+          let keyed : is_key (content s.automaton) [] ≡ true = ap {B = Bool} (λ vs. elim vs [ [] ↦ false | _ ∷ _ ↦ true ]) has in
+          subst Q (sym keyed) (omega (arith, none_counted (units s.seen)))
 
   -- the bounds of the turns, of what was read since the last match
   pub finding-bounded : (s : Walked A) (o : Option NonZeroU32) → finding s.automaton s.seen s.turns o → s.turns ≤ 2 * length (units s.seen)

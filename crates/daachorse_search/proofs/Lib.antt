@@ -11,4 +11,6 @@ pub mod BestScanLemmas
 pub mod LeftmostLemmas
 pub mod DepthLemmas
 pub mod BeginningLaws
+pub mod AfreshLemmas
+pub mod SkipLemmas
 mod EverywhereLemmas

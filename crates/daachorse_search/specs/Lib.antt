@@ -11,3 +11,5 @@ pub mod Matches
 pub mod BestScans
 pub mod LeftmostSearches
 pub mod Beginnings
+pub mod Afresh
+pub mod Skipping

@@ -50,12 +50,6 @@ StandsAtEnd width m haystack passed = m.end ≡ size width passed
 abbrev pub matches_left : {V : Type 0} → (List ℕ → List (Match V)) → List (Match V) → List ℕ → List ℕ → List (Match V)
 matches_left found pending read rest = pending ++ past_each_end found read rest
 
--- between two calls: the next output to give stands at the position, and what was read and the rest take so many bytes together
-module _ (width : ℕ → ℕ) (has_output : ℕ → Type 0) where
-  pub record IsReading (read rest : List ℕ) (position whole : ℕ) : Type 0 where
-    pub output : has_output position
-    pub spans : whole ≡ size width read + size width rest
-
 module _ {V A W : Type 0} (automaton : W → A) (text : W → List ℕ) (found : A → List ℕ → List (Match V)) (has_output : W → ℕ → Type 0) (given_from : W → ℕ → List (Match V)) where
   -- A walk read on in a haystack, from where nothing was pending to where there is something to give, or to the end. No match was passed over.
   pub record ReadsOn (from : W) (rest : List ℕ) (position : Option NonZeroU32) (to : W) (later : List ℕ) : Type 0 where

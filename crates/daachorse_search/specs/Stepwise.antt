@@ -1,12 +1,12 @@
 -- What a search that goes one unit at a time tells where it stands. `read` is what it read, and `found` what it gives at the end of a text.
-use Rattle.std.specs.Prelude.{◌≡◌, ℕ, ◌+◌, ◌*◌, ◌<◌, ◌≤◌, Bool, List, [], ◌≢◌, length, count_by, Option, IfSome}
+use Rattle.std.specs.Prelude.{◌≡◌, ℕ, ◌+◌, ◌*◌, ◌<◌, ◌≤◌, Bool, false, cond, List, [], ◌≢◌, length, count_by, Option, IfSome}
 use Rattle.std.specs.declared.num.NonZeroU32.{NonZeroU32}
 use Rattle.daachorse_core.specs.Outputs.{number}
 use Rattle.daachorse_model.specs.declared.Match.{Match}
 use Rattle.daachorse_model.specs.Units.{size}
 use Rattle.daachorse_model.specs.Dictionary.{Dictionary}
 use Rattle.daachorse_model.specs.Matches.{IsSinceMatch}
-use Rattle.daachorse_model.specs.Prefixes.{IsLong}
+use Rattle.daachorse_model.specs.Prefixes.{IsLong, is_key}
 
 -- the place, in bytes, is that after the units read
 abbrev pub StandsAt : (ℕ → ℕ) → List ℕ → ℕ → Type 0
@@ -33,6 +33,10 @@ module _ {V : Type 0} (K : Dictionary V) (has_label : ℕ → Bool) where
     pub most : turns ≤ 2 * length read
     pub deep : (s : List ℕ) → IsLong K read s → turns + length s ≤ 2 * length read
     pub least : count_by has_label read ≤ turns
+
+  -- a search that looks up nothing where some key is empty looks at each unit that some key has, where none is
+  abbrev pub looks_unless_empty : ℕ → Bool
+  looks_unless_empty u = cond (is_key K []) false (has_label u)
 
   -- The same for a search that begins again at the root behind each match. With an empty key it takes no turn.
   pub record AreBoundedSince (width : ℕ → ℕ) (read : List ℕ) (turns : ℕ) : Type 0 where

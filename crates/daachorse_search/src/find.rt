@@ -3,19 +3,24 @@
 //! The layers above may rely on [`FindWalk`] telling the standard search's match that ends where
 //! it stands, if there is one, and on it taking no turn where some key is empty.
 
-ghost use Rattle.std.specs.Prelude.{◌≡◌, ◌≢◌, Some, None, length, ◌<◌, ◌≤◌, ◌^◌, ◌+◌, ℕ, List, [], ◌∷◌, ◌++◌, take};
+ghost use Rattle.std.specs.Prelude.{◌≡◌, ◌≢◌, Some, None, length, ◌<◌, ◌≤◌, ◌^◌, ◌+◌, ◌*◌, ℕ, List, [], ◌∷◌, ◌++◌, IsTrue, count_by, map, take};
+ghost use Rattle.std.specs.Bool.{OnTrue};
 ghost use Rattle.daachorse_model.specs.Matches.{IsSinceMatch, standard};
 ghost use Rattle.daachorse_model.specs.Prefixes.{IsLong};
 ghost use Rattle.daachorse_model.specs.Units.{size};
 ghost use Rattle.daachorse_core.specs.Depths.{AreDepths};
+ghost use Rattle.daachorse_search.specs.Afresh.{GoesOnAfresh, shifted};
+ghost use Rattle.daachorse_search.specs.Filters.{IsSoundFor};
 ghost use Rattle.daachorse_search.specs.Nothing.{HasPlace-none, first_from-none};
 
 use crate::automaton::Automaton;
+use crate::filter::Filter;
 use crate::haystack::Reread;
 use crate::matches::Matches;
 use crate::stepwise::Stepwise;
 use crate::walk::Walk;
 use daachorse_core::Match;
+use daachorse_core::turns::Turns;
 use std::alloc::AllocError;
 use std::marker::Model;
 use std::num::NonZeroU32;
@@ -72,7 +77,7 @@ impl<V: Copy, A: Automaton<V>> FindWalk<V, A> {
 impl<V: Copy, A: Automaton<V>> Stepwise<V> for FindWalk<V, A> {
     ghost use Rattle.daachorse_core.specs.Seen.{units};
     ghost use Rattle.daachorse_search.specs.Searches.{standard_found};
-    ghost use Rattle.daachorse_search.specs.Stepwise.{AreBoundedSince};
+    ghost use Rattle.daachorse_search.specs.Stepwise.{AreBoundedSince, looks_unless_empty};
     ghost use Rattle.daachorse_search.specs.Walks.{HasPlace, matches_from};
 
     type Unit = A::Unit;
@@ -80,6 +85,8 @@ impl<V: Copy, A: Automaton<V>> Stepwise<V> for FindWalk<V, A> {
     type Automaton = A;
 
     ghost automaton = { λ s. s.automaton };
+
+    ghost content = { A.content };
 
     ghost read = { λ s. units s.seen };
 
@@ -92,6 +99,8 @@ impl<V: Copy, A: Automaton<V>> Stepwise<V> for FindWalk<V, A> {
     ghost has_output = { λ s position. HasPlace A.Unit.width (A.has_output s.automaton) (A.outputs s.automaton) s.seen position };
 
     ghost given_from = { λ s position. take 1 (matches_from A.Unit.width (A.outputs s.automaton) s.seen position) };
+
+    ghost looks_at = { λ a. looks_unless_empty (A.content a) (A.has_label a) };
 
     ghost bounds = { λ a read turns. AreBoundedSince (A.content a) (A.has_label a) A.Unit.width read turns };
 
@@ -111,6 +120,16 @@ impl<V: Copy, A: Automaton<V>> Stepwise<V> for FindWalk<V, A> {
             self.walk.restart();
         }
         found
+    }
+
+    #[inline(always)]
+    fn is_at_root(&self) -> bool {
+        self.walk.is_at_root()
+    }
+
+    #[inline(always)]
+    fn begin_again(&mut self, taken: &mut Turns) {
+        self.walk.begin_again(taken);
     }
 
     #[inline(always)]
@@ -145,20 +164,23 @@ impl<V: Copy, A: Automaton<V>> Clone for FindWalk<V, A> {
     }
 }
 
-/// The matches of the standard search in a haystack.
+/// The matches of the standard search in a haystack. It asks the filter at the root.
 #[inline(always)]
-pub fn find_in<V: Copy, A: Automaton<V>, H: Reread<A::Unit>>(
+pub fn find_in<V: Copy, A: Automaton<V>, H: Reread<A::Unit>, F: Filter<A::Unit, H>>(
     automaton: A,
     haystack: H,
-) -> Matches<V, FindWalk<V, A>, H>
+    filter: F,
+) -> Matches<V, FindWalk<V, A>, H, F>
     requires alive { (w : List ℕ) → ¬ A.dead automaton w }
     requires fits { size A.Unit.width (H.rest haystack) < 2 ^ 64 }
+    requires sound { IsSoundFor (F.passes filter) (A.content automaton) }
     ensures automaton { result.automaton ≡ automaton }
+    ensures filter { result.filter ≡ filter }
     ensures haystack { result.haystack ≡ H.rest haystack }
     ensures left { result.left ≡ standard A.Unit.width (A.content automaton) (H.rest haystack) }
     ensures passed { result.passed ≡ [] }
     ensures turns { result.turns ≡ 0 }
     ensures given { result.given ≡ 0 }
 {
-    Matches::new(FindWalk::new(automaton), haystack)
+    Matches::with_filter(FindWalk::new(automaton), haystack, filter)
 }

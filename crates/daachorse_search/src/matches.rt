@@ -3,24 +3,35 @@
 //! The layers above may rely on the list of the matches that are left: it begins as all that the
 //! search gives of each beginning of the haystack, and each call takes the first off it; on the
 //! units passed, which end where the match does; and on the bounds of the turns for them.
+//!
+//! Where nothing is pending and the walk stands at the root, a filter that is open moves the haystack
+//! on, and the walk begins again there. No match depends on it.
 
-ghost use Rattle.std.specs.Prelude.{◌≡◌, ◌+◌, ◌^◌, ◌<◌, ◌++◌, ℕ, List, []};
+ghost use Rattle.std.specs.Prelude.{◌≡◌, ◌+◌, ◌*◌, ◌^◌, ◌<◌, ◌≤◌, ◌++◌, ℕ, true, IfNone, IsTrue, List, [], length};
+ghost use Rattle.daachorse_core.specs.Outputs.{number};
 ghost use Rattle.daachorse_model.specs.Units.{size};
 ghost use Rattle.daachorse_model.specs.Matches.{at_each_end};
+ghost use Rattle.daachorse_search.specs.Filters.{IsSoundFor, PassesNowhere, count_passing};
 ghost use Rattle.daachorse_search.specs.Matches.{ReadsOn};
+ghost use Rattle.daachorse_search.specs.Skipping.{HasNoPlace, SkipsTo};
 
-use crate::filter::NoFilter;
+use crate::filter::{Filter, NoFilter};
 use crate::haystack::{Haystack, Reread};
 use crate::stepwise::Stepwise;
 use daachorse_core::Match;
-use daachorse_core::turns::Seen;
+use daachorse_core::turns::{Seen, Turns};
 use std::marker::{Model, PhantomData};
 use std::num::NonZeroU32;
+use std::snapshot::Snapshot;
 
 /// What a search that goes one unit at a time finds in a haystack, in order.
 #[derive(Drop)]
-pub struct Matches<V: Copy, W: Stepwise<V>, H: Reread<W::Unit>> {
+pub struct Matches<V: Copy, W: Stepwise<V>, H: Reread<W::Unit>, F: Filter<W::Unit, H> = NoFilter> {
     walk: W,
+    filter: F,
+    // The filter and the whole haystack as the search began, for contracts alone.
+    first_filter: Snapshot<F>,
+    whole: Snapshot<H>,
     // What the walk has not read.
     rest: H,
     // How many bytes the whole haystack has: the walk stands where the rest begins.
@@ -30,34 +41,39 @@ pub struct Matches<V: Copy, W: Stepwise<V>, H: Reread<W::Unit>> {
     // The walk has it too. It stands here so that a field's type names what it borrows; no search
     // reads it.
     automaton: W::Automaton,
+    // The turns that the walk took up to where it last began.
+    taken: Turns,
     // It counts the matches given.
     seen: Seen,
-    filter: NoFilter,
     of: PhantomData<V>,
 }
 
-impl<V: Copy, W: Stepwise<V>, H: Reread<W::Unit>> Model for Matches<V, W, H> {
-    ghost use Rattle.std.specs.Prelude.{◌++◌};
+impl<V: Copy, W: Stepwise<V>, H: Reread<W::Unit>, F: Filter<W::Unit, H>> Model
+    for Matches<V, W, H, F> {
+    ghost use Rattle.std.specs.Prelude.{◌≡◌, ◌+◌, ◌++◌, ℕ, List};
     ghost use Rattle.daachorse_core.specs.Outputs.{number};
-    ghost use Rattle.daachorse_search.specs.declared.filter.NoFilter.{NoFilter};
-    ghost use Rattle.daachorse_search.specs.Matches.{Progress, matches_left, IsReading};
+    ghost use Rattle.daachorse_search.specs.LeftmostSearches.{before_rest};
+    ghost use Rattle.daachorse_search.specs.Matches.{Progress};
+    ghost use Rattle.daachorse_search.specs.Skipping.{matches_behind, IsReading};
 
-    ghost Value = { Progress V W.Automaton NoFilter };
+    ghost Value = { Progress V W.Automaton F };
 
     ghost view = { λ s. record {
       automaton = W.automaton s.walk;
-      filter = s.filter;
-      haystack = W.read s.walk ++ H.rest s.rest;
-      left = matches_left (W.found (W.automaton s.walk)) (W.given_from s.walk (number s.output)) (W.read s.walk) (H.rest s.rest);
-      passed = W.read s.walk;
-      turns = W.turns s.walk;
+      filter = s.first_filter.value;
+      haystack = H.rest s.whole.value;
+      left = matches_behind W.Unit.width (W.found (W.automaton s.walk)) (H.rest s.whole.value) (W.given_from s.walk (number s.output)) (W.read s.walk) (H.rest s.rest);
+      passed = before_rest (H.rest s.whole.value) (H.rest s.rest);
+      turns = s.taken + W.turns s.walk;
       given = s.seen.given;
     } };
 
-    ghost invariant = { λ s. IsReading W.Unit.width (W.has_output s.walk) (W.read s.walk) (H.rest s.rest) (number s.output) s.size };
+    ghost invariant = { λ s. ((w : List ℕ) → F.passes s.filter w ≡ F.passes s.first_filter.value w)
+        × IsReading W.Unit.width (W.content (W.automaton s.walk)) (W.has_output s.walk) (W.looks_at (W.automaton s.walk)) (F.passes s.first_filter.value) (F.opened s.first_filter.value)
+        (F.opened s.filter) (H.rest s.whole.value) (W.read s.walk) (H.rest s.rest) (number s.output) s.size s.taken (W.turns s.walk) };
 }
 
-impl<V: Copy, W: Stepwise<V>, H: Reread<W::Unit>> Matches<V, W, H> {
+impl<V: Copy, W: Stepwise<V>, H: Reread<W::Unit>> Matches<V, W, H, NoFilter> {
     /// A search from the beginning of the haystack.
     #[inline(always)]
     pub fn new(walk: W, haystack: H) -> Self
@@ -70,33 +86,63 @@ impl<V: Copy, W: Stepwise<V>, H: Reread<W::Unit>> Matches<V, W, H> {
         ensures turns { result.turns ≡ W.turns walk }
         ensures given { result.given ≡ 0 }
     {
+        Self::with_filter(walk, haystack, NoFilter)
+    }
+}
+
+impl<V: Copy, W: Stepwise<V>, H: Reread<W::Unit>, F: Filter<W::Unit, H>> Matches<V, W, H, F> {
+    /// A search from the beginning of the haystack, which asks a filter at the root.
+    #[inline(always)]
+    pub fn with_filter(walk: W, haystack: H, filter: F) -> Self
+        requires begins { W.read walk ≡ [] }
+        requires fits { size W.Unit.width (H.rest haystack) < 2 ^ 64 }
+        requires sound { IsSoundFor (F.passes filter) (W.content (W.automaton walk)) }
+        ensures automaton { result.automaton ≡ W.automaton walk }
+        ensures filter { result.filter ≡ filter }
+        ensures haystack { result.haystack ≡ H.rest haystack }
+        ensures left { result.left ≡ at_each_end (W.found (W.automaton walk)) [] (H.rest haystack) }
+        ensures passed { result.passed ≡ [] }
+        ensures turns { result.turns ≡ W.turns walk }
+        ensures given { result.given ≡ 0 }
+    {
+        walk.turns_are_bounded();
         let size = haystack.left();
         let output = walk.begin();
         let automaton = walk.walked();
         Matches {
             walk,
+            first_filter: Snapshot::of(&filter),
+            filter,
+            whole: Snapshot::of(&haystack),
             rest: haystack,
             size,
             output,
             automaton,
+            taken: Turns::new(),
             seen: Seen::new(),
-            filter: NoFilter,
             of: PhantomData,
         }
     }
 
-    /// Does nothing, and promises the bounds of the turns for the units passed, with which the
-    /// haystack begins.
+    /// Does nothing, and promises that the turns are at most twice the units passed, and at least
+    /// those of them that take a look and at which the filter passes; the bounds of the walk where the
+    /// filter passes everywhere; that there are none where a filter that was open passes nowhere; and
+    /// that the haystack begins with the units passed.
     #[inline(always)]
     pub fn turns_are_bounded(&self)
-        ensures bounds { W.bounds self.now.automaton self.now.passed self.now.turns }
+        ensures most { self.now.turns ≤ 2 * length self.now.passed }
+        ensures passing { count_passing (F.passes self.now.filter) (W.looks_at self.now.automaton) self.now.haystack self.now.passed ≤ self.now.turns }
+        ensures bounds { ((w : List ℕ) → F.passes self.now.filter w ≡ true)
+            → W.bounds self.now.automaton self.now.passed self.now.turns }
+        ensures idle { F.opened self.now.filter → PassesNowhere (F.passes self.now.filter) self.now.haystack → self.now.turns ≡ 0 }
         ensures passed { (rest : List ℕ) × (self.now.haystack ≡ self.now.passed ++ rest) }
     {
         self.walk.turns_are_bounded();
     }
 }
 
-impl<V: Copy, W: Stepwise<V>, H: Reread<W::Unit>> Iterator for Matches<V, W, H> {
+impl<V: Copy, W: Stepwise<V>, H: Reread<W::Unit>, F: Filter<W::Unit, H>> Iterator
+    for Matches<V, W, H, F> {
     ghost use Rattle.std.specs.Iterator.{item_count};
     ghost use Rattle.daachorse_search.specs.Matches.{GivesFirst, StandsAtEnd};
 
@@ -110,7 +156,12 @@ impl<V: Copy, W: Stepwise<V>, H: Reread<W::Unit>> Iterator for Matches<V, W, H> 
     fn next(&mut self) -> Option<Match<V>> {
         let position = match self.output {
             Some(position) => position,
-            None => read_on(&mut self.walk, &mut self.rest)?,
+            None => go_on(
+                &mut self.walk,
+                &mut self.taken,
+                &mut self.rest,
+                &mut self.filter,
+            )?,
         };
         let place = self.size - self.rest.left();
         let (found, next) = self.walk.give(position, place);
@@ -120,6 +171,64 @@ impl<V: Copy, W: Stepwise<V>, H: Reread<W::Unit>> Iterator for Matches<V, W, H> 
     }
 }
 
+/// Reads on until there is something to give, past what a filter that is open passes over, and
+/// answers the position of the first output; `None` where the haystack ends first.
+#[inline(always)]
+fn go_on<V: Copy, W: Stepwise<V>, H: Reread<W::Unit>, F: Filter<W::Unit, H>>(
+    walk: &mut W,
+    taken: &mut Turns,
+    rest: &mut H,
+    filter: &mut F,
+) -> Option<NonZeroU32>
+    requires { IsSoundFor (F.passes filter.old) (W.content (W.automaton walk.old)) }
+    ensures passes { (w : List ℕ) → F.passes filter.new w ≡ F.passes filter.old w }
+    ensures reads { SkipsTo W.Unit.width W.automaton W.read W.found W.looks_at (F.passes filter.old) walk.old (H.rest rest.old) taken.old (W.given_from walk.new (number result)) walk.new (H.rest rest.new) taken.new }
+    ensures output { W.has_output walk.new (number result) }
+    ensures ended { IfNone result (H.rest rest.new ≡ []) }
+    ensures idle { HasNoPlace (F.passes filter.old) (F.opened filter.old) (W.read walk.old) (H.rest rest.old)
+        → (taken.new + W.turns walk.new ≡ taken.old + W.turns walk.old) × (H.rest rest.new ≡ []) }
+{
+    'units: loop {
+        if !filter.is_open() {
+            return read_on(walk, rest);
+        }
+        skip_at_root(walk, taken, rest, filter);
+        let Some(unit) = rest.next() else {
+            return None;
+        };
+        if let Some(position) = walk.advance(unit) {
+            return Some(position);
+        }
+    }
+}
+
+/// Where the walk stands at the root, moves on to the first place that passes, or to the end, and
+/// begins again there.
+#[inline(always)]
+fn skip_at_root<V: Copy, W: Stepwise<V>, H: Reread<W::Unit>, F: Filter<W::Unit, H>>(
+    walk: &mut W,
+    taken: &mut Turns,
+    rest: &mut H,
+    filter: &mut F,
+)
+    requires { IsSoundFor (F.passes filter.old) (W.content (W.automaton walk.old)) }
+    ensures passes { (w : List ℕ) → F.passes filter.new w ≡ F.passes filter.old w }
+    ensures skips { SkipsTo W.Unit.width W.automaton W.read W.found W.looks_at (F.passes filter.old) walk.old (H.rest rest.old) taken.old [] walk.new (H.rest rest.new) taken.new }
+    ensures turns { taken.new + W.turns walk.new ≡ taken.old + W.turns walk.old }
+    ensures idle { W.read walk.old ≡ [] → PassesNowhere (F.passes filter.old) (H.rest rest.old) → H.rest rest.new ≡ [] }
+{
+    if !walk.is_at_root() {
+        return;
+    }
+    walk.turns_are_bounded();
+    let before = rest.left();
+    filter.skip(rest);
+    if before <= rest.left() {
+        return;
+    }
+    walk.begin_again(taken);
+}
+
 /// Reads on until there is something to give, and answers the position of its first output;
 /// `None` where the haystack ends first.
 #[inline(always)]
@@ -127,7 +236,9 @@ fn read_on<V: Copy, W: Stepwise<V>, H: Haystack<W::Unit>>(
     walk: &mut W,
     rest: &mut H,
 ) -> Option<NonZeroU32>
-    ensures { ReadsOn W.automaton W.read W.found W.has_output W.given_from walk.old (H.rest rest.old) result walk.new (H.rest rest.new) }
+    ensures on { ReadsOn W.automaton W.read W.found W.has_output W.given_from walk.old (H.rest rest.old) result walk.new (H.rest rest.new) }
+    ensures fewer { length (H.rest rest.new) ≤ length (H.rest rest.old) }
+    ensures over { H.rest rest.old ≡ [] → walk.new ≡ walk.old }
 {
     'units: loop {
         let Some(unit) = rest.next() else {

@@ -3,20 +3,25 @@
 //! The layers above may rely on [`OverlappingWalk`] telling all matches that end where it stands,
 //! the longest first, and on [`NoSuffixWalk`] telling the first of them.
 
-ghost use Rattle.std.specs.Prelude.{◌≡◌, ◌≢◌, Some, None, length, ◌<◌, ◌≤◌, ◌^◌, ◌+◌, ℕ, List, [], ◌∷◌, ◌++◌, take};
+ghost use Rattle.std.specs.Prelude.{◌≡◌, ◌≢◌, Some, None, length, ◌<◌, ◌≤◌, ◌^◌, ◌+◌, ◌*◌, ◌↔◌, ℕ, List, [], ◌∷◌, ◌++◌, IsTrue, count_by, map, take};
+ghost use Rattle.std.specs.Bool.{OnTrue};
 ghost use Rattle.daachorse_model.specs.Matches.{no_suffix, overlapping};
 ghost use Rattle.daachorse_model.specs.Prefixes.{IsLong};
 ghost use Rattle.daachorse_model.specs.Units.{size};
 ghost use Rattle.daachorse_core.specs.Depths.{AreDepths};
+ghost use Rattle.daachorse_search.specs.Afresh.{GoesOnAfresh, shifted};
+ghost use Rattle.daachorse_search.specs.Filters.{IsSoundFor};
 ghost use Rattle.daachorse_search.specs.Nothing.{HasPlace-none, matches_from-none, first_from-none};
 
 use crate::automaton::Automaton;
 use crate::ending_here::EndingHere;
+use crate::filter::Filter;
 use crate::haystack::Reread;
 use crate::matches::Matches;
 use crate::stepwise::Stepwise;
 use crate::walk::Walk;
 use daachorse_core::Match;
+use daachorse_core::turns::Turns;
 use std::alloc::AllocError;
 use std::marker::Model;
 use std::num::NonZeroU32;
@@ -74,6 +79,14 @@ impl<V: Copy, A: Automaton<V>> OverlappingWalk<V, A> {
         EndingHere::new(self.walk.automaton(), place, self.walk.outputs())
     }
 
+    /// Whether no key that began before goes on here.
+    #[inline(always)]
+    pub fn stands_at_root(&self) -> bool
+        ensures { IsTrue result ↔ IsLong (A.content self.now.automaton) (units self.now.seen) [] }
+    {
+        self.walk.is_at_root()
+    }
+
     /// The depth of the state: how many of the last units read begin a key. `None` if no depths
     /// are kept.
     #[inline(always)]
@@ -98,6 +111,8 @@ impl<V: Copy, A: Automaton<V>> Stepwise<V> for OverlappingWalk<V, A> {
 
     ghost automaton = { λ s. s.automaton };
 
+    ghost content = { A.content };
+
     ghost read = { λ s. units s.seen };
 
     ghost turns = { λ s. s.turns };
@@ -112,6 +127,8 @@ impl<V: Copy, A: Automaton<V>> Stepwise<V> for OverlappingWalk<V, A> {
 
     ghost no_output = { λ s. (HasPlace-none A.Unit.width (A.has_output s.automaton) (A.outputs s.automaton) s.seen (A.no_output s.automaton), matches_from-none A.Unit.width (A.has_output s.automaton) (A.outputs s.automaton) s.seen (A.no_output s.automaton)) };
 
+    ghost looks_at = { A.has_label };
+
     ghost bounds = { λ a read turns. AreBounded (A.content a) (A.has_label a) read turns };
 
     #[inline(always)]
@@ -122,6 +139,16 @@ impl<V: Copy, A: Automaton<V>> Stepwise<V> for OverlappingWalk<V, A> {
     #[inline(always)]
     fn advance(&mut self, unit: A::Unit) -> Option<NonZeroU32> {
         self.walk.consume(unit)
+    }
+
+    #[inline(always)]
+    fn is_at_root(&self) -> bool {
+        self.stands_at_root()
+    }
+
+    #[inline(always)]
+    fn begin_again(&mut self, taken: &mut Turns) {
+        self.walk.begin_again(taken);
     }
 
     #[inline(always)]
@@ -197,6 +224,8 @@ impl<V: Copy, A: Automaton<V>> Stepwise<V> for NoSuffixWalk<V, A> {
 
     ghost automaton = { λ s. s.automaton };
 
+    ghost content = { A.content };
+
     ghost read = { λ s. units s.seen };
 
     ghost turns = { λ s. s.turns };
@@ -211,6 +240,8 @@ impl<V: Copy, A: Automaton<V>> Stepwise<V> for NoSuffixWalk<V, A> {
 
     ghost no_output = { λ s. (HasPlace-none A.Unit.width (A.has_output s.automaton) (A.outputs s.automaton) s.seen (A.no_output s.automaton), first_from-none A.Unit.width (A.has_output s.automaton) (A.outputs s.automaton) s.seen (A.no_output s.automaton)) };
 
+    ghost looks_at = { A.has_label };
+
     ghost bounds = { λ a read turns. AreBounded (A.content a) (A.has_label a) read turns };
 
     #[inline(always)]
@@ -221,6 +252,16 @@ impl<V: Copy, A: Automaton<V>> Stepwise<V> for NoSuffixWalk<V, A> {
     #[inline(always)]
     fn advance(&mut self, unit: A::Unit) -> Option<NonZeroU32> {
         self.all.advance(unit)
+    }
+
+    #[inline(always)]
+    fn is_at_root(&self) -> bool {
+        self.all.stands_at_root()
+    }
+
+    #[inline(always)]
+    fn begin_again(&mut self, taken: &mut Turns) {
+        self.all.begin_again(taken);
     }
 
     #[inline(always)]
@@ -239,38 +280,45 @@ impl<V: Copy, A: Automaton<V>> Stepwise<V> for NoSuffixWalk<V, A> {
     }
 }
 
-/// All matches in a haystack, also those that overlap.
+/// All matches in a haystack, also those that overlap. The search asks the filter at the root.
 #[inline(always)]
-pub fn find_overlapping_in<V: Copy, A: Automaton<V>, H: Reread<A::Unit>>(
+pub fn find_overlapping_in<V: Copy, A: Automaton<V>, H: Reread<A::Unit>, F: Filter<A::Unit, H>>(
     automaton: A,
     haystack: H,
-) -> Matches<V, OverlappingWalk<V, A>, H>
+    filter: F,
+) -> Matches<V, OverlappingWalk<V, A>, H, F>
     requires alive { (w : List ℕ) → ¬ A.dead automaton w }
     requires fits { size A.Unit.width (H.rest haystack) < 2 ^ 64 }
+    requires sound { IsSoundFor (F.passes filter) (A.content automaton) }
     ensures automaton { result.automaton ≡ automaton }
+    ensures filter { result.filter ≡ filter }
     ensures haystack { result.haystack ≡ H.rest haystack }
     ensures left { result.left ≡ overlapping A.Unit.width (A.content automaton) (H.rest haystack) }
     ensures passed { result.passed ≡ [] }
     ensures turns { result.turns ≡ 0 }
     ensures given { result.given ≡ 0 }
 {
-    Matches::new(OverlappingWalk::new(automaton), haystack)
+    Matches::with_filter(OverlappingWalk::new(automaton), haystack, filter)
 }
 
-/// Of all matches in a haystack the longest at each end.
+/// Of all matches in a haystack the longest at each end. The search asks the filter at the root.
 #[inline(always)]
-pub fn find_overlapping_no_suffix_in<V: Copy, A: Automaton<V>, H: Reread<A::Unit>>(
-    automaton: A,
-    haystack: H,
-) -> Matches<V, NoSuffixWalk<V, A>, H>
+pub fn find_overlapping_no_suffix_in<
+    V: Copy,
+    A: Automaton<V>,
+    H: Reread<A::Unit>,
+    F: Filter<A::Unit, H>,
+>(automaton: A, haystack: H, filter: F) -> Matches<V, NoSuffixWalk<V, A>, H, F>
     requires alive { (w : List ℕ) → ¬ A.dead automaton w }
     requires fits { size A.Unit.width (H.rest haystack) < 2 ^ 64 }
+    requires sound { IsSoundFor (F.passes filter) (A.content automaton) }
     ensures automaton { result.automaton ≡ automaton }
+    ensures filter { result.filter ≡ filter }
     ensures haystack { result.haystack ≡ H.rest haystack }
     ensures left { result.left ≡ no_suffix A.Unit.width (A.content automaton) (H.rest haystack) }
     ensures passed { result.passed ≡ [] }
     ensures turns { result.turns ≡ 0 }
     ensures given { result.given ≡ 0 }
 {
-    Matches::new(NoSuffixWalk::new(automaton), haystack)
+    Matches::with_filter(NoSuffixWalk::new(automaton), haystack, filter)
 }

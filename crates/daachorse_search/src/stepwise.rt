@@ -3,14 +3,18 @@
 //! The layers above may rely on a search that is [`Stepwise`] telling, with each unit, all that it
 //! has to give at the end of what it read: no more, no less, and in order.
 
-ghost use Rattle.std.specs.Prelude.{◌≡◌, ◌+◌, ◌≤◌, ◌<◌, ◌^◌, ℕ, List, [], ◌∷◌, ◌++◌, IfSome, length};
+ghost use Rattle.std.specs.Prelude.{◌≡◌, ◌+◌, ◌*◌, ◌≤◌, ◌<◌, ◌^◌, ℕ, Bool, List, [], ◌∷◌, ◌++◌, IfSome, IsTrue, count_by, length, map};
+ghost use Rattle.std.specs.Bool.{OnTrue};
 ghost use Rattle.daachorse_model.specs.declared.Match.{Match};
+ghost use Rattle.daachorse_model.specs.Dictionary.{Dictionary};
 ghost use Rattle.daachorse_model.specs.Units.{size};
 ghost use Rattle.daachorse_core.specs.Outputs.{number};
+ghost use Rattle.daachorse_search.specs.Afresh.{GoesOnAfresh, shifted};
 ghost use Rattle.daachorse_search.specs.Stepwise.{Stops};
 
 use daachorse_core::Match;
 use daachorse_core::edge_label::EdgeLabel;
+use daachorse_core::turns::Turns;
 use std::num::NonZeroU32;
 
 /// A search that is given one unit after the other, and tells what it found at each.
@@ -22,6 +26,9 @@ pub trait Stepwise<V: Copy>: Drop {
     type Automaton: Drop;
 
     ghost automaton: { Self → Self.Automaton };
+
+    /// The dictionary of what is walked through.
+    ghost content: { Self.Automaton → Dictionary V };
 
     /// The units that were read.
     ghost read: { Self → List ℕ };
@@ -41,6 +48,9 @@ pub trait Stepwise<V: Copy>: Drop {
     /// What is given from a position on, where the search stands.
     ghost given_from: { Self → ℕ → List (Match V) };
 
+    /// Reading such a unit takes a look, at least.
+    ghost looks_at: { Self.Automaton → ℕ → Bool };
+
     /// What is promised of the turns for what was read.
     ghost bounds: { Self.Automaton → List ℕ → ℕ → Type 0 };
 
@@ -55,14 +65,28 @@ pub trait Stepwise<V: Copy>: Drop {
         ensures read { read self.new ≡ read self.old ++ Self.Unit.unit unit ∷ [] }
         ensures stops { Stops automaton read found most_found has_output given_from self.new result };
 
+    /// Whether no key that began before goes on here, as where nothing was read.
+    fn is_at_root(&self) -> bool
+        ensures afresh { OnTrue result (GoesOnAfresh Self.Unit.width (content (automaton self.now)) (found (automaton self.now)) (read self.now)) }
+        ensures begins { read self.now ≡ [] → IsTrue result };
+
+    /// Begins again with nothing read, and counts the turns that it took in `taken`.
+    fn begin_again(&mut self, taken: &mut Turns)
+        ensures automaton { automaton self.new ≡ automaton self.old }
+        ensures read { read self.new ≡ [] }
+        ensures counted { taken.new ≡ taken.old + turns self.old }
+        ensures turns { turns self.new ≡ 0 };
+
     /// The match of the output at a position, which ends where the search stands, and the position
-    /// of the next output to give there. The place is that after the units read, in bytes.
+    /// of the next output to give there. The place is that after the units read, in bytes, counted from
+    /// where these begin or from `before` bytes before that.
     fn give(&self, position: NonZeroU32, place: usize) -> (Match<V>, Option<NonZeroU32>)
-        requires here { place ≡ size Self.Unit.width (read self.now) }
+        requires here { size Self.Unit.width (read self.now) ≤ place }
         requires output { has_output self.now position.value }
         ensures place { has_output self.now (number result.1) }
-        ensures given { given_from self.now position.value ≡ result.0 ∷ given_from self.now (number result.1) }
-        ensures ends { result.0.end ≡ size Self.Unit.width (read self.now) };
+        ensures given { (before : ℕ) → place ≡ before + size Self.Unit.width (read self.now)
+            → map (shifted before) (given_from self.now position.value) ≡ result.0 ∷ map (shifted before) (given_from self.now (number result.1)) }
+        ensures ends { result.0.end ≡ place };
 
     /// The automaton that is walked through, for a second walk beside this one.
     fn walked(&self) -> Self::Automaton
@@ -70,7 +94,9 @@ pub trait Stepwise<V: Copy>: Drop {
 
     /// Does nothing, and promises the bounds of the turns.
     fn turns_are_bounded(&self)
-        ensures { bounds (automaton self.now) (read self.now) (turns self.now) };
+        ensures bounds { bounds (automaton self.now) (read self.now) (turns self.now) }
+        ensures most { turns self.now ≤ 2 * length (read self.now) }
+        ensures least { count_by (looks_at (automaton self.now)) (read self.now) ≤ turns self.now };
 
     // From position 0 on nothing is given.
     ghost no_output: { (s : Self) → has_output s 0 × (given_from s 0 ≡ []) };

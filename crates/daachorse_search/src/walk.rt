@@ -4,13 +4,14 @@
 //! last began at the root, and on the bounds of its turns. It counts no bytes: whoever asks for a match
 //! tells the place where the walk stands.
 
-ghost use Rattle.std.specs.Prelude.{◌≡◌, ◌≢◌, Some, None, ◌+◌, ◌*◌, ◌^◌, ◌<◌, ◌≤◌, ℕ, List, [], ◌∷◌, ◌++◌, IfSome, length, count_by};
+ghost use Rattle.std.specs.Prelude.{◌≡◌, ◌≢◌, Some, None, ◌+◌, ◌*◌, ◌↔◌, ◌^◌, ◌<◌, ◌≤◌, ℕ, List, [], ◌∷◌, ◌++◌, IfSome, IsTrue, length, map, count_by};
 ghost use Rattle.daachorse_model.specs.Units.{size};
 ghost use Rattle.daachorse_model.specs.Prefixes.{IsLong};
 ghost use Rattle.daachorse_core.specs.Outputs.{number};
 ghost use Rattle.daachorse_model.specs.Outputs.{AllWithin, matches_of_outputs};
 ghost use Rattle.daachorse_core.specs.Seen.{units, unread};
 ghost use Rattle.daachorse_core.specs.Depths.{AreDepths};
+ghost use Rattle.daachorse_search.specs.Afresh.{shifted};
 ghost use Rattle.daachorse_search.specs.Walks.{read_on, skip_on, begin_on, HasOutputs};
 
 use crate::automaton::{Automaton, step};
@@ -98,6 +99,28 @@ impl<V: Copy, A: Automaton<V>> Walk<V, A> {
         self.seen.restart();
     }
 
+    /// Begins again at the root with nothing read, and counts the turns that it took in `taken`.
+    #[inline(always)]
+    pub fn begin_again(&mut self, taken: &mut Turns)
+        ensures automaton { self.new.automaton ≡ self.old.automaton }
+        ensures seen { self.new.seen ≡ unread }
+        ensures turns { self.new.turns ≡ 0 }
+        ensures counted { taken.new ≡ taken.old + self.old.turns }
+    {
+        taken.add(&self.turns);
+        self.turns = Turns::new();
+        self.seen = Seen::new();
+        self.state = self.automaton.root();
+    }
+
+    /// Whether it stands at the root: no key that began before goes on here.
+    #[inline(always)]
+    pub fn is_at_root(&self) -> bool
+        ensures { IsTrue result ↔ IsLong (A.content self.now.automaton) self.now.seen.since [] }
+    {
+        self.automaton.is_root(self.state)
+    }
+
     /// The automaton that is walked through.
     #[inline(always)]
     pub fn automaton(&self) -> A
@@ -130,17 +153,18 @@ impl<V: Copy, A: Automaton<V>> Walk<V, A> {
     }
 
     /// The match of the output at a position, which ends here, and the position of the next output.
-    /// The place is that after the units read, in bytes.
+    /// The place is that after the units read, in bytes, counted from where these begin or from `before`
+    /// bytes before that.
     #[inline(always)]
     pub fn give(&self, position: NonZeroU32, place: usize) -> (Match<V>, Option<NonZeroU32>)
-        requires here { place ≡ size A.Unit.width (units self.now.seen) }
+        requires here { size A.Unit.width (units self.now.seen) ≤ place }
         requires place { A.has_output self.now.automaton position.value }
         requires fits { AllWithin (size A.Unit.width (units self.now.seen)) (A.outputs self.now.automaton position.value) }
         ensures place { A.has_output self.now.automaton (number result.1) }
-        ensures matches { let end = size A.Unit.width (units self.now.seen) in
-            matches_of_outputs end (A.outputs self.now.automaton position.value) ≡ result.0 ∷ matches_of_outputs end (A.outputs self.now.automaton (number result.1)) }
+        ensures matches { let end = size A.Unit.width (units self.now.seen) in (before : ℕ) → place ≡ before + end
+            → map (shifted before) (matches_of_outputs end (A.outputs self.now.automaton position.value)) ≡ result.0 ∷ map (shifted before) (matches_of_outputs end (A.outputs self.now.automaton (number result.1))) }
         ensures fits { AllWithin (size A.Unit.width (units self.now.seen)) (A.outputs self.now.automaton (number result.1)) }
-        ensures ends { result.0.end ≡ size A.Unit.width (units self.now.seen) }
+        ensures ends { result.0.end ≡ place }
     {
         let output = self.automaton.output(position);
         (output.to_match(place), output.parent())

@@ -1,11 +1,15 @@
-use Rattle.std.proofs.Common.{[], length}
+use Rattle.std.proofs.Common.{◌≡◌, ◌≤◌, [], length}
 use Rattle.daachorse_search.proofs.HaystackLemmas.{ReadsTo}
 use Rattle.daachorse_search.proofs.matches.read_on.Given as goal
 
 abbrev pub invariant-units : goal.invariant-units
 invariant-units g l =
     let W = g.W.Stepwise in let rest = g.H.Haystack.rest in
-    record { reads : ReadsTo W.automaton W.read W.found l.fn.walk (rest l.fn.rest) [] l.walk (rest l.rest) }
+    record {
+      reads : ReadsTo W.automaton W.read W.found l.fn.walk (rest l.fn.rest) [] l.walk (rest l.rest);
+      fewer : length (rest l.rest) ≤ length (rest l.fn.rest);
+      over : rest l.fn.rest ≡ [] → l.walk ≡ l.fn.walk;
+    }
 
 abbrev pub decreases-units : goal.decreases-units
 decreases-units g l = length (g.H.Haystack.rest l.rest)

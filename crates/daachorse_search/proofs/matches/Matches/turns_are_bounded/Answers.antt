@@ -1,10 +1,35 @@
--- What is left of the haystack comes after the units read.
-use Rattle.std.proofs.Common.{◌≡◌, ◌++◌, ℕ, List, refl, subst}
-use Rattle.daachorse_search.specs.declared.filter.NoFilter.{NoFilter}
+-- The turns are those up to where the walk began, and those of the walk.
+use Rattle.std.proofs.Common.{◌≡◌, ◌+◌, ◌≤◌, ◌++◌, ℕ, true, List, sym, ap, ◌∙◌, subst, append_assoc}
+use Rattle.daachorse_core.specs.Outputs.{number}
+use Rattle.daachorse_search.specs.Filters.{count_passing}
 use Rattle.daachorse_search.specs.Matches.{Progress}
+use Rattle.daachorse_search.proofs.SkipLemmas.{passed_is, reading-bounded, reading-plain}
 use Rattle.daachorse_search.proofs.matches.Matches.turns_are_bounded.Goals as goal
 
+pub returns-clause-passing : goal.returns-clause-passing
+returns-clause-passing g c =
+    let W = g.W.Stepwise in let F = g.F.Filter in let rest = g.H.Haystack.rest in let i = c.self.inside in let walked = c.turns_are_bounded.ensures in
+    let P : Progress g.row.V.Denot g.row.W-Automaton.Denot g.row.F.Denot → Type 0 = λ s. count_passing (F.passes s.filter) (W.looks_at s.automaton) s.haystack s.passed ≤ s.turns in
+    subst P c.self.view_is (reading-bounded g.W.Unit.EdgeLabel.width W.automaton W.read W.turns W.found W.content W.looks_at W.has_output W.given_from (F.passes i.first_filter.value) (F.opened i.first_filter.value) (rest i.whole.value) i.size (F.opened i.filter) i.walk (rest i.rest) (number i.output) i.taken c.self.invariant.1 walked.most walked.least).1
+
+-- where the filter passes everywhere, the walk began at the beginning
+pub returns-clause-bounds : goal.returns-clause-bounds
+returns-clause-bounds g c =
+    let W = g.W.Stepwise in let F = g.F.Filter in let rest = g.H.Haystack.rest in let i = c.self.inside in let walked = c.turns_are_bounded.ensures in
+    let P : Progress g.row.V.Denot g.row.W-Automaton.Denot g.row.F.Denot → Type 0 = λ s. ((w : List ℕ) → F.passes s.filter w ≡ true) → W.bounds s.automaton s.passed s.turns in
+    let Q : List ℕ → Type 0 = λ x. W.bounds (W.automaton i.walk) x (i.taken + W.turns i.walk) in
+    let R : ℕ → Type 0 = λ n. W.bounds (W.automaton i.walk) (W.read i.walk) n in
+    subst P c.self.view_is (λ everywhere.
+    let plain = reading-plain g.W.Unit.EdgeLabel.width W.automaton W.read W.turns W.found W.content W.looks_at W.has_output W.given_from (F.passes i.first_filter.value) (F.opened i.first_filter.value) (rest i.whole.value) i.size (F.opened i.filter) i.walk (rest i.rest) (number i.output) i.taken c.self.invariant.1 everywhere in
+    subst Q (sym plain.0) (subst R (sym plain.1) walked.bounds))
+
+-- what is left of the haystack comes after the units passed
 pub returns-clause-passed : goal.returns-clause-passed
 returns-clause-passed g c =
-    let P : Progress g.row.V.Denot g.row.W-Automaton.Denot NoFilter → Type 0 = λ p. (back : List ℕ) × (p.haystack ≡ p.passed ++ back) in
-    subst P c.self.view_is (g.H.Haystack.rest c.self.inside.rest, refl)
+    let W = g.W.Stepwise in let F = g.F.Filter in let rest = g.H.Haystack.rest in let i = c.self.inside in let was = c.self.invariant.1 in
+    let P : Progress g.row.V.Denot g.row.W-Automaton.Denot g.row.F.Denot → Type 0 = λ s. (back : List ℕ) × (s.haystack ≡ s.passed ++ back) in
+    subst P c.self.view_is (
+      rest i.rest,
+      was.parts ∙ sym (append_assoc was.base (W.read i.walk) (rest i.rest))
+          ∙ ap (λ x. x ++ rest i.rest) (sym (passed_is g.W.Unit.EdgeLabel.width W.automaton W.read W.turns W.found W.content W.looks_at W.has_output W.given_from (F.passes i.first_filter.value) (F.opened i.first_filter.value) (rest i.whole.value) i.size (F.opened i.filter) i.walk (rest i.rest) (number i.output) i.taken c.self.invariant.1)),
+    )

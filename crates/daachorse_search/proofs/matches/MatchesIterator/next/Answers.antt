@@ -1,50 +1,192 @@
--- The walk stands where the rest begins, so its place is what the whole haystack takes less what the rest does.
-use Rattle.std.proofs.Common.{◌≡◌, ◌+◌, ◌++◌, ℕ, sym, ap, subst, arith}
+-- A call comes to the next output, by going on where none is pending, and gives its match; what is left begins with it.
+use Rattle.std.proofs.Common.{◌≡◌, ◌+◌, ◌-◌, ◌∷◌, ◌++◌, ℕ, List, [], length, Option, Some, None, refl, sym, ap, ◌∙◌, subst, arith}
+use Rattle.std.specs.Prelude.{IfNone}
+use Rattle.std.specs.declared.num.NonZeroU32.{NonZeroU32}
 use Rattle.daachorse_core.specs.Outputs.{number}
+use Rattle.daachorse_core.specs.Seen.{SeenUnits}
+use Rattle.daachorse_model.specs.declared.Match.{Match}
 use Rattle.daachorse_model.specs.Units.{size}
 use Rattle.daachorse_search.specs.declared.matches.Matches.TheInside.{Inside}
-use Rattle.daachorse_search.proofs.HaystackLemmas.{spans-on}
+use Rattle.daachorse_search.specs.LeftmostSearches.{before_rest}
+use Rattle.daachorse_search.specs.Matches.{Progress, GaveMatch, GaveNone, GivesFirst, StandsAtEnd}
+use Rattle.daachorse_search.specs.Skipping.{HasNoPlace, SkipsTo}
+use Rattle.daachorse_search.proofs.SkipLemmas.{SkipsTo-places, no_place_on, reading, left_of, reading-on, reading-gives, reading-ended, place_is}
 use Rattle.daachorse_search.proofs.matches.MatchesIterator.next.Given as given
 use Rattle.daachorse_search.proofs.matches.MatchesIterator.next.Goals as goal
 use Rattle.daachorse_search.proofs.matches.MatchesIterator.next.Goals.{in-Some, in-None+in_ok-position-in-None}
 
--- what was read and the rest are the whole haystack, before the match is given and after
-abbrev whole : (g : given.Over) → (i : Inside g.row.V.Denot g.row.W.Denot g.row.H.Denot g.row.W-Unit.Denot g.row.W-Automaton.Denot) → Type 0
-whole g i = i.size ≡ size g.W.Unit.EdgeLabel.width (g.W.Stepwise.read i.walk) + size g.W.Unit.EdgeLabel.width (g.H.Haystack.rest i.rest)
+abbrev Ins : given.Over → Type 0
+Ins g = Inside g.row.V.Denot g.row.W.Denot g.row.H.Denot g.row.F.Denot g.row.W-Unit.Denot g.row.W-Automaton.Denot
 
-read_whole : (g : given.Over) (was : Inside g.row.V.Denot g.row.W.Denot g.row.H.Denot g.row.W-Unit.Denot g.row.W-Automaton.Denot) (walk : g.row.W.Denot) (rest : g.row.H.Denot) → whole g was
-    → g.W.Stepwise.read walk ++ g.H.Haystack.rest rest ≡ g.W.Stepwise.read was.walk ++ g.H.Haystack.rest was.rest → whole g (record was { walk = walk; rest = rest })
-read_whole g was walk rest is same =
-    let W = g.W.Stepwise in let left = g.H.Haystack.rest in
-    spans-on g.W.Unit.EdgeLabel.width (W.read was.walk) (left was.rest) (W.read walk) (left rest) was.size same is
+-- the search stands so, with the next output at the position
+abbrev standing : (g : given.Over) → Ins g → ℕ → Type 0
+standing g i position =
+    let W = g.W.Stepwise in let F = g.F.Filter in let rest = g.H.Haystack.rest in
+    ((w : List ℕ) → F.passes i.filter w ≡ F.passes i.first_filter.value w) × reading g.W.Unit.EdgeLabel.width W.automaton W.read W.turns W.found W.content W.looks_at W.has_output W.given_from (F.passes i.first_filter.value) (F.opened i.first_filter.value) (rest i.whole.value) i.size (F.opened i.filter) i.walk (rest i.rest) position i.taken
 
-spans : (g : given.Over) (c : goal.After-left g) → whole g c.match-self.self-inside
-spans g c = elim c.match-self.branch [
-  | in-Some w ↦ subst (whole g) (sym w.self-inside-is) c.self.invariant.spans
-  | in-None+in_ok-position-in-None w ↦ subst (whole g) (sym w.self-inside-is) (read_whole g c.self.inside w.read_on.new.walk w.read_on.new.rest c.self.invariant.spans w.read_on.ensures.haystack)
-]
+abbrev left_at : (g : given.Over) → Ins g → ℕ → List (Match g.row.V.Denot)
+left_at g i position =
+    let W = g.W.Stepwise in let F = g.F.Filter in let rest = g.H.Haystack.rest in
+    left_of g.W.Unit.EdgeLabel.width W.automaton W.read W.turns W.found W.content W.looks_at W.has_output W.given_from (F.passes i.first_filter.value) (F.opened i.first_filter.value) (rest i.whole.value) i.size i.walk (rest i.rest) position
 
-spans_on : (g : given.Over) (c : goal.After-give g) → whole g c.match-self.self-inside
-spans_on g c = elim c.match-self.branch [
-  | in-Some w ↦ subst (whole g) (sym w.self-inside-is) c.self.invariant.spans
-  | in-None+in_ok-position-in-None w ↦ subst (whole g) (sym w.self-inside-is) (read_whole g c.self.inside w.read_on.new.walk w.read_on.new.rest c.self.invariant.spans w.read_on.ensures.haystack)
-]
+-- a call that began as `was` came to the output at the position
+record Came (g : given.Over) (was now : Ins g) (position : ℕ) : Type 0 where
+  filter : now.first_filter ≡ was.first_filter
+  whole : now.whole ≡ was.whole
+  seen : now.seen ≡ was.seen
+  automaton : g.W.Stepwise.automaton now.walk ≡ g.W.Stepwise.automaton was.walk
+  stands : standing g now position
+  left : left_at g was (number was.output) ≡ left_at g now position
+
+-- none was pending, and the search went on
+went_on : (g : given.Over) (was : Ins g) (walk : g.row.W.Denot) (later : g.row.H.Denot) (taken position : ℕ) (filter : g.row.F.Denot) → standing g was (number was.output) → was.output ≡ None
+    → ((w : List ℕ) → g.F.Filter.passes filter w ≡ g.F.Filter.passes was.filter w)
+    → SkipsTo g.W.Unit.EdgeLabel.width g.W.Stepwise.automaton g.W.Stepwise.read g.W.Stepwise.found g.W.Stepwise.looks_at (g.F.Filter.passes was.filter) was.walk (g.H.Haystack.rest was.rest) was.taken (g.W.Stepwise.given_from walk position) walk (g.H.Haystack.rest later) taken
+    → g.W.Stepwise.has_output walk position
+    → (HasNoPlace (g.F.Filter.passes was.filter) (g.F.Filter.opened was.filter) (g.W.Stepwise.read was.walk) (g.H.Haystack.rest was.rest) → (taken + g.W.Stepwise.turns walk ≡ was.taken + g.W.Stepwise.turns was.walk) × (g.H.Haystack.rest later ≡ []))
+    → Came g was (record was { walk = walk; taken = taken; rest = later; filter = filter }) position
+went_on g was walk later taken position filter stands pending places reads output idle =
+    let W = g.W.Stepwise in let F = g.F.Filter in let rest = g.H.Haystack.rest in let first = F.passes was.first_filter.value in
+    let zero : number was.output ≡ 0 = ap number pending in
+    let R : ℕ → Type 0 = λ n. reading g.W.Unit.EdgeLabel.width W.automaton W.read W.turns W.found W.content W.looks_at W.has_output W.given_from (F.passes was.first_filter.value) (F.opened was.first_filter.value) (rest was.whole.value) was.size (F.opened was.filter) was.walk (rest was.rest) n was.taken in
+    let on = reading-on g.W.Unit.EdgeLabel.width W.automaton W.read W.turns W.found W.content W.looks_at W.has_output W.given_from (F.passes was.first_filter.value) (F.opened was.first_filter.value) (rest was.whole.value) was.size (F.opened was.filter) (F.opened filter) was.walk (rest was.rest) was.taken walk (rest later) taken position (subst R zero stands.1) (g.met.W.Stepwise.no_output was.walk).1
+    (SkipsTo-places g.W.Unit.EdgeLabel.width W.automaton W.read W.turns W.found W.content W.looks_at first (F.passes was.filter) was.walk (rest was.rest) was.taken (W.given_from walk position) walk (rest later) taken stands.0 reads) output
+    (λ none. idle (no_place_on first (F.passes was.filter) (F.opened was.filter) (W.read was.walk) (rest was.rest) stands.0 none)) in
+    record { filter = refl; whole = refl; seen = refl; automaton = reads.same; stands = (λ w. places w ∙ stands.0 w, on.0); left = ap (left_at g was) zero ∙ on.1 }
+
+-- one was pending
+pending_came : (g : given.Over) (was now : Ins g) (p q : NonZeroU32) → standing g was (number was.output) → was.output ≡ Some q → p ≡ q → now ≡ was → Came g was now p.value
+pending_came g was now p q stands pending same stays =
+    let P : Ins g → Type 0 = λ i. Came g was i p.value in
+    let Q : NonZeroU32 → Type 0 = λ x. Came g was was x.value in
+    let N : ℕ → Type 0 = λ n. Came g was was n in
+    subst P (sym stays) (subst Q (sym same) (subst N (ap number pending) (record { filter = refl; whole = refl; seen = refl; automaton = refl; stands = stands; left = refl })))
+
+same_came : (g : given.Over) (was after now : Ins g) (p q : NonZeroU32) → Came g was after q.value → p ≡ q → now ≡ after → Came g was now p.value
+same_came g was after now p q came same stays =
+    let P : Ins g → Type 0 = λ i. Came g was i p.value in
+    let Q : NonZeroU32 → Type 0 = λ x. Came g was after x.value in
+    subst P (sym stays) (subst Q (sym same) came)
+
+came : (g : given.Over) (c : goal.After-left g) → Came g c.self.inside c.match-self.self-inside c.match-self.position.value
+came g c =
+    let was = c.self.inside in let now = c.match-self.self-inside in let p = c.match-self.position in
+    elim c.match-self.branch [
+      | in-Some w ↦ pending_came g was now p w.in-Some.position c.self.invariant w.in-Some.is w.position-is w.self-inside-is
+      | in-None+in_ok-position-in-None w ↦
+          let to = w.go_on.new in let found = w.in_ok-position-in-None in
+          same_came g was (record was { walk = to.walk; taken = to.taken; rest = to.rest; filter = to.filter }) now p found.position
+          (went_on g was to.walk to.rest to.taken found.position.value to.filter c.self.invariant w.in-None.is found.ensures.passes found.ensures.reads found.ensures.output found.ensures.idle) w.position-is w.self-inside-is
+    ]
+
+came_on : (g : given.Over) (c : goal.After-give g) → Came g c.self.inside c.match-self.self-inside c.match-self.position.value
+came_on g c =
+    let was = c.self.inside in let now = c.match-self.self-inside in let p = c.match-self.position in
+    elim c.match-self.branch [
+      | in-Some w ↦ pending_came g was now p w.in-Some.position c.self.invariant w.in-Some.is w.position-is w.self-inside-is
+      | in-None+in_ok-position-in-None w ↦
+          let to = w.go_on.new in let found = w.in_ok-position-in-None in
+          same_came g was (record was { walk = to.walk; taken = to.taken; rest = to.rest; filter = to.filter }) now p found.position
+          (went_on g was to.walk to.rest to.taken found.position.value to.filter c.self.invariant w.in-None.is found.ensures.passes found.ensures.reads found.ensures.output found.ensures.idle) w.position-is w.self-inside-is
+    ]
 
 pub overflow_sub-place : goal.overflow_sub-place
-overflow_sub-place g c = omega (arith, spans g c, c.left.ensures)
+overflow_sub-place g c =
+    let W = g.W.Stepwise in let F = g.F.Filter in let rest = g.H.Haystack.rest in let now = c.match-self.self-inside in
+    omega (arith, place_is g.W.Unit.EdgeLabel.width W.automaton W.read W.turns W.found W.content W.looks_at W.has_output W.given_from (F.passes now.first_filter.value) (F.opened now.first_filter.value) (rest now.whole.value) now.size (F.opened now.filter) now.walk (rest now.rest) c.match-self.position.value now.taken (came g c).stands.1, c.left.ensures)
 
 pub give-found-requires-clause-here : goal.give-found-requires-clause-here
-give-found-requires-clause-here g c = omega (arith, spans g c, c.left.ensures)
+give-found-requires-clause-here g c =
+    let W = g.W.Stepwise in let F = g.F.Filter in let rest = g.H.Haystack.rest in let now = c.match-self.self-inside in
+    omega (arith, place_is g.W.Unit.EdgeLabel.width W.automaton W.read W.turns W.found W.content W.looks_at W.has_output W.given_from (F.passes now.first_filter.value) (F.opened now.first_filter.value) (rest now.whole.value) now.size (F.opened now.filter) now.walk (rest now.rest) c.match-self.position.value now.taken (came g c).stands.1, c.left.ensures)
 
 -- the haystack ended: nothing is pending
 pub invariant_of-self : goal.invariant_of-self
 invariant_of-self g c =
-    let W = g.W.Stepwise in let rest = g.H.Haystack.rest in let was = c.self.inside in let to = c.read_on.new in
-    let P : ℕ → Type 0 = λ n. W.has_output to.walk n in
-    record {
-      output = subst P (sym (ap number c.in-None.is)) (g.met.W.Stepwise.no_output to.walk).0;
-      spans = spans-on g.W.Unit.EdgeLabel.width (W.read was.walk) (rest was.rest) (W.read to.walk) (rest to.rest) was.size c.read_on.ensures.haystack c.self.invariant.spans;
-    }
+    let was = c.self.inside in let to = c.go_on.new in let found = c.go_on.ensures in
+    let after : Ins g = record was { walk = to.walk; taken = to.taken; rest = to.rest; filter = to.filter } in
+    let P : ℕ → Type 0 = λ n. standing g after n in
+    let gone : Came g was after (number c.go_on.result) = went_on g was to.walk to.rest to.taken (number c.go_on.result) to.filter c.self.invariant c.in-None.is found.passes found.reads found.output found.idle in
+    subst P (ap number c.in_err-position-in-None.was ∙ sym (ap number c.in-None.is)) gone.stands
+
+pub returns-in_err-position-in-None-clause-steps : goal.returns-in_err-position-in-None-clause-steps
+returns-in_err-position-in-None-clause-steps g c =
+    let W = g.W.Stepwise in let F = g.F.Filter in let rest = g.H.Haystack.rest in
+    let was = c.self.inside in let to = c.go_on.new in let found = c.go_on.ensures in
+    let after : Ins g = record was { walk = to.walk; taken = to.taken; rest = to.rest; filter = to.filter } in
+    let C : ℕ → Type 0 = λ n. Came g was after n in
+    let gone : Came g was after 0 = subst C (ap number c.in_err-position-in-None.was) (went_on g was to.walk to.rest to.taken (number c.go_on.result) to.filter c.self.invariant c.in-None.is found.passes found.reads found.output found.idle) in
+    let E : Option NonZeroU32 → Type 0 = λ r. IfNone r (rest to.rest ≡ []) in
+    let over : rest to.rest ≡ [] = subst E c.in_err-position-in-None.was found.ended in
+    let ended = reading-ended g.W.Unit.EdgeLabel.width W.automaton W.read W.turns W.found W.content W.looks_at W.has_output W.given_from (F.passes after.first_filter.value) (F.opened after.first_filter.value) (rest after.whole.value) after.size (F.opened after.filter) to.walk (rest to.rest) to.taken gone.stands.1 (g.met.W.Stepwise.no_output to.walk).1 over in
+    let t : Progress g.row.V.Denot g.row.W-Automaton.Denot g.row.F.Denot = record {
+      automaton = W.automaton to.walk;
+      filter = was.first_filter.value;
+      haystack = rest was.whole.value;
+      left = left_at g after (number was.output);
+      passed = before_rest (rest was.whole.value) (rest to.rest);
+      turns = to.taken + W.turns to.walk;
+      given = was.seen.given;
+    } in
+    let P : Progress g.row.V.Denot g.row.W-Automaton.Denot g.row.F.Denot → Type 0 = λ s. GaveNone (StandsAtEnd {V = g.row.V.Denot} g.W.Unit.EdgeLabel.width) s t in
+    let gone_none : GaveNone (StandsAtEnd {V = g.row.V.Denot} g.W.Unit.EdgeLabel.width) c.args.self.now t = subst P c.self.view_is (record {
+      automaton = gone.automaton;
+      filter = refl;
+      haystack = refl;
+      none = gone.left ∙ ended.0;
+      still_none = ap (left_at g after) (ap number c.in-None.is) ∙ ended.0;
+      counted = refl;
+      all = ended.1;
+    }) in
+    let R : Option (Match g.row.V.Denot) → Type 0 = λ r. GivesFirst (StandsAtEnd {V = g.row.V.Denot} g.W.Unit.EdgeLabel.width) c.args.self.now r t in
+    subst R (sym c.from_residual.ensures) gone_none
+
+-- the search after the match was given
+abbrev given_on : (g : given.Over) (c : goal.After-give g) → Ins g
+given_on g c = record c.match-self.self-inside { output = c.give-found.result.1; seen = c.give.new.self }
+
+gives : (g : given.Over) (c : goal.After-give g) → standing g (given_on g c) (number c.give-found.result.1)
+    × (left_at g c.match-self.self-inside c.match-self.position.value ≡ c.give-found.result.0 ∷ left_at g (given_on g c) (number c.give-found.result.1))
+    × (c.give-found.result.0.end ≡ size g.W.Unit.EdgeLabel.width (before_rest (g.H.Haystack.rest c.match-self.self-inside.whole.value) (g.H.Haystack.rest c.match-self.self-inside.rest)))
+gives g c =
+    let W = g.W.Stepwise in let F = g.F.Filter in let rest = g.H.Haystack.rest in let now = c.match-self.self-inside in let found = c.give-found in
+    let stands = (came_on g c).stands in
+    let next = reading-gives g.W.Unit.EdgeLabel.width W.automaton W.read W.turns W.found W.content W.looks_at W.has_output W.given_from (F.passes now.first_filter.value) (F.opened now.first_filter.value) (rest now.whole.value) now.size (F.opened now.filter) now.walk (rest now.rest) c.match-self.position.value (number found.result.1) now.taken (now.size - c.left.result) found.result.0 stands.1
+    (omega (arith, place_is g.W.Unit.EdgeLabel.width W.automaton W.read W.turns W.found W.content W.looks_at W.has_output W.given_from (F.passes now.first_filter.value) (F.opened now.first_filter.value) (rest now.whole.value) now.size (F.opened now.filter) now.walk (rest now.rest) c.match-self.position.value now.taken stands.1, c.left.ensures)) found.ensures.given found.ensures.ends found.ensures.place in
+    ((stands.0, next.0), next.1, next.2)
 
 pub invariant_of-self-2 : goal.invariant_of-self-2
-invariant_of-self-2 g c = record { output = c.give-found.ensures.place; spans = spans_on g c }
+invariant_of-self-2 g c = (gives g c).0
+
+-- what callers see then
+abbrev seen_on : (g : given.Over) (c : goal.After-give g) → Progress g.row.V.Denot g.row.W-Automaton.Denot g.row.F.Denot
+seen_on g c =
+    let W = g.W.Stepwise in let rest = g.H.Haystack.rest in let now = c.match-self.self-inside in
+    record {
+      automaton = W.automaton now.walk;
+      filter = now.first_filter.value;
+      haystack = rest now.whole.value;
+      left = left_at g (given_on g c) (number c.give-found.result.1);
+      passed = before_rest (rest now.whole.value) (rest now.rest);
+      turns = now.taken + W.turns now.walk;
+      given = c.give.new.self.given;
+    }
+
+gave : (g : given.Over) (c : goal.After-give g) → GaveMatch (StandsAtEnd {V = g.row.V.Denot} g.W.Unit.EdgeLabel.width) c.args.self.now c.give-found.result.0 (seen_on g c)
+gave g c =
+    let rest = g.H.Haystack.rest in let to = came_on g c in let next = gives g c in
+    let P : Progress g.row.V.Denot g.row.W-Automaton.Denot g.row.F.Denot → Type 0 = λ s. GaveMatch (StandsAtEnd {V = g.row.V.Denot} g.W.Unit.EdgeLabel.width) s c.give-found.result.0 (seen_on g c) in
+    subst P c.self.view_is (record {
+      automaton = to.automaton;
+      filter = ap (λ x. x.value) to.filter;
+      haystack = ap (λ x. rest x.value) to.whole;
+      first = to.left ∙ next.1;
+      counted = ap (λ (x : SeenUnits). x.given) c.give.ensures ∙ ap (λ (x : SeenUnits). x.given + 1) to.seen;
+      behind = next.2;
+    })
+
+pub returns-clause-steps : goal.returns-clause-steps
+returns-clause-steps g c = gave g c
+
+pub returns-clause-goes : goal.returns-clause-goes
+returns-clause-goes g c = record { on = λ _. (tt, tt, omega (arith, ap length (gave g c).first)); keeps = tt; rests = λ _. tt }

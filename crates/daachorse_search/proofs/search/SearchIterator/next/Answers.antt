@@ -1,7 +1,9 @@
-use Rattle.std.proofs.Common.{ℕ, sym, ap, subst}
+use Rattle.std.proofs.Common.{◌≡◌, ◌+◌, ◌∷◌, ℕ, sym, ap, subst, arith}
 use Rattle.std.specs.declared.num.NonZeroU32.{NonZeroU32}
 use Rattle.daachorse_core.specs.Outputs.{number}
 use Rattle.daachorse_search.specs.declared.search.Search.TheInside.{Inside}
+use Rattle.daachorse_model.specs.Units.{size}
+use Rattle.daachorse_search.proofs.AfreshLemmas.{unshifted}
 use Rattle.daachorse_search.proofs.SearchLemmas.{IsReached, IsReached-pending_at, IsReached-scan_at, Gave-reached, progress-reached}
 use Rattle.daachorse_search.proofs.search.SearchIterator.next.Given as given
 use Rattle.daachorse_search.proofs.search.SearchIterator.next.Goals as goal
@@ -28,6 +30,20 @@ reached g c =
           c.self.view_is (ap number w.in-None.is) (g.met.W.Stepwise.no_output was.walk).1 scanned.ensures.took scanned.ensures.stops scanned.ensures.ready))
     ]
 
+-- the place is that after all units read
+here : (g : given.Over) (c : goal.After-next-1 g) → c.match-self.self-inside.place ≡ 0 + size g.W.Unit.EdgeLabel.width (g.W.Stepwise.read c.match-self.self-inside.walk)
+here g c =
+    let W = g.W.Stepwise in let width = g.W.Unit.EdgeLabel.width in
+    let H : Inside g.row.V.Denot g.row.W.Denot g.row.S.Denot g.row.W-Unit.Denot g.row.W-Automaton.Denot → Type 0 = λ i. i.place ≡ 0 + size width (W.read i.walk) in
+    elim c.match-self.branch [
+      | in-Some w ↦ subst H (sym w.self-inside-is) (omega (arith, c.self.invariant.1))
+      | in-None+in_ok-position-in-None w ↦ subst H (sym w.self-inside-is) (omega (arith, w.scan.ensures.here))
+    ]
+
+-- what is given from the position on
+first : (g : given.Over) (c : goal.After-next-1 g) → g.W.Stepwise.given_from c.match-self.self-inside.walk c.match-self.position.value ≡ c.give-found.result.0 ∷ g.W.Stepwise.given_from c.match-self.self-inside.walk (number c.give-found.result.1)
+first g c = unshifted _ _ c.give-found.result.0 (c.give-found.ensures.given 0 (here g c))
+
 -- the source ended: nothing is pending
 pub invariant_of-self : goal.invariant_of-self
 invariant_of-self g c =
@@ -37,9 +53,9 @@ invariant_of-self g c =
 pub returns-clause-steps : goal.returns-clause-steps
 returns-clause-steps g c =
     let W = g.W.Stepwise in let S = g.S.Iterator in let unit = g.W.Unit.EdgeLabel in let now = c.match-self.self-inside in
-    Gave-reached W.automaton W.read W.turns W.found W.most_found W.has_output W.given_from S.can_next S.next_gives S.remaining unit.unit unit.width c.args.self.now now.walk now.source c.match-self.position.value (number c.give-found.result.1) c.give-found.result.0 (reached g c) c.give-found.ensures.given c.give-found.ensures.ends
+    Gave-reached W.automaton W.read W.turns W.found W.most_found W.has_output W.given_from S.can_next S.next_gives S.remaining unit.unit unit.width c.args.self.now now.walk now.source c.match-self.position.value (number c.give-found.result.1) c.give-found.result.0 (reached g c) (first g c) (omega (arith, c.give-found.ensures.ends, here g c))
 
 pub returns-clause-goes : goal.returns-clause-goes
 returns-clause-goes g c =
     let W = g.W.Stepwise in let S = g.S.Iterator in let unit = g.W.Unit.EdgeLabel in let now = c.match-self.self-inside in
-    progress-reached W.automaton W.read W.turns W.found W.most_found W.has_output W.given_from S.can_next S.next_gives S.remaining unit.unit unit.width c.args.self.now now.walk now.source c.match-self.position.value (number c.give-found.result.1) c.give-found.result.0 (reached g c) c.give-found.ensures.given
+    progress-reached W.automaton W.read W.turns W.found W.most_found W.has_output W.given_from S.can_next S.next_gives S.remaining unit.unit unit.width c.args.self.now now.walk now.source c.match-self.position.value (number c.give-found.result.1) c.give-found.result.0 (reached g c) (first g c)

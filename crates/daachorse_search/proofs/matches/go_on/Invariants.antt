@@ -1,0 +1,16 @@
+use Rattle.std.proofs.Common.{◌≡◌, ◌+◌, ℕ, List, [], length}
+use Rattle.daachorse_search.specs.Skipping.{HasNoPlace, SkipsTo}
+use Rattle.daachorse_search.proofs.matches.go_on.Given as goal
+
+abbrev pub invariant-units : goal.invariant-units
+invariant-units g l =
+    let W = g.W.Stepwise in let F = g.F.Filter in let rest = g.H.Haystack.rest in
+    record {
+      passes : (w : List ℕ) → F.passes l.filter w ≡ F.passes l.fn.filter w;
+      skips : SkipsTo g.W.Unit.EdgeLabel.width W.automaton W.read W.found W.looks_at (F.passes l.fn.filter) l.fn.walk (rest l.fn.rest) l.fn.taken [] l.walk (rest l.rest) l.taken;
+      idle : HasNoPlace (F.passes l.fn.filter) (F.opened l.fn.filter) (W.read l.fn.walk) (rest l.fn.rest) →
+          (l.taken + W.turns l.walk ≡ l.fn.taken + W.turns l.fn.walk) × HasNoPlace (F.passes l.fn.filter) (F.opened l.filter) (W.read l.walk) (rest l.rest);
+    }
+
+abbrev pub decreases-units : goal.decreases-units
+decreases-units g l = length (g.H.Haystack.rest l.rest)

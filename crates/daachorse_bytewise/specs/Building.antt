@@ -1,10 +1,12 @@
 -- What a build of an automaton over bytes promises.
-use Rattle.std.specs.Prelude.{◌≡◌, ℕ, List, Result, Some}
+use Rattle.std.specs.Prelude.{◌≡◌, ℕ, Bool, List, Option, Result, Some}
 use Rattle.daachorse_core.specs.declared.errors.DaachorseError.{DaachorseError}
 use Rattle.daachorse_model.specs.declared.MatchKind.{MatchKind}
 use Rattle.daachorse_model.specs.Dictionary.{dictionary}
 use Rattle.daachorse_model.specs.Units.{byte_width}
 use Rattle.daachorse_patterns.specs.Building.{IsBuildRefusalWithin, IsDictionaryOf, IsRefusalWithin, Limits}
+use Rattle.daachorse_patterns.specs.Filters.{kept_filter as filter_kept}
+use Rattle.daachorse_prefilter.specs.Filters.{Filter}
 use Rattle.daachorse_bytewise.specs.Automata.{Automaton, dictionary_of}
 
 -- 16,777,215 patterns may be kept, and as long as 16,777,214 texts begin longer patterns elements do not run out
@@ -14,6 +16,10 @@ byte_limits = record { patterns = Some 16777215; parents = Some 16777214 }
 -- the automaton holds these patterns with their values, less those that its kind leaves out
 abbrev pub HoldsPatterns : {V : Type 0} → MatchKind → List (List ℕ × V) → Automaton V → Type 0
 HoldsPatterns kind rs a = (w : List ℕ) → dictionary_of a w ≡ dictionary kind rs w
+
+-- the filter that a build keeps: that of all its patterns, those too that the kind leaves out, if it is wanted
+abbrev pub kept_filter : Bool → List (List ℕ) → Option Filter
+kept_filter = filter_kept (λ w. w)
 
 -- why a build of patterns with their values refuses
 abbrev pub IsRefusalOf : {V : Type 0} → MatchKind → List (List ℕ × V) → DaachorseError → Type 0

@@ -5,6 +5,7 @@
 #![tactic(auto)]
 
 mod edges;
+mod filters;
 mod leftmost;
 mod packing;
 mod standard;

@@ -2,6 +2,7 @@ pub mod Automata
 pub mod Building
 pub mod Frequencies
 pub mod WrittenForms
+pub mod ReadForms
 pub use Rattle.daachorse_core.specs.Refusals
 pub use Rattle.daachorse_listing.specs.Listing
 pub use Rattle.daachorse_patterns.specs.Patterns

@@ -32,7 +32,7 @@ module _ (es : List State) (coding : Coding) where
       ap (λ b. b && all_scalars w) (char_code-is coding u code.0 code.1).0 ∙ text_leads w next.0 j next.2
 
 module _ {V : Type 0} (p : Parts V) where
-  child_inside : (i u j : ℕ) → child p i u ≡ Some j → (j < count p) × (u < length p.coding.table)
+  pub child_inside : (i u j : ℕ) → child p i u ≡ Some j → (j < count p) × (u < length p.coding.table)
   child_inside i u j e =
       let code = and_then_inv (λ c. child_among p.states i c) (char_code p.coding u) j e in
       let check : ℕ → ℕ = λ k. check_in (slice_index_or p.states k vacant) in

@@ -1,23 +1,12 @@
 -- Going over a mapper's table one gets the character of each code, since no two characters have the same.
-use Rattle.std.proofs.Common.{◌≡◌, ◌≢◌, ℕ, zero, suc, ◌<◌, ◌==◌, Bool, true, false, List, cond, length, get_or, set, replicate, slice_index, slice_get, Option, Some, None, refl, sym, ap, ◌∙◌, subst, arith}
+use Rattle.std.proofs.Common.{◌≡◌, ◌≢◌, ℕ, zero, suc, ◌<◌, ◌==◌, Bool, true, false, List, cond, length, get_or, set, replicate, Option, Some, None, refl, sym, ap, ◌∙◌, subst, arith}
 use Rattle.std.proofs.Math.Utf8.{scalar}
-use Rattle.std.proofs.lemmas.Option.{same_Some, slice_get-get_or}
+use Rattle.std.proofs.lemmas.Option.{same_Some}
 use Rattle.std.proofs.lemmas.List.{get_or-set_same, get_or-set_other, length-set, length-replicate}
-use Rattle.daachorse_mapper.specs.Codings.{Coding, IsCoding, code_of, entry_code}
+use Rattle.daachorse_mapper.specs.Codings.{Coding, IsCoding, code_of}
 use Rattle.daachorse_charwise_states.specs.Edges.{AreCharacters, character_at}
 use Rattle.daachorse_charwise_states.specs.Parts.{char_code}
 use Rattle.daachorse_charwise_states.proofs.Codes.{char_code-is, char_code-of}
-
--- what an entry of the table says
-module _ (coding : Coding) (table : List ℕ) (same : table ≡ coding.table) (u : ℕ) (less : u < length table) where
-  entry_at : slice_get coding.table u ≡ Some (slice_index table u)
-  entry_at = ap (λ xs. slice_get xs u) (sym same) ∙ slice_get-get_or table u 0 less
-
-  pub code_read : slice_index table u ≢ 4294967295 → code_of coding u ≡ Some (slice_index table u)
-  code_read other = ap entry_code entry_at ∙ (let test : (slice_index table u == 4294967295) ≡ false = grind (arith, other) in ap (λ b. cond {A = Option ℕ} b None (Some (slice_index table u))) test)
-
-  pub none_read : slice_index table u ≡ 4294967295 → code_of coding u ≡ None
-  none_read here = ap entry_code entry_at ∙ (let test : (slice_index table u == 4294967295) ≡ true = grind (arith, here) in ap (λ b. cond {A = Option ℕ} b None (Some (slice_index table u))) test)
 
 -- the character at a code point is the code point
 character_is : (u v : ℕ) → character_at u ≡ Some v → (scalar u ≡ true) × (u ≡ v)

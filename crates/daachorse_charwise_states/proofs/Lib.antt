@@ -10,3 +10,5 @@ pub mod ViewLaws
 pub mod WritingLaws
 pub mod WrittenLaws
 pub mod FormLaws
+pub mod BlockLaws
+pub mod GroupedLaws

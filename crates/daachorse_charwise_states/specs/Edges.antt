@@ -3,6 +3,7 @@ use Rattle.std.specs.Prelude.{◌≡◌, ℕ, ◌<◌, ◌==◌, bit_xor, cond, 
 use Rattle.std.proofs.Math.Utf8.{scalar}
 use Rattle.daachorse_mapper.specs.Codings.{Coding}
 use Rattle.daachorse_charwise_states.specs.Parts.{Parts, base_of, char_code, check_of}
+use Rattle.daachorse_charwise_states.specs.Valid.{AreFew}
 
 -- the character at a code point, if there is one
 abbrev pub character_at : ℕ → Option ℕ
@@ -18,6 +19,11 @@ pub record AreCharacters (coding : Coding) (n : ℕ) (characters : List (Option 
 pub record Lettered (V : Type 0) : Type 0 where
   pub parts : Parts V
   pub characters : List (Option ℕ)
+
+-- The characters are those of the codes, and all lists can be counted. Whether the parts are valid is not said.
+pub record IsLettered {V : Type 0} (a : Lettered V) : Type 0 where
+  pub few : AreFew a.parts
+  pub letters : AreCharacters a.parts.coding (length a.parts.coding.table) a.characters
 
 module _ {V : Type 0} (a : Lettered V) where
   -- the children of an element are a group of their own

@@ -9,3 +9,4 @@ pub mod Views
 pub mod Writing
 pub mod Written
 pub mod PartForms
+pub mod Grouped

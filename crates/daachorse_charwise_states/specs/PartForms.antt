@@ -1,7 +1,6 @@
 -- The written form of an automaton over characters: its parts, and its filter, if it has one. And what bytes give: nothing,
 -- or parts, a filter that there may be, and the bytes behind them.
 use Rattle.std.specs.Prelude.{ℕ, ◌+◌, ◌*◌, ◌<◌, ◌^◌, List, ◌++◌, length, All, Option, Some, None, IfSome, refl}
-use Rattle.std.specs.Int.{w32}
 use Rattle.daachorse_mapper.specs.Codings.{Coding}
 use Rattle.daachorse_mapper.specs.Written.{AreNumbers as AreCodes, IsCountable, coding_form, coding_law, coding_len, take_coding}
 use Rattle.daachorse_prefilter.specs.Filters.{Filter, IsFilter}

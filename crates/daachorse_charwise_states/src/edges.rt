@@ -1,67 +1,122 @@
-//! The elements and their children, as a listing goes over them.
+//! The elements and their children, as a listing goes over them, and the check of parts that were read.
 //!
-//! The layers above may rely on the table of the depths, which [`States::depths`] makes, and on
-//! [`States::pattern_iter`] giving the listing of the dictionary.
+//! The layers above may rely on the table of the depths, which [`States::depths`] makes, on
+//! [`States::pattern_iter`] giving the listing of the dictionary, and on [`Elements`] looking at any elements, valid
+//! or not, with any codes that tell characters apart.
 
-ghost use Rattle.std.specs.Prelude.{◌≡◌, ◌<◌, length, IfSome, IfOk, IfErr};
+ghost use Rattle.std.specs.Prelude.{◌≡◌, ◌<◌, ◌≤◌, ◌-◌, Some, length, slice_get, IfSome, IfOk, IfErr};
+ghost use Rattle.daachorse_core.specs.Outputs.{number};
 ghost use Rattle.daachorse_core.specs.Refusals.{IsOutOfMemory};
 ghost use Rattle.daachorse_listing.specs.Depths.{IsDepthTable};
 ghost use Rattle.daachorse_model.specs.Prefixes.{IsListing};
 ghost use Rattle.daachorse_mapper.specs.Codings.{IsCoding};
-ghost use Rattle.daachorse_charwise_states.specs.Edges.{AreCharacters, character_at, character_of, edge_of};
-ghost use Rattle.daachorse_charwise_states.specs.Parts.{child, content, count};
+ghost use Rattle.daachorse_charwise_states.specs.Edges.{AreCharacters, IsLettered, character_at, character_of, edge_of};
+ghost use Rattle.daachorse_charwise_states.specs.Parts.{base_of, check_of, child, content, count, output_of};
 ghost use Rattle.daachorse_charwise_states.specs.Texts.{AreTexts};
+ghost use Rattle.daachorse_charwise_states.specs.Valid.{AreFew};
+ghost use Rattle.daachorse_charwise_states.specs.Views.{parts_of};
 
+use crate::state::State;
 use crate::states::States;
+use daachorse_checker::array::Array;
 use daachorse_core::errors::Result;
-use daachorse_core::{DEAD_STATE_IDX, Output, ROOT_STATE_IDX};
+use daachorse_core::{DEAD_STATE_IDX, MatchKind, Output, ROOT_STATE_IDX};
 use daachorse_listing::depths::depths;
 use daachorse_listing::edges::Edges;
 use daachorse_listing::patterns::{Outputs, PatternWalk};
 use daachorse_mapper::mapper::{CodeMapper, INVALID_CODE};
 use std::alloc::{Allocator, Global};
 use std::marker::Model;
+use std::num::NonZeroU32;
 
-/// States with the character of each code.
+/// Elements with the character of each code. They may be those of an automaton or any others.
 #[derive(Drop)]
 pub struct Elements<'a, V: Copy, A: Allocator = Global> {
-    states: &'a States<V, A>,
+    pub(crate) kind: MatchKind,
+    states: &'a [State],
+    mapper: &'a CodeMapper<A>,
+    pub(crate) outputs: &'a [Output<V>],
+    pub(crate) num_states: u32,
     // The character of each code, if there is one.
     characters: Vec<Option<char>, A>,
 }
 
 impl<'a, V: Copy, A: Allocator> Model for Elements<'a, V, A> {
-    ghost use Rattle.std.specs.Prelude.{length};
-    ghost use Rattle.daachorse_charwise_states.specs.Edges.{AreCharacters, Lettered};
+    ghost use Rattle.daachorse_charwise_states.specs.Edges.{IsLettered, Lettered};
+    ghost use Rattle.daachorse_charwise_states.specs.Views.{parts_of};
 
     ghost Value = { Lettered V };
 
-    ghost view = { λ s. record { parts = s.states.now; characters = s.characters.items } };
+    ghost view = { λ s. record {
+      parts = parts_of s.kind s.states.now s.mapper.now s.outputs.now s.num_states;
+      characters = s.characters.items;
+    } };
 
-    ghost invariant = { λ s. AreCharacters s.states.now.coding (length s.states.now.coding.table) s.characters.items };
+    ghost invariant = { λ s. IsLettered (record {
+      parts = parts_of s.kind s.states.now s.mapper.now s.outputs.now s.num_states;
+      characters = s.characters.items;
+    }) };
 }
 
 impl<'a, V: Copy, A: Allocator + Copy> Elements<'a, V, A> {
-    /// The elements of these states.
+    /// The elements of these lists.
     ///
     /// # Errors
     ///
     /// An allocation failed.
-    pub(crate) fn new(alloc: A, states: &'a States<V, A>) -> Result<Self>
-        ensures parts { IfOk result (λ elements. elements.parts ≡ states.entry.now) }
-        ensures characters { IfOk result (λ elements. AreCharacters elements.parts.coding (length elements.parts.coding.table) elements.characters) }
+    pub(crate) fn new(
+        alloc: A,
+        kind: MatchKind,
+        states: &'a [State],
+        mapper: &'a CodeMapper<A>,
+        outputs: &'a [Output<V>],
+        num_states: u32,
+    ) -> Result<Self>
+        requires coding { IsCoding mapper.now }
+        requires few { AreFew (parts_of kind states.now mapper.now outputs.now num_states) }
+        ensures parts { IfOk result (λ elements. elements.parts ≡ parts_of kind states.entry.now mapper.entry.now outputs.entry.now num_states) }
+        ensures lettered { IfOk result (λ elements. IsLettered elements) }
         ensures err { IfErr result IsOutOfMemory }
     {
-        // A field is read for what the parts keep.
-        let _num_states = states.num_states;
+        let characters = characters(alloc, mapper)?;
         Ok(Elements {
+            kind,
             states,
-            characters: characters(alloc, states.mapper())?,
+            mapper,
+            outputs,
+            num_states,
+            characters,
         })
     }
 }
 
 impl<'a, V: Copy, A: Allocator> Elements<'a, V, A> {
+    /// The base of an element; `None` also past the last.
+    fn base_at(&self, element: usize) -> Option<NonZeroU32>
+        ensures { number result ≡ base_of self.now.parts element }
+    {
+        self.states.get(element)?.base()
+    }
+
+    /// The check of an element.
+    fn check_at(&self, element: usize) -> usize
+        requires { element < count self.now.parts }
+        ensures { result ≡ check_of self.now.parts element }
+    {
+        let states = self.states;
+        states[element].check() as usize
+    }
+
+    /// The position of an element's first output; 0 if it has none, and past the last.
+    fn output_at(&self, element: usize) -> u32
+        ensures { result ≡ output_of self.now.parts element }
+    {
+        match self.states.get(element) {
+            Some(state) => state.output_pos().map_or(0, NonZeroU32::get),
+            None => 0,
+        }
+    }
+
     /// The character of a code, if there is one.
     fn character(&self, code: usize) -> Option<char>
         ensures { result ≡ character_of self.now code }
@@ -76,8 +131,10 @@ impl<'a, V: Copy, A: Allocator> Elements<'a, V, A> {
         ensures edge { result ≡ edge_of self.now element }
         ensures inside { IfSome result (λ e. (e.0 < count self.now.parts) × (e.1 < length self.now.parts.coding.table)) }
     {
-        let parent = self.states.check_at(element);
-        let base = self.states.base_at(parent)?;
+        // A field is read for what the elements keep.
+        let _num_states = self.num_states;
+        let parent = self.check_at(element);
+        let base = self.base_at(parent)?;
         let character = self.character(base.get() as usize ^ element)?;
         Some((parent, character))
     }
@@ -100,11 +157,11 @@ impl<'a, V: Copy, A: Allocator> Edges for Elements<'a, V, A> {
     ghost edge = { edge_of };
 
     fn num_elements(&self) -> usize {
-        self.states.num_elements()
+        self.states.len()
     }
 
     fn group(&self, element: usize) -> Option<usize> {
-        self.states.base_at(element)?;
+        self.base_at(element)?;
         Some(element)
     }
 
@@ -137,19 +194,57 @@ impl<'a, V: Copy, A: Allocator> Outputs<V> for Elements<'a, V, A> {
     }
 
     fn own_outputs(&self, element: usize) -> (usize, usize) {
-        let first = self.states.output_at(element);
+        let first = self.output_at(element) as usize;
         if element == ROOT_STATE_IDX as usize {
             return (first, 0);
         }
-        let link = self.states.fail_at(element);
-        if link == DEAD_STATE_IDX as usize {
+        let states = self.states;
+        let link = states[element].fail();
+        if link == DEAD_STATE_IDX {
             return (first, 0);
         }
-        (first, self.states.output_at(link))
+        (first, self.output_at(link as usize) as usize)
     }
 
     fn output(&self, position: usize) -> Output<V> {
-        self.states.output(position)
+        let outputs = self.outputs;
+        outputs[position - 1]
+    }
+}
+
+/// A number that is no character takes bytes too, as the definitions have it.
+impl<'a, V: Copy, A: Allocator> Array for Elements<'a, V, A> {
+    ghost use Rattle.daachorse_charwise_states.specs.Parts.{fail_of, output_of};
+    ghost use Rattle.daachorse_model.specs.Units.{char_width};
+
+    ghost fail = { λ a. fail_of a.parts };
+
+    ghost first = { λ a. output_of a.parts };
+
+    ghost width = { λ a. char_width };
+
+    fn num_units(&self) -> usize {
+        self.mapper.table().len()
+    }
+
+    fn fail(&self, element: usize) -> u32 {
+        let states = self.states;
+        states[element].fail()
+    }
+
+    fn first(&self, element: usize) -> u32 {
+        self.output_at(element)
+    }
+
+    fn width(&self, unit: u32) -> usize {
+        // A field is read for what the elements keep.
+        let _ = self.num_states;
+        match unit {
+            0..=0x7f => 1,
+            0x80..=0x7ff => 2,
+            0x800..=0xffff => 3,
+            _ => 4,
+        }
     }
 }
 
@@ -164,9 +259,7 @@ impl<V: Copy, A: Allocator + Copy> States<V, A> {
         ensures ok { IfOk result (λ v. IsDepthTable (child self.now) (length self.now.coding.table) (count self.now) v.items) }
         ensures err { IfErr result IsOutOfMemory }
     {
-        // A field is read for what the parts keep.
-        let _num_states = self.num_states;
-        let elements = Elements::new(alloc, self)?;
+        let elements = self.elements(alloc)?;
         depths(alloc, &elements)
     }
 
@@ -181,9 +274,7 @@ impl<V: Copy, A: Allocator + Copy> States<V, A> {
         ensures texts { IfOk result AreTexts }
         ensures err { IfErr result IsOutOfMemory }
     {
-        // A field is read for what the parts keep.
-        let _num_states = self.num_states;
-        let elements = Elements::new(alloc, self)?;
+        let elements = self.elements(alloc)?;
         PatternWalk::new(alloc, elements)
     }
 }

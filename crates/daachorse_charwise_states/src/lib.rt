@@ -9,4 +9,5 @@ pub mod edges;
 mod packing;
 pub mod state;
 pub mod states;
+mod unchecked;
 pub mod view;

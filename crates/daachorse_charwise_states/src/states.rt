@@ -3,9 +3,8 @@
 //! The layers above may rely on the parts being valid, and on what is built holding just the
 //! dictionary that it was built for.
 
-ghost use Rattle.std.specs.Prelude.{◌≡◌, ◌≢◌, ◌<◌, ◌≤◌, ◌-◌, ◌^◌, ℕ, List, Some, length, slice_get, IfOk, IfErr};
+ghost use Rattle.std.specs.Prelude.{◌≡◌, ◌≢◌, ◌<◌, ◌≤◌, ◌^◌, ℕ, List, length, IfOk, IfErr};
 ghost use Rattle.daachorse_core.specs.declared.errors.Limit.TheVariants.{NumElements};
-ghost use Rattle.daachorse_core.specs.Outputs.{number};
 ghost use Rattle.daachorse_core.specs.Refusals.{IsOutOfMemory, IsRefusal};
 ghost use Rattle.daachorse_model.specs.declared.MatchKind.TheVariants.{Standard};
 ghost use Rattle.daachorse_model.specs.Dictionary.{Dictionary};
@@ -16,11 +15,14 @@ ghost use Rattle.daachorse_build.specs.Builders.{states_of};
 ghost use Rattle.daachorse_build.specs.Groups.{IsProfileOf};
 ghost use Rattle.daachorse_mapper.specs.Codings.{IsCoding};
 ghost use Rattle.daachorse_mapper.specs.Written.{IsCountable};
+ghost use Rattle.daachorse_charwise_states.specs.Edges.{IsLettered};
 ghost use Rattle.daachorse_charwise_states.specs.Packing.{AreCoded, IsBuiltFor, NeedsManyBlocks};
-ghost use Rattle.daachorse_charwise_states.specs.Parts.{base_of, check_of, child, content, count, fail_of, output_of};
+ghost use Rattle.daachorse_charwise_states.specs.Parts.{child, content, count};
+ghost use Rattle.daachorse_charwise_states.specs.Valid.{IsValid};
 
 mod form;
 
+use crate::edges::Elements;
 use crate::packing::pack;
 use crate::state::State;
 use crate::view::{Leftmost, Searches, Standard, View};
@@ -32,7 +34,6 @@ use daachorse_placement::build_helper::Profile;
 use std::alloc::{Allocator, Global};
 use std::hash::{Hash, Hasher};
 use std::marker::Model;
-use std::num::NonZeroU32;
 
 /// The states and the outputs of an automaton over characters, with values of type `V`.
 #[derive(Drop)]
@@ -41,7 +42,7 @@ pub struct States<V: Copy, A: Allocator = Global> {
     states: Vec<State, A>,
     mapper: CodeMapper<A>,
     outputs: Vec<Output<V>, A>,
-    pub(crate) num_states: u32,
+    num_states: u32,
 }
 
 impl<V: Copy, A: Allocator> Model for States<V, A> {
@@ -128,53 +129,6 @@ impl<V: Copy, A: Allocator> States<V, A> {
         self.states.len()
     }
 
-    /// The base of an element; `None` also past the last.
-    #[inline(always)]
-    pub(crate) fn base_at(&self, element: usize) -> Option<NonZeroU32>
-        ensures { number result ≡ base_of self.now element }
-    {
-        self.states.get(element)?.base()
-    }
-
-    /// The check of an element.
-    #[inline(always)]
-    pub(crate) fn check_at(&self, element: usize) -> usize
-        requires { element < count self.now }
-        ensures { result ≡ check_of self.now element }
-    {
-        self.states[element].check() as usize
-    }
-
-    /// The failure link of an element, which is an element.
-    #[inline(always)]
-    pub(crate) fn fail_at(&self, element: usize) -> usize
-        requires { element < count self.now }
-        ensures value { result ≡ fail_of self.now element }
-        ensures inside { result < count self.now }
-    {
-        self.states[element].fail() as usize
-    }
-
-    /// The position of an element's first output; 0 if it has none.
-    #[inline(always)]
-    pub(crate) fn output_at(&self, element: usize) -> usize
-        requires { element < count self.now }
-        ensures { result ≡ output_of self.now element }
-    {
-        let position = self.states[element].output_pos();
-        position.map_or(0, NonZeroU32::get) as usize
-    }
-
-    /// The output at a position.
-    #[inline(always)]
-    pub(crate) fn output(&self, position: usize) -> Output<V>
-        requires some { 0 < position }
-        requires inside { position ≤ length self.now.outputs }
-        ensures { slice_get self.now.outputs (position - 1) ≡ Some result }
-    {
-        self.outputs[position - 1]
-    }
-
     /// How many texts begin a pattern, the empty one among them.
     #[inline(always)]
     pub fn num_states(&self) -> u32
@@ -228,6 +182,28 @@ impl<V: Copy, A: Allocator> States<V, A> {
 }
 
 impl<V: Copy, A: Allocator + Copy> States<V, A> {
+    /// The elements, with the character of each code.
+    ///
+    /// # Errors
+    ///
+    /// An allocation failed.
+    pub(crate) fn elements(&self, alloc: A) -> Result<Elements<'_, V, A>>
+        ensures parts { IfOk result (λ elements. elements.parts ≡ self.entry.now) }
+        ensures lettered { IfOk result (λ elements. IsLettered elements) }
+        ensures valid { IfOk result (λ elements. IsValid elements.parts) }
+        ensures few { IfOk result (λ elements. elements.parts.num_states < 2 ^ 32) }
+        ensures err { IfErr result IsOutOfMemory }
+    {
+        Elements::new(
+            alloc,
+            self.kind,
+            &self.states,
+            &self.mapper,
+            &self.outputs,
+            self.num_states,
+        )
+    }
+
     /// The same states, in memory of their own.
     ///
     /// # Errors

@@ -11,3 +11,5 @@ pub mod LeafLaws
 pub mod LinkPlaces
 pub mod ChainedLaws
 pub mod CheckedLaws
+pub mod FilterLaws
+pub mod KeyLaws

@@ -4,3 +4,4 @@ pub mod Links
 pub mod Sizes
 pub mod Chains
 pub mod Sound
+pub mod Filters

@@ -12,7 +12,7 @@ use Rattle.daachorse_core.specs.Outputs.{value_of, length_of, parent_of, Parents
 use Rattle.daachorse_model.specs.Units.{same_text, size}
 use Rattle.daachorse_model.specs.Dictionary.{values_of}
 use Rattle.daachorse_model.specs.Paths.{walk}
-use Rattle.daachorse_model.specs.Prefixes.{IsListing}
+use Rattle.daachorse_model.specs.Prefixes.{IsListing, is_key}
 use Rattle.daachorse_model.proofs.Booleans.{either}
 use Rattle.daachorse_model.proofs.Listings.{order, order-same, IsAtMostFirst, Sorted, sorted-cons}
 use Rattle.daachorse_machine.specs.Machines.{Machine, own_next, own_step, own_from, own, values_at, content, IsMachine}
@@ -84,6 +84,26 @@ module _ {V : Type 0} (outputs : List (Output V)) (falls : ParentsFall outputs) 
 
   pub own-until : (n p stop : ℕ) → (own_from outputs p n p).1 ≡ stop → values_until outputs stop p ≡ (own_from outputs p n p).0
   own-until n p stop e = (own-values p n p (omega arith)).1 stop e
+
+  -- there are own values exactly where the chain begins before their end
+  pub own-any : (n p stop : ℕ) → (own_from outputs p n p).1 ≡ stop → cond (p == stop) false true ≡ is_key (λ (_ : List ℕ). (own_from outputs p n p).0) []
+  own-any n zero stop e = let test : (zero == stop) ≡ true = grind (arith, e) in ap (λ b. cond b false true) test
+  own-any n (suc q) stop e = go (slice_get outputs q) refl e
+    where
+      go : (o : Option (Output V)) → slice_get outputs q ≡ o → (own_step outputs o n q (λ r. own_from outputs q n r)).1 ≡ stop
+          → cond (suc q == stop) false true ≡ is_key (λ (_ : List ℕ). (own_step outputs o n q (λ r. own_from outputs q n r)).0) []
+      go None is e = let test : (suc q == stop) ≡ true = grind (arith, e) in ap (λ b. cond b false true) test
+      go (Some o) is e = at (length_of o == n) e
+        where
+          at : (b : Bool) → (own_next outputs b o q (own_from outputs q n (parent_of o))).1 ≡ stop
+              → cond (suc q == stop) false true ≡ is_key (λ (_ : List ℕ). (own_next outputs b o q (own_from outputs q n (parent_of o))).0) []
+          at false e = let test : (suc q == stop) ≡ true = grind (arith, e) in ap (λ b. cond b false true) test
+          at true e =
+              let low : parent_of o ≤ q = falls q o is in
+              let below = (own-values q n (parent_of o) low).0 in
+              let other : suc q ≢ stop = omega (arith, low, below, e) in
+              let test : (suc q == stop) ≡ false = grind (arith, other) in
+              ap (λ b. cond b false true) test
 
 -- ---- entries
 

@@ -1,13 +1,15 @@
 -- What a walk over the patterns of a right machine gives is the listing of its dictionary: an element's own outputs end where its chain goes on.
 use Rattle.std.proofs.Common.{◌≡◌, ◌≢◌, ℕ, ◌<◌, ◌==◌, Bool, false, cond, List, [], ◌∷◌, Option, refl, sym, ap, ◌∙◌, arith, subst}
+use Rattle.std.proofs.lemmas.Option.{same_Some}
 use Rattle.daachorse_model.specs.Paths.{walk, Leads}
-use Rattle.daachorse_model.specs.Prefixes.{IsListing}
-use Rattle.daachorse_machine.specs.Machines.{Machine, IsCounted, IsMachine, content, own}
+use Rattle.daachorse_model.specs.Prefixes.{IsListing, is_key}
+use Rattle.daachorse_model.specs.Units.{size}
+use Rattle.daachorse_machine.specs.Machines.{Machine, IsCounted, IsMachine, content, own, values_at}
 use Rattle.daachorse_machine.specs.Texts.{IsReached, text_of}
-use Rattle.daachorse_machine.proofs.MachineLaws.{root-text, text-root}
+use Rattle.daachorse_machine.proofs.MachineLaws.{Reached-Leads, root-text, text-Leads, text-root}
 use Rattle.daachorse_listing.specs.Edges.{TellChildren}
-use Rattle.daachorse_listing.specs.Listing.{HasPatterns, IsPatterns, own_end}
-use Rattle.daachorse_listing.proofs.ListingLaws.{listing-is}
+use Rattle.daachorse_listing.specs.Listing.{HasPatterns, IsPatterns, has_own, own_end}
+use Rattle.daachorse_listing.proofs.ListingLaws.{listing-is, own-any}
 use Rattle.daachorse_listing.proofs.MachineTrees.{machine_tree}
 
 module _ {V : Type 0} (width : ℕ → ℕ) (a : Machine V) (leftmost : Bool) (n m : ℕ) (machine : IsMachine width a leftmost n m) where
@@ -31,6 +33,20 @@ module _ {V : Type 0} (width : ℕ → ℕ) (a : Machine V) (leftmost : Bool) (n
           let other : i ≢ 0 = λ root. (let none : [] ≡ u ∷ w = sym (text-root width a leftmost n m machine i root) ∙ e in cc) in
           let test : (i == 0) ≡ false = grind (arith, other) in
           machine.right.chains u i w leads ∙ sym (ap (λ b. cond b 0 (cond (a.fail i == 1) 0 (a.output (a.fail i)))) test)
+
+  -- whether the text of an element is a key, by its positions
+  pub key_at : (i : ℕ) (w : List ℕ) → Leads a.child w i → has_own a i ≡ is_key (content width a) w
+  key_at i [] leads =
+      let root : 0 ≡ i = same_Some 0 i leads in
+      let end : (own width a [] i).1 ≡ own_end a i = ap (λ k. (own width a [] k).1) (sym root) ∙ (machine.right.root_chain ∙ ap (own_end a) root) in
+      own-any a.outputs machine.parents_fall (size width []) (a.output i) (own_end a i) end
+      ∙ sym (ap (λ o. is_key (λ (_ : List ℕ). values_at width a [] o) []) leads)
+  key_at i (u ∷ w) leads =
+      let text : text_of a.child m n i ≡ u ∷ w = text-Leads width a leftmost n m machine (u ∷ w) i leads in
+      let reached : IsReached a.child m n i = Reached-Leads width a leftmost n m machine (u ∷ w) i leads in
+      let end : (own width a (u ∷ w) i).1 ≡ own_end a i = ap (λ v. (own width a v i).1) (sym text) ∙ ends i reached in
+      own-any a.outputs machine.parents_fall (size width (u ∷ w)) (a.output i) (own_end a i) end
+      ∙ sym (ap (λ o. is_key (λ (_ : List ℕ). values_at width a (u ∷ w) o) []) leads)
 
   pub machine_listing : (entries : List (List ℕ × V)) → IsPatterns a.child n m a.outputs a.output (own_end a) entries → IsListing (content width a) entries
   machine_listing entries (taken, parents, depths, listed, is) =

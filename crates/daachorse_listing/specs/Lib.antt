@@ -3,5 +3,6 @@ pub mod Edges
 pub mod Trees
 pub mod Depths
 pub mod Automata
+pub mod Kept
 pub mod Listing
 pub mod EqualOutputs

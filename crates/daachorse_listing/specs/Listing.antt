@@ -1,5 +1,5 @@
 -- The patterns of a tree with outputs: of each element, in the order of the texts, its text with the values of its own outputs.
-use Rattle.std.specs.Prelude.{◌≡◌, ℕ, zero, suc, ◌≤◌, ◌<◌, ◌==◌, cond, List, [], ◌∷◌, ◌++◌, drop, flat_map, length, map, slice_get, Option, Some, None, ◌≢◌, Result, MatchOption, MatchResult}
+use Rattle.std.specs.Prelude.{◌≡◌, ℕ, zero, suc, ◌≤◌, ◌<◌, ◌==◌, Bool, true, false, cond, List, [], ◌∷◌, ◌++◌, drop, flat_map, length, map, slice_get, Option, Some, None, ◌≢◌, Result, MatchOption, MatchResult}
 use Rattle.daachorse_core.specs.declared.errors.DaachorseError.{DaachorseError}
 use Rattle.daachorse_core.specs.Refusals.{IsOutOfMemory}
 use Rattle.daachorse_core.specs.declared.outputs.Output.{Output}
@@ -40,6 +40,10 @@ patterns_of text outputs first stop order = flat_map (λ i. with_values (text i)
 -- the position where an element's own outputs end in a machine: that of its link, and 0 for the root and behind a dead link
 abbrev pub own_end : {V : Type 0} → Machine V → ℕ → ℕ
 own_end a i = cond (i == 0) 0 (cond (a.fail i == 1) 0 (a.output (a.fail i)))
+
+-- an element has outputs of its own: its chain begins before they end
+abbrev pub has_own : {V : Type 0} → Machine V → ℕ → Bool
+has_own a i = cond (a.output i == own_end a i) false true
 
 -- What a listing goes over: a tree whose n elements have outputs.
 pub record HasPatterns {V : Type 0} (child : ℕ → ℕ → Option ℕ) (group : ℕ → Option ℕ) (edge : ℕ → Option (ℕ × ℕ)) (n m : ℕ) (outputs : List (Output V)) (first : ℕ → ℕ) : Type 0 where

@@ -1,2 +1,4 @@
 pub mod Coded
 pub mod Ranking
+pub mod Entries
+pub mod Taken

@@ -3,7 +3,7 @@
 //! The layers above may rely on what a mapper made of frequencies codes, and in what order, on a
 //! mapper that was read being any table and any size, and on the law of its written form.
 
-ghost use Rattle.std.specs.Prelude.{◌≡◌, ◌≢◌, ℕ, ◌<◌, ◌^◌, ◌==◌, ◌++◌, max, length, slice_get, slice_index, IfOk, IfErr, MatchOption};
+ghost use Rattle.std.specs.Prelude.{◌≡◌, ◌≢◌, ℕ, ◌<◌, ◌^◌, ◌==◌, ◌++◌, max, length, slice_get, slice_index, true, false, IfOk, IfErr, MatchOption};
 ghost use Rattle.std.specs.Int.{IsNextPowerOfTwo};
 ghost use Rattle.std.specs.Cmp.Lexicographic.{pointwise};
 ghost use Rattle.std.specs.Cmp.Rules.{comparing, hashing};
@@ -11,9 +11,9 @@ ghost use Rattle.std.specs.Hash as fed;
 ghost use Rattle.std.specs.Ordering.{on, eq_of_both};
 ghost use Rattle.std.proofs.Common.{rules};
 ghost use Rattle.daachorse_core.specs.Refusals.{IsOutOfMemory};
-ghost use Rattle.daachorse_mapper.specs.Codings.{Coding, IsCodingOf, code_of, entry_code};
+ghost use Rattle.daachorse_mapper.specs.Codings.{Coding, IsCoding, IsCodingOf, code_of, entry_code};
 ghost use Rattle.daachorse_mapper.specs.Ranks.{AreApart, AreRanked, IsFilled, index_at, used_in};
-ghost use Rattle.daachorse_mapper.specs.Written.{AreNumbers, IsCountable, coding_form, coding_law, coding_len, take_coding};
+ghost use Rattle.daachorse_mapper.specs.Written.{AreNumbers, IsCountable, coding_form, coding_law, coding_len, coding_of, take_coding};
 
 use daachorse_core::errors::Result;
 use daachorse_serializer::serializer::{Serializable, SerializableVec};
@@ -107,6 +107,22 @@ impl<A: Allocator> CodeMapper<A> {
     {
         &self.table
     }
+
+    /// Whether the codes are distinct and below the size of the alphabet, as those of a mapper made
+    /// of frequencies are. Those of one that was read may be any numbers.
+    ///
+    /// It takes a byte for each number below the size of the alphabet.
+    ///
+    /// # Errors
+    ///
+    /// An allocation failed.
+    pub fn is_coding<B: Allocator>(&self, alloc: B) -> Result<bool>
+        ensures yes { IfOk result (λ right. right ≡ true → IsCoding self.now) }
+        ensures no { IfOk result (λ right. right ≡ false → IsCoding self.now → ⊥) }
+        ensures err { IfErr result IsOutOfMemory }
+    {
+        are_codes(alloc, &self.table, self.alphabet_size)
+    }
 }
 
 impl<A: Allocator> PartialEq for CodeMapper<A> {
@@ -178,6 +194,29 @@ impl<A: Allocator> SerializableVec for CodeMapper<A> {
     }
 
     ghost law = { coding_law };
+}
+
+/// Whether the codes of a table are distinct and below the size of an alphabet.
+///
+/// Each number below that size takes a byte.
+fn are_codes<A: Allocator>(alloc: A, table: &[u32], alphabet_size: u32) -> Result<bool>
+    ensures yes { IfOk result (λ right. right ≡ true → IsCoding (coding_of (table.now, alphabet_size))) }
+    ensures no { IfOk result (λ right. right ≡ false → IsCoding (coding_of (table.now, alphabet_size)) → ⊥) }
+    ensures err { IfErr result IsOutOfMemory }
+{
+    let mut taken = vec![in alloc; false; alphabet_size as usize]?;
+    for &code in table {
+        if code != INVALID_CODE {
+            if code >= alphabet_size {
+                return Ok(false);
+            }
+            if taken[code as usize] {
+                return Ok(false);
+            }
+            taken[code as usize] = true;
+        }
+    }
+    Ok(true)
 }
 
 /// The code of a character in a mapper's table, if it has one.

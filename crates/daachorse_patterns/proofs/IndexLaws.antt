@@ -1,5 +1,5 @@
 -- Items with the values of their indexes, one by one, and by their texts.
-use Rattle.std.proofs.Common.{◌≡◌, ℕ, ◌+◌, ◌⊎◌, List, [], ◌∷◌, ◌++◌, length, map, refl, sym, ap, subst, arith, inl, inr}
+use Rattle.std.proofs.Common.{◌≡◌, ℕ, ◌+◌, ◌⊎◌, List, [], ◌∷◌, ◌++◌, length, map, refl, sym, ap, ◌∙◌, subst, arith, inl, inr}
 use Rattle.std.specs.Prelude.{Result, Ok}
 use Rattle.std.proofs.lemmas.List.{length-map}
 use Rattle.daachorse_core.specs.Refusals.{IsOutOfMemory}
@@ -23,6 +23,13 @@ module _ {V E : Type 0} (gives : ℕ → Result V E → Type 0) where
   AreIndexed-texts units i [] (r ∷ rs) was = absurd was
   AreIndexed-texts units i (t ∷ ts) [] was = absurd was
   AreIndexed-texts units i (t ∷ ts) (r ∷ rs) was = (ap units was.0, was.1, AreIndexed-texts units (i + 1) ts rs was.2)
+
+  -- what the items are with their values
+  pub AreIndexed-map : {P T : Type 0} (f : P → T) (i : ℕ) (ts : List P) (rs : List (P × V)) → AreIndexed gives i ts rs → map (λ r. f r.0) rs ≡ map f ts
+  AreIndexed-map f i [] [] was = refl
+  AreIndexed-map f i [] (r ∷ rs) was = absurd was
+  AreIndexed-map f i (t ∷ ts) [] was = absurd was
+  AreIndexed-map f i (t ∷ ts) (r ∷ rs) was = ap (λ x. f x ∷ map (λ r. f r.0) rs) was.0 ∙ ap (λ l. f t ∷ l) (AreIndexed-map f (i + 1) ts rs was.2)
 
   -- why the values are refused is why the build is
   pub values_refused : {P : Type 0} (units : P → List ℕ) (width : ℕ → ℕ) (limits : Limits) (kind : MatchKind) (ts : List P) (e : DaachorseError) → IsOutOfMemory e ⊎ ((e ≡ InvalidConversion (record {})) × HasNoValue gives ts) → IsBuildRefusalWithin gives width limits kind (map units ts) e

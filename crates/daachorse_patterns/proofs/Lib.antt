@@ -3,3 +3,4 @@ pub mod BuiltLaws
 pub mod RefusalLaws
 pub mod IndexLaws
 pub mod LinksBack
+pub mod FilterLaws

@@ -3,3 +3,4 @@ pub mod Tries
 pub mod Patterns
 pub mod Building
 pub mod Documents
+pub mod Filters

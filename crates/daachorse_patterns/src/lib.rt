@@ -7,6 +7,7 @@
 #![tactic(auto)]
 
 pub mod corpus;
+pub mod filter;
 pub mod gathering;
 pub mod pattern;
 pub mod settings;

@@ -1,6 +1,7 @@
 //! Patterns of an automaton.
 //!
-//! The layers above may rely on the labels of a pattern being those of its units.
+//! The layers above may rely on the labels of a pattern being those of its units, and on its bytes
+//! being those of the text of its units.
 
 ghost use Rattle.std.specs.Prelude.{◌≡◌, ℕ, List, IfOk, IfErr, map};
 ghost use Rattle.daachorse_core.specs.Refusals.{IsOutOfMemory};
@@ -14,6 +15,9 @@ pub trait Pattern<L: EdgeLabel>: Copy {
     /// The units of the pattern.
     ghost units: { Self → List ℕ };
 
+    /// The bytes of a text of units.
+    ghost spell: { List ℕ → List ℕ };
+
     /// The labels of the pattern. They may be put into the buffer, which loses what it held.
     ///
     /// # Errors
@@ -22,21 +26,34 @@ pub trait Pattern<L: EdgeLabel>: Copy {
     fn labels<'b, A: Allocator>(&'b self, buffer: &'b mut Vec<L, A>) -> Result<&'b [L]>
         ensures ok { IfOk result (λ labels. map L.unit labels.now ≡ units self.now) }
         ensures err { IfErr result IsOutOfMemory };
+
+    /// The bytes of the pattern.
+    fn bytes(&self) -> &[u8]
+        ensures { result.now ≡ spell (units self.now) };
 }
 
 impl<'p> Pattern<u8> for &'p [u8] {
     ghost units = { λ p. p.now };
 
+    ghost spell = { λ w. w };
+
     /// The bytes themselves; the buffer stays as it is.
     fn labels<'b, A: Allocator>(&'b self, _buffer: &'b mut Vec<u8, A>) -> Result<&'b [u8]> {
         Ok(*self)
     }
+
+    fn bytes(&self) -> &[u8] {
+        *self
+    }
 }
 
 impl<'p> Pattern<char> for &'p str {
+    ghost use Rattle.std.specs.Prelude.{encode_utf8_all};
     ghost use Rattle.std.specs.Str.{chars};
 
     ghost units = { λ p. chars p.now };
+
+    ghost spell = { encode_utf8_all };
 
     /// The characters, which are put into the buffer.
     fn labels<'b, A: Allocator>(&'b self, buffer: &'b mut Vec<char, A>) -> Result<&'b [char]> {
@@ -45,5 +62,9 @@ impl<'p> Pattern<char> for &'p str {
             buffer.push(character)?;
         }
         Ok(buffer.as_slice())
+    }
+
+    fn bytes(&self) -> &[u8] {
+        self.as_bytes()
     }
 }

@@ -9,3 +9,5 @@ pub mod Boundaries
 pub mod GateSteps
 pub mod Skipping
 pub mod Counting
+pub mod WindowLaws
+pub mod KeyLaws

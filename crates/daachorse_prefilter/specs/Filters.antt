@@ -1,7 +1,9 @@
 -- What callers see of a filter: how long its window is, and its entry for each pair of bytes.
-use Rattle.std.specs.Prelude.{◌≡◌, ℕ, ◌<◌, ◌≤◌, Bool, true, false, List, length, drop, All, slice_index}
+use Rattle.std.specs.Prelude.{◌≡◌, ℕ, ◌<◌, ◌≤◌, Bool, true, false, List, length, drop, All, slice_index, Option, IfSome}
 use Rattle.std.specs.Str.{IsCharBoundary}
+use Rattle.daachorse_model.specs.Dictionary.{Dictionary}
 use Rattle.daachorse_model.specs.Filter.{passes, next_position}
+use Rattle.daachorse_model.specs.Prefixes.{IsKey}
 
 pub record Filter : Type 0 where
   pub window : ℕ
@@ -28,6 +30,10 @@ pub record IsFilter (f : Filter) : Type 0 where
 -- the filter passes at the beginning of each pattern, which is at least as long as the window
 abbrev pub IsSoundFor : Filter → List (List ℕ) → Type 0
 IsSoundFor f patterns = All (λ p. admits f p ≡ true) patterns
+
+-- the filter, if there is one, passes at the beginning of each key: `spell` gives the bytes of a text
+abbrev pub PassesKeys : {V : Type 0} → (List ℕ → List ℕ) → Dictionary V → Option Filter → Type 0
+PassesKeys spell K filter = IfSome filter (λ f. (k : List ℕ) → IsKey K k → admits f (spell k) ≡ true)
 
 -- r is the first boundary of the text's characters from a place on at which the filter passes, or the end
 pub record IsNextBoundary (f : Filter) (text : List ℕ) (from r : ℕ) : Type 0 where

@@ -3,3 +3,5 @@ pub mod Building
 pub mod Builders
 pub mod Gates
 pub mod FilterForms
+pub mod Windows
+pub mod Equality

@@ -6,19 +6,18 @@
 //! its patterns, on [`Prefilter::next_position`] being the first place that passes, and on a gate
 //! that closes by what was recorded alone.
 
-ghost use Rattle.std.specs.Prelude.{◌≡◌, ◌==◌, ◌++◌, ℕ, ◌<◌, ◌≤◌, List, length, drop, true, IfOk, IfErr, slice_index};
-ghost use Rattle.std.specs.Cmp.Lexicographic.{pointwise};
+ghost use Rattle.std.specs.Prelude.{◌≡◌, ◌++◌, ℕ, ◌<◌, ◌≤◌, List, length, drop, true, IfOk, IfErr, slice_index};
 ghost use Rattle.std.specs.Cmp.Rules.{comparing, hashing};
-ghost use Rattle.std.specs.Hash as fed;
-ghost use Rattle.std.specs.Ordering.{on, eq_of_both};
 ghost use Rattle.std.proofs.Common.{rules};
 ghost use Rattle.daachorse_core.specs.Refusals.{IsOutOfMemory};
 ghost use Rattle.daachorse_model.specs.Filter.{next_position};
+ghost use Rattle.daachorse_prefilter.specs.Equality.{filter_eq, filter_input};
 ghost use Rattle.daachorse_prefilter.specs.Filters.{Filter, IsFilter, IsNextBoundary, admits, next_place};
 
 mod builder;
 mod form;
 mod gate;
+mod window;
 
 pub use builder::PrefilterBuilder;
 use daachorse_core::errors::Result;
@@ -26,6 +25,7 @@ pub use gate::PrefilterGate;
 use std::alloc::{Allocator, Global};
 use std::hash::{Hash, Hasher};
 use std::marker::Model;
+pub use window::Window;
 
 /// How many pairs of bytes there are.
 const NUM_PAIRS: usize = 65536;
@@ -99,8 +99,21 @@ impl<A: Allocator + Copy> Prefilter<A> {
     }
 }
 
+/// The same filter, if there is one.
+pub fn clone_filter<A: Allocator + Copy>(
+    filter: &Option<Prefilter<A>>,
+) -> Result<Option<Prefilter<A>>>
+    ensures same { IfOk result (λ copy. copy ≡ filter.now) }
+    ensures refused { IfErr result IsOutOfMemory }
+{
+    match filter {
+        Some(filter) => Ok(Some(filter.clone()?)),
+        None => Ok(None),
+    }
+}
+
 impl<A: Allocator> PartialEq for Prefilter<A> {
-    ghost eq = { eq_of_both (on (λ f. f.window) ◌==◌) (on (λ f. f.entries) (pointwise ◌==◌)) };
+    ghost eq = { filter_eq };
 
     ghost laws = { Prim.search (comparing, rules) depth 9 };
 
@@ -114,7 +127,7 @@ impl<A: Allocator> Eq for Prefilter<A> {
 }
 
 impl<A: Allocator> Hash for Prefilter<A> {
-    ghost hash_input = { λ f. fed.u8 f.window ++ fed.slice fed.u8 f.entries };
+    ghost hash_input = { filter_input };
 
     ghost respects_eq = { Prim.search (hashing, rules) };
 

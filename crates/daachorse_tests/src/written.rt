@@ -1,9 +1,9 @@
 //! Automata written, by tables of bytes, and read back.
 
-use crate::automata::{KINDS, bytewise, charwise, read_back, read_back_charwise};
-use crate::expect;
+use crate::automata::{Bytewise, KINDS, bytewise, charwise, read_back, read_back_charwise};
+use crate::{expect, hash_of};
 use daachorse::errors::DaachorseError;
-use daachorse::{DoubleArrayAhoCorasick, MatchKind, Result};
+use daachorse::{DoubleArrayAhoCorasick, DoubleArrayAhoCorasickBuilder, MatchKind, Result};
 use std::alloc::{AllocError, Global};
 use std::test::Fail;
 
@@ -108,11 +108,63 @@ fn no_characters_have_their_bytes(rt: HostRuntime) -> Result<(), Fail> {
     Ok(())
 }
 
+/// An automaton over bytes of two words, with a filter if it is wanted.
+fn words(alloc: Global, filtered: bool) -> Result<Bytewise<Global>> {
+    DoubleArrayAhoCorasickBuilder::new()
+        .use_prefilter(filtered)
+        .build(alloc, [b"aria".as_slice(), b"iris"])
+}
+
 #[test]
-fn elements_and_outputs_take_their_bytes(rt: HostRuntime) -> Result<(), Fail> {
-    let pair = [(b"aria".as_slice(), 0), (b"iris", 1)];
-    let bytes = bytewise(rt.alloc(), MatchKind::Standard, &pair)?.serialize(rt.alloc())?;
-    expect(&rt, bytes.len() == 3118, "of two words");
+fn elements_outputs_and_filter_take_their_bytes(rt: HostRuntime) -> Result<(), Fail> {
+    let plain = words(rt.alloc(), false)?.serialize(rt.alloc())?;
+    expect(&rt, plain.len() == 3118, "without a filter");
+    let filtered = words(rt.alloc(), true)?.serialize(rt.alloc())?;
+    expect(&rt, filtered.len() == 68655, "with a filter");
+    Ok(())
+}
+
+#[test]
+fn equality_and_hash_look_at_the_filter(rt: HostRuntime) -> Result<(), Fail> {
+    let plain = words(rt.alloc(), false)?;
+    let filtered = words(rt.alloc(), true)?;
+    expect(&rt, plain != filtered, "equality");
+    expect(&rt, hash_of(&plain) != hash_of(&filtered), "hash");
+    expect(&rt, filtered.clone()? == filtered, "clone");
+    Ok(())
+}
+
+/// A byte of the two words with their filter that is changed, what to, and whether that is read.
+const FILTER_CHANGES: [(usize, u8, bool); 7] = [
+    (28065, 255, false), // The entry of a and r, which begin a word.
+    (28065, 0, true),
+    (3118, 5, false), // The length of the window, 4.
+    (3118, 3, true),
+    (3118, 1, false),
+    (3118, 10, false),
+    (3117, 2, false), // Whether there is a filter.
+];
+
+/// Whether the two words with a byte changed are read, with another filter.
+fn is_read_changed(alloc: Global, place: usize, value: u8) -> Result<bool> {
+    let automaton = words(alloc, true)?;
+    let mut bytes = automaton.serialize(alloc)?;
+    if let Some(byte) = bytes.get_mut(place) {
+        *byte = value;
+    }
+    match DoubleArrayAhoCorasick::<u32>::deserialize(alloc, &bytes) {
+        Ok((read, _rest)) => Ok(read != automaton),
+        Err(DaachorseError::InvalidAutomaton(_)) => Ok(false),
+        Err(error) => Err(error),
+    }
+}
+
+#[test]
+fn a_filter_is_read_where_it_passes_at_each_pattern(rt: HostRuntime) -> Result<(), Fail> {
+    for (place, value, is_read) in FILTER_CHANGES {
+        let read = is_read_changed(rt.alloc(), place, value)?;
+        expect(&rt, read == is_read, "a change of the filter");
+    }
     Ok(())
 }
 

@@ -5,7 +5,7 @@
 //! patterns are added in order, and the limit on their number is tested last; the first refusal
 //! ends the build.
 
-ghost use Rattle.std.specs.Prelude.{◌≡◌, ◌⊎◌, [], length, IfOk, IfErr, IsSomeAnd, map};
+ghost use Rattle.std.specs.Prelude.{◌≡◌, ◌⊎◌, true, [], length, IfOk, IfErr, IsSomeAnd, map};
 ghost use Rattle.std.specs.Iterator.{IsFinite};
 ghost use Rattle.std.specs.Iterator.Runs.{WholeRun};
 ghost use Rattle.std.specs.Ordering.{nat_cmp};
@@ -17,7 +17,7 @@ ghost use Rattle.daachorse_patterns.specs.Documents.{documents_of};
 ghost use Rattle.daachorse_model.specs.declared.MatchKind.TheVariants.{Standard};
 ghost use Rattle.daachorse_model.specs.Dictionary.{registered};
 ghost use Rattle.daachorse_bytewise.specs.Automata.{kind_of};
-ghost use Rattle.daachorse_bytewise.specs.Building.{HoldsPatterns, IsBuildRefusal, IsBuiltOf, IsRefusalOf};
+ghost use Rattle.daachorse_bytewise.specs.Building.{HoldsPatterns, IsBuildRefusal, IsBuiltOf, IsRefusalOf, kept_filter};
 
 use crate::bytewise::DoubleArrayAhoCorasick;
 use crate::bytewise::states::States;
@@ -25,6 +25,7 @@ use daachorse_build::nfa_builder::NfaBuilder;
 use daachorse_core::MatchKind;
 use daachorse_core::errors::Result;
 use daachorse_patterns::corpus::Corpus;
+use daachorse_patterns::filter::build_filter;
 use daachorse_patterns::gathering::{gather, indexed};
 use daachorse_patterns::settings::Settings;
 use daachorse_patterns::trie::build_trie;
@@ -53,10 +54,10 @@ impl<A: Allocator> Model for DoubleArrayAhoCorasickBuilder<A> {
 }
 
 impl<A: Allocator> Default for DoubleArrayAhoCorasickBuilder<A> {
-    ghost use Rattle.std.specs.Prelude.{◌≡◌};
+    ghost use Rattle.std.specs.Prelude.{◌≡◌, true};
     ghost use Rattle.daachorse_model.specs.declared.MatchKind.TheVariants.{Standard};
 
-    ghost is_default = { λ b. b.match_kind ≡ Standard };
+    ghost is_default = { λ b. (b.match_kind ≡ Standard) × (b.use_prefilter ≡ true) };
 
     /// Makes the builder that [`DoubleArrayAhoCorasickBuilder::new`] makes.
     fn default() -> Self {
@@ -65,9 +66,10 @@ impl<A: Allocator> Default for DoubleArrayAhoCorasickBuilder<A> {
 }
 
 impl<A: Allocator> DoubleArrayAhoCorasickBuilder<A> {
-    /// Makes a builder of automata for the standard searches.
+    /// Makes a builder of automata for the standard searches, with a filter.
     pub fn new() -> Self
-        ensures { result.match_kind ≡ Standard }
+        ensures kind { result.match_kind ≡ Standard }
+        ensures filter { result.use_prefilter ≡ true }
     {
         Self {
             settings: Settings::new(),
@@ -79,6 +81,19 @@ impl<A: Allocator> DoubleArrayAhoCorasickBuilder<A> {
         ensures { result ≡ record self { match_kind = kind } }
     {
         self.settings.match_kind = kind;
+        self
+    }
+
+    /// Sets whether the automaton gets a filter, which tells searches in a haystack where no
+    /// pattern begins. It does by default.
+    ///
+    /// A build makes the filter of all patterns, and keeps none where there is no pattern, where
+    /// one has fewer than 2 bytes, or where the filter would pass too often. What a search yields
+    /// is the same with a filter and without.
+    pub fn use_prefilter(mut self, yes: bool) -> Self
+        ensures { result ≡ record self { use_prefilter = yes } }
+    {
+        self.settings.use_prefilter = yes;
         self
     }
 }
@@ -106,6 +121,7 @@ impl<A: Allocator + Copy> DoubleArrayAhoCorasickBuilder<A> {
         D::IntoIter: Drop,
         requires { (it : D.IntoIter) → D.into_iter_gives haystacks it → D.IntoIter.can_next it × IsFinite (D.IntoIter.remaining it) }
         ensures kind { IfOk result (λ b. b.match_kind ≡ self.match_kind) }
+        ensures filter { IfOk result (λ b. b.use_prefilter ≡ self.use_prefilter) }
         ensures copies { IfOk result (λ b. (it : D.IntoIter) × D.into_iter_gives haystacks it
             × WholeRun D.IntoIter.next_gives it (λ p. IsSomeAnd b.corpus (λ corpus. documents_of (λ u. u) corpus ≡ map (λ t. t.now) p.items))) }
         ensures err { IfErr result IsOutOfMemory }
@@ -141,17 +157,14 @@ impl<A: Allocator + Copy> DoubleArrayAhoCorasickBuilder<A> {
         ensures ok { IfOk result (λ a. (it : P.IntoIter) × P.into_iter_gives patterns it
             × WholeRun P.IntoIter.next_gives it (λ p. IsBuiltOf V.try_from_gives self.match_kind (map (λ t. t.now) p.items) a)) }
         ensures kind { IfOk result (λ a. kind_of a ≡ self.match_kind) }
+        ensures filter { IfOk result (λ a. (it : P.IntoIter) × P.into_iter_gives patterns it
+            × WholeRun P.IntoIter.next_gives it (λ p. a.filter ≡ kept_filter self.use_prefilter (map (λ t. t.now) p.items))) }
         ensures depths { IfOk result (λ a. a.depths ≡ []) }
         ensures err { IfErr result (λ e. IsOutOfMemory e ⊎ ((it : P.IntoIter) × P.into_iter_gives patterns it
             × WholeRun P.IntoIter.next_gives it (λ p. IsBuildRefusal V.try_from_gives self.match_kind (map (λ t. t.now) p.items) e))) }
     {
         let texts = gather(alloc, patterns.into_iter())?;
-        from_texts(
-            alloc,
-            self.settings.match_kind,
-            &self.settings.corpus,
-            &texts,
-        )
+        from_texts(alloc, &self.settings, &texts)
     }
 
     /// Builds an automaton of these patterns, each with its value.
@@ -182,54 +195,53 @@ impl<A: Allocator + Copy> DoubleArrayAhoCorasickBuilder<A> {
         ensures ok { IfOk result (λ a. (it : P.IntoIter) × P.into_iter_gives patvals it
             × WholeRun P.IntoIter.next_gives it (λ p. HoldsPatterns self.match_kind (registered p.items) a)) }
         ensures kind { IfOk result (λ a. kind_of a ≡ self.match_kind) }
+        ensures filter { IfOk result (λ a. (it : P.IntoIter) × P.into_iter_gives patvals it
+            × WholeRun P.IntoIter.next_gives it (λ p. a.filter ≡ kept_filter self.use_prefilter (map (λ t. t.0.now) p.items))) }
         ensures depths { IfOk result (λ a. a.depths ≡ []) }
         ensures err { IfErr result (λ e. IsOutOfMemory e ⊎ ((it : P.IntoIter) × P.into_iter_gives patvals it
             × WholeRun P.IntoIter.next_gives it (λ p. IsRefusalOf self.match_kind (registered p.items) e))) }
     {
         let patterns = gather(alloc, patvals.into_iter())?;
-        from_patterns(
-            alloc,
-            self.settings.match_kind,
-            &self.settings.corpus,
-            &patterns,
-        )
+        from_patterns(alloc, &self.settings, &patterns)
     }
 }
 
 /// An automaton of these texts, each with the value of its index.
 fn from_texts<V: Copy + TryFrom<usize>, A: Allocator + Copy>(
     alloc: A,
-    kind: MatchKind,
-    corpus: &Option<Corpus<u8, A>>,
+    settings: &Settings<u8, A>,
     texts: &[&[u8]],
 ) -> Result<DoubleArrayAhoCorasick<V, A>>
 where
     V::Error: Drop,
-    ensures ok { IfOk result (λ a. IsBuiltOf V.try_from_gives kind (map (λ t. t.now) texts.now) a) }
-    ensures kind { IfOk result (λ a. kind_of a ≡ kind) }
+    ensures ok { IfOk result (λ a. IsBuiltOf V.try_from_gives settings.now.match_kind (map (λ t. t.now) texts.now) a) }
+    ensures kind { IfOk result (λ a. kind_of a ≡ settings.now.match_kind) }
+    ensures filter { IfOk result (λ a. a.filter ≡ kept_filter settings.now.use_prefilter (map (λ t. t.now) texts.now)) }
     ensures depths { IfOk result (λ a. a.depths ≡ []) }
-    ensures err { IfErr result (IsBuildRefusal V.try_from_gives kind (map (λ t. t.now) texts.now)) }
+    ensures err { IfErr result (IsBuildRefusal V.try_from_gives settings.now.match_kind (map (λ t. t.now) texts.now)) }
 {
     let patterns = indexed(alloc, texts)?;
-    from_patterns(alloc, kind, corpus, &patterns)
+    from_patterns(alloc, settings, &patterns)
 }
 
 /// An automaton of these patterns and values.
 fn from_patterns<V: Copy, A: Allocator + Copy>(
     alloc: A,
-    kind: MatchKind,
-    corpus: &Option<Corpus<u8, A>>,
+    settings: &Settings<u8, A>,
     patterns: &[(&[u8], V)],
 ) -> Result<DoubleArrayAhoCorasick<V, A>>
-    ensures ok { IfOk result (HoldsPatterns kind (registered patterns.now)) }
-    ensures kind { IfOk result (λ a. kind_of a ≡ kind) }
+    ensures ok { IfOk result (HoldsPatterns settings.now.match_kind (registered patterns.now)) }
+    ensures kind { IfOk result (λ a. kind_of a ≡ settings.now.match_kind) }
+    ensures filter { IfOk result (λ a. a.filter ≡ kept_filter settings.now.use_prefilter (map (λ p. p.0.now) patterns.now)) }
     ensures depths { IfOk result (λ a. a.depths ≡ []) }
-    ensures err { IfErr result (IsRefusalOf kind (registered patterns.now)) }
+    ensures err { IfErr result (IsRefusalOf settings.now.match_kind (registered patterns.now)) }
 {
+    let kind = settings.match_kind;
     let nfa = build_trie(alloc, kind, Some(MAX_PATTERNS), patterns)?;
-    let profile = profile_of(alloc, kind, corpus, &nfa)?;
+    let profile = profile_of(alloc, kind, &settings.corpus, &nfa)?;
     let states = States::build(alloc, kind, nfa, &profile)?;
-    Ok(DoubleArrayAhoCorasick::of_states(alloc, states))
+    let filter = build_filter(alloc, settings.use_prefilter, patterns)?;
+    Ok(DoubleArrayAhoCorasick::of_states(alloc, states, filter))
 }
 
 /// What searches of this kind over a corpus read of a trie: nothing is counted without a document.

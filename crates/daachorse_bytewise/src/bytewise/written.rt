@@ -20,7 +20,7 @@ use std::alloc::Allocator;
 impl<V: Serializable + Copy, A: Allocator> DoubleArrayAhoCorasick<V, A> {
     /// Writes the automaton to bytes, whose memory is taken from `alloc`.
     ///
-    /// Cached depths are not written. [`Self::deserialize_unchecked`] reads the automaton back.
+    /// Cached depths are not written. [`Self::deserialize`] reads the automaton back.
     ///
     /// # Errors
     ///
@@ -30,7 +30,7 @@ impl<V: Serializable + Copy, A: Allocator> DoubleArrayAhoCorasick<V, A> {
         ensures automaton { IsAutomaton V.is_value self.now }
         ensures err { IfErr result IsOutOfMemory }
     {
-        self.states.serialize(alloc)
+        self.states.serialize(alloc, &self.filter)
     }
 }
 
@@ -38,27 +38,32 @@ impl<V: Serializable + Copy, A: Allocator + Copy> DoubleArrayAhoCorasick<V, A> {
     /// Reads an automaton from any bytes, and returns it with the bytes behind it.
     ///
     /// What is accepted is a right automaton, whoever wrote the bytes: its searches yield the
-    /// matches of the patterns that its listing has. Its depths are not cached. It keeps `alloc`
+    /// matches of the patterns that its listing has. What [`Self::serialize`] wrote is accepted, and gives an
+    /// automaton that equals the one that was written in all but the depths, which are not cached. It keeps `alloc`
     /// and takes its memory from it.
     ///
     /// # Errors
     ///
     /// Bytes that give no automaton, told as
     /// [`InvalidAutomaton`](daachorse_core::errors::DaachorseError::InvalidAutomaton) or by the read
-    /// of a value, or out of memory. Bytes that have a filter give none: no automaton has one.
-    #[tactic(auto, using(crate::proofs::ReadLaws::refused_filter, crate::proofs::ReadLaws::without_filter))]
+    /// of a value, or out of memory. Bytes with a filter that does not pass at the beginning of some
+    /// pattern give none.
     pub fn deserialize(alloc: A, source: &[u8]) -> Result<(Self, &[u8])>
         ensures given { IfOk result (λ r. GivesAutomaton V.taken source.now r.0 r.1.now) }
         ensures depths { IfOk result (λ r. r.0.depths ≡ []) }
         ensures refused { IfErr result (λ e. IsOutOfMemory e ⊎ GivesNoAutomaton V.taken source.now) }
         ensures cause { IfErr result (IsReadRefusal V.own_refusal) }
+        // Of what was written.
+        ensures back { IfOk result (λ r. (a : Automaton V) (rest : List ℕ) → IsAutomaton V.is_value a → source.now ≡ written_form V.form a ++ rest
+            → (r.0 ≡ without_depths a) × (r.1.now ≡ rest)) }
+        ensures memory { IfErr result (λ e. BeginsWithAutomaton V.is_value V.form source.now → IsOutOfMemory e) }
     {
         let (read, rest) = States::deserialize(alloc, source)?;
         let (states, filter) = read;
-        if filter.is_some() {
+        if !states.passes(alloc, &filter)? {
             return Err(DaachorseError::invalid_automaton());
         }
-        Ok((Self::of_states(alloc, states), rest))
+        Ok((Self::of_states(alloc, states, filter), rest))
     }
 
     /// Reads an automaton that was written, and returns it with the bytes behind it.
@@ -80,7 +85,8 @@ impl<V: Serializable + Copy, A: Allocator + Copy> DoubleArrayAhoCorasick<V, A> {
             → (r.0 ≡ without_depths a) × (r.1.now ≡ rest)) }
         ensures err { IfErr result IsOutOfMemory }
     {
-        let (states, rest) = States::deserialize_unchecked(alloc, source)?;
-        Ok((Self::of_states(alloc, states), rest))
+        let (read, rest) = States::deserialize_unchecked(alloc, source)?;
+        let (states, filter) = read;
+        Ok((Self::of_states(alloc, states, filter), rest))
     }
 }

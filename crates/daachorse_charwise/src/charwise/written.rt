@@ -1,23 +1,26 @@
 //! The automaton over characters, written and read back.
 //!
 //! The layers above may rely on the bytes being the written form of the automaton, and on a read of
-//! them giving the automaton back, whatever follows them.
+//! them giving the automaton back, whatever follows them. [`CharwiseDoubleArrayAhoCorasick::deserialize`] reads any bytes,
+//! and refuses them exactly where they give no automaton.
 
-ghost use Rattle.std.specs.Prelude.{◌≡◌, ◌++◌, ℕ, List, IfOk, IfErr};
+ghost use Rattle.std.specs.Prelude.{◌≡◌, ◌⊎◌, ◌++◌, ℕ, List, [], IfOk, IfErr};
 ghost use Rattle.daachorse_core.specs.Refusals.{IsOutOfMemory};
 ghost use Rattle.daachorse_charwise.specs.Automata.{Automaton};
+ghost use Rattle.daachorse_serializer.specs.Forms.{IsReadRefusal};
+ghost use Rattle.daachorse_charwise.specs.ReadForms.{GivesAutomaton, GivesNoAutomaton};
 ghost use Rattle.daachorse_charwise.specs.WrittenForms.{BeginsWithAutomaton, IsAutomaton, without_depths, written_form};
 
 use super::CharwiseDoubleArrayAhoCorasick;
 use super::states::States;
-use daachorse_core::errors::Result;
+use daachorse_core::errors::{DaachorseError, Result};
 use daachorse_serializer::serializer::Serializable;
 use std::alloc::Allocator;
 
 impl<V: Serializable + Copy, A: Allocator> CharwiseDoubleArrayAhoCorasick<V, A> {
     /// Writes the automaton to bytes, whose memory is taken from `alloc`.
     ///
-    /// Cached depths are not written. [`Self::deserialize_unchecked`] reads the automaton back.
+    /// Cached depths are not written. [`Self::deserialize`] reads the automaton back.
     ///
     /// # Errors
     ///
@@ -32,6 +35,37 @@ impl<V: Serializable + Copy, A: Allocator> CharwiseDoubleArrayAhoCorasick<V, A> 
 }
 
 impl<V: Serializable + Copy, A: Allocator + Copy> CharwiseDoubleArrayAhoCorasick<V, A> {
+    /// Reads an automaton from any bytes, and returns it with the bytes behind it.
+    ///
+    /// What is accepted is a right automaton, whoever wrote the bytes: its searches yield the
+    /// matches of the patterns that its listing has. What [`Self::serialize`] wrote is accepted, and gives an
+    /// automaton that equals the one that was written in all but the depths, which are not cached. It keeps `alloc`
+    /// and takes its memory from it.
+    ///
+    /// # Errors
+    ///
+    /// Bytes that give no automaton, told as
+    /// [`InvalidAutomaton`](daachorse_core::errors::DaachorseError::InvalidAutomaton) or by the read
+    /// of a value, or out of memory. Bytes that have a filter give none: no automaton has one.
+    #[tactic(auto, using(crate::proofs::ReadLaws::refused_filter, crate::proofs::ReadLaws::without_filter))]
+    pub fn deserialize(alloc: A, source: &[u8]) -> Result<(Self, &[u8])>
+        ensures given { IfOk result (λ r. GivesAutomaton V.taken source.now r.0 r.1.now) }
+        ensures depths { IfOk result (λ r. r.0.depths ≡ []) }
+        ensures refused { IfErr result (λ e. IsOutOfMemory e ⊎ GivesNoAutomaton V.taken source.now) }
+        ensures cause { IfErr result (IsReadRefusal V.own_refusal) }
+        // Of what was written.
+        ensures back { IfOk result (λ r. (a : Automaton V) (rest : List ℕ) → IsAutomaton V.is_value a → source.now ≡ written_form V.form a ++ rest
+            → (r.0 ≡ without_depths a) × (r.1.now ≡ rest)) }
+        ensures memory { IfErr result (λ e. BeginsWithAutomaton V.is_value V.form source.now → IsOutOfMemory e) }
+    {
+        let (read, rest) = States::deserialize(alloc, source)?;
+        let (states, filter) = read;
+        if filter.is_some() {
+            return Err(DaachorseError::invalid_automaton());
+        }
+        Ok((Self::of_states(alloc, states), rest))
+    }
+
     /// Reads an automaton that was written, and returns it with the bytes behind it.
     ///
     /// It equals the automaton that was written in all but the depths, which are not cached. It
@@ -40,8 +74,7 @@ impl<V: Serializable + Copy, A: Allocator + Copy> CharwiseDoubleArrayAhoCorasick
     /// # Conditions
     ///
     /// The bytes begin with the written form of an automaton, as [`Self::serialize`] makes it. For
-    /// bytes that may hold anything else, such as those of a stranger, use a read that checks them;
-    /// there is none yet.
+    /// bytes that may hold anything else, such as those of a stranger, use [`Self::deserialize`].
     ///
     /// # Errors
     ///

@@ -2,17 +2,21 @@
 //!
 //! The layers above may rely on the bytes of [`States::serialize`] being the form of the parts, and
 //! on [`States::deserialize_unchecked`] giving back the parts whose form the bytes begin with.
+//! [`States::deserialize`] does so for any bytes, and refuses them exactly where they give no valid parts.
 
-ghost use Rattle.std.specs.Prelude.{◌≡◌, ◌++◌, ◌-◌, ◌^◌, List, ℕ, None, Some, min, IfOk, IfErr};
+ghost use Rattle.std.specs.Prelude.{◌≡◌, ◌⊎◌, ◌++◌, ◌-◌, ◌^◌, List, ℕ, None, Some, true, false, min, IfOk, IfErr};
 ghost use Rattle.daachorse_core.specs.Refusals.{IsOutOfMemory};
 ghost use Rattle.daachorse_serializer.specs.Forms.{GivesView, IsReadRefusal};
+ghost use Rattle.daachorse_charwise_states.specs.Grouped.{HasNoAutomaton};
 ghost use Rattle.daachorse_charwise_states.specs.PartForms.{AreCounted, AreNumbers, BeginsWithAutomaton, IsAutomaton, parts_form, parts_in, parts_most, take_parts};
 ghost use Rattle.daachorse_charwise_states.specs.Parts.{Parts};
 ghost use Rattle.daachorse_charwise_states.specs.Valid.{IsValid};
 
 use super::States;
+use crate::edges::Elements;
 use crate::state::State;
-use daachorse_core::errors::Result;
+use crate::unchecked::are_grouped;
+use daachorse_core::errors::{DaachorseError, Result};
 use daachorse_mapper::mapper::CodeMapper;
 use daachorse_prefilter::prefilter::Prefilter;
 use daachorse_serializer::ending::{Ending, ending_bytes, read_ending, write_ending};
@@ -50,6 +54,34 @@ fn read_lists<V: Serializable + Copy, A: Allocator + Copy>(
         ending,
     };
     Ok((lists, rest))
+}
+
+impl<V: Copy, A: Allocator + Copy> Lists<V, A> {
+    /// Whether the lists are an automaton's.
+    ///
+    /// # Errors
+    ///
+    /// An allocation failed.
+    fn is_valid(&self, alloc: A) -> Result<bool>
+        requires { AreCounted (parts_in self.now).0 }
+        ensures yes { IfOk result (λ valid. valid ≡ true → IsValid (parts_in self.now).0) }
+        ensures no { IfOk result (λ valid. valid ≡ false → IsValid (parts_in self.now).0 → ⊥) }
+        ensures err { IfErr result IsOutOfMemory }
+    {
+        if !are_grouped(alloc, self.states.as_slice(), &self.mapper)? {
+            return Ok(false);
+        }
+        let elements = Elements::new(
+            alloc,
+            self.ending.kind,
+            self.states.as_slice(),
+            &self.mapper,
+            self.ending.outputs.as_slice(),
+            self.ending.num_states,
+        )?;
+        let valid = elements.are_valid(alloc)?;
+        Ok(valid)
+    }
 }
 
 impl<V: Serializable + Copy, A: Allocator> States<V, A> {
@@ -116,13 +148,36 @@ impl<V: Serializable + Copy, A: Allocator + Copy> States<V, A> {
         ensures err { IfErr result IsOutOfMemory }
     {
         let (lists, rest) = read_lists(alloc, src)?;
+        let (states, _filter) = Self::of_lists(lists);
+        Ok((states, rest))
+    }
+
+    /// The states that the bytes begin with, whoever wrote them, with the filter behind them, if there is one, and
+    /// the bytes that are left. Of the filter nothing is known.
+    ///
+    /// # Errors
+    ///
+    /// Bytes that give no valid parts, as
+    /// [`InvalidAutomaton`](daachorse_core::errors::DaachorseError::InvalidAutomaton) or by what is a value's own, or
+    /// out of memory.
+    pub fn deserialize(alloc: A, src: &[u8]) -> Result<((Self, Option<Prefilter<A>>), &[u8])>
+        ensures given { IfOk result (λ r. take_parts V.taken src.now ≡ Some ((r.0.0, r.0.1), r.1.now)) }
+        ensures valid { IfOk result (λ r. IsValid r.0.0) }
+        ensures refused { IfErr result (λ e. IsOutOfMemory e ⊎ HasNoAutomaton (take_parts V.taken src.now)) }
+        ensures cause { IfErr result (IsReadRefusal V.own_refusal) }
+    {
+        let (lists, rest) = read_lists(alloc, src)?;
+        if !lists.is_valid(alloc)? {
+            return Err(DaachorseError::invalid_automaton());
+        }
         Ok((Self::of_lists(lists), rest))
     }
 
-    /// The states that these lists make up. The filter is left.
-    fn of_lists(lists: Lists<V, A>) -> Self
+    /// The states that these lists make up, and the filter.
+    fn of_lists(lists: Lists<V, A>) -> (Self, Option<Prefilter<A>>)
         requires { IsValid (parts_in lists).0 }
-        ensures { result ≡ (parts_in lists).0 }
+        ensures states { result.0 ≡ (parts_in lists).0 }
+        ensures filter { result.1 ≡ (parts_in lists).1 }
     {
         let Lists {
             states,
@@ -133,14 +188,15 @@ impl<V: Serializable + Copy, A: Allocator + Copy> States<V, A> {
             outputs,
             kind,
             num_states,
-            filter: _,
+            filter,
         } = ending;
-        Self {
+        let states = Self {
             kind,
             states,
             mapper,
             outputs,
             num_states,
-        }
+        };
+        (states, filter)
     }
 }

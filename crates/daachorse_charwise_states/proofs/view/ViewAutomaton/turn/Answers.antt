@@ -1,4 +1,4 @@
-use Rattle.std.proofs.Common.{None, ◌≢◌, ◌∙◌, length, slice_index_or, sym}
+use Rattle.std.proofs.Common.{◌≢◌, ◌∙◌, length, slice_index_or, sym}
 use Rattle.daachorse_machine.proofs.ChildLaws.{child_at-inside}
 use Rattle.daachorse_machine.proofs.MachineLaws.{Reached-root, first-output, turn-dead, turn-link, turn-next, turn-root}
 use Rattle.daachorse_charwise_states.specs.Elements.{check_in, element, vacant}

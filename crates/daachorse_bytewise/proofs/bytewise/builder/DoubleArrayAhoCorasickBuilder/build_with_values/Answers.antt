@@ -1,10 +1,10 @@
--- The patterns are all that the iterator gives, and the kind is the builder's.
-use Rattle.std.proofs.Common.{ℕ, List, ◌∙◌, subst, inr}
+-- The patterns are all that the iterator gives, and the settings are the builder's.
+use Rattle.std.proofs.Common.{◌≡◌, ℕ, List, map, ◌∙◌, subst, inr}
 use Rattle.std.proofs.lemmas.Result.{IfOk-weaker, IfErr-weaker}
 use Rattle.std.specs.Borrow.{Bor}
 use Rattle.daachorse_patterns.specs.declared.settings.Settings.{Settings}
 use Rattle.daachorse_model.specs.Dictionary.{registered}
-use Rattle.daachorse_bytewise.specs.Building.{HoldsPatterns, IsRefusalOf}
+use Rattle.daachorse_bytewise.specs.Building.{HoldsPatterns, IsRefusalOf, kept_filter}
 use Rattle.daachorse_bytewise.proofs.bytewise.builder.DoubleArrayAhoCorasickBuilder.build_with_values.Goals as goal
 
 pub returns-clause-ok : goal.returns-clause-ok
@@ -26,3 +26,13 @@ returns-clause-err g c =
     let P : List (Bor (List ℕ) × g.row.V.Denot) → Type 0 = λ ps. IsRefusalOf c.args.self.match_kind (registered ps) e in
     inr (c.into_iter.result, c.into_iter.ensures.into_iter_gives, (r.0, r.1, r.2, subst P (c.deref.ensures.value ∙ r.3) (subst K c.self.view_is refused))))
     c.from_patterns.ensures.err
+
+pub returns-clause-filter : goal.returns-clause-filter
+returns-clause-filter g c =
+    let r = c.in_ok-patterns.ensures.ok in
+    IfOk-weaker c.from_patterns.result _ _
+    (λ a is.
+    let K : Settings ℕ g.row.A.Denot → Type 0 = λ s. a.filter ≡ kept_filter s.use_prefilter (map (λ t. t.0.now) c.deref.result.now) in
+    let P : List (Bor (List ℕ) × g.row.V.Denot) → Type 0 = λ ps. a.filter ≡ kept_filter c.args.self.use_prefilter (map (λ t. t.0.now) ps) in
+    (c.into_iter.result, c.into_iter.ensures.into_iter_gives, (r.0, r.1, r.2, subst P (c.deref.ensures.value ∙ r.3) (subst K c.self.view_is is))))
+    c.from_patterns.ensures.filter

@@ -1,0 +1,33 @@
+-- The array is sound exactly where the parts, whose elements may be looked at, are valid.
+use Rattle.std.proofs.Common.{◌≡◌, ◌∙◌, ap}
+use Rattle.daachorse_model.specs.Kinds.{is_leftmost}
+use Rattle.daachorse_charwise_states.specs.Edges.{IsLettered, Lettered}
+use Rattle.daachorse_charwise_states.proofs.CharLaws.{child_inside}
+use Rattle.daachorse_charwise_states.proofs.EdgeLaws.{valid_tells}
+use Rattle.daachorse_charwise_states.proofs.GroupedLaws.{sound_valid, valid_sound, told_sound, sound_told}
+use Rattle.daachorse_charwise_states.proofs.edges.Elements.are_valid.Goals as goal
+
+pub is_sound-requires-clause-inside : goal.is_sound-requires-clause-inside
+is_sound-requires-clause-inside g c = child_inside c.args.self.now.parts
+
+pub is_sound-requires-clause-tell : goal.is_sound-requires-clause-tell
+is_sound-requires-clause-tell g c =
+    let lettered : IsLettered c.args.self.now = rw (← c.self.view_is) c.self.invariant in
+    valid_tells c.args.self.now lettered.letters
+
+pub returns-clause-yes : goal.returns-clause-yes
+returns-clause-yes g c e =
+    let p = c.args.self.now.parts in
+    let lettered : IsLettered c.args.self.now = rw (← c.self.view_is) c.self.invariant in
+    let kind : c.is_leftmost-leftmost.result ≡ is_leftmost p.kind = c.is_leftmost-leftmost.ensures ∙ ap (λ (a : Lettered g.row.V.Denot). is_leftmost a.parts.kind) c.self.view_is in
+    let outputs : c.self.inside.outputs.now ≡ p.outputs = ap (λ (a : Lettered g.row.V.Denot). a.parts.outputs) c.self.view_is in
+    let count : c.self.inside.num_states ≡ p.num_states = ap (λ (a : Lettered g.row.V.Denot). a.parts.num_states) c.self.view_is in
+    sound_valid p c.requires lettered.few (told_sound p c.is_leftmost-leftmost.result c.self.inside.outputs.now c.self.inside.num_states kind outputs count (c.in_ok-valid.ensures.yes e))
+
+pub returns-clause-no : goal.returns-clause-no
+returns-clause-no g c e valid =
+    let p = c.args.self.now.parts in
+    let kind : c.is_leftmost-leftmost.result ≡ is_leftmost p.kind = c.is_leftmost-leftmost.ensures ∙ ap (λ (a : Lettered g.row.V.Denot). is_leftmost a.parts.kind) c.self.view_is in
+    let outputs : c.self.inside.outputs.now ≡ p.outputs = ap (λ (a : Lettered g.row.V.Denot). a.parts.outputs) c.self.view_is in
+    let count : c.self.inside.num_states ≡ p.num_states = ap (λ (a : Lettered g.row.V.Denot). a.parts.num_states) c.self.view_is in
+    c.in_ok-valid.ensures.no e (sound_told p c.is_leftmost-leftmost.result c.self.inside.outputs.now c.self.inside.num_states kind outputs count (valid_sound p valid))

@@ -1,0 +1,78 @@
+//! The window of a filter over the beginning of a text that is read byte by byte.
+//!
+//! The layers above may rely on a window telling, of all that was read, whether the filter passes
+//! at its beginning.
+
+ghost use Rattle.std.specs.Prelude.{◌≡◌, ◌++◌, ◌∷◌, [], ℕ, List};
+ghost use Rattle.daachorse_prefilter.specs.Filters.{Filter, admits};
+
+use super::Prefilter;
+use std::alloc::Allocator;
+
+/// What a filter keeps of the beginning of a text, of which some bytes were read.
+#[derive(Clone, Copy, Drop)]
+pub struct Window {
+    // How many bytes of the window were read.
+    len: u8,
+    // The last of them.
+    last: u8,
+    // Whether each pair of them may stand at its place.
+    passes: bool,
+}
+
+impl Window {
+    ghost use Rattle.daachorse_prefilter.specs.Windows.{HasRead};
+
+    /// A window of which nothing was read.
+    pub fn new() -> Self
+        ensures { (filter : Filter) → HasRead filter [] result }
+    {
+        Self {
+            len: 0,
+            last: 0,
+            passes: true,
+        }
+    }
+}
+
+impl<A: Allocator> Prefilter<A> {
+    ghost use Rattle.daachorse_prefilter.specs.Windows.{HasRead};
+
+    /// The window after these bytes more.
+    pub fn read(&self, window: Window, bytes: &[u8]) -> Window
+        ensures { (text : List ℕ) → HasRead self.now text window → HasRead self.now (text ++ bytes.now) result }
+    {
+        let mut window = window;
+        for byte in bytes {
+            window = self.read_byte(window, *byte);
+        }
+        window
+    }
+
+    /// The window after a byte more.
+    #[inline(always)]
+    fn read_byte(&self, window: Window, byte: u8) -> Window
+        ensures { (text : List ℕ) → HasRead self.now text window → HasRead self.now (text ++ byte ∷ []) result }
+    {
+        if window.len >= self.window_len {
+            return window;
+        }
+        let mut passes = window.passes;
+        if window.len > 0 {
+            let entry = self.table[window.last as usize * 256 + byte as usize];
+            passes = passes && (entry >> (window.len - 1)) % 2 == 0;
+        }
+        Window {
+            len: window.len + 1,
+            last: byte,
+            passes,
+        }
+    }
+
+    /// Whether the filter passes at the beginning of what was read.
+    pub fn admits(&self, window: Window) -> bool
+        ensures { (text : List ℕ) → HasRead self.now text window → result ≡ admits self.now text }
+    {
+        window.len >= self.window_len && window.passes
+    }
+}

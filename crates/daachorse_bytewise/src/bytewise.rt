@@ -15,6 +15,7 @@ ghost use Rattle.daachorse_model.specs.Leftmost.{leftmost};
 ghost use Rattle.daachorse_model.specs.Matches.{matches_after, no_suffix, overlapping, standard, standard_after};
 ghost use Rattle.daachorse_model.specs.Prefixes.{HasPrefixes, IsListing};
 ghost use Rattle.daachorse_search.specs.Beginnings.{BeginsFrom, BeginsStepping, BeginsWith};
+ghost use Rattle.daachorse_skipping.specs.Asked.{BeginsAsking};
 ghost use Rattle.daachorse_bytewise.specs.Automata.{HasDepths, MayHaveFilter, dictionary_of, kind_of, states_of};
 ghost use Rattle.daachorse_bytewise.specs.Building.{HoldsPatterns, IsBuildRefusal, IsBuiltOf, IsRefusalOf, kept_filter};
 
@@ -33,6 +34,7 @@ use crate::bytewise::states::States;
 use daachorse_core::MatchKind;
 use daachorse_core::errors::Result;
 use daachorse_prefilter::prefilter::{Prefilter, clone_filter};
+use daachorse_search::filter::NoFilter;
 use daachorse_search::find::{FindWalk, find_in};
 use daachorse_search::haystack::Bytes;
 use daachorse_search::leftmost::LeftmostMatches;
@@ -41,6 +43,7 @@ use daachorse_search::overlapping::{
     NoSuffixWalk, OverlappingWalk, find_overlapping_in, find_overlapping_no_suffix_in,
 };
 use daachorse_search::source;
+use daachorse_skipping::skipping::Skipping;
 use std::alloc::{Allocator, Global};
 use std::hash::{Hash, Hasher};
 use std::marker::Model;
@@ -281,7 +284,7 @@ impl<V: Copy, A: Allocator> DoubleArrayAhoCorasick<V, A> {
         ensures { BeginsWith (states_of self.entry.now) haystack.entry.now
             (standard byte_width (dictionary_of self.entry.now) haystack.entry.now) result }
     {
-        find_in(self.states.standard(), Bytes::new(haystack))
+        find_in(self.states.standard(), Bytes::new(haystack), NoFilter)
     }
 
     /// Finds non-overlapping matches in the bytes that `haystack` yields.
@@ -327,7 +330,7 @@ impl<V: Copy, A: Allocator> DoubleArrayAhoCorasick<V, A> {
         ensures { BeginsWith (states_of self.entry.now) haystack.entry.now
             (overlapping byte_width (dictionary_of self.entry.now) haystack.entry.now) result }
     {
-        find_overlapping_in(self.states.standard(), Bytes::new(haystack))
+        find_overlapping_in(self.states.standard(), Bytes::new(haystack), NoFilter)
     }
 
     /// Finds every match in the bytes that `haystack` yields.
@@ -373,7 +376,7 @@ impl<V: Copy, A: Allocator> DoubleArrayAhoCorasick<V, A> {
         ensures { BeginsWith (states_of self.entry.now) haystack.entry.now
             (no_suffix byte_width (dictionary_of self.entry.now) haystack.entry.now) result }
     {
-        find_overlapping_no_suffix_in(self.states.standard(), Bytes::new(haystack))
+        find_overlapping_no_suffix_in(self.states.standard(), Bytes::new(haystack), NoFilter)
     }
 
     /// Finds the longest match at each end in the bytes that `haystack` yields.
@@ -414,12 +417,14 @@ impl<V: Copy, A: Allocator> DoubleArrayAhoCorasick<V, A> {
     /// The automaton is for a leftmost search: its kind is not [`MatchKind::Standard`].
     #[inline(always)]
     #[tactic(auto, using(daachorse_bytewise_states::proofs::DeadLaws::is_leftmost_automaton))]
-    pub fn leftmost_find_iter<'a>(&'a self, haystack: &'a [u8]) -> LeftmostFindIterator<'a, V>
+    pub fn leftmost_find_iter<'a>(&'a self, haystack: &'a [u8]) -> LeftmostFindIterator<'a, V, A>
         requires { kind_of self.now ≢ Standard }
-        ensures { BeginsWith (states_of self.entry.now) haystack.entry.now
+        ensures begins { BeginsWith (states_of self.entry.now) haystack.entry.now
             (leftmost byte_width (dictionary_of self.entry.now) haystack.entry.now) result }
+        ensures asks { BeginsAsking self.entry.now.filter result.filter }
     {
-        LeftmostMatches::new(self.states.leftmost(), Bytes::new(haystack))
+        let filter = Skipping::new(self.filter.as_ref());
+        LeftmostMatches::with_filter(self.states.leftmost(), Bytes::new(haystack), filter)
     }
 
     /// Starts the search of [`Self::find_iter`], to be given one byte at a time.

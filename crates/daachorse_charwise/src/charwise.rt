@@ -37,6 +37,7 @@ use crate::charwise::iter::{
 use crate::charwise::states::States;
 use daachorse_core::MatchKind;
 use daachorse_core::errors::Result;
+use daachorse_search::filter::NoFilter;
 use daachorse_search::find::{FindWalk, find_in};
 use daachorse_search::leftmost::LeftmostMatches;
 use daachorse_search::matches_from::MatchesFrom;
@@ -280,7 +281,7 @@ impl<V: Copy, A: Allocator> CharwiseDoubleArrayAhoCorasick<V, A> {
         ensures { BeginsWith (states_of self.entry.now) (chars haystack.entry.now)
             (standard char_width (dictionary_of self.entry.now) (chars haystack.entry.now)) result }
     {
-        find_in(self.states.standard(), Text::new(haystack))
+        find_in(self.states.standard(), Text::new(haystack), NoFilter)
     }
 
     /// Finds non-overlapping matches in the text whose bytes `haystack` yields.
@@ -326,7 +327,7 @@ impl<V: Copy, A: Allocator> CharwiseDoubleArrayAhoCorasick<V, A> {
         ensures { BeginsWith (states_of self.entry.now) (chars haystack.entry.now)
             (overlapping char_width (dictionary_of self.entry.now) (chars haystack.entry.now)) result }
     {
-        find_overlapping_in(self.states.standard(), Text::new(haystack))
+        find_overlapping_in(self.states.standard(), Text::new(haystack), NoFilter)
     }
 
     /// Finds every match in the text whose bytes `haystack` yields.
@@ -372,7 +373,7 @@ impl<V: Copy, A: Allocator> CharwiseDoubleArrayAhoCorasick<V, A> {
         ensures { BeginsWith (states_of self.entry.now) (chars haystack.entry.now)
             (no_suffix char_width (dictionary_of self.entry.now) (chars haystack.entry.now)) result }
     {
-        find_overlapping_no_suffix_in(self.states.standard(), Text::new(haystack))
+        find_overlapping_no_suffix_in(self.states.standard(), Text::new(haystack), NoFilter)
     }
 
     /// Finds the longest match at each end in the text whose bytes `haystack` yields.

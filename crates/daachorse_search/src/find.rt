@@ -10,9 +10,11 @@ ghost use Rattle.daachorse_model.specs.Prefixes.{IsLong};
 ghost use Rattle.daachorse_model.specs.Units.{size};
 ghost use Rattle.daachorse_core.specs.Depths.{AreDepths};
 ghost use Rattle.daachorse_search.specs.Afresh.{GoesOnAfresh, shifted};
+ghost use Rattle.daachorse_search.specs.Filters.{IsSoundFor};
 ghost use Rattle.daachorse_search.specs.Nothing.{HasPlace-none, first_from-none};
 
 use crate::automaton::Automaton;
+use crate::filter::Filter;
 use crate::haystack::Reread;
 use crate::matches::Matches;
 use crate::stepwise::Stepwise;
@@ -162,20 +164,23 @@ impl<V: Copy, A: Automaton<V>> Clone for FindWalk<V, A> {
     }
 }
 
-/// The matches of the standard search in a haystack.
+/// The matches of the standard search in a haystack. It asks the filter at the root.
 #[inline(always)]
-pub fn find_in<V: Copy, A: Automaton<V>, H: Reread<A::Unit>>(
+pub fn find_in<V: Copy, A: Automaton<V>, H: Reread<A::Unit>, F: Filter<A::Unit, H>>(
     automaton: A,
     haystack: H,
-) -> Matches<V, FindWalk<V, A>, H>
+    filter: F,
+) -> Matches<V, FindWalk<V, A>, H, F>
     requires alive { (w : List ℕ) → ¬ A.dead automaton w }
     requires fits { size A.Unit.width (H.rest haystack) < 2 ^ 64 }
+    requires sound { IsSoundFor (F.passes filter) (A.content automaton) }
     ensures automaton { result.automaton ≡ automaton }
+    ensures filter { result.filter ≡ filter }
     ensures haystack { result.haystack ≡ H.rest haystack }
     ensures left { result.left ≡ standard A.Unit.width (A.content automaton) (H.rest haystack) }
     ensures passed { result.passed ≡ [] }
     ensures turns { result.turns ≡ 0 }
     ensures given { result.given ≡ 0 }
 {
-    Matches::new(FindWalk::new(automaton), haystack)
+    Matches::with_filter(FindWalk::new(automaton), haystack, filter)
 }

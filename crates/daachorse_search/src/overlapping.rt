@@ -10,10 +10,12 @@ ghost use Rattle.daachorse_model.specs.Prefixes.{IsLong};
 ghost use Rattle.daachorse_model.specs.Units.{size};
 ghost use Rattle.daachorse_core.specs.Depths.{AreDepths};
 ghost use Rattle.daachorse_search.specs.Afresh.{GoesOnAfresh, shifted};
+ghost use Rattle.daachorse_search.specs.Filters.{IsSoundFor};
 ghost use Rattle.daachorse_search.specs.Nothing.{HasPlace-none, matches_from-none, first_from-none};
 
 use crate::automaton::Automaton;
 use crate::ending_here::EndingHere;
+use crate::filter::Filter;
 use crate::haystack::Reread;
 use crate::matches::Matches;
 use crate::stepwise::Stepwise;
@@ -278,38 +280,45 @@ impl<V: Copy, A: Automaton<V>> Stepwise<V> for NoSuffixWalk<V, A> {
     }
 }
 
-/// All matches in a haystack, also those that overlap.
+/// All matches in a haystack, also those that overlap. The search asks the filter at the root.
 #[inline(always)]
-pub fn find_overlapping_in<V: Copy, A: Automaton<V>, H: Reread<A::Unit>>(
+pub fn find_overlapping_in<V: Copy, A: Automaton<V>, H: Reread<A::Unit>, F: Filter<A::Unit, H>>(
     automaton: A,
     haystack: H,
-) -> Matches<V, OverlappingWalk<V, A>, H>
+    filter: F,
+) -> Matches<V, OverlappingWalk<V, A>, H, F>
     requires alive { (w : List ℕ) → ¬ A.dead automaton w }
     requires fits { size A.Unit.width (H.rest haystack) < 2 ^ 64 }
+    requires sound { IsSoundFor (F.passes filter) (A.content automaton) }
     ensures automaton { result.automaton ≡ automaton }
+    ensures filter { result.filter ≡ filter }
     ensures haystack { result.haystack ≡ H.rest haystack }
     ensures left { result.left ≡ overlapping A.Unit.width (A.content automaton) (H.rest haystack) }
     ensures passed { result.passed ≡ [] }
     ensures turns { result.turns ≡ 0 }
     ensures given { result.given ≡ 0 }
 {
-    Matches::new(OverlappingWalk::new(automaton), haystack)
+    Matches::with_filter(OverlappingWalk::new(automaton), haystack, filter)
 }
 
-/// Of all matches in a haystack the longest at each end.
+/// Of all matches in a haystack the longest at each end. The search asks the filter at the root.
 #[inline(always)]
-pub fn find_overlapping_no_suffix_in<V: Copy, A: Automaton<V>, H: Reread<A::Unit>>(
-    automaton: A,
-    haystack: H,
-) -> Matches<V, NoSuffixWalk<V, A>, H>
+pub fn find_overlapping_no_suffix_in<
+    V: Copy,
+    A: Automaton<V>,
+    H: Reread<A::Unit>,
+    F: Filter<A::Unit, H>,
+>(automaton: A, haystack: H, filter: F) -> Matches<V, NoSuffixWalk<V, A>, H, F>
     requires alive { (w : List ℕ) → ¬ A.dead automaton w }
     requires fits { size A.Unit.width (H.rest haystack) < 2 ^ 64 }
+    requires sound { IsSoundFor (F.passes filter) (A.content automaton) }
     ensures automaton { result.automaton ≡ automaton }
+    ensures filter { result.filter ≡ filter }
     ensures haystack { result.haystack ≡ H.rest haystack }
     ensures left { result.left ≡ no_suffix A.Unit.width (A.content automaton) (H.rest haystack) }
     ensures passed { result.passed ≡ [] }
     ensures turns { result.turns ≡ 0 }
     ensures given { result.given ≡ 0 }
 {
-    Matches::new(NoSuffixWalk::new(automaton), haystack)
+    Matches::with_filter(NoSuffixWalk::new(automaton), haystack, filter)
 }

@@ -17,7 +17,9 @@ use daachorse_search::matches::Matches;
 use daachorse_search::matches_from::MatchesFrom;
 use daachorse_search::overlapping::{NoSuffixWalk, OverlappingWalk};
 use daachorse_search::{find_stepper, haystack, overlapping_stepper, source};
+use daachorse_skipping::skipping::Skipping;
 pub use patterns::PatternIterator;
+use std::alloc::Global;
 
 /// An iterator over non-overlapping matches in a slice, each of which ends as early as possible.
 ///
@@ -69,7 +71,12 @@ pub type FindOverlappingNoSuffixIterator<'a, P, V> = MatchesFrom<
 /// An iterator over non-overlapping matches in a slice, each of which starts as early as possible.
 ///
 /// At a start it gives the longest pattern that the automaton holds.
-pub type LeftmostFindIterator<'a, V> = LeftmostMatches<V, Leftmost<'a, V>, haystack::Bytes<'a>>;
+pub type LeftmostFindIterator<'a, V, A = Global> = LeftmostMatches<
+    V,
+    Leftmost<'a, V>,
+    haystack::Bytes<'a>,
+    Skipping<'a, A>,
+>;
 
 /// A search for non-overlapping matches that is given one byte at a time.
 pub type FindStepper<'a, V> = find_stepper::FindStepper<'a, V, Standard<'a, V>>;

@@ -1,5 +1,5 @@
 -- After the last call all units are passed, so the bounds are those of the whole haystack.
-use Rattle.std.proofs.Common.{◌≡◌, ℕ, List, length, Option, ap, ◌∙◌, subst, arith}
+use Rattle.std.proofs.Common.{◌≡◌, ℕ, List, length, Option, refl, ap, ◌∙◌, subst, arith}
 use Rattle.daachorse_model.specs.declared.Match.{Match}
 use Rattle.daachorse_search.specs.Matches.{GivesFirst, StandsAtEnd}
 use Rattle.daachorse_search.proofs.sample.run_matches.Goals as goal
@@ -22,7 +22,7 @@ returns-in_default-clause-bounds g c =
     let end = subst P c.in_default.is c.next.ensures.steps in
     let Q : List ℕ → Type 0 = λ w. W.bounds after.automaton w after.turns in
     let R : g.row.W-Automaton.Denot → Type 0 = λ a. W.bounds a (g.H.Haystack.rest c.args.haystack) after.turns in
-    subst R (end.automaton ∙ was.automaton) (subst Q (end.all ∙ (end.haystack ∙ was.haystack)) c.turns_are_bounded.ensures.bounds)
+    subst R (end.automaton ∙ was.automaton) (subst Q (end.all ∙ (end.haystack ∙ was.haystack)) (c.turns_are_bounded.ensures.bounds (λ w. refl)))
 
 pub returns-in_default-clause-given : goal.returns-in_default-clause-given
 returns-in_default-clause-given g c =

@@ -14,4 +14,4 @@ pub returns-in_default : goal.returns-in_default
 returns-in_default c =
     let P : Option (Match ℕ) → Type 0 = λ o. GivesFirst (StandsAtEnd char_width) c.matches.search o c.next.new.self in
     let end = subst P c.in_default.is c.next.ensures.steps in
-    omega (arith, c.turns_are_bounded.ensures.bounds.most, ap length (end.all ∙ (end.haystack ∙ c.matches.invariant)))
+    omega (arith, c.turns_are_bounded.ensures.most, ap length (end.all ∙ (end.haystack ∙ c.matches.invariant)))

@@ -1,0 +1,17 @@
+-- The list is what the search gives end by end.
+use Rattle.std.proofs.Common.{[], sym, ap, ◌∙◌, subst}
+use Rattle.daachorse_model.specs.Matches.{at_each_end}
+use Rattle.daachorse_search.specs.Filters.{IsSoundFor}
+use Rattle.daachorse_search.specs.Searches.{all_found}
+use Rattle.daachorse_search.proofs.overlapping.find_overlapping_in.Goals as goal
+
+pub returns-clause-left : goal.returns-clause-left
+returns-clause-left g c =
+    let A = g.A.Automaton in let unit = g.A.Unit.EdgeLabel in
+    let found = λ (a : g.row.A.Denot). at_each_end (all_found unit.width A.content a) [] (g.H.Haystack.rest c.args.haystack) in
+    c.with_filter.ensures.left ∙ ap found c.new.ensures.automaton
+
+pub with_filter-requires-clause-sound : goal.with_filter-requires-clause-sound
+with_filter-requires-clause-sound g c =
+    let P : g.row.A.Denot → Type 0 = λ a. IsSoundFor (g.F.Filter.passes c.args.filter) (g.A.Automaton.content a) in
+    subst P (sym c.new.ensures.automaton) c.requires.sound

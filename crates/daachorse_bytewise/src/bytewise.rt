@@ -15,7 +15,8 @@ ghost use Rattle.daachorse_model.specs.Leftmost.{leftmost};
 ghost use Rattle.daachorse_model.specs.Matches.{matches_after, no_suffix, overlapping, standard, standard_after};
 ghost use Rattle.daachorse_model.specs.Prefixes.{HasPrefixes, IsListing};
 ghost use Rattle.daachorse_search.specs.Beginnings.{BeginsFrom, BeginsStepping, BeginsWith};
-ghost use Rattle.daachorse_skipping.specs.Asked.{BeginsAsking};
+ghost use Rattle.daachorse_search.specs.Filters.{IsSoundFor};
+ghost use Rattle.daachorse_skipping.specs.Asked.{BeginsAsking, lets_pass};
 ghost use Rattle.daachorse_bytewise.specs.Automata.{HasDepths, MayHaveFilter, dictionary_of, kind_of, states_of};
 ghost use Rattle.daachorse_bytewise.specs.Building.{HoldsPatterns, IsBuildRefusal, IsBuiltOf, IsRefusalOf, kept_filter};
 
@@ -34,7 +35,6 @@ use crate::bytewise::states::States;
 use daachorse_core::MatchKind;
 use daachorse_core::errors::Result;
 use daachorse_prefilter::prefilter::{Prefilter, clone_filter};
-use daachorse_search::filter::NoFilter;
 use daachorse_search::find::{FindWalk, find_in};
 use daachorse_search::haystack::Bytes;
 use daachorse_search::leftmost::LeftmostMatches;
@@ -268,6 +268,15 @@ impl<V: Copy, A: Allocator> DoubleArrayAhoCorasick<V, A> {
         self.states.num_states() as usize
     }
 
+    /// What a search in a slice asks: the filter, if there is one, behind an open gate.
+    #[inline(always)]
+    fn skipping<'a>(&'a self) -> Skipping<'a, A>
+        ensures asks { BeginsAsking self.entry.now.filter result }
+        ensures sound { IsSoundFor (λ w. lets_pass result.filter w) (dictionary_of self.entry.now) }
+    {
+        Skipping::new(self.filter.as_ref())
+    }
+
     /// Finds non-overlapping matches in a haystack, each of which ends as early as possible.
     ///
     /// The search goes on from the end of each match. Of the matches that end together it takes the
@@ -279,12 +288,13 @@ impl<V: Copy, A: Allocator> DoubleArrayAhoCorasick<V, A> {
     /// The automaton is for the standard searches: its kind is [`MatchKind::Standard`].
     #[inline(always)]
     #[tactic(auto, using(daachorse_bytewise_states::proofs::DeadLaws::alive))]
-    pub fn find_iter<'a>(&'a self, haystack: &'a [u8]) -> FindSliceIterator<'a, V>
+    pub fn find_iter<'a>(&'a self, haystack: &'a [u8]) -> FindSliceIterator<'a, V, A>
         requires { kind_of self.now ≡ Standard }
-        ensures { BeginsWith (states_of self.entry.now) haystack.entry.now
+        ensures begins { BeginsWith (states_of self.entry.now) haystack.entry.now
             (standard byte_width (dictionary_of self.entry.now) haystack.entry.now) result }
+        ensures asks { BeginsAsking self.entry.now.filter result.filter }
     {
-        find_in(self.states.standard(), Bytes::new(haystack), NoFilter)
+        find_in(self.states.standard(), Bytes::new(haystack), self.skipping())
     }
 
     /// Finds non-overlapping matches in the bytes that `haystack` yields.
@@ -325,12 +335,13 @@ impl<V: Copy, A: Allocator> DoubleArrayAhoCorasick<V, A> {
     pub fn find_overlapping_iter<'a>(
         &'a self,
         haystack: &'a [u8],
-    ) -> FindOverlappingSliceIterator<'a, V>
+    ) -> FindOverlappingSliceIterator<'a, V, A>
         requires { kind_of self.now ≡ Standard }
-        ensures { BeginsWith (states_of self.entry.now) haystack.entry.now
+        ensures begins { BeginsWith (states_of self.entry.now) haystack.entry.now
             (overlapping byte_width (dictionary_of self.entry.now) haystack.entry.now) result }
+        ensures asks { BeginsAsking self.entry.now.filter result.filter }
     {
-        find_overlapping_in(self.states.standard(), Bytes::new(haystack), NoFilter)
+        find_overlapping_in(self.states.standard(), Bytes::new(haystack), self.skipping())
     }
 
     /// Finds every match in the bytes that `haystack` yields.
@@ -371,12 +382,13 @@ impl<V: Copy, A: Allocator> DoubleArrayAhoCorasick<V, A> {
     pub fn find_overlapping_no_suffix_iter<'a>(
         &'a self,
         haystack: &'a [u8],
-    ) -> FindOverlappingNoSuffixSliceIterator<'a, V>
+    ) -> FindOverlappingNoSuffixSliceIterator<'a, V, A>
         requires { kind_of self.now ≡ Standard }
-        ensures { BeginsWith (states_of self.entry.now) haystack.entry.now
+        ensures begins { BeginsWith (states_of self.entry.now) haystack.entry.now
             (no_suffix byte_width (dictionary_of self.entry.now) haystack.entry.now) result }
+        ensures asks { BeginsAsking self.entry.now.filter result.filter }
     {
-        find_overlapping_no_suffix_in(self.states.standard(), Bytes::new(haystack), NoFilter)
+        find_overlapping_no_suffix_in(self.states.standard(), Bytes::new(haystack), self.skipping())
     }
 
     /// Finds the longest match at each end in the bytes that `haystack` yields.
@@ -423,8 +435,11 @@ impl<V: Copy, A: Allocator> DoubleArrayAhoCorasick<V, A> {
             (leftmost byte_width (dictionary_of self.entry.now) haystack.entry.now) result }
         ensures asks { BeginsAsking self.entry.now.filter result.filter }
     {
-        let filter = Skipping::new(self.filter.as_ref());
-        LeftmostMatches::with_filter(self.states.leftmost(), Bytes::new(haystack), filter)
+        LeftmostMatches::with_filter(
+            self.states.leftmost(),
+            Bytes::new(haystack),
+            self.skipping(),
+        )
     }
 
     /// Starts the search of [`Self::find_iter`], to be given one byte at a time.

@@ -25,7 +25,12 @@ use std::alloc::Global;
 ///
 /// Of the matches that end together it gives the longest. With an empty pattern there is one empty
 /// match at each boundary.
-pub type FindSliceIterator<'a, V> = Matches<V, FindWalk<V, Standard<'a, V>>, haystack::Bytes<'a>>;
+pub type FindSliceIterator<'a, V, A = Global> = Matches<
+    V,
+    FindWalk<V, Standard<'a, V>>,
+    haystack::Bytes<'a>,
+    Skipping<'a, A>,
+>;
 
 /// An iterator over non-overlapping matches in the bytes that a source yields.
 ///
@@ -35,10 +40,11 @@ pub type FindIterator<'a, P, V> = MatchesFrom<V, FindWalk<V, Standard<'a, V>>, s
 /// An iterator over all matches in a slice, by rising ends.
 ///
 /// Of the matches that end together the longest comes first.
-pub type FindOverlappingSliceIterator<'a, V> = Matches<
+pub type FindOverlappingSliceIterator<'a, V, A = Global> = Matches<
     V,
     OverlappingWalk<V, Standard<'a, V>>,
     haystack::Bytes<'a>,
+    Skipping<'a, A>,
 >;
 
 /// An iterator over all matches in the bytes that a source yields.
@@ -53,10 +59,11 @@ pub type FindOverlappingIterator<'a, P, V> = MatchesFrom<
 /// An iterator over the longest match at each end in a slice.
 ///
 /// Of equal patterns it gives the one that was registered first.
-pub type FindOverlappingNoSuffixSliceIterator<'a, V> = Matches<
+pub type FindOverlappingNoSuffixSliceIterator<'a, V, A = Global> = Matches<
     V,
     NoSuffixWalk<V, Standard<'a, V>>,
     haystack::Bytes<'a>,
+    Skipping<'a, A>,
 >;
 
 /// An iterator over the longest match at each end in the bytes that a source yields.

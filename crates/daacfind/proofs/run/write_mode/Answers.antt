@@ -17,27 +17,27 @@ found_in mode asked K h left is e = e ∙ ap (λ m. found_by m K h) (sym is)
 
 pub returns-in-Overlapping-clause-whole : goal.returns-in-Overlapping-clause-whole
 returns-in-Overlapping-clause-whole g c =
-    on_ok_weaker c.write_matches.result (λ f. f _ (YieldsList-from_progress (StandsAtEnd byte_width) _ _ (found_in Overlapping c.args.mode _ _ _ c.in-Overlapping.is c.find_overlapping_iter.ensures.left)).runs) c.write_matches.ensures.whole
+    on_ok_weaker c.write_matches.result (λ f. f _ (YieldsList-from_progress (StandsAtEnd byte_width) _ _ (found_in Overlapping c.args.mode _ _ _ c.in-Overlapping.is c.find_overlapping_iter.ensures.begins.left)).runs) c.write_matches.ensures.whole
 
 pub returns-in-Overlapping-clause-beginning : goal.returns-in-Overlapping-clause-beginning
 returns-in-Overlapping-clause-beginning g c =
-    on_err_weaker c.write_matches.result (λ f. f _ (YieldsList-from_progress (StandsAtEnd byte_width) _ _ (found_in Overlapping c.args.mode _ _ _ c.in-Overlapping.is c.find_overlapping_iter.ensures.left)).runs) c.write_matches.ensures.beginning
+    on_err_weaker c.write_matches.result (λ f. f _ (YieldsList-from_progress (StandsAtEnd byte_width) _ _ (found_in Overlapping c.args.mode _ _ _ c.in-Overlapping.is c.find_overlapping_iter.ensures.begins.left)).runs) c.write_matches.ensures.beginning
 
 pub returns-in-NoSuffix-clause-whole : goal.returns-in-NoSuffix-clause-whole
 returns-in-NoSuffix-clause-whole g c =
-    on_ok_weaker c.write_matches-in-NoSuffix.result (λ f. f _ (YieldsList-from_progress (StandsAtEnd byte_width) _ _ (found_in NoSuffix c.args.mode _ _ _ c.in-NoSuffix.is c.find_overlapping_no_suffix_iter.ensures.left)).runs) c.write_matches-in-NoSuffix.ensures.whole
+    on_ok_weaker c.write_matches-in-NoSuffix.result (λ f. f _ (YieldsList-from_progress (StandsAtEnd byte_width) _ _ (found_in NoSuffix c.args.mode _ _ _ c.in-NoSuffix.is c.find_overlapping_no_suffix_iter.ensures.begins.left)).runs) c.write_matches-in-NoSuffix.ensures.whole
 
 pub returns-in-NoSuffix-clause-beginning : goal.returns-in-NoSuffix-clause-beginning
 returns-in-NoSuffix-clause-beginning g c =
-    on_err_weaker c.write_matches-in-NoSuffix.result (λ f. f _ (YieldsList-from_progress (StandsAtEnd byte_width) _ _ (found_in NoSuffix c.args.mode _ _ _ c.in-NoSuffix.is c.find_overlapping_no_suffix_iter.ensures.left)).runs) c.write_matches-in-NoSuffix.ensures.beginning
+    on_err_weaker c.write_matches-in-NoSuffix.result (λ f. f _ (YieldsList-from_progress (StandsAtEnd byte_width) _ _ (found_in NoSuffix c.args.mode _ _ _ c.in-NoSuffix.is c.find_overlapping_no_suffix_iter.ensures.begins.left)).runs) c.write_matches-in-NoSuffix.ensures.beginning
 
 pub returns-in-Find-clause-whole : goal.returns-in-Find-clause-whole
 returns-in-Find-clause-whole g c =
-    on_ok_weaker c.write_matches-in-Find.result (λ f. f _ (YieldsList-from_progress (StandsAtEnd byte_width) _ _ (found_in Find c.args.mode _ _ _ c.in-Find.is c.find_iter.ensures.left)).runs) c.write_matches-in-Find.ensures.whole
+    on_ok_weaker c.write_matches-in-Find.result (λ f. f _ (YieldsList-from_progress (StandsAtEnd byte_width) _ _ (found_in Find c.args.mode _ _ _ c.in-Find.is c.find_iter.ensures.begins.left)).runs) c.write_matches-in-Find.ensures.whole
 
 pub returns-in-Find-clause-beginning : goal.returns-in-Find-clause-beginning
 returns-in-Find-clause-beginning g c =
-    on_err_weaker c.write_matches-in-Find.result (λ f. f _ (YieldsList-from_progress (StandsAtEnd byte_width) _ _ (found_in Find c.args.mode _ _ _ c.in-Find.is c.find_iter.ensures.left)).runs) c.write_matches-in-Find.ensures.beginning
+    on_err_weaker c.write_matches-in-Find.result (λ f. f _ (YieldsList-from_progress (StandsAtEnd byte_width) _ _ (found_in Find c.args.mode _ _ _ c.in-Find.is c.find_iter.ensures.begins.left)).runs) c.write_matches-in-Find.ensures.beginning
 
 pub returns-in-Longest-clause-whole : goal.returns-in-Longest-clause-whole
 returns-in-Longest-clause-whole g c =

@@ -10,6 +10,11 @@ use Rattle.daachorse_listing.specs.Trees.{IsAmong, Pairs, IsMarking, elements_of
 
 -- ---- members
 
+pub among-read : (l : List ℕ) (k : ℕ) → k < length l → IsAmong l (get_or l k 0)
+among-read [] k h = absurd (omega arith)
+among-read (x ∷ l) zero h = inl refl
+among-read (x ∷ l) (suc k) h = inr (among-read l k (omega arith))
+
 pub among-append : (xs ys : List ℕ) (k : ℕ) → IsAmong (xs ++ ys) k → IsAmong xs k ⊎ IsAmong ys k
 among-append [] ys k h = inr h
 among-append (x ∷ xs) ys k (inl e) = inl (inl e)

@@ -18,7 +18,7 @@ Diverges (a ∷ v) (b ∷ w) = (a < b) ⊎ ((a ≡ b) × Diverges v w)
 cmp-less : (a b : ℕ) → a < b → nat_cmp a b ≡ Less
 cmp-less a b h = grind (arith, nat_tests)
 
-cmp-same : (a : ℕ) → nat_cmp a a ≡ Equal
+pub cmp-same : (a : ℕ) → nat_cmp a a ≡ Equal
 cmp-same a = grind (arith, nat_tests)
 
 pub Diverges-order : (v w : List ℕ) → Diverges v w → order v w ≡ Less

@@ -1,22 +1,18 @@
 -- What is left of a walk over the patterns: an element's values one by one, and then the next element's.
-use Rattle.std.proofs.Common.{◌≡◌, ◌≢◌, ℕ, zero, suc, ◌+◌, ◌-◌, ◌<◌, ◌≤◌, ◌⊎◌, inl, inr, List, [], ◌∷◌, ◌++◌, length, get_or, drop, Option, Some, refl, sym, ap, ◌∙◌, arith, subst, add-one, sub-one, drop-cons}
+use Rattle.std.proofs.Common.{◌≡◌, ◌≢◌, ℕ, zero, suc, ◌+◌, ◌-◌, ◌<◌, ◌⊎◌, List, [], ◌∷◌, ◌++◌, length, get_or, set, take, drop, Option, Some, refl, sym, ap, ◌∙◌, arith, subst, add-one, sub-one, drop-cons}
 use Rattle.std.specs.Prelude.{slice_get}
 use Rattle.std.proofs.lemmas.List.{drop_all}
 use Rattle.daachorse_core.specs.declared.outputs.Output.{Output}
 use Rattle.daachorse_core.specs.Outputs.{value_of, parent_of}
 use Rattle.daachorse_machine.specs.Texts.{IsReached, text_of}
-use Rattle.daachorse_listing.specs.Trees.{IsAmong}
-use Rattle.daachorse_listing.specs.Listing.{values_until, with_values, patterns_of, left_of, IsWalking}
-use Rattle.daachorse_listing.proofs.WalkLaws.{reached-inside}
+use Rattle.daachorse_listing.specs.Listing.{values_until, with_values, patterns_of, left_of, unit_of, IsLast, IsWalking}
+use Rattle.daachorse_listing.proofs.Members.{among-read}
+use Rattle.daachorse_listing.proofs.WalkLaws.{reached-inside, text-short}
+use Rattle.daachorse_listing.proofs.NextTexts.{written-room, next-text}
 use Rattle.daachorse_listing.proofs.ListingLaws.{values_until-step, values_until-end}
 
-pub among-read : (l : List ℕ) (k : ℕ) → k < length l → IsAmong l (get_or l k 0)
-among-read [] k h = absurd (omega arith)
-among-read (x ∷ l) zero h = inl refl
-among-read (x ∷ l) (suc k) h = inr (among-read l k (omega arith))
-
-module _ {V : Type 0} {child : ℕ → ℕ → Option ℕ} {group : ℕ → Option ℕ} {edge : ℕ → Option (ℕ × ℕ)} {n m : ℕ} {outputs : List (Output V)} {first : ℕ → ℕ} (stop : ℕ → ℕ) (order parents depths : List ℕ) (entered element position : ℕ)
-    (w : IsWalking child group edge n m outputs first order parents depths entered element position) where
+module _ {V : Type 0} {child : ℕ → ℕ → Option ℕ} {group : ℕ → Option ℕ} {edge : ℕ → Option (ℕ × ℕ)} {n m : ℕ} {outputs : List (Output V)} {first : ℕ → ℕ} (stop : ℕ → ℕ) (order depths buffer : List ℕ) (entered element depth position : ℕ)
+    (w : IsWalking child group edge n m outputs first order depths buffer entered element depth position) where
   abbrev rest : List (List ℕ × V)
   rest = patterns_of (text_of child m n) outputs first stop (drop entered order)
 
@@ -38,14 +34,27 @@ module _ {V : Type 0} {child : ℕ → ℕ → Option ℕ} {group : ℕ → Opti
   pub next-reached : (x : ℕ) → entered < length order → x ≡ get_or order entered 0 → IsReached child m n x
   next-reached x less e = subst (IsReached child m n) (sym e) (w.listed.reached (get_or order entered 0) (among-read order entered less))
 
-  pub next-walking : (x : ℕ) → entered < length order → x ≡ get_or order entered 0 → IsWalking child group edge n m outputs first order parents depths (entered + 1) x (first x)
-  next-walking x less e = record {
+  -- the last unit of its text is written behind that of its parent
+  pub next-walking : (x d : ℕ) (new : List ℕ) → entered < length order → x ≡ get_or order entered 0 → d ≡ get_or depths x 0 → (d ≡ 0 → new ≡ buffer) → (0 < d → new ≡ set buffer (d - 1) (unit_of (edge x)))
+      → IsWalking child group edge n m outputs first order depths new (entered + 1) x d (first x)
+  next-walking x d new less e deep root other = record {
     patterns = w.patterns;
     listed = w.listed;
     within = omega (arith, less);
-    reached = next-reached x less e;
-    inside = w.patterns.inside x (reached-inside w.patterns.tree x (next-reached x less e));
+    reached = here;
+    last = λ more. subst (λ k. IsLast order k x) (sym (add-one entered)) e;
+    room = written-room buffer new d (unit_of (edge x)) n w.room root other;
+    short = let short : length (text_of child m n x) < n = text-short w.patterns.tree x here in omega (arith, is, short);
+    text = rw is (next-text w.patterns.tree order depths w.listed w.patterns.tell buffer new w.room entered x element less e (w.last less) (ap (λ k. take k buffer) (sym w.deep) ∙ w.text) (λ h. root (is ∙ h)) (λ h. other (omega (arith, is, h)) ∙ ap (λ k. set buffer (k - 1) (unit_of (edge x))) is));
+    deep = is;
+    inside = w.patterns.inside x (reached-inside w.patterns.tree x here);
   }
+    where
+      here : IsReached child m n x
+      here = next-reached x less e
+
+      is : d ≡ length (text_of child m n x)
+      is = deep ∙ w.listed.depth x here
 
   -- a value is given
   pub left-of-value : (end : ℕ) (o : Output V) → position ≢ end → position ≢ 0 → slice_get outputs (position - 1) ≡ Some o
@@ -58,16 +67,3 @@ module _ {V : Type 0} {child : ℕ → ℕ → Option ℕ} {group : ℕ → Opti
       at (suc q) other some e =
           let here : slice_get outputs q ≡ Some o = ap (slice_get outputs) (sym (sub-one (suc q))) ∙ e in
           ap (λ vs. with_values (text_of child m n element) vs ++ rest) (values_until-step outputs w.patterns.falls end q o other here)
-
-  pub value-walking : (o : Output V) → position ≢ 0 → slice_get outputs (position - 1) ≡ Some o → IsWalking child group edge n m outputs first order parents depths entered element (parent_of o)
-  value-walking o some e = record {
-    patterns = w.patterns;
-    listed = w.listed;
-    within = w.within;
-    reached = w.reached;
-    inside = let low : parent_of o ≤ position - 1 = w.patterns.falls (position - 1) o e in let high : position ≤ length outputs = w.inside in omega (arith, low, high);
-  }
-
-  -- a walk that gives up has nothing left
-  pub given-up : IsWalking child group edge n m outputs first order parents depths (length order) element 0
-  given-up = record { patterns = w.patterns; listed = w.listed; within = omega arith; reached = w.reached; inside = omega arith }

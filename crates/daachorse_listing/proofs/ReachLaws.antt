@@ -1,9 +1,8 @@
 -- A walk along the list of the elements that were reached, each of which puts its children at the end, comes to each element once.
-use Rattle.std.proofs.Common.{◌≡◌, ◌≢◌, ℕ, zero, suc, ◌+◌, ◌<◌, ◌≤◌, ◌⊎◌, inl, inr, true, ◌==◌, List, [], ◌∷◌, ◌++◌, length, get_or, set, take, replicate, Option, Some, None, refl, sym, ap, ◌∙◌, arith, subst, length-append, append-nil, add-one}
+use Rattle.std.proofs.Common.{◌≡◌, ◌≢◌, ℕ, zero, suc, ◌+◌, ◌<◌, ◌≤◌, ◌⊎◌, inl, inr, true, List, [], ◌∷◌, ◌++◌, length, get_or, set, take, replicate, Option, Some, None, refl, sym, ap, ◌∙◌, arith, subst, length-append, append-nil, add-one}
 use Rattle.std.proofs.Math.Seq.{take-suc}
 use Rattle.std.proofs.lemmas.List.{get_or-replicate, get_or-set_same, get_or-set_other, length-set, length-replicate, take-append-le, take_all}
 use Rattle.std.proofs.lemmas.Option.{same_Some, slice_get-get_or}
-use Rattle.std.specs.List.{AllByRecursion}
 use Rattle.daachorse_model.specs.Paths.{walk, Leads}
 use Rattle.daachorse_machine.specs.Texts.{IsReached}
 use Rattle.daachorse_machine.proofs.PathLaws.{and_then_inv}
@@ -11,8 +10,7 @@ use Rattle.daachorse_listing.specs.Depths.{IsDepthTable}
 use Rattle.daachorse_listing.specs.Edges.{is_in, members, IsTree, TellChildren}
 use Rattle.daachorse_listing.specs.Listing.{unit_of}
 use Rattle.daachorse_listing.specs.Trees.{IsAmong, Pairs, IsMarking, IsNoting, text}
-use Rattle.daachorse_listing.proofs.Members.{among-append, among-left, among-right, among-either, All-among, among-All, Pairs-few, marking-start}
-use Rattle.daachorse_listing.proofs.PatternLaws.{among-read}
+use Rattle.daachorse_listing.proofs.Members.{among-read, among-append, among-left, among-right, All-among, among-All, Pairs-few, marking-start}
 use Rattle.daachorse_listing.proofs.SortLaws.{below-All, below-falls, below-has, in-edge, edge-in}
 use Rattle.daachorse_listing.proofs.WalkLaws.{root-text, root-reached, reached-inside, child-text, child-reached, child-not-root}
 

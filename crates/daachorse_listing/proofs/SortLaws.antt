@@ -191,6 +191,9 @@ not-less x y e = elim (either (nat_lt y.0 x.0)) [
 ]
 
 -- sorted pairs rise by their units
+pub sorted-few : (l : List Kid) → length l < 2 → IsSorted kid_cmp l
+sorted-few l h = λ k d low more. absurd (omega (arith, h, more))
+
 sorted-units : (l : List Kid) → IsSorted kid_cmp l → (j k : ℕ) → j < k → k < length l → (get_or l j nobody).0 ≤ (get_or l k nobody).0
 sorted-units l up j zero less h = absurd (omega arith)
 sorted-units l up j (suc k) less h =
@@ -243,7 +246,7 @@ All-read P [] k h a = absurd (omega arith)
 All-read P (x ∷ l) zero h a = a.0
 All-read P (x ∷ l) (suc k) h a = All-read P l k (omega arith) a.1
 
-Pairs-read : (R : ℕ → ℕ → Type 0) (l : List ℕ) (j k : ℕ) → j < k → k < length l → Pairs R l → R (get_or l j 0) (get_or l k 0)
+pub Pairs-read : (R : ℕ → ℕ → Type 0) (l : List ℕ) (j k : ℕ) → j < k → k < length l → Pairs R l → R (get_or l j 0) (get_or l k 0)
 Pairs-read R [] j k up h p = absurd (omega arith)
 Pairs-read R (x ∷ l) zero zero up h p = absurd (omega arith)
 Pairs-read R (x ∷ l) zero (suc k) up h p = All-read (R x) l k (omega arith) p.0

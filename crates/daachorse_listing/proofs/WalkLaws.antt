@@ -1,17 +1,17 @@
 -- A walk that takes the last element put aside lists the elements in the order of their texts.
-use Rattle.std.proofs.Common.{◌≡◌, ◌≢◌, ℕ, suc, ◌<◌, ◌≤◌, ◌⊎◌, inl, inr, List, [], ◌∷◌, ◌++◌, length, get_or, set, replicate, reverse, Option, Some, None, refl, sym, ap, ◌∙◌, arith, subst, length-append}
+use Rattle.std.proofs.Common.{◌≡◌, ℕ, suc, ◌<◌, ◌≤◌, ◌⊎◌, inl, inr, List, [], ◌∷◌, ◌++◌, length, get_or, set, replicate, reverse, Option, Some, None, refl, sym, ap, ◌∙◌, arith, subst, length-append}
 use Rattle.std.proofs.lemmas.List.{get_or-replicate, get_or-set_same, get_or-set_other, length-set, length-replicate, reverse-append}
 use Rattle.std.specs.Cmp.Lexicographic.{nat_list_cmp_total}
 use Rattle.std.specs.declared.cmp.Ordering.{Ordering}
 use Rattle.std.specs.declared.cmp.Ordering.TheVariants.{Less, Equal}
 use Rattle.daachorse_model.specs.Paths.{walk, Leads}
 use Rattle.daachorse_machine.specs.Texts.{IsReached}
-use Rattle.daachorse_machine.proofs.PathLaws.{walk-push, and_then_inv, text_of-Leads, Leads-inside}
+use Rattle.daachorse_machine.proofs.PathLaws.{walk-push, and_then_inv, text_of-Leads, Leads-inside, Leads-length}
 use Rattle.std.proofs.lemmas.Option.{same_Some, slice_get-get_or}
 use Rattle.daachorse_listing.specs.Depths.{IsDepthTable}
 use Rattle.daachorse_listing.specs.Edges.{put_before, children, IsTree, TellChildren}
 use Rattle.daachorse_listing.specs.Listing.{unit_of}
-use Rattle.daachorse_listing.specs.Trees.{IsAmong, Pairs, IsMarking, text, ComesBefore, IsParent, IsListed}
+use Rattle.daachorse_listing.specs.Trees.{IsAmong, Pairs, IsMarking, text, ComesBefore, IsListed}
 use Rattle.daachorse_listing.proofs.Members.{among-append, among-left, among-right, among-put, put-left, put-right, among-either, All-among, among-All, among-children, children-among, Pairs-children, Pairs-push, Pairs-few}
 use Rattle.daachorse_listing.proofs.Orders.{order, Diverges, Diverges-order, Diverges-on, Diverges-last, order-longer, order-itself}
 
@@ -20,34 +20,32 @@ module _ (child : ℕ → ℕ → Option ℕ) (n m : ℕ) where
   Apart i j = Diverges (text child n m i) (text child n m j)
 
   -- the elements that were taken, in order, and those that were put aside: what the first of these lead to comes before what the others do
-  pub record IsWalk (taken aside parents depths : List ℕ) : Type 0 where
+  pub record IsWalk (taken aside depths : List ℕ) : Type 0 where
     pub reached : (i : ℕ) → IsAmong taken i ⊎ IsAmong aside i → IsReached child m n i
     pub root : IsAmong taken 0 ⊎ IsAmong aside 0
     pub closed : (i c j : ℕ) → IsAmong taken i → child i c ≡ Some j → IsAmong taken j ⊎ IsAmong aside j
     pub rising : Pairs (ComesBefore child n m) taken
     pub apart : Pairs Apart aside
     pub across : (i j : ℕ) → IsAmong taken i → IsAmong aside j → ComesBefore child n m i j
-    pub parents_size : length parents ≡ n
-    pub parent : (i : ℕ) → IsAmong taken i ⊎ IsAmong aside i → i ≢ 0 → IsParent child n m i (get_or parents i 0)
     pub depths_size : length depths ≡ n
     pub depth : (i : ℕ) → IsAmong taken i ⊎ IsAmong aside i → get_or depths i 0 ≡ length (text child n m i)
     pub others : (i : ℕ) → i < n → ¬ IsAmong taken i → ¬ IsAmong aside i → get_or depths i 0 ≡ 4294967295
 
 -- the last element of a stack is the first that was put aside
-pub walk-pop : {child : ℕ → ℕ → Option ℕ} {n m : ℕ} (taken parents depths stack rest : List ℕ) (x : ℕ) → stack ≡ rest ++ x ∷ [] → IsWalk child n m taken (reverse stack) parents depths → IsWalk child n m taken (x ∷ reverse rest) parents depths
-walk-pop {child} {n} {m} taken parents depths stack rest x e w =
-    let P : List ℕ → Type 0 = λ l. IsWalk child n m taken l parents depths in
+pub walk-pop : {child : ℕ → ℕ → Option ℕ} {n m : ℕ} (taken depths stack rest : List ℕ) (x : ℕ) → stack ≡ rest ++ x ∷ [] → IsWalk child n m taken (reverse stack) depths → IsWalk child n m taken (x ∷ reverse rest) depths
+walk-pop {child} {n} {m} taken depths stack rest x e w =
+    let P : List ℕ → Type 0 = λ l. IsWalk child n m taken l depths in
     subst P (ap reverse e ∙ reverse-append rest (x ∷ [])) w
 
-pub walk-empty : {child : ℕ → ℕ → Option ℕ} {n m : ℕ} (taken parents depths stack : List ℕ) → length stack ≡ 0 → IsWalk child n m taken (reverse stack) parents depths → IsWalk child n m taken [] parents depths
-walk-empty taken parents depths [] e w = w
-walk-empty taken parents depths (x ∷ stack) e w = absurd (omega arith)
+pub walk-empty : {child : ℕ → ℕ → Option ℕ} {n m : ℕ} (taken depths stack : List ℕ) → length stack ≡ 0 → IsWalk child n m taken (reverse stack) depths → IsWalk child n m taken [] depths
+walk-empty taken depths [] e w = w
+walk-empty taken depths (x ∷ stack) e w = absurd (omega arith)
 
 module _ {child : ℕ → ℕ → Option ℕ} {n m : ℕ} (tree : IsTree child n m) where
   text-is : (w : List ℕ) (i : ℕ) → Leads child w i → text child n m i ≡ w
   text-is w i e = text_of-Leads child n m tree.some tree.inside tree.one_path w i e
 
-  reached-is : (w : List ℕ) (i : ℕ) → Leads child w i → IsReached child m n i
+  pub reached-is : (w : List ℕ) (i : ℕ) → Leads child w i → IsReached child m n i
   reached-is w i e = ap (λ v. walk child 0 v) (text-is w i e) ∙ e
 
   pub root-text : text child n m 0 ≡ []
@@ -58,6 +56,9 @@ module _ {child : ℕ → ℕ → Option ℕ} {n m : ℕ} (tree : IsTree child n
 
   pub reached-inside : (i : ℕ) → IsReached child m n i → i < n
   reached-inside i r = Leads-inside child n m tree.some tree.inside tree.one_path (text child n m i) i r
+
+  pub text-short : (i : ℕ) → IsReached child m n i → length (text child n m i) < n
+  text-short i r = Leads-length child n m tree.some tree.inside tree.one_path (text child n m i) i r
 
   -- the text of a child
   pub child-text : (x c j : ℕ) → IsReached child m n x → child x c ≡ Some j → text child n m j ≡ text child n m x ++ c ∷ []
@@ -74,7 +75,7 @@ module _ {child : ℕ → ℕ → Option ℕ} {n m : ℕ} (tree : IsTree child n
 
   -- ---- the start
 
-  pub walk-start : (depths : List ℕ) → depths ≡ replicate n 4294967295 → IsWalk child n m [] (0 ∷ []) (replicate n 0) (set depths 0 0)
+  pub walk-start : (depths : List ℕ) → depths ≡ replicate n 4294967295 → IsWalk child n m [] (0 ∷ []) (set depths 0 0)
   walk-start depths e = record {
     reached = λ i h. elim h [ inl bad ↦ absurd bad | inr a ↦ elim a [ inl same ↦ subst (IsReached child m n) (sym same) root-reached | inr bad ↦ absurd bad ] ];
     root = inr (inl refl);
@@ -82,8 +83,6 @@ module _ {child : ℕ → ℕ → Option ℕ} {n m : ℕ} (tree : IsTree child n
     rising = tt;
     apart = (tt, tt);
     across = λ i j bad h. absurd bad;
-    parents_size = length-replicate n 0;
-    parent = λ i h other. elim h [ inl bad ↦ absurd bad | inr a ↦ elim a [ inl same ↦ absurd (other same) | inr bad ↦ absurd bad ] ];
     depths_size = length-set depths 0 0 ∙ long;
     depth = λ i h. elim h [ inl bad ↦ absurd bad | inr a ↦ elim a [ inl same ↦ rw same (get_or-set_same depths 0 0 0 inside ∙ sym (ap length root-text)) | inr bad ↦ absurd bad ] ];
     others = λ i less out free.
@@ -96,11 +95,11 @@ module _ {child : ℕ → ℕ → Option ℕ} {n m : ℕ} (tree : IsTree child n
       inside : 0 < length depths
       inside = let some : 0 < n = tree.some in omega (arith, long, some)
 
-  pub walk-begin : (taken aside parents depths : List ℕ) → taken ≡ [] → aside ≡ 0 ∷ [] → parents ≡ replicate n 0 → depths ≡ replicate n 4294967295 → IsWalk child n m taken aside parents (set depths 0 0)
-  walk-begin taken aside parents depths a b c d = rw (a, b, c) (walk-start depths d)
+  pub walk-begin : (taken aside depths : List ℕ) → taken ≡ [] → aside ≡ 0 ∷ [] → depths ≡ replicate n 4294967295 → IsWalk child n m taken aside (set depths 0 0)
+  walk-begin taken aside depths a b d = rw (a, b) (walk-start depths d)
 
   -- ---- one element is taken, and its children are put aside
-  module _ (taken aside parents depths : List ℕ) (x : ℕ) (w : IsWalk child n m taken (x ∷ aside) parents depths) where
+  module _ (taken aside depths : List ℕ) (x : ℕ) (w : IsWalk child n m taken (x ∷ aside) depths) where
     here : IsReached child m n x
     here = w.reached x (inr (inl refl))
 
@@ -162,9 +161,9 @@ module _ {child : ℕ → ℕ → Option ℕ} {n m : ℕ} (tree : IsTree child n
       | inr old ↦ aside-before k old
     ]
 
-    module _ (new_parents new_depths : List ℕ) (depth : ℕ) (deeper : depth ≡ suc (get_or depths x 0)) (p : IsMarking kids [] x parents new_parents) (d : IsMarking kids [] depth depths new_depths) where
-      at-kid : (i c : ℕ) → child x c ≡ Some i → (get_or new_parents i 0 ≡ x) × (get_or new_depths i 0 ≡ length (text child n m i))
-      at-kid i c e = (elim (p.written i among) [ inl bad ↦ absurd bad | inr is ↦ is ], elim (d.written i among) [ inl bad ↦ absurd bad | inr is ↦ deep is ])
+    module _ (new_depths : List ℕ) (depth : ℕ) (deeper : depth ≡ suc (get_or depths x 0)) (d : IsMarking kids [] depth depths new_depths) where
+      at-kid : (i c : ℕ) → child x c ≡ Some i → get_or new_depths i 0 ≡ length (text child n m i)
+      at-kid i c e = elim (d.written i among) [ inl bad ↦ absurd bad | inr is ↦ deep is ]
         where
           among : IsAmong kids i
           among = children-among child x m c i (tree.inside x c i e).1 e
@@ -172,7 +171,7 @@ module _ {child : ℕ → ℕ → Option ℕ} {n m : ℕ} (tree : IsTree child n
           deep : get_or new_depths i 0 ≡ depth → get_or new_depths i 0 ≡ length (text child n m i)
           deep is = let long : length (text child n m i) ≡ length (text child n m x ++ c ∷ []) = ap length (child-text x c i here e) in omega (arith, is, deeper, taken-depth, long, length-append (text child n m x) (c ∷ []))
 
-      pub walk-next : IsWalk child n m (taken ++ x ∷ []) rest new_parents new_depths
+      pub walk-next : IsWalk child n m (taken ++ x ∷ []) rest new_depths
       walk-next = record {
         reached = λ i h. elim (split i h) [ inl old ↦ w.reached i old | inr kid ↦ child-reached x kid.0 i here kid.1 ];
         root = keep 0 w.root;
@@ -191,19 +190,9 @@ module _ {child : ℕ → ℕ → Option ℕ} {n m : ℕ} (tree : IsTree child n
           | inl old ↦ nat_list_cmp_total.trans (text child n m i) (text child n m x) (text child n m j) (w.across i x old (inl refl)) (x-before j b)
           | inr new ↦ elim new [ inl same ↦ rw same (x-before j b) | inr bad ↦ absurd bad ]
         ];
-        parents_size = p.size ∙ w.parents_size;
-        parent = λ i h other. elim (among-either kids i) [
-          | inl kid ↦ (let at = among-children child x m i kid in
-              let P : ℕ → Type 0 = λ q. IsParent child n m i q in
-              subst P (sym (at-kid i at.0 at.1).0) (record { reached = here; leads = at }))
-          | inr out ↦ elim (split i h) [
-            | inl old ↦ (let P : ℕ → Type 0 = λ q. IsParent child n m i q in subst P (sym (p.other i out)) (w.parent i old other))
-            | inr kid ↦ absurd (out (children-among child x m kid.0 i (tree.inside x kid.0 i kid.1).1 kid.1))
-          ]
-        ];
         depths_size = d.size ∙ w.depths_size;
         depth = λ i h. elim (among-either kids i) [
-          | inl kid ↦ (let at = among-children child x m i kid in (at-kid i at.0 at.1).1)
+          | inl kid ↦ (let at = among-children child x m i kid in at-kid i at.0 at.1)
           | inr out ↦ elim (split i h) [
             | inl old ↦ d.other i out ∙ w.depth i old
             | inr kid ↦ absurd (out (children-among child x m kid.0 i (tree.inside x kid.0 i kid.1).1 kid.1))
@@ -219,13 +208,11 @@ module _ {child : ℕ → ℕ → Option ℕ} {n m : ℕ} (tree : IsTree child n
 
   -- ---- the end
 
-  pub walk-end : (taken parents depths : List ℕ) → IsWalk child n m taken [] parents depths → IsListed child n m taken parents depths
-  walk-end taken parents depths w = record {
+  pub walk-end : (taken depths : List ℕ) → IsWalk child n m taken [] depths → IsListed child n m taken depths
+  walk-end taken depths w = record {
     reached = λ i a. w.reached i (inl a);
     complete = λ i r. along (text child n m i) i r;
     rising = w.rising;
-    parents_size = w.parents_size;
-    parent = λ i r other. w.parent i (inl (along (text child n m i) i r)) other;
     depths_size = w.depths_size;
     depth = λ i r. w.depth i (inl (along (text child n m i) i r));
     others = λ i less out. w.others i less (λ a. out (w.reached i (inl a))) (λ bad. bad);
@@ -245,8 +232,8 @@ module _ {child : ℕ → ℕ → Option ℕ} {n m : ℕ} (tree : IsTree child n
       along v i e = from v 0 i (only 0 w.root) e
 
   -- the depths of a listing, read as entries
-  pub listed-depths : (taken parents depths : List ℕ) → IsListed child n m taken parents depths → IsDepthTable child m n depths
-  listed-depths taken parents depths l = record {
+  pub listed-depths : (taken depths : List ℕ) → IsListed child n m taken depths → IsDepthTable child m n depths
+  listed-depths taken depths l = record {
     size = l.depths_size;
     reached = λ i r. slice_get-get_or depths i 0 (let less : i < n = reached-inside i r in omega (arith, less, l.depths_size)) ∙ ap (λ k. Some k) (l.depth i r);
     others = λ i less out. slice_get-get_or depths i 0 (omega (arith, less, l.depths_size)) ∙ ap (λ k. Some k) (l.others i less out);
@@ -259,15 +246,3 @@ unit-is {child} {group} {edge} tell p c j real e = at (group p) refl
     at : (o : Option ℕ) → group p ≡ o → unit_of (edge j) ≡ c
     at None own = absurd (let bad : ◌≡◌ {A = Option ℕ} None (Some j) = sym (tell.alone p c real own) ∙ e in cc)
     at (Some g) own = ap unit_of (tell.from_child p g c j real own e)
-
--- a reached element that is not the root: its parent is reached, and its text is the parent's and one unit
-pub text-parent : {child : ℕ → ℕ → Option ℕ} {group : ℕ → Option ℕ} {edge : ℕ → Option (ℕ × ℕ)} {n m : ℕ} → IsTree child n m → TellChildren child group edge n → (taken parents depths : List ℕ) → IsListed child n m taken parents depths
-    → (i p : ℕ) → IsReached child m n i → i ≢ 0 → p ≡ get_or parents i 0 → IsReached child m n p × (text child n m i ≡ text child n m p ++ unit_of (edge i) ∷ [])
-text-parent {child} {group} {edge} {n} {m} tree tell taken parents depths l i p r other e =
-    let parent = l.parent i r other in
-    let Reached : ℕ → Type 0 = λ k. IsReached child m n k in
-    let Leads-to : ℕ → Type 0 = λ k. (c : ℕ) × (child k c ≡ Some i) in
-    let reached : IsReached child m n p = subst Reached (sym e) parent.reached in
-    let leads : (c : ℕ) × (child p c ≡ Some i) = subst Leads-to (sym e) parent.leads in
-    let unit : unit_of (edge i) ≡ leads.0 = unit-is tell p leads.0 i (reached-inside tree p reached) leads.1 in
-    (reached, child-text tree p leads.0 i reached leads.1 ∙ ap (λ c. text child n m p ++ c ∷ []) (sym unit))

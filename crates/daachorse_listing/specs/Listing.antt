@@ -1,5 +1,5 @@
 -- The patterns of a tree with outputs: of each element, in the order of the texts, its text with the values of its own outputs.
-use Rattle.std.specs.Prelude.{◌≡◌, ℕ, zero, suc, ◌≤◌, ◌<◌, ◌==◌, Bool, true, false, cond, List, [], ◌∷◌, ◌++◌, drop, flat_map, length, map, slice_get, Option, Some, None, ◌≢◌, Result, MatchOption, MatchResult}
+use Rattle.std.specs.Prelude.{◌≡◌, ℕ, zero, suc, ◌≤◌, ◌<◌, ◌==◌, Bool, true, false, cond, List, [], ◌∷◌, ◌++◌, drop, flat_map, length, map, slice_get, slice_index, take, Option, Some, None, ◌≢◌, Result, MatchOption, MatchResult}
 use Rattle.daachorse_core.specs.declared.errors.DaachorseError.{DaachorseError}
 use Rattle.daachorse_core.specs.Refusals.{IsOutOfMemory}
 use Rattle.daachorse_core.specs.declared.outputs.Output.{Output}
@@ -55,19 +55,29 @@ pub record HasPatterns {V : Type 0} (child : ℕ → ℕ → Option ℕ) (group 
 module _ {V : Type 0} (child : ℕ → ℕ → Option ℕ) (n m : ℕ) (outputs : List (Output V)) (first stop : ℕ → ℕ) where
   -- all patterns: those of the reached elements, in the order of their texts
   abbrev pub IsPatterns : List (List ℕ × V) → Type 0
-  IsPatterns entries = (order parents depths : List ℕ) × IsListed child n m order parents depths × (entries ≡ patterns_of (text_of child m n) outputs first stop order)
+  IsPatterns entries = (order depths : List ℕ) × IsListed child n m order depths × (entries ≡ patterns_of (text_of child m n) outputs first stop order)
 
   -- the patterns that are left: those of one element from a position until the end of its own outputs, and those of the elements that were not entered
   abbrev pub left_of : List ℕ → ℕ → ℕ → ℕ → ℕ → List (List ℕ × V)
   left_of order entered element end position =
       with_values (text_of child m n element) (values_until outputs end position) ++ patterns_of (text_of child m n) outputs first stop (drop entered order)
 
--- what holds of a walk over the patterns
-pub record IsWalking {V : Type 0} (child : ℕ → ℕ → Option ℕ) (group : ℕ → Option ℕ) (edge : ℕ → Option (ℕ × ℕ)) (n m : ℕ) (outputs : List (Output V)) (first : ℕ → ℕ) (order parents depths : List ℕ) (entered element position : ℕ) : Type 0 where
+-- the element that was entered last, the root where none was
+abbrev pub IsLast : List ℕ → ℕ → ℕ → Type 0
+IsLast order zero element = element ≡ 0
+IsLast order (suc k) element = element ≡ slice_index order k
+
+-- What holds of a walk over the patterns: so many units of a buffer are the text of the element, which was entered last while others are left.
+pub record IsWalking {V : Type 0} (child : ℕ → ℕ → Option ℕ) (group : ℕ → Option ℕ) (edge : ℕ → Option (ℕ × ℕ)) (n m : ℕ) (outputs : List (Output V)) (first : ℕ → ℕ) (order depths buffer : List ℕ) (entered element depth position : ℕ) : Type 0 where
   pub patterns : HasPatterns child group edge n m outputs first
-  pub listed : IsListed child n m order parents depths
+  pub listed : IsListed child n m order depths
   pub within : entered ≤ length order
   pub reached : IsReached child m n element
+  pub last : entered < length order → IsLast order entered element
+  pub room : length buffer ≡ n
+  pub short : depth < n
+  pub text : take depth buffer ≡ text_of child m n element
+  pub deep : depth ≡ length (text_of child m n element)
   pub inside : position ≤ length outputs
 
 -- A call gives the first pattern, or an error behind which nothing is left; `text` reads the key.

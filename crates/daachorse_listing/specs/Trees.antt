@@ -44,18 +44,11 @@ module _ (child : ℕ → ℕ → Option ℕ) (n m : ℕ) where
   abbrev pub ComesBefore : ℕ → ℕ → Type 0
   ComesBefore i j = slice_cmp nat_cmp (text i) (text j) ≡ Less
 
-  -- the parent of a reached element: a reached one, from which a unit leads to it
-  pub record IsParent (i p : ℕ) : Type 0 where
-    pub reached : IsReached child m n p
-    pub leads : (c : ℕ) × (child p c ≡ Some i)
-
-  -- all reached elements in the order of their texts, the parents of all but the root, and the depths, 4294967295 for an element that is not reached
-  pub record IsListed (order parents depths : List ℕ) : Type 0 where
+  -- all reached elements in the order of their texts, and the depths, 4294967295 for an element that is not reached
+  pub record IsListed (order depths : List ℕ) : Type 0 where
     pub reached : (i : ℕ) → IsAmong order i → IsReached child m n i
     pub complete : (i : ℕ) → IsReached child m n i → IsAmong order i
     pub rising : Pairs ComesBefore order
-    pub parents_size : length parents ≡ n
-    pub parent : (i : ℕ) → IsReached child m n i → i ≢ 0 → IsParent i (slice_index parents i)
     pub depths_size : length depths ≡ n
     pub depth : (i : ℕ) → IsReached child m n i → slice_index depths i ≡ length (text i)
     pub others : (i : ℕ) → i < n → ¬ IsReached child m n i → slice_index depths i ≡ 4294967295

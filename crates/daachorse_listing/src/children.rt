@@ -39,6 +39,8 @@ pub(crate) fn list_children<E: Edges, A: Allocator>(
             list.push((unit as u32, member))?;
         }
     }
-    list.sort_unstable();
+    if list.len() > 1 {
+        list.sort_unstable();
+    }
     Ok(())
 }

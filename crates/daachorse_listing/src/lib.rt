@@ -1,5 +1,4 @@
-//! The reached elements of an array with children: in the order of their texts, with their parents
-//! and their depths.
+//! The reached elements of an array with children: in the order of their texts, with their depths.
 //!
 //! The layers above may rely on [`tree::Tree`] holding each element that a text leads to, once, and
 //! on [`depths::depths`] giving the length of each element's text.

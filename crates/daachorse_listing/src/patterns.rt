@@ -2,14 +2,14 @@
 //!
 //! The layers above may rely on a walk giving each pattern with each of its values, the values in
 //! order; and on one error, and then the end, where memory is refused.
+//!
+//! The text of an element begins with that of its parent, and so does each text from there to its
+//! own in their order. So a walk keeps one text, whose unit at the depth that it comes to is written.
 
-ghost use Rattle.std.specs.Prelude.{◌≡◌, ◌<◌, ◌≤◌, ◌-◌, ℕ, List, [], Some, length, map, slice_get, IfOk, IfErr};
+ghost use Rattle.std.specs.Prelude.{◌≡◌, ◌<◌, ◌≤◌, ◌-◌, ℕ, List, [], Some, length, slice_get, slice_set, IfOk, IfErr};
 ghost use Rattle.daachorse_core.specs.Refusals.{IsOutOfMemory};
 ghost use Rattle.daachorse_core.specs.declared.outputs.Output.{Output};
-ghost use Rattle.daachorse_machine.specs.Texts.{IsReached, text_of};
 ghost use Rattle.daachorse_listing.specs.Listing.{HasPatterns, IsPatterns, unit_of};
-ghost use Rattle.daachorse_listing.specs.Edges.{IsTree, TellChildren};
-ghost use Rattle.daachorse_listing.specs.Trees.{IsListed};
 
 use crate::edges::Edges;
 use crate::tree::Tree;
@@ -87,6 +87,9 @@ pub struct PatternWalk<V: Copy, E: Outputs<V>, A: Allocator = Global> {
     // How many elements of the order were entered, and the last of them.
     entered: usize,
     element: usize,
+    // How many units its text has, and a buffer that begins with them.
+    depth: usize,
+    buffer: Vec<E::Unit, A>,
     // What is left of its own outputs: those from a position until another.
     position: usize,
     stop: usize,
@@ -94,7 +97,7 @@ pub struct PatternWalk<V: Copy, E: Outputs<V>, A: Allocator = Global> {
 }
 
 impl<V: Copy, E: Outputs<V>, A: Allocator> Model for PatternWalk<V, E, A> {
-    ghost use Rattle.std.specs.Prelude.{List, ℕ};
+    ghost use Rattle.std.specs.Prelude.{List, ℕ, map};
     ghost use Rattle.daachorse_listing.specs.Listing.{IsWalking, left_of};
 
     ghost Value = { List (List ℕ × V) };
@@ -105,7 +108,7 @@ impl<V: Copy, E: Outputs<V>, A: Allocator> Model for PatternWalk<V, E, A> {
 
     ghost invariant = { λ s. IsWalking (E.child s.elements) (E.group s.elements) (E.edge s.elements) (E.count s.elements) (E.units s.elements)
         (E.outputs s.elements) (E.first s.elements)
-        s.tree.order.items s.tree.parents.items s.tree.depths.items s.entered s.element s.position };
+        s.tree.order.items s.tree.depths.items (map E.number s.buffer.items) s.entered s.element s.depth s.position };
 }
 
 impl<V: Copy, E: Outputs<V> + Drop, A: Allocator + Copy> PatternWalk<V, E, A> {
@@ -120,11 +123,14 @@ impl<V: Copy, E: Outputs<V> + Drop, A: Allocator + Copy> PatternWalk<V, E, A> {
         ensures err { IfErr result IsOutOfMemory }
     {
         let tree = Tree::new(alloc, &elements)?;
+        let buffer = vec![in alloc; elements.unit(0); elements.num_elements()]?;
         Ok(PatternWalk {
             elements,
             tree,
             entered: 0,
             element: 0,
+            depth: 0,
+            buffer,
             position: 0,
             stop: 0,
             values: PhantomData,
@@ -158,46 +164,36 @@ impl<V: Copy, E: Outputs<V> + Drop, A: Allocator + Copy> Iterator for PatternWal
             if self.entered == self.tree.order.len() {
                 return None;
             }
-            self.element = self.tree.order[self.entered] as usize;
+            let element = self.tree.order[self.entered] as usize;
             self.entered += 1;
-            let (position, stop) = self.elements.own_outputs(self.element);
+            self.element = element;
+            self.depth = self.tree.depths[element] as usize;
+            write_last(&mut self.buffer, self.depth, self.elements.unit(element));
+            let (position, stop) = self.elements.own_outputs(element);
             self.position = position;
             self.stop = stop;
         }
         let output = self.elements.output(self.position);
-        match text::<V, E, A>(&self.elements, &self.tree, self.element) {
+        match Vec::from_slice(*self.buffer.allocator(), &self.buffer[..self.depth]) {
             Ok(key) => {
                 self.position = output.parent().map_or(0, NonZeroU32::get) as usize;
                 Some(Ok((key, output.value())))
             }
             Err(error) => {
                 self.end();
-                Some(Err(error))
+                Some(Err(error.into()))
             }
         }
     }
 }
 
-/// The text of an element.
-fn text<V: Copy, E: Outputs<V>, A: Allocator + Copy>(
-    elements: &E,
-    tree: &Tree<A>,
-    element: usize,
-) -> Result<Vec<E::Unit, A>>
-    requires tree { IsTree (E.child elements.now) (E.count elements.now) (E.units elements.now) }
-    requires tell { TellChildren (E.child elements.now) (E.group elements.now) (E.edge elements.now) (E.count elements.now) }
-    requires listed { IsListed (E.child elements.now) (E.count elements.now) (E.units elements.now) tree.now.order.items tree.now.parents.items tree.now.depths.items }
-    requires reached { IsReached (E.child elements.now) (E.units elements.now) (E.count elements.now) element }
-    ensures ok { IfOk result (λ key. map E.number key.items ≡ text_of (E.child elements.now) (E.units elements.now) (E.count elements.now) element) }
-    ensures err { IfErr result IsOutOfMemory }
+/// Writes the last of so many units, if there is one.
+fn write_last<U: Copy, A: Allocator>(buffer: &mut Vec<U, A>, depth: usize, unit: U)
+    requires { depth ≤ length buffer.old.items }
+    ensures none { depth ≡ 0 → buffer.new.items ≡ buffer.old.items }
+    ensures some { 0 < depth → buffer.new.items ≡ slice_set buffer.old.items (depth - 1) unit }
 {
-    let length = tree.depths[element] as usize;
-    let mut units = Vec::with_capacity(*tree.order.allocator(), length)?;
-    let mut at = element;
-    while at != 0 {
-        units.push(elements.unit(at))?;
-        at = tree.parents[at] as usize;
+    if depth > 0 {
+        buffer[depth - 1] = unit;
     }
-    units.reverse();
-    Ok(units)
 }

@@ -1,8 +1,8 @@
 //! The reached elements of an array with children.
 //!
 //! The layers above may rely on the order being that of the texts, on each reached element standing
-//! in it once, and on the tables of the parents and the depths. The memory is linear in the number
-//! of elements, and so is the time but for the sorting of each element's children.
+//! in it once, and on the table of the depths. The memory is linear in the number of elements, and so
+//! is the time but for the sorting of each element's children.
 
 ghost use Rattle.std.specs.Prelude.{◌≡◌, ◌+◌, ◌<◌, ◌^◌, ℕ, [], length, reverse, slice_index, slice_index_or, IfOk, IfErr, OnOk};
 ghost use Rattle.daachorse_core.specs.Refusals.{IsOutOfMemory};
@@ -24,8 +24,6 @@ pub(crate) const NOT_REACHED: u32 = u32::MAX;
 pub(crate) struct Tree<A: Allocator = Global> {
     /// The elements, in the order of their texts.
     pub(crate) order: Vec<u32, A>,
-    /// The parent of each element that is reached, but for the root's.
-    pub(crate) parents: Vec<u32, A>,
     /// Of each element the length of its text, or `NOT_REACHED`.
     pub(crate) depths: Vec<u32, A>,
 }
@@ -39,20 +37,15 @@ impl<A: Allocator + Copy> Tree<A> {
     pub(crate) fn new<E: Edges>(alloc: A, edges: &E) -> Result<Self>
         requires tree { IsTree (E.child edges.now) (E.count edges.now) (E.units edges.now) }
         requires tell { TellChildren (E.child edges.now) (E.group edges.now) (E.edge edges.now) (E.count edges.now) }
-        ensures ok { IfOk result (λ t. IsListed (E.child edges.now) (E.count edges.now) (E.units edges.now) t.order.items t.parents.items t.depths.items) }
+        ensures ok { IfOk result (λ t. IsListed (E.child edges.now) (E.count edges.now) (E.units edges.now) t.order.items t.depths.items) }
         ensures err { IfErr result IsOutOfMemory }
     {
         let groups = Siblings::new(alloc, edges)?;
         let count = edges.num_elements();
         let order = Vec::with_capacity(alloc, count)?;
-        let parents = vec![in alloc; 0; count]?;
         let mut depths = vec![in alloc; NOT_REACHED; count]?;
         depths[0] = 0;
-        let mut tree = Tree {
-            order,
-            parents,
-            depths,
-        };
+        let mut tree = Tree { order, depths };
         let mut children = Vec::new(alloc);
         let mut aside = Vec::new(alloc);
         aside.push(0)?;
@@ -66,27 +59,23 @@ impl<A: Allocator + Copy> Tree<A> {
 }
 
 impl<A: Allocator> Tree<A> {
-    /// Puts the children of an element aside, the last of the list first, and notes their parent and
-    /// their depth.
+    /// Puts the children of an element aside, the last of the list first, and notes their depth.
     fn put_aside(
         &mut self,
         element: u32,
         children: &mut Vec<(u32, u32), A>,
         aside: &mut Vec<u32, A>,
     ) -> Result<()>
-        requires inside { AllByRecursion (λ j. j < length self.old.parents.items) (elements_of children.old.items) }
-        requires element { element < length self.old.parents.items }
-        requires tables { length self.old.depths.items ≡ length self.old.parents.items }
+        requires inside { AllByRecursion (λ j. j < length self.old.depths.items) (elements_of children.old.items) }
+        requires element { element < length self.old.depths.items }
         requires shallow { slice_index self.old.depths.items element < 4294967295 }
         ensures order { self.new.order ≡ self.old.order }
         ensures aside { OnOk result (reverse aside.new.items ≡ put_before (elements_of children.old.items) (reverse aside.old.items)) }
-        ensures parents { OnOk result (IsMarking (elements_of children.old.items) [] element self.old.parents.items self.new.parents.items) }
         ensures depths { OnOk result (IsMarking (elements_of children.old.items) [] (slice_index self.old.depths.items element + 1) self.old.depths.items self.new.depths.items) }
         ensures err { IfErr result IsOutOfMemory }
     {
         let depth = self.depths[element as usize] + 1;
         while let Some((_unit, child)) = children.pop() {
-            self.parents[child as usize] = element;
             self.depths[child as usize] = depth;
             aside.push(child)?;
         }

@@ -1,10 +1,11 @@
--- Each member of the group is a child, with its unit; the pairs are sorted.
-use Rattle.std.proofs.Common.{◌≡◌, ◌++◌, sym, ap, ◌∙◌, map}
+-- Each member of the group is a child, with its unit; the pairs are sorted, as one alone is.
+use Rattle.std.proofs.Common.{◌≡◌, ◌<◌, ◌++◌, length, sym, ap, ◌∙◌, map, arith}
 use Rattle.std.proofs.lemmas.List.{append-nil}
+use Rattle.std.proofs.lemmas.List.Sorted.{IsPermutation-refl}
 use Rattle.daachorse_listing.specs.Edges.{is_in, members}
 use Rattle.daachorse_listing.specs.Trees.{elements_of}
 use Rattle.daachorse_listing.proofs.Members.{no-children}
-use Rattle.daachorse_listing.proofs.SortLaws.{below-All, kid_of, sorted-children}
+use Rattle.daachorse_listing.proofs.SortLaws.{below-All, kid_of, sorted-few, sorted-children}
 use Rattle.daachorse_listing.proofs.children.list_children.Goals as goal
 
 pub returns-in_default-clause-ok : goal.returns-in_default-clause-ok
@@ -24,11 +25,21 @@ loop-member-init g c =
       done = ap (λ l. l ++ map (kid_of edge) c.into_iter-member-iterator.result) c.clear.ensures.items ∙ ap (map (kid_of edge)) is;
     }
 
-pub returns-clause-ok : goal.returns-clause-ok
-returns-clause-ok g c =
+pub returns-then-len-gt1-clause-ok : goal.returns-then-len-gt1-clause-ok
+returns-then-len-gt1-clause-ok g c =
     let edge = g.E.Edges.edge c.args.edges.now in
     let count = g.E.Edges.count c.args.edges.now in
     let all : c.loop-member.list.items ≡ map (kid_of edge) (members edge c.in-Some.group count) =
     sym (append-nil c.loop-member.list.items) ∙ (ap (λ l. c.loop-member.list.items ++ map (kid_of edge) l) (sym c.in-None.ensures.steps.0) ∙ c.loop-member.invariant.done) in
     sorted-children c.requires.tell c.requires.inside c.args.element c.in-Some.group c.requires.element (sym c.in-Some.ensures) c.loop-member.list.items c.sort_unstable.new.self.items all
     c.sort_unstable.ensures.permutation c.sort_unstable.ensures.sorted
+
+pub returns-else-len-gt1-clause-ok : goal.returns-else-len-gt1-clause-ok
+returns-else-len-gt1-clause-ok g c =
+    let edge = g.E.Edges.edge c.args.edges.now in
+    let count = g.E.Edges.count c.args.edges.now in
+    let list = c.loop-member.list.items in
+    let all : list ≡ map (kid_of edge) (members edge c.in-Some.group count) =
+    sym (append-nil list) ∙ (ap (λ l. list ++ map (kid_of edge) l) (sym c.in-None.ensures.steps.0) ∙ c.loop-member.invariant.done) in
+    let few : length list < 2 = let other = c.if-len-gt1.false in omega (arith, other, c.len.ensures) in
+    sorted-children c.requires.tell c.requires.inside c.args.element c.in-Some.group c.requires.element (sym c.in-Some.ensures) list list all (IsPermutation-refl list) (sorted-few list few)

@@ -1,8 +1,8 @@
 -- Each member of the group is a child: it is put at the end, and its depth is written.
-use Rattle.std.proofs.Common.{◌≡◌, ◌+◌, ◌<◌, ◌++◌, ◌∷◌, [], ℕ, List, sym, ap, ◌∙◌, subst, arith, append_assoc, append-nil}
+use Rattle.std.proofs.Common.{◌≡◌, ◌+◌, ◌++◌, ◌∷◌, [], ℕ, sym, ap, ◌∙◌, subst, arith, append_assoc, append-nil}
 use Rattle.std.proofs.lemmas.List.{get_or_read}
 use Rattle.daachorse_listing.specs.Edges.{is_in, members}
-use Rattle.daachorse_listing.specs.Trees.{IsMarking, IsNoting}
+use Rattle.daachorse_listing.specs.Trees.{IsNoting}
 use Rattle.daachorse_listing.proofs.Members.{marking-start, marking-next}
 use Rattle.daachorse_listing.proofs.ReachLaws.{noting-none, noting-members}
 use Rattle.daachorse_listing.proofs.SortLaws.{below-All}

@@ -1,5 +1,5 @@
 -- While nothing is left of an element, the patterns that are left are those of the elements that were not entered.
-use Rattle.std.proofs.Common.{◌≡◌, ◌-◌, length}
+use Rattle.std.proofs.Common.{◌≡◌, ◌-◌, length, map}
 use Rattle.daachorse_listing.specs.Listing.{IsWalking, left_of}
 use Rattle.daachorse_listing.proofs.patterns.PatternWalkIterator.next.Given as goal
 
@@ -9,7 +9,7 @@ invariant-loop-self g l =
     let elements = s.elements in
     record {
       walking : IsWalking (g.E.Edges.child elements) (g.E.Edges.group elements) (g.E.Edges.edge elements) (g.E.Edges.count elements) (g.E.Edges.units elements) (g.E.Outputs.outputs elements) (g.E.Outputs.first elements)
-          s.tree.order.items s.tree.parents.items s.tree.depths.items s.entered s.element s.position;
+          s.tree.order.items s.tree.depths.items (map g.E.Outputs.number s.buffer.items) s.entered s.element s.depth s.position;
       left : left_of (g.E.Edges.child elements) (g.E.Edges.count elements) (g.E.Edges.units elements) (g.E.Outputs.outputs elements) (g.E.Outputs.first elements) (g.E.Outputs.stop elements)
           s.tree.order.items s.entered s.element s.stop s.position ≡ l.fn.self;
     }

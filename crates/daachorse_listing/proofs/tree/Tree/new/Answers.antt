@@ -11,64 +11,62 @@ pub loop-element-init : goal.loop-element-init
 loop-element-init g c =
     let n = g.E.Edges.count c.args.edges.now in
     let aside : reverse c.push.new.self.items ≡ 0 ∷ [] = ap reverse (c.in_ok-push.ensures.items ∙ ap (λ l. l ++ 0 ∷ []) c.new-aside.ensures.items) in
-    let parents : c.in_ok-parents.parents.items ≡ replicate n 0 = c.in_ok-parents.ensures.items_if_clones_equal (λ y e. e) ∙ ap (λ k. replicate k 0) c.num_elements-count.ensures.all in
     let depths : c.in_ok-depths.depths.items ≡ replicate n 4294967295 = c.in_ok-depths.ensures.items_if_clones_equal (λ y e. e) ∙ ap (λ k. replicate k 4294967295) c.num_elements-count.ensures.all in
-    walk-begin c.requires.tree _ _ _ c.in_ok-depths.depths.items c.in_ok-order.ensures.items aside parents depths
+    walk-begin c.requires.tree _ _ c.in_ok-depths.depths.items c.in_ok-order.ensures.items aside depths
 
 pub list_children-requires-clause-element : goal.list_children-requires-clause-element
 list_children-requires-clause-element g c =
-    let walk = walk-pop c.loop-element.tree.order.items c.loop-element.tree.parents.items c.loop-element.tree.depths.items c.loop-element.aside.items c.pop.new.self.items c.in-Some.element
+    let walk = walk-pop c.loop-element.tree.order.items c.loop-element.tree.depths.items c.loop-element.aside.items c.pop.new.self.items c.in-Some.element
     c.in-Some.ensures.items c.loop-element.invariant in
-    taken-inside c.requires.tree c.loop-element.tree.order.items (reverse c.pop.new.self.items) c.loop-element.tree.parents.items c.loop-element.tree.depths.items c.in-Some.element walk
+    taken-inside c.requires.tree c.loop-element.tree.order.items (reverse c.pop.new.self.items) c.loop-element.tree.depths.items c.in-Some.element walk
 
 pub put_aside-requires-clause-element : goal.put_aside-requires-clause-element
 put_aside-requires-clause-element g c =
-    let walk = walk-pop c.loop-element.tree.order.items c.loop-element.tree.parents.items c.loop-element.tree.depths.items c.loop-element.aside.items c.pop.new.self.items c.in-Some.element
+    let walk = walk-pop c.loop-element.tree.order.items c.loop-element.tree.depths.items c.loop-element.aside.items c.pop.new.self.items c.in-Some.element
     c.in-Some.ensures.items c.loop-element.invariant in
-    let inside = taken-inside c.requires.tree c.loop-element.tree.order.items (reverse c.pop.new.self.items) c.loop-element.tree.parents.items c.loop-element.tree.depths.items c.in-Some.element walk in
-    omega (arith, inside, c.loop-element.invariant.parents_size)
+    let inside = taken-inside c.requires.tree c.loop-element.tree.order.items (reverse c.pop.new.self.items) c.loop-element.tree.depths.items c.in-Some.element walk in
+    omega (arith, inside, c.loop-element.invariant.depths_size)
 
 pub put_aside-requires-clause-inside : goal.put_aside-requires-clause-inside
 put_aside-requires-clause-inside g c =
     let child = g.E.Edges.child c.args.edges.now in
     let units = g.E.Edges.units c.args.edges.now in
     let kids : elements_of c.list_children.new.list.items ≡ children child c.in-Some.element units = c.in_ok-list_children.ensures.ok in
-    let size = c.loop-element.invariant.parents_size in
-    let P : List ℕ → Type 0 = AllByRecursion (λ j. j < length c.loop-element.tree.parents.items) in
-    subst P (sym kids) (All-among (λ j. j < length c.loop-element.tree.parents.items) (children child c.in-Some.element units) (λ k a.
+    let size = c.loop-element.invariant.depths_size in
+    let P : List ℕ → Type 0 = AllByRecursion (λ j. j < length c.loop-element.tree.depths.items) in
+    subst P (sym kids) (All-among (λ j. j < length c.loop-element.tree.depths.items) (children child c.in-Some.element units) (λ k a.
     (let at = among-children child c.in-Some.element units k a in let inside = (c.requires.tree.inside c.in-Some.element at.0 k at.1).0 in omega (arith, inside, size))))
 
 pub put_aside-requires-clause-shallow : goal.put_aside-requires-clause-shallow
 put_aside-requires-clause-shallow g c =
-    let walk = walk-pop c.loop-element.tree.order.items c.loop-element.tree.parents.items c.loop-element.tree.depths.items c.loop-element.aside.items c.pop.new.self.items c.in-Some.element
+    let walk = walk-pop c.loop-element.tree.order.items c.loop-element.tree.depths.items c.loop-element.aside.items c.pop.new.self.items c.in-Some.element
     c.in-Some.ensures.items c.loop-element.invariant in
-    taken-shallow c.requires.tree c.loop-element.tree.order.items (reverse c.pop.new.self.items) c.loop-element.tree.parents.items c.loop-element.tree.depths.items c.in-Some.element walk
+    taken-shallow c.requires.tree c.loop-element.tree.order.items (reverse c.pop.new.self.items) c.loop-element.tree.depths.items c.in-Some.element walk
 
 pub loop-element-smaller : goal.loop-element-smaller
 loop-element-smaller g c =
-    let walk = walk-pop c.loop-element.tree.order.items c.loop-element.tree.parents.items c.loop-element.tree.depths.items c.loop-element.aside.items c.pop.new.self.items c.in-Some.element
+    let walk = walk-pop c.loop-element.tree.order.items c.loop-element.tree.depths.items c.loop-element.aside.items c.pop.new.self.items c.in-Some.element
     c.in-Some.ensures.items c.loop-element.invariant in
-    let few : length c.loop-element.tree.order.items < g.E.Edges.count c.args.edges.now = taken-few c.requires.tree c.loop-element.tree.order.items (reverse c.pop.new.self.items) c.loop-element.tree.parents.items c.loop-element.tree.depths.items c.in-Some.element walk in
+    let few : length c.loop-element.tree.order.items < g.E.Edges.count c.args.edges.now = taken-few c.requires.tree c.loop-element.tree.order.items (reverse c.pop.new.self.items) c.loop-element.tree.depths.items c.in-Some.element walk in
     let order = ap (λ v. length v.items) c.in_ok-put_aside.ensures.order ∙ ap length c.in_ok-push-2.ensures.items in
     omega (arith, few, order, length-append c.loop-element.tree.order.items (c.in-Some.element ∷ []))
 
 pub loop-element-preserved : goal.loop-element-preserved
 loop-element-preserved g c =
-    let walk = walk-pop c.loop-element.tree.order.items c.loop-element.tree.parents.items c.loop-element.tree.depths.items c.loop-element.aside.items c.pop.new.self.items c.in-Some.element
+    let walk = walk-pop c.loop-element.tree.order.items c.loop-element.tree.depths.items c.loop-element.aside.items c.pop.new.self.items c.in-Some.element
     c.in-Some.ensures.items c.loop-element.invariant in
     let order = ap (λ v. v.items) c.in_ok-put_aside.ensures.order ∙ c.in_ok-push-2.ensures.items in
     let child = g.E.Edges.child c.args.edges.now in
     let units = g.E.Edges.units c.args.edges.now in
     let kids : elements_of c.list_children.new.list.items ≡ children child c.in-Some.element units = c.in_ok-list_children.ensures.ok in
     let aside = rw kids at c.in_ok-put_aside.ensures.aside in
-    let parents = rw kids at c.in_ok-put_aside.ensures.parents in
     let depths = rw kids at c.in_ok-put_aside.ensures.depths in
     rw (order, aside)
-    (walk-next c.requires.tree c.loop-element.tree.order.items (reverse c.pop.new.self.items) c.loop-element.tree.parents.items c.loop-element.tree.depths.items c.in-Some.element walk c.put_aside.new.self.parents.items c.put_aside.new.self.depths.items _ (add-one _) parents depths)
+    (walk-next c.requires.tree c.loop-element.tree.order.items (reverse c.pop.new.self.items) c.loop-element.tree.depths.items c.in-Some.element walk c.put_aside.new.self.depths.items _ (add-one _) depths)
 
 pub returns-clause-ok : goal.returns-clause-ok
 returns-clause-ok g c =
     let none : length c.loop-element.aside.items ≡ 0 = omega (arith, c.in_default.ensures.cases.0, c.loop-element.aside.ok) in
-    let walk = walk-empty c.loop-element.tree.order.items c.loop-element.tree.parents.items c.loop-element.tree.depths.items c.loop-element.aside.items
+    let walk = walk-empty c.loop-element.tree.order.items c.loop-element.tree.depths.items c.loop-element.aside.items
     none c.loop-element.invariant in
-    walk-end c.requires.tree c.loop-element.tree.order.items c.loop-element.tree.parents.items c.loop-element.tree.depths.items walk
+    walk-end c.requires.tree c.loop-element.tree.order.items c.loop-element.tree.depths.items walk

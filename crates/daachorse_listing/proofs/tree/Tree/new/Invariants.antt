@@ -4,7 +4,7 @@ use Rattle.daachorse_listing.proofs.WalkLaws.{IsWalk}
 use Rattle.daachorse_listing.proofs.tree.Tree.new.Given as goal
 
 abbrev pub invariant-loop-element : goal.invariant-loop-element
-invariant-loop-element g l = IsWalk (g.E.Edges.child l.edges) (g.E.Edges.count l.edges) (g.E.Edges.units l.edges) l.tree.order.items (reverse l.aside.items) l.tree.parents.items l.tree.depths.items
+invariant-loop-element g l = IsWalk (g.E.Edges.child l.edges) (g.E.Edges.count l.edges) (g.E.Edges.units l.edges) l.tree.order.items (reverse l.aside.items) l.tree.depths.items
 
 abbrev pub decreases-loop-element : goal.decreases-loop-element
 decreases-loop-element g l = g.E.Edges.count l.edges - length l.tree.order.items

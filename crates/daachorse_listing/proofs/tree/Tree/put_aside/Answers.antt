@@ -1,4 +1,4 @@
--- Each child is written in both tables and put aside.
+-- The depth of each child is written, and it is put aside.
 use Rattle.std.proofs.Common.{◌≡◌, [], ◌∷◌, reverse, refl, ap, ◌∙◌, arith}
 use Rattle.std.proofs.lemmas.List.{reverse-append}
 use Rattle.daachorse_listing.specs.Edges.{put_before}
@@ -11,7 +11,6 @@ loop-unit-init g c = record {
   order = refl;
   less = c.requires.inside;
   aside = refl;
-  parents = marking-start (elements_of c.args.children.now.items) c.args.element c.args.self.now.parents.items;
   depths = marking-start (elements_of c.args.children.now.items) _ c.args.self.now.depths.items;
 }
 
@@ -24,12 +23,10 @@ loop-unit-preserved g c =
     let steps : elements_of c.loop-unit.children.items ≡ child ∷ left = elements-pop c.loop-unit.children.items c.pop.new.self.items (c.in-Some._unit, child) c.in-Some.ensures.items in
     let less = rw steps at inv.less in
     let aside = rw steps at inv.aside in
-    let parents = rw steps at inv.parents in
     let depths = rw steps at inv.depths in
     record {
       order = inv.order;
       less = less.1;
       aside = ap (λ l. put_before left l) (ap reverse c.in_ok-push.ensures.items ∙ reverse-append c.loop-unit.aside.items (child ∷ [])) ∙ aside;
-      parents = marking-next kids left child _ _ c.loop-unit.self.parents.items (omega (arith, less.0, inv.parents.size)) parents;
-      depths = marking-next kids left child _ _ c.loop-unit.self.depths.items (omega (arith, less.0, inv.depths.size, c.requires.tables)) depths;
+      depths = marking-next kids left child _ _ c.loop-unit.self.depths.items (omega (arith, less.0, inv.depths.size)) depths;
     }

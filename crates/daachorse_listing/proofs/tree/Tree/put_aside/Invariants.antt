@@ -11,9 +11,8 @@ invariant-loop-unit g l =
     let left = elements_of l.children.items in
     record {
       order : l.self.order ≡ l.fn.self.order;
-      less : AllByRecursion (λ j. j < length l.fn.self.parents.items) left;
+      less : AllByRecursion (λ j. j < length l.fn.self.depths.items) left;
       aside : put_before left (reverse l.aside.items) ≡ put_before kids (reverse l.fn.aside.items);
-      parents : IsMarking kids left l.element l.fn.self.parents.items l.self.parents.items;
       depths : IsMarking kids left l.depth l.fn.self.depths.items l.self.depths.items;
     }
 

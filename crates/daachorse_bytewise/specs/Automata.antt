@@ -3,8 +3,7 @@ use Rattle.std.specs.Prelude.{ℕ, Bool, List, Option}
 use Rattle.std.specs.Hash.{HashWrites}
 use Rattle.daachorse_model.specs.declared.MatchKind.{MatchKind}
 use Rattle.daachorse_model.specs.Dictionary.{Dictionary}
-use Rattle.daachorse_listing.specs.Automata.{MayHaveDepths as MayHave}
-use Rattle.daachorse_listing.specs.Kept.{Automaton as Kept, automaton_eq as kept_eq, automaton_input as kept_input}
+use Rattle.daachorse_listing.specs.Automata.{Automaton as Kept, MayHaveDepths as MayHave, automaton_eq as kept_eq, automaton_input as kept_input}
 use Rattle.daachorse_listing.specs.Depths.{IsDepthTable}
 use Rattle.daachorse_prefilter.specs.Equality.{filter_eq, filter_input}
 use Rattle.daachorse_prefilter.specs.Filters.{Filter, PassesKeys}

@@ -1,5 +1,5 @@
 -- What a build over characters promises: the dictionary of its patterns and the codes of their characters, or the first refusal in the order of its work.
-use Rattle.std.specs.Prelude.{◌≡◌, ◌≤◌, ◌⊎◌, ℕ, List, length, map, Result, None}
+use Rattle.std.specs.Prelude.{◌≡◌, ◌≤◌, ◌⊎◌, ℕ, Bool, List, Option, encode_utf8_all, length, map, Result, None}
 use Rattle.std.specs.Borrow.{Bor}
 use Rattle.std.specs.Str.{chars}
 use Rattle.daachorse_core.specs.declared.errors.DaachorseError.{DaachorseError}
@@ -10,7 +10,9 @@ use Rattle.daachorse_model.specs.Dictionary.{dictionary, kept}
 use Rattle.daachorse_model.specs.Units.{char_width}
 use Rattle.daachorse_mapper.specs.Codings.{Coding, IsCodingOf}
 use Rattle.daachorse_patterns.specs.Building.{Fit, IsBuildRefusalWithin, IsRefusalWithin, Limits}
+use Rattle.daachorse_patterns.specs.Filters.{kept_filter as filter_kept}
 use Rattle.daachorse_patterns.specs.Patterns.{AreIndexed, texts_of}
+use Rattle.daachorse_prefilter.specs.Filters.{Filter}
 use Rattle.daachorse_charwise_states.specs.Packing.{NeedsManyBlocks}
 use Rattle.daachorse_charwise.specs.Automata.{Automaton, coding_of, dictionary_of}
 use Rattle.daachorse_charwise.specs.Frequencies.{AreFrequencies}
@@ -26,6 +28,10 @@ registered_texts patterns = texts_of (λ s. chars s.now) patterns
 -- the codes of the characters of these texts: the most frequent have the smallest
 abbrev pub AreCodesOf : List (List ℕ) → Coding → Type 0
 AreCodesOf texts coding = (freqs : List ℕ) × AreFrequencies texts freqs × IsCodingOf freqs coding
+
+-- the filter that a build keeps: that of the UTF-8 of all its patterns, those too that the kind leaves out, if it is wanted
+abbrev pub kept_filter : Bool → List (List ℕ) → Option Filter
+kept_filter = filter_kept encode_utf8_all
 
 -- patterns have no limit of their own: that of the outputs holds for them
 abbrev pub char_limits : Limits

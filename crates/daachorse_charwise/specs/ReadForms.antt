@@ -1,15 +1,17 @@
 -- Which bytes give an automaton over characters, whoever wrote them.
-use Rattle.std.specs.Prelude.{◌≡◌, ℕ, List, Some, None}
+use Rattle.std.specs.Prelude.{◌≡◌, ℕ, List, Some}
 use Rattle.daachorse_serializer.specs.Forms.{Taken}
 use Rattle.daachorse_charwise_states.specs.PartForms.{take_parts}
 use Rattle.daachorse_charwise_states.specs.Valid.{IsValid}
-use Rattle.daachorse_charwise.specs.Automata.{Automaton}
+use Rattle.daachorse_charwise.specs.Automata.{Automaton, MayHaveFilter}
 
 module _ {V : Type 0} (take_value : List ℕ → Taken V) (bytes : List ℕ) where
-  -- they begin with the parts of this automaton and no filter, and these bytes are left
-  abbrev pub GivesAutomaton : Automaton V → List ℕ → Type 0
-  GivesAutomaton a rest = (take_parts take_value bytes ≡ Some ((a.parts, None), rest)) × IsValid a.parts
+  -- they begin with the parts and the filter of this automaton, and these bytes are left
+  pub record GivesAutomaton (a : Automaton V) (rest : List ℕ) : Type 0 where
+    pub taken : take_parts take_value bytes ≡ Some ((a.parts, a.filter), rest)
+    pub valid : IsValid a.parts
+    pub passes : MayHaveFilter a.parts a.filter
 
-  -- they begin with no parts, or with such as are no automaton's, or with a filter too
+  -- they begin with no parts, or with such as are no automaton's, or with a filter that does not pass at some pattern
   abbrev pub GivesNoAutomaton : Type 0
   GivesNoAutomaton = (a : Automaton V) (rest : List ℕ) → GivesAutomaton a rest → ⊥

@@ -3,7 +3,7 @@
 //! The layers above may rely on a build holding just the dictionary of its patterns, and on each
 //! search giving the whole list of matches that the definitions give for that dictionary.
 
-ghost use Rattle.std.specs.Prelude.{◌≡◌, ◌≢◌, ◌⊎◌, [], IfOk, IfErr, OnOk, OnErr, IsSortedByKey, encode_utf8_all, take};
+ghost use Rattle.std.specs.Prelude.{◌≡◌, ◌≢◌, ◌⊎◌, true, [], IfOk, IfErr, OnOk, OnErr, IsSortedByKey, encode_utf8_all, map, take};
 ghost use Rattle.std.specs.Cmp.Lexicographic.{slice_cmp};
 ghost use Rattle.std.specs.Iterator.{IsFinite};
 ghost use Rattle.std.specs.Iterator.Runs.{WholeRun};
@@ -17,8 +17,8 @@ ghost use Rattle.daachorse_model.specs.Leftmost.{leftmost};
 ghost use Rattle.daachorse_model.specs.Matches.{matches_after, no_suffix, overlapping, standard, standard_after};
 ghost use Rattle.daachorse_model.specs.Prefixes.{HasPrefixes, IsListing};
 ghost use Rattle.daachorse_search.specs.Beginnings.{BeginsFrom, BeginsStepping, BeginsWith};
-ghost use Rattle.daachorse_charwise.specs.Automata.{HasDepths, dictionary_of, element_count, kind_of, states_of};
-ghost use Rattle.daachorse_charwise.specs.Building.{HoldsPatterns, IsBuildRefusal, IsBuiltOf, IsRefusalOf, registered_texts, spelled};
+ghost use Rattle.daachorse_charwise.specs.Automata.{HasDepths, MayHaveFilter, dictionary_of, element_count, kind_of, states_of};
+ghost use Rattle.daachorse_charwise.specs.Building.{HoldsPatterns, IsBuildRefusal, IsBuiltOf, IsRefusalOf, kept_filter, registered_texts, spelled};
 ghost use Rattle.daachorse_charwise_states.specs.Texts.{AreTexts};
 
 pub mod builder;
@@ -37,6 +37,7 @@ use crate::charwise::iter::{
 use crate::charwise::states::States;
 use daachorse_core::MatchKind;
 use daachorse_core::errors::Result;
+use daachorse_prefilter::prefilter::{Prefilter, clone_filter};
 use daachorse_search::filter::NoFilter;
 use daachorse_search::find::{FindWalk, find_in};
 use daachorse_search::leftmost::LeftmostMatches;
@@ -56,18 +57,20 @@ use std::marker::Model;
 #[derive(Drop)]
 pub struct CharwiseDoubleArrayAhoCorasick<V: Copy, A: Allocator = Global> {
     states: States<V, A>,
+    // Passes at the beginning of the UTF-8 of each pattern, if it is there.
+    filter: Option<Prefilter<A>>,
     // Of each element how many characters lead to it; empty where depths are not cached.
     depths: Vec<u32, A>,
 }
 
 impl<V: Copy, A: Allocator> Model for CharwiseDoubleArrayAhoCorasick<V, A> {
-    ghost use Rattle.daachorse_charwise.specs.Automata.{Automaton, MayHaveDepths};
+    ghost use Rattle.daachorse_charwise.specs.Automata.{Automaton, IsKept};
 
     ghost Value = { Automaton V };
 
-    ghost view = { λ a. record { parts = a.states; depths = a.depths.items } };
+    ghost view = { λ a. record { parts = a.states; filter = a.filter; depths = a.depths.items } };
 
-    ghost invariant = { λ a. MayHaveDepths a.states a.depths.items };
+    ghost invariant = { λ a. IsKept a.states a.filter a.depths.items };
 }
 
 impl<V: Copy, A: Allocator + Copy> CharwiseDoubleArrayAhoCorasick<V, A> {
@@ -93,6 +96,8 @@ impl<V: Copy, A: Allocator + Copy> CharwiseDoubleArrayAhoCorasick<V, A> {
         ensures ok { IfOk result (λ a. (it : P.IntoIter) × P.into_iter_gives patterns it
             × WholeRun P.IntoIter.next_gives it (λ p. IsBuiltOf V.try_from_gives Standard (spelled p.items) a)) }
         ensures kind { IfOk result (λ a. kind_of a ≡ Standard) }
+        ensures filter { IfOk result (λ a. (it : P.IntoIter) × P.into_iter_gives patterns it
+            × WholeRun P.IntoIter.next_gives it (λ p. a.filter ≡ kept_filter true (spelled p.items))) }
         ensures depths { IfOk result (λ a. a.depths ≡ []) }
         ensures err { IfErr result (λ e. IsOutOfMemory e ⊎ ((it : P.IntoIter) × P.into_iter_gives patterns it
             × WholeRun P.IntoIter.next_gives it (λ p. IsBuildRefusal V.try_from_gives Standard (spelled p.items) e))) }
@@ -123,6 +128,8 @@ impl<V: Copy, A: Allocator + Copy> CharwiseDoubleArrayAhoCorasick<V, A> {
         ensures ok { IfOk result (λ a. (it : P.IntoIter) × P.into_iter_gives patvals it
             × WholeRun P.IntoIter.next_gives it (λ p. HoldsPatterns Standard (registered_texts p.items) a)) }
         ensures kind { IfOk result (λ a. kind_of a ≡ Standard) }
+        ensures filter { IfOk result (λ a. (it : P.IntoIter) × P.into_iter_gives patvals it
+            × WholeRun P.IntoIter.next_gives it (λ p. a.filter ≡ kept_filter true (map (λ r. r.0) (registered_texts p.items)))) }
         ensures depths { IfOk result (λ a. a.depths ≡ []) }
         ensures err { IfErr result (λ e. IsOutOfMemory e ⊎ ((it : P.IntoIter) × P.into_iter_gives patvals it
             × WholeRun P.IntoIter.next_gives it (λ p. IsRefusalOf Standard (registered_texts p.items) e))) }
@@ -132,13 +139,16 @@ impl<V: Copy, A: Allocator + Copy> CharwiseDoubleArrayAhoCorasick<V, A> {
 }
 
 impl<V: Copy, A: Allocator + Copy> CharwiseDoubleArrayAhoCorasick<V, A> {
-    /// The automaton of these states, with no depths cached.
-    pub(crate) fn of_states(alloc: A, states: States<V, A>) -> Self
+    /// The automaton of these states and this filter, if there is one, with no depths cached.
+    pub(crate) fn of_states(alloc: A, states: States<V, A>, filter: Option<Prefilter<A>>) -> Self
+        requires { MayHaveFilter states filter }
         ensures states { states_of result ≡ states }
+        ensures filter { result.filter ≡ filter }
         ensures depths { result.depths ≡ [] }
     {
         Self {
             states,
+            filter,
             depths: Vec::new(alloc),
         }
     }
@@ -158,6 +168,7 @@ impl<V: Copy, A: Allocator + Copy> CharwiseDoubleArrayAhoCorasick<V, A> {
     pub fn cache_depths(&mut self) -> Result<()>
         requires { kind_of self.old ≡ Standard }
         ensures states { states_of self.new ≡ states_of self.old }
+        ensures filter { self.new.filter ≡ self.old.filter }
         ensures ok { OnOk result (HasDepths self.new) }
         ensures unchanged { OnErr result (self.new ≡ self.old) }
         ensures err { IfErr result IsOutOfMemory }
@@ -198,44 +209,49 @@ impl<V: Copy, A: Allocator + Copy> CharwiseDoubleArrayAhoCorasick<V, A> {
         let depths = Vec::from_slice(*self.depths.allocator(), &self.depths)?;
         Ok(Self {
             states: self.states.clone()?,
+            filter: clone_filter(&self.filter)?,
             depths,
         })
     }
 }
 
-/// Automata are equal where all that they keep is equal, the cached depths included.
+/// Automata are equal where all that they keep is equal, the filter and the cached depths included.
 impl<V: Copy + PartialEq, A: Allocator> PartialEq for CharwiseDoubleArrayAhoCorasick<V, A> {
     ghost use Rattle.daachorse_charwise_states.specs.Equality.{parts_per};
     ghost use Rattle.daachorse_listing.specs.Automata.{automaton_per};
+    ghost use Rattle.daachorse_prefilter.specs.Equality.{filter_equiv};
     ghost use Rattle.daachorse_charwise.specs.Automata.{automaton_eq};
 
     ghost eq = { automaton_eq V.eq };
 
-    ghost laws = { automaton_per (parts_per V.laws) };
+    ghost laws = { automaton_per filter_equiv (parts_per V.laws) };
 
     fn eq(&self, other: &Self) -> bool {
-        self.states == other.states && self.depths == other.depths
+        self.states == other.states && (self.filter == other.filter && self.depths == other.depths)
     }
 }
 
 impl<V: Copy + Eq, A: Allocator> Eq for CharwiseDoubleArrayAhoCorasick<V, A> {
     ghost use Rattle.daachorse_charwise_states.specs.Equality.{parts_equiv};
     ghost use Rattle.daachorse_listing.specs.Automata.{automaton_equiv};
+    ghost use Rattle.daachorse_prefilter.specs.Equality.{filter_equiv};
 
-    ghost laws = { automaton_equiv (parts_equiv V.Eq.laws) };
+    ghost laws = { automaton_equiv filter_equiv (parts_equiv V.Eq.laws) };
 }
 
 impl<V: Copy + Hash, A: Allocator> Hash for CharwiseDoubleArrayAhoCorasick<V, A> {
     ghost use Rattle.daachorse_charwise_states.specs.Equality.{parts_alike};
     ghost use Rattle.daachorse_listing.specs.Automata.{automaton_alike};
+    ghost use Rattle.daachorse_prefilter.specs.Equality.{filter_alike};
     ghost use Rattle.daachorse_charwise.specs.Automata.{automaton_input};
 
     ghost hash_input = { automaton_input V.hash_input };
 
-    ghost respects_eq = { automaton_alike (parts_alike V.respects_eq) };
+    ghost respects_eq = { automaton_alike filter_alike (parts_alike V.respects_eq) };
 
     fn hash<H: Hasher>(&self, state: &mut H) {
         self.states.hash(state);
+        self.filter.hash(state);
         self.depths.hash(state);
     }
 }

@@ -1,5 +1,5 @@
 -- What is read of the written form of an automaton: its parts, since each of its lists can be counted.
-use Rattle.std.proofs.Common.{◌≡◌, ℕ, List, ◌++◌, Option, Some, None, ap}
+use Rattle.std.proofs.Common.{◌≡◌, ℕ, List, ◌++◌, Option, Some}
 use Rattle.daachorse_core.specs.declared.errors.DaachorseError.{DaachorseError}
 use Rattle.daachorse_core.specs.Refusals.{IsOutOfMemory}
 use Rattle.daachorse_prefilter.specs.Filters.{Filter}
@@ -13,15 +13,11 @@ use Rattle.daachorse_charwise_states.specs.Valid.{IsValid}
 pub valid-counted : {V : Type 0} (p : Parts V) → IsValid p → AreCounted p
 valid-counted p valid = record { states = valid.few.elements; coding = valid.few.codes; outputs = valid.few.outputs }
 
-module _ {V : Type 0} {P : V → Type 0} {value : V → List ℕ} {take_value : List ℕ → Taken V} {n : ℕ} (law : IsForm P value take_value (λ _. n)) (bytes rest : List ℕ) (p : Parts V) (a : IsAutomaton P p) (is : bytes ≡ parts_form value p None ++ rest) where
+module _ {V : Type 0} {P : V → Type 0} {value : V → List ℕ} {take_value : List ℕ → Taken V} {n : ℕ} (law : IsForm P value take_value (λ _. n)) (bytes rest : List ℕ) (p : Parts V) (filter : Option Filter) (a : IsAutomaton P p filter) (is : bytes ≡ parts_form value p filter ++ rest) where
   -- what is read of the form is what was written, and what is left is what follows it
-  pub reads-written : (r : (Parts V × Option Filter) × List ℕ) → take_parts take_value bytes ≡ Some r → (r.0 ≡ (p, None)) × (r.1 ≡ rest)
-  reads-written r gives = takes-same (parts_law law) bytes (p, None) rest r (valid-counted p a.valid, (a.numbers, tt)) is gives
+  pub reads-written : (r : (Parts V × Option Filter) × List ℕ) → take_parts take_value bytes ≡ Some r → (r.0 ≡ (p, filter)) × (r.1 ≡ rest)
+  reads-written r gives = takes-same (parts_law law) bytes (p, filter) rest r (valid-counted p a.valid, (a.numbers, a.filtered)) is gives
 
   -- a read of it is refused for want of memory alone
   pub refuses-form : (e : DaachorseError) → Refuses e (take_parts take_value bytes) → IsOutOfMemory e
-  refuses-form e r = refuses-written (parts_law law) bytes (p, None) rest e (valid-counted p a.valid, (a.numbers, tt)) is r
-
--- the same parts, where what was read is the same
-pub parts-of : {V : Type 0} {w : Parts V × Option Filter} {p : Parts V} → w ≡ (p, None) → w.0 ≡ p
-parts-of {V} same = ap (λ (w : Parts V × Option Filter). w.0) same
+  refuses-form e r = refuses-written (parts_law law) bytes (p, filter) rest e (valid-counted p a.valid, (a.numbers, a.filtered)) is r

@@ -53,16 +53,18 @@ module _ {V : Type 0} where
     pub outputs : All (IsOutput is_value) p.outputs
     pub num_states : p.num_states < 2 ^ 32
 
-  -- the parts of an automaton in hand
-  pub record IsAutomaton (is_value : V → Type 0) (p : Parts V) : Type 0 where
+  -- the parts of an automaton in hand, and its filter
+  pub record IsAutomaton (is_value : V → Type 0) (p : Parts V) (filter : Option Filter) : Type 0 where
     pub valid : IsValid p
     pub numbers : AreNumbers is_value p
+    pub filtered : IfSome filter IsFilter
 
   -- the bytes begin with the written form of an automaton
   pub record BeginsWithAutomaton (is_value : V → Type 0) (value : V → List ℕ) (bytes : List ℕ) : Type 0 where
     pub parts : Parts V
-    pub automaton : IsAutomaton is_value parts
-    pub begins : Begins (parts_form value parts None) bytes
+    pub filter : Option Filter
+    pub automaton : IsAutomaton is_value parts filter
+    pub begins : Begins (parts_form value parts filter) bytes
 
   -- how long the form is at most, where a value takes at most n bytes
   abbrev pub parts_most : ℕ → Parts V → Option Filter → ℕ

@@ -6,6 +6,7 @@
 #![tactic(auto)]
 
 pub mod edges;
+mod filters;
 mod packing;
 pub mod state;
 pub mod states;

@@ -1,16 +1,18 @@
--- What an automaton keeps: its parts, and the depths of its elements where they are cached.
-use Rattle.std.specs.Prelude.{◌≡◌, ◌⊎◌, ℕ, Bool, List, [], ◌++◌, Option, nat_eq}
+-- What an automaton keeps: its parts, its filter, if it has one, and the depths of its elements where they are cached.
+use Rattle.std.specs.Prelude.{◌≡◌, ◌⊎◌, ℕ, Bool, List, [], ◌++◌, Option, Some, None, nat_eq, pos}
 use Rattle.std.specs.Cmp.{IsPartialEquivalence, IsEquivalence, and_per, on_per, and_equiv, on_equiv, partial_equiv_from_equiv, nat_eq_equiv}
-use Rattle.std.specs.Cmp.Lexicographic.{pointwise, lists_per, lists_equiv}
+use Rattle.std.specs.Cmp.Lexicographic.{pointwise, lists_per, lists_equiv, options_equiv}
+use Rattle.std.specs.Option.{option_eq}
 use Rattle.std.specs.Ordering.{on, eq_of_both}
 use Rattle.std.specs.Hash as fed
 use Rattle.std.specs.Hash.{HashWrites, Alike, on_Alike, and-Alike, items_Alike, same_Alike}
-use Rattle.std.proofs.Common.{true}
+use Rattle.std.proofs.Common.{true, refl, ap}
 use Rattle.std.proofs.lemmas.Bool.Decides.{Decides-eqb}
 use Rattle.daachorse_listing.specs.Depths.{IsDepthTable}
 
-pub record Automaton (P : Type 0) : Type 0 where
+pub record Automaton (P F : Type 0) : Type 0 where
   pub parts : P
+  pub filter : Option F
   -- of each element the length of its text, or nothing where depths are not cached
   pub depths : List ℕ
 
@@ -18,25 +20,37 @@ pub record Automaton (P : Type 0) : Type 0 where
 abbrev pub MayHaveDepths : (ℕ → ℕ → Option ℕ) → ℕ → ℕ → List ℕ → Type 0
 MayHaveDepths child m n depths = (depths ≡ []) ⊎ IsDepthTable child m n depths
 
--- equal parts and equal depths
-abbrev pub automaton_eq : {P : Type 0} → (P → P → Bool) → Automaton P → Automaton P → Bool
-automaton_eq E = eq_of_both (on (λ a. a.parts) E) (on (λ a. a.depths) (pointwise nat_eq))
+module _ {P F : Type 0} where
+  -- equal parts, equal filters and equal depths
+  abbrev pub automaton_eq : (P → P → Bool) → (F → F → Bool) → Automaton P F → Automaton P F → Bool
+  automaton_eq E D = eq_of_both (on (λ a. a.parts) E) (eq_of_both (on (λ a. a.filter) (option_eq D)) (on (λ a. a.depths) (pointwise nat_eq)))
 
--- what an automaton feeds a hasher
-abbrev pub automaton_input : {P : Type 0} → (P → HashWrites) → Automaton P → HashWrites
-automaton_input G a = G a.parts ++ fed.slice fed.u32 a.depths
+  -- what an automaton feeds a hasher
+  abbrev pub automaton_input : (P → HashWrites) → (F → HashWrites) → Automaton P F → HashWrites
+  automaton_input G H a = G a.parts ++ (fed.option H a.filter ++ fed.slice fed.u32 a.depths)
 
 -- ---- the laws of these
 
-module _ {P : Type 0} {E : P → P → Bool} where
-  pub automaton_per : IsPartialEquivalence E → IsPartialEquivalence (automaton_eq E)
-  automaton_per law = and_per (on_per (λ a. a.parts) law) (on_per (λ a. a.depths) (lists_per (partial_equiv_from_equiv nat_eq_equiv)))
+options_alike : {F : Type 0} {D : F → F → Bool} {H : F → HashWrites} → Alike D H → (x y : Option F) → option_eq D x y ≡ true → fed.option H x ≡ fed.option H y
+options_alike law None None e = refl
+options_alike law None (Some y) e = cc
+options_alike law (Some x) None e = cc
+options_alike {H = H} law (Some x) (Some y) e = ap (λ more. fed.isize (pos 1) ++ more) (law.fed x y e)
 
-  pub automaton_equiv : IsEquivalence E → IsEquivalence (automaton_eq E)
-  automaton_equiv law = and_equiv (on_equiv (λ a. a.parts) law) (on_equiv (λ a. a.depths) (lists_equiv nat_eq_equiv))
+module _ {P F : Type 0} {E : P → P → Bool} {D : F → F → Bool} (filters : IsEquivalence D) where
+  pub automaton_per : IsPartialEquivalence E → IsPartialEquivalence (automaton_eq E D)
+  automaton_per law =
+      and_per (on_per (λ a. a.parts) law)
+      (and_per (on_per (λ a. a.filter) (partial_equiv_from_equiv (options_equiv filters))) (on_per (λ a. a.depths) (lists_per (partial_equiv_from_equiv nat_eq_equiv))))
 
-  pub automaton_alike : {G : P → HashWrites} → ((x y : P) → E x y ≡ true → G x ≡ G y) → (a b : Automaton P) → automaton_eq E a b ≡ true → automaton_input G a ≡ automaton_input G b
-  automaton_alike {G} law = whole.fed
+  pub automaton_equiv : IsEquivalence E → IsEquivalence (automaton_eq E D)
+  automaton_equiv law = and_equiv (on_equiv (λ a. a.parts) law) (and_equiv (on_equiv (λ a. a.filter) (options_equiv filters)) (on_equiv (λ a. a.depths) (lists_equiv nat_eq_equiv)))
+
+module _ {P F : Type 0} {E : P → P → Bool} {D : F → F → Bool} {G : P → HashWrites} {H : F → HashWrites} where
+  pub automaton_alike : Alike D H → ((x y : P) → E x y ≡ true → G x ≡ G y) → (a b : Automaton P F) → automaton_eq E D a b ≡ true → automaton_input G H a ≡ automaton_input G H b
+  automaton_alike filters law = whole.fed
     where
-      whole : Alike (automaton_eq E) (automaton_input G)
-      whole = and-Alike (on_Alike (λ a. a.parts) (record { fed = law })) (on_Alike (λ a. a.depths) (items_Alike (same_Alike fed.u32 Decides-eqb)))
+      whole : Alike (automaton_eq E D) (automaton_input G H)
+      whole =
+          and-Alike (on_Alike (λ a. a.parts) (record { fed = law }))
+          (and-Alike (on_Alike (λ a. a.filter) (record { fed = options_alike filters })) (on_Alike (λ a. a.depths) (items_Alike (same_Alike fed.u32 Decides-eqb))))

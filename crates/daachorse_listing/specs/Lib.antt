@@ -3,6 +3,5 @@ pub mod Edges
 pub mod Trees
 pub mod Depths
 pub mod Automata
-pub mod Kept
 pub mod Listing
 pub mod EqualOutputs

@@ -1,11 +1,14 @@
 //! Builds with a corpus: where the states then stand.
 
-use crate::automata::charwise_by_corpus;
 use crate::{expect, hash_of};
 use daachorse::bytewise::states::State;
 use daachorse::charwise::mapper::CodeMapper;
 use daachorse::charwise::states::State as CharacterState;
-use daachorse::{DoubleArrayAhoCorasick, DoubleArrayAhoCorasickBuilder, MatchKind, Output, Result};
+use daachorse::prefilter::Prefilter;
+use daachorse::{
+    CharwiseDoubleArrayAhoCorasick, CharwiseDoubleArrayAhoCorasickBuilder, DoubleArrayAhoCorasick,
+    DoubleArrayAhoCorasickBuilder, MatchKind, Output, Result,
+};
 use std::alloc::Global;
 use std::hash::{DefaultHasher, Hash, Hasher};
 use std::num::NonZeroU32;
@@ -26,14 +29,15 @@ fn with_corpus(
     }
 }
 
-/// An automaton over bytes, of a builder that was given one corpus and then another.
+/// An automaton over bytes without a filter, of a builder that was given one corpus and then another.
 fn built(
     alloc: Global,
     patterns: &[&[u8]],
     first: Documents<'_>,
     second: Documents<'_>,
 ) -> Result<DoubleArrayAhoCorasick<u32>> {
-    let builder = with_corpus(alloc, DoubleArrayAhoCorasickBuilder::new(), first)?;
+    let builder = DoubleArrayAhoCorasickBuilder::new().use_prefilter(false);
+    let builder = with_corpus(alloc, builder, first)?;
     let builder = with_corpus(alloc, builder, second)?;
     builder.build(alloc, patterns.iter().copied())
 }
@@ -64,7 +68,7 @@ fn elements_with(alloc: Global, held: &[Held]) -> Result<Vec<State<u32>>> {
 
 /// The hash of an automaton over bytes for the standard searches that is made of these elements and
 /// of one output of the value 0 and the length 2. What an automaton feeds a hasher is all that it
-/// stores: elements for the leftmost searches, their links and depths there are none.
+/// stores: elements for the leftmost searches, their links, a filter and depths there are none.
 fn hash_of_block(alloc: Global, held: &[Held], num_states: u32) -> Result<u64> {
     let elements = elements_with(alloc, held)?;
     let outputs = [Output::new(0u32, 2, None)];
@@ -75,6 +79,8 @@ fn hash_of_block(alloc: Global, held: &[Held], num_states: u32) -> Result<u64> {
     0usize.hash(&mut state);
     outputs.as_slice().hash(&mut state);
     num_states.hash(&mut state);
+    let no_filter: Option<Prefilter> = None;
+    no_filter.hash(&mut state);
     0usize.hash(&mut state);
     Ok(state.finish())
 }
@@ -152,6 +158,8 @@ fn hash_of_elements(alloc: Global, held: &[CharacterHeld]) -> Result<u64> {
     four_codes(alloc)?.hash(&mut state);
     outputs.as_slice().hash(&mut state);
     5u32.hash(&mut state);
+    let no_filter: Option<Prefilter> = None;
+    no_filter.hash(&mut state);
     0usize.hash(&mut state);
     Ok(state.finish())
 }
@@ -182,8 +190,11 @@ const TEXTS_BY_CORPUS: [CharacterHeld; 8] = [
 
 /// Whether the patterns ab and cd over characters, with these documents, have these elements.
 fn has_elements(alloc: Global, documents: &[&str], held: &[CharacterHeld]) -> Result<bool> {
-    let patvals = [("ab", 0), ("cd", 1)];
-    let automaton = charwise_by_corpus(alloc, MatchKind::Standard, &patvals, documents)?;
+    let automaton: CharwiseDoubleArrayAhoCorasick<u32> =
+        CharwiseDoubleArrayAhoCorasickBuilder::new()
+            .use_prefilter(false)
+            .corpus(alloc, documents.iter().copied())?
+            .build(alloc, ["ab", "cd"])?;
     Ok(hash_of(&automaton) == hash_of_elements(alloc, held)?)
 }
 

@@ -5,7 +5,7 @@
 //! all indexes are converted first, then the patterns are added in order, and the limits on the
 //! outputs and on the elements are tested last; the first refusal ends the build.
 
-ghost use Rattle.std.specs.Prelude.{◌≡◌, ◌⊎◌, [], length, IfOk, IfErr, IsSomeAnd};
+ghost use Rattle.std.specs.Prelude.{◌≡◌, ◌⊎◌, true, [], length, map, IfOk, IfErr, IsSomeAnd};
 ghost use Rattle.std.specs.Iterator.{IsFinite};
 ghost use Rattle.std.specs.Iterator.Runs.{WholeRun};
 ghost use Rattle.std.specs.Ordering.{nat_cmp};
@@ -16,7 +16,7 @@ ghost use Rattle.daachorse_build.specs.Groups.{IsProfileOf};
 ghost use Rattle.daachorse_patterns.specs.Documents.{documents_of};
 ghost use Rattle.daachorse_model.specs.declared.MatchKind.TheVariants.{Standard};
 ghost use Rattle.daachorse_charwise.specs.Automata.{kind_of};
-ghost use Rattle.daachorse_charwise.specs.Building.{HoldsPatterns, IsBuildRefusal, IsBuiltOf, IsRefusalOf, registered_texts, spelled};
+ghost use Rattle.daachorse_charwise.specs.Building.{HoldsPatterns, IsBuildRefusal, IsBuiltOf, IsRefusalOf, kept_filter, registered_texts, spelled};
 
 use crate::charwise::CharwiseDoubleArrayAhoCorasick;
 use crate::charwise::frequencies::frequencies;
@@ -26,6 +26,7 @@ use daachorse_build::nfa_builder::NfaBuilder;
 use daachorse_core::MatchKind;
 use daachorse_core::errors::Result;
 use daachorse_patterns::corpus::Corpus;
+use daachorse_patterns::filter::build_filter;
 use daachorse_patterns::gathering::{gather, indexed};
 use daachorse_patterns::settings::Settings;
 use daachorse_patterns::trie::build_trie;
@@ -51,10 +52,10 @@ impl<A: Allocator> Model for CharwiseDoubleArrayAhoCorasickBuilder<A> {
 }
 
 impl<A: Allocator> Default for CharwiseDoubleArrayAhoCorasickBuilder<A> {
-    ghost use Rattle.std.specs.Prelude.{◌≡◌};
+    ghost use Rattle.std.specs.Prelude.{◌≡◌, true};
     ghost use Rattle.daachorse_model.specs.declared.MatchKind.TheVariants.{Standard};
 
-    ghost is_default = { λ b. b.match_kind ≡ Standard };
+    ghost is_default = { λ b. (b.match_kind ≡ Standard) × (b.use_prefilter ≡ true) };
 
     /// Makes the builder that [`CharwiseDoubleArrayAhoCorasickBuilder::new`] makes.
     fn default() -> Self {
@@ -63,9 +64,10 @@ impl<A: Allocator> Default for CharwiseDoubleArrayAhoCorasickBuilder<A> {
 }
 
 impl<A: Allocator> CharwiseDoubleArrayAhoCorasickBuilder<A> {
-    /// Makes a builder of automata for the standard searches.
+    /// Makes a builder of automata for the standard searches, with a filter.
     pub fn new() -> Self
-        ensures { result.match_kind ≡ Standard }
+        ensures kind { result.match_kind ≡ Standard }
+        ensures filter { result.use_prefilter ≡ true }
     {
         Self {
             settings: Settings::new(),
@@ -77,6 +79,19 @@ impl<A: Allocator> CharwiseDoubleArrayAhoCorasickBuilder<A> {
         ensures { result ≡ record self { match_kind = kind } }
     {
         self.settings.match_kind = kind;
+        self
+    }
+
+    /// Sets whether the automaton gets a filter, which tells searches in a haystack where no
+    /// pattern begins. It does by default.
+    ///
+    /// A build makes the filter of the UTF-8 of all patterns, and keeps none where there is no
+    /// pattern, where one has fewer than 2 bytes, or where the filter would pass too often. What a
+    /// search yields is the same with a filter and without.
+    pub fn use_prefilter(mut self, yes: bool) -> Self
+        ensures { result ≡ record self { use_prefilter = yes } }
+    {
+        self.settings.use_prefilter = yes;
         self
     }
 }
@@ -104,6 +119,7 @@ impl<A: Allocator + Copy> CharwiseDoubleArrayAhoCorasickBuilder<A> {
         D::IntoIter: Drop,
         requires { (it : D.IntoIter) → D.into_iter_gives haystacks it → D.IntoIter.can_next it × IsFinite (D.IntoIter.remaining it) }
         ensures kind { IfOk result (λ b. b.match_kind ≡ self.match_kind) }
+        ensures filter { IfOk result (λ b. b.use_prefilter ≡ self.use_prefilter) }
         ensures copies { IfOk result (λ b. (it : D.IntoIter) × D.into_iter_gives haystacks it
             × WholeRun D.IntoIter.next_gives it (λ p. IsSomeAnd b.corpus (λ corpus. documents_of (λ u. u) corpus ≡ spelled p.items))) }
         ensures err { IfErr result IsOutOfMemory }
@@ -140,17 +156,14 @@ impl<A: Allocator + Copy> CharwiseDoubleArrayAhoCorasickBuilder<A> {
         ensures ok { IfOk result (λ a. (it : P.IntoIter) × P.into_iter_gives patterns it
             × WholeRun P.IntoIter.next_gives it (λ p. IsBuiltOf V.try_from_gives self.match_kind (spelled p.items) a)) }
         ensures kind { IfOk result (λ a. kind_of a ≡ self.match_kind) }
+        ensures filter { IfOk result (λ a. (it : P.IntoIter) × P.into_iter_gives patterns it
+            × WholeRun P.IntoIter.next_gives it (λ p. a.filter ≡ kept_filter self.use_prefilter (spelled p.items))) }
         ensures depths { IfOk result (λ a. a.depths ≡ []) }
         ensures err { IfErr result (λ e. IsOutOfMemory e ⊎ ((it : P.IntoIter) × P.into_iter_gives patterns it
             × WholeRun P.IntoIter.next_gives it (λ p. IsBuildRefusal V.try_from_gives self.match_kind (spelled p.items) e))) }
     {
         let texts = gather(alloc, patterns.into_iter())?;
-        from_texts(
-            alloc,
-            self.settings.match_kind,
-            &self.settings.corpus,
-            &texts,
-        )
+        from_texts(alloc, &self.settings, &texts)
     }
 
     /// Builds an automaton of these patterns, each with its value.
@@ -182,56 +195,55 @@ impl<A: Allocator + Copy> CharwiseDoubleArrayAhoCorasickBuilder<A> {
         ensures ok { IfOk result (λ a. (it : P.IntoIter) × P.into_iter_gives patvals it
             × WholeRun P.IntoIter.next_gives it (λ p. HoldsPatterns self.match_kind (registered_texts p.items) a)) }
         ensures kind { IfOk result (λ a. kind_of a ≡ self.match_kind) }
+        ensures filter { IfOk result (λ a. (it : P.IntoIter) × P.into_iter_gives patvals it
+            × WholeRun P.IntoIter.next_gives it (λ p. a.filter ≡ kept_filter self.use_prefilter (map (λ r. r.0) (registered_texts p.items)))) }
         ensures depths { IfOk result (λ a. a.depths ≡ []) }
         ensures err { IfErr result (λ e. IsOutOfMemory e ⊎ ((it : P.IntoIter) × P.into_iter_gives patvals it
             × WholeRun P.IntoIter.next_gives it (λ p. IsRefusalOf self.match_kind (registered_texts p.items) e))) }
     {
         let patterns = gather(alloc, patvals.into_iter())?;
-        from_patterns(
-            alloc,
-            self.settings.match_kind,
-            &self.settings.corpus,
-            &patterns,
-        )
+        from_patterns(alloc, &self.settings, &patterns)
     }
 }
 
 /// An automaton of these texts, each with the value of its index.
 fn from_texts<V: Copy + TryFrom<usize>, A: Allocator + Copy>(
     alloc: A,
-    kind: MatchKind,
-    corpus: &Option<Corpus<char, A>>,
+    settings: &Settings<char, A>,
     texts: &[&str],
 ) -> Result<CharwiseDoubleArrayAhoCorasick<V, A>>
 where
     V::Error: Drop,
-    ensures ok { IfOk result (λ a. IsBuiltOf V.try_from_gives kind (spelled texts.now) a) }
-    ensures kind { IfOk result (λ a. kind_of a ≡ kind) }
+    ensures ok { IfOk result (λ a. IsBuiltOf V.try_from_gives settings.now.match_kind (spelled texts.now) a) }
+    ensures kind { IfOk result (λ a. kind_of a ≡ settings.now.match_kind) }
+    ensures filter { IfOk result (λ a. a.filter ≡ kept_filter settings.now.use_prefilter (spelled texts.now)) }
     ensures depths { IfOk result (λ a. a.depths ≡ []) }
-    ensures err { IfErr result (IsBuildRefusal V.try_from_gives kind (spelled texts.now)) }
+    ensures err { IfErr result (IsBuildRefusal V.try_from_gives settings.now.match_kind (spelled texts.now)) }
 {
     let patterns = indexed(alloc, texts)?;
-    from_patterns(alloc, kind, corpus, &patterns)
+    from_patterns(alloc, settings, &patterns)
 }
 
 /// An automaton of these patterns and values.
 fn from_patterns<V: Copy, A: Allocator + Copy>(
     alloc: A,
-    kind: MatchKind,
-    corpus: &Option<Corpus<char, A>>,
+    settings: &Settings<char, A>,
     patterns: &[(&str, V)],
 ) -> Result<CharwiseDoubleArrayAhoCorasick<V, A>>
-    ensures ok { IfOk result (HoldsPatterns kind (registered_texts patterns.now)) }
-    ensures kind { IfOk result (λ a. kind_of a ≡ kind) }
+    ensures ok { IfOk result (HoldsPatterns settings.now.match_kind (registered_texts patterns.now)) }
+    ensures kind { IfOk result (λ a. kind_of a ≡ settings.now.match_kind) }
+    ensures filter { IfOk result (λ a. a.filter ≡ kept_filter settings.now.use_prefilter (map (λ r. r.0) (registered_texts patterns.now))) }
     ensures depths { IfOk result (λ a. a.depths ≡ []) }
-    ensures err { IfErr result (IsRefusalOf kind (registered_texts patterns.now)) }
+    ensures err { IfErr result (IsRefusalOf settings.now.match_kind (registered_texts patterns.now)) }
 {
+    let kind = settings.match_kind;
     let freqs = frequencies(alloc, patterns)?;
     let mapper = CodeMapper::new(alloc, &freqs)?;
     let nfa = build_trie(alloc, kind, None, patterns)?;
-    let profile = profile_of(alloc, corpus, &nfa, &mapper)?;
+    let profile = profile_of(alloc, &settings.corpus, &nfa, &mapper)?;
     let states = States::build(alloc, kind, nfa, &profile, mapper)?;
-    Ok(CharwiseDoubleArrayAhoCorasick::of_states(alloc, states))
+    let filter = build_filter(alloc, settings.use_prefilter, patterns)?;
+    Ok(CharwiseDoubleArrayAhoCorasick::of_states(alloc, states, filter))
 }
 
 /// What searches over a corpus read of a trie, where a character without a code is no label:

@@ -30,7 +30,7 @@ impl<V: Serializable + Copy, A: Allocator> CharwiseDoubleArrayAhoCorasick<V, A> 
         ensures automaton { IsAutomaton V.is_value self.now }
         ensures err { IfErr result IsOutOfMemory }
     {
-        self.states.serialize(alloc)
+        self.states.serialize(alloc, &self.filter)
     }
 }
 
@@ -46,8 +46,8 @@ impl<V: Serializable + Copy, A: Allocator + Copy> CharwiseDoubleArrayAhoCorasick
     ///
     /// Bytes that give no automaton, told as
     /// [`InvalidAutomaton`](daachorse_core::errors::DaachorseError::InvalidAutomaton) or by the read
-    /// of a value, or out of memory. Bytes that have a filter give none: no automaton has one.
-    #[tactic(auto, using(crate::proofs::ReadLaws::refused_filter, crate::proofs::ReadLaws::without_filter))]
+    /// of a value, or out of memory. Bytes with a filter that does not pass at the beginning of the
+    /// UTF-8 of some pattern give none.
     pub fn deserialize(alloc: A, source: &[u8]) -> Result<(Self, &[u8])>
         ensures given { IfOk result (λ r. GivesAutomaton V.taken source.now r.0 r.1.now) }
         ensures depths { IfOk result (λ r. r.0.depths ≡ []) }
@@ -60,10 +60,10 @@ impl<V: Serializable + Copy, A: Allocator + Copy> CharwiseDoubleArrayAhoCorasick
     {
         let (read, rest) = States::deserialize(alloc, source)?;
         let (states, filter) = read;
-        if filter.is_some() {
+        if !states.passes(alloc, &filter)? {
             return Err(DaachorseError::invalid_automaton());
         }
-        Ok((Self::of_states(alloc, states), rest))
+        Ok((Self::of_states(alloc, states, filter), rest))
     }
 
     /// Reads an automaton that was written, and returns it with the bytes behind it.
@@ -85,7 +85,8 @@ impl<V: Serializable + Copy, A: Allocator + Copy> CharwiseDoubleArrayAhoCorasick
             → (r.0 ≡ without_depths a) × (r.1.now ≡ rest)) }
         ensures err { IfErr result IsOutOfMemory }
     {
-        let (states, rest) = States::deserialize_unchecked(alloc, source)?;
-        Ok((Self::of_states(alloc, states), rest))
+        let (read, rest) = States::deserialize_unchecked(alloc, source)?;
+        let (states, filter) = read;
+        Ok((Self::of_states(alloc, states, filter), rest))
     }
 }

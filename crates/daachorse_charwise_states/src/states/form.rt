@@ -4,8 +4,9 @@
 //! on [`States::deserialize_unchecked`] giving back the parts whose form the bytes begin with.
 //! [`States::deserialize`] does so for any bytes, and refuses them exactly where they give no valid parts.
 
-ghost use Rattle.std.specs.Prelude.{◌≡◌, ◌⊎◌, ◌++◌, ◌-◌, ◌^◌, List, ℕ, None, Some, true, false, min, IfOk, IfErr};
+ghost use Rattle.std.specs.Prelude.{◌≡◌, ◌⊎◌, ◌++◌, ◌-◌, ◌^◌, List, ℕ, Option, Some, true, false, min, IfOk, IfErr};
 ghost use Rattle.daachorse_core.specs.Refusals.{IsOutOfMemory};
+ghost use Rattle.daachorse_prefilter.specs.Filters.{Filter};
 ghost use Rattle.daachorse_serializer.specs.Forms.{GivesView, IsReadRefusal};
 ghost use Rattle.daachorse_charwise_states.specs.Grouped.{HasNoAutomaton};
 ghost use Rattle.daachorse_charwise_states.specs.PartForms.{AreCounted, AreNumbers, BeginsWithAutomaton, IsAutomaton, parts_form, parts_in, parts_most, take_parts};
@@ -85,48 +86,52 @@ impl<V: Copy, A: Allocator + Copy> Lists<V, A> {
 }
 
 impl<V: Serializable + Copy, A: Allocator> States<V, A> {
-    /// The written form of the states.
+    /// The written form of the states and of a filter, if there is one.
     ///
     /// # Errors
     ///
     /// An allocation failed.
-    pub fn serialize<B: Allocator>(&self, alloc: B) -> Result<Vec<u8, B>>
-        ensures ok { IfOk result (λ bytes. bytes.items ≡ parts_form V.form self.now None) }
-        ensures automaton { IsAutomaton V.is_value self.now }
+    pub fn serialize<B: Allocator>(
+        &self,
+        alloc: B,
+        filter: &Option<Prefilter<A>>,
+    ) -> Result<Vec<u8, B>>
+        ensures ok { IfOk result (λ bytes. bytes.items ≡ parts_form V.form self.now filter.now) }
+        ensures automaton { IsAutomaton V.is_value self.now filter.now }
         ensures err { IfErr result IsOutOfMemory }
     {
         self.in_range();
-        let mut bytes = Vec::with_capacity(alloc, self.serialized_bytes())?;
-        self.write(&mut bytes)?;
+        filter.in_range();
+        let mut bytes = Vec::with_capacity(alloc, self.serialized_bytes(filter))?;
+        self.write(filter, &mut bytes)?;
         Ok(bytes)
     }
 
     /// Appends the form.
     #[tactic(auto, unfolding(crate::specs::PartForms::parts_form))]
-    fn write<B: Allocator>(&self, dst: &mut Vec<u8, B>) -> Result<()>
-        ensures written { IfOk result (λ done. dst.new.items ≡ dst.old.items ++ parts_form V.form self.now None) }
+    fn write<B: Allocator>(&self, filter: &Option<Prefilter<A>>, dst: &mut Vec<u8, B>) -> Result<()>
+        ensures written { IfOk result (λ done. dst.new.items ≡ dst.old.items ++ parts_form V.form self.now filter.now) }
         ensures refused { IfErr result IsOutOfMemory }
     {
-        let filter: Option<Prefilter<A>> = None;
         self.states.serialize_to_vec(dst)?;
         self.mapper.serialize_to_vec(dst)?;
-        write_ending(&self.outputs, self.kind, self.num_states, &filter, dst)
+        write_ending(&self.outputs, self.kind, self.num_states, filter, dst)
     }
 
     /// How long the form is at most, in bytes, or `usize::MAX` where it is more.
-    fn serialized_bytes(&self) -> usize
-        ensures { result ≡ min (parts_most V.form_len self.now None) (2 ^ 64 - 1) }
+    fn serialized_bytes(&self, filter: &Option<Prefilter<A>>) -> usize
+        ensures { result ≡ min (parts_most V.form_len self.now filter.now) (2 ^ 64 - 1) }
     {
-        let filter: Option<Prefilter<A>> = None;
         self.states
             .serialized_bytes()
             .saturating_add(self.mapper.serialized_bytes())
-            .saturating_add(ending_bytes(&self.outputs, &filter))
+            .saturating_add(ending_bytes(&self.outputs, filter))
     }
 
     /// Does nothing, and promises that states in hand are those of an automaton.
     fn in_range(&self)
-        ensures { IsAutomaton V.is_value self.now }
+        ensures valid { IsValid self.now }
+        ensures numbers { AreNumbers V.is_value self.now }
     {
         self.states.in_range();
         self.mapper.in_range();
@@ -136,20 +141,22 @@ impl<V: Serializable + Copy, A: Allocator> States<V, A> {
 }
 
 impl<V: Serializable + Copy, A: Allocator + Copy> States<V, A> {
-    /// The states whose written form the bytes begin with, and the bytes behind it.
+    /// The states and the filter whose written form the bytes begin with, and the bytes behind it.
     ///
     /// # Errors
     ///
     /// An allocation failed.
-    pub fn deserialize_unchecked(alloc: A, src: &[u8]) -> Result<(Self, &[u8])>
+    pub fn deserialize_unchecked(
+        alloc: A,
+        src: &[u8],
+    ) -> Result<((Self, Option<Prefilter<A>>), &[u8])>
         requires { BeginsWithAutomaton V.is_value V.form src.now }
-        ensures ok { IfOk result (λ r. (p : Parts V) (rest : List ℕ) → IsAutomaton V.is_value p → src.now ≡ parts_form V.form p None ++ rest
-            → (r.0 ≡ p) × (r.1.now ≡ rest)) }
+        ensures ok { IfOk result (λ r. (p : Parts V) (filter : Option Filter) (rest : List ℕ) → IsAutomaton V.is_value p filter
+            → src.now ≡ parts_form V.form p filter ++ rest → (r.0.0 ≡ p) × (r.0.1 ≡ filter) × (r.1.now ≡ rest)) }
         ensures err { IfErr result IsOutOfMemory }
     {
         let (lists, rest) = read_lists(alloc, src)?;
-        let (states, _filter) = Self::of_lists(lists);
-        Ok((states, rest))
+        Ok((Self::of_lists(lists), rest))
     }
 
     /// The states that the bytes begin with, whoever wrote them, with the filter behind them, if there is one, and

@@ -11,4 +11,4 @@ new-requires-clause-depths g c =
     let kept = c.self.inside in let p : Parts g.row.V.Denot = kept.states in
     let P : Parts g.row.V.Denot → Type 0 = λ x. AreDepths (IsState x) (text x) kept.depths.items in
     let Q : List ℕ → Type 0 = λ depths. AreDepths (IsState c.standard.result) (text c.standard.result) depths in
-    subst Q (sym c.deref.ensures.value) (subst P (sym c.standard.ensures) (table_tells (child p) (length p.coding.table) (count p) kept.depths.items c.self.invariant))
+    subst Q (sym c.deref.ensures.value) (subst P (sym c.standard.ensures) (table_tells (child p) (length p.coding.table) (count p) kept.depths.items c.self.invariant.depths))

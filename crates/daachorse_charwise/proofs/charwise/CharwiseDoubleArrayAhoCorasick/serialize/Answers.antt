@@ -1,0 +1,10 @@
+-- An automaton in hand has valid parts, and its filter passes.
+use Rattle.std.proofs.Common.{subst}
+use Rattle.daachorse_charwise.specs.Automata.{Automaton}
+use Rattle.daachorse_charwise.specs.WrittenForms.{IsAutomaton}
+use Rattle.daachorse_charwise.proofs.charwise.CharwiseDoubleArrayAhoCorasick.serialize.Goals as goal
+
+pub returns-clause-automaton : goal.returns-clause-automaton
+returns-clause-automaton g c =
+    let P : Automaton g.row.V.Denot → Type 0 = λ a. IsAutomaton g.V.Serializable.is_value a in
+    subst P c.self.view_is (record { parts = c.serialize.ensures.automaton; filter = c.self.invariant.filter })

@@ -1,0 +1,45 @@
+-- What is kept is valid, so that its keys are the texts of the elements with own outputs, and a text is spelled by the UTF-8 of its characters.
+use Rattle.std.proofs.Common.{◌≡◌, ℕ, List, [], ◌∷◌, ◌++◌, length, refl, sym, ap, subst}
+use Rattle.std.specs.Prelude.{encode_utf8_all, flat_map}
+use Rattle.std.specs.Char.{encode_utf8}
+use Rattle.daachorse_model.specs.Kinds.{is_leftmost}
+use Rattle.daachorse_model.specs.Units.{char_width}
+use Rattle.daachorse_checker.proofs.KeyLaws.{all_from_each, each_from_all}
+use Rattle.daachorse_prefilter.specs.Filters.{PassesKeys}
+use Rattle.daachorse_charwise_states.specs.Parts.{Parts, content, count, machine}
+use Rattle.daachorse_charwise_states.proofs.CharLaws.{valid_machine}
+use Rattle.daachorse_charwise_states.proofs.EdgeLaws.{valid_tells}
+use Rattle.daachorse_charwise_states.proofs.states.States.passes.Goals as goal
+
+spells : (w : List ℕ) → flat_map encode_utf8 w ≡ encode_utf8_all w
+spells [] = refl
+spells (character ∷ w) = ap (λ v. encode_utf8 character ++ v) (spells w)
+
+pub passes_all-requires-clause-inside : goal.passes_all-requires-clause-inside
+passes_all-requires-clause-inside g c = (valid_machine c.in_ok-elements.elements.parts c.in_ok-elements.ensures.valid).inside
+
+pub passes_all-requires-clause-tell : goal.passes_all-requires-clause-tell
+passes_all-requires-clause-tell g c = valid_tells c.in_ok-elements.elements c.in_ok-elements.ensures.lettered.letters
+
+pub passes_all-requires-clause-some : goal.passes_all-requires-clause-some
+passes_all-requires-clause-some g c = (valid_machine c.in_ok-elements.elements.parts c.in_ok-elements.ensures.valid).some
+
+pub passes_all-requires-clause-tree : goal.passes_all-requires-clause-tree
+passes_all-requires-clause-tree g c =
+    let right = c.in_ok-elements.ensures.valid.right in record { dead_no_child = right.dead_no_child; one_path = right.one_path }
+
+pub returns-clause-yes : goal.returns-clause-yes
+returns-clause-yes g c e =
+    let p = c.in_ok-elements.elements.parts in
+    let P : Parts g.row.V.Denot → Type 0 = λ p. PassesKeys encode_utf8_all (content p) c.args.filter.now in
+    subst P c.in_ok-elements.ensures.parts
+    (rw c.in-Some.is
+    (each_from_all char_width (machine p) (is_leftmost p.kind) (count p) (length p.coding.table) (valid_machine p c.in_ok-elements.ensures.valid) encode_utf8 encode_utf8_all spells c.in-Some.filter (c.in_ok-passes.ensures.yes e)))
+
+pub returns-clause-no : goal.returns-clause-no
+returns-clause-no g c e each =
+    let p = c.in_ok-elements.elements.parts in
+    let P : Parts g.row.V.Denot → Type 0 = λ p. PassesKeys encode_utf8_all (content p) c.args.filter.now in
+    let here = subst P (sym c.in_ok-elements.ensures.parts) each in
+    c.in_ok-passes.ensures.no e
+    (all_from_each char_width (machine p) (is_leftmost p.kind) (count p) (length p.coding.table) (valid_machine p c.in_ok-elements.ensures.valid) encode_utf8 encode_utf8_all spells c.in-Some.filter (rw c.in-Some.is at here))

@@ -1,0 +1,59 @@
+//! Whether a filter passes at each key of the automaton.
+//!
+//! The layers above may rely on the answer being right of any filter. It looks at the UTF-8 of the
+//! keys.
+
+ghost use Rattle.std.specs.Prelude.{◌≡◌, true, false, encode_utf8_all, IfOk, IfErr};
+ghost use Rattle.daachorse_core.specs.Refusals.{IsOutOfMemory};
+ghost use Rattle.daachorse_prefilter.specs.Filters.{PassesKeys};
+ghost use Rattle.daachorse_charwise_states.specs.Parts.{content};
+
+use crate::edges::Elements;
+use crate::states::States;
+use daachorse_checker::filters::{Spelled, passes_all};
+use daachorse_core::errors::Result;
+use daachorse_listing::patterns::Outputs;
+use daachorse_prefilter::prefilter::{Prefilter, Window};
+use std::alloc::Allocator;
+
+/// A unit is a character, which its UTF-8 spells.
+impl<'a, V: Copy, A: Allocator> Spelled for Elements<'a, V, A> {
+    ghost use Rattle.std.specs.Char.{encode_utf8};
+    ghost use Rattle.daachorse_listing.specs.Listing.{has_own};
+    ghost use Rattle.daachorse_charwise_states.specs.Parts.{machine};
+
+    ghost bytes = { encode_utf8 };
+
+    ghost is_key = { λ a. has_own (machine a.parts) };
+
+    fn is_key(&self, element: usize) -> bool {
+        let (first, end) = self.own_outputs(element);
+        first != end
+    }
+
+    fn read<B: Allocator>(&self, element: usize, filter: &Prefilter<B>, window: Window) -> Window {
+        let mut buffer = [0; 4];
+        let text = self.unit(element).encode_utf8(&mut buffer);
+        filter.read(window, text.as_bytes())
+    }
+}
+
+impl<V: Copy, A: Allocator + Copy> States<V, A> {
+    /// Whether a filter, if there is one, passes at the beginning of the UTF-8 of each pattern.
+    ///
+    /// # Errors
+    ///
+    /// An allocation failed.
+    pub fn passes(&self, alloc: A, filter: &Option<Prefilter<A>>) -> Result<bool>
+        ensures yes { IfOk result (λ passes. passes ≡ true → PassesKeys encode_utf8_all (content self.now) filter.now) }
+        ensures no { IfOk result (λ passes. passes ≡ false → PassesKeys encode_utf8_all (content self.now) filter.now → ⊥) }
+        ensures err { IfErr result IsOutOfMemory }
+    {
+        let Some(filter) = filter else {
+            return Ok(true);
+        };
+        let elements = self.elements(alloc)?;
+        let passes = passes_all(alloc, &elements, filter)?;
+        Ok(passes)
+    }
+}

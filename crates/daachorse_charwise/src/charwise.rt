@@ -17,6 +17,8 @@ ghost use Rattle.daachorse_model.specs.Leftmost.{leftmost};
 ghost use Rattle.daachorse_model.specs.Matches.{matches_after, no_suffix, overlapping, standard, standard_after};
 ghost use Rattle.daachorse_model.specs.Prefixes.{HasPrefixes, IsListing};
 ghost use Rattle.daachorse_search.specs.Beginnings.{BeginsFrom, BeginsStepping, BeginsWith};
+ghost use Rattle.daachorse_search.specs.Filters.{IsSoundFor};
+ghost use Rattle.daachorse_skipping.specs.Asked.{BeginsAsking, lets_pass};
 ghost use Rattle.daachorse_charwise.specs.Automata.{HasDepths, MayHaveFilter, dictionary_of, element_count, kind_of, states_of};
 ghost use Rattle.daachorse_charwise.specs.Building.{HoldsPatterns, IsBuildRefusal, IsBuiltOf, IsRefusalOf, kept_filter, registered_texts, spelled};
 ghost use Rattle.daachorse_charwise_states.specs.Texts.{AreTexts};
@@ -38,13 +40,13 @@ use crate::charwise::states::States;
 use daachorse_core::MatchKind;
 use daachorse_core::errors::Result;
 use daachorse_prefilter::prefilter::{Prefilter, clone_filter};
-use daachorse_search::filter::NoFilter;
 use daachorse_search::find::{FindWalk, find_in};
 use daachorse_search::leftmost::LeftmostMatches;
 use daachorse_search::matches_from::MatchesFrom;
 use daachorse_search::overlapping::{
     NoSuffixWalk, OverlappingWalk, find_overlapping_in, find_overlapping_no_suffix_in,
 };
+use daachorse_skipping::skipping::Skipping;
 use daachorse_text::decoding::Decoded;
 use daachorse_text::text::Text;
 use std::alloc::{Allocator, Global};
@@ -281,6 +283,15 @@ impl<V: Copy, A: Allocator> CharwiseDoubleArrayAhoCorasick<V, A> {
         self.states.num_states() as usize
     }
 
+    /// What a search in a text asks: the filter, if there is one, behind an open gate.
+    #[inline(always)]
+    fn skipping<'a>(&'a self) -> Skipping<'a, A>
+        ensures asks { BeginsAsking self.entry.now.filter result }
+        ensures sound { IsSoundFor (λ w. lets_pass result.filter (encode_utf8_all w)) (dictionary_of self.entry.now) }
+    {
+        Skipping::new(self.filter.as_ref())
+    }
+
     /// Finds non-overlapping matches in a haystack, each of which ends as early as possible.
     ///
     /// The search goes on from the end of each match. Of the matches that end together it takes the
@@ -292,12 +303,13 @@ impl<V: Copy, A: Allocator> CharwiseDoubleArrayAhoCorasick<V, A> {
     /// The automaton is for the standard searches: its kind is [`MatchKind::Standard`].
     #[inline(always)]
     #[tactic(auto, using(daachorse_charwise_states::proofs::DeadLaws::alive))]
-    pub fn find_iter<'a>(&'a self, haystack: &'a str) -> FindSliceIterator<'a, V>
+    pub fn find_iter<'a>(&'a self, haystack: &'a str) -> FindSliceIterator<'a, V, A>
         requires { kind_of self.now ≡ Standard }
-        ensures { BeginsWith (states_of self.entry.now) (chars haystack.entry.now)
+        ensures begins { BeginsWith (states_of self.entry.now) (chars haystack.entry.now)
             (standard char_width (dictionary_of self.entry.now) (chars haystack.entry.now)) result }
+        ensures asks { BeginsAsking self.entry.now.filter result.filter }
     {
-        find_in(self.states.standard(), Text::new(haystack), NoFilter)
+        find_in(self.states.standard(), Text::new(haystack), self.skipping())
     }
 
     /// Finds non-overlapping matches in the text whose bytes `haystack` yields.
@@ -338,12 +350,13 @@ impl<V: Copy, A: Allocator> CharwiseDoubleArrayAhoCorasick<V, A> {
     pub fn find_overlapping_iter<'a>(
         &'a self,
         haystack: &'a str,
-    ) -> FindOverlappingSliceIterator<'a, V>
+    ) -> FindOverlappingSliceIterator<'a, V, A>
         requires { kind_of self.now ≡ Standard }
-        ensures { BeginsWith (states_of self.entry.now) (chars haystack.entry.now)
+        ensures begins { BeginsWith (states_of self.entry.now) (chars haystack.entry.now)
             (overlapping char_width (dictionary_of self.entry.now) (chars haystack.entry.now)) result }
+        ensures asks { BeginsAsking self.entry.now.filter result.filter }
     {
-        find_overlapping_in(self.states.standard(), Text::new(haystack), NoFilter)
+        find_overlapping_in(self.states.standard(), Text::new(haystack), self.skipping())
     }
 
     /// Finds every match in the text whose bytes `haystack` yields.
@@ -384,12 +397,13 @@ impl<V: Copy, A: Allocator> CharwiseDoubleArrayAhoCorasick<V, A> {
     pub fn find_overlapping_no_suffix_iter<'a>(
         &'a self,
         haystack: &'a str,
-    ) -> FindOverlappingNoSuffixSliceIterator<'a, V>
+    ) -> FindOverlappingNoSuffixSliceIterator<'a, V, A>
         requires { kind_of self.now ≡ Standard }
-        ensures { BeginsWith (states_of self.entry.now) (chars haystack.entry.now)
+        ensures begins { BeginsWith (states_of self.entry.now) (chars haystack.entry.now)
             (no_suffix char_width (dictionary_of self.entry.now) (chars haystack.entry.now)) result }
+        ensures asks { BeginsAsking self.entry.now.filter result.filter }
     {
-        find_overlapping_no_suffix_in(self.states.standard(), Text::new(haystack), NoFilter)
+        find_overlapping_no_suffix_in(self.states.standard(), Text::new(haystack), self.skipping())
     }
 
     /// Finds the longest match at each end in the text whose bytes `haystack` yields.
@@ -430,12 +444,17 @@ impl<V: Copy, A: Allocator> CharwiseDoubleArrayAhoCorasick<V, A> {
     /// The automaton is for a leftmost search: its kind is not [`MatchKind::Standard`].
     #[inline(always)]
     #[tactic(auto, using(daachorse_charwise_states::proofs::DeadLaws::is_leftmost_automaton))]
-    pub fn leftmost_find_iter<'a>(&'a self, haystack: &'a str) -> LeftmostFindIterator<'a, V>
+    pub fn leftmost_find_iter<'a>(&'a self, haystack: &'a str) -> LeftmostFindIterator<'a, V, A>
         requires { kind_of self.now ≢ Standard }
-        ensures { BeginsWith (states_of self.entry.now) (chars haystack.entry.now)
+        ensures begins { BeginsWith (states_of self.entry.now) (chars haystack.entry.now)
             (leftmost char_width (dictionary_of self.entry.now) (chars haystack.entry.now)) result }
+        ensures asks { BeginsAsking self.entry.now.filter result.filter }
     {
-        LeftmostMatches::new(self.states.leftmost(), Text::new(haystack))
+        LeftmostMatches::with_filter(
+            self.states.leftmost(),
+            Text::new(haystack),
+            self.skipping(),
+        )
     }
 
     /// Starts the search of [`Self::find_iter`], to be given one character at a time.

@@ -14,6 +14,8 @@ mod charwise;
 #[cfg(test)]
 mod corpus;
 #[cfg(test)]
+mod cuts;
+#[cfg(test)]
 mod depths;
 #[cfg(test)]
 mod edge_map;

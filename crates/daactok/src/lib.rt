@@ -95,7 +95,7 @@ impl<'a, V: Copy, A: Allocator> Tokenizer<'a, V, A> {
     /// Cuts a text into tokens: the leftmost matches, each with its value, and in each nonempty
     /// stretch before, between and after them one token with no value.
     #[inline]
-    pub fn tokens(&self, text: &'a str) -> Tokens<'a, V>
+    pub fn tokens(&self, text: &'a str) -> Tokens<'a, V, A>
         ensures list { result ≡ tokens (dictionary_of self.entry.now) text.entry.now }
         ensures joined { flat_map (λ t. t.text) result ≡ text.entry.now }
         ensures few { length result ≤ length text.entry.now }
@@ -113,16 +113,16 @@ impl<'a, V: Copy, A: Allocator> Tokenizer<'a, V, A> {
 
 /// The tokens of a text, in order. No call takes memory.
 #[derive(Drop)]
-pub struct Tokens<'a, V: Copy> {
+pub struct Tokens<'a, V: Copy, A: Allocator = Global> {
     text: &'a str,
     // Where the next token starts.
     place: usize,
     // The match that is the next known token, where it was found already.
     known: Option<Match<V>>,
-    matches: LeftmostFindIterator<'a, V>,
+    matches: LeftmostFindIterator<'a, V, A>,
 }
 
-impl<'a, V: Copy> Model for Tokens<'a, V> {
+impl<'a, V: Copy, A: Allocator> Model for Tokens<'a, V, A> {
     ghost use Rattle.std.specs.Prelude.{List, ◌++◌, option_to_list};
     ghost use Rattle.daactok.specs.Tokens.{AreParts, Piece, tokens_from};
 
@@ -133,7 +133,7 @@ impl<'a, V: Copy> Model for Tokens<'a, V> {
     ghost invariant = { λ s. AreParts s.text.now s.place (option_to_list s.known ++ s.matches.left) };
 }
 
-impl<'a, V: Copy> Iterator for Tokens<'a, V> {
+impl<'a, V: Copy, A: Allocator> Iterator for Tokens<'a, V, A> {
     ghost use Rattle.std.specs.Iterator.{YieldsFirstBy, item_count};
 
     type Item = Token<'a, V>;
@@ -167,7 +167,10 @@ impl<'a, V: Copy> Iterator for Tokens<'a, V> {
 
 // Takes the next match, unless one was taken already.
 #[inline(always)]
-fn find_known<'a, V: Copy>(known: &mut Option<Match<V>>, matches: &mut LeftmostFindIterator<'a, V>)
+fn find_known<'a, V: Copy, A: Allocator>(
+    known: &mut Option<Match<V>>,
+    matches: &mut LeftmostFindIterator<'a, V, A>,
+)
     ensures same { option_to_list known.new ++ matches.new.left ≡ option_to_list known.old ++ matches.old.left }
     ensures last { IfNone known.new (matches.new.left ≡ []) }
 {

@@ -18,14 +18,21 @@ use daachorse_search::matches::Matches;
 use daachorse_search::matches_from::MatchesFrom;
 use daachorse_search::overlapping::{NoSuffixWalk, OverlappingWalk};
 use daachorse_search::{find_stepper, overlapping_stepper};
+use daachorse_skipping::skipping::Skipping;
 pub use daachorse_text::decoding::{CharWithEndOffsetIterator, Decoded};
 use daachorse_text::text::Text;
+use std::alloc::Global;
 
 /// An iterator over non-overlapping matches in a text, each of which ends as early as possible.
 ///
 /// Of the matches that end together it gives the longest. With an empty pattern there is one empty
 /// match at each boundary.
-pub type FindSliceIterator<'a, V> = Matches<V, FindWalk<V, Standard<'a, V>>, Text<'a>>;
+pub type FindSliceIterator<'a, V, A = Global> = Matches<
+    V,
+    FindWalk<V, Standard<'a, V>>,
+    Text<'a>,
+    Skipping<'a, A>,
+>;
 
 /// An iterator over non-overlapping matches in the text whose bytes a source yields.
 ///
@@ -35,10 +42,11 @@ pub type FindIterator<'a, P, V> = MatchesFrom<V, FindWalk<V, Standard<'a, V>>, D
 /// An iterator over all matches in a text, by rising ends.
 ///
 /// Of the matches that end together the longest comes first.
-pub type FindOverlappingSliceIterator<'a, V> = Matches<
+pub type FindOverlappingSliceIterator<'a, V, A = Global> = Matches<
     V,
     OverlappingWalk<V, Standard<'a, V>>,
     Text<'a>,
+    Skipping<'a, A>,
 >;
 
 /// An iterator over all matches in the text whose bytes a source yields.
@@ -53,10 +61,11 @@ pub type FindOverlappingIterator<'a, P, V> = MatchesFrom<
 /// An iterator over the longest match at each end in a text.
 ///
 /// Of equal patterns it gives the one that was registered first.
-pub type FindOverlappingNoSuffixSliceIterator<'a, V> = Matches<
+pub type FindOverlappingNoSuffixSliceIterator<'a, V, A = Global> = Matches<
     V,
     NoSuffixWalk<V, Standard<'a, V>>,
     Text<'a>,
+    Skipping<'a, A>,
 >;
 
 /// An iterator over the longest match at each end in the text whose bytes a source yields.
@@ -71,7 +80,12 @@ pub type FindOverlappingNoSuffixIterator<'a, P, V> = MatchesFrom<
 /// An iterator over non-overlapping matches in a text, each of which starts as early as possible.
 ///
 /// At a start it gives the longest pattern that the automaton holds.
-pub type LeftmostFindIterator<'a, V> = LeftmostMatches<V, Leftmost<'a, V>, Text<'a>>;
+pub type LeftmostFindIterator<'a, V, A = Global> = LeftmostMatches<
+    V,
+    Leftmost<'a, V>,
+    Text<'a>,
+    Skipping<'a, A>,
+>;
 
 /// A search for non-overlapping matches that is given one character at a time.
 pub type FindStepper<'a, V> = find_stepper::FindStepper<'a, V, Standard<'a, V>>;

@@ -59,6 +59,24 @@ pub fn bytewise_by_corpus<A: Allocator + Copy>(
         .build_with_values(alloc, patvals.iter().copied())
 }
 
+/// The same without a filter, laid out by these documents if there are any.
+fn bytewise_unfiltered(
+    alloc: Global,
+    kind: MatchKind,
+    patvals: &[(&[u8], u32)],
+    documents: &[&[u8]],
+) -> Result<Bytewise<Global>>
+    ensures { IfOk result (λ a. a.parts.kind ≡ kind) }
+{
+    let mut builder = DoubleArrayAhoCorasickBuilder::new().match_kind(kind);
+    if !documents.is_empty() {
+        builder = builder.corpus(alloc, documents.iter().copied())?;
+    }
+    builder
+        .use_prefilter(false)
+        .build_with_values(alloc, patvals.iter().copied())
+}
+
 /// An automaton written and read back with a byte 42 behind it, and whether that byte alone is left.
 pub fn read_back<V: Serializable + Copy, A: Allocator + Copy>(
     alloc: A,
@@ -69,6 +87,20 @@ pub fn read_back<V: Serializable + Copy, A: Allocator + Copy>(
     let mut bytes = automaton.serialize(alloc)?;
     bytes.push(42)?;
     let (read, rest) = DoubleArrayAhoCorasick::deserialize_unchecked(alloc, &bytes)?;
+    let is_left = matches!(rest, [42]);
+    Ok((read, is_left))
+}
+
+/// The same as [`read_back`] by the read that checks.
+pub fn read_checked<V: Serializable + Copy, A: Allocator + Copy>(
+    alloc: A,
+    automaton: &DoubleArrayAhoCorasick<V, A>,
+) -> Result<(DoubleArrayAhoCorasick<V, A>, bool)>
+    ensures { IfOk result (λ r. r.0.parts ≡ automaton.now.parts) }
+{
+    let mut bytes = automaton.serialize(alloc)?;
+    bytes.push(42)?;
+    let (read, rest) = DoubleArrayAhoCorasick::deserialize(alloc, &bytes)?;
     let is_left = matches!(rest, [42]);
     Ok((read, is_left))
 }
@@ -85,7 +117,9 @@ pub fn bytewise_by(
     match way {
         Way::Built => bytewise(alloc, kind, patvals),
         Way::ByCorpus => bytewise_by_corpus(alloc, kind, patvals, &[b"ariaaria", b"abcd"]),
-        Way::ReadBack => Ok(read_back(alloc, &bytewise(alloc, kind, patvals)?)?.0),
+        Way::Unfiltered => bytewise_unfiltered(alloc, kind, patvals, &[]),
+        Way::UnfilteredByCorpus => bytewise_unfiltered(alloc, kind, patvals, &[b"ariaaria"]),
+        Way::ReadBack => Ok(read_checked(alloc, &bytewise(alloc, kind, patvals)?)?.0),
     }
 }
 
@@ -117,6 +151,24 @@ pub fn charwise_by_corpus<A: Allocator + Copy>(
         .build_with_values(alloc, patvals.iter().copied())
 }
 
+/// The same without a filter, laid out by these documents if there are any.
+fn charwise_unfiltered(
+    alloc: Global,
+    kind: MatchKind,
+    patvals: &[(&str, u32)],
+    documents: &[&str],
+) -> Result<Charwise<Global>>
+    ensures { IfOk result (λ a. a.parts.kind ≡ kind) }
+{
+    let mut builder = CharwiseDoubleArrayAhoCorasickBuilder::new().match_kind(kind);
+    if !documents.is_empty() {
+        builder = builder.corpus(alloc, documents.iter().copied())?;
+    }
+    builder
+        .use_prefilter(false)
+        .build_with_values(alloc, patvals.iter().copied())
+}
+
 /// The same as [`read_back`] over characters.
 pub fn read_back_charwise<V: Serializable + Copy, A: Allocator + Copy>(
     alloc: A,
@@ -127,6 +179,20 @@ pub fn read_back_charwise<V: Serializable + Copy, A: Allocator + Copy>(
     let mut bytes = automaton.serialize(alloc)?;
     bytes.push(42)?;
     let (read, rest) = CharwiseDoubleArrayAhoCorasick::deserialize_unchecked(alloc, &bytes)?;
+    let is_left = matches!(rest, [42]);
+    Ok((read, is_left))
+}
+
+/// The same as [`read_checked`] over characters.
+pub fn read_checked_charwise<V: Serializable + Copy, A: Allocator + Copy>(
+    alloc: A,
+    automaton: &CharwiseDoubleArrayAhoCorasick<V, A>,
+) -> Result<(CharwiseDoubleArrayAhoCorasick<V, A>, bool)>
+    ensures { IfOk result (λ r. r.0.parts ≡ automaton.now.parts) }
+{
+    let mut bytes = automaton.serialize(alloc)?;
+    bytes.push(42)?;
+    let (read, rest) = CharwiseDoubleArrayAhoCorasick::deserialize(alloc, &bytes)?;
     let is_left = matches!(rest, [42]);
     Ok((read, is_left))
 }
@@ -143,6 +209,8 @@ pub fn charwise_by(
     match way {
         Way::Built => charwise(alloc, kind, patvals),
         Way::ByCorpus => charwise_by_corpus(alloc, kind, patvals, &["世界中に", "abcd"]),
-        Way::ReadBack => Ok(read_back_charwise(alloc, &charwise(alloc, kind, patvals)?)?.0),
+        Way::Unfiltered => charwise_unfiltered(alloc, kind, patvals, &[]),
+        Way::UnfilteredByCorpus => charwise_unfiltered(alloc, kind, patvals, &["世界中に"]),
+        Way::ReadBack => Ok(read_checked_charwise(alloc, &charwise(alloc, kind, patvals)?)?.0),
     }
 }

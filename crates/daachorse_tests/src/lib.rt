@@ -10,6 +10,8 @@ mod automata;
 #[cfg(test)]
 mod bytewise;
 #[cfg(test)]
+mod changed;
+#[cfg(test)]
 mod charwise;
 #[cfg(test)]
 mod corpus;

@@ -6,7 +6,7 @@ ghost use Rattle.daachorse_model.specs.declared.MatchKind.TheVariants.{Standard}
 
 use crate::automata::{
     Bytewise, Charwise, bytewise, bytewise_by_corpus, charwise, charwise_by_corpus, read_back,
-    read_back_charwise,
+    read_back_charwise, read_checked, read_checked_charwise,
 };
 use crate::expect;
 use crate::listing::{lists, lists_texts};
@@ -29,10 +29,11 @@ enum Requests {
     Clone,
     CacheDepths,
     WriteAndRead,
+    WriteAndCheck,
 }
 
 /// The calls, each for a kind.
-const REQUESTS: [(MatchKind, Requests); 12] = [
+const REQUESTS: [(MatchKind, Requests); 14] = [
     (MatchKind::Standard, Requests::New),
     (MatchKind::Standard, Requests::WithValues),
     (MatchKind::Standard, Requests::Build),
@@ -41,8 +42,10 @@ const REQUESTS: [(MatchKind, Requests); 12] = [
     (MatchKind::Standard, Requests::Clone),
     (MatchKind::Standard, Requests::CacheDepths),
     (MatchKind::Standard, Requests::WriteAndRead),
+    (MatchKind::Standard, Requests::WriteAndCheck),
     (MatchKind::LeftmostLongest, Requests::Build),
     (MatchKind::LeftmostLongest, Requests::WriteAndRead),
+    (MatchKind::LeftmostLongest, Requests::WriteAndCheck),
     (MatchKind::LeftmostFirst, Requests::Build),
     (MatchKind::LeftmostFirst, Requests::WriteAndRead),
 ];
@@ -94,6 +97,7 @@ fn made<A: Allocator + Copy>(alloc: A, kind: MatchKind, call: Requests) -> Resul
         Requests::ByCorpus => bytewise_by_corpus(alloc, kind, &PATVALS, &[b"abx", b"bc"]),
         Requests::Clone => bytewise(alloc, kind, &PATVALS)?.clone(),
         Requests::WriteAndRead => Ok(read_back(alloc, &bytewise(alloc, kind, &PATVALS)?)?.0),
+        Requests::WriteAndCheck => Ok(read_checked(alloc, &bytewise(alloc, kind, &PATVALS)?)?.0),
         Requests::BuildWithValues | Requests::CacheDepths => bytewise(alloc, kind, &PATVALS),
     }
 }
@@ -171,6 +175,9 @@ fn made_charwise<A: Allocator + Copy>(
         Requests::Clone => charwise(alloc, kind, &TEXT_VALUES)?.clone(),
         Requests::WriteAndRead => {
             Ok(read_back_charwise(alloc, &charwise(alloc, kind, &TEXT_VALUES)?)?.0)
+        }
+        Requests::WriteAndCheck => {
+            Ok(read_checked_charwise(alloc, &charwise(alloc, kind, &TEXT_VALUES)?)?.0)
         }
         Requests::BuildWithValues | Requests::CacheDepths => charwise(alloc, kind, &TEXT_VALUES),
     }

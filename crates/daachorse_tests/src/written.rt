@@ -1,6 +1,9 @@
 //! Automata written, by tables of bytes, and read back.
 
-use crate::automata::{Bytewise, KINDS, bytewise, charwise, read_back, read_back_charwise};
+use crate::automata::{
+    Bytewise, KINDS, bytewise, charwise, read_back, read_back_charwise, read_checked,
+    read_checked_charwise,
+};
 use crate::{expect, hash_of};
 use daachorse::errors::DaachorseError;
 use daachorse::{DoubleArrayAhoCorasick, DoubleArrayAhoCorasickBuilder, MatchKind, Result};
@@ -8,10 +11,10 @@ use std::alloc::{AllocError, Global};
 use std::test::Fail;
 
 /// An element that is not vacant: its index, base, link and packed word.
-type Element = (u32, u32, u32, u32);
+pub type Element = (u32, u32, u32, u32);
 
 /// Appends numbers, each as four bytes.
-fn push_numbers(bytes: &mut Vec<u8>, numbers: &[u32]) -> Result<(), AllocError> {
+pub fn push_numbers(bytes: &mut Vec<u8>, numbers: &[u32]) -> Result<(), AllocError> {
     for number in numbers {
         bytes.extend_from_slice(&number.to_le_bytes())?;
     }
@@ -19,7 +22,7 @@ fn push_numbers(bytes: &mut Vec<u8>, numbers: &[u32]) -> Result<(), AllocError> 
 }
 
 /// The bytes of 256 elements for the standard searches, vacant but for these, and what follows them.
-fn bytes_of(alloc: Global, elements: &[Element], ending: &[u8]) -> Result<Vec<u8>, AllocError> {
+pub fn bytes_of(alloc: Global, elements: &[Element], ending: &[u8]) -> Result<Vec<u8>, AllocError> {
     let mut bytes = Vec::new(alloc);
     push_numbers(&mut bytes, &[256])?;
     for index in 0..256u32 {
@@ -33,13 +36,13 @@ fn bytes_of(alloc: Global, elements: &[Element], ending: &[u8]) -> Result<Vec<u8
 
 /// A row over bytes: patterns, and the elements and the ending that they are written as.
 #[derive(Clone, Copy)]
-struct Row {
+pub struct Row {
     patvals: &'static [(&'static [u8], u32)],
-    elements: &'static [Element],
-    ending: &'static [u8],
+    pub elements: &'static [Element],
+    pub ending: &'static [u8],
 }
 
-const ROWS: [Row; 2] = [
+pub const ROWS: [Row; 2] = [
     Row {
         patvals: &[],
         elements: &[],
@@ -88,7 +91,7 @@ fn automata_have_their_bytes(rt: HostRuntime) -> Result<(), Fail> {
 }
 
 /// An automaton over characters without a pattern: two elements, no code, no output.
-const NO_CHARACTERS: [u8; 54] = [
+pub const NO_CHARACTERS: [u8; 54] = [
     2, 0, 0, 0, // Two elements: base, check, link, output position.
     0, 0, 0, 0, 1, 0, 0, 0, 0, 0, 0, 0, 0, 0, 0, 0, //
     0, 0, 0, 0, 1, 0, 0, 0, 1, 0, 0, 0, 0, 0, 0, 0, //
@@ -178,51 +181,22 @@ fn values_of_a_byte_take_a_byte(rt: HostRuntime) -> Result<(), Fail> {
     Ok(())
 }
 
-/// Whether an automaton over bytes equals what is read back of it, and nothing more is read.
+/// Whether an automaton over bytes equals what either read gives back of it, and nothing more is read.
 fn is_read_back(alloc: Global, kind: MatchKind) -> Result<bool> {
     let patvals = [(b"aria".as_slice(), 0), (b"", 1), (b"iris", 2), (b"ar", 3)];
     let automaton = bytewise(alloc, kind, &patvals)?;
     let (read, is_left) = read_back(alloc, &automaton)?;
-    Ok(read == automaton && is_left)
+    let (checked, is_behind) = read_checked(alloc, &automaton)?;
+    Ok(read == automaton && is_left && checked == automaton && is_behind)
 }
 
-/// Whether a read that checks gives back an automaton over bytes that was written.
-fn is_accepted(alloc: Global, kind: MatchKind) -> Result<bool> {
-    let patvals = [(b"aria".as_slice(), 0), (b"", 1), (b"iris", 2), (b"ar", 3)];
-    let automaton = bytewise(alloc, kind, &patvals)?;
-    let bytes = automaton.serialize(alloc)?;
-    let (read, rest) = DoubleArrayAhoCorasick::<u32>::deserialize(alloc, &bytes)?;
-    Ok(read == automaton && rest.is_empty())
-}
-
-#[test]
-fn a_read_that_checks_accepts_what_was_written(rt: HostRuntime) -> Result<(), Fail> {
-    for kind in KINDS {
-        expect(&rt, is_accepted(rt.alloc(), kind)?, "accepted");
-    }
-    Ok(())
-}
-
-#[test]
-fn a_wrong_link_is_refused(rt: HostRuntime) -> Result<(), Fail> {
-    let row = ROWS[1];
-    let mut bytes = bytes_of(rt.alloc(), row.elements, row.ending)?;
-    // The link of element 2, which is 7, behind the count, two elements and a base.
-    if let Some(link) = bytes.get_mut(32) {
-        *link = 4;
-    }
-    let read = DoubleArrayAhoCorasick::<u32>::deserialize(rt.alloc(), &bytes);
-    let is_refused = matches!(read, Err(DaachorseError::InvalidAutomaton(_)));
-    expect(&rt, is_refused, "refused");
-    Ok(())
-}
-
-/// Whether an automaton over characters equals what is read back of it, and nothing more is read.
+/// Whether an automaton over characters equals what either read gives back of it, and nothing more is read.
 fn is_read_back_charwise(alloc: Global, kind: MatchKind) -> Result<bool> {
     let patvals = [("全世界", 0), ("世界", 1), ("", 2), ("に", 3)];
     let automaton = charwise(alloc, kind, &patvals)?;
     let (read, is_left) = read_back_charwise(alloc, &automaton)?;
-    Ok(read == automaton && is_left)
+    let (checked, is_behind) = read_checked_charwise(alloc, &automaton)?;
+    Ok(read == automaton && is_left && checked == automaton && is_behind)
 }
 
 #[test]

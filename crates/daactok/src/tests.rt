@@ -22,12 +22,12 @@ fn build(alloc: Global, kind: MatchKind, words: &[&str]) -> Result<Words>
     builder.build(alloc, words.iter().copied())
 }
 
-/// An automaton written and read back.
+/// An automaton written, and read back by the read that checks.
 fn read_back(alloc: Global, words: &Words) -> Result<Words>
     ensures { IfOk result (λ a. kind_of a ≡ kind_of words.now) }
 {
     let bytes = words.serialize(alloc)?;
-    let (read, _rest) = CharwiseDoubleArrayAhoCorasick::deserialize_unchecked(alloc, &bytes)?;
+    let (read, _rest) = CharwiseDoubleArrayAhoCorasick::deserialize(alloc, &bytes)?;
     if read.match_kind() == words.match_kind() {
         Ok(read)
     } else {

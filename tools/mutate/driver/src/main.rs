@@ -2,14 +2,11 @@
 //! ones find with the plain definitions over the patterns that they list.
 //!
 //! `mutate COUNT SEED`
-//!
-//! `mutate shapes` times the read of automata of hostile shapes instead.
 
 mod changes;
 mod ours;
 mod plain;
 mod random;
-mod shapes;
 
 use ours::Read;
 use random::Random;
@@ -30,10 +27,6 @@ struct Tally {
 }
 
 fn main() {
-    if std::env::args().nth(1).is_some_and(|word| word == "shapes") {
-        shapes::time_all();
-        return;
-    }
     let mut arguments = std::env::args().skip(1).filter_map(|word| word.parse().ok());
     let count = arguments.next().unwrap_or(1_000_000);
     let seed = arguments.next().unwrap_or(1);

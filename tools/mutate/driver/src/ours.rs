@@ -26,8 +26,6 @@ unsafe extern "C" {
         out: *mut u32,
         out_len: usize,
     ) -> usize;
-
-    fn mutate_is_accepted(bytes: *const u8, bytes_len: usize, unit: u32) -> u32;
 }
 
 pub type Found = (u32, u32, u32);
@@ -53,12 +51,6 @@ pub fn build(words: &[Vec<u8>], unit: u32, kind: u32, filter: bool, room: usize)
     assert!(len > 0, "the words build");
     out.truncate(len);
     out
-}
-
-/// Whether the bytes are read as an automaton.
-pub fn is_accepted(bytes: &[u8], unit: u32) -> bool {
-    // SAFETY: the slice goes by its own pointer and length.
-    unsafe { mutate_is_accepted(bytes.as_ptr(), bytes.len(), unit) == 1 }
 }
 
 /// Reads and searches; `None` where the bytes are refused. `room` is used again by each call.

@@ -28,8 +28,7 @@ module _ {V : Type 0} (take_value : List ℕ → Taken V) (bytes : List ℕ) whe
   -- the bytes give one automaton at most, but for its depths
   gives_once : (a b : Automaton V) (rest left : List ℕ) → GivesAutomaton take_value bytes a rest → GivesAutomaton take_value bytes b left → (b.parts ≡ a.parts) × (b.filter ≡ a.filter) × (left ≡ rest)
   gives_once a b rest left one other =
-      let same : ((b.parts, b.filter), left) ≡ ((a.parts, a.filter), rest) = same_Some ((b.parts, b.filter), left) ((a.parts, a.filter), rest) (sym other.taken ∙ one.taken) in
-      (
+      let same : ((b.parts, b.filter), left) ≡ ((a.parts, a.filter), rest) = same_Some ((b.parts, b.filter), left) ((a.parts, a.filter), rest) (sym other.taken ∙ one.taken) in (
         ap (λ (x : (Parts V × Option Filter) × List ℕ). x.0.0) same,
         ap (λ (x : (Parts V × Option Filter) × List ℕ). x.0.1) same,
         ap (λ (x : (Parts V × Option Filter) × List ℕ). x.1) same,

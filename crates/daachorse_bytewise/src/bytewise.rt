@@ -429,12 +429,14 @@ impl<V: Copy, A: Allocator> DoubleArrayAhoCorasick<V, A> {
     /// The automaton is for a leftmost search: its kind is not [`MatchKind::Standard`].
     #[inline(always)]
     #[tactic(auto, using(daachorse_bytewise_states::proofs::DeadLaws::is_leftmost_automaton))]
-    pub fn leftmost_find_iter<'a>(&'a self, haystack: &'a [u8]) -> LeftmostFindIterator<'a, V>
+    pub fn leftmost_find_iter<'a>(&'a self, haystack: &'a [u8]) -> LeftmostFindIterator<'a, V, A>
         requires { kind_of self.now ≢ Standard }
-        ensures { BeginsWith (states_of self.entry.now) haystack.entry.now
+        ensures begins { BeginsWith (states_of self.entry.now) haystack.entry.now
             (leftmost byte_width (dictionary_of self.entry.now) haystack.entry.now) result }
+        ensures asks { BeginsAsking self.entry.now.filter result.filter }
     {
-        LeftmostMatches::new(self.states.leftmost(), Bytes::new(haystack))
+        let filter = Skipping::new(self.filter.as_ref());
+        LeftmostMatches::with_filter(self.states.leftmost(), Bytes::new(haystack), filter)
     }
 
     /// Starts the search of [`Self::find_iter`], to be given one byte at a time.

@@ -78,7 +78,12 @@ pub type FindOverlappingNoSuffixIterator<'a, P, V> = MatchesFrom<
 /// An iterator over non-overlapping matches in a slice, each of which starts as early as possible.
 ///
 /// At a start it gives the longest pattern that the automaton holds.
-pub type LeftmostFindIterator<'a, V> = LeftmostMatches<V, Leftmost<'a, V>, haystack::Bytes<'a>>;
+pub type LeftmostFindIterator<'a, V, A = Global> = LeftmostMatches<
+    V,
+    Leftmost<'a, V>,
+    haystack::Bytes<'a>,
+    Skipping<'a, A>,
+>;
 
 /// A search for non-overlapping matches that is given one byte at a time.
 pub type FindStepper<'a, V> = find_stepper::FindStepper<'a, V, Standard<'a, V>>;

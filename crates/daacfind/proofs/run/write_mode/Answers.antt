@@ -42,23 +42,23 @@ returns-in-Find-clause-beginning g c =
 pub returns-in-Longest-clause-whole : goal.returns-in-Longest-clause-whole
 returns-in-Longest-clause-whole g c =
     let search = c.leftmost_find_iter in
-    let all : search.result.left ≡ found_by c.args.mode _ _ = found_in Longest c.args.mode _ _ _ c.in-Longest.is search.ensures.left in
+    let all : search.result.left ≡ found_by c.args.mode _ _ = found_in Longest c.args.mode _ _ _ c.in-Longest.is search.ensures.begins.left in
     on_ok_weaker c.write_matches-in-Longest.result (λ f. f _ (YieldsList-from_progress (StandsBehind byte_width) search.result _ all).runs) c.write_matches-in-Longest.ensures.whole
 
 pub returns-in-Longest-clause-beginning : goal.returns-in-Longest-clause-beginning
 returns-in-Longest-clause-beginning g c =
     let search = c.leftmost_find_iter in
-    let all : search.result.left ≡ found_by c.args.mode _ _ = found_in Longest c.args.mode _ _ _ c.in-Longest.is search.ensures.left in
+    let all : search.result.left ≡ found_by c.args.mode _ _ = found_in Longest c.args.mode _ _ _ c.in-Longest.is search.ensures.begins.left in
     on_err_weaker c.write_matches-in-Longest.result (λ f. f _ (YieldsList-from_progress (StandsBehind byte_width) search.result _ all).runs) c.write_matches-in-Longest.ensures.beginning
 
 pub returns-in-First-clause-whole : goal.returns-in-First-clause-whole
 returns-in-First-clause-whole g c =
     let search = c.leftmost_find_iter-in-First in
-    let all : search.result.left ≡ found_by c.args.mode _ _ = found_in First c.args.mode _ _ _ c.in-First.is search.ensures.left in
+    let all : search.result.left ≡ found_by c.args.mode _ _ = found_in First c.args.mode _ _ _ c.in-First.is search.ensures.begins.left in
     on_ok_weaker c.write_matches-in-First.result (λ f. f _ (YieldsList-from_progress (StandsBehind byte_width) search.result _ all).runs) c.write_matches-in-First.ensures.whole
 
 pub returns-in-First-clause-beginning : goal.returns-in-First-clause-beginning
 returns-in-First-clause-beginning g c =
     let search = c.leftmost_find_iter-in-First in
-    let all : search.result.left ≡ found_by c.args.mode _ _ = found_in First c.args.mode _ _ _ c.in-First.is search.ensures.left in
+    let all : search.result.left ≡ found_by c.args.mode _ _ = found_in First c.args.mode _ _ _ c.in-First.is search.ensures.begins.left in
     on_err_weaker c.write_matches-in-First.result (λ f. f _ (YieldsList-from_progress (StandsBehind byte_width) search.result _ all).runs) c.write_matches-in-First.ensures.beginning

@@ -1,4 +1,4 @@
-use Rattle.std.proofs.Common.{◌≡◌, ◌+◌, ◌*◌, ◌≤◌, ℕ, List, length, Option, sym, ap, ◌∙◌, subst, arith}
+use Rattle.std.proofs.Common.{◌≡◌, ◌+◌, ◌*◌, ◌≤◌, ℕ, List, length, Option, refl, sym, ap, ◌∙◌, subst, arith}
 use Rattle.std.specs.Prelude.{count_by}
 use Rattle.daachorse_model.specs.declared.Match.{Match}
 use Rattle.daachorse_model.specs.Leftmost.{leftmost}
@@ -39,4 +39,4 @@ returns-in_default-clause-least g c =
     let end = subst P c.in_default.is c.next.ensures.steps in
     let Q : List ℕ → Type 0 = λ w. count_by (A.has_label after.automaton) w ≤ after.turns in
     let R : g.row.A.Denot → Type 0 = λ a. count_by (A.has_label a) h ≤ after.turns in
-    subst R (end.automaton ∙ was.automaton) (subst Q (end.all ∙ (end.haystack ∙ was.haystack)) c.turns_are_bounded.ensures.least)
+    subst R (end.automaton ∙ was.automaton) (subst Q (end.all ∙ (end.haystack ∙ was.haystack)) (c.turns_are_bounded.ensures.least (λ w. refl)))

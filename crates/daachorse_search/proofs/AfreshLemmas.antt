@@ -1,16 +1,16 @@
 -- Where no key that began before goes on, a search goes on as one that begins there: each end has the same matches, further on.
-use Rattle.std.proofs.Common.{◌≡◌, ◌≢◌, ℕ, zero, suc, ◌+◌, ◌<◌, ◌≤◌, List, [], ◌∷◌, ◌++◌, map, take, length, inl, inr, refl, sym, ap, ◌∙◌, subst, append_assoc, append-nil, add_assoc, length-append, arith}
+use Rattle.std.proofs.Common.{◌≡◌, ◌≢◌, ℕ, suc, ◌+◌, ◌<◌, ◌≤◌, List, [], ◌∷◌, ◌++◌, map, take, length, inl, inr, refl, sym, ap, ◌∙◌, subst, append_assoc, append-nil, add_assoc, length-append, arith}
 use Rattle.std.specs.Prelude.{option_to_list}
 use Rattle.std.proofs.lemmas.List.{map-append, append_cancel_left}
 use Rattle.daachorse_model.specs.declared.Match.{Match}
 use Rattle.daachorse_model.specs.Units.{size}
 use Rattle.daachorse_model.specs.Dictionary.{Dictionary}
-use Rattle.daachorse_model.specs.Matches.{matches_of, at_each_end, ending_at, standard_from, standard_after}
+use Rattle.daachorse_model.specs.Matches.{matches_of, ending_at, standard_from, standard_after}
 use Rattle.daachorse_model.specs.Prefixes.{IsSuffix, IsLong}
 use Rattle.daachorse_model.specs.Best.{NoneStarts}
 use Rattle.daachorse_model.specs.Resumed.{IsResumed}
 use Rattle.daachorse_model.proofs.Searches.{first_or}
-use Rattle.daachorse_model.proofs.StandardEnds.{IsResumed-begin, joined-from, standard_after-empty, standard_after-nil}
+use Rattle.daachorse_model.proofs.StandardEnds.{IsResumed-begin, joined-from, standard_after-empty}
 use Rattle.daachorse_model.proofs.Suffixes.{size-append, IsSuffix-same, IsSuffix-cons, IsSuffix-of_push}
 use Rattle.daachorse_search.specs.Sources.{past_each_end}
 use Rattle.daachorse_search.specs.Afresh.{shifted, GoesOnAfresh}

@@ -1,7 +1,6 @@
 -- Each turn of the loop is a skip, or none, and then one unit.
-use Rattle.std.proofs.Common.{◌≡◌, ◌++◌, ◌∷◌, ℕ, List, [], length, Option, None, refl, sym, ap, ◌∙◌, subst, arith}
+use Rattle.std.proofs.Common.{◌≡◌, [], length, Option, None, refl, ap, ◌∙◌, subst, arith}
 use Rattle.std.specs.Iterator.{YieldsFirstBy}
-use Rattle.daachorse_core.specs.Outputs.{number}
 use Rattle.daachorse_search.proofs.HaystackLemmas.{ReadsTo-first, ReadsTo-one}
 use Rattle.daachorse_search.proofs.SkipLemmas.{SkipsTo-first, SkipsTo-places, SkipsTo-then, SkipsTo-ended, SkipsTo-reads, no_place_skipped}
 use Rattle.daachorse_search.proofs.SourceLemmas.{none_found}

@@ -1,9 +1,8 @@
 -- The match that was found is the first from the position on.
-use Rattle.std.proofs.Common.{◌≡◌, ◌∙◌, ◌∷◌, ◌+◌, ℕ, List, Option, Some, None, take, sym, ap, subst, arith}
+use Rattle.std.proofs.Common.{◌≡◌, ◌∙◌, ◌∷◌, ℕ, List, Option, Some, None, take, ap, subst, arith}
 use Rattle.std.specs.Prelude.{option_to_list}
 use Rattle.daachorse_core.specs.Outputs.{number}
 use Rattle.daachorse_core.specs.Seen.{units}
-use Rattle.daachorse_model.specs.declared.Match.{Match}
 use Rattle.daachorse_model.specs.Matches.{standard_after}
 use Rattle.daachorse_search.specs.Stepwise.{Stepped}
 use Rattle.daachorse_search.specs.Walks.{matches_from}

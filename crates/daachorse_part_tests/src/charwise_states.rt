@@ -106,10 +106,19 @@ fn a_child_has_its_parent_as_its_check(rt: HostRuntime) -> Result<(), Fail> {
 struct Characters<'p>(&'p [char]);
 
 impl<'p> Pattern<char> for Characters<'p> {
+    ghost use Rattle.std.specs.Prelude.{[]};
+
     ghost units = { λ p. p.0.now };
+
+    ghost spell = { λ w. [] };
 
     fn labels<'b, A: Allocator>(&'b self, _buffer: &'b mut Vec<char, A>) -> Result<&'b [char]> {
         Ok(self.0)
+    }
+
+    /// None: no filter is built here.
+    fn bytes(&self) -> &[u8] {
+        &[]
     }
 }
 

@@ -294,7 +294,11 @@ impl<V: Copy, A: Allocator> DoubleArrayAhoCorasick<V, A> {
             (standard byte_width (dictionary_of self.entry.now) haystack.entry.now) result }
         ensures asks { BeginsAsking self.entry.now.filter result.filter }
     {
-        find_in(self.states.standard(), Bytes::new(haystack), self.skipping())
+        find_in(
+            self.states.standard(),
+            Bytes::new(haystack),
+            self.skipping(),
+        )
     }
 
     /// Finds non-overlapping matches in the bytes that `haystack` yields.
@@ -341,7 +345,11 @@ impl<V: Copy, A: Allocator> DoubleArrayAhoCorasick<V, A> {
             (overlapping byte_width (dictionary_of self.entry.now) haystack.entry.now) result }
         ensures asks { BeginsAsking self.entry.now.filter result.filter }
     {
-        find_overlapping_in(self.states.standard(), Bytes::new(haystack), self.skipping())
+        find_overlapping_in(
+            self.states.standard(),
+            Bytes::new(haystack),
+            self.skipping(),
+        )
     }
 
     /// Finds every match in the bytes that `haystack` yields.
@@ -388,7 +396,11 @@ impl<V: Copy, A: Allocator> DoubleArrayAhoCorasick<V, A> {
             (no_suffix byte_width (dictionary_of self.entry.now) haystack.entry.now) result }
         ensures asks { BeginsAsking self.entry.now.filter result.filter }
     {
-        find_overlapping_no_suffix_in(self.states.standard(), Bytes::new(haystack), self.skipping())
+        find_overlapping_no_suffix_in(
+            self.states.standard(),
+            Bytes::new(haystack),
+            self.skipping(),
+        )
     }
 
     /// Finds the longest match at each end in the bytes that `haystack` yields.

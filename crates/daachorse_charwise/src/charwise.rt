@@ -450,11 +450,7 @@ impl<V: Copy, A: Allocator> CharwiseDoubleArrayAhoCorasick<V, A> {
             (leftmost char_width (dictionary_of self.entry.now) (chars haystack.entry.now)) result }
         ensures asks { BeginsAsking self.entry.now.filter result.filter }
     {
-        LeftmostMatches::with_filter(
-            self.states.leftmost(),
-            Text::new(haystack),
-            self.skipping(),
-        )
+        LeftmostMatches::with_filter(self.states.leftmost(), Text::new(haystack), self.skipping())
     }
 
     /// Starts the search of [`Self::find_iter`], to be given one character at a time.

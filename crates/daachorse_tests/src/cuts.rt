@@ -62,7 +62,10 @@ fn finds(
     let no_suffix = no_suffix_slowly(alloc, Width::Bytes, patterns, &text)?;
     let standard = standard_slowly(alloc, Width::Bytes, patterns, &text)?;
     let holds = are(automaton.find_overlapping_iter(haystack), &overlapping)
-        && are(automaton.find_overlapping_no_suffix_iter(haystack), &no_suffix);
+        && are(
+            automaton.find_overlapping_no_suffix_iter(haystack),
+            &no_suffix,
+        );
     Ok(holds && are(automaton.find_iter(haystack), &standard))
 }
 
@@ -130,14 +133,21 @@ fn each_beginning_is_refused(rt: HostRuntime) -> Result<(), Fail> {
     Ok(())
 }
 
+/// Changes the byte at a place in these bits.
+fn flip(bytes: &mut [u8], place: usize, bits: u8) {
+    if let Some(byte) = bytes.get_mut(place) {
+        *byte ^= bits;
+    }
+}
+
 /// Whether the bytes with one of them changed in these bits are refused or right, each in turn.
 fn each_change_is_refused_or_right(alloc: Global, mut bytes: Vec<u8>, bits: u8) -> Result<bool> {
     for place in 0..bytes.len() {
-        bytes[place] ^= bits;
+        flip(&mut bytes, place, bits);
         if !is_refused_or_right(alloc, &bytes)? {
             return Ok(false);
         }
-        bytes[place] ^= bits;
+        flip(&mut bytes, place, bits);
     }
     Ok(true)
 }
@@ -153,11 +163,15 @@ fn each_changed_byte_is_refused_or_right(rt: HostRuntime) -> Result<(), Fail> {
 }
 
 #[test]
-fn long_and_equal_patterns_are_found_as_by_the_plain_searches(
-    rt: HostRuntime,
-) -> Result<(), Fail> {
+fn long_and_equal_patterns_are_found_as_by_the_plain_searches(rt: HostRuntime) -> Result<(), Fail> {
     let long = [b'a'; 300];
-    let patvals = [(long.as_slice(), 0), (b"ab", 1), (b"", 2), (b"ab", 3), (b"b", 4)];
+    let patvals = [
+        (long.as_slice(), 0),
+        (b"ab", 1),
+        (b"", 2),
+        (b"ab", 3),
+        (b"b", 4),
+    ];
     for count in 0..=patvals.len() {
         let automaton = bytewise(rt.alloc(), MatchKind::Standard, &patvals[..count])?;
         let holds = finds_what_it_lists(rt.alloc(), &automaton)?;

@@ -126,7 +126,11 @@ pub fn step<V: Copy, A: Automaton<V>>(
         let root = automaton.root();
         return (root, automaton.output_pos(root));
     };
-    let mut at = state;
+    // Most steps end at the first look, which stands before the loop for speed.
+    let mut at = match automaton.turn(state, label, turns) {
+        Look::Next(next, position) => return (next, position),
+        Look::Fail(link) => link,
+    };
     'links: loop {
         match automaton.turn(at, label, turns) {
             Look::Next(next, position) => return (next, position),

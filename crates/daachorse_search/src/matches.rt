@@ -188,6 +188,28 @@ fn go_on<V: Copy, W: Stepwise<V>, H: Reread<W::Unit>, F: Filter<W::Unit, H>>(
     ensures idle { HasNoPlace (F.passes filter.old) (F.opened filter.old) (W.read walk.old) (H.rest rest.old)
         → (taken.new + W.turns walk.new ≡ taken.old + W.turns walk.old) × (H.rest rest.new ≡ []) }
 {
+    if !filter.is_open() {
+        return read_on(walk, rest);
+    }
+    skip_on(walk, taken, rest, filter)
+}
+
+/// The same, where the filter is asked until it closes.
+#[inline(always)]
+fn skip_on<V: Copy, W: Stepwise<V>, H: Reread<W::Unit>, F: Filter<W::Unit, H>>(
+    walk: &mut W,
+    taken: &mut Turns,
+    rest: &mut H,
+    filter: &mut F,
+) -> Option<NonZeroU32>
+    requires { IsSoundFor (F.passes filter.old) (W.content (W.automaton walk.old)) }
+    ensures passes { (w : List ℕ) → F.passes filter.new w ≡ F.passes filter.old w }
+    ensures reads { SkipsTo W.Unit.width W.automaton W.read W.found W.looks_at (F.passes filter.old) walk.old (H.rest rest.old) taken.old (W.given_from walk.new (number result)) walk.new (H.rest rest.new) taken.new }
+    ensures output { W.has_output walk.new (number result) }
+    ensures ended { IfNone result (H.rest rest.new ≡ []) }
+    ensures idle { HasNoPlace (F.passes filter.old) (F.opened filter.old) (W.read walk.old) (H.rest rest.old)
+        → (taken.new + W.turns walk.new ≡ taken.old + W.turns walk.old) × (H.rest rest.new ≡ []) }
+{
     'units: loop {
         if !filter.is_open() {
             return read_on(walk, rest);

@@ -1,56 +1,12 @@
--- Each turn of the loop is a skip, or none, and then one unit.
-use Rattle.std.proofs.Common.{◌≡◌, [], length, Option, None, refl, ap, ◌∙◌, subst, arith}
-use Rattle.std.specs.Iterator.{YieldsFirstBy}
-use Rattle.daachorse_search.proofs.HaystackLemmas.{ReadsTo-first, ReadsTo-one}
-use Rattle.daachorse_search.proofs.SkipLemmas.{SkipsTo-first, SkipsTo-places, SkipsTo-then, SkipsTo-ended, SkipsTo-reads, no_place_skipped}
-use Rattle.daachorse_search.proofs.SourceLemmas.{none_found}
+-- Where the filter is closed, units are read with no skip before them.
+use Rattle.daachorse_search.proofs.SkipLemmas.{SkipsTo-first, SkipsTo-reads}
 use Rattle.daachorse_search.proofs.matches.go_on.Goals as goal
 
-pub units-init : goal.units-init
-units-init g c =
+pub returns-then-not-is_open-clause-reads : goal.returns-then-not-is_open-clause-reads
+returns-then-not-is_open-clause-reads g c =
     let W = g.W.Stepwise in let passes = g.F.Filter.passes c.args.filter.now in let rest = g.H.Haystack.rest in
-    record { passes = λ w. refl; skips = SkipsTo-first g.W.Unit.EdgeLabel.width W.automaton W.read W.turns W.found W.content W.looks_at passes c.args.walk.now (rest c.args.rest.now) c.args.taken.now; idle = λ h. (refl, h) }
-
-pub returns-in_default-clause-reads : goal.returns-in_default-clause-reads
-returns-in_default-clause-reads g c =
-    let W = g.W.Stepwise in let rest = g.H.Haystack.rest in let to = c.skip_at_root.new in
-    let P : Option g.row.W-Unit.Denot → Type 0 = λ r. YieldsFirstBy g.W.Unit.EdgeLabel.unit rest to.rest r c.next.new.self in
-    let over : P None = subst P c.in_default.is (g.met.H.Haystack.gives to.rest c.next.result c.next.new.self c.next.ensures.steps) in
-    SkipsTo-ended g.W.Unit.EdgeLabel.width W.automaton W.read W.turns W.found W.content W.looks_at (g.F.Filter.passes c.args.filter.now) c.args.walk.now (rest c.args.rest.now) c.args.taken.now to.walk (rest to.rest) (rest c.next.new.self) to.taken (W.given_from to.walk 0) (SkipsTo-then g.W.Unit.EdgeLabel.width W.automaton W.read W.turns W.found W.content W.looks_at (g.F.Filter.passes c.args.filter.now) c.args.walk.now (rest c.args.rest.now) c.args.taken.now c.units.walk (rest c.units.rest) c.units.taken [] to.walk (rest to.rest) to.taken c.units.invariant.skips
-    (SkipsTo-places g.W.Unit.EdgeLabel.width W.automaton W.read W.turns W.found W.content W.looks_at (g.F.Filter.passes c.args.filter.now) (g.F.Filter.passes c.units.filter) c.units.walk (rest c.units.rest) c.units.taken [] to.walk (rest to.rest) to.taken c.units.invariant.passes c.skip_at_root.ensures.skips)) (g.met.W.Stepwise.no_output to.walk).1 over.0 over.1
-
-pub returns-in-Some-advance-clause-reads : goal.returns-in-Some-advance-clause-reads
-returns-in-Some-advance-clause-reads g c =
-    let W = g.W.Stepwise in let rest = g.H.Haystack.rest in let to = c.skip_at_root.new in let unit = g.W.Unit.EdgeLabel.unit in let now = c.advance.new.self in
-    let one = g.met.H.Haystack.gives to.rest _ c.next.new.self c.in-Some.ensures.steps in
-    let read = c.in-Some-advance.ensures in
-    let given = W.given_from now c.in-Some-advance.position.value in
-    SkipsTo-reads g.W.Unit.EdgeLabel.width W.automaton W.read W.turns W.found W.content W.looks_at (g.F.Filter.passes c.args.filter.now) c.args.walk.now (rest c.args.rest.now) c.args.taken.now to.walk (rest to.rest) to.taken given now (rest c.next.new.self) (SkipsTo-then g.W.Unit.EdgeLabel.width W.automaton W.read W.turns W.found W.content W.looks_at (g.F.Filter.passes c.args.filter.now) c.args.walk.now (rest c.args.rest.now) c.args.taken.now c.units.walk (rest c.units.rest) c.units.taken [] to.walk (rest to.rest) to.taken c.units.invariant.skips
-    (SkipsTo-places g.W.Unit.EdgeLabel.width W.automaton W.read W.turns W.found W.content W.looks_at (g.F.Filter.passes c.args.filter.now) (g.F.Filter.passes c.units.filter) c.units.walk (rest c.units.rest) c.units.taken [] to.walk (rest to.rest) to.taken c.units.invariant.passes c.skip_at_root.ensures.skips))
-    (ReadsTo-one W.automaton W.read W.found to.walk (rest to.rest) to.walk (rest to.rest) (unit c.in-Some.unit) (rest c.next.new.self) now given (ReadsTo-first W.automaton W.read W.found to.walk (rest to.rest)) one read.automaton read.read read.stops.matches)
-    (omega (arith, ap length one))
-
--- where no place is left, there is no unit to read
-pub returns-in-Some-advance-clause-idle : goal.returns-in-Some-advance-clause-idle
-returns-in-Some-advance-clause-idle g c h =
-    let W = g.W.Stepwise in let F = g.F.Filter in let rest = g.H.Haystack.rest in let l = c.units in let to = c.skip_at_root.new in
-    let one = g.met.H.Haystack.gives to.rest _ c.next.new.self c.in-Some.ensures.steps in
-    let none = no_place_skipped (F.passes c.args.filter.now) (F.passes l.filter) (F.opened l.filter) (W.read l.walk) (rest l.rest) (rest to.rest) l.invariant.passes (l.invariant.idle h).1 c.skip_at_root.ensures.skips.fewer c.skip_at_root.ensures.idle in
-    absurd (omega (arith, ap length none, ap length one))
-
-pub units-preserved : goal.units-preserved
-units-preserved g c =
-    let W = g.W.Stepwise in let F = g.F.Filter in let rest = g.H.Haystack.rest in let l = c.units in let to = c.skip_at_root.new in let unit = g.W.Unit.EdgeLabel.unit in let now = c.advance.new.self in
-    let one = g.met.H.Haystack.gives to.rest _ c.next.new.self c.in-Some.ensures.steps in
-    let read = c.advance.ensures in
-    let nothing : W.found (W.automaton now) (W.read now) ≡ [] = none_found (W.found (W.automaton now) (W.read now)) (W.given_from now) c.advance.result read.stops.matches c.in_default-advance.is (g.met.W.Stepwise.no_output now).1 in
-    record {
-      passes = λ w. c.skip_at_root.ensures.passes w ∙ l.invariant.passes w;
-      skips = SkipsTo-reads g.W.Unit.EdgeLabel.width W.automaton W.read W.turns W.found W.content W.looks_at (F.passes c.args.filter.now) c.args.walk.now (rest c.args.rest.now) c.args.taken.now to.walk (rest to.rest) to.taken [] now (rest c.next.new.self) (SkipsTo-then g.W.Unit.EdgeLabel.width W.automaton W.read W.turns W.found W.content W.looks_at (g.F.Filter.passes c.args.filter.now) c.args.walk.now (rest c.args.rest.now) c.args.taken.now c.units.walk (rest c.units.rest) c.units.taken [] to.walk (rest to.rest) to.taken c.units.invariant.skips
-          (SkipsTo-places g.W.Unit.EdgeLabel.width W.automaton W.read W.turns W.found W.content W.looks_at (g.F.Filter.passes c.args.filter.now) (g.F.Filter.passes c.units.filter) c.units.walk (rest c.units.rest) c.units.taken [] to.walk (rest to.rest) to.taken c.units.invariant.passes c.skip_at_root.ensures.skips))
-          (ReadsTo-one W.automaton W.read W.found to.walk (rest to.rest) to.walk (rest to.rest) (unit c.in-Some.unit) (rest c.next.new.self) now [] (ReadsTo-first W.automaton W.read W.found to.walk (rest to.rest)) one read.automaton read.read nothing)
-          (omega (arith, ap length one));
-      idle = λ h.
-          (let none = no_place_skipped (F.passes c.args.filter.now) (F.passes l.filter) (F.opened l.filter) (W.read l.walk) (rest l.rest) (rest to.rest) l.invariant.passes (l.invariant.idle h).1 c.skip_at_root.ensures.skips.fewer c.skip_at_root.ensures.idle in
-          absurd (omega (arith, ap length none, ap length one)));
-    }
+    let from = c.args.walk.now in let to = c.read_on.new in let read = c.read_on.ensures in
+    SkipsTo-reads g.W.Unit.EdgeLabel.width W.automaton W.read W.turns W.found W.content W.looks_at passes from (rest c.args.rest.now) c.args.taken.now from (rest c.args.rest.now) c.args.taken.now _ to.walk (rest to.rest)
+    (SkipsTo-first g.W.Unit.EdgeLabel.width W.automaton W.read W.turns W.found W.content W.looks_at passes from (rest c.args.rest.now) c.args.taken.now)
+    (record { same = read.on.same; haystack = read.on.haystack; left = read.on.left })
+    read.fewer

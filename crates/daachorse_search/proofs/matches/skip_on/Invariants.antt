@@ -1,6 +1,6 @@
 use Rattle.std.proofs.Common.{◌≡◌, ◌+◌, ℕ, List, [], length}
 use Rattle.daachorse_search.specs.Skipping.{HasNoPlace, SkipsTo}
-use Rattle.daachorse_search.proofs.matches.go_on.Given as goal
+use Rattle.daachorse_search.proofs.matches.skip_on.Given as goal
 
 abbrev pub invariant-units : goal.invariant-units
 invariant-units g l =

@@ -8,6 +8,7 @@ pub mod ChildlessLaws
 pub mod CopyPaths
 pub mod CopyChains
 pub mod CopyLinks
+pub mod ReachedCount
 pub mod CopyCount
 pub mod CopyLaws
 pub mod Rows

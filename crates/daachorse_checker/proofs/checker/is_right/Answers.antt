@@ -1,8 +1,6 @@
-use Rattle.std.proofs.Common.{rules, ◌≡◌, ℕ, ◌<◌, Bool, List, length, sym, ◌∙◌, subst, refl, arith, get_or}
-use Rattle.daachorse_listing.specs.Listing.{unit_of}
+use Rattle.std.proofs.Common.{◌≡◌, ℕ, ◌<◌, Bool, List, length, sym, ◌∙◌, subst, refl, arith, get_or}
 use Rattle.daachorse_machine.specs.Machines.{IsCounted}
 use Rattle.daachorse_checker.specs.Chains.{AreChained, AreLeavesOf, machine_of}
-use Rattle.daachorse_checker.specs.Places.{HasOnePath, ArePlaces}
 use Rattle.daachorse_checker.specs.Runs.{AreRuns}
 use Rattle.daachorse_checker.proofs.CheckedLaws.{right_from, chained_from, counted_places, same_count}
 use Rattle.daachorse_checker.proofs.checker.is_right.Goals as goal
@@ -12,7 +10,7 @@ returns-then-len-num_states-clause-no g c e right counted =
     let arr = c.args.array.now in
     let p = c.in-Some.places in
     let a = machine_of (g.E.Edges.child arr) (g.E.Array.fail arr) (g.E.Array.first arr) c.args.outputs.now in
-    let both : HasOnePath (g.E.Edges.child arr) × ArePlaces (g.E.Edges.child arr) (λ j. unit_of (g.E.Edges.edge arr j)) (g.E.Edges.count arr) p.order.items p.parents.items p.labels.items p.marks.items = search rules in
+    let both = rw c.in-Some.is at c.in_ok-places.ensures.yes in
     let same = same_count (g.E.Array.width arr) a (g.E.Edges.group arr) (g.E.Edges.edge arr) (g.E.Edges.count arr) c.requires.tell p.order.items p.parents.items p.labels.items p.marks.items both.1 both.0 c.args.num_states counted in
     let len : c.len.result ≡ length p.order.items = omega (arith, c.len.ensures) in
     c.if-len-num_states.true (len ∙ same)
@@ -21,7 +19,7 @@ pub leaves-requires-clause-earlier : goal.leaves-requires-clause-earlier
 leaves-requires-clause-earlier g c =
     let arr = c.args.array.now in
     let p = c.in-Some.places in
-    let both : HasOnePath (g.E.Edges.child arr) × ArePlaces (g.E.Edges.child arr) (λ j. unit_of (g.E.Edges.edge arr j)) (g.E.Edges.count arr) p.order.items p.parents.items p.labels.items p.marks.items = search rules in
+    let both = rw c.in-Some.is at c.in_ok-places.ensures.yes in
     let P : List ℕ → Type 0 = λ xs. (m : ℕ) → 0 < m → m < length xs → get_or xs m 0 < m in
     subst P (sym c.deref.ensures.value) (λ m pos lt. both.1.places.earlier m pos (omega (arith, lt, both.1.places.one_each)))
 
@@ -33,7 +31,7 @@ returns-then-not-chains_hold-clause-no g c e right counted =
     let arr = c.args.array.now in
     let p = c.in-Some.places in
     let a = machine_of (g.E.Edges.child arr) (g.E.Array.fail arr) (g.E.Array.first arr) c.args.outputs.now in
-    let both : HasOnePath (g.E.Edges.child arr) × ArePlaces (g.E.Edges.child arr) (λ j. unit_of (g.E.Edges.edge arr j)) (g.E.Edges.count arr) p.order.items p.parents.items p.labels.items p.marks.items = search rules in
+    let both = rw c.in-Some.is at c.in_ok-places.ensures.yes in
     let leaves = c.in_ok-leaves.leaves.items in
     let sizes = c.in_ok-sizes.sizes.items in
     let leafy : AreLeavesOf p.parents.items leaves (length p.parents.items) = subst (λ (xs : List ℕ). AreLeavesOf xs leaves (length xs)) c.deref.ensures.value c.in_ok-leaves.ensures.ok in
@@ -47,7 +45,7 @@ returns-clause-yes g c e =
     let arr = c.args.array.now in
     let p = c.in-Some.places in
     let a = machine_of (g.E.Edges.child arr) (g.E.Array.fail arr) (g.E.Array.first arr) c.args.outputs.now in
-    let both : HasOnePath (g.E.Edges.child arr) × ArePlaces (g.E.Edges.child arr) (λ j. unit_of (g.E.Edges.edge arr j)) (g.E.Edges.count arr) p.order.items p.parents.items p.labels.items p.marks.items = search rules in
+    let both = rw c.in-Some.is at c.in_ok-places.ensures.yes in
     let leaves = c.in_ok-leaves.leaves.items in
     let sizes = c.in_ok-sizes.sizes.items in
     let leafy : AreLeavesOf p.parents.items leaves (length p.parents.items) = subst (λ (xs : List ℕ). AreLeavesOf xs leaves (length xs)) c.deref.ensures.value c.in_ok-leaves.ensures.ok in

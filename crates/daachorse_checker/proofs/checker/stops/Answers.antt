@@ -1,0 +1,37 @@
+-- One place more that stops or does not.
+use Rattle.std.proofs.Common.{◌≡◌, ◌+◌, ◌<◌, Bool, List, [], ◌∷◌, ◌++◌, true, false, cond, length, sym, ap, ◌∙◌, subst, arith, get_or}
+use Rattle.std.proofs.lemmas.List.{get_or_read, length_push}
+use Rattle.daachorse_machine.specs.Machines.{own_from}
+use Rattle.daachorse_checker.specs.Chains.{AreStopsAt, machine_of}
+use Rattle.daachorse_checker.specs.Runs.{has_values}
+use Rattle.daachorse_checker.proofs.LeafLaws.{stops_push}
+use Rattle.daachorse_checker.proofs.checker.stops.Goals as goal
+use Rattle.daachorse_checker.proofs.checker.stops.Goals.{then-leftmost, else-leftmost}
+
+pub loop-place-preserved : goal.loop-place-preserved
+loop-place-preserved g c =
+    let arr = c.args.array.now in
+    let order = c.args.places.now.order.items in
+    let sizes = c.args.sizes.now in
+    let m = c.loop-place.place in
+    let stops = c.loop-place.stops.items in
+    let stop = c.if-leftmost.push in
+    let a = machine_of (g.E.Edges.child arr) (g.E.Array.fail arr) (g.E.Array.first arr) c.args.outputs.now in
+    let lt : m < length order = omega (arith, c.loop-place-test.true, c.len-in-loop-place.ensures) in
+    let element : c.index-element.result.now ≡ get_or order m 0 = get_or_read order m c.index-element.result.now lt c.index-element.ensures 0 in
+    let first : c.first-first.result ≡ g.E.Array.first arr (get_or order m 0) = c.first-first.ensures ∙ ap (g.E.Array.first arr) element in
+    let own : c.has_own-own.result ≡ has_values (own_from c.args.outputs.now (g.E.Array.first arr (get_or order m 0)) (get_or sizes m 0) (g.E.Array.first arr (get_or order m 0))).0 =
+    c.has_own-own.ensures ∙ ap (λ p. has_values (own_from c.args.outputs.now p (get_or sizes m 0) p).0) first in
+    let stop_if : Bool → Bool = λ b. cond b (has_values (own_from c.args.outputs.now (g.E.Array.first arr (get_or order m 0)) (get_or sizes m 0) (g.E.Array.first arr (get_or order m 0))).0) false in
+    let is : stop ≡ stop_if c.args.leftmost =
+    elim c.if-leftmost.branch [
+      | then-leftmost w ↦ let on : stop_if true ≡ stop_if c.args.leftmost = ap stop_if (sym w.if-leftmost.true) in w.push-is ∙ own ∙ on
+      | else-leftmost w ↦ let off : stop_if false ≡ stop_if c.args.leftmost = ap stop_if (sym w.if-leftmost.false) in w.push-is ∙ w.if-leftmost.false ∙ off
+    ] in
+    let items : c.push.new.self.items ≡ stops ++ stop ∷ [] = c.in_ok-push.ensures.items in
+    record {
+      within = omega (arith, lt);
+      each = ap length items ∙ length_push stops stop ∙ ap (λ n. n + 1) c.loop-place.invariant.each;
+      are = subst (λ (xs : List Bool). AreStopsAt a c.args.leftmost order sizes xs) (sym items)
+          (stops_push a c.args.leftmost order sizes stops m stop c.loop-place.invariant.each c.loop-place.invariant.are is);
+    }

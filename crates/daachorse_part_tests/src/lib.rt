@@ -10,9 +10,13 @@ mod charwise_states;
 #[cfg(test)]
 mod errors;
 #[cfg(test)]
+mod everywhere;
+#[cfg(test)]
 mod forms;
 #[cfg(test)]
 mod labels;
+#[cfg(test)]
+mod leftmost_searches;
 #[cfg(test)]
 mod mapper;
 #[cfg(test)]
@@ -25,6 +29,8 @@ mod placement;
 mod prefilter;
 #[cfg(test)]
 mod profile;
+#[cfg(test)]
+mod searches;
 #[cfg(test)]
 mod serializer;
 #[cfg(test)]

@@ -13,4 +13,3 @@ pub mod DepthLemmas
 pub mod BeginningLaws
 pub mod AfreshLemmas
 pub mod SkipLemmas
-mod EverywhereLemmas

@@ -1,4 +1,3 @@
-pub mod Everywhere
 pub mod Walks
 pub mod Nothing
 pub mod Sources

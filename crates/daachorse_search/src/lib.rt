@@ -15,15 +15,11 @@ pub mod filter;
 pub mod find;
 pub mod find_stepper;
 pub mod haystack;
-#[cfg(test)]
-mod left_sample;
 pub mod leftmost;
 pub mod matches;
 pub mod matches_from;
 pub mod overlapping;
 pub mod overlapping_stepper;
-#[cfg(test)]
-mod sample;
 pub mod scan;
 pub mod search;
 pub mod source;

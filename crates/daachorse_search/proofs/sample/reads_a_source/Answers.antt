@@ -1,6 +1,0 @@
-use Rattle.std.proofs.Common.{arith, inl, ap, length}
-use Rattle.daachorse_search.specs.ByteSources.{IsReady-bytes}
-use Rattle.daachorse_search.proofs.sample.reads_a_source.Goals as goal
-
-pub collect_from-requires-clause-ready : goal.collect_from-requires-clause-ready
-collect_from-requires-clause-ready g c = IsReady-bytes _ _ _ _ _ _ tt tt (inl (omega (arith, ap length c.new.ensures.bytes)))

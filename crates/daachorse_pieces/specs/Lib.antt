@@ -1,0 +1,2 @@
+pub mod Pieces
+pub use Rattle.daachorse_search.specs.BestScans

@@ -1,0 +1,71 @@
+-- The matches of a search by kind follow one another, where the haystack may be cut: bytes anywhere, a text behind any of its characters.
+use Rattle.std.proofs.Common.{◌≡◌, ℕ, suc, ◌+◌, ◌≤◌, true, List, [], ◌∷◌, ◌++◌, length, refl, sym, ap, ◌∙◌, subst, append_assoc, length-append, arith}
+use Rattle.std.proofs.Math.Utf8.{scalars, encodes}
+use Rattle.std.proofs.lemmas.Str.{encodes-append, encodes-chars, scalars-chars, IsCharBoundary-at_seam, IsCharBoundary-start}
+use Rattle.std.specs.List.{All}
+use Rattle.std.specs.Str.{chars, IsUtf8, IsCharBoundary}
+use Rattle.daachorse_model.specs.declared.Match.{Match}
+use Rattle.daachorse_model.specs.declared.MatchKind.{MatchKind}
+use Rattle.daachorse_model.specs.declared.MatchKind.TheVariants.{Standard, LeftmostLongest, LeftmostFirst}
+use Rattle.daachorse_model.specs.Dictionary.{Dictionary}
+use Rattle.daachorse_model.specs.Laws.{Follows, IsOccurrence}
+use Rattle.daachorse_model.specs.Units.{size, byte_width, char_width}
+use Rattle.daachorse_model.proofs.Booleans.{both-true}
+use Rattle.daachorse_model.proofs.Find.{standard_apart}
+use Rattle.daachorse_model.proofs.Overlap.{leftmost_apart}
+use Rattle.daachorse_model.proofs.SameOnText.{size-encodes}
+use Rattle.daachorse_model.proofs.Suffixes.{size-append, size-bytes}
+use Rattle.daachorse_replacing.specs.ByKind.{non_overlapping}
+use Rattle.daachorse_replacing.specs.Replaced.{AreParts}
+use Rattle.daachorse_replacing.proofs.FirstMatches.{by_kind_occur}
+
+scalars-back : (xs ys : List ℕ) → scalars (xs ++ ys) ≡ true → scalars ys ≡ true
+scalars-back [] ys e = e
+scalars-back (x ∷ xs) ys e = scalars-back xs ys (both-true _ (scalars (xs ++ ys)) e).1
+
+-- a text may be cut behind any of its characters
+pub cut_at : (text front back : List ℕ) → IsUtf8 text → chars text ≡ front ++ back → IsCharBoundary text (size char_width front)
+cut_at text front back u parts =
+    let at : length (encodes front) ≡ size char_width front = sym (size-bytes (encodes front)) ∙ size-encodes front in
+    let whole : text ≡ encodes front ++ encodes back = sym (encodes-chars text u) ∙ ap encodes parts ∙ encodes-append front back in
+    let later : scalars back ≡ true = scalars-back front back (ap scalars (sym parts) ∙ scalars-chars text u) in
+    subst (IsCharBoundary text) at (IsCharBoundary-at_seam text (encodes front) (encodes back) whole (back, (later, refl)))
+
+module _ {V : Type 0} where
+  -- a match starts and ends where the haystack may be cut
+  abbrev pub IsCut : (ℕ → Type 0) → Match V → Type 0
+  IsCut may_cut m = may_cut m.start × may_cut m.end
+
+  parts_from : (may_cut : ℕ → Type 0) (s : ℕ) (ms : List (Match V)) → may_cut s → All (IsCut may_cut) ms → Follows s ms → AreParts may_cut s ms
+  parts_from may_cut s [] here all follow = here
+  parts_from may_cut s (m ∷ ms) here all follow =
+      let cut = all 0 m (omega arith) in
+      (here, follow.0, cut.0, follow.1, parts_from may_cut m.end ms cut.1 (λ k d lt. all (suc k) d (omega arith)) follow.2)
+
+  module _ (K : Dictionary V) where
+    by_kind_apart : (kind : MatchKind) (width : ℕ → ℕ) (h : List ℕ) → Follows 0 (non_overlapping kind width K h)
+    by_kind_apart Standard width h = standard_apart width K h
+    by_kind_apart LeftmostLongest width h = leftmost_apart width K h
+    by_kind_apart LeftmostFirst width h = leftmost_apart width K h
+
+    cut_bytes : (h : List ℕ) (m : Match V) → IsOccurrence byte_width K h m → IsCut (λ i. i ≤ length h) m
+    cut_bytes h m o =
+        let whole : length h ≡ length o.before + (length o.key + length o.after) = ap length o.splits ∙ length-append o.before (o.key ++ o.after) ∙ ap (λ n. length o.before + n) (length-append o.key o.after) in
+        (omega (arith, o.starts, size-bytes o.before, whole), omega (arith, o.ends, size-bytes o.before, size-bytes o.key, whole))
+
+    cut_text : (text : List ℕ) → IsUtf8 text → (m : Match V) → IsOccurrence char_width K (chars text) m → IsCut (IsCharBoundary text) m
+    cut_text text utf8 m o =
+        let sized = size-append char_width o.before o.key in (
+          subst (IsCharBoundary text) (sym o.starts) (cut_at text o.before (o.key ++ o.after) utf8 o.splits),
+          subst (IsCharBoundary text) (sized ∙ sym o.ends) (cut_at text (o.before ++ o.key) o.after utf8 (o.splits ∙ sym (append_assoc o.before o.key o.after))),
+        )
+
+    pub parts_of_bytes : (kind : MatchKind) (h : List ℕ) → AreParts (λ i. i ≤ length h) 0 (non_overlapping kind byte_width K h)
+    parts_of_bytes kind h =
+        parts_from (λ i. i ≤ length h) 0 (non_overlapping kind byte_width K h) (omega arith)
+        (λ k d lt. cut_bytes h _ (by_kind_occur byte_width K kind h k d lt)) (by_kind_apart kind byte_width h)
+
+    pub parts_of_text : (kind : MatchKind) (text : List ℕ) → IsUtf8 text → AreParts (IsCharBoundary text) 0 (non_overlapping kind char_width K (chars text))
+    parts_of_text kind text utf8 =
+        parts_from (IsCharBoundary text) 0 (non_overlapping kind char_width K (chars text)) (IsCharBoundary-start text utf8)
+        (λ k d lt. cut_text text utf8 _ (by_kind_occur char_width K kind (chars text) k d lt)) (by_kind_apart kind char_width (chars text))

@@ -1,0 +1,4 @@
+pub mod Parts
+pub mod Sending
+pub mod FirstMatches
+pub mod Cuts

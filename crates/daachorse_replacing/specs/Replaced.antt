@@ -1,0 +1,24 @@
+-- A haystack with each of its matches replaced, as bytes.
+use Rattle.std.specs.Prelude.{◌≡◌, ℕ, ◌≤◌, List, [], ◌∷◌, ◌++◌, drop, slice_range, Option}
+use Rattle.std.specs.Io.KnownBytes.{Appends}
+use Rattle.daachorse_model.specs.declared.Match.{Match}
+
+module _ {V : Type 0} (with : Match V → List ℕ) (bytes : List ℕ) where
+  -- what comes of the bytes from s on, where these matches are left
+  abbrev pub replaced_from : ℕ → List (Match V) → List ℕ
+  replaced_from s [] = drop s bytes
+  replaced_from s (m ∷ ms) = slice_range bytes s m.start ++ (with m ++ replaced_from m.end ms)
+
+  -- the bytes with each match replaced by what `with` says of it
+  abbrev pub replaced : List (Match V) → List ℕ
+  replaced ms = replaced_from 0 ms
+
+-- known bytes grow by a beginning of the text
+abbrev pub AppendsBeginning : Option (List ℕ) → Option (List ℕ) → List ℕ → Type 0
+AppendsBeginning old new text = (part : List ℕ) × (rest : List ℕ) × (text ≡ part ++ rest) × Appends old new part
+
+module _ {V : Type 0} (may_cut : ℕ → Type 0) where
+  -- from s on these matches follow one another, at places where the haystack may be cut
+  abbrev pub AreParts : ℕ → List (Match V) → Type 0
+  AreParts s [] = may_cut s
+  AreParts s (m ∷ ms) = may_cut s × (s ≤ m.start) × may_cut m.start × (m.start ≤ m.end) × AreParts m.end ms

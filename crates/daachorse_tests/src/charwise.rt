@@ -91,7 +91,7 @@ fn leftmost(automaton: &Charwise<Global>, text: &str, expected: &[Found]) -> boo
 }
 
 /// Whether each form of the search finds just these matches.
-fn finds(
+pub fn finds(
     automaton: &Charwise<Global>,
     search: Search,
     text: &str,

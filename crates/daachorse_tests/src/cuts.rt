@@ -14,7 +14,7 @@ use std::alloc::Global;
 use std::test::Fail;
 
 /// A pattern by its units, and its value.
-type Pattern<'a> = (&'a [u32], u32);
+pub type Pattern<'a> = (&'a [u32], u32);
 
 const HAYSTACKS: [&[u8]; 4] = [b"", b"ab", b"abab", b"bca"];
 
@@ -100,7 +100,7 @@ fn is_refused_or_right(alloc: Global, bytes: &[u8]) -> Result<bool> {
     }
 }
 
-fn is_invalid(error: &DaachorseError) -> bool {
+pub fn is_invalid(error: &DaachorseError) -> bool {
     matches!(error, DaachorseError::InvalidAutomaton(_))
 }
 
@@ -134,7 +134,7 @@ fn each_beginning_is_refused(rt: HostRuntime) -> Result<(), Fail> {
 }
 
 /// Changes the byte at a place in these bits.
-fn flip(bytes: &mut [u8], place: usize, bits: u8) {
+pub fn flip(bytes: &mut [u8], place: usize, bits: u8) {
     if let Some(byte) = bytes.get_mut(place) {
         *byte ^= bits;
     }

@@ -68,7 +68,7 @@ pub fn are<I: Iterator<Item = Match<u32>> + Drop>(matches: I, expected: &[Found]
 }
 
 /// Whether a stepper that has consumed nothing tells just these matches, before the units and after
-/// each of the first hundred.
+/// each of the first four hundred.
 pub fn are_found<A: Automaton<u32>>(
     stepper: &mut FindStepper<'_, u32, A>,
     units: &[A::Unit],
@@ -78,7 +78,7 @@ pub fn are_found<A: Automaton<u32>>(
 {
     let mut expected = Expected::new(expected);
     expected.take_all(stepper.matches().into_iter());
-    for place in 0..units.len().min(100) {
+    for place in 0..units.len().min(400) {
         let unit = units[place];
         unit.in_range();
         stepper.consume(unit);
@@ -98,7 +98,7 @@ pub fn are_found_overlapping<A: Automaton<u32>>(
 {
     let mut expected = Expected::new(expected);
     expected.take_all(stepper.matches());
-    for place in 0..units.len().min(100) {
+    for place in 0..units.len().min(400) {
         let unit = units[place];
         unit.in_range();
         stepper.consume(unit);

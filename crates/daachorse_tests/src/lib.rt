@@ -34,6 +34,8 @@ mod rows;
 #[cfg(test)]
 mod steppers;
 #[cfg(test)]
+mod texts;
+#[cfg(test)]
 mod values;
 #[cfg(test)]
 mod written;

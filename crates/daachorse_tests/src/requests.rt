@@ -33,7 +33,7 @@ enum Requests {
 }
 
 /// The calls, each for a kind.
-const REQUESTS: [(MatchKind, Requests); 14] = [
+const REQUESTS: [(MatchKind, Requests); 15] = [
     (MatchKind::Standard, Requests::New),
     (MatchKind::Standard, Requests::WithValues),
     (MatchKind::Standard, Requests::Build),
@@ -48,6 +48,7 @@ const REQUESTS: [(MatchKind, Requests); 14] = [
     (MatchKind::LeftmostLongest, Requests::WriteAndCheck),
     (MatchKind::LeftmostFirst, Requests::Build),
     (MatchKind::LeftmostFirst, Requests::WriteAndRead),
+    (MatchKind::LeftmostFirst, Requests::WriteAndCheck),
 ];
 
 /// The answer of a call that gave this.

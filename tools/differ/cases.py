@@ -3,7 +3,8 @@
 
 Writes COUNT cases to the file CASES, one a line: the kind (s, l or f: standard, leftmost-longest or
 leftmost-first), the unit (b or c: bytes or characters), whether the haystack serves as a corpus, whether
-the automaton is written and read back, the patterns, and the haystack. Texts are in hexadecimal digits;
+the automaton is written and read back (0 no, 1 by the read that does not check, 2 by the one that checks),
+whether the automaton of this repository may have a filter, the patterns, and the haystack. Texts are in hexadecimal digits;
 `_` is the empty text, and `-` an empty list. What each search has to find goes to the file EXPECTED, a
 line a search: the case, the search, and the start, end and value of each match.
 """
@@ -103,25 +104,26 @@ def random_text(random, alphabet, most):
 def random_case(random):
     unit = random.choice("bc")
     alphabet = random.choice(ALPHABETS[unit])
-    least = random.random() < 0.7
+    # No pattern is shorter than this. A filter comes only where all are long enough.
+    least = random.choice([0, 1, 2, 3])
     patterns = [random_text(random, alphabet, random.choice([2, 3, 6, 40])) for _ in range(random.choice([0, 1, 2, 3, 5, 8, 30]))]
-    if least:
-        patterns = [p for p in patterns if p]
-    haystack = random_text(random, alphabet, random.choice([0, 3, 10, 30, 80]))
+    patterns = [p for p in patterns if len(p) >= least]
+    haystack = random_text(random, alphabet, random.choice([0, 3, 10, 30, 80, 300]))
     if patterns and random.random() < 0.5:
         for _ in range(random.randrange(4)):
             at = random.randrange(len(haystack) + 1)
             haystack = haystack[:at] + random.choice(patterns) + haystack[at:]
-    return random.choice("slf"), unit, random.choice("01"), random.choice("01"), patterns, haystack
+    flags = random.choice("01"), random.choice("012"), random.choice("01")
+    return random.choice("slf"), unit, *flags, patterns, haystack
 
 
 def main(cases, expected, count, seed):
     source = random.Random(int(seed))
     with open(cases, "w") as given, open(expected, "w") as wanted:
         for number in range(int(count)):
-            kind, unit, corpus, read, patterns, haystack = random_case(source)
+            kind, unit, corpus, read, filter, patterns, haystack = random_case(source)
             texts = ",".join(map(digits, patterns)) or "-"
-            print(kind, unit, corpus, read, texts, digits(haystack), file=given)
+            print(kind, unit, corpus, read, filter, texts, digits(haystack), file=given)
             values = dictionary(kind, patterns)
             for search in SEARCHES[kind]:
                 found = globals()[search](values, haystack)

@@ -37,7 +37,7 @@ python3 "$here/cases.py" "$work/cases" "$work/expected" "$count" "$seed"
 "$work/theirs/target/release/theirs" "$work/cases" 0 > "$work/found.theirs"
 "$work/theirs/target/release/theirs" "$work/cases" 1 > "$work/found.filtered"
 (cd "$work/ours/crates/differ" &&
-    rt try --steps 4000000000 --seconds 1000 --data "cases=$work/cases" > "$work/printed") || true
+    rt try --steps "$((1000000000 + count * 4000000))" --seconds "$((1000 + count * 4))" --data "cases=$work/cases" > "$work/printed") || true
 grep -E '^[0-9]+ (overlapping|no_suffix|find|leftmost|iter)' "$work/printed" > "$work/found.ours" || true
 
 # What the Rust crate is not asked for is missing in its lines.

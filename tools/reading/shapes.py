@@ -2,9 +2,11 @@
 
 Writes the bytes of automata of hostile shapes, each with about 2^EXPONENT elements, to files in FOLDER. The name of
 a file says whether it is over bytes or characters, its shape and its exponent. All of them are right automata, so
-that a read that checks has to look at all of each.
+that a read that checks has to look at all of each. Beside them it writes a file of words that begin with about
+2^EXPONENT texts, for an automaton with nothing hostile in it.
 """
 
+import random
 import sys
 from array import array
 
@@ -126,6 +128,14 @@ def one_link(exponent):
     return over_characters(elements, block, [(0, 4, 0), (1, 8, 1)], 2 * block)
 
 
+def words_of(exponent):
+    """Words that begin with about 2^exponent texts."""
+    source = random.Random(exponent)
+    letters = "abcdefghijklmnopqrstuvwxyz"
+    count = (1 << exponent) // 12
+    return "\n".join("".join(source.choices(letters, k=source.randrange(8, 25))) for _ in range(count)).encode()
+
+
 SHAPES = {
     "bytes_chain": chain_of_bytes,
     "chars_chain": chain_of_characters,
@@ -133,6 +143,7 @@ SHAPES = {
     "chars_one_block": lambda exponent: fan(exponent, 1),
     "chars_shared_run": lambda exponent: fan(exponent, 1 << exponent),
     "chars_one_link": one_link,
+    "words": words_of,
 }
 
 

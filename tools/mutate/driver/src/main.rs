@@ -4,26 +4,30 @@
 //! `mutate COUNT SEED`
 
 mod changes;
+mod layout;
 mod ours;
 mod plain;
 mod random;
 
+use layout::PARTS_WITHOUT_FILTER;
 use ours::Read;
 use random::Random;
 
-/// A written automaton and its unit: 0 bytes, 1 characters.
+/// A written automaton, its unit (0 bytes, 1 characters), and what it lists.
 struct Written {
     bytes: Vec<u8>,
     unit: u32,
+    read: Read,
 }
 
 /// What became of the changed automata.
 #[derive(Default)]
 struct Tally {
-    unchanged: u64,
     refused: u64,
     accepted: u64,
     without_patterns: u64,
+    listing_others: u64,
+    with_filter: u64,
 }
 
 fn main() {
@@ -31,33 +35,35 @@ fn main() {
     let count = arguments.next().unwrap_or(1_000_000);
     let seed = arguments.next().unwrap_or(1);
     let mut random = Random::new(seed);
-    let pool = write_pool(&mut random);
     let mut room = vec![0; 1 << 22];
+    let pool = write_pool(&mut random, &mut room);
     let mut tally = Tally::default();
     for case in 0..count {
-        let first = random.pick(&pool);
-        let second = random.pick(&pool);
+        let at = random.below(pool.len());
+        let first = &pool[at];
+        // Each second one is of the same unit.
+        let second = &pool[(at + 2 * random.below(pool.len())) % pool.len()];
         let mut bytes = first.bytes.clone();
-        changes::change(&mut bytes, &second.bytes, &mut random);
-        if bytes == first.bytes {
-            tally.unchanged += 1;
+        while bytes == first.bytes {
+            changes::change(&mut bytes, &second.bytes, first.unit, &mut random);
         }
-        look_at(case, seed, &bytes, first.unit, &mut random, &mut room, &mut tally);
+        look_at(case, seed, &bytes, first, &mut random, &mut room, &mut tally);
     }
     println!(
-        "{count} changed automata from seed {seed}: {} refused, {} accepted ({} of them unchanged, {} without patterns): none differs",
-        tally.refused, tally.accepted, tally.unchanged, tally.without_patterns
+        "{count} changed automata from seed {seed}: {} refused, {} accepted ({} of them without patterns, {} of another listing or kind than before, {} with a filter): none differs",
+        tally.refused, tally.accepted, tally.without_patterns, tally.listing_others, tally.with_filter
     );
 }
 
 /// Automata of all kinds over bytes and characters, with the filter and without.
-fn write_pool(random: &mut Random) -> Vec<Written> {
+fn write_pool(random: &mut Random, room: &mut [u32]) -> Vec<Written> {
     let mut pool = Vec::new();
     for number in 0..120 {
         let unit = number % 2;
         let words = words(random, unit);
-        let bytes = ours::build(&words, unit, (number / 2) % 3, number % 5 == 0, 1 << 21);
-        pool.push(Written { bytes, unit });
+        let bytes = ours::build(&words, unit, (number / 2) % 3, number % 4 < 2, 1 << 21);
+        let read = ours::read(&bytes, b"", unit, room).expect("what was written is read");
+        pool.push(Written { bytes, unit, read });
     }
     pool
 }
@@ -76,7 +82,8 @@ fn words(random: &mut Random, unit: u32) -> Vec<Vec<u8>> {
 }
 
 /// Reads the bytes, and where they are accepted searches a haystack of their own patterns.
-fn look_at(case: u64, seed: u64, bytes: &[u8], unit: u32, random: &mut Random, room: &mut [u32], tally: &mut Tally) {
+fn look_at(case: u64, seed: u64, bytes: &[u8], of: &Written, random: &mut Random, room: &mut [u32], tally: &mut Tally) {
+    let unit = of.unit;
     let Some(listed) = ours::read(bytes, b"", unit, room) else {
         tally.refused += 1;
         return;
@@ -84,6 +91,12 @@ fn look_at(case: u64, seed: u64, bytes: &[u8], unit: u32, random: &mut Random, r
     tally.accepted += 1;
     if listed.patterns.is_empty() {
         tally.without_patterns += 1;
+    }
+    if listed.patterns != of.read.patterns || listed.kind != of.read.kind {
+        tally.listing_others += 1;
+    }
+    if layout::parts_of(bytes, unit).is_some_and(|parts| parts.len() > PARTS_WITHOUT_FILTER) {
+        tally.with_filter += 1;
     }
     let haystack = haystack_of(&listed, random, unit);
     let read = ours::read(bytes, &haystack, unit, room).expect("what was read is read again");

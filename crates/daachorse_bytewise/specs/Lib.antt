@@ -6,6 +6,7 @@ pub use Rattle.daachorse_core.specs.Refusals
 pub use Rattle.daachorse_listing.specs.Listing
 pub use Rattle.daachorse_patterns.specs.Patterns
 pub use Rattle.daachorse_patterns.specs.declared.settings.Settings
+pub use Rattle.daachorse_replacing.specs.ByKind
 pub use Rattle.daachorse_search.specs.Beginnings
 pub use Rattle.daachorse_search.specs.LeftmostSearches
 pub use Rattle.daachorse_search.specs.Matches

@@ -21,6 +21,7 @@ ghost use Rattle.daachorse_bytewise.specs.Automata.{HasDepths, MayHaveFilter, di
 ghost use Rattle.daachorse_bytewise.specs.Building.{HoldsPatterns, IsBuildRefusal, IsBuiltOf, IsRefusalOf, kept_filter};
 
 pub mod builder;
+mod by_kind;
 pub mod iter;
 pub mod states;
 mod written;

@@ -24,6 +24,7 @@ ghost use Rattle.daachorse_charwise.specs.Building.{HoldsPatterns, IsBuildRefusa
 ghost use Rattle.daachorse_charwise_states.specs.Texts.{AreTexts};
 
 pub mod builder;
+mod by_kind;
 mod frequencies;
 pub mod iter;
 pub mod mapper;

@@ -24,6 +24,8 @@ mod edge_map;
 #[cfg(test)]
 mod finding;
 #[cfg(test)]
+mod firsts;
+#[cfg(test)]
 mod listing;
 #[cfg(test)]
 mod paths;

@@ -1,0 +1,46 @@
+//! What the search that the automaton's kind names finds first in a text.
+//!
+//! The layers above may rely on the first of all the matches of that search, of whatever kind the
+//! automaton is, and on an answer that says whether a pattern occurs anywhere.
+
+ghost use Rattle.std.specs.Prelude.{◌≡◌, ◌≢◌, ◌↔◌, IsTrue, [], slice_get};
+ghost use Rattle.std.specs.Str.{chars};
+ghost use Rattle.daachorse_model.specs.Units.{char_width};
+ghost use Rattle.daachorse_model.specs.Matches.{overlapping};
+ghost use Rattle.daachorse_replacing.specs.ByKind.{non_overlapping};
+ghost use Rattle.daachorse_charwise.specs.Automata.{dictionary_of, kind_of};
+
+use super::CharwiseDoubleArrayAhoCorasick;
+use daachorse_core::{Match, MatchKind};
+use std::alloc::Allocator;
+
+impl<V: Copy, A: Allocator> CharwiseDoubleArrayAhoCorasick<V, A> {
+    /// Finds the first match of the search that the automaton's kind names, if there is one.
+    ///
+    /// It is the first match that [`Self::find_iter`] yields where the kind is
+    /// [`MatchKind::Standard`], and the first that [`Self::leftmost_find_iter`] yields where it is
+    /// another. Nothing behind what that one match needs is read, and no memory is taken. Of the
+    /// patterns `ab` and `abcd` in the haystack `xabcd`, a standard automaton finds `ab` from 1 to 3,
+    /// and one for [`MatchKind::LeftmostLongest`] finds `abcd` from 1 to 5.
+    pub fn find(&self, haystack: &str) -> Option<Match<V>>
+        ensures { result ≡ slice_get (non_overlapping (kind_of self.now) char_width (dictionary_of self.now) (chars haystack.now)) 0 }
+    {
+        match self.match_kind() {
+            MatchKind::Standard => self.find_iter(haystack).next(),
+            MatchKind::LeftmostLongest | MatchKind::LeftmostFirst => {
+                self.leftmost_find_iter(haystack).next()
+            }
+        }
+    }
+
+    /// Returns whether some pattern that the automaton holds occurs in the haystack.
+    ///
+    /// It stops at the first match, whatever the automaton's kind, and takes no memory. The patterns
+    /// `ab` and `cd` occur in the haystack `xcdx`, and neither occurs in `acbd`. An empty pattern
+    /// occurs in every haystack, the empty one included.
+    pub fn is_match(&self, haystack: &str) -> bool
+        ensures { IsTrue result ↔ (overlapping char_width (dictionary_of self.now) (chars haystack.now) ≢ []) }
+    {
+        self.find(haystack).is_some()
+    }
+}

@@ -1,0 +1,55 @@
+#!/bin/sh
+# pieces.sh DAACFIND PATTERNS HAYSTACK BYTES [JOBS]
+#
+# Writes what `DAACFIND overlapping PATTERNS HAYSTACK` writes, from pieces of the haystack of BYTES bytes
+# each, of which JOBS (as many as there are processors) are searched at once: by GNU parallel where it is
+# installed, else by xargs. Each piece is searched with the longest pattern's bytes less one in front of
+# it, and a match is counted in the piece in which it ends.
+set -eu
+export LC_ALL=C
+
+# The greatest number of bytes between two line feeds, whatever the bytes are.
+longest_line() {
+    od -An -v -t u1 "$1" | tr -s ' ' '\n' |
+        awk '$1 == "10" { n = 0; next } NF { n++; if (n > most) most = n } END { printf "%d\n", most }'
+}
+
+# Searches piece number $1, and leaves its lines in a file of that number.
+search_piece() {
+    at=$(($1 * PIECES_BYTES))
+    start=$((at - PIECES_CARRIED))
+    [ "$start" -ge 0 ] || start=0
+    piece="$PIECES_WORK/piece.$1"
+    tail -c "+$((start + 1))" "$PIECES_HAYSTACK" | head -c "$((at - start + PIECES_BYTES))" > "$piece"
+    "$PIECES_DAACFIND" overlapping "$PIECES_PATTERNS" "$piece" > "$piece.found"
+    # What the first piece finds is all its own, also where an empty pattern matches at place 0.
+    awk -v start="$start" -v carried="$((at - start))" -v first="$1" \
+        'first == 0 || $2 > carried { printf "%.0f %.0f %s\n", $1 + start, $2 + start, $3 }' \
+        "$piece.found" > "$PIECES_WORK/lines.$1"
+    rm "$piece" "$piece.found"
+}
+
+if [ "$1" = --piece ]; then
+    search_piece "$2"
+    exit
+fi
+
+PIECES_DAACFIND=$1 PIECES_PATTERNS=$2 PIECES_HAYSTACK=$3 PIECES_BYTES=$4
+jobs=${5:-$(getconf _NPROCESSORS_ONLN)}
+longest=$(longest_line "$PIECES_PATTERNS")
+PIECES_CARRIED=$((longest > 0 ? longest - 1 : 0))
+PIECES_WORK=$(mktemp -d)
+trap 'rm -rf "$PIECES_WORK"' EXIT
+export PIECES_DAACFIND PIECES_PATTERNS PIECES_HAYSTACK PIECES_BYTES PIECES_CARRIED PIECES_WORK
+
+size=$(wc -c < "$PIECES_HAYSTACK")
+count=$(((size + PIECES_BYTES - 1) / PIECES_BYTES))
+[ "$count" -gt 0 ] || count=1
+numbers() { awk -v count="$count" 'BEGIN { for (i = 0; i < count; i++) printf "%d\n", i }'; }
+
+if command -v parallel > /dev/null; then
+    numbers | parallel -j "$jobs" sh "$0" --piece '{}'
+else
+    numbers | xargs -P "$jobs" -n 1 sh "$0" --piece
+fi
+numbers | while read -r number; do cat "$PIECES_WORK/lines.$number"; done

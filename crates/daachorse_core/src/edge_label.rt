@@ -107,11 +107,15 @@ impl EdgeLabel for char {
 
     ghost form = { encode_utf8 };
 
-    // It is `len_utf8`, as a sum of tests: the loops of the standard searches count places by it, and
-    // a sum takes fewer instructions there than a choice.
+    // It is `len_utf8`. ASCII is asked for first, and the longer ones by a sum of tests: the loops of
+    // the standard searches count places by it, and most characters of most texts are ASCII.
     fn num_bytes(&self) -> usize {
         let code = *self as u32;
-        usize::from(code >= 0x80) + usize::from(code >= 0x800) + usize::from(code >= 0x1_0000) + 1
+        if code < 0x80 {
+            1
+        } else {
+            usize::from(code >= 0x800) + usize::from(code >= 0x1_0000) + 2
+        }
     }
 
     fn code(&self) -> u32 {

@@ -149,16 +149,17 @@ fn scan(table: &[u8], window_len: u8, haystack: &[u8], pos: usize) -> usize
         return haystack.len();
     };
     let last_pair = 1u8 << (window_len - 2);
-    let mut before = *first;
+    // The byte before, as the higher byte of the pair that the next one ends.
+    let mut before = *first as usize * 256;
     // Bit j is 0 where the last j + 1 pairs are those that a window begins with.
     let mut seen = u8::MAX;
     for i in pos + 1..haystack.len() {
-        let byte = haystack[i];
-        seen = (seen << 1) | table[before as usize * 256 + byte as usize];
+        let byte = haystack[i] as usize;
+        seen = (seen << 1) | table[before + byte];
         if seen & last_pair == 0 {
             return i + 1 - window_len as usize;
         }
-        before = byte;
+        before = byte * 256;
     }
     haystack.len()
 }

@@ -10,6 +10,7 @@ loop-i-init c =
     let back : c.args.pos + 1 - 1 ≡ c.args.pos = omega arith in
     record {
       inside = search rules;
+      high = omega arith;
       previous = rw back (search rules);
       bits = bits_start c.args.table.now h c.args.pos;
       none = none_start c.args.table.now h c.args.window_len c.args.pos c.requires.low;
@@ -38,6 +39,7 @@ loop-i-preserved c =
     let more = step_miss c.args.table.now c.args.haystack.now c.args.window_len c.args.pos l.i l.before l.seen c.requires.low c.requires.high (omega arith) (omega arith) l.invariant.previous l.invariant.bits l.invariant.none c.if-seen-last_pair-eq0.false in
     record {
       inside = l.invariant.inside;
+      high = omega arith;
       previous = rw back refl;
       bits = more.0;
       none = more.1;

@@ -1,9 +1,10 @@
 -- The next position of a filter in what is still to come is the next place that passes, in bytes and in characters.
-use Rattle.std.proofs.Common.{◌≡◌, ℕ, ◌+◌, ◌<◌, ◌≤◌, inl, inr, true, false, List, [], ◌∷◌, ◌++◌, length, take, drop, refl, sym, ap, ◌∙◌, subst, length-append, length-drop, take-append-drop, arith}
-use Rattle.std.proofs.lemmas.Bool.{cases_lt}
+use Rattle.std.proofs.Common.{◌≡◌, ℕ, ◌+◌, ◌-◌, ◌<◌, ◌≤◌, inl, inr, true, false, List, [], ◌∷◌, ◌++◌, length, take, drop, Option, Some, None, refl, sym, ap, ◌∙◌, subst, length-append, length-drop, take-append-drop, arith}
+use Rattle.std.proofs.lemmas.Bool.{cases_lt, false≢true}
 use Rattle.std.proofs.lemmas.List.{drop_at, drop_all, length-take-le, nil_from_length}
 use Rattle.std.proofs.lemmas.Str.{chars-nil, chars-append, encodes-chars, IsUtf8-take, IsUtf8-drop}
 use Rattle.std.proofs.Math.Utf8.{encodes}
+use Rattle.std.specs.Prelude.{IsSome, option_map}
 use Rattle.std.specs.Str.{chars, IsUtf8, IsCharBoundary}
 use Rattle.daachorse_core.specs.CharForms.{char_wide}
 use Rattle.daachorse_model.specs.Units.{size, byte_width, char_width}
@@ -11,7 +12,10 @@ use Rattle.daachorse_model.proofs.Occurrences.{split_after}
 use Rattle.daachorse_model.proofs.Suffixes.{size-append, size-bytes}
 use Rattle.daachorse_prefilter.specs.Filters.{Filter, entry_of, admits, next_place, IsNextBoundary}
 use Rattle.daachorse_prefilter.proofs.NextPlaces.{next_position-IsNextPlace}
+use Rattle.daachorse_prefilter.specs.Gates.{HasRecorded}
+use Rattle.daachorse_prefilter.specs.declared.prefilter.gate.PrefilterGate.{PrefilterGate}
 use Rattle.daachorse_search.specs.Filters.{IsNextPassing}
+use Rattle.daachorse_skipping.specs.Asked.{run_of}
 use Rattle.daachorse_text.proofs.TextLemmas.{seam, size-chars}
 
 dropped : (h a b : List ℕ) → h ≡ a ++ b → drop (length a) h ≡ b
@@ -23,6 +27,19 @@ chars_cut bs r u boundary = ap chars (sym (take-append-drop r bs)) ∙ chars-app
 
 pub chars_sized : (bs : List ℕ) (r : ℕ) → IsUtf8 bs → IsCharBoundary bs r → r ≡ size char_width (chars (take r bs))
 chars_sized bs r u boundary = omega (arith, size-chars (take r bs) (IsUtf8-take bs r u boundary), length-take-le r bs boundary.0)
+
+pub still_some : {A B : Type 0} (f : A → B) (o : Option A) → IsSome o → IsSome (option_map f o)
+still_some f None h = absurd (false≢true h)
+still_some f (Some x) h = refl
+
+-- a gain that is the size of what was passed over is recorded as the run that skipped it
+pub recorded_skip : (width : ℕ → ℕ) (gate : PrefilterGate) (filter : Option Filter) (f : Filter) (front units later gains : List ℕ) (gain : ℕ) → filter ≡ Some f → units ≡ front ++ later → gain ≡ size width front → HasRecorded gate (gains ++ gain ∷ []) → HasRecorded gate (gains ++ run_of filter (size width units - size width later))
+recorded_skip width gate filter f front units later gains gain shown parts sized recorded =
+    let n : ℕ = size width units - size width later in
+    let same : gain ≡ n = omega (arith, sized, ap (size width) parts, size-append width front later) in
+    let run : gain ∷ [] ≡ run_of filter n = ap (λ k. k ∷ []) same ∙ ap (λ o. run_of o n) (sym shown) in
+    let P : List ℕ → Type 0 = λ runs. HasRecorded gate (gains ++ runs) in
+    subst P run recorded
 
 module _ (f : Filter) where
   pub bytes_sized : (h : List ℕ) (r : ℕ) → r ≡ next_place f h 0 → r ≡ size byte_width (take r h)

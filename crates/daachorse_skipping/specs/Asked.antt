@@ -1,8 +1,9 @@
 -- A filter over pairs of bytes with its gate, as a search sees it.
-use Rattle.std.specs.Prelude.{◌≡◌, ℕ, Bool, true, List, [], Option, Some, None, IsSome}
+use Rattle.std.specs.Prelude.{◌≡◌, ℕ, ◌-◌, ◌↔◌, Bool, true, IsTrue, List, [], ◌∷◌, ◌++◌, Option, Some, None, IsSome}
 use Rattle.daachorse_prefilter.specs.declared.prefilter.gate.PrefilterGate.{PrefilterGate}
 use Rattle.daachorse_prefilter.specs.Filters.{Filter, admits}
-use Rattle.daachorse_prefilter.specs.Gates.{HasRecorded}
+use Rattle.daachorse_prefilter.specs.Gates.{HasRecorded, IsPaying}
+use Rattle.daachorse_model.specs.Units.{size}
 
 -- the filter, if there is one, and the gate before it
 pub record Asked : Type 0 where
@@ -22,3 +23,17 @@ pub record BeginsAsking (f : Option Filter) (s : Asked) : Type 0 where
 -- there is a filter, and its gate has recorded nothing
 abbrev pub IsUnused : Asked → Type 0
 IsUnused s = IsSome s.filter × HasRecorded s.gate []
+
+-- whatever its gate has recorded: the filter is worth asking just where there is one and its skips paid for themselves
+abbrev pub IsOpenWhilePaying : Asked → Bool → Type 0
+IsOpenWhilePaying s answer = (gains : List ℕ) → HasRecorded s.gate gains → IsTrue answer ↔ (IsSome s.filter × IsPaying gains)
+
+-- one run that skipped n bytes, where there is a filter to run
+abbrev pub run_of : Option Filter → ℕ → List ℕ
+run_of None n = []
+run_of (Some f) n = n ∷ []
+
+-- beside what its gate had recorded stands one run, which skipped the bytes from some units to those that they end with
+abbrev pub HasRecordedSkip : (ℕ → ℕ) → Asked → List ℕ → List ℕ → Asked → Type 0
+HasRecordedSkip width s units later t =
+    (gains : List ℕ) → HasRecorded s.gate gains → HasRecorded t.gate (gains ++ run_of s.filter (size width units - size width later))

@@ -1,12 +1,14 @@
 //! A filter with a gate, which moves a haystack on to the next place where a pattern may begin.
 //!
-//! The layers above may rely on the filter being asked where there is one, from the place of the
-//! haystack on, and on each gain being recorded at the gate. No search's answer rests on the gate.
+//! The layers above may rely on the filter being asked where there is one and its gate is open, from
+//! the place of the haystack on, and on the gate recording of each run just the bytes that it
+//! skipped. No search's answer rests on the gate.
 
 ghost use Rattle.std.specs.Prelude.{◌≡◌, ℕ, List, [], option_map, encode_utf8_all, IsTrue};
 ghost use Rattle.daachorse_prefilter.specs.Gates.{HasRecorded};
 ghost use Rattle.daachorse_search.specs.Filters.{IsNextPassing};
-ghost use Rattle.daachorse_skipping.specs.Asked.{IsUnused, lets_pass};
+ghost use Rattle.daachorse_model.specs.Units.{byte_width, char_width};
+ghost use Rattle.daachorse_skipping.specs.Asked.{HasRecordedSkip, IsOpenWhilePaying, IsUnused, lets_pass};
 
 use daachorse_prefilter::prefilter::{Prefilter, PrefilterGate};
 use daachorse_search::filter::Filter;
@@ -47,7 +49,8 @@ impl<'a, A: Allocator> Skipping<'a, A> {
     /// Whether there is a filter behind an open gate.
     #[inline(always)]
     fn is_worth(&self) -> bool
-        ensures { IsUnused self.now → IsTrue result }
+        ensures unused { IsUnused self.now → IsTrue result }
+        ensures paying { IsOpenWhilePaying self.now result }
     {
         self.filter.is_some() && self.gate.is_enabled()
     }
@@ -60,7 +63,8 @@ impl<'a, 'h, A: Allocator> Filter<u8, Bytes<'h>> for Skipping<'a, A> {
 
     #[inline(always)]
     fn is_open(&self) -> bool
-        ensures { IsUnused self.now → IsTrue result }
+        ensures unused { IsUnused self.now → IsTrue result }
+        ensures paying { IsOpenWhilePaying self.now result }
     {
         self.is_worth()
     }
@@ -69,6 +73,7 @@ impl<'a, 'h, A: Allocator> Filter<u8, Bytes<'h>> for Skipping<'a, A> {
     fn skip(&mut self, rest: &mut Bytes<'h>)
         ensures passes { (w : List ℕ) → lets_pass self.new.filter w ≡ lets_pass self.old.filter w }
         ensures goes { IsNextPassing (λ w. lets_pass self.old.filter w) rest.old rest.new }
+        ensures records { HasRecordedSkip byte_width self.old rest.old rest.new self.new }
     {
         if let Some(filter) = self.filter {
             let gain = filter.next_position(rest.bytes(), 0);
@@ -85,7 +90,8 @@ impl<'a, 'h, A: Allocator> Filter<char, Text<'h>> for Skipping<'a, A> {
 
     #[inline(always)]
     fn is_open(&self) -> bool
-        ensures { IsUnused self.now → IsTrue result }
+        ensures unused { IsUnused self.now → IsTrue result }
+        ensures paying { IsOpenWhilePaying self.now result }
     {
         self.is_worth()
     }
@@ -94,6 +100,7 @@ impl<'a, 'h, A: Allocator> Filter<char, Text<'h>> for Skipping<'a, A> {
     fn skip(&mut self, rest: &mut Text<'h>)
         ensures passes { (w : List ℕ) → lets_pass self.new.filter (encode_utf8_all w) ≡ lets_pass self.old.filter (encode_utf8_all w) }
         ensures goes { IsNextPassing (λ w. lets_pass self.old.filter (encode_utf8_all w)) rest.old rest.new }
+        ensures records { HasRecordedSkip char_width self.old rest.old rest.new self.new }
     {
         if let Some(filter) = self.filter {
             let gain = filter.next_position_at_char_boundary(rest.text(), 0);

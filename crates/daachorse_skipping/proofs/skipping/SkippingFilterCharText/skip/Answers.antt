@@ -1,12 +1,15 @@
 -- The filter is asked over the text that is still to come, at its boundaries.
-use Rattle.std.proofs.Common.{◌≡◌, ℕ, List, take, drop, Option, Some, sym, ap, ◌∙◌, subst}
+use Rattle.std.proofs.Common.{◌≡◌, ℕ, ◌++◌, List, take, drop, Option, Some, sym, ap, ◌∙◌, subst}
 use Rattle.std.specs.Borrow.{Bor}
 use Rattle.std.specs.Prelude.{option_map, encode_utf8_all}
 use Rattle.std.specs.Str.{chars}
+use Rattle.daachorse_model.specs.Units.{char_width}
+use Rattle.daachorse_prefilter.specs.declared.prefilter.gate.PrefilterGate.{PrefilterGate}
+use Rattle.daachorse_prefilter.specs.Gates.{HasRecorded}
 use Rattle.daachorse_prefilter.specs.Filters.{Filter}
 use Rattle.daachorse_search.specs.Filters.{IsNextPassing}
 use Rattle.daachorse_skipping.specs.Asked.{Asked, lets_pass}
-use Rattle.daachorse_skipping.proofs.SkipLemmas.{chars_cut, chars_sized, skipped_chars}
+use Rattle.daachorse_skipping.proofs.SkipLemmas.{chars_cut, chars_sized, recorded_skip, skipped_chars}
 use Rattle.daachorse_skipping.proofs.skipping.SkippingFilterCharText.skip.Goals as goal
 
 pub after-requires : goal.after-requires
@@ -23,3 +26,16 @@ returns-in-Some-clause-goes g c =
     let Q : List ℕ → Type 0 = λ h. IsNextPassing (λ w. lets_pass (Some f) (encode_utf8_all w)) h later in
     let behind : later ≡ chars (drop r bs) = c.after.ensures (chars (take r bs)) (chars (drop r bs)) (sym c.text.ensures ∙ chars_cut bs r c.text.utf8 next.boundary) (chars_sized bs r c.text.utf8 next.boundary) in
     subst P (sym shown) (subst Q c.text.ensures (skipped_chars f bs later r c.text.utf8 next behind))
+
+pub returns-in-Some-clause-records : goal.returns-in-Some-clause-records
+returns-in-Some-clause-records g c = λ gains before.
+    let f = c.in-Some.filter.now in let h = c.args.rest.now in let bs = c.text.result.now in let r : ℕ = c.next_position_at_char_boundary-gain.result in let later = c.after.result in
+    let boundary = c.next_position_at_char_boundary-gain.ensures.boundary in
+    let shown : c.args.self.now.filter ≡ Some f = sym (ap (λ (s : Asked). s.filter) c.self.view_is) ∙ ap (option_map (λ (x : Bor Filter). x.now)) c.in-Some.is in
+    let P : PrefilterGate → Type 0 = λ gate. HasRecorded gate gains in
+    let recorded = c.record.ensures gains (subst P (sym (ap (λ (s : Asked). s.gate) c.self.view_is)) before) in
+    let cut : h ≡ chars (take r bs) ++ chars (drop r bs) = sym c.text.ensures ∙ chars_cut bs r c.text.utf8 boundary in
+    let sized = chars_sized bs r c.text.utf8 boundary in
+    let behind : later ≡ chars (drop r bs) = c.after.ensures (chars (take r bs)) (chars (drop r bs)) cut sized in
+    let parts : h ≡ chars (take r bs) ++ later = cut ∙ ap (λ w. chars (take r bs) ++ w) (sym behind) in
+    recorded_skip char_width c.record.new.self c.args.self.now.filter f (chars (take r bs)) h later gains r shown parts sized recorded

@@ -17,6 +17,7 @@ use daachorse_search::matches::Matches;
 use daachorse_search::overlapping::{NoSuffixWalk, OverlappingWalk};
 use daachorse_search::scan::scan;
 use daachorse_search::search::Search;
+use daachorse_search::source::{self, Source};
 use daachorse_search::stepwise::Stepwise;
 use daachorse_search::walk::Walk;
 use std::alloc::{AllocError, Global};
@@ -35,7 +36,7 @@ const NOWHERE: Everywhere = Everywhere {
 };
 
 /// All matches in what a source gives.
-fn collect_from<V: Copy, A: Automaton<V>, S: Iterator<Item = A::Unit>>(
+fn collect_from<V: Copy, A: Automaton<V>, S: Source<A::Unit>>(
     alloc: Global,
     automaton: A,
     source: S,
@@ -123,7 +124,7 @@ fn all_matches_are_given_at_each_boundary(rt: HostRuntime) {
 
 #[test]
 fn all_matches_in_a_source_are_given(rt: HostRuntime) -> Result<(), Fail> {
-    let found = collect_from(rt.alloc(), TWICE, Bytes::new(b"a"))?;
+    let found = collect_from(rt.alloc(), TWICE, source::Bytes::new(Bytes::new(b"a")))?;
     let all = [at(0, 7), at(0, 8), at(1, 7), at(1, 8)];
     expect(&rt, found.as_slice() == all.as_slice(), "the matches");
     Ok(())
@@ -195,7 +196,7 @@ fn a_walk_gives_the_outputs_where_it_stands(rt: HostRuntime) -> Result<(), Fail>
 #[test]
 fn a_scan_reads_no_unit_past_its_match(rt: HostRuntime) -> Result<(), Fail> {
     let mut walk = OverlappingWalk::new(TWICE);
-    let mut source = Bytes::new(b"ab");
+    let mut source = source::Bytes::new(Bytes::new(b"ab"));
     let mut place = 0;
     let position = scan(&mut walk, &mut source, &mut place).ok_or("no match")?;
     let found = walk.give(position, place).0;

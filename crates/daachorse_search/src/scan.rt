@@ -9,14 +9,14 @@ ghost use Rattle.daachorse_model.specs.Units.{size};
 ghost use Rattle.daachorse_search.specs.Sources.{IsReady, ScanGives};
 ghost use Rattle.daachorse_search.specs.Stepwise.{Stops};
 
+use crate::source::Source;
 use crate::stepwise::Stepwise;
-use daachorse_core::edge_label::EdgeLabel;
 use std::num::NonZeroU32;
 
 /// Reads on until there is something to give, and answers the position of its first output;
 /// `None` where the source ends first. The place is that after the units read, in bytes.
 #[inline(always)]
-pub fn scan<V: Copy, W: Stepwise<V>, S: Iterator<Item = W::Unit>>(
+pub fn scan<V: Copy, W: Stepwise<V>, S: Source<W::Unit>>(
     walk: &mut W,
     source: &mut S,
     place: &mut usize,
@@ -30,10 +30,9 @@ pub fn scan<V: Copy, W: Stepwise<V>, S: Iterator<Item = W::Unit>>(
     ensures stops { IfSome result (λ _. Stops W.automaton W.read W.found W.most_found W.has_output W.given_from walk.new result) }
 {
     'units: loop {
-        let Some(unit) = source.next() else {
+        let Some(unit) = source.next_at(place) else {
             return None;
         };
-        *place += unit.num_bytes();
         if let Some(position) = walk.advance(unit) {
             return Some(position);
         }

@@ -7,6 +7,7 @@
 ghost use Rattle.std.specs.Prelude.{◌≡◌, ◌+◌, ◌*◌, ℕ, [], length};
 
 use crate::scan::scan;
+use crate::source::Source;
 use crate::stepwise::Stepwise;
 use daachorse_core::Match;
 use std::marker::{Model, PhantomData};
@@ -14,7 +15,7 @@ use std::num::NonZeroU32;
 
 /// What a search that goes one unit at a time finds in what a source gives, in order.
 #[derive(Drop)]
-pub struct Search<V: Copy, W: Stepwise<V>, S: Iterator<Item = W::Unit>> {
+pub struct Search<V: Copy, W: Stepwise<V>, S: Source<W::Unit>> {
     walk: W,
     source: S,
     // How many bytes were read.
@@ -26,7 +27,7 @@ pub struct Search<V: Copy, W: Stepwise<V>, S: Iterator<Item = W::Unit>> {
     of: PhantomData<V>,
 }
 
-impl<V: Copy, W: Stepwise<V>, S: Iterator<Item = W::Unit>> Model for Search<V, W, S> {
+impl<V: Copy, W: Stepwise<V>, S: Source<W::Unit>> Model for Search<V, W, S> {
     ghost use Rattle.daachorse_core.specs.Outputs.{number};
     ghost use Rattle.daachorse_search.specs.Searches.{SourceProgress};
     ghost use Rattle.daachorse_search.specs.Stepwise.{StandsAt};
@@ -45,7 +46,7 @@ impl<V: Copy, W: Stepwise<V>, S: Iterator<Item = W::Unit>> Model for Search<V, W
     ghost invariant = { λ s. W.has_output s.walk (number s.output) × StandsAt W.Unit.width (W.read s.walk) s.place };
 }
 
-impl<V: Copy, W: Stepwise<V>, S: Iterator<Item = W::Unit>> Search<V, W, S> {
+impl<V: Copy, W: Stepwise<V>, S: Source<W::Unit>> Search<V, W, S> {
     /// A search that has read nothing.
     #[inline(always)]
     pub fn new(walk: W, source: S) -> Self
@@ -78,7 +79,7 @@ impl<V: Copy, W: Stepwise<V>, S: Iterator<Item = W::Unit>> Search<V, W, S> {
     }
 }
 
-impl<V: Copy, W: Stepwise<V>, S: Iterator<Item = W::Unit>> Iterator for Search<V, W, S> {
+impl<V: Copy, W: Stepwise<V>, S: Source<W::Unit>> Iterator for Search<V, W, S> {
     ghost use Rattle.std.specs.Iterator.{count_map};
     ghost use Rattle.daachorse_model.specs.Units.{size};
     ghost use Rattle.daachorse_search.specs.Sources.{IsReady};

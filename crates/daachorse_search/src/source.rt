@@ -3,8 +3,8 @@
 //! The layers above may rely on a source that may be read being ready for a search: it may be
 //! called, ends, and ends at a place that fits; and on it staying so while it is read.
 
-ghost use Rattle.std.specs.Prelude.{◌≡◌, ◌+◌, ◌≤◌, ℕ, List, ◌++◌, Option, length, map};
-ghost use Rattle.std.specs.Iterator.{Yields, items_left};
+ghost use Rattle.std.specs.Prelude.{◌≡◌, ◌+◌, ◌≤◌, ℕ, List, ◌++◌, Option, MatchOption, length, map};
+ghost use Rattle.std.specs.Iterator.{MakesProgress, Yields, items_left};
 ghost use Rattle.daachorse_model.specs.Units.{size};
 ghost use Rattle.daachorse_search.specs.Sources.{IsReady};
 
@@ -15,6 +15,19 @@ use std::marker::Model;
 pub trait Source<U: EdgeLabel>: Iterator<Item = U> {
     /// A search that read these units may go on with the source.
     ghost may_read: { Self → List ℕ → Type 0 };
+
+    /// Takes the next unit, and moves a place to the end of that unit.
+    #[inline(always)]
+    fn next_at(&mut self, place: &mut usize) -> Option<U>
+        requires ready { IsReady Self.can_next Self.next_gives Self.remaining U.unit U.width self.old place.old }
+        ensures steps { Self.next_gives self.old result self.new }
+        ensures goes { MakesProgress Self.can_next Self.remaining self.old result self.new }
+        ensures place { MatchOption result (place.new ≡ place.old) (λ unit. place.new ≡ place.old + U.width (U.unit unit)) }
+    {
+        let unit = self.next()?;
+        *place += unit.num_bytes();
+        Some(unit)
+    }
 
     ghost ready: { (s : Self) (read : List ℕ) → may_read s read
         → IsReady Self.can_next Self.next_gives Self.remaining U.unit U.width s (size U.width read) };

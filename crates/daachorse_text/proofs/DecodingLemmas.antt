@@ -33,6 +33,9 @@ IsSmall-start first h = record {
   three = λ k. grind (arith, nat_tests);
 }
 
+ascii_lead : (first : ℕ) → first < 128 → (first ≡ lead_bits first) × (0 ≡ continuation_len first)
+ascii_lead first h = (grind (arith, nat_tests), grind (arith, nat_tests))
+
 pub IsSmall-more : (code n b : ℕ) → IsSmall code (suc n) → IsSmall (code * 64 + b % 64) n
 IsSmall-more code n b h = record { few = omega arith; last = omega arith; one = λ k. omega arith; two = λ k. omega arith; three = λ k. omega arith }
 
@@ -124,7 +127,7 @@ module _ {S : Type 0} (can : S → Type 0) (steps : S → Option ℕ → S → T
   front_is code [] c cs e = cc
   front_is code (b ∷ later) c cs e = cc
 
-  ended : (source : S) (first code : ℕ) (now : S) → IsText can steps left source → IsMidway source first code 0 now → TakesCharacter can steps left source code now
+  ended : (source : S) (first code : ℕ) (now : S) → IsText can steps left source → IsMidway source first code 0 now → TakesCharacter can steps left source code now × (continuation_len first + 1 ≡ char_width code)
   ended source first code now text h =
       let b = begun source text first code 0 now h in
       let f = b.1 in
@@ -132,13 +135,14 @@ module _ {S : Type 0} (can : S → Type 0) (steps : S → Option ℕ → S → T
       let whole : encodes (f.character ∷ f.others) ≡ first ∷ (h.inner ++ b.0) = ap (λ w. w ++ encodes f.others) f.is ∙ ap (λ w. first ∷ w) f.parts in
       let same : f.character ≡ code = front_is code b.0 f.character f.others (h.code_is b.0 ∙ ap chars (sym whole) ∙ chars-encodes (f.character ∷ f.others) f.scalar_values) in
       let is : encode code ≡ first ∷ h.inner = ap encode (sym same) ∙ f.is ∙ ap (λ w. first ∷ w) inner in
-      record {
+      let taken : TakesCharacter can steps left source code now = record {
         scalar = subst IsScalar same (both-true (scalar f.character) (scalars f.others) f.scalar_values).0;
         took = let P : List ℕ → Type 0 = λ w. Yields steps source w now in subst P (sym is) h.took;
         fewer = omega (arith, h.fewer, length-encode code, ap length is);
-      }
+      } in
+      (taken, omega (arith, h.count, length-encode code, ap length is))
 
-  pub IsMidway-end : (source : S) (first code more : ℕ) (now : S) → IsText can steps left source → more ≤ 0 → IsMidway source first code more now → TakesCharacter can steps left source code now
+  pub IsMidway-end : (source : S) (first code more : ℕ) (now : S) → IsText can steps left source → more ≤ 0 → IsMidway source first code more now → TakesCharacter can steps left source code now × (continuation_len first + 1 ≡ char_width code)
   IsMidway-end source first code zero now text none h = ended source first code now text h
   IsMidway-end source first code (suc more) now text none h = absurd (omega arith)
 
@@ -159,6 +163,16 @@ module _ {S : Type 0} (can : S → Type 0) (steps : S → Option ℕ → S → T
   goes_after source first code more c now text h took =
       let later = text_after source c now text took h.callable h.ends in
       record { on = λ _. (later, h.ends, omega (arith, took.fewer, len_utf8_bounds c)); keeps = later; rests = λ _. tt }
+
+  -- a byte below 128 is a character
+  pub ascii_character : (source inside : S) (first c : ℕ) (now : S) → inside ≡ source → IsText can steps left source → first < 128 → c ≡ first → steps inside (Some first) now → MakesProgress can left inside (Some first) now
+      → TakesCharacter can steps left source c now × MakesProgress (IsText can steps left) left source (Some c) now
+  ascii_character source inside first c now seen text low is step goes =
+      let lead = ascii_lead first low in
+      let h = IsMidway-start source inside first first 0 now seen text (omega arith) step goes lead.0 lead.1 in
+      let took = (IsMidway-end source first first 0 now text (omega arith) h).0 in
+      let P : ℕ → Type 0 = λ x. TakesCharacter can steps left source x now × MakesProgress (IsText can steps left) left source (Some x) now in
+      subst P (sym is) (took, goes_after source first first 0 first now text h took)
 
   -- and so does one that tells places
   pub goes_placed : (source : S) (place c : ℕ) (rest : S) (given later : ℕ) → IsTextFrom can steps left source place → TakesCharacter can steps left source c rest → MakesProgress (IsText can steps left) left source (Some c) rest

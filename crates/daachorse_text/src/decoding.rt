@@ -3,8 +3,12 @@
 //! The layers above may rely on each call taking just the bytes of the character that it gives,
 //! and on the end coming where the source ends. That the bytes are UTF-8 is a condition.
 
-ghost use Rattle.std.specs.Prelude.{◌≡◌, ◌<◌, ◌≤◌};
+ghost use Rattle.std.specs.Prelude.{◌≡◌, ◌<◌, ◌≤◌, IfSome};
+ghost use Rattle.std.specs.Iterator.{MakesProgress};
+ghost use Rattle.std.specs.Option.{option_map};
 ghost use Rattle.std.specs.Str.{continuation_len, lead_bits};
+ghost use Rattle.daachorse_model.specs.Units.{char_width};
+ghost use Rattle.daachorse_text.specs.TextSources.{IsText, GivesCharacter};
 
 use daachorse_search::source::Source;
 use std::marker::Model;
@@ -29,6 +33,31 @@ impl<P: Iterator<Item = u8>> Decoded<P> {
     {
         Self { bytes }
     }
+
+    /// Takes the next character, and tells how many bytes it took. Most are ASCII, which is asked
+    /// for first.
+    #[inline(always)]
+    fn take_character(&mut self) -> Option<(char, usize)>
+        requires { IsText P.can_next P.next_gives P.remaining self.old }
+        ensures steps { GivesCharacter P.can_next P.next_gives P.remaining self.old (option_map (λ taken. taken.0) result) self.new }
+        ensures goes { MakesProgress (IsText P.can_next P.next_gives P.remaining) P.remaining self.old (option_map (λ taken. taken.0) result) self.new }
+        ensures bytes { IfSome result (λ taken. taken.1 ≡ char_width taken.0) }
+    {
+        let first = self.bytes.next()?;
+        if first < 0x80 {
+            return Some((char::from(first), 1));
+        }
+        let (mut code, mut more) = lead(first);
+        let bytes = more + 1;
+        while more > 0 {
+            let Some(byte) = self.bytes.next() else {
+                unreachable!()
+            };
+            code = code * 64 + u32::from(byte) % 64;
+            more -= 1;
+        }
+        Some((unsafe { char::from_u32_unchecked(code) }, bytes))
+    }
 }
 
 impl<P: Iterator<Item = u8>> Iterator for Decoded<P> {
@@ -44,16 +73,8 @@ impl<P: Iterator<Item = u8>> Iterator for Decoded<P> {
 
     #[inline(always)]
     fn next(&mut self) -> Option<char> {
-        let first = self.bytes.next()?;
-        let (mut code, mut more) = lead(first);
-        while more > 0 {
-            let Some(byte) = self.bytes.next() else {
-                unreachable!()
-            };
-            code = code * 64 + u32::from(byte) % 64;
-            more -= 1;
-        }
-        Some(unsafe { char::from_u32_unchecked(code) })
+        let (character, _bytes) = self.take_character()?;
+        Some(character)
     }
 }
 
@@ -63,6 +84,13 @@ impl<P: Iterator<Item = u8>> Source<char> for Decoded<P> {
     ghost use Rattle.daachorse_text.specs.DecodedSources.{IsTextFrom-ready, IsTextFrom-kept};
 
     ghost may_read = { λ s read. IsTextFrom P.can_next P.next_gives P.remaining s (size char_width read) };
+
+    #[inline(always)]
+    fn next_at(&mut self, place: &mut usize) -> Option<char> {
+        let (character, bytes) = self.take_character()?;
+        *place += bytes;
+        Some(character)
+    }
 
     ghost ready = { IsTextFrom-ready P.can_next P.next_gives P.remaining };
 
@@ -117,17 +145,16 @@ impl<P: Iterator<Item = u8>> Iterator for CharWithEndOffsetIterator<P> {
     }
 }
 
-/// What the first byte of a character tells: its highest bits, and how many bytes follow.
+/// What the first byte of a character past ASCII tells: its highest bits, and how many bytes
+/// follow.
 #[inline(always)]
-fn lead(first: u8) -> (u32, u32)
-    requires { 128 ≤ first → 192 ≤ first }
+fn lead(first: u8) -> (u32, usize)
+    requires { 192 ≤ first }
     ensures bits { result.0 ≡ lead_bits first }
     ensures more { result.1 ≡ continuation_len first }
 {
     let bits = u32::from(first);
-    if bits < 0x80 {
-        (bits, 0)
-    } else if bits < 0xe0 {
+    if bits < 0xe0 {
         (bits - 0xc0, 1)
     } else if bits < 0xf0 {
         (bits - 0xe0, 2)

@@ -6,4 +6,4 @@ use Rattle.daachorse_part_tests.proofs.searches.a_scan_reads_no_unit_past_its_ma
 
 pub scan-requires-clause-ready : goal.scan-requires-clause-ready
 scan-requires-clause-ready g c =
-    IsReady-bytes _ _ _ _ _ _ tt tt (inl (omega (arith, ap (λ (s : SeenUnits). size byte_width (units s)) c.new-walk.ensures.seen, ap length c.new-source.ensures.bytes)))
+    IsReady-bytes _ _ _ _ _ _ tt tt (inl (omega (arith, ap (λ (s : SeenUnits). size byte_width (units s)) c.new-walk.ensures.seen, ap length c.new.ensures.bytes, ap length c.new-source.ensures)))

@@ -73,11 +73,19 @@ impl Env for Words<'_> {
     }
 }
 
-// Takes one byte a call, as many as are left, and fails from then on. Each flush notes how many
+// What a writer does that takes no more.
+#[derive(Clone, Copy)]
+enum Halt {
+    Fails,
+    TakesNothing,
+}
+
+// Takes one byte a call, as many as are left, and halts from then on. Each flush notes how many
 // bytes were taken before it, and then fails where it is to.
 #[derive(Drop)]
 struct Halting {
-    left: u64,
+    left: usize,
+    halt: Halt,
     taken: Vec<u8>,
     can_flush: bool,
     flushes: Vec<usize>,
@@ -85,13 +93,12 @@ struct Halting {
 
 impl Write for Halting {
     fn write(&mut self, buf: &[u8]) -> io::Result<usize> {
-        if self.left == 0 {
-            return Err(io::Error::from(io::ErrorKind::Other));
-        }
-        let Some(byte) = buf.first() else {
-            return Ok(0);
+        let byte = match (self.left, self.halt, buf.first()) {
+            (0, Halt::Fails, _) => return Err(io::Error::from(io::ErrorKind::Other)),
+            (0, Halt::TakesNothing, _) | (_, _, None) => return Ok(0),
+            (_, _, Some(byte)) => *byte,
         };
-        self.taken.push(*byte)?;
+        self.taken.push(byte)?;
         self.left -= 1;
         Ok(1)
     }
@@ -372,40 +379,51 @@ fn a_run_error_prints_its_cause(rt: HostRuntime) -> Result<(), Fail> {
     Ok(())
 }
 
-// After how many bytes a writer fails, whether it can flush, what it takes, how many bytes it took
-// before each flush, and whether the run succeeds.
-type Halt = (u64, bool, &'static [u8], &'static [usize], bool);
+// What a run writes.
+const WRITTEN: &[u8] = b"0 1 2\n0 2 1\n1 4 0\n";
 
-const HALTS: [Halt; 5] = [
-    (0, true, b"", &[], false),
-    (5, true, b"0 1 2", &[], false),
-    (17, true, b"0 1 2\n0 2 1\n1 4 0", &[], false),
-    (99, false, b"0 1 2\n0 2 1\n1 4 0\n", &[18], false),
-    (99, true, b"0 1 2\n0 2 1\n1 4 0\n", &[18], true),
-];
-
-// Whether a run over a writer that fails ends so.
-fn halts_so(alloc: Global, halt: Halt) -> bool {
-    let (left, can_flush, written, flushes, succeeds) = halt;
+// Whether a run over a writer that takes so many bytes writes just these, and ends by an error unless that
+// is all and the writer can flush it.
+fn halts_so(alloc: Global, left: usize, halt: Halt, can_flush: bool) -> bool {
     let mut out = WriterSink::new(Halting {
         left,
+        halt,
         taken: Vec::new(alloc),
         can_flush,
         flushes: Vec::new(alloc),
     });
-    let is_right = match run(alloc, Mode::Overlapping, PATTERNS, b"abcd", &mut out) {
-        Ok(()) => succeeds,
-        Err(RunError::Write) => !succeeds,
-        Err(RunError::Build(_)) => false,
+    let succeeds = match run(alloc, Mode::Overlapping, PATTERNS, b"abcd", &mut out) {
+        Ok(()) => true,
+        Err(RunError::Write) => false,
+        Err(RunError::Build(_)) => return false,
     };
-    is_right
-        && out.writer().taken.as_slice() == written
-        && out.writer().flushes.as_slice() == flushes
+    let is_whole = left >= WRITTEN.len();
+    let flushes = out.writer().flushes.as_slice();
+    let is_flushed = if is_whole {
+        flushes == [WRITTEN.len()].as_slice()
+    } else {
+        flushes.is_empty()
+    };
+    let written = WRITTEN.get(..left).unwrap_or(WRITTEN);
+    is_flushed && out.writer().taken.as_slice() == written && succeeds == (is_whole && can_flush)
+}
+
+#[test]
+fn a_run_writes_what_the_writer_takes(rt: HostRuntime) {
+    for left in 0..=WRITTEN.len() {
+        for halt in [Halt::Fails, Halt::TakesNothing] {
+            expect(&rt, halts_so(rt.alloc(), left, halt, true), "the run");
+        }
+    }
 }
 
 #[test]
 fn a_run_flushes_once_at_the_end(rt: HostRuntime) {
-    for halt in HALTS {
-        expect(&rt, halts_so(rt.alloc(), halt), "the run");
+    for can_flush in [true, false] {
+        expect(
+            &rt,
+            halts_so(rt.alloc(), 99, Halt::Fails, can_flush),
+            "the run",
+        );
     }
 }

@@ -85,8 +85,8 @@ fn leftmost(automaton: &Bytewise<Global>, haystack: &[u8], expected: &[Found]) -
     are
 }
 
-/// Whether each form of the search finds just these matches.
-fn finds(
+/// Whether the search in a slice finds just these matches.
+pub fn finds_in_slice(
     automaton: &Bytewise<Global>,
     search: Search,
     haystack: &[u8],
@@ -96,18 +96,31 @@ fn finds(
         return leftmost(automaton, haystack, expected);
     }
     match search {
+        Search::Overlapping => overlapping(automaton, haystack, expected),
+        Search::NoSuffix => no_suffix(automaton, haystack, expected),
+        Search::Standard => standard(automaton, haystack, expected),
+        Search::Leftmost(_) => false,
+    }
+}
+
+/// Whether each form of the search that takes bytes one by one finds just these matches.
+pub fn finds_by_units(
+    automaton: &Bytewise<Global>,
+    search: Search,
+    haystack: &[u8],
+    expected: &[Found],
+) -> bool {
+    if !automaton.match_kind().is_standard() {
+        return true;
+    }
+    match search {
         Search::Overlapping => {
-            overlapping(automaton, haystack, expected)
-                && overlapping_of_source(automaton, haystack, expected)
+            overlapping_of_source(automaton, haystack, expected)
                 && overlapping_by_steps(automaton, haystack, expected)
         }
-        Search::NoSuffix => {
-            no_suffix(automaton, haystack, expected)
-                && no_suffix_of_source(automaton, haystack, expected)
-        }
+        Search::NoSuffix => no_suffix_of_source(automaton, haystack, expected),
         Search::Standard => {
-            standard(automaton, haystack, expected)
-                && standard_of_source(automaton, haystack, expected)
+            standard_of_source(automaton, haystack, expected)
                 && standard_by_steps(automaton, haystack, expected)
         }
         Search::Leftmost(_) => false,
@@ -120,7 +133,12 @@ fn holds(alloc: Global, way: Way, row: &Row) -> Result<bool> {
     let patvals = in_bytes(alloc, patvals)?;
     let automaton = bytewise_by(alloc, way, search.kind(), &patvals)?;
     let is_kind = automaton.match_kind() == search.kind();
-    Ok(is_kind && finds(&automaton, search, haystack.as_bytes(), expected))
+    let haystack = haystack.as_bytes();
+    Ok(
+        is_kind
+            && finds_in_slice(&automaton, search, haystack, expected)
+            && finds_by_units(&automaton, search, haystack, expected),
+    )
 }
 
 #[test]

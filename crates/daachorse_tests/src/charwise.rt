@@ -90,8 +90,26 @@ fn leftmost(automaton: &Charwise<Global>, text: &str, expected: &[Found]) -> boo
     are
 }
 
-/// Whether each form of the search finds just these matches.
-pub fn finds(
+/// Whether the search in a text finds just these matches.
+pub fn finds_in_slice(
+    automaton: &Charwise<Global>,
+    search: Search,
+    text: &str,
+    expected: &[Found],
+) -> bool {
+    if !automaton.match_kind().is_standard() {
+        return leftmost(automaton, text, expected);
+    }
+    match search {
+        Search::Overlapping => overlapping(automaton, text, expected),
+        Search::NoSuffix => no_suffix(automaton, text, expected),
+        Search::Standard => standard(automaton, text, expected),
+        Search::Leftmost(_) => false,
+    }
+}
+
+/// Whether each form of the search that takes bytes or characters one by one finds just these matches.
+pub fn finds_by_units(
     automaton: &Charwise<Global>,
     search: Search,
     text: &str,
@@ -99,20 +117,16 @@ pub fn finds(
     expected: &[Found],
 ) -> bool {
     if !automaton.match_kind().is_standard() {
-        return leftmost(automaton, text, expected);
+        return true;
     }
     match search {
         Search::Overlapping => {
-            overlapping(automaton, text, expected)
-                && overlapping_of_source(automaton, text, expected)
+            overlapping_of_source(automaton, text, expected)
                 && overlapping_by_steps(automaton, units, expected)
         }
-        Search::NoSuffix => {
-            no_suffix(automaton, text, expected) && no_suffix_of_source(automaton, text, expected)
-        }
+        Search::NoSuffix => no_suffix_of_source(automaton, text, expected),
         Search::Standard => {
-            standard(automaton, text, expected)
-                && standard_of_source(automaton, text, expected)
+            standard_of_source(automaton, text, expected)
                 && standard_by_steps(automaton, units, expected)
         }
         Search::Leftmost(_) => false,
@@ -125,7 +139,11 @@ fn holds(alloc: Global, way: Way, row: &Row) -> Result<bool> {
     let automaton = charwise_by(alloc, way, search.kind(), patvals)?;
     let is_kind = automaton.match_kind() == search.kind();
     let units: Vec<char> = text.chars().collect(alloc)?;
-    Ok(is_kind && finds(&automaton, search, text, &units, expected))
+    Ok(
+        is_kind
+            && finds_in_slice(&automaton, search, text, expected)
+            && finds_by_units(&automaton, search, text, &units, expected),
+    )
 }
 
 #[test]

@@ -95,7 +95,25 @@ impl Call for Inserts {
     }
 }
 
+/// A copy of the edges of the labels.
+struct Copies;
+
+impl Call for Copies {
+    fn answer(&self, heap: &Refusing<Global>) -> Answer {
+        let mut map = Edges::default();
+        if insert_all(&mut map, heap).is_some() {
+            return Answer::Refused;
+        }
+        match map.clone() {
+            Ok(copy) if lists(&copy, None) => Answer::Right,
+            Err(_) if lists(&map, None) => Answer::Refused,
+            _ => Answer::Wrong,
+        }
+    }
+}
+
 #[test]
 fn each_growth_is_refused_in_turn(rt: HostRuntime) {
     expect(&rt, each_request(rt.alloc(), &Inserts), "the inserts");
+    expect(&rt, each_request(rt.alloc(), &Copies), "the copy");
 }

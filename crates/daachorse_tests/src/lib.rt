@@ -20,6 +20,8 @@ mod cuts;
 #[cfg(test)]
 mod depths;
 #[cfg(test)]
+mod drops;
+#[cfg(test)]
 mod edge_map;
 #[cfg(test)]
 mod finding;
@@ -29,6 +31,8 @@ mod firsts;
 mod listing;
 #[cfg(test)]
 mod paths;
+#[cfg(test)]
+mod plain;
 #[cfg(test)]
 mod requests;
 #[cfg(test)]

@@ -15,6 +15,7 @@ use daachorse::{
     CharwiseDoubleArrayAhoCorasick, CharwiseDoubleArrayAhoCorasickBuilder, DoubleArrayAhoCorasick,
     DoubleArrayAhoCorasickBuilder, MatchKind, Result,
 };
+use daachorse_patterns::trie::build_trie;
 use refusing::{Answer, Call, Refusing, each_request};
 use std::alloc::{Allocator, Global};
 
@@ -25,6 +26,7 @@ enum Requests {
     WithValues,
     Build,
     BuildWithValues,
+    BuildByCorpus,
     ByCorpus,
     Clone,
     CacheDepths,
@@ -33,11 +35,12 @@ enum Requests {
 }
 
 /// The calls, each for a kind.
-const REQUESTS: [(MatchKind, Requests); 15] = [
+const REQUESTS: [(MatchKind, Requests); 16] = [
     (MatchKind::Standard, Requests::New),
     (MatchKind::Standard, Requests::WithValues),
     (MatchKind::Standard, Requests::Build),
     (MatchKind::Standard, Requests::BuildWithValues),
+    (MatchKind::Standard, Requests::BuildByCorpus),
     (MatchKind::Standard, Requests::ByCorpus),
     (MatchKind::Standard, Requests::Clone),
     (MatchKind::Standard, Requests::CacheDepths),
@@ -60,11 +63,12 @@ fn answer_of(outcome: &Result<bool>) -> Answer {
     }
 }
 
-const PATTERNS: [&[u8]; 3] = [b"bcd", b"ab", b"a"];
+/// Patterns that have a filter: none is shorter than two bytes.
+const PATTERNS: [&[u8]; 3] = [b"bcd", b"abc", b"ab"];
 
-const PATVALS: [(&[u8], u32); 3] = [(b"bcd", 0), (b"ab", 1), (b"a", 2)];
+const PATVALS: [(&[u8], u32); 3] = [(b"bcd", 0), (b"abc", 1), (b"ab", 2)];
 
-const LISTED: [(&[u8], u32); 3] = [(b"a", 2), (b"ab", 1), (b"bcd", 0)];
+const LISTED: [(&[u8], u32); 3] = [(b"ab", 2), (b"abc", 1), (b"bcd", 0)];
 
 /// Whether depths are cached; where they are refused, the automaton is as it was.
 fn caches<A: Allocator + Copy>(automaton: &mut Bytewise<A>) -> Result<bool>
@@ -94,6 +98,12 @@ fn made<A: Allocator + Copy>(alloc: A, kind: MatchKind, call: Requests) -> Resul
         Requests::Build => {
             let builder = DoubleArrayAhoCorasickBuilder::new().match_kind(kind);
             builder.build(alloc, PATTERNS)
+        }
+        Requests::BuildByCorpus => {
+            let builder = DoubleArrayAhoCorasickBuilder::new().match_kind(kind);
+            builder
+                .corpus(alloc, [b"abx".as_slice()])?
+                .build(alloc, PATTERNS)
         }
         Requests::ByCorpus => bytewise_by_corpus(alloc, kind, &PATVALS, &[b"abx", b"bc"]),
         Requests::Clone => bytewise(alloc, kind, &PATVALS)?.clone(),
@@ -172,6 +182,10 @@ fn made_charwise<A: Allocator + Copy>(
             let builder = CharwiseDoubleArrayAhoCorasickBuilder::new().match_kind(kind);
             builder.build(alloc, TEXTS)
         }
+        Requests::BuildByCorpus => {
+            let builder = CharwiseDoubleArrayAhoCorasickBuilder::new().match_kind(kind);
+            builder.corpus(alloc, ["ñéü"])?.build(alloc, TEXTS)
+        }
         Requests::ByCorpus => charwise_by_corpus(alloc, kind, &TEXT_VALUES, &["ñéü", "é"]),
         Requests::Clone => charwise(alloc, kind, &TEXT_VALUES)?.clone(),
         Requests::WriteAndRead => {
@@ -237,6 +251,31 @@ impl Call for ManyCharacters {
     fn answer(&self, heap: &Refusing<Global>) -> Answer {
         answer_of(&is_built(heap, self.kind))
     }
+}
+
+/// Whether each state of a trie is copied.
+fn are_copied<A: Allocator + Copy>(alloc: A) -> Result<bool> {
+    let trie = build_trie(alloc, MatchKind::Standard, None, &PATVALS)?;
+    let mut holds = true;
+    for state in trie.states() {
+        let copy = state.clone()?;
+        holds = holds && copy.edges().len() == state.edges().len();
+    }
+    Ok(holds)
+}
+
+/// A copy of each state of a trie.
+struct CopiedStates;
+
+impl Call for CopiedStates {
+    fn answer(&self, heap: &Refusing<Global>) -> Answer {
+        answer_of(&are_copied(heap))
+    }
+}
+
+#[test]
+fn each_request_for_a_copy_of_a_state_may_be_refused(rt: HostRuntime) {
+    expect(&rt, each_request(rt.alloc(), &CopiedStates), "the copies");
 }
 
 #[test]

@@ -112,7 +112,7 @@ fn no_characters_have_their_bytes(rt: HostRuntime) -> Result<(), Fail> {
 }
 
 /// An automaton over bytes of two words, with a filter if it is wanted.
-fn words(alloc: Global, filtered: bool) -> Result<Bytewise<Global>> {
+pub fn words(alloc: Global, filtered: bool) -> Result<Bytewise<Global>> {
     DoubleArrayAhoCorasickBuilder::new()
         .use_prefilter(filtered)
         .build(alloc, [b"aria".as_slice(), b"iris"])

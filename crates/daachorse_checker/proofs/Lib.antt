@@ -13,3 +13,4 @@ pub mod ChainedLaws
 pub mod CheckedLaws
 pub mod FilterLaws
 pub mod KeyLaws
+pub mod FoldedLaws

@@ -5,3 +5,4 @@ pub mod Sizes
 pub mod Chains
 pub mod Sound
 pub mod Filters
+pub mod Folded

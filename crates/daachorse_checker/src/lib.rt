@@ -9,6 +9,7 @@ pub mod array;
 pub mod chains;
 pub mod checker;
 pub mod filters;
+pub mod folded;
 pub mod links;
 pub mod places;
 pub mod ranges;

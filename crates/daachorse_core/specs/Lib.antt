@@ -1,5 +1,6 @@
 pub mod ByteForms
 pub mod CharForms
+pub mod FoldedForms
 pub mod Histories
 pub mod Outputs
 pub mod Seen

@@ -107,8 +107,8 @@ impl EdgeLabel for char {
 
     ghost form = { encode_utf8 };
 
-    // It is `len_utf8`. ASCII is asked for first, and the longer ones by a sum of tests: the loops of
-    // the standard searches count places by it, and most characters of most texts are ASCII.
+    // It is `len_utf8`. The loops of the standard searches count places by it, so ASCII is asked for
+    // first, and the longer ones by a sum of tests.
     fn num_bytes(&self) -> usize {
         let code = *self as u32;
         if code < 0x80 {

@@ -12,9 +12,15 @@ use std::error::Error;
 use std::{fmt, result};
 
 /// A `Result` whose error is [`DaachorseError`] unless another is named.
+///
+/// `?` turns a failed allocation into [`DaachorseError::OutOfMemory`].
 pub type Result<T, E = DaachorseError> = result::Result<T, E>;
 
 /// The errors that the calls of daachorse return.
+///
+/// Each type of error has `Display` and `Error`, so that `?` also works with `anyhow` and with
+/// `thiserror`, as in `quick_start`. An error holds no memory. `daachorse_part_tests` compares
+/// every text that is printed.
 #[derive(Clone, Copy, Debug, PartialEq, Eq)]
 pub enum DaachorseError {
     /// A pattern is too long.
@@ -30,6 +36,8 @@ pub enum DaachorseError {
 }
 
 /// A limit that an automaton may not exceed.
+///
+/// [`AutomatonScaleError`] has it, and its text names it.
 #[derive(Clone, Copy, Debug, PartialEq, Eq)]
 pub enum Limit {
     /// 16,777,215 patterns that are kept, over bytes.
@@ -45,10 +53,14 @@ pub enum Limit {
 }
 
 /// A pattern has more than 4,294,967,295 bytes.
+///
+/// A build returns it for the first pattern, in the order of registration, that is too long.
 #[derive(Clone, Copy, Debug, PartialEq, Eq)]
 pub struct InvalidArgumentError;
 
 /// The automaton would pass a limit.
+///
+/// A build returns it for the first limit that its work would pass.
 #[derive(Clone, Copy, Debug, PartialEq, Eq)]
 pub struct AutomatonScaleError {
     /// The limit that would be passed.
@@ -56,18 +68,28 @@ pub struct AutomatonScaleError {
 }
 
 /// The index of a pattern has no value of the type asked for.
+///
+/// A build that numbers its patterns returns it before it adds the first. With 257 patterns and
+/// values of type `u8` the index 256 has none (`daachorse_tests` runs this).
 #[derive(Clone, Copy, Debug, PartialEq, Eq)]
 pub struct InvalidConversionError;
 
 /// The bytes are not those of an automaton.
+///
+/// A checked read, `deserialize`, returns it. `daachorse_tests` reads such bytes.
 #[derive(Clone, Copy, Debug, PartialEq, Eq)]
 pub struct InvalidAutomatonError;
 
 /// An allocation failed.
+///
+/// What a call had taken until then is freed again. `daachorse_tests` refuses each request of a
+/// build, a write and a read in turn.
 #[derive(Clone, Copy, Debug, PartialEq, Eq)]
 pub struct OutOfMemoryError;
 
 /// A pattern was registered twice. No call returns this error.
+///
+/// It stands here since the Rust crate has it: equal patterns are all kept.
 #[derive(Debug, Drop)]
 pub struct DuplicatePatternError<A: Allocator = Global> {
     /// The pattern.

@@ -11,6 +11,9 @@ use std::num::NonZeroU32;
 
 /// One output of a state: a value, the length of its pattern in bytes, and the position of the
 /// next output of the state, counted from 1.
+///
+/// It takes 8 bytes beside its value. An automaton keeps one for each pattern; it has them in a
+/// list, and a state tells where its first output stands.
 #[derive(Clone, Copy, Debug, PartialEq, Eq, Hash)]
 pub struct Output<V> {
     value: V,
@@ -56,6 +59,9 @@ impl<V: Copy> Output<V> {
 
     /// Returns the output as a match that ends at `end`, a place in bytes.
     ///
+    /// An output of length 2 and the end 3 give the match from 1 to 3 (`daachorse_part_tests` runs
+    /// this).
+    ///
     /// # Conditions
     ///
     /// `end` is at least the length of the pattern.
@@ -72,6 +78,8 @@ impl<V: Copy> Output<V> {
 }
 
 /// A value type of no size, for automata whose matches need no value. Every index converts to it.
+///
+/// An output then takes no byte for its value. `daachorse_tests` builds such an automaton.
 #[derive(Clone, Copy, Debug, Default, PartialEq, Eq, Hash)]
 pub struct Empty;
 

@@ -24,6 +24,9 @@ pub enum Look {
 }
 
 /// How many looks at a state a search took. It takes no bytes, and has no greatest value.
+///
+/// Contracts speak of it where they bound the work of a search: `count_each` of `daachorse_uses`
+/// counts by rule with at most two turns for each byte.
 #[derive(Drop)]
 pub struct Turns {
     count: Counter,

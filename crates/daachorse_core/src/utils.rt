@@ -8,6 +8,8 @@ pub trait FromU32 {
     ghost number: { Self → ℕ };
 
     /// Returns the value of this number.
+    ///
+    /// `usize::from_u32(u32::MAX)` is 4294967295 (`daachorse_part_tests` runs this).
     fn from_u32(src: u32) -> Self
         ensures { number result ≡ src };
 }

@@ -26,3 +26,4 @@ pub mod Cuts
 pub mod BestMatches
 pub mod StandardEnds
 pub mod TextOrder
+pub mod FoldLemmas

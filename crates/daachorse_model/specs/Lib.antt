@@ -9,6 +9,7 @@ pub mod Outputs
 pub mod Best
 pub mod Paths
 pub mod Filter
+pub mod Folding
 pub mod Program
 pub mod Slow
 pub mod Laws

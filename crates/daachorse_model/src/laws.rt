@@ -1,11 +1,17 @@
 //! What the lists of matches and of patterns promise: functions that do nothing, for their contracts.
 //! A haystack and a pattern are lists of units; `width` is `byte_width` or `char_width`, or any other.
+//!
+//! A caller who proves something calls a law where it is needed: behind the call its clauses are
+//! known of all patterns and all haystacks. A call does nothing and takes no memory.
+//! `daachorse_part_tests` calls laws at a type.
 
-ghost use Rattle.std.specs.Prelude.{◌≡◌, ℕ, List, [], All, Contains, encode_utf8_all, option_to_list};
+ghost use Rattle.std.specs.Prelude.{◌≡◌, ◌↔◌, ℕ, List, [], All, Contains, length, encode_utf8_all, option_to_list};
+ghost use Rattle.std.specs.Str.{IsCharBoundary, IsUtf8, chars};
 ghost use Rattle.std.specs.Cmp.Lexicographic.{slice_cmp};
 ghost use Rattle.std.specs.Ordering.{nat_cmp};
 ghost use Rattle.daachorse_model.specs.declared.Match.{Match};
-ghost use Rattle.daachorse_model.specs.Units.{byte_width, char_width};
+ghost use Rattle.daachorse_model.specs.Units.{byte_width, char_width, size};
+ghost use Rattle.daachorse_model.specs.Folding.{folded};
 ghost use Rattle.daachorse_model.specs.Dictionary.{kept, dictionary, in_bytes};
 ghost use Rattle.daachorse_model.specs.Matches.{overlapping, no_suffix, standard, at_each_end, standard_after};
 ghost use Rattle.daachorse_model.specs.Leftmost.{leftmost};
@@ -75,4 +81,15 @@ pub fn standard_end_by_end<V: Copy>(kind: MatchKind)
         at_each_end (λ t. option_to_list (standard_after byte_width K t)) [] h ≡ standard byte_width K h }
     ensures chars { (patterns : List (List ℕ × V)) (h : List ℕ) → let K = dictionary kind patterns in
         at_each_end (λ t. option_to_list (standard_after char_width K t)) [] h ≡ standard char_width K h }
+{}
+
+/// The texts without regard to the case of ASCII letters keep the sizes and the boundaries of texts, in bytes and in
+/// characters, and are their own.
+pub fn folding_keeps_places()
+    ensures again { (w : List ℕ) → folded (folded w) ≡ folded w }
+    ensures length { (w : List ℕ) → length (folded w) ≡ length w }
+    ensures size { (w : List ℕ) → size char_width (folded w) ≡ size char_width w }
+    ensures spelled { (w : List ℕ) → encode_utf8_all (folded w) ≡ folded (encode_utf8_all w) }
+    ensures characters { (bs : List ℕ) → IsUtf8 bs → chars (folded bs) ≡ folded (chars bs) }
+    ensures boundaries { (bs : List ℕ) (i : ℕ) → IsCharBoundary (folded bs) i ↔ IsCharBoundary bs i }
 {}

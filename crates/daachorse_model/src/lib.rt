@@ -9,6 +9,10 @@ ghost use Rattle.std.specs.Prelude.{◌≡◌};
 ghost use Rattle.daachorse_model.specs.Kinds.{is_standard, is_leftmost, is_leftmost_first, byte_of_kind, kind_of_byte};
 
 /// How matches are found.
+///
+/// An automaton is built for one kind. Of the patterns `ab`, `abcd` and `bc`, in this order, in the
+/// haystack `xabcd` the first match is `ab` for `Standard`, `abcd` for `LeftmostLongest`, and `ab`
+/// for `LeftmostFirst` (`daachorse_tests` runs this).
 #[derive(Clone, Copy, Debug, PartialEq, Eq, Hash)]
 pub enum MatchKind {
     /// Finds non-overlapping matches, each of which ends as early as possible; of those that end
@@ -73,6 +77,10 @@ impl From<MatchKind> for u8 {
 
 /// A match: the part of the haystack from `start` to `end` is a pattern that has `value`.
 /// Both places are byte offsets.
+///
+/// The parts can be read as fields and by calls. A match holds nothing of the haystack: it is two
+/// places and the value. Where `bc` has the value 2, its match in the haystack `abcd` has `start`
+/// 1, `end` 3 and `value` 2 (`quick_start` prints it).
 #[derive(Clone, Copy, Debug, PartialEq, Eq, Hash)]
 pub struct Match<V> {
     /// Where the match starts, in bytes.

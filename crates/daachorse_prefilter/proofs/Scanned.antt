@@ -122,17 +122,17 @@ found_none entries h m pos low inside none =
     by k l (inr fits) = none k l fits
 
 -- byte i is read, and the window that ends with it passes
-pub step_hit : (entries h : List ℕ) (m pos i before seen : ℕ) → 2 ≤ m → m ≤ 9 → pos + 1 ≤ i → i < length h → before ≡ get_or h (i - 1) 0 * 256 → AreBits entries h pos i seen → NonePasses entries h m pos i → bit_and (next_state entries seen (before + get_or h i 0)) (1 * 2 ^ (m - 2) % 2 ^ 8) ≡ 0 → (pos + m ≤ i + 1) × (i + 1 - m ≡ next_position (entry_in entries) m h pos)
-step_hit entries h m pos i before seen low high after inside is bits none zero_bit =
-    let next = next_state entries seen (before + get_or h i 0) in
-    let more = bits_more entries h pos i seen _ after inside (ap (λ b. b + get_or h i 0) is) bits in
+pub step_hit : (entries h : List ℕ) (m pos i before byte seen : ℕ) → 2 ≤ m → m ≤ 9 → pos + 1 ≤ i → i < length h → before ≡ get_or h (i - 1) 0 * 256 → byte ≡ get_or h i 0 → AreBits entries h pos i seen → NonePasses entries h m pos i → bit_and (next_state entries seen (before + byte)) (1 * 2 ^ (m - 2) % 2 ^ 8) ≡ 0 → (pos + m ≤ i + 1) × (i + 1 - m ≡ next_position (entry_in entries) m h pos)
+step_hit entries h m pos i before byte seen low high after inside is read bits none zero_bit =
+    let next = next_state entries seen (before + byte) in
+    let more = bits_more entries h pos i seen (before + byte) after inside (omega (arith, is, read)) bits in
     let clear : is_clear next (m - 2) ≡ true = sym (is_clear_test next (m - 2) (omega arith)) ∙ eq-eqb _ 0 zero_bit in
     found entries h m pos i next low high (omega arith) after more clear none
 
 -- byte i is read, and the window that ends with it doesn't pass
-pub step_miss : (entries h : List ℕ) (m pos i before seen : ℕ) → 2 ≤ m → m ≤ 9 → pos + 1 ≤ i → i < length h → before ≡ get_or h (i - 1) 0 * 256 → AreBits entries h pos i seen → NonePasses entries h m pos i → (bit_and (next_state entries seen (before + get_or h i 0)) (1 * 2 ^ (m - 2) % 2 ^ 8) ≡ 0 → ⊥) → AreBits entries h pos (i + 1) (next_state entries seen (before + get_or h i 0)) × NonePasses entries h m pos (i + 1)
-step_miss entries h m pos i before seen low high after inside is bits none set_bit =
-    let next = next_state entries seen (before + get_or h i 0) in
-    let more = bits_more entries h pos i seen _ after inside (ap (λ b. b + get_or h i 0) is) bits in
+pub step_miss : (entries h : List ℕ) (m pos i before byte seen : ℕ) → 2 ≤ m → m ≤ 9 → pos + 1 ≤ i → i < length h → before ≡ get_or h (i - 1) 0 * 256 → byte ≡ get_or h i 0 → AreBits entries h pos i seen → NonePasses entries h m pos i → (bit_and (next_state entries seen (before + byte)) (1 * 2 ^ (m - 2) % 2 ^ 8) ≡ 0 → ⊥) → AreBits entries h pos (i + 1) (next_state entries seen (before + byte)) × NonePasses entries h m pos (i + 1)
+step_miss entries h m pos i before byte seen low high after inside is read bits none set_bit =
+    let next = next_state entries seen (before + byte) in
+    let more = bits_more entries h pos i seen (before + byte) after inside (omega (arith, is, read)) bits in
     let unclear : is_clear next (m - 2) ≡ false = sym (is_clear_test next (m - 2) (omega arith)) ∙ ne_eqb _ 0 set_bit in
     (more, none_more entries h m pos i next low high (omega arith) more unclear none)

@@ -5,3 +5,4 @@ pub mod Gates
 pub mod FilterForms
 pub mod Windows
 pub mod Equality
+pub mod Readings

@@ -6,22 +6,25 @@
 //! its patterns, on [`Prefilter::next_position`] being the first place that passes, and on a gate
 //! that closes by what was recorded alone.
 
-ghost use Rattle.std.specs.Prelude.{◌≡◌, ◌++◌, ℕ, ◌<◌, ◌≤◌, List, length, drop, true, IfOk, IfErr, slice_index};
+ghost use Rattle.std.specs.Prelude.{◌≡◌, ◌++◌, ℕ, ◌<◌, ◌≤◌, List, length, map, drop, true, IfOk, IfErr, slice_index};
 ghost use Rattle.std.specs.Cmp.Rules.{comparing, hashing};
 ghost use Rattle.std.proofs.Common.{rules};
 ghost use Rattle.daachorse_core.specs.Refusals.{IsOutOfMemory};
 ghost use Rattle.daachorse_model.specs.Filter.{next_position};
+ghost use Rattle.daachorse_model.specs.Folding.{folded};
 ghost use Rattle.daachorse_prefilter.specs.Equality.{filter_eq, filter_input};
 ghost use Rattle.daachorse_prefilter.specs.Filters.{Filter, IsFilter, IsNextBoundary, admits, next_place};
 
 mod builder;
 mod form;
 mod gate;
+mod reading;
 mod window;
 
 pub use builder::PrefilterBuilder;
 use daachorse_core::errors::Result;
 pub use gate::PrefilterGate;
+use reading::{AsItIs, Folded, Reading};
 use std::alloc::{Allocator, Global};
 use std::hash::{Hash, Hasher};
 use std::marker::Model;
@@ -35,6 +38,9 @@ const MIN_WINDOW_LEN: u8 = 2;
 const MAX_WINDOW_LEN: u8 = 9;
 
 /// A filter of the places at which some pattern may begin.
+///
+/// It takes 65,536 bytes: a byte for each pair of bytes. It is made by [`PrefilterBuilder`].
+/// `daachorse_part_tests` makes filters and compares where they pass.
 #[derive(Drop)]
 pub struct Prefilter<A: Allocator = Global> {
     window_len: u8,
@@ -60,24 +66,69 @@ impl<A: Allocator> Prefilter<A> {
 
     /// The first place from `pos` on at which the filter passes, or the haystack's length. So no
     /// pattern of the filter begins between the two.
+    ///
+    /// It takes no memory. Of the patterns `aria` and `iris`, in the haystack `xxxariaxxx`, the
+    /// first place from 0 on is 3, and from 5 on 10, the end (`daachorse_part_tests` runs this).
     #[inline(always)]
     pub fn next_position(&self, haystack: &[u8], pos: usize) -> usize
         ensures first { result ≡ next_place self.now haystack.now pos }
         ensures skips_none { (pattern rest : List ℕ) (place : ℕ) → admits self.now pattern ≡ true
             → pos ≤ place → drop place haystack.now ≡ pattern ++ rest → result ≤ place }
     {
-        scan(self.table.as_slice(), self.window_len, haystack, pos)
+        self.first_place::<AsItIs>(haystack, pos)
+    }
+
+    /// What [`Self::next_position`] is of the haystack without regard to the case of ASCII letters: of
+    /// the haystack with a to z for A to Z.
+    ///
+    /// `daachorse_part_tests` runs it.
+    #[inline(always)]
+    pub fn next_position_folded(&self, haystack: &[u8], pos: usize) -> usize
+        ensures first { result ≡ next_place self.now (folded haystack.now) pos }
+        ensures skips_none { (pattern rest : List ℕ) (place : ℕ) → admits self.now pattern ≡ true
+            → pos ≤ place → drop place (folded haystack.now) ≡ pattern ++ rest → result ≤ place }
+    {
+        self.first_place::<Folded>(haystack, pos)
     }
 
     /// The first boundary of the text's characters from `pos` on at which the filter passes, or
     /// the text's length.
+    ///
+    /// It takes no memory. `daachorse_part_tests` compares such places in Japanese text.
     #[inline(always)]
     pub fn next_position_at_char_boundary(&self, haystack: &str, pos: usize) -> usize
         ensures { IsNextBoundary self.now haystack.now pos result }
     {
+        self.first_boundary::<AsItIs>(haystack, pos)
+    }
+
+    /// What [`Self::next_position_at_char_boundary`] is of the text without regard to the case of ASCII
+    /// letters: of the text with a to z for A to Z.
+    ///
+    /// `daachorse_part_tests` runs it.
+    #[inline(always)]
+    pub fn next_position_folded_at_char_boundary(&self, haystack: &str, pos: usize) -> usize
+        ensures { IsNextBoundary self.now (folded haystack.now) pos result }
+    {
+        self.first_boundary::<Folded>(haystack, pos)
+    }
+
+    /// The first place from `pos` on at which the filter passes in what is read of the haystack.
+    #[inline(always)]
+    fn first_place<R: Reading>(&self, haystack: &[u8], pos: usize) -> usize
+        ensures { result ≡ next_place self.now (map R.as_read haystack.now) pos }
+    {
+        scan::<R>(self.table.as_slice(), self.window_len, haystack, pos)
+    }
+
+    /// The first boundary from `pos` on at which the filter passes in what is read of the text.
+    #[inline(always)]
+    fn first_boundary<R: Reading>(&self, haystack: &str, pos: usize) -> usize
+        ensures { IsNextBoundary self.now (map R.as_read haystack.now) pos result }
+    {
         let mut from = pos;
         'places: loop {
-            let place = self.next_position(haystack.as_bytes(), from);
+            let place = self.first_place::<R>(haystack.as_bytes(), from);
             if haystack.is_char_boundary(place) {
                 return place;
             }
@@ -88,6 +139,12 @@ impl<A: Allocator> Prefilter<A> {
 
 impl<A: Allocator + Copy> Prefilter<A> {
     /// A filter with the same window and the same table.
+    ///
+    /// It takes 65,536 bytes.
+    ///
+    /// # Errors
+    ///
+    /// An allocation failed.
     pub fn clone(&self) -> Result<Self>
         ensures same { IfOk result (λ filter. filter ≡ self.now) }
         ensures refused { IfErr result IsOutOfMemory }
@@ -100,6 +157,10 @@ impl<A: Allocator + Copy> Prefilter<A> {
 }
 
 /// The same filter, if there is one.
+///
+/// # Errors
+///
+/// An allocation failed.
 pub fn clone_filter<A: Allocator + Copy>(
     filter: &Option<Prefilter<A>>,
 ) -> Result<Option<Prefilter<A>>>
@@ -137,24 +198,24 @@ impl<A: Allocator> Hash for Prefilter<A> {
     }
 }
 
-/// The first place from `pos` on at which a window passes, or the haystack's length.
+/// The first place from `pos` on at which a window of what is read passes, or the haystack's length.
 #[inline(always)]
-fn scan(table: &[u8], window_len: u8, haystack: &[u8], pos: usize) -> usize
+fn scan<R: Reading>(table: &[u8], window_len: u8, haystack: &[u8], pos: usize) -> usize
     requires sized { length table.now ≡ 65536 }
     requires low { 2 ≤ window_len }
     requires high { window_len ≤ 9 }
-    ensures { result ≡ next_position (λ pair. slice_index table.now pair) window_len haystack.now pos }
+    ensures { result ≡ next_position (λ pair. slice_index table.now pair) window_len (map R.as_read haystack.now) pos }
 {
     let Some(first) = haystack.get(pos) else {
         return haystack.len();
     };
     let last_pair = 1u8 << (window_len - 2);
     // The byte before, as the higher byte of the pair that the next one ends.
-    let mut before = *first as usize * 256;
+    let mut before = R::read(*first) as usize * 256;
     // Bit j is 0 where the last j + 1 pairs are those that a window begins with.
     let mut seen = u8::MAX;
     for i in pos + 1..haystack.len() {
-        let byte = haystack[i] as usize;
+        let byte = R::read(haystack[i]) as usize;
         seen = (seen << 1) | table[before + byte];
         if seen & last_pair == 0 {
             return i + 1 - window_len as usize;

@@ -14,6 +14,9 @@ use daachorse_core::errors::Result;
 use std::alloc::{Allocator, Global};
 
 /// A builder of [`Prefilter`]. It keeps no pattern.
+///
+/// It keeps the table of the filter, 65,536 bytes. `daachorse_part_tests` builds filters, and finds
+/// where there is none.
 #[derive(Drop)]
 pub struct PrefilterBuilder<A: Allocator = Global> {
     // The length of the shortest pattern, at most 9.
@@ -30,7 +33,11 @@ pub struct PrefilterBuilder<A: Allocator = Global> {
 impl<A: Allocator> PrefilterBuilder<A> {
     ghost use Rattle.daachorse_prefilter.specs.Builders.{HasAdded};
 
-    /// A builder with no pattern, which takes the memory of the filter's table.
+    /// A builder with no pattern, which takes the memory of the filter's table: 65,536 bytes.
+    ///
+    /// # Errors
+    ///
+    /// An allocation failed.
     pub fn new(alloc: A) -> Result<Self>
         ensures added { IfOk result (λ b. HasAdded b []) }
         ensures refused { IfErr result IsOutOfMemory }

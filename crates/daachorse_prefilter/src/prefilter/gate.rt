@@ -13,6 +13,9 @@ const NUM_RUNS: u32 = 64;
 const MIN_SKIPPED: usize = 512;
 
 /// A gate before a filter, which closes for good where runs of the filter skip too little.
+///
+/// A search has one of its own, so that a filter that does not pay costs one search little.
+/// `daachorse_part_tests` closes a gate, and keeps one open.
 #[derive(Clone, Drop)]
 pub struct PrefilterGate {
     // The runs since the last whole group, and the bytes that they skipped.

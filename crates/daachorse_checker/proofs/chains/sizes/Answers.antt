@@ -1,5 +1,7 @@
 use Rattle.std.proofs.Common.{rules, ◌≡◌, ℕ, ◌+◌, ◌*◌, ◌<◌, ◌≤◌, List, [], ◌∷◌, ◌++◌, length, sym, ap, ◌∙◌, subst, arith, get_or}
 use Rattle.std.proofs.lemmas.List.{get_or_read, length_push}
+use Rattle.std.proofs.lemmas.Result.{IfOk-from_err}
+use Rattle.std.proofs.lemmas.Grind.{elements}
 use Rattle.daachorse_listing.specs.Listing.{unit_of}
 use Rattle.daachorse_checker.specs.Sizes.{AreSizes}
 use Rattle.daachorse_checker.proofs.PlaceLaws.{few}
@@ -65,3 +67,12 @@ loop-place-preserved g c =
       short = subst (λ (xs : List ℕ). (k : ℕ) → k < length xs → get_or xs k 0 ≤ 4 * k) (sym items) (short_push sizes m s inv.each inv.short fits);
       are = subst (λ (xs : List ℕ). AreSizes (g.E.Edges.child a) (g.E.Array.width a) p.order.items xs) (sym items) are;
     }
+
+pub returns-in_err-sizes-clause-ok : goal.returns-in_err-sizes-clause-ok
+returns-in_err-sizes-clause-ok g c = IfOk-from_err c.from_residual.result _ c.from_residual.ensures.0
+
+pub returns-in_err-sizes-clause-each : goal.returns-in_err-sizes-clause-each
+returns-in_err-sizes-clause-each g c = IfOk-from_err c.from_residual.result _ c.from_residual.ensures.0
+
+pub width-requires : goal.width-requires
+width-requires g c = grind (arith, elements)

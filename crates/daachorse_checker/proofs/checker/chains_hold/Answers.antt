@@ -1,6 +1,7 @@
 use Rattle.std.proofs.Common.{◌≡◌, ◌<◌, false, length, refl, subst, inl, inr, arith, get_or}
 use Rattle.std.proofs.lemmas.List.{get_or_read}
 use Rattle.std.proofs.lemmas.Bool.{cases_lt}
+use Rattle.std.proofs.lemmas.Grind.{elements, common_steps}
 use Rattle.daachorse_checker.specs.Chains.{IsChained, machine_of}
 use Rattle.daachorse_checker.proofs.checker.chains_hold.Goals as goal
 
@@ -22,3 +23,9 @@ loop-place-preserved g c =
         | inr b ↦ subst (λ q. IsChained a (get_or c.args.leaves.now q false) (get_or c.args.sizes.now q 0) (get_or order q 0)) (let same : m ≡ k = omega (arith, b, less) in same) here
       ];
     }
+
+pub chain_holds-requires-clause-element : goal.chain_holds-requires-clause-element
+chain_holds-requires-clause-element g c = grind (arith, elements)
+
+pub returns-then-not-chain_holds-clause-no : goal.returns-then-not-chain_holds-clause-no
+returns-then-not-chain_holds-clause-no g c = grind (arith, common_steps)

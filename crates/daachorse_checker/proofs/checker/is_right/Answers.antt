@@ -1,4 +1,5 @@
 use Rattle.std.proofs.Common.{◌≡◌, ℕ, ◌<◌, Bool, List, length, sym, ◌∙◌, subst, refl, arith, get_or}
+use Rattle.std.proofs.lemmas.Result.{IfOk-from_err}
 use Rattle.daachorse_machine.specs.Machines.{IsCounted}
 use Rattle.daachorse_checker.specs.Chains.{AreChained, AreLeavesOf, machine_of}
 use Rattle.daachorse_checker.specs.Runs.{AreRuns}
@@ -56,3 +57,9 @@ returns-clause-yes g c e =
       right_from (g.E.Array.width arr) a (g.E.Edges.group arr) (g.E.Edges.edge arr) (g.E.Edges.count arr) c.requires.tell p.order.items p.parents.items p.labels.items p.marks.items both.1 both.0 sizes c.in_ok-sizes.ensures.ok c.in_ok-sizes.ensures.each leaves leafy c.args.leftmost chained (c.in_ok-right.ensures.yes e),
       subst (λ k. IsCounted a k) len (counted_places (g.E.Array.width arr) a (g.E.Edges.group arr) (g.E.Edges.edge arr) (g.E.Edges.count arr) c.requires.tell p.order.items p.parents.items p.labels.items p.marks.items both.1 both.0),
     )
+
+pub returns-in_err-places-clause-yes : goal.returns-in_err-places-clause-yes
+returns-in_err-places-clause-yes g c = IfOk-from_err c.from_residual.result _ c.from_residual.ensures.0
+
+pub returns-in_err-places-clause-no : goal.returns-in_err-places-clause-no
+returns-in_err-places-clause-no g c = IfOk-from_err c.from_residual.result _ c.from_residual.ensures.0

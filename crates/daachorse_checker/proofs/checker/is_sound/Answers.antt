@@ -1,4 +1,5 @@
 use Rattle.std.proofs.Common.{refl}
+use Rattle.std.proofs.lemmas.Result.{IfOk-from_err}
 use Rattle.daachorse_checker.proofs.checker.is_sound.Goals as goal
 
 pub returns-clause-yes : goal.returns-clause-yes
@@ -9,3 +10,9 @@ returns-clause-yes g c e =
 
 pub returns-clause-no : goal.returns-clause-no
 returns-clause-no g c e sound = c.in_ok-right.ensures.no e sound.right sound.counted
+
+pub returns-in_err-right-clause-yes : goal.returns-in_err-right-clause-yes
+returns-in_err-right-clause-yes g c = IfOk-from_err c.from_residual.result _ c.from_residual.ensures.0
+
+pub returns-in_err-right-clause-no : goal.returns-in_err-right-clause-no
+returns-in_err-right-clause-no g c = IfOk-from_err c.from_residual.result _ c.from_residual.ensures.0

@@ -1,6 +1,8 @@
 -- One place more that stops or does not.
 use Rattle.std.proofs.Common.{◌≡◌, ◌+◌, ◌<◌, Bool, List, [], ◌∷◌, ◌++◌, true, false, cond, length, sym, ap, ◌∙◌, subst, arith, get_or}
 use Rattle.std.proofs.lemmas.List.{get_or_read, length_push}
+use Rattle.std.proofs.lemmas.Result.{IfOk-from_err}
+use Rattle.std.proofs.lemmas.Grind.{elements}
 use Rattle.daachorse_machine.specs.Machines.{own_from}
 use Rattle.daachorse_checker.specs.Chains.{AreStopsAt, machine_of}
 use Rattle.daachorse_checker.specs.Runs.{has_values}
@@ -35,3 +37,15 @@ loop-place-preserved g c =
       are = subst (λ (xs : List Bool). AreStopsAt a c.args.leftmost order sizes xs) (sym items)
           (stops_push a c.args.leftmost order sizes stops m stop c.loop-place.invariant.each c.loop-place.invariant.are is);
     }
+
+pub returns-in_err-stops-clause-ok : goal.returns-in_err-stops-clause-ok
+returns-in_err-stops-clause-ok g c = IfOk-from_err c.from_residual.result _ c.from_residual.ensures.0
+
+pub returns-in_err-stops-clause-each : goal.returns-in_err-stops-clause-each
+returns-in_err-stops-clause-each g c = IfOk-from_err c.from_residual.result _ c.from_residual.ensures.0
+
+pub first-first-requires : goal.first-first-requires
+first-first-requires g c = grind (arith, elements)
+
+pub has_own-own-requires : goal.has_own-own-requires
+has_own-own-requires g c = grind (arith, elements)

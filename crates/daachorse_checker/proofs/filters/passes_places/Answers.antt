@@ -2,6 +2,8 @@
 use Rattle.std.proofs.Common.{◌≡◌, ℕ, ◌+◌, ◌<◌, List, [], ◌∷◌, ◌++◌, length, Some, refl, sym, ap, ◌∙◌, subst, arith, rules, get_or}
 use Rattle.std.specs.Prelude.{flat_map}
 use Rattle.std.proofs.lemmas.List.{get_or_read, length_push}
+use Rattle.std.proofs.lemmas.Result.{IfOk-from_err}
+use Rattle.std.proofs.lemmas.Grind.{elements}
 use Rattle.daachorse_listing.specs.Listing.{unit_of}
 use Rattle.daachorse_prefilter.specs.Windows.{HasRead}
 use Rattle.daachorse_prefilter.specs.declared.prefilter.window.Window.{Window}
@@ -115,3 +117,12 @@ returns-clause-yes g c e =
     let are = c.requires.places in let bytes = g.E.Spelled.bytes in let is_key = g.E.Spelled.is_key a in
     let whole : length order ≡ c.loop-place.place = omega (arith, c.loop-place-test.false, c.len.ensures, c.loop-place.invariant.within) in
     passes_whole child edge n order parents labels marks are c.requires.tree bytes f is_key (g.E.Edges.group a) c.requires.tell c.loop-place.place whole c.loop-place.invariant.passes
+
+pub returns-in_err-windows-clause-yes : goal.returns-in_err-windows-clause-yes
+returns-in_err-windows-clause-yes g c = IfOk-from_err c.from_residual.result _ c.from_residual.ensures.0
+
+pub returns-in_err-windows-clause-no : goal.returns-in_err-windows-clause-no
+returns-in_err-windows-clause-no g c = IfOk-from_err c.from_residual.result _ c.from_residual.ensures.0
+
+pub read-window-requires : goal.read-window-requires
+read-window-requires g c = grind (arith, elements)

@@ -1,5 +1,7 @@
 use Rattle.std.proofs.Common.{rules, ◌≡◌, ◌+◌, ◌++◌, ◌∷◌, [], length, sym, ap, ◌∙◌, subst, arith}
 use Rattle.std.proofs.lemmas.List.{length_push}
+use Rattle.std.proofs.lemmas.Result.{IfOk-from_err}
+use Rattle.std.proofs.lemmas.Grind.{common_steps}
 use Rattle.daachorse_core.specs.Outputs.{length_of, parent_of}
 use Rattle.daachorse_machine.specs.Machines.{own_from}
 use Rattle.daachorse_checker.specs.Runs.{AreRuns}
@@ -22,3 +24,12 @@ loop-number-preserved g c =
       each = ap length items ∙ length_push old run ∙ ap (λ n. n + 1) c.loop-number.invariant.each;
       runs = subst (AreRuns outputs) (sym items) (runs_push outputs old run c.loop-number.number o c.loop-number.invariant.runs c.requires.fall c.loop-number.invariant.each c.output_at-output.ensures e);
     }
+
+pub returns-in_err-runs-clause-ok : goal.returns-in_err-runs-clause-ok
+returns-in_err-runs-clause-ok g c = IfOk-from_err c.from_residual.result _ c.from_residual.ensures.0
+
+pub returns-in_err-runs-clause-each : goal.returns-in_err-runs-clause-each
+returns-in_err-runs-clause-each g c = IfOk-from_err c.from_residual.result _ c.from_residual.ensures.0
+
+pub rest_at-run-requires-clause-runs : goal.rest_at-run-requires-clause-runs
+rest_at-run-requires-clause-runs g c = grind (arith, common_steps)

@@ -1,53 +1,70 @@
 -- Each byte that is read moves the state by one step of the lemmas.
-use Rattle.std.proofs.Common.{◌≡◌, ◌+◌, ◌-◌, ◌≤◌, length, refl, rules, arith}
+use Rattle.std.proofs.Common.{◌≡◌, ℕ, ◌+◌, ◌-◌, ◌<◌, ◌≤◌, List, map, length, get_or, refl, sym, ap, ◌∙◌, rules, arith}
+use Rattle.std.proofs.lemmas.List.{length-map, get_or-map}
 use Rattle.daachorse_prefilter.proofs.Scanned.{entry_in, bits_start, none_start, step_hit, step_miss, found_none}
 use Rattle.daachorse_prefilter.proofs.NextPlaces.{next_position_past}
 use Rattle.daachorse_prefilter.proofs.prefilter.scan.Goals as goal
 
+-- a byte that is read is that of what is read at its place
+read_at : (as_read : ℕ → ℕ) (h : List ℕ) (i byte : ℕ) → i < length h → byte ≡ as_read (get_or h i 0) → byte ≡ get_or (map as_read h) i 0
+read_at as_read h i byte inside is = is ∙ sym (get_or-map as_read h i 0 0 inside)
+
 pub loop-i-init : goal.loop-i-init
-loop-i-init c =
-    let h = c.args.haystack.now in
+loop-i-init g c =
+    let h = c.args.haystack.now in let as_read = g.R.Reading.as_read in
+    let inside : c.args.pos < length h = search rules in
+    let first : c.in-Some.first.now ≡ get_or h c.args.pos 0 = search rules in
     let back : c.args.pos + 1 - 1 ≡ c.args.pos = omega arith in
+    let read : c.read.result ≡ get_or (map as_read h) c.args.pos 0 = read_at as_read h c.args.pos c.read.result inside (c.read.ensures ∙ ap as_read first) in
     record {
-      inside = search rules;
+      inside = inside;
       high = omega arith;
-      previous = rw back (search rules);
-      bits = bits_start c.args.table.now h c.args.pos;
-      none = none_start c.args.table.now h c.args.window_len c.args.pos c.requires.low;
+      previous = rw (back, read) refl;
+      bits = bits_start c.args.table.now (map as_read h) c.args.pos;
+      none = none_start c.args.table.now (map as_read h) c.args.window_len c.args.pos c.requires.low;
     }
 
 pub overflow_sub-result : goal.overflow_sub-result
-overflow_sub-result c =
-    let l = c.loop-i in
-    let hit = step_hit c.args.table.now c.args.haystack.now c.args.window_len c.args.pos l.i l.before l.seen c.requires.low c.requires.high (omega arith) (omega arith) l.invariant.previous l.invariant.bits l.invariant.none c.if-seen-last_pair-eq0.true in
+overflow_sub-result g c =
+    let l = c.loop-i in let h = c.args.haystack.now in let as_read = g.R.Reading.as_read in
+    let size : length (map as_read h) ≡ length h = length-map h as_read in
+    let read = read_at as_read h l.i c.read-byte.result c.loop-i-test.true c.read-byte.ensures in
+    let hit = step_hit c.args.table.now (map as_read h) c.args.window_len c.args.pos l.i l.before c.read-byte.result l.seen c.requires.low c.requires.high (omega arith) (omega arith) l.invariant.previous read l.invariant.bits l.invariant.none c.if-seen-last_pair-eq0.true in
     omega (arith, hit.0)
 
 pub returns-in_default : goal.returns-in_default
-returns-in_default c =
-    let past : length c.args.haystack.now ≤ c.args.pos = search rules in
-    next_position_past (entry_in c.args.table.now) c.args.window_len c.args.haystack.now c.args.pos past
+returns-in_default g c =
+    let h = c.args.haystack.now in let as_read = g.R.Reading.as_read in
+    let past : length h ≤ c.args.pos = search rules in
+    let size : length (map as_read h) ≡ length h = length-map h as_read in
+    sym size ∙ next_position_past (entry_in c.args.table.now) c.args.window_len (map as_read h) c.args.pos (omega arith)
 
 pub returns-then-seen-last_pair-eq0 : goal.returns-then-seen-last_pair-eq0
-returns-then-seen-last_pair-eq0 c =
-    let l = c.loop-i in
-    (step_hit c.args.table.now c.args.haystack.now c.args.window_len c.args.pos l.i l.before l.seen c.requires.low c.requires.high (omega arith) (omega arith) l.invariant.previous l.invariant.bits l.invariant.none c.if-seen-last_pair-eq0.true).1
+returns-then-seen-last_pair-eq0 g c =
+    let l = c.loop-i in let h = c.args.haystack.now in let as_read = g.R.Reading.as_read in
+    let size : length (map as_read h) ≡ length h = length-map h as_read in
+    let read = read_at as_read h l.i c.read-byte.result c.loop-i-test.true c.read-byte.ensures in
+    (step_hit c.args.table.now (map as_read h) c.args.window_len c.args.pos l.i l.before c.read-byte.result l.seen c.requires.low c.requires.high (omega arith) (omega arith) l.invariant.previous read l.invariant.bits l.invariant.none c.if-seen-last_pair-eq0.true).1
 
 pub loop-i-preserved : goal.loop-i-preserved
-loop-i-preserved c =
-    let l = c.loop-i in
+loop-i-preserved g c =
+    let l = c.loop-i in let h = c.args.haystack.now in let as_read = g.R.Reading.as_read in
+    let size : length (map as_read h) ≡ length h = length-map h as_read in
+    let read = read_at as_read h l.i c.read-byte.result c.loop-i-test.true c.read-byte.ensures in
     let back : l.i + 1 - 1 ≡ l.i = omega arith in
-    let more = step_miss c.args.table.now c.args.haystack.now c.args.window_len c.args.pos l.i l.before l.seen c.requires.low c.requires.high (omega arith) (omega arith) l.invariant.previous l.invariant.bits l.invariant.none c.if-seen-last_pair-eq0.false in
+    let more = step_miss c.args.table.now (map as_read h) c.args.window_len c.args.pos l.i l.before c.read-byte.result l.seen c.requires.low c.requires.high (omega arith) (omega arith) l.invariant.previous read l.invariant.bits l.invariant.none c.if-seen-last_pair-eq0.false in
     record {
       inside = l.invariant.inside;
-      high = omega arith;
-      previous = rw back refl;
+      high = omega (arith, c.read-byte.type_inv);
+      previous = rw (back, read) refl;
       bits = more.0;
       none = more.1;
     }
 
 pub returns : goal.returns
-returns c =
-    let h = c.args.haystack.now in
+returns g c =
+    let h = c.args.haystack.now in let as_read = g.R.Reading.as_read in
     let low = c.loop-i.invariant.inside in
     let end : c.loop-i.i ≡ length h = omega arith in
-    found_none c.args.table.now h c.args.window_len c.args.pos c.requires.low (omega arith) (rw end at c.loop-i.invariant.none)
+    let size : length h ≡ length (map as_read h) = sym (length-map h as_read) in
+    size ∙ found_none c.args.table.now (map as_read h) c.args.window_len c.args.pos c.requires.low (omega arith) (rw (end ∙ size) at c.loop-i.invariant.none)

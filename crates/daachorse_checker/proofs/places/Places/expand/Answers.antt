@@ -1,5 +1,7 @@
 use Rattle.std.proofs.Common.{rules, ◌≡◌, ℕ, ◌<◌, ◌++◌, ◌∷◌, [], List, length, sym, ap, ◌∙◌, subst, arith, get_or}
 use Rattle.std.proofs.lemmas.List.{get_or_read}
+use Rattle.std.proofs.lemmas.Grind.{elements}
+use Rattle.std.proofs.lemmas.Result.{IfOk-from_err}
 use Rattle.daachorse_checker.proofs.PlaceLaws.{old_at}
 use Rattle.daachorse_checker.proofs.ExpandLaws.{IsLeft, expand_none, next_in, expand_next, expand_done, refuse_low, refuse_marked, few_places}
 use Rattle.daachorse_checker.proofs.places.Places.expand.Goals as goal
@@ -105,3 +107,27 @@ returns-clause-yes g c e =
     let left : IsLeft (g.E.Edges.child a) (g.E.Edges.edge a) (g.E.Edges.count a) [] t.order.items t.parents.items t.labels.items t.marks.items c.in-Some.group c.args.place =
     subst (λ xs. IsLeft (g.E.Edges.child a) (g.E.Edges.edge a) (g.E.Edges.count a) xs t.order.items t.parents.items t.labels.items t.marks.items c.in-Some.group c.args.place) c.in-None.ensures.steps.0 inv.left in
     expand_done (g.E.Edges.child a) (g.E.Edges.group a) (g.E.Edges.edge a) (g.E.Edges.count a) c.requires.tell (λ i u j h. (c.requires.inside i u j h).0) t.order.items t.parents.items t.labels.items t.marks.items c.in-Some.group c.args.place inv.group_of left
+
+pub group-requires : goal.group-requires
+group-requires g c = grind (arith, elements)
+
+pub members-member-items-requires : goal.members-member-items-requires
+members-member-items-requires g c = grind (arith, elements)
+
+pub returns-in_err-push-clause-yes : goal.returns-in_err-push-clause-yes
+returns-in_err-push-clause-yes g c = IfOk-from_err c.from_residual.result _ c.from_residual.ensures.0
+
+pub returns-in_err-push-clause-no : goal.returns-in_err-push-clause-no
+returns-in_err-push-clause-no g c = IfOk-from_err c.from_residual.result _ c.from_residual.ensures.0
+
+pub returns-in_err-push-2-clause-yes : goal.returns-in_err-push-2-clause-yes
+returns-in_err-push-2-clause-yes g c = IfOk-from_err c.from_residual-in_err-push-2.result _ c.from_residual-in_err-push-2.ensures.0
+
+pub returns-in_err-push-2-clause-no : goal.returns-in_err-push-2-clause-no
+returns-in_err-push-2-clause-no g c = IfOk-from_err c.from_residual-in_err-push-2.result _ c.from_residual-in_err-push-2.ensures.0
+
+pub returns-in_err-push-3-clause-yes : goal.returns-in_err-push-3-clause-yes
+returns-in_err-push-3-clause-yes g c = IfOk-from_err c.from_residual-in_err-push-3.result _ c.from_residual-in_err-push-3.ensures.0
+
+pub returns-in_err-push-3-clause-no : goal.returns-in_err-push-3-clause-no
+returns-in_err-push-3-clause-no g c = IfOk-from_err c.from_residual-in_err-push-3.result _ c.from_residual-in_err-push-3.ensures.0

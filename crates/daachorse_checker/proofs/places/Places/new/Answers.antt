@@ -1,4 +1,6 @@
 use Rattle.std.proofs.Common.{◌≡◌, length, subst, arith}
+use Rattle.std.proofs.lemmas.Result.{IfOk-from_err}
+use Rattle.std.proofs.lemmas.Grind.{common_steps}
 use Rattle.daachorse_listing.specs.Listing.{unit_of}
 use Rattle.daachorse_checker.specs.Places.{IsWalk}
 use Rattle.daachorse_checker.proofs.ExpandLaws.{few_places, all_placed}
@@ -31,3 +33,12 @@ returns-clause-yes g c =
       all_placed (g.E.Edges.child a) (g.E.Edges.group a) (g.E.Edges.edge a) (g.E.Edges.count a) c.requires.tell (λ i u j h. (c.requires.inside i u j h).0) t.order.items t.parents.items t.labels.items t.marks.items all,
       record { places = all.places; closed = all.closed; marks_each = all.marks_each },
     )
+
+pub returns-in_err-groups-clause-yes : goal.returns-in_err-groups-clause-yes
+returns-in_err-groups-clause-yes g c = IfOk-from_err c.from_residual.result _ c.from_residual.ensures.0
+
+pub returns-in_err-groups-clause-no : goal.returns-in_err-groups-clause-no
+returns-in_err-groups-clause-no g c = IfOk-from_err c.from_residual.result _ c.from_residual.ensures.0
+
+pub loop-next-init : goal.loop-next-init
+loop-next-init g c = grind (arith, common_steps)

@@ -1,0 +1,33 @@
+-- A label is folded where it is below A or above Z.
+use Rattle.std.proofs.Common.{◌≡◌, ℕ, ◌<◌, ◌≤◌, ◌⊎◌, get_or, subst, inl, inr, arith}
+use Rattle.std.proofs.lemmas.Bool.{cases_lt}
+use Rattle.daachorse_model.specs.Folding.{folded_unit}
+use Rattle.daachorse_model.proofs.FoldLemmas.{folded_unit-is}
+use Rattle.daachorse_checker.proofs.folded.are_folded.Goals as goal
+use Rattle.daachorse_checker.proofs.folded.are_folded.Goals.{else-label-from-via-then-label-from+else-label-from-2, else-label-from-via-else-label-from}
+
+outside : (u : ℕ) → (u < 65) ⊎ (90 < u) → folded_unit u ≡ u
+outside u (inl low) = (folded_unit-is u).1 low
+outside u (inr high) = (folded_unit-is u).2 high
+
+pub returns-then-label-from-2-clause-no : goal.returns-then-label-from-2-clause-no
+returns-then-label-from-2-clause-no c _ =
+    let m = c.loop-place.place in let label = get_or c.args.labels.now m 0 in
+    let low : 65 ≤ label = omega (arith, c.if-label-from.true, c.from.ensures) in
+    let high : label ≤ 90 = omega (arith, c.if-label-from-2.true, c.from-then-label-from.ensures) in
+    (m, omega (arith, c.loop-place.invariant.low), c.loop-place-test.true, λ same. omega (arith, same, (folded_unit-is label).0 (low, high)))
+
+pub loop-place-preserved : goal.loop-place-preserved
+loop-place-preserved c =
+    let at = c.loop-place.place in let labels = c.args.labels.now in
+    let here : folded_unit (get_or labels at 0) ≡ get_or labels at 0 = outside (get_or labels at 0) (elim c.else-label-from.branch [
+      | else-label-from-via-then-label-from+else-label-from-2 w ↦ inr (omega (arith, w.if-label-from-2.false, w.from-then-label-from.ensures))
+      | else-label-from-via-else-label-from w ↦ inl (omega (arith, w.if-label-from.false, c.from.ensures))
+    ]) in
+    record {
+      low = omega arith;
+      each = λ m pos less. elim (cases_lt m at) [
+        | inl before ↦ c.loop-place.invariant.each m pos before
+        | inr last ↦ (let P : ℕ → Type 0 = λ k. folded_unit (get_or labels k 0) ≡ get_or labels k 0 in let same : at ≡ m = omega arith in subst P same here)
+      ];
+    }

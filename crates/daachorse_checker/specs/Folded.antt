@@ -1,0 +1,12 @@
+-- Arrays whose texts are folded.
+use Rattle.std.specs.Prelude.{◌≡◌, ◌≢◌, ℕ, ◌<◌, List, length, Option, Some, slice_index}
+use Rattle.daachorse_model.specs.Folding.{folded_unit}
+use Rattle.daachorse_model.specs.Paths.{Leads}
+
+-- no element that a text leads to has a child by a unit that would be folded, one of A to Z
+abbrev pub HasFoldedUnits : (ℕ → ℕ → Option ℕ) → Type 0
+HasFoldedUnits child = (w : List ℕ) (i c j : ℕ) → Leads child w i → child i c ≡ Some j → folded_unit c ≡ c
+
+-- some label behind the first would be folded
+abbrev pub IsUnfoldedAt : List ℕ → Type 0
+IsUnfoldedAt labels = (m : ℕ) × (0 < m) × (m < length labels) × (folded_unit (slice_index labels m) ≢ slice_index labels m)

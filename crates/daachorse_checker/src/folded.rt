@@ -1,0 +1,64 @@
+//! Whether the texts of an array are folded: no capital letter of ASCII leads to an element.
+//!
+//! The layers above may rely on the answer being right of any tree, in time and memory linear in the
+//! elements.
+
+ghost use Rattle.std.specs.Prelude.{◌≡◌, ◌<◌, ◌^◌, ℕ, Some, true, false, length, slice_index, IfOk, IfErr};
+ghost use Rattle.daachorse_core.specs.Refusals.{IsOutOfMemory};
+ghost use Rattle.daachorse_model.specs.Folding.{folded_unit};
+ghost use Rattle.daachorse_listing.specs.Edges.{TellChildren};
+ghost use Rattle.daachorse_listing.specs.Listing.{unit_of};
+ghost use Rattle.daachorse_checker.specs.Folded.{HasFoldedUnits, IsUnfoldedAt};
+ghost use Rattle.daachorse_checker.specs.Places.{ArePlaces, HasOnePath};
+
+use crate::places::Places;
+use daachorse_core::errors::Result;
+use daachorse_listing::edges::Edges;
+use std::alloc::Allocator;
+
+/// Whether each unit that leads from an element of a tree is folded.
+///
+/// # Errors
+///
+/// An allocation failed.
+pub fn is_folded<E: Edges, A: Allocator + Copy>(alloc: A, array: &E) -> Result<bool>
+    requires inside { (i c j : ℕ) → E.child array.now i c ≡ Some j → (j < E.count array.now) × (c < E.units array.now) }
+    requires tell { TellChildren (E.child array.now) (E.group array.now) (E.edge array.now) (E.count array.now) }
+    requires some { 0 < E.count array.now }
+    requires tree { HasOnePath (E.child array.now) }
+    ensures yes { IfOk result (λ folded. folded ≡ true → HasFoldedUnits (E.child array.now)) }
+    ensures no { IfOk result (λ folded. folded ≡ false → HasFoldedUnits (E.child array.now) → ⊥) }
+    ensures err { IfErr result IsOutOfMemory }
+{
+    let Some(places) = Places::new(alloc, array)? else {
+        return Ok(false);
+    };
+    let folded = has_folded_labels(array, &places);
+    Ok(folded)
+}
+
+/// The same, where the elements have places. The array is named in the contract alone.
+fn has_folded_labels<E: Edges, A: Allocator>(_array: &E, places: &Places<A>) -> bool
+    requires tell { TellChildren (E.child _array.now) (E.group _array.now) (E.edge _array.now) (E.count _array.now) }
+    requires places { ArePlaces (E.child _array.now) (λ j. unit_of (E.edge _array.now j)) (E.count _array.now) places.now.order.items places.now.parents.items places.now.labels.items places.now.marks.items }
+    ensures yes { result ≡ true → HasFoldedUnits (E.child _array.now) }
+    ensures no { result ≡ false → HasFoldedUnits (E.child _array.now) → ⊥ }
+{
+    are_folded(&places.labels)
+}
+
+/// Whether each label but the first, which is no unit, is folded.
+fn are_folded(labels: &[u32]) -> bool
+    ensures yes { result ≡ true → (m : ℕ) → 0 < m → m < length labels.now → folded_unit (slice_index labels.now m) ≡ slice_index labels.now m }
+    ensures no { result ≡ false → IsUnfoldedAt labels.now }
+{
+    let mut place: usize = 1;
+    while place < labels.len() {
+        let label = labels[place];
+        if label >= u32::from('A') && label <= u32::from('Z') {
+            return false;
+        }
+        place += 1;
+    }
+    true
+}

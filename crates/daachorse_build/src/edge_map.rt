@@ -24,6 +24,9 @@ use std::marker::Model;
 use std::slice;
 
 /// A map from labels to the ids of states.
+///
+/// One edge stands in the map itself and takes no memory (`daachorse_tests` runs this); more edges
+/// stand in a sorted vector. `daachorse_part_tests` lists the edges of a map.
 #[derive(Drop)]
 pub struct EdgeMap<L: EdgeLabel, A: Allocator = Global> {
     edges: Edges<L, A>,
@@ -61,6 +64,10 @@ impl<L: EdgeLabel, A: Allocator> Default for EdgeMap<L, A> {
 
 impl<L: EdgeLabel, A: Allocator> EdgeMap<L, A> {
     /// The id at a label.
+    ///
+    /// It takes a number of comparisons that is logarithmic in the edges. With the edges `a`, `c`,
+    /// `m` and `x`, the last with the id 4, it returns 4 for `x` (`daachorse_part_tests` runs
+    /// this).
     #[inline]
     pub fn get(&self, label: &L) -> Option<&u32>
         ensures { option_copied result ≡ id_at L.cmp self.now label.now }
@@ -118,7 +125,13 @@ impl<L: EdgeLabel, A: Allocator> EdgeMap<L, A> {
     }
 
     /// Gives a label this id, in place of the one that it may have. The second edge is the first
-    /// that takes memory. Only a new label is refused, and the map is then as it was.
+    /// that takes memory.
+    ///
+    /// A new label moves the edges behind it.
+    ///
+    /// # Errors
+    ///
+    /// An allocation failed. Only a new label is refused, and the map is then as it was.
     pub fn insert(&mut self, alloc: A, label: L, id: u32) -> Result<()>
         ensures edges { OnOk result (self.new ≡ insert_entry L.cmp self.old label id) }
         ensures updates { OnOk result (Updates L.cmp self.old self.new label id) }
@@ -132,7 +145,11 @@ impl<L: EdgeLabel, A: Allocator> EdgeMap<L, A> {
 }
 
 impl<L: EdgeLabel, A: Allocator + Copy> EdgeMap<L, A> {
-    /// A map with the same edges.
+    /// A map with the same edges, in memory of its own.
+    ///
+    /// # Errors
+    ///
+    /// An allocation failed.
     pub fn clone(&self) -> Result<Self>
         ensures same { IfOk result (λ map. map ≡ self.now) }
         ensures refused { IfErr result IsOutOfMemory }
@@ -149,6 +166,8 @@ impl<L: EdgeLabel, A: Allocator + Copy> EdgeMap<L, A> {
 }
 
 /// The edges of a map, by rising labels.
+///
+/// It borrows the map and takes no memory. `daachorse_part_tests` lists the edges of a map.
 #[derive(Drop)]
 pub struct Iter<'a, L: EdgeLabel> {
     // One edge more, before the others.
@@ -196,6 +215,8 @@ impl<'a, L: EdgeLabel> Iterator for Iter<'a, L> {
 }
 
 /// The ids of a map, by rising labels.
+///
+/// It borrows the map and takes no memory. `daachorse_part_tests` lists the ids of a map.
 #[derive(Drop)]
 pub struct Values<'a, L: EdgeLabel> {
     edges: Iter<'a, L>,

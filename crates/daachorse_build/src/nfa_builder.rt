@@ -53,6 +53,8 @@ pub const ROOT_STATE_ID: u32 = 0;
 pub const DEAD_STATE_ID: u32 = 1;
 
 /// A state of the trie.
+///
+/// It takes memory of its own from its second edge and its first output on.
 #[derive(Drop)]
 pub struct NfaBuilderState<L: EdgeLabel, V: Copy, A: Allocator = Global> {
     edges: EdgeMap<L, A>,
@@ -103,6 +105,10 @@ impl<L: EdgeLabel, V: Copy, A: Allocator + Copy> NfaBuilderState<L, V, A> {
     }
 
     /// A state with the same edges, link, outputs and position.
+    ///
+    /// # Errors
+    ///
+    /// An allocation failed.
     pub fn clone(&self) -> Result<Self>
         ensures edges { IfOk result (λ state. edge_map state ≡ edge_map self.now) }
         ensures fail { IfOk result (λ state. link_of state ≡ link_of self.now) }
@@ -120,6 +126,10 @@ impl<L: EdgeLabel, V: Copy, A: Allocator + Copy> NfaBuilderState<L, V, A> {
 }
 
 /// Builder of an Aho-Corasick automaton.
+///
+/// It is the trie of Aho and Corasick (1975): `add` makes the states, `build_fails` or
+/// `build_fails_leftmost` the links, and `build_outputs` the outputs, in this order.
+/// `daachorse_part_tests` builds tries and compares states, links and outputs.
 #[derive(Drop)]
 pub struct NfaBuilder<L: EdgeLabel, V: Copy, A: Allocator = Global> {
     states: Vec<NfaBuilderState<L, V, A>, A>,
@@ -173,6 +183,12 @@ impl<L: EdgeLabel, V: Copy, A: Allocator> NfaBuilder<L, V, A> {
 
 impl<L: EdgeLabel, V: Copy, A: Allocator + Copy> NfaBuilder<L, V, A> {
     /// A builder with no pattern, for this kind of matches.
+    ///
+    /// It takes memory for the root and the dead state.
+    ///
+    /// # Errors
+    ///
+    /// An allocation failed.
     pub fn new(alloc: A, kind: MatchKind) -> Result<Self>
         ensures kind { IfOk result (λ builder. kind_of builder ≡ kind) }
         ensures outputs { IfOk result (λ builder. outputs_of builder ≡ []) }
@@ -223,8 +239,12 @@ impl<L: EdgeLabel, V: Copy, A: Allocator + Copy> NfaBuilder<L, V, A> {
         Ok(())
     }
 
-    /// Sets the failure link of each state, that of the root to the root, and answers the ids of
+    /// Sets the failure link of each state, that of the root to the root, and returns the ids of
     /// the states but the root, breadth-first.
+    ///
+    /// The links are those of Aho and Corasick (1975): the link of a state is the state of the
+    /// longest proper end of its text that begins a pattern. Of `bcd`, `ab`, `a`, `b` and `b` only
+    /// the link of `ab` is not the root: it is the state of `b` (`daachorse_part_tests` runs this).
     ///
     /// # Errors
     ///
@@ -241,9 +261,13 @@ impl<L: EdgeLabel, V: Copy, A: Allocator + Copy> NfaBuilder<L, V, A> {
         self.find_links(alloc, false)
     }
 
-    /// Gives each state its leftmost link, as leftmost searches want, and answers the states but
+    /// Gives each state its leftmost link, as leftmost searches want, and returns the states but
     /// the root, those nearer to it first. The link is that of `build_fails`, but dead where a key
     /// occurs in the state's text and starts before the link does. The root's link is the root.
+    ///
+    /// # Errors
+    ///
+    /// An allocation failed.
     pub fn build_fails_leftmost(&mut self, alloc: A) -> Result<Vec<u32, A>>
         ensures kind { kind_of self.new ≡ kind_of self.old }
         ensures patterns { count_of self.new ≡ count_of self.old }
@@ -280,7 +304,13 @@ impl<L: EdgeLabel, V: Copy, A: Allocator + Copy> NfaBuilder<L, V, A> {
     /// Makes the lists of outputs: that of the root is its own outputs, and that of each other
     /// state is its own, and then the list of its link, unless that is dead. So there are as many
     /// outputs as patterns that are kept, and no more than a `u32` counts. Those that were made
-    /// before are dropped. `order` is what `build_fails` or `build_fails_leftmost` answered.
+    /// before are dropped.
+    ///
+    /// An output takes 8 bytes beside its value. `daachorse_part_tests` compares lists of outputs.
+    ///
+    /// # Conditions
+    ///
+    /// `order` is what [`Self::build_fails`] or [`Self::build_fails_leftmost`] returned.
     ///
     /// # Errors
     ///
@@ -321,6 +351,8 @@ impl<L: EdgeLabel, V: Copy, A: Allocator + Copy> NfaBuilder<L, V, A> {
     ///
     /// A count stays at the greatest number. It takes no memory.
     ///
+    /// `daachorse_part_tests` compares the counts of documents over bytes and over characters.
+    ///
     /// # Conditions
     ///
     /// The links are built, and the profile was given a count of each kind for each state.
@@ -354,6 +386,12 @@ impl<L: EdgeLabel, V: Copy, A: Allocator + Copy> NfaBuilder<L, V, A> {
     /// profile is empty. The groups stand by falling weight, and those of one weight in the order
     /// of a stack that begins with the root: a state is taken off, and its children are put on in
     /// order of labels.
+    ///
+    /// `daachorse_part_tests` compares groups, their order and their weights.
+    ///
+    /// # Conditions
+    ///
+    /// The profile is of this builder's states, and `map_label` may be called with any label.
     ///
     /// # Errors
     ///
@@ -636,7 +674,7 @@ fn set_links<L: EdgeLabel, V: Copy, A: Allocator>(
     }
 }
 
-/// Puts a state's own outputs in front of the list at a position, and answers where the new list
+/// Puts a state's own outputs in front of the list at a position, and returns where the new list
 /// begins.
 fn push_chain<V: Copy, A: Allocator>(
     outputs: &mut Vec<Output<V>, A>,

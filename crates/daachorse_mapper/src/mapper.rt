@@ -26,6 +26,10 @@ use std::marker::Model;
 pub const INVALID_CODE: u32 = u32::MAX;
 
 /// The codes of characters.
+///
+/// The codes are a list by code point, of four bytes for each up to the greatest that was counted.
+/// The frequent characters have the small codes, as Kanda, Akabe and Oda (arXiv 2207.13870) have
+/// it. `daachorse_part_tests` compares codes.
 #[derive(Drop)]
 #[derive_where(Debug)]
 pub struct CodeMapper<A: Allocator = Global> {
@@ -42,8 +46,11 @@ impl<A: Allocator> Model for CodeMapper<A> {
 
 impl<A: Allocator + Copy> CodeMapper<A> {
     /// The mapper for these frequencies, by code point. The indexes of frequency above 0 have the
-    /// codes 0, 1, 2 and so on by falling frequency, and those of one frequency by index. There are
-    /// at most 4294967295 frequencies.
+    /// codes 0, 1, 2 and so on by falling frequency, and those of one frequency by index.
+    ///
+    /// # Conditions
+    ///
+    /// There are at most 4,294,967,295 frequencies.
     ///
     /// # Errors
     ///
@@ -62,6 +69,10 @@ impl<A: Allocator + Copy> CodeMapper<A> {
     }
 
     /// A mapper with the same table and the same alphabet size.
+    ///
+    /// # Errors
+    ///
+    /// An allocation failed.
     pub fn clone(&self) -> Result<Self>
         ensures same { IfOk result (λ m. m ≡ self.now) }
         ensures err { IfErr result IsOutOfMemory }
@@ -75,6 +86,8 @@ impl<A: Allocator + Copy> CodeMapper<A> {
 
 impl<A: Allocator> CodeMapper<A> {
     /// The code of a character, if it has one.
+    ///
+    /// It is one look at the list, and takes no memory.
     #[inline(always)]
     pub fn get(&self, c: char) -> Option<u32>
         ensures { result ≡ code_of self.now c }

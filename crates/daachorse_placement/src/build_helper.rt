@@ -23,6 +23,9 @@ use std::alloc::{Allocator, Global};
 use std::marker::Model;
 
 /// A parent's children, which are placed together.
+///
+/// A child is its label and its state id. The weight says how often searches are thought to read
+/// the group: the builder puts the heaviest first.
 #[derive(Drop)]
 pub struct SiblingGroup<A: Allocator = Global> {
     /// The id of the parent.
@@ -61,6 +64,16 @@ impl<A: Allocator + Copy> BuildHelper<A> {
     /// `track_bases` asks for that, and where the element of each child is vacant. Vacant elements
     /// are tried for the first child in rising order, from the first group of weight 0 on those of
     /// the last 16 blocks alone; where none fits, a block is added at the end.
+    ///
+    /// It takes memory for each element and for each state. `daachorse_part_tests` compares the
+    /// places of groups.
+    ///
+    /// # Conditions
+    ///
+    /// `block_len` is a power of two and at least 2, and there are at least 2 states. Each group has a child.
+    /// The labels of its children are below `block_len`, and no two of them are alike. Parents and children
+    /// are states, children past the first two; no state is the parent of two groups, and none is twice a
+    /// child.
     ///
     /// # Errors
     ///
@@ -120,6 +133,10 @@ impl<A: Allocator> BuildHelper<A> {
     }
 
     /// Whether the base is taken. Where bases aren't tracked, none is.
+    ///
+    /// # Conditions
+    ///
+    /// The base is below [`Self::num_elements`].
     pub fn is_used_base(&self, base: u32) -> bool
         requires { base < length self.now.used }
         ensures { result ≡ slice_index_or self.now.marks base false }
@@ -128,6 +145,12 @@ impl<A: Allocator> BuildHelper<A> {
     }
 
     /// Whether the element holds the root, the dead state or a child.
+    ///
+    /// `daachorse_part_tests` compares the elements that are used.
+    ///
+    /// # Conditions
+    ///
+    /// The element is below [`Self::num_elements`].
     pub fn is_used_index(&self, idx: u32) -> bool
         requires { idx < length self.now.used }
         ensures { result ≡ slice_index_or self.now.used idx false }
@@ -137,6 +160,12 @@ impl<A: Allocator> BuildHelper<A> {
 
     /// The least base of the block that isn't taken. Where there is none, the block has no vacant
     /// element.
+    ///
+    /// It looks at each base of the block at most once, and takes no memory.
+    ///
+    /// # Conditions
+    ///
+    /// There is such a block.
     pub fn unused_base_in_block(&self, block_idx: u32) -> Option<u32>
         requires { block_idx < self.now.blocks }
         ensures found { IfSome result (IsLeastUnused self.now.marks self.now.block block_idx) }
@@ -148,6 +177,10 @@ impl<A: Allocator> BuildHelper<A> {
 
     /// The vacant elements in rising order: all of them, or those of the last 16 blocks where a
     /// group has weight 0.
+    ///
+    /// Each step takes no memory. After one child of label 1 and one of label 0, placed in blocks
+    /// of 4 under bases that are tracked, the vacant elements are 3, 5, 6 and 7
+    /// (`daachorse_part_tests` runs this).
     pub fn vacant_iter(&self) -> VacantIter<'_, A>
         ensures { result ≡ vacants self.now }
     {
@@ -159,6 +192,8 @@ impl<A: Allocator> BuildHelper<A> {
 }
 
 /// An iterator over the vacant elements from one on, in rising order.
+///
+/// It borrows the helper and takes no memory.
 #[derive(Drop)]
 pub struct VacantIter<'a, A: Allocator = Global> {
     elements: &'a Elements<A>,

@@ -56,7 +56,7 @@ pub fn write_ending<V: Serializable + Copy, F: SerializableVec + Drop, A: Alloca
     filter.serialize_to_vec(dst)
 }
 
-/// Reads an ending, and answers it with the bytes behind it. What was read may be written.
+/// Reads an ending, and returns it with the bytes behind it. What was read may be written.
 ///
 /// # Errors
 ///

@@ -19,6 +19,9 @@ use std::fmt;
 use std::marker::Model;
 
 /// A number of 24 bits.
+///
+/// `U24::try_from` makes it of a `u32` and refuses 2^24 and more (`daachorse_part_tests` runs
+/// this).
 #[derive(Clone, Copy, Debug, Default, PartialEq, Eq, Hash)]
 pub struct U24 {
     value: u32,
@@ -79,6 +82,8 @@ impl fmt::Display for TooLargeError {
 impl Error for TooLargeError {}
 
 /// A number of 24 bits and one of 8 in one word, `a * 256 + b`. Both are 0 by default.
+///
+/// It takes four bytes. `daachorse_part_tests` sets each part and reads both.
 #[derive(Clone, Copy, Debug, Default, PartialEq, Eq, Hash)]
 pub struct U24nU8 {
     word: u32,

@@ -24,6 +24,11 @@ use std::alloc::{Allocator, Global};
 use std::num::NonZeroU32;
 
 /// Values with a written form. Reading one takes no allocator.
+///
+/// Integers, signed and not, [`Option<NonZeroU32>`](std::num::NonZeroU32), [`Empty`],
+/// [`MatchKind`], [`Output`] and an option of such a value have one. A number is written by its
+/// bytes, the lowest first: 0x01234567 is `67 45 23 01` (`daachorse_part_tests` compares forms). A
+/// type of one's own that proves the laws can be the value type of an automaton that is written.
 pub trait Serializable: Sized + Drop {
     /// Which values are of the type.
     ghost is_value: { Self → Type 0 };
@@ -49,7 +54,7 @@ pub trait Serializable: Sized + Drop {
         ensures kept { Begins dst.old.items dst.new.items }
         ensures refused { IfErr result IsOutOfMemory };
 
-    /// Reads a value, and answers it with the bytes behind it.
+    /// Reads a value, and returns it with the bytes behind it.
     ///
     /// # Errors
     /// Bytes that give no value, or out of memory.
@@ -670,6 +675,8 @@ impl<S: Serializable> Serializable for Option<S> {
 }
 
 /// Lists and tables with a written form, of which contracts see the shape.
+///
+/// Vectors, tables and filters have one. `daachorse_part_tests` compares forms.
 pub trait SerializableVec: Sized {
     /// Where the memory of a value comes from that is read.
     type Alloc: Allocator;
@@ -707,7 +714,7 @@ pub trait SerializableVec: Sized {
         ensures kept { Begins dst.old.items dst.new.items }
         ensures refused { IfErr result IsOutOfMemory };
 
-    /// Reads a value, and answers it with the bytes behind it. What was read may be written.
+    /// Reads a value, and returns it with the bytes behind it. What was read may be written.
     ///
     /// # Errors
     /// Bytes that give no value, or out of memory.
@@ -817,6 +824,8 @@ impl<S: Serializable, A: Allocator> SerializableVec for Vec<S, A> {
 }
 
 /// A list of exactly so many items, which is written without a count.
+///
+/// `daachorse_part_tests` writes one and reads it.
 #[derive(Drop)]
 #[derive_where(Debug, PartialEq, Eq, Hash; S)]
 pub struct Table<S, const N: usize, A: Allocator = Global> {

@@ -7,6 +7,8 @@ ghost use Rattle.std.specs.Prelude.{◌≡◌};
 ghost use Rattle.std.specs.Borrow.{sem};
 
 /// Two places, before and after the item, and whether its base and its element are used.
+///
+/// It takes no memory of its own. `daachorse_part_tests` sets and reads its parts.
 #[derive(Clone, Default, Drop)]
 pub struct ListItem {
     next: u32,

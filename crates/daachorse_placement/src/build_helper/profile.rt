@@ -11,6 +11,9 @@ use daachorse_core::errors::Result;
 use std::alloc::{Allocator, Global};
 
 /// Counts by state id, of what a search over a corpus reads.
+///
+/// It has two lists, and takes two numbers of 64 bits for each state. `daachorse_part_tests`
+/// resizes one.
 #[derive(Drop)]
 pub struct Profile<A: Allocator = Global> {
     /// How often the state itself was read, as the state that a step began or ended with.
@@ -41,6 +44,10 @@ impl<A: Allocator> Profile<A> {
     }
 
     /// Gives both lists `len` counts, new ones 0.
+    ///
+    /// # Errors
+    ///
+    /// An allocation failed, and nothing is changed.
     pub fn resize(&mut self, len: usize) -> Result<()>
         ensures visits { OnOk result (self.new.visits.items ≡ resized self.old.visits.items len) }
         ensures probes { OnOk result (self.new.probes.items ≡ resized self.old.probes.items len) }

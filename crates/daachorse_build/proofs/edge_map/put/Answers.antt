@@ -1,5 +1,6 @@
 -- Where the search hits, the id is written; where it misses, the edge goes to the place at which it ended.
 use Rattle.std.proofs.Common.{◌≡◌, ℕ, List, set, Result, Ok, Err, OnErr, ◌∙◌, ap, sym, subst}
+use Rattle.std.proofs.lemmas.Result.{IfOk-from_err}
 use Rattle.std.specs.BTreeMap.{insert_entry}
 use Rattle.daachorse_build.specs.EdgeMaps.{edges_in, id_at, IsOrdered}
 use Rattle.daachorse_build.proofs.EdgeLists.{none_at, put_at, put_between}
@@ -39,3 +40,12 @@ returns-in_err-insert-in-Err-clause-absent g c =
     let miss = rw c.deref.ensures.value at c.in-Err.ensures in
     let none = none_at cmp g.met.L.Ord.total c.in-Many.many.items c.in-Err.place k miss.within miss.place in
     on_err c.from_residual-in_err-insert-in-Err.result (ap (λ es. id_at cmp (edges_in es) k) c.in-Many.is ∙ none)
+
+pub returns-in_err-edges-in-Less-clause-edges : goal.returns-in_err-edges-in-Less-clause-edges
+returns-in_err-edges-in-Less-clause-edges g c = IfOk-from_err c.from_residual.result _ c.from_residual.ensures.0
+
+pub returns-in_err-edges-in-Greater-clause-edges : goal.returns-in_err-edges-in-Greater-clause-edges
+returns-in_err-edges-in-Greater-clause-edges g c = IfOk-from_err c.from_residual-in_err-edges-in-Greater.result _ c.from_residual-in_err-edges-in-Greater.ensures.0
+
+pub returns-in_err-insert-in-Err-clause-edges : goal.returns-in_err-insert-in-Err-clause-edges
+returns-in_err-insert-in-Err-clause-edges g c = IfOk-from_err c.from_residual-in_err-insert-in-Err.result _ c.from_residual-in_err-insert-in-Err.ensures.0

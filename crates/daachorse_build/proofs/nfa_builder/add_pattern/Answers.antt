@@ -5,7 +5,7 @@ use Rattle.daachorse_build.specs.Tables.{child_of, edges_of, IsTable}
 use Rattle.daachorse_build.proofs.Walks.{walk-bounds}
 use Rattle.daachorse_build.proofs.States.{adding_start, adding_more, added, output_pushed, map_stays}
 use Rattle.daachorse_build.proofs.Labels.{label_exact}
-use Rattle.std.proofs.lemmas.Result.{err_from_is_err_and}
+use Rattle.std.proofs.lemmas.Result.{err_from_is_err_and, IfOk-from_err}
 use Rattle.daachorse_core.specs.declared.errors.Limit.TheVariants.{StateId}
 use Rattle.daachorse_build.specs.Growth.{Overflows}
 use Rattle.daachorse_core.proofs.Refusals.{IsRefusal-weaker}
@@ -100,3 +100,15 @@ returns-in_err-push-clause-trie g c =
     let edges = map_stays (λ s. s.edges) states c.loop-label.id x (record x { output = c.push.new.self }) low c.index_mut.ensures.value refl in
     let E : List (List (g.row.L.Denot × ℕ)) → Type 0 = λ es. IsTable g.L.Ord.cmp es in
     subst E (sym edges) i.trie
+
+pub returns-in_err-id-clause-ok : goal.returns-in_err-id-clause-ok
+returns-in_err-id-clause-ok g c = IfOk-from_err c.from_residual.result _ c.from_residual.ensures.0
+
+pub returns-in_err-id-clause-fits : goal.returns-in_err-id-clause-fits
+returns-in_err-id-clause-fits g c = IfOk-from_err c.from_residual.result _ c.from_residual.ensures.0
+
+pub returns-in_err-push-clause-ok : goal.returns-in_err-push-clause-ok
+returns-in_err-push-clause-ok g c = IfOk-from_err c.from_residual-in_err-push.result _ c.from_residual-in_err-push.ensures.0
+
+pub returns-in_err-push-clause-fits : goal.returns-in_err-push-clause-fits
+returns-in_err-push-clause-fits g c = IfOk-from_err c.from_residual-in_err-push.result _ c.from_residual-in_err-push.ensures.0

@@ -1,6 +1,8 @@
 -- One output more in front of the list.
 use Rattle.std.proofs.Common.{rules, ◌≡◌, ◌<◌, ◌+◌, ◌-◌, [], ◌∷◌, ◌++◌, length, drop, sym, ap, ◌∙◌, append_assoc, arith}
 use Rattle.std.proofs.lemmas.List.{drop_more, length_push}
+use Rattle.std.proofs.lemmas.Grind.{common_steps}
+use Rattle.std.proofs.lemmas.Result.{IfOk-from_err}
 use Rattle.daachorse_core.specs.Outputs.{parent_of}
 use Rattle.daachorse_build.proofs.OutputChains.{outputs_at-push, ParentsFall-push}
 use Rattle.daachorse_build.proofs.Passes.{passes_push}
@@ -31,3 +33,21 @@ loop-i-preserved g c =
       passes = rw (pushed, rest) (passes_push outputs made x (drop c.loop-i.i own) c.loop-i.last c.len-last.result c.args.parent c.new-in-loop-i.ensures.value c.new-in-loop-i.ensures.length parent count i.passes);
       list = rw (pushed, rest) (list ∙ ap (λ l. x ∷ l) i.list);
     }
+
+pub loop-i-init : goal.loop-i-init
+loop-i-init g c = grind (arith, common_steps)
+
+pub returns-in_err-push-clause-count : goal.returns-in_err-push-clause-count
+returns-in_err-push-clause-count g c = IfOk-from_err c.from_residual.result _ c.from_residual.ensures.0
+
+pub returns-in_err-push-clause-few : goal.returns-in_err-push-clause-few
+returns-in_err-push-clause-few g c = IfOk-from_err c.from_residual.result _ c.from_residual.ensures.0
+
+pub returns-in_err-push-clause-fits : goal.returns-in_err-push-clause-fits
+returns-in_err-push-clause-fits g c = IfOk-from_err c.from_residual.result _ c.from_residual.ensures.0
+
+pub returns-in_err-push-clause-list : goal.returns-in_err-push-clause-list
+returns-in_err-push-clause-list g c = IfOk-from_err c.from_residual.result _ c.from_residual.ensures.0
+
+pub returns-in_err-push-clause-passes : goal.returns-in_err-push-clause-passes
+returns-in_err-push-clause-passes g c = IfOk-from_err c.from_residual.result _ c.from_residual.ensures.0

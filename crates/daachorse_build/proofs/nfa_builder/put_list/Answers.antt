@@ -1,17 +1,44 @@
 -- One position is written, and nothing else in the states changes.
 use Rattle.std.proofs.Common.{◌≡◌, ◌<◌, ℕ, List, [], ◌++◌, length, get_or, sym, ap, ◌∙◌, subst, arith, get_or-set_same, get_or-set_other}
-use Rattle.std.proofs.lemmas.List.{length-map, get_or-map}
-use Rattle.std.proofs.lemmas.Result.{err_from_is_err_and}
+use Rattle.std.proofs.lemmas.List.{length-map, get_or-map, set-get_or}
+use Rattle.std.proofs.lemmas.Result.{err_from_is_err_and, IfOk-from_err}
+use Rattle.std.proofs.lemmas.Grind.{common_steps}
 use Rattle.daachorse_core.specs.Outputs.{outputs_at}
 use Rattle.daachorse_core.specs.Chains.{Passes}
 use Rattle.daachorse_build.specs.declared.nfa_builder.NfaBuilderState.{NfaBuilderState}
-use Rattle.daachorse_build.specs.Tables.{own_at, own_of, positions_of}
+use Rattle.daachorse_build.specs.Tables.{edges_of, fails_of, own_at, own_of, positions_of}
 use Rattle.daachorse_build.proofs.States.{position_set}
 use Rattle.daachorse_build.proofs.nfa_builder.put_list.Goals as goal
 
 -- the own outputs of the state at an index
 own_here : {L V A : Type 0} (states : List (NfaBuilderState L V A)) (i : ℕ) (x : NfaBuilderState L V A) (own : List (V × ℕ)) → i < length states → own ≡ (get_or states i x).output.items → own_at (own_of states) i ≡ own
 own_here states i x own l e = get_or-map (λ s. s.output.items) states i x [] l ∙ sym e
+
+pub returns-in_err-state-clause-kept : goal.returns-in_err-state-clause-kept
+returns-in_err-state-clause-kept g c =
+    let same = set-get_or c.args.states.now c.args.id c.index-states-id.result in
+    record { edges = ap edges_of same; outputs = ap own_of same }
+
+pub returns-in_err-state-clause-fails : goal.returns-in_err-state-clause-fails
+returns-in_err-state-clause-fails g c = ap fails_of (set-get_or c.args.states.now c.args.id c.index-states-id.result)
+
+pub returns-in_err-state-clause-count : goal.returns-in_err-state-clause-count
+returns-in_err-state-clause-count g c = IfOk-from_err c.from_residual.result _ c.from_residual.ensures.0
+
+pub returns-in_err-state-clause-few : goal.returns-in_err-state-clause-few
+returns-in_err-state-clause-few g c = IfOk-from_err c.from_residual.result _ c.from_residual.ensures.0
+
+pub returns-in_err-state-clause-fits : goal.returns-in_err-state-clause-fits
+returns-in_err-state-clause-fits g c = IfOk-from_err c.from_residual.result _ c.from_residual.ensures.0
+
+pub returns-in_err-state-clause-list : goal.returns-in_err-state-clause-list
+returns-in_err-state-clause-list g c = IfOk-from_err c.from_residual.result _ c.from_residual.ensures.0
+
+pub returns-in_err-state-clause-passes : goal.returns-in_err-state-clause-passes
+returns-in_err-state-clause-passes g c = IfOk-from_err c.from_residual.result _ c.from_residual.ensures.0
+
+pub returns-in_err-state-clause-others : goal.returns-in_err-state-clause-others
+returns-in_err-state-clause-others g c = IfOk-from_err c.from_residual.result _ c.from_residual.ensures.0
 
 pub returns-in_err-state-clause-refused : goal.returns-in_err-state-clause-refused
 returns-in_err-state-clause-refused g c =
@@ -65,3 +92,6 @@ returns-clause-others g c = λ t ne.
     let states = c.args.states.now in
     let set' = (position_set states c.args.id c.index-states-id.result _ c.in_ok-state.field-0 c.requires.id c.index-states-id.is (ap (λ (s : NfaBuilderState g.row.L.Denot g.row.V.Denot g.row.A.Denot). record s { output_pos = c.in_ok-state.field-0 }) (sym c.index-states-id.is))).2 in
     ap (λ ps. get_or ps t 0) set' ∙ get_or-set_other (positions_of states) c.args.id t c.in_ok-state.field-0 0 ne
+
+pub returns-clause-few : goal.returns-clause-few
+returns-clause-few g c = grind (arith, common_steps)

@@ -1,7 +1,7 @@
 -- One state more has its list: its own outputs, and then the list of its link, which is done before it.
 use Rattle.std.proofs.Common.{◌≡◌, ◌<◌, ◌≤◌, ◌+◌, ℕ, Bool, List, [], ◌∷◌, ◌++◌, length, get_or, take, inl, inr, refl, sym, ap, ◌∙◌, subst, vec_len, arith}
 use Rattle.std.proofs.lemmas.List.{length-map, take_more, take_all}
-use Rattle.std.proofs.lemmas.Result.{err_from_is_err_and}
+use Rattle.std.proofs.lemmas.Result.{err_from_is_err_and, IfOk-from_err}
 use Rattle.std.specs.declared.cmp.Ordering.{Ordering}
 use Rattle.std.specs.declared.cmp.Ordering.TheVariants.{Equal}
 use Rattle.std.specs.Cmp.{IsTotalOrder}
@@ -190,3 +190,39 @@ returns-in_err-put_list-2-clause-fails g c = c.in_err-put_list-2.ensures.fails �
 
 pub returns-clause-bound : goal.returns-clause-bound
 returns-clause-bound g c = omega (arith, c.loop-id.invariant.count)
+
+pub returns-in_err-put_list-clause-positions : goal.returns-in_err-put_list-clause-positions
+returns-in_err-put_list-clause-positions g c = IfOk-from_err c.from_residual.result _ c.from_residual.ensures.0
+
+pub returns-in_err-put_list-clause-lists : goal.returns-in_err-put_list-clause-lists
+returns-in_err-put_list-clause-lists g c = IfOk-from_err c.from_residual.result _ c.from_residual.ensures.0
+
+pub returns-in_err-put_list-clause-chained : goal.returns-in_err-put_list-clause-chained
+returns-in_err-put_list-clause-chained g c = IfOk-from_err c.from_residual.result _ c.from_residual.ensures.0
+
+pub returns-in_err-put_list-clause-bound : goal.returns-in_err-put_list-clause-bound
+returns-in_err-put_list-clause-bound g c = IfOk-from_err c.from_residual.result _ c.from_residual.ensures.0
+
+pub returns-in_err-put_list-clause-whole : goal.returns-in_err-put_list-clause-whole
+returns-in_err-put_list-clause-whole g c = IfOk-from_err c.from_residual.result _ c.from_residual.ensures.0
+
+pub returns-in_err-put_list-clause-few : goal.returns-in_err-put_list-clause-few
+returns-in_err-put_list-clause-few g c = IfOk-from_err c.from_residual.result _ c.from_residual.ensures.0
+
+pub returns-in_err-put_list-2-clause-positions : goal.returns-in_err-put_list-2-clause-positions
+returns-in_err-put_list-2-clause-positions g c = IfOk-from_err c.from_residual-in_err-put_list-2.result _ c.from_residual-in_err-put_list-2.ensures.0
+
+pub returns-in_err-put_list-2-clause-lists : goal.returns-in_err-put_list-2-clause-lists
+returns-in_err-put_list-2-clause-lists g c = IfOk-from_err c.from_residual-in_err-put_list-2.result _ c.from_residual-in_err-put_list-2.ensures.0
+
+pub returns-in_err-put_list-2-clause-chained : goal.returns-in_err-put_list-2-clause-chained
+returns-in_err-put_list-2-clause-chained g c = IfOk-from_err c.from_residual-in_err-put_list-2.result _ c.from_residual-in_err-put_list-2.ensures.0
+
+pub returns-in_err-put_list-2-clause-bound : goal.returns-in_err-put_list-2-clause-bound
+returns-in_err-put_list-2-clause-bound g c = IfOk-from_err c.from_residual-in_err-put_list-2.result _ c.from_residual-in_err-put_list-2.ensures.0
+
+pub returns-in_err-put_list-2-clause-whole : goal.returns-in_err-put_list-2-clause-whole
+returns-in_err-put_list-2-clause-whole g c = IfOk-from_err c.from_residual-in_err-put_list-2.result _ c.from_residual-in_err-put_list-2.ensures.0
+
+pub returns-in_err-put_list-2-clause-few : goal.returns-in_err-put_list-2-clause-few
+returns-in_err-put_list-2-clause-few g c = IfOk-from_err c.from_residual-in_err-put_list-2.result _ c.from_residual-in_err-put_list-2.ensures.0

@@ -1,6 +1,8 @@
 -- A code is marked where it is free, and refuted where it is taken or past the alphabet.
 use Rattle.std.proofs.Common.{◌≡◌, ℕ, ◌+◌, ◌<◌, ◌∙◌, Bool, false, List, length, slice_index, sym, ap, subst, refl, arith}
 use Rattle.std.proofs.lemmas.List.{get_or_read}
+use Rattle.std.proofs.lemmas.Result.{IfOk-from_err}
+use Rattle.std.proofs.lemmas.Grind.{common_steps}
 use Rattle.daachorse_mapper.specs.Codings.{Coding}
 use Rattle.daachorse_mapper.specs.Written.{coding_of}
 use Rattle.daachorse_mapper.proofs.Entries.{code_read, none_read}
@@ -52,3 +54,12 @@ returns-clause-yes g c e =
     let end : c.loop-code.code-index ≡ length c.args.table.now = omega (arith, c.loop-code-test.false, c.loop-code.auto.code-index-end) in
     let P : ℕ → Type 0 = λ n. AreTaken coding n c.loop-code.taken.items in
     taken_all coding c.loop-code.taken.items (subst P end c.loop-code.invariant.taken)
+
+pub returns-in_err-taken-clause-yes : goal.returns-in_err-taken-clause-yes
+returns-in_err-taken-clause-yes g c = IfOk-from_err c.from_residual.result _ c.from_residual.ensures.0
+
+pub returns-in_err-taken-clause-no : goal.returns-in_err-taken-clause-no
+returns-in_err-taken-clause-no g c = IfOk-from_err c.from_residual.result _ c.from_residual.ensures.0
+
+pub loop-code-init : goal.loop-code-init
+loop-code-init g c = grind (arith, common_steps)

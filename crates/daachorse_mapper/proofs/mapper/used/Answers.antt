@@ -5,6 +5,8 @@ use Rattle.std.specs.List.{enumerate_from}
 use Rattle.std.proofs.lemmas.List.{append-nil, length-take-le, take_more}
 use Rattle.std.proofs.lemmas.List.Elements.{filter-append}
 use Rattle.std.proofs.lemmas.Bool.{le-ltb, lt-ltb}
+use Rattle.std.proofs.lemmas.Result.{IfOk-from_err}
+use Rattle.std.proofs.lemmas.Grind.{common_steps}
 use Rattle.daachorse_mapper.specs.Ranks.{used_in}
 use Rattle.daachorse_mapper.proofs.mapper.used.Goals as goal
 use Rattle.daachorse_mapper.proofs.mapper.used.Goals.{then-freq-gt0+in_ok-push, else-freq-gt0}
@@ -36,3 +38,9 @@ loop-index-preserved g c =
           ap (λ v. v.items) w.used-is ∙ c.loop-index.invariant
           ∙ sym (more ∙ ap (λ b. so_far ++ cond b ((i, freq) ∷ []) []) (le-ltb 0 freq w.if-freq-gt0.false) ∙ append-nil so_far)
     ]
+
+pub returns-in_err-push-clause-used : goal.returns-in_err-push-clause-used
+returns-in_err-push-clause-used g c = IfOk-from_err c.from_residual.result _ c.from_residual.ensures.0
+
+pub returns-clause-used : goal.returns-clause-used
+returns-clause-used g c = grind (arith, common_steps)

@@ -2,7 +2,7 @@
 use Rattle.std.proofs.Common.{◌≡◌, ◌≤◌, ◌⊎◌, ℕ, List, true, length, None, ◌∙◌, ap, subst, sym, inl, inr, arith}
 use Rattle.std.specs.Prelude.{IfSome}
 use Rattle.std.proofs.lemmas.Option.{IfSome_then}
-use Rattle.std.proofs.lemmas.Result.{err_from_is_err_and}
+use Rattle.std.proofs.lemmas.Result.{err_from_is_err_and, IfOk-from_err}
 use Rattle.daachorse_model.specs.declared.MatchKind.{MatchKind}
 use Rattle.daachorse_model.specs.Dictionary.{kept}
 use Rattle.daachorse_build.specs.Builders.{kind_of, outputs_of, states_of}
@@ -85,3 +85,63 @@ returns-clause-few g c =
     let added = c.in_ok-add_all.ensures in let old = c.in_ok-nfa.ensures.kind in
     let count : c.num_patterns.result ≡ length (kept c.args.kind rs) = c.num_patterns.ensures ∙ HasTexts-count cmp unit width c.add_all.new.nfa rs added.ok ∙ ap (λ k. length (kept k rs)) (added.kind ∙ old) in
     IfSome_then c.args.max_patterns c.in_ok-check_count.ensures.ok (λ n low. omega (arith, low, count))
+
+pub returns-in_err-nfa-clause-ok : goal.returns-in_err-nfa-clause-ok
+returns-in_err-nfa-clause-ok g c = IfOk-from_err c.from_residual.result _ c.from_residual.ensures.0
+
+pub returns-in_err-nfa-clause-fit : goal.returns-in_err-nfa-clause-fit
+returns-in_err-nfa-clause-fit g c = IfOk-from_err c.from_residual.result _ c.from_residual.ensures.0
+
+pub returns-in_err-nfa-clause-outputs : goal.returns-in_err-nfa-clause-outputs
+returns-in_err-nfa-clause-outputs g c = IfOk-from_err c.from_residual.result _ c.from_residual.ensures.0
+
+pub returns-in_err-nfa-clause-few : goal.returns-in_err-nfa-clause-few
+returns-in_err-nfa-clause-few g c = IfOk-from_err c.from_residual.result _ c.from_residual.ensures.0
+
+pub returns-in_err-add_all-clause-ok : goal.returns-in_err-add_all-clause-ok
+returns-in_err-add_all-clause-ok g c = IfOk-from_err c.from_residual-in_err-add_all.result _ c.from_residual-in_err-add_all.ensures.0
+
+pub returns-in_err-add_all-clause-fit : goal.returns-in_err-add_all-clause-fit
+returns-in_err-add_all-clause-fit g c = IfOk-from_err c.from_residual-in_err-add_all.result _ c.from_residual-in_err-add_all.ensures.0
+
+pub returns-in_err-add_all-clause-outputs : goal.returns-in_err-add_all-clause-outputs
+returns-in_err-add_all-clause-outputs g c = IfOk-from_err c.from_residual-in_err-add_all.result _ c.from_residual-in_err-add_all.ensures.0
+
+pub returns-in_err-add_all-clause-few : goal.returns-in_err-add_all-clause-few
+returns-in_err-add_all-clause-few g c = IfOk-from_err c.from_residual-in_err-add_all.result _ c.from_residual-in_err-add_all.ensures.0
+
+pub returns-in_err-check_count-clause-ok : goal.returns-in_err-check_count-clause-ok
+returns-in_err-check_count-clause-ok g c = IfOk-from_err c.from_residual-in_err-check_count.result _ c.from_residual-in_err-check_count.ensures.0
+
+pub returns-in_err-check_count-clause-fit : goal.returns-in_err-check_count-clause-fit
+returns-in_err-check_count-clause-fit g c = IfOk-from_err c.from_residual-in_err-check_count.result _ c.from_residual-in_err-check_count.ensures.0
+
+pub returns-in_err-check_count-clause-outputs : goal.returns-in_err-check_count-clause-outputs
+returns-in_err-check_count-clause-outputs g c = IfOk-from_err c.from_residual-in_err-check_count.result _ c.from_residual-in_err-check_count.ensures.0
+
+pub returns-in_err-check_count-clause-few : goal.returns-in_err-check_count-clause-few
+returns-in_err-check_count-clause-few g c = IfOk-from_err c.from_residual-in_err-check_count.result _ c.from_residual-in_err-check_count.ensures.0
+
+pub returns-in_err-order-clause-ok : goal.returns-in_err-order-clause-ok
+returns-in_err-order-clause-ok g c = IfOk-from_err c.from_residual-in_err-order.result _ c.from_residual-in_err-order.ensures.0
+
+pub returns-in_err-order-clause-fit : goal.returns-in_err-order-clause-fit
+returns-in_err-order-clause-fit g c = IfOk-from_err c.from_residual-in_err-order.result _ c.from_residual-in_err-order.ensures.0
+
+pub returns-in_err-order-clause-outputs : goal.returns-in_err-order-clause-outputs
+returns-in_err-order-clause-outputs g c = IfOk-from_err c.from_residual-in_err-order.result _ c.from_residual-in_err-order.ensures.0
+
+pub returns-in_err-order-clause-few : goal.returns-in_err-order-clause-few
+returns-in_err-order-clause-few g c = IfOk-from_err c.from_residual-in_err-order.result _ c.from_residual-in_err-order.ensures.0
+
+pub returns-in_err-build_outputs-clause-ok : goal.returns-in_err-build_outputs-clause-ok
+returns-in_err-build_outputs-clause-ok g c = IfOk-from_err c.from_residual-in_err-build_outputs.result _ c.from_residual-in_err-build_outputs.ensures.0
+
+pub returns-in_err-build_outputs-clause-fit : goal.returns-in_err-build_outputs-clause-fit
+returns-in_err-build_outputs-clause-fit g c = IfOk-from_err c.from_residual-in_err-build_outputs.result _ c.from_residual-in_err-build_outputs.ensures.0
+
+pub returns-in_err-build_outputs-clause-outputs : goal.returns-in_err-build_outputs-clause-outputs
+returns-in_err-build_outputs-clause-outputs g c = IfOk-from_err c.from_residual-in_err-build_outputs.result _ c.from_residual-in_err-build_outputs.ensures.0
+
+pub returns-in_err-build_outputs-clause-few : goal.returns-in_err-build_outputs-clause-few
+returns-in_err-build_outputs-clause-few g c = IfOk-from_err c.from_residual-in_err-build_outputs.result _ c.from_residual-in_err-build_outputs.ensures.0

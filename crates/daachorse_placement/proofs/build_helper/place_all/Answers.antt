@@ -1,6 +1,8 @@
 -- The group at hand is one that may be placed, and with it one group more is.
 use Rattle.std.specs.Prelude.{IfErr}
 use Rattle.std.proofs.Common.{rules, Err, ◌≤◌, ◌*◌, ◌^◌, ◌≡◌, ◌<◌, ℕ, List, length, sym, ◌∙◌, subst, arith, ap, set, ◌+◌, ◌||◌}
+use Rattle.std.proofs.lemmas.Result.{IfOk-from_err}
+use Rattle.std.proofs.lemmas.Grind.{common_steps}
 use Rattle.daachorse_placement.specs.Elements.{count_of, HasPlaced, IsFull, IsMapOf, layout_of}
 use Rattle.daachorse_placement.specs.Placement.{IsPlaceRefusal, AreApart, AreGroups, AreIds, AreLabels, IsPlaced, children_of, is_light, parent_of}
 use Rattle.daachorse_placement.proofs.PlaceStart.{children_at, parent_at, placed_weighed, block_kept, light_more, refusal, refusal_under}
@@ -103,3 +105,24 @@ returns-clause-full g c = c.loop-group.invariant.full
 
 pub returns-clause-block : goal.returns-clause-block
 returns-clause-block g c = c.loop-group.invariant.block
+
+pub returns-in_err-base-clause-whole : goal.returns-in_err-base-clause-whole
+returns-in_err-base-clause-whole g c = IfOk-from_err c.from_residual.result _ c.from_residual.ensures.0
+
+pub returns-in_err-base-clause-full : goal.returns-in_err-base-clause-full
+returns-in_err-base-clause-full g c = IfOk-from_err c.from_residual.result _ c.from_residual.ensures.0
+
+pub returns-in_err-base-clause-block : goal.returns-in_err-base-clause-block
+returns-in_err-base-clause-block g c = IfOk-from_err c.from_residual.result _ c.from_residual.ensures.0
+
+pub returns-in_err-base-clause-placed : goal.returns-in_err-base-clause-placed
+returns-in_err-base-clause-placed g c = IfOk-from_err c.from_residual.result _ c.from_residual.ensures.0
+
+pub returns-in_err-base-clause-windowed : goal.returns-in_err-base-clause-windowed
+returns-in_err-base-clause-windowed g c = IfOk-from_err c.from_residual.result _ c.from_residual.ensures.0
+
+pub returns-clause-placed : goal.returns-clause-placed
+returns-clause-placed g c = grind (arith, common_steps)
+
+pub returns-clause-windowed : goal.returns-clause-windowed
+returns-clause-windowed g c = grind (arith, common_steps)

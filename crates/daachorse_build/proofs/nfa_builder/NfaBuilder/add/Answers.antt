@@ -1,7 +1,8 @@
 -- The pattern was added to the trie, so it is registered; where no id was free, there are too many prefixes. A pattern that extends a key is registered where nothing changes.
 use Rattle.std.proofs.Common.{rules, ◌≡◌, ◌≤◌, ◌+◌, ◌⊎◌, true, false, List, length, map, sym, ap, ◌∙◌, inl, inr, arith, ◌++◌, ◌∷◌, [], ℕ}
 use Rattle.std.proofs.lemmas.List.{length_push}
-use Rattle.std.proofs.lemmas.Result.{err_from_is_err_and}
+use Rattle.std.proofs.lemmas.Result.{err_from_is_err_and, IfOk-from_err}
+use Rattle.std.proofs.lemmas.Grind.{elements}
 use Rattle.std.specs.declared.cmp.Ordering.{Ordering}
 use Rattle.daachorse_model.specs.declared.MatchKind.{MatchKind}
 use Rattle.daachorse_model.specs.Units.{size}
@@ -80,3 +81,30 @@ returns-then-extends_key-clause-registered g c = rw (← c.self.view_is) (λ rs 
       holds = holds_same cmp unit width b.kind b.states.items rs (rs ++ (p, c.args.value) ∷ []) reg.holds same;
       count = reg.count ∙ ap length (sym same);
     })
+
+pub returns-in_err-size-clause-trie : goal.returns-in_err-size-clause-trie
+returns-in_err-size-clause-trie g c = IfOk-from_err c.from_residual.result _ c.from_residual.ensures.0
+
+pub returns-in_err-size-clause-registered : goal.returns-in_err-size-clause-registered
+returns-in_err-size-clause-registered g c = IfOk-from_err c.from_residual.result _ c.from_residual.ensures.0
+
+pub returns-in_err-size-clause-short : goal.returns-in_err-size-clause-short
+returns-in_err-size-clause-short g c = IfOk-from_err c.from_residual.result _ c.from_residual.ensures.0
+
+pub returns-in_err-size-clause-fits : goal.returns-in_err-size-clause-fits
+returns-in_err-size-clause-fits g c = IfOk-from_err c.from_residual.result _ c.from_residual.ensures.0
+
+pub returns-in_err-add_pattern-clause-trie : goal.returns-in_err-add_pattern-clause-trie
+returns-in_err-add_pattern-clause-trie g c = IfOk-from_err c.from_residual-in_err-add_pattern.result _ c.from_residual-in_err-add_pattern.ensures.0
+
+pub returns-in_err-add_pattern-clause-registered : goal.returns-in_err-add_pattern-clause-registered
+returns-in_err-add_pattern-clause-registered g c = IfOk-from_err c.from_residual-in_err-add_pattern.result _ c.from_residual-in_err-add_pattern.ensures.0
+
+pub returns-in_err-add_pattern-clause-short : goal.returns-in_err-add_pattern-clause-short
+returns-in_err-add_pattern-clause-short g c = IfOk-from_err c.from_residual-in_err-add_pattern.result _ c.from_residual-in_err-add_pattern.ensures.0
+
+pub returns-in_err-add_pattern-clause-fits : goal.returns-in_err-add_pattern-clause-fits
+returns-in_err-add_pattern-clause-fits g c = IfOk-from_err c.from_residual-in_err-add_pattern.result _ c.from_residual-in_err-add_pattern.ensures.0
+
+pub returns-clause-fits : goal.returns-clause-fits
+returns-clause-fits g c = grind (arith, elements)

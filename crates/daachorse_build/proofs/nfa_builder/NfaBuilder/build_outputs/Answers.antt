@@ -2,6 +2,7 @@
 use Rattle.std.proofs.Common.{◌≡◌, ◌⊎◌, ℕ, Bool, true, false, List, length, map, drop, get_or, refl, sym, ap, ◌∙◌, subst, inl, inr, arith}
 use Rattle.std.proofs.lemmas.List.{take_at}
 use Rattle.std.proofs.lemmas.Result.{on_ok_weaker}
+use Rattle.std.proofs.lemmas.Grind.{common_steps, elements}
 use Rattle.std.specs.declared.cmp.Ordering.{Ordering}
 use Rattle.std.specs.Cmp.{IsTotalOrder}
 use Rattle.daachorse_core.specs.Outputs.{outputs_at}
@@ -128,3 +129,9 @@ returns-clause-fails g c =
     let same_len : length new ≡ c.self.inside.states.len = omega (arith, c.put_lists.auto.states, c.deref_mut.ensures.len) in
     let back = take_at new (drop (length new) old) c.self.inside.states.len same_len in
     rw (← c.self.view_is, back) (c.put_lists.ensures.fails ∙ ap fails_of c.deref_mut.ensures.value)
+
+pub invariant_of-self : goal.invariant_of-self
+invariant_of-self g c = grind (arith, common_steps)
+
+pub returns-clause-refused : goal.returns-clause-refused
+returns-clause-refused g c = grind (arith, elements)

@@ -2,6 +2,7 @@
 use Rattle.std.proofs.Common.{◌≡◌, ◌<◌, ℕ, List, [], length, get_or, drop, subst, sym, ap, ◌∙◌, arith}
 use Rattle.std.specs.Prelude.{Bool, not, ◌&&◌, ◌==◌}
 use Rattle.std.proofs.lemmas.List.{length-map, take_at}
+use Rattle.std.proofs.lemmas.Result.{IfOk-from_err}
 use Rattle.std.specs.declared.cmp.Ordering.{Ordering}
 use Rattle.daachorse_build.specs.Tables.{edges_of, fails_of, own_of, own_at, stops_of, IsTable}
 use Rattle.daachorse_build.specs.declared.nfa_builder.NfaBuilderState.{NfaBuilderState}
@@ -82,3 +83,21 @@ invariant_of-self g c =
     let edges : edges_of old ≡ edges_of new = ap edges_of (sym c.deref_mut.ensures.value) ∙ sym c.set_links.ensures.kept.edges in
     let P : List (List (g.row.L.Denot × ℕ)) → Type 0 = λ es. IsTable g.L.Ord.cmp es in
     rw back (subst P edges c.self.invariant)
+
+pub returns-in_err-search-clause-links : goal.returns-in_err-search-clause-links
+returns-in_err-search-clause-links g c = IfOk-from_err c.from_residual.result _ c.from_residual.ensures.0
+
+pub returns-in_err-search-clause-root : goal.returns-in_err-search-clause-root
+returns-in_err-search-clause-root g c = IfOk-from_err c.from_residual.result _ c.from_residual.ensures.0
+
+pub returns-in_err-search-clause-states : goal.returns-in_err-search-clause-states
+returns-in_err-search-clause-states g c = IfOk-from_err c.from_residual.result _ c.from_residual.ensures.0
+
+pub returns-in_err-expand-clause-links : goal.returns-in_err-expand-clause-links
+returns-in_err-expand-clause-links g c = IfOk-from_err c.from_residual-in_err-expand.result _ c.from_residual-in_err-expand.ensures.0
+
+pub returns-in_err-expand-clause-root : goal.returns-in_err-expand-clause-root
+returns-in_err-expand-clause-root g c = IfOk-from_err c.from_residual-in_err-expand.result _ c.from_residual-in_err-expand.ensures.0
+
+pub returns-in_err-expand-clause-states : goal.returns-in_err-expand-clause-states
+returns-in_err-expand-clause-states g c = IfOk-from_err c.from_residual-in_err-expand.result _ c.from_residual-in_err-expand.ensures.0

@@ -6,6 +6,8 @@ use Rattle.std.proofs.lemmas.List.Sorted.{IsPermutation-refl, All-permutation}
 use Rattle.std.proofs.lemmas.List.Elements.{All-weaker}
 use Rattle.std.proofs.lemmas.Fn.{always_returns_same}
 use Rattle.std.proofs.lemmas.Map.Keys.{ge_from_not_lt}
+use Rattle.std.proofs.lemmas.Grind.{common_steps}
+use Rattle.std.proofs.lemmas.Result.{IfOk-from_err}
 use Rattle.std.specs.declared.cmp.Reverse.{Reverse}
 use Rattle.daachorse_placement.specs.declared.build_helper.SiblingGroup.{SiblingGroup}
 use Rattle.daachorse_build.specs.declared.nfa_builder.NfaBuilderState.{NfaBuilderState}
@@ -109,3 +111,36 @@ returns-clause-falling g c =
           let zero' = returns-clause-light g c (c.is_empty.ensures.0 w.if-not-is_empty.false) in
           λ k d l. omega (arith, zero' k d (omega arith), zero' (k + 1) d l)
     ]
+
+pub groups_of-requires-clause-profile : goal.groups_of-requires-clause-profile
+groups_of-requires-clause-profile g c = grind (arith, common_steps)
+
+pub returns-in_err-groups-clause-trie : goal.returns-in_err-groups-clause-trie
+returns-in_err-groups-clause-trie g c = IfOk-from_err c.from_residual.result _ c.from_residual.ensures.0
+
+pub returns-in_err-groups-clause-groups : goal.returns-in_err-groups-clause-groups
+returns-in_err-groups-clause-groups g c = IfOk-from_err c.from_residual.result _ c.from_residual.ensures.0
+
+pub returns-in_err-groups-clause-bound : goal.returns-in_err-groups-clause-bound
+returns-in_err-groups-clause-bound g c = IfOk-from_err c.from_residual.result _ c.from_residual.ensures.0
+
+pub returns-in_err-groups-clause-weights : goal.returns-in_err-groups-clause-weights
+returns-in_err-groups-clause-weights g c = IfOk-from_err c.from_residual.result _ c.from_residual.ensures.0
+
+pub returns-in_err-groups-clause-falling : goal.returns-in_err-groups-clause-falling
+returns-in_err-groups-clause-falling g c = IfOk-from_err c.from_residual.result _ c.from_residual.ensures.0
+
+pub returns-in_err-sort_by_key-clause-trie : goal.returns-in_err-sort_by_key-clause-trie
+returns-in_err-sort_by_key-clause-trie g c = IfOk-from_err c.from_residual-in_err-sort_by_key.result _ c.from_residual-in_err-sort_by_key.ensures.0
+
+pub returns-in_err-sort_by_key-clause-groups : goal.returns-in_err-sort_by_key-clause-groups
+returns-in_err-sort_by_key-clause-groups g c = IfOk-from_err c.from_residual-in_err-sort_by_key.result _ c.from_residual-in_err-sort_by_key.ensures.0
+
+pub returns-in_err-sort_by_key-clause-bound : goal.returns-in_err-sort_by_key-clause-bound
+returns-in_err-sort_by_key-clause-bound g c = IfOk-from_err c.from_residual-in_err-sort_by_key.result _ c.from_residual-in_err-sort_by_key.ensures.0
+
+pub returns-in_err-sort_by_key-clause-weights : goal.returns-in_err-sort_by_key-clause-weights
+returns-in_err-sort_by_key-clause-weights g c = IfOk-from_err c.from_residual-in_err-sort_by_key.result _ c.from_residual-in_err-sort_by_key.ensures.0
+
+pub returns-in_err-sort_by_key-clause-falling : goal.returns-in_err-sort_by_key-clause-falling
+returns-in_err-sort_by_key-clause-falling g c = IfOk-from_err c.from_residual-in_err-sort_by_key.result _ c.from_residual-in_err-sort_by_key.ensures.0

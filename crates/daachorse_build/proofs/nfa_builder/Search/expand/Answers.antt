@@ -4,6 +4,7 @@ use Rattle.std.proofs.lemmas.List.{length-map, get_or-map, get_or_read, length_p
 use Rattle.std.proofs.lemmas.Map.Iter.{iter_turn, iter_end}
 use Rattle.std.specs.Map.Iter.{deref_pair}
 use Rattle.std.proofs.lemmas.Map.Entries.{length-values_of}
+use Rattle.std.proofs.lemmas.Result.{IfOk-from_err}
 use Rattle.std.specs.declared.cmp.Ordering.{Ordering}
 use Rattle.daachorse_build.specs.Tables.{edges_of, stops_of}
 use Rattle.daachorse_build.specs.Orders.{IsLinkAmong, IsIn, IsSearch, children}
@@ -132,3 +133,9 @@ offset_bounds-states-id g c =
     let left = left_is g.L.Ord.cmp (stops_of s.leftmost c.args.states.now) (edges_of c.args.states.now) s.links.items s.order.items [] s.next c.index-id.result.now c.requires.search more c.index-id.ensures in
     let low : c.index-id.result.now < length c.args.states.now = omega (arith, left.3, length-map c.args.states.now (λ s. s.edges)) in
     omega arith
+
+pub returns-in_err-push-clause-search : goal.returns-in_err-push-clause-search
+returns-in_err-push-clause-search g c = IfOk-from_err c.from_residual.result _ c.from_residual.ensures.0
+
+pub returns-in_err-push-clause-next : goal.returns-in_err-push-clause-next
+returns-in_err-push-clause-next g c = IfOk-from_err c.from_residual.result _ c.from_residual.ensures.0

@@ -4,6 +4,8 @@ use Rattle.std.specs.Map.Iter.{deref_pair}
 use Rattle.std.proofs.lemmas.Map.Iter.{iter_turn, iter_end}
 use Rattle.std.proofs.lemmas.Map.Entries.{length-values_of}
 use Rattle.std.proofs.lemmas.List.{length-map, get_or-map, length_push, take_all}
+use Rattle.std.proofs.lemmas.Result.{IfOk-from_err}
+use Rattle.std.proofs.lemmas.Grind.{common_steps}
 use Rattle.daachorse_build.specs.Tables.{edges_of, stops_of}
 use Rattle.daachorse_build.specs.Orders.{children}
 use Rattle.daachorse_build.proofs.Queue.{search_start, search_first, child_at_place}
@@ -61,3 +63,30 @@ returns-clause-search g c =
     let whole : take (length c.loop-child.yielded) (children (edges_of states) 0) ≡ children (edges_of states) 0 =
     take_all (length c.loop-child.yielded) (children (edges_of states) 0) (omega (arith, end.1, length-values_of (get_or (edges_of states) 0 []), ap length at)) in
     rw whole at c.loop-child.invariant
+
+pub returns-in_err-links-clause-search : goal.returns-in_err-links-clause-search
+returns-in_err-links-clause-search g c = IfOk-from_err c.from_residual.result _ c.from_residual.ensures.0
+
+pub returns-in_err-links-clause-kind : goal.returns-in_err-links-clause-kind
+returns-in_err-links-clause-kind g c = IfOk-from_err c.from_residual.result _ c.from_residual.ensures.0
+
+pub returns-in_err-links-clause-refused : goal.returns-in_err-links-clause-refused
+returns-in_err-links-clause-refused g c = grind (arith, common_steps)
+
+pub returns-in_err-order-clause-refused : goal.returns-in_err-order-clause-refused
+returns-in_err-order-clause-refused g c = grind (arith, common_steps)
+
+pub bounds-states-root : goal.bounds-states-root
+bounds-states-root g c = grind (arith, common_steps)
+
+pub returns-in_err-order-clause-search : goal.returns-in_err-order-clause-search
+returns-in_err-order-clause-search g c = IfOk-from_err c.from_residual-in_err-order.result _ c.from_residual-in_err-order.ensures.0
+
+pub returns-in_err-order-clause-kind : goal.returns-in_err-order-clause-kind
+returns-in_err-order-clause-kind g c = IfOk-from_err c.from_residual-in_err-order.result _ c.from_residual-in_err-order.ensures.0
+
+pub returns-in_err-push-clause-search : goal.returns-in_err-push-clause-search
+returns-in_err-push-clause-search g c = IfOk-from_err c.from_residual-in_err-push.result _ c.from_residual-in_err-push.ensures.0
+
+pub returns-in_err-push-clause-kind : goal.returns-in_err-push-clause-kind
+returns-in_err-push-clause-kind g c = IfOk-from_err c.from_residual-in_err-push.result _ c.from_residual-in_err-push.ensures.0

@@ -2,6 +2,8 @@
 use Rattle.std.proofs.Common.{◌≡◌, ◌<◌, ℕ, not, List, [], ◌∷◌, ◌++◌, length, get_or, refl, sym, ap, ◌∙◌, subst, arith}
 use Rattle.std.proofs.lemmas.List.{length-map, get_or-map, append-nil}
 use Rattle.std.proofs.lemmas.List.Elements.{All-push}
+use Rattle.std.proofs.lemmas.Grind.{common_steps}
+use Rattle.std.proofs.lemmas.Result.{IfOk-from_err}
 use Rattle.std.specs.List.{filter}
 use Rattle.std.specs.Map.{values_of}
 use Rattle.daachorse_placement.specs.declared.build_helper.SiblingGroup.{SiblingGroup}
@@ -146,3 +148,42 @@ returns-clause-parents g c =
     let zero' : length c.loop-id.stack.items ≡ 0 = omega (arith, c.in_default.ensures.cases.0) in
     let none = nothing c.loop-id.stack.items zero' in
     (walk.0, walk_end g.L.Ord.cmp g.met.L.Ord.total edges c.requires.trie walk.0 (subst P none walk.1), walk.2)
+
+pub returns-in_err-push-clause-refused : goal.returns-in_err-push-clause-refused
+returns-in_err-push-clause-refused g c = grind (arith, common_steps)
+
+pub returns-in_err-push-clause-parents : goal.returns-in_err-push-clause-parents
+returns-in_err-push-clause-parents g c = IfOk-from_err c.from_residual.result _ c.from_residual.ensures.0
+
+pub returns-in_err-push-clause-families : goal.returns-in_err-push-clause-families
+returns-in_err-push-clause-families g c = IfOk-from_err c.from_residual.result _ c.from_residual.ensures.0
+
+pub returns-in_err-push-clause-weights : goal.returns-in_err-push-clause-weights
+returns-in_err-push-clause-weights g c = IfOk-from_err c.from_residual.result _ c.from_residual.ensures.0
+
+pub returns-in_err-put_children-clause-parents : goal.returns-in_err-put_children-clause-parents
+returns-in_err-put_children-clause-parents g c = IfOk-from_err c.from_residual-in_err-put_children.result _ c.from_residual-in_err-put_children.ensures.0
+
+pub returns-in_err-put_children-clause-families : goal.returns-in_err-put_children-clause-families
+returns-in_err-put_children-clause-families g c = IfOk-from_err c.from_residual-in_err-put_children.result _ c.from_residual-in_err-put_children.ensures.0
+
+pub returns-in_err-put_children-clause-weights : goal.returns-in_err-put_children-clause-weights
+returns-in_err-put_children-clause-weights g c = IfOk-from_err c.from_residual-in_err-put_children.result _ c.from_residual-in_err-put_children.ensures.0
+
+pub returns-in_err-group_of-clause-parents : goal.returns-in_err-group_of-clause-parents
+returns-in_err-group_of-clause-parents g c = IfOk-from_err c.from_residual-in_err-group_of.result _ c.from_residual-in_err-group_of.ensures.0
+
+pub returns-in_err-group_of-clause-families : goal.returns-in_err-group_of-clause-families
+returns-in_err-group_of-clause-families g c = IfOk-from_err c.from_residual-in_err-group_of.result _ c.from_residual-in_err-group_of.ensures.0
+
+pub returns-in_err-group_of-clause-weights : goal.returns-in_err-group_of-clause-weights
+returns-in_err-group_of-clause-weights g c = IfOk-from_err c.from_residual-in_err-group_of.result _ c.from_residual-in_err-group_of.ensures.0
+
+pub returns-in_err-push-2-clause-parents : goal.returns-in_err-push-2-clause-parents
+returns-in_err-push-2-clause-parents g c = IfOk-from_err c.from_residual-in_err-push-2.result _ c.from_residual-in_err-push-2.ensures.0
+
+pub returns-in_err-push-2-clause-families : goal.returns-in_err-push-2-clause-families
+returns-in_err-push-2-clause-families g c = IfOk-from_err c.from_residual-in_err-push-2.result _ c.from_residual-in_err-push-2.ensures.0
+
+pub returns-in_err-push-2-clause-weights : goal.returns-in_err-push-2-clause-weights
+returns-in_err-push-2-clause-weights g c = IfOk-from_err c.from_residual-in_err-push-2.result _ c.from_residual-in_err-push-2.ensures.0

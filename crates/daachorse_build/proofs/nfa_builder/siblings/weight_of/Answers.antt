@@ -5,6 +5,7 @@ use Rattle.std.proofs.lemmas.List.Sums.{sum_by_push}
 use Rattle.std.proofs.lemmas.Bool.{false≢true}
 use Rattle.std.proofs.lemmas.Map.Iter.{iter_turn, iter_end}
 use Rattle.std.proofs.lemmas.Option.{none-some, same_Some}
+use Rattle.std.proofs.lemmas.Grind.{common_steps}
 use Rattle.std.specs.List.{slice_get}
 use Rattle.std.specs.Map.{values_of}
 use Rattle.std.specs.Map.Iter.{deref}
@@ -109,3 +110,9 @@ returns g c =
 
 pub offset_bounds-states-parent : goal.offset_bounds-states-parent
 offset_bounds-states-parent g c = omega (arith, c.requires.parent)
+
+pub returns-then-is_empty : goal.returns-then-is_empty
+returns-then-is_empty g c = grind (arith, common_steps)
+
+pub index-weight-requires : goal.index-weight-requires
+index-weight-requires g c = grind (arith, common_steps)

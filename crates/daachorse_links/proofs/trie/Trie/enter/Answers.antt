@@ -1,5 +1,6 @@
 use Rattle.std.proofs.Common.{◌≡◌, ◌+◌, ◌<◌, cond, length, get_or, set, sym, ap, ◌∙◌, subst, arith}
 use Rattle.std.proofs.lemmas.List.{get_or_read, length-set}
+use Rattle.std.proofs.lemmas.Grind.{common_steps}
 use Rattle.daachorse_links.specs.Places.{stop}
 use Rattle.daachorse_links.specs.Near.{up, near, right, or_top}
 use Rattle.daachorse_links.specs.Tours.{IsEntering}
@@ -43,3 +44,12 @@ loop-m-preserved g c =
       low = omega (arith, inv.low);
       is = subst (λ l. IsEntering t.parents.items t.labels.items t.stops.items t.fails.items (set near' l m) (set saved m c.index-found.result.now) c.args.saved.now.items p (m + 1)) (sym label) next;
     }
+
+pub returns-then-right_link-index-clause-no : goal.returns-then-right_link-index-clause-no
+returns-then-right_link-index-clause-no g c = grind (arith, common_steps)
+
+pub index_mut-requires-in-loop-m : goal.index_mut-requires-in-loop-m
+index_mut-requires-in-loop-m g c = grind (arith, common_steps)
+
+pub returns-clause-kept : goal.returns-clause-kept
+returns-clause-kept g c = grind (arith, common_steps)

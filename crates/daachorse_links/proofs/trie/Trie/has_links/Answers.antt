@@ -1,5 +1,6 @@
 use Rattle.std.proofs.Common.{rules, ◌≡◌, ℕ, ◌+◌, ◌<◌, length, sym, ap, ◌∙◌, refl, subst, get_or, replicate, arith}
 use Rattle.std.proofs.lemmas.List.{get_or_read, get_or-replicate, length-replicate}
+use Rattle.std.proofs.lemmas.Result.{IfOk-from_err}
 use Rattle.daachorse_links.specs.Near.{up, top, above, IsAbove, IsSaved}
 use Rattle.daachorse_links.specs.Tours.{IsTouring}
 use Rattle.daachorse_links.proofs.LinkLaws.{right_falls, right_checked, sound}
@@ -127,3 +128,27 @@ loop-k-preserved g c =
       within = omega (arith, more);
       touring = subst (λ p. IsTouring t.parents.items t.labels.items t.stops.items fs next c.enter.new.near.items c.enter.new.saved.items (k.k + 1) k.next p c.if-above-count.other) (sym read) step;
     }
+
+pub returns-in_err-starts-clause-yes : goal.returns-in_err-starts-clause-yes
+returns-in_err-starts-clause-yes g c = IfOk-from_err c.from_residual.result _ c.from_residual.ensures.0
+
+pub returns-in_err-starts-clause-no : goal.returns-in_err-starts-clause-no
+returns-in_err-starts-clause-no g c = IfOk-from_err c.from_residual.result _ c.from_residual.ensures.0
+
+pub returns-in_err-tour-clause-yes : goal.returns-in_err-tour-clause-yes
+returns-in_err-tour-clause-yes g c = IfOk-from_err c.from_residual-in_err-tour.result _ c.from_residual-in_err-tour.ensures.0
+
+pub returns-in_err-tour-clause-no : goal.returns-in_err-tour-clause-no
+returns-in_err-tour-clause-no g c = IfOk-from_err c.from_residual-in_err-tour.result _ c.from_residual-in_err-tour.ensures.0
+
+pub returns-in_err-near-clause-yes : goal.returns-in_err-near-clause-yes
+returns-in_err-near-clause-yes g c = IfOk-from_err c.from_residual-in_err-near.result _ c.from_residual-in_err-near.ensures.0
+
+pub returns-in_err-near-clause-no : goal.returns-in_err-near-clause-no
+returns-in_err-near-clause-no g c = IfOk-from_err c.from_residual-in_err-near.result _ c.from_residual-in_err-near.ensures.0
+
+pub returns-in_err-saved-clause-yes : goal.returns-in_err-saved-clause-yes
+returns-in_err-saved-clause-yes g c = IfOk-from_err c.from_residual-in_err-saved.result _ c.from_residual-in_err-saved.ensures.0
+
+pub returns-in_err-saved-clause-no : goal.returns-in_err-saved-clause-no
+returns-in_err-saved-clause-no g c = IfOk-from_err c.from_residual-in_err-saved.result _ c.from_residual-in_err-saved.ensures.0

@@ -1,5 +1,7 @@
 use Rattle.std.proofs.Common.{rules, ◌≡◌, ◌≤◌, ◌++◌, ◌∷◌, [], suc, length, sym, ap, ◌∙◌, subst, arith}
 use Rattle.std.proofs.lemmas.List.{length_push}
+use Rattle.std.proofs.lemmas.Grind.{elements, common_steps}
+use Rattle.std.proofs.lemmas.Result.{IfOk-from_err}
 use Rattle.daachorse_links.specs.Places.{AreStartsTo}
 use Rattle.daachorse_links.proofs.StartLaws.{starts_push}
 use Rattle.daachorse_links.proofs.trie.Trie.starts.Goals as goal
@@ -21,3 +23,15 @@ loop-starts-2-preserved g c =
       past = λ k low high. omega (arith, more, inv.past k low high);
       most = omega (arith, more, small);
     }
+
+pub loop-starts-preserved : goal.loop-starts-preserved
+loop-starts-preserved g c = grind (arith, elements)
+
+pub returns-in_err-push-clause-ok : goal.returns-in_err-push-clause-ok
+returns-in_err-push-clause-ok g c = IfOk-from_err c.from_residual.result _ c.from_residual.ensures.0
+
+pub loop-m-preserved : goal.loop-m-preserved
+loop-m-preserved g c = grind (arith, common_steps)
+
+pub returns-in_err-push-2-clause-ok : goal.returns-in_err-push-2-clause-ok
+returns-in_err-push-2-clause-ok g c = IfOk-from_err c.from_residual-in_err-push-2.result _ c.from_residual-in_err-push-2.ensures.0

@@ -1,5 +1,7 @@
 use Rattle.std.proofs.Common.{◌≡◌, ◌<◌, ◌≤◌, suc, length, sym, ap, ◌∙◌, subst, get_or, set, inl, inr, arith}
 use Rattle.std.proofs.lemmas.List.{get_or_read}
+use Rattle.std.proofs.lemmas.Result.{IfOk-from_err}
+use Rattle.std.proofs.lemmas.Grind.{common_steps, elements}
 use Rattle.daachorse_links.specs.Near.{up}
 use Rattle.daachorse_links.specs.Tours.{IsTour}
 use Rattle.daachorse_links.proofs.NearLaws.{ups_fall}
@@ -34,3 +36,12 @@ returns-clause-ok g c =
     let inv = c.loop-m.invariant in
     let e : c.loop-m.m ≡ length fs = omega (arith, inv.within, inv.is, c.loop-m-test.false) in
     subst (λ k. IsTour (up fs) (length fs) c.loop-m.next.items k) e inv.tour
+
+pub returns-in_err-next-clause-ok : goal.returns-in_err-next-clause-ok
+returns-in_err-next-clause-ok g c = IfOk-from_err c.from_residual.result _ c.from_residual.ensures.0
+
+pub loop-m-init : goal.loop-m-init
+loop-m-init g c = grind (arith, common_steps)
+
+pub index_mut-requires-in-loop-m : goal.index_mut-requires-in-loop-m
+index_mut-requires-in-loop-m g c = grind (arith, elements)

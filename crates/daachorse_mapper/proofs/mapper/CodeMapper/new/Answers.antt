@@ -1,6 +1,8 @@
 -- The table that the ranks fill is the coding of the frequencies.
 use Rattle.std.proofs.Common.{◌≡◌, ℕ, ◌<◌, ◌^◌, List, length, nat_lt, subst, arith, rules}
 use Rattle.std.proofs.lemmas.List.Sums.{count_by-le-length}
+use Rattle.std.proofs.lemmas.Result.{IfOk-from_err}
+use Rattle.std.proofs.lemmas.Grind.{common_steps}
 use Rattle.daachorse_mapper.specs.Codings.{Coding}
 use Rattle.daachorse_mapper.specs.Ranks.{IsFilled}
 use Rattle.daachorse_mapper.proofs.Coded.{coding_from}
@@ -17,3 +19,15 @@ returns-clause-ok g c =
     let F : List (ℕ × ℕ) → Type 0 = λ xs. IsFilled xs (length xs) table in
     let filled = subst F c.deref.ensures.value c.in_ok-table.ensures.filled in
     coding_from c.args.freqs.now ranked m few r size c.in_ok-table.ensures.len filled
+
+pub returns-in_err-ranked-clause-ok : goal.returns-in_err-ranked-clause-ok
+returns-in_err-ranked-clause-ok g c = IfOk-from_err c.from_residual.result _ c.from_residual.ensures.0
+
+pub fill-requires-clause-few : goal.fill-requires-clause-few
+fill-requires-clause-few g c = grind (arith, common_steps)
+
+pub returns-in_err-table-clause-ok : goal.returns-in_err-table-clause-ok
+returns-in_err-table-clause-ok g c = IfOk-from_err c.from_residual-in_err-table.result _ c.from_residual-in_err-table.ensures.0
+
+pub overflow_cast-result : goal.overflow_cast-result
+overflow_cast-result g c = grind (arith, common_steps)

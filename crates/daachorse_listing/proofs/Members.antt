@@ -1,6 +1,6 @@
 -- Members of lists, pairs of them, and tables in which the entries of some are written.
-use Rattle.std.proofs.Common.{◌≡◌, ◌≢◌, ℕ, zero, suc, ◌<◌, ◌≤◌, ◌⊎◌, inl, inr, true, false, ◌==◌, List, [], ◌∷◌, ◌++◌, length, map, get_or, set, Option, Some, None, refl, sym, ap, ◌∙◌, arith, subst}
-use Rattle.std.proofs.lemmas.List.{get_or-set_same, get_or-set_other, length-set, reverse-append}
+use Rattle.std.proofs.Common.{◌≡◌, ◌≢◌, ℕ, zero, suc, ◌+◌, ◌<◌, ◌≤◌, ◌⊎◌, inl, inr, true, false, ◌==◌, List, [], ◌∷◌, ◌++◌, length, map, reverse, get_or, set, Option, Some, None, refl, sym, ap, ◌∙◌, arith, subst}
+use Rattle.std.proofs.lemmas.List.{get_or-set_same, get_or-set_other, length-set, length-map, length-reverse, reverse-append}
 use Rattle.std.proofs.lemmas.Option.{same_Some}
 use Rattle.std.specs.List.{AllByRecursion}
 use Rattle.daachorse_model.proofs.Booleans.{either}
@@ -65,6 +65,10 @@ among-All P [] k all h = absurd h
 among-All P (x ∷ xs) k all (inl e) = subst P (sym e) all.0
 among-All P (x ∷ xs) k all (inr h) = among-All P xs k all.1 h
 
+pub length-put : (xs l : List ℕ) → length (put_before xs l) ≡ length xs + length l
+length-put [] l = omega arith
+length-put (x ∷ xs) l = omega (arith, length-put xs (x ∷ l))
+
 -- ---- the children of an element
 
 module _ (child : ℕ → ℕ → Option ℕ) (i : ℕ) where
@@ -109,16 +113,20 @@ module _ (child : ℕ → ℕ → Option ℕ) (i : ℕ) where
 
 -- ---- pairs
 
+pub Pairs-map : (R S : ℕ → ℕ → Type 0) (xs : List ℕ) → ((i j : ℕ) → R i j → S i j) → Pairs R xs → Pairs S xs
+Pairs-map R S [] h p = tt
+Pairs-map R S (x ∷ xs) h p = (All-among (S x) xs (λ j a. h x j (among-All (R x) xs j p.0 a)), Pairs-map R S xs h p.1)
+
 module _ (R : ℕ → ℕ → Type 0) where
-  pub Pairs-push : (xs : List ℕ) (x : ℕ) → Pairs R xs → ((k : ℕ) → IsAmong xs k → R k x) → Pairs R (xs ++ x ∷ [])
-  Pairs-push [] x pairs h = (tt, tt)
-  Pairs-push (y ∷ ys) x pairs h = (
-    All-among (R y) (ys ++ x ∷ []) (λ k a. elim (among-append ys (x ∷ []) k a) [
-      | inl old ↦ among-All (R y) ys k pairs.0 old
-      | inr new ↦ elim new [ inl same ↦ subst (R y) (sym same) (h y (inl refl)) | inr none ↦ absurd none ]
-    ]),
-    Pairs-push ys x pairs.1 (λ k a. h k (inr a)),
+  pub Pairs-append : (xs ys : List ℕ) → Pairs R xs → Pairs R ys → ((i j : ℕ) → IsAmong xs i → IsAmong ys j → R i j) → Pairs R (xs ++ ys)
+  Pairs-append [] ys p q cross = q
+  Pairs-append (x ∷ xs) ys p q cross = (
+    All-among (R x) (xs ++ ys) (λ j a. elim (among-append xs ys j a) [ inl old ↦ among-All (R x) xs j p.0 old | inr new ↦ cross x j (inl refl) new ]),
+    Pairs-append xs ys p.1 q (λ i j a b. cross i j (inr a) b),
   )
+
+  pub Pairs-push : (xs : List ℕ) (x : ℕ) → Pairs R xs → ((k : ℕ) → IsAmong xs k → R k x) → Pairs R (xs ++ x ∷ [])
+  Pairs-push xs x pairs h = Pairs-append xs (x ∷ []) pairs (tt, tt) (λ k j a new. elim new [ inl same ↦ subst (R k) (sym same) (h k a) | inr none ↦ absurd none ])
 
   -- numbers below n, where none stands in R to itself: there are at most n
   pub Pairs-few : (xs : List ℕ) (n : ℕ) → Pairs R xs → ((k : ℕ) → ¬ R k k) → ((k : ℕ) → IsAmong xs k → k < n) → length xs ≤ n
@@ -158,6 +166,9 @@ marking-next kids left j x old new inside m = record {
 -- the last pair of a list is the first of its elements, read backwards
 pub elements-pop : (stack rest : List (ℕ × ℕ)) (x : ℕ × ℕ) → stack ≡ rest ++ x ∷ [] → elements_of stack ≡ x.1 ∷ elements_of rest
 elements-pop stack rest x e = ap elements_of e ∙ ap (λ l. map (λ p. p.1) l) (reverse-append rest (x ∷ []))
+
+pub length-elements : (stack : List (ℕ × ℕ)) → length (elements_of stack) ≡ length stack
+length-elements stack = length-map (reverse stack) (λ p. p.1) ∙ length-reverse stack
 
 pub elements-none : (stack : List (ℕ × ℕ)) → length stack ≡ 0 → elements_of stack ≡ []
 elements-none [] e = refl

@@ -10,18 +10,11 @@ use Rattle.daachorse_listing.specs.Depths.{IsDepthTable}
 use Rattle.daachorse_listing.specs.Edges.{is_in, members, IsTree, TellChildren}
 use Rattle.daachorse_listing.specs.Listing.{unit_of}
 use Rattle.daachorse_listing.specs.Trees.{IsAmong, Pairs, IsMarking, IsNoting, text}
-use Rattle.daachorse_listing.proofs.Members.{among-read, among-append, among-left, among-right, All-among, among-All, Pairs-few, marking-start}
+use Rattle.daachorse_listing.proofs.Members.{among-read, among-append, among-left, among-right, among-All, Pairs-append, Pairs-map, Pairs-few, marking-start}
 use Rattle.daachorse_listing.proofs.SortLaws.{below-All, below-falls, below-has, in-edge, edge-in}
 use Rattle.daachorse_listing.proofs.WalkLaws.{root-text, root-reached, reached-inside, child-text, child-reached, child-not-root}
 
 -- ---- lists whose entries differ
-
-once-append : (xs ys : List ℕ) → Pairs ◌≢◌ xs → Pairs ◌≢◌ ys → ((i j : ℕ) → IsAmong xs i → IsAmong ys j → i ≢ j) → Pairs ◌≢◌ (xs ++ ys)
-once-append [] ys p q cross = q
-once-append (x ∷ xs) ys p q cross = (
-  All-among (λ j. x ≢ j) (xs ++ ys) (λ j a. elim (among-append xs ys j a) [ inl old ↦ among-All (λ k. x ≢ k) xs j p.0 old | inr new ↦ cross x j (inl refl) new ]),
-  once-append xs ys p.1 q (λ i j a b. cross i j (inr a) b),
-)
 
 -- an entry is none of those before it
 once-before : (l : List ℕ) (k : ℕ) → Pairs ◌≢◌ l → k < length l → ¬ IsAmong (take k l) (get_or l k 0)
@@ -54,25 +47,28 @@ noting-none from depth reached depths none = record {
   marked = marking-start [] depth depths;
 }
 
+module _ {child : ℕ → ℕ → Option ℕ} {group : ℕ → Option ℕ} {edge : ℕ → Option (ℕ × ℕ)} {n : ℕ} (tell : TellChildren child group edge n) (i g : ℕ) (real : i < n) (own : group i ≡ Some g) where
+  member-child : (j : ℕ) → IsAmong (members edge g n) j → (c : ℕ) × (child i c ≡ Some j)
+  member-child j a =
+      let both = among-All (λ k. (k < n) × (is_in g (edge k) ≡ true)) (members edge g n) j (below-All (λ k. is_in g (edge k)) n) a in
+      (unit_of (edge j), tell.to_child i g (unit_of (edge j)) j real own both.0 (in-edge g (edge j) both.1))
+
+members-once : (edge : ℕ → Option (ℕ × ℕ)) (g n : ℕ) → Pairs ◌≢◌ (members edge g n)
+members-once edge g n = Pairs-map (λ a b. b < a) ◌≢◌ (members edge g n) (λ a b less. omega (arith, less)) (below-falls (λ k. is_in g (edge k)) n)
+
 pub noting-members : {child : ℕ → ℕ → Option ℕ} {group : ℕ → Option ℕ} {edge : ℕ → Option (ℕ × ℕ)} {n m : ℕ} → TellChildren child group edge n → ((i c j : ℕ) → child i c ≡ Some j → (j < n) × (c < m))
     → (i g : ℕ) → i < n → group i ≡ Some g → (depth : ℕ) (reached depths more deeper : List ℕ) → more ≡ reached ++ members edge g n → IsMarking (members edge g n) [] depth depths deeper
     → IsNoting (child i) depth reached depths more deeper
 noting-members {child} {group} {edge} {n} {m} tell inside i g real own depth reached depths more deeper is marked = record {
   kids = members edge g n;
   all = is;
-  child = λ j a. (
-      let both = among-All (λ k. (k < n) × (is_in g (edge k) ≡ true)) (members edge g n) j (below-All (λ k. is_in g (edge k)) n) a in
-      (unit_of (edge j), tell.to_child i g (unit_of (edge j)) j real own both.0 (in-edge g (edge j) both.1)));
+  child = member-child tell i g real own;
   complete = λ c j e. (
       let at = below-has (λ k. is_in g (edge k)) n j (inside i c j e).0 (edge-in g c (edge j) (tell.from_child i g c j real own e)).0 in
       subst (IsAmong (members edge g n)) at.2 (among-read (members edge g n) at.0 at.1));
-  once = differ (members edge g n) (below-falls (λ k. is_in g (edge k)) n);
+  once = members-once edge g n;
   marked = marked;
 }
-  where
-    differ : (l : List ℕ) → Pairs (λ a b. b < a) l → Pairs ◌≢◌ l
-    differ [] p = tt
-    differ (x ∷ l) p = (All-among (λ j. x ≢ j) l (λ j a. (let less = among-All (λ b. b < x) l j p.0 a in omega (arith, less))), differ l p.1)
 
 -- ---- the walk
 
@@ -125,6 +121,30 @@ module _ {child : ℕ → ℕ → Option ℕ} {n m : ℕ} (tree : IsTree child n
     not-entered : ¬ IsAmong (take k all) x
     not-entered a = once-before all k w.once less (subst (IsAmong (take k all)) is a)
 
+    -- a child was not reached before: its parent is the one element of the parent's text
+    fresh : (i j c : ℕ) → IsAmong all i → child x c ≡ Some j → i ≢ j
+    fresh i j c a kid same =
+        let leads : child x c ≡ Some i = kid ∙ ap (λ q. Some q) (sym same) in
+        elim (w.from i a) [
+          | inl zero_is ↦ child-not-root tree x c (w.reached x here) (leads ∙ ap (λ q. Some q) zero_is)
+          | inr other ↦ (
+              let p = other.0 in
+              let at : IsReached child m n p = w.reached p (among-take all k p other.2) in
+              let texts : text child n m p ≡ text child n m x =
+              last_same (text child n m p) (text child n m x) other.1 c (sym (child-text tree p other.1 i at other.3) ∙ child-text tree x c i (w.reached x here) leads) in
+              let one : p ≡ x = same_Some p x (sym at ∙ (ap (walk child 0) texts ∙ w.reached x here)) in
+              not-entered (subst (IsAmong (take k all)) one other.2))
+        ]
+
+    -- the list of those that were reached has room for the members of the element's group
+    pub entered-room : {group : ℕ → Option ℕ} {edge : ℕ → Option (ℕ × ℕ)} → TellChildren child group edge n → (g : ℕ) → group x ≡ Some g → length all + length (members edge g n) ≤ n
+    entered-room {group} {edge} tell g own =
+        let kid = member-child tell x g entered-inside own in
+        let few = Pairs-few ◌≢◌ (all ++ members edge g n) n
+        (Pairs-append ◌≢◌ all (members edge g n) w.once (members-once edge g n) (λ i j a b. fresh i j (kid j b).0 a (kid j b).1))
+        (λ i h. h refl) (λ i a. elim (among-append all (members edge g n) i a) [ inl old ↦ reached-inside tree i (w.reached i old) | inr new ↦ (tree.inside x (kid i new).0 i (kid i new).1).0 ]) in
+        omega (arith, few, length-append all (members edge g n))
+
     module _ (more deeper : List ℕ) (depth : ℕ) (deep : depth ≡ suc (get_or depths x 0)) (noting : IsNoting (child x) depth all depths more deeper) where
       kids : List ℕ
       kids = noting.kids
@@ -133,21 +153,8 @@ module _ {child : ℕ → ℕ → Option ℕ} {n m : ℕ} (tree : IsTree child n
       first =
           take-append-le (k + 1) all noting.kids (omega (arith, less)) ∙ (ap (λ q. take q all) (add-one k) ∙ (take-suc all k 0 less ∙ ap (λ y. take k all ++ y ∷ []) (sym is)))
 
-      -- a child was not reached before: its parent is the one element of the parent's text
-      fresh : (i j : ℕ) → IsAmong all i → IsAmong noting.kids j → i ≢ j
-      fresh i j a b same =
-          let kid = noting.child j b in
-          let leads : child x kid.0 ≡ Some i = kid.1 ∙ ap (λ q. Some q) (sym same) in
-          elim (w.from i a) [
-            | inl zero_is ↦ child-not-root tree x kid.0 (w.reached x here) (leads ∙ ap (λ q. Some q) zero_is)
-            | inr other ↦ (
-                let p = other.0 in
-                let at : IsReached child m n p = w.reached p (among-take all k p other.2) in
-                let texts : text child n m p ≡ text child n m x =
-                last_same (text child n m p) (text child n m x) other.1 kid.0 (sym (child-text tree p other.1 i at other.3) ∙ child-text tree x kid.0 i (w.reached x here) leads) in
-                let one : p ≡ x = same_Some p x (sym at ∙ (ap (walk child 0) texts ∙ w.reached x here)) in
-                not-entered (subst (IsAmong (take k all)) one other.2))
-          ]
+      kid-fresh : (i j : ℕ) → IsAmong all i → IsAmong noting.kids j → i ≢ j
+      kid-fresh i j a b = fresh i j (noting.child j b).0 a (noting.child j b).1
 
       walked : IsReaching child n m (all ++ noting.kids) (k + 1) deeper
       walked = record {
@@ -164,10 +171,10 @@ module _ {child : ℕ → ℕ → Option ℕ} {n m : ℕ} (tree : IsTree child n
           ]
           | inr new ↦ (let kid = noting.child i new in inr (x, kid.0, subst (λ l. IsAmong l x) (sym first) (among-right (take k all) (x ∷ []) x (inl refl)), kid.1))
         ];
-        once = once-append all noting.kids w.once noting.once fresh;
+        once = Pairs-append ◌≢◌ all noting.kids w.once noting.once kid-fresh;
         size = noting.marked.size ∙ w.size;
         depth = λ i a. elim (among-append all noting.kids i a) [
-          | inl old ↦ noting.marked.other i (λ new. fresh i i old new refl) ∙ w.depth i old
+          | inl old ↦ noting.marked.other i (λ new. kid-fresh i i old new refl) ∙ w.depth i old
           | inr new ↦ elim (noting.marked.written i new) [
             | inl bad ↦ absurd bad
             | inr written ↦ (let kid = noting.child i new in let long = ap length (child-text tree x kid.0 i (w.reached x here) kid.1) in

@@ -1,5 +1,5 @@
 -- A walk that takes the last element put aside lists the elements in the order of their texts.
-use Rattle.std.proofs.Common.{◌≡◌, ℕ, suc, ◌<◌, ◌≤◌, ◌⊎◌, inl, inr, List, [], ◌∷◌, ◌++◌, length, get_or, set, replicate, reverse, Option, Some, None, refl, sym, ap, ◌∙◌, arith, subst, length-append}
+use Rattle.std.proofs.Common.{◌≡◌, ℕ, suc, ◌+◌, ◌<◌, ◌≤◌, ◌⊎◌, inl, inr, List, [], ◌∷◌, ◌++◌, length, get_or, set, replicate, reverse, Option, Some, None, refl, sym, ap, ◌∙◌, arith, subst, length-append}
 use Rattle.std.proofs.lemmas.List.{get_or-replicate, get_or-set_same, get_or-set_other, length-set, length-replicate, reverse-append}
 use Rattle.std.specs.Cmp.Lexicographic.{nat_list_cmp_total}
 use Rattle.std.specs.declared.cmp.Ordering.{Ordering}
@@ -12,7 +12,7 @@ use Rattle.daachorse_listing.specs.Depths.{IsDepthTable}
 use Rattle.daachorse_listing.specs.Edges.{put_before, children, IsTree, TellChildren}
 use Rattle.daachorse_listing.specs.Listing.{unit_of}
 use Rattle.daachorse_listing.specs.Trees.{IsAmong, Pairs, IsMarking, text, ComesBefore, IsListed}
-use Rattle.daachorse_listing.proofs.Members.{among-append, among-left, among-right, among-put, put-left, put-right, among-either, All-among, among-All, among-children, children-among, Pairs-children, Pairs-push, Pairs-few}
+use Rattle.daachorse_listing.proofs.Members.{among-append, among-left, among-right, among-put, put-left, put-right, among-either, All-among, among-All, among-children, children-among, Pairs-children, Pairs-append, Pairs-map, Pairs-push, Pairs-few, length-put}
 use Rattle.daachorse_listing.proofs.Orders.{order, Diverges, Diverges-order, Diverges-on, Diverges-last, order-longer, order-itself}
 
 module _ (child : ℕ → ℕ → Option ℕ) (n m : ℕ) where
@@ -113,13 +113,6 @@ module _ {child : ℕ → ℕ → Option ℕ} {n m : ℕ} (tree : IsTree child n
     pub taken-shallow : get_or depths x 0 < 4294967295
     taken-shallow = let less : length (text child n m x) < 4294967295 = tree.shallow x (text child n m x) here in omega (arith, taken-depth, less)
 
-    -- the list of what was taken has room for one more
-    pub taken-few : length taken < n
-    taken-few =
-        let few : length (taken ++ x ∷ []) ≤ n = Pairs-few (ComesBefore child n m) (taken ++ x ∷ []) n (Pairs-push (ComesBefore child n m) taken x w.rising (λ k a. w.across k x a (inl refl)))
-        before-itself (λ k a. elim (among-append taken (x ∷ []) k a) [ inl old ↦ reached-inside k (w.reached k (inl old)) | inr new ↦ elim new [ inl same ↦ rw same taken-inside | inr bad ↦ absurd bad ] ]) in
-        omega (arith, few, length-append taken (x ∷ []))
-
     abbrev pub kids : List ℕ
     kids = children child x m
 
@@ -161,6 +154,32 @@ module _ {child : ℕ → ℕ → Option ℕ} {n m : ℕ} (tree : IsTree child n
       | inr old ↦ aside-before k old
     ]
 
+    reached-next : (i : ℕ) → IsAmong (taken ++ x ∷ []) i ⊎ IsAmong rest i → IsReached child m n i
+    reached-next i h = elim (split i h) [ inl old ↦ w.reached i old | inr kid ↦ child-reached x kid.0 i here kid.1 ]
+
+    rising-next : Pairs (ComesBefore child n m) (taken ++ x ∷ [])
+    rising-next = Pairs-push (ComesBefore child n m) taken x w.rising (λ k a. w.across k x a (inl refl))
+
+    apart-next : Pairs (Apart child n m) rest
+    apart-next =
+        Pairs-children child x (Apart child n m) m aside w.apart.1
+        (λ c k less e. All-among (Apart child n m k) aside (λ j a. kid-aside c k j e a))
+        (λ c d j k less inside a b. kids-rise c d j k less a b)
+
+    across-next : (i j : ℕ) → IsAmong (taken ++ x ∷ []) i → IsAmong rest j → ComesBefore child n m i j
+    across-next i j a b = elim (among-append taken (x ∷ []) i a) [
+      | inl old ↦ nat_list_cmp_total.trans (text child n m i) (text child n m x) (text child n m j) (w.across i x old (inl refl)) (x-before j b)
+      | inr new ↦ elim new [ inl same ↦ rw same (x-before j b) | inr bad ↦ absurd bad ]
+    ]
+
+    -- what is taken and what is put aside afterwards are no more than all elements
+    pub taken-room : length taken + suc (length aside + length kids) ≤ n
+    taken-room =
+        let before = Pairs-map (Apart child n m) (ComesBefore child n m) rest (λ i j. Diverges-order (text child n m i) (text child n m j)) apart-next in
+        let few : length ((taken ++ x ∷ []) ++ rest) ≤ n = Pairs-few (ComesBefore child n m) ((taken ++ x ∷ []) ++ rest) n (Pairs-append (ComesBefore child n m) (taken ++ x ∷ []) rest rising-next before across-next)
+        before-itself (λ k a. reached-inside k (reached-next k (among-append (taken ++ x ∷ []) rest k a))) in
+        omega (arith, few, length-append (taken ++ x ∷ []) rest, length-append taken (x ∷ []), length-put kids aside)
+
     module _ (new_depths : List ℕ) (depth : ℕ) (deeper : depth ≡ suc (get_or depths x 0)) (d : IsMarking kids [] depth depths new_depths) where
       at-kid : (i c : ℕ) → child x c ≡ Some i → get_or new_depths i 0 ≡ length (text child n m i)
       at-kid i c e = elim (d.written i among) [ inl bad ↦ absurd bad | inr is ↦ deep is ]
@@ -173,7 +192,7 @@ module _ {child : ℕ → ℕ → Option ℕ} {n m : ℕ} (tree : IsTree child n
 
       pub walk-next : IsWalk child n m (taken ++ x ∷ []) rest new_depths
       walk-next = record {
-        reached = λ i h. elim (split i h) [ inl old ↦ w.reached i old | inr kid ↦ child-reached x kid.0 i here kid.1 ];
+        reached = reached-next;
         root = keep 0 w.root;
         closed = λ i c j a e. elim (among-append taken (x ∷ []) i a) [
           | inl old ↦ keep j (w.closed i c j old e)
@@ -182,14 +201,9 @@ module _ {child : ℕ → ℕ → Option ℕ} {n m : ℕ} (tree : IsTree child n
             | inr bad ↦ absurd bad
           ]
         ];
-        rising = Pairs-push (ComesBefore child n m) taken x w.rising (λ k a. w.across k x a (inl refl));
-        apart = Pairs-children child x (Apart child n m) m aside w.apart.1
-            (λ c k less e. All-among (Apart child n m k) aside (λ j a. kid-aside c k j e a))
-            (λ c d j k less inside a b. kids-rise c d j k less a b);
-        across = λ i j a b. elim (among-append taken (x ∷ []) i a) [
-          | inl old ↦ nat_list_cmp_total.trans (text child n m i) (text child n m x) (text child n m j) (w.across i x old (inl refl)) (x-before j b)
-          | inr new ↦ elim new [ inl same ↦ rw same (x-before j b) | inr bad ↦ absurd bad ]
-        ];
+        rising = rising-next;
+        apart = apart-next;
+        across = across-next;
         depths_size = d.size ∙ w.depths_size;
         depth = λ i h. elim (among-either kids i) [
           | inl kid ↦ (let at = among-children child x m i kid in at-kid i at.0 at.1)

@@ -3,7 +3,7 @@
 //! The layers above may rely on the whole table: of each element how many units lead to it. The
 //! elements are entered in the order in which they were reached, so that no children are sorted.
 
-ghost use Rattle.std.specs.Prelude.{◌≡◌, ◌+◌, ◌<◌, ℕ, [], Some, length, slice_index, slice_index_or, IfOk, IfErr, OnOk};
+ghost use Rattle.std.specs.Prelude.{◌≡◌, ◌+◌, ◌<◌, ◌≤◌, ℕ, [], Some, length, slice_index, slice_index_or, vec_capacity, IfOk, IfErr};
 ghost use Rattle.daachorse_core.specs.Refusals.{IsOutOfMemory};
 ghost use Rattle.daachorse_listing.specs.Edges.{IsTree, TellChildren, members};
 ghost use Rattle.daachorse_listing.specs.Depths.{IsDepthTable};
@@ -31,12 +31,12 @@ pub fn depths<E: Edges, A: Allocator + Copy>(alloc: A, edges: &E) -> Result<Vec<
     let mut depths = vec![in alloc; NOT_REACHED; count]?;
     depths[0] = 0;
     let mut reached = Vec::with_capacity(alloc, count)?;
-    reached.push(0)?;
+    reached.push_reserved(0);
     let mut entered = 0;
     'elements: while entered < reached.len() {
         let element = reached[entered] as usize;
         entered += 1;
-        note_children(edges, &groups, element, &mut depths, &mut reached)?;
+        note_children(edges, &groups, element, &mut depths, &mut reached);
     }
     Ok(depths)
 }
@@ -48,7 +48,7 @@ fn note_children<E: Edges, A: Allocator>(
     element: usize,
     depths: &mut Vec<u32, A>,
     reached: &mut Vec<u32, A>,
-) -> Result<()>
+)
     requires inside { (i c j : ℕ) → E.child edges.now i c ≡ Some j → (j < E.count edges.now) × (c < E.units edges.now) }
     requires tell { TellChildren (E.child edges.now) (E.group edges.now) (E.edge edges.now) (E.count edges.now) }
     requires groups { (g : ℕ) → g < E.count edges.now
@@ -57,17 +57,18 @@ fn note_children<E: Edges, A: Allocator>(
     requires element { element < E.count edges.now }
     requires size { length depths.old.items ≡ E.count edges.now }
     requires shallow { slice_index depths.old.items element < 4294967295 }
-    ensures noted { OnOk result (IsNoting (E.child edges.now element) (slice_index depths.old.items element + 1)
-        reached.old.items depths.old.items reached.new.items depths.new.items) }
-    ensures err { IfErr result IsOutOfMemory }
+    requires room { (g : ℕ) → E.group edges.now element ≡ Some g
+        → length reached.old.items + length (members (E.edge edges.now) g (E.count edges.now)) ≤ vec_capacity reached.old }
+    ensures noted { IsNoting (E.child edges.now element) (slice_index depths.old.items element + 1)
+        reached.old.items depths.old.items reached.new.items depths.new.items }
+    ensures capacity { vec_capacity reached.new ≡ vec_capacity reached.old }
 {
     let Some(group) = edges.group(element) else {
-        return Ok(());
+        return;
     };
     let depth = depths[element] + 1;
     for child in groups.members(group) {
         depths[child as usize] = depth;
-        reached.push(child)?;
+        reached.push_reserved(child);
     }
-    Ok(())
 }

@@ -49,7 +49,7 @@ impl<A: Allocator + Copy> Siblings<A> {
         let mut first = vec![in alloc; 0; count]?;
         let mut next = Vec::with_capacity(alloc, count)?;
         for element in 0..count {
-            next.push(put_first(edges, element, &mut first))?;
+            next.push_reserved(put_first(edges, element, &mut first));
         }
         Ok(Siblings { first, next })
     }

@@ -4,7 +4,7 @@
 //! in it once, and on the table of the depths. The memory is linear in the number of elements, and so
 //! is the time but for the sorting of each element's children.
 
-ghost use Rattle.std.specs.Prelude.{◌≡◌, ◌+◌, ◌<◌, ◌^◌, ℕ, [], length, reverse, slice_index, slice_index_or, IfOk, IfErr, OnOk};
+ghost use Rattle.std.specs.Prelude.{◌≡◌, ◌+◌, ◌<◌, ◌≤◌, [], length, reverse, slice_index, vec_capacity, IfOk, IfErr};
 ghost use Rattle.daachorse_core.specs.Refusals.{IsOutOfMemory};
 ghost use Rattle.daachorse_listing.specs.Edges.{IsTree, TellChildren, put_before};
 ghost use Rattle.daachorse_listing.specs.Trees.{IsListed, IsMarking, elements_of};
@@ -47,12 +47,12 @@ impl<A: Allocator + Copy> Tree<A> {
         depths[0] = 0;
         let mut tree = Tree { order, depths };
         let mut children = Vec::new(alloc);
-        let mut aside = Vec::new(alloc);
-        aside.push(0)?;
+        let mut aside = Vec::with_capacity(alloc, count)?;
+        aside.push_reserved(0);
         while let Some(element) = aside.pop() {
-            tree.order.push(element)?;
+            tree.order.push_reserved(element);
             list_children(edges, &groups, element as usize, &mut children)?;
-            tree.put_aside(element, &mut children, &mut aside)?;
+            tree.put_aside(element, &mut children, &mut aside);
         }
         Ok(tree)
     }
@@ -65,20 +65,20 @@ impl<A: Allocator> Tree<A> {
         element: u32,
         children: &mut Vec<(u32, u32), A>,
         aside: &mut Vec<u32, A>,
-    ) -> Result<()>
+    )
         requires inside { AllByRecursion (λ j. j < length self.old.depths.items) (elements_of children.old.items) }
         requires element { element < length self.old.depths.items }
         requires shallow { slice_index self.old.depths.items element < 4294967295 }
+        requires room { length aside.old.items + length children.old.items ≤ vec_capacity aside.old }
         ensures order { self.new.order ≡ self.old.order }
-        ensures aside { OnOk result (reverse aside.new.items ≡ put_before (elements_of children.old.items) (reverse aside.old.items)) }
-        ensures depths { OnOk result (IsMarking (elements_of children.old.items) [] (slice_index self.old.depths.items element + 1) self.old.depths.items self.new.depths.items) }
-        ensures err { IfErr result IsOutOfMemory }
+        ensures aside { reverse aside.new.items ≡ put_before (elements_of children.old.items) (reverse aside.old.items) }
+        ensures capacity { vec_capacity aside.new ≡ vec_capacity aside.old }
+        ensures depths { IsMarking (elements_of children.old.items) [] (slice_index self.old.depths.items element + 1) self.old.depths.items self.new.depths.items }
     {
         let depth = self.depths[element as usize] + 1;
         while let Some((_unit, child)) = children.pop() {
             self.depths[child as usize] = depth;
-            aside.push(child)?;
+            aside.push_reserved(child);
         }
-        Ok(())
     }
 }

@@ -34,8 +34,7 @@ impl<P: Iterator<Item = u8>> Decoded<P> {
         Self { bytes }
     }
 
-    /// Takes the next character, and tells how many bytes it took. Most are ASCII, which is asked
-    /// for first.
+    /// Takes the next character, and tells how many bytes it took. ASCII is asked for first.
     #[inline(always)]
     fn take_character(&mut self) -> Option<(char, usize)>
         requires { IsText P.can_next P.next_gives P.remaining self.old }
@@ -98,6 +97,9 @@ impl<P: Iterator<Item = u8>> Source<char> for Decoded<P> {
 }
 
 /// The characters of the bytes that an iterator gives, each behind the place where it ends.
+///
+/// It takes just the bytes of the character that it gives, and no memory. That the bytes are UTF-8
+/// is a condition of `next`. `daachorse_part_tests` decodes characters of each length.
 #[derive(Drop)]
 pub struct CharWithEndOffsetIterator<P: Iterator<Item = u8>> {
     characters: Decoded<P>,

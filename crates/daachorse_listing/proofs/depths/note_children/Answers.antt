@@ -1,5 +1,5 @@
 -- Each member of the group is a child: it is put at the end, and its depth is written.
-use Rattle.std.proofs.Common.{◌≡◌, ◌+◌, ◌++◌, ◌∷◌, [], ℕ, sym, ap, ◌∙◌, subst, arith, append_assoc, append-nil}
+use Rattle.std.proofs.Common.{◌≡◌, ◌+◌, ◌++◌, ◌∷◌, [], ℕ, length, refl, sym, ap, ◌∙◌, subst, arith, append_assoc, append-nil, length-append}
 use Rattle.std.proofs.lemmas.List.{get_or_read}
 use Rattle.daachorse_listing.specs.Edges.{is_in, members}
 use Rattle.daachorse_listing.specs.Trees.{IsNoting}
@@ -23,6 +23,8 @@ loop-child-init g c =
     record {
       less = rw is (below-All (λ j. is_in c.in-Some.group (edge j)) count);
       done = ap (λ l. c.args.reached.now.items ++ l) is;
+      room = omega (arith, ap length is, c.requires.room c.in-Some.group (sym c.in-Some.ensures));
+      same = refl;
       marked = rw is (marking-start all (c.index.result.now + 1) c.args.depths.now.items);
     }
 
@@ -40,9 +42,14 @@ loop-child-preserved g c =
     let marked = rw step at inv.marked in
     record {
       less = less.1;
-      done = ap (λ l. l ++ left) c.in_ok-push.ensures.items ∙ (append_assoc c.loop-child.reached.items (child ∷ []) left ∙ done);
+      done = ap (λ l. l ++ left) c.push_reserved.ensures.items ∙ (append_assoc c.loop-child.reached.items (child ∷ []) left ∙ done);
+      room = omega (arith, inv.room, ap length step, ap length c.push_reserved.ensures.items, length-append c.loop-child.reached.items (child ∷ []), c.push_reserved.ensures.capacity);
+      same = c.push_reserved.ensures.capacity ∙ inv.same;
       marked = marking-next all left child (c.index.result.now + 1) c.args.depths.now.items c.loop-child.depths.items (omega (arith, less.0.0, marked.size, c.requires.size)) marked;
     }
+
+pub push_reserved-requires : goal.push_reserved-requires
+push_reserved-requires g c = omega (arith, c.loop-child.invariant.room, ap length c.in-Some-child.ensures.steps, c.loop-child.reached.ok)
 
 pub returns-clause-noted : goal.returns-clause-noted
 returns-clause-noted g c =

@@ -1,5 +1,6 @@
--- The members of the group that are left will be reached, and those that were have their depth.
-use Rattle.std.proofs.Common.{◌≡◌, ◌<◌, ◌++◌, true}
+-- The members of the group that are left will be reached, for which there is room, and those that were have their depth.
+use Rattle.std.proofs.Common.{◌≡◌, ◌+◌, ◌<◌, ◌≤◌, ◌++◌, length, true}
+use Rattle.std.specs.Prelude.{vec_capacity}
 use Rattle.std.specs.List.{AllByRecursion}
 use Rattle.daachorse_listing.specs.Edges.{is_in, members}
 use Rattle.daachorse_listing.specs.Trees.{IsMarking}
@@ -13,5 +14,7 @@ invariant-loop-child g l =
     record {
       less : AllByRecursion (λ j. (j < count) × (is_in l.group (edge j) ≡ true)) l.child-iterator;
       done : l.reached.items ++ l.child-iterator ≡ l.fn.reached.items ++ all;
+      room : length l.reached.items + length l.child-iterator ≤ vec_capacity l.reached;
+      same : vec_capacity l.reached ≡ vec_capacity l.fn.reached;
       marked : IsMarking all l.child-iterator l.depth l.fn.depths.items l.depths.items;
     }

@@ -1,5 +1,6 @@
--- The children that are left will be put aside, and those that were have their entries.
-use Rattle.std.proofs.Common.{◌≡◌, ◌<◌, length, reverse}
+-- The children that are left will be put aside, for which there is room, and those that were have their entries.
+use Rattle.std.proofs.Common.{◌≡◌, ◌+◌, ◌<◌, ◌≤◌, length, reverse}
+use Rattle.std.specs.Prelude.{vec_capacity}
 use Rattle.std.specs.List.{AllByRecursion}
 use Rattle.daachorse_listing.specs.Edges.{put_before}
 use Rattle.daachorse_listing.specs.Trees.{IsMarking, elements_of}
@@ -13,6 +14,8 @@ invariant-loop-unit g l =
       order : l.self.order ≡ l.fn.self.order;
       less : AllByRecursion (λ j. j < length l.fn.self.depths.items) left;
       aside : put_before left (reverse l.aside.items) ≡ put_before kids (reverse l.fn.aside.items);
+      room : length l.aside.items + length l.children.items ≤ vec_capacity l.aside;
+      same : vec_capacity l.aside ≡ vec_capacity l.fn.aside;
       depths : IsMarking kids left l.depth l.fn.self.depths.items l.self.depths.items;
     }
 

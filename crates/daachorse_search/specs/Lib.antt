@@ -2,6 +2,7 @@ pub mod Walks
 pub mod Nothing
 pub mod Sources
 pub mod ByteSources
+pub mod FoldedSources
 pub mod Stepwise
 pub mod Searches
 pub mod Finds
@@ -12,3 +13,4 @@ pub mod LeftmostSearches
 pub mod Beginnings
 pub mod Afresh
 pub mod Skipping
+pub mod Standings

@@ -1,10 +1,12 @@
 -- A walk through an automaton: where it stands after the units that it read.
-use Rattle.std.specs.Prelude.{◌≡◌, ℕ, ◌+◌, ◌*◌, ◌≤◌, Bool, List, [], ◌∷◌, ◌++◌, length, count_by}
+use Rattle.std.specs.Prelude.{◌≡◌, ℕ, ◌+◌, ◌*◌, ◌≤◌, Bool, List, [], ◌∷◌, ◌++◌, length, count_by, Option}
+use Rattle.std.specs.declared.num.NonZeroU32.{NonZeroU32}
+use Rattle.daachorse_core.specs.Outputs.{number}
 use Rattle.daachorse_core.specs.Seen.{SeenUnits, units}
 use Rattle.daachorse_model.specs.declared.Match.{Match}
 use Rattle.daachorse_model.specs.Units.{size}
 use Rattle.daachorse_model.specs.Dictionary.{Dictionary}
-use Rattle.daachorse_model.specs.Matches.{ending_at}
+use Rattle.daachorse_model.specs.Matches.{ending_at, matches_after}
 use Rattle.daachorse_model.specs.Prefixes.{IsLong}
 use Rattle.daachorse_model.specs.Outputs.{AllWithin, matches_of_outputs}
 
@@ -51,6 +53,12 @@ module _ {V : Type 0} (width : ℕ → ℕ) (has_output : ℕ → Type 0) (outpu
   pub record HasPlace (seen : SeenUnits) (position : ℕ) : Type 0 where
     pub place : has_output position
     pub fits : AllWithin (size width (units seen)) (outputs position)
+
+-- the position is that of the first of all matches that end where the walk stands
+module _ {V A : Type 0} (width : ℕ → ℕ) (content : A → Dictionary V) (has_output : A → ℕ → Type 0) (outputs : A → ℕ → List (V × ℕ)) where
+  pub record HasAll (walk : Walked A) (found : Option NonZeroU32) : Type 0 where
+    pub place : HasPlace width (has_output walk.automaton) (outputs walk.automaton) walk.seen (number found)
+    pub matches : matches_after width (content walk.automaton) (units walk.seen) ≡ matches_from width (outputs walk.automaton) walk.seen (number found)
 
 module _ {V : Type 0} (width : ℕ → ℕ) (K : Dictionary V) (has_output : ℕ → Type 0) (outputs : ℕ → List (V × ℕ)) (most : ℕ) where
   -- The outputs at the position are the matches that end where the walk stands.

@@ -13,6 +13,8 @@ use std::marker::{Model, PhantomData};
 use std::num::NonZeroU32;
 
 /// The matches that end at a place, the longest first.
+///
+/// Each call of `next` takes one output, and no memory.
 #[derive(Drop)]
 pub struct EndingHere<V: Copy, A: Automaton<V>> {
     automaton: A,

@@ -11,6 +11,8 @@ ghost use Rattle.daachorse_model.specs.Units.{size};
 ghost use Rattle.daachorse_core.specs.Depths.{AreDepths};
 ghost use Rattle.daachorse_search.specs.Afresh.{GoesOnAfresh, shifted};
 ghost use Rattle.daachorse_search.specs.Filters.{IsSoundFor};
+ghost use Rattle.daachorse_search.specs.Finds.{IsFinding};
+ghost use Rattle.daachorse_search.specs.Walks.{IsWalking};
 ghost use Rattle.daachorse_search.specs.Nothing.{HasPlace-none, first_from-none};
 
 use crate::automaton::Automaton;
@@ -18,7 +20,7 @@ use crate::filter::Filter;
 use crate::haystack::Reread;
 use crate::matches::Matches;
 use crate::stepwise::Stepwise;
-use crate::walk::Walk;
+use crate::walk::{Standing, Walk};
 use daachorse_core::Match;
 use daachorse_core::turns::Turns;
 use std::alloc::AllocError;
@@ -72,6 +74,33 @@ impl<V: Copy, A: Automaton<V>> FindWalk<V, A> {
     {
         self.walk.depth(depths)
     }
+
+    /// Where the walk stands, and the outputs of the empty key, for [`Self::resume`].
+    #[inline(always)]
+    pub fn into_standing(self) -> (Standing, Option<NonZeroU32>)
+        ensures walks { IsWalking (A.content self.automaton) (A.reached self.automaton) (A.text self.automaton) (A.dead self.automaton) (A.has_label self.automaton)
+            result.0.seen result.0.state result.0.turns }
+        ensures finds { IsFinding A.Unit.width (A.content self.automaton) (A.has_output self.automaton) (A.outputs self.automaton) result.0.seen result.0.turns result.1 }
+        ensures seen { result.0.seen ≡ self.seen }
+        ensures turns { result.0.turns ≡ self.turns }
+    {
+        let FindWalk { walk, everywhere } = self;
+        (walk.into_standing(), everywhere)
+    }
+
+    /// A walk that goes on where one through the same automaton stood.
+    #[inline(always)]
+    pub fn resume(automaton: A, standing: Standing, everywhere: Option<NonZeroU32>) -> Self
+        requires walks { IsWalking (A.content automaton) (A.reached automaton) (A.text automaton) (A.dead automaton) (A.has_label automaton)
+            standing.seen standing.state standing.turns }
+        requires finds { IsFinding A.Unit.width (A.content automaton) (A.has_output automaton) (A.outputs automaton) standing.seen standing.turns everywhere }
+        ensures automaton { result.automaton ≡ automaton }
+        ensures seen { result.seen ≡ standing.seen }
+        ensures turns { result.turns ≡ standing.turns }
+    {
+        let walk = Walk::resume(automaton, standing);
+        FindWalk { walk, everywhere }
+    }
 }
 
 impl<V: Copy, A: Automaton<V>> Stepwise<V> for FindWalk<V, A> {
@@ -120,6 +149,11 @@ impl<V: Copy, A: Automaton<V>> Stepwise<V> for FindWalk<V, A> {
             self.walk.restart();
         }
         found
+    }
+
+    #[inline(always)]
+    fn finds_everywhere(&self) -> bool {
+        self.everywhere.is_some()
     }
 
     #[inline(always)]

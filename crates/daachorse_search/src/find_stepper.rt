@@ -8,11 +8,14 @@ ghost use Rattle.daachorse_model.specs.Matches.{standard_after, IsSinceMatch};
 ghost use Rattle.daachorse_model.specs.Prefixes.{IsLong};
 ghost use Rattle.daachorse_model.specs.Units.{size};
 ghost use Rattle.daachorse_core.specs.Depths.{AreDepths};
+ghost use Rattle.daachorse_core.specs.Seen.{units};
+ghost use Rattle.daachorse_search.specs.Standings.{IsFindStanding};
 ghost use Rattle.daachorse_search.specs.Stepwise.{AreBoundedSince};
 
 use crate::automaton::Automaton;
 use crate::find::FindWalk;
 use crate::stepwise::Stepwise;
+use crate::walk::Standing;
 use daachorse_core::Match;
 use daachorse_core::edge_label::EdgeLabel;
 use std::alloc::AllocError;
@@ -21,7 +24,10 @@ use std::num::NonZeroU32;
 
 /// The search for matches that do not overlap, one unit at a time.
 ///
-/// It borrows the automaton, and takes no memory.
+/// An automaton's `find_stepper` begins it. It borrows the automaton, and takes no memory. After each
+/// unit it tells what ends there, so that a caller can read from anywhere, and leave off anywhere.
+/// `daachorse_tests` and `daachorse_part_tests` run steppers, and `daachorse_uses` marks a
+/// stream by one.
 #[derive(Drop)]
 pub struct FindStepper<'a, V: Copy, A: Automaton<V>> {
     walk: FindWalk<V, A>,
@@ -31,6 +37,19 @@ pub struct FindStepper<'a, V: Copy, A: Automaton<V>> {
     depths: &'a [u32],
     // The output of the match that ends where the walk stands.
     found: Option<NonZeroU32>,
+}
+
+/// Where a stepper stands, without the automaton. It borrows nothing.
+#[derive(Drop)]
+pub struct FindStanding {
+    /// Where its walk stands.
+    pub walk: Standing,
+    /// The outputs of the empty key, if there is one.
+    pub everywhere: Option<NonZeroU32>,
+    /// How many bytes were consumed.
+    pub place: usize,
+    /// The output of the match that ends there.
+    pub found: Option<NonZeroU32>,
 }
 
 impl<'a, V: Copy, A: Automaton<V>> Model for FindStepper<'a, V, A> {
@@ -70,6 +89,9 @@ impl<'a, V: Copy, A: Automaton<V>> FindStepper<'a, V, A> {
     }
 
     /// Consumes one unit.
+    ///
+    /// The turns, which are looks at one state, are in all at most twice the units consumed, and no
+    /// memory is taken.
     #[inline(always)]
     pub fn consume(&mut self, unit: A::Unit)
         requires { size A.Unit.width self.old.read + A.Unit.width (A.Unit.unit unit) < 2 ^ 64 }
@@ -92,6 +114,9 @@ impl<'a, V: Copy, A: Automaton<V>> FindStepper<'a, V, A> {
 
     /// How many of the last units consumed since the last match begin a key, at most; with an empty
     /// key 0. `None` if the automaton keeps no depths.
+    ///
+    /// It takes no look at a state and no memory. `daachorse_tests` compares the depths behind each
+    /// unit.
     #[inline(always)]
     pub fn depth(&self) -> Option<u32>
         ensures none { self.now.depths ≡ [] → result ≡ None }
@@ -99,6 +124,54 @@ impl<'a, V: Copy, A: Automaton<V>> FindStepper<'a, V, A> {
             → IsLong (A.content self.now.automaton) since s → result ≡ Some (length s) }
     {
         self.walk.depth(self.depths)
+    }
+
+    /// Where the stepper stands, for [`Self::resume`].
+    ///
+    /// It takes no memory. Over bytes the automaton's `resume_find_stepper` goes on from it, when
+    /// the automaton is borrowed again.
+    #[inline(always)]
+    pub fn into_standing(self) -> FindStanding
+        ensures stands { IsFindStanding A.Unit.width A.content A.reached A.text A.dead A.has_label A.has_output A.outputs self.entry.automaton result }
+        ensures read { units result.walk.seen ≡ self.entry.read }
+    {
+        let FindStepper {
+            walk,
+            place,
+            depths: _depths,
+            found,
+        } = self;
+        let (walk, everywhere) = walk.into_standing();
+        FindStanding {
+            walk,
+            everywhere,
+            place,
+            found,
+        }
+    }
+
+    /// A stepper that goes on where one over the same automaton stood. The depths are those of the
+    /// automaton's states, or none.
+    #[inline(always)]
+    pub fn resume(automaton: A, depths: &'a [u32], standing: FindStanding) -> Self
+        requires stands { IsFindStanding A.Unit.width A.content A.reached A.text A.dead A.has_label A.has_output A.outputs automaton standing }
+        requires depths { AreDepths (A.reached automaton) (A.text automaton) depths.now }
+        ensures automaton { result.automaton ≡ automaton }
+        ensures depths { result.depths ≡ depths.entry.now }
+        ensures read { result.read ≡ units standing.walk.seen }
+    {
+        let FindStanding {
+            walk,
+            everywhere,
+            place,
+            found,
+        } = standing;
+        FindStepper {
+            walk: FindWalk::resume(automaton, walk, everywhere),
+            place,
+            depths,
+            found,
+        }
     }
 
     /// Does nothing, and promises the bounds of the turns.

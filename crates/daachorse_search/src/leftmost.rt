@@ -28,6 +28,9 @@ use std::marker::{Model, PhantomData};
 use std::snapshot::Snapshot;
 
 /// The leftmost matches in a haystack.
+///
+/// The leftmost search of an automaton is of this type. A call of `next` may read past the match
+/// that it gives, and the next one reads those units again; no call takes memory.
 #[derive(Drop)]
 pub struct LeftmostMatches<
     V: Copy,

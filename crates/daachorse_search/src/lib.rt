@@ -14,6 +14,7 @@ pub mod ending_here;
 pub mod filter;
 pub mod find;
 pub mod find_stepper;
+pub mod folded;
 pub mod haystack;
 pub mod leftmost;
 pub mod matches;

@@ -25,6 +25,9 @@ use std::num::NonZeroU32;
 use std::snapshot::Snapshot;
 
 /// What a search that goes one unit at a time finds in a haystack, in order.
+///
+/// The searches of an automaton in a slice or a text are of this type. Each call of `next` reads on
+/// to the next match, and no call takes memory.
 #[derive(Drop)]
 pub struct Matches<V: Copy, W: Stepwise<V>, H: Reread<W::Unit>, F: Filter<W::Unit, H> = NoFilter> {
     walk: W,
@@ -233,7 +236,8 @@ fn skip_at_root<V: Copy, W: Stepwise<V>, H: Reread<W::Unit>, F: Filter<W::Unit, 
     rest: &mut H,
     filter: &mut F,
 )
-    requires { IsSoundFor (F.passes filter.old) (W.content (W.automaton walk.old)) }
+    requires sound { IsSoundFor (F.passes filter.old) (W.content (W.automaton walk.old)) }
+    requires asked { F.may_ask filter.old }
     ensures passes { (w : List ℕ) → F.passes filter.new w ≡ F.passes filter.old w }
     ensures skips { SkipsTo W.Unit.width W.automaton W.read W.found W.looks_at (F.passes filter.old) walk.old (H.rest rest.old) taken.old [] walk.new (H.rest rest.new) taken.new }
     ensures turns { taken.new + W.turns walk.new ≡ taken.old + W.turns walk.old }
@@ -255,6 +259,23 @@ fn skip_at_root<V: Copy, W: Stepwise<V>, H: Reread<W::Unit>, F: Filter<W::Unit, 
 /// `None` where the haystack ends first.
 #[inline(always)]
 fn read_on<V: Copy, W: Stepwise<V>, H: Haystack<W::Unit>>(
+    walk: &mut W,
+    rest: &mut H,
+) -> Option<NonZeroU32>
+    ensures on { ReadsOn W.automaton W.read W.found W.has_output W.given_from walk.old (H.rest rest.old) result walk.new (H.rest rest.new) }
+    ensures fewer { length (H.rest rest.new) ≤ length (H.rest rest.old) }
+    ensures over { H.rest rest.old ≡ [] → walk.new ≡ walk.old }
+{
+    // It is asked ahead of the loop, so that the loop is compiled for each answer and asks no more.
+    if walk.finds_everywhere() {
+        return read_units(walk, rest);
+    }
+    read_units(walk, rest)
+}
+
+/// The same, a unit at a time.
+#[inline(always)]
+fn read_units<V: Copy, W: Stepwise<V>, H: Haystack<W::Unit>>(
     walk: &mut W,
     rest: &mut H,
 ) -> Option<NonZeroU32>

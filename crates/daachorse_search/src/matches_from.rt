@@ -13,6 +13,9 @@ use daachorse_core::Match;
 use std::marker::Model;
 
 /// What a search that goes one unit at a time finds in what a source gives, in order.
+///
+/// The searches of an automaton in a source are of this type. Each call of `next` takes units up to
+/// the end of the next match and none behind it, and no call takes memory.
 #[derive(Drop)]
 pub struct MatchesFrom<V: Copy, W: Stepwise<V>, S: Source<W::Unit>> {
     search: Search<V, W, S>,

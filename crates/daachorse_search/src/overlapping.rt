@@ -11,15 +11,15 @@ ghost use Rattle.daachorse_model.specs.Units.{size};
 ghost use Rattle.daachorse_core.specs.Depths.{AreDepths};
 ghost use Rattle.daachorse_search.specs.Afresh.{GoesOnAfresh, shifted};
 ghost use Rattle.daachorse_search.specs.Filters.{IsSoundFor};
+ghost use Rattle.daachorse_search.specs.Walks.{IsFresh, IsWalking};
 ghost use Rattle.daachorse_search.specs.Nothing.{HasPlace-none, matches_from-none, first_from-none};
 
 use crate::automaton::Automaton;
-use crate::ending_here::EndingHere;
 use crate::filter::Filter;
 use crate::haystack::Reread;
 use crate::matches::Matches;
 use crate::stepwise::Stepwise;
-use crate::walk::Walk;
+use crate::walk::{Standing, Walk};
 use daachorse_core::Match;
 use daachorse_core::turns::Turns;
 use std::alloc::AllocError;
@@ -45,7 +45,6 @@ impl<V: Copy, A: Automaton<V>> Model for OverlappingWalk<V, A> {
 
 impl<V: Copy, A: Automaton<V>> OverlappingWalk<V, A> {
     ghost use Rattle.daachorse_core.specs.Seen.{unread, units};
-    ghost use Rattle.daachorse_model.specs.Matches.{matches_after};
 
     /// A walk that has read nothing.
     #[inline(always)]
@@ -58,25 +57,6 @@ impl<V: Copy, A: Automaton<V>> OverlappingWalk<V, A> {
         OverlappingWalk {
             walk: Walk::new(automaton),
         }
-    }
-
-    /// Reads one unit.
-    #[inline(always)]
-    pub fn consume(&mut self, unit: A::Unit)
-        ensures automaton { self.new.automaton ≡ self.old.automaton }
-        ensures read { units self.new.seen ≡ units self.old.seen ++ A.Unit.unit unit ∷ [] }
-    {
-        self.walk.consume(unit);
-    }
-
-    /// The matches that end where the walk stands, which is this place. They stay what they are while it
-    /// goes on.
-    #[inline(always)]
-    pub fn matches(&self, place: usize) -> EndingHere<V, A>
-        requires { place ≡ size A.Unit.width (units self.now.seen) }
-        ensures { result ≡ matches_after A.Unit.width (A.content self.now.automaton) (units self.now.seen) }
-    {
-        EndingHere::new(self.walk.automaton(), place, self.walk.outputs())
     }
 
     /// Whether no key that began before goes on here.
@@ -96,6 +76,34 @@ impl<V: Copy, A: Automaton<V>> OverlappingWalk<V, A> {
         ensures depth { depths.now ≢ [] → (s : List ℕ) → IsLong (A.content self.now.automaton) (units self.now.seen) s → result ≡ Some (length s) }
     {
         self.walk.depth(depths)
+    }
+
+    /// Where the walk stands, for [`Self::resume`].
+    #[inline(always)]
+    pub fn into_standing(self) -> Standing
+        ensures walks { IsWalking (A.content self.automaton) (A.reached self.automaton) (A.text self.automaton) (A.dead self.automaton) (A.has_label self.automaton)
+            result.seen result.state result.turns }
+        ensures fresh { IsFresh result.seen }
+        ensures seen { result.seen ≡ self.seen }
+        ensures turns { result.turns ≡ self.turns }
+    {
+        let OverlappingWalk { walk } = self;
+        walk.into_standing()
+    }
+
+    /// A walk that goes on where one through the same automaton stood.
+    #[inline(always)]
+    pub fn resume(automaton: A, standing: Standing) -> Self
+        requires walks { IsWalking (A.content automaton) (A.reached automaton) (A.text automaton) (A.dead automaton) (A.has_label automaton)
+            standing.seen standing.state standing.turns }
+        requires fresh { IsFresh standing.seen }
+        ensures automaton { result.automaton ≡ automaton }
+        ensures seen { result.seen ≡ standing.seen }
+        ensures turns { result.turns ≡ standing.turns }
+    {
+        OverlappingWalk {
+            walk: Walk::resume(automaton, standing),
+        }
     }
 }
 
@@ -139,6 +147,11 @@ impl<V: Copy, A: Automaton<V>> Stepwise<V> for OverlappingWalk<V, A> {
     #[inline(always)]
     fn advance(&mut self, unit: A::Unit) -> Option<NonZeroU32> {
         self.walk.consume(unit)
+    }
+
+    #[inline(always)]
+    fn finds_everywhere(&self) -> bool {
+        false
     }
 
     #[inline(always)]
@@ -252,6 +265,11 @@ impl<V: Copy, A: Automaton<V>> Stepwise<V> for NoSuffixWalk<V, A> {
     #[inline(always)]
     fn advance(&mut self, unit: A::Unit) -> Option<NonZeroU32> {
         self.all.advance(unit)
+    }
+
+    #[inline(always)]
+    fn finds_everywhere(&self) -> bool {
+        false
     }
 
     #[inline(always)]

@@ -8,19 +8,25 @@ ghost use Rattle.daachorse_model.specs.Matches.{matches_after};
 ghost use Rattle.daachorse_model.specs.Prefixes.{IsLong};
 ghost use Rattle.daachorse_model.specs.Units.{size};
 ghost use Rattle.daachorse_core.specs.Depths.{AreDepths};
+ghost use Rattle.daachorse_core.specs.Seen.{units};
+ghost use Rattle.daachorse_search.specs.Standings.{IsOverlappingStanding};
 ghost use Rattle.daachorse_search.specs.Stepwise.{AreBounded};
 
 use crate::automaton::Automaton;
 use crate::ending_here::EndingHere;
 use crate::overlapping::OverlappingWalk;
 use crate::stepwise::Stepwise;
+use crate::walk::Standing;
 use daachorse_core::edge_label::EdgeLabel;
 use std::alloc::AllocError;
 use std::marker::Model;
+use std::num::NonZeroU32;
 
 /// The search for all matches, one unit at a time.
 ///
-/// It borrows the automaton, and takes no memory.
+/// An automaton's `find_overlapping_stepper` begins it. It borrows the automaton, and takes no
+/// memory. After each unit it tells what ends there, so that a caller can read from anywhere, and
+/// leave off anywhere. `daachorse_tests` and `daachorse_part_tests` run steppers.
 #[derive(Drop)]
 pub struct FindOverlappingStepper<'a, V: Copy, A: Automaton<V>> {
     walk: OverlappingWalk<V, A>,
@@ -28,18 +34,33 @@ pub struct FindOverlappingStepper<'a, V: Copy, A: Automaton<V>> {
     place: usize,
     // By state the length of its text in units; empty if they are not kept.
     depths: &'a [u32],
+    // The first output of the matches that end where the walk stands.
+    found: Option<NonZeroU32>,
+}
+
+/// Where a stepper stands, without the automaton. It borrows nothing.
+#[derive(Drop)]
+pub struct OverlappingStanding {
+    /// Where its walk stands.
+    pub walk: Standing,
+    /// How many bytes were consumed.
+    pub place: usize,
+    /// The first output of the matches that end there.
+    pub found: Option<NonZeroU32>,
 }
 
 impl<'a, V: Copy, A: Automaton<V>> Model for FindOverlappingStepper<'a, V, A> {
     ghost use Rattle.daachorse_core.specs.Seen.{units};
     ghost use Rattle.daachorse_core.specs.Depths.{AreDepths};
     ghost use Rattle.daachorse_search.specs.Stepwise.{Stepped, StandsAt};
+    ghost use Rattle.daachorse_search.specs.Walks.{HasAll};
 
     ghost Value = { Stepped A };
 
     ghost view = { λ s. record { automaton = s.walk.automaton; depths = s.depths.now; read = units s.walk.seen; turns = s.walk.turns } };
 
     ghost invariant = { λ s. StandsAt A.Unit.width (units s.walk.seen) s.place
+        × HasAll A.Unit.width A.content A.has_output A.outputs s.walk s.found
         × AreDepths (A.reached s.walk.automaton) (A.text s.walk.automaton) s.depths.now };
 }
 
@@ -54,14 +75,20 @@ impl<'a, V: Copy, A: Automaton<V>> FindOverlappingStepper<'a, V, A> {
         ensures read { result.read ≡ [] }
         ensures turns { result.turns ≡ 0 }
     {
+        let walk = OverlappingWalk::new(automaton);
+        let found = walk.begin();
         FindOverlappingStepper {
-            walk: OverlappingWalk::new(automaton),
+            walk,
             place: 0,
             depths,
+            found,
         }
     }
 
     /// Consumes one unit.
+    ///
+    /// The turns, which are looks at one state, are in all at most twice the units consumed, and no
+    /// memory is taken.
     #[inline(always)]
     pub fn consume(&mut self, unit: A::Unit)
         requires { size A.Unit.width self.old.read + A.Unit.width (A.Unit.unit unit) < 2 ^ 64 }
@@ -70,7 +97,7 @@ impl<'a, V: Copy, A: Automaton<V>> FindOverlappingStepper<'a, V, A> {
         ensures read { self.new.read ≡ self.old.read ++ A.Unit.unit unit ∷ [] }
     {
         self.place += unit.num_bytes();
-        self.walk.consume(unit);
+        self.found = self.walk.advance(unit);
     }
 
     /// The matches that end with the units consumed: the longest first, equal patterns in order of
@@ -80,17 +107,58 @@ impl<'a, V: Copy, A: Automaton<V>> FindOverlappingStepper<'a, V, A> {
     pub fn matches(&self) -> EndingHere<V, A>
         ensures { result ≡ matches_after A.Unit.width (A.content self.now.automaton) self.now.read }
     {
-        self.walk.matches(self.place)
+        EndingHere::new(self.walk.walked(), self.place, self.found)
     }
 
     /// How many of the last units consumed begin a key, at most. `None` if the automaton keeps no
     /// depths.
+    ///
+    /// It takes no look at a state and no memory. `daachorse_tests` compares the depths behind each
+    /// unit.
     #[inline(always)]
     pub fn depth(&self) -> Option<u32>
         ensures none { self.now.depths ≡ [] → result ≡ None }
         ensures depth { self.now.depths ≢ [] → (s : List ℕ) → IsLong (A.content self.now.automaton) self.now.read s → result ≡ Some (length s) }
     {
         self.walk.depth(self.depths)
+    }
+
+    /// Where the stepper stands, for [`Self::resume`].
+    ///
+    /// It takes no memory. Over bytes the automaton's `resume_find_overlapping_stepper` goes on
+    /// from it, when the automaton is borrowed again.
+    #[inline(always)]
+    pub fn into_standing(self) -> OverlappingStanding
+        ensures stands { IsOverlappingStanding A.Unit.width A.content A.reached A.text A.dead A.has_label A.has_output A.outputs self.entry.automaton result }
+        ensures read { units result.walk.seen ≡ self.entry.read }
+    {
+        let FindOverlappingStepper {
+            walk,
+            place,
+            depths: _depths,
+            found,
+        } = self;
+        let walk = walk.into_standing();
+        OverlappingStanding { walk, place, found }
+    }
+
+    /// A stepper that goes on where one over the same automaton stood. The depths are those of the
+    /// automaton's states, or none.
+    #[inline(always)]
+    pub fn resume(automaton: A, depths: &'a [u32], standing: OverlappingStanding) -> Self
+        requires stands { IsOverlappingStanding A.Unit.width A.content A.reached A.text A.dead A.has_label A.has_output A.outputs automaton standing }
+        requires depths { AreDepths (A.reached automaton) (A.text automaton) depths.now }
+        ensures automaton { result.automaton ≡ automaton }
+        ensures depths { result.depths ≡ depths.entry.now }
+        ensures read { result.read ≡ units standing.walk.seen }
+    {
+        let OverlappingStanding { walk, place, found } = standing;
+        FindOverlappingStepper {
+            walk: OverlappingWalk::resume(automaton, walk),
+            place,
+            depths,
+            found,
+        }
     }
 
     /// Does nothing, and promises the bounds of the turns.
@@ -113,6 +181,7 @@ impl<'a, V: Copy, A: Automaton<V>> Clone for FindOverlappingStepper<'a, V, A> {
             walk: self.walk.clone()?,
             place: self.place,
             depths: self.depths,
+            found: self.found,
         })
     }
 }

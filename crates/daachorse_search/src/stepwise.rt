@@ -65,6 +65,11 @@ pub trait Stepwise<V: Copy>: Drop {
         ensures read { read self.new ≡ read self.old ++ Self.Unit.unit unit ∷ [] }
         ensures stops { Stops automaton read found most_found has_output given_from self.new result };
 
+    /// Whether there is something to give behind each unit with no look, as where a key is empty and
+    /// matches do not overlap. It is for speed alone: whoever reads on may ask once, ahead of a loop, and no
+    /// clause rests on the answer.
+    fn finds_everywhere(&self) -> bool;
+
     /// Whether no key that began before goes on here, as where nothing was read.
     fn is_at_root(&self) -> bool
         ensures afresh { OnTrue result (GoesOnAfresh Self.Unit.width (content (automaton self.now)) (found (automaton self.now)) (read self.now)) }

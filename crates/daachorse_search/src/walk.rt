@@ -12,7 +12,7 @@ ghost use Rattle.daachorse_model.specs.Outputs.{AllWithin, matches_of_outputs};
 ghost use Rattle.daachorse_core.specs.Seen.{units, unread};
 ghost use Rattle.daachorse_core.specs.Depths.{AreDepths};
 ghost use Rattle.daachorse_search.specs.Afresh.{shifted};
-ghost use Rattle.daachorse_search.specs.Walks.{read_on, skip_on, begin_on, HasOutputs};
+ghost use Rattle.daachorse_search.specs.Walks.{read_on, skip_on, begin_on, HasOutputs, IsWalking};
 
 use crate::automaton::{Automaton, step};
 use daachorse_core::Match;
@@ -30,6 +30,17 @@ pub struct Walk<V: Copy, A: Automaton<V>> {
     turns: Turns,
     seen: Seen,
     of: PhantomData<V>,
+}
+
+/// Where a walk stands, without the automaton. It borrows nothing.
+#[derive(Drop)]
+pub struct Standing {
+    /// The state.
+    pub state: u32,
+    /// The turns so far.
+    pub turns: Turns,
+    /// What was read.
+    pub seen: Seen,
 }
 
 impl<V: Copy, A: Automaton<V>> Model for Walk<V, A> {
@@ -168,6 +179,43 @@ impl<V: Copy, A: Automaton<V>> Walk<V, A> {
     {
         let output = self.automaton.output(position);
         (output.to_match(place), output.parent())
+    }
+
+    /// Where the walk stands, for [`Self::resume`].
+    #[inline(always)]
+    pub fn into_standing(self) -> Standing
+        ensures walks { IsWalking (A.content self.automaton) (A.reached self.automaton) (A.text self.automaton) (A.dead self.automaton) (A.has_label self.automaton)
+            result.seen result.state result.turns }
+        ensures seen { result.seen ≡ self.seen }
+        ensures turns { result.turns ≡ self.turns }
+    {
+        let Walk {
+            automaton: _automaton,
+            state,
+            turns,
+            seen,
+            of: _of,
+        } = self;
+        Standing { state, turns, seen }
+    }
+
+    /// A walk that goes on where one through the same automaton stood.
+    #[inline(always)]
+    pub fn resume(automaton: A, standing: Standing) -> Self
+        requires { IsWalking (A.content automaton) (A.reached automaton) (A.text automaton) (A.dead automaton) (A.has_label automaton)
+            standing.seen standing.state standing.turns }
+        ensures automaton { result.automaton ≡ automaton }
+        ensures seen { result.seen ≡ standing.seen }
+        ensures turns { result.turns ≡ standing.turns }
+    {
+        let Standing { state, turns, seen } = standing;
+        Walk {
+            automaton,
+            state,
+            turns,
+            seen,
+            of: PhantomData,
+        }
     }
 
     /// Does nothing, and promises that the turns are at most twice the units read, less the

@@ -28,6 +28,10 @@ IsUnused s = IsSome s.filter × HasRecorded s.gate []
 abbrev pub IsOpenWhilePaying : Asked → Bool → Type 0
 IsOpenWhilePaying s answer = (gains : List ℕ) → HasRecorded s.gate gains → IsTrue answer ↔ (IsSome s.filter × IsPaying gains)
 
+-- whatever its gate has recorded, there is a filter, and its skips paid for themselves
+abbrev pub IsWorthAsking : Asked → Type 0
+IsWorthAsking s = (gains : List ℕ) → HasRecorded s.gate gains → IsSome s.filter × IsPaying gains
+
 -- one run that skipped n bytes, where there is a filter to run
 abbrev pub run_of : Option Filter → ℕ → List ℕ
 run_of None n = []

@@ -1,4 +1,5 @@
 use Rattle.std.proofs.Common.{inl, inr, [], ◌∷◌, length, ap, length-append, arith}
+use Rattle.std.proofs.lemmas.Grind.{common_steps}
 use Rattle.daachorse_model.proofs.BestLemmas.{IsLeftCandidate-first, IsLeftCandidate-link, LeftSteps-turn, LeftSteps-foreign}
 use Rattle.daachorse_model.proofs.Cuts.{LeftSteps-IsCut}
 use Rattle.daachorse_model.proofs.Steps.{IsCandidate-first, IsCandidate-link, IsLong-turn, IsLong-no_label}
@@ -84,3 +85,6 @@ links-preserved g c =
       counted = omega (arith, looked.3.shorter, c.in-Fail-turn.ensures.counted, c.links.invariant.counted);
       more = omega (arith, c.in-Fail-turn.ensures.counted, c.links.invariant.more);
     }
+
+pub returns-in-Next-clause-most : goal.returns-in-Next-clause-most
+returns-in-Next-clause-most g c = grind (arith, common_steps)

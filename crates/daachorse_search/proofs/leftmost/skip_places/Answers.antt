@@ -1,5 +1,6 @@
 -- The place moves on with the haystack: by the size of what is skipped.
-use Rattle.std.proofs.Common.{ap, arith}
+use Rattle.std.proofs.Common.{◌≡◌, true, [], length, refl, ap, arith}
+use Rattle.std.proofs.lemmas.List.{length-append}
 use Rattle.daachorse_model.specs.Units.{size}
 use Rattle.daachorse_model.proofs.Suffixes.{size-append}
 use Rattle.daachorse_search.proofs.leftmost.skip_places.Goals as goal
@@ -18,4 +19,15 @@ returns-clause-skipped g c =
       none = skip.none;
       ends = omega (arith, c.left.ensures, c.left-before.ensures, ap (size width) skip.parts, size-append width skip.front later);
       here = λ _. skip.here;
+    }
+
+-- a filter that is closed moves nothing on, and was not open for sure
+pub returns-then-not-is_open-clause-skipped : goal.returns-then-not-is_open-clause-skipped
+returns-then-not-is_open-clause-skipped g c =
+    record {
+      front = [];
+      parts = refl;
+      none = λ front rest parts fewer. absurd (omega (arith, fewer, ap length parts, length-append front rest));
+      ends = omega arith;
+      here = λ opened. (let open_now : c.is_open.result ≡ true = c.is_open.ensures.open opened in cc);
     }

@@ -18,4 +18,4 @@ returns-clause-skips g c =
     let W = g.W.Stepwise in let passes = g.F.Filter.passes c.args.filter.now in let rest = g.H.Haystack.rest in
     let walked = c.turns_are_bounded.ensures in let again = c.begin_again in
     SkipsTo-again g.W.Unit.EdgeLabel.width W.automaton W.read W.turns W.found W.content W.looks_at passes c.args.walk.now (rest c.args.rest.now) c.args.taken.now again.new.self (rest c.skip.new.rest) again.new.taken
-    c.requires c.skip.ensures.goes (omega (arith, c.if-before-left.false, c.left-before.ensures, c.left.ensures)) c.if-not-is_at_root.ensures.afresh walked.most walked.least again.ensures.automaton again.ensures.read again.ensures.counted
+    c.requires.sound c.skip.ensures.goes (omega (arith, c.if-before-left.false, c.left-before.ensures, c.left.ensures)) c.if-not-is_at_root.ensures.afresh walked.most walked.least again.ensures.automaton again.ensures.read again.ensures.counted

@@ -1,8 +1,9 @@
 -- Each turn of the loop is a skip, or none, and then one unit.
-use Rattle.std.proofs.Common.{◌≡◌, [], length, Option, None, refl, ap, ◌∙◌, subst, arith}
+use Rattle.std.proofs.Common.{◌≡◌, ◌+◌, true, [], length, Option, None, refl, ap, ◌∙◌, subst, inl, inr, arith}
+use Rattle.std.proofs.lemmas.List.{nil_from_length}
 use Rattle.std.specs.Iterator.{YieldsFirstBy}
 use Rattle.daachorse_search.proofs.HaystackLemmas.{ReadsTo-first, ReadsTo-one}
-use Rattle.daachorse_search.proofs.SkipLemmas.{SkipsTo-first, SkipsTo-places, SkipsTo-then, SkipsTo-ended, SkipsTo-reads, no_place_skipped}
+use Rattle.daachorse_search.proofs.SkipLemmas.{SkipsTo-first, SkipsTo-places, SkipsTo-then, SkipsTo-ended, SkipsTo-reads, no_place_skipped, sound_on}
 use Rattle.daachorse_search.proofs.SourceLemmas.{none_found}
 use Rattle.daachorse_search.proofs.matches.skip_on.Goals as goal
 
@@ -11,6 +12,28 @@ units-init g c =
     let W = g.W.Stepwise in let passes = g.F.Filter.passes c.args.filter.now in let rest = g.H.Haystack.rest in
     record { passes = λ w. refl; skips = SkipsTo-first g.W.Unit.EdgeLabel.width W.automaton W.read W.turns W.found W.content W.looks_at passes c.args.walk.now (rest c.args.rest.now) c.args.taken.now; idle = λ h. (refl, h) }
 
+pub skip_at_root-requires-clause-sound : goal.skip_at_root-requires-clause-sound
+skip_at_root-requires-clause-sound g c =
+    let W = g.W.Stepwise in let passes = g.F.Filter.passes in let l = c.units in
+    sound_on (W.content (W.automaton c.args.walk.now)) (W.content (W.automaton l.walk)) (passes c.args.filter.now) (passes l.filter) (ap W.content l.invariant.skips.same) l.invariant.passes c.requires
+
+pub returns-then-not-is_open-clause-reads : goal.returns-then-not-is_open-clause-reads
+returns-then-not-is_open-clause-reads g c =
+    let W = g.W.Stepwise in let rest = g.H.Haystack.rest in let l = c.units in let to = c.read_on.new in let read = c.read_on.ensures in
+    SkipsTo-reads g.W.Unit.EdgeLabel.width W.automaton W.read W.turns W.found W.content W.looks_at (g.F.Filter.passes c.args.filter.now) c.args.walk.now (rest c.args.rest.now) c.args.taken.now l.walk (rest l.rest) l.taken _ to.walk (rest to.rest) l.invariant.skips
+    (record { same = read.on.same; haystack = read.on.haystack; left = read.on.left })
+    read.fewer
+
+-- a filter that is closed has no place to skip to, so there is nothing left
+pub returns-then-not-is_open-clause-idle : goal.returns-then-not-is_open-clause-idle
+returns-then-not-is_open-clause-idle g c h =
+    let W = g.W.Stepwise in let rest = g.H.Haystack.rest in let l = c.units in let read = c.read_on.ensures in let idle = l.invariant.idle h in
+    let none : rest l.rest ≡ [] = elim idle.1 [
+      | inl none ↦ none
+      | inr place ↦ let open_now : c.is_open.result ≡ true = c.is_open.ensures.open place.0 in cc
+    ] in
+    (ap (λ w. l.taken + W.turns w) (read.over none) ∙ idle.0, nil_from_length (rest c.read_on.new.rest) (omega (arith, read.fewer, ap length none)))
+
 pub returns-in_default-clause-reads : goal.returns-in_default-clause-reads
 returns-in_default-clause-reads g c =
     let W = g.W.Stepwise in let rest = g.H.Haystack.rest in let to = c.skip_at_root.new in
@@ -18,6 +41,13 @@ returns-in_default-clause-reads g c =
     let over : P None = subst P c.in_default.is (g.met.H.Haystack.gives to.rest c.next.result c.next.new.self c.next.ensures.steps) in
     SkipsTo-ended g.W.Unit.EdgeLabel.width W.automaton W.read W.turns W.found W.content W.looks_at (g.F.Filter.passes c.args.filter.now) c.args.walk.now (rest c.args.rest.now) c.args.taken.now to.walk (rest to.rest) (rest c.next.new.self) to.taken (W.given_from to.walk 0) (SkipsTo-then g.W.Unit.EdgeLabel.width W.automaton W.read W.turns W.found W.content W.looks_at (g.F.Filter.passes c.args.filter.now) c.args.walk.now (rest c.args.rest.now) c.args.taken.now c.units.walk (rest c.units.rest) c.units.taken [] to.walk (rest to.rest) to.taken c.units.invariant.skips
     (SkipsTo-places g.W.Unit.EdgeLabel.width W.automaton W.read W.turns W.found W.content W.looks_at (g.F.Filter.passes c.args.filter.now) (g.F.Filter.passes c.units.filter) c.units.walk (rest c.units.rest) c.units.taken [] to.walk (rest to.rest) to.taken c.units.invariant.passes c.skip_at_root.ensures.skips)) (g.met.W.Stepwise.no_output to.walk).1 over.0 over.1
+
+pub returns-in_default-clause-idle : goal.returns-in_default-clause-idle
+returns-in_default-clause-idle g c h =
+    let to = c.skip_at_root.new in
+    let P : Option g.row.W-Unit.Denot → Type 0 = λ r. YieldsFirstBy g.W.Unit.EdgeLabel.unit g.H.Haystack.rest to.rest r c.next.new.self in
+    let over : P None = subst P c.in_default.is (g.met.H.Haystack.gives to.rest c.next.result c.next.new.self c.next.ensures.steps) in
+    (c.skip_at_root.ensures.turns ∙ (c.units.invariant.idle h).0, over.1)
 
 pub returns-in-Some-advance-clause-reads : goal.returns-in-Some-advance-clause-reads
 returns-in-Some-advance-clause-reads g c =
@@ -54,3 +84,9 @@ units-preserved g c =
           (let none = no_place_skipped (F.passes c.args.filter.now) (F.passes l.filter) (F.opened l.filter) (W.read l.walk) (rest l.rest) (rest to.rest) l.invariant.passes (l.invariant.idle h).1 c.skip_at_root.ensures.skips.fewer c.skip_at_root.ensures.idle in
           absurd (omega (arith, ap length none, ap length one)));
     }
+
+pub units-smaller : goal.units-smaller
+units-smaller g c =
+    let to = c.skip_at_root.new in
+    let one = g.met.H.Haystack.gives to.rest _ c.next.new.self c.in-Some.ensures.steps in
+    omega (arith, c.skip_at_root.ensures.skips.fewer, ap length one)

@@ -1,4 +1,5 @@
-use Rattle.std.proofs.Common.{sym, ◌∙◌}
+use Rattle.std.proofs.Common.{sym, ◌∙◌, arith}
+use Rattle.std.proofs.lemmas.Grind.{common_steps}
 use Rattle.daachorse_search.proofs.FindLemmas.{finding-skip, finding-pass, finding-find}
 use Rattle.daachorse_search.proofs.find.FindWalkStepwise.advance.Goals as goal
 
@@ -33,3 +34,9 @@ returns-else-is_some-2-clause-stops g c =
     let A = g.A.Automaton in let unit = g.A.Unit.EdgeLabel in let s = c.self.inside in let found = c.consume-found in
     (finding-pass unit.width g.met.A.Unit.EdgeLabel.wide A.content A.has_label A.has_output A.outputs A.most_outputs s.walk c.consume-found.new.self (unit.unit c.args.unit) s.everywhere found.result (sym c.is_some.ensures ∙ c.if-is_some.false) (sym c.is_some-2.ensures ∙ c.if-is_some-2.false)
     c.self.invariant c.consume-found.ensures.automaton c.consume-found.ensures.seen (found.ensures.outputs, found.ensures.some, g.met.A.Automaton.no_output c.consume-found.new.self.automaton)).1
+
+pub returns-then-is_some-2-clause-read : goal.returns-then-is_some-2-clause-read
+returns-then-is_some-2-clause-read g c = grind (arith, common_steps)
+
+pub returns-else-is_some-2-clause-read : goal.returns-else-is_some-2-clause-read
+returns-else-is_some-2-clause-read g c = grind (arith, common_steps)

@@ -1,5 +1,6 @@
 -- The units passed are what the rest is cut off from.
-use Rattle.std.proofs.Common.{◌≡◌, ◌≤◌, ◌++◌, ℕ, true, List, subst}
+use Rattle.std.proofs.Common.{◌≡◌, ◌≤◌, ◌++◌, ℕ, true, List, subst, arith}
+use Rattle.std.proofs.lemmas.Grind.{common_steps}
 use Rattle.std.specs.Prelude.{count_by}
 use Rattle.daachorse_search.specs.Filters.{PassesNowhere, count_passing}
 use Rattle.daachorse_search.specs.Matches.{Progress}
@@ -29,3 +30,6 @@ returns-clause-idle g c =
     let F = g.F.Filter in
     let P : Progress g.row.V.Denot g.row.A.Denot g.row.F.Denot → Type 0 = λ p. F.opened p.filter → PassesNowhere (F.passes p.filter) p.haystack → p.turns ≡ 0 in
     subst P c.self.view_is (λ was_open nowhere. (c.self.invariant.1.idle was_open nowhere).0)
+
+pub returns-clause-most : goal.returns-clause-most
+returns-clause-most g c = grind (arith, common_steps)

@@ -1,4 +1,5 @@
 use Rattle.std.proofs.Common.{◌≡◌, ◌+◌, ◌-◌, ℕ, Bool, true, false, cond, eqb, [], ◌∷◌, ◌++◌, length, sym, ap, ◌∙◌, subst, length-append, arith}
+use Rattle.std.proofs.lemmas.Grind.{common_steps}
 use Rattle.daachorse_core.specs.Outputs.{value_of, length_of}
 use Rattle.daachorse_core.specs.Seen.{SeenUnits}
 use Rattle.daachorse_model.specs.declared.Match.{Match}
@@ -260,3 +261,9 @@ scans-smaller-in-Clear g c =
       length-append skip.ensures.skipped.front text,
       ap {B = ℕ} (λ d. cond d 0 1) c.if-self.false,
     )
+
+pub returns-then-self-clause-steps : goal.returns-then-self-clause-steps
+returns-then-self-clause-steps g c = grind (arith, common_steps)
+
+pub scans-smaller : goal.scans-smaller
+scans-smaller g c = grind (arith, common_steps)

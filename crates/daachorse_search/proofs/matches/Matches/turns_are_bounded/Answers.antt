@@ -1,5 +1,6 @@
 -- The turns are those up to where the walk began, and those of the walk.
-use Rattle.std.proofs.Common.{◌≡◌, ◌+◌, ◌≤◌, ◌++◌, ℕ, true, List, sym, ap, ◌∙◌, subst, append_assoc}
+use Rattle.std.proofs.Common.{◌≡◌, ◌+◌, ◌≤◌, ◌++◌, ℕ, true, List, sym, ap, ◌∙◌, subst, append_assoc, arith}
+use Rattle.std.proofs.lemmas.Grind.{common_steps}
 use Rattle.daachorse_core.specs.Outputs.{number}
 use Rattle.daachorse_search.specs.Filters.{count_passing}
 use Rattle.daachorse_search.specs.Matches.{Progress}
@@ -33,3 +34,6 @@ returns-clause-passed g c =
       was.parts ∙ sym (append_assoc was.base (W.read i.walk) (rest i.rest))
           ∙ ap (λ x. x ++ rest i.rest) (sym (passed_is g.W.Unit.EdgeLabel.width W.automaton W.read W.turns W.found W.content W.looks_at W.has_output W.given_from (F.passes i.first_filter.value) (F.opened i.first_filter.value) (rest i.whole.value) i.size (F.opened i.filter) i.walk (rest i.rest) (number i.output) i.taken c.self.invariant.1)),
     )
+
+pub returns-clause-most : goal.returns-clause-most
+returns-clause-most g c = grind (arith, common_steps)

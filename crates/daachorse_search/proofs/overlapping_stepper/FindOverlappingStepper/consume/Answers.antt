@@ -8,8 +8,9 @@ use Rattle.daachorse_search.proofs.overlapping_stepper.FindOverlappingStepper.co
 
 pub invariant_of-self : goal.invariant_of-self
 invariant_of-self g c =
-    let A = g.A.Automaton in let unit = g.A.Unit.EdgeLabel in let was = c.self.inside in
+    let A = g.A.Automaton in let unit = g.A.Unit.EdgeLabel in let was = c.self.inside in let stepped = c.advance-self-inside.ensures in
     let P : g.row.A.Denot → Type 0 = λ a. AreDepths (A.reached a) (A.text a) was.depths.now in (
-      omega (arith, c.self.invariant.0, c.num_bytes.ensures, ap (size unit.width) c.consume.ensures.read, size-push unit.width (units was.walk.seen) (unit.unit c.args.unit)),
-      subst P (sym c.consume.ensures.automaton) c.self.invariant.1,
+      omega (arith, c.self.invariant.0, c.num_bytes.ensures, ap (size unit.width) stepped.read, size-push unit.width (units was.walk.seen) (unit.unit c.args.unit)),
+      record { place = stepped.stops.place; matches = stepped.stops.matches },
+      subst P (sym stepped.automaton) c.self.invariant.2,
     )

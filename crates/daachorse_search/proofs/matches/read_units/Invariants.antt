@@ -1,6 +1,6 @@
 use Rattle.std.proofs.Common.{◌≡◌, ◌≤◌, [], length}
 use Rattle.daachorse_search.proofs.HaystackLemmas.{ReadsTo}
-use Rattle.daachorse_search.proofs.matches.read_on.Given as goal
+use Rattle.daachorse_search.proofs.matches.read_units.Given as goal
 
 abbrev pub invariant-units : goal.invariant-units
 invariant-units g l =

@@ -1,0 +1,102 @@
+//! Haystacks and sources without regard to the case of ASCII letters.
+//!
+//! The layers above may rely on a folded haystack showing the folded units of its haystack, at the
+//! same places, and on a folded source taking just the units that it gives.
+
+ghost use Rattle.std.specs.Prelude.{◌≡◌};
+
+use crate::haystack::{Haystack, Reread};
+use crate::source::Source;
+use daachorse_core::ascii_fold::AsciiFold;
+use std::marker::Model;
+
+/// What a haystack or a source gives, each unit folded.
+#[derive(Drop)]
+pub struct Folded<I> {
+    units: I,
+}
+
+impl<I> Model for Folded<I> {
+    ghost Value = { I };
+
+    ghost view = { λ s. s.units };
+}
+
+impl<I> Folded<I> {
+    /// The units of the haystack or the source from here on, each folded.
+    #[inline(always)]
+    pub fn new(units: I) -> Self
+        ensures { result ≡ units }
+    {
+        Self { units }
+    }
+
+    /// What gives the units, as they are.
+    #[inline(always)]
+    pub fn unfolded(&self) -> &I
+        ensures { result.now ≡ self.now }
+    {
+        &self.units
+    }
+}
+
+impl<U: AsciiFold, I: Iterator<Item = U>> Iterator for Folded<I> {
+    ghost use Rattle.daachorse_search.specs.FoldedSources.{GivesFolded};
+
+    type Item = U;
+
+    ghost can_next = { I.can_next };
+
+    ghost next_gives = { GivesFolded U.fold I.next_gives };
+
+    ghost remaining = { I.remaining };
+
+    #[inline(always)]
+    fn next(&mut self) -> Option<U> {
+        let unit = self.units.next()?;
+        Some(unit.folded())
+    }
+}
+
+impl<U: AsciiFold, H: Haystack<U>> Haystack<U> for Folded<H> {
+    ghost use Rattle.daachorse_model.specs.Folding.{folded};
+    ghost use Rattle.daachorse_search.specs.FoldedSources.{gives_first_folded};
+
+    ghost rest = { λ s. folded (H.rest s) };
+
+    ghost gives = { λ s r t gave. gives_first_folded U.EdgeLabel.unit U.fold U.folds H.rest H.next_gives H.gives s r t gave };
+
+    ghost callable = { H.callable };
+
+    ghost ends = { H.ends };
+}
+
+impl<U: AsciiFold, H: Reread<U>> Reread<U> for Folded<H> {
+    #[inline(always)]
+    fn after(&self, bytes: usize) -> Self {
+        Folded {
+            units: self.units.after(bytes),
+        }
+    }
+
+    #[inline(always)]
+    fn left(&self) -> usize {
+        self.units.left()
+    }
+}
+
+impl<U: AsciiFold, S: Source<U>> Source<U> for Folded<S> {
+    ghost use Rattle.daachorse_search.specs.FoldedSources.{MayReadFolded, MayReadFolded-ready, MayReadFolded-kept};
+
+    ghost may_read = { MayReadFolded S.may_read };
+
+    #[inline(always)]
+    fn next_at(&mut self, place: &mut usize) -> Option<U> {
+        let next = self.units.next_at(place)?;
+        Some(next.folded())
+    }
+
+    ghost ready = { MayReadFolded-ready U.EdgeLabel.unit U.fold U.folds S.can_next S.next_gives S.remaining U.EdgeLabel.width U.as_wide S.may_read S.ready };
+
+    ghost kept = { MayReadFolded-kept U.EdgeLabel.unit U.fold U.folds S.can_next S.next_gives S.remaining U.EdgeLabel.width U.as_wide S.may_read S.kept };
+}

@@ -12,7 +12,7 @@ use Rattle.daachorse_core.specs.Looks.{IsFirstOutput, LookGives}
 use Rattle.daachorse_machine.specs.Machines.{IsMachine}
 use Rattle.daachorse_machine.proofs.ChildLaws.{child_at-inside}
 use Rattle.daachorse_machine.proofs.MachineLaws.{Reached-inside, Reached-root, first-output, text-root, root-text, turn-next, turn-root, turn-dead, turn-link, standard-alive}
-use Rattle.daachorse_bytewise_states.specs.Parts.{Parts, base_of, check_of, child, content, count, fail_of, machine, output_of}
+use Rattle.daachorse_bytewise_states.specs.Parts.{Parts, base_of, check_of, child, content, count, fail_of, machine, output_of, word_at}
 use Rattle.daachorse_bytewise_states.specs.Valid.{IsRootTable, IsState, IsValid, dead, text}
 use Rattle.daachorse_bytewise_states.proofs.DeadLaws.{alive}
 
@@ -79,7 +79,7 @@ module _ {V : Type 0} (p : Parts V) where
         look_fail i c f r e other at (λ one. standard-alive byte_width (machine p) (is_leftmost p.kind) (count p) 256 is_machine i r other (alive p standard) (at ∙ one))
 
     -- by the table of the root
-    pub look_table : (root : List (ℕ × ℕ)) → IsRootTable (child p 0) (output_of p) 256 root → (i c j : ℕ) → IsState p i → c < 256 → i ≡ 0 → j ≡ (slice_index_or root c (0, 0)).0 → (o : Option NonZeroU32) → Gives i c (Next j o)
+    pub look_table : (root : List (ℕ × ℕ)) → IsRootTable (child p 0) (word_at p) 256 root → (i c j : ℕ) → IsState p i → c < 256 → i ≡ 0 → j ≡ (slice_index_or root c (0, 0)).0 → (o : Option NonZeroU32) → Gives i c (Next j o)
     look_table root table i c j r byte top is o =
         let P : ℕ → Type 0 = λ x. Gives i c (Next x o) in
         subst P (sym (is ∙ ap (λ e. e.0) (table.right c byte))) (go (child p 0 c) refl)
@@ -88,11 +88,11 @@ module _ {V : Type 0} (p : Parts V) where
         go None e = look_root i c r (ap (λ x. child p x c) top ∙ e) top o
         go (Some k) e = look_child i c k r (ap (λ x. child p x c) top ∙ e) o
 
-    -- the table has the first output of each element that it has
-    pub table_output : (root : List (ℕ × ℕ)) → IsRootTable (child p 0) (output_of p) 256 root → (c : ℕ) → c < 256 → output_of p (slice_index_or root c (0, 0)).0 ≡ (slice_index_or root c (0, 0)).1
-    table_output root table c byte =
+    -- the table has the word of each element that it has
+    pub table_word : (root : List (ℕ × ℕ)) → IsRootTable (child p 0) (word_at p) 256 root → (c : ℕ) → c < 256 → word_at p (slice_index_or root c (0, 0)).0 ≡ (slice_index_or root c (0, 0)).1
+    table_word root table c byte =
         let at = table.right c byte in
-        ap (λ e. output_of p e.0) at ∙ sym (ap (λ e. e.1) at)
+        ap (λ e. word_at p e.0) at ∙ sym (ap (λ e. e.1) at)
 
     -- ---- outputs
 

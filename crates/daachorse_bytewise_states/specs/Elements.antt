@@ -2,7 +2,7 @@
 -- or a position of 0 stands for none.
 use Rattle.std.specs.Prelude.{ℕ}
 use Rattle.daachorse_core.specs.declared.outputs.Empty.{Empty}
-use Rattle.daachorse_serializer.specs.Packed.{upper, lower}
+use Rattle.daachorse_serializer.specs.Packed.{upper, lower, word_of}
 use Rattle.daachorse_bytewise_states.specs.declared.state.State.{State}
 
 module _ {F : Type 0} where
@@ -17,6 +17,10 @@ module _ {F : Type 0} where
 
   abbrev pub output_in : State F → ℕ
   output_in e = upper e.packed
+
+  -- the word of both
+  abbrev pub word_in : State F → ℕ
+  word_in e = word_of e.packed
 
 -- the elements that a default makes: all 0
 abbrev pub vacant : State ℕ

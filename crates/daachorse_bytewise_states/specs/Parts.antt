@@ -9,7 +9,7 @@ use Rattle.daachorse_model.specs.Units.{byte_width}
 use Rattle.daachorse_model.specs.Dictionary.{Dictionary}
 use Rattle.daachorse_machine.specs.Machines.{Machine, content as machine_content}
 use Rattle.daachorse_bytewise_states.specs.declared.state.State.{State}
-use Rattle.daachorse_bytewise_states.specs.Elements.{base_in, check_in, fail_in, output_in, vacant, vacant_left}
+use Rattle.daachorse_bytewise_states.specs.Elements.{base_in, check_in, fail_in, output_in, vacant, vacant_left, word_in}
 
 pub record Parts (V : Type 0) : Type 0 where
   -- the searches that it is for
@@ -50,6 +50,10 @@ module _ {V : Type 0} (p : Parts V) where
 
   abbrev pub output_of : ℕ → ℕ
   output_of i = cond (is_leftmost p.kind) (output_in (slice_index_or p.leftmost i vacant_left)) (output_in (slice_index_or p.standard i vacant))
+
+  -- the word of an element for the standard searches
+  abbrev pub word_at : ℕ → ℕ
+  word_at i = word_in (slice_index_or p.standard i vacant)
 
   abbrev pub fail_of : ℕ → ℕ
   fail_of i = cond (is_leftmost p.kind) (slice_index p.fails i) (fail_in (slice_index_or p.standard i vacant))

@@ -7,7 +7,7 @@ use Rattle.daachorse_model.specs.Kinds.{is_leftmost}
 use Rattle.daachorse_model.specs.Units.{byte_width}
 use Rattle.daachorse_machine.specs.Machines.{IsCounted, IsRight, dead_in}
 use Rattle.daachorse_machine.specs.Texts.{IsReached, text_of}
-use Rattle.daachorse_bytewise_states.specs.Parts.{Parts, base_of, child, count, fail_of, machine, output_of}
+use Rattle.daachorse_bytewise_states.specs.Parts.{Parts, base_of, child, count, fail_of, machine, output_of, word_at}
 
 module _ {V : Type 0} (p : Parts V) where
   -- which lists are used
@@ -37,15 +37,15 @@ module _ {V : Type 0} (p : Parts V) where
     pub right : IsRight byte_width (machine p) (is_leftmost p.kind)
     pub counted : IsCounted (machine p) p.num_states
 
--- the element of the child of each byte below n, the root where there is none, and the position of its first output
-pub record IsRootTable (child : ℕ → Option ℕ) (output : ℕ → ℕ) (n : ℕ) (table : List (ℕ × ℕ)) : Type 0 where
+-- the element of the child of each byte below n, the root where there is none, and the word of that element
+pub record IsRootTable (child : ℕ → Option ℕ) (word : ℕ → ℕ) (n : ℕ) (table : List (ℕ × ℕ)) : Type 0 where
   pub size : length table ≡ n
-  pub right : (c : ℕ) → c < n → slice_index_or table c (0, 0) ≡ (unwrap_or (child c) 0, output (unwrap_or (child c) 0))
+  pub right : (c : ℕ) → c < n → slice_index_or table c (0, 0) ≡ (unwrap_or (child c) 0, word (unwrap_or (child c) 0))
 
 -- what an automaton keeps: valid parts, and the table of the root if the searches are standard
 pub record IsStored {V : Type 0} (p : Parts V) (root : List (ℕ × ℕ)) : Type 0 where
   pub valid : IsValid p
-  pub table : p.kind ≡ Standard → IsRootTable (child p 0) (output_of p) 256 root
+  pub table : p.kind ≡ Standard → IsRootTable (child p 0) (word_at p) 256 root
 
 -- ---- what a search sees
 module _ {V : Type 0} (p : Parts V) where

@@ -107,8 +107,9 @@ impl<'a, V: Copy> Automaton<V> for Standard<'a, V> {
     fn turn(&self, state: u32, label: u8, turns: &mut Turns) -> Look {
         turns.tick();
         if state == ROOT_STATE_IDX {
-            let (child, position) = self.root[label as usize];
-            return Look::Next(child, NonZeroU32::new(position));
+            // The position is taken out of the word as it is of an element's, so that both ways meet in one.
+            let (child, word) = self.root[label as usize];
+            return Look::Next(child, NonZeroU32::new(word / 256));
         }
         // A copy loads base and link at once, and then its place isn't needed again.
         let element = self.states[state as usize];

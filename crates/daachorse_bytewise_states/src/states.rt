@@ -15,7 +15,7 @@ ghost use Rattle.daachorse_patterns.specs.Prefixes.{HasMoreProperPrefixes};
 ghost use Rattle.daachorse_model.specs.declared.MatchKind.TheVariants.{Standard};
 ghost use Rattle.daachorse_model.specs.Paths.{is_reached};
 ghost use Rattle.daachorse_model.specs.Prefixes.{HasPrefixes, PassesAt};
-ghost use Rattle.daachorse_bytewise_states.specs.Elements.{base_in, fail_in, output_in, vacant};
+ghost use Rattle.daachorse_bytewise_states.specs.Elements.{base_in, fail_in, vacant, word_in};
 ghost use Rattle.daachorse_bytewise_states.specs.Parts.{base_of, check_of, child, child_among, content, count, fail_of, output_of, parts_of, without_link};
 ghost use Rattle.daachorse_bytewise_states.specs.Valid.{IsRootTable, IsValid};
 
@@ -37,6 +37,8 @@ use std::num::NonZeroU32;
 ///
 /// For the standard searches an element keeps its failure link, and a table says what each byte
 /// leads to from the root. For the leftmost searches the links stand beside the elements.
+///
+/// The outputs stand in a list of their own. `daachorse_tests` looks at states by a view of them.
 #[derive(Drop)]
 pub struct States<V: Copy, A: Allocator = Global> {
     kind: MatchKind,
@@ -340,20 +342,19 @@ fn copy_of<T: Copy, A: Allocator + Copy>(items: &Vec<T, A>) -> Result<Vec<T, A>>
 }
 
 /// The element of each byte's child from the root, the root itself where there is none, and the
-/// position of its first output, 0 for none.
+/// word of that element, which has the position of its first output.
 fn root_table<A: Allocator>(alloc: A, states: &[State<u32>]) -> Result<Vec<(u32, u32), A>>
     requires blocks { length states.now % 256 ≡ 0 }
     requires some { 0 < length states.now }
     requires inside { base_in (slice_index_or states.now 0 vacant) < length states.now }
-    ensures ok { IfOk result (λ table. IsRootTable (child_among vacant states.now 0) (λ i. output_in (slice_index_or states.now i vacant)) 256 table.items) }
+    ensures ok { IfOk result (λ table. IsRootTable (child_among vacant states.now 0) (λ i. word_in (slice_index_or states.now i vacant)) 256 table.items) }
     ensures err { IfErr result IsOutOfMemory }
 {
     let root = &states[ROOT_STATE_IDX as usize];
-    let stay = (ROOT_STATE_IDX, root.output_pos());
     let mut table = Vec::with_capacity(alloc, 256)?;
     for label in 0..256u32 {
-        let (child, position) = root.child_and_output(label as u8, states).unwrap_or(stay);
-        table.push((child, position.map_or(0, NonZeroU32::get)))?;
+        let child = root.child(label as u8, states).unwrap_or(ROOT_STATE_IDX);
+        table.push((child, states[child as usize].word()))?;
     }
     Ok(table)
 }

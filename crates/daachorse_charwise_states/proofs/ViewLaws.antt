@@ -2,19 +2,21 @@
 use Rattle.std.proofs.Common.{◌≡◌, ◌≢◌, ℕ, ◌<◌, Bool, true, false, length, Option, Some, None, sym, ap, ◌∙◌, subst, arith, slice_index_or}
 use Rattle.std.specs.Char.{IsScalar}
 use Rattle.std.specs.Prelude.{MatchOption, is_some}
+use Rattle.std.specs.declared.num.NonZeroU32.{NonZeroU32}
 use Rattle.std.proofs.lemmas.List.{get_or_default}
 use Rattle.daachorse_model.specs.Kinds.{is_leftmost}
 use Rattle.daachorse_model.specs.Units.{char_width}
 use Rattle.daachorse_machine.specs.Machines.{IsMachine}
 use Rattle.daachorse_core.specs.Looks.{IsForeign}
+use Rattle.daachorse_core.specs.Outputs.{number}
 use Rattle.daachorse_machine.proofs.DeadLaws.{kind_standard, none_dead}
-use Rattle.daachorse_machine.proofs.MachineLaws.{Reached-inside, standard-alive}
+use Rattle.daachorse_machine.proofs.MachineLaws.{Reached-inside, Reached-root, standard-alive}
 use Rattle.daachorse_mapper.specs.Codings.{code_of}
 use Rattle.daachorse_charwise_states.specs.declared.state.State.{State}
 use Rattle.daachorse_charwise_states.specs.Elements.{base_in, check_in, fail_in, output_in, vacant}
 use Rattle.daachorse_charwise_states.specs.Parts.{Parts, char_code, child, child_among, child_by, content, count, fail_of, machine, output_of}
 use Rattle.daachorse_charwise_states.specs.Valid.{IsState, IsValid, has_code}
-use Rattle.daachorse_charwise_states.specs.Views.{IsFor}
+use Rattle.daachorse_charwise_states.specs.Views.{IsFor, IsRootOutput}
 use Rattle.daachorse_charwise_states.proofs.CharLaws.{child_by_code, foreign_char, valid_machine}
 use Rattle.daachorse_charwise_states.proofs.Codes.{char_code-of}
 
@@ -48,6 +50,10 @@ module _ {V : Type 0} (q p : Parts V) (leftmost : Bool) (is : q ≡ p) (kept : I
 
   pub view_output : (d : State) (i : ℕ) → IsState p i → output_of p i ≡ output_in (slice_index_or q.states i d)
   view_output d i r = ap (λ x. output_of x i) (sym is) ∙ ap output_in (get_or_default q.states i vacant d (view_inside i r))
+
+  -- the output that was read of the root once is the root's
+  pub view_root_output : (o : Option NonZeroU32) → IsRootOutput q.states o → output_of p 0 ≡ number o
+  view_root_output o told = view_output vacant 0 (Reached-root _ _ _ _ _ view_machine) ∙ sym told
 
   -- no link is dead where the searches are standard
   pub view_alive : leftmost ≡ false → (i f : ℕ) → IsState p i → i ≢ 0 → fail_of p i ≡ f → f ≢ 1

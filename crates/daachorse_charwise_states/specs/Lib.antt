@@ -1,3 +1,4 @@
+pub mod Children
 pub mod Edges
 pub mod Elements
 pub mod Equality

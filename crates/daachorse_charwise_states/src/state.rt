@@ -8,6 +8,7 @@ ghost use Rattle.daachorse_core.specs.Outputs.{number};
 ghost use Rattle.daachorse_core.specs.declared.errors.DaachorseError.TheVariants.{InvalidAutomaton};
 ghost use Rattle.daachorse_serializer.specs.Forms.{Gives};
 ghost use Rattle.daachorse_charwise_states.specs.Elements.{base_in, check_in, fail_in, output_in, vacant};
+ghost use Rattle.daachorse_charwise_states.specs.Children.{TellsChild};
 ghost use Rattle.daachorse_charwise_states.specs.Parts.{child_by};
 ghost use Rattle.daachorse_charwise_states.specs.Written.{IsElement, element_form, take_element, element_law};
 
@@ -22,6 +23,9 @@ use std::num::NonZeroU32;
 ///
 /// A new element is vacant: it has no base and no output, and its check and its link are the dead
 /// state, 1.
+///
+/// The layout is that of Kanda, Akabe and Oda (arXiv 2207.13870). `daachorse_part_tests` sets and
+/// reads each part.
 #[derive(Clone, Copy, Debug, PartialEq, Eq, Hash)]
 pub struct State {
     // 0 stands for none, since an `Option<NonZeroU32>` would take twice the bytes.
@@ -125,13 +129,31 @@ impl State {
 
     /// The index of the element to which a code leads from this one, the element at an index, if
     /// there is one.
+    ///
+    /// It reads one other element at most.
     #[inline(always)]
     pub fn child(&self, index: u32, code: u32, states: &[State]) -> Option<u32>
         ensures { result ≡ child_by (length states.now) (λ j. check_in (slice_index_or states.now j vacant)) index (base_in self.now) code }
     {
+        let (child, _) = self.child_and_output(index, code, states)?;
+        Some(child)
+    }
+
+    /// The index of that child and the position of its first output, both off the child's one element.
+    ///
+    /// It reads one other element at most.
+    #[inline(always)]
+    pub fn child_and_output(
+        &self,
+        index: u32,
+        code: u32,
+        states: &[State],
+    ) -> Option<(u32, Option<NonZeroU32>)>
+        ensures { TellsChild states.now self.now index code result }
+    {
         let child = self.base()?.get() ^ code;
         match states.get(child as usize) {
-            Some(element) if element.check() == index => Some(child),
+            Some(element) if element.check() == index => Some((child, element.output_pos())),
             _ => None,
         }
     }

@@ -36,6 +36,9 @@ use std::hash::{Hash, Hasher};
 use std::marker::Model;
 
 /// The states and the outputs of an automaton over characters, with values of type `V`.
+///
+/// The codes of the characters and the outputs stand in lists of their own. `daachorse_tests` looks
+/// at states by a view of them.
 #[derive(Drop)]
 pub struct States<V: Copy, A: Allocator = Global> {
     kind: MatchKind,

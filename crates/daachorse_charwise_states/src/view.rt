@@ -64,6 +64,8 @@ pub struct View<'a, V: Copy, S: Searches> {
     // The code of each code point.
     table: &'a [u32],
     outputs: &'a [Output<V>],
+    // The position of the root's first output, which is read once, ahead of the search.
+    root_output: Option<NonZeroU32>,
     // For contracts alone, and so are the two numbers.
     kind: MatchKind,
     alphabet_size: u32,
@@ -73,13 +75,14 @@ pub struct View<'a, V: Copy, S: Searches> {
 
 impl<'a, V: Copy, S: Searches> Model for View<'a, V, S> {
     ghost use Rattle.daachorse_charwise_states.specs.Parts.{Parts};
-    ghost use Rattle.daachorse_charwise_states.specs.Views.{IsFor, coding_of, parts_of};
+    ghost use Rattle.daachorse_charwise_states.specs.Views.{IsFor, IsRootOutput, coding_of, parts_of};
 
     ghost Value = { Parts V };
 
     ghost view = { λ s. parts_of s.kind s.states.now (coding_of s.table.now s.alphabet_size) s.outputs.now s.num_states };
 
-    ghost invariant = { λ s. IsFor S.leftmost (parts_of s.kind s.states.now (coding_of s.table.now s.alphabet_size) s.outputs.now s.num_states) };
+    ghost invariant = { λ s. IsFor S.leftmost (parts_of s.kind s.states.now (coding_of s.table.now s.alphabet_size) s.outputs.now s.num_states)
+        × IsRootOutput s.states.now s.root_output };
 }
 
 impl<'a, V: Copy, S: Searches> View<'a, V, S> {
@@ -95,10 +98,12 @@ impl<'a, V: Copy, S: Searches> View<'a, V, S> {
         requires { IsFor S.leftmost (parts_of kind states.now mapper.now outputs.now num_states) }
         ensures { result ≡ parts_of kind states.entry.now mapper.entry.now outputs.entry.now num_states }
     {
+        let root_output = states[ROOT_STATE_IDX as usize].output_pos();
         Self {
             states,
             table: mapper.table(),
             outputs,
+            root_output,
             kind,
             alphabet_size: mapper.alphabet_size(),
             num_states,
@@ -158,21 +163,29 @@ impl<'a, V: Copy, S: Searches> Automaton<V> for View<'a, V, S> {
     fn turn(&self, state: u32, code: u32, turns: &mut Turns) -> Look {
         turns.tick();
         let element = &self.states[state as usize];
-        if let Some(child) = element.child(state, code, self.states) {
-            return Look::Next(child, self.states[child as usize].output_pos());
+        if let Some((child, position)) = element.child_and_output(state, code, self.states) {
+            return Look::Next(child, position);
         }
         if state == ROOT_STATE_IDX {
-            return Look::Next(ROOT_STATE_IDX, self.output_pos(ROOT_STATE_IDX));
+            if self.root_output.is_none() {
+                return Look::Next(ROOT_STATE_IDX, None);
+            }
+            // It is read as a child's is, so that both ways meet in one number, which is tested once.
+            return Look::Next(ROOT_STATE_IDX, element.output_pos());
         }
         let link = element.fail();
         if S::are_leftmost() && link == DEAD_STATE_IDX {
-            return Look::Next(ROOT_STATE_IDX, self.output_pos(ROOT_STATE_IDX));
+            return Look::Next(ROOT_STATE_IDX, self.root_output);
         }
         Look::Fail(link)
     }
 
     #[inline(always)]
     fn output_pos(&self, state: u32) -> Option<NonZeroU32> {
+        // Of the root it is known, which a loop that asks for the root's alone makes use of.
+        if state == ROOT_STATE_IDX {
+            return self.root_output;
+        }
         self.states[state as usize].output_pos()
     }
 
@@ -188,6 +201,7 @@ impl<'a, V: Copy, S: Searches> Automaton<V> for View<'a, V, S> {
             states: self.states,
             table: self.table,
             outputs: self.outputs,
+            root_output: self.root_output,
             kind: self.kind,
             alphabet_size: self.alphabet_size,
             num_states: self.num_states,

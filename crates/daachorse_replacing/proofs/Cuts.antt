@@ -2,6 +2,7 @@
 use Rattle.std.proofs.Common.{◌≡◌, ℕ, suc, ◌+◌, ◌≤◌, true, List, [], ◌∷◌, ◌++◌, length, refl, sym, ap, ◌∙◌, subst, append_assoc, length-append, arith}
 use Rattle.std.proofs.Math.Utf8.{scalars, encodes}
 use Rattle.std.proofs.lemmas.Str.{encodes-append, encodes-chars, scalars-chars, IsCharBoundary-at_seam, IsCharBoundary-start}
+use Rattle.std.specs.Iterator.{AlwaysYields}
 use Rattle.std.specs.List.{All}
 use Rattle.std.specs.Str.{chars, IsUtf8, IsCharBoundary}
 use Rattle.daachorse_model.specs.declared.Match.{Match}
@@ -15,6 +16,8 @@ use Rattle.daachorse_model.proofs.Find.{standard_apart}
 use Rattle.daachorse_model.proofs.Overlap.{leftmost_apart}
 use Rattle.daachorse_model.proofs.SameOnText.{size-encodes}
 use Rattle.daachorse_model.proofs.Suffixes.{size-append, size-bytes}
+use Rattle.daachorse_search.specs.Matches.{GivesFirst, Progress}
+use Rattle.daachorse_search.proofs.MatchesLemmas.{YieldsList-from_progress}
 use Rattle.daachorse_replacing.specs.ByKind.{non_overlapping}
 use Rattle.daachorse_replacing.specs.Replaced.{AreParts}
 use Rattle.daachorse_replacing.proofs.FirstMatches.{by_kind_occur}
@@ -69,3 +72,12 @@ module _ {V : Type 0} where
     parts_of_text kind text utf8 =
         parts_from (IsCharBoundary text) 0 (non_overlapping kind char_width K (chars text)) (IsCharBoundary-start text utf8)
         (λ k d lt. cut_text text utf8 _ (by_kind_occur char_width K kind (chars text) k d lt)) (by_kind_apart kind char_width (chars text))
+
+-- a search that has these matches left gives them, and no others
+pub gives_left : {V A F : Type 0} (stands : Match V → List ℕ → List ℕ → Type 0) (s : Progress V A F) (ms : List (Match V)) → s.left ≡ ms → AlwaysYields (GivesFirst stands) (λ m. m) s ms
+gives_left stands s ms is = (YieldsList-from_progress stands s ms is).runs
+
+-- they are parts of the haystack, where the matches left are
+pub gives_parts : {V A F : Type 0} (may_cut : ℕ → Type 0) (stands : Match V → List ℕ → List ℕ → Type 0) (s : Progress V A F) (ms : List (Match V)) → s.left ≡ ms → AreParts may_cut 0 ms
+    → (all : List (Match V)) × AlwaysYields (GivesFirst stands) (λ m. m) s all × AreParts may_cut 0 all
+gives_parts may_cut stands s ms is parts = (ms, gives_left stands s ms is, parts)

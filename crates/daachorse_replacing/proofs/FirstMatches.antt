@@ -1,5 +1,5 @@
 -- A list of matches by kind is empty exactly where the overlapping search has none: it gives the first of what it passes, and each of its matches is an occurrence.
-use Rattle.std.proofs.Common.{◌≡◌, ◌≢◌, ◌↔◌, ℕ, zero, ◌+◌, true, false, List, [], ◌∷◌, ◌++◌, length, map, take, Option, Some, None, IsTrue, slice_get, option_map, refl, sym, ap, ◌∙◌, subst, append-nil, append_assoc, arith}
+use Rattle.std.proofs.Common.{◌≡◌, ◌≢◌, ◌↔◌, ◌⊎◌, inl, inr, ℕ, zero, ◌+◌, false, List, [], ◌∷◌, ◌++◌, length, map, take, Option, Some, None, IsTrue, slice_get, option_map, refl, sym, ap, ◌∙◌, subst, append-nil, append_assoc, arith}
 use Rattle.std.specs.Option.{option_or, is_some}
 use Rattle.std.specs.Prelude.{All, Contains}
 use Rattle.std.proofs.lemmas.Bool.{false≢true}
@@ -7,7 +7,6 @@ use Rattle.std.proofs.lemmas.List.Elements.{All-head}
 use Rattle.daachorse_model.specs.declared.Match.{Match}
 use Rattle.daachorse_model.specs.declared.MatchKind.{MatchKind}
 use Rattle.daachorse_model.specs.declared.MatchKind.TheVariants.{Standard, LeftmostLongest, LeftmostFirst}
-use Rattle.daachorse_model.specs.Kinds.{is_standard}
 use Rattle.daachorse_model.specs.Units.{size}
 use Rattle.daachorse_model.specs.Dictionary.{Dictionary}
 use Rattle.daachorse_model.specs.Laws.{IsOccurrence}
@@ -108,15 +107,13 @@ module _ {V : Type 0} (width : ℕ → ℕ) (K : Dictionary V) where
 
   -- ---- by kind
 
-  pub standard_by_kind : (kind : MatchKind) (h : List ℕ) → is_standard kind ≡ true → standard width K h ≡ non_overlapping kind width K h
-  standard_by_kind Standard h e = refl
-  standard_by_kind LeftmostLongest h e = cc
-  standard_by_kind LeftmostFirst h e = cc
+  -- what the kind names, where an answer tells the kind
+  pub standard_named : (asked kind : MatchKind) (h : List ℕ) → asked ≡ Standard → asked ≡ kind → standard width K h ≡ non_overlapping kind width K h
+  standard_named asked kind h is same = ap (λ k. non_overlapping k width K h) (sym is ∙ same)
 
-  pub leftmost_by_kind : (kind : MatchKind) (h : List ℕ) → is_standard kind ≡ false → leftmost width K h ≡ non_overlapping kind width K h
-  leftmost_by_kind Standard h e = cc
-  leftmost_by_kind LeftmostLongest h e = refl
-  leftmost_by_kind LeftmostFirst h e = refl
+  pub leftmost_named : (asked kind : MatchKind) (h : List ℕ) → (asked ≡ LeftmostLongest) ⊎ (asked ≡ LeftmostFirst) → asked ≡ kind → leftmost width K h ≡ non_overlapping kind width K h
+  leftmost_named asked kind h (inl is) same = ap (λ k. non_overlapping k width K h) (sym is ∙ same)
+  leftmost_named asked kind h (inr is) same = ap (λ k. non_overlapping k width K h) (sym is ∙ same)
 
   pub by_kind_none : (kind : MatchKind) (h : List ℕ) → non_overlapping kind width K h ≡ [] → overlapping width K h ≡ []
   by_kind_none Standard h e = standard_none h e

@@ -29,12 +29,18 @@ module _ {V : Type 0} (may_cut : ℕ → Type 0) where
     pub here : may_cut s
     pub ordered : s ≤ m.start
     pub starts : may_cut m.start
+    pub within : m.start ≤ m.end
+    pub ends : may_cut m.end
+
+  parts_here : (s : ℕ) (xs : List (Match V)) → AreParts may_cut s xs → may_cut s
+  parts_here s [] h = h
+  parts_here s (m ∷ ms) h = h.0
 
   pub parts_next : (s : ℕ) (xs : List (Match V)) (x : Match V) (rest all : List (Match V)) → all ≡ xs ++ x ∷ rest → AreParts may_cut s all → MayTake (last_end s xs) x
   parts_next s xs x rest all e h = from s xs (rw e at h)
     where
       from : (s : ℕ) (xs : List (Match V)) → AreParts may_cut s (xs ++ x ∷ rest) → MayTake (last_end s xs) x
-      from s [] h = record { here = h.0; ordered = h.1; starts = h.2 }
+      from s [] h = record { here = h.0; ordered = h.1; starts = h.2; within = h.3; ends = parts_here x.end rest h.4 }
       from s (m ∷ ms) h = from m.end ms h.4
 
   pub parts_end : (s : ℕ) (xs : List (Match V)) → AreParts may_cut s xs → may_cut (last_end s xs)

@@ -13,6 +13,14 @@ module _ {V : Type 0} (with : Match V → List ℕ) (bytes : List ℕ) where
   abbrev pub replaced : List (Match V) → List ℕ
   replaced ms = replaced_from 0 ms
 
+-- what a replacement gives for a match and the part of the haystack that it is has the bytes that `with` says of the match
+abbrev pub Replaces : {V P : Type 0} → (P → List ℕ) → List ℕ → (Match V → P → P → Type 0) → (Match V → List ℕ) → Type 0
+Replaces bytes haystack gives with = (m : Match _) (part given : _) → bytes part ≡ slice_range haystack m.start m.end → gives m part given → bytes given ≡ with m
+
+-- Q of the haystack with each of these matches replaced by what the replacement gives, where some `with` says that
+abbrev pub OfReplaced : {V P : Type 0} → (P → List ℕ) → List ℕ → (Match V → P → P → Type 0) → List (Match V) → (List ℕ → Type 0) → Type 0
+OfReplaced bytes haystack gives matches Q = (with : Match _ → List ℕ) → Replaces bytes haystack gives with → Q (replaced with haystack matches)
+
 -- known bytes grow by a beginning of the text
 abbrev pub AppendsBeginning : Option (List ℕ) → Option (List ℕ) → List ℕ → Type 0
 AppendsBeginning old new text = (part : List ℕ) × (rest : List ℕ) × (text ≡ part ++ rest) × Appends old new part

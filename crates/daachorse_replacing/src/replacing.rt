@@ -7,13 +7,14 @@ ghost use Rattle.std.specs.Prelude.{◌≡◌, ◌≤◌, ℕ, List, OnErr, OnOk
 ghost use Rattle.std.specs.Iterator.{AlwaysYields, IsFinite};
 ghost use Rattle.std.specs.Io.KnownBytes.{Appends};
 ghost use Rattle.daachorse_model.specs.declared.Match.{Match};
-ghost use Rattle.daachorse_replacing.specs.Replaced.{AppendsBeginning, AreParts, replaced};
+ghost use Rattle.daachorse_replacing.specs.Replaced.{AppendsBeginning, AreParts, OfReplaced};
 
 use crate::appending::Appending;
 use crate::piece::Piece;
 use daachorse_model::Match;
 
-/// Puts out the haystack with each of the matches replaced by what `replacement` returns for it.
+/// Puts out the haystack with each of the matches replaced by what `replacement` returns for it and
+/// for the part of the haystack that it is.
 ///
 /// # Conditions
 ///
@@ -28,7 +29,7 @@ pub fn replace<
     V: Copy,
     P: Piece,
     I: Iterator<Item = Match<V>> + Drop,
-    F: Fn(Match<V>) -> P,
+    F: Fn(Match<V>, P) -> P,
     O,
     A: Appending<P, O>,
 >(haystack: P, matches: I, replacement: &F, out: &mut O) -> Result<(), A::Error>
@@ -36,15 +37,16 @@ pub fn replace<
     requires ends { IsFinite (I.remaining matches) }
     requires callable { F.IsAlwaysCallable replacement.now }
     requires parts { (all : List (Match V)) × AlwaysYields I.next_gives (λ m. m) matches all × AreParts (P.may_cut haystack) 0 all }
-    ensures whole { OnOk result ((all : List (Match V)) (with : Match V → List ℕ) → AlwaysYields I.next_gives (λ m. m) matches all
-        → ((m : Match V) (r : P) → F.post replacement.now m r → P.bytes r ≡ with m) → Appends (A.taken out.old) (A.taken out.new) (replaced with (P.bytes haystack) all)) }
-    ensures beginning { OnErr result ((all : List (Match V)) (with : Match V → List ℕ) → AlwaysYields I.next_gives (λ m. m) matches all
-        → ((m : Match V) (r : P) → F.post replacement.now m r → P.bytes r ≡ with m) → AppendsBeginning (A.taken out.old) (A.taken out.new) (replaced with (P.bytes haystack) all)) }
+    ensures whole { OnOk result ((all : List (Match V)) → AlwaysYields I.next_gives (λ m. m) matches all
+        → OfReplaced P.bytes (P.bytes haystack) (F.post replacement.now) all (Appends (A.taken out.old) (A.taken out.new))) }
+    ensures beginning { OnErr result ((all : List (Match V)) → AlwaysYields I.next_gives (λ m. m) matches all
+        → OfReplaced P.bytes (P.bytes haystack) (F.post replacement.now) all (AppendsBeginning (A.taken out.old) (A.taken out.new))) }
 {
     let mut place = 0;
     for found in matches {
         A::append(out, haystack.part(place, found.start))?;
-        A::append(out, replacement(found))?;
+        let matched = haystack.part(found.start, found.end);
+        A::append(out, replacement(found, matched))?;
         place = found.end;
     }
     A::append(out, haystack.part(place, haystack.end()))

@@ -32,7 +32,7 @@ struct Lists<V: Copy, A: Allocator> {
     ending: Ending<V, Prefilter<A>, A>,
 }
 
-/// Reads parts, and answers them with the bytes behind them.
+/// Reads parts, and returns them with the bytes behind them.
 ///
 /// # Errors
 ///

@@ -26,10 +26,28 @@ part-requires-clause-ends g c =
     let more = gave_next g.I.Iterator.next_gives _ _ _ _ c.loop-found.yielded parts.0 c.loop-found.yielded_by c.in-Some.ensures.steps (rw c.into_iter-found-iterator.ensures.into_iter_gives parts.1) in
     (parts_next (g.P.Piece.may_cut c.args.haystack) 0 c.loop-found.yielded _ more.0 parts.0 more.1 parts.2).starts
 
+pub part-matched-requires-clause-ordered : goal.part-matched-requires-clause-ordered
+part-matched-requires-clause-ordered g c =
+    let parts = c.requires.parts in
+    let more = gave_next g.I.Iterator.next_gives _ _ _ _ c.loop-found.yielded parts.0 c.loop-found.yielded_by c.in-Some.ensures.steps (rw c.into_iter-found-iterator.ensures.into_iter_gives parts.1) in
+    (parts_next (g.P.Piece.may_cut c.args.haystack) 0 c.loop-found.yielded _ more.0 parts.0 more.1 parts.2).within
+
+pub part-matched-requires-clause-starts : goal.part-matched-requires-clause-starts
+part-matched-requires-clause-starts g c =
+    let parts = c.requires.parts in
+    let more = gave_next g.I.Iterator.next_gives _ _ _ _ c.loop-found.yielded parts.0 c.loop-found.yielded_by c.in-Some.ensures.steps (rw c.into_iter-found-iterator.ensures.into_iter_gives parts.1) in
+    (parts_next (g.P.Piece.may_cut c.args.haystack) 0 c.loop-found.yielded _ more.0 parts.0 more.1 parts.2).starts
+
+pub part-matched-requires-clause-ends : goal.part-matched-requires-clause-ends
+part-matched-requires-clause-ends g c =
+    let parts = c.requires.parts in
+    let more = gave_next g.I.Iterator.next_gives _ _ _ _ c.loop-found.yielded parts.0 c.loop-found.yielded_by c.in-Some.ensures.steps (rw c.into_iter-found-iterator.ensures.into_iter_gives parts.1) in
+    (parts_next (g.P.Piece.may_cut c.args.haystack) 0 c.loop-found.yielded _ more.0 parts.0 more.1 parts.2).ends
+
 pub returns-in_err-append-clause-beginning : goal.returns-in_err-append-clause-beginning
 returns-in_err-append-clause-beginning g c =
     let p = err_from_is_err_and c.from_residual.result c.from_residual.ensures.1 in
-    rw p.1 (λ all with y gives.
+    rw p.1 (λ all y with gives.
     let more = gave_next g.I.Iterator.next_gives _ _ _ _ c.loop-found.yielded all c.loop-found.yielded_by c.in-Some.ensures.steps (rw c.into_iter-found-iterator.ensures.into_iter_gives y) in
     let text = replaced_next with (g.P.Piece.bytes c.args.haystack) c.loop-found.yielded _ more.0 all c.loop-found.place more.1 c.loop-found.invariant.place in
     AppendsBeginning-more _ _ _ _ _ _ _ text (c.loop-found.invariant.taken with gives) (subst (AppendsBeginning _ _) c.part.ensures c.in_err-append.ensures.beginning))
@@ -37,11 +55,11 @@ returns-in_err-append-clause-beginning g c =
 pub returns-in_err-append-2-clause-beginning : goal.returns-in_err-append-2-clause-beginning
 returns-in_err-append-2-clause-beginning g c =
     let p = err_from_is_err_and c.from_residual-in_err-append-2.result c.from_residual-in_err-append-2.ensures.1 in
-    rw p.1 (λ all with y gives.
+    rw p.1 (λ all y with gives.
     let more = gave_next g.I.Iterator.next_gives _ _ _ _ c.loop-found.yielded all c.loop-found.yielded_by c.in-Some.ensures.steps (rw c.into_iter-found-iterator.ensures.into_iter_gives y) in
     let text = replaced_found with (g.P.Piece.bytes c.args.haystack) c.loop-found.yielded _ more.0 all c.loop-found.place more.1 c.loop-found.invariant.place in
     let kept = Appends-trans _ _ _ _ _ (c.loop-found.invariant.taken with gives) (subst (Appends _ _) c.part.ensures c.in_ok-append.ensures.whole) in
-    AppendsBeginning-more _ _ _ _ _ _ _ text kept (subst (AppendsBeginning _ _) (gives _ _ c.replacement.ensures) c.in_err-append-2.ensures.beginning))
+    AppendsBeginning-more _ _ _ _ _ _ _ text kept (subst (AppendsBeginning _ _) (gives _ _ _ c.part-matched.ensures c.replacement.ensures) c.in_err-append-2.ensures.beginning))
 
 pub loop-found-preserved : goal.loop-found-preserved
 loop-found-preserved g c =
@@ -49,7 +67,7 @@ loop-found-preserved g c =
       place = sym (last_end-next 0 c.loop-found.yielded _);
       taken = λ with gives.
           let kept = Appends-trans _ _ _ _ _ (c.loop-found.invariant.taken with gives) (subst (Appends _ _) c.part.ensures c.in_ok-append.ensures.whole) in
-          let said = Appends-trans _ _ _ _ _ kept (subst (Appends _ _) (gives _ _ c.replacement.ensures) c.in_ok-append-2.ensures.whole) in
+          let said = Appends-trans _ _ _ _ _ kept (subst (Appends _ _) (gives _ _ _ c.part-matched.ensures c.replacement.ensures) c.in_ok-append-2.ensures.whole) in
           subst (Appends _ _) (sym (replaced_before-next with (g.P.Piece.bytes c.args.haystack) 0 c.loop-found.yielded _ c.loop-found.place c.loop-found.invariant.place)) said;
     }
 
@@ -68,14 +86,14 @@ part-requires-2-clause-starts g c =
 
 pub returns-clause-whole : goal.returns-clause-whole
 returns-clause-whole g c =
-    on_ok_weaker c.append-2.result (λ piece all with y gives.
+    on_ok_weaker c.append-2.result (λ piece all y with gives.
     let whole = gave_all g.I.Iterator.next_gives _ _ _ c.loop-found.yielded all c.loop-found.yielded_by c.in-None.ensures.steps (rw c.into_iter-found-iterator.ensures.into_iter_gives y) in
     let text = replaced_whole with (g.P.Piece.bytes c.args.haystack) c.loop-found.yielded all c.loop-found.place c.end.result whole c.loop-found.invariant.place c.end.ensures.end in
     rw text (Appends-trans _ _ _ _ _ (c.loop-found.invariant.taken with gives) (subst (Appends _ _) c.part-2.ensures piece))) c.append-2.ensures.whole
 
 pub returns-clause-beginning : goal.returns-clause-beginning
 returns-clause-beginning g c =
-    on_err_weaker c.append-2.result (λ piece all with y gives.
+    on_err_weaker c.append-2.result (λ piece all y with gives.
     let whole = gave_all g.I.Iterator.next_gives _ _ _ c.loop-found.yielded all c.loop-found.yielded_by c.in-None.ensures.steps (rw c.into_iter-found-iterator.ensures.into_iter_gives y) in
     let text = replaced_whole with (g.P.Piece.bytes c.args.haystack) c.loop-found.yielded all c.loop-found.place c.end.result whole c.loop-found.invariant.place c.end.ensures.end in
     AppendsBeginning-more _ _ _ _ _ _ [] (text ∙ ap (λ l. replaced_before with (g.P.Piece.bytes c.args.haystack) 0 c.loop-found.yielded ++ l) (sym (append-nil _))) (c.loop-found.invariant.taken with gives) (subst (AppendsBeginning _ _) c.part-2.ensures piece)) c.append-2.ensures.beginning

@@ -1,9 +1,9 @@
-use Rattle.std.proofs.Common.{◌≡◌, ◌∙◌, ℕ, arith, refl, rules, sym}
+use Rattle.std.proofs.Common.{◌≡◌, ◌/◌, ◌∙◌, ℕ, arith, refl, rules, sym}
 use Rattle.std.specs.Prelude.{slice_index_or}
 use Rattle.daachorse_core.specs.Outputs.{number}
 use Rattle.daachorse_core.specs.declared.turns.Look.TheVariants.{Next, Fail}
-use Rattle.daachorse_bytewise_states.proofs.ByteLaws.{first_at, gives_label, look_child, look_link, look_table, table_output}
-use Rattle.daachorse_bytewise_states.proofs.StandardLaws.{standard_child, standard_fail, standard_inside, standard_kind, standard_output_at, standard_table, standard_valid}
+use Rattle.daachorse_bytewise_states.proofs.ByteLaws.{first_at, gives_label, look_child, look_link, look_table}
+use Rattle.daachorse_bytewise_states.proofs.StandardLaws.{standard_child, standard_entry, standard_fail, standard_inside, standard_kind, standard_output_at, standard_table, standard_valid}
 use Rattle.daachorse_bytewise_states.proofs.standard.StandardAutomaton.turn.Goals as goal
 
 -- by the table of the root
@@ -22,9 +22,9 @@ returns-then-state-eq-ROOT_STATE_IDX-clause-output g c =
     let table = standard_table _ _ _ _ _ c.self.view_is c.self.invariant in
     let root = c.self.inside.root.now in
     let to : ℕ × ℕ = slice_index_or root c.args.label (0, 0) in
-    let told : number c.new.result ≡ to.1 = search (rules, c.new.ensures) in
+    let told : number c.new.result ≡ to.1 / 256 = search (rules, c.new.ensures) in
     let reached = (look_table _ valid root table c.args.state c.args.label to.0 c.requires (omega arith) c.if-state-eq-ROOT_STATE_IDX.true refl c.new.result).0 in
-    λ unit same. first_at _ valid to.0 c.new.result reached (table_output _ valid root table c.args.label (omega arith) ∙ sym told)
+    λ unit same. first_at _ valid to.0 c.new.result reached (standard_entry _ _ _ _ _ c.self.view_is c.self.invariant c.args.label (omega arith) ∙ sym told)
 
 pub bounds-self-inside-state : goal.bounds-self-inside-state
 bounds-self-inside-state g c = standard_inside _ _ _ _ _ c.self.view_is c.self.invariant c.args.state c.requires

@@ -5,7 +5,7 @@ use Rattle.daachorse_charwise_states.proofs.view.ViewAutomaton.is_root.Goals as 
 
 pub returns : goal.returns
 returns g c =
-    let machine = view_machine _ _ _ c.self.view_is c.self.invariant in (
+    let machine = view_machine _ _ _ c.self.view_is c.self.invariant.0 in (
       λ h. text-root _ _ _ _ _ machine c.args.state (let e : c.args.state ≡ 0 = search (rules, h) in e),
       λ h. let e : c.args.state ≡ 0 = root-text _ _ _ _ _ machine c.args.state c.requires h in search (rules, e),
     )

@@ -4,7 +4,7 @@ use Rattle.daachorse_charwise_states.proofs.ViewLaws.{view_machine}
 use Rattle.daachorse_charwise_states.proofs.view.ViewAutomaton.root.Goals as goal
 
 pub returns-clause-reached : goal.returns-clause-reached
-returns-clause-reached g c = Reached-root _ _ _ _ _ (view_machine _ _ _ c.self.view_is c.self.invariant)
+returns-clause-reached g c = Reached-root _ _ _ _ _ (view_machine _ _ _ c.self.view_is c.self.invariant.0)
 
 pub returns-clause-text : goal.returns-clause-text
-returns-clause-text g c = text-root _ _ _ _ _ (view_machine _ _ _ c.self.view_is c.self.invariant) 0 refl
+returns-clause-text g c = text-root _ _ _ _ _ (view_machine _ _ _ c.self.view_is c.self.invariant.0) 0 refl

@@ -18,11 +18,14 @@ ghost use Rattle.daachorse_search.specs.Beginnings.{BeginsFrom, BeginsStepping, 
 ghost use Rattle.daachorse_search.specs.Filters.{IsSoundFor};
 ghost use Rattle.daachorse_skipping.specs.Asked.{BeginsAsking, lets_pass};
 ghost use Rattle.daachorse_bytewise.specs.Automata.{HasDepths, MayHaveFilter, dictionary_of, kind_of, states_of};
+ghost use Rattle.daachorse_core.specs.Seen.{units};
+ghost use Rattle.daachorse_bytewise.specs.Standings.{IsFindStandingIn, IsOverlappingStandingIn};
 ghost use Rattle.daachorse_bytewise.specs.Building.{HoldsPatterns, IsBuildRefusal, IsBuiltOf, IsRefusalOf, kept_filter};
 
 pub mod builder;
 mod by_kind;
 pub mod iter;
+mod replacing;
 pub mod states;
 mod written;
 
@@ -37,12 +40,14 @@ use daachorse_core::MatchKind;
 use daachorse_core::errors::Result;
 use daachorse_prefilter::prefilter::{Prefilter, clone_filter};
 use daachorse_search::find::{FindWalk, find_in};
+use daachorse_search::find_stepper::FindStanding;
 use daachorse_search::haystack::Bytes;
 use daachorse_search::leftmost::LeftmostMatches;
 use daachorse_search::matches_from::MatchesFrom;
 use daachorse_search::overlapping::{
     NoSuffixWalk, OverlappingWalk, find_overlapping_in, find_overlapping_no_suffix_in,
 };
+use daachorse_search::overlapping_stepper::OverlappingStanding;
 use daachorse_search::source;
 use daachorse_skipping::skipping::Skipping;
 use std::alloc::{Allocator, Global};
@@ -52,6 +57,11 @@ use std::marker::Model;
 /// An automaton that finds many patterns in bytes at once.
 ///
 /// It is that of Aho and Corasick (1975): a trie of the patterns, with failure links.
+///
+/// The units of a search and the places of a match are bytes. Its states stand in a double array
+/// whose layout is that of Kanda, Akabe and Oda (arXiv 2207.13870). An element takes 12 bytes, an
+/// output of a `u32` 12, and the filter of an automaton that keeps one is beside them. Searches
+/// take no memory; `quick_start` builds one and prints what it finds.
 #[derive(Drop)]
 pub struct DoubleArrayAhoCorasick<V: Copy, A: Allocator = Global> {
     states: States<V, A>,
@@ -77,6 +87,9 @@ impl<V: Copy, A: Allocator + Copy> DoubleArrayAhoCorasick<V, A> {
     /// Pattern `i`, counted from 0, has the value that the index `i` converts to. Equal patterns
     /// are all kept. The automaton keeps `alloc` and takes its memory from it. The default
     /// builder's [`DoubleArrayAhoCorasickBuilder::build`] does the same.
+    ///
+    /// The work and the memory grow with the texts that begin a pattern; neither has a bound by
+    /// proof. `quick_start` calls it.
     ///
     /// # Conditions
     ///
@@ -108,6 +121,9 @@ impl<V: Copy, A: Allocator + Copy> DoubleArrayAhoCorasick<V, A> {
     /// Equal patterns are all kept, and so are equal values. The automaton keeps `alloc` and takes
     /// its memory from it. The default builder's
     /// [`DoubleArrayAhoCorasickBuilder::build_with_values`] does the same.
+    ///
+    /// The work and the memory grow with the texts that begin a pattern; neither has a bound by
+    /// proof. `daachorse_tests` runs an example.
     ///
     /// # Conditions
     ///
@@ -156,6 +172,10 @@ impl<V: Copy, A: Allocator + Copy> DoubleArrayAhoCorasick<V, A> {
     /// A stepper that is made from then on returns the depth of its state. After an error the
     /// automaton is unchanged.
     ///
+    /// The depths take four bytes for each element of the double array. With `ab` and `b`, a
+    /// stepper of [`Self::find_overlapping_stepper`] that is given `a`, `b` and `b` tells the
+    /// depths 1, 2 and 1, and before that 0 (`daachorse_tests` runs this).
+    ///
     /// # Conditions
     ///
     /// The automaton is for the standard searches: its kind is [`MatchKind::Standard`].
@@ -181,6 +201,10 @@ impl<V: Copy, A: Allocator + Copy> DoubleArrayAhoCorasick<V, A> {
     /// They come in byte order, and equal ones in order of registration. A build for
     /// [`MatchKind::LeftmostFirst`] leaves out each pattern that extends an earlier one.
     ///
+    /// The memory of the walk over the elements is taken at once, and that of each pattern as it is
+    /// given. Of `ab`, `a` and `ab` the listing is `a`, `ab` and `ab`, with the values 1, 0 and 2
+    /// (`daachorse_tests` runs this).
+    ///
     /// # Errors
     ///
     /// An allocation failed.
@@ -193,6 +217,10 @@ impl<V: Copy, A: Allocator + Copy> DoubleArrayAhoCorasick<V, A> {
     }
 
     /// Makes a copy of the automaton, in memory of its own.
+    ///
+    /// A clone is an automaton that equals its original; it takes as much memory, and is not the
+    /// trait's `clone`, since memory may be refused. `daachorse_tests` compares clones with their
+    /// originals.
     ///
     /// # Errors
     ///
@@ -253,6 +281,8 @@ impl<V: Copy + Hash, A: Allocator> Hash for DoubleArrayAhoCorasick<V, A> {
 
 impl<V: Copy, A: Allocator> DoubleArrayAhoCorasick<V, A> {
     /// Returns the kind of searches that the automaton is for.
+    ///
+    /// It is kept, and nothing is counted.
     pub fn match_kind(&self) -> MatchKind
         ensures { result ≡ kind_of self.now }
     {
@@ -263,6 +293,9 @@ impl<V: Copy, A: Allocator> DoubleArrayAhoCorasick<V, A> {
     ///
     /// A state stands for each text that begins a pattern of the automaton, the empty text
     /// included.
+    ///
+    /// It is kept, and nothing is counted. Of `ab` and `a` there are 3 states (`daachorse_tests`
+    /// runs this).
     pub fn num_states(&self) -> usize
         ensures { HasPrefixes (dictionary_of self.now) result }
     {
@@ -283,6 +316,12 @@ impl<V: Copy, A: Allocator> DoubleArrayAhoCorasick<V, A> {
     /// The search goes on from the end of each match. Of the matches that end together it takes the
     /// longest, and of equal patterns the one that was registered first. With an empty pattern
     /// there is one empty match at each boundary.
+    ///
+    /// Places count bytes. Of the patterns `bcd`, `ab` and `a`, in this order, in the haystack
+    /// `abcd` it finds `a` from 0 to 1 and `bcd` from 1 to 4 (`daachorse_tests` runs this).
+    ///
+    /// It takes at most two turns, which are looks at one state, for each byte of the haystack, and
+    /// no memory.
     ///
     /// # Conditions
     ///
@@ -306,6 +345,10 @@ impl<V: Copy, A: Allocator> DoubleArrayAhoCorasick<V, A> {
     ///
     /// They are the matches of [`Self::find_iter`]. Each is returned before a byte past its end is
     /// taken; with an empty pattern, before the byte behind its place is taken.
+    ///
+    /// Places count bytes from where the source stands. It takes at most two turns, which are looks
+    /// at one state, for each byte that it takes, and no memory. `daachorse_tests` runs it over the
+    /// same haystacks as [`Self::find_iter`].
     ///
     /// # Conditions
     ///
@@ -331,6 +374,13 @@ impl<V: Copy, A: Allocator> DoubleArrayAhoCorasick<V, A> {
     ///
     /// Matches come by rising ends. Of those that end together the longest comes first, and equal
     /// patterns come in order of registration.
+    ///
+    /// Places count bytes. Of the patterns `bcd`, `ab` and `a`, in this order, in the haystack
+    /// `abcd` it finds `a` from 0 to 1, `ab` from 0 to 2 and `bcd` from 1 to 4 (`daachorse_tests`
+    /// runs this).
+    ///
+    /// It takes at most two turns, which are looks at one state, for each byte of the haystack, and
+    /// no memory.
     ///
     /// # Conditions
     ///
@@ -358,6 +408,10 @@ impl<V: Copy, A: Allocator> DoubleArrayAhoCorasick<V, A> {
     /// They are the matches of [`Self::find_overlapping_iter`]. Each is returned before a byte past
     /// its end is taken.
     ///
+    /// Places count bytes from where the source stands. It takes at most two turns, which are looks
+    /// at one state, for each byte that it takes, and no memory. `daachorse_tests` runs it over the
+    /// same haystacks as [`Self::find_overlapping_iter`].
+    ///
     /// # Conditions
     ///
     /// The automaton is for the standard searches: its kind is [`MatchKind::Standard`]. What may be
@@ -382,6 +436,13 @@ impl<V: Copy, A: Allocator> DoubleArrayAhoCorasick<V, A> {
     ///
     /// Of equal patterns it takes the one that was registered first. Matches come by rising ends,
     /// and may overlap.
+    ///
+    /// Places count bytes. Of the patterns `abcd`, `cd` and `bc` in the haystack `abcd` it finds
+    /// `bc` from 1 to 3 and `abcd` from 0 to 4, and not `cd`, which ends `abcd` (`daachorse_tests`
+    /// runs this).
+    ///
+    /// It takes at most two turns, which are looks at one state, for each byte of the haystack, and
+    /// no memory.
     ///
     /// # Conditions
     ///
@@ -408,6 +469,10 @@ impl<V: Copy, A: Allocator> DoubleArrayAhoCorasick<V, A> {
     ///
     /// They are the matches of [`Self::find_overlapping_no_suffix_iter`]. Each is returned before a
     /// byte past its end is taken.
+    ///
+    /// Places count bytes from where the source stands. It takes at most two turns, which are looks
+    /// at one state, for each byte that it takes, and no memory. `daachorse_tests` runs it over the
+    /// same haystacks as [`Self::find_overlapping_no_suffix_iter`].
     ///
     /// # Conditions
     ///
@@ -437,6 +502,14 @@ impl<V: Copy, A: Allocator> DoubleArrayAhoCorasick<V, A> {
     /// that is the earliest registered pattern that occurs there. An empty match right behind a
     /// nonempty one is passed over.
     ///
+    /// Places count bytes. Of the patterns `ab`, `a` and `abcd`, in this order, in the haystack
+    /// `abcd` an automaton for [`MatchKind::LeftmostLongest`] finds `abcd`, and one for
+    /// [`MatchKind::LeftmostFirst`] finds `ab` (`daachorse_tests` runs this).
+    ///
+    /// It takes no memory. After `g` matches it has taken at most two turns, which are looks at one
+    /// state, for each byte that it passed, and four times the bytes of the longest pattern for
+    /// each match.
+    ///
     /// # Conditions
     ///
     /// The automaton is for a leftmost search: its kind is not [`MatchKind::Standard`].
@@ -457,6 +530,11 @@ impl<V: Copy, A: Allocator> DoubleArrayAhoCorasick<V, A> {
 
     /// Starts the search of [`Self::find_iter`], to be given one byte at a time.
     ///
+    /// The stepper is given one byte at a time by `consume`; after each, `matches` tells the match
+    /// that ends there, if there is one. In all it takes at most two turns, which are looks at one
+    /// state, for each byte that it is given, and no memory. `daachorse_tests` runs it over the
+    /// haystacks of [`Self::find_iter`].
+    ///
     /// # Conditions
     ///
     /// The automaton is for the standard searches: its kind is [`MatchKind::Standard`].
@@ -471,6 +549,11 @@ impl<V: Copy, A: Allocator> DoubleArrayAhoCorasick<V, A> {
 
     /// Starts the search of [`Self::find_overlapping_iter`], to be given one byte at a time.
     ///
+    /// The stepper is given one byte at a time by `consume`; after each, `matches` tells all
+    /// matches that end there, the longest first. In all it takes at most two turns, which are
+    /// looks at one state, for each byte that it is given, and no memory. `daachorse_tests` runs it
+    /// over the haystacks of [`Self::find_overlapping_iter`].
+    ///
     /// # Conditions
     ///
     /// The automaton is for the standard searches: its kind is [`MatchKind::Standard`].
@@ -481,5 +564,47 @@ impl<V: Copy, A: Allocator> DoubleArrayAhoCorasick<V, A> {
         ensures { BeginsStepping (states_of self.entry.now) self.entry.now.depths result }
     {
         FindOverlappingStepper::new(self.states.standard(), &self.depths)
+    }
+
+    /// Goes on with a search of [`Self::find_stepper`] from where one over this automaton stood.
+    ///
+    /// What was read before counts on: the places of later matches count bytes from the beginning
+    /// of the whole haystack. It takes no memory and no turn.
+    ///
+    /// # Conditions
+    ///
+    /// The automaton is for the standard searches, and a stepper over it stood so.
+    #[inline(always)]
+    pub fn resume_find_stepper<'a>(&'a self, standing: FindStanding) -> FindStepper<'a, V>
+        requires kind { kind_of self.now ≡ Standard }
+        requires stands { IsFindStandingIn (states_of self.now) standing }
+        ensures automaton { result.automaton ≡ states_of self.entry.now }
+        ensures depths { result.depths ≡ self.entry.now.depths }
+        ensures read { result.read ≡ units standing.walk.seen }
+    {
+        FindStepper::resume(self.states.standard(), &self.depths, standing)
+    }
+
+    /// Goes on with a search of [`Self::find_overlapping_stepper`] from where one over this automaton
+    /// stood.
+    ///
+    /// What was read before counts on: the places of later matches count bytes from the beginning
+    /// of the whole haystack. It takes no memory and no turn.
+    ///
+    /// # Conditions
+    ///
+    /// The automaton is for the standard searches, and a stepper over it stood so.
+    #[inline(always)]
+    pub fn resume_find_overlapping_stepper<'a>(
+        &'a self,
+        standing: OverlappingStanding,
+    ) -> FindOverlappingStepper<'a, V>
+        requires kind { kind_of self.now ≡ Standard }
+        requires stands { IsOverlappingStandingIn (states_of self.now) standing }
+        ensures automaton { result.automaton ≡ states_of self.entry.now }
+        ensures depths { result.depths ≡ self.entry.now.depths }
+        ensures read { result.read ≡ units standing.walk.seen }
+    {
+        FindOverlappingStepper::resume(self.states.standard(), &self.depths, standing)
     }
 }

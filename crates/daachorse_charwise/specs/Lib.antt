@@ -8,7 +8,9 @@ pub use Rattle.daachorse_listing.specs.Listing
 pub use Rattle.daachorse_patterns.specs.Patterns
 pub use Rattle.daachorse_patterns.specs.declared.settings.Settings
 pub use Rattle.daachorse_replacing.specs.ByKind
+pub use Rattle.daachorse_replacing.specs.Replaced
 pub use Rattle.daachorse_search.specs.Beginnings
+pub use Rattle.daachorse_search.specs.BestScans
 pub use Rattle.daachorse_search.specs.LeftmostSearches
 pub use Rattle.daachorse_search.specs.Matches
 pub use Rattle.daachorse_search.specs.Searches

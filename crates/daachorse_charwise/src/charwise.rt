@@ -28,6 +28,7 @@ mod by_kind;
 mod frequencies;
 pub mod iter;
 pub mod mapper;
+mod replacing;
 pub mod states;
 mod written;
 
@@ -57,6 +58,12 @@ use std::marker::Model;
 /// An automaton that finds many patterns in text at once.
 ///
 /// It is that of Aho and Corasick (1975): a trie of the patterns, with failure links.
+///
+/// The units of a search are characters, Unicode scalar values, and the places of a match are bytes
+/// of the text. Its states stand in a double array whose layout is that of Kanda, Akabe and Oda
+/// (arXiv 2207.13870). An element takes 16 bytes, an output of a `u32` 12, and a table of codes 4
+/// bytes for each code point up to the greatest of the patterns. Searches take no memory;
+/// `quick_start` builds one over text.
 #[derive(Drop)]
 pub struct CharwiseDoubleArrayAhoCorasick<V: Copy, A: Allocator = Global> {
     states: States<V, A>,
@@ -82,6 +89,9 @@ impl<V: Copy, A: Allocator + Copy> CharwiseDoubleArrayAhoCorasick<V, A> {
     /// Pattern `i`, counted from 0, has the value that the index `i` converts to. Equal patterns
     /// are all kept. The automaton keeps `alloc` and takes its memory from it. The default
     /// builder's [`CharwiseDoubleArrayAhoCorasickBuilder::build`] does the same.
+    ///
+    /// The work and the memory grow with the texts that begin a pattern; neither has a bound by
+    /// proof. `daachorse_tests` runs an example.
     ///
     /// # Conditions
     ///
@@ -113,6 +123,9 @@ impl<V: Copy, A: Allocator + Copy> CharwiseDoubleArrayAhoCorasick<V, A> {
     /// Equal patterns are all kept, and so are equal values. The automaton keeps `alloc` and takes
     /// its memory from it. The default builder's
     /// [`CharwiseDoubleArrayAhoCorasickBuilder::build_with_values`] does the same.
+    ///
+    /// The work and the memory grow with the texts that begin a pattern; neither has a bound by
+    /// proof. `daachorse_tests` runs an example.
     ///
     /// # Conditions
     ///
@@ -161,6 +174,10 @@ impl<V: Copy, A: Allocator + Copy> CharwiseDoubleArrayAhoCorasick<V, A> {
     /// A stepper that is made from then on returns the depth of its state. After an error the
     /// automaton is unchanged.
     ///
+    /// The depths take four bytes for each element of the double array. With `世界` and `界`, a
+    /// stepper of [`Self::find_overlapping_stepper`] that is given `世`, `界` and `界` tells the
+    /// depths 1, 2 and 1, and before that 0 (`daachorse_tests` runs this).
+    ///
     /// # Conditions
     ///
     /// The automaton is for the standard searches: its kind is [`MatchKind::Standard`].
@@ -187,6 +204,10 @@ impl<V: Copy, A: Allocator + Copy> CharwiseDoubleArrayAhoCorasick<V, A> {
     /// registration. A build for [`MatchKind::LeftmostFirst`] leaves out each pattern that extends
     /// an earlier one.
     ///
+    /// The memory of the walk over the elements is taken at once, and that of each pattern as it is
+    /// given. Of `世界` and `界` the listing is `世界` and `界`, with the values 0 and 1
+    /// (`daachorse_tests` runs this).
+    ///
     /// # Errors
     ///
     /// An allocation failed.
@@ -201,6 +222,10 @@ impl<V: Copy, A: Allocator + Copy> CharwiseDoubleArrayAhoCorasick<V, A> {
     }
 
     /// Makes a copy of the automaton, in memory of its own.
+    ///
+    /// A clone is an automaton that equals its original; it takes as much memory, and is not the
+    /// trait's `clone`, since memory may be refused. `daachorse_tests` compares clones with their
+    /// originals.
     ///
     /// # Errors
     ///
@@ -261,6 +286,8 @@ impl<V: Copy + Hash, A: Allocator> Hash for CharwiseDoubleArrayAhoCorasick<V, A>
 
 impl<V: Copy, A: Allocator> CharwiseDoubleArrayAhoCorasick<V, A> {
     /// Returns the kind of searches that the automaton is for.
+    ///
+    /// It is kept, and nothing is counted.
     pub fn match_kind(&self) -> MatchKind
         ensures { result ≡ kind_of self.now }
     {
@@ -268,6 +295,9 @@ impl<V: Copy, A: Allocator> CharwiseDoubleArrayAhoCorasick<V, A> {
     }
 
     /// Returns the number of elements of the double array, those included that are no state.
+    ///
+    /// It is kept, and nothing is counted. The array takes 16 bytes for each element.
+    /// `daachorse_tests` compares it with the alphabet's blocks.
     pub fn num_elements(&self) -> usize
         ensures { result ≡ element_count self.now }
     {
@@ -278,6 +308,9 @@ impl<V: Copy, A: Allocator> CharwiseDoubleArrayAhoCorasick<V, A> {
     ///
     /// A state stands for each text that begins a pattern of the automaton, the empty text
     /// included.
+    ///
+    /// It is kept, and nothing is counted. Of `世界` and `界` there are 4 states (`daachorse_tests`
+    /// runs this).
     pub fn num_states(&self) -> usize
         ensures { HasPrefixes (dictionary_of self.now) result }
     {
@@ -299,6 +332,13 @@ impl<V: Copy, A: Allocator> CharwiseDoubleArrayAhoCorasick<V, A> {
     /// longest, and of equal patterns the one that was registered first. With an empty pattern
     /// there is one empty match at each boundary.
     ///
+    /// Places count the bytes of the text. Of the patterns `bcd`, `ab` and `a`, in this order, in
+    /// the haystack `abcd` it finds `a` from 0 to 1 and `bcd` from 1 to 4 (`daachorse_tests` runs
+    /// this).
+    ///
+    /// It takes at most two turns, which are looks at one state, for each character of the
+    /// haystack, and no memory.
+    ///
     /// # Conditions
     ///
     /// The automaton is for the standard searches: its kind is [`MatchKind::Standard`].
@@ -317,6 +357,10 @@ impl<V: Copy, A: Allocator> CharwiseDoubleArrayAhoCorasick<V, A> {
     ///
     /// They are the matches of [`Self::find_iter`]. Each is returned before a byte past its end is
     /// taken; with an empty pattern, before the byte behind its place is taken.
+    ///
+    /// Places count bytes from where the source stands. It takes at most two turns, which are looks
+    /// at one state, for each character that it takes, and no memory. `daachorse_tests` runs it
+    /// over the same haystacks as [`Self::find_iter`].
     ///
     /// # Conditions
     ///
@@ -343,6 +387,13 @@ impl<V: Copy, A: Allocator> CharwiseDoubleArrayAhoCorasick<V, A> {
     /// Matches come by rising ends. Of those that end together the longest comes first, and equal
     /// patterns come in order of registration.
     ///
+    /// Places count the bytes of the text. Of the patterns `bcd`, `ab` and `a`, in this order, in
+    /// the haystack `abcd` it finds `a` from 0 to 1, `ab` from 0 to 2 and `bcd` from 1 to 4
+    /// (`daachorse_tests` runs this).
+    ///
+    /// It takes at most two turns, which are looks at one state, for each character of the
+    /// haystack, and no memory.
+    ///
     /// # Conditions
     ///
     /// The automaton is for the standard searches: its kind is [`MatchKind::Standard`].
@@ -364,6 +415,10 @@ impl<V: Copy, A: Allocator> CharwiseDoubleArrayAhoCorasick<V, A> {
     ///
     /// They are the matches of [`Self::find_overlapping_iter`]. Each is returned before a byte past
     /// its end is taken.
+    ///
+    /// Places count bytes from where the source stands. It takes at most two turns, which are looks
+    /// at one state, for each character that it takes, and no memory. `daachorse_tests` runs it
+    /// over the same haystacks as [`Self::find_overlapping_iter`].
     ///
     /// # Conditions
     ///
@@ -390,6 +445,13 @@ impl<V: Copy, A: Allocator> CharwiseDoubleArrayAhoCorasick<V, A> {
     /// Of equal patterns it takes the one that was registered first. Matches come by rising ends,
     /// and may overlap.
     ///
+    /// Places count the bytes of the text. Of the patterns `abcd`, `cd` and `bc` in the haystack
+    /// `abcd` it finds `bc` from 1 to 3 and `abcd` from 0 to 4, and not `cd`, which ends `abcd`
+    /// (`daachorse_tests` runs this).
+    ///
+    /// It takes at most two turns, which are looks at one state, for each character of the
+    /// haystack, and no memory.
+    ///
     /// # Conditions
     ///
     /// The automaton is for the standard searches: its kind is [`MatchKind::Standard`].
@@ -411,6 +473,10 @@ impl<V: Copy, A: Allocator> CharwiseDoubleArrayAhoCorasick<V, A> {
     ///
     /// They are the matches of [`Self::find_overlapping_no_suffix_iter`]. Each is returned before a
     /// byte past its end is taken.
+    ///
+    /// Places count bytes from where the source stands. It takes at most two turns, which are looks
+    /// at one state, for each character that it takes, and no memory. `daachorse_tests` runs it
+    /// over the same haystacks as [`Self::find_overlapping_no_suffix_iter`].
     ///
     /// # Conditions
     ///
@@ -440,6 +506,14 @@ impl<V: Copy, A: Allocator> CharwiseDoubleArrayAhoCorasick<V, A> {
     /// that is the earliest registered pattern that occurs there. An empty match right behind a
     /// nonempty one is passed over.
     ///
+    /// Places count the bytes of the text. Of the patterns `ab`, `a` and `abcd`, in this order, in
+    /// the haystack `abcd` an automaton for [`MatchKind::LeftmostLongest`] finds `abcd`, and one
+    /// for [`MatchKind::LeftmostFirst`] finds `ab` (`daachorse_tests` runs this).
+    ///
+    /// It takes no memory. After `g` matches it has taken at most two turns, which are looks at one
+    /// state, for each character that it passed, and four times the characters of the longest
+    /// pattern for each match.
+    ///
     /// # Conditions
     ///
     /// The automaton is for a leftmost search: its kind is not [`MatchKind::Standard`].
@@ -456,6 +530,11 @@ impl<V: Copy, A: Allocator> CharwiseDoubleArrayAhoCorasick<V, A> {
 
     /// Starts the search of [`Self::find_iter`], to be given one character at a time.
     ///
+    /// The stepper is given one character at a time by `consume`; after each, `matches` tells the
+    /// match that ends there, if there is one. In all it takes at most two turns, which are looks
+    /// at one state, for each character that it is given, and no memory. `daachorse_tests` runs it
+    /// over the haystacks of [`Self::find_iter`].
+    ///
     /// # Conditions
     ///
     /// The automaton is for the standard searches: its kind is [`MatchKind::Standard`].
@@ -469,6 +548,11 @@ impl<V: Copy, A: Allocator> CharwiseDoubleArrayAhoCorasick<V, A> {
     }
 
     /// Starts the search of [`Self::find_overlapping_iter`], to be given one character at a time.
+    ///
+    /// The stepper is given one character at a time by `consume`; after each, `matches` tells all
+    /// matches that end there, the longest first. In all it takes at most two turns, which are
+    /// looks at one state, for each character that it is given, and no memory. `daachorse_tests`
+    /// runs it over the haystacks of [`Self::find_overlapping_iter`].
     ///
     /// # Conditions
     ///

@@ -37,6 +37,9 @@ use std::marker::Model;
 const MAX_PATTERNS: usize = 0x00ff_ffff;
 
 /// A builder of [`DoubleArrayAhoCorasick`].
+///
+/// It keeps the kind, whether there is to be a filter, and a copy of the documents that it was
+/// given. `daachorse_tests` builds with each of them.
 #[derive(Drop)]
 pub struct DoubleArrayAhoCorasickBuilder<A: Allocator = Global> {
     settings: Settings<u8, A>,
@@ -67,6 +70,8 @@ impl<A: Allocator> Default for DoubleArrayAhoCorasickBuilder<A> {
 
 impl<A: Allocator> DoubleArrayAhoCorasickBuilder<A> {
     /// Makes a builder of automata for the standard searches, with a filter.
+    ///
+    /// It takes no memory.
     pub fn new() -> Self
         ensures kind { result.match_kind ≡ Standard }
         ensures filter { result.use_prefilter ≡ true }
@@ -77,6 +82,8 @@ impl<A: Allocator> DoubleArrayAhoCorasickBuilder<A> {
     }
 
     /// Sets the kind of searches that the automaton is built for.
+    ///
+    /// The one that was set last holds. `daachorse_tests` sets it.
     pub fn match_kind(mut self, kind: MatchKind) -> Self
         ensures { result ≡ record self { match_kind = kind } }
     {
@@ -90,6 +97,9 @@ impl<A: Allocator> DoubleArrayAhoCorasickBuilder<A> {
     /// A build makes the filter of all patterns, and keeps none where there is no pattern, where
     /// one has fewer than 2 bytes, or where the filter would pass too often. What a search yields
     /// is the same with a filter and without.
+    ///
+    /// The filter takes memory beside the states, and what it passes over takes no turn.
+    /// `daachorse_tests` builds with and without.
     pub fn use_prefilter(mut self, yes: bool) -> Self
         ensures { result ≡ record self { use_prefilter = yes } }
     {
@@ -104,6 +114,9 @@ impl<A: Allocator + Copy> DoubleArrayAhoCorasickBuilder<A> {
     /// place of those that were set before.
     ///
     /// A search in the automaton, and what it lists, is the same with any documents and with none.
+    ///
+    /// A build reads each document once, over the trie of the patterns. `daachorse_tests` lays out
+    /// by documents.
     ///
     /// # Conditions
     ///
@@ -135,6 +148,9 @@ impl<A: Allocator + Copy> DoubleArrayAhoCorasickBuilder<A> {
     ///
     /// Pattern `i`, counted from 0, has the value that the index `i` converts to. Equal patterns
     /// are all kept. The automaton keeps `alloc` and takes its memory from it.
+    ///
+    /// The patterns are gathered into a vector first, and the trie of the build is freed before the
+    /// call returns. `daachorse_tests` runs it.
     ///
     /// # Conditions
     ///
@@ -171,6 +187,9 @@ impl<A: Allocator + Copy> DoubleArrayAhoCorasickBuilder<A> {
     ///
     /// Equal patterns are all kept, in order, and so are equal values. The automaton keeps `alloc`
     /// and takes its memory from it.
+    ///
+    /// The patterns are gathered into a vector first, and the trie of the build is freed before the
+    /// call returns. `daachorse_tests` runs it.
     ///
     /// # Conditions
     ///

@@ -21,6 +21,9 @@ impl<V: Copy, A: Allocator> DoubleArrayAhoCorasick<V, A> {
     /// another. Nothing behind what that one match needs is read, and no memory is taken. Of the
     /// patterns `ab` and `abcd` in the haystack `xabcd`, a standard automaton finds `ab` from 1 to 3,
     /// and one for [`MatchKind::LeftmostLongest`] finds `abcd` from 1 to 5.
+    ///
+    /// Places count bytes. It costs what the first step of that search costs. `daachorse_tests`
+    /// runs it.
     pub fn find(&self, haystack: &[u8]) -> Option<Match<V>>
         ensures { result ≡ slice_get (non_overlapping (kind_of self.now) byte_width (dictionary_of self.now) haystack.now) 0 }
     {
@@ -37,6 +40,8 @@ impl<V: Copy, A: Allocator> DoubleArrayAhoCorasick<V, A> {
     /// It stops at the first match, whatever the automaton's kind, and takes no memory. The patterns
     /// `ab` and `cd` occur in the haystack `xcdx`, and neither occurs in `acbd`. An empty pattern
     /// occurs in every haystack, the empty one included.
+    ///
+    /// It costs what [`Self::find`] costs. `daachorse_tests` runs it.
     pub fn is_match(&self, haystack: &[u8]) -> bool
         ensures { IsTrue result ↔ (overlapping byte_width (dictionary_of self.now) haystack.now ≢ []) }
     {

@@ -22,6 +22,9 @@ impl<V: Serializable + Copy, A: Allocator> DoubleArrayAhoCorasick<V, A> {
     ///
     /// Cached depths are not written. [`Self::deserialize`] reads the automaton back.
     ///
+    /// The elements, the outputs and the filter are copied once, into one vector. `daachorse_tests`
+    /// compares whole written forms.
+    ///
     /// # Errors
     ///
     /// An allocation failed.
@@ -41,6 +44,9 @@ impl<V: Serializable + Copy, A: Allocator + Copy> DoubleArrayAhoCorasick<V, A> {
     /// matches of the patterns that its listing has. What [`Self::serialize`] wrote is accepted, and gives an
     /// automaton that equals the one that was written in all but the depths, which are not cached. It keeps `alloc`
     /// and takes its memory from it.
+    ///
+    /// The check takes memory that is linear in the bytes, until the call returns. `daachorse_uses`
+    /// looks words up in what it read so, and `daachorse_tests` reads changed bytes.
     ///
     /// # Errors
     ///
@@ -70,6 +76,9 @@ impl<V: Serializable + Copy, A: Allocator + Copy> DoubleArrayAhoCorasick<V, A> {
     ///
     /// It equals the automaton that was written in all but the depths, which are not cached. It
     /// keeps `alloc` and takes its memory from it.
+    ///
+    /// It makes none of the checks of [`Self::deserialize`], and takes memory for the automaton
+    /// alone. `daachorse_tests` runs it.
     ///
     /// # Conditions
     ///

@@ -35,6 +35,9 @@ use std::alloc::{Allocator, Global};
 use std::marker::Model;
 
 /// A builder of [`CharwiseDoubleArrayAhoCorasick`].
+///
+/// It keeps the kind, whether there is to be a filter, and a copy of the documents that it was
+/// given. `daachorse_tests` builds with each of them.
 #[derive(Drop)]
 pub struct CharwiseDoubleArrayAhoCorasickBuilder<A: Allocator = Global> {
     settings: Settings<char, A>,
@@ -65,6 +68,8 @@ impl<A: Allocator> Default for CharwiseDoubleArrayAhoCorasickBuilder<A> {
 
 impl<A: Allocator> CharwiseDoubleArrayAhoCorasickBuilder<A> {
     /// Makes a builder of automata for the standard searches, with a filter.
+    ///
+    /// It takes no memory.
     pub fn new() -> Self
         ensures kind { result.match_kind ≡ Standard }
         ensures filter { result.use_prefilter ≡ true }
@@ -75,6 +80,8 @@ impl<A: Allocator> CharwiseDoubleArrayAhoCorasickBuilder<A> {
     }
 
     /// Sets the kind of searches that the automaton is built for.
+    ///
+    /// The one that was set last holds. `quick_start` and `daachorse_tests` set it.
     pub fn match_kind(mut self, kind: MatchKind) -> Self
         ensures { result ≡ record self { match_kind = kind } }
     {
@@ -88,6 +95,9 @@ impl<A: Allocator> CharwiseDoubleArrayAhoCorasickBuilder<A> {
     /// A build makes the filter of the UTF-8 of all patterns, and keeps none where there is no
     /// pattern, where one has fewer than 2 bytes, or where the filter would pass too often. What a
     /// search yields is the same with a filter and without.
+    ///
+    /// The filter takes memory beside the states, and what it passes over takes no turn.
+    /// `daachorse_tests` builds with and without.
     pub fn use_prefilter(mut self, yes: bool) -> Self
         ensures { result ≡ record self { use_prefilter = yes } }
     {
@@ -102,6 +112,9 @@ impl<A: Allocator + Copy> CharwiseDoubleArrayAhoCorasickBuilder<A> {
     /// place of those that were set before.
     ///
     /// A search in the automaton, and what it lists, is the same with any documents and with none.
+    ///
+    /// A build reads each document once, over the trie of the patterns. `daachorse_tests` lays out
+    /// by documents.
     ///
     /// # Conditions
     ///
@@ -133,6 +146,9 @@ impl<A: Allocator + Copy> CharwiseDoubleArrayAhoCorasickBuilder<A> {
     ///
     /// Pattern `i`, counted from 0, has the value that the index `i` converts to. Equal patterns
     /// are all kept. The automaton keeps `alloc` and takes its memory from it.
+    ///
+    /// The patterns are gathered into a vector first, and the trie of the build is freed before the
+    /// call returns. `quick_start` runs it.
     ///
     /// # Conditions
     ///
@@ -170,6 +186,9 @@ impl<A: Allocator + Copy> CharwiseDoubleArrayAhoCorasickBuilder<A> {
     ///
     /// Equal patterns are all kept, in order, and so are equal values. The automaton keeps `alloc`
     /// and takes its memory from it.
+    ///
+    /// The patterns are gathered into a vector first, and the trie of the build is freed before the
+    /// call returns. `daachorse_tests` runs it.
     ///
     /// # Conditions
     ///

@@ -22,6 +22,9 @@ impl<V: Copy, A: Allocator> CharwiseDoubleArrayAhoCorasick<V, A> {
     /// another. Nothing behind what that one match needs is read, and no memory is taken. Of the
     /// patterns `ab` and `abcd` in the haystack `xabcd`, a standard automaton finds `ab` from 1 to 3,
     /// and one for [`MatchKind::LeftmostLongest`] finds `abcd` from 1 to 5.
+    ///
+    /// Places count bytes of the text. It costs what the first step of that search costs.
+    /// `daachorse_tests` runs it.
     pub fn find(&self, haystack: &str) -> Option<Match<V>>
         ensures { result ≡ slice_get (non_overlapping (kind_of self.now) char_width (dictionary_of self.now) (chars haystack.now)) 0 }
     {
@@ -38,6 +41,8 @@ impl<V: Copy, A: Allocator> CharwiseDoubleArrayAhoCorasick<V, A> {
     /// It stops at the first match, whatever the automaton's kind, and takes no memory. The patterns
     /// `ab` and `cd` occur in the haystack `xcdx`, and neither occurs in `acbd`. An empty pattern
     /// occurs in every haystack, the empty one included.
+    ///
+    /// It costs what [`Self::find`] costs. `daachorse_tests` runs it.
     pub fn is_match(&self, haystack: &str) -> bool
         ensures { IsTrue result ↔ (overlapping char_width (dictionary_of self.now) (chars haystack.now) ≢ []) }
     {

@@ -27,6 +27,9 @@ use std::alloc::Global;
 ///
 /// Of the matches that end together it gives the longest. With an empty pattern there is one empty
 /// match at each boundary.
+///
+/// The automaton's `find_iter` makes it. It takes no memory, and at most two turns, which are looks
+/// at one state, for each character that it passed: `turns_are_bounded` promises it.
 pub type FindSliceIterator<'a, V, A = Global> = Matches<
     V,
     FindWalk<V, Standard<'a, V>>,
@@ -37,11 +40,18 @@ pub type FindSliceIterator<'a, V, A = Global> = Matches<
 /// An iterator over non-overlapping matches in the text whose bytes a source yields.
 ///
 /// It takes no byte past the end of the match that it returns.
+///
+/// The automaton's `find_iter_from_iter` makes it. It takes no memory, and at most two turns, which
+/// are looks at one state, for each character that it passed: `turns_are_bounded` promises it.
 pub type FindIterator<'a, P, V> = MatchesFrom<V, FindWalk<V, Standard<'a, V>>, Decoded<P>>;
 
 /// An iterator over all matches in a text, by rising ends.
 ///
 /// Of the matches that end together the longest comes first.
+///
+/// The automaton's `find_overlapping_iter` makes it. It takes no memory, and at most two turns,
+/// which are looks at one state, for each character that it passed: `turns_are_bounded` promises
+/// it.
 pub type FindOverlappingSliceIterator<'a, V, A = Global> = Matches<
     V,
     OverlappingWalk<V, Standard<'a, V>>,
@@ -52,6 +62,10 @@ pub type FindOverlappingSliceIterator<'a, V, A = Global> = Matches<
 /// An iterator over all matches in the text whose bytes a source yields.
 ///
 /// It takes no byte past the end of the match that it returns.
+///
+/// The automaton's `find_overlapping_iter_from_iter` makes it. It takes no memory, and at most two
+/// turns, which are looks at one state, for each character that it passed: `turns_are_bounded`
+/// promises it.
 pub type FindOverlappingIterator<'a, P, V> = MatchesFrom<
     V,
     OverlappingWalk<V, Standard<'a, V>>,
@@ -61,6 +75,10 @@ pub type FindOverlappingIterator<'a, P, V> = MatchesFrom<
 /// An iterator over the longest match at each end in a text.
 ///
 /// Of equal patterns it gives the one that was registered first.
+///
+/// The automaton's `find_overlapping_no_suffix_iter` makes it. It takes no memory, and at most two
+/// turns, which are looks at one state, for each character that it passed: `turns_are_bounded`
+/// promises it.
 pub type FindOverlappingNoSuffixSliceIterator<'a, V, A = Global> = Matches<
     V,
     NoSuffixWalk<V, Standard<'a, V>>,
@@ -71,6 +89,10 @@ pub type FindOverlappingNoSuffixSliceIterator<'a, V, A = Global> = Matches<
 /// An iterator over the longest match at each end in the text whose bytes a source yields.
 ///
 /// It takes no byte past the end of the match that it returns.
+///
+/// The automaton's `find_overlapping_no_suffix_iter_from_iter` makes it. It takes no memory, and at
+/// most two turns, which are looks at one state, for each character that it passed:
+/// `turns_are_bounded` promises it.
 pub type FindOverlappingNoSuffixIterator<'a, P, V> = MatchesFrom<
     V,
     NoSuffixWalk<V, Standard<'a, V>>,
@@ -80,6 +102,11 @@ pub type FindOverlappingNoSuffixIterator<'a, P, V> = MatchesFrom<
 /// An iterator over non-overlapping matches in a text, each of which starts as early as possible.
 ///
 /// At a start it gives the longest pattern that the automaton holds.
+///
+/// The automaton's `leftmost_find_iter` makes it. It takes no memory. After `g` matches it has
+/// taken at most two turns, which are looks at one state, for each character that it passed, and
+/// four times the characters of the longest pattern for each match: `turns_are_bounded` promises
+/// it.
 pub type LeftmostFindIterator<'a, V, A = Global> = LeftmostMatches<
     V,
     Leftmost<'a, V>,
@@ -88,9 +115,16 @@ pub type LeftmostFindIterator<'a, V, A = Global> = LeftmostMatches<
 >;
 
 /// A search for non-overlapping matches that is given one character at a time.
+///
+/// The automaton's `find_stepper` makes it. It takes no memory, and at most two turns, which are
+/// looks at one state, for each character that it passed: `turns_are_bounded` promises it.
 pub type FindStepper<'a, V> = find_stepper::FindStepper<'a, V, Standard<'a, V>>;
 
 /// A search for all matches that is given one character at a time.
+///
+/// The automaton's `find_overlapping_stepper` makes it. It takes no memory, and at most two turns,
+/// which are looks at one state, for each character that it passed: `turns_are_bounded` promises
+/// it.
 pub type FindOverlappingStepper<'a, V> = overlapping_stepper::FindOverlappingStepper<
     'a,
     V,
@@ -99,4 +133,6 @@ pub type FindOverlappingStepper<'a, V> = overlapping_stepper::FindOverlappingSte
 
 /// An iterator over the matches that end with the characters that a stepper consumed, the longest
 /// first. It keeps its place while the stepper goes on.
+///
+/// The stepper's `matches` makes it. It takes no memory, and each match takes one output.
 pub type FindOverlappingStepperIterator<'a, V> = EndingHere<V, Standard<'a, V>>;

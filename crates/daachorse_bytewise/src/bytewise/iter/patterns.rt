@@ -10,6 +10,8 @@ use std::marker::Model;
 ///
 /// They come in byte order, and equal ones in order of registration. Each pattern is a vector in
 /// memory of its own. Where an allocation fails there is one error, and then the end.
+///
+/// The automaton's `iter` makes it. `daachorse_tests` compares whole listings.
 #[derive(Drop)]
 pub struct PatternIterator<'a, V: Copy, A: Allocator = Global> {
     pub(crate) walk: PatternWalk<V, &'a States<V, A>, A>,

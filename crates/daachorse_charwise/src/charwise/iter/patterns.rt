@@ -1,7 +1,7 @@
 //! The patterns of an automaton over characters, one by one.
 
-ghost use Rattle.std.specs.Prelude.{◌≡◌, IfOk, IfErr};
-ghost use Rattle.std.specs.Str.{chars};
+ghost use Rattle.std.specs.Prelude.{◌≡◌, length, IfOk, IfErr};
+ghost use Rattle.std.specs.Str.{chars, encode_utf8_all};
 ghost use Rattle.std.specs.String.{string_bytes};
 ghost use Rattle.daachorse_core.specs.Refusals.{IsOutOfMemory};
 
@@ -16,6 +16,8 @@ use std::marker::Model;
 /// They come in byte order, which is the order of their characters, and equal ones in order of
 /// registration. Each pattern is a string in memory of its own. Where an allocation fails there is
 /// one error, and then the end.
+///
+/// The automaton's `iter` makes it. `daachorse_tests` compares whole listings.
 #[derive(Drop)]
 pub struct PatternIterator<'a, V: Copy, A: Allocator = Global> {
     pub(crate) walk: PatternWalk<V, Elements<'a, V, A>, A>,
@@ -63,9 +65,20 @@ fn text_of<A: Allocator>(alloc: A, characters: &[char]) -> Result<String<A>>
     ensures ok { IfOk result (λ text. chars (string_bytes text) ≡ characters.now) }
     ensures err { IfErr result IsOutOfMemory }
 {
-    let mut text = String::new(alloc);
+    let mut text = String::with_capacity(alloc, num_bytes(characters))?;
     for &c in characters {
         text.push(c)?;
     }
     Ok(text)
+}
+
+/// How many bytes the text of these characters takes.
+fn num_bytes(characters: &[char]) -> usize
+    ensures { result ≡ length (encode_utf8_all characters.now) }
+{
+    let mut size = 0;
+    for &c in characters {
+        size += c.len_utf8();
+    }
+    size
 }

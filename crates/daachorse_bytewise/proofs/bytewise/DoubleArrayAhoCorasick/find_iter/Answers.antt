@@ -1,7 +1,10 @@
--- The filter is sound for the states' dictionary.
+-- The view is the automaton, and the haystack has the bytes of the slice. The filter is sound for the states' dictionary.
 use Rattle.std.proofs.Common.{sym, ap, ◌∙◌, subst}
+use Rattle.daachorse_model.specs.Units.{byte_width}
+use Rattle.daachorse_model.specs.Matches.{standard}
 use Rattle.daachorse_search.specs.Filters.{IsSoundFor}
 use Rattle.daachorse_skipping.specs.Asked.{Asked, BeginsAsking, lets_pass}
+use Rattle.daachorse_search.proofs.BeginningLaws.{BeginsWith-along}
 use Rattle.daachorse_bytewise_states.specs.Parts.{Parts, content}
 use Rattle.daachorse_bytewise.proofs.bytewise.DoubleArrayAhoCorasick.find_iter.Goals as goal
 
@@ -9,6 +12,12 @@ pub find_in-requires-clause-sound : goal.find_in-requires-clause-sound
 find_in-requires-clause-sound g c =
     let P : Parts g.row.V.Denot → Type 0 = λ p. IsSoundFor (λ w. lets_pass c.skipping.result.filter w) (content p) in
     subst P (sym (c.standard.ensures ∙ ap (λ a. a.parts) c.self.view_is)) c.skipping.ensures.sound
+
+pub returns-clause-begins : goal.returns-clause-begins
+returns-clause-begins g c =
+    let e = c.find_in.ensures in
+    BeginsWith-along (λ (p : Parts g.row.V.Denot). standard byte_width (content p)) _ _ _ _ _ (c.standard.ensures ∙ ap (λ a. a.parts) c.self.view_is) c.new.ensures.bytes
+    (record { automaton = e.automaton; haystack = e.haystack; left = e.left; passed = e.passed; turns = e.turns; given = e.given })
 
 pub returns-clause-asks : goal.returns-clause-asks
 returns-clause-asks g c =

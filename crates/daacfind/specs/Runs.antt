@@ -1,8 +1,7 @@
 -- How a run ends.
-use Rattle.std.specs.Prelude.{◌≡◌, ⊤, ℕ, ◌<◌, ◌^◌, List, ◌++◌, Option, Result}
+use Rattle.std.specs.Prelude.{⊤, ℕ, ◌<◌, ◌^◌, Result}
 use Rattle.std.specs.Result.{OkIff}
 use Rattle.std.specs.declared.num.TryFromIntError.{TryFromIntError}
-use Rattle.std.specs.Io.KnownBytes.{Appends}
 use Rattle.daachorse_core.specs.declared.errors.DaachorseError.{DaachorseError}
 use Rattle.daacfind.specs.declared.run.RunError.{RunError}
 use Rattle.daacfind.specs.declared.run.RunError.TheVariants.{Build, Write}
@@ -16,10 +15,6 @@ IfBuild Write P = ⊤
 abbrev pub OnWrite : RunError → Type 0 → Type 0
 OnWrite (Build e) P = ⊤
 OnWrite Write P = P
-
--- known bytes grow by a beginning of the text
-abbrev pub AppendsBeginning : Option (List ℕ) → Option (List ℕ) → List ℕ → Type 0
-AppendsBeginning old new text = (part : List ℕ) × (rest : List ℕ) × (text ≡ part ++ rest) × Appends old new part
 
 -- the value of a pattern's number: the number itself, where it fits
 abbrev pub value_gives : ℕ → Result ℕ TryFromIntError → Type 0

@@ -11,9 +11,10 @@ ghost use Rattle.daachorse_model.specs.declared.Match.{Match};
 ghost use Rattle.daachorse_model.specs.Program.{pattern_lines, match_line, match_text};
 ghost use Rattle.daachorse_bytewise.specs.Automata.{dictionary_of, kind_of};
 ghost use Rattle.daachorse_bytewise.specs.Building.{IsBuiltOf, IsBuildRefusal};
+ghost use Rattle.daachorse_replacing.specs.Replaced.{AppendsBeginning};
 ghost use Rattle.daacfind.specs.declared.run.RunError.TheVariants.{Build, Write};
 ghost use Rattle.daacfind.specs.Modes.{found_by, kind_of_mode, text_of_mode};
-ghost use Rattle.daacfind.specs.Runs.{AppendsBeginning, IfBuild, OnWrite, value_gives};
+ghost use Rattle.daacfind.specs.Runs.{IfBuild, OnWrite, value_gives};
 
 use crate::mode::Mode;
 use crate::sink::{Sink, SinkError, write_whole};

@@ -5,8 +5,8 @@
 
 ghost use Rattle.std.specs.Prelude.{◌≡◌, ℕ, ◌+◌, ◌≤◌, List, Option, length, IfOk, OnOk, OnErr};
 ghost use Rattle.std.specs.Io.KnownBytes.{Appends, Keeps, WriteAppends};
+ghost use Rattle.daachorse_replacing.specs.Replaced.{AppendsBeginning};
 ghost use Rattle.daacfind.specs.Failures.{failures_after_write, failures_after_flush};
-ghost use Rattle.daacfind.specs.Runs.{AppendsBeginning};
 
 use daachorse_core::counter::Counter;
 use std::io::Write;

@@ -1,12 +1,13 @@
-//! How often the rules of a set match in a line of a log.
+//! How often the rules of a set match in a line of a log, and within which bound on the work.
 
-ghost use Rattle.std.specs.Prelude.{◌≡◌, ◌==◌, ◌*◌, ◌≤◌, ◌^◌, ◌-◌, count_by, length, min};
+ghost use Rattle.std.specs.Prelude.{◌≡◌, ◌==◌, ◌+◌, ◌*◌, ◌<◌, ◌≤◌, ◌^◌, ◌-◌, ℕ, count_by, length, min, slice_index};
 ghost use Rattle.daachorse_model.specs.declared.MatchKind.TheVariants.{Standard};
 ghost use Rattle.daachorse_model.specs.Matches.{overlapping};
 ghost use Rattle.daachorse_model.specs.Units.{byte_width};
 ghost use Rattle.daachorse_bytewise.specs.Automata.{dictionary_of, kind_of};
 
 use daachorse::DoubleArrayAhoCorasick;
+use daachorse::bytewise::iter::FindOverlappingSliceIterator;
 
 /// How often a rule matches in a line, also where its matches overlap: `u64::MAX` where it is more.
 ///
@@ -24,4 +25,24 @@ pub fn count_rule(rules: &DoubleArrayAhoCorasick<u32>, line: &[u8], rule: u32) -
         }
     }
     count
+}
+
+/// Adds to the counter of each rule how often the rule matches in what a search has left: `u64::MAX`
+/// where it is more. A rule that has no counter is passed over.
+///
+/// The search goes on to its end. Up to there it took at most two looks at the automaton for each
+/// byte of its haystack, whatever the rules are.
+pub fn count_each<'a>(search: &mut FindOverlappingSliceIterator<'a, u32>, counts: &mut [u64])
+    ensures counts { (rule : ℕ) → rule < length counts.old → slice_index counts.new rule
+        ≡ min (slice_index counts.old rule + count_by (λ m. m.value == rule) search.old.left) (2 ^ 64 - 1) }
+    ensures turns { search.new.turns ≤ 2 * length search.new.haystack }
+    ensures haystack { search.new.haystack ≡ search.old.haystack }
+{
+    while let Some(found) = search.next() {
+        let rule = found.value as usize;
+        if rule < counts.len() {
+            counts[rule] = counts[rule].saturating_add(1);
+        }
+    }
+    search.turns_are_bounded();
 }

@@ -1,0 +1,4 @@
+pub mod Covers
+pub mod Lookups
+pub mod Marks
+pub mod Redactions

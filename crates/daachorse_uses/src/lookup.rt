@@ -1,0 +1,82 @@
+//! What a written dictionary has for a text.
+
+ghost use Rattle.std.specs.Prelude.{◌≡◌, ◌≢◌, ◌⊎◌, ◌++◌, ℕ, List, IfOk, IfErr, slice_get};
+ghost use Rattle.daachorse_model.specs.declared.MatchKind.TheVariants.{Standard};
+ghost use Rattle.daachorse_bytewise.specs.Automata.{Automaton, dictionary_of, kind_of};
+ghost use Rattle.daachorse_bytewise.specs.ReadForms.{GivesAutomaton, GivesNoAutomaton};
+ghost use Rattle.daachorse_bytewise.specs.Refusals.{IsOutOfMemory};
+ghost use Rattle.daachorse_bytewise.specs.WrittenForms.{IsAutomaton, written_form};
+
+use daachorse::{DoubleArrayAhoCorasick, MatchKind, Result, Serializable};
+use std::alloc::Allocator;
+
+/// The first value that the dictionary in `bytes` has for a text, and `None` where it has none.
+///
+/// The bytes may come from anywhere, and be of any kind of automaton. The dictionary is dropped again: to
+/// ask more than once, read it once and call [`value_of`].
+///
+/// # Errors
+///
+/// Bytes that give no automaton, told as [`DoubleArrayAhoCorasick::deserialize`] does, or out of memory.
+pub fn lookup<V: Serializable + Copy, A: Allocator + Copy>(
+    alloc: A,
+    bytes: &[u8],
+    text: &[u8],
+) -> Result<Option<V>>
+    ensures given { IfOk result (λ value. (a : Automaton V) × (rest : List ℕ) × GivesAutomaton V.taken bytes.now a rest
+        × (value ≡ slice_get (dictionary_of a text.now) 0)) }
+    ensures written { IfOk result (λ value. (a : Automaton V) (rest : List ℕ) → IsAutomaton V.is_value a → bytes.now ≡ written_form V.form a ++ rest
+        → value ≡ slice_get (dictionary_of a text.now) 0) }
+    ensures refused { IfErr result (λ e. IsOutOfMemory e ⊎ GivesNoAutomaton V.taken bytes.now) }
+{
+    let (words, _rest) = DoubleArrayAhoCorasick::deserialize(alloc, bytes)?;
+    Ok(value_of(&words, text))
+}
+
+/// The first value that an automaton has for a text, whatever its kind, and `None` where the text is no
+/// pattern of it.
+///
+/// It reads the text once, and takes no memory.
+pub fn value_of<V: Copy, A: Allocator>(
+    words: &DoubleArrayAhoCorasick<V, A>,
+    text: &[u8],
+) -> Option<V>
+    ensures { result ≡ slice_get (dictionary_of words.now text.now) 0 }
+{
+    match words.match_kind() {
+        MatchKind::Standard => value_at_end(words, text),
+        MatchKind::LeftmostLongest | MatchKind::LeftmostFirst => value_at_start(words, text),
+    }
+}
+
+// Of the matches that end with the text the longest starts with it, if the text is a pattern.
+fn value_at_end<V: Copy, A: Allocator>(
+    words: &DoubleArrayAhoCorasick<V, A>,
+    text: &[u8],
+) -> Option<V>
+    requires { kind_of words.now ≡ Standard }
+    ensures { result ≡ slice_get (dictionary_of words.now text.now) 0 }
+{
+    let mut stepper = words.find_overlapping_stepper();
+    for byte in text {
+        stepper.consume(*byte);
+    }
+    match stepper.matches().next() {
+        Some(found) if found.start == 0 => Some(found.value),
+        _ => None,
+    }
+}
+
+// The leftmost match of the text is all of it, if the text is a pattern.
+fn value_at_start<V: Copy, A: Allocator>(
+    words: &DoubleArrayAhoCorasick<V, A>,
+    text: &[u8],
+) -> Option<V>
+    requires { kind_of words.now ≢ Standard }
+    ensures { result ≡ slice_get (dictionary_of words.now text.now) 0 }
+{
+    match words.find(text) {
+        Some(found) if found.start == 0 && found.end == text.len() => Some(found.value),
+        _ => None,
+    }
+}

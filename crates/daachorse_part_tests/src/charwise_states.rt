@@ -390,17 +390,38 @@ const WIDE_ELEMENTS: [Held; 12] = [
 /// The outputs of these patterns.
 const WIDE_OUTPUTS: [(u32, u32, u32); 4] = [(3, 3, 0), (0, 6, 0), (1, 6, 1), (2, 6, 1)];
 
+/// The codes of their characters, and a character without one.
+const WIDE_CODES: [(char, Option<u32>); 4] = [
+    ('Ａ', Some(0)),
+    ('Ｃ', Some(1)),
+    ('Ｂ', Some(2)),
+    ('Ｄ', None),
+];
+
+/// Whether characters have these codes.
+fn have_codes(mapper: &CodeMapper, codes: &[(char, Option<u32>)]) -> bool {
+    for (c, code) in codes {
+        if mapper.get(*c) != *code {
+            return false;
+        }
+    }
+    true
+}
+
+/// Whether states store the elements and the outputs of these patterns.
+fn store_wide(alloc: Global, states: &States<u32>) -> Result<bool> {
+    let elements = elements_of(alloc, &WIDE_ELEMENTS)?;
+    let outputs = outputs_of(alloc, &WIDE_OUTPUTS)?;
+    Ok(store(states, &elements, &outputs))
+}
+
 #[test]
 fn elements_name_their_parents(rt: HostRuntime) -> Result<(), Fail> {
     let states = built(rt.alloc(), &WIDE)?;
-    for (c, code) in [('Ａ', Some(0)), ('Ｃ', Some(1)), ('Ｂ', Some(2)), ('Ｄ', None)] {
-        expect(&rt, states.mapper().get(c) == code, "a code");
-    }
+    expect(&rt, have_codes(states.mapper(), &WIDE_CODES), "the codes");
     expect(&rt, states.kind() == MatchKind::Standard, "the kind");
     expect(&rt, has_counts(&states, 12, 7), "the counts");
-    let elements = elements_of(rt.alloc(), &WIDE_ELEMENTS)?;
-    let outputs = outputs_of(rt.alloc(), &WIDE_OUTPUTS)?;
-    expect(&rt, store(&states, &elements, &outputs), "the parts");
+    expect(&rt, store_wide(rt.alloc(), &states)?, "the parts");
     Ok(())
 }
 
@@ -428,17 +449,27 @@ const BY_CHARACTERS: [(Characters<'static>, u32); 3] = [ABABA, ABBA, BAABA];
 /// The first output of each.
 const FIRST_OUTPUTS: [(u32, u32, u32, u32); 3] = [(1, 1, 4, 0), (3, 2, 5, 0), (2, 0, 5, 0)];
 
+/// Whether the patterns have these first outputs.
+fn have_first_outputs(search: &Standard<'_, u32>) -> bool {
+    for ((pattern, _), output) in AS_GIVEN.iter().zip(&FIRST_OUTPUTS) {
+        if output_of(search, pattern.0) != Some(*output) {
+            return false;
+        }
+    }
+    true
+}
+
+/// Whether states are 13, and have the codes and the parts of others.
+fn are_alike(states: &States<u32>, others: &States<u32>) -> bool {
+    states.num_states() == 13 && states.mapper() == others.mapper() && *states == *others
+}
+
 #[test]
 fn the_order_of_patterns_leaves_the_layout(rt: HostRuntime) -> Result<(), Fail> {
     let one = built(rt.alloc(), &AS_GIVEN)?;
     let other = built(rt.alloc(), &BY_CHARACTERS)?;
-    expect(&rt, one.num_states() == 13, "the states");
-    expect(&rt, one.mapper() == other.mapper(), "the codes");
-    expect(&rt, one == other, "the parts");
-    for ((pattern, _), output) in AS_GIVEN.iter().zip(&FIRST_OUTPUTS) {
-        let found = output_of(&one.standard(), pattern.0);
-        expect(&rt, found == Some(*output), "the outputs");
-    }
+    expect(&rt, are_alike(&one, &other), "the states");
+    expect(&rt, have_first_outputs(&one.standard()), "the outputs");
     Ok(())
 }
 

@@ -12,6 +12,8 @@ mod errors;
 #[cfg(test)]
 mod everywhere;
 #[cfg(test)]
+mod folding;
+#[cfg(test)]
 mod forms;
 #[cfg(test)]
 mod labels;

@@ -9,12 +9,15 @@ use daachorse_patterns::trie::build_trie;
 use std::alloc::Global;
 use std::test::Fail;
 
+/// Whether a byte string is its own labels. The buffer is left as it was.
+fn is_its_labels(pattern: &[u8], buffer: &mut Vec<u8>) -> Result<bool> {
+    Ok(pattern.labels(buffer)? == pattern)
+}
+
 #[test]
 fn a_byte_string_is_its_own_labels(rt: HostRuntime) -> Result<(), Fail> {
     let mut buffer = Vec::new(rt.alloc());
-    let pattern: &[u8] = b"she";
-    let is_same = pattern.labels(&mut buffer)? == pattern;
-    expect(&rt, is_same, "the labels");
+    expect(&rt, is_its_labels(b"she", &mut buffer)?, "the labels");
     expect(&rt, buffer.is_empty(), "the buffer");
     Ok(())
 }

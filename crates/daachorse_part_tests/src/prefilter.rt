@@ -9,7 +9,10 @@ use std::alloc::Global;
 use std::test::Fail;
 
 /// The filter of these patterns.
-fn filter_of(alloc: Global, patterns: &[&[u8]]) -> Result<Option<Prefilter>, DaachorseError> {
+pub(crate) fn filter_of(
+    alloc: Global,
+    patterns: &[&[u8]],
+) -> Result<Option<Prefilter>, DaachorseError> {
     let mut builder = PrefilterBuilder::new(alloc)?;
     for pattern in patterns {
         builder.add(pattern);
@@ -17,27 +20,33 @@ fn filter_of(alloc: Global, patterns: &[&[u8]]) -> Result<Option<Prefilter>, Daa
     Ok(builder.build())
 }
 
+/// Haystacks, from where on a place is asked for, and the first that passes.
+const PLACES: [(&[u8], usize, usize); 9] = [
+    (b"xxxariaxxx", 0, 3),
+    (b"xxxariaxxx", 3, 3),
+    (b"xxxariaxxx", 5, 10),
+    (b"xxxariaxxx", 10, 10),
+    (b"xxxariaxxx", 11, 10),
+    (b"xxarisxxxx", 0, 2),
+    (b"xxarxrixia", 0, 10),
+    (b"iris", 0, 0),
+    (b"", 0, 0),
+];
+
+/// Whether a filter finds these places.
+fn finds_places(filter: &Prefilter, rows: &[(&[u8], usize, usize)]) -> bool {
+    for (haystack, pos, place) in rows {
+        if filter.next_position(haystack, *pos) != *place {
+            return false;
+        }
+    }
+    true
+}
+
 #[test]
 fn the_first_place_that_passes_is_found(rt: HostRuntime) -> Result<(), Fail> {
     let filter = filter_of(rt.alloc(), &[b"aria", b"iris"])?.ok_or("no filter")?;
-    let rows: [(&[u8], usize, usize); 9] = [
-        (b"xxxariaxxx", 0, 3),
-        (b"xxxariaxxx", 3, 3),
-        (b"xxxariaxxx", 5, 10),
-        (b"xxxariaxxx", 10, 10),
-        (b"xxxariaxxx", 11, 10),
-        (b"xxarisxxxx", 0, 2),
-        (b"xxarxrixia", 0, 10),
-        (b"iris", 0, 0),
-        (b"", 0, 0),
-    ];
-    for (haystack, pos, place) in &rows {
-        expect(
-            &rt,
-            filter.next_position(haystack, *pos) == *place,
-            "the place",
-        );
-    }
+    expect(&rt, finds_places(&filter, &PLACES), "the places");
     Ok(())
 }
 
@@ -184,15 +193,20 @@ fn a_filter_has_its_form(rt: HostRuntime) -> Result<(), Fail> {
     Ok(())
 }
 
+/// Whether these bytes are the form of a filter and a byte 42 behind it, which is left.
+fn is_read(alloc: Global, filter: &Prefilter, bytes: &[u8]) -> Result<bool, DaachorseError> {
+    let (read, rest) = Prefilter::deserialize_from_slice(alloc, bytes)?;
+    Ok(read == *filter && rest == [42].as_slice())
+}
+
 #[test]
 fn a_filter_is_read_as_it_was_written(rt: HostRuntime) -> Result<(), Fail> {
     let filter = filter_of(rt.alloc(), &[b"aria", b"iris"])?.ok_or("no filter")?;
     expect(&rt, filter.serialized_bytes() == 65537, "the length");
     let mut bytes = written(rt.alloc())?;
     bytes.push(42)?;
-    let (read, rest) = Prefilter::deserialize_from_slice(rt.alloc(), &bytes)?;
-    expect(&rt, read == filter, "what is read");
-    expect(&rt, rest == [42].as_slice(), "what is left");
+    let is_read = is_read(rt.alloc(), &filter, &bytes)?;
+    expect(&rt, is_read, "what is read, and what is left");
     Ok(())
 }
 

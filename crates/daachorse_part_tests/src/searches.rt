@@ -2,7 +2,8 @@
 
 ghost use Rattle.std.specs.Prelude.{◌≡◌, ◌≢◌, ◌*◌, ◌<◌, ◌≤◌, ◌^◌, ℕ, List, [], map, length, count_by, IfOk};
 ghost use Rattle.std.specs.Iterator.{Drains};
-ghost use Rattle.daachorse_model.specs.Units.{size};
+ghost use Rattle.daachorse_core.specs.Seen.{units};
+ghost use Rattle.daachorse_model.specs.Units.{byte_width, size};
 ghost use Rattle.daachorse_model.specs.Matches.{at_each_end, overlapping};
 ghost use Rattle.daachorse_search.specs.Sources.{IsReady};
 
@@ -15,6 +16,7 @@ use daachorse_search::find_stepper::FindStepper;
 use daachorse_search::haystack::{Bytes, Reread};
 use daachorse_search::matches::Matches;
 use daachorse_search::overlapping::{NoSuffixWalk, OverlappingWalk};
+use daachorse_search::overlapping_stepper::FindOverlappingStepper;
 use daachorse_search::scan::scan;
 use daachorse_search::search::Search;
 use daachorse_search::source::{self, Source};
@@ -109,17 +111,40 @@ fn run_find<V: Copy, A: Automaton<V>, H: Reread<A::Unit>>(
     run_matches(FindWalk::new(automaton), haystack)
 }
 
+/// Whether this is what a search gives next.
+fn gives_next<W: Stepwise<u32>, H: Reread<W::Unit>>(
+    search: &mut Matches<u32, W, H>,
+    wanted: Option<Match<u32>>,
+) -> bool {
+    search.next() == wanted
+}
+
+/// Whether a search gives these matches, each by its place and its value, and no more however often it
+/// is asked.
+fn gives<W: Stepwise<u32>, H: Reread<W::Unit>>(
+    mut search: Matches<u32, W, H>,
+    wanted: &[(usize, u32)],
+) -> bool {
+    search.turns_are_bounded();
+    for (place, value) in wanted {
+        if !gives_next(&mut search, Some(at(*place, *value))) {
+            return false;
+        }
+    }
+    gives_next(&mut search, None) && gives_next(&mut search, None)
+}
+
 #[test]
 fn all_matches_are_given_at_each_boundary(rt: HostRuntime) {
-    let mut search = Matches::new(OverlappingWalk::new(TWICE), Bytes::new(b"a"));
-    search.turns_are_bounded();
-    for wanted in [at(0, 7), at(0, 8), at(1, 7), at(1, 8)] {
-        expect(&rt, search.next() == Some(wanted), "the match");
-    }
-    expect(&rt, search.next().is_none(), "the end");
-    expect(&rt, search.next().is_none(), "behind the end");
-    let mut over = run_overlapping(TWICE, Bytes::new(b"a"));
-    expect(&rt, over.next().is_none(), "after a whole run");
+    let search = Matches::new(OverlappingWalk::new(TWICE), Bytes::new(b"a"));
+    let all = [(0, 7), (0, 8), (1, 7), (1, 8)];
+    expect(&rt, gives(search, &all), "the matches");
+}
+
+#[test]
+fn all_matches_end_with_the_haystack(rt: HostRuntime) {
+    let over = run_overlapping(TWICE, Bytes::new(b"a"));
+    expect(&rt, gives(over, &[]), "after a whole run");
 }
 
 #[test]
@@ -140,57 +165,102 @@ fn the_longest_match_is_given_at_each_boundary(rt: HostRuntime) -> Result<(), Fa
 
 #[test]
 fn one_match_is_given_at_each_boundary(rt: HostRuntime) {
-    let mut search = Matches::new(FindWalk::new(TWICE), Bytes::new(b"ab"));
-    search.turns_are_bounded();
-    for place in 0..3 {
-        expect(&rt, search.next() == Some(at(place, 7)), "the match");
-    }
-    expect(&rt, search.next().is_none(), "the end");
-    let mut over = run_find(TWICE, Bytes::new(b"ab"));
-    expect(&rt, over.next().is_none(), "after a whole run");
+    let search = Matches::new(FindWalk::new(TWICE), Bytes::new(b"ab"));
+    let all = [(0, 7), (1, 7), (2, 7)];
+    expect(&rt, gives(search, &all), "the matches");
+}
+
+#[test]
+fn the_standard_search_ends_with_the_haystack(rt: HostRuntime) {
+    let over = run_find(TWICE, Bytes::new(b"ab"));
+    expect(&rt, gives(over, &[]), "after a whole run");
 }
 
 #[test]
 fn nothing_is_given_with_no_key(rt: HostRuntime) {
-    let mut all = Matches::new(OverlappingWalk::new(NOWHERE), Bytes::new(b"ab"));
-    expect(&rt, all.next().is_none(), "of all");
-    let mut standard = Matches::new(FindWalk::new(NOWHERE), Bytes::new(b"ab"));
-    expect(&rt, standard.next().is_none(), "of the standard search");
+    let search = Matches::new(OverlappingWalk::new(NOWHERE), Bytes::new(b"ab"));
+    expect(&rt, gives(search, &[]), "of all");
 }
 
 #[test]
-fn steppers_tell_what_ends_behind_a_unit(rt: HostRuntime) -> Result<(), Fail> {
+fn the_standard_search_gives_nothing_with_no_key(rt: HostRuntime) {
+    let search = Matches::new(FindWalk::new(NOWHERE), Bytes::new(b"ab"));
+    expect(&rt, gives(search, &[]), "of the standard search");
+}
+
+/// Whether what was found is a match of the empty key at this place, with this value.
+fn is_at(found: Option<Match<u32>>, place: usize, value: u32) -> bool {
+    found == Some(at(place, value))
+}
+
+/// What a clone of a stepper tells.
+fn told_by_clone(
+    stepper: &FindStepper<'_, u32, Everywhere<'_>>,
+) -> Result<Option<Match<u32>>, AllocError> {
+    Ok(stepper.clone()?.matches())
+}
+
+#[test]
+fn a_stepper_tells_what_ends_behind_a_unit(rt: HostRuntime) -> Result<(), Fail> {
     let mut stepper = FindStepper::new(TWICE, &[]);
-    expect(&rt, stepper.matches() == Some(at(0, 7)), "before a unit");
+    expect(&rt, is_at(stepper.matches(), 0, 7), "before a unit");
     stepper.consume(b'a');
-    let copied = stepper.clone()?.matches();
-    expect(&rt, copied == Some(at(1, 7)), "of a clone");
     stepper.turns_are_bounded();
-    let mut walk = OverlappingWalk::new(TWICE);
-    walk.consume(b'a');
-    let mut matches = walk.clone()?.matches(1);
-    expect(&rt, matches.next() == Some(at(1, 7)), "the first");
-    expect(&rt, matches.next() == Some(at(1, 8)), "the second");
-    expect(&rt, matches.next().is_none(), "the end");
+    let copied = told_by_clone(&stepper)?;
+    expect(&rt, is_at(copied, 1, 7), "of a clone");
     Ok(())
 }
 
+/// Whether a clone of a stepper tells these two matches at this place, and no more.
+fn clone_tells_two(
+    stepper: &FindOverlappingStepper<'_, u32, Everywhere<'_>>,
+    place: usize,
+    first: u32,
+    second: u32,
+) -> Result<bool, AllocError> {
+    let mut matches = stepper.clone()?.matches();
+    let are_told = is_at(matches.next(), place, first) && is_at(matches.next(), place, second);
+    Ok(are_told && matches.next().is_none())
+}
+
 #[test]
-fn a_walk_gives_the_outputs_where_it_stands(rt: HostRuntime) -> Result<(), Fail> {
-    expect(&rt, TWICE.is_root(TWICE.root()), "the root");
+fn a_stepper_tells_all_that_ends_behind_a_unit(rt: HostRuntime) -> Result<(), Fail> {
+    let mut stepper = FindOverlappingStepper::new(TWICE, &[]);
+    stepper.consume(b'a');
+    let are_told = clone_tells_two(&stepper, 1, 7, 8)?;
+    expect(&rt, are_told, "the matches of a clone");
+    Ok(())
+}
+
+/// Whether a walk gives just these two values at a place.
+fn gives_two(walk: &Walk<u32, Everywhere<'_>>, place: usize, first: u32, second: u32) -> bool
+    requires { size byte_width (units walk.now.seen) ≤ place }
+{
+    let Some(position) = walk.outputs() else {
+        return false;
+    };
+    let (found, Some(position)) = walk.give(position, place) else {
+        return false;
+    };
+    let (other, next) = walk.give(position, place);
+    found == at(place, first) && other == at(place, second) && next.is_none()
+}
+
+#[test]
+fn a_walk_gives_the_outputs_where_it_stands(rt: HostRuntime) {
     let mut walk = Walk::new(TWICE);
     walk.consume(b'a');
     walk.restart();
     walk.skip(b'b');
     walk.turns_are_bounded();
-    let values = walk.automaton().values;
-    expect(&rt, values == [7, 8].as_slice(), "the automaton");
-    let (found, next) = walk.give(walk.outputs().ok_or("no output")?, 2);
-    expect(&rt, found == at(2, 7), "the first");
-    let (found, next) = walk.give(next.ok_or("one output")?, 2);
-    expect(&rt, found == at(2, 8), "the second");
-    expect(&rt, next.is_none(), "the end");
-    Ok(())
+    expect(&rt, gives_two(&walk, 2, 7, 8), "the outputs");
+}
+
+#[test]
+fn a_walk_has_its_automaton(rt: HostRuntime) {
+    expect(&rt, TWICE.is_root(TWICE.root()), "the root");
+    let values = Walk::new(TWICE).automaton().values;
+    expect(&rt, values == [7, 8].as_slice(), "the values");
 }
 
 #[test]

@@ -138,6 +138,24 @@ fn lists_end_before_a_dead_link(rt: HostRuntime) -> Result<(), Fail> {
     Ok(())
 }
 
+/// Whether states have these positions of outputs.
+fn have_positions(
+    alloc: Global,
+    states: &[NfaBuilderState<u8, u32>],
+    wanted: &[u32],
+) -> Result<bool> {
+    Ok(positions(alloc, states)?.as_slice() == wanted)
+}
+
+/// Whether a state has these edges.
+fn has_edges(
+    alloc: Global,
+    state: &NfaBuilderState<u8, u32>,
+    wanted: &[(u8, u32)],
+) -> Result<bool> {
+    Ok(edges(alloc, state)?.as_slice() == wanted)
+}
+
 #[test]
 fn states_have_edges_and_positions(rt: HostRuntime) -> Result<(), Fail> {
     let alloc = rt.alloc();
@@ -145,15 +163,11 @@ fn states_have_edges_and_positions(rt: HostRuntime) -> Result<(), Fail> {
     expect(&rt, builder.num_patterns() == 5, "the patterns");
     finish(alloc, false, &mut builder)?;
     let (states, _) = builder.into_parts();
-    let found = positions(alloc, &states)?;
-    let wanted = [0, 0, 3, 0, 5, 1, 4];
-    expect(&rt, found.as_slice() == wanted.as_slice(), "the positions");
-    let root = match states.first() {
-        Some(state) => edges(alloc, state)?,
-        None => Vec::new(alloc),
-    };
-    let wanted = [(b'a', 5), (b'b', 2)];
-    expect(&rt, root.as_slice() == wanted.as_slice(), "the edges");
+    let holds = have_positions(alloc, &states, &[0, 0, 3, 0, 5, 1, 4])?;
+    expect(&rt, holds, "the positions");
+    let root = states.first().ok_or("no root")?;
+    let holds = has_edges(alloc, root, &[(b'a', 5), (b'b', 2)])?;
+    expect(&rt, holds, "the edges");
     Ok(())
 }
 
@@ -171,9 +185,8 @@ fn a_clone_has_all_that_the_state_has(rt: HostRuntime) -> Result<(), Fail> {
     let mut builder = trie_of(alloc, MatchKind::Standard, &[b"ab", b"abc", b"abd", b"b"])?;
     finish(alloc, false, &mut builder)?;
     let state = clone_of(builder.states().get(3))?.ok_or("no state")?;
-    let found = edges(alloc, &state)?;
-    let wanted = [(b'c', 4), (b'd', 5)];
-    expect(&rt, found.as_slice() == wanted.as_slice(), "the edges");
+    let holds = has_edges(alloc, &state, &[(b'c', 4), (b'd', 5)])?;
+    expect(&rt, holds, "the edges");
     expect(&rt, state.fail() == 6, "the link");
     let position = state.output_pos().map_or(0, NonZeroU32::get);
     expect(&rt, position == 2, "the position");

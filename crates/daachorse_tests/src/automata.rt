@@ -20,10 +20,10 @@ pub const KINDS: [MatchKind; 3] = [
 ];
 
 /// The texts as bytes, with their values.
-pub fn in_bytes<'a>(
-    alloc: Global,
+pub fn in_bytes<'a, A: Allocator>(
+    alloc: A,
     patvals: &[(&'a str, u32)],
-) -> Result<Vec<(&'a [u8], u32)>, AllocError> {
+) -> Result<Vec<(&'a [u8], u32), A>, AllocError> {
     let mut all = Vec::new(alloc);
     for (text, value) in patvals {
         all.push((text.as_bytes(), *value))?;

@@ -5,7 +5,7 @@ ghost use Rattle.daachorse_model.specs.declared.MatchKind.TheVariants.{Standard}
 
 use crate::automata::{Bytewise, bytewise, bytewise_by, in_bytes};
 use crate::expect;
-use crate::finding::{Found, are, are_found, are_found_overlapping};
+use crate::finding::{Found, are, are_found, are_found_overlapping, gives, gives_leftmost};
 use crate::rows::{ROWS, Row, Search, WAYS, Way};
 use daachorse::{MatchKind, Result};
 use std::alloc::Global;
@@ -14,10 +14,7 @@ use std::test::Fail;
 fn overlapping(automaton: &Bytewise<Global>, haystack: &[u8], expected: &[Found]) -> bool
     requires { automaton.now.parts.kind ≡ Standard }
 {
-    let mut search = automaton.find_overlapping_iter(haystack);
-    let are = are(&mut search, expected);
-    search.turns_are_bounded();
-    are
+    gives(automaton.find_overlapping_iter(haystack), expected)
 }
 
 fn overlapping_of_source(automaton: &Bytewise<Global>, haystack: &[u8], expected: &[Found]) -> bool
@@ -37,10 +34,10 @@ fn overlapping_by_steps(automaton: &Bytewise<Global>, haystack: &[u8], expected:
 fn no_suffix(automaton: &Bytewise<Global>, haystack: &[u8], expected: &[Found]) -> bool
     requires { automaton.now.parts.kind ≡ Standard }
 {
-    let mut search = automaton.find_overlapping_no_suffix_iter(haystack);
-    let are = are(&mut search, expected);
-    search.turns_are_bounded();
-    are
+    gives(
+        automaton.find_overlapping_no_suffix_iter(haystack),
+        expected,
+    )
 }
 
 fn no_suffix_of_source(automaton: &Bytewise<Global>, haystack: &[u8], expected: &[Found]) -> bool
@@ -56,10 +53,7 @@ fn no_suffix_of_source(automaton: &Bytewise<Global>, haystack: &[u8], expected: 
 fn standard(automaton: &Bytewise<Global>, haystack: &[u8], expected: &[Found]) -> bool
     requires { automaton.now.parts.kind ≡ Standard }
 {
-    let mut search = automaton.find_iter(haystack);
-    let are = are(&mut search, expected);
-    search.turns_are_bounded();
-    are
+    gives(automaton.find_iter(haystack), expected)
 }
 
 fn standard_of_source(automaton: &Bytewise<Global>, haystack: &[u8], expected: &[Found]) -> bool
@@ -79,10 +73,7 @@ fn standard_by_steps(automaton: &Bytewise<Global>, haystack: &[u8], expected: &[
 fn leftmost(automaton: &Bytewise<Global>, haystack: &[u8], expected: &[Found]) -> bool
     requires { automaton.now.parts.kind ≢ Standard }
 {
-    let mut search = automaton.leftmost_find_iter(haystack);
-    let are = are(&mut search, expected);
-    search.turns_are_bounded();
-    are
+    gives_leftmost(automaton.leftmost_find_iter(haystack), expected)
 }
 
 /// Whether the search in a slice finds just these matches.
@@ -141,12 +132,20 @@ fn holds(alloc: Global, way: Way, row: &Row) -> Result<bool> {
     )
 }
 
+/// Whether a row holds in each way.
+fn holds_in_each(alloc: Global, row: &Row) -> Result<bool> {
+    for way in &WAYS {
+        if !holds(alloc, *way, row)? {
+            return Ok(false);
+        }
+    }
+    Ok(true)
+}
+
 #[test]
 fn rows_hold_over_bytes(rt: HostRuntime) -> Result<(), Fail> {
     for row in ROWS {
-        for way in WAYS {
-            expect(&rt, holds(rt.alloc(), way, row)?, row.0);
-        }
+        expect(&rt, holds_in_each(rt.alloc(), row)?, row.0);
     }
     Ok(())
 }

@@ -1,81 +1,108 @@
 //! Searches that are dropped after some of their matches: the automaton is as it was.
 
-ghost use Rattle.std.specs.Iterator.{IsFinite};
-ghost use Rattle.std.specs.Prelude.{◌≡◌, ◌≢◌};
-ghost use Rattle.daachorse_model.specs.declared.MatchKind.TheVariants.{Standard};
-
-use crate::automata::{Bytewise, Charwise, bytewise, charwise};
-use crate::expect;
-use daachorse::{Match, MatchKind, Result};
+use crate::automata::{self, Bytewise, Charwise};
+use crate::bytewise::{finds_by_units, finds_in_slice};
+use crate::finding::Found;
+use crate::rows::Search;
+use crate::{charwise, expect};
+use daachorse::{MatchKind, Result};
 use std::alloc::Global;
 use std::test::Fail;
 
-/// Takes so many matches of a search, if there are as many, and drops it.
-fn take<I: Iterator<Item = Match<u32>> + Drop>(matches: I, count: usize)
-    requires can { I.can_next matches }
-    requires ends { IsFinite (I.remaining matches) }
-{
-    let mut left = count;
-    for _found in matches {
-        left = left.saturating_sub(1);
-        if left == 0 {
-            return;
+/// A search, and all that it finds.
+type Row = (Search, &'static [Found]);
+
+const LONGEST: Search = Search::Leftmost(MatchKind::LeftmostLongest);
+
+/// What is found of "ab" and "b" in "abab".
+const ROWS: &[Row] = &[
+    (
+        Search::Overlapping,
+        &[(0, 2, 0), (1, 2, 1), (2, 4, 0), (3, 4, 1)],
+    ),
+    (Search::NoSuffix, &[(0, 2, 0), (2, 4, 0)]),
+    (Search::Standard, &[(0, 2, 0), (2, 4, 0)]),
+    (LONGEST, &[(0, 2, 0), (2, 4, 0)]),
+];
+
+/// Whether an automaton over bytes is as it was before, after a search that is dropped behind the match past
+/// so many, and after one that gives them all.
+fn leaves(
+    automaton: &Bytewise<Global>,
+    before: &Bytewise<Global>,
+    search: Search,
+    all: &[Found],
+) -> bool {
+    for count in 0..=all.len() {
+        let expected = &all[..count];
+        let is_whole = count == all.len();
+        // A leftmost search takes no bytes one by one.
+        let is_told = is_whole || search.kind().is_leftmost();
+        if finds_in_slice(automaton, search, b"abab", expected) != is_whole
+            || finds_by_units(automaton, search, b"abab", expected) != is_told
+            || automaton != before
+        {
+            return false;
         }
     }
+    true
 }
 
-/// Drops each search over bytes after so many matches.
-fn drop_each(automaton: &Bytewise<Global>, haystack: &[u8], count: usize)
-    requires { automaton.now.parts.kind ≡ Standard }
-{
-    take(automaton.find_iter(haystack), count);
-    take(automaton.find_overlapping_iter(haystack), count);
-    take(automaton.find_overlapping_no_suffix_iter(haystack), count);
-    let source = haystack.iter().copied();
-    take(automaton.find_overlapping_iter_from_iter(source), count);
-}
-
-/// Drops the leftmost search over bytes after so many matches.
-fn drop_leftmost(automaton: &Bytewise<Global>, haystack: &[u8], count: usize)
-    requires { automaton.now.parts.kind ≢ Standard }
-{
-    take(automaton.leftmost_find_iter(haystack), count);
+/// Whether each dropped search of a row leaves the automaton over bytes as it was.
+fn is_left(alloc: Global, row: &Row) -> Result<bool> {
+    let (search, all) = *row;
+    let automaton = automata::bytewise(alloc, search.kind(), &[(b"ab", 0), (b"b", 1)])?;
+    let before = automaton.clone()?;
+    Ok(leaves(&automaton, &before, search, all))
 }
 
 #[test]
 fn a_dropped_search_leaves_the_automaton(rt: HostRuntime) -> Result<(), Fail> {
-    let patvals: [(&[u8], u32); 2] = [(b"ab", 0), (b"b", 1)];
-    let automaton = bytewise(rt.alloc(), MatchKind::Standard, &patvals)?;
-    let before = automaton.clone()?;
-    for count in 1..6usize {
-        drop_each(&automaton, b"abab", count);
-        expect(&rt, automaton == before, "a standard search");
-    }
-    let automaton = bytewise(rt.alloc(), MatchKind::LeftmostLongest, &patvals)?;
-    let before = automaton.clone()?;
-    for count in 1..4usize {
-        drop_leftmost(&automaton, b"abab", count);
-        expect(&rt, automaton == before, "a leftmost search");
+    for row in ROWS {
+        expect(&rt, is_left(rt.alloc(), row)?, "an automaton over bytes");
     }
     Ok(())
 }
 
-/// Drops each search over characters after so many matches.
-fn drop_each_charwise(automaton: &Charwise<Global>, text: &str, count: usize)
-    requires { automaton.now.parts.kind ≡ Standard }
-{
-    take(automaton.find_iter(text), count);
-    take(automaton.find_overlapping_iter(text), count);
-    take(automaton.find_overlapping_no_suffix_iter(text), count);
+/// What is found of "aé" and "é" in "aéaé".
+const ROWS_OF_TEXT: &[Row] = &[
+    (
+        Search::Overlapping,
+        &[(0, 3, 0), (1, 3, 1), (3, 6, 0), (4, 6, 1)],
+    ),
+    (Search::NoSuffix, &[(0, 3, 0), (3, 6, 0)]),
+    (Search::Standard, &[(0, 3, 0), (3, 6, 0)]),
+    (LONGEST, &[(0, 3, 0), (3, 6, 0)]),
+];
+
+/// The same as [`leaves`] of an automaton over characters, by the searches in a text.
+fn leaves_charwise(
+    automaton: &Charwise<Global>,
+    before: &Charwise<Global>,
+    search: Search,
+    all: &[Found],
+) -> bool {
+    for count in 0..=all.len() {
+        let is_found = charwise::finds_in_slice(automaton, search, "aéaé", &all[..count]);
+        if is_found != (count == all.len()) || automaton != before {
+            return false;
+        }
+    }
+    true
+}
+
+/// The same as [`is_left`] over characters.
+fn is_left_charwise(alloc: Global, row: &Row) -> Result<bool> {
+    let (search, all) = *row;
+    let automaton = automata::charwise(alloc, search.kind(), &[("aé", 0), ("é", 1)])?;
+    let before = automaton.clone()?;
+    Ok(leaves_charwise(&automaton, &before, search, all))
 }
 
 #[test]
 fn a_dropped_search_of_text_leaves_the_automaton(rt: HostRuntime) -> Result<(), Fail> {
-    let automaton = charwise(rt.alloc(), MatchKind::Standard, &[("aé", 0), ("é", 1)])?;
-    let before = automaton.clone()?;
-    for count in 1..6usize {
-        drop_each_charwise(&automaton, "aéaé", count);
-        expect(&rt, automaton == before, "a search");
+    for row in ROWS_OF_TEXT {
+        expect(&rt, is_left_charwise(rt.alloc(), row)?, "over characters");
     }
     Ok(())
 }

@@ -8,8 +8,13 @@ ghost use Rattle.std.specs.Prelude.{◌≡◌, []};
 use daachorse::Match;
 use daachorse_core::edge_label::EdgeLabel;
 use daachorse_search::automaton::Automaton;
+use daachorse_search::filter::Filter;
 use daachorse_search::find_stepper::FindStepper;
+use daachorse_search::haystack::Reread;
+use daachorse_search::leftmost::LeftmostMatches;
+use daachorse_search::matches::Matches;
 use daachorse_search::overlapping_stepper::FindOverlappingStepper;
+use daachorse_search::stepwise::Stepwise;
 use std::slice::Iter;
 
 /// The start, the end and the value of a match.
@@ -30,8 +35,8 @@ impl<'a> Expected<'a> {
         }
     }
 
-    /// Takes the next match.
-    fn take(&mut self, found: Match<u32>) {
+    /// Takes the next match, and answers whether it was expected.
+    fn take(&mut self, found: Match<u32>) -> bool {
         match self.left.next() {
             Some((start, end, value)) => {
                 let same = found.start() == *start && found.end() == *end;
@@ -39,15 +44,18 @@ impl<'a> Expected<'a> {
             }
             None => self.holds = false,
         }
+        self.holds
     }
 
-    /// Takes the matches in turn.
+    /// Takes the matches in turn, up to the first that was not expected.
     fn take_all<I: Iterator<Item = Match<u32>> + Drop>(&mut self, matches: I)
         requires can { I.can_next matches }
         requires ends { IsFinite (I.remaining matches) }
     {
         for found in matches {
-            self.take(found);
+            if !self.take(found) {
+                return;
+            }
         }
     }
 
@@ -64,6 +72,29 @@ pub fn are<I: Iterator<Item = Match<u32>> + Drop>(matches: I, expected: &[Found]
 {
     let mut expected = Expected::new(expected);
     expected.take_all(matches);
+    expected.is_met()
+}
+
+/// Whether a search in a haystack gives the expected matches, in this order. It is dropped behind the
+/// first match that is not expected.
+pub fn gives<W: Stepwise<u32>, H: Reread<W::Unit>, F: Filter<W::Unit, H>>(
+    mut search: Matches<u32, W, H, F>,
+    expected: &[Found],
+) -> bool {
+    let mut expected = Expected::new(expected);
+    expected.take_all(&mut search);
+    search.turns_are_bounded();
+    expected.is_met()
+}
+
+/// The same of a leftmost search.
+pub fn gives_leftmost<A: Automaton<u32>, H: Reread<A::Unit>, F: Filter<A::Unit, H>>(
+    mut search: LeftmostMatches<u32, A, H, F>,
+    expected: &[Found],
+) -> bool {
+    let mut expected = Expected::new(expected);
+    expected.take_all(&mut search);
+    search.turns_are_bounded();
     expected.is_met()
 }
 

@@ -34,6 +34,8 @@ mod paths;
 #[cfg(test)]
 mod plain;
 #[cfg(test)]
+mod replaced;
+#[cfg(test)]
 mod requests;
 #[cfg(test)]
 mod rows;

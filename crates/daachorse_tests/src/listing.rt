@@ -170,21 +170,31 @@ fn are_same(one: &Bytewise<Global>, other: &Bytewise<Global>) -> bool {
     one == other && hash_of(one) == hash_of(other)
 }
 
+/// Whether an automaton over bytes is the same as its clone.
+pub fn is_cloned(automaton: &Bytewise<Global>) -> Result<bool> {
+    Ok(are_same(automaton, &automaton.clone()?))
+}
+
+/// Whether an automaton over bytes differs from the one of these patterns.
+fn differs_from(alloc: Global, automaton: &Bytewise<Global>, patvals: Patvals) -> Result<bool> {
+    Ok(*automaton != bytewise(alloc, MatchKind::Standard, patvals)?)
+}
+
+/// Two patterns, and the same with another value.
+const TWO: Patvals = &[(b"ab", 0), (b"b", 1)];
+
+const OTHER_VALUE: Patvals = &[(b"ab", 0), (b"b", 2)];
+
 #[test]
 fn equality_over_bytes_looks_at_cached_depths(rt: HostRuntime) -> Result<(), Fail> {
-    let kind = MatchKind::Standard;
-    let mut automaton = bytewise(rt.alloc(), kind, &[(b"ab", 0), (b"b", 1)])?;
-    let other = bytewise(rt.alloc(), kind, &[(b"ab", 0), (b"b", 2)])?;
-    expect(&rt, automaton != other, "another value");
-    let before = automaton.clone()?;
-    expect(&rt, are_same(&automaton, &before), "a clone");
+    let alloc = rt.alloc();
+    let mut automaton = bytewise(alloc, MatchKind::Standard, TWO)?;
+    let differs = differs_from(alloc, &automaton, OTHER_VALUE)?;
+    expect(&rt, differs, "another value");
+    expect(&rt, is_cloned(&automaton)?, "a clone");
     automaton.cache_depths()?;
-    expect(&rt, automaton != before, "cached depths");
-    expect(
-        &rt,
-        are_same(&automaton, &automaton.clone()?),
-        "cloned depths",
-    );
+    expect(&rt, differs_from(alloc, &automaton, TWO)?, "cached depths");
+    expect(&rt, is_cloned(&automaton)?, "cloned depths");
     Ok(())
 }
 
@@ -193,14 +203,25 @@ fn are_same_charwise(one: &Charwise<Global>, other: &Charwise<Global>) -> bool {
     one == other && hash_of(one) == hash_of(other)
 }
 
+/// The same as [`is_cloned`] over characters.
+fn is_cloned_charwise(automaton: &Charwise<Global>) -> Result<bool> {
+    Ok(are_same_charwise(automaton, &automaton.clone()?))
+}
+
+/// The same as [`differs_from`] over characters.
+fn differs_from_texts(alloc: Global, automaton: &Charwise<Global>, patvals: Texts) -> Result<bool> {
+    Ok(*automaton != charwise(alloc, MatchKind::Standard, patvals)?)
+}
+
 #[test]
 fn equality_over_characters_looks_at_cached_depths(rt: HostRuntime) -> Result<(), Fail> {
-    let empty = charwise(rt.alloc(), MatchKind::Standard, &[])?;
-    let mut automaton = charwise(rt.alloc(), MatchKind::Standard, &[("世", 1)])?;
-    expect(&rt, automaton != empty, "other patterns");
-    let before = automaton.clone()?;
-    expect(&rt, are_same_charwise(&automaton, &before), "a clone");
+    let alloc = rt.alloc();
+    let mut automaton = charwise(alloc, MatchKind::Standard, &[("世", 1)])?;
+    let differs = differs_from_texts(alloc, &automaton, &[])?;
+    expect(&rt, differs, "other patterns");
+    expect(&rt, is_cloned_charwise(&automaton)?, "a clone");
     automaton.cache_depths()?;
-    expect(&rt, automaton != before, "cached depths");
+    let differs = differs_from_texts(alloc, &automaton, &[("世", 1)])?;
+    expect(&rt, differs, "cached depths");
     Ok(())
 }

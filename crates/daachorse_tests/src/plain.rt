@@ -32,7 +32,7 @@ pub trait Searched: Sized {
     fn written(&self, alloc: Global) -> Result<Vec<u8>>;
 
     /// The patterns that it lists.
-    fn listed(&self, alloc: Global) -> Result<Vec<(Vec<u32>, u32)>>;
+    fn listed(&self, alloc: Global) -> Result<Listed>;
 
     /// Whether it is for the leftmost searches.
     fn is_leftmost(&self) -> bool;
@@ -50,17 +50,39 @@ pub trait Searched: Sized {
     ) -> Result<bool>;
 }
 
+/// The numbers of bytes.
+fn numbers(alloc: Global, bytes: &[u8]) -> Result<Vec<u32>> {
+    let mut numbers = Vec::new(alloc);
+    for byte in bytes {
+        numbers.push(u32::from(*byte))?;
+    }
+    Ok(numbers)
+}
+
+/// The patterns of an automaton by their units, with their values.
+type Listed = Vec<(Vec<u32>, u32)>;
+
+/// Appends a pattern over bytes, if it came.
+fn push_bytes(patterns: &mut Listed, item: Result<(Vec<u8>, u32)>) -> Result<()> {
+    let (pattern, value) = item?;
+    let units = numbers(*patterns.allocator(), &pattern)?;
+    Ok(patterns.push((units, value))?)
+}
+
+/// Appends a pattern over characters, if it came.
+fn push_text(patterns: &mut Listed, item: Result<(String, u32)>) -> Result<()> {
+    let (pattern, value) = item?;
+    let units = Charwise::<Global>::units(*patterns.allocator(), &pattern)?;
+    Ok(patterns.push((units, value))?)
+}
+
 impl Searched for Bytewise<Global> {
     fn width() -> Width {
         Width::Bytes
     }
 
     fn units(alloc: Global, text: &str) -> Result<Vec<u32>> {
-        let mut units = Vec::new(alloc);
-        for byte in text.as_bytes() {
-            units.push(u32::from(*byte))?;
-        }
-        Ok(units)
+        numbers(alloc, text.as_bytes())
     }
 
     fn made(alloc: Global, way: Way, kind: MatchKind, patvals: &[(&str, u32)]) -> Result<Self> {
@@ -75,15 +97,10 @@ impl Searched for Bytewise<Global> {
         self.serialize(alloc)
     }
 
-    fn listed(&self, alloc: Global) -> Result<Vec<(Vec<u32>, u32)>> {
+    fn listed(&self, alloc: Global) -> Result<Listed> {
         let mut patterns = Vec::new(alloc);
         for item in self.iter(alloc)? {
-            let (pattern, value) = item?;
-            let mut units = Vec::new(alloc);
-            for byte in &pattern {
-                units.push(u32::from(*byte))?;
-            }
-            patterns.push((units, value))?;
+            push_bytes(&mut patterns, item)?;
         }
         Ok(patterns)
     }
@@ -132,11 +149,10 @@ impl Searched for Charwise<Global> {
         self.serialize(alloc)
     }
 
-    fn listed(&self, alloc: Global) -> Result<Vec<(Vec<u32>, u32)>> {
+    fn listed(&self, alloc: Global) -> Result<Listed> {
         let mut patterns = Vec::new(alloc);
         for item in self.iter(alloc)? {
-            let (pattern, value) = item?;
-            patterns.push((Self::units(alloc, &pattern)?, value))?;
+            push_text(&mut patterns, item)?;
         }
         Ok(patterns)
     }

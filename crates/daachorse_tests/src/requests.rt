@@ -55,7 +55,7 @@ const REQUESTS: [(MatchKind, Requests); 16] = [
 ];
 
 /// The answer of a call that gave this.
-fn answer_of(outcome: &Result<bool>) -> Answer {
+pub fn answer_of(outcome: &Result<bool>) -> Answer {
     match outcome {
         Ok(true) => Answer::Right,
         Err(DaachorseError::OutOfMemory(_)) => Answer::Refused,
@@ -90,25 +90,41 @@ fn are_cached<A: Allocator + Copy>(alloc: A) -> Result<bool> {
     caches(&mut automaton)
 }
 
+/// The automaton over bytes that the builder makes.
+fn built<A: Allocator + Copy>(alloc: A, kind: MatchKind) -> Result<Bytewise<A>> {
+    let builder = DoubleArrayAhoCorasickBuilder::new().match_kind(kind);
+    builder.build(alloc, PATTERNS)
+}
+
+/// The same, laid out by a corpus.
+fn built_by_corpus<A: Allocator + Copy>(alloc: A, kind: MatchKind) -> Result<Bytewise<A>> {
+    let builder = DoubleArrayAhoCorasickBuilder::new().match_kind(kind);
+    builder
+        .corpus(alloc, [b"abx".as_slice()])?
+        .build(alloc, PATTERNS)
+}
+
+/// A clone of an automaton over bytes, or what is read of its bytes.
+fn copied<A: Allocator + Copy>(alloc: A, kind: MatchKind, call: Requests) -> Result<Bytewise<A>> {
+    let automaton = bytewise(alloc, kind, &PATVALS)?;
+    match call {
+        Requests::WriteAndRead => Ok(read_back(alloc, &automaton)?.0),
+        Requests::WriteAndCheck => Ok(read_checked(alloc, &automaton)?.0),
+        _ => automaton.clone(),
+    }
+}
+
 /// The automaton over bytes that a call gives.
 fn made<A: Allocator + Copy>(alloc: A, kind: MatchKind, call: Requests) -> Result<Bytewise<A>> {
     match call {
         Requests::New => DoubleArrayAhoCorasick::new(alloc, PATTERNS),
         Requests::WithValues => DoubleArrayAhoCorasick::with_values(alloc, PATVALS),
-        Requests::Build => {
-            let builder = DoubleArrayAhoCorasickBuilder::new().match_kind(kind);
-            builder.build(alloc, PATTERNS)
-        }
-        Requests::BuildByCorpus => {
-            let builder = DoubleArrayAhoCorasickBuilder::new().match_kind(kind);
-            builder
-                .corpus(alloc, [b"abx".as_slice()])?
-                .build(alloc, PATTERNS)
-        }
+        Requests::Build => built(alloc, kind),
+        Requests::BuildByCorpus => built_by_corpus(alloc, kind),
         Requests::ByCorpus => bytewise_by_corpus(alloc, kind, &PATVALS, &[b"abx", b"bc"]),
-        Requests::Clone => bytewise(alloc, kind, &PATVALS)?.clone(),
-        Requests::WriteAndRead => Ok(read_back(alloc, &bytewise(alloc, kind, &PATVALS)?)?.0),
-        Requests::WriteAndCheck => Ok(read_checked(alloc, &bytewise(alloc, kind, &PATVALS)?)?.0),
+        Requests::Clone | Requests::WriteAndRead | Requests::WriteAndCheck => {
+            copied(alloc, kind, call)
+        }
         Requests::BuildWithValues | Requests::CacheDepths => bytewise(alloc, kind, &PATVALS),
     }
 }
@@ -169,6 +185,32 @@ fn are_cached_charwise<A: Allocator + Copy>(alloc: A) -> Result<bool> {
     caches_charwise(&mut automaton)
 }
 
+/// The same as [`built`] over characters.
+fn built_charwise<A: Allocator + Copy>(alloc: A, kind: MatchKind) -> Result<Charwise<A>> {
+    let builder = CharwiseDoubleArrayAhoCorasickBuilder::new().match_kind(kind);
+    builder.build(alloc, TEXTS)
+}
+
+/// The same as [`built_by_corpus`] over characters.
+fn built_by_corpus_charwise<A: Allocator + Copy>(alloc: A, kind: MatchKind) -> Result<Charwise<A>> {
+    let builder = CharwiseDoubleArrayAhoCorasickBuilder::new().match_kind(kind);
+    builder.corpus(alloc, ["ñéü"])?.build(alloc, TEXTS)
+}
+
+/// The same as [`copied`] over characters.
+fn copied_charwise<A: Allocator + Copy>(
+    alloc: A,
+    kind: MatchKind,
+    call: Requests,
+) -> Result<Charwise<A>> {
+    let automaton = charwise(alloc, kind, &TEXT_VALUES)?;
+    match call {
+        Requests::WriteAndRead => Ok(read_back_charwise(alloc, &automaton)?.0),
+        Requests::WriteAndCheck => Ok(read_checked_charwise(alloc, &automaton)?.0),
+        _ => automaton.clone(),
+    }
+}
+
 /// The automaton over characters that a call gives.
 fn made_charwise<A: Allocator + Copy>(
     alloc: A,
@@ -178,21 +220,11 @@ fn made_charwise<A: Allocator + Copy>(
     match call {
         Requests::New => CharwiseDoubleArrayAhoCorasick::new(alloc, TEXTS),
         Requests::WithValues => CharwiseDoubleArrayAhoCorasick::with_values(alloc, TEXT_VALUES),
-        Requests::Build => {
-            let builder = CharwiseDoubleArrayAhoCorasickBuilder::new().match_kind(kind);
-            builder.build(alloc, TEXTS)
-        }
-        Requests::BuildByCorpus => {
-            let builder = CharwiseDoubleArrayAhoCorasickBuilder::new().match_kind(kind);
-            builder.corpus(alloc, ["ñéü"])?.build(alloc, TEXTS)
-        }
+        Requests::Build => built_charwise(alloc, kind),
+        Requests::BuildByCorpus => built_by_corpus_charwise(alloc, kind),
         Requests::ByCorpus => charwise_by_corpus(alloc, kind, &TEXT_VALUES, &["ñéü", "é"]),
-        Requests::Clone => charwise(alloc, kind, &TEXT_VALUES)?.clone(),
-        Requests::WriteAndRead => {
-            Ok(read_back_charwise(alloc, &charwise(alloc, kind, &TEXT_VALUES)?)?.0)
-        }
-        Requests::WriteAndCheck => {
-            Ok(read_checked_charwise(alloc, &charwise(alloc, kind, &TEXT_VALUES)?)?.0)
+        Requests::Clone | Requests::WriteAndRead | Requests::WriteAndCheck => {
+            copied_charwise(alloc, kind, call)
         }
         Requests::BuildWithValues | Requests::CacheDepths => charwise(alloc, kind, &TEXT_VALUES),
     }

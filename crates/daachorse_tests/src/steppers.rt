@@ -1,4 +1,4 @@
-//! Clones of steppers, and matches that stay while a stepper goes on.
+//! Clones of steppers, matches that stay while a stepper goes on, and steppers that go on where others stood.
 
 ghost use Rattle.std.specs.Prelude.{◌≡◌};
 ghost use Rattle.daachorse_model.specs.declared.MatchKind.TheVariants.{Standard};
@@ -39,6 +39,44 @@ fn stays(automaton: &Bytewise<Global>) -> bool
     stepper.consume(b'b');
     let second = stepper.matches();
     are(first, &[(0, 1, 0)]) && are(second, &[(0, 2, 1)])
+}
+
+/// Whether a stepper that goes on where another stood finds what one that read both bytes does.
+fn is_resumed(automaton: &Bytewise<Global>) -> bool
+    requires { automaton.now.parts.kind ≡ Standard }
+{
+    let mut plain = automaton.find_stepper();
+    plain.consume(b'a');
+    plain.consume(b'b');
+    let mut stepper = automaton.find_stepper();
+    stepper.consume(b'a');
+    let mut resumed = automaton.resume_find_stepper(stepper.into_standing());
+    resumed.consume(b'b');
+    resumed.matches().is_some() && resumed.matches() == plain.matches()
+}
+
+/// The same of a stepper for all matches.
+fn is_resumed_overlapping(automaton: &Bytewise<Global>) -> bool
+    requires { automaton.now.parts.kind ≡ Standard }
+{
+    let mut plain = automaton.find_overlapping_stepper();
+    plain.consume(b'a');
+    plain.consume(b'b');
+    let mut stepper = automaton.find_overlapping_stepper();
+    stepper.consume(b'a');
+    let mut resumed = automaton.resume_find_overlapping_stepper(stepper.into_standing());
+    resumed.consume(b'b');
+    let both = [(0, 2, 0), (1, 2, 1)];
+    are(resumed.matches(), &both) && are(plain.matches(), &both)
+}
+
+#[test]
+fn steppers_go_on_where_others_stood(rt: HostRuntime) -> Result<(), Fail> {
+    let patvals = [(b"ab".as_slice(), 0), (b"b", 1)];
+    let automaton = bytewise(rt.alloc(), MatchKind::Standard, &patvals)?;
+    expect(&rt, is_resumed(&automaton), "without overlaps");
+    expect(&rt, is_resumed_overlapping(&automaton), "all matches");
+    Ok(())
 }
 
 #[test]

@@ -1,9 +1,10 @@
 //! Automata written, by tables of bytes, and read back.
 
 use crate::automata::{
-    Bytewise, KINDS, bytewise, charwise, read_back, read_back_charwise, read_checked,
+    Bytewise, Charwise, KINDS, bytewise, charwise, read_back, read_back_charwise, read_checked,
     read_checked_charwise,
 };
+use crate::listing::is_cloned;
 use crate::{expect, hash_of};
 use daachorse::errors::DaachorseError;
 use daachorse::{DoubleArrayAhoCorasick, DoubleArrayAhoCorasickBuilder, MatchKind, Result};
@@ -118,22 +119,31 @@ pub fn words(alloc: Global, filtered: bool) -> Result<Bytewise<Global>> {
         .build(alloc, [b"aria".as_slice(), b"iris"])
 }
 
+/// How many bytes the two words take, with a filter or without.
+fn len_of_words(alloc: Global, use_prefilter: bool) -> Result<usize> {
+    Ok(words(alloc, use_prefilter)?.serialize(alloc)?.len())
+}
+
 #[test]
 fn elements_outputs_and_filter_take_their_bytes(rt: HostRuntime) -> Result<(), Fail> {
-    let plain = words(rt.alloc(), false)?.serialize(rt.alloc())?;
-    expect(&rt, plain.len() == 3118, "without a filter");
-    let filtered = words(rt.alloc(), true)?.serialize(rt.alloc())?;
-    expect(&rt, filtered.len() == 68655, "with a filter");
+    let plain = len_of_words(rt.alloc(), false)?;
+    expect(&rt, plain == 3118, "without a filter");
+    let filtered = len_of_words(rt.alloc(), true)?;
+    expect(&rt, filtered == 68655, "with a filter");
     Ok(())
+}
+
+/// Whether two automata differ, and their hashes do.
+fn are_apart(one: &Bytewise<Global>, other: &Bytewise<Global>) -> bool {
+    one != other && hash_of(one) != hash_of(other)
 }
 
 #[test]
 fn equality_and_hash_look_at_the_filter(rt: HostRuntime) -> Result<(), Fail> {
     let plain = words(rt.alloc(), false)?;
     let filtered = words(rt.alloc(), true)?;
-    expect(&rt, plain != filtered, "equality");
-    expect(&rt, hash_of(&plain) != hash_of(&filtered), "hash");
-    expect(&rt, filtered.clone()? == filtered, "clone");
+    expect(&rt, are_apart(&plain, &filtered), "equality and hash");
+    expect(&rt, is_cloned(&filtered)?, "clone");
     Ok(())
 }
 
@@ -148,6 +158,15 @@ const FILTER_CHANGES: [(usize, u8, bool); 7] = [
     (3117, 2, false), // Whether there is a filter.
 ];
 
+/// Whether bytes are read as an automaton that is not this one.
+fn is_read_as_another(alloc: Global, bytes: &[u8], automaton: &Bytewise<Global>) -> Result<bool> {
+    match DoubleArrayAhoCorasick::<u32>::deserialize(alloc, bytes) {
+        Ok((read, _rest)) => Ok(read != *automaton),
+        Err(DaachorseError::InvalidAutomaton(_)) => Ok(false),
+        Err(error) => Err(error),
+    }
+}
+
 /// Whether the two words with a byte changed are read, with another filter.
 fn is_read_changed(alloc: Global, place: usize, value: u8) -> Result<bool> {
     let automaton = words(alloc, true)?;
@@ -155,11 +174,7 @@ fn is_read_changed(alloc: Global, place: usize, value: u8) -> Result<bool> {
     if let Some(byte) = bytes.get_mut(place) {
         *byte = value;
     }
-    match DoubleArrayAhoCorasick::<u32>::deserialize(alloc, &bytes) {
-        Ok((read, _rest)) => Ok(read != automaton),
-        Err(DaachorseError::InvalidAutomaton(_)) => Ok(false),
-        Err(error) => Err(error),
-    }
+    is_read_as_another(alloc, &bytes, &automaton)
 }
 
 #[test]
@@ -171,32 +186,57 @@ fn a_filter_is_read_where_it_passes_at_each_pattern(rt: HostRuntime) -> Result<(
     Ok(())
 }
 
+/// The same as [`is_read`] with values of a byte.
+fn is_small_read(alloc: Global, automaton: &DoubleArrayAhoCorasick<u8>) -> Result<bool> {
+    let (read, is_left) = read_back(alloc, automaton)?;
+    Ok(read == *automaton && is_left)
+}
+
 #[test]
 fn values_of_a_byte_take_a_byte(rt: HostRuntime) -> Result<(), Fail> {
     let letters = [b"a".as_slice(), b"b", b"c"];
     let small = DoubleArrayAhoCorasick::<u8>::new(rt.alloc(), letters)?;
     expect(&rt, small.serialize(rt.alloc())?.len() == 3121, "the bytes");
-    let (read, is_left) = read_back(rt.alloc(), &small)?;
-    expect(&rt, read == small && is_left, "read back");
+    expect(&rt, is_small_read(rt.alloc(), &small)?, "read back");
     Ok(())
+}
+
+/// Whether an automaton over bytes equals what is read back of it, and nothing more is read.
+fn is_read(alloc: Global, automaton: &Bytewise<Global>) -> Result<bool> {
+    let (read, is_left) = read_back(alloc, automaton)?;
+    Ok(read == *automaton && is_left)
+}
+
+/// The same by the read that checks.
+fn is_read_checked(alloc: Global, automaton: &Bytewise<Global>) -> Result<bool> {
+    let (read, is_left) = read_checked(alloc, automaton)?;
+    Ok(read == *automaton && is_left)
 }
 
 /// Whether an automaton over bytes equals what either read gives back of it, and nothing more is read.
 fn is_read_back(alloc: Global, kind: MatchKind) -> Result<bool> {
     let patvals = [(b"aria".as_slice(), 0), (b"", 1), (b"iris", 2), (b"ar", 3)];
     let automaton = bytewise(alloc, kind, &patvals)?;
-    let (read, is_left) = read_back(alloc, &automaton)?;
-    let (checked, is_behind) = read_checked(alloc, &automaton)?;
-    Ok(read == automaton && is_left && checked == automaton && is_behind)
+    Ok(is_read(alloc, &automaton)? && is_read_checked(alloc, &automaton)?)
+}
+
+/// The same as [`is_read`] over characters.
+fn is_read_charwise(alloc: Global, automaton: &Charwise<Global>) -> Result<bool> {
+    let (read, is_left) = read_back_charwise(alloc, automaton)?;
+    Ok(read == *automaton && is_left)
+}
+
+/// The same as [`is_read_checked`] over characters.
+fn is_read_checked_charwise(alloc: Global, automaton: &Charwise<Global>) -> Result<bool> {
+    let (read, is_left) = read_checked_charwise(alloc, automaton)?;
+    Ok(read == *automaton && is_left)
 }
 
 /// Whether an automaton over characters equals what either read gives back of it, and nothing more is read.
 fn is_read_back_charwise(alloc: Global, kind: MatchKind) -> Result<bool> {
     let patvals = [("全世界", 0), ("世界", 1), ("", 2), ("に", 3)];
     let automaton = charwise(alloc, kind, &patvals)?;
-    let (read, is_left) = read_back_charwise(alloc, &automaton)?;
-    let (checked, is_behind) = read_checked_charwise(alloc, &automaton)?;
-    Ok(read == automaton && is_left && checked == automaton && is_behind)
+    Ok(is_read_charwise(alloc, &automaton)? && is_read_checked_charwise(alloc, &automaton)?)
 }
 
 #[test]
@@ -208,13 +248,23 @@ fn what_was_written_is_read_back(rt: HostRuntime) -> Result<(), Fail> {
     Ok(())
 }
 
+/// Whether an automaton is read back as it was before its depths were cached.
+fn is_read_without_depths(
+    alloc: Global,
+    automaton: &Bytewise<Global>,
+    before: &Bytewise<Global>,
+) -> Result<bool> {
+    let (read, _) = read_back(alloc, automaton)?;
+    Ok(read != *automaton && read == *before)
+}
+
 #[test]
 fn cached_depths_are_not_written(rt: HostRuntime) -> Result<(), Fail> {
     let patvals = [(b"ab".as_slice(), 0), (b"b", 1)];
     let before = bytewise(rt.alloc(), MatchKind::Standard, &patvals)?;
     let mut automaton = before.clone()?;
     automaton.cache_depths()?;
-    let (read, _) = read_back(rt.alloc(), &automaton)?;
-    expect(&rt, read != automaton && read == before, "no depths");
+    let is_read = is_read_without_depths(rt.alloc(), &automaton, &before)?;
+    expect(&rt, is_read, "no depths");
     Ok(())
 }

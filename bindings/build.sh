@@ -1,0 +1,89 @@
+#!/bin/sh
+# Builds the library for C, Python and Rust in this clone, and runs the examples and tests of each.
+#
+#     bindings/build.sh [--after-gate] [FOLDER]
+#
+# What is built lies in FOLDER, else in bindings/out: libdaachorse.so, the example in C, a test in C over the table
+# bindings/rows, which rows.py makes, and one that refuses each request for memory in turn.
+#
+# It needs the Rattle kit (its command rt), which first proves what was not proved yet, and a C compiler, CC or
+# cc, with a linker that has --wrap. Where there is no valgrind, no python3 or no cargo that runs, it says so and
+# leaves out what needs it. With --after-gate, which .ci/run gives right behind rt ci, it takes the libraries that the
+# gate proved, and ends well where there is no C compiler, and where the compiler warns.
+set -eu
+here=$(CDPATH= cd -- "$(dirname -- "$0")" && pwd)
+crate="$here/../crates/daachorse_c"
+after_gate=no warnings=-Werror
+if [ "${1:-}" = --after-gate ]; then
+    after_gate=yes warnings=
+    shift
+fi
+out=${1:-"$here/out"}
+compiler=${CC:-cc}
+command -v rt >/dev/null || { echo "build.sh: there is no rt, the command of the Rattle kit" >&2; exit 2; }
+kit=$(dirname -- "$(rt doc)")
+mkdir -p "$out"
+out=$(CDPATH= cd -- "$out" && pwd)
+
+printf '#include <stdlib.h>\nint main(void) { return 0; }\n' > "$out/trial.c"
+if ! { "$compiler" -o "$out/trial" "$out/trial.c" && "$out/trial"; } 2>/dev/null; then
+    echo "build.sh: there is no C compiler $compiler that makes a program, so no library for C was built"
+    [ "$after_gate" = yes ] && exit 0
+    exit 2
+fi
+
+status=3
+if [ "$after_gate" = yes ]; then
+    status=0
+    python3 "$here/over_gate.py" "$kit" "$(dirname -- "$here")" || status=$?
+fi
+if [ "$status" = 3 ]; then
+    status=0
+    (cd "$crate" && rt lib) || status=$?
+fi
+[ "$status" = 0 ] || { echo "build.sh: the library was not built" >&2; exit 1; }
+library="$crate/out/libdaachorse_c.a"
+# The kit's archive has the calls of malloc, realloc and free.
+heap="$kit/c/liblibc_c.a"
+"$compiler" -shared -o "$out/libdaachorse.so" -Wl,--whole-archive "$library" -Wl,--no-whole-archive "$heap"
+
+compile() {
+    name=$1
+    shift
+    "$compiler" -std=c11 -O2 -Wall -Wextra $warnings -I "$here/c" -o "$out/$name" "$here/c/$name.c" "$library" "$heap" "$@"
+}
+compile example
+compile rows
+compile refusals -Wl,--wrap=malloc,--wrap=realloc
+
+"$out/example" > "$out/example.stdout"
+diff "$here/c/example.stdout" "$out/example.stdout"
+echo "build.sh: the example in C wrote what it should"
+"$out/rows" < "$here/rows"
+echo "build.sh: in C each search wrote what its row says"
+"$out/refusals"
+echo "build.sh: each request for memory may be refused"
+
+if valgrind -q "$out/trial" >/dev/null 2>&1; then
+    for program in example rows refusals; do
+        valgrind -q --leak-check=full --show-leak-kinds=all --errors-for-leak-kinds=all --error-exitcode=1 "$out/$program" < "$here/rows" >/dev/null
+    done
+    echo "build.sh: valgrind found no bad access and no leak"
+else
+    echo "build.sh: there is no valgrind that runs, so nothing was run under it"
+fi
+
+if python3 -c 'import ctypes, unittest' 2>/dev/null; then
+    PYTHONDONTWRITEBYTECODE=1 python3 "$here/rows.py" | diff "$here/rows" -
+    DAACHORSE_LIBRARY="$out/libdaachorse.so" PYTHONPATH="$here/python" PYTHONDONTWRITEBYTECODE=1 python3 "$here/python/test_daachorse.py"
+    echo "build.sh: the tests in Python passed"
+else
+    echo "build.sh: there is no python3 with ctypes, so its tests were not run"
+fi
+
+if cargo --version >/dev/null 2>&1 && rustc --version >/dev/null 2>&1; then
+    (cd "$here/rust" && DAACHORSE_LIBRARY_FOLDER="$out" LD_LIBRARY_PATH="$out" CARGO_TARGET_DIR="$out/rust" cargo test --quiet --offline)
+    echo "build.sh: the tests in Rust passed"
+else
+    echo "build.sh: there is no cargo that runs, so the tests in Rust were not run"
+fi

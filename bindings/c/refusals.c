@@ -1,0 +1,80 @@
+/* Refuses each request for memory of a build, a write and a read in turn. Each is to be answered by
+ * DAACHORSE_OUT_OF_MEMORY, and to leave nothing behind. Link with -Wl,--wrap=malloc,--wrap=realloc. */
+#include "daachorse.h"
+
+#include <stdio.h>
+#include <stdlib.h>
+
+void *__real_malloc(size_t size);
+void *__real_realloc(void *block, size_t size);
+
+/* How many requests are still granted. */
+static size_t granted;
+
+static bool grants(void) {
+    if (granted == 0)
+        return false;
+    granted--;
+    return true;
+}
+
+void *__wrap_malloc(size_t size) {
+    return grants() ? __real_malloc(size) : NULL;
+}
+
+void *__wrap_realloc(void *block, size_t size) {
+    return grants() ? __real_realloc(block, size) : NULL;
+}
+
+static void need(bool holds, const char *what) {
+    if (!holds) {
+        fprintf(stderr, "not as it should be: %s\n", what);
+        exit(1);
+    }
+}
+
+static const uint8_t bytes[] = "ababcdbccd";
+static const size_t ends[] = {2, 6, 8, 10};
+static const uint32_t values[] = {0, 1, 2, 3};
+static uint8_t form[1 << 17];
+static size_t form_len;
+
+static uint32_t build(daachorse *handle) {
+    return daachorse_build(handle, DAACHORSE_STANDARD, true, bytes, 10, ends, 4, values, 4);
+}
+
+static uint32_t write_form(daachorse *handle) {
+    return daachorse_write(handle, form, sizeof form, &form_len);
+}
+
+static uint32_t read_form(daachorse *handle) {
+    size_t taken = 0;
+    return daachorse_read(handle, form, form_len, &taken);
+}
+
+/* Makes the call with 0, 1, 2 and so on requests granted, until it is done. */
+static void refuse_each(const char *name, uint32_t (*call)(daachorse *), daachorse *handle) {
+    size_t refused = 0;
+    for (;; refused++) {
+        granted = refused;
+        uint32_t answer = call(handle);
+        if (answer == DAACHORSE_DONE)
+            break;
+        need(answer == DAACHORSE_OUT_OF_MEMORY, name);
+    }
+    need(refused > 0, "no request was refused");
+    granted = (size_t)-1;
+    printf("%s: %zu refusals\n", name, refused);
+}
+
+int main(void) {
+    daachorse handle = DAACHORSE_EMPTY, again = DAACHORSE_EMPTY;
+    bool found = false;
+    refuse_each("build", build, &handle);
+    refuse_each("write", write_form, &handle);
+    refuse_each("read", read_form, &again);
+    need(daachorse_is_match(&again, (const uint8_t *)"xcdx", 4, &found) == DAACHORSE_DONE && found, "is_match");
+    daachorse_free(&handle);
+    daachorse_free(&again);
+    return 0;
+}

@@ -1,0 +1,240 @@
+"""Many patterns searched at once in bytes, by the proved library.
+
+    with Automaton([b"ab", b"abcd", b"bc", b"cd"]) as automaton:
+        for match in automaton.find_overlapping(b"abcd"):
+            print(match.start, match.end, match.value)
+
+The shared library is that of the environment variable DAACHORSE_LIBRARY, else libdaachorse.so beside this file.
+"""
+
+import collections
+import ctypes
+import enum
+import itertools
+import os
+import threading
+
+Match = collections.namedtuple("Match", "start end value")
+Match.__doc__ = "A match: the haystack has a pattern with this value from start to end, in bytes."
+
+
+class Kind(enum.IntEnum):
+    """The kinds of automata: which searches they are for."""
+
+    STANDARD = 0
+    LEFTMOST_LONGEST = 1
+    LEFTMOST_FIRST = 2
+
+
+class Refusal(enum.IntEnum):
+    """Why the library refused a call."""
+
+    OUT_OF_MEMORY = 1
+    EMPTY_HANDLE = 2
+    UNKNOWN_KIND = 3
+    WRONG_KIND = 4
+    WRONG_PATTERNS = 5
+    PATTERN_TOO_LONG = 6
+    TOO_MANY_STATES = 7
+    TOO_MANY_PATTERNS = 8
+    TOO_MANY_ELEMENTS = 9
+    INVALID_AUTOMATON = 10
+    NO_ROOM = 11
+    NO_STREAM = 12
+    STREAM_TOO_LONG = 13
+
+
+class Refused(ValueError):
+    """The library refused a call, for want of memory aside, which raises MemoryError."""
+
+    def __init__(self, refusal):
+        super().__init__(refusal.name.lower().replace("_", " "))
+        self.refusal = refusal
+
+
+class _Handle(ctypes.Structure):
+    _fields_ = [("opaque", ctypes.c_void_p)]
+
+
+class _Match(ctypes.Structure):
+    _fields_ = [("start", ctypes.c_size_t), ("end", ctypes.c_size_t), ("value", ctypes.c_uint32)]
+
+
+_IN_HANDLE = ctypes.POINTER(_Handle)
+_BYTES = [ctypes.c_char_p, ctypes.c_size_t]
+_SIZE = ctypes.POINTER(ctypes.c_size_t)
+_SEARCH = [_IN_HANDLE, *_BYTES, ctypes.POINTER(_Match), ctypes.c_size_t, _SIZE]
+_PATTERNS = [*_BYTES, _SIZE, ctypes.c_size_t, ctypes.POINTER(ctypes.c_uint32), ctypes.c_size_t]
+_EXPORTS = {
+    "daachorse_build": [_IN_HANDLE, ctypes.c_uint32, ctypes.c_bool, *_PATTERNS],
+    "daachorse_find": _SEARCH,
+    "daachorse_find_overlapping": _SEARCH,
+    "daachorse_find_overlapping_no_suffix": _SEARCH,
+    "daachorse_leftmost_find": _SEARCH,
+    "daachorse_is_match": [_IN_HANDLE, *_BYTES, ctypes.POINTER(ctypes.c_bool)],
+    "daachorse_begin": [_IN_HANDLE, ctypes.c_bool],
+    "daachorse_consume": [_IN_HANDLE, *_BYTES, ctypes.POINTER(_Match), ctypes.c_size_t, _SIZE, _SIZE],
+    "daachorse_write": [_IN_HANDLE, ctypes.POINTER(ctypes.c_uint8), ctypes.c_size_t, _SIZE],
+    "daachorse_read": [_IN_HANDLE, *_BYTES, _SIZE],
+    "daachorse_free": [_IN_HANDLE],
+}
+
+
+def _load():
+    beside = os.path.join(os.path.dirname(os.path.abspath(__file__)), "libdaachorse.so")
+    library = ctypes.CDLL(os.environ.get("DAACHORSE_LIBRARY", beside))
+    for name, parameters in _EXPORTS.items():
+        export = getattr(library, name)
+        export.argtypes = parameters
+        export.restype = None if name == "daachorse_free" else ctypes.c_uint32
+    return library
+
+
+_library = _load()
+
+
+def _need_done(answer):
+    if answer == Refusal.OUT_OF_MEMORY:
+        raise MemoryError
+    if answer != 0:
+        raise Refused(Refusal(answer))
+
+
+class Automaton:
+    """An automaton over bytes.
+
+    Pattern i, counted from 0, has the value values[i], a number below 2 ** 32, or i where no values are given.
+    It may be used by several threads; its calls then wait for one another. Raises Refused where the library
+    refuses the patterns.
+    """
+
+    def __init__(self, patterns, values=None, kind=Kind.STANDARD, use_prefilter=True):
+        patterns = [bytes(pattern) for pattern in patterns]
+        values = list(range(len(patterns)) if values is None else values)
+        if any(not 0 <= value < 2**32 for value in values):
+            raise ValueError("a value is not below 2 ** 32")
+        ends = list(itertools.accumulate(map(len, patterns)))
+        joined = b"".join(patterns)
+        self._begin()
+        self._call(
+            _library.daachorse_build,
+            kind,
+            use_prefilter,
+            joined,
+            len(joined),
+            (ctypes.c_size_t * len(ends))(*ends),
+            len(ends),
+            (ctypes.c_uint32 * len(values))(*values),
+            len(values),
+        )
+
+    @classmethod
+    def read(cls, written):
+        """Reads an automaton from the beginning of bytes, whoever wrote them, and returns it with what is left."""
+        automaton = cls.__new__(cls)
+        automaton._begin()
+        taken = ctypes.c_size_t()
+        automaton._call(_library.daachorse_read, written, len(written), taken)
+        return automaton, written[taken.value :]
+
+    def write(self):
+        """Returns the bytes from which `read` makes the automaton again."""
+        with self._lock:
+            room = (ctypes.c_uint8 * 0)()
+            size = ctypes.c_size_t()
+            answer = _library.daachorse_write(self._handle, room, 0, size)
+            if answer == Refusal.NO_ROOM:
+                room = (ctypes.c_uint8 * size.value)()
+                answer = _library.daachorse_write(self._handle, room, size.value, size)
+            _need_done(answer)
+            return bytes(room)
+
+    def find(self, haystack):
+        """Yields matches that do not overlap, each as early as it can end."""
+        return self._search(_library.daachorse_find, haystack)
+
+    def find_overlapping(self, haystack):
+        """Yields every match."""
+        return self._search(_library.daachorse_find_overlapping, haystack)
+
+    def find_overlapping_no_suffix(self, haystack):
+        """Yields the longest match at each end."""
+        return self._search(_library.daachorse_find_overlapping_no_suffix, haystack)
+
+    def leftmost_find(self, haystack):
+        """Yields matches that do not overlap, each as early as it can start, for the leftmost kinds."""
+        return self._search(_library.daachorse_leftmost_find, haystack)
+
+    def is_match(self, haystack):
+        """Returns whether some pattern occurs."""
+        found = ctypes.c_bool()
+        self._call(_library.daachorse_is_match, haystack, len(haystack), found)
+        return found.value
+
+    def stream(self, overlapping=False):
+        """Begins a haystack that comes in pieces, and ends the one before it: for all matches, or for those of `find`."""
+        return Stream(self, overlapping)
+
+    def close(self):
+        """Gives back the memory. A call after it raises Refused."""
+        with self._lock:
+            _library.daachorse_free(self._handle)
+
+    def __enter__(self):
+        return self
+
+    def __exit__(self, *_raised):
+        self.close()
+
+    def __del__(self):
+        if hasattr(self, "_handle"):
+            self.close()
+
+    def _begin(self):
+        self._lock = threading.Lock()
+        self._handle = _Handle()
+        self._stream = None
+
+    def _call(self, export, *arguments):
+        with self._lock:
+            _need_done(export(self._handle, *arguments))
+
+    def _search(self, export, haystack):
+        """Searches until there is room for all matches: at first with little, and then with what is likely to be enough."""
+        room = 64
+        while True:
+            found = (_Match * room)()
+            written = ctypes.c_size_t()
+            self._call(export, haystack, len(haystack), found, room, written)
+            if written.value < room:
+                return (Match(match.start, match.end, match.value) for match in itertools.islice(found, written.value))
+            # A quarter more than where the matches go on as thick as so far.
+            thick = room * len(haystack) * 5 // (max(found[room - 1].end, 1) * 4)
+            room = min(max(thick, 2 * room), max(64 * room, 1 << 16))
+
+
+class Stream:
+    """A haystack that comes in pieces. An automaton has one at a time."""
+
+    def __init__(self, automaton, overlapping):
+        self._automaton = automaton
+        with automaton._lock:
+            _need_done(_library.daachorse_begin(automaton._handle, overlapping))
+            automaton._stream = self
+
+    def feed(self, piece):
+        """Yields the matches that end in the next piece, and with the first piece the empty ones in front of it.
+
+        Places count from the beginning of the stream. Raises Refused where the automaton began another stream since.
+        """
+        automaton = self._automaton
+        piece, matches, room = bytes(piece), [], (_Match * 64)()
+        taken, written = ctypes.c_size_t(), ctypes.c_size_t(len(room))
+        with automaton._lock:
+            if automaton._stream is not self:
+                raise Refused(Refusal.NO_STREAM)
+            while written.value == len(room):
+                _need_done(_library.daachorse_consume(automaton._handle, piece, len(piece), room, len(room), taken, written))
+                piece = piece[taken.value :]
+                matches += (Match(found.start, found.end, found.value) for found in itertools.islice(room, written.value))
+        return iter(matches)

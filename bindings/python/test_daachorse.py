@@ -1,0 +1,122 @@
+"""Tests of the module, by hand and over the table bindings/rows."""
+
+import os
+import threading
+import unittest
+
+from daachorse import Automaton, Kind, Refusal, Refused
+
+PATTERNS = [b"ab", b"abcd", b"bc", b"cd"]
+
+# What each search finds of the patterns in a haystack: name, kind, patterns, haystack, matches.
+ROWS = [
+    ("find", Kind.STANDARD, PATTERNS, b"abcd", [(0, 2, 0), (2, 4, 3)]),
+    ("find_overlapping", Kind.STANDARD, PATTERNS, b"abcd", [(0, 2, 0), (1, 3, 2), (0, 4, 1), (2, 4, 3)]),
+    ("find_overlapping_no_suffix", Kind.STANDARD, PATTERNS, b"abcd", [(0, 2, 0), (1, 3, 2), (0, 4, 1)]),
+    ("leftmost_find", Kind.LEFTMOST_LONGEST, PATTERNS, b"abcd", [(0, 4, 1)]),
+    ("leftmost_find", Kind.LEFTMOST_FIRST, PATTERNS, b"abcd", [(0, 2, 0), (2, 4, 3)]),
+    ("find_overlapping", Kind.STANDARD, PATTERNS, b"", []),
+    ("find_overlapping", Kind.STANDARD, [], b"abcd", []),
+    ("find", Kind.STANDARD, [b""], b"ab", [(0, 0, 0), (1, 1, 0), (2, 2, 0)]),
+    ("find_overlapping", Kind.STANDARD, [b"\x00\xff", b"\xff"], b"a\x00\xff", [(1, 3, 0), (2, 3, 1)]),
+    ("find_overlapping", Kind.STANDARD, [b"a", b"a"], b"a", [(0, 1, 0), (0, 1, 1)]),
+]
+
+
+def table():
+    """Yields the rows of the table that C and Rust are tested by too, in the form of ROWS."""
+    text = lambda word: b"" if word == "-" else bytes.fromhex(word)
+    with open(os.path.join(os.path.dirname(os.path.abspath(__file__)), "..", "rows"), encoding="ascii") as rows:
+        for row in rows:
+            name, kind, patterns, haystack, count, *matches = row.split()
+            assert int(count) == len(matches)
+            patterns = [] if patterns == "none" else [text(word) for word in patterns.split(",")]
+            yield name, Kind(int(kind)), patterns, text(haystack), [tuple(map(int, it.split("-"))) for it in matches]
+
+
+class AutomatonTest(unittest.TestCase):
+    def test_rows(self):
+        for name, kind, patterns, haystack, matches in [*ROWS, *table()]:
+            for use_prefilter in (False, True):
+                with self.subTest(name=name, kind=kind, haystack=haystack, use_prefilter=use_prefilter):
+                    with Automaton(patterns, kind=kind, use_prefilter=use_prefilter) as automaton:
+                        self.assertEqual(list(getattr(automaton, name)(haystack)), matches)
+                        with Automaton.read(automaton.write())[0] as again:
+                            self.assertEqual(list(getattr(again, name)(haystack)), matches)
+
+    def test_rows_in_pieces(self):
+        for name, kind, patterns, haystack, matches in [*ROWS, *table()]:
+            if name not in ("find", "find_overlapping"):
+                continue
+            with Automaton(patterns, kind=kind) as automaton:
+                for size in (1, 2, 3):
+                    with self.subTest(name=name, patterns=patterns, haystack=haystack, size=size):
+                        stream = automaton.stream(overlapping=name == "find_overlapping")
+                        pieces = [haystack[at : at + size] for at in range(0, len(haystack), size)]
+                        self.assertEqual([match for piece in [*pieces, b""] for match in stream.feed(piece)], matches)
+
+    def test_stream(self):
+        with Automaton([b"a", b"aa"]) as automaton:
+            stream = automaton.stream(overlapping=True)
+            found = [match for _ in range(2) for match in stream.feed(b"a" * 500)]
+            self.assertEqual(found, list(automaton.find_overlapping(b"a" * 1000)))
+            another = automaton.stream()
+            self.refused(Refusal.NO_STREAM, lambda: stream.feed(b"a"))
+            self.assertEqual(list(another.feed(b"a")), [(0, 1, 0)])
+        self.refused(Refusal.EMPTY_HANDLE, lambda: another.feed(b"a"))
+        with Automaton(PATTERNS, kind=Kind.LEFTMOST_FIRST) as automaton:
+            self.refused(Refusal.WRONG_KIND, automaton.stream)
+
+    def test_values(self):
+        with Automaton(PATTERNS, values=[2**32 - 1, 5, 5, 0]) as automaton:
+            self.assertEqual([match.value for match in automaton.find_overlapping(b"abcd")], [2**32 - 1, 5, 5, 0])
+
+    def test_more_matches_than_room(self):
+        with Automaton([b"a", b"aa"]) as automaton:
+            found = list(automaton.find_overlapping(b"a" * 1000))
+            self.assertEqual(len(found), 1999)
+            self.assertEqual(found[-1], (999, 1000, 0))
+
+    def test_is_match(self):
+        with Automaton(PATTERNS) as automaton:
+            self.assertTrue(automaton.is_match(b"xcdx"))
+            self.assertFalse(automaton.is_match(b"acbd"))
+
+    def test_read_leaves_the_rest(self):
+        with Automaton(PATTERNS) as automaton:
+            again, rest = Automaton.read(automaton.write() + b"rest")
+            self.assertEqual(rest, b"rest")
+            again.close()
+
+    def test_refusals(self):
+        self.refused(Refusal.UNKNOWN_KIND, lambda: Automaton(PATTERNS, kind=3))
+        self.refused(Refusal.WRONG_PATTERNS, lambda: Automaton(PATTERNS, values=[0]))
+        self.refused(Refusal.INVALID_AUTOMATON, lambda: Automaton.read(b"no automaton"))
+        automaton = Automaton(PATTERNS)
+        self.refused(Refusal.WRONG_KIND, lambda: automaton.leftmost_find(b"abcd"))
+        written = automaton.write()
+        for end in range(len(written)):
+            if end < 50 or end % 97 == 0:
+                self.refused(Refusal.INVALID_AUTOMATON, lambda: Automaton.read(written[:end]))
+        automaton.close()
+        self.refused(Refusal.EMPTY_HANDLE, lambda: automaton.find(b"abcd"))
+
+    def test_threads(self):
+        with Automaton(PATTERNS) as automaton:
+            counts = []
+            search = lambda: counts.append(sum(1 for _ in range(200) for _ in automaton.find_overlapping(b"abcd")))
+            threads = [threading.Thread(target=search) for _ in range(4)]
+            for thread in threads:
+                thread.start()
+            for thread in threads:
+                thread.join()
+            self.assertEqual(counts, [800] * 4)
+
+    def refused(self, refusal, call):
+        with self.assertRaises(Refused) as raised:
+            call()
+        self.assertEqual(raised.exception.refusal, refusal)
+
+
+if __name__ == "__main__":
+    unittest.main()

@@ -1,0 +1,83 @@
+"""Prints the table `rows`, which the tests in C, Python and Rust read: what each search finds by its definition.
+
+A row is a search, the number of a kind, the patterns in hexadecimal with commas between them, the haystack, the number of
+matches, and each match as its start, its end and its value. "-" is the empty text, and "none" no patterns.
+"""
+
+PATTERNS = [
+    [b"ab", b"abcd", b"bc", b"cd"],
+    [],
+    [b""],
+    [b"a", b"a"],
+    [b"\x00\xff", b"\xff"],
+    [b"a", b"aa", b"aaa"],
+    [b"he", b"she", b"his", b"hers"],
+    [b"", b"b"],
+    [b"abcde", b"bcd", b"c"],
+]
+HAYSTACKS = [b"", b"abcd", b"aaaa", b"a\x00\xff", b"ushers", b"abcdabcd", b"xabcx"]
+
+
+def ending(patterns, haystack, end):
+    """Lists the matches that end there, the longest first."""
+    return [
+        (start, end, value)
+        for start in range(end + 1)
+        for value, pattern in enumerate(patterns)
+        if haystack[start:end] == pattern
+    ]
+
+
+def find_overlapping(patterns, haystack):
+    return [match for end in range(len(haystack) + 1) for match in ending(patterns, haystack, end)]
+
+
+def find_overlapping_no_suffix(patterns, haystack):
+    return [match for end in range(len(haystack) + 1) for match in ending(patterns, haystack, end)[:1]]
+
+
+def find(patterns, haystack):
+    if b"" in patterns:
+        return [(end, end, patterns.index(b"")) for end in range(len(haystack) + 1)]
+    found, behind = [], 0
+    for end in range(len(haystack) + 1):
+        matches = [match for match in ending(patterns, haystack, end) if match[0] >= behind]
+        if matches:
+            found.append(matches[0])
+            behind = end
+    return found
+
+
+def leftmost_find(patterns, haystack, is_first):
+    found, start, behind = [], 0, None
+    while start <= len(haystack):
+        here = [(value, it) for value, it in enumerate(patterns) if haystack.startswith(it, start)]
+        if not is_first:
+            here.sort(key=lambda it: -len(it[1]))
+        if here and (here[0][1] or behind != start):
+            behind = start + len(here[0][1])
+            found.append((start, behind, here[0][0]))
+        start = max(start + 1, start + len(here[0][1])) if here else start + 1
+    return found
+
+
+def text(it):
+    return it.hex() or "-"
+
+
+def main():
+    for patterns in PATTERNS:
+        for haystack in HAYSTACKS:
+            for name, kind, matches in [
+                ("find", 0, find(patterns, haystack)),
+                ("find_overlapping", 0, find_overlapping(patterns, haystack)),
+                ("find_overlapping_no_suffix", 0, find_overlapping_no_suffix(patterns, haystack)),
+                ("leftmost_find", 1, leftmost_find(patterns, haystack, False)),
+                ("leftmost_find", 2, leftmost_find(patterns, haystack, True)),
+            ]:
+                listed = ",".join(map(text, patterns)) if patterns else "none"
+                print(name, kind, listed, text(haystack), len(matches), *("%d-%d-%d" % it for it in matches))
+
+
+if __name__ == "__main__":
+    main()

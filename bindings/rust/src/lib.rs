@@ -1,0 +1,528 @@
+//! Many patterns searched at once in bytes, by the proved library for C.
+//!
+//! ```
+//! use daachorse_c::{Automaton, Kind};
+//!
+//! let patterns: [&[u8]; 4] = [b"ab", b"abcd", b"bc", b"cd"];
+//! let mut automaton = Automaton::new(Kind::Standard, true, patterns)?;
+//! let values: Vec<u32> = automaton.find_overlapping(b"abcd")?.map(|found| found.value).collect();
+//! assert_eq!(values, [0, 2, 1, 3]);
+//! # Ok::<(), daachorse_c::Refusal>(())
+//! ```
+
+use std::ffi::c_void;
+use std::fmt;
+use std::vec;
+
+/// A match: the haystack has a pattern with this value from `start` to `end`, in bytes.
+#[repr(C)]
+#[derive(Clone, Copy, Debug, PartialEq, Eq)]
+pub struct Match {
+    /// Where the match starts.
+    pub start: usize,
+    /// Where it ends: one past its last byte.
+    pub end: usize,
+    /// The value of its pattern.
+    pub value: u32,
+}
+
+/// The kinds of automata: which searches they are for.
+#[derive(Clone, Copy, Debug, PartialEq, Eq)]
+pub enum Kind {
+    /// All searches but [`Automaton::leftmost_find`].
+    Standard = 0,
+    /// [`Automaton::leftmost_find`], with the longest pattern at a start.
+    LeftmostLongest = 1,
+    /// [`Automaton::leftmost_find`], with the earliest pattern at a start.
+    LeftmostFirst = 2,
+}
+
+/// Why the library refused a call: the number that it answered, which the header `daachorse.h` names.
+#[derive(Clone, Copy, Debug, PartialEq, Eq)]
+pub struct Refusal(pub u32);
+
+impl Refusal {
+    /// An allocation failed.
+    pub const OUT_OF_MEMORY: Refusal = Refusal(1);
+    /// The search is not for automata of this kind.
+    pub const WRONG_KIND: Refusal = Refusal(4);
+    /// The bytes are not those of an automaton.
+    pub const INVALID_AUTOMATON: Refusal = Refusal(10);
+    const NO_ROOM: u32 = 11;
+}
+
+impl fmt::Display for Refusal {
+    fn fmt(&self, f: &mut fmt::Formatter<'_>) -> fmt::Result {
+        write!(f, "the library refused the call by the number {}", self.0)
+    }
+}
+
+impl std::error::Error for Refusal {}
+
+#[repr(C)]
+struct Handle {
+    opaque: *mut c_void,
+}
+
+type Search =
+    unsafe extern "C" fn(*mut Handle, *const u8, usize, *mut Match, usize, *mut usize) -> u32;
+
+extern "C" {
+    fn daachorse_build(
+        handle: *mut Handle,
+        kind: u32,
+        use_prefilter: bool,
+        bytes: *const u8,
+        bytes_len: usize,
+        ends: *const usize,
+        ends_len: usize,
+        values: *const u32,
+        values_len: usize,
+    ) -> u32;
+    fn daachorse_find(
+        handle: *mut Handle,
+        haystack: *const u8,
+        len: usize,
+        out: *mut Match,
+        room: usize,
+        written: *mut usize,
+    ) -> u32;
+    fn daachorse_find_overlapping(
+        handle: *mut Handle,
+        haystack: *const u8,
+        len: usize,
+        out: *mut Match,
+        room: usize,
+        written: *mut usize,
+    ) -> u32;
+    fn daachorse_find_overlapping_no_suffix(
+        handle: *mut Handle,
+        haystack: *const u8,
+        len: usize,
+        out: *mut Match,
+        room: usize,
+        written: *mut usize,
+    ) -> u32;
+    fn daachorse_leftmost_find(
+        handle: *mut Handle,
+        haystack: *const u8,
+        len: usize,
+        out: *mut Match,
+        room: usize,
+        written: *mut usize,
+    ) -> u32;
+    fn daachorse_is_match(
+        handle: *mut Handle,
+        haystack: *const u8,
+        len: usize,
+        found: *mut bool,
+    ) -> u32;
+    fn daachorse_begin(handle: *mut Handle, overlapping: bool) -> u32;
+    fn daachorse_consume(
+        handle: *mut Handle,
+        bytes: *const u8,
+        len: usize,
+        out: *mut Match,
+        room: usize,
+        taken: *mut usize,
+        written: *mut usize,
+    ) -> u32;
+    fn daachorse_write(handle: *mut Handle, out: *mut u8, room: usize, size: *mut usize) -> u32;
+    fn daachorse_read(handle: *mut Handle, bytes: *const u8, len: usize, taken: *mut usize) -> u32;
+    fn daachorse_free(handle: *mut Handle);
+}
+
+fn done(answer: u32) -> Result<(), Refusal> {
+    match answer {
+        0 => Ok(()),
+        number => Err(Refusal(number)),
+    }
+}
+
+/// An automaton over bytes, with a value of 32 bits for each pattern.
+pub struct Automaton {
+    handle: Handle,
+}
+
+// The library proves that a handle may go to another thread. Each call takes the automaton by a `&mut`.
+unsafe impl Send for Automaton {}
+
+impl Automaton {
+    /// Builds an automaton of these patterns. Pattern `i`, counted from 0, has the value `i`.
+    ///
+    /// # Errors
+    ///
+    /// The library refuses the patterns, or an allocation failed.
+    pub fn new<'p, P: IntoIterator<Item = &'p [u8]>>(
+        kind: Kind,
+        use_prefilter: bool,
+        patterns: P,
+    ) -> Result<Automaton, Refusal> {
+        Automaton::with_values(kind, use_prefilter, patterns.into_iter().zip(0..))
+    }
+
+    /// Builds an automaton of these patterns, each with its value.
+    ///
+    /// # Errors
+    ///
+    /// The library refuses the patterns, or an allocation failed.
+    pub fn with_values<'p, P: IntoIterator<Item = (&'p [u8], u32)>>(
+        kind: Kind,
+        use_prefilter: bool,
+        patvals: P,
+    ) -> Result<Automaton, Refusal> {
+        let (mut bytes, mut ends, mut values) = (Vec::new(), Vec::new(), Vec::new());
+        for (pattern, value) in patvals {
+            bytes.extend_from_slice(pattern);
+            ends.push(bytes.len());
+            values.push(value);
+        }
+        let mut automaton = Automaton::empty();
+        done(unsafe {
+            daachorse_build(
+                &mut automaton.handle,
+                kind as u32,
+                use_prefilter,
+                bytes.as_ptr(),
+                bytes.len(),
+                ends.as_ptr(),
+                ends.len(),
+                values.as_ptr(),
+                values.len(),
+            )
+        })?;
+        Ok(automaton)
+    }
+
+    /// Reads an automaton from the beginning of bytes, whoever wrote them, and returns it with what is left.
+    ///
+    /// # Errors
+    ///
+    /// The bytes begin with no automaton, or an allocation failed.
+    pub fn read(bytes: &[u8]) -> Result<(Automaton, &[u8]), Refusal> {
+        let mut automaton = Automaton::empty();
+        let mut taken = 0;
+        done(unsafe {
+            daachorse_read(
+                &mut automaton.handle,
+                bytes.as_ptr(),
+                bytes.len(),
+                &mut taken,
+            )
+        })?;
+        Ok((automaton, &bytes[taken..]))
+    }
+
+    /// Returns the bytes from which [`Automaton::read`] makes the automaton again.
+    ///
+    /// # Errors
+    ///
+    /// An allocation of the library failed.
+    pub fn write(&mut self) -> Result<Vec<u8>, Refusal> {
+        let mut out = Vec::new();
+        let mut size = 0;
+        loop {
+            let answer = unsafe {
+                daachorse_write(&mut self.handle, out.as_mut_ptr(), out.len(), &mut size)
+            };
+            if answer != Refusal::NO_ROOM {
+                return done(answer).map(|()| out);
+            }
+            out.resize(size, 0);
+        }
+    }
+
+    /// Finds matches that do not overlap, each as early as it can end.
+    ///
+    /// # Errors
+    ///
+    /// [`Refusal::WRONG_KIND`]: the automaton is not standard.
+    pub fn find(&mut self, haystack: &[u8]) -> Result<vec::IntoIter<Match>, Refusal> {
+        self.search(daachorse_find, haystack)
+    }
+
+    /// Finds every match.
+    ///
+    /// # Errors
+    ///
+    /// [`Refusal::WRONG_KIND`]: the automaton is not standard.
+    pub fn find_overlapping(&mut self, haystack: &[u8]) -> Result<vec::IntoIter<Match>, Refusal> {
+        self.search(daachorse_find_overlapping, haystack)
+    }
+
+    /// Finds the longest match at each end.
+    ///
+    /// # Errors
+    ///
+    /// [`Refusal::WRONG_KIND`]: the automaton is not standard.
+    pub fn find_overlapping_no_suffix(
+        &mut self,
+        haystack: &[u8],
+    ) -> Result<vec::IntoIter<Match>, Refusal> {
+        self.search(daachorse_find_overlapping_no_suffix, haystack)
+    }
+
+    /// Finds matches that do not overlap, each as early as it can start.
+    ///
+    /// # Errors
+    ///
+    /// [`Refusal::WRONG_KIND`]: the automaton is standard.
+    pub fn leftmost_find(&mut self, haystack: &[u8]) -> Result<vec::IntoIter<Match>, Refusal> {
+        self.search(daachorse_leftmost_find, haystack)
+    }
+
+    /// Returns whether some pattern occurs.
+    pub fn is_match(&mut self, haystack: &[u8]) -> bool {
+        let mut found = false;
+        // It is refused for an empty handle alone, and an automaton's is filled.
+        let _done = unsafe {
+            daachorse_is_match(
+                &mut self.handle,
+                haystack.as_ptr(),
+                haystack.len(),
+                &mut found,
+            )
+        };
+        found
+    }
+
+    /// Begins a haystack that comes in pieces, for all matches or for those of [`Automaton::find`].
+    ///
+    /// # Errors
+    ///
+    /// [`Refusal::WRONG_KIND`]: the automaton is not standard.
+    pub fn stream(&mut self, overlapping: bool) -> Result<Stream<'_>, Refusal> {
+        done(unsafe { daachorse_begin(&mut self.handle, overlapping) })?;
+        Ok(Stream { automaton: self })
+    }
+
+    fn empty() -> Automaton {
+        let handle = Handle {
+            opaque: std::ptr::null_mut(),
+        };
+        Automaton { handle }
+    }
+
+    /// Searches until there is room for all matches: at first with little room, and then with as much as is likely
+    /// to be enough.
+    fn search(&mut self, search: Search, haystack: &[u8]) -> Result<vec::IntoIter<Match>, Refusal> {
+        let mut found = vec![NO_MATCH; 64];
+        let mut written = 0;
+        loop {
+            done(unsafe {
+                search(
+                    &mut self.handle,
+                    haystack.as_ptr(),
+                    haystack.len(),
+                    found.as_mut_ptr(),
+                    found.len(),
+                    &mut written,
+                )
+            })?;
+            if written < found.len() {
+                found.truncate(written);
+                return Ok(found.into_iter());
+            }
+            let room = room_for(haystack.len(), &found);
+            found.resize(room, found[0]);
+        }
+    }
+}
+
+const NO_MATCH: Match = Match {
+    start: 0,
+    end: 0,
+    value: 0,
+};
+
+/// A haystack that comes in pieces. Places count from its beginning.
+pub struct Stream<'a> {
+    automaton: &'a mut Automaton,
+}
+
+impl Stream<'_> {
+    /// Gives the next piece, and returns the matches that end in it. The first call also returns the empty matches
+    /// at the beginning.
+    ///
+    /// # Errors
+    ///
+    /// There are no numbers for the places or the matches of so long a stream.
+    pub fn feed(&mut self, mut piece: &[u8]) -> Result<vec::IntoIter<Match>, Refusal> {
+        let mut matches = Vec::new();
+        let mut room = [NO_MATCH; 64];
+        loop {
+            let (mut taken, mut written) = (0, 0);
+            done(unsafe {
+                daachorse_consume(
+                    &mut self.automaton.handle,
+                    piece.as_ptr(),
+                    piece.len(),
+                    room.as_mut_ptr(),
+                    room.len(),
+                    &mut taken,
+                    &mut written,
+                )
+            })?;
+            piece = &piece[taken..];
+            matches.extend_from_slice(&room[..written]);
+            if written < room.len() {
+                return Ok(matches.into_iter());
+            }
+        }
+    }
+}
+
+/// How many matches a haystack may have, of which these are the first: a quarter more than where they go on as thick
+/// as so far, at least twice as many, and at most 65,536 or 64 times as many.
+fn room_for(haystack: usize, first: &[Match]) -> usize {
+    let count = first.len();
+    let read = first.last().map_or(0, |last| last.end).max(1);
+    let thick = count as u128 * haystack as u128 * 5 / (read as u128 * 4);
+    thick.clamp(2 * count as u128, (64 * count as u128).max(1 << 16)) as usize
+}
+
+impl Drop for Automaton {
+    fn drop(&mut self) {
+        unsafe { daachorse_free(&mut self.handle) };
+    }
+}
+
+#[cfg(test)]
+mod tests {
+    use super::*;
+
+    const PATTERNS: [&[u8]; 4] = [b"ab", b"abcd", b"bc", b"cd"];
+
+    fn triples(found: Result<vec::IntoIter<Match>, Refusal>) -> Vec<(usize, usize, u32)> {
+        found
+            .unwrap()
+            .map(|found| (found.start, found.end, found.value))
+            .collect()
+    }
+
+    #[test]
+    fn each_search_finds_its_matches() {
+        for use_prefilter in [false, true] {
+            let mut standard = Automaton::new(Kind::Standard, use_prefilter, PATTERNS).unwrap();
+            assert_eq!(triples(standard.find(b"abcd")), [(0, 2, 0), (2, 4, 3)]);
+            assert_eq!(
+                triples(standard.find_overlapping(b"abcd")),
+                [(0, 2, 0), (1, 3, 2), (0, 4, 1), (2, 4, 3)]
+            );
+            assert_eq!(
+                triples(standard.find_overlapping_no_suffix(b"abcd")),
+                [(0, 2, 0), (1, 3, 2), (0, 4, 1)]
+            );
+            let mut longest =
+                Automaton::new(Kind::LeftmostLongest, use_prefilter, PATTERNS).unwrap();
+            assert_eq!(triples(longest.leftmost_find(b"abcd")), [(0, 4, 1)]);
+            let mut first = Automaton::new(Kind::LeftmostFirst, use_prefilter, PATTERNS).unwrap();
+            assert_eq!(
+                triples(first.leftmost_find(b"abcd")),
+                [(0, 2, 0), (2, 4, 3)]
+            );
+        }
+    }
+
+    fn text(word: &str) -> Vec<u8> {
+        if word == "-" {
+            return Vec::new();
+        }
+        let digits = |at: usize| u8::from_str_radix(&word[at..at + 2], 16).unwrap();
+        (0..word.len()).step_by(2).map(digits).collect()
+    }
+
+    fn numbers(word: &str) -> (usize, usize, u32) {
+        let mut parts = word.split('-').map(|part| part.parse::<usize>().unwrap());
+        let mut next = || parts.next().unwrap();
+        (next(), next(), next() as u32)
+    }
+
+    /// Of the table `bindings/rows`, by which C and Python are tested too.
+    #[test]
+    fn each_row_is_found() {
+        for row in include_str!("../../rows").lines() {
+            let words: Vec<&str> = row.split(' ').collect();
+            let kind = [Kind::Standard, Kind::LeftmostLongest, Kind::LeftmostFirst]
+                [words[1].parse::<usize>().unwrap()];
+            let patterns: Vec<Vec<u8>> = match words[2] {
+                "none" => Vec::new(),
+                listed => listed.split(',').map(text).collect(),
+            };
+            let haystack = text(words[3]);
+            let wanted: Vec<_> = words[5..].iter().map(|word| numbers(word)).collect();
+            for use_prefilter in [false, true] {
+                let patterns = patterns.iter().map(Vec::as_slice);
+                let mut automaton = Automaton::new(kind, use_prefilter, patterns).unwrap();
+                let found = match words[0] {
+                    "find" => automaton.find(&haystack),
+                    "find_overlapping" => automaton.find_overlapping(&haystack),
+                    "find_overlapping_no_suffix" => automaton.find_overlapping_no_suffix(&haystack),
+                    _ => automaton.leftmost_find(&haystack),
+                };
+                assert_eq!(triples(found), wanted, "{row}");
+                if let "find" | "find_overlapping" = words[0] {
+                    let mut stream = automaton.stream(words[0] != "find").unwrap();
+                    let mut told = triples(stream.feed(b""));
+                    for piece in haystack.chunks(2) {
+                        told.extend(triples(stream.feed(piece)));
+                    }
+                    assert_eq!(told, wanted, "{row}");
+                }
+            }
+        }
+    }
+
+    #[test]
+    fn room_grows() {
+        let mut automaton = Automaton::with_values(Kind::Standard, true, [(&b"a"[..], 5)]).unwrap();
+        let found = triples(automaton.find_overlapping(&[b'a'; 1000]));
+        assert_eq!(found.len(), 1000);
+        assert_eq!(found[999], (999, 1000, 5));
+    }
+
+    #[test]
+    fn a_stream_tells_what_a_search_finds() {
+        let patterns: [&[u8]; 2] = [b"a", b"aa"];
+        let mut automaton = Automaton::new(Kind::Standard, true, patterns).unwrap();
+        let wanted = triples(automaton.find_overlapping(&[b'a'; 1000]));
+        let mut stream = automaton.stream(true).unwrap();
+        let mut told = triples(stream.feed(&[b'a'; 500]));
+        told.extend(triples(stream.feed(&[b'a'; 500])));
+        assert_eq!(told, wanted);
+        let mut first = Automaton::new(Kind::LeftmostFirst, true, patterns).unwrap();
+        assert_eq!(first.stream(true).map(|_| ()).err(), Some(Refusal::WRONG_KIND));
+    }
+
+    #[test]
+    fn what_was_written_is_read_back() {
+        let mut automaton = Automaton::new(Kind::Standard, true, PATTERNS).unwrap();
+        let mut written = automaton.write().unwrap();
+        assert_eq!(
+            Automaton::read(&written[1..]).err(),
+            Some(Refusal::INVALID_AUTOMATON)
+        );
+        written.extend_from_slice(b"rest");
+        let (mut again, rest) = Automaton::read(&written).unwrap();
+        assert_eq!(rest, b"rest");
+        assert!(again.is_match(b"xcdx"));
+        assert!(!again.is_match(b"acbd"));
+    }
+
+    #[test]
+    fn a_search_of_another_kind_is_refused() {
+        let mut automaton = Automaton::new(Kind::Standard, true, PATTERNS).unwrap();
+        assert_eq!(
+            automaton.leftmost_find(b"abcd").err(),
+            Some(Refusal::WRONG_KIND)
+        );
+    }
+
+    #[test]
+    fn an_automaton_goes_to_another_thread() {
+        let mut automaton = Automaton::new(Kind::Standard, true, PATTERNS).unwrap();
+        assert!(std::thread::spawn(move || automaton.is_match(b"abcd"))
+            .join()
+            .unwrap());
+    }
+}

@@ -1,0 +1,5 @@
+mod Crossing
+mod Registrations
+mod Telling
+mod Values
+mod Writing

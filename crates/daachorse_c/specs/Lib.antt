@@ -1,0 +1,10 @@
+pub mod Building
+pub mod Handle
+pub mod Held
+pub mod Patterns
+pub mod Refusals
+pub mod Searches
+pub mod Streaming
+pub mod Streams
+pub mod Writes
+pub mod Written

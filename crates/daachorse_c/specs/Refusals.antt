@@ -1,0 +1,43 @@
+-- The refusals of calls from C, and their numbers.
+use Rattle.std.specs.Prelude.{◌≡◌, ◌⊎◌, ℕ}
+use Rattle.daachorse_core.specs.declared.errors.DaachorseError.{DaachorseError}
+use Rattle.daachorse_core.specs.declared.errors.DaachorseError.TheVariants.{InvalidArgument, AutomatonScale, InvalidConversion, InvalidAutomaton as NoAutomaton, OutOfMemory as NoMemory}
+use Rattle.daachorse_core.specs.declared.errors.Limit.{Limit}
+use Rattle.daachorse_core.specs.declared.errors.Limit.TheVariants.{PatternValues, StateId, NumElements, Outputs, OutputPos}
+use Rattle.daachorse_c.specs.declared.refusal.Refusal.{Refusal}
+use Rattle.daachorse_c.specs.declared.refusal.Refusal.TheVariants.{OutOfMemory, EmptyHandle, UnknownKind, WrongKind, WrongPatterns, PatternTooLong, TooManyStates, TooManyPatterns, TooManyElements, InvalidAutomaton, NoRoom, NoStream, StreamTooLong}
+
+abbrev pub number_of : Refusal → ℕ
+number_of OutOfMemory = 1
+number_of EmptyHandle = 2
+number_of UnknownKind = 3
+number_of WrongKind = 4
+number_of WrongPatterns = 5
+number_of PatternTooLong = 6
+number_of TooManyStates = 7
+number_of TooManyPatterns = 8
+number_of TooManyElements = 9
+number_of InvalidAutomaton = 10
+number_of NoRoom = 11
+number_of NoStream = 12
+number_of StreamTooLong = 13
+
+-- a call answers 0, or the number of a refusal for which P holds
+abbrev pub IsDoneOr : (Refusal → Type 0) → ℕ → Type 0
+IsDoneOr P answer = (answer ≡ 0) ⊎ ((r : Refusal) × (answer ≡ number_of r) × P r)
+
+-- the refusal of a build that would pass a limit: there are as many outputs as patterns
+abbrev pub limit_refusal : Limit → Refusal
+limit_refusal PatternValues = TooManyPatterns
+limit_refusal StateId = TooManyStates
+limit_refusal NumElements = TooManyElements
+limit_refusal Outputs = TooManyPatterns
+limit_refusal OutputPos = TooManyPatterns
+
+-- the refusal that an error of the library is
+abbrev pub refusal_of : DaachorseError → Refusal
+refusal_of (InvalidArgument _) = PatternTooLong
+refusal_of (AutomatonScale e) = limit_refusal e.limit
+refusal_of (InvalidConversion _) = InvalidAutomaton
+refusal_of (NoAutomaton _) = InvalidAutomaton
+refusal_of (NoMemory _) = OutOfMemory

@@ -1,0 +1,46 @@
+-- What each search finds, for which automata it is, and why it is refused.
+use Rattle.std.specs.Prelude.{◌≡◌, ◌≢◌, ◌⊎◌, ℕ, List, Option, IsNone, IsSomeAnd}
+use Rattle.daachorse_model.specs.declared.Match.{Match}
+use Rattle.daachorse_model.specs.declared.MatchKind.{MatchKind}
+use Rattle.daachorse_model.specs.declared.MatchKind.TheVariants.{Standard}
+use Rattle.daachorse_model.specs.Dictionary.{Dictionary}
+use Rattle.daachorse_model.specs.Leftmost.{leftmost}
+use Rattle.daachorse_model.specs.Matches.{no_suffix, overlapping, standard}
+use Rattle.daachorse_model.specs.Units.{byte_width}
+use Rattle.daachorse_bytewise.specs.Automata.{dictionary_of, kind_of}
+use Rattle.daachorse_c.specs.declared.found.CMatch.{CMatch}
+use Rattle.daachorse_c.specs.declared.refusal.Refusal.{Refusal}
+use Rattle.daachorse_c.specs.declared.refusal.Refusal.TheVariants.{EmptyHandle, WrongKind}
+use Rattle.daachorse_c.specs.declared.search.Search.{Search}
+use Rattle.daachorse_c.specs.declared.search.Search.TheVariants.{Find, Overlapping, NoSuffix, Leftmost}
+use Rattle.daachorse_c.specs.Held.{Held}
+use Rattle.daachorse_c.specs.Refusals.{IsDoneOr}
+use Rattle.daachorse_c.specs.Writes.{Writes}
+
+-- the matches of a search in a haystack, for a dictionary K
+abbrev pub found_by : Search → Dictionary ℕ → List ℕ → List (Match ℕ)
+found_by Find K haystack = standard byte_width K haystack
+found_by Overlapping K haystack = overlapping byte_width K haystack
+found_by NoSuffix K haystack = no_suffix byte_width K haystack
+found_by Leftmost K haystack = leftmost byte_width K haystack
+
+abbrev pub IsFor : Search → MatchKind → Type 0
+IsFor Find kind = kind ≡ Standard
+IsFor Overlapping kind = kind ≡ Standard
+IsFor NoSuffix kind = kind ≡ Standard
+IsFor Leftmost kind = kind ≢ Standard
+
+-- why a call is refused that asks for an automaton of any kind
+abbrev pub IsUseCause : Option Held → Refusal → Type 0
+IsUseCause held r = (r ≡ EmptyHandle) × IsNone held
+
+-- why a search is refused
+abbrev pub IsSearchCause : Search → Option Held → Refusal → Type 0
+IsSearchCause search held r = IsUseCause held r ⊎ ((r ≡ WrongKind) × IsSomeAnd held (λ a. IsFor search (kind_of a.searches) → ⊥))
+
+-- What a search from C does: it leaves the handle as it was, and writes the first of its matches, or says why it is refused and writes none.
+pub record IsSearchOf (search : Search) (haystack : List ℕ) (old new : Option Held) (out_old out_new : List CMatch) (written answer : ℕ) : Type 0 where
+  pub kept : new ≡ old
+  pub found : answer ≡ 0 → IsSomeAnd old (λ a. Writes (found_by search (dictionary_of a.searches) haystack) out_old out_new written)
+  pub refused : IsDoneOr (IsSearchCause search old) answer
+  pub unwritten : answer ≢ 0 → (out_new ≡ out_old) × (written ≡ 0)

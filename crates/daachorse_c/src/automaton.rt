@@ -1,0 +1,166 @@
+//! What a handle keeps, and what the calls of C ask of it.
+//!
+//! The layers above may rely on the first matches of a search, as many as there is room for, on whether a
+//! pattern occurs, on the written form, where there is room for it, and on a stream telling its next matches.
+
+ghost use Rattle.std.specs.Prelude.{◌≡◌, ◌≢◌, ◌↔◌, [], None, IfErr, IfOk, IsTrue, OnErr, OnOk, length};
+ghost use Rattle.daachorse_model.specs.declared.MatchKind.TheVariants.{Standard};
+ghost use Rattle.daachorse_model.specs.Matches.{overlapping};
+ghost use Rattle.daachorse_model.specs.Units.{byte_width};
+ghost use Rattle.daachorse_bytewise.specs.Automata.{dictionary_of, kind_of};
+ghost use Rattle.daachorse_c.specs.declared.refusal.Refusal.TheVariants.{WrongKind};
+ghost use Rattle.daachorse_c.specs.Searches.{IsFor, found_by};
+ghost use Rattle.daachorse_c.specs.Streaming.{HasBegun, HasConsumed, IsIdleCause};
+ghost use Rattle.daachorse_c.specs.Writes.{Writes};
+ghost use Rattle.daachorse_c.specs.Written.{IsNotWritten, StandsInFront, form_of};
+
+use crate::found::{CMatch, fill};
+use crate::refusal::Refusal;
+use crate::room::copy_to_front;
+use crate::search::Search;
+use crate::stream::{Done, Stream};
+use daachorse::DoubleArrayAhoCorasick;
+use std::alloc::Global;
+use std::marker::Model;
+
+/// An automaton over bytes, with a value of 32 bits for each pattern, and a stream that it searches.
+#[derive(Drop)]
+pub struct Automaton {
+    // The automaton of the library.
+    searches: DoubleArrayAhoCorasick<u32, Global>,
+    // The stream, if one was begun.
+    stream: Option<Stream>,
+}
+
+impl Model for Automaton {
+    ghost use Rattle.std.specs.Prelude.{IfSome};
+    ghost use Rattle.daachorse_c.specs.Held.{Held};
+    ghost use Rattle.daachorse_c.specs.Streams.{GoesOnIn};
+
+    ghost Value = { Held };
+
+    ghost view = { λ a. record { searches = a.searches; stream = a.stream } };
+
+    ghost invariant = { λ a. IfSome a.stream (GoesOnIn a.searches) };
+}
+
+impl Automaton {
+    /// An automaton of the library, with no stream.
+    pub(crate) fn new(searches: DoubleArrayAhoCorasick<u32, Global>) -> Automaton
+        ensures searches { result.searches ≡ searches }
+        ensures stream { result.stream ≡ None }
+    {
+        Automaton {
+            searches,
+            stream: None,
+        }
+    }
+
+    /// Writes the first matches of a search, as many as there are and as there is room for, and
+    /// returns how many these are.
+    ///
+    /// # Errors
+    ///
+    /// The search is not for automata of this kind.
+    pub(crate) fn find(
+        &self,
+        search: Search,
+        haystack: &[u8],
+        out: &mut [CMatch],
+    ) -> Result<usize, Refusal>
+        ensures found { IfOk result (Writes (found_by search (dictionary_of self.now.searches) haystack.now) out.old out.new) }
+        ensures refused { IfErr result (λ r. (r ≡ WrongKind) × (IsFor search (kind_of self.now.searches) → ⊥)) }
+        ensures unwritten { IfErr result (λ _. out.new ≡ out.old) }
+    {
+        if !search.is_for(self.searches.match_kind()) {
+            return Err(Refusal::WrongKind);
+        }
+        Ok(find_in(&self.searches, search, haystack, out))
+    }
+
+    /// Returns whether some pattern occurs.
+    pub(crate) fn is_match(&self, haystack: &[u8]) -> bool
+        ensures { IsTrue result ↔ (overlapping byte_width (dictionary_of self.now.searches) haystack.now ≢ []) }
+    {
+        self.searches.is_match(haystack)
+    }
+
+    /// Writes the automaton to the beginning of `out`, and its length to `size`.
+    ///
+    /// # Errors
+    ///
+    /// An allocation failed, or there is too little room. Nothing is written to `out` then.
+    pub(crate) fn write(
+        &self,
+        alloc: Global,
+        out: &mut [u8],
+        size: &mut usize,
+    ) -> Result<(), Refusal>
+        ensures written { OnOk result (StandsInFront (form_of self.now.searches) out.old out.new) }
+        ensures size { OnOk result (size.new ≡ length (form_of self.now.searches)) }
+        ensures refused { IfErr result (IsNotWritten self.now.searches out.old size.new) }
+        ensures unwritten { OnErr result (out.new ≡ out.old) }
+    {
+        *size = 0;
+        let form = self.searches.serialize(alloc)?;
+        *size = form.len();
+        copy_to_front(&form, out)
+    }
+
+    /// Begins a stream, for all matches or for those that do not overlap. The one before it ends.
+    ///
+    /// # Errors
+    ///
+    /// The automaton is not standard. It is unchanged then.
+    pub(crate) fn begin(&mut self, overlapping: bool) -> Result<(), Refusal>
+        ensures begun { OnOk result (HasBegun overlapping self.old self.new) }
+        ensures refused { IfErr result (λ r. (r ≡ WrongKind) × (kind_of self.old.searches ≢ Standard)) }
+        ensures unchanged { OnErr result (self.new ≡ self.old) }
+    {
+        if !self.searches.match_kind().is_standard() {
+            return Err(Refusal::WrongKind);
+        }
+        self.stream = Some(Stream::new(&self.searches, overlapping));
+        Ok(())
+    }
+
+    /// Gives the stream more bytes, as far as there is room for its matches, and writes the next of these.
+    ///
+    /// # Errors
+    ///
+    /// There is no stream, or it is too long. Nothing changes then.
+    pub(crate) fn consume(&mut self, bytes: &[u8], out: &mut [CMatch]) -> Result<Done, Refusal>
+        ensures consumed { IfOk result (HasConsumed bytes.now self.old self.new out.old out.new) }
+        ensures refused { IfErr result (IsIdleCause self.old (length bytes.now) (length out.old)) }
+        ensures unchanged { OnErr result ((self.new ≡ self.old) × (out.new ≡ out.old)) }
+    {
+        let Some(stream) = self.stream.take() else {
+            return Err(Refusal::NoStream);
+        };
+        if !stream.can_count(&self.searches, bytes.len(), out.len()) {
+            self.stream = Some(stream);
+            return Err(Refusal::StreamTooLong);
+        }
+        let (stream, done) = stream.consume(&self.searches, bytes, out);
+        self.stream = Some(stream);
+        Ok(done)
+    }
+}
+
+/// Writes the first matches of a search that is for the automaton's kind.
+fn find_in(
+    searches: &DoubleArrayAhoCorasick<u32, Global>,
+    search: Search,
+    haystack: &[u8],
+    out: &mut [CMatch],
+) -> usize
+    requires { IsFor search (kind_of searches.now) }
+    ensures { Writes (found_by search (dictionary_of searches.now) haystack.now) out.old out.new result }
+{
+    match search {
+        Search::Find => fill(searches.find_iter(haystack), out),
+        Search::Overlapping => fill(searches.find_overlapping_iter(haystack), out),
+        Search::NoSuffix => fill(searches.find_overlapping_no_suffix_iter(haystack), out),
+        Search::Leftmost => fill(searches.leftmost_find_iter(haystack), out),
+    }
+}

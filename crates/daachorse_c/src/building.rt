@@ -1,0 +1,74 @@
+//! The build of an automaton of the patterns that C gives.
+//!
+//! The layers above may rely on an automaton that holds just these patterns, of the kind that was
+//! asked for, or on the cause of a refusal.
+
+ghost use Rattle.std.specs.Prelude.{◌≡◌, ◌≢◌, None, IfErr, IfOk, MatchResult, map};
+ghost use Rattle.daachorse_model.specs.declared.MatchKind.{MatchKind};
+ghost use Rattle.daachorse_model.specs.Dictionary.{registered};
+ghost use Rattle.daachorse_model.specs.Kinds.{byte_of_kind};
+ghost use Rattle.daachorse_bytewise.specs.Automata.{kind_of};
+ghost use Rattle.daachorse_bytewise.specs.Building.{HoldsPatterns, IsRefusalOf, kept_filter};
+ghost use Rattle.daachorse_c.specs.Building.{IsBuildCause, IsBuilt};
+ghost use Rattle.daachorse_c.specs.declared.refusal.Refusal.TheVariants.{UnknownKind};
+
+use crate::automaton::Automaton;
+use crate::patterns::patterns_in;
+use crate::refusal::Refusal;
+use daachorse::errors::DaachorseError;
+use daachorse::{DoubleArrayAhoCorasick, DoubleArrayAhoCorasickBuilder, MatchKind};
+use std::alloc::Global;
+
+/// Builds an automaton of the kind with this number, of the patterns in `bytes`.
+///
+/// # Errors
+///
+/// The kind is unknown, the patterns are not in the bytes, the library refuses them, or an
+/// allocation failed.
+pub(crate) fn build(
+    alloc: Global,
+    kind: u32,
+    use_prefilter: bool,
+    bytes: &[u8],
+    ends: &[usize],
+    values: &[u32],
+) -> Result<Box<Automaton, Global>, Refusal>
+    ensures built { IfOk result (λ b. IsBuilt kind bytes.now ends.now values.now use_prefilter b.value.searches) }
+    ensures stream { IfOk result (λ b. b.value.stream ≡ None) }
+    ensures refused { IfErr result (IsBuildCause kind bytes.now ends.now values.now) }
+{
+    let kind = kind_numbered(kind)?;
+    let patterns = patterns_in(alloc, bytes, ends, values)?;
+    let searches = build_of(alloc, kind, use_prefilter, &patterns)?;
+    Ok(Box::new(alloc, Automaton::new(searches))?)
+}
+
+/// The kind with this number.
+fn kind_numbered(kind: u32) -> Result<MatchKind, Refusal>
+    ensures { MatchResult result (λ k. byte_of_kind k ≡ kind) (λ r. (r ≡ UnknownKind) × ((k : MatchKind) → byte_of_kind k ≢ kind)) }
+{
+    match kind {
+        0 => Ok(MatchKind::Standard),
+        1 => Ok(MatchKind::LeftmostLongest),
+        2 => Ok(MatchKind::LeftmostFirst),
+        _ => Err(Refusal::UnknownKind),
+    }
+}
+
+/// An automaton of these patterns and values.
+fn build_of(
+    alloc: Global,
+    kind: MatchKind,
+    use_prefilter: bool,
+    patterns: &[(&[u8], u32)],
+) -> Result<DoubleArrayAhoCorasick<u32, Global>, DaachorseError>
+    ensures built { IfOk result (HoldsPatterns kind (registered patterns.now)) }
+    ensures kind { IfOk result (λ a. kind_of a ≡ kind) }
+    ensures filter { IfOk result (λ a. a.filter ≡ kept_filter use_prefilter (map (λ p. p.0.now) patterns.now)) }
+    ensures refused { IfErr result (IsRefusalOf kind (registered patterns.now)) }
+{
+    let builder = DoubleArrayAhoCorasickBuilder::new()
+        .match_kind(kind)
+        .use_prefilter(use_prefilter);
+    builder.build_with_values(alloc, patterns.iter().copied())
+}

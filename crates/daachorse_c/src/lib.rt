@@ -1,0 +1,339 @@
+//! Automata over bytes for C, and for what can call C.
+//!
+//! C keeps a [`Handle`](handle::Handle), which is empty at first, and passes its address.
+//! [`daachorse_build`] fills it, the searches use it, and [`daachorse_free`] empties it again. Each
+//! call answers 0, or the number of a [`Refusal`](refusal::Refusal). The header `bindings/c/daachorse.h` says
+//! what C has to keep to.
+#![tactic(auto)]
+
+ghost use Rattle.std.specs.Prelude.{◌≡◌, ◌≢◌, ◌↔◌, [], None, IsNone, IsSomeAnd, IsTrue, false, length};
+ghost use Rattle.daachorse_model.specs.Matches.{overlapping};
+ghost use Rattle.daachorse_model.specs.Units.{byte_width};
+ghost use Rattle.daachorse_bytewise.specs.Automata.{dictionary_of};
+ghost use Rattle.daachorse_c.specs.declared.search.Search.TheVariants.{Find, Leftmost, NoSuffix, Overlapping};
+ghost use Rattle.daachorse_c.specs.Building.{IsBuildCause, IsBuilt};
+ghost use Rattle.daachorse_c.specs.Refusals.{IsDoneOr};
+ghost use Rattle.daachorse_c.specs.Searches.{IsSearchOf, IsUseCause};
+ghost use Rattle.daachorse_c.specs.Streaming.{HasBegun, IsBeginCause, IsConsumption};
+ghost use Rattle.daachorse_c.specs.Written.{IsRead, IsReadCause, IsWriteCause, StandsInFront, form_of};
+
+use crate::building::build;
+use crate::found::CMatch;
+use crate::handle::Handle;
+use crate::reading::read;
+use crate::refusal::Refusal;
+use crate::search::Search;
+use std::alloc::Global;
+
+mod automaton;
+mod building;
+mod found;
+mod handle;
+mod loose;
+mod patterns;
+mod reading;
+mod refusal;
+mod room;
+mod search;
+mod stepper;
+mod stream;
+
+/// What a call answers that was not refused.
+const DONE: u32 = 0;
+
+/// Fills the handle with an automaton of the patterns that end in `bytes` at each of `ends`.
+///
+/// Each pattern begins where the one before it ends, and has the next of `values`. The kinds are 0
+/// standard, 1 leftmost longest and 2 leftmost first. What the handle had is freed.
+///
+/// # Errors
+///
+/// The numbers of [`Refusal::OutOfMemory`], `UnknownKind`, `WrongPatterns`, `PatternTooLong`,
+/// `TooManyStates`, `TooManyPatterns` and `TooManyElements`. The handle is then unchanged.
+#[unsafe(no_mangle)]
+pub extern "C" fn daachorse_build(
+    alloc: Global,
+    handle: &mut Handle,
+    kind: u32,
+    use_prefilter: bool,
+    bytes: &[u8],
+    ends: &[usize],
+    values: &[u32],
+) -> u32
+    ensures built { result ≡ 0 → IsSomeAnd handle.new.automaton (λ a. IsBuilt kind bytes.now ends.now values.now use_prefilter a.searches) }
+    ensures stream { result ≡ 0 → IsSomeAnd handle.new.automaton (λ a. a.stream ≡ None) }
+    ensures refused { IsDoneOr (IsBuildCause kind bytes.now ends.now values.now) result }
+    ensures unchanged { result ≢ 0 → handle.new.automaton ≡ handle.old.automaton }
+{
+    match build(alloc, kind, use_prefilter, bytes, ends, values) {
+        Ok(automaton) => {
+            handle.fill(alloc, automaton);
+            DONE
+        }
+        Err(refusal) => refusal.number(),
+    }
+}
+
+/// Finds matches that do not overlap, each of which ends as early as possible.
+///
+/// Writes the first of them to `out`, as many as there are and as there is room for, and how many
+/// these are to `written`. Where `out` is full there may be more.
+///
+/// # Errors
+///
+/// The numbers of [`Refusal::EmptyHandle`], and of `WrongKind` where the automaton is not standard.
+/// Nothing is written to `out` then, and 0 to `written`.
+#[unsafe(no_mangle)]
+pub extern "C" fn daachorse_find(
+    alloc: Global,
+    handle: &mut Handle,
+    haystack: &[u8],
+    out: &mut [CMatch],
+    written: &mut usize,
+) -> u32
+    ensures { IsSearchOf Find haystack.now handle.old.automaton handle.new.automaton out.old out.new written.new result }
+{
+    write_found(alloc, handle, Search::Find, haystack, out, written)
+}
+
+/// Finds every match, also those that overlap, as [`daachorse_find`] writes them.
+///
+/// # Errors
+///
+/// Those of [`daachorse_find`].
+#[unsafe(no_mangle)]
+pub extern "C" fn daachorse_find_overlapping(
+    alloc: Global,
+    handle: &mut Handle,
+    haystack: &[u8],
+    out: &mut [CMatch],
+    written: &mut usize,
+) -> u32
+    ensures { IsSearchOf Overlapping haystack.now handle.old.automaton handle.new.automaton out.old out.new written.new result }
+{
+    write_found(alloc, handle, Search::Overlapping, haystack, out, written)
+}
+
+/// Finds the longest match at each end, as [`daachorse_find`] writes them.
+///
+/// # Errors
+///
+/// Those of [`daachorse_find`].
+#[unsafe(no_mangle)]
+pub extern "C" fn daachorse_find_overlapping_no_suffix(
+    alloc: Global,
+    handle: &mut Handle,
+    haystack: &[u8],
+    out: &mut [CMatch],
+    written: &mut usize,
+) -> u32
+    ensures { IsSearchOf NoSuffix haystack.now handle.old.automaton handle.new.automaton out.old out.new written.new result }
+{
+    write_found(alloc, handle, Search::NoSuffix, haystack, out, written)
+}
+
+/// Finds matches that do not overlap, each of which starts as early as possible, as
+/// [`daachorse_find`] writes them.
+///
+/// # Errors
+///
+/// The numbers of [`Refusal::EmptyHandle`], and of `WrongKind` where the automaton is standard.
+/// Nothing is written to `out` then, and 0 to `written`.
+#[unsafe(no_mangle)]
+pub extern "C" fn daachorse_leftmost_find(
+    alloc: Global,
+    handle: &mut Handle,
+    haystack: &[u8],
+    out: &mut [CMatch],
+    written: &mut usize,
+) -> u32
+    ensures { IsSearchOf Leftmost haystack.now handle.old.automaton handle.new.automaton out.old out.new written.new result }
+{
+    write_found(alloc, handle, Search::Leftmost, haystack, out, written)
+}
+
+/// Writes to `found` whether some pattern occurs in the haystack.
+///
+/// # Errors
+///
+/// The number of [`Refusal::EmptyHandle`]. `found` is false then.
+#[unsafe(no_mangle)]
+pub extern "C" fn daachorse_is_match(
+    alloc: Global,
+    handle: &mut Handle,
+    haystack: &[u8],
+    found: &mut bool,
+) -> u32
+    ensures kept { handle.new.automaton ≡ handle.old.automaton }
+    ensures answered { result ≡ 0 → IsSomeAnd handle.old.automaton (λ a. IsTrue found.new ↔ (overlapping byte_width (dictionary_of a.searches) haystack.now ≢ [])) }
+    ensures refused { IsDoneOr (IsUseCause handle.old.automaton) result }
+    ensures unfound { result ≢ 0 → found.new ≡ false }
+{
+    *found = false;
+    let Some(automaton) = handle.take(alloc) else {
+        return Refusal::EmptyHandle.number();
+    };
+    *found = automaton.is_match(haystack);
+    handle.put(automaton);
+    DONE
+}
+
+/// Begins a stream, a haystack that comes in pieces: for all matches, or for those of [`daachorse_find`].
+///
+/// What was consumed and not told of a stream before it is forgotten.
+///
+/// # Errors
+///
+/// The numbers of [`Refusal::EmptyHandle`], and of `WrongKind` where the automaton is not standard.
+/// The handle is then unchanged.
+#[unsafe(no_mangle)]
+pub extern "C" fn daachorse_begin(alloc: Global, handle: &mut Handle, overlapping: bool) -> u32
+    ensures begun { result ≡ 0 → IsSomeAnd handle.old.automaton (λ a. IsSomeAnd handle.new.automaton (HasBegun overlapping a)) }
+    ensures refused { IsDoneOr (IsBeginCause handle.old.automaton) result }
+    ensures unchanged { result ≢ 0 → handle.new.automaton ≡ handle.old.automaton }
+{
+    let Some(mut automaton) = handle.take(alloc) else {
+        return Refusal::EmptyHandle.number();
+    };
+    let answer = automaton.begin(overlapping);
+    handle.put(automaton);
+    match answer {
+        Ok(()) => DONE,
+        Err(refusal) => refusal.number(),
+    }
+}
+
+/// Gives the stream the next bytes, and writes the next of its matches to `out`.
+///
+/// Writes to `taken` how many bytes were consumed, and to `written` how many matches were written. Unless
+/// `out` is full, all bytes were consumed and all matches in what came so far were told. Places count from
+/// the beginning of the stream.
+///
+/// # Errors
+///
+/// The numbers of [`Refusal::EmptyHandle`], of `NoStream`, and of `StreamTooLong` where the places or the
+/// matches would pass the numbers of 64 bits. Nothing changes then, and 0 is written to `taken` and `written`.
+#[unsafe(no_mangle)]
+pub extern "C" fn daachorse_consume(
+    alloc: Global,
+    handle: &mut Handle,
+    bytes: &[u8],
+    out: &mut [CMatch],
+    taken: &mut usize,
+    written: &mut usize,
+) -> u32
+    ensures { IsConsumption bytes.now handle.old.automaton handle.new.automaton out.old out.new taken.new written.new result }
+{
+    *taken = 0;
+    *written = 0;
+    let Some(mut automaton) = handle.take(alloc) else {
+        return Refusal::EmptyHandle.number();
+    };
+    let answer = automaton.consume(bytes, out);
+    handle.put(automaton);
+    match answer {
+        Ok(done) => {
+            *taken = done.taken;
+            *written = done.written;
+            DONE
+        }
+        Err(refusal) => refusal.number(),
+    }
+}
+
+/// Writes the automaton to the beginning of `out`, and to `size` how many bytes that takes.
+///
+/// [`daachorse_read`] reads it back. The bytes are those that the library's `serialize` gives.
+///
+/// # Errors
+///
+/// The numbers of [`Refusal::EmptyHandle`], of `NoRoom`, where `size` says how much room is needed, and of
+/// `OutOfMemory`. Nothing is written to `out` then.
+#[unsafe(no_mangle)]
+pub extern "C" fn daachorse_write(
+    alloc: Global,
+    handle: &mut Handle,
+    out: &mut [u8],
+    size: &mut usize,
+) -> u32
+    ensures kept { handle.new.automaton ≡ handle.old.automaton }
+    ensures written { result ≡ 0 → IsSomeAnd handle.old.automaton (λ a. StandsInFront (form_of a.searches) out.old out.new × (size.new ≡ length (form_of a.searches))) }
+    ensures refused { IsDoneOr (IsWriteCause handle.old.automaton out.old size.new) result }
+    ensures unwritten { result ≢ 0 → out.new ≡ out.old }
+{
+    *size = 0;
+    let Some(automaton) = handle.take(alloc) else {
+        return Refusal::EmptyHandle.number();
+    };
+    let answer = automaton.write(alloc, out, size);
+    handle.put(automaton);
+    match answer {
+        Ok(()) => DONE,
+        Err(refusal) => refusal.number(),
+    }
+}
+
+/// Fills the handle with the automaton that any bytes begin with, and writes to `taken` how many of them it takes.
+///
+/// What the handle had is freed.
+///
+/// # Errors
+///
+/// The numbers of [`Refusal::InvalidAutomaton`], where the bytes do not begin with an automaton, and of `OutOfMemory`.
+/// The handle is then unchanged.
+#[unsafe(no_mangle)]
+pub extern "C" fn daachorse_read(
+    alloc: Global,
+    handle: &mut Handle,
+    bytes: &[u8],
+    taken: &mut usize,
+) -> u32
+    ensures read { result ≡ 0 → IsSomeAnd handle.new.automaton (λ a. IsRead bytes.now a.searches taken.new) }
+    ensures stream { result ≡ 0 → IsSomeAnd handle.new.automaton (λ a. a.stream ≡ None) }
+    ensures refused { IsDoneOr (IsReadCause bytes.now) result }
+    ensures unchanged { result ≢ 0 → handle.new.automaton ≡ handle.old.automaton }
+{
+    *taken = 0;
+    match read(alloc, bytes) {
+        Ok((automaton, count)) => {
+            handle.fill(alloc, automaton);
+            *taken = count;
+            DONE
+        }
+        Err(refusal) => refusal.number(),
+    }
+}
+
+/// Frees what the handle has, if it has something. It is empty then.
+#[unsafe(no_mangle)]
+pub extern "C" fn daachorse_free(alloc: Global, handle: &mut Handle)
+    ensures { IsNone handle.new.automaton }
+{
+    let _automaton = handle.take(alloc);
+}
+
+/// Writes the first matches of a search, and how many these are.
+fn write_found(
+    alloc: Global,
+    handle: &mut Handle,
+    search: Search,
+    haystack: &[u8],
+    out: &mut [CMatch],
+    written: &mut usize,
+) -> u32
+    ensures { IsSearchOf search haystack.now handle.old.automaton handle.new.automaton out.old out.new written.new result }
+{
+    *written = 0;
+    let Some(automaton) = handle.take(alloc) else {
+        return Refusal::EmptyHandle.number();
+    };
+    let answer = automaton.find(search, haystack, out);
+    handle.put(automaton);
+    match answer {
+        Ok(count) => {
+            *written = count;
+            DONE
+        }
+        Err(refusal) => refusal.number(),
+    }
+}

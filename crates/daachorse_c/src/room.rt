@@ -1,0 +1,24 @@
+//! Bytes for C, where there is room for them.
+
+ghost use Rattle.std.specs.Prelude.{◌≡◌, ◌<◌, ◌≤◌, ◌++◌, IfErr, OnErr, OnOk, drop, length};
+ghost use Rattle.daachorse_c.specs.declared.refusal.Refusal.TheVariants.{NoRoom};
+
+use crate::refusal::Refusal;
+
+/// Copies the bytes to the beginning of `out`.
+///
+/// # Errors
+///
+/// They are longer than `out`. Nothing is copied then.
+pub(crate) fn copy_to_front(bytes: &[u8], out: &mut [u8]) -> Result<(), Refusal>
+    ensures copied { OnOk result (out.new ≡ bytes.now ++ drop (length bytes.now) out.old) }
+    ensures fits { OnOk result (length bytes.now ≤ length out.old) }
+    ensures refused { IfErr result (λ r. (r ≡ NoRoom) × (length out.old < length bytes.now)) }
+    ensures unwritten { OnErr result (out.new ≡ out.old) }
+{
+    if out.len() < bytes.len() {
+        return Err(Refusal::NoRoom);
+    }
+    out[..bytes.len()].copy_from_slice(bytes);
+    Ok(())
+}

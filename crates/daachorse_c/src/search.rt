@@ -1,0 +1,33 @@
+//! The searches, and for which automata each is.
+//!
+//! The layers above may rely on the answer whether a search is for automata of a kind.
+
+ghost use Rattle.std.specs.Prelude.{◌↔◌, IsTrue};
+ghost use Rattle.daachorse_c.specs.Searches.{IsFor};
+
+use daachorse::MatchKind;
+
+/// A search in a haystack.
+#[derive(Clone, Copy, PartialEq, Eq)]
+pub enum Search {
+    /// Matches that do not overlap, each as early as it can end.
+    Find,
+    /// Every match.
+    Overlapping,
+    /// The longest match at each end.
+    NoSuffix,
+    /// Matches that do not overlap, each as early as it can start.
+    Leftmost,
+}
+
+impl Search {
+    /// Whether the search is for automata of this kind.
+    pub(crate) fn is_for(self, kind: MatchKind) -> bool
+        ensures { IsTrue result ↔ IsFor self kind }
+    {
+        match self {
+            Search::Find | Search::Overlapping | Search::NoSuffix => kind.is_standard(),
+            Search::Leftmost => kind.is_leftmost(),
+        }
+    }
+}

@@ -13,4 +13,5 @@ pub mod ChainedLaws
 pub mod CheckedLaws
 pub mod FilterLaws
 pub mod KeyLaws
+pub mod FoldedKeys
 pub mod FoldedLaws

@@ -1,17 +1,17 @@
--- What the forms of both automata end with: the outputs as a list, the kind, the number of states, and the filter, if there is one.
+-- What the forms of both automata end with: the outputs as a list, how it searches, the number of states, and the filter, if there is one.
 use Rattle.std.specs.Prelude.{ℕ, ◌+◌, ◌*◌, ◌<◌, ◌≤◌, ◌^◌, List, ◌++◌, length, All, Option, IfSome}
 use Rattle.std.specs.Int.{w32}
 use Rattle.std.proofs.Common.{arith}
 use Rattle.daachorse_core.specs.declared.outputs.Output.{Output}
-use Rattle.daachorse_model.specs.declared.MatchKind.{MatchKind}
+use Rattle.daachorse_serializer.specs.declared.mode.Mode.{Mode}
 use Rattle.daachorse_serializer.specs.Forms.{Taken, IsForm, take_pair, number_form, take_number, option_form, option_most, take_option, list_form, take_list}
-use Rattle.daachorse_serializer.specs.Kinds.{kind_form, take_kind}
-use Rattle.daachorse_serializer.specs.Laws.{kind_law, list_law, number_law, option_vec_law, output_law, pair_law}
+use Rattle.daachorse_serializer.specs.Laws.{list_law, mode_law, number_law, option_vec_law, output_law, pair_law}
+use Rattle.daachorse_serializer.specs.Modes.{mode_form, take_mode}
 use Rattle.daachorse_serializer.specs.Outputs.{IsOutput, output_form, take_output}
 
--- the outputs, the kind, the number of states, and the filter
+-- the outputs, how the automaton searches, the number of states, and the filter
 abbrev pub Ending : Type 0 → Type 0 → Type 0
-Ending V F = List (Output V) × (MatchKind × (ℕ × Option F))
+Ending V F = List (Output V) × (Mode × (ℕ × Option F))
 
 -- a number of 32 bits counts the outputs, and the filter may be written
 abbrev pub CanWriteEnding : {V F : Type 0} → (F → Type 0) → Ending V F → Type 0
@@ -24,11 +24,11 @@ IsEnding is_value is_filter e = All (IsOutput is_value) e.0 × (e.1.1.0 < 2 ^ 32
 module _ {V F : Type 0} where
   abbrev pub ending_form : (V → List ℕ) → (F → List ℕ) → Ending V F → List ℕ
   ending_form value filter e =
-      list_form (output_form value) e.0 ++ (kind_form e.1.0 ++ (number_form w32 e.1.1.0 ++ option_form filter e.1.1.1))
+      list_form (output_form value) e.0 ++ (mode_form e.1.0 ++ (number_form w32 e.1.1.0 ++ option_form filter e.1.1.1))
 
   abbrev pub take_ending : (List ℕ → Taken V) → (List ℕ → Taken F) → List ℕ → Taken (Ending V F)
   take_ending value filter =
-      take_pair (take_list (take_output value)) (take_pair take_kind (take_pair (take_number w32) (take_option filter)))
+      take_pair (take_list (take_output value)) (take_pair take_mode (take_pair (take_number w32) (take_option filter)))
 
   -- how long the form with these outputs and this filter is at most, where a value takes at most n bytes
   abbrev pub ending_most : ℕ → (F → ℕ) → List (Output V) → Option F → ℕ
@@ -51,4 +51,4 @@ pub ending_law : {V F : Type 0} {P : V → Type 0} {value : V → List ℕ} {tak
     (λ e. ending_most n most e.0 e.1.1.1)
 ending_law {n = n} {most = most} value_law filter_law =
     law_for (λ e. ending_most n most e.0 e.1.1.1) (λ e h. ((h.0.0, h.1.0), (tt, (h.1.1, (h.0.1, h.1.2))))) (λ e. omega arith)
-    (pair_law (list_law (output_law value_law)) (pair_law kind_law (pair_law (number_law w32) (option_vec_law filter_law))))
+    (pair_law (list_law (output_law value_law)) (pair_law mode_law (pair_law (number_law w32) (option_vec_law filter_law))))

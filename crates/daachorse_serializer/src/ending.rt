@@ -1,5 +1,5 @@
-//! What the written forms of both automata end with: the outputs, the kind, the number of states,
-//! and the filter, if there is one.
+//! What the written forms of both automata end with: the outputs, how it searches, the number of
+//! states, and the filter, if there is one.
 //!
 //! The layers above may rely on a read giving what the bytes give, and on the law of the form,
 //! which follows from those of a value and of a filter.
@@ -9,9 +9,10 @@ ghost use Rattle.daachorse_core.specs.Refusals.{IsOutOfMemory};
 ghost use Rattle.daachorse_serializer.specs.Endings.{ending_form, ending_most, take_ending};
 ghost use Rattle.daachorse_serializer.specs.Forms.{Begins, GivesView, IsReadRefusal, option_shape};
 
+use crate::mode::Mode;
 use crate::serializer::{Serializable, SerializableVec};
+use daachorse_core::Output;
 use daachorse_core::errors::Result;
-use daachorse_core::{MatchKind, Output};
 use std::alloc::{Allocator, Global};
 
 /// What an ending holds.
@@ -19,8 +20,8 @@ use std::alloc::{Allocator, Global};
 pub struct Ending<V, F, A: Allocator = Global> {
     /// The outputs.
     pub outputs: Vec<Output<V>, A>,
-    /// The kind of searches.
-    pub kind: MatchKind,
+    /// How the automaton searches.
+    pub mode: Mode,
     /// The number of states.
     pub num_states: u32,
     /// The filter, if there is one.
@@ -38,7 +39,7 @@ pub struct Ending<V, F, A: Allocator = Global> {
 /// An allocation failed; `dst` then still begins with what it held.
 pub fn write_ending<V: Serializable + Copy, F: SerializableVec + Drop, A: Allocator, B: Allocator>(
     outputs: &Vec<Output<V>, A>,
-    kind: MatchKind,
+    mode: Mode,
     num_states: u32,
     filter: &Option<F>,
     dst: &mut Vec<u8, B>,
@@ -46,12 +47,12 @@ pub fn write_ending<V: Serializable + Copy, F: SerializableVec + Drop, A: Alloca
     requires few { vec_len outputs.now < 2 ^ 32 }
     requires filter { IfSome (option_shape F.shape filter.now) F.can_write }
     ensures written { OnOk result (dst.new.items ≡ dst.old.items
-        ++ ending_form V.form F.form (outputs.now.items, (kind, (num_states, option_shape F.shape filter.now)))) }
+        ++ ending_form V.form F.form (outputs.now.items, (mode, (num_states, option_shape F.shape filter.now)))) }
     ensures kept { Begins dst.old.items dst.new.items }
     ensures refused { IfErr result IsOutOfMemory }
 {
     outputs.serialize_to_vec(dst)?;
-    kind.serialize_to_vec(dst)?;
+    mode.serialize_to_vec(dst)?;
     num_states.serialize_to_vec(dst)?;
     filter.serialize_to_vec(dst)
 }
@@ -66,19 +67,19 @@ pub fn read_ending<
     F: SerializableVec<Alloc = A> + Drop,
     A: Allocator + Copy,
 >(alloc: A, src: &[u8]) -> Result<(Ending<V, F, A>, &[u8])>
-    ensures given { GivesView (λ e. (e.outputs.items, (e.kind, (e.num_states, option_shape F.shape e.filter))))
+    ensures given { GivesView (λ e. (e.outputs.items, (e.mode, (e.num_states, option_shape F.shape e.filter))))
         result (take_ending V.taken F.taken src.now) }
     ensures few { IfOk result (λ r. vec_len r.0.outputs < 2 ^ 32) }
     ensures again { IfOk result (λ r. IfSome (option_shape F.shape r.0.filter) F.can_write) }
     ensures refused { IfErr result (IsReadRefusal (λ e. V.own_refusal e ⊎ F.own_refusal e)) }
 {
     let (outputs, rest) = <Vec<Output<V>, A>>::deserialize_from_slice(alloc, src)?;
-    let (kind, rest) = MatchKind::deserialize_from_slice(rest)?;
+    let (mode, rest) = Mode::deserialize_from_slice(rest)?;
     let (num_states, rest) = u32::deserialize_from_slice(rest)?;
     let (filter, rest) = <Option<F>>::deserialize_from_slice(alloc, rest)?;
     let ending = Ending {
         outputs,
-        kind,
+        mode,
         num_states,
         filter,
     };

@@ -8,11 +8,11 @@ returns-in_err-outputs-clause-few g c = IfOk-from_err c.from_residual.result _ c
 pub returns-in_err-outputs-clause-again : goal.returns-in_err-outputs-clause-again
 returns-in_err-outputs-clause-again g c = IfOk-from_err c.from_residual.result _ c.from_residual.ensures.0
 
-pub returns-in_err-kind-clause-few : goal.returns-in_err-kind-clause-few
-returns-in_err-kind-clause-few g c = IfOk-from_err c.from_residual-in_err-kind.result _ c.from_residual-in_err-kind.ensures.0
+pub returns-in_err-mode-clause-few : goal.returns-in_err-mode-clause-few
+returns-in_err-mode-clause-few g c = IfOk-from_err c.from_residual-in_err-mode.result _ c.from_residual-in_err-mode.ensures.0
 
-pub returns-in_err-kind-clause-again : goal.returns-in_err-kind-clause-again
-returns-in_err-kind-clause-again g c = IfOk-from_err c.from_residual-in_err-kind.result _ c.from_residual-in_err-kind.ensures.0
+pub returns-in_err-mode-clause-again : goal.returns-in_err-mode-clause-again
+returns-in_err-mode-clause-again g c = IfOk-from_err c.from_residual-in_err-mode.result _ c.from_residual-in_err-mode.ensures.0
 
 pub returns-in_err-num_states-clause-few : goal.returns-in_err-num_states-clause-few
 returns-in_err-num_states-clause-few g c = IfOk-from_err c.from_residual-in_err-num_states.result _ c.from_residual-in_err-num_states.ensures.0

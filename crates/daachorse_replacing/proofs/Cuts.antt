@@ -1,5 +1,5 @@
--- The matches of a search by kind follow one another, where the haystack may be cut: bytes anywhere, a text behind any of its characters.
-use Rattle.std.proofs.Common.{◌≡◌, ℕ, suc, ◌+◌, ◌≤◌, true, List, [], ◌∷◌, ◌++◌, length, refl, sym, ap, ◌∙◌, subst, append_assoc, length-append, arith}
+-- The matches of a search by kind follow one another, where the haystack may be cut: bytes anywhere, a text behind any of its characters. So they do in a haystack that is read folded, whose cuts are those of the haystack.
+use Rattle.std.proofs.Common.{◌≡◌, ℕ, Bool, suc, ◌+◌, ◌≤◌, true, false, List, [], ◌∷◌, ◌++◌, length, refl, sym, ap, ◌∙◌, subst, append_assoc, length-append, arith}
 use Rattle.std.proofs.Math.Utf8.{scalars, encodes}
 use Rattle.std.proofs.lemmas.Str.{encodes-append, encodes-chars, scalars-chars, IsCharBoundary-at_seam, IsCharBoundary-start}
 use Rattle.std.specs.Iterator.{AlwaysYields}
@@ -9,10 +9,12 @@ use Rattle.daachorse_model.specs.declared.Match.{Match}
 use Rattle.daachorse_model.specs.declared.MatchKind.{MatchKind}
 use Rattle.daachorse_model.specs.declared.MatchKind.TheVariants.{Standard, LeftmostLongest, LeftmostFirst}
 use Rattle.daachorse_model.specs.Dictionary.{Dictionary}
+use Rattle.daachorse_model.specs.Folding.{as_read, folded}
 use Rattle.daachorse_model.specs.Laws.{Follows, IsOccurrence}
 use Rattle.daachorse_model.specs.Units.{size, byte_width, char_width}
 use Rattle.daachorse_model.proofs.Booleans.{both-true}
 use Rattle.daachorse_model.proofs.Find.{standard_apart}
+use Rattle.daachorse_model.proofs.FoldLemmas.{chars-folded, IsCharBoundary-folded, IsUtf8-folded, length-as_read}
 use Rattle.daachorse_model.proofs.Overlap.{leftmost_apart}
 use Rattle.daachorse_model.proofs.SameOnText.{size-encodes}
 use Rattle.daachorse_model.proofs.Suffixes.{size-append, size-bytes}
@@ -45,6 +47,10 @@ module _ {V : Type 0} where
       let cut = all 0 m (omega arith) in
       (here, follow.0, cut.0, follow.1, parts_from may_cut m.end ms cut.1 (λ k d lt. all (suc k) d (omega arith)) follow.2)
 
+  parts_where : (may_cut other : ℕ → Type 0) → ((i : ℕ) → may_cut i → other i) → (s : ℕ) (ms : List (Match V)) → AreParts may_cut s ms → AreParts other s ms
+  parts_where may_cut other so s [] h = so s h
+  parts_where may_cut other so s (m ∷ ms) h = (so s h.0, h.1, so m.start h.2, h.3, parts_where may_cut other so m.end ms h.4)
+
   module _ (K : Dictionary V) where
     by_kind_apart : (kind : MatchKind) (width : ℕ → ℕ) (h : List ℕ) → Follows 0 (non_overlapping kind width K h)
     by_kind_apart Standard width h = standard_apart width K h
@@ -63,15 +69,27 @@ module _ {V : Type 0} where
           subst (IsCharBoundary text) (sized ∙ sym o.ends) (cut_at text (o.before ++ o.key) o.after utf8 (o.splits ∙ sym (append_assoc o.before o.key o.after))),
         )
 
-    pub parts_of_bytes : (kind : MatchKind) (h : List ℕ) → AreParts (λ i. i ≤ length h) 0 (non_overlapping kind byte_width K h)
-    parts_of_bytes kind h =
+    in_bytes : (kind : MatchKind) (h : List ℕ) → AreParts (λ i. i ≤ length h) 0 (non_overlapping kind byte_width K h)
+    in_bytes kind h =
         parts_from (λ i. i ≤ length h) 0 (non_overlapping kind byte_width K h) (omega arith)
         (λ k d lt. cut_bytes h _ (by_kind_occur byte_width K kind h k d lt)) (by_kind_apart kind byte_width h)
 
-    pub parts_of_text : (kind : MatchKind) (text : List ℕ) → IsUtf8 text → AreParts (IsCharBoundary text) 0 (non_overlapping kind char_width K (chars text))
-    parts_of_text kind text utf8 =
+    in_text : (kind : MatchKind) (text : List ℕ) → IsUtf8 text → AreParts (IsCharBoundary text) 0 (non_overlapping kind char_width K (chars text))
+    in_text kind text utf8 =
         parts_from (IsCharBoundary text) 0 (non_overlapping kind char_width K (chars text)) (IsCharBoundary-start text utf8)
         (λ k d lt. cut_text text utf8 _ (by_kind_occur char_width K kind (chars text) k d lt)) (by_kind_apart kind char_width (chars text))
+
+    pub parts_of_bytes : (folds : Bool) (kind : MatchKind) (h : List ℕ) → AreParts (λ i. i ≤ length h) 0 (non_overlapping kind byte_width K (as_read folds h))
+    parts_of_bytes folds kind h =
+        let P : ℕ → Type 0 = λ n. AreParts (λ i. i ≤ n) 0 (non_overlapping kind byte_width K (as_read folds h)) in
+        subst P (length-as_read folds h) (in_bytes kind (as_read folds h))
+
+    pub parts_of_text : (folds : Bool) (kind : MatchKind) (text : List ℕ) → IsUtf8 text → AreParts (IsCharBoundary text) 0 (non_overlapping kind char_width K (as_read folds (chars text)))
+    parts_of_text true kind text utf8 =
+        let P : List ℕ → Type 0 = λ units. AreParts (IsCharBoundary text) 0 (non_overlapping kind char_width K units) in
+        subst P (chars-folded text utf8)
+        (parts_where (IsCharBoundary (folded text)) (IsCharBoundary text) (λ i cut. (IsCharBoundary-folded text i).0 cut) 0 (non_overlapping kind char_width K (chars (folded text))) (in_text kind (folded text) (IsUtf8-folded text utf8)))
+    parts_of_text false kind text utf8 = in_text kind text utf8
 
 -- a search that has these matches left gives them, and no others
 pub gives_left : {V A F : Type 0} (stands : Match V → List ℕ → List ℕ → Type 0) (s : Progress V A F) (ms : List (Match V)) → s.left ≡ ms → AlwaysYields (GivesFirst stands) (λ m. m) s ms

@@ -4,16 +4,14 @@
 //! the place of the haystack on, and on the gate recording of each run just the bytes that it
 //! skipped. No search's answer rests on the gate.
 
-ghost use Rattle.std.specs.Prelude.{◌≡◌, ℕ, List, [], option_map, encode_utf8_all, IsTrue};
+ghost use Rattle.std.specs.Prelude.{◌≡◌, ℕ, List, [], ◌∷◌, ◌++◌, option_map, encode_utf8_all, IsTrue};
 ghost use Rattle.daachorse_prefilter.specs.Gates.{HasRecorded};
 ghost use Rattle.daachorse_search.specs.Filters.{IsNextPassing};
-ghost use Rattle.daachorse_model.specs.Folding.{folded};
 ghost use Rattle.daachorse_model.specs.Units.{byte_width, char_width};
 ghost use Rattle.daachorse_skipping.specs.Asked.{HasRecordedSkip, IsOpenWhilePaying, IsUnused, IsWorthAsking, lets_pass};
 
 use daachorse_prefilter::prefilter::{Prefilter, PrefilterGate};
 use daachorse_search::filter::Filter;
-use daachorse_search::folded::Folded;
 use daachorse_search::haystack::{Bytes, Reread};
 use daachorse_text::text::Text;
 use std::alloc::{Allocator, Global};
@@ -46,6 +44,24 @@ impl<'a, A: Allocator> Skipping<'a, A> {
             filter,
             gate: PrefilterGate::new(),
         }
+    }
+
+    /// The filter, if there is one.
+    #[inline(always)]
+    pub fn filter(&self) -> Option<&'a Prefilter<A>>
+        ensures { self.now.filter ≡ option_map (λ f. f.now) result }
+    {
+        self.filter
+    }
+
+    /// Records at the gate that a run of the filter skipped `gain` bytes.
+    #[inline(always)]
+    pub fn record(&mut self, gain: usize)
+        ensures filter { self.new.filter ≡ self.old.filter }
+        ensures gate { (gains : List ℕ) →
+            HasRecorded self.old.gate gains → HasRecorded self.new.gate (gains ++ gain ∷ []) }
+    {
+        self.gate.record(gain);
     }
 
     /// Whether there is a filter behind an open gate.
@@ -89,36 +105,6 @@ impl<'a, 'h, A: Allocator> Filter<u8, Bytes<'h>> for Skipping<'a, A> {
     }
 }
 
-impl<'a, 'h, A: Allocator> Filter<u8, Folded<Bytes<'h>>> for Skipping<'a, A> {
-    ghost passes = { λ s w. lets_pass s.filter w };
-
-    ghost opened = { λ s. IsUnused s };
-
-    ghost may_ask = { λ s. IsWorthAsking s };
-
-    #[inline(always)]
-    fn is_open(&self) -> bool
-        ensures unused { IsUnused self.now → IsTrue result }
-        ensures asked { IsTrue result → IsWorthAsking self.now }
-        ensures paying { IsOpenWhilePaying self.now result }
-    {
-        self.is_worth()
-    }
-
-    #[inline(always)]
-    fn skip(&mut self, rest: &mut Folded<Bytes<'h>>)
-        ensures passes { (w : List ℕ) → lets_pass self.new.filter w ≡ lets_pass self.old.filter w }
-        ensures goes { IsNextPassing (λ w. lets_pass self.old.filter w) (folded rest.old) (folded rest.new) }
-        ensures records { HasRecordedSkip byte_width self.old (folded rest.old) (folded rest.new) self.new }
-    {
-        if let Some(filter) = self.filter {
-            let gain = filter.next_position_folded(rest.unfolded().bytes(), 0);
-            self.gate.record(gain);
-            *rest = rest.after(gain);
-        }
-    }
-}
-
 impl<'a, 'h, A: Allocator> Filter<char, Text<'h>> for Skipping<'a, A> {
     ghost passes = { λ s w. lets_pass s.filter (encode_utf8_all w) };
 
@@ -143,36 +129,6 @@ impl<'a, 'h, A: Allocator> Filter<char, Text<'h>> for Skipping<'a, A> {
     {
         if let Some(filter) = self.filter {
             let gain = filter.next_position_at_char_boundary(rest.text(), 0);
-            self.gate.record(gain);
-            *rest = rest.after(gain);
-        }
-    }
-}
-
-impl<'a, 'h, A: Allocator> Filter<char, Folded<Text<'h>>> for Skipping<'a, A> {
-    ghost passes = { λ s w. lets_pass s.filter (encode_utf8_all w) };
-
-    ghost opened = { λ s. IsUnused s };
-
-    ghost may_ask = { λ s. IsWorthAsking s };
-
-    #[inline(always)]
-    fn is_open(&self) -> bool
-        ensures unused { IsUnused self.now → IsTrue result }
-        ensures asked { IsTrue result → IsWorthAsking self.now }
-        ensures paying { IsOpenWhilePaying self.now result }
-    {
-        self.is_worth()
-    }
-
-    #[inline(always)]
-    fn skip(&mut self, rest: &mut Folded<Text<'h>>)
-        ensures passes { (w : List ℕ) → lets_pass self.new.filter (encode_utf8_all w) ≡ lets_pass self.old.filter (encode_utf8_all w) }
-        ensures goes { IsNextPassing (λ w. lets_pass self.old.filter (encode_utf8_all w)) (folded rest.old) (folded rest.new) }
-        ensures records { HasRecordedSkip char_width self.old (folded rest.old) (folded rest.new) self.new }
-    {
-        if let Some(filter) = self.filter {
-            let gain = filter.next_position_folded_at_char_boundary(rest.unfolded().text(), 0);
             self.gate.record(gain);
             *rest = rest.after(gain);
         }

@@ -6,13 +6,11 @@ use Rattle.std.specs.Str.{IsUtf8, chars}
 use Rattle.daachorse_model.specs.Folding.{folded}
 use Rattle.daachorse_model.specs.Units.{char_width}
 use Rattle.daachorse_model.proofs.FoldLemmas.{IsUtf8-folded, chars-folded}
-use Rattle.daachorse_prefilter.specs.declared.prefilter.gate.PrefilterGate.{PrefilterGate}
-use Rattle.daachorse_prefilter.specs.Gates.{HasRecorded}
 use Rattle.daachorse_prefilter.specs.Filters.{Filter}
 use Rattle.daachorse_search.specs.Filters.{IsNextPassing}
-use Rattle.daachorse_skipping.specs.Asked.{Asked, lets_pass}
+use Rattle.daachorse_skipping.specs.Asked.{lets_pass}
 use Rattle.daachorse_skipping.proofs.SkipLemmas.{chars_cut, chars_sized, recorded_skip, skipped_chars}
-use Rattle.daachorse_skipping.proofs.skipping.SkippingFilterCharFoldedText.skip.Goals as goal
+use Rattle.daachorse_folding.proofs.filter.SkippingFoldingFilterCharText.skip_folded.Goals as goal
 
 -- the characters of the folded bytes are those that are still to come, folded
 spelled : (h unfolded bytes : List ℕ) → IsUtf8 bytes → chars bytes ≡ unfolded → unfolded ≡ h → chars (folded bytes) ≡ folded h
@@ -31,7 +29,7 @@ returns-in-Some-clause-goes g c =
     let next = c.next_position_folded_at_char_boundary-gain.ensures in
     let u = IsUtf8-folded c.text.result.now c.text.utf8 in
     let whole = spelled c.args.rest.now c.unfolded.result.now c.text.result.now c.text.utf8 c.text.ensures c.unfolded.ensures in
-    let shown : c.args.self.now.filter ≡ Some f = sym (ap (λ (s : Asked). s.filter) c.self.view_is) ∙ ap (option_map (λ (x : Bor Filter). x.now)) c.in-Some.is in
+    let shown : c.args.self.now.filter ≡ Some f = c.filter.ensures ∙ ap (option_map (λ (x : Bor Filter). x.now)) c.in-Some.is in
     let P : Option Filter → Type 0 = λ o. IsNextPassing (λ w. lets_pass o (encode_utf8_all w)) (folded c.args.rest.now) later in
     let Q : List ℕ → Type 0 = λ h. IsNextPassing (λ w. lets_pass (Some f) (encode_utf8_all w)) h later in
     let behind : later ≡ chars (drop r bs) = c.after.ensures (chars (take r bs)) (chars (drop r bs)) (sym whole ∙ chars_cut bs r u next.boundary) (chars_sized bs r u next.boundary) in
@@ -43,11 +41,10 @@ returns-in-Some-clause-records g c = λ gains before.
     let boundary = c.next_position_folded_at_char_boundary-gain.ensures.boundary in
     let u = IsUtf8-folded c.text.result.now c.text.utf8 in
     let whole = spelled c.args.rest.now c.unfolded.result.now c.text.result.now c.text.utf8 c.text.ensures c.unfolded.ensures in
-    let shown : c.args.self.now.filter ≡ Some f = sym (ap (λ (s : Asked). s.filter) c.self.view_is) ∙ ap (option_map (λ (x : Bor Filter). x.now)) c.in-Some.is in
-    let P : PrefilterGate → Type 0 = λ gate. HasRecorded gate gains in
-    let recorded = c.record.ensures gains (subst P (sym (ap (λ (s : Asked). s.gate) c.self.view_is)) before) in
+    let shown : c.args.self.now.filter ≡ Some f = c.filter.ensures ∙ ap (option_map (λ (x : Bor Filter). x.now)) c.in-Some.is in
+    let recorded = c.record.ensures.gate gains before in
     let cut : h ≡ chars (take r bs) ++ chars (drop r bs) = sym whole ∙ chars_cut bs r u boundary in
     let sized = chars_sized bs r u boundary in
     let behind : later ≡ chars (drop r bs) = c.after.ensures (chars (take r bs)) (chars (drop r bs)) cut sized in
     let parts : h ≡ chars (take r bs) ++ later = cut ∙ ap (λ w. chars (take r bs) ++ w) (sym behind) in
-    recorded_skip char_width c.record.new.self c.args.self.now.filter f (chars (take r bs)) h later gains r shown parts sized recorded
+    recorded_skip char_width c.record.new.self.gate c.args.self.now.filter f (chars (take r bs)) h later gains r shown parts sized recorded

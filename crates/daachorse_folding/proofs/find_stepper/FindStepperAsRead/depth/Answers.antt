@@ -1,0 +1,12 @@
+-- What is seen of the stepper is what is seen of the one that it keeps.
+use Rattle.std.proofs.Common.{◌≡◌, ◌≢◌, ℕ, List, [], length, Some, subst}
+use Rattle.daachorse_model.specs.Matches.{IsSinceMatch}
+use Rattle.daachorse_model.specs.Prefixes.{IsLong}
+use Rattle.daachorse_folding.specs.Steppers.{SteppedAsRead}
+use Rattle.daachorse_folding.proofs.find_stepper.FindStepperAsRead.depth.Goals as goal
+
+pub returns-clause-depth : goal.returns-clause-depth
+returns-clause-depth g c =
+    let A = g.A.Automaton in let unit = g.A.Unit.EdgeLabel in
+    let P : SteppedAsRead g.row.A.Denot → Type 0 = λ p. p.depths ≢ [] → (since s : List ℕ) → IsSinceMatch unit.width (A.content p.automaton) p.read since → IsLong (A.content p.automaton) since s → c.depth.result ≡ Some (length s) in
+    subst P c.self.view_is c.depth.ensures.depth

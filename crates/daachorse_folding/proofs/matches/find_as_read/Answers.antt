@@ -1,0 +1,13 @@
+-- The standard list is what the search gives end by end.
+use Rattle.std.proofs.Common.{[], ap, ◌∙◌}
+use Rattle.daachorse_model.specs.Folding.{as_read}
+use Rattle.daachorse_model.specs.Matches.{at_each_end}
+use Rattle.daachorse_model.proofs.StandardEnds.{standard-joined}
+use Rattle.daachorse_search.specs.Searches.{standard_found}
+use Rattle.daachorse_folding.proofs.matches.find_as_read.Goals as goal
+
+pub returns-clause-left : goal.returns-clause-left
+returns-clause-left g c =
+    let A = g.A.Automaton in let unit = g.A.Unit.EdgeLabel in let read = as_read c.args.folds (g.H.Haystack.rest c.args.haystack) in
+    let found = λ (a : g.row.A.Denot). at_each_end (standard_found unit.width A.content a) [] read in
+    c.new-2.ensures.left ∙ ap found c.new.ensures.automaton ∙ standard-joined unit.width (A.content c.args.automaton) g.met.A.Unit.EdgeLabel.wide read

@@ -1,0 +1,103 @@
+//! Filters that can be asked over a folded haystack.
+//!
+//! The layers above may rely on a folded filter passing where its filter does, over the units of its
+//! haystack folded, and on the filter over pairs of bytes being such a one for slices and texts.
+
+ghost use Rattle.std.specs.Prelude.{◌≡◌, ℕ, List, encode_utf8_all};
+ghost use Rattle.daachorse_search.specs.Filters.{IsNextPassing};
+ghost use Rattle.daachorse_model.specs.Folding.{folded};
+ghost use Rattle.daachorse_model.specs.Units.{byte_width, char_width};
+ghost use Rattle.daachorse_skipping.specs.Asked.{HasRecordedSkip, lets_pass};
+
+use daachorse_core::ascii_fold::AsciiFold;
+use daachorse_search::filter::{Filter, NoFilter};
+use daachorse_search::folded::Folded;
+use daachorse_search::haystack::{Bytes, Reread};
+use daachorse_skipping::skipping::Skipping;
+use daachorse_text::text::Text;
+use std::alloc::Allocator;
+use std::marker::Model;
+
+/// A filter of the places of a haystack that may be folded.
+pub trait FoldingFilter<U: AsciiFold, H: Reread<U>>: Filter<U, H> {
+    /// Moves the folded haystack on to the first place that passes, or to its end.
+    fn skip_folded(&mut self, rest: &mut Folded<H>)
+        requires { Self.may_ask self.old }
+        ensures passes { (w : List ℕ) → Self.passes self.new w ≡ Self.passes self.old w }
+        ensures goes { IsNextPassing (Self.passes self.old) (folded (H.rest rest.old)) (folded (H.rest rest.new)) };
+}
+
+impl<U: AsciiFold, H: Reread<U>> FoldingFilter<U, H> for NoFilter {
+    #[inline(always)]
+    fn skip_folded(&mut self, _rest: &mut Folded<H>) {}
+}
+
+impl<'a, 'h, A: Allocator> FoldingFilter<u8, Bytes<'h>> for Skipping<'a, A> {
+    #[inline(always)]
+    fn skip_folded(&mut self, rest: &mut Folded<Bytes<'h>>)
+        ensures passes { (w : List ℕ) → lets_pass self.new.filter w ≡ lets_pass self.old.filter w }
+        ensures goes { IsNextPassing (λ w. lets_pass self.old.filter w) (folded rest.old) (folded rest.new) }
+        ensures records { HasRecordedSkip byte_width self.old (folded rest.old) (folded rest.new) self.new }
+    {
+        if let Some(filter) = self.filter() {
+            let gain = filter.next_position_folded(rest.unfolded().bytes(), 0);
+            self.record(gain);
+            *rest = rest.after(gain);
+        }
+    }
+}
+
+impl<'a, 'h, A: Allocator> FoldingFilter<char, Text<'h>> for Skipping<'a, A> {
+    #[inline(always)]
+    fn skip_folded(&mut self, rest: &mut Folded<Text<'h>>)
+        ensures passes { (w : List ℕ) → lets_pass self.new.filter (encode_utf8_all w) ≡ lets_pass self.old.filter (encode_utf8_all w) }
+        ensures goes { IsNextPassing (λ w. lets_pass self.old.filter (encode_utf8_all w)) (folded rest.old) (folded rest.new) }
+        ensures records { HasRecordedSkip char_width self.old (folded rest.old) (folded rest.new) self.new }
+    {
+        if let Some(filter) = self.filter() {
+            let gain = filter.next_position_folded_at_char_boundary(rest.unfolded().text(), 0);
+            self.record(gain);
+            *rest = rest.after(gain);
+        }
+    }
+}
+
+/// A filter that is asked over the folded haystack.
+#[derive(Drop)]
+pub struct FoldedFilter<F> {
+    filter: F,
+}
+
+impl<F> Model for FoldedFilter<F> {
+    ghost Value = { F };
+
+    ghost view = { λ s. s.filter };
+}
+
+impl<F> FoldedFilter<F> {
+    /// The filter, to be asked over the folded haystack.
+    #[inline(always)]
+    pub fn new(filter: F) -> Self
+        ensures { result ≡ filter }
+    {
+        Self { filter }
+    }
+}
+
+impl<U: AsciiFold, H: Reread<U>, F: FoldingFilter<U, H>> Filter<U, Folded<H>> for FoldedFilter<F> {
+    ghost passes = { F.passes };
+
+    ghost opened = { F.opened };
+
+    ghost may_ask = { F.may_ask };
+
+    #[inline(always)]
+    fn is_open(&self) -> bool {
+        self.filter.is_open()
+    }
+
+    #[inline(always)]
+    fn skip(&mut self, rest: &mut Folded<H>) {
+        self.filter.skip_folded(rest);
+    }
+}

@@ -38,7 +38,7 @@ module _ {V : Type 0} where
         at later false = All-cons (λ r. Q r.0) r (without_extensions (r.0 ∷ before) rs) (All-head (λ r. Q r.0) r rs all) later
 
     -- what holds of each registered text holds of each key
-    key_holds : (kind : MatchKind) (rs : List (List ℕ × V)) → All (λ r. Q r.0) rs → (w : List ℕ) → dictionary kind rs w ≢ [] → Q w
+    pub key_holds : (kind : MatchKind) (rs : List (List ℕ × V)) → All (λ r. Q r.0) rs → (w : List ℕ) → dictionary kind rs w ≢ [] → Q w
     key_holds Standard rs all = has_text rs all
     key_holds LeftmostLongest rs all = has_text rs all
     key_holds LeftmostFirst rs all = has_text (without_extensions [] rs) (without [] rs all)

@@ -4,3 +4,5 @@ pub mod RefusalLaws
 pub mod IndexLaws
 pub mod LinksBack
 pub mod FilterLaws
+pub mod FoldingLaws
+pub mod TextLaws

@@ -1,18 +1,20 @@
 //! The documents by which the states of an automaton are laid out, and what searches over them
 //! read of a trie.
 //!
-//! The layers above may rely on a copy of each document being kept, and on there being counts for
-//! each state where there is a document.
+//! The layers above may rely on a copy of each document being kept, folded where it is asked for,
+//! and on there being counts for each state where there is a document.
 
 ghost use Rattle.std.specs.Prelude.{◌≡◌, [], length, map, IfOk, IfErr};
 ghost use Rattle.daachorse_build.specs.Builders.{states_of};
 ghost use Rattle.daachorse_build.specs.Counts.{HasCounts, LinksLeadBack};
 ghost use Rattle.daachorse_build.specs.Groups.{IsProfileOf};
 ghost use Rattle.daachorse_core.specs.Refusals.{IsOutOfMemory};
+ghost use Rattle.daachorse_model.specs.Folding.{folded};
 ghost use Rattle.daachorse_patterns.specs.Documents.{documents_of};
 
 use crate::pattern::Pattern;
 use daachorse_build::nfa_builder::NfaBuilder;
+use daachorse_core::ascii_fold::AsciiFold;
 use daachorse_core::edge_label::EdgeLabel;
 use daachorse_core::errors::Result;
 use daachorse_placement::build_helper::Profile;
@@ -68,6 +70,26 @@ impl<L: EdgeLabel, A: Allocator + Copy> Corpus<L, A> {
         profile.resize(nfa.states().len())?;
         count_all(nfa, &self.documents, &mut profile, dense_root, has_label);
         Ok(profile)
+    }
+}
+
+impl<L: AsciiFold, A: Allocator> Corpus<L, A> {
+    /// Folds the documents: A to Z become a to z, and every other label stays. It takes no memory.
+    pub fn fold(&mut self)
+        ensures { documents_of L.EdgeLabel.unit self.new ≡ map folded (documents_of L.EdgeLabel.unit self.old) }
+    {
+        for document in self.documents.iter_mut() {
+            fold_labels(document);
+        }
+    }
+}
+
+/// Folds each label.
+fn fold_labels<L: AsciiFold>(labels: &mut [L])
+    ensures { map L.EdgeLabel.unit labels.new ≡ folded (map L.EdgeLabel.unit labels.old) }
+{
+    for label in labels.iter_mut() {
+        *label = label.folded();
     }
 }
 

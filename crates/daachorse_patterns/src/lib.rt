@@ -8,6 +8,7 @@
 
 pub mod corpus;
 pub mod filter;
+pub mod folding;
 pub mod gathering;
 pub mod pattern;
 pub mod settings;

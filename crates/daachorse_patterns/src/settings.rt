@@ -1,13 +1,17 @@
 //! What the builders of both automata are told.
 //!
 //! The layers above may rely on settings that nothing was told being for the standard searches,
-//! with a filter and no corpus, and taking no memory.
+//! with a filter, no corpus and every text as it is, and taking no memory; and on a build's
+//! documents being folded where its patterns are.
 
-ghost use Rattle.std.specs.Prelude.{◌≡◌, true, None};
+ghost use Rattle.std.specs.Prelude.{◌≡◌, true, false, None, option_map};
 ghost use Rattle.daachorse_model.specs.declared.MatchKind.TheVariants.{Standard};
+ghost use Rattle.daachorse_patterns.specs.Documents.{documents_of};
+ghost use Rattle.daachorse_patterns.specs.Folding.{all_as_read};
 
 use crate::corpus::Corpus;
 use daachorse_core::MatchKind;
+use daachorse_core::ascii_fold::AsciiFold;
 use daachorse_core::edge_label::EdgeLabel;
 use std::alloc::Allocator;
 
@@ -20,6 +24,8 @@ pub struct Settings<L: EdgeLabel, A: Allocator> {
     pub use_prefilter: bool,
     /// The documents by which the states of an automaton are laid out, if there are any.
     pub corpus: Option<Corpus<L, A>>,
+    /// Whether an automaton searches without regard to the case of ASCII letters.
+    pub ascii_case_insensitive: bool,
 }
 
 impl<L: EdgeLabel, A: Allocator> Settings<L, A> {
@@ -28,11 +34,33 @@ impl<L: EdgeLabel, A: Allocator> Settings<L, A> {
         ensures kind { result.match_kind ≡ Standard }
         ensures filter { result.use_prefilter ≡ true }
         ensures corpus { result.corpus ≡ None }
+        ensures fold { result.ascii_case_insensitive ≡ false }
     {
         Settings {
             match_kind: MatchKind::Standard,
             use_prefilter: true,
             corpus: None,
+            ascii_case_insensitive: false,
         }
+    }
+}
+
+impl<L: AsciiFold, A: Allocator> Settings<L, A> {
+    /// The same settings, with their documents as a build reads them: folded where patterns are.
+    ///
+    /// It takes no memory.
+    pub fn with_documents_as_read(mut self) -> Self
+        ensures kind { result.match_kind ≡ self.match_kind }
+        ensures filter { result.use_prefilter ≡ self.use_prefilter }
+        ensures fold { result.ascii_case_insensitive ≡ self.ascii_case_insensitive }
+        ensures corpus { option_map (λ corpus. documents_of L.EdgeLabel.unit corpus) result.corpus
+            ≡ option_map (λ corpus. all_as_read self.ascii_case_insensitive (documents_of L.EdgeLabel.unit corpus)) self.corpus }
+    {
+        if self.ascii_case_insensitive
+            && let Some(corpus) = &mut self.corpus
+        {
+            corpus.fold();
+        }
+        self
     }
 }

@@ -1,4 +1,4 @@
--- What is read of the written form of an automaton: its parts, since each of its lists can be counted.
+-- What is read of the written form of an automaton: its parts and its option, since each of its lists can be counted.
 use Rattle.std.proofs.Common.{◌≡◌, ℕ, ◌<◌, ◌^◌, Bool, true, false, List, ◌++◌, length, Option, Some, ap, cond, arith}
 use Rattle.daachorse_model.specs.Kinds.{is_leftmost}
 use Rattle.daachorse_core.specs.declared.errors.DaachorseError.{DaachorseError}
@@ -29,11 +29,11 @@ module _ {V : Type 0} (p : Parts V) where
   pub valid-counted : IsValid p → AreCounted p
   valid-counted valid = lists-counted (is_leftmost p.kind) valid.few.elements valid.few.outputs valid.shape
 
-module _ {V : Type 0} {P : V → Type 0} {value : V → List ℕ} {take_value : List ℕ → Taken V} {n : ℕ} (law : IsForm P value take_value (λ _. n)) (bytes rest : List ℕ) (p : Parts V) (filter : Option Filter) (a : IsAutomaton P p filter) (is : bytes ≡ parts_form value p filter ++ rest) where
+module _ {V : Type 0} {P : V → Type 0} {value : V → List ℕ} {take_value : List ℕ → Taken V} {n : ℕ} (law : IsForm P value take_value (λ _. n)) (bytes rest : List ℕ) (p : Parts V) (folds : Bool) (filter : Option Filter) (a : IsAutomaton P p filter) (is : bytes ≡ parts_form value p folds filter ++ rest) where
   -- what is read of the form is what was written, and what is left is what follows it
-  pub reads-written : (r : (Parts V × Option Filter) × List ℕ) → take_parts take_value bytes ≡ Some r → (r.0 ≡ (p, filter)) × (r.1 ≡ rest)
-  reads-written r gives = takes-same (parts_law law) bytes (p, filter) rest r (valid-counted p a.valid, (a.numbers, a.filtered)) is gives
+  pub reads-written : (r : (Parts V × (Bool × Option Filter)) × List ℕ) → take_parts take_value bytes ≡ Some r → (r.0 ≡ (p, (folds, filter))) × (r.1 ≡ rest)
+  reads-written r gives = takes-same (parts_law law) bytes (p, (folds, filter)) rest r (valid-counted p a.valid, (a.numbers, a.filtered)) is gives
 
   -- a read of it is refused for want of memory alone
   pub refuses-form : (e : DaachorseError) → Refuses e (take_parts take_value bytes) → IsOutOfMemory e
-  refuses-form e r = refuses-written (parts_law law) bytes (p, filter) rest e (valid-counted p a.valid, (a.numbers, a.filtered)) is r
+  refuses-form e r = refuses-written (parts_law law) bytes (p, (folds, filter)) rest e (valid-counted p a.valid, (a.numbers, a.filtered)) is r

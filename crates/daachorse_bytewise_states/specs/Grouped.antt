@@ -37,5 +37,5 @@ pub record IsGrouped {V : Type 0} (p : Parts V) : Type 0 where
   pub bases : (i : ℕ) → i < count p → base_of p i < count p
 
 -- no parts were taken, or such as are no automaton's
-abbrev pub HasNoAutomaton : {V : Type 0} → Taken (Parts V × Option Filter) → Type 0
-HasNoAutomaton {V} t = (w : Parts V × Option Filter) (rest : List ℕ) → t ≡ Some (w, rest) → IsValid w.0 → ⊥
+abbrev pub HasNoAutomaton : {V : Type 0} → Taken (Parts V × (Bool × Option Filter)) → Type 0
+HasNoAutomaton {V} t = (w : Parts V × (Bool × Option Filter)) (rest : List ℕ) → t ≡ Some (w, rest) → IsValid w.0 → ⊥

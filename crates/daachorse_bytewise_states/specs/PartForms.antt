@@ -1,6 +1,7 @@
--- The written form of an automaton over bytes: its parts, and its filter, if it has one. And what bytes give: nothing, or
--- parts, a filter that there may be, and the bytes behind them.
-use Rattle.std.specs.Prelude.{ℕ, ◌+◌, ◌*◌, ◌<◌, ◌^◌, List, [], ◌++◌, length, All, Option, Some, None, IfSome, refl}
+-- The written form of an automaton over bytes: its parts, whether it finds ASCII letters without regard to case, and its
+-- filter, if it has one. And what bytes give: nothing, or parts, that option, a filter that there may be, and the bytes
+-- behind them.
+use Rattle.std.specs.Prelude.{ℕ, Bool, ◌+◌, ◌*◌, ◌<◌, ◌^◌, List, [], ◌++◌, length, All, Option, Some, None, IfSome, refl}
 use Rattle.std.specs.Int.{w32}
 use Rattle.daachorse_core.specs.declared.outputs.Empty.{Empty}
 use Rattle.daachorse_prefilter.specs.Filters.{Filter, IsFilter}
@@ -9,6 +10,7 @@ use Rattle.daachorse_serializer.specs.Endings.{Ending, ending_form, ending_law, 
 use Rattle.daachorse_serializer.specs.Forms.{Begins, IsForm, Taken, list_form, number_form, over, take_list, take_number, take_pair}
 use Rattle.daachorse_serializer.specs.Laws.{empty_law, law_through, list_law, number_law, pair_law}
 use Rattle.daachorse_serializer.specs.Outputs.{IsOutput}
+use Rattle.daachorse_serializer.specs.declared.mode.Mode.{Mode}
 use Rattle.daachorse_bytewise_states.specs.declared.state.State.{State}
 use Rattle.daachorse_bytewise_states.specs.declared.states.form.Lists.{Lists}
 use Rattle.daachorse_bytewise_states.specs.Parts.{Parts}
@@ -19,34 +21,38 @@ use Rattle.daachorse_bytewise_states.specs.Valid.{IsValid}
 abbrev pub Row : Type 0 → Type 0
 Row V = List (State ℕ) × (List (State Empty) × (List ℕ × Ending V Filter))
 
-abbrev pub row_of : {V : Type 0} → Parts V × Option Filter → Row V
-row_of w = (w.0.standard, (w.0.leftmost, (w.0.fails, (w.0.outputs, (w.0.kind, (w.0.num_states, w.1))))))
+-- how the automaton searches
+abbrev pub mode_of : {V : Type 0} → Parts V → Bool → Mode
+mode_of p folds = record { kind = p.kind; folds = folds }
 
-abbrev pub of_row : {V : Type 0} → Row V → Parts V × Option Filter
+abbrev pub row_of : {V : Type 0} → Parts V × (Bool × Option Filter) → Row V
+row_of w = (w.0.standard, (w.0.leftmost, (w.0.fails, (w.0.outputs, (mode_of w.0 w.1.0, (w.0.num_states, w.1.1))))))
+
+abbrev pub of_row : {V : Type 0} → Row V → Parts V × (Bool × Option Filter)
 of_row r =
     let parts : Parts _ = record {
-      kind = r.1.1.1.1.0;
+      kind = r.1.1.1.1.0.kind;
       standard = r.0;
       leftmost = r.1.0;
       fails = r.1.1.0;
       outputs = r.1.1.1.0;
       num_states = r.1.1.1.1.1.0;
-    } in (parts, r.1.1.1.1.1.1)
+    } in (parts, (r.1.1.1.1.0.folds, r.1.1.1.1.1.1))
 
 -- what lists that were read are
-abbrev pub parts_in : {V A : Type 0} → Lists V A → Parts V × Option Filter
-parts_in l = of_row (l.standard.items, (l.leftmost.items, (l.fails.items, (l.ending.outputs.items, (l.ending.kind, (l.ending.num_states, l.ending.filter))))))
+abbrev pub parts_in : {V A : Type 0} → Lists V A → Parts V × (Bool × Option Filter)
+parts_in l = of_row (l.standard.items, (l.leftmost.items, (l.fails.items, (l.ending.outputs.items, (l.ending.mode, (l.ending.num_states, l.ending.filter))))))
 
 abbrev pub take_nothing : List ℕ → Taken Empty
 take_nothing bytes = Some (record {}, bytes)
 
 module _ {V : Type 0} where
-  unfoldable pub parts_form : (V → List ℕ) → Parts V → Option Filter → List ℕ
-  parts_form value p filter =
+  unfoldable pub parts_form : (V → List ℕ) → Parts V → Bool → Option Filter → List ℕ
+  parts_form value p folds filter =
       list_form (state_form (number_form w32)) p.standard ++ (list_form (state_form (λ _. [])) p.leftmost
-      ++ (list_form (number_form w32) p.fails ++ ending_form value filter_form (p.outputs, (p.kind, (p.num_states, filter)))))
+      ++ (list_form (number_form w32) p.fails ++ ending_form value filter_form (p.outputs, (mode_of p folds, (p.num_states, filter)))))
 
-  unfoldable pub take_parts : (List ℕ → Taken V) → List ℕ → Taken (Parts V × Option Filter)
+  unfoldable pub take_parts : (List ℕ → Taken V) → List ℕ → Taken (Parts V × (Bool × Option Filter))
   take_parts take_value bytes =
       over of_row
       (take_pair (take_list (take_state (take_number w32)))
@@ -77,9 +83,10 @@ module _ {V : Type 0} where
   -- the bytes begin with the written form of an automaton
   pub record BeginsWithAutomaton (is_value : V → Type 0) (value : V → List ℕ) (bytes : List ℕ) : Type 0 where
     pub parts : Parts V
+    pub folds : Bool
     pub filter : Option Filter
     pub automaton : IsAutomaton is_value parts filter
-    pub begins : Begins (parts_form value parts filter) bytes
+    pub begins : Begins (parts_form value parts folds filter) bytes
 
   -- how long the form is at most, where a value takes at most n bytes
   abbrev pub parts_most : ℕ → Parts V → Option Filter → ℕ
@@ -90,20 +97,20 @@ module _ {V : Type 0} where
 left_law : IsForm (IsState (λ e. Unit {0})) (state_form (λ (e : Empty). [])) (take_state take_nothing) (λ _. 8)
 left_law = state_law (empty_law (record {}) (λ y. refl))
 
--- Parts are read back from their form, whatever follows it.
+-- Parts, the option and the filter are read back from their form, whatever follows it.
 pub parts_law : {V : Type 0} {P : V → Type 0} {value : V → List ℕ} {take_value : List ℕ → Taken V} {n : ℕ}
     → IsForm P value take_value (λ _. n)
-    → IsForm (λ w. AreCounted w.0 × (AreNumbers P w.0 × IfSome w.1 IsFilter)) (λ w. parts_form value w.0 w.1) (take_parts take_value) (λ w. parts_most n w.0 w.1)
+    → IsForm (λ w. AreCounted w.0 × (AreNumbers P w.0 × IfSome w.1.1 IsFilter)) (λ w. parts_form value w.0 w.1.0 w.1.1) (take_parts take_value) (λ w. parts_most n w.0 w.1.1)
 unfolding parts_form take_parts
 parts_law {P = P} value_law =
-    law_through of_row row_of (λ w. AreCounted w.0 × (AreNumbers P w.0 × IfSome w.1 IsFilter))
+    law_through of_row row_of (λ w. AreCounted w.0 × (AreNumbers P w.0 × IfSome w.1.1 IsFilter))
     (λ w h. (
       (h.0.standard, h.1.0.standard),
       (
         (h.0.leftmost, h.1.0.leftmost),
         (
           (h.0.fails, h.1.0.fails),
-          ((h.0.outputs, both w.1), (h.1.0.outputs, h.1.0.num_states, h.1.1)),
+          ((h.0.outputs, both w.1.1), (h.1.0.outputs, h.1.0.num_states, h.1.1)),
         ),
       ),
     ))

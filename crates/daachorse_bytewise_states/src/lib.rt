@@ -6,6 +6,7 @@
 
 mod edges;
 mod filters;
+mod folded;
 mod leftmost;
 mod packing;
 mod standard;

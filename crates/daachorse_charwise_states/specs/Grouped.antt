@@ -1,5 +1,5 @@
 -- Lists that were read: which may be looked at, and which give no automaton.
-use Rattle.std.specs.Prelude.{◌≡◌, ℕ, ◌<◌, List, length, slice_index_or, Option, Some}
+use Rattle.std.specs.Prelude.{◌≡◌, ℕ, Bool, ◌<◌, List, length, slice_index_or, Option, Some}
 use Rattle.daachorse_mapper.specs.Codings.{Coding, IsCoding}
 use Rattle.daachorse_prefilter.specs.Filters.{Filter}
 use Rattle.daachorse_serializer.specs.Forms.{Taken}
@@ -20,5 +20,5 @@ pub record IsGrouped (coding : Coding) (elements : List State) : Type 0 where
   pub codes : IsCoding coding
 
 -- no parts were taken, or such as are no automaton's
-abbrev pub HasNoAutomaton : {V : Type 0} → Taken (Parts V × Option Filter) → Type 0
-HasNoAutomaton {V} t = (w : Parts V × Option Filter) (rest : List ℕ) → t ≡ Some (w, rest) → IsValid w.0 → ⊥
+abbrev pub HasNoAutomaton : {V : Type 0} → Taken (Parts V × (Bool × Option Filter)) → Type 0
+HasNoAutomaton {V} t = (w : Parts V × (Bool × Option Filter)) (rest : List ℕ) → t ≡ Some (w, rest) → IsValid w.0 → ⊥

@@ -7,6 +7,7 @@
 
 pub mod edges;
 mod filters;
+mod folded;
 mod packing;
 pub mod state;
 pub mod states;

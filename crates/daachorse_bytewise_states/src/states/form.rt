@@ -1,10 +1,10 @@
-//! The written form of the states.
+//! The written form of the states, with the option and the filter of the automaton.
 //!
 //! The layers above may rely on the bytes of [`States::serialize`] being the form of the parts, and
 //! on [`States::deserialize_unchecked`] giving back the parts whose form the bytes begin with.
 //! [`States::deserialize`] does so for any bytes, and refuses them exactly where they give no valid parts.
 
-ghost use Rattle.std.specs.Prelude.{◌≡◌, ◌⊎◌, ◌++◌, ◌-◌, ◌^◌, List, ℕ, Option, Some, true, false, min, IfOk, IfErr};
+ghost use Rattle.std.specs.Prelude.{◌≡◌, ◌⊎◌, ◌++◌, ◌-◌, ◌^◌, Bool, List, ℕ, Option, Some, true, false, min, IfOk, IfErr};
 ghost use Rattle.daachorse_core.specs.Refusals.{IsOutOfMemory};
 ghost use Rattle.daachorse_prefilter.specs.Filters.{Filter};
 ghost use Rattle.daachorse_serializer.specs.Forms.{GivesView, IsReadRefusal};
@@ -20,6 +20,7 @@ use daachorse_core::Empty;
 use daachorse_core::errors::{DaachorseError, Result};
 use daachorse_prefilter::prefilter::Prefilter;
 use daachorse_serializer::ending::{Ending, ending_bytes, read_ending, write_ending};
+use daachorse_serializer::mode::Mode;
 use daachorse_serializer::serializer::{Serializable, SerializableVec};
 use std::alloc::Allocator;
 
@@ -72,7 +73,7 @@ impl<V: Copy, A: Allocator + Copy> Lists<V, A> {
         ensures err { IfErr result IsOutOfMemory }
     {
         let Some(parts) = Unchecked::new(
-            self.ending.kind,
+            self.ending.mode.kind,
             self.standard.as_slice(),
             self.leftmost.as_slice(),
             self.fails.as_slice(),
@@ -87,7 +88,8 @@ impl<V: Copy, A: Allocator + Copy> Lists<V, A> {
 }
 
 impl<V: Serializable + Copy, A: Allocator> States<V, A> {
-    /// The written form of the states and of a filter, if there is one.
+    /// The written form of the states, of whether ASCII letters are found without regard to case, and
+    /// of a filter, if there is one.
     ///
     /// # Errors
     ///
@@ -95,29 +97,39 @@ impl<V: Serializable + Copy, A: Allocator> States<V, A> {
     pub fn serialize<B: Allocator>(
         &self,
         alloc: B,
+        folds: bool,
         filter: &Option<Prefilter<A>>,
     ) -> Result<Vec<u8, B>>
-        ensures ok { IfOk result (λ bytes. bytes.items ≡ parts_form V.form self.now filter.now) }
+        ensures ok { IfOk result (λ bytes. bytes.items ≡ parts_form V.form self.now folds filter.now) }
         ensures automaton { IsAutomaton V.is_value self.now filter.now }
         ensures err { IfErr result IsOutOfMemory }
     {
         self.in_range();
         filter.in_range();
         let mut bytes = Vec::with_capacity(alloc, self.serialized_bytes(filter))?;
-        self.write(filter, &mut bytes)?;
+        self.write(folds, filter, &mut bytes)?;
         Ok(bytes)
     }
 
     /// Appends the form.
     #[tactic(auto, unfolding(crate::specs::PartForms::parts_form))]
-    fn write<B: Allocator>(&self, filter: &Option<Prefilter<A>>, dst: &mut Vec<u8, B>) -> Result<()>
-        ensures written { IfOk result (λ done. dst.new.items ≡ dst.old.items ++ parts_form V.form self.now filter.now) }
+    fn write<B: Allocator>(
+        &self,
+        folds: bool,
+        filter: &Option<Prefilter<A>>,
+        dst: &mut Vec<u8, B>,
+    ) -> Result<()>
+        ensures written { IfOk result (λ done. dst.new.items ≡ dst.old.items ++ parts_form V.form self.now folds filter.now) }
         ensures refused { IfErr result IsOutOfMemory }
     {
         self.standard.serialize_to_vec(dst)?;
         self.leftmost.serialize_to_vec(dst)?;
         self.fails.serialize_to_vec(dst)?;
-        write_ending(&self.outputs, self.kind, self.num_states, filter, dst)
+        let mode = Mode {
+            kind: self.kind,
+            folds,
+        };
+        write_ending(&self.outputs, mode, self.num_states, filter, dst)
     }
 
     /// How long the form is at most, in bytes, or `usize::MAX` where it is more.
@@ -145,7 +157,8 @@ impl<V: Serializable + Copy, A: Allocator> States<V, A> {
 }
 
 impl<V: Serializable + Copy, A: Allocator + Copy> States<V, A> {
-    /// The states and the filter whose written form the bytes begin with, and the bytes behind it.
+    /// The states, the option and the filter whose written form the bytes begin with, and the bytes
+    /// behind it.
     ///
     /// # Errors
     ///
@@ -153,10 +166,10 @@ impl<V: Serializable + Copy, A: Allocator + Copy> States<V, A> {
     pub fn deserialize_unchecked(
         alloc: A,
         src: &[u8],
-    ) -> Result<((Self, Option<Prefilter<A>>), &[u8])>
+    ) -> Result<((Self, bool, Option<Prefilter<A>>), &[u8])>
         requires { BeginsWithAutomaton V.is_value V.form src.now }
-        ensures ok { IfOk result (λ r. (p : Parts V) (filter : Option Filter) (rest : List ℕ) → IsAutomaton V.is_value p filter
-            → src.now ≡ parts_form V.form p filter ++ rest → (r.0.0 ≡ p) × (r.0.1 ≡ filter) × (r.1.now ≡ rest)) }
+        ensures ok { IfOk result (λ r. (p : Parts V) (folds : Bool) (filter : Option Filter) (rest : List ℕ) → IsAutomaton V.is_value p filter
+            → src.now ≡ parts_form V.form p folds filter ++ rest → (r.0.0 ≡ p) × (r.0.1 ≡ folds) × (r.0.2 ≡ filter) × (r.1.now ≡ rest)) }
         ensures err { IfErr result IsOutOfMemory }
     {
         let (lists, rest) = read_lists(alloc, src)?;
@@ -164,16 +177,16 @@ impl<V: Serializable + Copy, A: Allocator + Copy> States<V, A> {
         Ok((read, rest))
     }
 
-    /// The states that the bytes begin with, whoever wrote them, with the filter behind them, if there is one, and
-    /// the bytes that are left. Of the filter nothing is known.
+    /// The states that the bytes begin with, whoever wrote them, with the option and the filter behind them, if there
+    /// is one, and the bytes that are left. Of the option and the filter nothing is known.
     ///
     /// # Errors
     ///
     /// Bytes that give no valid parts, as
     /// [`InvalidAutomaton`](daachorse_core::errors::DaachorseError::InvalidAutomaton) or by what is a value's own, or
     /// out of memory.
-    pub fn deserialize(alloc: A, src: &[u8]) -> Result<((Self, Option<Prefilter<A>>), &[u8])>
-        ensures given { IfOk result (λ r. take_parts V.taken src.now ≡ Some ((r.0.0, r.0.1), r.1.now)) }
+    pub fn deserialize(alloc: A, src: &[u8]) -> Result<((Self, bool, Option<Prefilter<A>>), &[u8])>
+        ensures given { IfOk result (λ r. take_parts V.taken src.now ≡ Some ((r.0.0, (r.0.1, r.0.2)), r.1.now)) }
         ensures valid { IfOk result (λ r. IsValid r.0.0) }
         ensures refused { IfErr result (λ e. IsOutOfMemory e ⊎ HasNoAutomaton (take_parts V.taken src.now)) }
         ensures cause { IfErr result (IsReadRefusal V.own_refusal) }
@@ -186,15 +199,16 @@ impl<V: Serializable + Copy, A: Allocator + Copy> States<V, A> {
         Ok((states, rest))
     }
 
-    /// The states that these lists make up, and the filter.
+    /// The states that these lists make up, the option and the filter.
     ///
     /// # Errors
     ///
     /// An allocation failed.
-    fn of_lists(alloc: A, lists: Lists<V, A>) -> Result<(Self, Option<Prefilter<A>>)>
+    fn of_lists(alloc: A, lists: Lists<V, A>) -> Result<(Self, bool, Option<Prefilter<A>>)>
         requires { IsValid (parts_in lists).0 }
         ensures ok { IfOk result (λ r. r.0 ≡ (parts_in lists).0) }
-        ensures filter { IfOk result (λ r. r.1 ≡ (parts_in lists).1) }
+        ensures folds { IfOk result (λ r. r.1 ≡ (parts_in lists).1.0) }
+        ensures filter { IfOk result (λ r. r.2 ≡ (parts_in lists).1.1) }
         ensures err { IfErr result IsOutOfMemory }
     {
         let Lists {
@@ -205,10 +219,11 @@ impl<V: Serializable + Copy, A: Allocator + Copy> States<V, A> {
         } = lists;
         let Ending {
             outputs,
-            kind,
+            mode,
             num_states,
             filter,
         } = ending;
+        let Mode { kind, folds } = mode;
         let root = if kind.is_leftmost() {
             Vec::new(alloc)
         } else {
@@ -223,6 +238,6 @@ impl<V: Serializable + Copy, A: Allocator + Copy> States<V, A> {
             outputs,
             num_states,
         };
-        Ok((states, filter))
+        Ok((states, folds, filter))
     }
 }

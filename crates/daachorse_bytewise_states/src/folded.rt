@@ -1,0 +1,35 @@
+//! Whether the keys of the automaton are folded.
+//!
+//! The layers above may rely on the answer being right of any states.
+
+ghost use Rattle.std.specs.Prelude.{◌≡◌, true, false, IfOk, IfErr};
+ghost use Rattle.daachorse_core.specs.Refusals.{IsOutOfMemory};
+ghost use Rattle.daachorse_checker.specs.Folded.{HasFoldedKeys};
+ghost use Rattle.daachorse_bytewise_states.specs.Parts.{content};
+
+use crate::states::States;
+use daachorse_checker::folded::is_folded;
+use daachorse_core::errors::Result;
+use std::alloc::Allocator;
+
+impl<V: Copy, A: Allocator + Copy> States<V, A> {
+    /// Whether the states can be those of an automaton with this option: where it finds ASCII
+    /// letters without regard to case, no key has a capital one.
+    ///
+    /// # Errors
+    ///
+    /// An allocation failed.
+    pub fn may_fold(&self, alloc: A, folds: bool) -> Result<bool>
+        ensures yes { IfOk result (λ may. may ≡ true → folds ≡ true → HasFoldedKeys (content self.now)) }
+        ensures no { IfOk result (λ may. may ≡ false → (folds ≡ true → HasFoldedKeys (content self.now)) → ⊥) }
+        ensures err { IfErr result IsOutOfMemory }
+    {
+        // A field is read for what the parts keep.
+        let _num_states = self.num_states;
+        if !folds {
+            return Ok(true);
+        }
+        let folded = is_folded(alloc, self)?;
+        Ok(folded)
+    }
+}

@@ -1,5 +1,5 @@
 -- Where a stepper over the states of an automaton stands, apart from the automaton.
-use Rattle.std.specs.Prelude.{ℕ, ◌≤◌, length, true}
+use Rattle.std.specs.Prelude.{◌≤◌, length, true}
 use Rattle.daachorse_core.specs.Outputs.{outputs_at}
 use Rattle.daachorse_model.specs.Units.{byte_width}
 use Rattle.daachorse_search.specs.declared.find_stepper.FindStanding.{FindStanding}

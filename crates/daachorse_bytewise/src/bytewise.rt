@@ -1,23 +1,27 @@
 //! The automaton over bytes.
 //!
 //! The layers above may rely on a build holding just the dictionary of its patterns, and on each
-//! search giving the whole list of matches that the definitions give for that dictionary.
+//! search giving the whole list of matches that the definitions give for that dictionary, in the
+//! haystack as the automaton's option reads it.
 
-ghost use Rattle.std.specs.Prelude.{◌≡◌, ◌≢◌, ◌⊎◌, ℕ, true, List, [], IfOk, IfErr, OnOk, OnErr, map, take};
+ghost use Rattle.std.specs.Prelude.{◌≡◌, ◌≢◌, ◌⊎◌, ℕ, false, true, List, [], IfOk, IfErr, OnOk, OnErr, map, take};
 ghost use Rattle.std.specs.Iterator.{IsFinite};
 ghost use Rattle.std.specs.Iterator.Runs.{WholeRun};
 ghost use Rattle.std.specs.Option.{option_to_list};
 ghost use Rattle.daachorse_core.specs.Refusals.{IsOutOfMemory};
 ghost use Rattle.daachorse_model.specs.declared.MatchKind.TheVariants.{Standard};
 ghost use Rattle.daachorse_model.specs.Units.{byte_width};
+ghost use Rattle.daachorse_folding.specs.SourceSearches.{BeginsFromAsRead};
+ghost use Rattle.daachorse_folding.specs.Steppers.{BeginsSteppingAsRead};
 ghost use Rattle.daachorse_model.specs.Dictionary.{registered};
+ghost use Rattle.daachorse_model.specs.Folding.{as_read};
 ghost use Rattle.daachorse_model.specs.Leftmost.{leftmost};
 ghost use Rattle.daachorse_model.specs.Matches.{matches_after, no_suffix, overlapping, standard, standard_after};
 ghost use Rattle.daachorse_model.specs.Prefixes.{HasPrefixes, IsListing};
-ghost use Rattle.daachorse_search.specs.Beginnings.{BeginsFrom, BeginsStepping, BeginsWith};
+ghost use Rattle.daachorse_search.specs.Beginnings.{BeginsWith};
 ghost use Rattle.daachorse_search.specs.Filters.{IsSoundFor};
 ghost use Rattle.daachorse_skipping.specs.Asked.{BeginsAsking, lets_pass};
-ghost use Rattle.daachorse_bytewise.specs.Automata.{HasDepths, MayHaveFilter, dictionary_of, kind_of, states_of};
+ghost use Rattle.daachorse_bytewise.specs.Automata.{HasDepths, MayFold, MayHaveFilter, dictionary_of, kind_of, states_of};
 ghost use Rattle.daachorse_core.specs.Seen.{units};
 ghost use Rattle.daachorse_bytewise.specs.Standings.{IsFindStandingIn, IsOverlappingStandingIn};
 ghost use Rattle.daachorse_bytewise.specs.Building.{HoldsPatterns, IsBuildRefusal, IsBuiltOf, IsRefusalOf, kept_filter};
@@ -38,15 +42,16 @@ use crate::bytewise::iter::{
 use crate::bytewise::states::States;
 use daachorse_core::MatchKind;
 use daachorse_core::errors::Result;
+use daachorse_folding::leftmost::LeftmostMatchesAsRead;
+use daachorse_folding::matches::{
+    find_as_read, find_overlapping_as_read, find_overlapping_no_suffix_as_read,
+};
+use daachorse_folding::matches_from::MatchesFromAsRead;
 use daachorse_prefilter::prefilter::{Prefilter, clone_filter};
-use daachorse_search::find::{FindWalk, find_in};
+use daachorse_search::find::FindWalk;
 use daachorse_search::find_stepper::FindStanding;
 use daachorse_search::haystack::Bytes;
-use daachorse_search::leftmost::LeftmostMatches;
-use daachorse_search::matches_from::MatchesFrom;
-use daachorse_search::overlapping::{
-    NoSuffixWalk, OverlappingWalk, find_overlapping_in, find_overlapping_no_suffix_in,
-};
+use daachorse_search::overlapping::{NoSuffixWalk, OverlappingWalk};
 use daachorse_search::overlapping_stepper::OverlappingStanding;
 use daachorse_search::source;
 use daachorse_skipping::skipping::Skipping;
@@ -62,9 +67,14 @@ use std::marker::Model;
 /// whose layout is that of Kanda, Akabe and Oda (arXiv 2207.13870). An element takes 12 bytes, an
 /// output of a `u32` 12, and the filter of an automaton that keeps one is beside them. Searches
 /// take no memory; `quick_start` builds one and prints what it finds.
+///
+/// Where it was built to disregard the case of ASCII letters, each search reads A to Z of its
+/// haystack as a to z, and every other byte as it is.
 #[derive(Drop)]
 pub struct DoubleArrayAhoCorasick<V: Copy, A: Allocator = Global> {
     states: States<V, A>,
+    // Haystacks are read folded. Its patterns then are folded too.
+    folds: bool,
     // Passes at the beginning of each pattern, if it is there.
     filter: Option<Prefilter<A>>,
     // Of each element how many bytes lead to it; empty where depths are not cached.
@@ -76,9 +86,9 @@ impl<V: Copy, A: Allocator> Model for DoubleArrayAhoCorasick<V, A> {
 
     ghost Value = { Automaton V };
 
-    ghost view = { λ a. record { parts = a.states; filter = a.filter; depths = a.depths.items } };
+    ghost view = { λ a. record { parts = a.states; folds = a.folds; filter = a.filter; depths = a.depths.items } };
 
-    ghost invariant = { λ a. IsKept a.states a.filter a.depths.items };
+    ghost invariant = { λ a. IsKept a.states a.folds a.filter a.depths.items };
 }
 
 impl<V: Copy, A: Allocator + Copy> DoubleArrayAhoCorasick<V, A> {
@@ -107,6 +117,7 @@ impl<V: Copy, A: Allocator + Copy> DoubleArrayAhoCorasick<V, A> {
         ensures ok { IfOk result (λ a. (it : P.IntoIter) × P.into_iter_gives patterns it
             × WholeRun P.IntoIter.next_gives it (λ p. IsBuiltOf V.try_from_gives Standard (map (λ t. t.now) p.items) a)) }
         ensures kind { IfOk result (λ a. kind_of a ≡ Standard) }
+        ensures folds { IfOk result (λ a. a.folds ≡ false) }
         ensures filter { IfOk result (λ a. (it : P.IntoIter) × P.into_iter_gives patterns it
             × WholeRun P.IntoIter.next_gives it (λ p. a.filter ≡ kept_filter true (map (λ t. t.now) p.items))) }
         ensures depths { IfOk result (λ a. a.depths ≡ []) }
@@ -142,6 +153,7 @@ impl<V: Copy, A: Allocator + Copy> DoubleArrayAhoCorasick<V, A> {
         ensures ok { IfOk result (λ a. (it : P.IntoIter) × P.into_iter_gives patvals it
             × WholeRun P.IntoIter.next_gives it (λ p. HoldsPatterns Standard (registered p.items) a)) }
         ensures kind { IfOk result (λ a. kind_of a ≡ Standard) }
+        ensures folds { IfOk result (λ a. a.folds ≡ false) }
         ensures filter { IfOk result (λ a. (it : P.IntoIter) × P.into_iter_gives patvals it
             × WholeRun P.IntoIter.next_gives it (λ p. a.filter ≡ kept_filter true (map (λ t. t.0.now) p.items))) }
         ensures depths { IfOk result (λ a. a.depths ≡ []) }
@@ -153,15 +165,24 @@ impl<V: Copy, A: Allocator + Copy> DoubleArrayAhoCorasick<V, A> {
 }
 
 impl<V: Copy, A: Allocator + Copy> DoubleArrayAhoCorasick<V, A> {
-    /// The automaton of these states and this filter, if there is one, with no depths cached.
-    pub(crate) fn of_states(alloc: A, states: States<V, A>, filter: Option<Prefilter<A>>) -> Self
-        requires { MayHaveFilter states filter }
+    /// The automaton of these states and this filter, if there is one, with no depths cached. It
+    /// reads haystacks folded where `folds` says so.
+    pub(crate) fn of_states(
+        alloc: A,
+        states: States<V, A>,
+        folds: bool,
+        filter: Option<Prefilter<A>>,
+    ) -> Self
+        requires folded { MayFold states folds }
+        requires filter { MayHaveFilter states filter }
         ensures states { states_of result ≡ states }
+        ensures folds { result.folds ≡ folds }
         ensures filter { result.filter ≡ filter }
         ensures depths { result.depths ≡ [] }
     {
         Self {
             states,
+            folds,
             filter,
             depths: Vec::new(alloc),
         }
@@ -186,6 +207,7 @@ impl<V: Copy, A: Allocator + Copy> DoubleArrayAhoCorasick<V, A> {
     pub fn cache_depths(&mut self) -> Result<()>
         requires { kind_of self.old ≡ Standard }
         ensures states { states_of self.new ≡ states_of self.old }
+        ensures folds { self.new.folds ≡ self.old.folds }
         ensures filter { self.new.filter ≡ self.old.filter }
         ensures ok { OnOk result (HasDepths self.new) }
         ensures unchanged { OnErr result (self.new ≡ self.old) }
@@ -232,13 +254,15 @@ impl<V: Copy, A: Allocator + Copy> DoubleArrayAhoCorasick<V, A> {
         let depths = Vec::from_slice(*self.depths.allocator(), &self.depths)?;
         Ok(Self {
             states: self.states.clone()?,
+            folds: self.folds,
             filter: clone_filter(&self.filter)?,
             depths,
         })
     }
 }
 
-/// Automata are equal where all that they keep is equal, the filter and the cached depths included.
+/// Automata are equal where all that they keep is equal, the option, the filter and the cached
+/// depths included.
 impl<V: Copy + PartialEq, A: Allocator> PartialEq for DoubleArrayAhoCorasick<V, A> {
     ghost use Rattle.daachorse_bytewise_states.specs.Equality.{parts_per};
     ghost use Rattle.daachorse_listing.specs.Automata.{automaton_per};
@@ -250,7 +274,9 @@ impl<V: Copy + PartialEq, A: Allocator> PartialEq for DoubleArrayAhoCorasick<V, 
     ghost laws = { automaton_per filter_equiv (parts_per V.laws) };
 
     fn eq(&self, other: &Self) -> bool {
-        self.states == other.states && (self.filter == other.filter && self.depths == other.depths)
+        self.states == other.states
+            && (self.folds == other.folds
+                && (self.filter == other.filter && self.depths == other.depths))
     }
 }
 
@@ -274,6 +300,7 @@ impl<V: Copy + Hash, A: Allocator> Hash for DoubleArrayAhoCorasick<V, A> {
 
     fn hash<H: Hasher>(&self, state: &mut H) {
         self.states.hash(state);
+        self.folds.hash(state);
         self.filter.hash(state);
         self.depths.hash(state);
     }
@@ -287,6 +314,16 @@ impl<V: Copy, A: Allocator> DoubleArrayAhoCorasick<V, A> {
         ensures { result ≡ kind_of self.now }
     {
         self.states.kind()
+    }
+
+    /// Returns whether the searches disregard the case of ASCII letters.
+    ///
+    /// It is kept, and nothing is read. [`DoubleArrayAhoCorasickBuilder::ascii_case_insensitive`]
+    /// sets it for a build.
+    pub fn is_ascii_case_insensitive(&self) -> bool
+        ensures { result ≡ self.now.folds }
+    {
+        self.folds
     }
 
     /// Returns the number of states.
@@ -330,14 +367,15 @@ impl<V: Copy, A: Allocator> DoubleArrayAhoCorasick<V, A> {
     #[tactic(auto, using(daachorse_bytewise_states::proofs::DeadLaws::alive))]
     pub fn find_iter<'a>(&'a self, haystack: &'a [u8]) -> FindSliceIterator<'a, V, A>
         requires { kind_of self.now ≡ Standard }
-        ensures begins { BeginsWith (states_of self.entry.now) haystack.entry.now
-            (standard byte_width (dictionary_of self.entry.now) haystack.entry.now) result }
+        ensures begins { BeginsWith (states_of self.entry.now) (as_read self.entry.now.folds haystack.entry.now)
+            (standard byte_width (dictionary_of self.entry.now) (as_read self.entry.now.folds haystack.entry.now)) result }
         ensures asks { BeginsAsking self.entry.now.filter result.filter }
     {
-        find_in(
+        find_as_read(
             self.states.standard(),
             Bytes::new(haystack),
             self.skipping(),
+            self.folds,
         )
     }
 
@@ -361,12 +399,13 @@ impl<V: Copy, A: Allocator> DoubleArrayAhoCorasick<V, A> {
         haystack: P,
     ) -> FindIterator<'a, P, V>
         requires { kind_of self.now ≡ Standard }
-        ensures { BeginsFrom (states_of self.entry.now) haystack
-            (option_to_list (standard_after byte_width (dictionary_of self.entry.now) [])) result }
+        ensures { BeginsFromAsRead (states_of self.entry.now) haystack
+            (option_to_list (standard_after byte_width (dictionary_of self.entry.now) [])) self.entry.now.folds result }
     {
-        MatchesFrom::new(
+        MatchesFromAsRead::new(
             FindWalk::new(self.states.standard()),
             source::Bytes::new(haystack),
+            self.folds,
         )
     }
 
@@ -392,14 +431,15 @@ impl<V: Copy, A: Allocator> DoubleArrayAhoCorasick<V, A> {
         haystack: &'a [u8],
     ) -> FindOverlappingSliceIterator<'a, V, A>
         requires { kind_of self.now ≡ Standard }
-        ensures begins { BeginsWith (states_of self.entry.now) haystack.entry.now
-            (overlapping byte_width (dictionary_of self.entry.now) haystack.entry.now) result }
+        ensures begins { BeginsWith (states_of self.entry.now) (as_read self.entry.now.folds haystack.entry.now)
+            (overlapping byte_width (dictionary_of self.entry.now) (as_read self.entry.now.folds haystack.entry.now)) result }
         ensures asks { BeginsAsking self.entry.now.filter result.filter }
     {
-        find_overlapping_in(
+        find_overlapping_as_read(
             self.states.standard(),
             Bytes::new(haystack),
             self.skipping(),
+            self.folds,
         )
     }
 
@@ -423,12 +463,13 @@ impl<V: Copy, A: Allocator> DoubleArrayAhoCorasick<V, A> {
         haystack: P,
     ) -> FindOverlappingIterator<'a, P, V>
         requires { kind_of self.now ≡ Standard }
-        ensures { BeginsFrom (states_of self.entry.now) haystack
-            (matches_after byte_width (dictionary_of self.entry.now) []) result }
+        ensures { BeginsFromAsRead (states_of self.entry.now) haystack
+            (matches_after byte_width (dictionary_of self.entry.now) []) self.entry.now.folds result }
     {
-        MatchesFrom::new(
+        MatchesFromAsRead::new(
             OverlappingWalk::new(self.states.standard()),
             source::Bytes::new(haystack),
+            self.folds,
         )
     }
 
@@ -454,14 +495,15 @@ impl<V: Copy, A: Allocator> DoubleArrayAhoCorasick<V, A> {
         haystack: &'a [u8],
     ) -> FindOverlappingNoSuffixSliceIterator<'a, V, A>
         requires { kind_of self.now ≡ Standard }
-        ensures begins { BeginsWith (states_of self.entry.now) haystack.entry.now
-            (no_suffix byte_width (dictionary_of self.entry.now) haystack.entry.now) result }
+        ensures begins { BeginsWith (states_of self.entry.now) (as_read self.entry.now.folds haystack.entry.now)
+            (no_suffix byte_width (dictionary_of self.entry.now) (as_read self.entry.now.folds haystack.entry.now)) result }
         ensures asks { BeginsAsking self.entry.now.filter result.filter }
     {
-        find_overlapping_no_suffix_in(
+        find_overlapping_no_suffix_as_read(
             self.states.standard(),
             Bytes::new(haystack),
             self.skipping(),
+            self.folds,
         )
     }
 
@@ -485,12 +527,13 @@ impl<V: Copy, A: Allocator> DoubleArrayAhoCorasick<V, A> {
         haystack: P,
     ) -> FindOverlappingNoSuffixIterator<'a, P, V>
         requires { kind_of self.now ≡ Standard }
-        ensures { BeginsFrom (states_of self.entry.now) haystack
-            (take 1 (matches_after byte_width (dictionary_of self.entry.now) [])) result }
+        ensures { BeginsFromAsRead (states_of self.entry.now) haystack
+            (take 1 (matches_after byte_width (dictionary_of self.entry.now) [])) self.entry.now.folds result }
     {
-        MatchesFrom::new(
+        MatchesFromAsRead::new(
             NoSuffixWalk::new(self.states.standard()),
             source::Bytes::new(haystack),
+            self.folds,
         )
     }
 
@@ -517,14 +560,15 @@ impl<V: Copy, A: Allocator> DoubleArrayAhoCorasick<V, A> {
     #[tactic(auto, using(daachorse_bytewise_states::proofs::DeadLaws::is_leftmost_automaton))]
     pub fn leftmost_find_iter<'a>(&'a self, haystack: &'a [u8]) -> LeftmostFindIterator<'a, V, A>
         requires { kind_of self.now ≢ Standard }
-        ensures begins { BeginsWith (states_of self.entry.now) haystack.entry.now
-            (leftmost byte_width (dictionary_of self.entry.now) haystack.entry.now) result }
+        ensures begins { BeginsWith (states_of self.entry.now) (as_read self.entry.now.folds haystack.entry.now)
+            (leftmost byte_width (dictionary_of self.entry.now) (as_read self.entry.now.folds haystack.entry.now)) result }
         ensures asks { BeginsAsking self.entry.now.filter result.filter }
     {
-        LeftmostMatches::with_filter(
+        LeftmostMatchesAsRead::new(
             self.states.leftmost(),
             Bytes::new(haystack),
             self.skipping(),
+            self.folds,
         )
     }
 
@@ -542,9 +586,9 @@ impl<V: Copy, A: Allocator> DoubleArrayAhoCorasick<V, A> {
     #[tactic(auto, using(daachorse_bytewise_states::proofs::DeadLaws::alive))]
     pub fn find_stepper<'a>(&'a self) -> FindStepper<'a, V>
         requires { kind_of self.now ≡ Standard }
-        ensures { BeginsStepping (states_of self.entry.now) self.entry.now.depths result }
+        ensures { BeginsSteppingAsRead (states_of self.entry.now) self.entry.now.depths self.entry.now.folds result }
     {
-        FindStepper::new(self.states.standard(), &self.depths)
+        FindStepper::new(self.states.standard(), &self.depths, self.folds)
     }
 
     /// Starts the search of [`Self::find_overlapping_iter`], to be given one byte at a time.
@@ -561,9 +605,9 @@ impl<V: Copy, A: Allocator> DoubleArrayAhoCorasick<V, A> {
     #[tactic(auto, using(daachorse_bytewise_states::proofs::DeadLaws::alive))]
     pub fn find_overlapping_stepper<'a>(&'a self) -> FindOverlappingStepper<'a, V>
         requires { kind_of self.now ≡ Standard }
-        ensures { BeginsStepping (states_of self.entry.now) self.entry.now.depths result }
+        ensures { BeginsSteppingAsRead (states_of self.entry.now) self.entry.now.depths self.entry.now.folds result }
     {
-        FindOverlappingStepper::new(self.states.standard(), &self.depths)
+        FindOverlappingStepper::new(self.states.standard(), &self.depths, self.folds)
     }
 
     /// Goes on with a search of [`Self::find_stepper`] from where one over this automaton stood.
@@ -580,9 +624,10 @@ impl<V: Copy, A: Allocator> DoubleArrayAhoCorasick<V, A> {
         requires stands { IsFindStandingIn (states_of self.now) standing }
         ensures automaton { result.automaton ≡ states_of self.entry.now }
         ensures depths { result.depths ≡ self.entry.now.depths }
+        ensures folds { result.folds ≡ self.entry.now.folds }
         ensures read { result.read ≡ units standing.walk.seen }
     {
-        FindStepper::resume(self.states.standard(), &self.depths, standing)
+        FindStepper::resume(self.states.standard(), &self.depths, standing, self.folds)
     }
 
     /// Goes on with a search of [`Self::find_overlapping_stepper`] from where one over this automaton
@@ -603,8 +648,9 @@ impl<V: Copy, A: Allocator> DoubleArrayAhoCorasick<V, A> {
         requires stands { IsOverlappingStandingIn (states_of self.now) standing }
         ensures automaton { result.automaton ≡ states_of self.entry.now }
         ensures depths { result.depths ≡ self.entry.now.depths }
+        ensures folds { result.folds ≡ self.entry.now.folds }
         ensures read { result.read ≡ units standing.walk.seen }
     {
-        FindOverlappingStepper::resume(self.states.standard(), &self.depths, standing)
+        FindOverlappingStepper::resume(self.states.standard(), &self.depths, standing, self.folds)
     }
 }

@@ -4,6 +4,7 @@
 //! automaton is, and on an answer that says whether a pattern occurs anywhere.
 
 ghost use Rattle.std.specs.Prelude.{◌≡◌, ◌≢◌, ◌↔◌, IsTrue, [], slice_get};
+ghost use Rattle.daachorse_model.specs.Folding.{as_read};
 ghost use Rattle.daachorse_model.specs.Units.{byte_width};
 ghost use Rattle.daachorse_model.specs.Matches.{overlapping};
 ghost use Rattle.daachorse_replacing.specs.ByKind.{non_overlapping};
@@ -25,7 +26,7 @@ impl<V: Copy, A: Allocator> DoubleArrayAhoCorasick<V, A> {
     /// Places count bytes. It costs what the first step of that search costs. `daachorse_tests`
     /// runs it.
     pub fn find(&self, haystack: &[u8]) -> Option<Match<V>>
-        ensures { result ≡ slice_get (non_overlapping (kind_of self.now) byte_width (dictionary_of self.now) haystack.now) 0 }
+        ensures { result ≡ slice_get (non_overlapping (kind_of self.now) byte_width (dictionary_of self.now) (as_read self.now.folds haystack.now)) 0 }
     {
         match self.match_kind() {
             MatchKind::Standard => self.find_iter(haystack).next(),
@@ -43,7 +44,7 @@ impl<V: Copy, A: Allocator> DoubleArrayAhoCorasick<V, A> {
     ///
     /// It costs what [`Self::find`] costs. `daachorse_tests` runs it.
     pub fn is_match(&self, haystack: &[u8]) -> bool
-        ensures { IsTrue result ↔ (overlapping byte_width (dictionary_of self.now) haystack.now ≢ []) }
+        ensures { IsTrue result ↔ (overlapping byte_width (dictionary_of self.now) (as_read self.now.folds haystack.now) ≢ []) }
     {
         self.find(haystack).is_some()
     }

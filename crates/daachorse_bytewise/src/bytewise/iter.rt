@@ -1,4 +1,5 @@
-//! The searches of the automaton over bytes: those of the engine, over its states.
+//! The searches of the automaton over bytes: those of the engine, over its states, which read their
+//! bytes as they are or folded, as the automaton's option says.
 //!
 //! The layers above may rely on the list of the matches that are left of a search in a slice, which
 //! each call takes the first off; on a search in a source giving a match before it takes a byte
@@ -10,13 +11,15 @@
 mod patterns;
 
 use crate::bytewise::states::{Leftmost, Standard};
+use daachorse_folding::find_stepper::FindStepperAsRead;
+use daachorse_folding::leftmost::LeftmostMatchesAsRead;
+use daachorse_folding::matches::MatchesAsRead;
+use daachorse_folding::matches_from::MatchesFromAsRead;
+use daachorse_folding::overlapping_stepper::FindOverlappingStepperAsRead;
 use daachorse_search::ending_here::EndingHere;
 use daachorse_search::find::FindWalk;
-use daachorse_search::leftmost::LeftmostMatches;
-use daachorse_search::matches::Matches;
-use daachorse_search::matches_from::MatchesFrom;
 use daachorse_search::overlapping::{NoSuffixWalk, OverlappingWalk};
-use daachorse_search::{find_stepper, haystack, overlapping_stepper, source};
+use daachorse_search::{haystack, source};
 use daachorse_skipping::skipping::Skipping;
 pub use patterns::PatternIterator;
 use std::alloc::Global;
@@ -28,7 +31,7 @@ use std::alloc::Global;
 ///
 /// The automaton's `find_iter` makes it. It takes no memory, and at most two turns, which are looks
 /// at one state, for each byte that it passed: `turns_are_bounded` promises it.
-pub type FindSliceIterator<'a, V, A = Global> = Matches<
+pub type FindSliceIterator<'a, V, A = Global> = MatchesAsRead<
     V,
     FindWalk<V, Standard<'a, V>>,
     haystack::Bytes<'a>,
@@ -41,7 +44,11 @@ pub type FindSliceIterator<'a, V, A = Global> = Matches<
 ///
 /// The automaton's `find_iter_from_iter` makes it. It takes no memory, and at most two turns, which
 /// are looks at one state, for each byte that it passed: `turns_are_bounded` promises it.
-pub type FindIterator<'a, P, V> = MatchesFrom<V, FindWalk<V, Standard<'a, V>>, source::Bytes<P>>;
+pub type FindIterator<'a, P, V> = MatchesFromAsRead<
+    V,
+    FindWalk<V, Standard<'a, V>>,
+    source::Bytes<P>,
+>;
 
 /// An iterator over all matches in a slice, by rising ends.
 ///
@@ -49,7 +56,7 @@ pub type FindIterator<'a, P, V> = MatchesFrom<V, FindWalk<V, Standard<'a, V>>, s
 ///
 /// The automaton's `find_overlapping_iter` makes it. It takes no memory, and at most two turns,
 /// which are looks at one state, for each byte that it passed: `turns_are_bounded` promises it.
-pub type FindOverlappingSliceIterator<'a, V, A = Global> = Matches<
+pub type FindOverlappingSliceIterator<'a, V, A = Global> = MatchesAsRead<
     V,
     OverlappingWalk<V, Standard<'a, V>>,
     haystack::Bytes<'a>,
@@ -63,7 +70,7 @@ pub type FindOverlappingSliceIterator<'a, V, A = Global> = Matches<
 /// The automaton's `find_overlapping_iter_from_iter` makes it. It takes no memory, and at most two
 /// turns, which are looks at one state, for each byte that it passed: `turns_are_bounded` promises
 /// it.
-pub type FindOverlappingIterator<'a, P, V> = MatchesFrom<
+pub type FindOverlappingIterator<'a, P, V> = MatchesFromAsRead<
     V,
     OverlappingWalk<V, Standard<'a, V>>,
     source::Bytes<P>,
@@ -76,7 +83,7 @@ pub type FindOverlappingIterator<'a, P, V> = MatchesFrom<
 /// The automaton's `find_overlapping_no_suffix_iter` makes it. It takes no memory, and at most two
 /// turns, which are looks at one state, for each byte that it passed: `turns_are_bounded` promises
 /// it.
-pub type FindOverlappingNoSuffixSliceIterator<'a, V, A = Global> = Matches<
+pub type FindOverlappingNoSuffixSliceIterator<'a, V, A = Global> = MatchesAsRead<
     V,
     NoSuffixWalk<V, Standard<'a, V>>,
     haystack::Bytes<'a>,
@@ -90,7 +97,7 @@ pub type FindOverlappingNoSuffixSliceIterator<'a, V, A = Global> = Matches<
 /// The automaton's `find_overlapping_no_suffix_iter_from_iter` makes it. It takes no memory, and at
 /// most two turns, which are looks at one state, for each byte that it passed: `turns_are_bounded`
 /// promises it.
-pub type FindOverlappingNoSuffixIterator<'a, P, V> = MatchesFrom<
+pub type FindOverlappingNoSuffixIterator<'a, P, V> = MatchesFromAsRead<
     V,
     NoSuffixWalk<V, Standard<'a, V>>,
     source::Bytes<P>,
@@ -103,7 +110,7 @@ pub type FindOverlappingNoSuffixIterator<'a, P, V> = MatchesFrom<
 /// The automaton's `leftmost_find_iter` makes it. It takes no memory. After `g` matches it has
 /// taken at most two turns, which are looks at one state, for each byte that it passed, and four
 /// times the bytes of the longest pattern for each match: `turns_are_bounded` promises it.
-pub type LeftmostFindIterator<'a, V, A = Global> = LeftmostMatches<
+pub type LeftmostFindIterator<'a, V, A = Global> = LeftmostMatchesAsRead<
     V,
     Leftmost<'a, V>,
     haystack::Bytes<'a>,
@@ -114,17 +121,13 @@ pub type LeftmostFindIterator<'a, V, A = Global> = LeftmostMatches<
 ///
 /// The automaton's `find_stepper` makes it. It takes no memory, and at most two turns, which are
 /// looks at one state, for each byte that it passed: `turns_are_bounded` promises it.
-pub type FindStepper<'a, V> = find_stepper::FindStepper<'a, V, Standard<'a, V>>;
+pub type FindStepper<'a, V> = FindStepperAsRead<'a, V, Standard<'a, V>>;
 
 /// A search for all matches that is given one byte at a time.
 ///
 /// The automaton's `find_overlapping_stepper` makes it. It takes no memory, and at most two turns,
 /// which are looks at one state, for each byte that it passed: `turns_are_bounded` promises it.
-pub type FindOverlappingStepper<'a, V> = overlapping_stepper::FindOverlappingStepper<
-    'a,
-    V,
-    Standard<'a, V>,
->;
+pub type FindOverlappingStepper<'a, V> = FindOverlappingStepperAsRead<'a, V, Standard<'a, V>>;
 
 /// An iterator over the matches that end with the bytes that a stepper consumed, the longest first.
 /// It keeps its place while the stepper goes on.

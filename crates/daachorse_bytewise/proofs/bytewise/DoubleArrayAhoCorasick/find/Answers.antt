@@ -1,5 +1,6 @@
 -- What the search that the kind names gives first is the first of all its matches.
 use Rattle.std.proofs.Common.{◌∙◌}
+use Rattle.daachorse_model.specs.Folding.{as_read}
 use Rattle.daachorse_model.specs.Units.{byte_width}
 use Rattle.daachorse_search.specs.LeftmostSearches.{StandsBehind}
 use Rattle.daachorse_search.specs.Matches.{StandsAtEnd}
@@ -9,10 +10,10 @@ use Rattle.daachorse_bytewise.proofs.bytewise.DoubleArrayAhoCorasick.find.Goals 
 
 pub returns-in-Standard : goal.returns-in-Standard
 returns-in-Standard g c =
-    let all = c.find_iter.ensures.begins.left ∙ standard_named byte_width (dictionary_of c.args.self.now) c.match_kind.result (kind_of c.args.self.now) c.args.haystack.now c.in-Standard.is c.match_kind.ensures in
+    let all = c.find_iter.ensures.begins.left ∙ standard_named byte_width (dictionary_of c.args.self.now) c.match_kind.result (kind_of c.args.self.now) (as_read c.args.self.now.folds c.args.haystack.now) c.in-Standard.is c.match_kind.ensures in
     first_of_search (StandsAtEnd byte_width) c.find_iter.result c.next.result c.next.new.self _ c.next.ensures.steps all
 
 pub returns-in-LeftmostLongest : goal.returns-in-LeftmostLongest
 returns-in-LeftmostLongest g c =
-    let all = c.leftmost_find_iter.ensures.begins.left ∙ leftmost_named byte_width (dictionary_of c.args.self.now) c.match_kind.result (kind_of c.args.self.now) c.args.haystack.now c.in-LeftmostLongest.is c.match_kind.ensures in
+    let all = c.leftmost_find_iter.ensures.begins.left ∙ leftmost_named byte_width (dictionary_of c.args.self.now) c.match_kind.result (kind_of c.args.self.now) (as_read c.args.self.now.folds c.args.haystack.now) c.in-LeftmostLongest.is c.match_kind.ensures in
     first_of_search (StandsBehind byte_width) c.leftmost_find_iter.result c.next-in-LeftmostLongest.result c.next-in-LeftmostLongest.new.self _ c.next-in-LeftmostLongest.ensures.steps all

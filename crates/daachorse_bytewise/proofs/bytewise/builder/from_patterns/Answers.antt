@@ -1,47 +1,58 @@
--- The states are built of the trie of the patterns; the limit on the elements is tested last. The filter passes at each key.
-use Rattle.std.proofs.Common.{◌≡◌, ◌∙◌, ℕ, List, ap, sym, subst, Some}
+-- Patterns that are not to be folded stand as they are read; else their folded copies do, which are lent to the build.
+use Rattle.std.proofs.Common.{◌≡◌, ◌∙◌, ℕ, Bool, List, map, refl, ap, sym}
 use Rattle.std.specs.Borrow.{Bor}
-use Rattle.std.proofs.lemmas.Result.{err_from_is_err_and}
-use Rattle.daachorse_model.specs.Dictionary.{dictionary, registered}
-use Rattle.daachorse_model.specs.Units.{byte_width}
-use Rattle.daachorse_bytewise_states.specs.Parts.{Parts, content}
-use Rattle.daachorse_prefilter.proofs.KeyLaws.{passes_along}
+use Rattle.std.proofs.lemmas.Result.{IfOk-weaker}
+use Rattle.daachorse_model.specs.Dictionary.{registered}
+use Rattle.daachorse_patterns.specs.Folding.{all_as_read, texts_as_read}
+use Rattle.daachorse_patterns.specs.Patterns.{texts_of}
 use Rattle.daachorse_patterns.proofs.FilterLaws.{texts-first}
-use Rattle.daachorse_patterns.proofs.LinksBack.{links_back}
-use Rattle.daachorse_patterns.proofs.RefusalLaws.{elements_refused, refused_before}
-use Rattle.daachorse_bytewise.specs.Building.{byte_limits, kept_filter}
+use Rattle.daachorse_patterns.proofs.TextLaws.{first-as_read, lent_read, read_stands}
+use Rattle.daachorse_bytewise.specs.Building.{kept_filter}
 use Rattle.daachorse_bytewise.proofs.bytewise.builder.from_patterns.Goals as goal
 
-pub returns-in_err-nfa-clause-err : goal.returns-in_err-nfa-clause-err
-returns-in_err-nfa-clause-err g c =
-    let p = err_from_is_err_and c.from_residual.result c.from_residual.ensures.1 in
-    rw (p.1, p.2) (refused_before byte_width byte_limits c.args.settings.now.match_kind (registered c.args.patterns.now) c.in_err-nfa.field-0.0 c.in_err-nfa.ensures.err)
-
-pub profile_of-requires : goal.profile_of-requires
-profile_of-requires g c =
-    links_back byte_width (Some 16777215) c.args.settings.now.match_kind c.in_ok-nfa.nfa (dictionary c.args.settings.now.match_kind (registered c.args.patterns.now)) c.in_ok-nfa.ensures.ok
-
-pub build-requires-clause-built : goal.build-requires-clause-built
-build-requires-clause-built g c = (dictionary c.args.settings.now.match_kind (registered c.args.patterns.now), c.in_ok-nfa.ensures.ok)
-
-pub returns-in_err-states-clause-err : goal.returns-in_err-states-clause-err
-returns-in_err-states-clause-err g c =
-    let p = err_from_is_err_and c.from_residual-in_err-states.result c.from_residual-in_err-states.ensures.1 in
-    let rs = registered c.args.patterns.now in
-    rw (p.1, p.2) (elements_refused byte_width byte_limits c.args.settings.now.match_kind rs c.in_ok-nfa.ensures.fit c.in_ok-nfa.ensures.few c.in_err-states.field-0.0 _ (λ passed. passed (dictionary c.args.settings.now.match_kind rs) c.in_ok-nfa.ensures.ok) c.in_err-states.ensures.err)
-
-pub of_states-requires : goal.of_states-requires
-of_states-requires g c =
-    let K = dictionary c.args.settings.now.match_kind (registered c.args.patterns.now) in
-    passes_along (λ w. w) K (content c.in_ok-states.states) (c.in_ok-states.ensures.ok K c.in_ok-nfa.ensures.ok) c.in_ok-filter.filter (c.in_ok-filter.ensures.passes c.args.settings.now.match_kind)
-
-pub returns-clause-filter : goal.returns-clause-filter
-returns-clause-filter g c =
+-- the texts of what is lent are those of the patterns, as they are read
+texts : {V : Type 0} (folds : Bool) (ps lends : List (Bor (List ℕ) × V)) → registered lends ≡ texts_as_read folds (registered ps) → map (λ p. p.0.now) lends ≡ all_as_read folds (map (λ p. p.0.now) ps)
+texts {V} folds ps lends is =
     let units : Bor (List ℕ) → List ℕ = λ p. p.now in
-    c.of_states.ensures.filter ∙ (c.in_ok-filter.ensures.ok ∙ ap (kept_filter c.args.settings.now.use_prefilter) (texts-first units c.args.patterns.now))
+    let first : List (List ℕ × V) → List (List ℕ) = map (λ r. r.0) in
+    sym (texts-first units lends) ∙ ap first is ∙ first-as_read folds (registered ps) ∙ ap (all_as_read folds) (texts-first units ps)
+
+pub from_read-requires : goal.from_read-requires
+from_read-requires g c = rw c.if-not-settings.true refl
+
+pub returns-then-not-settings-clause-ok : goal.returns-then-not-settings-clause-ok
+returns-then-not-settings-clause-ok g c = rw c.if-not-settings.true c.from_read.ensures.ok
+
+pub returns-then-not-settings-clause-filter : goal.returns-then-not-settings-clause-filter
+returns-then-not-settings-clause-filter g c = rw c.if-not-settings.true c.from_read.ensures.filter
+
+pub returns-then-not-settings-clause-err : goal.returns-then-not-settings-clause-err
+returns-then-not-settings-clause-err g c = rw c.if-not-settings.true c.from_read.ensures.err
+
+pub from_read-requires-2 : goal.from_read-requires-2
+from_read-requires-2 g c =
+    let rs = registered c.args.patterns.now in
+    read_stands c.args.settings.now.ascii_case_insensitive rs (registered c.deref-2.result.now)
+    (lent_read c.args.settings.now.ascii_case_insensitive rs (registered c.deref-2.result.now) _ c.if-not-settings.false (ap registered c.deref-2.ensures.value ∙ c.in_ok-folded.ensures.ok)
+    (ap (texts_of (λ x. x.items)) c.deref.ensures.value ∙ c.in_ok-copies.ensures.ok))
 
 pub returns-clause-ok : goal.returns-clause-ok
 returns-clause-ok g c =
-    let K = dictionary c.args.settings.now.match_kind (registered c.args.patterns.now) in
-    let P : Parts g.row.V.Denot → Type 0 = λ p. (w : List ℕ) → content p w ≡ K w in
-    subst P (sym c.of_states.ensures.states) (c.in_ok-states.ensures.ok K c.in_ok-nfa.ensures.ok)
+    let is =
+    lent_read c.args.settings.now.ascii_case_insensitive (registered c.args.patterns.now) (registered c.deref-2.result.now) _ c.if-not-settings.false (ap registered c.deref-2.ensures.value ∙ c.in_ok-folded.ensures.ok)
+    (ap (texts_of (λ x. x.items)) c.deref.ensures.value ∙ c.in_ok-copies.ensures.ok) in
+    rw is at c.from_read-2.ensures.ok
+
+pub returns-clause-err : goal.returns-clause-err
+returns-clause-err g c =
+    let is =
+    lent_read c.args.settings.now.ascii_case_insensitive (registered c.args.patterns.now) (registered c.deref-2.result.now) _ c.if-not-settings.false (ap registered c.deref-2.ensures.value ∙ c.in_ok-folded.ensures.ok)
+    (ap (texts_of (λ x. x.items)) c.deref.ensures.value ∙ c.in_ok-copies.ensures.ok) in
+    rw is at c.from_read-2.ensures.err
+
+pub returns-clause-filter : goal.returns-clause-filter
+returns-clause-filter g c =
+    let is =
+    lent_read c.args.settings.now.ascii_case_insensitive (registered c.args.patterns.now) (registered c.deref-2.result.now) _ c.if-not-settings.false (ap registered c.deref-2.ensures.value ∙ c.in_ok-folded.ensures.ok)
+    (ap (texts_of (λ x. x.items)) c.deref.ensures.value ∙ c.in_ok-copies.ensures.ok) in
+    IfOk-weaker c.from_read-2.result _ _ (λ a same. same ∙ ap (kept_filter c.args.settings.now.use_prefilter) (texts c.args.settings.now.ascii_case_insensitive c.args.patterns.now c.deref-2.result.now is)) c.from_read-2.ensures.filter

@@ -1,8 +1,9 @@
--- What callers see of an automaton over characters: the patterns that it holds, the kind of its searches, its states, its filter, if it has one, and the depths of its elements where they are cached, in characters.
-use Rattle.std.specs.Prelude.{ℕ, Bool, List, Option, encode_utf8_all, length}
+-- What callers see of an automaton over characters: the patterns that it holds, the kind of its searches, its states, whether haystacks are folded, its filter, if it has one, and the depths of its elements where they are cached, in characters.
+use Rattle.std.specs.Prelude.{◌≡◌, ℕ, Bool, true, List, Option, encode_utf8_all, length}
 use Rattle.std.specs.Hash.{HashWrites}
 use Rattle.daachorse_model.specs.declared.MatchKind.{MatchKind}
 use Rattle.daachorse_model.specs.Dictionary.{Dictionary}
+use Rattle.daachorse_checker.specs.Folded.{HasFoldedKeys}
 use Rattle.daachorse_mapper.specs.Codings.{Coding}
 use Rattle.daachorse_listing.specs.Automata.{Automaton as Kept, MayHaveDepths as MayHave, automaton_eq as kept_eq, automaton_input as kept_input}
 use Rattle.daachorse_prefilter.specs.Equality.{filter_eq, filter_input}
@@ -43,16 +44,21 @@ module _ {V : Type 0} (a : Automaton V) where
 abbrev pub MayHaveDepths : {V : Type 0} → Parts V → List ℕ → Type 0
 MayHaveDepths p depths = MayHave (child p) (length p.coding.table) (count p) depths
 
+-- the patterns are folded where haystacks are
+abbrev pub MayFold : {V : Type 0} → Parts V → Bool → Type 0
+MayFold p folds = folds ≡ true → HasFoldedKeys (content p)
+
 -- there is no filter, or one that passes at the beginning of the UTF-8 of each pattern
 abbrev pub MayHaveFilter : {V : Type 0} → Parts V → Option Filter → Type 0
 MayHaveFilter p filter = PassesKeys encode_utf8_all (content p) filter
 
 -- what an automaton keeps beside its parts fits them
-pub record IsKept {V : Type 0} (p : Parts V) (f : Option Filter) (ds : List ℕ) : Type 0 where
+pub record IsKept {V : Type 0} (p : Parts V) (folds : Bool) (f : Option Filter) (ds : List ℕ) : Type 0 where
+  pub folded : MayFold p folds
   pub filter : MayHaveFilter p f
   pub depths : MayHaveDepths p ds
 
--- all that the automata keep is equal, the filters and the cached depths included
+-- all that the automata keep is equal, the options, the filters and the cached depths included
 abbrev pub automaton_eq : {V : Type 0} → (V → V → Bool) → Automaton V → Automaton V → Bool
 automaton_eq E = kept_eq (parts_eq E) filter_eq
 

@@ -1,9 +1,10 @@
 //! The automaton over characters.
 //!
 //! The layers above may rely on a build holding just the dictionary of its patterns, and on each
-//! search giving the whole list of matches that the definitions give for that dictionary.
+//! search giving the whole list of matches that the definitions give for that dictionary, in the
+//! haystack as the automaton's option reads it.
 
-ghost use Rattle.std.specs.Prelude.{◌≡◌, ◌≢◌, ◌⊎◌, true, [], IfOk, IfErr, OnOk, OnErr, IsSortedByKey, encode_utf8_all, map, take};
+ghost use Rattle.std.specs.Prelude.{◌≡◌, ◌≢◌, ◌⊎◌, false, true, [], IfOk, IfErr, OnOk, OnErr, IsSortedByKey, encode_utf8_all, map, take};
 ghost use Rattle.std.specs.Cmp.Lexicographic.{slice_cmp};
 ghost use Rattle.std.specs.Iterator.{IsFinite};
 ghost use Rattle.std.specs.Iterator.Runs.{WholeRun};
@@ -13,13 +14,16 @@ ghost use Rattle.std.specs.Str.{chars};
 ghost use Rattle.daachorse_core.specs.Refusals.{IsOutOfMemory};
 ghost use Rattle.daachorse_model.specs.declared.MatchKind.TheVariants.{Standard};
 ghost use Rattle.daachorse_model.specs.Units.{char_width};
+ghost use Rattle.daachorse_folding.specs.SourceSearches.{BeginsFromAsRead};
+ghost use Rattle.daachorse_folding.specs.Steppers.{BeginsSteppingAsRead};
+ghost use Rattle.daachorse_model.specs.Folding.{as_read};
 ghost use Rattle.daachorse_model.specs.Leftmost.{leftmost};
 ghost use Rattle.daachorse_model.specs.Matches.{matches_after, no_suffix, overlapping, standard, standard_after};
 ghost use Rattle.daachorse_model.specs.Prefixes.{HasPrefixes, IsListing};
-ghost use Rattle.daachorse_search.specs.Beginnings.{BeginsFrom, BeginsStepping, BeginsWith};
+ghost use Rattle.daachorse_search.specs.Beginnings.{BeginsWith};
 ghost use Rattle.daachorse_search.specs.Filters.{IsSoundFor};
 ghost use Rattle.daachorse_skipping.specs.Asked.{BeginsAsking, lets_pass};
-ghost use Rattle.daachorse_charwise.specs.Automata.{HasDepths, MayHaveFilter, dictionary_of, element_count, kind_of, states_of};
+ghost use Rattle.daachorse_charwise.specs.Automata.{HasDepths, MayFold, MayHaveFilter, dictionary_of, element_count, kind_of, states_of};
 ghost use Rattle.daachorse_charwise.specs.Building.{HoldsPatterns, IsBuildRefusal, IsBuiltOf, IsRefusalOf, kept_filter, registered_texts, spelled};
 ghost use Rattle.daachorse_charwise_states.specs.Texts.{AreTexts};
 
@@ -41,13 +45,14 @@ use crate::charwise::iter::{
 use crate::charwise::states::States;
 use daachorse_core::MatchKind;
 use daachorse_core::errors::Result;
-use daachorse_prefilter::prefilter::{Prefilter, clone_filter};
-use daachorse_search::find::{FindWalk, find_in};
-use daachorse_search::leftmost::LeftmostMatches;
-use daachorse_search::matches_from::MatchesFrom;
-use daachorse_search::overlapping::{
-    NoSuffixWalk, OverlappingWalk, find_overlapping_in, find_overlapping_no_suffix_in,
+use daachorse_folding::leftmost::LeftmostMatchesAsRead;
+use daachorse_folding::matches::{
+    find_as_read, find_overlapping_as_read, find_overlapping_no_suffix_as_read,
 };
+use daachorse_folding::matches_from::MatchesFromAsRead;
+use daachorse_prefilter::prefilter::{Prefilter, clone_filter};
+use daachorse_search::find::FindWalk;
+use daachorse_search::overlapping::{NoSuffixWalk, OverlappingWalk};
 use daachorse_skipping::skipping::Skipping;
 use daachorse_text::decoding::Decoded;
 use daachorse_text::text::Text;
@@ -64,9 +69,14 @@ use std::marker::Model;
 /// (arXiv 2207.13870). An element takes 16 bytes, an output of a `u32` 12, and a table of codes 4
 /// bytes for each code point up to the greatest of the patterns. Searches take no memory;
 /// `quick_start` builds one over text.
+///
+/// Where it was built to disregard the case of ASCII letters, each search reads A to Z of its
+/// haystack as a to z, and every other character as it is.
 #[derive(Drop)]
 pub struct CharwiseDoubleArrayAhoCorasick<V: Copy, A: Allocator = Global> {
     states: States<V, A>,
+    // Haystacks are read folded. Its patterns then are folded too.
+    folds: bool,
     // Passes at the beginning of the UTF-8 of each pattern, if it is there.
     filter: Option<Prefilter<A>>,
     // Of each element how many characters lead to it; empty where depths are not cached.
@@ -78,9 +88,9 @@ impl<V: Copy, A: Allocator> Model for CharwiseDoubleArrayAhoCorasick<V, A> {
 
     ghost Value = { Automaton V };
 
-    ghost view = { λ a. record { parts = a.states; filter = a.filter; depths = a.depths.items } };
+    ghost view = { λ a. record { parts = a.states; folds = a.folds; filter = a.filter; depths = a.depths.items } };
 
-    ghost invariant = { λ a. IsKept a.states a.filter a.depths.items };
+    ghost invariant = { λ a. IsKept a.states a.folds a.filter a.depths.items };
 }
 
 impl<V: Copy, A: Allocator + Copy> CharwiseDoubleArrayAhoCorasick<V, A> {
@@ -109,6 +119,7 @@ impl<V: Copy, A: Allocator + Copy> CharwiseDoubleArrayAhoCorasick<V, A> {
         ensures ok { IfOk result (λ a. (it : P.IntoIter) × P.into_iter_gives patterns it
             × WholeRun P.IntoIter.next_gives it (λ p. IsBuiltOf V.try_from_gives Standard (spelled p.items) a)) }
         ensures kind { IfOk result (λ a. kind_of a ≡ Standard) }
+        ensures folds { IfOk result (λ a. a.folds ≡ false) }
         ensures filter { IfOk result (λ a. (it : P.IntoIter) × P.into_iter_gives patterns it
             × WholeRun P.IntoIter.next_gives it (λ p. a.filter ≡ kept_filter true (spelled p.items))) }
         ensures depths { IfOk result (λ a. a.depths ≡ []) }
@@ -144,6 +155,7 @@ impl<V: Copy, A: Allocator + Copy> CharwiseDoubleArrayAhoCorasick<V, A> {
         ensures ok { IfOk result (λ a. (it : P.IntoIter) × P.into_iter_gives patvals it
             × WholeRun P.IntoIter.next_gives it (λ p. HoldsPatterns Standard (registered_texts p.items) a)) }
         ensures kind { IfOk result (λ a. kind_of a ≡ Standard) }
+        ensures folds { IfOk result (λ a. a.folds ≡ false) }
         ensures filter { IfOk result (λ a. (it : P.IntoIter) × P.into_iter_gives patvals it
             × WholeRun P.IntoIter.next_gives it (λ p. a.filter ≡ kept_filter true (map (λ r. r.0) (registered_texts p.items)))) }
         ensures depths { IfOk result (λ a. a.depths ≡ []) }
@@ -155,15 +167,24 @@ impl<V: Copy, A: Allocator + Copy> CharwiseDoubleArrayAhoCorasick<V, A> {
 }
 
 impl<V: Copy, A: Allocator + Copy> CharwiseDoubleArrayAhoCorasick<V, A> {
-    /// The automaton of these states and this filter, if there is one, with no depths cached.
-    pub(crate) fn of_states(alloc: A, states: States<V, A>, filter: Option<Prefilter<A>>) -> Self
-        requires { MayHaveFilter states filter }
+    /// The automaton of these states and this filter, if there is one, with no depths cached. It
+    /// reads haystacks folded where `folds` says so.
+    pub(crate) fn of_states(
+        alloc: A,
+        states: States<V, A>,
+        folds: bool,
+        filter: Option<Prefilter<A>>,
+    ) -> Self
+        requires folded { MayFold states folds }
+        requires filter { MayHaveFilter states filter }
         ensures states { states_of result ≡ states }
+        ensures folds { result.folds ≡ folds }
         ensures filter { result.filter ≡ filter }
         ensures depths { result.depths ≡ [] }
     {
         Self {
             states,
+            folds,
             filter,
             depths: Vec::new(alloc),
         }
@@ -188,6 +209,7 @@ impl<V: Copy, A: Allocator + Copy> CharwiseDoubleArrayAhoCorasick<V, A> {
     pub fn cache_depths(&mut self) -> Result<()>
         requires { kind_of self.old ≡ Standard }
         ensures states { states_of self.new ≡ states_of self.old }
+        ensures folds { self.new.folds ≡ self.old.folds }
         ensures filter { self.new.filter ≡ self.old.filter }
         ensures ok { OnOk result (HasDepths self.new) }
         ensures unchanged { OnErr result (self.new ≡ self.old) }
@@ -237,13 +259,15 @@ impl<V: Copy, A: Allocator + Copy> CharwiseDoubleArrayAhoCorasick<V, A> {
         let depths = Vec::from_slice(*self.depths.allocator(), &self.depths)?;
         Ok(Self {
             states: self.states.clone()?,
+            folds: self.folds,
             filter: clone_filter(&self.filter)?,
             depths,
         })
     }
 }
 
-/// Automata are equal where all that they keep is equal, the filter and the cached depths included.
+/// Automata are equal where all that they keep is equal, the option, the filter and the cached
+/// depths included.
 impl<V: Copy + PartialEq, A: Allocator> PartialEq for CharwiseDoubleArrayAhoCorasick<V, A> {
     ghost use Rattle.daachorse_charwise_states.specs.Equality.{parts_per};
     ghost use Rattle.daachorse_listing.specs.Automata.{automaton_per};
@@ -255,7 +279,9 @@ impl<V: Copy + PartialEq, A: Allocator> PartialEq for CharwiseDoubleArrayAhoCora
     ghost laws = { automaton_per filter_equiv (parts_per V.laws) };
 
     fn eq(&self, other: &Self) -> bool {
-        self.states == other.states && (self.filter == other.filter && self.depths == other.depths)
+        self.states == other.states
+            && (self.folds == other.folds
+                && (self.filter == other.filter && self.depths == other.depths))
     }
 }
 
@@ -279,6 +305,7 @@ impl<V: Copy + Hash, A: Allocator> Hash for CharwiseDoubleArrayAhoCorasick<V, A>
 
     fn hash<H: Hasher>(&self, state: &mut H) {
         self.states.hash(state);
+        self.folds.hash(state);
         self.filter.hash(state);
         self.depths.hash(state);
     }
@@ -292,6 +319,16 @@ impl<V: Copy, A: Allocator> CharwiseDoubleArrayAhoCorasick<V, A> {
         ensures { result ≡ kind_of self.now }
     {
         self.states.kind()
+    }
+
+    /// Returns whether the searches disregard the case of ASCII letters.
+    ///
+    /// It is kept, and nothing is read.
+    /// [`CharwiseDoubleArrayAhoCorasickBuilder::ascii_case_insensitive`] sets it for a build.
+    pub fn is_ascii_case_insensitive(&self) -> bool
+        ensures { result ≡ self.now.folds }
+    {
+        self.folds
     }
 
     /// Returns the number of elements of the double array, those included that are no state.
@@ -346,11 +383,16 @@ impl<V: Copy, A: Allocator> CharwiseDoubleArrayAhoCorasick<V, A> {
     #[tactic(auto, using(daachorse_charwise_states::proofs::DeadLaws::alive))]
     pub fn find_iter<'a>(&'a self, haystack: &'a str) -> FindSliceIterator<'a, V, A>
         requires { kind_of self.now ≡ Standard }
-        ensures begins { BeginsWith (states_of self.entry.now) (chars haystack.entry.now)
-            (standard char_width (dictionary_of self.entry.now) (chars haystack.entry.now)) result }
+        ensures begins { BeginsWith (states_of self.entry.now) (as_read self.entry.now.folds (chars haystack.entry.now))
+            (standard char_width (dictionary_of self.entry.now) (as_read self.entry.now.folds (chars haystack.entry.now))) result }
         ensures asks { BeginsAsking self.entry.now.filter result.filter }
     {
-        find_in(self.states.standard(), Text::new(haystack), self.skipping())
+        find_as_read(
+            self.states.standard(),
+            Text::new(haystack),
+            self.skipping(),
+            self.folds,
+        )
     }
 
     /// Finds non-overlapping matches in the text whose bytes `haystack` yields.
@@ -373,12 +415,13 @@ impl<V: Copy, A: Allocator> CharwiseDoubleArrayAhoCorasick<V, A> {
         haystack: P,
     ) -> FindIterator<'a, P, V>
         requires { kind_of self.now ≡ Standard }
-        ensures { BeginsFrom (states_of self.entry.now) haystack
-            (option_to_list (standard_after char_width (dictionary_of self.entry.now) [])) result }
+        ensures { BeginsFromAsRead (states_of self.entry.now) haystack
+            (option_to_list (standard_after char_width (dictionary_of self.entry.now) [])) self.entry.now.folds result }
     {
-        MatchesFrom::new(
+        MatchesFromAsRead::new(
             FindWalk::new(self.states.standard()),
             Decoded::new(haystack),
+            self.folds,
         )
     }
 
@@ -404,11 +447,16 @@ impl<V: Copy, A: Allocator> CharwiseDoubleArrayAhoCorasick<V, A> {
         haystack: &'a str,
     ) -> FindOverlappingSliceIterator<'a, V, A>
         requires { kind_of self.now ≡ Standard }
-        ensures begins { BeginsWith (states_of self.entry.now) (chars haystack.entry.now)
-            (overlapping char_width (dictionary_of self.entry.now) (chars haystack.entry.now)) result }
+        ensures begins { BeginsWith (states_of self.entry.now) (as_read self.entry.now.folds (chars haystack.entry.now))
+            (overlapping char_width (dictionary_of self.entry.now) (as_read self.entry.now.folds (chars haystack.entry.now))) result }
         ensures asks { BeginsAsking self.entry.now.filter result.filter }
     {
-        find_overlapping_in(self.states.standard(), Text::new(haystack), self.skipping())
+        find_overlapping_as_read(
+            self.states.standard(),
+            Text::new(haystack),
+            self.skipping(),
+            self.folds,
+        )
     }
 
     /// Finds every match in the text whose bytes `haystack` yields.
@@ -431,12 +479,13 @@ impl<V: Copy, A: Allocator> CharwiseDoubleArrayAhoCorasick<V, A> {
         haystack: P,
     ) -> FindOverlappingIterator<'a, P, V>
         requires { kind_of self.now ≡ Standard }
-        ensures { BeginsFrom (states_of self.entry.now) haystack
-            (matches_after char_width (dictionary_of self.entry.now) []) result }
+        ensures { BeginsFromAsRead (states_of self.entry.now) haystack
+            (matches_after char_width (dictionary_of self.entry.now) []) self.entry.now.folds result }
     {
-        MatchesFrom::new(
+        MatchesFromAsRead::new(
             OverlappingWalk::new(self.states.standard()),
             Decoded::new(haystack),
+            self.folds,
         )
     }
 
@@ -462,11 +511,16 @@ impl<V: Copy, A: Allocator> CharwiseDoubleArrayAhoCorasick<V, A> {
         haystack: &'a str,
     ) -> FindOverlappingNoSuffixSliceIterator<'a, V, A>
         requires { kind_of self.now ≡ Standard }
-        ensures begins { BeginsWith (states_of self.entry.now) (chars haystack.entry.now)
-            (no_suffix char_width (dictionary_of self.entry.now) (chars haystack.entry.now)) result }
+        ensures begins { BeginsWith (states_of self.entry.now) (as_read self.entry.now.folds (chars haystack.entry.now))
+            (no_suffix char_width (dictionary_of self.entry.now) (as_read self.entry.now.folds (chars haystack.entry.now))) result }
         ensures asks { BeginsAsking self.entry.now.filter result.filter }
     {
-        find_overlapping_no_suffix_in(self.states.standard(), Text::new(haystack), self.skipping())
+        find_overlapping_no_suffix_as_read(
+            self.states.standard(),
+            Text::new(haystack),
+            self.skipping(),
+            self.folds,
+        )
     }
 
     /// Finds the longest match at each end in the text whose bytes `haystack` yields.
@@ -489,12 +543,13 @@ impl<V: Copy, A: Allocator> CharwiseDoubleArrayAhoCorasick<V, A> {
         haystack: P,
     ) -> FindOverlappingNoSuffixIterator<'a, P, V>
         requires { kind_of self.now ≡ Standard }
-        ensures { BeginsFrom (states_of self.entry.now) haystack
-            (take 1 (matches_after char_width (dictionary_of self.entry.now) [])) result }
+        ensures { BeginsFromAsRead (states_of self.entry.now) haystack
+            (take 1 (matches_after char_width (dictionary_of self.entry.now) [])) self.entry.now.folds result }
     {
-        MatchesFrom::new(
+        MatchesFromAsRead::new(
             NoSuffixWalk::new(self.states.standard()),
             Decoded::new(haystack),
+            self.folds,
         )
     }
 
@@ -521,11 +576,16 @@ impl<V: Copy, A: Allocator> CharwiseDoubleArrayAhoCorasick<V, A> {
     #[tactic(auto, using(daachorse_charwise_states::proofs::DeadLaws::is_leftmost_automaton))]
     pub fn leftmost_find_iter<'a>(&'a self, haystack: &'a str) -> LeftmostFindIterator<'a, V, A>
         requires { kind_of self.now ≢ Standard }
-        ensures begins { BeginsWith (states_of self.entry.now) (chars haystack.entry.now)
-            (leftmost char_width (dictionary_of self.entry.now) (chars haystack.entry.now)) result }
+        ensures begins { BeginsWith (states_of self.entry.now) (as_read self.entry.now.folds (chars haystack.entry.now))
+            (leftmost char_width (dictionary_of self.entry.now) (as_read self.entry.now.folds (chars haystack.entry.now))) result }
         ensures asks { BeginsAsking self.entry.now.filter result.filter }
     {
-        LeftmostMatches::with_filter(self.states.leftmost(), Text::new(haystack), self.skipping())
+        LeftmostMatchesAsRead::new(
+            self.states.leftmost(),
+            Text::new(haystack),
+            self.skipping(),
+            self.folds,
+        )
     }
 
     /// Starts the search of [`Self::find_iter`], to be given one character at a time.
@@ -542,9 +602,9 @@ impl<V: Copy, A: Allocator> CharwiseDoubleArrayAhoCorasick<V, A> {
     #[tactic(auto, using(daachorse_charwise_states::proofs::DeadLaws::alive))]
     pub fn find_stepper<'a>(&'a self) -> FindStepper<'a, V>
         requires { kind_of self.now ≡ Standard }
-        ensures { BeginsStepping (states_of self.entry.now) self.entry.now.depths result }
+        ensures { BeginsSteppingAsRead (states_of self.entry.now) self.entry.now.depths self.entry.now.folds result }
     {
-        FindStepper::new(self.states.standard(), &self.depths)
+        FindStepper::new(self.states.standard(), &self.depths, self.folds)
     }
 
     /// Starts the search of [`Self::find_overlapping_iter`], to be given one character at a time.
@@ -561,8 +621,8 @@ impl<V: Copy, A: Allocator> CharwiseDoubleArrayAhoCorasick<V, A> {
     #[tactic(auto, using(daachorse_charwise_states::proofs::DeadLaws::alive))]
     pub fn find_overlapping_stepper<'a>(&'a self) -> FindOverlappingStepper<'a, V>
         requires { kind_of self.now ≡ Standard }
-        ensures { BeginsStepping (states_of self.entry.now) self.entry.now.depths result }
+        ensures { BeginsSteppingAsRead (states_of self.entry.now) self.entry.now.depths self.entry.now.folds result }
     {
-        FindOverlappingStepper::new(self.states.standard(), &self.depths)
+        FindOverlappingStepper::new(self.states.standard(), &self.depths, self.folds)
     }
 }

@@ -1,11 +1,11 @@
 //! The builder of the automaton over characters.
 //!
-//! The layers above may rely on a build holding just the dictionary of its patterns, for the
-//! builder's kind, with codes for the characters of all of them, and on the order of its refusals:
-//! all indexes are converted first, then the patterns are added in order, and the limits on the
-//! outputs and on the elements are tested last; the first refusal ends the build.
+//! The layers above may rely on a build holding just the dictionary of its patterns, as its option
+//! reads them, for the builder's kind, with codes for the characters of all of them, and on the
+//! order of its refusals: all indexes are converted first, then the patterns are added in order, and
+//! the limits on the outputs and on the elements are tested last; the first refusal ends the build.
 
-ghost use Rattle.std.specs.Prelude.{◌≡◌, ◌⊎◌, true, [], length, map, IfOk, IfErr, IsSomeAnd};
+ghost use Rattle.std.specs.Prelude.{◌≡◌, ◌⊎◌, false, true, [], length, map, IfOk, IfErr, IsSomeAnd};
 ghost use Rattle.std.specs.Iterator.{IsFinite};
 ghost use Rattle.std.specs.Iterator.Runs.{WholeRun};
 ghost use Rattle.std.specs.Ordering.{nat_cmp};
@@ -14,6 +14,7 @@ ghost use Rattle.daachorse_build.specs.Builders.{states_of};
 ghost use Rattle.daachorse_build.specs.Counts.{LinksLeadBack};
 ghost use Rattle.daachorse_build.specs.Groups.{IsProfileOf};
 ghost use Rattle.daachorse_patterns.specs.Documents.{documents_of};
+ghost use Rattle.daachorse_patterns.specs.Folding.{all_as_read, texts_as_read};
 ghost use Rattle.daachorse_model.specs.declared.MatchKind.TheVariants.{Standard};
 ghost use Rattle.daachorse_charwise.specs.Automata.{kind_of};
 ghost use Rattle.daachorse_charwise.specs.Building.{HoldsPatterns, IsBuildRefusal, IsBuiltOf, IsRefusalOf, kept_filter, registered_texts, spelled};
@@ -27,6 +28,7 @@ use daachorse_core::MatchKind;
 use daachorse_core::errors::Result;
 use daachorse_patterns::corpus::Corpus;
 use daachorse_patterns::filter::build_filter;
+use daachorse_patterns::folding::{fold_strings, lend_strings};
 use daachorse_patterns::gathering::{gather, indexed};
 use daachorse_patterns::settings::Settings;
 use daachorse_patterns::trie::build_trie;
@@ -36,8 +38,9 @@ use std::marker::Model;
 
 /// A builder of [`CharwiseDoubleArrayAhoCorasick`].
 ///
-/// It keeps the kind, whether there is to be a filter, and a copy of the documents that it was
-/// given. `daachorse_tests` builds with each of them.
+/// It keeps the kind, whether there is to be a filter, whether the case of ASCII letters is
+/// disregarded, and a copy of the documents that it was given. `daachorse_tests` builds with each
+/// of them.
 #[derive(Drop)]
 pub struct CharwiseDoubleArrayAhoCorasickBuilder<A: Allocator = Global> {
     settings: Settings<char, A>,
@@ -55,10 +58,10 @@ impl<A: Allocator> Model for CharwiseDoubleArrayAhoCorasickBuilder<A> {
 }
 
 impl<A: Allocator> Default for CharwiseDoubleArrayAhoCorasickBuilder<A> {
-    ghost use Rattle.std.specs.Prelude.{◌≡◌, true};
+    ghost use Rattle.std.specs.Prelude.{◌≡◌, false, true};
     ghost use Rattle.daachorse_model.specs.declared.MatchKind.TheVariants.{Standard};
 
-    ghost is_default = { λ b. (b.match_kind ≡ Standard) × (b.use_prefilter ≡ true) };
+    ghost is_default = { λ b. (b.match_kind ≡ Standard) × (b.use_prefilter ≡ true) × (b.ascii_case_insensitive ≡ false) };
 
     /// Makes the builder that [`CharwiseDoubleArrayAhoCorasickBuilder::new`] makes.
     fn default() -> Self {
@@ -73,6 +76,7 @@ impl<A: Allocator> CharwiseDoubleArrayAhoCorasickBuilder<A> {
     pub fn new() -> Self
         ensures kind { result.match_kind ≡ Standard }
         ensures filter { result.use_prefilter ≡ true }
+        ensures folds { result.ascii_case_insensitive ≡ false }
     {
         Self {
             settings: Settings::new(),
@@ -104,6 +108,25 @@ impl<A: Allocator> CharwiseDoubleArrayAhoCorasickBuilder<A> {
         self.settings.use_prefilter = yes;
         self
     }
+
+    /// Sets whether the searches of the automaton disregard the case of ASCII letters. They do not
+    /// by default.
+    ///
+    /// Where they do, A to Z are read as a to z, and every other character as it is: of each
+    /// pattern and each document in a build, and of each haystack in a search. So the automaton
+    /// holds its patterns in lower case, a listing shows them so, and patterns that differ in
+    /// nothing but case are equal. The places of a match are those of the haystack as it was given.
+    /// With `Ab` as a pattern a search finds `ab`, `aB`, `Ab` and `AB`.
+    ///
+    /// A build takes memory for a copy of the patterns until it returns. A search looks at the
+    /// option once in a call, and where it is set reads each character in a few steps more.
+    /// `daachorse_tests` builds with and without.
+    pub fn ascii_case_insensitive(mut self, yes: bool) -> Self
+        ensures { result ≡ record self { ascii_case_insensitive = yes } }
+    {
+        self.settings.ascii_case_insensitive = yes;
+        self
+    }
 }
 
 impl<A: Allocator + Copy> CharwiseDoubleArrayAhoCorasickBuilder<A> {
@@ -133,6 +156,7 @@ impl<A: Allocator + Copy> CharwiseDoubleArrayAhoCorasickBuilder<A> {
         requires { (it : D.IntoIter) → D.into_iter_gives haystacks it → D.IntoIter.can_next it × IsFinite (D.IntoIter.remaining it) }
         ensures kind { IfOk result (λ b. b.match_kind ≡ self.match_kind) }
         ensures filter { IfOk result (λ b. b.use_prefilter ≡ self.use_prefilter) }
+        ensures folds { IfOk result (λ b. b.ascii_case_insensitive ≡ self.ascii_case_insensitive) }
         ensures copies { IfOk result (λ b. (it : D.IntoIter) × D.into_iter_gives haystacks it
             × WholeRun D.IntoIter.next_gives it (λ p. IsSomeAnd b.corpus (λ corpus. documents_of (λ u. u) corpus ≡ spelled p.items))) }
         ensures err { IfErr result IsOutOfMemory }
@@ -170,16 +194,18 @@ impl<A: Allocator + Copy> CharwiseDoubleArrayAhoCorasickBuilder<A> {
         P::IntoIter: Drop,
         requires { (it : P.IntoIter) → P.into_iter_gives patterns it → P.IntoIter.can_next it × IsFinite (P.IntoIter.remaining it) }
         ensures ok { IfOk result (λ a. (it : P.IntoIter) × P.into_iter_gives patterns it
-            × WholeRun P.IntoIter.next_gives it (λ p. IsBuiltOf V.try_from_gives self.match_kind (spelled p.items) a)) }
+            × WholeRun P.IntoIter.next_gives it (λ p. IsBuiltOf V.try_from_gives self.match_kind (all_as_read self.ascii_case_insensitive (spelled p.items)) a)) }
         ensures kind { IfOk result (λ a. kind_of a ≡ self.match_kind) }
+        ensures folds { IfOk result (λ a. a.folds ≡ self.ascii_case_insensitive) }
         ensures filter { IfOk result (λ a. (it : P.IntoIter) × P.into_iter_gives patterns it
-            × WholeRun P.IntoIter.next_gives it (λ p. a.filter ≡ kept_filter self.use_prefilter (spelled p.items))) }
+            × WholeRun P.IntoIter.next_gives it (λ p. a.filter ≡ kept_filter self.use_prefilter (all_as_read self.ascii_case_insensitive (spelled p.items)))) }
         ensures depths { IfOk result (λ a. a.depths ≡ []) }
         ensures err { IfErr result (λ e. IsOutOfMemory e ⊎ ((it : P.IntoIter) × P.into_iter_gives patterns it
-            × WholeRun P.IntoIter.next_gives it (λ p. IsBuildRefusal V.try_from_gives self.match_kind (spelled p.items) e))) }
+            × WholeRun P.IntoIter.next_gives it (λ p. IsBuildRefusal V.try_from_gives self.match_kind (all_as_read self.ascii_case_insensitive (spelled p.items)) e))) }
     {
         let texts = gather(alloc, patterns.into_iter())?;
-        from_texts(alloc, &self.settings, &texts)
+        let settings = self.settings.with_documents_as_read();
+        from_texts(alloc, &settings, &texts)
     }
 
     /// Builds an automaton of these patterns, each with its value.
@@ -212,20 +238,22 @@ impl<A: Allocator + Copy> CharwiseDoubleArrayAhoCorasickBuilder<A> {
         P::IntoIter: Drop,
         requires { (it : P.IntoIter) → P.into_iter_gives patvals it → P.IntoIter.can_next it × IsFinite (P.IntoIter.remaining it) }
         ensures ok { IfOk result (λ a. (it : P.IntoIter) × P.into_iter_gives patvals it
-            × WholeRun P.IntoIter.next_gives it (λ p. HoldsPatterns self.match_kind (registered_texts p.items) a)) }
+            × WholeRun P.IntoIter.next_gives it (λ p. HoldsPatterns self.match_kind (texts_as_read self.ascii_case_insensitive (registered_texts p.items)) a)) }
         ensures kind { IfOk result (λ a. kind_of a ≡ self.match_kind) }
+        ensures folds { IfOk result (λ a. a.folds ≡ self.ascii_case_insensitive) }
         ensures filter { IfOk result (λ a. (it : P.IntoIter) × P.into_iter_gives patvals it
-            × WholeRun P.IntoIter.next_gives it (λ p. a.filter ≡ kept_filter self.use_prefilter (map (λ r. r.0) (registered_texts p.items)))) }
+            × WholeRun P.IntoIter.next_gives it (λ p. a.filter ≡ kept_filter self.use_prefilter (map (λ r. r.0) (texts_as_read self.ascii_case_insensitive (registered_texts p.items))))) }
         ensures depths { IfOk result (λ a. a.depths ≡ []) }
         ensures err { IfErr result (λ e. IsOutOfMemory e ⊎ ((it : P.IntoIter) × P.into_iter_gives patvals it
-            × WholeRun P.IntoIter.next_gives it (λ p. IsRefusalOf self.match_kind (registered_texts p.items) e))) }
+            × WholeRun P.IntoIter.next_gives it (λ p. IsRefusalOf self.match_kind (texts_as_read self.ascii_case_insensitive (registered_texts p.items)) e))) }
     {
         let patterns = gather(alloc, patvals.into_iter())?;
-        from_patterns(alloc, &self.settings, &patterns)
+        let settings = self.settings.with_documents_as_read();
+        from_patterns(alloc, &settings, &patterns)
     }
 }
 
-/// An automaton of these texts, each with the value of its index.
+/// An automaton of these texts, each with the value of its index, as the settings read them.
 fn from_texts<V: Copy + TryFrom<usize>, A: Allocator + Copy>(
     alloc: A,
     settings: &Settings<char, A>,
@@ -233,24 +261,48 @@ fn from_texts<V: Copy + TryFrom<usize>, A: Allocator + Copy>(
 ) -> Result<CharwiseDoubleArrayAhoCorasick<V, A>>
 where
     V::Error: Drop,
-    ensures ok { IfOk result (λ a. IsBuiltOf V.try_from_gives settings.now.match_kind (spelled texts.now) a) }
+    ensures ok { IfOk result (λ a. IsBuiltOf V.try_from_gives settings.now.match_kind (all_as_read settings.now.ascii_case_insensitive (spelled texts.now)) a) }
     ensures kind { IfOk result (λ a. kind_of a ≡ settings.now.match_kind) }
-    ensures filter { IfOk result (λ a. a.filter ≡ kept_filter settings.now.use_prefilter (spelled texts.now)) }
+    ensures folds { IfOk result (λ a. a.folds ≡ settings.now.ascii_case_insensitive) }
+    ensures filter { IfOk result (λ a. a.filter ≡ kept_filter settings.now.use_prefilter (all_as_read settings.now.ascii_case_insensitive (spelled texts.now))) }
     ensures depths { IfOk result (λ a. a.depths ≡ []) }
-    ensures err { IfErr result (IsBuildRefusal V.try_from_gives settings.now.match_kind (spelled texts.now)) }
+    ensures err { IfErr result (IsBuildRefusal V.try_from_gives settings.now.match_kind (all_as_read settings.now.ascii_case_insensitive (spelled texts.now))) }
 {
     let patterns = indexed(alloc, texts)?;
     from_patterns(alloc, settings, &patterns)
 }
 
-/// An automaton of these patterns and values.
+/// An automaton of these patterns and values, as the settings read them.
 fn from_patterns<V: Copy, A: Allocator + Copy>(
     alloc: A,
     settings: &Settings<char, A>,
     patterns: &[(&str, V)],
 ) -> Result<CharwiseDoubleArrayAhoCorasick<V, A>>
+    ensures ok { IfOk result (HoldsPatterns settings.now.match_kind (texts_as_read settings.now.ascii_case_insensitive (registered_texts patterns.now))) }
+    ensures kind { IfOk result (λ a. kind_of a ≡ settings.now.match_kind) }
+    ensures folds { IfOk result (λ a. a.folds ≡ settings.now.ascii_case_insensitive) }
+    ensures filter { IfOk result (λ a. a.filter ≡ kept_filter settings.now.use_prefilter (map (λ r. r.0) (texts_as_read settings.now.ascii_case_insensitive (registered_texts patterns.now)))) }
+    ensures depths { IfOk result (λ a. a.depths ≡ []) }
+    ensures err { IfErr result (IsRefusalOf settings.now.match_kind (texts_as_read settings.now.ascii_case_insensitive (registered_texts patterns.now))) }
+{
+    if !settings.ascii_case_insensitive {
+        return from_read(alloc, settings, patterns);
+    }
+    let copies = fold_strings(alloc, patterns)?;
+    let folded = lend_strings(alloc, &copies)?;
+    from_read(alloc, settings, &folded)
+}
+
+/// An automaton of these patterns and values, which stand as the settings read them.
+fn from_read<V: Copy, A: Allocator + Copy>(
+    alloc: A,
+    settings: &Settings<char, A>,
+    patterns: &[(&str, V)],
+) -> Result<CharwiseDoubleArrayAhoCorasick<V, A>>
+    requires { texts_as_read settings.now.ascii_case_insensitive (registered_texts patterns.now) ≡ registered_texts patterns.now }
     ensures ok { IfOk result (HoldsPatterns settings.now.match_kind (registered_texts patterns.now)) }
     ensures kind { IfOk result (λ a. kind_of a ≡ settings.now.match_kind) }
+    ensures folds { IfOk result (λ a. a.folds ≡ settings.now.ascii_case_insensitive) }
     ensures filter { IfOk result (λ a. a.filter ≡ kept_filter settings.now.use_prefilter (map (λ r. r.0) (registered_texts patterns.now))) }
     ensures depths { IfOk result (λ a. a.depths ≡ []) }
     ensures err { IfErr result (IsRefusalOf settings.now.match_kind (registered_texts patterns.now)) }
@@ -262,7 +314,8 @@ fn from_patterns<V: Copy, A: Allocator + Copy>(
     let profile = profile_of(alloc, &settings.corpus, &nfa, &mapper)?;
     let states = States::build(alloc, kind, nfa, &profile, mapper)?;
     let filter = build_filter(alloc, settings.use_prefilter, patterns)?;
-    Ok(CharwiseDoubleArrayAhoCorasick::of_states(alloc, states, filter))
+    let folds = settings.ascii_case_insensitive;
+    Ok(CharwiseDoubleArrayAhoCorasick::of_states(alloc, states, folds, filter))
 }
 
 /// What searches over a corpus read of a trie, where a character without a code is no label:

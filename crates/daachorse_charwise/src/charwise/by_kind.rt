@@ -5,6 +5,7 @@
 
 ghost use Rattle.std.specs.Prelude.{◌≡◌, ◌≢◌, ◌↔◌, IsTrue, [], slice_get};
 ghost use Rattle.std.specs.Str.{chars};
+ghost use Rattle.daachorse_model.specs.Folding.{as_read};
 ghost use Rattle.daachorse_model.specs.Units.{char_width};
 ghost use Rattle.daachorse_model.specs.Matches.{overlapping};
 ghost use Rattle.daachorse_replacing.specs.ByKind.{non_overlapping};
@@ -26,7 +27,7 @@ impl<V: Copy, A: Allocator> CharwiseDoubleArrayAhoCorasick<V, A> {
     /// Places count bytes of the text. It costs what the first step of that search costs.
     /// `daachorse_tests` runs it.
     pub fn find(&self, haystack: &str) -> Option<Match<V>>
-        ensures { result ≡ slice_get (non_overlapping (kind_of self.now) char_width (dictionary_of self.now) (chars haystack.now)) 0 }
+        ensures { result ≡ slice_get (non_overlapping (kind_of self.now) char_width (dictionary_of self.now) (as_read self.now.folds (chars haystack.now))) 0 }
     {
         match self.match_kind() {
             MatchKind::Standard => self.find_iter(haystack).next(),
@@ -44,7 +45,7 @@ impl<V: Copy, A: Allocator> CharwiseDoubleArrayAhoCorasick<V, A> {
     ///
     /// It costs what [`Self::find`] costs. `daachorse_tests` runs it.
     pub fn is_match(&self, haystack: &str) -> bool
-        ensures { IsTrue result ↔ (overlapping char_width (dictionary_of self.now) (chars haystack.now) ≢ []) }
+        ensures { IsTrue result ↔ (overlapping char_width (dictionary_of self.now) (as_read self.now.folds (chars haystack.now)) ≢ []) }
     {
         self.find(haystack).is_some()
     }

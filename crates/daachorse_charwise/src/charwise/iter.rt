@@ -1,4 +1,5 @@
-//! The searches of the automaton over characters: those of the engine, over its states.
+//! The searches of the automaton over characters: those of the engine, over its states, which read
+//! their characters as they are or folded, as the automaton's option says.
 //!
 //! The layers above may rely on the list of the matches that are left of a search in a text, which
 //! each call takes the first off; on a search in a source giving a match before it takes a byte
@@ -11,13 +12,14 @@ mod patterns;
 
 pub use crate::charwise::iter::patterns::PatternIterator;
 use crate::charwise::states::{Leftmost, Standard};
+use daachorse_folding::find_stepper::FindStepperAsRead;
+use daachorse_folding::leftmost::LeftmostMatchesAsRead;
+use daachorse_folding::matches::MatchesAsRead;
+use daachorse_folding::matches_from::MatchesFromAsRead;
+use daachorse_folding::overlapping_stepper::FindOverlappingStepperAsRead;
 use daachorse_search::ending_here::EndingHere;
 use daachorse_search::find::FindWalk;
-use daachorse_search::leftmost::LeftmostMatches;
-use daachorse_search::matches::Matches;
-use daachorse_search::matches_from::MatchesFrom;
 use daachorse_search::overlapping::{NoSuffixWalk, OverlappingWalk};
-use daachorse_search::{find_stepper, overlapping_stepper};
 use daachorse_skipping::skipping::Skipping;
 pub use daachorse_text::decoding::{CharWithEndOffsetIterator, Decoded};
 use daachorse_text::text::Text;
@@ -30,7 +32,7 @@ use std::alloc::Global;
 ///
 /// The automaton's `find_iter` makes it. It takes no memory, and at most two turns, which are looks
 /// at one state, for each character that it passed: `turns_are_bounded` promises it.
-pub type FindSliceIterator<'a, V, A = Global> = Matches<
+pub type FindSliceIterator<'a, V, A = Global> = MatchesAsRead<
     V,
     FindWalk<V, Standard<'a, V>>,
     Text<'a>,
@@ -43,7 +45,7 @@ pub type FindSliceIterator<'a, V, A = Global> = Matches<
 ///
 /// The automaton's `find_iter_from_iter` makes it. It takes no memory, and at most two turns, which
 /// are looks at one state, for each character that it passed: `turns_are_bounded` promises it.
-pub type FindIterator<'a, P, V> = MatchesFrom<V, FindWalk<V, Standard<'a, V>>, Decoded<P>>;
+pub type FindIterator<'a, P, V> = MatchesFromAsRead<V, FindWalk<V, Standard<'a, V>>, Decoded<P>>;
 
 /// An iterator over all matches in a text, by rising ends.
 ///
@@ -52,7 +54,7 @@ pub type FindIterator<'a, P, V> = MatchesFrom<V, FindWalk<V, Standard<'a, V>>, D
 /// The automaton's `find_overlapping_iter` makes it. It takes no memory, and at most two turns,
 /// which are looks at one state, for each character that it passed: `turns_are_bounded` promises
 /// it.
-pub type FindOverlappingSliceIterator<'a, V, A = Global> = Matches<
+pub type FindOverlappingSliceIterator<'a, V, A = Global> = MatchesAsRead<
     V,
     OverlappingWalk<V, Standard<'a, V>>,
     Text<'a>,
@@ -66,7 +68,7 @@ pub type FindOverlappingSliceIterator<'a, V, A = Global> = Matches<
 /// The automaton's `find_overlapping_iter_from_iter` makes it. It takes no memory, and at most two
 /// turns, which are looks at one state, for each character that it passed: `turns_are_bounded`
 /// promises it.
-pub type FindOverlappingIterator<'a, P, V> = MatchesFrom<
+pub type FindOverlappingIterator<'a, P, V> = MatchesFromAsRead<
     V,
     OverlappingWalk<V, Standard<'a, V>>,
     Decoded<P>,
@@ -79,7 +81,7 @@ pub type FindOverlappingIterator<'a, P, V> = MatchesFrom<
 /// The automaton's `find_overlapping_no_suffix_iter` makes it. It takes no memory, and at most two
 /// turns, which are looks at one state, for each character that it passed: `turns_are_bounded`
 /// promises it.
-pub type FindOverlappingNoSuffixSliceIterator<'a, V, A = Global> = Matches<
+pub type FindOverlappingNoSuffixSliceIterator<'a, V, A = Global> = MatchesAsRead<
     V,
     NoSuffixWalk<V, Standard<'a, V>>,
     Text<'a>,
@@ -93,7 +95,7 @@ pub type FindOverlappingNoSuffixSliceIterator<'a, V, A = Global> = Matches<
 /// The automaton's `find_overlapping_no_suffix_iter_from_iter` makes it. It takes no memory, and at
 /// most two turns, which are looks at one state, for each character that it passed:
 /// `turns_are_bounded` promises it.
-pub type FindOverlappingNoSuffixIterator<'a, P, V> = MatchesFrom<
+pub type FindOverlappingNoSuffixIterator<'a, P, V> = MatchesFromAsRead<
     V,
     NoSuffixWalk<V, Standard<'a, V>>,
     Decoded<P>,
@@ -107,7 +109,7 @@ pub type FindOverlappingNoSuffixIterator<'a, P, V> = MatchesFrom<
 /// taken at most two turns, which are looks at one state, for each character that it passed, and
 /// four times the characters of the longest pattern for each match: `turns_are_bounded` promises
 /// it.
-pub type LeftmostFindIterator<'a, V, A = Global> = LeftmostMatches<
+pub type LeftmostFindIterator<'a, V, A = Global> = LeftmostMatchesAsRead<
     V,
     Leftmost<'a, V>,
     Text<'a>,
@@ -118,18 +120,14 @@ pub type LeftmostFindIterator<'a, V, A = Global> = LeftmostMatches<
 ///
 /// The automaton's `find_stepper` makes it. It takes no memory, and at most two turns, which are
 /// looks at one state, for each character that it passed: `turns_are_bounded` promises it.
-pub type FindStepper<'a, V> = find_stepper::FindStepper<'a, V, Standard<'a, V>>;
+pub type FindStepper<'a, V> = FindStepperAsRead<'a, V, Standard<'a, V>>;
 
 /// A search for all matches that is given one character at a time.
 ///
 /// The automaton's `find_overlapping_stepper` makes it. It takes no memory, and at most two turns,
 /// which are looks at one state, for each character that it passed: `turns_are_bounded` promises
 /// it.
-pub type FindOverlappingStepper<'a, V> = overlapping_stepper::FindOverlappingStepper<
-    'a,
-    V,
-    Standard<'a, V>,
->;
+pub type FindOverlappingStepper<'a, V> = FindOverlappingStepperAsRead<'a, V, Standard<'a, V>>;
 
 /// An iterator over the matches that end with the characters that a stepper consumed, the longest
 /// first. It keeps its place while the stepper goes on.

@@ -8,6 +8,7 @@ ghost use Rattle.std.specs.Io.KnownBytes.{Appends};
 ghost use Rattle.std.specs.Str.{chars};
 ghost use Rattle.std.specs.String.{string_bytes};
 ghost use Rattle.daachorse_core.specs.Refusals.{IsOutOfMemory};
+ghost use Rattle.daachorse_model.specs.Folding.{as_read};
 ghost use Rattle.daachorse_model.specs.Units.{char_width};
 ghost use Rattle.daachorse_replacing.specs.ByKind.{non_overlapping};
 ghost use Rattle.daachorse_replacing.specs.Replaced.{AppendsBeginning, OfReplaced};
@@ -27,8 +28,10 @@ impl<V: Copy, A: Allocator> CharwiseDoubleArrayAhoCorasick<V, A> {
     /// The matches are those of [`Self::find_iter`] where the kind is [`MatchKind::Standard`], and
     /// those of [`Self::leftmost_find_iter`] where it is another. `replacement` is told each match
     /// and the part of the haystack that it is, in order, and returns what stands in their place.
-    /// Of the patterns `ab` and `b`, both replaced by `-`, the haystack `abxb` becomes `-x-`. Memory
-    /// is taken from `alloc` for what is returned, and for nothing else.
+    /// Of the patterns `ab` and `b`, both replaced by `-`, the haystack `abxb` becomes `-x-`. Where
+    /// the case of ASCII letters is disregarded, the haystack `aBXb` becomes `-X-`: no character is
+    /// returned in another case. Memory is taken from `alloc` for what is returned, and for nothing
+    /// else.
     ///
     /// It costs that search, and one copy of what is returned. `daachorse_tests` runs it.
     ///
@@ -46,7 +49,7 @@ impl<V: Copy, A: Allocator> CharwiseDoubleArrayAhoCorasick<V, A> {
         replacement: F,
     ) -> Result<String<B>>
         requires callable { F.IsAlwaysCallable replacement }
-        ensures ok { IfOk result (λ s. OfReplaced (λ s. s.now) haystack.now (F.post replacement) (non_overlapping (kind_of self.now) char_width (dictionary_of self.now) (chars haystack.now))
+        ensures ok { IfOk result (λ s. OfReplaced (λ s. s.now) haystack.now (F.post replacement) (non_overlapping (kind_of self.now) char_width (dictionary_of self.now) (as_read self.now.folds (chars haystack.now)))
             (λ text. string_bytes s ≡ text)) }
         ensures err { IfErr result IsOutOfMemory }
     {
@@ -77,9 +80,9 @@ impl<V: Copy, A: Allocator> CharwiseDoubleArrayAhoCorasick<V, A> {
         out: &mut W,
     ) -> io::Result<()>
         requires callable { F.IsAlwaysCallable replacement }
-        ensures whole { OnOk result (OfReplaced (λ s. s.now) haystack.now (F.post replacement) (non_overlapping (kind_of self.now) char_width (dictionary_of self.now) (chars haystack.now))
+        ensures whole { OnOk result (OfReplaced (λ s. s.now) haystack.now (F.post replacement) (non_overlapping (kind_of self.now) char_width (dictionary_of self.now) (as_read self.now.folds (chars haystack.now)))
             (Appends (W.contents out.old) (W.contents out.new))) }
-        ensures beginning { OnErr result (OfReplaced (λ s. s.now) haystack.now (F.post replacement) (non_overlapping (kind_of self.now) char_width (dictionary_of self.now) (chars haystack.now))
+        ensures beginning { OnErr result (OfReplaced (λ s. s.now) haystack.now (F.post replacement) (non_overlapping (kind_of self.now) char_width (dictionary_of self.now) (as_read self.now.folds (chars haystack.now)))
             (AppendsBeginning (W.contents out.old) (W.contents out.new))) }
     {
         self.replace_by_kind::<F, W, ToWriter>(haystack, &replacement, out)
@@ -93,9 +96,9 @@ impl<V: Copy, A: Allocator> CharwiseDoubleArrayAhoCorasick<V, A> {
         out: &mut O,
     ) -> Result<(), T::Error>
         requires callable { F.IsAlwaysCallable replacement.now }
-        ensures whole { OnOk result (OfReplaced (λ s. s.now) haystack.now (F.post replacement.now) (non_overlapping (kind_of self.now) char_width (dictionary_of self.now) (chars haystack.now))
+        ensures whole { OnOk result (OfReplaced (λ s. s.now) haystack.now (F.post replacement.now) (non_overlapping (kind_of self.now) char_width (dictionary_of self.now) (as_read self.now.folds (chars haystack.now)))
             (Appends (T.taken out.old) (T.taken out.new))) }
-        ensures beginning { OnErr result (OfReplaced (λ s. s.now) haystack.now (F.post replacement.now) (non_overlapping (kind_of self.now) char_width (dictionary_of self.now) (chars haystack.now))
+        ensures beginning { OnErr result (OfReplaced (λ s. s.now) haystack.now (F.post replacement.now) (non_overlapping (kind_of self.now) char_width (dictionary_of self.now) (as_read self.now.folds (chars haystack.now)))
             (AppendsBeginning (T.taken out.old) (T.taken out.new))) }
     {
         match self.match_kind() {

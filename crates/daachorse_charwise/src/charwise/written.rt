@@ -33,7 +33,7 @@ impl<V: Serializable + Copy, A: Allocator> CharwiseDoubleArrayAhoCorasick<V, A> 
         ensures automaton { IsAutomaton V.is_value self.now }
         ensures err { IfErr result IsOutOfMemory }
     {
-        self.states.serialize(alloc, &self.filter)
+        self.states.serialize(alloc, self.folds, &self.filter)
     }
 }
 
@@ -53,7 +53,8 @@ impl<V: Serializable + Copy, A: Allocator + Copy> CharwiseDoubleArrayAhoCorasick
     /// Bytes that give no automaton, told as
     /// [`InvalidAutomaton`](daachorse_core::errors::DaachorseError::InvalidAutomaton) or by the read
     /// of a value, or out of memory. Bytes with a filter that does not pass at the beginning of the
-    /// UTF-8 of some pattern give none.
+    /// UTF-8 of some pattern give none, and nor do bytes with one of A to Z in some pattern where the
+    /// searches are to disregard the case of ASCII letters.
     pub fn deserialize(alloc: A, source: &[u8]) -> Result<(Self, &[u8])>
         ensures given { IfOk result (λ r. GivesAutomaton V.taken source.now r.0 r.1.now) }
         ensures depths { IfOk result (λ r. r.0.depths ≡ []) }
@@ -65,11 +66,14 @@ impl<V: Serializable + Copy, A: Allocator + Copy> CharwiseDoubleArrayAhoCorasick
         ensures memory { IfErr result (λ e. BeginsWithAutomaton V.is_value V.form source.now → IsOutOfMemory e) }
     {
         let (read, rest) = States::deserialize(alloc, source)?;
-        let (states, filter) = read;
+        let (states, folds, filter) = read;
+        if !states.may_fold(alloc, folds)? {
+            return Err(DaachorseError::invalid_automaton());
+        }
         if !states.passes(alloc, &filter)? {
             return Err(DaachorseError::invalid_automaton());
         }
-        Ok((Self::of_states(alloc, states, filter), rest))
+        Ok((Self::of_states(alloc, states, folds, filter), rest))
     }
 
     /// Reads an automaton that was written, and returns it with the bytes behind it.
@@ -95,7 +99,7 @@ impl<V: Serializable + Copy, A: Allocator + Copy> CharwiseDoubleArrayAhoCorasick
         ensures err { IfErr result IsOutOfMemory }
     {
         let (read, rest) = States::deserialize_unchecked(alloc, source)?;
-        let (states, filter) = read;
-        Ok((Self::of_states(alloc, states, filter), rest))
+        let (states, folds, filter) = read;
+        Ok((Self::of_states(alloc, states, folds, filter), rest))
     }
 }

@@ -1,6 +1,7 @@
 -- There is a first match by the automaton's kind exactly where some pattern occurs.
 use Rattle.std.proofs.Common.{◌≢◌, ◌↔◌, IsTrue, [], sym, subst}
 use Rattle.std.specs.Str.{chars}
+use Rattle.daachorse_model.specs.Folding.{as_read}
 use Rattle.daachorse_model.specs.Matches.{overlapping}
 use Rattle.daachorse_model.specs.Units.{char_width}
 use Rattle.daachorse_replacing.proofs.FirstMatches.{first_by_kind}
@@ -9,5 +10,5 @@ use Rattle.daachorse_charwise.proofs.charwise.CharwiseDoubleArrayAhoCorasick.is_
 
 pub returns : goal.returns
 returns g c =
-    subst (λ b. IsTrue b ↔ (overlapping char_width (dictionary_of c.args.self.now) (chars c.args.haystack.now) ≢ [])) (sym c.is_some.ensures)
-    (first_by_kind char_width (dictionary_of c.args.self.now) (kind_of c.args.self.now) (chars c.args.haystack.now) c.find.result c.find.ensures)
+    subst (λ b. IsTrue b ↔ (overlapping char_width (dictionary_of c.args.self.now) (as_read c.args.self.now.folds (chars c.args.haystack.now)) ≢ [])) (sym c.is_some.ensures)
+    (first_by_kind char_width (dictionary_of c.args.self.now) (kind_of c.args.self.now) (as_read c.args.self.now.folds (chars c.args.haystack.now)) c.find.result c.find.ensures)

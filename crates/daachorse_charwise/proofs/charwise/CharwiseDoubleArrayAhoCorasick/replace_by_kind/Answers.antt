@@ -2,6 +2,7 @@
 use Rattle.std.proofs.Common.{◌∙◌}
 use Rattle.std.proofs.lemmas.Result.{on_ok_weaker, on_err_weaker}
 use Rattle.std.specs.Str.{chars}
+use Rattle.daachorse_model.specs.Folding.{as_read}
 use Rattle.daachorse_model.specs.Units.{char_width}
 use Rattle.daachorse_search.specs.LeftmostSearches.{StandsBehind}
 use Rattle.daachorse_search.specs.Matches.{StandsAtEnd}
@@ -14,35 +15,35 @@ pub replace-requires-clause-parts : goal.replace-requires-clause-parts
 replace-requires-clause-parts g c =
     let K = dictionary_of c.args.self.now in
     let search = c.find_iter-matches in
-    let all = search.ensures.begins.left ∙ standard_named char_width K c.match_kind.result (kind_of c.args.self.now) (chars c.args.haystack.now) c.in-Standard.is c.match_kind.ensures in
-    gives_parts _ (StandsAtEnd char_width) search.result _ all (parts_of_text K (kind_of c.args.self.now) c.args.haystack.now c.utf8.haystack)
+    let all = search.ensures.begins.left ∙ standard_named char_width K c.match_kind.result (kind_of c.args.self.now) (as_read c.args.self.now.folds (chars c.args.haystack.now)) c.in-Standard.is c.match_kind.ensures in
+    gives_parts _ (StandsAtEnd char_width) search.result _ all (parts_of_text K c.args.self.now.folds (kind_of c.args.self.now) c.args.haystack.now c.utf8.haystack)
 
 pub returns-in-Standard-clause-whole : goal.returns-in-Standard-clause-whole
 returns-in-Standard-clause-whole g c =
     let K = dictionary_of c.args.self.now in
     let search = c.find_iter-matches in
-    let all = search.ensures.begins.left ∙ standard_named char_width K c.match_kind.result (kind_of c.args.self.now) (chars c.args.haystack.now) c.in-Standard.is c.match_kind.ensures in
+    let all = search.ensures.begins.left ∙ standard_named char_width K c.match_kind.result (kind_of c.args.self.now) (as_read c.args.self.now.folds (chars c.args.haystack.now)) c.in-Standard.is c.match_kind.ensures in
     on_ok_weaker c.replace.result (λ f. f _ (gives_left (StandsAtEnd char_width) search.result _ all)) c.replace.ensures.whole
 
 pub returns-in-Standard-clause-beginning : goal.returns-in-Standard-clause-beginning
 returns-in-Standard-clause-beginning g c =
     let K = dictionary_of c.args.self.now in
     let search = c.find_iter-matches in
-    let all = search.ensures.begins.left ∙ standard_named char_width K c.match_kind.result (kind_of c.args.self.now) (chars c.args.haystack.now) c.in-Standard.is c.match_kind.ensures in
+    let all = search.ensures.begins.left ∙ standard_named char_width K c.match_kind.result (kind_of c.args.self.now) (as_read c.args.self.now.folds (chars c.args.haystack.now)) c.in-Standard.is c.match_kind.ensures in
     on_err_weaker c.replace.result (λ f. f _ (gives_left (StandsAtEnd char_width) search.result _ all)) c.replace.ensures.beginning
 
 pub replace-requires-in-LeftmostLongest : goal.replace-requires-in-LeftmostLongest
 replace-requires-in-LeftmostLongest g c =
     let K = dictionary_of c.args.self.now in
     let search = c.leftmost_find_iter-matches in
-    let all = search.ensures.begins.left ∙ leftmost_named char_width K c.match_kind.result (kind_of c.args.self.now) (chars c.args.haystack.now) c.in-LeftmostLongest.is c.match_kind.ensures in
-    record { can = tt; ends = tt; callable = c.requires.callable; parts = gives_parts _ (StandsBehind char_width) search.result _ all (parts_of_text K (kind_of c.args.self.now) c.args.haystack.now c.utf8.haystack) }
+    let all = search.ensures.begins.left ∙ leftmost_named char_width K c.match_kind.result (kind_of c.args.self.now) (as_read c.args.self.now.folds (chars c.args.haystack.now)) c.in-LeftmostLongest.is c.match_kind.ensures in
+    record { can = tt; ends = tt; callable = c.requires.callable; parts = gives_parts _ (StandsBehind char_width) search.result _ all (parts_of_text K c.args.self.now.folds (kind_of c.args.self.now) c.args.haystack.now c.utf8.haystack) }
 
 pub returns-in-LeftmostLongest : goal.returns-in-LeftmostLongest
 returns-in-LeftmostLongest g c =
     let K = dictionary_of c.args.self.now in
     let search = c.leftmost_find_iter-matches in
-    let all = search.ensures.begins.left ∙ leftmost_named char_width K c.match_kind.result (kind_of c.args.self.now) (chars c.args.haystack.now) c.in-LeftmostLongest.is c.match_kind.ensures in
+    let all = search.ensures.begins.left ∙ leftmost_named char_width K c.match_kind.result (kind_of c.args.self.now) (as_read c.args.self.now.folds (chars c.args.haystack.now)) c.in-LeftmostLongest.is c.match_kind.ensures in
     let given = gives_left (StandsBehind char_width) search.result _ all in
     record {
       whole = on_ok_weaker c.replace-in-LeftmostLongest.result (λ f. f _ given) c.replace-in-LeftmostLongest.ensures.whole;

@@ -1,4 +1,4 @@
--- An automaton in hand has valid parts, and its filter passes.
+-- An automaton in hand has valid parts, its patterns are folded where haystacks are, and its filter passes.
 use Rattle.std.proofs.Common.{subst}
 use Rattle.daachorse_charwise.specs.Automata.{Automaton}
 use Rattle.daachorse_charwise.specs.WrittenForms.{IsAutomaton}
@@ -7,4 +7,4 @@ use Rattle.daachorse_charwise.proofs.charwise.CharwiseDoubleArrayAhoCorasick.ser
 pub returns-clause-automaton : goal.returns-clause-automaton
 returns-clause-automaton g c =
     let P : Automaton g.row.V.Denot → Type 0 = λ a. IsAutomaton g.V.Serializable.is_value a in
-    subst P c.self.view_is (record { parts = c.serialize.ensures.automaton; filter = c.self.invariant.filter })
+    subst P c.self.view_is (record { parts = c.serialize.ensures.automaton; folded = c.self.invariant.folded; filter = c.self.invariant.filter })

@@ -1,11 +1,14 @@
--- The kind of the default builder is `Standard`, and it wants a filter.
+-- The kind of the default builder is `Standard`, it wants a filter, and it reads patterns as they are.
 use Rattle.daachorse_charwise.proofs.charwise.CharwiseDoubleArrayAhoCorasick.with_values.Goals as goal
 
 pub returns-clause-ok : goal.returns-clause-ok
-returns-clause-ok g c = rw c.new.ensures.kind at c.build_with_values.ensures.ok
+returns-clause-ok g c = rw (c.new.ensures.kind, c.new.ensures.folds) at c.build_with_values.ensures.ok
 
 pub returns-clause-err : goal.returns-clause-err
-returns-clause-err g c = rw c.new.ensures.kind at c.build_with_values.ensures.err
+returns-clause-err g c = rw (c.new.ensures.kind, c.new.ensures.folds) at c.build_with_values.ensures.err
 
 pub returns-clause-filter : goal.returns-clause-filter
-returns-clause-filter g c = rw c.new.ensures.filter at c.build_with_values.ensures.filter
+returns-clause-filter g c = rw (c.new.ensures.filter, c.new.ensures.folds) at c.build_with_values.ensures.filter
+
+pub returns-clause-folds : goal.returns-clause-folds
+returns-clause-folds g c = rw c.new.ensures.folds at c.build_with_values.ensures.folds

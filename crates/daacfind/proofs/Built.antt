@@ -1,7 +1,8 @@
 -- An automaton that was built of the lines holds the dictionary of the numbered lines.
-use Rattle.std.proofs.Common.{◌≡◌, ℕ, ◌+◌, List, [], ◌∷◌, refl, ap, ◌∙◌}
+use Rattle.std.proofs.Common.{◌≡◌, ℕ, ◌+◌, false, List, [], ◌∷◌, refl, ap, ◌∙◌}
 use Rattle.daachorse_model.specs.declared.MatchKind.{MatchKind}
 use Rattle.daachorse_model.specs.Dictionary.{dictionary}
+use Rattle.daachorse_model.specs.Folding.{as_read}
 use Rattle.daachorse_model.specs.Program.{numbered, pattern_lines, match_text}
 use Rattle.daachorse_bytewise.specs.Automata.{Automaton, dictionary_of}
 use Rattle.daachorse_bytewise.specs.Building.{IsBuiltOf}
@@ -20,7 +21,8 @@ dictionary_of_built : (kind : MatchKind) (texts : List (List ℕ)) (a : Automato
 dictionary_of_built kind texts a h = let held : dictionary_of a ≡ dictionary kind h.0 = λ i w. h.2 w i in held ∙ ap (dictionary kind) (numbered_of 0 texts h.0 h.1)
 
 -- so what a mode writes is the text that the pattern file asks for
-pub text_of_built : (mode : Mode) (patterns haystack : List ℕ) (a : Automaton ℕ) (kind : MatchKind) → kind ≡ kind_of_mode mode → IsBuiltOf value_gives kind (pattern_lines patterns) a
-    → match_text (found_by mode (dictionary_of a) haystack) ≡ text_of_mode mode patterns haystack
-text_of_built mode patterns haystack a kind is h =
-    ap (λ K. match_text (found_by mode K haystack)) (dictionary_of_built kind (pattern_lines patterns) a h ∙ ap (λ k. dictionary k (numbered 0 (pattern_lines patterns))) is)
+pub text_of_built : (mode : Mode) (patterns haystack : List ℕ) (a : Automaton ℕ) (kind : MatchKind) → kind ≡ kind_of_mode mode → a.folds ≡ false → IsBuiltOf value_gives kind (pattern_lines patterns) a
+    → match_text (found_by mode (dictionary_of a) (as_read a.folds haystack)) ≡ text_of_mode mode patterns haystack
+text_of_built mode patterns haystack a kind is folds h =
+    ap (λ b. match_text (found_by mode (dictionary_of a) (as_read b haystack))) folds
+    ∙ ap (λ K. match_text (found_by mode K haystack)) (dictionary_of_built kind (pattern_lines patterns) a h ∙ ap (λ k. dictionary k (numbered 0 (pattern_lines patterns))) is)

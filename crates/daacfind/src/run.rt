@@ -3,11 +3,12 @@
 //! The layers above may rely on [`run`] writing the text of the mode's matches, and on what it
 //! wrote and what its sink counted where it gives up.
 
-ghost use Rattle.std.specs.Prelude.{◌≡◌, ℕ, ◌+◌, ◌≤◌, ◌∷◌, ◌++◌, ◌-◌, ◌==◌, ◌↔◌, [], IsTrue, slice_get, List, length, map, drop, decimal, IfOk, IfErr, OnOk, OnErr};
+ghost use Rattle.std.specs.Prelude.{◌≡◌, ℕ, ◌+◌, ◌≤◌, ◌∷◌, ◌++◌, ◌-◌, ◌==◌, ◌↔◌, false, [], IsTrue, slice_get, List, length, map, drop, decimal, IfOk, IfErr, OnOk, OnErr};
 ghost use Rattle.std.specs.Iterator.{AlwaysYields, IsFinite};
 ghost use Rattle.std.specs.List.{slice_split};
 ghost use Rattle.std.specs.Io.KnownBytes.{Appends, Keeps};
 ghost use Rattle.daachorse_model.specs.declared.Match.{Match};
+ghost use Rattle.daachorse_model.specs.Folding.{as_read};
 ghost use Rattle.daachorse_model.specs.Program.{pattern_lines, match_line, match_text};
 ghost use Rattle.daachorse_bytewise.specs.Automata.{dictionary_of, kind_of};
 ghost use Rattle.daachorse_bytewise.specs.Building.{IsBuiltOf, IsBuildRefusal};
@@ -95,6 +96,7 @@ fn build<A: Allocator + Copy>(
 ) -> Result<DoubleArrayAhoCorasick<u32, A>, DaachorseError>
     ensures built { IfOk result (IsBuiltOf value_gives kind (pattern_lines file.now)) }
     ensures kind { IfOk result (λ a. kind_of a ≡ kind) }
+    ensures folds { IfOk result (λ a. a.folds ≡ false) }
     ensures refused { IfErr result (IsBuildRefusal value_gives kind (pattern_lines file.now)) }
 {
     let patterns = lines(alloc, file)?;
@@ -137,9 +139,9 @@ fn write_mode<S: Sink, A: Allocator + Copy>(
     out: &mut S,
 ) -> Result<(), SinkError>
     requires { kind_of automaton.now ≡ kind_of_mode mode }
-    ensures whole { OnOk result (Appends (S.taken out.old) (S.taken out.new) (match_text (found_by mode (dictionary_of automaton.now) haystack.now))) }
+    ensures whole { OnOk result (Appends (S.taken out.old) (S.taken out.new) (match_text (found_by mode (dictionary_of automaton.now) (as_read automaton.now.folds haystack.now)))) }
     ensures unfailed { OnOk result (S.failures out.new ≡ S.failures out.old) }
-    ensures beginning { OnErr result (AppendsBeginning (S.taken out.old) (S.taken out.new) (match_text (found_by mode (dictionary_of automaton.now) haystack.now))) }
+    ensures beginning { OnErr result (AppendsBeginning (S.taken out.old) (S.taken out.new) (match_text (found_by mode (dictionary_of automaton.now) (as_read automaton.now.folds haystack.now)))) }
     ensures failed { OnErr result (S.failures out.new ≡ S.failures out.old + 1) }
 {
     match mode {

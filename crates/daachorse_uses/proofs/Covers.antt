@@ -9,10 +9,12 @@ use Rattle.std.proofs.lemmas.List.Folds.{list_any-append}
 use borrow.Rule.Slice.PartMut.{put_mid}
 use Rattle.daachorse_model.specs.declared.Match.{Match}
 use Rattle.daachorse_model.specs.Dictionary.{Dictionary}
+use Rattle.daachorse_model.specs.Folding.{as_read}
 use Rattle.daachorse_model.specs.Laws.{IsOccurrence}
 use Rattle.daachorse_model.specs.Leftmost.{leftmost}
 use Rattle.daachorse_model.specs.Units.{byte_width}
 use Rattle.daachorse_model.proofs.Find.{leftmost_occur}
+use Rattle.daachorse_model.proofs.FoldLemmas.{length-as_read}
 use Rattle.daachorse_model.proofs.Suffixes.{size-bytes}
 use Rattle.daachorse_uses.specs.Covered.{FitsIn, is_covered, is_within}
 
@@ -37,12 +39,16 @@ module _ {V : Type 0} where
   leftmost_fit : (K : Dictionary V) (h : List ℕ) → All (FitsIn (length h)) (leftmost byte_width K h)
   leftmost_fit K h = All-weaker (IsOccurrence byte_width K h) (FitsIn (length h)) (fits_in K h) (leftmost byte_width K h) (leftmost_occur byte_width K h)
 
+  -- what is within a text as it is read is within the text
+  pub fit_as_given : (folds : Bool) (h : List ℕ) (ms : List (Match V)) → All (FitsIn (length (as_read folds h))) ms → All (FitsIn (length h)) ms
+  fit_as_given folds h ms all = subst (λ n. All (FitsIn n) ms) (length-as_read folds h) all
+
   all_at : (P : Match V → Type 0) (xs : List (Match V)) (m : Match V) (ms : List (Match V)) → All P (xs ++ m ∷ ms) → P m
   all_at P [] m ms all = All-head P m ms all
   all_at P (x ∷ xs) m ms all = all_at P xs m ms (All-tail P x (xs ++ m ∷ ms) all)
 
-  pub leftmost_fits : (K : Dictionary V) (h : List ℕ) (xs : List (Match V)) (m : Match V) (ms : List (Match V)) → leftmost byte_width K h ≡ xs ++ m ∷ ms → FitsIn (length h) m
-  leftmost_fits K h xs m ms is = all_at (FitsIn (length h)) xs m ms (subst (All (FitsIn (length h))) is (leftmost_fit K h))
+  pub leftmost_fits : (K : Dictionary V) (folds : Bool) (h : List ℕ) (xs : List (Match V)) (m : Match V) (ms : List (Match V)) → leftmost byte_width K (as_read folds h) ≡ xs ++ m ∷ ms → FitsIn (length h) m
+  leftmost_fits K folds h xs m ms is = all_at (FitsIn (length h)) xs m ms (subst (All (FitsIn (length h))) is (fit_as_given folds h (leftmost byte_width K (as_read folds h)) (leftmost_fit K (as_read folds h))))
 
   pub covered_more : (xs : List (Match V)) (m : Match V) (i : ℕ) → is_covered (xs ++ m ∷ []) i ≡ cond (is_within m.start m.end i) true (is_covered xs i)
   covered_more xs m i = list_any-append (λ m. is_within m.start m.end i) xs (m ∷ []) ∙ by (is_covered xs i) (is_within m.start m.end i)

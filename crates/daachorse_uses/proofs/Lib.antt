@@ -1,4 +1,5 @@
 pub mod Covers
 pub mod Lookups
 pub mod Marks
+pub mod Readings
 pub mod Redactions

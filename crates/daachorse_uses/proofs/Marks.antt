@@ -1,5 +1,5 @@
 -- The marks of a stream, one byte more: the standard search finds the match that ends there, if there is one.
-use Rattle.std.proofs.Common.{◌≡◌, ℕ, ◌+◌, ◌≤◌, ◌<◌, Bool, true, false, cond, List, [], ◌∷◌, ◌++◌, length, get_or, Option, Some, None, option_to_list, inl, inr, refl, sym, ap, ◌∙◌, append-nil, append_assoc, length-append, arith}
+use Rattle.std.proofs.Common.{◌≡◌, ℕ, ◌+◌, ◌≤◌, ◌<◌, Bool, true, false, cond, List, [], ◌∷◌, ◌++◌, length, get_or, Option, Some, None, option_to_list, inl, inr, refl, sym, ap, ◌∙◌, subst, append-nil, append_assoc, length-append, arith}
 use Rattle.std.specs.Iterator.{Yields}
 use Rattle.std.specs.Iterator.Runs.{SomeRun, Trigger, WholeRun, YieldsRun}
 use Rattle.std.specs.List.{slice_get}
@@ -13,17 +13,23 @@ use Rattle.std.proofs.lemmas.Option.{slice_get-get_or}
 use Rattle.daachorse_model.specs.declared.Match.{Match}
 use Rattle.daachorse_model.specs.Dictionary.{Dictionary}
 use Rattle.daachorse_model.specs.Laws.{IsOccurrence}
+use Rattle.daachorse_model.specs.Folding.{as_read}
 use Rattle.daachorse_model.specs.Matches.{at_each_end, standard, standard_after}
 use Rattle.daachorse_model.specs.Units.{byte_width}
 use Rattle.daachorse_model.proofs.Find.{standard_occur}
 use Rattle.daachorse_model.proofs.StandardEnds.{standard-joined}
 use Rattle.daachorse_bytewise.specs.Automata.{Automaton, dictionary_of, states_of}
 use Rattle.daachorse_uses.specs.Covered.{AreMarks, FitsIn, is_covered, is_within}
-use Rattle.daachorse_uses.proofs.Covers.{covered_more, fits_in}
+use Rattle.daachorse_uses.proofs.Covers.{covered_more, fit_as_given, fits_in}
+use Rattle.daachorse_uses.proofs.Readings.{as_read-push}
 
 module _ {V : Type 0} where
   pub standard_fit : (K : Dictionary V) (h : List ℕ) → All (FitsIn (length h)) (standard byte_width K h)
   standard_fit K h = All-weaker (IsOccurrence byte_width K h) (FitsIn (length h)) (fits_in K h) (standard byte_width K h) (standard_occur byte_width K h)
+
+  -- so do those in a text as it is read
+  read_fit : (K : Dictionary V) (folds : Bool) (h : List ℕ) → All (FitsIn (length h)) (standard byte_width K (as_read folds h))
+  read_fit K folds h = fit_as_given folds h (standard byte_width K (as_read folds h)) (standard_fit K (as_read folds h))
 
   -- no place past the ends of the matches lies in one
   uncovered : (n i : ℕ) (ms : List (Match V)) → All (FitsIn n) ms → n ≤ i → is_covered ms i ≡ false
@@ -42,41 +48,52 @@ module _ {V : Type 0} (K : Dictionary V) (xs : List ℕ) (u : ℕ) where
       ∙ at_each_end-push (λ t. option_to_list (standard_after byte_width K t)) [] xs u
       ∙ ap (λ l. l ++ option_to_list (standard_after byte_width K (xs ++ u ∷ []))) (standard-joined byte_width K (λ v. omega arith) xs)
 
-  pub found_fits : (m : Match V) → Some m ≡ standard_after byte_width K (xs ++ u ∷ []) → FitsIn (length (xs ++ u ∷ [])) m
+-- the same of a text as it is read
+module _ {V : Type 0} (K : Dictionary V) (folds : Bool) (xs : List ℕ) (u : ℕ) where
+  read-push : standard byte_width K (as_read folds (xs ++ u ∷ [])) ≡ standard byte_width K (as_read folds xs) ++ option_to_list (standard_after byte_width K (as_read folds (xs ++ u ∷ [])))
+  read-push =
+      let more = as_read-push folds xs u in
+      subst (λ t. standard byte_width K t ≡ standard byte_width K (as_read folds xs) ++ option_to_list (standard_after byte_width K t)) (sym more.1) (standard-push K (as_read folds xs) more.0)
+
+  pub found_fits : (m : Match V) → Some m ≡ standard_after byte_width K (as_read folds (xs ++ u ∷ [])) → FitsIn (length (xs ++ u ∷ [])) m
   found_fits m is =
-      (All-pop (FitsIn (length (xs ++ u ∷ []))) (standard byte_width K (xs ++ u ∷ [])) (standard byte_width K xs) (Some m) (standard-push ∙ ap (λ r. standard byte_width K xs ++ option_to_list r) (sym is)) (standard_fit K (xs ++ u ∷ []))).1
+      let before = standard byte_width K (as_read folds xs) in
+      let text = as_read folds (xs ++ u ∷ []) in
+      (All-pop (FitsIn (length (xs ++ u ∷ []))) (standard byte_width K text) before (Some m) (read-push ∙ ap (λ r. before ++ option_to_list r) (sym is)) (read_fit K folds (xs ++ u ∷ []))).1
 
   -- ---- marks
 
-  module _ (marks : List Bool) (are : AreMarks (standard byte_width K xs) (length xs) marks) where
-    pushed : (i : ℕ) → i < length (xs ++ u ∷ []) → get_or (marks ++ false ∷ []) i false ≡ is_covered (standard byte_width K xs) i
+  module _ (marks : List Bool) (are : AreMarks (standard byte_width K (as_read folds xs)) (length xs) marks) where
+    pushed : (i : ℕ) → i < length (xs ++ u ∷ []) → get_or (marks ++ false ∷ []) i false ≡ is_covered (standard byte_width K (as_read folds xs)) i
     pushed i inside = elim (cases_lt i (length xs)) [
       | inl before ↦ get_or_append_left marks (false ∷ []) false i (omega (arith, are.long, before)) ∙ are.marked i before
       | inr past ↦
           let at : i ≡ length marks = omega (arith, are.long, past, inside, length-append xs (u ∷ [])) in
-          get_or_at marks false [] false i (sym at) ∙ sym (uncovered (length xs) i (standard byte_width K xs) (standard_fit K xs) past)
+          get_or_at marks false [] false i (sym at) ∙ sym (uncovered (length xs) i (standard byte_width K (as_read folds xs)) (read_fit K folds xs) past)
     ]
 
     pub longer : length (marks ++ false ∷ []) ≡ length (xs ++ u ∷ [])
     longer = length-append marks (false ∷ []) ∙ ap (λ n. n + 1) are.long ∙ sym (length-append xs (u ∷ []))
 
-    pub none_marked : None ≡ standard_after byte_width K (xs ++ u ∷ []) → AreMarks (standard byte_width K (xs ++ u ∷ [])) (length (xs ++ u ∷ [])) (marks ++ false ∷ [])
+    pub none_marked : None ≡ standard_after byte_width K (as_read folds (xs ++ u ∷ [])) → AreMarks (standard byte_width K (as_read folds (xs ++ u ∷ []))) (length (xs ++ u ∷ [])) (marks ++ false ∷ [])
     none_marked is = record {
       long = longer;
       marked = λ i inside.
-          pushed i inside ∙ ap (λ ms. is_covered ms i) (sym (append-nil (standard byte_width K xs)) ∙ ap (λ r. standard byte_width K xs ++ option_to_list r) is ∙ sym standard-push);
+          let before = standard byte_width K (as_read folds xs) in
+          pushed i inside ∙ ap (λ ms. is_covered ms i) (sym (append-nil before) ∙ ap (λ r. before ++ option_to_list r) is ∙ sym read-push);
     }
 
-    pub some_marked : (m : Match V) (later : List Bool) → Some m ≡ standard_after byte_width K (xs ++ u ∷ []) → length later ≡ length (marks ++ false ∷ [])
+    pub some_marked : (m : Match V) (later : List Bool) → Some m ≡ standard_after byte_width K (as_read folds (xs ++ u ∷ [])) → length later ≡ length (marks ++ false ∷ [])
         → ((i : ℕ) → i < length (marks ++ false ∷ []) → get_or later i false ≡ cond (is_within m.start m.end i) true (get_or (marks ++ false ∷ []) i false))
-        → AreMarks (standard byte_width K (xs ++ u ∷ [])) (length (xs ++ u ∷ [])) later
+        → AreMarks (standard byte_width K (as_read folds (xs ++ u ∷ []))) (length (xs ++ u ∷ [])) later
     some_marked m later is long set = record {
       long = long ∙ longer;
       marked = λ i inside.
+          let before = standard byte_width K (as_read folds xs) in
           set i (omega (arith, inside, longer))
           ∙ ap (cond (is_within m.start m.end i) true) (pushed i inside)
-          ∙ sym (covered_more (standard byte_width K xs) m i)
-          ∙ ap (λ ms. is_covered ms i) (ap (λ r. standard byte_width K xs ++ option_to_list r) is ∙ sym standard-push);
+          ∙ sym (covered_more before m i)
+          ∙ ap (λ ms. is_covered ms i) (ap (λ r. before ++ option_to_list r) is ∙ sym read-push);
     }
 
 -- what a stepper tells, in the words of the automaton that it borrows

@@ -12,10 +12,12 @@ use Rattle.std.specs.Prelude.{Err, Ok, OnErr, Result}
 use Rattle.daachorse_model.specs.declared.Match.{Match}
 use Rattle.daachorse_model.specs.Dictionary.{Dictionary}
 use Rattle.daachorse_model.specs.Laws.{Follows, IsOccurrence}
+use Rattle.daachorse_model.specs.Folding.{as_read}
 use Rattle.daachorse_model.specs.Matches.{IsSinceMatch, last_end, resume_place, standard, standard_after}
 use Rattle.daachorse_model.specs.Prefixes.{IsLong, IsPrefix, IsSuffix}
 use Rattle.daachorse_model.specs.Units.{byte_width}
 use Rattle.daachorse_model.proofs.Find.{standard_apart, standard_occur}
+use Rattle.daachorse_model.proofs.FoldLemmas.{length-as_read}
 use Rattle.daachorse_model.proofs.StandardEnds.{standard-joined}
 use Rattle.daachorse_model.proofs.Steps.{IsLong-nil, IsPrefix-key, IsPrefix-less}
 use Rattle.daachorse_model.proofs.Suffixes.{le_or_lt, size-bytes, IsSuffix-as_long, IsSuffix-cons, IsSuffix-length, IsSuffix-of_longer, IsSuffix-of_push, IsSuffix-same, IsSuffix-tail, IsSuffix-through}
@@ -26,23 +28,28 @@ use Rattle.daachorse_replacing.proofs.Parts.{last_end-next, replaced-split, repl
 use Rattle.daachorse_uses.specs.Covered.{FitsIn}
 use Rattle.daachorse_uses.specs.Redacted.{ReachesBack, redacted}
 use Rattle.daachorse_uses.proofs.Marks.{standard-push, standard_fit}
+use Rattle.daachorse_uses.proofs.Readings.{as_read-nil, as_read-push}
 
 -- what holds in any case holds where there is an error
 pub at_any_err : {T E : Type 0} (r : Result T E) (P : Type 0) → P → OnErr r P
 at_any_err (Ok x) P p = tt
 at_any_err (Err e) P p = p
 
--- of automata with the same states, masks and texts that are equal
-redacted_as : {V : Type 0} (a b : Automaton V) (m n x y : List ℕ) → states_of a ≡ states_of b → m ≡ n → x ≡ y → redacted (dictionary_of a) m x ≡ redacted (dictionary_of b) n y
-redacted_as a b m n x y states mask text =
-    ap (λ p. redacted (dictionary_of (record b { parts = p })) m x) states ∙ ap (λ k. redacted (dictionary_of b) k x) mask ∙ ap (redacted (dictionary_of b) n) text
+-- of automata with the same states and option, masks and texts that are equal
+redacted_as : {V : Type 0} (a b : Automaton V) (m n x y : List ℕ) → states_of a ≡ states_of b → a.folds ≡ b.folds → m ≡ n → x ≡ y
+    → redacted a.folds (dictionary_of a) m x ≡ redacted b.folds (dictionary_of b) n y
+redacted_as a b m n x y states option mask text =
+    ap (λ p. redacted a.folds (dictionary_of (record b { parts = p })) m x) states
+    ∙ ap (λ f. redacted f (dictionary_of b) m x) option
+    ∙ ap (λ k. redacted b.folds (dictionary_of b) k x) mask
+    ∙ ap (redacted b.folds (dictionary_of b) n) text
 
 -- a redactor's clause on a byte more, in words that do not change while it reads
-pub written_next : (a b : Automaton ℕ) (m n x y read : List ℕ) (u : ℕ) (written held new : List ℕ) → states_of a ≡ states_of b → m ≡ n → x ≡ y → read ≡ x ++ u ∷ []
-    → ((w : List ℕ) → w ++ held ≡ redacted (dictionary_of a) m x → w ++ new ≡ redacted (dictionary_of a) m read)
-    → written ++ held ≡ redacted (dictionary_of b) n y → written ++ new ≡ redacted (dictionary_of b) n (y ++ u ∷ [])
-written_next a b m n x y read u written held new states mask text more next is =
-    next written (is ∙ sym (redacted_as a b m n x y states mask text)) ∙ redacted_as a b m n read (y ++ u ∷ []) states mask (more ∙ ap (λ l. l ++ u ∷ []) text)
+pub written_next : (a b : Automaton ℕ) (m n x y read : List ℕ) (u : ℕ) (written held new : List ℕ) → states_of a ≡ states_of b → a.folds ≡ b.folds → m ≡ n → x ≡ y → read ≡ x ++ u ∷ []
+    → ((w : List ℕ) → w ++ held ≡ redacted a.folds (dictionary_of a) m x → w ++ new ≡ redacted a.folds (dictionary_of a) m read)
+    → written ++ held ≡ redacted b.folds (dictionary_of b) n y → written ++ new ≡ redacted b.folds (dictionary_of b) n (y ++ u ∷ [])
+written_next a b m n x y read u written held new states option mask text more next is =
+    next written (is ∙ sym (redacted_as a b m n x y states option mask text)) ∙ redacted_as a b m n read (y ++ u ∷ []) states option mask (more ∙ ap (λ l. l ++ u ∷ []) text)
 
 -- what went out of what was held joins what was written
 pub written_more : (old now later : Option (List ℕ)) (all held new : List ℕ) → (written : List ℕ) × (written ++ held ≡ all) × Appends old now written
@@ -162,21 +169,12 @@ module _ {V : Type 0} (K : Dictionary V) where
       same_matches : standard byte_width K (xs ++ u ∷ []) ≡ standard byte_width K xs
       same_matches = standard-push K xs u ∙ ap (λ r. standard byte_width K xs ++ option_to_list r) (sym none) ∙ append-nil (standard byte_width K xs)
 
-      pub redacted-none : (mask written held : List ℕ) → written ++ held ≡ redacted K mask xs → written ++ (held ++ u ∷ []) ≡ redacted K mask (xs ++ u ∷ [])
-      redacted-none mask written held is =
-          let ms = standard byte_width K xs in
-          let with = λ (m : Match V). mask in
-          sym (append_assoc written held (u ∷ [])) ∙ ap (λ l. l ++ u ∷ []) (is ∙ replaced-ends with xs ms) ∙ append_assoc (replaced_before with xs 0 ms) (drop (last_end 0 ms) xs) (u ∷ [])
-          ∙ ap (λ l. replaced_before with xs 0 ms ++ l) (sym (drop-append-le (last_end 0 ms) xs (u ∷ []) (resume_fits xs)))
-          ∙ ap (λ l. l ++ drop (last_end 0 ms) (xs ++ u ∷ [])) (sym (before_kept with xs (u ∷ []) 0 ms (standard_apart byte_width K xs) (standard_fit K xs)))
-          ∙ sym (replaced-ends with (xs ++ u ∷ []) ms) ∙ ap (replaced with (xs ++ u ∷ [])) (sym same_matches)
-
-      pub reaches-none : (held : List ℕ) → ReachesBack K xs held → ReachesBack K (xs ++ u ∷ []) (held ++ u ∷ [])
-      reaches-none held reach since t is ends begins =
+      reaches-none : (held : List ℕ) (b : ℕ) → ReachesBack K xs held → ReachesBack K (xs ++ u ∷ []) (held ++ b ∷ [])
+      reaches-none held b reach since t is ends begins =
           let whole = since_long (xs ++ u ∷ []) since is in
           let same : resume_place byte_width K (xs ++ u ∷ []) ≡ resume_place byte_width K xs = ap (last_end 0) same_matches in
           let less = reached_next held t reach (IsSuffix-through t since (xs ++ u ∷ []) ends (is.0, sym is.1)) begins (omega (arith, IsSuffix-length t since ends, whole, same)) in
-          omega (arith, less, length-append held (u ∷ []))
+          omega (arith, less, length-append held (b ∷ []))
 
     module _ (m : Match V) (some : Some m ≡ standard_after byte_width K (xs ++ u ∷ [])) where
       one_more : standard byte_width K (xs ++ u ∷ []) ≡ standard byte_width K xs ++ m ∷ []
@@ -192,8 +190,8 @@ module _ {V : Type 0} (K : Dictionary V) where
       occurs = (All-pop (IsOccurrence byte_width K (xs ++ u ∷ [])) (standard byte_width K (xs ++ u ∷ [])) (standard byte_width K xs) (Some m) one_more (standard_occur byte_width K (xs ++ u ∷ []))).1
 
       -- what is held has all of the match
-      pub match_held : (held : List ℕ) → ReachesBack K xs held → m.end - m.start ≤ length (held ++ u ∷ [])
-      match_held held reach =
+      match_held : (held : List ℕ) (b : ℕ) → ReachesBack K xs held → m.end - m.start ≤ length (held ++ b ∷ [])
+      match_held held b reach =
           let o = occurs in
           let whole : length (xs ++ u ∷ []) ≡ length o.before + (length o.key + length o.after) = ap length o.splits ∙ length-append o.before (o.key ++ o.after) ∙ ap (λ n. length o.before + n) (length-append o.key o.after) in
           let last : length o.after ≡ 0 = omega (arith, whole, o.ends, ends_here, size-bytes o.before, size-bytes o.key) in
@@ -201,7 +199,7 @@ module _ {V : Type 0} (K : Dictionary V) where
           let splits : o.before ++ o.key ≡ xs ++ u ∷ [] = ap (λ l. o.before ++ l) (sym (append-nil o.key) ∙ ap (λ l. o.key ++ l) (sym nil)) ∙ sym o.splits in
           let begins = IsPrefix-key K o.key (λ none. omega (arith, o.has.1, ap length none)) in
           let less = reached_next held o.key reach (o.before, splits) begins (omega (arith, whole, last, o.starts, size-bytes o.before, starts_behind)) in
-          omega (arith, less, o.starts, o.ends, size-bytes o.key, length-append held (u ∷ []))
+          omega (arith, less, o.starts, o.ends, size-bytes o.key, length-append held (b ∷ []))
         where
           no_length : (xs : List ℕ) → length xs ≡ 0 → xs ≡ []
           no_length [] e = refl
@@ -210,50 +208,89 @@ module _ {V : Type 0} (K : Dictionary V) where
       found_ordered : m.start ≤ m.end
       found_ordered = omega (arith, occurs.starts, occurs.ends)
 
-      pub redacted-some : (mask written held : List ℕ) → ReachesBack K xs held → written ++ held ≡ redacted K mask xs
-          → written ++ (take (length (held ++ u ∷ []) - (m.end - m.start)) (held ++ u ∷ []) ++ mask) ≡ redacted K mask (xs ++ u ∷ [])
-      redacted-some mask written held reach is =
-          let ms = standard byte_width K xs in
-          let text = xs ++ u ∷ [] in
-          let with = λ (m : Match V). mask in
-          let r = last_end 0 ms in
-          let long : length (drop r text) ≡ length text - r = length-drop r text in
-          let within : r ≤ m.start = starts_behind in
-          let ordered = found_ordered in
-          let more : written ++ (held ++ u ∷ []) ≡ replaced_before with xs 0 ms ++ drop r text =
-          sym (append_assoc written held (u ∷ [])) ∙ ap (λ l. l ++ u ∷ []) (is ∙ replaced-ends with xs ms) ∙ append_assoc (replaced_before with xs 0 ms) (drop r xs) (u ∷ [])
-          ∙ ap (λ l. replaced_before with xs 0 ms ++ l) (sym (drop-append-le r xs (u ∷ []) (resume_fits xs))) in
-          let cut = same_but written (held ++ u ∷ []) (replaced_before with xs 0 ms) (drop r text) (m.end - m.start) more (match_held held reach) (omega (arith, long, within, ordered, ends_here)) in
-          let count : length (drop r text) - (m.end - m.start) ≡ m.start - r = omega (arith, long, within, ordered, ends_here) in
-          let front : written ++ take (length (held ++ u ∷ []) - (m.end - m.start)) (held ++ u ∷ []) ≡ replaced_before with text 0 ms ++ slice_range text r m.start =
-          cut ∙ ap (λ n. replaced_before with xs 0 ms ++ take n (drop r text)) count
-          ∙ ap (λ l. l ++ slice_range text r m.start) (sym (before_kept with xs (u ∷ []) 0 ms (standard_apart byte_width K xs) (standard_fit K xs))) in
-          sym (append_assoc written _ mask) ∙ ap (λ l. l ++ mask) front ∙ append_assoc (replaced_before with text 0 ms) (slice_range text r m.start) mask
-          ∙ ap (λ l. replaced_before with text 0 ms ++ (slice_range text r m.start ++ l)) (sym (append-nil mask) ∙ ap (λ l. mask ++ l) (sym (drop_of_length-le text (omega (arith, ends_here)))))
-          ∙ sym (replaced-split with text 0 ms (m ∷ [])) ∙ ap (replaced with text) (sym one_more)
-
-      pub reaches-some : (held : List ℕ) → ReachesBack K (xs ++ u ∷ []) held
+      reaches-some : (held : List ℕ) → ReachesBack K (xs ++ u ∷ []) held
       reaches-some held since t is ends begins =
           let place : resume_place byte_width K (xs ++ u ∷ []) ≡ m.end = ap (last_end 0) one_more ∙ last_end-next 0 (standard byte_width K xs) m in
           omega (arith, since_long (xs ++ u ∷ []) since is, place, ends_here, IsSuffix-length t since ends)
 
-    -- ---- what a redactor holds, where the match is the one that ends with the byte, if there is one
+    -- ---- the bytes as they came, which are as many as were read
 
-    module _ (held : List ℕ) (reach : ReachesBack K xs held) where
-      pub match_within : (r : Option (Match V)) → r ≡ standard_after byte_width K (xs ++ u ∷ []) → IfSome r (λ m. (m.start ≤ m.end) × (m.end - m.start ≤ length (held ++ u ∷ [])))
-      match_within None is = tt
-      match_within (Some m) is = (found_ordered m is, match_held m is held reach)
+    module _ (bytes : List ℕ) (b : ℕ) (long : length bytes ≡ length xs) (mask written held : List ℕ) (is : written ++ held ≡ replaced (λ (m : Match V). mask) bytes (standard byte_width K xs)) where
+      before_same : replaced_before (λ (m : Match V). mask) (bytes ++ b ∷ []) 0 (standard byte_width K xs) ≡ replaced_before (λ (m : Match V). mask) bytes 0 (standard byte_width K xs)
+      before_same =
+          let fit = subst (λ n. All (FitsIn n) (standard byte_width K xs)) (sym long) (standard_fit K xs) in
+          before_kept (λ (m : Match V). mask) bytes (b ∷ []) 0 (standard byte_width K xs) (standard_apart byte_width K xs) fit
 
-      module _ (mask new : List ℕ) where
-        pub reaches_next : (r : Option (Match V)) → r ≡ standard_after byte_width K (xs ++ u ∷ []) → (r ≡ None → new ≡ held ++ u ∷ []) → ReachesBack K (xs ++ u ∷ []) new
-        reaches_next None is none = subst (ReachesBack K (xs ++ u ∷ [])) (sym (none refl)) (reaches-none is held reach)
-        reaches_next (Some m) is none = reaches-some m is new
+      -- the byte joins what is held of the bytes behind the last match
+      joined : written ++ (held ++ b ∷ []) ≡ replaced_before (λ (m : Match V). mask) (bytes ++ b ∷ []) 0 (standard byte_width K xs) ++ drop (last_end 0 (standard byte_width K xs)) (bytes ++ b ∷ [])
+      joined =
+          let ms = standard byte_width K xs in
+          let with = λ (m : Match V). mask in
+          sym (append_assoc written held (b ∷ [])) ∙ ap (λ l. l ++ b ∷ []) (is ∙ replaced-ends with bytes ms) ∙ append_assoc (replaced_before with bytes 0 ms) (drop (last_end 0 ms) bytes) (b ∷ [])
+          ∙ ap (λ l. replaced_before with bytes 0 ms ++ l) (sym (drop-append-le (last_end 0 ms) bytes (b ∷ []) (omega (arith, long, resume_fits xs))))
+          ∙ ap (λ l. l ++ drop (last_end 0 ms) (bytes ++ b ∷ [])) (sym before_same)
 
-        pub redacted_next : (r : Option (Match V)) → r ≡ standard_after byte_width K (xs ++ u ∷ []) → (r ≡ None → new ≡ held ++ u ∷ [])
-            → IfSome r (λ m. new ≡ take (length (held ++ u ∷ []) - (m.end - m.start)) (held ++ u ∷ []) ++ mask)
-            → (written : List ℕ) → written ++ held ≡ redacted K mask xs → written ++ new ≡ redacted K mask (xs ++ u ∷ [])
-        redacted_next None is none some written before = ap (λ l. written ++ l) (none refl) ∙ redacted-none is mask written held before
-        redacted_next (Some m) is none some written before = ap (λ l. written ++ l) some ∙ redacted-some m is mask written held reach before
+      redacted-none : None ≡ standard_after byte_width K (xs ++ u ∷ []) → written ++ (held ++ b ∷ []) ≡ replaced (λ (m : Match V). mask) (bytes ++ b ∷ []) (standard byte_width K (xs ++ u ∷ []))
+      redacted-none none =
+          let with = λ (m : Match V). mask in
+          joined ∙ sym (replaced-ends with (bytes ++ b ∷ []) (standard byte_width K xs)) ∙ ap (replaced with (bytes ++ b ∷ [])) (sym (same_matches none))
+
+      redacted-some : (m : Match V) → Some m ≡ standard_after byte_width K (xs ++ u ∷ []) → ReachesBack K xs held
+          → written ++ (take (length (held ++ b ∷ []) - (m.end - m.start)) (held ++ b ∷ []) ++ mask) ≡ replaced (λ (m : Match V). mask) (bytes ++ b ∷ []) (standard byte_width K (xs ++ u ∷ []))
+      redacted-some m some reach =
+          let ms = standard byte_width K xs in
+          let text = bytes ++ b ∷ [] in
+          let with = λ (m : Match V). mask in
+          let r = last_end 0 ms in
+          let rest : length (drop r text) ≡ length text - r = length-drop r text in
+          let within : r ≤ m.start = starts_behind m some in
+          let ordered = found_ordered m some in
+          let ends : m.end ≡ length text = omega (arith, ends_here m some, long, length-append xs (u ∷ []), length-append bytes (b ∷ [])) in
+          let cut = same_but written (held ++ b ∷ []) (replaced_before with text 0 ms) (drop r text) (m.end - m.start) joined (match_held m some held b reach) (omega (arith, rest, within, ordered, ends)) in
+          let count : length (drop r text) - (m.end - m.start) ≡ m.start - r = omega (arith, rest, within, ordered, ends) in
+          let front : written ++ take (length (held ++ b ∷ []) - (m.end - m.start)) (held ++ b ∷ []) ≡ replaced_before with text 0 ms ++ slice_range text r m.start =
+          cut ∙ ap (λ n. replaced_before with text 0 ms ++ take n (drop r text)) count in
+          sym (append_assoc written _ mask) ∙ ap (λ l. l ++ mask) front ∙ append_assoc (replaced_before with text 0 ms) (slice_range text r m.start) mask
+          ∙ ap (λ l. replaced_before with text 0 ms ++ (slice_range text r m.start ++ l)) (sym (append-nil mask) ∙ ap (λ l. mask ++ l) (sym (drop_of_length-le text (omega (arith, ends)))))
+          ∙ sym (replaced-split with text 0 ms (m ∷ [])) ∙ ap (replaced with text) (sym (one_more m some))
+
+  -- ---- what a redactor holds, where the match is the one that ends with the byte, if there is one
+
+  module _ (folds : Bool) (bytes : List ℕ) (b : ℕ) (held : List ℕ) (reach : ReachesBack K (as_read folds bytes) held) where
+    -- what was read is one unit more
+    found_next : (r : Option (Match V)) → r ≡ standard_after byte_width K (as_read folds (bytes ++ b ∷ [])) → r ≡ standard_after byte_width K (as_read folds bytes ++ (as_read-push folds bytes b).0 ∷ [])
+    found_next r is = is ∙ ap (standard_after byte_width K) (as_read-push folds bytes b).1
+
+    pub match_within : (r : Option (Match V)) → r ≡ standard_after byte_width K (as_read folds (bytes ++ b ∷ [])) → IfSome r (λ m. (m.start ≤ m.end) × (m.end - m.start ≤ length (held ++ b ∷ [])))
+    match_within None is = tt
+    match_within (Some m) is =
+        let some = found_next (Some m) is in
+        let u = (as_read-push folds bytes b).0 in
+        (found_ordered (as_read folds bytes) u m some, match_held (as_read folds bytes) u m some held b reach)
+
+    module _ (mask new : List ℕ) where
+      pub reaches_next : (r : Option (Match V)) → r ≡ standard_after byte_width K (as_read folds (bytes ++ b ∷ [])) → (r ≡ None → new ≡ held ++ b ∷ []) → ReachesBack K (as_read folds (bytes ++ b ∷ [])) new
+      reaches_next r is none = subst (λ t. ReachesBack K t new) (sym (as_read-push folds bytes b).1) (by r (found_next r is) none)
+        where
+          by : (r : Option (Match V)) → r ≡ standard_after byte_width K (as_read folds bytes ++ (as_read-push folds bytes b).0 ∷ []) → (r ≡ None → new ≡ held ++ b ∷ [])
+              → ReachesBack K (as_read folds bytes ++ (as_read-push folds bytes b).0 ∷ []) new
+          by None is none = subst (ReachesBack K (as_read folds bytes ++ (as_read-push folds bytes b).0 ∷ [])) (sym (none refl)) (reaches-none (as_read folds bytes) (as_read-push folds bytes b).0 is held b reach)
+          by (Some m) is none = reaches-some (as_read folds bytes) (as_read-push folds bytes b).0 m is new
+
+      pub redacted_next : (r : Option (Match V)) → r ≡ standard_after byte_width K (as_read folds (bytes ++ b ∷ [])) → (r ≡ None → new ≡ held ++ b ∷ [])
+          → IfSome r (λ m. new ≡ take (length (held ++ b ∷ []) - (m.end - m.start)) (held ++ b ∷ []) ++ mask)
+          → (written : List ℕ) → written ++ held ≡ redacted folds K mask bytes → written ++ new ≡ redacted folds K mask (bytes ++ b ∷ [])
+      redacted_next r is none some written before =
+          by r (found_next r is) none some ∙ ap (λ t. replaced (λ (m : Match V). mask) (bytes ++ b ∷ []) (standard byte_width K t)) (sym (as_read-push folds bytes b).1)
+        where
+          long : length bytes ≡ length (as_read folds bytes)
+          long = sym (length-as_read folds bytes)
+
+          by : (r : Option (Match V)) → r ≡ standard_after byte_width K (as_read folds bytes ++ (as_read-push folds bytes b).0 ∷ []) → (r ≡ None → new ≡ held ++ b ∷ [])
+              → IfSome r (λ m. new ≡ take (length (held ++ b ∷ []) - (m.end - m.start)) (held ++ b ∷ []) ++ mask)
+              → written ++ new ≡ replaced (λ (m : Match V). mask) (bytes ++ b ∷ []) (standard byte_width K (as_read folds bytes ++ (as_read-push folds bytes b).0 ∷ []))
+          by None is none some = ap (λ l. written ++ l) (none refl) ∙ redacted-none (as_read folds bytes) (as_read-push folds bytes b).0 bytes b long mask written held before is
+          by (Some m) is none some = ap (λ l. written ++ l) some ∙ redacted-some (as_read folds bytes) (as_read-push folds bytes b).0 bytes b long mask written held before m is reach
 
   -- ---- nothing was read
 
@@ -263,15 +300,15 @@ module _ {V : Type 0} (K : Dictionary V) where
   at_begin : standard byte_width K [] ≡ option_to_list (standard_after byte_width K [])
   at_begin = sym (standard-joined byte_width K (λ v. omega arith) [])
 
-  pub begun-none : (mask : List ℕ) → None ≡ standard_after byte_width K [] → [] ≡ redacted K mask []
-  begun-none mask none = sym (ap (replaced (λ (m : Match V). mask) []) (at_begin ∙ ap option_to_list (sym none)))
+  pub begun-none : (folds : Bool) (mask : List ℕ) → None ≡ standard_after byte_width K [] → [] ≡ redacted folds K mask []
+  begun-none folds mask none = sym (ap (replaced (λ (m : Match V). mask) []) (ap (standard byte_width K) (as_read-nil folds) ∙ at_begin ∙ ap option_to_list (sym none)))
 
-  pub begun-some : (mask : List ℕ) (m : Match V) → Some m ≡ standard_after byte_width K [] → mask ≡ redacted K mask []
-  begun-some mask m some =
+  pub begun-some : (folds : Bool) (mask : List ℕ) (m : Match V) → Some m ≡ standard_after byte_width K [] → mask ≡ redacted folds K mask []
+  begun-some folds mask m some =
       let with = λ (m : Match V). mask in
       let fits : ◌≡◌ {A = List ℕ} (slice_range [] 0 m.start) [] = take-nil (m.start - 0) in
       sym (append-nil mask) ∙ ap (λ l. mask ++ l) (sym (drop-nil m.end)) ∙ ap (λ l. l ++ (mask ++ drop m.end [])) (sym fits)
-      ∙ ap (replaced with []) (ap option_to_list some ∙ sym at_begin)
+      ∙ ap (replaced with []) (ap option_to_list some ∙ sym at_begin ∙ ap (standard byte_width K) (sym (as_read-nil folds)))
 
   -- ---- what the depth leaves
 

@@ -4,6 +4,7 @@ ghost use Rattle.std.specs.Prelude.{◌≡◌, ◌<◌, ℕ, true, false, length
 ghost use Rattle.std.specs.Iterator.{IsFinite};
 ghost use Rattle.std.specs.Iterator.Runs.{WholeRun};
 ghost use Rattle.daachorse_model.specs.declared.MatchKind.TheVariants.{Standard};
+ghost use Rattle.daachorse_model.specs.Folding.{as_read};
 ghost use Rattle.daachorse_model.specs.Matches.{standard};
 ghost use Rattle.daachorse_model.specs.Units.{byte_width};
 ghost use Rattle.daachorse_bytewise.specs.Automata.{dictionary_of, kind_of};
@@ -31,7 +32,7 @@ pub fn highlight<S: Iterator<Item = u8> + Drop, A: Allocator>(
     requires standard { kind_of words.now ≡ Standard }
     requires can { S.can_next stream }
     requires ends { IsFinite (S.remaining stream) }
-    ensures { IfOk result (λ marks. WholeRun S.next_gives stream (λ p. AreMarks (standard byte_width (dictionary_of words.now) p.items) (length p.items) marks.items)) }
+    ensures { IfOk result (λ marks. WholeRun S.next_gives stream (λ p. AreMarks (standard byte_width (dictionary_of words.now) (as_read words.now.folds p.items)) (length p.items) marks.items)) }
 {
     let mut stepper = words.find_stepper();
     let mut marks = Vec::new(alloc);

@@ -1,7 +1,8 @@
-//! What a written dictionary has for a text.
+//! What a written dictionary has for a text, as the dictionary reads it.
 
 ghost use Rattle.std.specs.Prelude.{◌≡◌, ◌≢◌, ◌⊎◌, ◌++◌, ℕ, List, IfOk, IfErr, slice_get};
 ghost use Rattle.daachorse_model.specs.declared.MatchKind.TheVariants.{Standard};
+ghost use Rattle.daachorse_model.specs.Folding.{as_read};
 ghost use Rattle.daachorse_bytewise.specs.Automata.{Automaton, dictionary_of, kind_of};
 ghost use Rattle.daachorse_bytewise.specs.ReadForms.{GivesAutomaton, GivesNoAutomaton};
 ghost use Rattle.daachorse_bytewise.specs.Refusals.{IsOutOfMemory};
@@ -24,9 +25,9 @@ pub fn lookup<V: Serializable + Copy, A: Allocator + Copy>(
     text: &[u8],
 ) -> Result<Option<V>>
     ensures given { IfOk result (λ value. (a : Automaton V) × (rest : List ℕ) × GivesAutomaton V.taken bytes.now a rest
-        × (value ≡ slice_get (dictionary_of a text.now) 0)) }
+        × (value ≡ slice_get (dictionary_of a (as_read a.folds text.now)) 0)) }
     ensures written { IfOk result (λ value. (a : Automaton V) (rest : List ℕ) → IsAutomaton V.is_value a → bytes.now ≡ written_form V.form a ++ rest
-        → value ≡ slice_get (dictionary_of a text.now) 0) }
+        → value ≡ slice_get (dictionary_of a (as_read a.folds text.now)) 0) }
     ensures refused { IfErr result (λ e. IsOutOfMemory e ⊎ GivesNoAutomaton V.taken bytes.now) }
 {
     let (words, _rest) = DoubleArrayAhoCorasick::deserialize(alloc, bytes)?;
@@ -34,14 +35,14 @@ pub fn lookup<V: Serializable + Copy, A: Allocator + Copy>(
 }
 
 /// The first value that an automaton has for a text, whatever its kind, and `None` where the text is no
-/// pattern of it.
+/// pattern of it. Where the automaton disregards the case of ASCII letters, so does this.
 ///
 /// It reads the text once, and takes no memory.
 pub fn value_of<V: Copy, A: Allocator>(
     words: &DoubleArrayAhoCorasick<V, A>,
     text: &[u8],
 ) -> Option<V>
-    ensures { result ≡ slice_get (dictionary_of words.now text.now) 0 }
+    ensures { result ≡ slice_get (dictionary_of words.now (as_read words.now.folds text.now)) 0 }
 {
     match words.match_kind() {
         MatchKind::Standard => value_at_end(words, text),
@@ -55,7 +56,7 @@ fn value_at_end<V: Copy, A: Allocator>(
     text: &[u8],
 ) -> Option<V>
     requires { kind_of words.now ≡ Standard }
-    ensures { result ≡ slice_get (dictionary_of words.now text.now) 0 }
+    ensures { result ≡ slice_get (dictionary_of words.now (as_read words.now.folds text.now)) 0 }
 {
     let mut stepper = words.find_overlapping_stepper();
     for byte in text {
@@ -73,7 +74,7 @@ fn value_at_start<V: Copy, A: Allocator>(
     text: &[u8],
 ) -> Option<V>
     requires { kind_of words.now ≢ Standard }
-    ensures { result ≡ slice_get (dictionary_of words.now text.now) 0 }
+    ensures { result ≡ slice_get (dictionary_of words.now (as_read words.now.folds text.now)) 0 }
 {
     match words.find(text) {
         Some(found) if found.start == 0 && found.end == text.len() => Some(found.value),

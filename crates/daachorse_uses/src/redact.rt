@@ -2,6 +2,7 @@
 
 ghost use Rattle.std.specs.Prelude.{◌≡◌, ◌≢◌, ◌<◌, ℕ, length, slice_index, if◌then◌else◌};
 ghost use Rattle.daachorse_model.specs.declared.MatchKind.TheVariants.{Standard};
+ghost use Rattle.daachorse_model.specs.Folding.{as_read};
 ghost use Rattle.daachorse_model.specs.Leftmost.{leftmost};
 ghost use Rattle.daachorse_model.specs.Units.{byte_width};
 ghost use Rattle.daachorse_bytewise.specs.Automata.{dictionary_of, kind_of};
@@ -9,7 +10,8 @@ ghost use Rattle.daachorse_uses.specs.Covered.{is_covered};
 
 use daachorse::DoubleArrayAhoCorasick;
 
-/// Copies a text to `out`, with a star in place of each byte that lies in a leftmost match.
+/// Copies a text to `out`, with a star in place of each byte that lies in a leftmost match. Every other
+/// byte stays as it is, also where the automaton disregards the case of ASCII letters.
 ///
 /// # Conditions
 ///
@@ -18,7 +20,7 @@ pub fn redact(words: &DoubleArrayAhoCorasick<u32>, text: &[u8], out: &mut [u8])
     requires leftmost { kind_of words.now ≢ Standard }
     requires room { length out.old ≡ length text.now }
     ensures { (i : ℕ) → i < length text.now
-        → slice_index out.new i ≡ (if is_covered (leftmost byte_width (dictionary_of words.now) text.now) i then 42 else slice_index text.now i) }
+        → slice_index out.new i ≡ (if is_covered (leftmost byte_width (dictionary_of words.now) (as_read words.now.folds text.now)) i then 42 else slice_index text.now i) }
 {
     out.copy_from_slice(text);
     for found in words.leftmost_find_iter(text) {

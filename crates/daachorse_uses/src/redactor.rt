@@ -15,6 +15,7 @@ ghost use Rattle.daachorse_replacing.specs.Replaced.{AppendsBeginning};
 ghost use Rattle.daachorse_uses.specs.Redacted.{redacted};
 
 use daachorse::bytewise::iter::FindStepper;
+use daachorse::turns::Seen;
 use daachorse::{DoubleArrayAhoCorasick, Match};
 use std::alloc::{AllocError, Allocator};
 use std::collections::VecDeque;
@@ -22,7 +23,8 @@ use std::io::{self, ErrorKind, Write};
 use std::marker::Model;
 
 /// Writes what a source of bytes gives, with the mask in place of each match of the standard search. An
-/// empty mask drops the matches.
+/// empty mask drops the matches. Every other byte goes out as it came, also where the automaton disregards
+/// the case of ASCII letters.
 ///
 /// The source is read once. Where the automaton has its depths cached, what is held of it is bounded by
 /// the longest pattern and the mask, however long the source is. The bytes are written one at a time, so
@@ -47,8 +49,8 @@ pub fn redact_source<S: Iterator<Item = u8> + Drop, A: Allocator, W: Write>(
     requires can { S.can_next source }
     requires ends { IsFinite (S.remaining source) }
     requires fits { CountFits S.next_gives S.remaining 0 source }
-    ensures whole { OnOk result (WholeRun S.next_gives source (λ p. Appends (W.contents out.old) (W.contents out.new) (redacted (dictionary_of words.now) mask.now p.items))) }
-    ensures beginning { OnErr result (SomeRun S.next_gives source (λ p. AppendsBeginning (W.contents out.old) (W.contents out.new) (redacted (dictionary_of words.now) mask.now p.items))) }
+    ensures whole { OnOk result (WholeRun S.next_gives source (λ p. Appends (W.contents out.old) (W.contents out.new) (redacted words.now.folds (dictionary_of words.now) mask.now p.items))) }
+    ensures beginning { OnErr result (SomeRun S.next_gives source (λ p. AppendsBeginning (W.contents out.old) (W.contents out.new) (redacted words.now.folds (dictionary_of words.now) mask.now p.items))) }
 {
     let mut redactor = Redactor::new(alloc, words, mask)?;
     for byte in source {
@@ -65,26 +67,31 @@ pub fn redact_source<S: Iterator<Item = u8> + Drop, A: Allocator, W: Write>(
 #[derive(Drop)]
 pub struct Redactor<'a, A: Allocator> {
     stepper: FindStepper<'a, u32>,
+    // The bytes as they came. The stepper knows them as it read them.
+    came: Seen,
     mask: &'a [u8],
     // What of the redacted text is not written yet.
     held: VecDeque<u8, A>,
 }
 
 impl<'a, A: Allocator> Model for Redactor<'a, A> {
-    ghost use Rattle.std.specs.Prelude.{None};
+    ghost use Rattle.std.specs.Prelude.{◌≡◌, None};
+    ghost use Rattle.daachorse_core.specs.Seen.{units};
+    ghost use Rattle.daachorse_model.specs.Folding.{as_read};
     ghost use Rattle.daachorse_bytewise.specs.Automata.{dictionary_of};
     ghost use Rattle.daachorse_uses.specs.Redacted.{ReachesBack, Redacting};
 
     ghost Value = { Redacting };
 
     ghost view = { λ r. record {
-      words = record { parts = r.stepper.automaton; filter = None; depths = r.stepper.depths };
+      words = record { parts = r.stepper.automaton; folds = r.stepper.folds; filter = None; depths = r.stepper.depths };
       mask = r.mask.now;
-      read = r.stepper.read;
+      read = units r.came;
       held = r.held.items;
     } };
 
-    ghost invariant = { λ r. ReachesBack (dictionary_of (record { parts = r.stepper.automaton; filter = None; depths = r.stepper.depths })) r.stepper.read r.held.items };
+    ghost invariant = { λ r. (r.stepper.read ≡ as_read r.stepper.folds (units r.came))
+        × ReachesBack (dictionary_of (record { parts = r.stepper.automaton; folds = r.stepper.folds; filter = None; depths = r.stepper.depths })) r.stepper.read r.held.items };
 }
 
 impl<'a, A: Allocator> Redactor<'a, A> {
@@ -105,10 +112,11 @@ impl<'a, A: Allocator> Redactor<'a, A> {
     ) -> Result<Self, AllocError>
         requires { kind_of words.now ≡ Standard }
         ensures states { IfOk result (λ r. states_of r.words ≡ states_of words.entry.now) }
+        ensures folds { IfOk result (λ r. r.words.folds ≡ words.entry.now.folds) }
         ensures depths { IfOk result (λ r. r.words.depths ≡ words.entry.now.depths) }
         ensures mask { IfOk result (λ r. r.mask ≡ mask.entry.now) }
         ensures read { IfOk result (λ r. r.read ≡ []) }
-        ensures held { IfOk result (λ r. r.held ≡ redacted (dictionary_of words.entry.now) mask.entry.now []) }
+        ensures held { IfOk result (λ r. r.held ≡ redacted words.entry.now.folds (dictionary_of words.entry.now) mask.entry.now []) }
     {
         let stepper = words.find_stepper();
         let first = match stepper.matches() {
@@ -118,6 +126,7 @@ impl<'a, A: Allocator> Redactor<'a, A> {
         let held = VecDeque::from_vec(Vec::from_slice(alloc, first)?);
         Ok(Redactor {
             stepper,
+            came: Seen::new(),
             mask,
             held,
         })
@@ -137,12 +146,13 @@ impl<'a, A: Allocator> Redactor<'a, A> {
         ensures words { self.new.words ≡ self.old.words }
         ensures mask { self.new.mask ≡ self.old.mask }
         ensures read { OnOk result (self.new.read ≡ self.old.read ++ byte ∷ []) }
-        ensures held { OnOk result ((written : List ℕ) → written ++ self.old.held ≡ redacted (dictionary_of self.old.words) self.old.mask self.old.read
-            → written ++ self.new.held ≡ redacted (dictionary_of self.old.words) self.old.mask self.new.read) }
+        ensures held { OnOk result ((written : List ℕ) → written ++ self.old.held ≡ redacted self.old.words.folds (dictionary_of self.old.words) self.old.mask self.old.read
+            → written ++ self.new.held ≡ redacted self.old.words.folds (dictionary_of self.old.words) self.old.mask self.new.read) }
         ensures unchanged { OnErr result (self.new ≡ self.old) }
     {
         self.held.reserve(1 + self.mask.len())?;
         self.stepper.consume(byte);
+        self.came.push(u32::from(byte));
         hold(&mut self.held, byte, self.stepper.matches(), self.mask);
         Ok(())
     }

@@ -2,6 +2,7 @@
 
 ghost use Rattle.std.specs.Prelude.{◌≡◌, ◌==◌, ◌+◌, ◌*◌, ◌<◌, ◌≤◌, ◌^◌, ◌-◌, ℕ, count_by, length, min, slice_index};
 ghost use Rattle.daachorse_model.specs.declared.MatchKind.TheVariants.{Standard};
+ghost use Rattle.daachorse_model.specs.Folding.{as_read};
 ghost use Rattle.daachorse_model.specs.Matches.{overlapping};
 ghost use Rattle.daachorse_model.specs.Units.{byte_width};
 ghost use Rattle.daachorse_bytewise.specs.Automata.{dictionary_of, kind_of};
@@ -16,7 +17,7 @@ use daachorse::bytewise::iter::FindOverlappingSliceIterator;
 /// The automaton is for the standard searches.
 pub fn count_rule(rules: &DoubleArrayAhoCorasick<u32>, line: &[u8], rule: u32) -> u64
     requires { kind_of rules.now ≡ Standard }
-    ensures { result ≡ min (count_by (λ m. m.value == rule) (overlapping byte_width (dictionary_of rules.now) line.now)) (2 ^ 64 - 1) }
+    ensures { result ≡ min (count_by (λ m. m.value == rule) (overlapping byte_width (dictionary_of rules.now) (as_read rules.now.folds line.now))) (2 ^ 64 - 1) }
 {
     let mut count = 0u64;
     for found in rules.find_overlapping_iter(line) {

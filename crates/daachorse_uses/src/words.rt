@@ -9,7 +9,7 @@ use daactok::Tokenizer;
 
 /// How many tokens of a text are words of the dictionary.
 pub fn count_words<V: Copy>(tokenizer: &Tokenizer<V>, text: &str) -> usize
-    ensures { result ≡ count_by (λ t. is_some t.value) (tokens (dictionary_of tokenizer.now) text.now) }
+    ensures { result ≡ count_by (λ t. is_some t.value) (tokens tokenizer.now.folds (dictionary_of tokenizer.now) text.now) }
 {
     let mut words = 0;
     for token in tokenizer.tokens(text) {
@@ -22,7 +22,7 @@ pub fn count_words<V: Copy>(tokenizer: &Tokenizer<V>, text: &str) -> usize
 
 /// How many bytes the longest token has, and 0 where there is none.
 pub fn longest_token<V: Copy>(tokenizer: &Tokenizer<V>, text: &str) -> usize
-    ensures { result ≡ fold max 0 (map (λ t. length t.text) (tokens (dictionary_of tokenizer.now) text.now)) }
+    ensures { result ≡ fold max 0 (map (λ t. length t.text) (tokens tokenizer.now.folds (dictionary_of tokenizer.now) text.now)) }
 {
     tokenizer
         .tokens(text)

@@ -1,10 +1,11 @@
--- A search of the empty text finds a match exactly where the empty text is a key.
-use Rattle.std.proofs.Common.{◌≡◌, ◌≢◌, false, List, [], ◌∷◌, refl, sym, ap, ◌∙◌}
+-- A search of the empty text, however it is read, finds a match exactly where the empty text is a key.
+use Rattle.std.proofs.Common.{◌≡◌, ◌≢◌, Bool, true, false, List, [], ◌∷◌, refl, sym, ap, ◌∙◌}
 use Rattle.std.proofs.lemmas.Str.{chars-nil}
 use Rattle.std.specs.Prelude.{option_map, slice_get}
 use Rattle.std.specs.Str.{chars}
 use Rattle.daachorse_model.specs.declared.Match.{Match}
 use Rattle.daachorse_model.specs.Dictionary.{Dictionary}
+use Rattle.daachorse_model.specs.Folding.{as_read}
 use Rattle.daachorse_model.specs.Leftmost.{given, leftmost}
 use Rattle.daachorse_model.specs.Units.{char_width}
 
@@ -23,12 +24,14 @@ module _ {V : Type 0} where
   found-empty [] e = refl
   found-empty (v ∷ vs) e = cc
 
-  found-all : (K : Dictionary V) → leftmost char_width K (chars []) ≡ found (K [])
+  found-all : (folds : Bool) (K : Dictionary V) → leftmost char_width K (as_read folds (chars [])) ≡ found (K [])
   unfolding found
-  found-all K = ap (leftmost char_width K) chars-nil
+  found-all true K = ap (λ units. leftmost char_width K (as_read true units)) chars-nil
+  found-all false K = ap (leftmost char_width K) chars-nil
 
-  pub no_empty_key : (K : Dictionary V) (ms : List (Match V)) → ms ≡ leftmost char_width K (chars []) → ms ≡ [] → K [] ≡ []
-  no_empty_key K ms is none = found-none (K []) (sym (found-all K) ∙ sym is ∙ none)
+  module _ (folds : Bool) (K : Dictionary V) (ms : List (Match V)) (is : ms ≡ leftmost char_width K (as_read folds (chars []))) where
+    pub no_empty_key : ms ≡ [] → K [] ≡ []
+    no_empty_key none = found-none (K []) (sym (found-all folds K) ∙ sym is ∙ none)
 
-  pub empty_key : (K : Dictionary V) (m : Match V) (ms rest : List (Match V)) → ms ≡ leftmost char_width K (chars []) → ms ≡ m ∷ rest → K [] ≢ []
-  empty_key K m ms rest is some = λ none. (let bad : m ∷ rest ≡ [] = sym some ∙ is ∙ found-all K ∙ found-empty (K []) none in cc)
+    pub empty_key : (m : Match V) (rest : List (Match V)) → ms ≡ m ∷ rest → K [] ≢ []
+    empty_key m rest some = λ none. (let bad : m ∷ rest ≡ [] = sym some ∙ is ∙ found-all folds K ∙ found-empty (K []) none in cc)

@@ -1,5 +1,5 @@
--- Leftmost matches are parts of the text, one after another: so the tokens are the text, cut where a match starts or ends.
-use Rattle.std.proofs.Common.{◌≡◌, ℕ, zero, suc, ◌+◌, ◌-◌, ◌<◌, ◌≤◌, ◌≢◌, inl, inr, true, IsSome, Option, Some, None, List, [], ◌∷◌, ◌++◌, length, drop, refl, sym, ap, ◌∙◌, subst, append_assoc, append-nil, length-append, take-append-drop, arith}
+-- Leftmost matches are parts of the text, one after another, also where it is read folded: so the tokens are the text, cut where a match starts or ends.
+use Rattle.std.proofs.Common.{◌≡◌, ℕ, Bool, zero, suc, ◌+◌, ◌-◌, ◌<◌, ◌≤◌, ◌≢◌, inl, inr, true, false, IsSome, Option, Some, None, List, [], ◌∷◌, ◌++◌, length, drop, refl, sym, ap, ◌∙◌, subst, append_assoc, append-nil, length-append, take-append-drop, arith}
 use Rattle.std.proofs.Math.Utf8.{scalar, scalars, encodes}
 use Rattle.std.proofs.lemmas.Bool.{cond_above, cond_below}
 use Rattle.std.proofs.lemmas.List.{drop-drop, length-take-le, length-drop}
@@ -10,11 +10,13 @@ use Rattle.std.specs.Prelude.{slice_range}
 use Rattle.std.specs.Str.{chars, IsUtf8, IsCharBoundary}
 use Rattle.daachorse_model.specs.declared.Match.{Match}
 use Rattle.daachorse_model.specs.Dictionary.{Dictionary}
+use Rattle.daachorse_model.specs.Folding.{as_read, folded}
 use Rattle.daachorse_model.specs.Laws.{Follows, IsOccurrence}
 use Rattle.daachorse_model.specs.Leftmost.{leftmost}
 use Rattle.daachorse_model.specs.Units.{size, char_width}
 use Rattle.daachorse_model.proofs.Booleans.{both-true}
 use Rattle.daachorse_model.proofs.Find.{leftmost_occur}
+use Rattle.daachorse_model.proofs.FoldLemmas.{chars-folded, IsCharBoundary-folded, IsUtf8-folded}
 use Rattle.daachorse_model.proofs.Overlap.{leftmost_apart}
 use Rattle.daachorse_model.proofs.SlowLemmas.{drop-all}
 use Rattle.daachorse_model.proofs.SameOnText.{size-encodes}
@@ -53,8 +55,29 @@ module _ {V : Type 0} (text : List ℕ) where
           some = omega (arith, o.starts, o.ends, not_empty o.key m.value o.has);
         }
 
-    pub leftmost_parts : AreParts text 0 (leftmost char_width K (chars text))
+    leftmost_parts : AreParts text 0 (leftmost char_width K (chars text))
     leftmost_parts = parts_from 0 (leftmost char_width K (chars text)) (IsCharBoundary-start text utf8) (λ k d lt. is_part _ (leftmost_occur char_width K (chars text) k d lt)) (leftmost_apart char_width K (chars text))
+
+-- where a folded text may be cut, so may the text
+cut_back : (text : List ℕ) (i : ℕ) → IsCharBoundary (folded text) i → IsCharBoundary text i
+cut_back text i cut = (IsCharBoundary-folded text i).0 cut
+
+module _ {V : Type 0} (text : List ℕ) where
+  parts_back : (s : ℕ) (ms : List (Match V)) → AreParts (folded text) s ms → AreParts text s ms
+  parts_back s [] here = cut_back text s here
+  parts_back s (m ∷ ms) h = (
+    cut_back text s h.0,
+    h.1,
+    record { starts = cut_back text m.start h.2.starts; ends = cut_back text m.end h.2.ends; some = h.2.some },
+    parts_back m.end ms h.3,
+  )
+
+  -- the matches of a search in the text as it is read
+  read_parts : (folds : Bool) (K : Dictionary V) → K [] ≡ [] → IsUtf8 text → AreParts text 0 (leftmost char_width K (as_read folds (chars text)))
+  read_parts true K none utf8 =
+      let back = parts_back 0 (leftmost char_width K (chars (folded text))) (leftmost_parts (folded text) K none (IsUtf8-folded text utf8)) in
+      subst (λ units. AreParts text 0 (leftmost char_width K units)) (chars-folded text utf8) back
+  read_parts false K none utf8 = leftmost_parts text K none utf8
 
 -- a part of a text, and what comes behind it
 range-drop : (text : List ℕ) (s e : ℕ) → s ≤ e → slice_range text s e ++ drop e text ≡ drop s text
@@ -158,12 +181,12 @@ module _ {V : Type 0} (text : List ℕ) where
     pub nonempty : All (λ t. t.text ≢ []) ts
     pub apart : AllAdjacentBelow IsKnownOne ts (length ts)
 
-  pub parts_of_search : (K : Dictionary V) (ms : List (Match V)) → ms ≡ leftmost char_width K (chars text) → K [] ≡ [] → IsUtf8 text → AreParts text 0 ms
-  parts_of_search K ms is none utf8 = subst (AreParts text 0) (sym is) (leftmost_parts text K none utf8)
+  pub parts_of_search : (folds : Bool) (K : Dictionary V) (ms : List (Match V)) → ms ≡ leftmost char_width K (as_read folds (chars text)) → K [] ≡ [] → IsUtf8 text → AreParts text 0 ms
+  parts_of_search folds K ms is none utf8 = subst (AreParts text 0) (sym is) (read_parts text folds K none utf8)
 
-  pub tokens_of_search : (K : Dictionary V) (ms : List (Match V)) → ms ≡ leftmost char_width K (chars text) → K [] ≡ [] → IsUtf8 text → AreTokens (tokens_from text 0 ms)
-  tokens_of_search K ms is none utf8 =
-      let parts = parts_of_search K ms is none utf8 in
+  pub tokens_of_search : (folds : Bool) (K : Dictionary V) (ms : List (Match V)) → ms ≡ leftmost char_width K (as_read folds (chars text)) → K [] ≡ [] → IsUtf8 text → AreTokens (tokens_from text 0 ms)
+  tokens_of_search folds K ms is none utf8 =
+      let parts = parts_of_search folds K ms is none utf8 in
       let ts = tokens_from text 0 ms in
       let whole = joined_from 0 ms parts in
       let all = nonempty_from 0 ms parts in

@@ -1,8 +1,9 @@
 -- The tokens of a text: the matches of a leftmost search, and what stands before, between and after them.
-use Rattle.std.specs.Prelude.{ℕ, ◌<◌, ◌≤◌, ◌⊎◌, List, [], ◌∷◌, ◌++◌, length, Option, Some, None, IsSome, if◌then◌else◌, nat_lt, slice_range}
+use Rattle.std.specs.Prelude.{ℕ, Bool, ◌<◌, ◌≤◌, ◌⊎◌, List, [], ◌∷◌, ◌++◌, length, Option, Some, None, IsSome, if◌then◌else◌, nat_lt, slice_range}
 use Rattle.std.specs.Str.{chars, IsCharBoundary}
 use Rattle.daachorse_model.specs.declared.Match.{Match}
 use Rattle.daachorse_model.specs.Dictionary.{Dictionary}
+use Rattle.daachorse_model.specs.Folding.{as_read}
 use Rattle.daachorse_model.specs.Leftmost.{leftmost}
 use Rattle.daachorse_model.specs.Units.{char_width}
 use Rattle.daactok.specs.declared.Token.{Token}
@@ -35,9 +36,9 @@ module _ {V : Type 0} (text : List ℕ) where
   tokens_from s [] = stretch s (length text)
   tokens_from s (m ∷ ms) = stretch s m.start ++ piece m.start m.end (Some m.value) ∷ tokens_from m.end ms
 
--- the tokens of a text: each leftmost match with its value, and an unknown one in each nonempty stretch before, between and after them
-abbrev pub tokens : {V : Type 0} → Dictionary V → List ℕ → List (Piece V)
-tokens K text = tokens_from text 0 (leftmost char_width K (chars text))
+-- the tokens of a text: each leftmost match in it as it is read, with its value, and an unknown one in each nonempty stretch before, between and after them
+abbrev pub tokens : {V : Type 0} → Bool → Dictionary V → List ℕ → List (Piece V)
+tokens folds K text = tokens_from text 0 (leftmost char_width K (as_read folds (chars text)))
 
 module _ {V : Type 0} (text : List ℕ) where
   -- a match that is not empty, at places where the text may be cut

@@ -2,7 +2,8 @@
 //!
 //! It is an example of a crate over the automaton over characters, and takes from it the leftmost
 //! search and the kind of searches alone. The layers above may rely on the whole list of tokens,
-//! and on the tokens' texts, joined, being the text. The program `quick_start` runs this:
+//! and on the tokens' texts, joined, being the text, also where the automaton disregards the case of
+//! ASCII letters. The program `quick_start` runs this:
 //!
 //! ```
 //! let builder = CharwiseDoubleArrayAhoCorasickBuilder::new();
@@ -93,10 +94,11 @@ impl<'a, V: Copy, A: Allocator> Tokenizer<'a, V, A> {
     }
 
     /// Cuts a text into tokens: the leftmost matches, each with its value, and in each nonempty
-    /// stretch before, between and after them one token with no value.
+    /// stretch before, between and after them one token with no value. Where the automaton disregards the
+    /// case of ASCII letters, so does the cut, and each token has the text as it was given.
     #[inline]
     pub fn tokens(&self, text: &'a str) -> Tokens<'a, V, A>
-        ensures list { result ≡ tokens (dictionary_of self.entry.now) text.entry.now }
+        ensures list { result ≡ tokens self.entry.now.folds (dictionary_of self.entry.now) text.entry.now }
         ensures joined { flat_map (λ t. t.text) result ≡ text.entry.now }
         ensures few { length result ≤ length text.entry.now }
         ensures nonempty { All (λ t. t.text ≢ []) result }

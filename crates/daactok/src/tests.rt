@@ -15,10 +15,12 @@ use std::test::Fail;
 
 type Words = CharwiseDoubleArrayAhoCorasick<u32>;
 
-fn build(alloc: Global, kind: MatchKind, words: &[&str]) -> Result<Words>
+fn build(alloc: Global, kind: MatchKind, folds: bool, words: &[&str]) -> Result<Words>
     ensures { IfOk result (λ a. kind_of a ≡ kind) }
 {
-    let builder = CharwiseDoubleArrayAhoCorasickBuilder::new().match_kind(kind);
+    let builder = CharwiseDoubleArrayAhoCorasickBuilder::new()
+        .match_kind(kind)
+        .ascii_case_insensitive(folds);
     builder.build(alloc, words.iter().copied())
 }
 
@@ -41,14 +43,14 @@ fn collected<'a>(
     tokenizer: &Tokenizer<'a, u32>,
     text: &'a str,
 ) -> Result<Vec<Token<'a, u32>>, AllocError>
-    ensures { IfOk result (λ v. map seen v.items ≡ tokens (dictionary_of tokenizer.entry.now) text.entry.now) }
+    ensures { IfOk result (λ v. map seen v.items ≡ tokens tokenizer.entry.now.folds (dictionary_of tokenizer.entry.now) text.entry.now) }
 {
     tokenizer.tokens(text).collect(alloc)
 }
 
 /// How many tokens a text has.
 fn count(tokenizer: &Tokenizer<u32>, text: &str) -> usize
-    ensures { result ≡ length (tokens (dictionary_of tokenizer.now) text.now) }
+    ensures { result ≡ length (tokens tokenizer.now.folds (dictionary_of tokenizer.now) text.now) }
 {
     tokenizer.tokens(text).count()
 }
@@ -88,20 +90,28 @@ fn cuts(
     Ok(found.as_slice() == expected && count(&tokenizer, text) == expected.len())
 }
 
-/// What a row asks for: a kind of searches and words, a text, and its tokens.
-type Row<'a> = (MatchKind, &'a [&'a str], &'a str, &'a [Token<'a, u32>]);
+/// What a row asks for: a kind of searches, whether they disregard case, words, a text, and its tokens.
+type Row<'a> = (
+    MatchKind,
+    bool,
+    &'a [&'a str],
+    &'a str,
+    &'a [Token<'a, u32>],
+);
 
 #[test]
 fn a_text_is_cut_at_its_words(rt: HostRuntime) -> Result<(), Fail> {
-    let rows: [Row; 5] = [
+    let rows: [Row; 6] = [
         (
             MatchKind::LeftmostLongest,
+            false,
             &["東京", "京都", "東京都"],
             "東京都に",
             &[word("東京都", 0, 9, 2), unknown("に", 9, 12)],
         ),
         (
             MatchKind::LeftmostFirst,
+            false,
             &["ab", "abc"],
             "xabcab",
             &[
@@ -113,20 +123,33 @@ fn a_text_is_cut_at_its_words(rt: HostRuntime) -> Result<(), Fail> {
         ),
         (
             MatchKind::LeftmostLongest,
+            false,
             &["ab"],
             "ab",
             &[word("ab", 0, 2, 0)],
         ),
         (
             MatchKind::LeftmostLongest,
+            false,
             &[],
             "ab",
             &[unknown("ab", 0, 2)],
         ),
-        (MatchKind::LeftmostLongest, &[], "", &[]),
+        (MatchKind::LeftmostLongest, false, &[], "", &[]),
+        (
+            MatchKind::LeftmostLongest,
+            true,
+            &["the"],
+            "The THE",
+            &[
+                word("The", 0, 3, 0),
+                unknown(" ", 3, 4),
+                word("THE", 4, 7, 0),
+            ],
+        ),
     ];
-    for (i, (kind, words, text, expected)) in rows.iter().enumerate() {
-        let Ok(words) = build(rt.alloc(), *kind, words) else {
+    for (i, (kind, folds, words, text, expected)) in rows.iter().enumerate() {
+        let Ok(words) = build(rt.alloc(), *kind, *folds, words) else {
             panic!(rt; "row {i} was refused");
         };
         let is_cut = cuts(rt.alloc(), &words, text, expected)?;
@@ -142,7 +165,7 @@ fn a_text_is_cut_at_its_words(rt: HostRuntime) -> Result<(), Fail> {
 
 #[test]
 fn a_dictionary_with_the_empty_text_is_refused(rt: HostRuntime) -> Result<(), Fail> {
-    let Ok(words) = build(rt.alloc(), MatchKind::LeftmostLongest, &["a", ""]) else {
+    let Ok(words) = build(rt.alloc(), MatchKind::LeftmostLongest, false, &["a", ""]) else {
         panic!(rt; "the build was refused");
     };
     let Err(error) = Tokenizer::new(&words) else {

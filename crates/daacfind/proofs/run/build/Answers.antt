@@ -2,7 +2,6 @@
 use Rattle.std.proofs.Common.{ℕ, List, map, ◌∙◌, ap, sym, subst, inl, inr}
 use Rattle.std.proofs.lemmas.Result.{IfOk-weaker, IfErr-weaker}
 use Rattle.std.specs.Borrow.{Bor}
-use Rattle.daachorse_bytewise.specs.Settings.{Settings}
 use Rattle.daachorse_bytewise.specs.Building.{IsBuiltOf, IsBuildRefusal}
 use Rattle.daachorse_core.specs.declared.errors.DaachorseError.{DaachorseError}
 use Rattle.daachorse_model.specs.Program.{pattern_lines}
@@ -17,8 +16,7 @@ returns-clause-built g c =
     let read = c.iter.ensures.runs copied.0 copied.0.seen in
     let items = copied.2.2 ∙ read.4 (copied.2.0 ∙ r.2.2) ∙ ap (λ it. it.rest.now) copied.1 ∙ c.iter.ensures.rest ∙ c.deref.ensures.value in
     let P : List (List ℕ) → Type 0 = λ ts. IsBuiltOf value_gives c.args.kind ts a in
-    let K : Settings ℕ g.row.A.Denot → Type 0 = λ s. IsBuiltOf value_gives s.match_kind (map (λ (t : Bor (List ℕ)). t.now) r.2.0.items) a in
-    subst P (ap (map (λ (t : Bor (List ℕ)). t.now)) items ∙ c.in_ok-patterns.ensures) (subst K c.match_kind-builder.ensures r.2.3))
+    subst P (ap (map (λ (t : Bor (List ℕ)). t.now)) items ∙ c.in_ok-patterns.ensures) (rw (c.match_kind-builder.ensures, c.new.ensures.folds) at r.2.3))
     c.build.ensures.ok
 
 pub returns-clause-refused : goal.returns-clause-refused
@@ -32,7 +30,6 @@ returns-clause-refused g c =
           let read = c.iter.ensures.runs copied.0 copied.0.seen in
           let items = copied.2.2 ∙ read.4 (copied.2.0 ∙ r.2.2) ∙ ap (λ it. it.rest.now) copied.1 ∙ c.iter.ensures.rest ∙ c.deref.ensures.value in
           let P : List (List ℕ) → Type 0 = λ ts. IsBuildRefusal value_gives c.args.kind ts e in
-          let K : Settings ℕ g.row.A.Denot → Type 0 = λ s. IsBuildRefusal value_gives s.match_kind (map (λ (t : Bor (List ℕ)). t.now) r.2.0.items) e in
-          subst P (ap (map (λ (t : Bor (List ℕ)). t.now)) items ∙ c.in_ok-patterns.ensures) (subst K c.match_kind-builder.ensures r.2.3)
+          subst P (ap (map (λ (t : Bor (List ℕ)). t.now)) items ∙ c.in_ok-patterns.ensures) (rw (c.match_kind-builder.ensures, c.new.ensures.folds) at r.2.3)
     ])
     c.build.ensures.err

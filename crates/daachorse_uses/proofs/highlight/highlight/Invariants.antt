@@ -1,5 +1,6 @@
 -- Each byte so far has its mark, and the stepper consumed just these bytes.
 use Rattle.std.proofs.Common.{◌≡◌, length}
+use Rattle.daachorse_model.specs.Folding.{as_read}
 use Rattle.daachorse_model.specs.Matches.{standard}
 use Rattle.daachorse_model.specs.Units.{byte_width}
 use Rattle.daachorse_bytewise.specs.Automata.{dictionary_of, states_of}
@@ -11,6 +12,7 @@ invariant-loop-byte g l = record {
   can : (goal.iterator-loop-byte g).can_next l.byte-iterator;
   is_finite : (goal.iterator-loop-byte g).is_finite l.byte-iterator;
   automaton : l.stepper.automaton ≡ states_of l.fn.words;
-  read : l.stepper.read ≡ l.yielded;
-  marks : AreMarks (standard byte_width (dictionary_of l.fn.words) l.yielded) (length l.yielded) l.marks.items;
+  folds : l.stepper.folds ≡ l.fn.words.folds;
+  read : l.stepper.read ≡ as_read l.fn.words.folds l.yielded;
+  marks : AreMarks (standard byte_width (dictionary_of l.fn.words) (as_read l.fn.words.folds l.yielded)) (length l.yielded) l.marks.items;
 }

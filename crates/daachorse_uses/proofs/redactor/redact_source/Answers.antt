@@ -16,7 +16,7 @@ use Rattle.daachorse_uses.proofs.redactor.redact_source.Goals as goal
 
 pub returns-in_err-redactor-clause-beginning : goal.returns-in_err-redactor-clause-beginning
 returns-in_err-redactor-clause-beginning g c =
-    let all = redacted (dictionary_of c.args.words.now) c.args.mask.now in
+    let all = redacted c.args.words.now.folds (dictionary_of c.args.words.now) c.args.mask.now in
     let old = g.W.Write.contents c.args.out.now in
     at_any_err c.from_residual.result _ (some_run g.S.Iterator.next_gives c.args.source c.args.source [] (λ xs. AppendsBeginning old old (all xs)) refl ([], all [], refl, Appends-nil old))
 
@@ -28,6 +28,7 @@ loop-byte-init g c =
       is_finite = search rules;
       fits = subst (CountFits g.S.Iterator.next_gives g.S.Iterator.remaining 0) (sym c.into_iter-byte-iterator.ensures.into_iter_gives) c.requires.fits;
       states = begun.states;
+      folds = begun.folds;
       mask = begun.mask;
       read = begun.read;
       written = ([], begun.held, Appends-nil _);
@@ -42,7 +43,7 @@ push-requires g c =
 
 pub returns-in_err-push-clause-beginning : goal.returns-in_err-push-clause-beginning
 returns-in_err-push-clause-beginning g c =
-    let all = redacted (dictionary_of c.args.words.now) c.args.mask.now in
+    let all = redacted c.args.words.now.folds (dictionary_of c.args.words.now) c.args.mask.now in
     let old = g.W.Write.contents c.args.out.now in
     let now = g.W.Write.contents c.loop-byte.out in
     let P : g.row.S.Denot → Type 0 = λ s. SomeRun g.S.Iterator.next_gives s (λ p. AppendsBeginning old now (all p.items)) in
@@ -57,15 +58,16 @@ loop-byte-preserved g c =
     let goes = c.in-Some.ensures.goes.on kept.is_finite in
     let redactor = c.loop-byte.redactor in
     let text = c.loop-byte.yielded ++ c.in-Some.byte ∷ [] in
-    let all = redacted (dictionary_of c.args.words.now) c.args.mask.now in
+    let all = redacted c.args.words.now.folds (dictionary_of c.args.words.now) c.args.mask.now in
     let pushed : kept.written.0 ++ c.push.new.self.held ≡ all text =
     written_next redactor.words c.args.words.now redactor.mask c.args.mask.now redactor.read c.loop-byte.yielded c.push.new.self.read c.in-Some.byte kept.written.0 redactor.held c.push.new.self.held
-    kept.states kept.mask kept.read c.in_ok-push.ensures.read c.in_ok-push.ensures.held kept.written.1 in
+    kept.states kept.folds kept.mask kept.read c.in_ok-push.ensures.read c.in_ok-push.ensures.held kept.written.1 in
     record {
       can = goes.0;
       is_finite = goes.1;
       fits = CountFits-after g.S.Iterator.next_gives g.S.Iterator.remaining (length c.loop-byte.yielded) c.loop-byte.byte-iterator (c.in-Some.byte ∷ []) c.next.new.self (c.next.new.self, c.in-Some.ensures.steps, refl) (omega (arith, goes.2)) (length text) (length-append c.loop-byte.yielded (c.in-Some.byte ∷ [])) kept.fits;
       states = search rules;
+      folds = search rules;
       mask = search rules;
       read = c.in_ok-send.ensures.read ∙ c.in_ok-push.ensures.read ∙ ap (λ l. l ++ c.in-Some.byte ∷ []) kept.read;
       written = written_more (g.W.Write.contents c.args.out.now) (g.W.Write.contents c.loop-byte.out) (g.W.Write.contents c.send.new.out) (all text) c.push.new.self.held c.send.new.self.held (kept.written.0, pushed, kept.written.2) c.send.ensures.sent;
@@ -76,10 +78,10 @@ returns-in_err-send-clause-beginning g c =
     let kept = c.loop-byte.invariant in
     let redactor = c.loop-byte.redactor in
     let text = c.loop-byte.yielded ++ c.in-Some.byte ∷ [] in
-    let all = redacted (dictionary_of c.args.words.now) c.args.mask.now in
+    let all = redacted c.args.words.now.folds (dictionary_of c.args.words.now) c.args.mask.now in
     let pushed : kept.written.0 ++ c.push.new.self.held ≡ all text =
     written_next redactor.words c.args.words.now redactor.mask c.args.mask.now redactor.read c.loop-byte.yielded c.push.new.self.read c.in-Some.byte kept.written.0 redactor.held c.push.new.self.held
-    kept.states kept.mask kept.read c.in_ok-push.ensures.read c.in_ok-push.ensures.held kept.written.1 in
+    kept.states kept.folds kept.mask kept.read c.in_ok-push.ensures.read c.in_ok-push.ensures.held kept.written.1 in
     let old = g.W.Write.contents c.args.out.now in
     let now = g.W.Write.contents c.send.new.out in
     let P : g.row.S.Denot → Type 0 = λ s. SomeRun g.S.Iterator.next_gives s (λ p. AppendsBeginning old now (all p.items)) in
@@ -90,7 +92,7 @@ returns-in_err-send-clause-beginning g c =
 
 pub returns-clause-whole : goal.returns-clause-whole
 returns-clause-whole g c =
-    let all = redacted (dictionary_of c.args.words.now) c.args.mask.now in
+    let all = redacted c.args.words.now.folds (dictionary_of c.args.words.now) c.args.mask.now in
     let written = c.loop-byte.invariant.written in
     let old = g.W.Write.contents c.args.out.now in
     let end = g.W.Write.contents c.finish.new.out in
@@ -101,7 +103,7 @@ returns-clause-whole g c =
 
 pub returns-clause-beginning : goal.returns-clause-beginning
 returns-clause-beginning g c =
-    let all = redacted (dictionary_of c.args.words.now) c.args.mask.now in
+    let all = redacted c.args.words.now.folds (dictionary_of c.args.words.now) c.args.mask.now in
     let written = c.loop-byte.invariant.written in
     let old = g.W.Write.contents c.args.out.now in
     let end = g.W.Write.contents c.finish.new.out in

@@ -12,7 +12,8 @@ invariant-loop-byte g l = record {
   is_finite : (goal.iterator-loop-byte g).is_finite l.byte-iterator;
   fits : CountFits g.S.Iterator.next_gives g.S.Iterator.remaining (length l.yielded) l.byte-iterator;
   states : states_of l.redactor.words ≡ states_of l.fn.words;
+  folds : l.redactor.words.folds ≡ l.fn.words.folds;
   mask : l.redactor.mask ≡ l.fn.mask;
   read : l.redactor.read ≡ l.yielded;
-  written : (written : List ℕ) × (written ++ l.redactor.held ≡ redacted (dictionary_of l.fn.words) l.fn.mask l.yielded) × Appends (g.W.Write.contents l.fn.out) (g.W.Write.contents l.out) written;
+  written : (written : List ℕ) × (written ++ l.redactor.held ≡ redacted l.fn.words.folds (dictionary_of l.fn.words) l.fn.mask l.yielded) × Appends (g.W.Write.contents l.fn.out) (g.W.Write.contents l.out) written;
 }

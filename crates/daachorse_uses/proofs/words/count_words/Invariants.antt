@@ -8,5 +8,5 @@ use Rattle.daachorse_uses.proofs.words.count_words.Given as goal
 abbrev pub invariant-loop-token : goal.invariant-loop-token
 invariant-loop-token g l = record {
   counted : l.words ≡ count_by (λ t. is_some t.value) (map seen l.yielded);
-  parts : tokens (dictionary_of l.fn.tokenizer) l.fn.text ≡ map seen l.yielded ++ l.token-iterator;
+  parts : tokens l.fn.tokenizer.folds (dictionary_of l.fn.tokenizer) l.fn.text ≡ map seen l.yielded ++ l.token-iterator;
 }

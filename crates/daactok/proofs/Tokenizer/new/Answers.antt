@@ -12,16 +12,16 @@ pub invariant_of-result : goal.invariant_of-result
 invariant_of-result g c =
     let P : Option (Match g.row.V.Denot) → Type 0 = λ o. GivesFirst (StandsBehind char_width) c.leftmost_find_iter.result o c.next.new.self in
     let end = subst P c.in-None.is c.next.ensures.steps in
-    (c.requires, no_empty_key (dictionary_of c.args.words.now) _ c.leftmost_find_iter.ensures.begins.left end.none)
+    (c.requires, no_empty_key c.args.words.now.folds (dictionary_of c.args.words.now) _ c.leftmost_find_iter.ensures.begins.left end.none)
 
 pub returns : goal.returns
 returns g c =
     let P : Option (Match g.row.V.Denot) → Type 0 = λ o. GivesFirst (StandsBehind char_width) c.leftmost_find_iter.result o c.next.new.self in
     let end = subst P c.in-None.is c.next.ensures.steps in
-    (no_empty_key (dictionary_of c.args.words.now) _ c.leftmost_find_iter.ensures.begins.left end.none, refl)
+    (no_empty_key c.args.words.now.folds (dictionary_of c.args.words.now) _ c.leftmost_find_iter.ensures.begins.left end.none, refl)
 
 pub returns-in-Some : goal.returns-in-Some
 returns-in-Some g c =
     let P : Option (Match g.row.V.Denot) → Type 0 = λ o. GivesFirst (StandsBehind char_width) c.leftmost_find_iter.result o c.next.new.self in
     let step = subst P c.in-Some.is c.next.ensures.steps in
-    empty_key (dictionary_of c.args.words.now) c.in-Some.field-0 _ _ c.leftmost_find_iter.ensures.begins.left step.first
+    empty_key c.args.words.now.folds (dictionary_of c.args.words.now) _ c.leftmost_find_iter.ensures.begins.left c.in-Some.field-0 _ step.first

@@ -1,6 +1,7 @@
 -- The matches that are left at first are those of the whole text.
 use Rattle.std.proofs.Common.{ap, ◌∙◌}
 use Rattle.std.specs.Str.{chars}
+use Rattle.daachorse_model.specs.Folding.{as_read}
 use Rattle.daachorse_model.specs.Leftmost.{leftmost}
 use Rattle.daachorse_model.specs.Units.{char_width}
 use Rattle.daachorse_charwise.specs.Automata.{dictionary_of}
@@ -9,20 +10,20 @@ use Rattle.daactok.proofs.Parts.{parts_of_search, tokens_of_search}
 use Rattle.daactok.proofs.Tokenizer.tokens.Goals as goal
 
 pub invariant_of-result : goal.invariant_of-result
-invariant_of-result g c = parts_of_search c.args.text.now (dictionary_of c.self.inside.words.now) _ c.leftmost_find_iter.ensures.begins.left c.self.invariant.1 c.utf8.text
+invariant_of-result g c = parts_of_search c.args.text.now c.self.inside.words.now.folds (dictionary_of c.self.inside.words.now) _ c.leftmost_find_iter.ensures.begins.left c.self.invariant.1 c.utf8.text
 
 pub returns-clause-list : goal.returns-clause-list
 returns-clause-list g c =
-    ap (tokens_from c.args.text.now 0) (c.leftmost_find_iter.ensures.begins.left ∙ ap (λ a. leftmost char_width (dictionary_of a) (chars c.args.text.now)) c.self.view_is)
+    ap (tokens_from c.args.text.now 0) (c.leftmost_find_iter.ensures.begins.left ∙ ap (λ a. leftmost char_width (dictionary_of a) (as_read a.folds (chars c.args.text.now))) c.self.view_is)
 
 pub returns-clause-joined : goal.returns-clause-joined
-returns-clause-joined g c = (tokens_of_search c.args.text.now (dictionary_of c.self.inside.words.now) _ c.leftmost_find_iter.ensures.begins.left c.self.invariant.1 c.utf8.text).joined
+returns-clause-joined g c = (tokens_of_search c.args.text.now c.self.inside.words.now.folds (dictionary_of c.self.inside.words.now) _ c.leftmost_find_iter.ensures.begins.left c.self.invariant.1 c.utf8.text).joined
 
 pub returns-clause-few : goal.returns-clause-few
-returns-clause-few g c = (tokens_of_search c.args.text.now (dictionary_of c.self.inside.words.now) _ c.leftmost_find_iter.ensures.begins.left c.self.invariant.1 c.utf8.text).few
+returns-clause-few g c = (tokens_of_search c.args.text.now c.self.inside.words.now.folds (dictionary_of c.self.inside.words.now) _ c.leftmost_find_iter.ensures.begins.left c.self.invariant.1 c.utf8.text).few
 
 pub returns-clause-nonempty : goal.returns-clause-nonempty
-returns-clause-nonempty g c = (tokens_of_search c.args.text.now (dictionary_of c.self.inside.words.now) _ c.leftmost_find_iter.ensures.begins.left c.self.invariant.1 c.utf8.text).nonempty
+returns-clause-nonempty g c = (tokens_of_search c.args.text.now c.self.inside.words.now.folds (dictionary_of c.self.inside.words.now) _ c.leftmost_find_iter.ensures.begins.left c.self.invariant.1 c.utf8.text).nonempty
 
 pub returns-clause-apart : goal.returns-clause-apart
-returns-clause-apart g c = (tokens_of_search c.args.text.now (dictionary_of c.self.inside.words.now) _ c.leftmost_find_iter.ensures.begins.left c.self.invariant.1 c.utf8.text).apart
+returns-clause-apart g c = (tokens_of_search c.args.text.now c.self.inside.words.now.folds (dictionary_of c.self.inside.words.now) _ c.leftmost_find_iter.ensures.begins.left c.self.invariant.1 c.utf8.text).apart

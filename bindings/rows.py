@@ -1,7 +1,8 @@
 """Prints the table `rows`, which the tests in C, Python and Rust read: what each search finds by its definition.
 
-A row is a search, the number of a kind, the patterns in hexadecimal with commas between them, the haystack, the number of
-matches, and each match as its start, its end and its value. "-" is the empty text, and "none" no patterns.
+A row is a search, the number of a kind, 1 where ASCII case is disregarded and else 0, the patterns in hexadecimal with commas
+between them, the haystack, the number of matches, and each match as its start, its end and its value. "-" is the empty text,
+and "none" no patterns.
 """
 
 PATTERNS = [
@@ -16,6 +17,16 @@ PATTERNS = [
     [b"abcde", b"bcd", b"c"],
 ]
 HAYSTACKS = [b"", b"abcd", b"aaaa", b"a\x00\xff", b"ushers", b"abcdabcd", b"xabcx"]
+
+# With letters of both cases, with the bytes beside the letters, and with bytes that are letters in other codes than ASCII.
+CASED_PATTERNS = [
+    [b"Ab", b"aBCD", b"bc", b"CD"],
+    [b"a", b"A", b"AA"],
+    [b"", b"B"],
+    [b"@", b"[", b"`", b"{", b"Z"],
+    [b"\xc4", b"\xe4", b"\xc3\x84", b"\xe2\x84\xaa"],
+]
+CASED_HAYSTACKS = [b"", b"ABCD", b"aBcD", b"AaAa", b"@[`{zZ", b"\xe4\xc4 \xc3\xa4 k"]
 
 
 def ending(patterns, haystack, end):
@@ -65,18 +76,36 @@ def text(it):
     return it.hex() or "-"
 
 
+def lower(it):
+    """Reads A to Z as a to z, and every other byte as it is."""
+    return bytes(byte + 32 if ord("A") <= byte <= ord("Z") else byte for byte in it)
+
+
+def searches(patterns, haystack):
+    return [
+        ("find", 0, find(patterns, haystack)),
+        ("find_overlapping", 0, find_overlapping(patterns, haystack)),
+        ("find_overlapping_no_suffix", 0, find_overlapping_no_suffix(patterns, haystack)),
+        ("leftmost_find", 1, leftmost_find(patterns, haystack, False)),
+        ("leftmost_find", 2, leftmost_find(patterns, haystack, True)),
+    ]
+
+
+def show(patterns, haystack, any_case):
+    read = lower if any_case else bytes
+    listed = ",".join(map(text, patterns)) if patterns else "none"
+    for name, kind, matches in searches([read(it) for it in patterns], read(haystack)):
+        print(name, kind, int(any_case), listed, text(haystack), len(matches), *("%d-%d-%d" % it for it in matches))
+
+
 def main():
     for patterns in PATTERNS:
         for haystack in HAYSTACKS:
-            for name, kind, matches in [
-                ("find", 0, find(patterns, haystack)),
-                ("find_overlapping", 0, find_overlapping(patterns, haystack)),
-                ("find_overlapping_no_suffix", 0, find_overlapping_no_suffix(patterns, haystack)),
-                ("leftmost_find", 1, leftmost_find(patterns, haystack, False)),
-                ("leftmost_find", 2, leftmost_find(patterns, haystack, True)),
-            ]:
-                listed = ",".join(map(text, patterns)) if patterns else "none"
-                print(name, kind, listed, text(haystack), len(matches), *("%d-%d-%d" % it for it in matches))
+            show(patterns, haystack, False)
+    for patterns in CASED_PATTERNS:
+        for haystack in CASED_HAYSTACKS:
+            show(patterns, haystack, False)
+            show(patterns, haystack, True)
 
 
 if __name__ == "__main__":

@@ -36,7 +36,8 @@ typedef struct daachorse {
 
 #define DAACHORSE_EMPTY {NULL}
 
-/* A match: the haystack has a pattern with this value from start to end, one past its last byte. */
+/* A match: the haystack, as the automaton reads it, has a pattern with this value from start to end, one past its last
+ * byte. */
 typedef struct daachorse_match {
     size_t start;
     size_t end;
@@ -71,13 +72,16 @@ enum daachorse_answer {
 /* Fills the handle with an automaton of this kind. Pattern i, counted from 0, is what stands in bytes
  * between ends[i - 1], or 0, and ends[i], and has the value values[i]. Patterns may be empty, and equal
  * ones are all kept. With use_prefilter, searches may pass over places where no pattern begins; what
- * they find is the same without.
+ * they find is the same without. With ascii_case_insensitive, A to Z are read as a to z in the patterns,
+ * in the haystacks of all searches and in streams, so that "Ab" is found where ab, aB, Ab or AB stands;
+ * every other byte is read as it is. Patterns that differ in nothing but case are then equal ones.
  *
  * What the handle had is freed. Where the answer is not DAACHORSE_DONE, the handle is unchanged. It is one
  * of DAACHORSE_OUT_OF_MEMORY, _UNKNOWN_KIND, _WRONG_PATTERNS, _PATTERN_TOO_LONG, _TOO_MANY_STATES,
  * _TOO_MANY_PATTERNS and _TOO_MANY_ELEMENTS. */
-uint32_t daachorse_build(daachorse *handle, uint32_t kind, bool use_prefilter, const uint8_t *bytes, size_t bytes_len,
-        const size_t *ends, size_t ends_len, const uint32_t *values, size_t values_len);
+uint32_t daachorse_build(daachorse *handle, uint32_t kind, bool use_prefilter, bool ascii_case_insensitive,
+        const uint8_t *bytes, size_t bytes_len, const size_t *ends, size_t ends_len, const uint32_t *values,
+        size_t values_len);
 
 /* The searches write the first of their matches to out, as many as there are and as there is room for, and
  * how many these are to written. Where written is out_len there may be more: call again with more room. No
@@ -122,7 +126,8 @@ uint32_t daachorse_begin(daachorse *handle, bool overlapping);
 uint32_t daachorse_consume(daachorse *handle, const uint8_t *bytes, size_t bytes_len, daachorse_match *out,
         size_t out_len, size_t *taken, size_t *written);
 
-/* Writes the automaton to the beginning of out, and to size how many bytes that takes. daachorse_read reads it back.
+/* Writes the automaton to the beginning of out, and to size how many bytes that takes. daachorse_read reads it back, with
+ * its kind and with whether it disregards ASCII case.
  * The answer is DAACHORSE_DONE, DAACHORSE_EMPTY_HANDLE, DAACHORSE_OUT_OF_MEMORY or
  * DAACHORSE_NO_ROOM; after the last, size is the room that is needed. Unless it is the first, nothing is written to
  * out. */

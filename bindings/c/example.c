@@ -41,7 +41,11 @@ static const size_t ends[] = {2, 6, 8, 10};
 static const uint32_t values[] = {0, 1, 2, 3};
 
 static void build(daachorse *handle, uint32_t kind, bool use_prefilter) {
-    need(daachorse_build(handle, kind, use_prefilter, bytes, bytes_len, ends, 4, values, 4) == DAACHORSE_DONE, "build");
+    need(daachorse_build(handle, kind, use_prefilter, false, bytes, bytes_len, ends, 4, values, 4) == DAACHORSE_DONE, "build");
+}
+
+static void build_for_any_case(daachorse *handle) {
+    need(daachorse_build(handle, DAACHORSE_STANDARD, true, true, bytes, bytes_len, ends, 4, values, 4) == DAACHORSE_DONE, "build");
 }
 
 static void show_searches(void) {
@@ -54,6 +58,10 @@ static void show_searches(void) {
     show(&handle, "leftmost_find, longest", daachorse_leftmost_find, "abcd");
     build(&handle, DAACHORSE_LEFTMOST_FIRST, true);
     show(&handle, "leftmost_find, first", daachorse_leftmost_find, "abcd");
+    build(&handle, DAACHORSE_STANDARD, true);
+    show(&handle, "find, case regarded", daachorse_find, "aBCDab");
+    build_for_any_case(&handle);
+    show(&handle, "find, case disregarded", daachorse_find, "aBCDab");
     daachorse_free(&handle);
 }
 
@@ -120,13 +128,13 @@ static void see_refusals(void) {
     const size_t falling[] = {3, 2}, past[] = {11};
     size_t written = 7;
     need(daachorse_find(&handle, bytes, bytes_len, found, 1, &written) == DAACHORSE_EMPTY_HANDLE && written == 0, "empty handle");
-    need(daachorse_build(&handle, 3, true, bytes, bytes_len, ends, 4, values, 4) == DAACHORSE_UNKNOWN_KIND, "kind");
-    need(daachorse_build(&handle, 0, true, bytes, bytes_len, falling, 2, values, 2) == DAACHORSE_WRONG_PATTERNS, "falling ends");
-    need(daachorse_build(&handle, 0, true, bytes, bytes_len, past, 1, values, 1) == DAACHORSE_WRONG_PATTERNS, "end past the bytes");
-    need(daachorse_build(&handle, 0, true, bytes, bytes_len, ends, 4, values, 3) == DAACHORSE_WRONG_PATTERNS, "too few values");
+    need(daachorse_build(&handle, 3, true, false, bytes, bytes_len, ends, 4, values, 4) == DAACHORSE_UNKNOWN_KIND, "kind");
+    need(daachorse_build(&handle, 0, true, false, bytes, bytes_len, falling, 2, values, 2) == DAACHORSE_WRONG_PATTERNS, "falling ends");
+    need(daachorse_build(&handle, 0, true, false, bytes, bytes_len, past, 1, values, 1) == DAACHORSE_WRONG_PATTERNS, "end past the bytes");
+    need(daachorse_build(&handle, 0, true, false, bytes, bytes_len, ends, 4, values, 3) == DAACHORSE_WRONG_PATTERNS, "too few values");
     build(&handle, DAACHORSE_STANDARD, true);
     need(daachorse_leftmost_find(&handle, bytes, bytes_len, found, 1, &written) == DAACHORSE_WRONG_KIND, "search of another kind");
-    need(daachorse_build(&handle, 3, true, bytes, bytes_len, ends, 4, values, 4) == DAACHORSE_UNKNOWN_KIND, "kind again");
+    need(daachorse_build(&handle, 3, true, false, bytes, bytes_len, ends, 4, values, 4) == DAACHORSE_UNKNOWN_KIND, "kind again");
     need(daachorse_find(&handle, bytes, bytes_len, found, 1, &written) == DAACHORSE_DONE && written == 1, "unchanged by a refusal");
     daachorse_free(&handle);
     daachorse_free(&handle);

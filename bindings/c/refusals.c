@@ -40,7 +40,11 @@ static uint8_t form[1 << 17];
 static size_t form_len;
 
 static uint32_t build(daachorse *handle) {
-    return daachorse_build(handle, DAACHORSE_STANDARD, true, bytes, 10, ends, 4, values, 4);
+    return daachorse_build(handle, DAACHORSE_STANDARD, true, false, bytes, 10, ends, 4, values, 4);
+}
+
+static uint32_t build_for_any_case(daachorse *handle) {
+    return daachorse_build(handle, DAACHORSE_STANDARD, true, true, bytes, 10, ends, 4, values, 4);
 }
 
 static uint32_t write_form(daachorse *handle) {
@@ -71,9 +75,10 @@ int main(void) {
     daachorse handle = DAACHORSE_EMPTY, again = DAACHORSE_EMPTY;
     bool found = false;
     refuse_each("build", build, &handle);
+    refuse_each("build for any case", build_for_any_case, &handle);
     refuse_each("write", write_form, &handle);
     refuse_each("read", read_form, &again);
-    need(daachorse_is_match(&again, (const uint8_t *)"xcdx", 4, &found) == DAACHORSE_DONE && found, "is_match");
+    need(daachorse_is_match(&again, (const uint8_t *)"xCdx", 4, &found) == DAACHORSE_DONE && found, "is_match");
     daachorse_free(&handle);
     daachorse_free(&again);
     return 0;

@@ -1,6 +1,7 @@
 /* Reads the rows of a table from standard input, and compares what each search writes with its row, with a filter and
- * without. A row is a search, a kind, the patterns in hexadecimal with commas between them, the haystack, the number of
- * matches, and each match as its start, its end and its value. "-" is the empty text, and "none" no patterns. */
+ * without. A row is a search, a kind, 1 where ASCII case is disregarded and else 0, the patterns in hexadecimal with commas
+ * between them, the haystack, the number of matches, and each match as its start, its end and its value. "-" is the empty
+ * text, and "none" no patterns. */
 #include "daachorse.h"
 
 #include <inttypes.h>
@@ -70,16 +71,16 @@ static void see_stream(daachorse *handle, bool overlapping, const uint8_t *hayst
 
 int main(void) {
     char name[WORD], patterns[WORD], text[WORD];
-    uint32_t kind;
+    uint32_t kind, any_case;
     size_t count, row = 0;
-    while (scanf("%1023s %" SCNu32 " %1023s %1023s %zu", name, &kind, patterns, text, &count) == 5) {
+    while (scanf("%1023s %" SCNu32 " %" SCNu32 " %1023s %1023s %zu", name, &kind, &any_case, patterns, text, &count) == 6) {
         uint8_t bytes[WORD], haystack[WORD];
         size_t bytes_len = 0, len = 0, ends[ROOM];
         uint32_t values[ROOM];
         daachorse_match wanted[ROOM];
         search_fn *search = search_named(name);
         row++;
-        need(search != NULL && count < ROOM, "the table", row);
+        need(search != NULL && any_case < 2 && count < ROOM, "the table", row);
         for (const char *at = patterns; strcmp(patterns, "none") != 0; at++) {
             size_t size = strcspn(at, ",");
             bytes_len = append(bytes, bytes_len, at, size);
@@ -97,7 +98,7 @@ int main(void) {
             daachorse handle = DAACHORSE_EMPTY;
             daachorse_match found[ROOM] = {{0, 0, 0}};
             size_t written = 0;
-            need(daachorse_build(&handle, kind, use_prefilter, bytes, bytes_len, ends, len, values, len) == DAACHORSE_DONE, "build", row);
+            need(daachorse_build(&handle, kind, use_prefilter, any_case, bytes, bytes_len, ends, len, values, len) == DAACHORSE_DONE, "build", row);
             need(search(&handle, haystack, haystack_len, found, ROOM, &written) == DAACHORSE_DONE, name, row);
             need(written == count, "the number of matches", row);
             for (size_t i = 0; i < count; i++)

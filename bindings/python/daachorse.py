@@ -66,7 +66,7 @@ _SIZE = ctypes.POINTER(ctypes.c_size_t)
 _SEARCH = [_IN_HANDLE, *_BYTES, ctypes.POINTER(_Match), ctypes.c_size_t, _SIZE]
 _PATTERNS = [*_BYTES, _SIZE, ctypes.c_size_t, ctypes.POINTER(ctypes.c_uint32), ctypes.c_size_t]
 _EXPORTS = {
-    "daachorse_build": [_IN_HANDLE, ctypes.c_uint32, ctypes.c_bool, *_PATTERNS],
+    "daachorse_build": [_IN_HANDLE, ctypes.c_uint32, ctypes.c_bool, ctypes.c_bool, *_PATTERNS],
     "daachorse_find": _SEARCH,
     "daachorse_find_overlapping": _SEARCH,
     "daachorse_find_overlapping_no_suffix": _SEARCH,
@@ -104,11 +104,12 @@ class Automaton:
     """An automaton over bytes.
 
     Pattern i, counted from 0, has the value values[i], a number below 2 ** 32, or i where no values are given.
-    It may be used by several threads; its calls then wait for one another. Raises Refused where the library
-    refuses the patterns.
+    Where ascii_case_insensitive is true, A to Z are read as a to z, in the patterns and in what is searched, and
+    every other byte as it is. It may be used by several threads; its calls then wait for one another. Raises Refused
+    where the library refuses the patterns.
     """
 
-    def __init__(self, patterns, values=None, kind=Kind.STANDARD, use_prefilter=True):
+    def __init__(self, patterns, values=None, kind=Kind.STANDARD, use_prefilter=True, ascii_case_insensitive=False):
         patterns = [bytes(pattern) for pattern in patterns]
         values = list(range(len(patterns)) if values is None else values)
         if any(not 0 <= value < 2**32 for value in values):
@@ -120,6 +121,7 @@ class Automaton:
             _library.daachorse_build,
             kind,
             use_prefilter,
+            ascii_case_insensitive,
             joined,
             len(joined),
             (ctypes.c_size_t * len(ends))(*ends),

@@ -8,18 +8,25 @@ from daachorse import Automaton, Kind, Refusal, Refused
 
 PATTERNS = [b"ab", b"abcd", b"bc", b"cd"]
 
-# What each search finds of the patterns in a haystack: name, kind, patterns, haystack, matches.
+# What each search finds of the patterns in a haystack: name, kind, whether ASCII case is disregarded, patterns, haystack,
+# matches.
 ROWS = [
-    ("find", Kind.STANDARD, PATTERNS, b"abcd", [(0, 2, 0), (2, 4, 3)]),
-    ("find_overlapping", Kind.STANDARD, PATTERNS, b"abcd", [(0, 2, 0), (1, 3, 2), (0, 4, 1), (2, 4, 3)]),
-    ("find_overlapping_no_suffix", Kind.STANDARD, PATTERNS, b"abcd", [(0, 2, 0), (1, 3, 2), (0, 4, 1)]),
-    ("leftmost_find", Kind.LEFTMOST_LONGEST, PATTERNS, b"abcd", [(0, 4, 1)]),
-    ("leftmost_find", Kind.LEFTMOST_FIRST, PATTERNS, b"abcd", [(0, 2, 0), (2, 4, 3)]),
-    ("find_overlapping", Kind.STANDARD, PATTERNS, b"", []),
-    ("find_overlapping", Kind.STANDARD, [], b"abcd", []),
-    ("find", Kind.STANDARD, [b""], b"ab", [(0, 0, 0), (1, 1, 0), (2, 2, 0)]),
-    ("find_overlapping", Kind.STANDARD, [b"\x00\xff", b"\xff"], b"a\x00\xff", [(1, 3, 0), (2, 3, 1)]),
-    ("find_overlapping", Kind.STANDARD, [b"a", b"a"], b"a", [(0, 1, 0), (0, 1, 1)]),
+    ("find", Kind.STANDARD, False, PATTERNS, b"abcd", [(0, 2, 0), (2, 4, 3)]),
+    ("find_overlapping", Kind.STANDARD, False, PATTERNS, b"abcd", [(0, 2, 0), (1, 3, 2), (0, 4, 1), (2, 4, 3)]),
+    ("find_overlapping_no_suffix", Kind.STANDARD, False, PATTERNS, b"abcd", [(0, 2, 0), (1, 3, 2), (0, 4, 1)]),
+    ("leftmost_find", Kind.LEFTMOST_LONGEST, False, PATTERNS, b"abcd", [(0, 4, 1)]),
+    ("leftmost_find", Kind.LEFTMOST_FIRST, False, PATTERNS, b"abcd", [(0, 2, 0), (2, 4, 3)]),
+    ("find_overlapping", Kind.STANDARD, False, PATTERNS, b"", []),
+    ("find_overlapping", Kind.STANDARD, False, [], b"abcd", []),
+    ("find", Kind.STANDARD, False, [b""], b"ab", [(0, 0, 0), (1, 1, 0), (2, 2, 0)]),
+    ("find_overlapping", Kind.STANDARD, False, [b"\x00\xff", b"\xff"], b"a\x00\xff", [(1, 3, 0), (2, 3, 1)]),
+    ("find_overlapping", Kind.STANDARD, False, [b"a", b"a"], b"a", [(0, 1, 0), (0, 1, 1)]),
+    ("find", Kind.STANDARD, False, [b"Ab"], b"abAb", [(2, 4, 0)]),
+    ("find", Kind.STANDARD, True, [b"Ab"], b"abAb", [(0, 2, 0), (2, 4, 0)]),
+    ("find_overlapping", Kind.STANDARD, True, [b"a", b"A"], b"A", [(0, 1, 0), (0, 1, 1)]),
+    ("find_overlapping_no_suffix", Kind.STANDARD, True, PATTERNS, b"ABCD", [(0, 2, 0), (1, 3, 2), (0, 4, 1)]),
+    ("leftmost_find", Kind.LEFTMOST_LONGEST, True, PATTERNS, b"aBcD", [(0, 4, 1)]),
+    ("leftmost_find", Kind.LEFTMOST_FIRST, True, [b"[", b"Z"], b"{z[@", [(1, 2, 1), (2, 3, 0)]),
 ]
 
 
@@ -28,27 +35,29 @@ def table():
     text = lambda word: b"" if word == "-" else bytes.fromhex(word)
     with open(os.path.join(os.path.dirname(os.path.abspath(__file__)), "..", "rows"), encoding="ascii") as rows:
         for row in rows:
-            name, kind, patterns, haystack, count, *matches = row.split()
-            assert int(count) == len(matches)
+            name, kind, any_case, patterns, haystack, count, *matches = row.split()
+            assert any_case in ("0", "1") and int(count) == len(matches)
             patterns = [] if patterns == "none" else [text(word) for word in patterns.split(",")]
-            yield name, Kind(int(kind)), patterns, text(haystack), [tuple(map(int, it.split("-"))) for it in matches]
+            matches = [tuple(map(int, it.split("-"))) for it in matches]
+            yield name, Kind(int(kind)), any_case == "1", patterns, text(haystack), matches
 
 
 class AutomatonTest(unittest.TestCase):
     def test_rows(self):
-        for name, kind, patterns, haystack, matches in [*ROWS, *table()]:
+        for name, kind, any_case, patterns, haystack, matches in [*ROWS, *table()]:
             for use_prefilter in (False, True):
-                with self.subTest(name=name, kind=kind, haystack=haystack, use_prefilter=use_prefilter):
-                    with Automaton(patterns, kind=kind, use_prefilter=use_prefilter) as automaton:
+                settings = dict(kind=kind, use_prefilter=use_prefilter, ascii_case_insensitive=any_case)
+                with self.subTest(name=name, patterns=patterns, haystack=haystack, **settings):
+                    with Automaton(patterns, **settings) as automaton:
                         self.assertEqual(list(getattr(automaton, name)(haystack)), matches)
                         with Automaton.read(automaton.write())[0] as again:
                             self.assertEqual(list(getattr(again, name)(haystack)), matches)
 
     def test_rows_in_pieces(self):
-        for name, kind, patterns, haystack, matches in [*ROWS, *table()]:
+        for name, kind, any_case, patterns, haystack, matches in [*ROWS, *table()]:
             if name not in ("find", "find_overlapping"):
                 continue
-            with Automaton(patterns, kind=kind) as automaton:
+            with Automaton(patterns, kind=kind, ascii_case_insensitive=any_case) as automaton:
                 for size in (1, 2, 3):
                     with self.subTest(name=name, patterns=patterns, haystack=haystack, size=size):
                         stream = automaton.stream(overlapping=name == "find_overlapping")
@@ -80,7 +89,11 @@ class AutomatonTest(unittest.TestCase):
     def test_is_match(self):
         with Automaton(PATTERNS) as automaton:
             self.assertTrue(automaton.is_match(b"xcdx"))
+            self.assertFalse(automaton.is_match(b"xCdx"))
             self.assertFalse(automaton.is_match(b"acbd"))
+        with Automaton(PATTERNS, ascii_case_insensitive=True) as automaton:
+            self.assertTrue(automaton.is_match(b"xCdx"))
+            self.assertFalse(automaton.is_match(b"aCbd"))
 
     def test_read_leaves_the_rest(self):
         with Automaton(PATTERNS) as automaton:

@@ -72,6 +72,7 @@ extern "C" {
         handle: *mut Handle,
         kind: u32,
         use_prefilter: bool,
+        ascii_case_insensitive: bool,
         bytes: *const u8,
         bytes_len: usize,
         ends: *const usize,
@@ -139,26 +140,68 @@ fn done(answer: u32) -> Result<(), Refusal> {
     }
 }
 
-/// An automaton over bytes, with a value of 32 bits for each pattern.
-pub struct Automaton {
-    handle: Handle,
+/// What a build is told. By default the kind is standard, there is a filter, and the case of ASCII letters is regarded.
+///
+/// ```
+/// use daachorse_c::Builder;
+///
+/// let patterns: [&[u8]; 2] = [b"Ab", b"cd"];
+/// let mut automaton = Builder::new().ascii_case_insensitive(true).build(patterns)?;
+/// let starts: Vec<usize> = automaton.find(b"xABCD")?.map(|found| found.start).collect();
+/// assert_eq!(starts, [1, 3]);
+/// # Ok::<(), daachorse_c::Refusal>(())
+/// ```
+#[derive(Clone, Copy, Debug)]
+pub struct Builder {
+    kind: Kind,
+    use_prefilter: bool,
+    ascii_case_insensitive: bool,
 }
 
-// The library proves that a handle may go to another thread. Each call takes the automaton by a `&mut`.
-unsafe impl Send for Automaton {}
+impl Default for Builder {
+    fn default() -> Builder {
+        Builder::new()
+    }
+}
 
-impl Automaton {
+impl Builder {
+    /// What a build is told by default.
+    pub fn new() -> Builder {
+        Builder {
+            kind: Kind::Standard,
+            use_prefilter: true,
+            ascii_case_insensitive: false,
+        }
+    }
+
+    /// Sets the kind: which searches the automaton is for.
+    pub fn kind(mut self, kind: Kind) -> Builder {
+        self.kind = kind;
+        self
+    }
+
+    /// Sets whether there is a filter, by which searches may pass over places where no pattern begins.
+    pub fn use_prefilter(mut self, yes: bool) -> Builder {
+        self.use_prefilter = yes;
+        self
+    }
+
+    /// Sets whether A to Z are read as a to z, in the patterns and in what is searched.
+    pub fn ascii_case_insensitive(mut self, yes: bool) -> Builder {
+        self.ascii_case_insensitive = yes;
+        self
+    }
+
     /// Builds an automaton of these patterns. Pattern `i`, counted from 0, has the value `i`.
     ///
     /// # Errors
     ///
     /// The library refuses the patterns, or an allocation failed.
-    pub fn new<'p, P: IntoIterator<Item = &'p [u8]>>(
-        kind: Kind,
-        use_prefilter: bool,
+    pub fn build<'p, P: IntoIterator<Item = &'p [u8]>>(
+        self,
         patterns: P,
     ) -> Result<Automaton, Refusal> {
-        Automaton::with_values(kind, use_prefilter, patterns.into_iter().zip(0..))
+        self.build_with_values(patterns.into_iter().zip(0..))
     }
 
     /// Builds an automaton of these patterns, each with its value.
@@ -166,9 +209,8 @@ impl Automaton {
     /// # Errors
     ///
     /// The library refuses the patterns, or an allocation failed.
-    pub fn with_values<'p, P: IntoIterator<Item = (&'p [u8], u32)>>(
-        kind: Kind,
-        use_prefilter: bool,
+    pub fn build_with_values<'p, P: IntoIterator<Item = (&'p [u8], u32)>>(
+        self,
         patvals: P,
     ) -> Result<Automaton, Refusal> {
         let (mut bytes, mut ends, mut values) = (Vec::new(), Vec::new(), Vec::new());
@@ -181,8 +223,9 @@ impl Automaton {
         done(unsafe {
             daachorse_build(
                 &mut automaton.handle,
-                kind as u32,
-                use_prefilter,
+                self.kind as u32,
+                self.use_prefilter,
+                self.ascii_case_insensitive,
                 bytes.as_ptr(),
                 bytes.len(),
                 ends.as_ptr(),
@@ -192,6 +235,44 @@ impl Automaton {
             )
         })?;
         Ok(automaton)
+    }
+}
+
+/// An automaton over bytes, with a value of 32 bits for each pattern.
+pub struct Automaton {
+    handle: Handle,
+}
+
+// The library proves that a handle may go to another thread. Each call takes the automaton by a `&mut`.
+unsafe impl Send for Automaton {}
+
+impl Automaton {
+    /// Builds an automaton of these patterns. Pattern `i`, counted from 0, has the value `i`. A [`Builder`] has more settings.
+    ///
+    /// # Errors
+    ///
+    /// The library refuses the patterns, or an allocation failed.
+    pub fn new<'p, P: IntoIterator<Item = &'p [u8]>>(
+        kind: Kind,
+        use_prefilter: bool,
+        patterns: P,
+    ) -> Result<Automaton, Refusal> {
+        let builder = Builder::new().kind(kind).use_prefilter(use_prefilter);
+        builder.build(patterns)
+    }
+
+    /// Builds an automaton of these patterns, each with its value.
+    ///
+    /// # Errors
+    ///
+    /// The library refuses the patterns, or an allocation failed.
+    pub fn with_values<'p, P: IntoIterator<Item = (&'p [u8], u32)>>(
+        kind: Kind,
+        use_prefilter: bool,
+        patvals: P,
+    ) -> Result<Automaton, Refusal> {
+        let builder = Builder::new().kind(kind).use_prefilter(use_prefilter);
+        builder.build_with_values(patvals)
     }
 
     /// Reads an automaton from the beginning of bytes, whoever wrote them, and returns it with what is left.
@@ -401,6 +482,25 @@ mod tests {
     }
 
     #[test]
+    fn case_is_disregarded_where_it_is_asked_for() {
+        for yes in [false, true] {
+            let builder = Builder::default().ascii_case_insensitive(yes);
+            let mut automaton = builder.build(PATTERNS).unwrap();
+            let found = triples(automaton.find(b"xABcd"));
+            let wanted: &[_] = if yes {
+                &[(1, 3, 0), (3, 5, 3)]
+            } else {
+                &[(3, 5, 3)]
+            };
+            assert_eq!(found, wanted);
+            assert_eq!(automaton.is_match(b"xaB"), yes);
+            let written = automaton.write().unwrap();
+            let (mut again, _) = Automaton::read(&written).unwrap();
+            assert_eq!(triples(again.find(b"xABcd")), wanted);
+        }
+    }
+
+    #[test]
     fn each_search_finds_its_matches() {
         for use_prefilter in [false, true] {
             let mut standard = Automaton::new(Kind::Standard, use_prefilter, PATTERNS).unwrap();
@@ -445,15 +545,21 @@ mod tests {
             let words: Vec<&str> = row.split(' ').collect();
             let kind = [Kind::Standard, Kind::LeftmostLongest, Kind::LeftmostFirst]
                 [words[1].parse::<usize>().unwrap()];
-            let patterns: Vec<Vec<u8>> = match words[2] {
+            let any_case = words[2] == "1";
+            let patterns: Vec<Vec<u8>> = match words[3] {
                 "none" => Vec::new(),
                 listed => listed.split(',').map(text).collect(),
             };
-            let haystack = text(words[3]);
-            let wanted: Vec<_> = words[5..].iter().map(|word| numbers(word)).collect();
+            let haystack = text(words[4]);
+            let wanted: Vec<_> = words[6..].iter().map(|word| numbers(word)).collect();
             for use_prefilter in [false, true] {
                 let patterns = patterns.iter().map(Vec::as_slice);
-                let mut automaton = Automaton::new(kind, use_prefilter, patterns).unwrap();
+                let mut automaton = Builder::new()
+                    .kind(kind)
+                    .use_prefilter(use_prefilter)
+                    .ascii_case_insensitive(any_case)
+                    .build(patterns)
+                    .unwrap();
                 let found = match words[0] {
                     "find" => automaton.find(&haystack),
                     "find_overlapping" => automaton.find_overlapping(&haystack),

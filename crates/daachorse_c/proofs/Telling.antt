@@ -1,9 +1,10 @@
--- The matches of a stream, one byte more: what ends there is put behind what was found.
+-- The matches of a stream, one byte more as it is read: what ends there is put behind what was found.
 use Rattle.std.proofs.Common.{◌≡◌, ℕ, suc, ◌+◌, ◌-◌, ◌<◌, ◌≤◌, Bool, true, false, List, [], ◌∷◌, ◌++◌, map, take, drop, length, refl, sym, ap, ◌∙◌, subst, append_assoc, append-nil, length-append, arith}
 use borrow.Rule.Slice.PartMut.{mid_of, put_mid}
 use Rattle.std.proofs.lemmas.List.{drop_all, drop_at, drop-append-le, drop-drop, length-drop, length-map, map-append, take_all, take_at, take_rest}
 use Rattle.daachorse_model.specs.declared.Match.{Match}
 use Rattle.daachorse_model.specs.Dictionary.{Dictionary}
+use Rattle.daachorse_model.specs.Folding.{as_read, folded_unit}
 use Rattle.daachorse_model.specs.Matches.{at_each_end}
 use Rattle.daachorse_model.specs.Units.{byte_width}
 use Rattle.daachorse_model.proofs.StandardEnds.{standard-joined}
@@ -12,6 +13,20 @@ use Rattle.daachorse_search.proofs.SourceLemmas.{at_each_end-split, past_each_en
 use Rattle.daachorse_c.specs.declared.found.CMatch.{CMatch}
 use Rattle.daachorse_c.specs.Streams.{ending_with, found_in}
 use Rattle.daachorse_c.specs.Writes.{Writes, c_match}
+
+-- a byte is read as one byte
+abbrev unit_as_read : Bool → ℕ → ℕ
+unit_as_read true u = folded_unit u
+unit_as_read false u = u
+
+one_as_read : (folds : Bool) (u : ℕ) → as_read folds (u ∷ []) ≡ unit_as_read folds u ∷ []
+one_as_read true u = refl
+one_as_read false u = refl
+
+-- what is read of two texts is read of both
+pub as_read-append : (folds : Bool) (v w : List ℕ) → as_read folds (v ++ w) ≡ as_read folds v ++ as_read folds w
+as_read-append true v w = map-append folded_unit v w
+as_read-append false v w = refl
 
 module _ (K : Dictionary ℕ) where
   found-each : (all : Bool) (h : List ℕ) → found_in all K h ≡ at_each_end (ending_with all K) [] h
@@ -77,9 +92,11 @@ told-more all more old new last n k t w =
 pub writes_none : {all : List (Match ℕ)} {old : List CMatch} → all ≡ [] → Writes all old old 0
 writes_none none = record { room = omega arith; there = omega arith; whole = λ lt. sym (ap length none); wrote = refl }
 
-module _ (K : Dictionary ℕ) (all : Bool) (h text : List ℕ) (u told : ℕ) (read : text ≡ h ++ u ∷ []) (before : told ≤ length (found_in all K h)) where
+module _ (K : Dictionary ℕ) (all folds : Bool) (h text : List ℕ) (u told : ℕ) (read : text ≡ h ++ as_read folds (u ∷ [])) (before : told ≤ length (found_in all K h)) where
   both : found_in all K text ≡ found_in all K h ++ ending_with all K text
-  both = ap (found_in all K) read ∙ found-push K all h u ∙ ap (λ t. found_in all K h ++ ending_with all K t) (sym read)
+  both =
+      let one = read ∙ ap (λ l. h ++ l) (one_as_read folds u) in
+      ap (found_in all K) one ∙ found-push K all h (unit_as_read folds u) ∙ ap (λ t. found_in all K h ++ ending_with all K t) (sym one)
 
   pub still_before : told ≤ length (found_in all K text)
   still_before = let long = ap length both ∙ length-append (found_in all K h) (ending_with all K text) in omega (arith, long, before)

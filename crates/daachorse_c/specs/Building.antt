@@ -1,8 +1,9 @@
--- What a build for C promises, of the number of a kind, and of bytes, ends and values of patterns.
+-- What a build for C promises, of the number of a kind, of whether ASCII case is disregarded, and of bytes, ends and values of patterns.
 use Rattle.std.specs.Prelude.{◌≡◌, ◌≢◌, ◌⊎◌, ℕ, Bool, List, map}
 use Rattle.daachorse_core.specs.declared.errors.DaachorseError.{DaachorseError}
 use Rattle.daachorse_model.specs.declared.MatchKind.{MatchKind}
 use Rattle.daachorse_model.specs.Kinds.{byte_of_kind}
+use Rattle.daachorse_patterns.specs.Folding.{all_as_read, texts_as_read}
 use Rattle.daachorse_bytewise.specs.Automata.{Automaton, kind_of}
 use Rattle.daachorse_bytewise.specs.Building.{HoldsPatterns, IsRefusalOf, kept_filter}
 use Rattle.daachorse_c.specs.declared.refusal.Refusal.{Refusal}
@@ -10,20 +11,25 @@ use Rattle.daachorse_c.specs.declared.refusal.Refusal.TheVariants.{OutOfMemory, 
 use Rattle.daachorse_c.specs.Patterns.{ArePatterns, registrations}
 use Rattle.daachorse_c.specs.Refusals.{refusal_of}
 
-module _ (number : ℕ) (bytes ends values : List ℕ) where
-  -- the automaton holds these patterns, and a filter of them where it is wanted
+module _ (number : ℕ) (folds : Bool) (bytes ends values : List ℕ) where
+  -- the patterns as they are read, each with its value
+  abbrev pub patterns_read : List (List ℕ × ℕ)
+  patterns_read = texts_as_read folds (registrations bytes 0 ends values)
+
+  -- the automaton holds these patterns as they are read, reads haystacks so too, and keeps a filter where it is wanted
   pub record IsBuilt (use_prefilter : Bool) (a : Automaton ℕ) : Type 0 where
     pub kind : byte_of_kind (kind_of a) ≡ number
     pub right : ArePatterns bytes ends values
-    pub holds : HoldsPatterns (kind_of a) (registrations bytes 0 ends values) a
-    pub filter : a.filter ≡ kept_filter use_prefilter (map (λ r. r.0) (registrations bytes 0 ends values))
+    pub folded : a.folds ≡ folds
+    pub holds : HoldsPatterns (kind_of a) patterns_read a
+    pub filter : a.filter ≡ kept_filter use_prefilter (all_as_read folds (map (λ r. r.0) (registrations bytes 0 ends values)))
 
   -- the library refuses the patterns by this error
   pub record IsLibraryRefusal (e : DaachorseError) : Type 0 where
     pub its_kind : MatchKind
     pub kind : byte_of_kind its_kind ≡ number
     pub right : ArePatterns bytes ends values
-    pub refuses : IsRefusalOf its_kind (registrations bytes 0 ends values) e
+    pub refuses : IsRefusalOf its_kind patterns_read e
 
   -- why a build is refused
   abbrev pub IsBuildCause : Refusal → Type 0

@@ -4,6 +4,7 @@ use Rattle.daachorse_model.specs.declared.Match.{Match}
 use Rattle.daachorse_model.specs.declared.MatchKind.{MatchKind}
 use Rattle.daachorse_model.specs.declared.MatchKind.TheVariants.{Standard}
 use Rattle.daachorse_model.specs.Dictionary.{Dictionary}
+use Rattle.daachorse_model.specs.Folding.{as_read}
 use Rattle.daachorse_model.specs.Leftmost.{leftmost}
 use Rattle.daachorse_model.specs.Matches.{no_suffix, overlapping, standard}
 use Rattle.daachorse_model.specs.Units.{byte_width}
@@ -38,9 +39,9 @@ IsUseCause held r = (r ≡ EmptyHandle) × IsNone held
 abbrev pub IsSearchCause : Search → Option Held → Refusal → Type 0
 IsSearchCause search held r = IsUseCause held r ⊎ ((r ≡ WrongKind) × IsSomeAnd held (λ a. IsFor search (kind_of a.searches) → ⊥))
 
--- What a search from C does: it leaves the handle as it was, and writes the first of its matches, or says why it is refused and writes none.
+-- What a search from C does: it leaves the handle as it was, and writes the first of its matches in the haystack as the automaton reads it, or says why it is refused and writes none.
 pub record IsSearchOf (search : Search) (haystack : List ℕ) (old new : Option Held) (out_old out_new : List CMatch) (written answer : ℕ) : Type 0 where
   pub kept : new ≡ old
-  pub found : answer ≡ 0 → IsSomeAnd old (λ a. Writes (found_by search (dictionary_of a.searches) haystack) out_old out_new written)
+  pub found : answer ≡ 0 → IsSomeAnd old (λ a. Writes (found_by search (dictionary_of a.searches) (as_read a.searches.folds haystack)) out_old out_new written)
   pub refused : IsDoneOr (IsSearchCause search old) answer
   pub unwritten : answer ≢ 0 → (out_new ≡ out_old) × (written ≡ 0)

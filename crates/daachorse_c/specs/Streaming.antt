@@ -1,7 +1,7 @@
 -- What the calls for streams promise, and why they are refused.
 use Rattle.std.specs.Prelude.{◌≡◌, ◌≢◌, ◌⊎◌, ◌+◌, ◌≤◌, ◌^◌, ℕ, Bool, List, Option, IsNone, IsSomeAnd, length}
 use Rattle.daachorse_model.specs.declared.MatchKind.TheVariants.{Standard}
-use Rattle.daachorse_bytewise.specs.Automata.{dictionary_of, kind_of}
+use Rattle.daachorse_bytewise.specs.Automata.{kind_of}
 use Rattle.daachorse_c.specs.declared.found.CMatch.{CMatch}
 use Rattle.daachorse_c.specs.declared.refusal.Refusal.{Refusal}
 use Rattle.daachorse_c.specs.declared.refusal.Refusal.TheVariants.{NoStream, StreamTooLong, WrongKind}
@@ -24,7 +24,7 @@ IsBeginCause held r = IsUseCause held r ⊎ ((r ≡ WrongKind) × IsSomeAnd held
 -- the automaton is as before, and its stream has told what comes next
 pub record HasConsumed (bytes : List ℕ) (old new : Held) (out_old out_new : List CMatch) (done : Done) : Type 0 where
   pub kept : new.searches ≡ old.searches
-  pub tells : IsSomeAnd old.stream (λ s. IsSomeAnd new.stream (λ t. Tells (dictionary_of old.searches) bytes s t out_old out_new done))
+  pub tells : IsSomeAnd old.stream (λ s. IsSomeAnd new.stream (λ t. Tells old.searches bytes s t out_old out_new done))
 
 -- so many bytes and matches could not be counted
 abbrev pub IsTooLong : Stream → ℕ → ℕ → Type 0

@@ -4,6 +4,7 @@ use Rattle.daachorse_core.specs.Seen.{units}
 use Rattle.daachorse_model.specs.declared.Match.{Match}
 use Rattle.daachorse_model.specs.declared.MatchKind.TheVariants.{Standard}
 use Rattle.daachorse_model.specs.Dictionary.{Dictionary}
+use Rattle.daachorse_model.specs.Folding.{as_read}
 use Rattle.daachorse_model.specs.Matches.{matches_after, standard_after}
 use Rattle.daachorse_model.specs.Units.{byte_width}
 use Rattle.daachorse_bytewise.specs.Automata.{Automaton as Searches, dictionary_of, kind_of, states_of}
@@ -47,7 +48,12 @@ abbrev pub overlaps_in : Stepper → Bool
 overlaps_in (Finding s) = false
 overlaps_in (FindingAll s) = true
 
--- the bytes that were consumed
+-- whether bytes are folded
+abbrev pub folds_in : Stepper → Bool
+folds_in (Finding s) = s.folds
+folds_in (FindingAll s) = s.folds
+
+-- the bytes that were consumed, as they were read
 abbrev pub read_in : Stepper → List ℕ
 read_in (Finding s) = s.read
 read_in (FindingAll s) = s.read
@@ -80,11 +86,11 @@ pub record Begins (all : Bool) (s : Stream) : Type 0 where
   pub read : read_by s.standing ≡ []
   pub told : s.told ≡ 0
 
--- From s to t some of the bytes were consumed, and the next of the matches in what was read were written: all bytes, and then all matches, unless there was no more room.
-pub record Tells (K : Dictionary ℕ) (bytes : List ℕ) (s t : Stream) (old new : List CMatch) (done : Done) : Type 0 where
+-- From s to t some of the bytes were consumed as a reads them, and the next of the matches in what was read were written: all bytes, and then all matches, unless there was no more room.
+pub record Tells (a : Searches ℕ) (bytes : List ℕ) (s t : Stream) (old new : List CMatch) (done : Done) : Type 0 where
   pub search : overlaps t.standing ≡ overlaps s.standing
   pub within : done.taken ≤ length bytes
-  pub read : read_by t.standing ≡ read_by s.standing ++ take done.taken bytes
+  pub read : read_by t.standing ≡ read_by s.standing ++ as_read a.folds (take done.taken bytes)
   pub told : t.told ≡ s.told + done.written
-  pub writes : Writes (drop s.told (found_in (overlaps s.standing) K (read_by t.standing))) old new done.written
+  pub writes : Writes (drop s.told (found_in (overlaps s.standing) (dictionary_of a) (read_by t.standing))) old new done.written
   pub whole : done.taken < length bytes → done.written ≡ length old

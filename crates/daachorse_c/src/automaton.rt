@@ -1,10 +1,12 @@
 //! What a handle keeps, and what the calls of C ask of it.
 //!
-//! The layers above may rely on the first matches of a search, as many as there is room for, on whether a
-//! pattern occurs, on the written form, where there is room for it, and on a stream telling its next matches.
+//! The layers above may rely on the first matches of a search in the haystack as the automaton reads it, as
+//! many as there is room for, on whether a pattern occurs, on the written form, where there is room for it, and
+//! on a stream telling its next matches.
 
 ghost use Rattle.std.specs.Prelude.{◌≡◌, ◌≢◌, ◌↔◌, [], None, IfErr, IfOk, IsTrue, OnErr, OnOk, length};
 ghost use Rattle.daachorse_model.specs.declared.MatchKind.TheVariants.{Standard};
+ghost use Rattle.daachorse_model.specs.Folding.{as_read};
 ghost use Rattle.daachorse_model.specs.Matches.{overlapping};
 ghost use Rattle.daachorse_model.specs.Units.{byte_width};
 ghost use Rattle.daachorse_bytewise.specs.Automata.{dictionary_of, kind_of};
@@ -68,7 +70,7 @@ impl Automaton {
         haystack: &[u8],
         out: &mut [CMatch],
     ) -> Result<usize, Refusal>
-        ensures found { IfOk result (Writes (found_by search (dictionary_of self.now.searches) haystack.now) out.old out.new) }
+        ensures found { IfOk result (Writes (found_by search (dictionary_of self.now.searches) (as_read self.now.searches.folds haystack.now)) out.old out.new) }
         ensures refused { IfErr result (λ r. (r ≡ WrongKind) × (IsFor search (kind_of self.now.searches) → ⊥)) }
         ensures unwritten { IfErr result (λ _. out.new ≡ out.old) }
     {
@@ -80,7 +82,7 @@ impl Automaton {
 
     /// Returns whether some pattern occurs.
     pub(crate) fn is_match(&self, haystack: &[u8]) -> bool
-        ensures { IsTrue result ↔ (overlapping byte_width (dictionary_of self.now.searches) haystack.now ≢ []) }
+        ensures { IsTrue result ↔ (overlapping byte_width (dictionary_of self.now.searches) (as_read self.now.searches.folds haystack.now) ≢ []) }
     {
         self.searches.is_match(haystack)
     }
@@ -155,7 +157,7 @@ fn find_in(
     out: &mut [CMatch],
 ) -> usize
     requires { IsFor search (kind_of searches.now) }
-    ensures { Writes (found_by search (dictionary_of searches.now) haystack.now) out.old out.new result }
+    ensures { Writes (found_by search (dictionary_of searches.now) (as_read searches.now.folds haystack.now)) out.old out.new result }
 {
     match search {
         Search::Find => fill(searches.find_iter(haystack), out),

@@ -1,12 +1,13 @@
 //! The build of an automaton of the patterns that C gives.
 //!
-//! The layers above may rely on an automaton that holds just these patterns, of the kind that was
-//! asked for, or on the cause of a refusal.
+//! The layers above may rely on an automaton that holds just these patterns, as its searches read them,
+//! of the kind that was asked for, or on the cause of a refusal.
 
 ghost use Rattle.std.specs.Prelude.{◌≡◌, ◌≢◌, None, IfErr, IfOk, MatchResult, map};
 ghost use Rattle.daachorse_model.specs.declared.MatchKind.{MatchKind};
 ghost use Rattle.daachorse_model.specs.Dictionary.{registered};
 ghost use Rattle.daachorse_model.specs.Kinds.{byte_of_kind};
+ghost use Rattle.daachorse_patterns.specs.Folding.{all_as_read, texts_as_read};
 ghost use Rattle.daachorse_bytewise.specs.Automata.{kind_of};
 ghost use Rattle.daachorse_bytewise.specs.Building.{HoldsPatterns, IsRefusalOf, kept_filter};
 ghost use Rattle.daachorse_c.specs.Building.{IsBuildCause, IsBuilt};
@@ -19,7 +20,8 @@ use daachorse::errors::DaachorseError;
 use daachorse::{DoubleArrayAhoCorasick, DoubleArrayAhoCorasickBuilder, MatchKind};
 use std::alloc::Global;
 
-/// Builds an automaton of the kind with this number, of the patterns in `bytes`.
+/// Builds an automaton of the kind with this number, of the patterns in `bytes`, for searches with or
+/// without regard to the case of ASCII letters.
 ///
 /// # Errors
 ///
@@ -29,17 +31,24 @@ pub(crate) fn build(
     alloc: Global,
     kind: u32,
     use_prefilter: bool,
+    ascii_case_insensitive: bool,
     bytes: &[u8],
     ends: &[usize],
     values: &[u32],
 ) -> Result<Box<Automaton, Global>, Refusal>
-    ensures built { IfOk result (λ b. IsBuilt kind bytes.now ends.now values.now use_prefilter b.value.searches) }
+    ensures built { IfOk result (λ b. IsBuilt kind ascii_case_insensitive bytes.now ends.now values.now use_prefilter b.value.searches) }
     ensures stream { IfOk result (λ b. b.value.stream ≡ None) }
-    ensures refused { IfErr result (IsBuildCause kind bytes.now ends.now values.now) }
+    ensures refused { IfErr result (IsBuildCause kind ascii_case_insensitive bytes.now ends.now values.now) }
 {
     let kind = kind_numbered(kind)?;
     let patterns = patterns_in(alloc, bytes, ends, values)?;
-    let searches = build_of(alloc, kind, use_prefilter, &patterns)?;
+    let searches = build_of(
+        alloc,
+        kind,
+        use_prefilter,
+        ascii_case_insensitive,
+        &patterns,
+    )?;
     Ok(Box::new(alloc, Automaton::new(searches))?)
 }
 
@@ -55,20 +64,23 @@ fn kind_numbered(kind: u32) -> Result<MatchKind, Refusal>
     }
 }
 
-/// An automaton of these patterns and values.
+/// An automaton of these patterns, as its searches read them, and values.
 fn build_of(
     alloc: Global,
     kind: MatchKind,
     use_prefilter: bool,
+    ascii_case_insensitive: bool,
     patterns: &[(&[u8], u32)],
 ) -> Result<DoubleArrayAhoCorasick<u32, Global>, DaachorseError>
-    ensures built { IfOk result (HoldsPatterns kind (registered patterns.now)) }
+    ensures built { IfOk result (HoldsPatterns kind (texts_as_read ascii_case_insensitive (registered patterns.now))) }
     ensures kind { IfOk result (λ a. kind_of a ≡ kind) }
-    ensures filter { IfOk result (λ a. a.filter ≡ kept_filter use_prefilter (map (λ p. p.0.now) patterns.now)) }
-    ensures refused { IfErr result (IsRefusalOf kind (registered patterns.now)) }
+    ensures folded { IfOk result (λ a. a.folds ≡ ascii_case_insensitive) }
+    ensures filter { IfOk result (λ a. a.filter ≡ kept_filter use_prefilter (all_as_read ascii_case_insensitive (map (λ p. p.0.now) patterns.now))) }
+    ensures refused { IfErr result (IsRefusalOf kind (texts_as_read ascii_case_insensitive (registered patterns.now))) }
 {
     let builder = DoubleArrayAhoCorasickBuilder::new()
         .match_kind(kind)
-        .use_prefilter(use_prefilter);
+        .use_prefilter(use_prefilter)
+        .ascii_case_insensitive(ascii_case_insensitive);
     builder.build_with_values(alloc, patterns.iter().copied())
 }

@@ -7,6 +7,7 @@
 #![tactic(auto)]
 
 ghost use Rattle.std.specs.Prelude.{◌≡◌, ◌≢◌, ◌↔◌, [], None, IsNone, IsSomeAnd, IsTrue, false, length};
+ghost use Rattle.daachorse_model.specs.Folding.{as_read};
 ghost use Rattle.daachorse_model.specs.Matches.{overlapping};
 ghost use Rattle.daachorse_model.specs.Units.{byte_width};
 ghost use Rattle.daachorse_bytewise.specs.Automata.{dictionary_of};
@@ -44,7 +45,8 @@ const DONE: u32 = 0;
 /// Fills the handle with an automaton of the patterns that end in `bytes` at each of `ends`.
 ///
 /// Each pattern begins where the one before it ends, and has the next of `values`. The kinds are 0
-/// standard, 1 leftmost longest and 2 leftmost first. What the handle had is freed.
+/// standard, 1 leftmost longest and 2 leftmost first. Where `ascii_case_insensitive` is set, A to Z are
+/// read as a to z, in the patterns and in what is searched. What the handle had is freed.
 ///
 /// # Errors
 ///
@@ -56,16 +58,25 @@ pub extern "C" fn daachorse_build(
     handle: &mut Handle,
     kind: u32,
     use_prefilter: bool,
+    ascii_case_insensitive: bool,
     bytes: &[u8],
     ends: &[usize],
     values: &[u32],
 ) -> u32
-    ensures built { result ≡ 0 → IsSomeAnd handle.new.automaton (λ a. IsBuilt kind bytes.now ends.now values.now use_prefilter a.searches) }
+    ensures built { result ≡ 0 → IsSomeAnd handle.new.automaton (λ a. IsBuilt kind ascii_case_insensitive bytes.now ends.now values.now use_prefilter a.searches) }
     ensures stream { result ≡ 0 → IsSomeAnd handle.new.automaton (λ a. a.stream ≡ None) }
-    ensures refused { IsDoneOr (IsBuildCause kind bytes.now ends.now values.now) result }
+    ensures refused { IsDoneOr (IsBuildCause kind ascii_case_insensitive bytes.now ends.now values.now) result }
     ensures unchanged { result ≢ 0 → handle.new.automaton ≡ handle.old.automaton }
 {
-    match build(alloc, kind, use_prefilter, bytes, ends, values) {
+    match build(
+        alloc,
+        kind,
+        use_prefilter,
+        ascii_case_insensitive,
+        bytes,
+        ends,
+        values,
+    ) {
         Ok(automaton) => {
             handle.fill(alloc, automaton);
             DONE
@@ -165,7 +176,7 @@ pub extern "C" fn daachorse_is_match(
     found: &mut bool,
 ) -> u32
     ensures kept { handle.new.automaton ≡ handle.old.automaton }
-    ensures answered { result ≡ 0 → IsSomeAnd handle.old.automaton (λ a. IsTrue found.new ↔ (overlapping byte_width (dictionary_of a.searches) haystack.now ≢ [])) }
+    ensures answered { result ≡ 0 → IsSomeAnd handle.old.automaton (λ a. IsTrue found.new ↔ (overlapping byte_width (dictionary_of a.searches) (as_read a.searches.folds haystack.now) ≢ [])) }
     ensures refused { IsDoneOr (IsUseCause handle.old.automaton) result }
     ensures unfound { result ≢ 0 → found.new ≡ false }
 {

@@ -1,13 +1,15 @@
 //! The steppers of the library as one type.
 //!
-//! The layers above may rely on the matches that end with what a stepper consumed being written, but for
-//! those that were told, and on a stepper going on where another over the same automaton stood.
+//! The layers above may rely on the matches that end with what a stepper consumed, as it was read, being
+//! written, but for those that were told, and on a stepper going on where another over the same automaton
+//! stood.
 
 ghost use Rattle.std.specs.Prelude.{◌≡◌, ◌<◌, ◌^◌, ◌+◌, [], ◌∷◌, ◌++◌, ℕ, drop, length, option_to_list};
 ghost use Rattle.daachorse_model.specs.declared.MatchKind.TheVariants.{Standard};
+ghost use Rattle.daachorse_model.specs.Folding.{as_read};
 ghost use Rattle.daachorse_bytewise.specs.Automata.{kind_of, states_of};
 ghost use Rattle.daachorse_bytewise_states.specs.Parts.{Parts, content};
-ghost use Rattle.daachorse_c.specs.Streams.{StandsIn, ending_with, overlaps, overlaps_in, read_by, read_in, states_in};
+ghost use Rattle.daachorse_c.specs.Streams.{StandsIn, ending_with, folds_in, overlaps, overlaps_in, read_by, read_in, states_in};
 ghost use Rattle.daachorse_c.specs.Writes.{Writes};
 
 use crate::found::{CMatch, fill};
@@ -44,6 +46,7 @@ impl<'a> Stepper<'a> {
     ) -> Stepper<'a>
         requires { kind_of searches.now ≡ Standard }
         ensures states { states_in result ≡ states_of searches.entry.now }
+        ensures folds { folds_in result ≡ searches.entry.now.folds }
         ensures overlaps { overlaps_in result ≡ overlapping }
         ensures read { read_in result ≡ [] }
     {
@@ -62,6 +65,7 @@ impl<'a> Stepper<'a> {
         requires kind { kind_of searches.now ≡ Standard }
         requires stands { StandsIn (states_of searches.now) standing }
         ensures states { states_in result ≡ states_of searches.entry.now }
+        ensures folds { folds_in result ≡ searches.entry.now.folds }
         ensures overlaps { overlaps_in result ≡ overlaps standing }
         ensures read { read_in result ≡ read_by standing }
     {
@@ -85,12 +89,13 @@ impl<'a> Stepper<'a> {
         }
     }
 
-    /// Consumes one byte.
+    /// Consumes one byte, which is read as it is or folded.
     pub(crate) fn consume(&mut self, byte: u8)
         requires { length (read_in self.old) + 1 < 2 ^ 64 }
         ensures states { states_in self.new ≡ states_in self.old }
+        ensures folds { folds_in self.new ≡ folds_in self.old }
         ensures overlaps { overlaps_in self.new ≡ overlaps_in self.old }
-        ensures read { read_in self.new ≡ read_in self.old ++ byte ∷ [] }
+        ensures read { read_in self.new ≡ read_in self.old ++ as_read (folds_in self.old) (byte ∷ []) }
     {
         match self {
             Stepper::Find(stepper) => stepper.consume(byte),

@@ -1,11 +1,12 @@
 //! A stream: a haystack that comes in pieces.
 //!
 //! The layers above may rely on a stream telling the next of the matches that its search finds in all that
-//! was consumed, and on it consuming what is given to it unless there is no more room.
+//! was consumed, as the automaton reads it, and on it consuming what is given to it unless there is no more
+//! room.
 
 ghost use Rattle.std.specs.Prelude.{◌≡◌, ◌↔◌, ◌+◌, ◌<◌, ◌^◌, IsTrue, length};
 ghost use Rattle.daachorse_model.specs.declared.MatchKind.TheVariants.{Standard};
-ghost use Rattle.daachorse_bytewise.specs.Automata.{dictionary_of, kind_of};
+ghost use Rattle.daachorse_bytewise.specs.Automata.{kind_of};
 ghost use Rattle.daachorse_c.specs.Streams.{Begins, GoesOnIn, Tells, read_by};
 
 use crate::found::CMatch;
@@ -74,7 +75,7 @@ impl Stream {
         requires bytes { length (read_by self.standing) + length bytes.now < 2 ^ 64 }
         requires room { self.told + length out.old < 2 ^ 64 }
         ensures goes_on { GoesOnIn searches.now result.0 }
-        ensures tells { Tells (dictionary_of searches.now) bytes.now self result.0 out.old out.new result.1 }
+        ensures tells { Tells searches.now bytes.now self result.0 out.old out.new result.1 }
     {
         let Stream {
             standing,

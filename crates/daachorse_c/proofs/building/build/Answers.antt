@@ -5,6 +5,7 @@ use Rattle.std.specs.Borrow.{Bor}
 use Rattle.daachorse_model.specs.declared.MatchKind.{MatchKind}
 use Rattle.daachorse_model.specs.Dictionary.{registered}
 use Rattle.daachorse_model.specs.Kinds.{byte_of_kind}
+use Rattle.daachorse_patterns.specs.Folding.{all_as_read, texts_as_read}
 use Rattle.daachorse_bytewise.specs.Building.{HoldsPatterns, kept_filter}
 use Rattle.daachorse_c.specs.Building.{IsBuilt}
 use Rattle.daachorse_c.specs.Held.{Held}
@@ -13,15 +14,18 @@ use Rattle.daachorse_c.proofs.building.build.Goals as goal
 
 pub returns-clause-built : goal.returns-clause-built
 returns-clause-built c =
-    let s = c.in_ok-searches.searches in let patterns = c.deref.result.now in
+    let s = c.in_ok-searches.searches in let patterns = c.deref.result.now in let folds = c.args.ascii_case_insensitive in
     let rs = registrations c.args.bytes.now 0 c.args.ends.now c.args.values.now in
     let all : registered patterns ≡ rs = ap registered c.deref.ensures.value ∙ c.in_ok-patterns.ensures.all in
     let texts : map (λ (p : Bor (List ℕ) × ℕ). p.0.now) patterns ≡ map (λ (r : List ℕ × ℕ). r.0) rs =
     sym (map-map (λ (r : List ℕ × ℕ). r.0) (λ (p : Bor (List ℕ) × ℕ). (p.0.now, p.1)) patterns) ∙ ap (map (λ (r : List ℕ × ℕ). r.0)) all in
-    let built : IsBuilt c.args.kind c.args.bytes.now c.args.ends.now c.args.values.now c.args.use_prefilter s = record {
+    let built : IsBuilt c.args.kind folds c.args.bytes.now c.args.ends.now c.args.values.now c.args.use_prefilter s = record {
       kind = ap byte_of_kind c.in_ok-searches.ensures.kind ∙ c.in_ok-kind.ensures;
       right = c.in_ok-patterns.ensures.right;
-      holds = subst (λ (k : MatchKind). HoldsPatterns k rs s) (sym c.in_ok-searches.ensures.kind) (subst (λ (l : List (List ℕ × ℕ)). HoldsPatterns c.in_ok-kind.kind l s) all c.in_ok-searches.ensures.built);
-      filter = c.in_ok-searches.ensures.filter ∙ ap (kept_filter c.args.use_prefilter) texts;
+      folded = c.in_ok-searches.ensures.folded;
+      holds =
+          subst (λ (k : MatchKind). HoldsPatterns k (texts_as_read folds rs) s) (sym c.in_ok-searches.ensures.kind)
+          (subst (λ (l : List (List ℕ × ℕ)). HoldsPatterns c.in_ok-kind.kind (texts_as_read folds l) s) all c.in_ok-searches.ensures.built);
+      filter = c.in_ok-searches.ensures.filter ∙ ap (λ (l : List (List ℕ)). kept_filter c.args.use_prefilter (all_as_read folds l)) texts;
     } in
-    subst (IsBuilt c.args.kind c.args.bytes.now c.args.ends.now c.args.values.now c.args.use_prefilter) (sym (ap (λ (a : Held). a.searches) c.in_ok-new.ensures.ok ∙ c.new.ensures.searches)) built
+    subst (IsBuilt c.args.kind folds c.args.bytes.now c.args.ends.now c.args.values.now c.args.use_prefilter) (sym (ap (λ (a : Held). a.searches) c.in_ok-new.ensures.ok ∙ c.new.ensures.searches)) built

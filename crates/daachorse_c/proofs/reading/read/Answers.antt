@@ -12,7 +12,7 @@ use Rattle.daachorse_c.proofs.reading.read.Goals as goal
 
 is_shorter : (bytes rest : List ℕ) (a : Searches ℕ) → GivesAutomaton (take_number w32) bytes a rest → length rest ≤ length bytes
 is_shorter bytes rest a given =
-    let ends = (parts_law (number_law w32)).leaves_end bytes (a.parts, a.filter) rest given.taken in
+    let ends = (parts_law (number_law w32)).leaves_end bytes (a.parts, (a.folds, a.filter)) rest given.taken in
     let e : length bytes ≡ length ends.0 + length rest = ap length ends.1 ∙ length-append ends.0 rest in
     omega (arith, e)
 

@@ -336,3 +336,30 @@ fn the_order_of_patterns_leaves_the_layout(rt: HostRuntime) -> Result<(), Fail> 
     expect(&rt, one == other, "the parts");
     Ok(())
 }
+
+#[test]
+fn keys_without_capitals_may_be_folded(rt: HostRuntime) -> Result<(), Fail> {
+    let alloc = rt.alloc();
+    let small = built(alloc, MatchKind::Standard, &[(b"ab", 1), (b"z1", 2)])?;
+    expect(&rt, small.may_fold(alloc, true)?, "no capital");
+    let capital = built(alloc, MatchKind::Standard, &[(b"aB", 1)])?;
+    expect(&rt, !capital.may_fold(alloc, true)?, "a capital");
+    expect(&rt, capital.may_fold(alloc, false)?, "case counts");
+    Ok(())
+}
+
+#[test]
+fn the_option_is_read_back(rt: HostRuntime) -> Result<(), Fail> {
+    let alloc = rt.alloc();
+    let states = built(alloc, MatchKind::LeftmostFirst, &[(b"ab", 1)])?;
+    for folds in [false, true] {
+        let bytes = states.serialize(alloc, folds, &None)?;
+        let (read, rest) = States::deserialize(alloc, &bytes)?;
+        let (again, option, filter) = read;
+        expect(&rt, again == states, "the states");
+        expect(&rt, option == folds, "the option");
+        expect(&rt, filter.is_none(), "no filter");
+        expect(&rt, rest.is_empty(), "what is left");
+    }
+    Ok(())
+}

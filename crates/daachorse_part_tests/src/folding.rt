@@ -6,7 +6,7 @@ ghost use Rattle.std.specs.Prelude.{[]};
 use crate::expect;
 use crate::prefilter::filter_of;
 use daachorse_core::ascii_fold::AsciiFold;
-use daachorse_search::filter::Filter;
+use daachorse_folding::filter::FoldingFilter;
 use daachorse_search::folded::Folded;
 use daachorse_search::haystack::{Bytes, Reread};
 use daachorse_search::source::Source;
@@ -108,10 +108,10 @@ fn a_folded_haystack_goes_on_where_the_filter_passes(rt: HostRuntime) -> Result<
     let filter = filter_of(rt.alloc(), &[b"aria", b"iris"])?.ok_or("no filter")?;
     let mut skipping = Skipping::new(Some(&filter));
     let mut bytes = Folded::new(Bytes::new(b"xxARIA"));
-    skipping.skip(&mut bytes);
+    skipping.skip_folded(&mut bytes);
     expect(&rt, bytes.left() == 4, "the bytes that are left");
     let mut text = Folded::new(Text::new("xÉAria"));
-    skipping.skip(&mut text);
+    skipping.skip_folded(&mut text);
     expect(&rt, text.left() == 4, "the text that is left");
     Ok(())
 }

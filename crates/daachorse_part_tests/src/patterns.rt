@@ -3,6 +3,7 @@
 use crate::expect;
 use daachorse_core::MatchKind;
 use daachorse_core::errors::{DaachorseError, Limit, Result};
+use daachorse_patterns::folding::{fold_bytes, fold_strings, lend_bytes, lend_strings};
 use daachorse_patterns::gathering::{gather, indexed};
 use daachorse_patterns::pattern::Pattern;
 use daachorse_patterns::trie::build_trie;
@@ -41,6 +42,26 @@ fn items_are_gathered_with_their_indexes(rt: HostRuntime) -> Result<(), Fail> {
     let pairs: Vec<(u8, u32)> = indexed(rt.alloc(), &letters)?;
     let wanted = [(b'a', 0), (b'b', 1), (b'c', 2)];
     expect(&rt, pairs.as_slice() == wanted.as_slice(), "the pairs");
+    Ok(())
+}
+
+#[test]
+fn copies_of_bytes_are_folded(rt: HostRuntime) -> Result<(), Fail> {
+    let patterns: [(&[u8], u32); 3] = [(b"SheZ", 7), (b"@[\xc3\x80", 8), (b"", 9)];
+    let copies = fold_bytes(rt.alloc(), &patterns)?;
+    let lent = lend_bytes(rt.alloc(), &copies)?;
+    let wanted: [(&[u8], u32); 3] = [(b"shez", 7), (b"@[\xc3\x80", 8), (b"", 9)];
+    expect(&rt, lent.as_slice() == wanted.as_slice(), "the patterns");
+    Ok(())
+}
+
+#[test]
+fn copies_of_strings_are_folded(rt: HostRuntime) -> Result<(), Fail> {
+    let patterns = [("SheZ", 7), ("À世B", 8), ("", 9)];
+    let copies = fold_strings(rt.alloc(), &patterns)?;
+    let lent = lend_strings(rt.alloc(), &copies)?;
+    let wanted = [("shez", 7), ("À世b", 8), ("", 9)];
+    expect(&rt, lent.as_slice() == wanted.as_slice(), "the patterns");
     Ok(())
 }
 

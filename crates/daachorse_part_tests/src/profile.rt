@@ -2,6 +2,7 @@
 //! from the rules, for each kind of trie, with a table in place of the root and without.
 
 ghost use Rattle.std.specs.Prelude.{IfOk, length};
+ghost use Rattle.std.specs.Ordering.{nat_cmp};
 ghost use Rattle.daachorse_build.specs.Builders.{states_of};
 ghost use Rattle.daachorse_build.specs.Counts.{HasCounts, LinksLeadBack};
 
@@ -10,6 +11,7 @@ use daachorse_build::nfa_builder::NfaBuilder;
 use daachorse_core::MatchKind;
 use daachorse_core::edge_label::EdgeLabel;
 use daachorse_core::errors::Result;
+use daachorse_patterns::corpus::Corpus;
 use daachorse_placement::build_helper::Profile;
 use std::alloc::Global;
 use std::test::Fail;
@@ -284,6 +286,35 @@ fn reads_of_characters_are_counted(rt: HostRuntime) -> Result<(), Fail> {
         let has_label = |label: char| label != 'x';
         expect(&rt, holds(rt.alloc(), row, &has_label)?, "the counts");
     }
+    Ok(())
+}
+
+/// What a search over the folded document reads.
+fn folded_profile(alloc: Global, builder: &NfaBuilder<u8, u32>, document: &[u8]) -> Result<Profile>
+    requires { LinksLeadBack nat_cmp (states_of builder.now) }
+{
+    let mut corpus = Corpus::copy_of(alloc, &[document])?;
+    corpus.fold();
+    corpus.profile(alloc, builder, false, &|_label: u8| true)
+}
+
+#[test]
+fn a_folded_document_is_read_as_small_letters(rt: HostRuntime) -> Result<(), Fail> {
+    let alloc = rt.alloc();
+    let builder = trie_of(alloc, MatchKind::Standard, &[b"ab".as_slice()])?;
+    let profile = folded_profile(alloc, &builder, b"AbX")?;
+    let visits = [2, 0, 2, 2];
+    expect(
+        &rt,
+        profile.visits.as_slice() == visits.as_slice(),
+        "the visits",
+    );
+    let probes = [1, 0, 0, 0];
+    expect(
+        &rt,
+        profile.probes.as_slice() == probes.as_slice(),
+        "the probes",
+    );
     Ok(())
 }
 

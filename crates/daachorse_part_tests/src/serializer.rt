@@ -5,6 +5,7 @@ use crate::forms::{has_form, has_list_form, is_refused};
 use daachorse_core::errors::DaachorseError;
 use daachorse_core::{Empty, MatchKind, Output};
 use daachorse_serializer::intpack::{TooLargeError, U24, U24nU8};
+use daachorse_serializer::mode::Mode;
 use daachorse_serializer::serializer::{Serializable, Table};
 use std::num::NonZeroU32;
 use std::test::Fail;
@@ -111,6 +112,31 @@ fn each_other_byte_is_standard(rt: HostRuntime) -> Result<(), Fail> {
     let (kind, rest) = MatchKind::deserialize_from_slice(&[200, 42])?;
     expect(&rt, kind == MatchKind::Standard, "the kind");
     expect(&rt, rest == [42].as_slice(), "what is left");
+    Ok(())
+}
+
+/// A mode of this kind.
+fn mode(kind: MatchKind, folds: bool) -> Mode {
+    Mode { kind, folds }
+}
+
+#[test]
+fn a_mode_is_the_byte_of_its_kind_or_128_more(rt: HostRuntime) -> Result<(), Fail> {
+    let alloc = rt.alloc();
+    has_form(&rt, alloc, mode(MatchKind::Standard, false), &[0])?;
+    has_form(&rt, alloc, mode(MatchKind::LeftmostFirst, false), &[2])?;
+    has_form(&rt, alloc, mode(MatchKind::Standard, true), &[128])?;
+    has_form(&rt, alloc, mode(MatchKind::LeftmostLongest, true), &[129])?;
+    has_form(&rt, alloc, mode(MatchKind::LeftmostFirst, true), &[130])?;
+    Ok(())
+}
+
+#[test]
+fn each_other_byte_is_a_mode_of_standard(rt: HostRuntime) -> Result<(), Fail> {
+    for byte in [3, 127, 131, 255] {
+        let (read, _rest) = Mode::deserialize_from_slice(&[byte])?;
+        expect(&rt, read == mode(MatchKind::Standard, false), "the mode");
+    }
     Ok(())
 }
 

@@ -1,2 +1,3 @@
+mod FirstReads
 mod FromText
 mod Steps

@@ -77,6 +77,22 @@ fn bytewise_unfiltered(
         .build_with_values(alloc, patvals.iter().copied())
 }
 
+/// The same without regard to the case of ASCII letters, with a filter if it is wanted.
+fn bytewise_folding(
+    alloc: Global,
+    kind: MatchKind,
+    patvals: &[(&[u8], u32)],
+    filtered: bool,
+) -> Result<Bytewise<Global>>
+    ensures { IfOk result (λ a. a.parts.kind ≡ kind) }
+{
+    DoubleArrayAhoCorasickBuilder::new()
+        .match_kind(kind)
+        .ascii_case_insensitive(true)
+        .use_prefilter(filtered)
+        .build_with_values(alloc, patvals.iter().copied())
+}
+
 /// An automaton written and read back with a byte 42 behind it, and whether that byte alone is left.
 pub fn read_back<V: Serializable + Copy, A: Allocator + Copy>(
     alloc: A,
@@ -120,6 +136,12 @@ pub fn bytewise_by(
         Way::Unfiltered => bytewise_unfiltered(alloc, kind, patvals, &[]),
         Way::UnfilteredByCorpus => bytewise_unfiltered(alloc, kind, patvals, &[b"ariaaria"]),
         Way::ReadBack => Ok(read_checked(alloc, &bytewise(alloc, kind, patvals)?)?.0),
+        Way::Folding => bytewise_folding(alloc, kind, patvals, true),
+        Way::FoldingUnfiltered => bytewise_folding(alloc, kind, patvals, false),
+        Way::FoldingReadBack => {
+            let automaton = bytewise_folding(alloc, kind, patvals, true)?;
+            Ok(read_checked(alloc, &automaton)?.0)
+        }
     }
 }
 
@@ -169,6 +191,22 @@ fn charwise_unfiltered(
         .build_with_values(alloc, patvals.iter().copied())
 }
 
+/// The same without regard to the case of ASCII letters, with a filter if it is wanted.
+fn charwise_folding(
+    alloc: Global,
+    kind: MatchKind,
+    patvals: &[(&str, u32)],
+    filtered: bool,
+) -> Result<Charwise<Global>>
+    ensures { IfOk result (λ a. a.parts.kind ≡ kind) }
+{
+    CharwiseDoubleArrayAhoCorasickBuilder::new()
+        .match_kind(kind)
+        .ascii_case_insensitive(true)
+        .use_prefilter(filtered)
+        .build_with_values(alloc, patvals.iter().copied())
+}
+
 /// The same as [`read_back`] over characters.
 pub fn read_back_charwise<V: Serializable + Copy, A: Allocator + Copy>(
     alloc: A,
@@ -212,5 +250,11 @@ pub fn charwise_by(
         Way::Unfiltered => charwise_unfiltered(alloc, kind, patvals, &[]),
         Way::UnfilteredByCorpus => charwise_unfiltered(alloc, kind, patvals, &["世界中に"]),
         Way::ReadBack => Ok(read_checked_charwise(alloc, &charwise(alloc, kind, patvals)?)?.0),
+        Way::Folding => charwise_folding(alloc, kind, patvals, true),
+        Way::FoldingUnfiltered => charwise_folding(alloc, kind, patvals, false),
+        Way::FoldingReadBack => {
+            let automaton = charwise_folding(alloc, kind, patvals, true)?;
+            Ok(read_checked_charwise(alloc, &automaton)?.0)
+        }
     }
 }

@@ -7,7 +7,7 @@ ghost use Rattle.daachorse_model.specs.declared.MatchKind.TheVariants.{Standard}
 use crate::automata::{Charwise, charwise, charwise_by};
 use crate::expect;
 use crate::finding::{Found, are, are_found, are_found_overlapping, gives, gives_leftmost};
-use crate::rows::{ROWS, ROWS_OF_CHARACTERS, Row, Search, WAYS, Way};
+use crate::rows::{FOLDED_ROWS, FOLDING_WAYS, ROWS, ROWS_OF_CHARACTERS, Row, Search, WAYS, Way};
 use daachorse::charwise::iter::FindOverlappingSliceIterator;
 use daachorse::{MatchKind, Result};
 use std::alloc::Global;
@@ -134,9 +134,9 @@ fn holds(alloc: Global, way: Way, row: &Row) -> Result<bool> {
     )
 }
 
-/// Whether a row holds in each way.
-fn holds_in_each(alloc: Global, row: &Row) -> Result<bool> {
-    for way in &WAYS {
+/// Whether a row holds in each of these ways.
+fn holds_in_each(alloc: Global, ways: &[Way], row: &Row) -> Result<bool> {
+    for way in ways {
         if !holds(alloc, *way, row)? {
             return Ok(false);
         }
@@ -145,9 +145,17 @@ fn holds_in_each(alloc: Global, row: &Row) -> Result<bool> {
 }
 
 #[test]
+fn rows_hold_without_regard_to_case(rt: HostRuntime) -> Result<(), Fail> {
+    for row in FOLDED_ROWS {
+        expect(&rt, holds_in_each(rt.alloc(), &FOLDING_WAYS, row)?, row.0);
+    }
+    Ok(())
+}
+
+#[test]
 fn rows_hold_over_characters(rt: HostRuntime) -> Result<(), Fail> {
     for row in ROWS {
-        expect(&rt, holds_in_each(rt.alloc(), row)?, row.0);
+        expect(&rt, holds_in_each(rt.alloc(), &WAYS, row)?, row.0);
     }
     Ok(())
 }
@@ -155,7 +163,7 @@ fn rows_hold_over_characters(rt: HostRuntime) -> Result<(), Fail> {
 #[test]
 fn rows_of_characters_hold(rt: HostRuntime) -> Result<(), Fail> {
     for row in ROWS_OF_CHARACTERS {
-        expect(&rt, holds_in_each(rt.alloc(), row)?, row.0);
+        expect(&rt, holds_in_each(rt.alloc(), &WAYS, row)?, row.0);
     }
     Ok(())
 }

@@ -79,6 +79,8 @@ fn hash_of_block(alloc: Global, held: &[Held], num_states: u32) -> Result<u64> {
     0usize.hash(&mut state);
     outputs.as_slice().hash(&mut state);
     num_states.hash(&mut state);
+    // Case is regarded.
+    false.hash(&mut state);
     let no_filter: Option<Prefilter> = None;
     no_filter.hash(&mut state);
     0usize.hash(&mut state);
@@ -158,6 +160,8 @@ fn hash_of_elements(alloc: Global, held: &[CharacterHeld]) -> Result<u64> {
     four_codes(alloc)?.hash(&mut state);
     outputs.as_slice().hash(&mut state);
     5u32.hash(&mut state);
+    // Case is regarded.
+    false.hash(&mut state);
     let no_filter: Option<Prefilter> = None;
     no_filter.hash(&mut state);
     0usize.hash(&mut state);

@@ -6,14 +6,15 @@ ghost use Rattle.std.specs.Iterator.{IsFinite};
 ghost use Rattle.std.specs.Prelude.{◌≡◌, []};
 
 use daachorse::Match;
+use daachorse_core::ascii_fold::AsciiFold;
 use daachorse_core::edge_label::EdgeLabel;
+use daachorse_folding::filter::FoldingFilter;
+use daachorse_folding::find_stepper::FindStepperAsRead;
+use daachorse_folding::leftmost::LeftmostMatchesAsRead;
+use daachorse_folding::matches::MatchesAsRead;
+use daachorse_folding::overlapping_stepper::FindOverlappingStepperAsRead;
 use daachorse_search::automaton::Automaton;
-use daachorse_search::filter::Filter;
-use daachorse_search::find_stepper::FindStepper;
 use daachorse_search::haystack::Reread;
-use daachorse_search::leftmost::LeftmostMatches;
-use daachorse_search::matches::Matches;
-use daachorse_search::overlapping_stepper::FindOverlappingStepper;
 use daachorse_search::stepwise::Stepwise;
 use std::slice::Iter;
 
@@ -77,10 +78,13 @@ pub fn are<I: Iterator<Item = Match<u32>> + Drop>(matches: I, expected: &[Found]
 
 /// Whether a search in a haystack gives the expected matches, in this order. It is dropped behind the
 /// first match that is not expected.
-pub fn gives<W: Stepwise<u32>, H: Reread<W::Unit>, F: Filter<W::Unit, H>>(
-    mut search: Matches<u32, W, H, F>,
+pub fn gives<W: Stepwise<u32>, H: Reread<W::Unit>, F: FoldingFilter<W::Unit, H>>(
+    mut search: MatchesAsRead<u32, W, H, F>,
     expected: &[Found],
-) -> bool {
+) -> bool
+where
+    W::Unit: AsciiFold,
+{
     let mut expected = Expected::new(expected);
     expected.take_all(&mut search);
     search.turns_are_bounded();
@@ -88,10 +92,13 @@ pub fn gives<W: Stepwise<u32>, H: Reread<W::Unit>, F: Filter<W::Unit, H>>(
 }
 
 /// The same of a leftmost search.
-pub fn gives_leftmost<A: Automaton<u32>, H: Reread<A::Unit>, F: Filter<A::Unit, H>>(
-    mut search: LeftmostMatches<u32, A, H, F>,
+pub fn gives_leftmost<A: Automaton<u32>, H: Reread<A::Unit>, F: FoldingFilter<A::Unit, H>>(
+    mut search: LeftmostMatchesAsRead<u32, A, H, F>,
     expected: &[Found],
-) -> bool {
+) -> bool
+where
+    A::Unit: AsciiFold,
+{
     let mut expected = Expected::new(expected);
     expected.take_all(&mut search);
     search.turns_are_bounded();
@@ -101,10 +108,12 @@ pub fn gives_leftmost<A: Automaton<u32>, H: Reread<A::Unit>, F: Filter<A::Unit, 
 /// Whether a stepper that has consumed nothing tells just these matches, before the units and after
 /// each of the first four hundred.
 pub fn are_found<A: Automaton<u32>>(
-    stepper: &mut FindStepper<'_, u32, A>,
+    stepper: &mut FindStepperAsRead<'_, u32, A>,
     units: &[A::Unit],
     expected: &[Found],
 ) -> bool
+where
+    A::Unit: AsciiFold,
     requires { stepper.old.read ≡ [] }
 {
     let mut expected = Expected::new(expected);
@@ -121,10 +130,12 @@ pub fn are_found<A: Automaton<u32>>(
 
 /// The same of a stepper for all matches.
 pub fn are_found_overlapping<A: Automaton<u32>>(
-    stepper: &mut FindOverlappingStepper<'_, u32, A>,
+    stepper: &mut FindOverlappingStepperAsRead<'_, u32, A>,
     units: &[A::Unit],
     expected: &[Found],
 ) -> bool
+where
+    A::Unit: AsciiFold,
     requires { stepper.old.read ≡ [] }
 {
     let mut expected = Expected::new(expected);
@@ -141,9 +152,11 @@ pub fn are_found_overlapping<A: Automaton<u32>>(
 
 /// The depths that a stepper tells, before and after each of three units.
 pub fn depths<A: Automaton<u32>>(
-    stepper: &mut FindStepper<'_, u32, A>,
+    stepper: &mut FindStepperAsRead<'_, u32, A>,
     units: &[A::Unit; 3],
 ) -> [Option<u32>; 4]
+where
+    A::Unit: AsciiFold,
     requires { stepper.old.read ≡ [] }
 {
     let mut depths = [stepper.depth(); 4];
@@ -158,9 +171,11 @@ pub fn depths<A: Automaton<u32>>(
 
 /// The same of a stepper for all matches.
 pub fn depths_overlapping<A: Automaton<u32>>(
-    stepper: &mut FindOverlappingStepper<'_, u32, A>,
+    stepper: &mut FindOverlappingStepperAsRead<'_, u32, A>,
     units: &[A::Unit; 3],
 ) -> [Option<u32>; 4]
+where
+    A::Unit: AsciiFold,
     requires { stepper.old.read ≡ [] }
 {
     let mut depths = [stepper.depth(); 4];

@@ -7,4 +7,4 @@ use Rattle.daachorse_tests.proofs.charwise.standard_of_source.Goals as goal
 pub are-requires-clause-can : goal.are-requires-clause-can
 are-requires-clause-can c =
     let search = c.find_iter_from_iter in
-    from_text search.result.source c.args.text.now search.result.read (ap bytes_rest search.ensures.source ∙ c.bytes.ensures.rest) c.utf8.text (omega arith) search.ensures.read
+    from_text search.result.folds search.result.search.source c.args.text.now search.result.search.read (ap bytes_rest search.ensures.begins.source ∙ c.bytes.ensures.rest) c.utf8.text (omega arith) search.ensures.begins.read

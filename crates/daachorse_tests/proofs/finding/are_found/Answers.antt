@@ -6,4 +6,4 @@ pub loop-place-preserved : goal.loop-place-preserved
 loop-place-preserved g c =
     let unit = g.A.Unit.EdgeLabel.unit c.index-units-place.result in
     let short = g.met.A.Unit.EdgeLabel.short c.index-units-place.result c.in_range.ensures in
-    four_more g.A.Unit.EdgeLabel.width c.loop-place.stepper.read c.consume.new.self.read unit c.loop-place.place c.loop-place.invariant short.1 c.consume.ensures.read
+    four_more g.A.Unit.EdgeLabel.width g.met.A.Unit.AsciiFold.as_wide c.loop-place.stepper.folds c.loop-place.stepper.read c.consume.new.self.read unit c.loop-place.place c.loop-place.invariant short.1 c.consume.ensures.read

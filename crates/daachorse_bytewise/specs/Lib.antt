@@ -5,6 +5,7 @@ pub mod ReadForms
 pub mod Standings
 pub use Rattle.daachorse_core.specs.Refusals
 pub use Rattle.daachorse_listing.specs.Listing
+pub use Rattle.daachorse_patterns.specs.Folding
 pub use Rattle.daachorse_patterns.specs.Patterns
 pub use Rattle.daachorse_patterns.specs.declared.settings.Settings
 pub use Rattle.daachorse_replacing.specs.ByKind

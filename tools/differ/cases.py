@@ -4,9 +4,9 @@
 Writes COUNT cases to the file CASES, one a line: the kind (s, l or f: standard, leftmost-longest or
 leftmost-first), the unit (b or c: bytes or characters), whether the haystack serves as a corpus, whether
 the automaton is written and read back (0 no, 1 by the read that does not check, 2 by the one that checks),
-whether the automaton of this repository may have a filter, the patterns, and the haystack. Texts are in hexadecimal digits;
-`_` is the empty text, and `-` an empty list. What each search has to find goes to the file EXPECTED, a
-line a search: the case, the search, and the start, end and value of each match.
+whether the automaton of this repository may have a filter, whether the case of ASCII letters is disregarded, the patterns,
+and the haystack. Texts are in hexadecimal digits; `_` is the empty text, and `-` an empty list. What each search has to find
+goes to the file EXPECTED, a line a search: the case, the search, and the start, end and value of each match.
 """
 import random
 import sys
@@ -23,9 +23,11 @@ FORMS = {
     "leftmost": ["slice"],
 }
 ALPHABETS = {
-    "b": [b"ab", b"abc", bytes([0, 255]), bytes(range(256))],
-    "c": ["ab", "aé", "aé日𝄞", "abcdefé\u0000\ud7ff\ue000\U0010ffff日本𝄞"],
+    "b": [b"ab", b"abc", b"aAbB", b"@AZ[`az{", bytes([0, 255]), bytes(range(256))],
+    "c": ["ab", "aé", "aé日𝄞", "aAbéÉ", "kK\u212asS\u017f", "abcdefé\u0000\ud7ff\ue000\U0010ffff日本𝄞"],
 }
+LETTERS = {"b": (bytes.maketrans(b"ABCDEFGHIJKLMNOPQRSTUVWXYZ", b"abcdefghijklmnopqrstuvwxyz")),
+           "c": {c: c + 32 for c in range(65, 91)}}
 
 
 def bytes_of(text):
@@ -113,7 +115,7 @@ def random_case(random):
         for _ in range(random.randrange(4)):
             at = random.randrange(len(haystack) + 1)
             haystack = haystack[:at] + random.choice(patterns) + haystack[at:]
-    flags = random.choice("01"), random.choice("012"), random.choice("01")
+    flags = random.choice("01"), random.choice("012"), random.choice("01"), random.choice("01")
     return random.choice("slf"), unit, *flags, patterns, haystack
 
 
@@ -121,9 +123,12 @@ def main(cases, expected, count, seed):
     source = random.Random(int(seed))
     with open(cases, "w") as given, open(expected, "w") as wanted:
         for number in range(int(count)):
-            kind, unit, corpus, read, filter, patterns, haystack = random_case(source)
+            kind, unit, corpus, read, filter, folds, patterns, haystack = random_case(source)
             texts = ",".join(map(digits, patterns)) or "-"
-            print(kind, unit, corpus, read, filter, texts, digits(haystack), file=given)
+            print(kind, unit, corpus, read, filter, folds, texts, digits(haystack), file=given)
+            if folds == "1":
+                patterns = [p.translate(LETTERS[unit]) for p in patterns]
+                haystack = haystack.translate(LETTERS[unit])
             values = dictionary(kind, patterns)
             for search in SEARCHES[kind]:
                 found = globals()[search](values, haystack)

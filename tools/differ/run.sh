@@ -53,5 +53,6 @@ if ! cmp -s "$work/expected" "$work/found.ours"; then
     echo "this repository differs from the definitions: $work/differs.ours"
     status=1
 fi
+python3 "$here/by_grep.py" "$work/cases" "$work/found.ours" || status=1
 [ "$status" -ne 0 ] || echo "$count cases from seed $seed, $(wc -l < "$work/expected") lines: none differs"
 exit "$status"

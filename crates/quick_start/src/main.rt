@@ -1,12 +1,16 @@
-//! The first program over this library: it finds words in a text, and cuts a text into words.
+//! The program of the README, and behind it that of the tokenizer's documentation.
 #![tactic(auto)]
 
 mod cut;
-mod find;
 
 use anyhow::Result;
+use daachorse::DoubleArrayAhoCorasick;
 
 fn main(rt: HostRuntime) -> Result<()> {
-    find::find(&rt)?;
+    let words = [b"ab".as_slice(), b"abcd", b"bc", b"cd"];
+    let automaton: DoubleArrayAhoCorasick<u32> = DoubleArrayAhoCorasick::new(rt.alloc(), words)?;
+    for found in automaton.find_overlapping_iter(b"abcd") {
+        println!(&rt; "{} {} {}", found.start(), found.end(), found.value())?;
+    }
     cut::cut(&rt)
 }

@@ -2,4 +2,3 @@ pub mod Failures
 pub mod Modes
 pub mod Runs
 pub mod Sinks
-pub mod Written

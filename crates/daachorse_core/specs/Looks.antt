@@ -1,5 +1,5 @@
 -- What one look at a state tells: where it leads, and the first output there.
-use Rattle.std.specs.Prelude.{◌≡◌, ◌⊎◌, ⊤, ℕ, ◌<◌, ◌≤◌, List, [], ◌∷◌, ◌++◌, length, Option, IfSome}
+use Rattle.std.specs.Prelude.{◌≡◌, ◌⊎◌, ⊤, ℕ, zero, suc, ◌<◌, ◌≤◌, List, [], ◌∷◌, ◌++◌, length, Option, IfSome}
 use Rattle.std.specs.declared.num.NonZeroU32.{NonZeroU32}
 use Rattle.daachorse_core.specs.Outputs.{number}
 use Rattle.daachorse_core.specs.declared.turns.Look.{Look}
@@ -12,11 +12,22 @@ use Rattle.daachorse_model.specs.Outputs.{IsChain}
 abbrev pub IsForeign : {V : Type 0} → Dictionary V → ℕ → Type 0
 IsForeign K u = (w : List ℕ) → ¬ IsPrefix K (w ++ u ∷ [])
 
--- What a look at a state with text w gives for the unit u. `reached` and `text` speak of the automaton's states, and `dead` of the texts whose link is dead.
+-- Where a step ends. `dead` speaks of the texts whose link is dead.
+module _ {V : Type 0} (K : Dictionary V) (dead : List ℕ → Type 0) where
+  -- n links on from a state with text w the unit u ends the step at the text t: at w u if that begins a key, or else at the root, where there is no link to follow
+  abbrev pub EndsAfter : ℕ → List ℕ → ℕ → List ℕ → Type 0
+  EndsAfter zero w u t =
+      (IsPrefix K (w ++ u ∷ []) × (t ≡ w ++ u ∷ [])) ⊎ ((¬ IsPrefix K (w ++ u ∷ [])) × ((w ≡ []) ⊎ dead w) × (t ≡ []))
+  EndsAfter (suc n) w u t = (¬ IsPrefix K (w ++ u ∷ [])) × (¬ dead w) × ((s : List ℕ) × IsLink K w s × EndsAfter n s u t)
+
+  -- the step from a state with text w by the unit u ends at the text t: after some links, or at the root, for a unit that no key has
+  abbrev pub StepEnds : List ℕ → ℕ → List ℕ → Type 0
+  StepEnds w u t = (IsForeign K u × (t ≡ [])) ⊎ ((n : ℕ) × EndsAfter n w u t)
+
+-- What a look at a state with text w gives for the unit u: the end of the step, or the link to follow. `reached` and `text` speak of the automaton's states.
 module _ {V : Type 0} (K : Dictionary V) (reached : ℕ → Type 0) (text : ℕ → List ℕ) (dead : List ℕ → Type 0) where
   abbrev pub LookGives : List ℕ → ℕ → Look → Type 0
-  LookGives w u (Next t _) =
-      reached t × ((IsPrefix K (w ++ u ∷ []) × (text t ≡ w ++ u ∷ [])) ⊎ ((¬ IsPrefix K (w ++ u ∷ [])) × ((w ≡ []) ⊎ dead w) × (text t ≡ [])))
+  LookGives w u (Next t _) = reached t × StepEnds K dead w u (text t)
   LookGives w u (Fail t) = reached t × (¬ IsPrefix K (w ++ u ∷ [])) × (¬ dead w) × IsLink K w (text t)
 
 -- Of a state with text w: the outputs from the position on, none at position 0, are those of the keys that end with w, down to a dead link.

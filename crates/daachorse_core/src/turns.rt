@@ -17,7 +17,8 @@ use std::snapshot::Snapshot;
 /// What a look at one state returns.
 #[derive(Clone, Copy, Debug, PartialEq, Eq)]
 pub enum Look {
-    /// The step ends at this state. Its first output, if it has one, is at this position.
+    /// The step ends at this state, however many links lead there. Its first output, if it has one,
+    /// is at this position.
     Next(u32, Option<NonZeroU32>),
     /// The failure link leads to this state, which is to be looked at next.
     Fail(u32),

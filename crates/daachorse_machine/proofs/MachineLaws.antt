@@ -179,12 +179,12 @@ module _ {V : Type 0} (width : ℕ → ℕ) (a : Machine V) (leftmost : Bool) (n
       → LookGives (content width a) (IsReached a.child m n) (text_of a.child m n) (dead_in width a leftmost) (text_of a.child m n i) c (Next j o)
   turn-next i c j r e o =
       let leads : Leads a.child (text_of a.child m n i ++ c ∷ []) j = walk-push a.child 0 i (text_of a.child m n i) c r ∙ e in
-      (Reached-Leads _ j leads, inl (fore _ (reached_element a.child _ j leads), text-Leads _ j leads))
+      (Reached-Leads _ j leads, inr (0, inl (fore _ (reached_element a.child _ j leads), text-Leads _ j leads)))
 
   -- the root stays where it has no child
   pub turn-root : (i c : ℕ) → IsReached a.child m n i → a.child i c ≡ None → i ≡ 0 → (o : Option NonZeroU32)
       → LookGives (content width a) (IsReached a.child m n) (text_of a.child m n) (dead_in width a leftmost) (text_of a.child m n i) c (Next 0 o)
-  turn-root i c r none root o = (Reached-root, inr (not_prefix i c r none, inl (text-root i root), text-root 0 refl))
+  turn-root i c r none root o = (Reached-root, inr (0, inr (not_prefix i c r none, inl (text-root i root), text-root 0 refl)))
 
   link_at : (i : ℕ) → IsReached a.child m n i → i ≢ 0 → LinkOf (text_of a.child m n i) (a.fail i)
   link_at i r other = elim (root_or i (text_of a.child m n i) r) [
@@ -200,7 +200,7 @@ module _ {V : Type 0} (width : ℕ → ℕ) (a : Machine V) (leftmost : Bool) (n
   turn-dead i c r none other one o = go (link_at i r other)
     where
       go : LinkOf (text_of a.child m n i) (a.fail i) → LookGives (content width a) (IsReached a.child m n) (text_of a.child m n) (dead_in width a leftmost) (text_of a.child m n i) c (Next 0 o)
-      go (to_dead dead is) = (Reached-root, inr (not_prefix i c r none, inr dead, text-root 0 refl))
+      go (to_dead dead is) = (Reached-root, inr (0, inr (not_prefix i c r none, inr dead, text-root 0 refl)))
       go (to_element {s} link alive leads not_one) = absurd (not_one one)
 
   -- any other link is followed

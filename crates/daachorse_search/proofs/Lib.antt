@@ -1,3 +1,4 @@
+pub mod LookLemmas
 pub mod WalkLemmas
 pub mod SourceLemmas
 pub mod SearchLemmas

@@ -1,17 +1,17 @@
 //! What a search sees of an automaton, and the step from state to state.
 //!
-//! The layers above may rely on a step leading, in an automaton with no dead link, to the state of
-//! the longest end of the text that begins a key, and in a leftmost one to that of what may still
-//! become a match as early as the best so far, which is the cut of what was read; and on its turns:
-//! at most two, less what the state's text grew by, at least one for a unit with a label, and none
-//! for a unit without.
+//! The layers above may rely on a step ending where the links lead; in an automaton with no dead link
+//! that is the state of the longest end of the text that begins a key, and in a leftmost one that of
+//! what may still become a match as early as the best so far, which is the cut of what was read; and
+//! on its turns: at most two, less what the state's text grew by, at least one for a unit with a
+//! label, and none for a unit without.
 
 ghost use Rattle.std.specs.Prelude.{◌≡◌, ◌+◌, ◌≤◌, ◌<◌, ℕ, Bool, false, true, List, [], ◌∷◌, ◌++◌, IfSome, MatchOption, IsTrue, ◌↔◌, length, if◌then◌else◌};
 ghost use Rattle.daachorse_model.specs.Dictionary.{Dictionary};
 ghost use Rattle.daachorse_model.specs.Best.{IsLeftmost, IsSteady, LeftSteps};
 ghost use Rattle.daachorse_model.specs.Prefixes.{IsCut, IsLong};
 ghost use Rattle.daachorse_core.specs.Outputs.{value_of, length_of, parent_of};
-ghost use Rattle.daachorse_core.specs.Looks.{IsFirstOutput, IsForeign, LookGives, TellsOutput};
+ghost use Rattle.daachorse_core.specs.Looks.{IsFirstOutput, IsForeign, LookGives, StepEnds, TellsOutput};
 
 use daachorse_core::Output;
 use daachorse_core::edge_label::EdgeLabel;
@@ -70,7 +70,8 @@ pub trait Automaton<V: Copy>: Drop {
         ensures { MatchOption result ((has_label self.now (Self.Unit.unit unit) ≡ false) × IsForeign (content self.now) (Self.Unit.unit unit))
             (λ label. labels self.now label (Self.Unit.unit unit) × (has_label self.now (Self.Unit.unit unit) ≡ true)) };
 
-    /// Looks at one state. Where the step ends, it tells the first output of the state there.
+    /// Looks at one state: it tells the end of the step, however many links lead there, or the link.
+    /// Where the step ends, it tells the first output of the state there.
     fn turn(&self, state: u32, label: Self::Label, turns: &mut Turns) -> Look
         requires { reached self.now state }
         ensures look { (unit : ℕ) → labels self.now label unit
@@ -112,6 +113,7 @@ pub fn step<V: Copy, A: Automaton<V>>(
     requires { A.reached automaton.now state }
     ensures reached { A.reached automaton.now result.0 }
     ensures output { IsFirstOutput A.Unit.width (A.content automaton.now) (A.dead automaton.now) (A.has_output automaton.now) (A.outputs automaton.now) (A.most_outputs automaton.now) (A.text automaton.now result.0) result.1 }
+    ensures ends { StepEnds (A.content automaton.now) (A.dead automaton.now) (A.text automaton.now state) (A.Unit.unit unit) (A.text automaton.now result.0) }
     ensures standard { ((w : List ℕ) → ¬ A.dead automaton.now w)
         → IsLong (A.content automaton.now) (A.text automaton.now state ++ A.Unit.unit unit ∷ []) (A.text automaton.now result.0) }
     ensures leftmost { IsLeftmost (A.content automaton.now) (A.dead automaton.now) → (w : List ℕ) → IsSteady (A.content automaton.now) w (A.text automaton.now state)
@@ -126,6 +128,27 @@ pub fn step<V: Copy, A: Automaton<V>>(
         let root = automaton.root();
         return (root, automaton.output_pos(root));
     };
+    follow(automaton, state, label, turns)
+}
+
+/// The same for a label that stands for some unit: the end of the step, however many links lead
+/// there.
+#[inline(always)]
+pub fn follow<V: Copy, A: Automaton<V>>(
+    automaton: &A,
+    state: u32,
+    label: A::Label,
+    turns: &mut Turns,
+) -> (u32, Option<NonZeroU32>)
+    requires reached { A.reached automaton.now state }
+    requires unit { (unit : ℕ) × A.labels automaton.now label unit }
+    ensures reached { A.reached automaton.now result.0 }
+    ensures output { IsFirstOutput A.Unit.width (A.content automaton.now) (A.dead automaton.now) (A.has_output automaton.now) (A.outputs automaton.now) (A.most_outputs automaton.now) (A.text automaton.now result.0) result.1 }
+    ensures ends { (unit : ℕ) → A.labels automaton.now label unit
+        → StepEnds (A.content automaton.now) (A.dead automaton.now) (A.text automaton.now state) unit (A.text automaton.now result.0) }
+    ensures most { turns.new + length (A.text automaton.now result.0) ≤ turns.old + length (A.text automaton.now state) + 2 }
+    ensures least { turns.old + 1 ≤ turns.new }
+{
     // Most steps end at the first look, which stands before the loop for speed.
     let mut at = match automaton.turn(state, label, turns) {
         Look::Next(next, position) => return (next, position),

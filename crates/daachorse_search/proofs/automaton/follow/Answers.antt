@@ -1,0 +1,51 @@
+use Rattle.std.proofs.Common.{arith}
+use Rattle.daachorse_search.proofs.LookLemmas.{StepEnds-length, StepEnds-link}
+use Rattle.daachorse_search.proofs.automaton.follow.Goals as goal
+
+-- the first look ends the step, or its link is followed
+pub returns-in-Next-clause-output : goal.returns-in-Next-clause-output
+returns-in-Next-clause-output g c = c.in-Next.ensures.output c.requires.unit.0 c.requires.unit.1
+
+pub returns-in-Next-clause-ends : goal.returns-in-Next-clause-ends
+returns-in-Next-clause-ends g c = λ unit coded. (c.in-Next.ensures.look unit coded).1
+
+pub returns-in-Next-clause-most : goal.returns-in-Next-clause-most
+returns-in-Next-clause-most g c =
+    let A = g.A.Automaton in let a = c.args.automaton.now in
+    let looked = c.in-Next.ensures.look c.requires.unit.0 c.requires.unit.1 in
+    omega (arith, StepEnds-length (A.content a) (A.dead a) _ _ _ looked.1, c.in-Next.ensures.counted)
+
+pub links-init : goal.links-init
+links-init g c =
+    let A = g.A.Automaton in let a = c.args.automaton.now in
+    let looked = c.in-Fail.ensures.look c.requires.unit.0 c.requires.unit.1 in
+    record {
+      reached = looked.0;
+      on = λ unit t coded ends. let here = c.in-Fail.ensures.look unit coded in StepEnds-link (A.content a) (A.dead a) _ _ t unit here.1 here.2 here.3 ends;
+      counted = omega (arith, looked.3.shorter, c.in-Fail.ensures.counted);
+      more = omega (arith, c.in-Fail.ensures.counted);
+    }
+
+-- so do the others
+pub returns-in-Next-turn-clause-output : goal.returns-in-Next-turn-clause-output
+returns-in-Next-turn-clause-output g c = c.in-Next-turn.ensures.output c.requires.unit.0 c.requires.unit.1
+
+pub returns-in-Next-turn-clause-ends : goal.returns-in-Next-turn-clause-ends
+returns-in-Next-turn-clause-ends g c = λ unit coded. c.links.invariant.on unit _ coded (c.in-Next-turn.ensures.look unit coded).1
+
+pub returns-in-Next-turn-clause-most : goal.returns-in-Next-turn-clause-most
+returns-in-Next-turn-clause-most g c =
+    let A = g.A.Automaton in let a = c.args.automaton.now in
+    let looked = c.in-Next-turn.ensures.look c.requires.unit.0 c.requires.unit.1 in
+    omega (arith, StepEnds-length (A.content a) (A.dead a) _ _ _ looked.1, c.in-Next-turn.ensures.counted, c.links.invariant.counted)
+
+pub links-preserved : goal.links-preserved
+links-preserved g c =
+    let A = g.A.Automaton in let a = c.args.automaton.now in
+    let looked = c.in-Fail-turn.ensures.look c.requires.unit.0 c.requires.unit.1 in
+    record {
+      reached = looked.0;
+      on = λ unit t coded ends. let here = c.in-Fail-turn.ensures.look unit coded in c.links.invariant.on unit t coded (StepEnds-link (A.content a) (A.dead a) _ _ t unit here.1 here.2 here.3 ends);
+      counted = omega (arith, looked.3.shorter, c.in-Fail-turn.ensures.counted, c.links.invariant.counted);
+      more = omega (arith, c.in-Fail-turn.ensures.counted, c.links.invariant.more);
+    }

@@ -1,0 +1,16 @@
+use Rattle.std.proofs.Common.{◌+◌, ◌≤◌, List, ℕ, length}
+use Rattle.daachorse_core.specs.Looks.{StepEnds}
+use Rattle.daachorse_search.proofs.automaton.follow.Given as goal
+
+abbrev pub invariant-links : goal.invariant-links
+invariant-links g l =
+    let A = g.A.Automaton in let K = A.content l.automaton in let text = A.text l.automaton in let dead = A.dead l.automaton in
+    record {
+      reached : A.reached l.automaton l.at;
+      on : (unit : ℕ) (t : List ℕ) → A.labels l.automaton l.label unit → StepEnds K dead (text l.at) unit t → StepEnds K dead (text l.fn.state) unit t;
+      counted : l.turns + length (text l.at) ≤ l.fn.turns + length (text l.fn.state);
+      more : l.fn.turns ≤ l.turns;
+    }
+
+abbrev pub decreases-links : goal.decreases-links
+decreases-links g l = length (g.A.Automaton.text l.automaton l.at)

@@ -1,18 +1,19 @@
 -- A search in a haystack that is known as a whole: what callers see of it, and what each call gives.
-use Rattle.std.specs.Prelude.{◌≡◌, ℕ, ◌+◌, List, [], ◌∷◌, ◌++◌, Option, Some, None, IfNone}
+use Rattle.std.specs.Prelude.{◌≡◌, ℕ, ◌+◌, ◌*◌, ◌≤◌, List, [], ◌∷◌, ◌++◌, length, Option, Some, None, IfNone}
 use Rattle.std.specs.declared.num.NonZeroU32.{NonZeroU32}
 use Rattle.daachorse_core.specs.Outputs.{number}
 use Rattle.daachorse_model.specs.declared.Match.{Match}
 use Rattle.daachorse_model.specs.Units.{size}
 use Rattle.daachorse_search.specs.Sources.{past_each_end}
 
--- what callers see of a search with an automaton A and a filter F: the filter as it began, the whole haystack, the matches that are left, the units behind which the search goes on, the turns taken, and the number of matches given
+-- what callers see of a search with an automaton A and a filter F: the filter as it began, the whole haystack, the matches that are left, the units behind which the search goes on, those of them that it read since it last began at the root, the turns taken, and the number of matches given
 pub record Progress (V A F : Type 0) : Type 0 where
   pub automaton : A
   pub filter : F
   pub haystack : List ℕ
   pub left : List (Match V)
   pub passed : List ℕ
+  pub since : List ℕ
   pub turns : ℕ
   pub given : ℕ
 
@@ -58,3 +59,14 @@ module _ {V A W : Type 0} (automaton : W → A) (text : W → List ℕ) (found :
     pub left : past_each_end (found (automaton from)) (text from) rest ≡ matches_left (found (automaton to)) (given_from to (number position)) (text to) later
     pub output : has_output to (number position)
     pub ended : IfNone position (later ≡ [])
+
+-- The units passed end with those read since a walk last began at the root. For these the turns that it took since keep the walk's bounds, and before it took at most two a unit.
+module _ {A : Type 0} (bounds : A → List ℕ → ℕ → Type 0) where
+  pub record AreBoundedBehind (a : A) (passed since : List ℕ) (turns : ℕ) : Type 0 where
+    pub base : List ℕ
+    pub before : ℕ
+    pub after : ℕ
+    pub parts : passed ≡ base ++ since
+    pub sum : turns ≡ before + after
+    pub most : before ≤ 2 * length base
+    pub walked : bounds a since after

@@ -58,7 +58,7 @@ pub struct LeftmostMatches<
 
 impl<V: Copy, A: Automaton<V>, H: Reread<A::Unit>, F: Filter<A::Unit, H>> Model
     for LeftmostMatches<V, A, H, F> {
-    ghost use Rattle.std.specs.Prelude.{◌≡◌, ℕ, List};
+    ghost use Rattle.std.specs.Prelude.{◌≡◌, ℕ, List, []};
     ghost use Rattle.daachorse_search.specs.Matches.{Progress};
     ghost use Rattle.daachorse_search.specs.LeftmostSearches.{before_rest, leftmost_left, IsResting};
 
@@ -70,6 +70,7 @@ impl<V: Copy, A: Automaton<V>, H: Reread<A::Unit>, F: Filter<A::Unit, H>> Model
       haystack = H.rest s.whole.value;
       left = leftmost_left A.Unit.width (A.content s.automaton) s.place (H.rest s.rest) s.after s.done;
       passed = before_rest (H.rest s.whole.value) (H.rest s.rest);
+      since = [];
       turns = s.turns;
       given = s.seen.given;
     } };

@@ -12,7 +12,7 @@ ghost use Rattle.daachorse_core.specs.Outputs.{number};
 ghost use Rattle.daachorse_model.specs.Units.{size};
 ghost use Rattle.daachorse_model.specs.Matches.{at_each_end};
 ghost use Rattle.daachorse_search.specs.Filters.{IsSoundFor, PassesNowhere, count_passing};
-ghost use Rattle.daachorse_search.specs.Matches.{ReadsOn};
+ghost use Rattle.daachorse_search.specs.Matches.{AreBoundedBehind, ReadsOn};
 ghost use Rattle.daachorse_search.specs.Skipping.{HasNoPlace, SkipsTo};
 
 use crate::filter::{Filter, NoFilter};
@@ -67,6 +67,7 @@ impl<V: Copy, W: Stepwise<V>, H: Reread<W::Unit>, F: Filter<W::Unit, H>> Model
       haystack = H.rest s.whole.value;
       left = matches_behind W.Unit.width (W.found (W.automaton s.walk)) (H.rest s.whole.value) (W.given_from s.walk (number s.output)) (W.read s.walk) (H.rest s.rest);
       passed = before_rest (H.rest s.whole.value) (H.rest s.rest);
+      since = W.read s.walk;
       turns = s.taken + W.turns s.walk;
       given = s.seen.given;
     } };
@@ -128,13 +129,15 @@ impl<V: Copy, W: Stepwise<V>, H: Reread<W::Unit>, F: Filter<W::Unit, H>> Matches
     }
 
     /// Does nothing, and promises that the turns are at most twice the units passed, and at least
-    /// those of them that take a look and at which the filter passes; the bounds of the walk where the
-    /// filter passes everywhere; that there are none where a filter that was open passes nowhere; and
-    /// that the haystack begins with the units passed.
+    /// those of them that take a look and at which the filter passes; the bounds of the walk for what it
+    /// read since it last began at the root, and for all that was passed where the filter passes
+    /// everywhere; that there are none where a filter that was open passes nowhere; and that the haystack
+    /// begins with the units passed.
     #[inline(always)]
     pub fn turns_are_bounded(&self)
         ensures most { self.now.turns ≤ 2 * length self.now.passed }
         ensures passing { count_passing (F.passes self.now.filter) (W.looks_at self.now.automaton) self.now.haystack self.now.passed ≤ self.now.turns }
+        ensures behind { AreBoundedBehind W.bounds self.now.automaton self.now.passed self.now.since self.now.turns }
         ensures bounds { ((w : List ℕ) → F.passes self.now.filter w ≡ true)
             → W.bounds self.now.automaton self.now.passed self.now.turns }
         ensures idle { F.opened self.now.filter → PassesNowhere (F.passes self.now.filter) self.now.haystack → self.now.turns ≡ 0 }

@@ -1,9 +1,9 @@
 -- The turns are those up to where the walk began, and those of the walk.
-use Rattle.std.proofs.Common.{◌≡◌, ◌+◌, ◌≤◌, ◌++◌, ℕ, true, List, sym, ap, ◌∙◌, subst, append_assoc, arith}
+use Rattle.std.proofs.Common.{◌≡◌, ◌+◌, ◌≤◌, ◌++◌, ℕ, true, List, refl, sym, ap, ◌∙◌, subst, append_assoc, arith}
 use Rattle.std.proofs.lemmas.Grind.{common_steps}
 use Rattle.daachorse_core.specs.Outputs.{number}
 use Rattle.daachorse_search.specs.Filters.{count_passing}
-use Rattle.daachorse_search.specs.Matches.{Progress}
+use Rattle.daachorse_search.specs.Matches.{AreBoundedBehind, Progress}
 use Rattle.daachorse_search.proofs.SkipLemmas.{passed_is, reading-bounded, reading-plain}
 use Rattle.daachorse_search.proofs.matches.Matches.turns_are_bounded.Goals as goal
 
@@ -12,6 +12,21 @@ returns-clause-passing g c =
     let W = g.W.Stepwise in let F = g.F.Filter in let rest = g.H.Haystack.rest in let i = c.self.inside in let walked = c.turns_are_bounded.ensures in
     let P : Progress g.row.V.Denot g.row.W-Automaton.Denot g.row.F.Denot → Type 0 = λ s. count_passing (F.passes s.filter) (W.looks_at s.automaton) s.haystack s.passed ≤ s.turns in
     subst P c.self.view_is (reading-bounded g.W.Unit.EdgeLabel.width W.automaton W.read W.turns W.found W.content W.looks_at W.has_output W.given_from (F.passes i.first_filter.value) (F.opened i.first_filter.value) (rest i.whole.value) i.size (F.opened i.filter) i.walk (rest i.rest) (number i.output) i.taken c.self.invariant.1 walked.most walked.least).1
+
+-- the walk began last behind the base
+pub returns-clause-behind : goal.returns-clause-behind
+returns-clause-behind g c =
+    let W = g.W.Stepwise in let F = g.F.Filter in let rest = g.H.Haystack.rest in let i = c.self.inside in let was = c.self.invariant.1 in
+    let P : Progress g.row.V.Denot g.row.W-Automaton.Denot g.row.F.Denot → Type 0 = λ s. AreBoundedBehind W.bounds s.automaton s.passed s.since s.turns in
+    subst P c.self.view_is (record {
+      base = was.base;
+      before = i.taken;
+      after = W.turns i.walk;
+      parts = passed_is g.W.Unit.EdgeLabel.width W.automaton W.read W.turns W.found W.content W.looks_at W.has_output W.given_from (F.passes i.first_filter.value) (F.opened i.first_filter.value) (rest i.whole.value) i.size (F.opened i.filter) i.walk (rest i.rest) (number i.output) i.taken was;
+      sum = refl;
+      most = was.most;
+      walked = c.turns_are_bounded.ensures.bounds;
+    })
 
 -- where the filter passes everywhere, the walk began at the beginning
 pub returns-clause-bounds : goal.returns-clause-bounds

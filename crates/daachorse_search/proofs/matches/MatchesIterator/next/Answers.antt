@@ -125,6 +125,7 @@ returns-in_err-position-in-None-clause-steps g c =
       haystack = rest was.whole.value;
       left = left_at g after (number was.output);
       passed = before_rest (rest was.whole.value) (rest to.rest);
+      since = W.read to.walk;
       turns = to.taken + W.turns to.walk;
       given = was.seen.given;
     } in
@@ -168,6 +169,7 @@ seen_on g c =
       haystack = rest now.whole.value;
       left = left_at g (given_on g c) (number c.give-found.result.1);
       passed = before_rest (rest now.whole.value) (rest now.rest);
+      since = W.read now.walk;
       turns = now.taken + W.turns now.walk;
       given = c.give.new.self.given;
     }

@@ -1,0 +1,236 @@
+-- Rows as they are made: one slot after the other, and one state after the other.
+use Rattle.std.proofs.Common.{◌≡◌, ◌≢◌, ℕ, zero, suc, ◌+◌, ◌*◌, ◌/◌, ◌<◌, ◌≤◌, ◌^◌, ◌⊎◌, inl, inr, List, [], ◌∷◌, ◌++◌, length, refl, sym, ap, ◌∙◌, subst, arith, length-append}
+use Rattle.std.specs.Prelude.{slice_index, slice_set, Option, None}
+use Rattle.std.specs.declared.num.NonZeroU32.{NonZeroU32}
+use Rattle.std.proofs.Math.Seq.{get_or-append_seam}
+use Rattle.std.proofs.Math.Nat.{div-mul-le_self}
+use Rattle.std.proofs.lemmas.Nat.{mul-add-lt, mul-le}
+use Rattle.std.proofs.lemmas.Bool.{cases_eq}
+use Rattle.std.proofs.lemmas.List.{get_or_append_left, get_or-set_same, get_or-set_other, length-set}
+use Rattle.daachorse_core.specs.Looks.{IsForeign, StepEnds}
+use Rattle.daachorse_model.specs.Dictionary.{Dictionary}
+use Rattle.daachorse_rows.specs.Rows.{state_at, RowTable, IsEntry, StandsFor, IsSlotOf, AreSlots, Leads, AreLabels, AreRows, AreHomes, Stands, AreChosen, IsSlot, AreWritten}
+use Rattle.daachorse_rows.proofs.RowLaws.{place_behind, state_at-slot}
+
+pub below_or_at : (c n : ℕ) → c < n + 1 → (c < n) ⊎ (c ≡ n)
+below_or_at zero zero h = inr refl
+below_or_at zero (suc n) h = inl (omega arith)
+below_or_at (suc c) zero h = absurd (omega arith)
+below_or_at (suc c) (suc n) h = elim (below_or_at c n (omega arith)) [ inl less ↦ inl (omega arith) | inr same ↦ inr (ap (λ k. suc k) same) ]
+
+-- what is read of a list to which one item was added
+pub read-old : (xs ys : List ℕ) (v i : ℕ) → ys ≡ xs ++ v ∷ [] → i < length xs → slice_index ys i ≡ slice_index xs i
+read-old xs ys v i is below = ap (λ l. slice_index l i) is ∙ get_or_append_left xs (v ∷ []) 0 i below
+
+pub read-new : (xs ys : List ℕ) (v i : ℕ) → ys ≡ xs ++ v ∷ [] → i ≡ length xs → slice_index ys i ≡ v
+read-new xs ys v i is at = ap (λ l. slice_index l i) is ∙ (ap (λ n. slice_index (xs ++ v ∷ []) n) at ∙ get_or-append_seam xs v [] 0)
+
+-- ---- the slots of labels
+
+pub AreSlots-more : (labels : List ℕ) (n : ℕ) (xs ys : List ℕ) (v : ℕ) → AreSlots labels n xs → ys ≡ xs ++ v ∷ [] → IsSlotOf labels n v → AreSlots labels (n + 1) ys
+AreSlots-more labels n xs ys v so_far is slot = record {
+  size = omega (arith, so_far.size, ap length is, length-append xs (v ∷ []));
+  right = λ label below.
+      elim (below_or_at label n below) [
+        | inl less ↦
+            let P : ℕ → Type 0 = λ s. IsSlotOf labels label s in
+            subst P (sym (read-old xs ys v label is (omega (arith, so_far.size)))) (so_far.right label less)
+        | inr same ↦
+            let P : ℕ → Type 0 = λ s. IsSlotOf labels label s in
+            let Q : ℕ → Type 0 = λ l. IsSlotOf labels l v in
+            subst P (sym (read-new xs ys v label is (omega (arith, so_far.size)))) (subst Q (sym same) slot)
+      ];
+}
+
+slot_inside : (labels : List ℕ) (label slot : ℕ) → IsSlotOf labels label slot → slot < length labels + 2
+slot_inside labels label slot (inl (k, below, at, is)) = omega (arith, is, below)
+slot_inside labels label slot (inr (is, none)) = omega (arith, is)
+
+-- a slot is behind the state's
+slot_some : (labels : List ℕ) (label slot : ℕ) → IsSlotOf labels label slot → (c : ℕ) × (slot ≡ suc c)
+slot_some labels label slot (inl (k, below, at, is)) = (suc k, omega (arith, is))
+slot_some labels label slot (inr (is, none)) = (0, omega (arith, is))
+
+-- ---- entries
+
+pub IsEntry-map : (P Q : ℕ → Type 0) (A B : Type 0) (entry : ℕ) → IsEntry P A entry → ((x : ℕ) → P x → Q x) → (A → B) → IsEntry Q B entry
+IsEntry-map P Q A B entry h there quiet = record {
+  place = h.place;
+  stands_for = there h.place h.stands_for;
+  small = h.small;
+  is = elim h.is [ inl low ↦ inl (low.0, quiet low.1) | inr high ↦ inr high ];
+}
+
+-- ---- the states of the rows
+
+pub fits_rows : (n w : ℕ) → n ≤ 65536 / w → n * w ≤ 65536
+fits_rows n w few = omega (arith, mul-le n w (65536 / w) w few (omega arith), div-mul-le_self 65536 w)
+
+pub Stands-small : (order : List ℕ) (width base x s : ℕ) → Stands order width base x s → 0 < width → length order * width ≤ 65536 → base + s < 2147483648 → x < 2147483648
+Stands-small order width base x s (inl (k, below, is, at)) wide few fits = omega (arith, is, mul-add-lt k width 0 (length order) below wide)
+Stands-small order width base x s (inr is) wide few fits = omega (arith, is)
+
+module _ (reached : ℕ → Type 0) (order homes : List ℕ) (most : ℕ) where
+  -- there are none
+  pub AreChosen-none : order ≡ [] → homes ≡ [] → AreChosen reached order homes most
+  AreChosen-none none_chosen no_homes = record {
+    states = λ k below. absurd (omega (arith, ap length none_chosen));
+    homes = λ s below some. absurd (omega (arith, ap length no_homes));
+    few = omega (arith, ap length none_chosen);
+    fits = inl (ap length none_chosen);
+  }
+
+  module _ (h : AreChosen reached order homes most) where
+    -- one state more, whose row is the next
+    pub AreChosen-more : (s : ℕ) (order' homes' : List ℕ) → order' ≡ order ++ s ∷ [] → homes' ≡ slice_set homes s (length order) → s < length homes → length order < most → reached s
+        → ((t : ℕ) → reached t → t + 65536 < 2147483648) → AreChosen reached order' homes' most
+    AreChosen-more s order' homes' is at within less there fits = record {
+      states = λ k below.
+          elim (below_or_at k (length order) (omega (arith, below, ap length is, length-append order (s ∷ [])))) [
+            | inl old ↦ let P : ℕ → Type 0 = λ x. reached x in subst P (sym (read-old order order' s k is old)) (h.states k old)
+            | inr new ↦ let P : ℕ → Type 0 = λ x. reached x in subst P (sym (read-new order order' s k is new)) there
+          ];
+      homes = λ q below some.
+          elim (cases_eq q s) [
+            | inl same ↦
+                let home : slice_index homes' q ≡ length order = ap (λ l. slice_index l q) at ∙ (ap (λ n. slice_index (slice_set homes s (length order)) n) same ∙ get_or-set_same homes s (length order) 0 within) in
+                (omega (arith, home, ap length is, length-append order (s ∷ [])), read-new order order' s (slice_index homes' q) is home ∙ sym same)
+            | inr other ↦
+                let old : slice_index homes' q ≡ slice_index homes q = ap (λ l. slice_index l q) at ∙ get_or-set_other homes s q (length order) 0 other in
+                let size : length homes' ≡ length homes = ap length at ∙ length-set homes s (length order) in
+                let home = h.homes q (omega (arith, below, size)) (λ e. some (old ∙ e)) in
+                (omega (arith, old, home.0, ap length is, length-append order (s ∷ [])), ap (slice_index order') old ∙ (read-old order order' s (slice_index homes q) is home.0 ∙ home.1))
+          ];
+      few = omega (arith, ap length is, length-append order (s ∷ []));
+      fits = inr fits;
+    }
+
+    -- where there is a row, all places of states are small
+    pub AreChosen-fits : (k : ℕ) → k < length order → (s : ℕ) → reached s → s + 65536 < 2147483648
+    AreChosen-fits k below s there = elim h.fits [ inl none ↦ absurd (omega (arith, none)) | inr fits ↦ fits s there ]
+
+    pub AreChosen-small : (width s : ℕ) → length order * width ≤ 65536 → reached s → s < 2 ^ 32 → length order * width + s < 2 ^ 32
+    AreChosen-small width s few there below = elim h.fits [ inl empty ↦ omega (arith, ap (λ n. n * width) empty, below) | inr fits ↦ omega (arith, fits s there, few) ]
+
+-- ---- the slots of the rows
+
+module _ {V : Type 0} (K : Dictionary V) (reached : ℕ → Type 0) (text : ℕ → List ℕ) (dead : List ℕ → Type 0) (stands : ℕ → ℕ → Type 0) (first : List ℕ → Option NonZeroU32 → Type 0) (labels order : List ℕ) (width base : ℕ) where
+  abbrev Slot : ℕ → ℕ → ℕ → Type 0
+  Slot k c v = IsSlot K reached text dead stands first labels order width base k c v
+
+  abbrev Written : ℕ → ℕ → List ℕ → Type 0
+  Written k c top = AreWritten K reached text dead stands first labels order width base k c top
+
+  pub AreWritten-none : (top : List ℕ) → top ≡ [] → Written 0 0 top
+  AreWritten-none top none = record {
+    size = omega (arith, ap length none);
+    rows = λ k c above within. absurd (omega (arith, above));
+    row = λ c below. absurd (omega (arith, below));
+  }
+
+  -- one slot more
+  pub AreWritten-push : (k c d v : ℕ) (top top' : List ℕ) → Written k c top → top' ≡ top ++ v ∷ [] → Slot k c v → d ≡ c + 1 → Written k d top'
+  AreWritten-push k c d v top top' h is slot next = record {
+    size = omega (arith, h.size, next, ap length is, length-append top (v ∷ []));
+    rows = λ k' c' above within.
+        let P : ℕ → Type 0 = λ x. Slot k' c' x in
+        subst P (sym (read-old top top' v (k' * width + c') is (omega (arith, h.size, mul-add-lt k' width c' k above within)))) (h.rows k' c' above within);
+    row = λ c' below.
+        let P : ℕ → Type 0 = λ x. Slot k c' x in
+        elim (below_or_at c' c (omega (arith, below, next))) [
+          | inl old ↦ subst P (sym (read-old top top' v (k * width + c') is (omega (arith, old, h.size)))) (h.row c' old)
+          | inr new ↦
+              let Q : ℕ → Type 0 = λ x. Slot k x v in
+              subst P (sym (read-new top top' v (k * width + c') is (omega (arith, new, h.size)))) (subst Q (sym new) slot)
+        ];
+  }
+
+  next_row : (k w : ℕ) → (k + 1) * w ≡ k * w + w
+  next_row k w = omega arith
+
+  -- a whole row
+  pub AreWritten-next : (k c : ℕ) (top : List ℕ) → Written k c top → c ≡ width → Written (k + 1) 0 top
+  AreWritten-next k c top h whole = record {
+    size = omega (arith, h.size, whole, next_row k width);
+    rows = λ k' c' above within.
+        elim (below_or_at k' k above) [
+          | inl old ↦ h.rows k' c' old within
+          | inr new ↦ let P : ℕ → Type 0 = λ x. Slot x c' (slice_index top (x * width + c')) in subst P (sym new) (h.row c' (omega (arith, within, whole)))
+        ];
+    row = λ c' below. absurd (omega (arith, below));
+  }
+
+  -- the entry of a state whose outputs begin at this position
+  entry_first : (s v : ℕ) (o : Option NonZeroU32) → IsEntry (λ x. Stands order width base x s) (o ≡ None) v → first (text s) o → IsEntry (λ x. Stands order width base x s) (first (text s) None) v
+  entry_first s v o entry at =
+      let P : Option NonZeroU32 → Type 0 = λ p. first (text s) p in
+      IsEntry-map (λ x. Stands order width base x s) (λ x. Stands order width base x s) (o ≡ None) (first (text s) None) v entry (λ x there. there) (λ none. subst P none at)
+
+  module _ (named : AreLabels K stands labels) where
+    foreign : (label unit : ℕ) → label < 256 → stands label unit → ((k : ℕ) → k < length labels → slice_index labels k ≢ label) → IsForeign K unit
+    foreign label unit byte coded none = elim (named.all label unit byte coded) [ inl f ↦ f | inr at ↦ absurd (none at.0 at.1 at.2) ]
+
+    -- the labels that are not listed lead to the root
+    pub slot_foreign : (k v s : ℕ) (o : Option NonZeroU32) → IsEntry (λ x. Stands order width base x s) (o ≡ None) v → first (text s) o → reached s → text s ≡ [] → Slot k 1 v
+    slot_foreign k v s o entry at there empty = (s, entry_first s v o entry at, leads)
+      where
+        leads : (label : ℕ) → label < 256 → IsSlotOf labels label 1 → Leads K reached text dead stands first (slice_index order k) label s
+        leads label byte (inl (j, below, here, is)) = absurd (omega (arith, is))
+        leads label byte (inr (is, none)) = record { is_state = there; ends = λ unit coded. inl (foreign label unit byte coded none, empty) }
+
+    -- a listed label leads to where the step ends
+    pub slot_step : (k c j v t : ℕ) (o : Option NonZeroU32) → c ≡ 2 + j → IsEntry (λ x. Stands order width base x t) (o ≡ None) v → first (text t) o → reached t
+        → ((unit : ℕ) → stands (slice_index labels j) unit → StepEnds K dead (text (slice_index order k)) unit (text t)) → Slot k c v
+    slot_step k c j v t o at entry told there ends = let P : ℕ → Type 0 = λ x. Slot k x v in subst P (let e : suc (suc j) ≡ c = omega (arith, at) in e) (t, entry_first t v o entry told, leads)
+      where
+        leads : (label : ℕ) → label < 256 → IsSlotOf labels label (suc (suc j)) → Leads K reached text dead stands first (slice_index order k) label t
+        leads label byte (inl (i, below, here, is)) =
+            let same : i ≡ j = omega (arith, is) in
+            let named_j : slice_index labels j ≡ label = ap (slice_index labels) (sym same) ∙ here in
+            let Q : ℕ → Type 0 = λ l. (unit : ℕ) → stands l unit → StepEnds K dead (text (slice_index order k)) unit (text t) in
+            record { is_state = there; ends = subst Q named_j ends }
+        leads label byte (inr (is, none)) = absurd (omega (arith, is))
+
+module _ {V : Type 0} (K : Dictionary V) (reached : ℕ → Type 0) (text : ℕ → List ℕ) (dead : List ℕ → Type 0) (stands : ℕ → ℕ → Type 0) (first : List ℕ → Option NonZeroU32 → Type 0) (labels : List ℕ) (r : RowTable) (order : List ℕ)
+    (count_is : r.count ≡ length order) (wide : 0 < r.width) (w : AreWritten K reached text dead stands first labels order r.width (length order * r.width) (length order) 0 r.top) where
+  at_start : (k : ℕ) → k < length order → slice_index r.top (k * r.width) ≡ slice_index order k
+  at_start k below = let e : k * r.width ≡ k * r.width + 0 = omega arith in ap (slice_index r.top) e ∙ w.rows k 0 below wide
+
+  stands_for : (x s : ℕ) → Stands order r.width (length order * r.width) x s → StandsFor r x s
+  stands_for x s (inl (k, below, is, at)) = record {
+    place = inl (k, omega (arith, below, count_is), is);
+    state = ap (state_at r.top) is ∙ (sym (state_at-slot r.top (k * r.width) (omega (arith, w.size, mul-add-lt k r.width 0 (length order) below wide))) ∙ (at_start k below ∙ at));
+  }
+  stands_for x s (inr is) =
+      let e : length r.top + s ≡ x = omega (arith, is, w.size) in
+      let P : ℕ → Type 0 = λ y. StandsFor r y s in
+      subst P e (place_behind r s)
+
+  pub AreRows-made : (s count : ℕ) → r.width ≡ length labels + 2 → AreSlots labels 256 r.classes → AreChosen reached order r.homes (65536 / r.width)
+      → ((t : ℕ) → reached t → t < count) → count < 2 ^ 32 → Stands order r.width (length order * r.width) r.root s → reached s → text s ≡ []
+      → AreRows K reached text dead stands first r
+  AreRows-made s count is slots chosen below fits place there empty = record {
+    size = omega (arith, w.size, ap (λ n. n * r.width) count_is);
+    few = omega (arith, w.size, fits_rows (length order) r.width chosen.few);
+    wide = wide;
+    classes_size = slots.size;
+    inside = λ label less. omega (arith, is, slot_inside labels label (slice_index r.classes label) (slots.right label less));
+    right = λ k label more less. right k label (omega (arith, more, count_is)) less (slot_some labels label (slice_index r.classes label) (slots.right label less));
+    homes = λ t within some. let home = chosen.homes t within some in (omega (arith, home.0, count_is), at_start (slice_index r.homes t) home.0 ∙ home.1);
+    small = λ t here. omega (arith, w.size, AreChosen-small reached order r.homes (65536 / r.width) chosen r.width t (fits_rows (length order) r.width chosen.few) here (omega (arith, below t here, fits)));
+    root_state = (s, stands_for r.root s place, there, empty);
+  }
+    where
+      right : (k label : ℕ) → k < length order → label < 256 → (c : ℕ) × (slice_index r.classes label ≡ suc c)
+          → (t : ℕ) × IsEntry (λ x. StandsFor r x t) (first (text t) None) (slice_index r.top (k * r.width + slice_index r.classes label)) × Leads K reached text dead stands first (slice_index r.top (k * r.width)) label t
+      right k label more less (c, at) =
+          let slot : IsSlotOf labels label (slice_index r.classes label) = slots.right label less in
+          let P : ℕ → Type 0 = λ x. IsSlotOf labels label x in
+          let Q : ℕ → Type 0 = λ x. IsEntry (λ y. StandsFor r y in_slot.0) (first (text in_slot.0) None) (slice_index r.top (k * r.width + x)) in
+          let R : ℕ → Type 0 = λ x. Leads K reached text dead stands first x label in_slot.0 in
+          let entry : IsEntry (λ y. StandsFor r y in_slot.0) (first (text in_slot.0) None) (slice_index r.top (k * r.width + suc c)) =
+          IsEntry-map (λ y. Stands order r.width (length order * r.width) y in_slot.0) (λ y. StandsFor r y in_slot.0) (first (text in_slot.0) None) (first (text in_slot.0) None) _ in_slot.1 (λ y there. stands_for y in_slot.0 there) (λ q. q) in
+          (in_slot.0, subst Q (sym at) entry, subst R (sym (at_start k more)) (in_slot.2 label less (subst P at slot)))
+        where
+          in_slot : IsSlot K reached text dead stands first labels order r.width (length order * r.width) k (suc c) (slice_index r.top (k * r.width + suc c))
+          in_slot = w.rows k (suc c) more (omega (arith, is, at, slot_inside labels label (slice_index r.classes label) (slots.right label less)))

@@ -1,0 +1,17 @@
+use Rattle.std.proofs.Common.{subst, refl, length, ◌+◌, ◌*◌, ◌%◌, ◌^◌}
+use Rattle.std.specs.Prelude.{slice_index}
+use Rattle.daachorse_rows.specs.Rows.{Rowed, StandsFor}
+use Rattle.daachorse_rows.proofs.RowLaws.{place_home, place_past}
+use Rattle.daachorse_rows.proofs.view.RowView.place.Goals as goal
+
+pub returns-then-self-index : goal.returns-then-self-index
+returns-then-self-index g c =
+    let s = c.self.inside in
+    let P : Rowed g.row.A.Denot → Type 0 = λ p. g.A.Automaton.reached p.automaton c.args.state → StandsFor p.rows (slice_index s.homes.now c.args.state * s.width) c.args.state in
+    subst P c.self.view_is (λ there. place_home _ _ _ _ _ _ _ c.self.invariant c.args.state c.if-index-self.true c.if-self-index.true)
+
+pub returns : goal.returns
+returns g c =
+    let s = c.self.inside in
+    let P : Rowed g.row.A.Denot → Type 0 = λ p. g.A.Automaton.reached p.automaton c.args.state → StandsFor p.rows ((length s.top.now + c.args.state) % 2 ^ 32) c.args.state in
+    subst P c.self.view_is (λ there. place_past _ c.args.state ((length s.top.now + c.args.state) % 2 ^ 32) refl (c.self.invariant.small c.args.state there))

@@ -1,0 +1,109 @@
+-- Rows of the states near the root: of each label where the step ends. A place stands for a state: a row's first slot, in which the state is written, or behind all slots the states in order.
+use Rattle.std.specs.Prelude.{◌≡◌, ◌≢◌, ◌⊎◌, ℕ, zero, suc, ◌+◌, ◌*◌, ◌<◌, ◌≤◌, ◌^◌, List, [], ◌∷◌, length, slice_index, Option, None}
+use Rattle.std.specs.declared.num.NonZeroU32.{NonZeroU32}
+use Rattle.daachorse_core.specs.Looks.{IsForeign, StepEnds}
+use Rattle.daachorse_model.specs.Dictionary.{Dictionary}
+
+-- the state that a place stands for
+abbrev pub state_at : List ℕ → ℕ → ℕ
+state_at [] x = x
+state_at (s ∷ top) zero = s
+state_at (s ∷ top) (suc x) = state_at top x
+
+-- the slot of each label, the slots, the row of each state, how many rows of which width there are, and the place of the root
+pub record RowTable : Type 0 where
+  pub classes : List ℕ
+  pub top : List ℕ
+  pub homes : List ℕ
+  pub count : ℕ
+  pub width : ℕ
+  pub root : ℕ
+
+-- an automaton, and rows of some of its states
+pub record Rowed (A : Type 0) : Type 0 where
+  pub automaton : A
+  pub rows : RowTable
+
+module _ (r : RowTable) where
+  -- a row begins there, or it is behind the slots
+  abbrev pub IsPlace : ℕ → Type 0
+  IsPlace x = ((k : ℕ) × (k < r.count) × (x ≡ k * r.width)) ⊎ (length r.top ≤ x)
+
+  -- it is a place, and stands for the state
+  pub record StandsFor (x s : ℕ) : Type 0 where
+    pub place : IsPlace x
+    pub state : state_at r.top x ≡ s
+
+-- what a slot holds for a state: a place that stands for it, to which 2 ^ 31 is added, unless the state is quiet
+pub record IsEntry (stands : ℕ → Type 0) (quiet : Type 0) (entry : ℕ) : Type 0 where
+  pub place : ℕ
+  pub stands_for : stands place
+  pub small : place < 2147483648
+  pub is : ((entry ≡ place) × quiet) ⊎ (entry ≡ place + 2147483648)
+
+module _ (labels : List ℕ) where
+  -- the label's slot: behind the state that of the labels that are not listed, and then those of the labels in order
+  abbrev pub IsSlotOf : ℕ → ℕ → Type 0
+  IsSlotOf label slot =
+      ((k : ℕ) × (k < length labels) × (slice_index labels k ≡ label) × (slot ≡ 2 + k)) ⊎ ((slot ≡ 1) × ((k : ℕ) → k < length labels → slice_index labels k ≢ label))
+
+  -- a slot for each label below n
+  pub record AreSlots (n : ℕ) (classes : List ℕ) : Type 0 where
+    pub size : length classes ≡ n
+    pub right : (label : ℕ) → label < n → IsSlotOf label (slice_index classes label)
+
+-- the labels that some key has are listed, and none that stands for nothing
+pub record AreLabels {V : Type 0} (K : Dictionary V) (stands : ℕ → ℕ → Type 0) (labels : List ℕ) : Type 0 where
+  pub all : (label unit : ℕ) → label < 256 → stands label unit → IsForeign K unit ⊎ ((k : ℕ) × (k < length labels) × (slice_index labels k ≡ label))
+  pub none_idle : (k : ℕ) → k < length labels → (unit : ℕ) × stands (slice_index labels k) unit
+
+-- Of an automaton: `first` says of a text at which position the outputs of its state begin.
+module _ {V : Type 0} (K : Dictionary V) (reached : ℕ → Type 0) (text : ℕ → List ℕ) (dead : List ℕ → Type 0) (stands : ℕ → ℕ → Type 0) (first : List ℕ → Option NonZeroU32 → Type 0) where
+  -- the step from the state s by the label ends at the state t
+  pub record Leads (s label t : ℕ) : Type 0 where
+    pub is_state : reached t
+    pub ends : (unit : ℕ) → stands label unit → StepEnds K dead (text s) unit (text t)
+
+  -- the rows are right
+  pub record AreRows (r : RowTable) : Type 0 where
+    pub size : length r.top ≡ r.count * r.width
+    pub few : length r.top ≤ 65536
+    pub wide : 0 < r.width
+    pub classes_size : length r.classes ≡ 256
+    pub inside : (label : ℕ) → label < 256 → slice_index r.classes label < r.width
+    pub right : (k label : ℕ) → k < r.count → label < 256 → (t : ℕ) × IsEntry (λ x. StandsFor r x t) (first (text t) None) (slice_index r.top (k * r.width + slice_index r.classes label)) × Leads (slice_index r.top (k * r.width)) label t
+    -- in the table of the states' rows 65,535 stands for none
+    pub homes : (s : ℕ) → s < length r.homes → slice_index r.homes s ≢ 65535 → (slice_index r.homes s < r.count) × (slice_index r.top (slice_index r.homes s * r.width) ≡ s)
+    pub small : (s : ℕ) → reached s → length r.top + s < 2 ^ 32
+    pub root_state : (s : ℕ) × StandsFor r r.root s × reached s × (text s ≡ [])
+
+-- ---- while they are made: `order` are the states of the rows, and `base` is where the slots end
+
+module _ (order : List ℕ) (width base : ℕ) where
+  -- the place stands for the state
+  abbrev pub Stands : ℕ → ℕ → Type 0
+  Stands x s = ((k : ℕ) × (k < length order) × (x ≡ k * width) × (slice_index order k ≡ s)) ⊎ (x ≡ base + s)
+
+-- the rows of the states of the rows
+abbrev pub AreHomes : List ℕ → List ℕ → Type 0
+AreHomes order homes = (s : ℕ) → s < length homes → slice_index homes s ≢ 65535 → (slice_index homes s < length order) × (slice_index order (slice_index homes s) ≡ s)
+
+-- the states of the rows can be reached, and their rows are known; there are none where states are too many for an entry
+pub record AreChosen (reached : ℕ → Type 0) (order table : List ℕ) (most : ℕ) : Type 0 where
+  pub states : (k : ℕ) → k < length order → reached (slice_index order k)
+  pub homes : AreHomes order table
+  pub few : length order ≤ most
+  pub fits : (length order ≡ 0) ⊎ ((s : ℕ) → reached s → s + 65536 < 2147483648)
+
+module _ {V : Type 0} (K : Dictionary V) (reached : ℕ → Type 0) (text : ℕ → List ℕ) (dead : List ℕ → Type 0) (stands : ℕ → ℕ → Type 0) (first : List ℕ → Option NonZeroU32 → Type 0) (labels order : List ℕ) (width base : ℕ) where
+  -- the slot c of the row k
+  abbrev pub IsSlot : ℕ → ℕ → ℕ → Type 0
+  IsSlot k zero v = v ≡ slice_index order k
+  IsSlot k (suc c) v =
+      (t : ℕ) × IsEntry (λ x. Stands order width base x t) (first (text t) None) v × ((label : ℕ) → label < 256 → IsSlotOf labels label (suc c) → Leads K reached text dead stands first (slice_index order k) label t)
+
+  -- k rows were written, and c slots of the next
+  pub record AreWritten (k c : ℕ) (top : List ℕ) : Type 0 where
+    pub size : length top ≡ k * width + c
+    pub rows : (k' c' : ℕ) → k' < k → c' < width → IsSlot k' c' (slice_index top (k' * width + c'))
+    pub row : (c' : ℕ) → c' < c → IsSlot k c' (slice_index top (k * width + c'))

@@ -1,0 +1,212 @@
+//! How rows are made: which states have one, and what is written into it.
+//!
+//! The states are those to which the fewest steps lead from the root, in the order in which steps
+//! come to them. The layers above may rely on the rows being right, and on no order.
+
+ghost use Rattle.std.specs.Prelude.{◌≡◌, ◌*◌, ◌+◌, ◌/◌, ◌<◌, ◌≤◌, ◌^◌, ℕ, length, IfOk, OnOk, None};
+ghost use Rattle.daachorse_core.specs.Looks.{IsFirstOutput};
+ghost use Rattle.daachorse_rows.specs.Rows.{AreChosen, AreHomes, AreLabels, AreSlots, AreWritten, IsEntry, IsSlotOf, Stands};
+
+use daachorse_core::turns::Turns;
+use daachorse_search::automaton::{Automaton, follow};
+use std::alloc::{AllocError, Allocator};
+use std::num::NonZeroU32;
+
+/// The most slots: 256 KiB.
+pub(crate) const SLOTS: u32 = 65_536;
+
+/// In the table of the states' rows: the state has none.
+pub(crate) const NO_ROW: u16 = 65_535;
+
+/// Is added to the place of a state that has outputs.
+pub(crate) const HAS_OUTPUTS: u32 = 2_147_483_648;
+
+/// The most states of which some may have rows: behind all slots the places of the states are below
+/// `HAS_OUTPUTS`.
+const MOST_STATES: u32 = 2_147_418_112;
+
+/// The slot of a label: behind the state first that of the labels that are not listed.
+fn slot_of(labels: &[u8], label: u8) -> u16
+    requires { length labels.now ≤ 256 }
+    ensures { IsSlotOf labels.now label result }
+{
+    for k in 0..labels.len() {
+        if labels[k] == label {
+            return 2 + k as u16;
+        }
+    }
+    1
+}
+
+/// The slot of each label.
+pub(crate) fn slots_of<L: Allocator>(alloc: L, labels: &[u8]) -> Result<Vec<u16, L>, AllocError>
+    requires { length labels.now ≤ 256 }
+    ensures { IfOk result (λ v. AreSlots labels.now 256 v.items) }
+{
+    let mut slots = Vec::with_capacity(alloc, 256)?;
+    for label in 0..256u32 {
+        slots.push(slot_of(labels, label as u8))?;
+    }
+    Ok(slots)
+}
+
+/// The states that have rows.
+#[derive(Drop)]
+pub(crate) struct Chosen<L: Allocator> {
+    // In the order of their rows.
+    pub(crate) order: Vec<u32, L>,
+    // The row of each state.
+    pub(crate) homes: Vec<u16, L>,
+}
+
+impl<L: Allocator> Chosen<L> {
+    /// The place of a state, where the slots end at `base`.
+    pub(crate) fn place(&self, base: u32, state: u32, width: u32) -> u32
+        requires homes { AreHomes self.now.order.items self.now.homes.items }
+        requires few { length self.now.order.items * width ≤ 65536 }
+        requires fits { base + state < 2 ^ 32 }
+        ensures { Stands self.now.order.items width base result state }
+    {
+        let index = state as usize;
+        if index < self.homes.len() && self.homes[index] != NO_ROW {
+            return self.homes[index] as u32 * width;
+        }
+        base + state
+    }
+
+    /// What a slot holds for a state whose outputs begin at this position.
+    fn entry(&self, base: u32, state: u32, position: Option<NonZeroU32>, width: u32) -> u32
+        requires homes { AreHomes self.now.order.items self.now.homes.items }
+        requires few { length self.now.order.items * width ≤ 65536 }
+        requires wide { 0 < width }
+        requires fits { base + state < 2147483648 }
+        ensures { IsEntry (λ x. Stands self.now.order.items width base x state) (position ≡ None) result }
+    {
+        let place = self.place(base, state, width);
+        match position {
+            None => place,
+            Some(_) => place + HAS_OUTPUTS,
+        }
+    }
+}
+
+/// The states of the rows, at most so many.
+pub(crate) fn choose<V: Copy, A: Automaton<V, Label = u8>, L: Allocator + Copy>(
+    alloc: L,
+    automaton: &A,
+    labels: &[u8],
+    count: u32,
+    most: usize,
+) -> Result<Chosen<L>, AllocError>
+    requires labels { AreLabels (A.content automaton.now) (A.labels automaton.now) labels.now }
+    requires count { (s : ℕ) → A.reached automaton.now s → s < count }
+    requires some { 0 < most }
+    requires few { most < 65535 }
+    ensures { IfOk result (λ c. AreChosen (A.reached automaton.now) c.order.items c.homes.items most) }
+{
+    if count > MOST_STATES {
+        return Ok(Chosen {
+            order: Vec::new(alloc),
+            homes: Vec::new(alloc),
+        });
+    }
+    let mut order = Vec::new(alloc);
+    let mut homes = Vec::from_elem(alloc, NO_ROW, count as usize)?;
+    let root = automaton.root();
+    homes[root as usize] = 0;
+    order.push(root)?;
+    let mut chosen = Chosen { order, homes };
+    let mut at = 0;
+    while at < chosen.order.len() {
+        choose_ends(automaton, labels, &mut chosen, at, most)?;
+        at += 1;
+    }
+    Ok(chosen)
+}
+
+/// Gives rows to the states at which the steps from the state of the row `at` end, while there is
+/// room.
+fn choose_ends<V: Copy, A: Automaton<V, Label = u8>, L: Allocator>(
+    automaton: &A,
+    labels: &[u8],
+    chosen: &mut Chosen<L>,
+    at: usize,
+    most: usize,
+) -> Result<(), AllocError>
+    requires labels { AreLabels (A.content automaton.now) (A.labels automaton.now) labels.now }
+    requires chosen { AreChosen (A.reached automaton.now) chosen.old.order.items chosen.old.homes.items most }
+    requires count { (s : ℕ) → A.reached automaton.now s → s < length chosen.old.homes.items }
+    requires at { at < length chosen.old.order.items }
+    requires few { most < 65535 }
+    ensures chosen { OnOk result (AreChosen (A.reached automaton.now) chosen.new.order.items chosen.new.homes.items most) }
+    ensures same { OnOk result (length chosen.new.homes.items ≡ length chosen.old.homes.items) }
+    ensures more { OnOk result (length chosen.old.order.items ≤ length chosen.new.order.items) }
+{
+    let state = chosen.order[at];
+    let mut turns = Turns::new();
+    for k in 0..labels.len() {
+        let (next, _) = follow(automaton, state, labels[k], &mut turns);
+        if chosen.order.len() < most && chosen.homes[next as usize] == NO_ROW {
+            chosen.homes[next as usize] = chosen.order.len() as u16;
+            chosen.order.push(next)?;
+        }
+    }
+    Ok(())
+}
+
+/// The slots of the rows.
+pub(crate) fn write<V: Copy, A: Automaton<V, Label = u8>, L: Allocator + Copy>(
+    alloc: L,
+    automaton: &A,
+    labels: &[u8],
+    chosen: &Chosen<L>,
+    width: u32,
+) -> Result<Vec<u32, L>, AllocError>
+    requires labels { AreLabels (A.content automaton.now) (A.labels automaton.now) labels.now }
+    requires chosen { AreChosen (A.reached automaton.now) chosen.now.order.items chosen.now.homes.items (65536 / width) }
+    requires width { width ≡ length labels.now + 2 }
+    ensures { IfOk result (λ top. AreWritten (A.content automaton.now) (A.reached automaton.now) (A.text automaton.now) (A.dead automaton.now) (A.labels automaton.now)
+        (IsFirstOutput A.Unit.width (A.content automaton.now) (A.dead automaton.now) (A.has_output automaton.now) (A.outputs automaton.now) (A.most_outputs automaton.now))
+        labels.now chosen.now.order.items width (length chosen.now.order.items * width) (length chosen.now.order.items) 0 top.items) }
+{
+    let base = chosen.order.len() as u32 * width;
+    let mut top = Vec::with_capacity(alloc, base as usize)?;
+    for row in 0..chosen.order.len() {
+        write_row(automaton, labels, chosen, width, row, &mut top)?;
+    }
+    Ok(top)
+}
+
+/// Writes a row: its state, where the labels that are not listed lead, which is the root, and of each
+/// label in order where the step ends.
+fn write_row<V: Copy, A: Automaton<V, Label = u8>, L: Allocator>(
+    automaton: &A,
+    labels: &[u8],
+    chosen: &Chosen<L>,
+    width: u32,
+    row: usize,
+    top: &mut Vec<u32, L>,
+) -> Result<(), AllocError>
+    requires labels { AreLabels (A.content automaton.now) (A.labels automaton.now) labels.now }
+    requires chosen { AreChosen (A.reached automaton.now) chosen.now.order.items chosen.now.homes.items (65536 / width) }
+    requires width { width ≡ length labels.now + 2 }
+    requires row { row < length chosen.now.order.items }
+    requires written { AreWritten (A.content automaton.now) (A.reached automaton.now) (A.text automaton.now) (A.dead automaton.now) (A.labels automaton.now)
+        (IsFirstOutput A.Unit.width (A.content automaton.now) (A.dead automaton.now) (A.has_output automaton.now) (A.outputs automaton.now) (A.most_outputs automaton.now))
+        labels.now chosen.now.order.items width (length chosen.now.order.items * width) row 0 top.old.items }
+    ensures { OnOk result (AreWritten (A.content automaton.now) (A.reached automaton.now) (A.text automaton.now) (A.dead automaton.now) (A.labels automaton.now)
+        (IsFirstOutput A.Unit.width (A.content automaton.now) (A.dead automaton.now) (A.has_output automaton.now) (A.outputs automaton.now) (A.most_outputs automaton.now))
+        labels.now chosen.now.order.items width (length chosen.now.order.items * width) (row + 1) 0 top.new.items) }
+{
+    let base = chosen.order.len() as u32 * width;
+    let state = chosen.order[row];
+    let root = automaton.root();
+    top.push(state)?;
+    top.push(chosen.entry(base, root, automaton.output_pos(root), width))?;
+    let mut turns = Turns::new();
+    for k in 0..labels.len() {
+        let (next, position) = follow(automaton, state, labels[k], &mut turns);
+        top.push(chosen.entry(base, next, position, width))?;
+    }
+    Ok(())
+}

@@ -1,0 +1,190 @@
+//! What a search sees of an automaton with rows.
+//!
+//! The layers above may rely on [`RowView`] being an automaton of the same dictionary as the one
+//! below, on one look a unit where a row is looked at, and on no call taking memory.
+
+ghost use Rattle.std.specs.Prelude.{◌≡◌};
+ghost use Rattle.daachorse_core.specs.Looks.{IsFirstOutput};
+ghost use Rattle.daachorse_rows.specs.Rows.{AreRows, StandsFor, state_at};
+
+use crate::making::{HAS_OUTPUTS, NO_ROW};
+use daachorse_core::Output;
+use daachorse_core::turns::{Look, Turns};
+use daachorse_search::automaton::Automaton;
+use std::marker::{Model, PhantomData};
+use std::num::NonZeroU32;
+
+/// An automaton, and rows of some of its states.
+///
+/// A state is told by its place: that of its row, where it has one, or its number behind all slots.
+#[derive(Drop)]
+pub struct RowView<'a, V: Copy, A: Automaton<V, Label = u8>> {
+    automaton: A,
+    // The slot of each label.
+    classes: &'a [u16],
+    // The slots. The first of a row is its state.
+    top: &'a [u32],
+    // The row of each state.
+    homes: &'a [u16],
+    // For contracts alone.
+    count: u32,
+    width: u32,
+    root: u32,
+    of: PhantomData<V>,
+}
+
+impl<'a, V: Copy, A: Automaton<V, Label = u8>> Model for RowView<'a, V, A> {
+    ghost use Rattle.daachorse_core.specs.Looks.{IsFirstOutput};
+    ghost use Rattle.daachorse_rows.specs.Rows.{AreRows, Rowed};
+
+    ghost Value = { Rowed A };
+
+    ghost view = { λ s. record { automaton = s.automaton; rows = record { classes = s.classes.now; top = s.top.now; homes = s.homes.now; count = s.count; width = s.width; root = s.root } } };
+
+    ghost invariant = { λ s. AreRows (A.content s.automaton) (A.reached s.automaton) (A.text s.automaton) (A.dead s.automaton) (A.labels s.automaton)
+        (IsFirstOutput A.Unit.width (A.content s.automaton) (A.dead s.automaton) (A.has_output s.automaton) (A.outputs s.automaton) (A.most_outputs s.automaton))
+        (record { classes = s.classes.now; top = s.top.now; homes = s.homes.now; count = s.count; width = s.width; root = s.root }) };
+}
+
+impl<'a, V: Copy, A: Automaton<V, Label = u8>> RowView<'a, V, A> {
+    /// The view of these tables.
+    #[inline(always)]
+    pub(crate) fn new(
+        automaton: A,
+        classes: &'a [u16],
+        top: &'a [u32],
+        homes: &'a [u16],
+        count: u32,
+        width: u32,
+        root: u32,
+    ) -> Self
+        requires { AreRows (A.content automaton) (A.reached automaton) (A.text automaton) (A.dead automaton) (A.labels automaton)
+            (IsFirstOutput A.Unit.width (A.content automaton) (A.dead automaton) (A.has_output automaton) (A.outputs automaton) (A.most_outputs automaton))
+            (record { classes = classes.now; top = top.now; homes = homes.now; count = count; width = width; root = root }) }
+        ensures { result ≡ record { automaton = automaton; rows = record { classes = classes.entry.now; top = top.entry.now; homes = homes.entry.now; count = count; width = width; root = root } } }
+    {
+        Self {
+            automaton,
+            classes,
+            top,
+            homes,
+            count,
+            width,
+            root,
+            of: PhantomData,
+        }
+    }
+
+    /// The state of a place.
+    #[inline(always)]
+    fn state(&self, place: u32) -> u32
+        requires { A.reached self.now.automaton (state_at self.now.rows.top place) }
+        ensures { result ≡ state_at self.now.rows.top place }
+    {
+        let place = place as usize;
+        if place < self.top.len() {
+            return self.top[place];
+        }
+        (place - self.top.len()) as u32
+    }
+
+    /// The place of a state.
+    #[inline(always)]
+    fn place(&self, state: u32) -> u32
+        ensures { A.reached self.now.automaton state → StandsFor self.now.rows result state }
+    {
+        let index = state as usize;
+        if index < self.homes.len() && self.homes[index] != NO_ROW {
+            return self.homes[index] as u32 * self.width;
+        }
+        (self.top.len() as u32).wrapping_add(state)
+    }
+}
+
+impl<'a, V: Copy, A: Automaton<V, Label = u8>> Automaton<V> for RowView<'a, V, A> {
+    ghost use Rattle.daachorse_rows.specs.Rows.{IsPlace, state_at};
+
+    type Unit = A::Unit;
+
+    type Label = u8;
+
+    ghost content = { λ p. A.content p.automaton };
+
+    ghost reached = { λ p place. IsPlace p.rows place × A.reached p.automaton (state_at p.rows.top place) };
+
+    ghost text = { λ p place. A.text p.automaton (state_at p.rows.top place) };
+
+    ghost dead = { λ p. A.dead p.automaton };
+
+    ghost has_label = { λ p. A.has_label p.automaton };
+
+    ghost labels = { λ p. A.labels p.automaton };
+
+    ghost has_output = { λ p. A.has_output p.automaton };
+
+    ghost outputs = { λ p. A.outputs p.automaton };
+
+    ghost most_outputs = { λ p. A.most_outputs p.automaton };
+
+    #[inline(always)]
+    fn root(&self) -> u32 {
+        // A field is read for what the rows keep.
+        let _ = &self.top;
+        self.root
+    }
+
+    #[inline(always)]
+    fn is_root(&self, state: u32) -> bool {
+        self.automaton.is_root(self.state(state))
+    }
+
+    #[inline(always)]
+    fn label(&self, unit: A::Unit) -> Option<u8> {
+        self.automaton.label(unit)
+    }
+
+    #[inline(always)]
+    fn turn(&self, state: u32, label: u8, turns: &mut Turns) -> Look {
+        let place = state as usize;
+        if place < self.top.len() {
+            turns.tick();
+            let entry = self.top[place + self.classes[label as usize] as usize];
+            if entry < HAS_OUTPUTS {
+                return Look::Next(entry, None);
+            }
+            let next = entry - HAS_OUTPUTS;
+            return Look::Next(next, self.output_pos(next));
+        }
+        let below = (place - self.top.len()) as u32;
+        match self.automaton.turn(below, label, turns) {
+            Look::Next(next, position) => Look::Next(self.place(next), position),
+            Look::Fail(link) => Look::Fail(self.place(link)),
+        }
+    }
+
+    #[inline(always)]
+    fn output_pos(&self, state: u32) -> Option<NonZeroU32> {
+        self.automaton.output_pos(self.state(state))
+    }
+
+    #[inline(always)]
+    fn output(&self, position: NonZeroU32) -> Output<V> {
+        self.automaton.output(position)
+    }
+
+    #[inline(always)]
+    fn again(&self) -> Self {
+        Self {
+            automaton: self.automaton.again(),
+            classes: self.classes,
+            top: self.top,
+            homes: self.homes,
+            count: self.count,
+            width: self.width,
+            root: self.root,
+            of: PhantomData,
+        }
+    }
+
+    ghost no_output = { λ p. A.no_output p.automaton };
+}

@@ -15,3 +15,5 @@ pub mod FilterLaws
 pub mod KeyLaws
 pub mod FoldedKeys
 pub mod FoldedLaws
+pub mod ReadLaws
+pub mod SoundLaws

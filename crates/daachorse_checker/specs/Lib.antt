@@ -6,3 +6,4 @@ pub mod Chains
 pub mod Sound
 pub mod Filters
 pub mod Folded
+pub mod Reads

@@ -1,9 +1,10 @@
 -- Parts that were read: which may be looked at, and which are no automaton's.
-use Rattle.std.specs.Prelude.{◌≡◌, ℕ, ◌<◌, ◌%◌, Bool, true, false, List, length, slice_index_or, Option, Some}
+use Rattle.std.specs.Prelude.{◌≡◌, ℕ, ◌<◌, ◌%◌, Bool, true, false, List, length, slice_index_or, Option}
 use Rattle.daachorse_core.specs.declared.outputs.Empty.{Empty}
 use Rattle.daachorse_core.specs.declared.outputs.Output.{Output}
 use Rattle.daachorse_model.specs.declared.MatchKind.{MatchKind}
 use Rattle.daachorse_model.specs.Kinds.{is_leftmost}
+use Rattle.daachorse_checker.specs.Reads.{HasNoParts}
 use Rattle.daachorse_prefilter.specs.Filters.{Filter}
 use Rattle.daachorse_serializer.specs.Forms.{Taken}
 use Rattle.daachorse_bytewise_states.specs.declared.state.State.{State}
@@ -38,4 +39,4 @@ pub record IsGrouped {V : Type 0} (p : Parts V) : Type 0 where
 
 -- no parts were taken, or such as are no automaton's
 abbrev pub HasNoAutomaton : {V : Type 0} → Taken (Parts V × (Bool × Option Filter)) → Type 0
-HasNoAutomaton {V} t = (w : Parts V × (Bool × Option Filter)) (rest : List ℕ) → t ≡ Some (w, rest) → IsValid w.0 → ⊥
+HasNoAutomaton = HasNoParts IsValid

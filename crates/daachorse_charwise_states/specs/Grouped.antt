@@ -1,5 +1,6 @@
 -- Lists that were read: which may be looked at, and which give no automaton.
-use Rattle.std.specs.Prelude.{◌≡◌, ℕ, Bool, ◌<◌, List, length, slice_index_or, Option, Some}
+use Rattle.std.specs.Prelude.{◌≡◌, ℕ, Bool, ◌<◌, List, length, slice_index_or, Option}
+use Rattle.daachorse_checker.specs.Reads.{HasNoParts}
 use Rattle.daachorse_mapper.specs.Codings.{Coding, IsCoding}
 use Rattle.daachorse_prefilter.specs.Filters.{Filter}
 use Rattle.daachorse_serializer.specs.Forms.{Taken}
@@ -21,4 +22,4 @@ pub record IsGrouped (coding : Coding) (elements : List State) : Type 0 where
 
 -- no parts were taken, or such as are no automaton's
 abbrev pub HasNoAutomaton : {V : Type 0} → Taken (Parts V × (Bool × Option Filter)) → Type 0
-HasNoAutomaton {V} t = (w : Parts V × (Bool × Option Filter)) (rest : List ℕ) → t ≡ Some (w, rest) → IsValid w.0 → ⊥
+HasNoAutomaton = HasNoParts IsValid

@@ -2,12 +2,13 @@
 -- its filter, if it has one. And what bytes give: nothing, or parts, that option, a filter that there may be, and the bytes
 -- behind them.
 use Rattle.std.specs.Prelude.{ℕ, Bool, ◌+◌, ◌*◌, ◌<◌, ◌^◌, List, ◌++◌, length, All, Option, Some, None, IfSome, refl}
+use Rattle.daachorse_checker.specs.Reads.{AreInHand, BeginsWithParts}
 use Rattle.daachorse_mapper.specs.Codings.{Coding}
 use Rattle.daachorse_mapper.specs.Written.{AreNumbers as AreCodes, IsCountable, coding_form, coding_law, coding_len, take_coding}
 use Rattle.daachorse_prefilter.specs.Filters.{Filter, IsFilter}
 use Rattle.daachorse_prefilter.specs.FilterForms.{filter_form, filter_law, take_filter}
 use Rattle.daachorse_serializer.specs.Endings.{Ending, ending_form, ending_law, ending_most, take_ending}
-use Rattle.daachorse_serializer.specs.Forms.{Begins, IsForm, Taken, list_form, over, take_list, take_pair}
+use Rattle.daachorse_serializer.specs.Forms.{IsForm, Taken, list_form, over, take_list, take_pair}
 use Rattle.daachorse_serializer.specs.Laws.{law_through, list_law, pair_law}
 use Rattle.daachorse_serializer.specs.Outputs.{IsOutput}
 use Rattle.daachorse_serializer.specs.declared.mode.Mode.{Mode}
@@ -60,18 +61,12 @@ module _ {V : Type 0} where
     pub num_states : p.num_states < 2 ^ 32
 
   -- the parts of an automaton in hand, and its filter
-  pub record IsAutomaton (is_value : V → Type 0) (p : Parts V) (filter : Option Filter) : Type 0 where
-    pub valid : IsValid p
-    pub numbers : AreNumbers is_value p
-    pub filtered : IfSome filter IsFilter
+  abbrev pub IsAutomaton : (V → Type 0) → Parts V → Option Filter → Type 0
+  IsAutomaton is_value = AreInHand IsValid (AreNumbers is_value) IsFilter
 
   -- the bytes begin with the written form of an automaton
-  pub record BeginsWithAutomaton (is_value : V → Type 0) (value : V → List ℕ) (bytes : List ℕ) : Type 0 where
-    pub parts : Parts V
-    pub folds : Bool
-    pub filter : Option Filter
-    pub automaton : IsAutomaton is_value parts filter
-    pub begins : Begins (parts_form value parts folds filter) bytes
+  abbrev pub BeginsWithAutomaton : (V → Type 0) → (V → List ℕ) → List ℕ → Type 0
+  BeginsWithAutomaton is_value value = BeginsWithParts (IsAutomaton is_value) (parts_form value)
 
   -- how long the form is at most, where a value takes at most n bytes
   abbrev pub parts_most : ℕ → Parts V → Option Filter → ℕ

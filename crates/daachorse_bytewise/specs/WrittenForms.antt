@@ -3,7 +3,6 @@ use Rattle.std.specs.Prelude.{◌≡◌, ℕ, List, ◌++◌}
 use Rattle.daachorse_checker.specs.Reads.{BeginsWithAutomaton as BeginsWith, IsInHand}
 use Rattle.daachorse_bytewise_states.specs.PartForms.{IsAutomaton as HasParts, parts_form}
 use Rattle.daachorse_bytewise.specs.Automata.{Automaton, MayFold, MayHaveFilter}
-
 -- the same automaton, where no depths are cached
 pub use Rattle.daachorse_checker.specs.Reads.{without_depths}
 

@@ -3,4 +3,3 @@ pub mod CodedLaws
 pub mod BuildLaws
 pub mod TextLaws
 pub use Rattle.daachorse_search.proofs.MatchesLemmas
-pub mod ReadLaws

@@ -1,5 +1,6 @@
 -- Which bytes give an automaton over characters, whoever wrote them.
-use Rattle.std.specs.Prelude.{◌≡◌, ℕ, List, Some}
+use Rattle.std.specs.Prelude.{ℕ, List}
+use Rattle.daachorse_checker.specs.Reads.{GivesAutomaton as Gives, GivesNoAutomaton as GivesNone}
 use Rattle.daachorse_serializer.specs.Forms.{Taken}
 use Rattle.daachorse_charwise_states.specs.PartForms.{take_parts}
 use Rattle.daachorse_charwise_states.specs.Valid.{IsValid}
@@ -7,12 +8,9 @@ use Rattle.daachorse_charwise.specs.Automata.{Automaton, MayFold, MayHaveFilter}
 
 module _ {V : Type 0} (take_value : List ℕ → Taken V) (bytes : List ℕ) where
   -- they begin with the parts, the option and the filter of this automaton, and these bytes are left
-  pub record GivesAutomaton (a : Automaton V) (rest : List ℕ) : Type 0 where
-    pub taken : take_parts take_value bytes ≡ Some ((a.parts, (a.folds, a.filter)), rest)
-    pub valid : IsValid a.parts
-    pub folded : MayFold a.parts a.folds
-    pub passes : MayHaveFilter a.parts a.filter
+  abbrev pub GivesAutomaton : Automaton V → List ℕ → Type 0
+  GivesAutomaton = Gives IsValid MayFold MayHaveFilter (take_parts take_value bytes)
 
   -- they begin with no parts, or with such as are no automaton's, or with a pattern that is not folded where haystacks are, or with a filter that does not pass at some pattern
   abbrev pub GivesNoAutomaton : Type 0
-  GivesNoAutomaton = (a : Automaton V) (rest : List ℕ) → GivesAutomaton a rest → ⊥
+  GivesNoAutomaton = GivesNone IsValid MayFold MayHaveFilter (take_parts take_value bytes)

@@ -1,3 +1,4 @@
 pub mod Built
 pub mod Gives
 pub mod Pieces
+pub mod WrittenLaws

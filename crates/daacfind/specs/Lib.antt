@@ -2,3 +2,4 @@ pub mod Failures
 pub mod Modes
 pub mod Runs
 pub mod Sinks
+pub mod Written

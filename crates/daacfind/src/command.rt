@@ -4,6 +4,7 @@ use crate::inputs::{Arguments, Inputs};
 use crate::mode::Mode;
 use crate::run::{RunError, run};
 use crate::sink::{Sink, write_whole};
+use crate::written::{WrittenError, run_written, write};
 use std::alloc::{AllocError, Allocator, Global};
 use std::fmt::{self, Write};
 use std::rt::Env;
@@ -12,12 +13,14 @@ use thiserror::Error;
 /// Why a command failed. Its text is the line for standard error.
 #[derive(Debug, Drop, Error)]
 enum CommandError<'a> {
-    #[error("usage: daacfind overlapping|nosuffix|find|longest|first PATTERNS HAYSTACK")]
+    #[error("usage: daacfind [MODE PATTERNS HAYSTACK | write MODE PATTERNS | read MODE AUTOMATON HAYSTACK], MODE overlapping, nosuffix, find, longest or first")]
     Usage,
     #[error("daacfind: cannot read {0}")]
     Read(&'a str),
     #[error(transparent)]
     Run(#[from] RunError),
+    #[error(transparent)]
+    Written(#[from] WrittenError),
 }
 
 /// Runs the command with the program's arguments, as [`command`] does, and returns its status.
@@ -40,11 +43,13 @@ pub fn run_program<R: Env, I: Inputs, S: Sink, E: Sink>(
 /// Runs the command, and returns its status.
 ///
 /// The arguments are a mode and the names of two files: of the patterns, one a line, and of the
-/// haystack. An argument that is not UTF-8 is `None`. The matches go to `out`. Status 0 says that
-/// all of them were written. Otherwise a line on `err` tells the cause: the usage, with status 2,
-/// where the arguments are no such three, and nothing was read then; else, with status 1, a file
-/// that could not be read, the refusal of a build, or a failure to write. A failure of `err` is
-/// passed over.
+/// haystack. The matches go to `out`. Behind `write` they are a mode and the name of the file of
+/// patterns, and the automaton goes to `out`; behind `read` a mode and the names of two files, of an
+/// automaton that was written and of the haystack. An argument that is not UTF-8 is `None`. Status 0
+/// says that all was written. Otherwise a line on `err` tells the cause: the usage, with status 2,
+/// where the arguments are none of these, and nothing was read then; else, with status 1, a file
+/// that could not be read, the refusal of a build or of an automaton, or a failure to write. A
+/// failure of `err` is passed over.
 pub fn command<A: Allocator + Copy, I: Inputs, S: Sink, E: Sink>(
     alloc: A,
     args: &[Option<&str>],
@@ -58,7 +63,7 @@ pub fn command<A: Allocator + Copy, I: Inputs, S: Sink, E: Sink>(
             let _ = writeln!(Text { sink: err }, "{error}");
             match error {
                 CommandError::Usage => 2,
-                CommandError::Read(_) | CommandError::Run(_) => 1,
+                CommandError::Read(_) | CommandError::Run(_) | CommandError::Written(_) => 1,
             }
         }
     }
@@ -70,14 +75,35 @@ fn attempt<'a, A: Allocator + Copy, I: Inputs, S: Sink>(
     files: &mut I,
     out: &mut S,
 ) -> Result<(), CommandError<'a>> {
-    let &[Some(mode), Some(patterns), Some(haystack)] = args else {
-        return Err(CommandError::Usage);
-    };
-    let mode = Mode::from_word(mode).ok_or(CommandError::Usage)?;
-    let patterns = files.read(patterns).ok_or(CommandError::Read(patterns))?;
-    let haystack = files.read(haystack).ok_or(CommandError::Read(haystack))?;
-    run(alloc, mode, &patterns, &haystack, out)?;
+    match *args {
+        [Some("write"), Some(mode), Some(patterns)] => {
+            let mode = mode_of(mode)?;
+            let patterns = bytes_of(files, patterns)?;
+            write(alloc, mode, &patterns, out)?;
+        }
+        [Some("read"), Some(mode), Some(automaton), Some(haystack)] => {
+            let mode = mode_of(mode)?;
+            let automaton = bytes_of(files, automaton)?;
+            let haystack = bytes_of(files, haystack)?;
+            run_written(alloc, mode, &automaton, &haystack, out)?;
+        }
+        [Some(mode), Some(patterns), Some(haystack)] => {
+            let mode = mode_of(mode)?;
+            let patterns = bytes_of(files, patterns)?;
+            let haystack = bytes_of(files, haystack)?;
+            run(alloc, mode, &patterns, &haystack, out)?;
+        }
+        _ => return Err(CommandError::Usage),
+    }
     Ok(())
+}
+
+fn mode_of<'a>(word: &'a str) -> Result<Mode, CommandError<'a>> {
+    Mode::from_word(word).ok_or(CommandError::Usage)
+}
+
+fn bytes_of<'a, I: Inputs>(files: &mut I, name: &'a str) -> Result<Vec<u8>, CommandError<'a>> {
+    files.read(name).ok_or(CommandError::Read(name))
 }
 
 // A sink that takes formatted text.

@@ -5,8 +5,8 @@ use std::env::FillError;
 use std::fs;
 use std::rt::{Env, Files};
 
-// Four arguments are enough to know that there are not three.
-const MOST_ARGUMENTS: usize = 4;
+// Five arguments are enough to know that there are neither three nor four.
+const MOST_ARGUMENTS: usize = 5;
 
 /// Files by their names.
 pub trait Inputs {
@@ -33,7 +33,7 @@ impl<R: Files + AllocGlobal> Inputs for FileInputs<'_, R> {
     }
 }
 
-/// The bytes of the arguments behind the program's name, at most four of them.
+/// The bytes of the arguments behind the program's name, at most five of them.
 #[derive(Drop)]
 pub struct Arguments {
     list: Vec<Vec<u8>>,

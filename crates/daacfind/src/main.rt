@@ -1,5 +1,6 @@
 //! Finds many patterns in a file at once, and writes each match on a line: its start, its end and
-//! the number of its pattern.
+//! the number of its pattern. It can write the automaton of the patterns too, and search by one
+//! that was written.
 #![tactic(auto)]
 
 use crate::command::run_program;
@@ -15,6 +16,7 @@ mod inputs;
 mod mode;
 mod run;
 mod sink;
+mod written;
 
 fn main(rt: HostRuntime) -> ExitCode {
     match status(&rt) {

@@ -89,7 +89,7 @@ pub fn run<S: Sink, A: Allocator + Copy>(
 }
 
 // The automaton of the lines of a pattern file.
-fn build<A: Allocator + Copy>(
+pub(crate) fn build<A: Allocator + Copy>(
     alloc: A,
     kind: MatchKind,
     file: &[u8],
@@ -132,7 +132,7 @@ fn pieces<A: Allocator>(alloc: A, file: &[u8]) -> Result<Vec<&[u8], A>, AllocErr
 }
 
 // Writes what the mode finds in the haystack.
-fn write_mode<S: Sink, A: Allocator + Copy>(
+pub(crate) fn write_mode<S: Sink, A: Allocator + Copy>(
     mode: Mode,
     automaton: &DoubleArrayAhoCorasick<u32, A>,
     haystack: &[u8],

@@ -1,5 +1,6 @@
 //! What no clause says: the statuses and texts of the command, its arguments, a writer that fails
-//! in the middle of a line, and that the sink is flushed once, at the end.
+//! in the middle of a line, that the sink is flushed once, at the end, and that a written automaton
+//! is searched as one that was built.
 
 use crate::command::{command, run_program};
 use crate::inputs::{Arguments, Inputs};
@@ -22,18 +23,20 @@ fn expect(rt: &impl Abort, holds: bool, what: &str) {
 // The name of a file that is not there.
 const LONG: &[u8] = &[b'p'; 300];
 
-const USAGE: &[u8] = b"usage: daacfind overlapping|nosuffix|find|longest|first PATTERNS HAYSTACK\n";
+const USAGE: &[u8] =
+    b"usage: daacfind [MODE PATTERNS HAYSTACK | write MODE PATTERNS | read MODE AUTOMATON HAYSTACK], MODE overlapping, nosuffix, find, longest or first\n";
 
 const PATTERNS: &[u8] = b"bcd\nab\na\n";
 
-// A few files, and the number of attempts to read one.
+// A few files, one of which is the automaton, and the number of attempts to read one.
 #[derive(Drop)]
-struct Memory {
+struct Memory<'a> {
     alloc: Global,
     reads: u64,
+    automaton: &'a [u8],
 }
 
-impl Inputs for Memory {
+impl Inputs for Memory<'_> {
     fn read(&mut self, name: &str) -> Option<Vec<u8>> {
         self.reads = self.reads.wrapping_add(1);
         match name {
@@ -43,6 +46,7 @@ impl Inputs for Memory {
             "chain" => Vec::from_slice(self.alloc, b"ab\na\nabcd\n").ok(),
             "letter" => Vec::from_slice(self.alloc, b"a").ok(),
             "nothing" => Some(Vec::new(self.alloc)),
+            "automaton" => Vec::from_slice(self.alloc, self.automaton).ok(),
             _ => None,
         }
     }
@@ -164,6 +168,22 @@ const ROWS: &[Row] = &[
         reads: 0,
     },
     Row {
+        shows: "an automaton for no mode",
+        args: &[Some("write"), Some("shortest"), Some("patterns")],
+        status: 2,
+        written: b"",
+        told: USAGE,
+        reads: 0,
+    },
+    Row {
+        shows: "no automaton",
+        args: &[Some("read"), Some("find"), Some("lost"), Some("haystack")],
+        status: 1,
+        written: b"",
+        told: b"daacfind: cannot read lost\n",
+        reads: 1,
+    },
+    Row {
         shows: "no text",
         args: &[Some("overlapping"), None, Some("haystack")],
         status: 2,
@@ -247,7 +267,11 @@ const ROWS: &[Row] = &[
 
 // Whether the command ends as the row says.
 fn ends_so(alloc: Global, row: &Row) -> bool {
-    let mut files = Memory { alloc, reads: 0 };
+    let mut files = Memory {
+        alloc,
+        reads: 0,
+        automaton: b"",
+    };
     let mut out = WriterSink::new(Vec::new(alloc));
     let mut err = WriterSink::new(Vec::new(alloc));
     let status = command(alloc, row.args, &mut files, &mut out, &mut err);
@@ -262,6 +286,65 @@ fn a_command_tells_its_status_and_its_cause(rt: HostRuntime) {
     for row in ROWS {
         expect(&rt, ends_so(rt.alloc(), row), row.shows);
     }
+}
+
+// How a command ends over an automaton in a file: its status, and what it writes.
+fn end_of(
+    alloc: Global,
+    automaton: &[u8],
+    args: &[Option<&str>],
+) -> Result<(u8, Vec<u8>), AllocError> {
+    let mut files = Memory {
+        alloc,
+        reads: 0,
+        automaton,
+    };
+    let mut out = WriterSink::new(Vec::new(alloc));
+    let mut err = WriterSink::new(Vec::new(alloc));
+    let status = command(alloc, args, &mut files, &mut out, &mut err);
+    Ok((status, Vec::from_slice(alloc, out.writer())?))
+}
+
+// A mode, the file of patterns, what is found in the haystack, and a mode of another kind.
+const WRITTEN_ROWS: &[(&str, &str, &[u8], &str)] = &[
+    ("overlapping", "patterns", WRITTEN, "longest"),
+    ("nosuffix", "patterns", WRITTEN, "first"),
+    ("find", "patterns", b"0 1 2\n1 4 0\n", "first"),
+    ("longest", "chain", b"0 4 2\n", "first"),
+    ("first", "chain", b"0 2 0\n", "find"),
+];
+
+// Whether a search by the automaton of a file ends so.
+fn reads_so(
+    alloc: Global,
+    automaton: &[u8],
+    mode: &str,
+    status: u8,
+    found: &[u8],
+) -> Result<bool, AllocError> {
+    let args = [
+        Some("read"),
+        Some(mode),
+        Some("automaton"),
+        Some("haystack"),
+    ];
+    let (ended, text) = end_of(alloc, automaton, &args)?;
+    Ok(ended == status && text.as_slice() == found)
+}
+
+#[test]
+fn a_written_automaton_is_searched(rt: HostRuntime) -> Result<(), Fail> {
+    let alloc = rt.alloc();
+    for (mode, patterns, found, other) in WRITTEN_ROWS {
+        let args = [Some("write"), Some(*mode), Some(*patterns)];
+        let (status, automaton) = end_of(alloc, b"", &args)?;
+        let rest = automaton.get(1..).unwrap_or(b"");
+        expect(&rt, status == 0, "an automaton is written");
+        expect(&rt, reads_so(alloc, &automaton, mode, 0, found)?, mode);
+        expect(&rt, reads_so(alloc, rest, mode, 1, b"")?, "no automaton");
+        expect(&rt, reads_so(alloc, &automaton, other, 1, b"")?, other);
+    }
+    Ok(())
 }
 
 // The words of a command line, and how the program ends: its status, what it writes, and how often
@@ -315,7 +398,11 @@ const CALLS: &[Call] = &[
 
 // Whether the program ends as the call says.
 fn runs_so(alloc: Global, call: &Call) -> Result<bool, AllocError> {
-    let mut files = Memory { alloc, reads: 0 };
+    let mut files = Memory {
+        alloc,
+        reads: 0,
+        automaton: b"",
+    };
     let mut out = WriterSink::new(Vec::new(alloc));
     let mut err = WriterSink::new(Vec::new(alloc));
     let words = Words { words: call.words };

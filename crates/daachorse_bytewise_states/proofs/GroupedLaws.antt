@@ -1,5 +1,4 @@
 -- Parts that may be looked at are valid exactly where their array is sound.
-use Rattle.std.proofs.Common.{ℕ}
 use Rattle.daachorse_model.specs.Kinds.{is_leftmost}
 use Rattle.daachorse_model.specs.Units.{byte_width}
 use Rattle.daachorse_checker.specs.Sound.{IsSoundArray}

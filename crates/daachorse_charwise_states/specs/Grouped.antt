@@ -1,5 +1,5 @@
 -- Lists that were read: which may be looked at, and which give no automaton.
-use Rattle.std.specs.Prelude.{◌≡◌, ℕ, Bool, ◌<◌, List, length, slice_index_or, Option}
+use Rattle.std.specs.Prelude.{ℕ, Bool, ◌<◌, List, length, slice_index_or, Option}
 use Rattle.daachorse_checker.specs.Reads.{HasNoParts}
 use Rattle.daachorse_mapper.specs.Codings.{Coding, IsCoding}
 use Rattle.daachorse_prefilter.specs.Filters.{Filter}

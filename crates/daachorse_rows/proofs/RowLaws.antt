@@ -6,7 +6,7 @@ use Rattle.std.proofs.lemmas.Nat.{mul-add-lt}
 use Rattle.daachorse_core.specs.Looks.{StepEnds, LookGives}
 use Rattle.daachorse_core.specs.declared.turns.Look.TheVariants.{Next, Fail}
 use Rattle.daachorse_model.specs.Dictionary.{Dictionary}
-use Rattle.daachorse_rows.specs.Rows.{state_at, RowTable, IsPlace, IsEntry, StandsFor, AreRows, Leads}
+use Rattle.daachorse_rows.specs.Rows.{state_at, RowTable, IsPlace, IsEntry, SharesText, StandsFor, AreRows, Leads}
 
 -- within the slots it is what is written there
 pub state_at-slot : (top : List ℕ) (x : ℕ) → x < length top → slice_index top x ≡ state_at top x
@@ -121,13 +121,22 @@ module _ {V : Type 0} (K : Dictionary V) (reached : ℕ → Type 0) (text : ℕ 
       pub look_loud : 2147483648 ≤ entry → (unit : ℕ) → stands label unit → Reached r (entry - 2147483648) × StepEnds K dead (text (state_at r.top x)) unit (text (state_at r.top (entry - 2147483648)))
       look_loud high = look_step (entry - 2147483648) (loud_entry x label entry step high)
 
+    -- the root's place has the root's text
+    pub shares_root : (s : ℕ) → text s ≡ [] → SharesText reached text r r.root s
+    shares_root s empty =
+        let top = h.root_state in
+        let P : ℕ → Type 0 = λ x. reached x in
+        record { is_place = top.1.place; is_state = subst P (sym top.1.state) top.2; same = ap text top.1.state ∙ (top.3 ∙ sym empty) }
+
+  pub shares_state : (r : RowTable) (x s : ℕ) → StandsFor r x s → reached s → SharesText reached text r x s
+  shares_state r x s there here = let P : ℕ → Type 0 = λ y. reached y in record { is_place = there.place; is_state = subst P (sym there.state) here; same = ap text there.state }
+
   -- a look below the rows tells what the automaton's own tells, in places
-  pub look_below : (r : RowTable) (w : List ℕ) (unit s x : ℕ) (o : Option NonZeroU32) → StandsFor r x s → LookGives K reached text dead w unit (Next s o)
+  pub look_below : (r : RowTable) (w : List ℕ) (unit s x : ℕ) (o : Option NonZeroU32) → SharesText reached text r x s → LookGives K reached text dead w unit (Next s o)
       → LookGives K (Reached r) (λ y. text (state_at r.top y)) dead w unit (Next x o)
-  look_below r w unit s x o place look =
-      let P : ℕ → Type 0 = λ y. reached y × StepEnds K dead w unit (text y) in
-      let there = subst P (sym place.state) look in
-      ((place.place, there.0), there.1)
+  look_below r w unit s x o shares look =
+      let P : List ℕ → Type 0 = λ t. StepEnds K dead w unit t in
+      ((shares.is_place, shares.is_state), subst P (sym shares.same) look.1)
 
   pub look_link : (r : RowTable) (w : List ℕ) (unit s x : ℕ) → StandsFor r x s → LookGives K reached text dead w unit (Fail s)
       → LookGives K (Reached r) (λ y. text (state_at r.top y)) dead w unit (Fail x)

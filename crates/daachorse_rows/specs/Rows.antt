@@ -34,6 +34,12 @@ module _ (r : RowTable) where
     pub place : IsPlace x
     pub state : state_at r.top x ≡ s
 
+-- the place stands for the state, or for another with the same text
+pub record SharesText (reached : ℕ → Type 0) (text : ℕ → List ℕ) (r : RowTable) (x s : ℕ) : Type 0 where
+  pub is_place : IsPlace r x
+  pub is_state : reached (state_at r.top x)
+  pub same : text (state_at r.top x) ≡ text s
+
 -- what a slot holds for a state: a place that stands for it, to which 2 ^ 31 is added, unless the state is quiet
 pub record IsEntry (stands : ℕ → Type 0) (quiet : Type 0) (entry : ℕ) : Type 0 where
   pub place : ℕ

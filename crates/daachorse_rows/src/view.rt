@@ -5,7 +5,7 @@
 
 ghost use Rattle.std.specs.Prelude.{◌≡◌};
 ghost use Rattle.daachorse_core.specs.Looks.{IsFirstOutput};
-ghost use Rattle.daachorse_rows.specs.Rows.{AreRows, StandsFor, state_at};
+ghost use Rattle.daachorse_rows.specs.Rows.{AreRows, SharesText, StandsFor, state_at};
 
 use crate::making::{HAS_OUTPUTS, NO_ROW};
 use daachorse_core::Output;
@@ -99,6 +99,18 @@ impl<'a, V: Copy, A: Automaton<V, Label = u8>> RowView<'a, V, A> {
         }
         (self.top.len() as u32).wrapping_add(state)
     }
+
+    /// The place of a state in which a look below the rows ends the step. But for the root it has no
+    /// row, since each state that has one is led to by a state that has one.
+    #[inline(always)]
+    fn place_below(&self, state: u32) -> u32
+        ensures { A.reached self.now.automaton state → SharesText (A.reached self.now.automaton) (A.text self.now.automaton) self.now.rows result state }
+    {
+        if state == self.automaton.root() {
+            return self.root;
+        }
+        (self.top.len() as u32).wrapping_add(state)
+    }
 }
 
 impl<'a, V: Copy, A: Automaton<V, Label = u8>> Automaton<V> for RowView<'a, V, A> {
@@ -157,7 +169,7 @@ impl<'a, V: Copy, A: Automaton<V, Label = u8>> Automaton<V> for RowView<'a, V, A
         }
         let below = (place - self.top.len()) as u32;
         match self.automaton.turn(below, label, turns) {
-            Look::Next(next, position) => Look::Next(self.place(next), position),
+            Look::Next(next, position) => Look::Next(self.place_below(next), position),
             Look::Fail(link) => Look::Fail(self.place(link)),
         }
     }

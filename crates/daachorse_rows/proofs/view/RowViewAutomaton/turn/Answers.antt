@@ -61,10 +61,19 @@ returns-in-Next-clause-look g c = λ unit coded.
     let here : c.args.state - length p.rows.top ≡ state_at p.rows.top c.args.state = state_at-past p.rows.top c.args.state past in
     let Q : ℕ → Type 0 = λ x. LookGives (A.content a) (A.reached a) (A.text a) (A.dead a) (A.text a x) unit told in
     let look = subst Q here (own coded) in
-    look_below (A.content a) (A.reached a) (A.text a) (A.dead a) (A.labels a) (λ w o. Unit {0}) p.rows (A.text a (state_at p.rows.top c.args.state)) unit c.in-Next.next c.place.result c.in-Next.position (c.place.ensures look.0) look
+    look_below (A.content a) (A.reached a) (A.text a) (A.dead a) (A.labels a) (λ w o. Unit {0}) p.rows (A.text a (state_at p.rows.top c.args.state)) unit c.in-Next.next c.place_below.result c.in-Next.position (c.place_below.ensures look.0) look
   where
     past : length c.args.self.now.rows.top ≤ c.args.state
     past = let P : Rowed g.row.A.Denot → Type 0 = λ q. length q.rows.top ≤ c.args.state in subst P c.self.view_is c.if-place-self.false
+
+pub returns-in-Next-clause-output : goal.returns-in-Next-clause-output
+returns-in-Next-clause-output g c = λ unit coded.
+    let A = g.A.Automaton in let p = c.args.self.now in let a = p.automaton in
+    let P : Rowed g.row.A.Denot → Type 0 = λ q. A.labels q.automaton c.args.label unit → A.reached q.automaton c.in-Next.next
+    × IsFirstOutput g.A.Unit.EdgeLabel.width (A.content q.automaton) (A.dead q.automaton) (A.has_output q.automaton) (A.outputs q.automaton) (A.most_outputs q.automaton) (A.text q.automaton c.in-Next.next) c.in-Next.position in
+    let own : P p = subst P c.self.view_is (λ coded. ((c.in-Next.ensures.look unit coded).0, c.in-Next.ensures.output unit coded)) in
+    let Q : List ℕ → Type 0 = λ t. IsFirstOutput g.A.Unit.EdgeLabel.width (A.content a) (A.dead a) (A.has_output a) (A.outputs a) (A.most_outputs a) t c.in-Next.position in
+    subst Q (sym (c.place_below.ensures (own coded).0).same) (own coded).1
 
 pub returns-in-Fail-clause-look : goal.returns-in-Fail-clause-look
 returns-in-Fail-clause-look g c = λ unit coded.
@@ -75,7 +84,7 @@ returns-in-Fail-clause-look g c = λ unit coded.
     let here : c.args.state - length p.rows.top ≡ state_at p.rows.top c.args.state = state_at-past p.rows.top c.args.state past in
     let Q : ℕ → Type 0 = λ x. LookGives (A.content a) (A.reached a) (A.text a) (A.dead a) (A.text a x) unit told in
     let look = subst Q here (own coded) in
-    look_link (A.content a) (A.reached a) (A.text a) (A.dead a) (A.labels a) (λ w o. Unit {0}) p.rows (A.text a (state_at p.rows.top c.args.state)) unit c.in-Fail.link c.place-in-Fail.result (c.place-in-Fail.ensures look.0) look
+    look_link (A.content a) (A.reached a) (A.text a) (A.dead a) (A.labels a) (λ w o. Unit {0}) p.rows (A.text a (state_at p.rows.top c.args.state)) unit c.in-Fail.link c.place.result (c.place.ensures look.0) look
   where
     past : length c.args.self.now.rows.top ≤ c.args.state
     past = let P : Rowed g.row.A.Denot → Type 0 = λ q. length q.rows.top ≤ c.args.state in subst P c.self.view_is c.if-place-self.false

@@ -60,7 +60,7 @@ compile refusals -Wl,--wrap=malloc,--wrap=realloc
 diff "$here/c/example.stdout" "$out/example.stdout"
 echo "build.sh: the example in C wrote what it should"
 "$out/rows" < "$here/rows"
-echo "build.sh: in C each search wrote what its row says"
+echo "build.sh: in C each search and each listing wrote what its row says"
 "$out/refusals"
 echo "build.sh: each request for memory may be refused"
 

@@ -1,8 +1,10 @@
-"""Prints the table `rows`, which the tests in C, Python and Rust read: what each search finds by its definition.
+"""Prints the table `rows`, which the tests in C, Python and Rust read: what each search finds by its definition, and which
+patterns an automaton holds.
 
 A row is a search, the number of a kind, 1 where ASCII case is disregarded and else 0, the patterns in hexadecimal with commas
 between them, the haystack, the number of matches, and each match as its start, its end and its value. "-" is the empty text,
-and "none" no patterns.
+and "none" no patterns. In place of a search stands "patterns" where the patterns of the automaton are listed, each as its text
+and its value with a colon between them; the haystack is then "-".
 """
 
 PATTERNS = [
@@ -27,6 +29,12 @@ CASED_PATTERNS = [
     [b"\xc4", b"\xe4", b"\xc3\x84", b"\xe2\x84\xaa"],
 ]
 CASED_HAYSTACKS = [b"", b"ABCD", b"aBcD", b"AaAa", b"@[`{zZ", b"\xe4\xc4 \xc3\xa4 k"]
+
+# Not in the order of their bytes, some of them equal, and some the beginning of others.
+LISTED_PATTERNS = [
+    [b"ab", b"b", b"", b"ab", b"a", b"abc", b"ab"],
+    [b"\xff", b"\x00", b"\x7f\x80", b"\x80", b"\x7f", b"\x00\x00", b"\xff\x00"],
+]
 
 
 def ending(patterns, haystack, end):
@@ -72,6 +80,14 @@ def leftmost_find(patterns, haystack, is_first):
     return found
 
 
+def patterns_of(kind, patterns):
+    """Lists the patterns that an automaton of this kind holds, in byte order, and equal ones as they were registered."""
+    begins = lambda value, it: any(it != other and it.startswith(other) for other in patterns[:value])
+    return sorted(
+        ((it, value) for value, it in enumerate(patterns) if kind != 2 or not begins(value, it)), key=lambda it: it[0]
+    )
+
+
 def text(it):
     return it.hex() or "-"
 
@@ -91,11 +107,22 @@ def searches(patterns, haystack):
     ]
 
 
+def row(name, kind, any_case, patterns, haystack, items):
+    listed = ",".join(map(text, patterns)) if patterns else "none"
+    print(name, kind, int(any_case), listed, text(haystack), len(items), *items)
+
+
 def show(patterns, haystack, any_case):
     read = lower if any_case else bytes
-    listed = ",".join(map(text, patterns)) if patterns else "none"
     for name, kind, matches in searches([read(it) for it in patterns], read(haystack)):
-        print(name, kind, int(any_case), listed, text(haystack), len(matches), *("%d-%d-%d" % it for it in matches))
+        row(name, kind, any_case, patterns, haystack, ["%d-%d-%d" % it for it in matches])
+
+
+def show_patterns(patterns, any_case):
+    read = lower if any_case else bytes
+    for kind in range(3):
+        held = patterns_of(kind, [read(it) for it in patterns])
+        row("patterns", kind, any_case, patterns, b"", ["%s:%d" % (text(it), value) for it, value in held])
 
 
 def main():
@@ -106,6 +133,11 @@ def main():
         for haystack in CASED_HAYSTACKS:
             show(patterns, haystack, False)
             show(patterns, haystack, True)
+    for patterns in PATTERNS + LISTED_PATTERNS:
+        show_patterns(patterns, False)
+    for patterns in CASED_PATTERNS:
+        show_patterns(patterns, False)
+        show_patterns(patterns, True)
 
 
 if __name__ == "__main__":

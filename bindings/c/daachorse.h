@@ -133,6 +133,19 @@ uint32_t daachorse_consume(daachorse *handle, const uint8_t *bytes, size_t bytes
  * out. */
 uint32_t daachorse_write(daachorse *handle, uint8_t *out, size_t out_len, size_t *size);
 
+/* Writes the patterns that the automaton holds to the beginnings of bytes, ends and values, in the form in which
+ * daachorse_build takes them: pattern i, counted from 0, is what stands in bytes between ends[i - 1], or 0, and ends[i], and
+ * has the value values[i]. They come in byte order, and equal ones as they were registered. How many bytes they have is
+ * written to size, and how many patterns there are to count. An automaton of the kind DAACHORSE_LEFTMOST_FIRST holds no
+ * pattern that extends one registered before it, and one that disregards ASCII case holds a to z in place of A to Z. Memory
+ * is taken for a walk over the automaton and a copy of the patterns, and given back before the call returns.
+ *
+ * The answer is DAACHORSE_DONE, DAACHORSE_EMPTY_HANDLE, DAACHORSE_OUT_OF_MEMORY or DAACHORSE_NO_ROOM. After the last, size
+ * is the room that is needed in bytes, and count that in ends and in values; after the two before it both are 0. Unless the
+ * answer is the first, nothing is written to bytes, ends and values. */
+uint32_t daachorse_list(daachorse *handle, uint8_t *bytes, size_t bytes_len, size_t *ends, size_t ends_len,
+        uint32_t *values, size_t values_len, size_t *size, size_t *count);
+
 /* Fills the handle with the automaton that the bytes begin with, whoever wrote them, and writes to taken how many of
  * them it takes. What the handle had is freed. The answer is DAACHORSE_DONE, DAACHORSE_OUT_OF_MEMORY or, where the
  * bytes begin with no automaton, DAACHORSE_INVALID_AUTOMATON. Unless it is the first, the handle is unchanged. */

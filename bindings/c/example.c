@@ -1,4 +1,4 @@
-/* Builds automata, searches a haystack in each way, and frees them. What is not as it should be ends it with
+/* Builds automata, searches a haystack in each way, lists their patterns, and frees them. What is not as it should be ends it with
  * status 1. */
 #include "daachorse.h"
 
@@ -46,6 +46,32 @@ static void build(daachorse *handle, uint32_t kind, bool use_prefilter) {
 
 static void build_for_any_case(daachorse *handle) {
     need(daachorse_build(handle, DAACHORSE_STANDARD, true, true, bytes, bytes_len, ends, 4, values, 4) == DAACHORSE_DONE, "build");
+}
+
+/* Prints the patterns that an automaton of this kind holds. The first call says how much room they need. */
+static void show_patterns(const char *name, uint32_t kind) {
+    daachorse handle = DAACHORSE_EMPTY;
+    uint8_t byte = 7, *texts;
+    size_t end = 7, *text_ends, size = 0, count = 0, start = 0;
+    uint32_t value = 7, *text_values;
+    build(&handle, kind, true);
+    need(daachorse_list(&handle, &byte, 0, &end, 0, &value, 0, &size, &count) == DAACHORSE_NO_ROOM, "no room for a listing");
+    need(byte == 7 && end == 7 && value == 7, "nothing listed");
+    texts = calloc(size, sizeof *texts);
+    text_ends = calloc(count, sizeof *text_ends);
+    text_values = calloc(count, sizeof *text_values);
+    need(texts != NULL && text_ends != NULL && text_values != NULL, "calloc");
+    need(daachorse_list(&handle, texts, size, text_ends, count, text_values, count, &size, &count) == DAACHORSE_DONE, "list");
+    printf("%s:", name);
+    for (size_t i = 0; i < count; i++) {
+        printf(" %.*s (%u)", (int)(text_ends[i] - start), (const char *)texts + start, (unsigned)text_values[i]);
+        start = text_ends[i];
+    }
+    printf("\n");
+    free(texts);
+    free(text_ends);
+    free(text_values);
+    daachorse_free(&handle);
 }
 
 static void show_searches(void) {
@@ -126,8 +152,13 @@ static void see_refusals(void) {
     daachorse handle = DAACHORSE_EMPTY;
     daachorse_match found[1] = {{7, 7, 7}};
     const size_t falling[] = {3, 2}, past[] = {11};
-    size_t written = 7;
+    size_t written = 7, end = 7, count = 7;
+    uint8_t byte = 7;
+    uint32_t value = 7;
     need(daachorse_find(&handle, bytes, bytes_len, found, 1, &written) == DAACHORSE_EMPTY_HANDLE && written == 0, "empty handle");
+    written = 7;
+    need(daachorse_list(&handle, &byte, 1, &end, 1, &value, 1, &written, &count) == DAACHORSE_EMPTY_HANDLE, "list with an empty handle");
+    need(written == 0 && count == 0 && byte == 7 && end == 7 && value == 7, "nothing listed");
     need(daachorse_build(&handle, 3, true, false, bytes, bytes_len, ends, 4, values, 4) == DAACHORSE_UNKNOWN_KIND, "kind");
     need(daachorse_build(&handle, 0, true, false, bytes, bytes_len, falling, 2, values, 2) == DAACHORSE_WRONG_PATTERNS, "falling ends");
     need(daachorse_build(&handle, 0, true, false, bytes, bytes_len, past, 1, values, 1) == DAACHORSE_WRONG_PATTERNS, "end past the bytes");
@@ -164,6 +195,8 @@ static void see_written(void) {
 
 int main(void) {
     show_searches();
+    show_patterns("patterns", DAACHORSE_STANDARD);
+    show_patterns("patterns, leftmost first", DAACHORSE_LEFTMOST_FIRST);
     see_room();
     see_written();
     show_stream(false);

@@ -1,4 +1,4 @@
-/* Refuses each request for memory of a build, a write and a read in turn. Each is to be answered by
+/* Refuses each request for memory of a build, a write, a listing and a read in turn. Each is to be answered by
  * DAACHORSE_OUT_OF_MEMORY, and to leave nothing behind. Link with -Wl,--wrap=malloc,--wrap=realloc. */
 #include "daachorse.h"
 
@@ -56,6 +56,17 @@ static uint32_t read_form(daachorse *handle) {
     return daachorse_read(handle, form, form_len, &taken);
 }
 
+static uint32_t list_patterns(daachorse *handle) {
+    uint8_t room[10] = {7};
+    size_t room_for_ends[4] = {7}, size = 7, count = 7;
+    uint32_t room_for_values[4] = {7};
+    uint32_t answer = daachorse_list(handle, room, 10, room_for_ends, 4, room_for_values, 4, &size, &count);
+    bool done = answer == DAACHORSE_DONE;
+    need(size == (done ? 10 : 0) && count == (done ? 4 : 0), "the size of a listing");
+    need(room[0] == (done ? 'a' : 7) && room_for_ends[0] == (done ? 2 : 7) && room_for_values[0] == (done ? 0 : 7), "a listing");
+    return answer;
+}
+
 /* Makes the call with 0, 1, 2 and so on requests granted, until it is done. */
 static void refuse_each(const char *name, uint32_t (*call)(daachorse *), daachorse *handle) {
     size_t refused = 0;
@@ -77,6 +88,7 @@ int main(void) {
     refuse_each("build", build, &handle);
     refuse_each("build for any case", build_for_any_case, &handle);
     refuse_each("write", write_form, &handle);
+    refuse_each("list", list_patterns, &handle);
     refuse_each("read", read_form, &again);
     need(daachorse_is_match(&again, (const uint8_t *)"xCdx", 4, &found) == DAACHORSE_DONE && found, "is_match");
     daachorse_free(&handle);

@@ -1,7 +1,8 @@
 /* Reads the rows of a table from standard input, and compares what each search writes with its row, with a filter and
  * without. A row is a search, a kind, 1 where ASCII case is disregarded and else 0, the patterns in hexadecimal with commas
  * between them, the haystack, the number of matches, and each match as its start, its end and its value. "-" is the empty
- * text, and "none" no patterns. */
+ * text, and "none" no patterns. In place of a search stands "patterns" where the patterns of the automaton are listed, each as
+ * its text and its value with a colon between them. */
 #include "daachorse.h"
 
 #include <inttypes.h>
@@ -10,6 +11,15 @@
 #include <string.h>
 
 enum { ROOM = 64, WORD = 1024 };
+
+/* Patterns in the form in which the library takes and gives them. */
+typedef struct {
+    uint8_t bytes[WORD];
+    size_t size;
+    size_t ends[ROOM];
+    uint32_t values[ROOM];
+    size_t count;
+} pattern_list;
 
 typedef uint32_t search_fn(daachorse *, const uint8_t *, size_t, daachorse_match *, size_t, size_t *);
 
@@ -69,46 +79,116 @@ static void see_stream(daachorse *handle, bool overlapping, const uint8_t *hayst
     need(told == count, "the number of matches of a stream", row);
 }
 
+/* Puts a pattern behind the others. */
+static void put(pattern_list *list, const char *text, size_t text_len, uint32_t value) {
+    list->size = append(list->bytes, list->size, text, text_len);
+    list->ends[list->count] = list->size;
+    list->values[list->count++] = value;
+}
+
+/* The patterns of a row, which have the values 0, 1 and so on. */
+static pattern_list patterns_in(const char *text) {
+    pattern_list list = {.count = 0};
+    for (const char *at = text; strcmp(text, "none") != 0; at++) {
+        size_t size = strcspn(at, ",");
+        put(&list, at, size, (uint32_t)list.count);
+        at += size;
+        if (*at == 0)
+            break;
+    }
+    return list;
+}
+
+static void build(daachorse *handle, uint32_t kind, bool use_prefilter, bool any_case, const pattern_list *list, size_t row) {
+    need(daachorse_build(handle, kind, use_prefilter, any_case, list->bytes, list->size, list->ends, list->count, list->values,
+            list->count) == DAACHORSE_DONE, "build", row);
+}
+
+/* Compares a search with what the rest of the row says. */
+static void see_search(const char *name, uint32_t kind, bool any_case, const pattern_list *list, const char *text,
+        size_t count, size_t row) {
+    search_fn *search = search_named(name);
+    uint8_t haystack[WORD];
+    daachorse_match wanted[ROOM];
+    size_t haystack_len = append(haystack, 0, text, strlen(text));
+    need(search != NULL, "the table", row);
+    for (size_t i = 0; i < count; i++)
+        need(scanf("%zu-%zu-%" SCNu32, &wanted[i].start, &wanted[i].end, &wanted[i].value) == 3, "the table", row);
+    for (int use_prefilter = 0; use_prefilter < 2; use_prefilter++) {
+        daachorse handle = DAACHORSE_EMPTY;
+        daachorse_match found[ROOM] = {{0, 0, 0}};
+        size_t written = 0;
+        build(&handle, kind, use_prefilter, any_case, list, row);
+        need(search(&handle, haystack, haystack_len, found, ROOM, &written) == DAACHORSE_DONE, name, row);
+        need(written == count, "the number of matches", row);
+        for (size_t i = 0; i < count; i++)
+            need(is_same(found[i], wanted[i]), "a match", row);
+        if (search == daachorse_find || search == daachorse_find_overlapping)
+            for (size_t piece = 1; piece < 4; piece++)
+                for (size_t room = 1; room < 4; room++)
+                    see_stream(&handle, search == daachorse_find_overlapping, haystack, haystack_len, piece, room, wanted, count, row);
+        daachorse_free(&handle);
+    }
+}
+
+/* Lists the patterns in room for so many, and compares them, or what is told where the room is too little. What stands
+ * behind them, or in the room that is too little, is as it was. */
+static void see_list(daachorse *handle, size_t size_room, size_t ends_room, size_t values_room, const pattern_list *wanted,
+        size_t row) {
+    pattern_list found, before;
+    memset(&found, 7, sizeof found);
+    before = found;
+    bool fits = size_room >= wanted->size && ends_room >= wanted->count && values_room >= wanted->count;
+    uint32_t answer = daachorse_list(handle, found.bytes, size_room, found.ends, ends_room, found.values, values_room,
+            &found.size, &found.count);
+    need(answer == (fits ? DAACHORSE_DONE : DAACHORSE_NO_ROOM), "the answer of a listing", row);
+    need(found.size == wanted->size && found.count == wanted->count, "the size of a listing", row);
+    size_t size = fits ? found.size : 0, count = fits ? found.count : 0;
+    need(memcmp(found.bytes, wanted->bytes, size) == 0, "the bytes of a listing", row);
+    need(memcmp(found.ends, wanted->ends, count * sizeof *found.ends) == 0, "the ends of a listing", row);
+    need(memcmp(found.values, wanted->values, count * sizeof *found.values) == 0, "the values of a listing", row);
+    need(memcmp(found.bytes + size, before.bytes + size, WORD - size) == 0, "more bytes were written", row);
+    need(memcmp(found.ends + count, before.ends + count, (ROOM - count) * sizeof *found.ends) == 0, "more ends were written", row);
+    need(memcmp(found.values + count, before.values + count, (ROOM - count) * sizeof *found.values) == 0, "more values were written", row);
+}
+
+/* Compares the listing with what the rest of the row says, also that of an automaton that is built of it. */
+static void see_patterns(uint32_t kind, bool any_case, const pattern_list *list, size_t count, size_t row) {
+    pattern_list wanted = {.count = 0};
+    for (size_t i = 0; i < count; i++) {
+        char text[WORD];
+        uint32_t value;
+        need(scanf(" %1023[^:]:%" SCNu32, text, &value) == 2, "the table", row);
+        put(&wanted, text, strlen(text), value);
+    }
+    daachorse handle = DAACHORSE_EMPTY;
+    build(&handle, kind, true, any_case, list, row);
+    for (int again = 0; again < 2; again++) {
+        see_list(&handle, wanted.size, count, count, &wanted, row);
+        see_list(&handle, wanted.size + 1, count + 2, count + 3, &wanted, row);
+        if (wanted.size > 0)
+            see_list(&handle, wanted.size - 1, count, count, &wanted, row);
+        if (count > 0) {
+            see_list(&handle, wanted.size, count - 1, count, &wanted, row);
+            see_list(&handle, wanted.size, count, count - 1, &wanted, row);
+        }
+        build(&handle, DAACHORSE_STANDARD, false, any_case, &wanted, row);
+    }
+    daachorse_free(&handle);
+}
+
 int main(void) {
     char name[WORD], patterns[WORD], text[WORD];
     uint32_t kind, any_case;
     size_t count, row = 0;
     while (scanf("%1023s %" SCNu32 " %" SCNu32 " %1023s %1023s %zu", name, &kind, &any_case, patterns, text, &count) == 6) {
-        uint8_t bytes[WORD], haystack[WORD];
-        size_t bytes_len = 0, len = 0, ends[ROOM];
-        uint32_t values[ROOM];
-        daachorse_match wanted[ROOM];
-        search_fn *search = search_named(name);
         row++;
-        need(search != NULL && any_case < 2 && count < ROOM, "the table", row);
-        for (const char *at = patterns; strcmp(patterns, "none") != 0; at++) {
-            size_t size = strcspn(at, ",");
-            bytes_len = append(bytes, bytes_len, at, size);
-            ends[len] = bytes_len;
-            values[len] = (uint32_t)len;
-            len++;
-            at += size;
-            if (*at == 0)
-                break;
-        }
-        for (size_t i = 0; i < count; i++)
-            need(scanf("%zu-%zu-%" SCNu32, &wanted[i].start, &wanted[i].end, &wanted[i].value) == 3, "the table", row);
-        size_t haystack_len = append(haystack, 0, text, strlen(text));
-        for (int use_prefilter = 0; use_prefilter < 2; use_prefilter++) {
-            daachorse handle = DAACHORSE_EMPTY;
-            daachorse_match found[ROOM] = {{0, 0, 0}};
-            size_t written = 0;
-            need(daachorse_build(&handle, kind, use_prefilter, any_case, bytes, bytes_len, ends, len, values, len) == DAACHORSE_DONE, "build", row);
-            need(search(&handle, haystack, haystack_len, found, ROOM, &written) == DAACHORSE_DONE, name, row);
-            need(written == count, "the number of matches", row);
-            for (size_t i = 0; i < count; i++)
-                need(is_same(found[i], wanted[i]), "a match", row);
-            if (search == daachorse_find || search == daachorse_find_overlapping)
-                for (size_t piece = 1; piece < 4; piece++)
-                    for (size_t room = 1; room < 4; room++)
-                        see_stream(&handle, search == daachorse_find_overlapping, haystack, haystack_len, piece, room, wanted, count, row);
-            daachorse_free(&handle);
-        }
+        need(any_case < 2 && count < ROOM, "the table", row);
+        pattern_list list = patterns_in(patterns);
+        if (strcmp(name, "patterns") == 0)
+            see_patterns(kind, any_case, &list, count, row);
+        else
+            see_search(name, kind, any_case, &list, text, count, row);
     }
     need(feof(stdin) && row > 0, "the table", row + 1);
     printf("%zu rows\n", row);

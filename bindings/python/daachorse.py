@@ -64,9 +64,10 @@ _IN_HANDLE = ctypes.POINTER(_Handle)
 _BYTES = [ctypes.c_char_p, ctypes.c_size_t]
 _SIZE = ctypes.POINTER(ctypes.c_size_t)
 _SEARCH = [_IN_HANDLE, *_BYTES, ctypes.POINTER(_Match), ctypes.c_size_t, _SIZE]
-_PATTERNS = [*_BYTES, _SIZE, ctypes.c_size_t, ctypes.POINTER(ctypes.c_uint32), ctypes.c_size_t]
+_ROOM = [ctypes.POINTER(ctypes.c_uint8), ctypes.c_size_t]
+_ENDS_AND_VALUES = [_SIZE, ctypes.c_size_t, ctypes.POINTER(ctypes.c_uint32), ctypes.c_size_t]
 _EXPORTS = {
-    "daachorse_build": [_IN_HANDLE, ctypes.c_uint32, ctypes.c_bool, ctypes.c_bool, *_PATTERNS],
+    "daachorse_build": [_IN_HANDLE, ctypes.c_uint32, ctypes.c_bool, ctypes.c_bool, *_BYTES, *_ENDS_AND_VALUES],
     "daachorse_find": _SEARCH,
     "daachorse_find_overlapping": _SEARCH,
     "daachorse_find_overlapping_no_suffix": _SEARCH,
@@ -74,7 +75,8 @@ _EXPORTS = {
     "daachorse_is_match": [_IN_HANDLE, *_BYTES, ctypes.POINTER(ctypes.c_bool)],
     "daachorse_begin": [_IN_HANDLE, ctypes.c_bool],
     "daachorse_consume": [_IN_HANDLE, *_BYTES, ctypes.POINTER(_Match), ctypes.c_size_t, _SIZE, _SIZE],
-    "daachorse_write": [_IN_HANDLE, ctypes.POINTER(ctypes.c_uint8), ctypes.c_size_t, _SIZE],
+    "daachorse_write": [_IN_HANDLE, *_ROOM, _SIZE],
+    "daachorse_list": [_IN_HANDLE, *_ROOM, *_ENDS_AND_VALUES, _SIZE, _SIZE],
     "daachorse_read": [_IN_HANDLE, *_BYTES, _SIZE],
     "daachorse_free": [_IN_HANDLE],
 }
@@ -151,6 +153,20 @@ class Automaton:
             _need_done(answer)
             return bytes(room)
 
+    def patterns(self):
+        """Returns a list of the patterns that the automaton holds, each with its value.
+
+        They come in byte order, and equal ones as they were registered. One of the kind LEFTMOST_FIRST holds no pattern that
+        extends one registered before it, and one that disregards ASCII case holds a to z in place of A to Z.
+        """
+        with self._lock:
+            answer, size, count, listed = self._list(0, 0)
+            if answer == Refusal.NO_ROOM:
+                answer, size, count, listed = self._list(size, count)
+            _need_done(answer)
+        joined, ends, values = bytes(listed[0]), list(listed[1]), list(listed[2])
+        return [(joined[start:end], value) for start, end, value in zip([0, *ends], ends, values)]
+
     def find(self, haystack):
         """Yields matches that do not overlap, each as early as it can end."""
         return self._search(_library.daachorse_find, haystack)
@@ -200,6 +216,14 @@ class Automaton:
     def _call(self, export, *arguments):
         with self._lock:
             _need_done(export(self._handle, *arguments))
+
+    def _list(self, size, count):
+        """Lists the patterns in room for so many. Returns the answer, how many bytes and patterns there are, and the room."""
+        room = (ctypes.c_uint8 * size)(), (ctypes.c_size_t * count)(), (ctypes.c_uint32 * count)()
+        size, count = ctypes.c_size_t(), ctypes.c_size_t()
+        words = [word for it in room for word in (it, len(it))]
+        answer = _library.daachorse_list(self._handle, *words, size, count)
+        return answer, size.value, count.value, room
 
     def _search(self, export, haystack):
         """Searches until there is room for all matches: at first with little, and then with what is likely to be enough."""

@@ -30,16 +30,33 @@ ROWS = [
 ]
 
 
-def table():
-    """Yields the rows of the table that C and Rust are tested by too, in the form of ROWS."""
-    text = lambda word: b"" if word == "-" else bytes.fromhex(word)
-    with open(os.path.join(os.path.dirname(os.path.abspath(__file__)), "..", "rows"), encoding="ascii") as rows:
-        for row in rows:
-            name, kind, any_case, patterns, haystack, count, *matches = row.split()
-            assert any_case in ("0", "1") and int(count) == len(matches)
+def rows():
+    """Yields the rows of the table that C and Rust are tested by too, with what is found or listed as words."""
+    with open(os.path.join(os.path.dirname(os.path.abspath(__file__)), "..", "rows"), encoding="ascii") as lines:
+        for line in lines:
+            name, kind, any_case, patterns, haystack, count, *words = line.split()
+            assert any_case in ("0", "1") and int(count) == len(words)
             patterns = [] if patterns == "none" else [text(word) for word in patterns.split(",")]
-            matches = [tuple(map(int, it.split("-"))) for it in matches]
-            yield name, Kind(int(kind)), any_case == "1", patterns, text(haystack), matches
+            yield name, Kind(int(kind)), any_case == "1", patterns, text(haystack), words
+
+
+def text(word):
+    return b"" if word == "-" else bytes.fromhex(word)
+
+
+def table():
+    """Yields the rows of searches in the form of ROWS."""
+    for *row, words in rows():
+        if row[0] != "patterns":
+            yield *row, [tuple(map(int, it.split("-"))) for it in words]
+
+
+def listings():
+    """Yields the rows of listings: kind, whether ASCII case is disregarded, patterns, and what is listed."""
+    for name, kind, any_case, patterns, _haystack, words in rows():
+        if name == "patterns":
+            pairs = (it.split(":") for it in words)
+            yield kind, any_case, patterns, [(text(it), int(value)) for it, value in pairs]
 
 
 class AutomatonTest(unittest.TestCase):
@@ -63,6 +80,18 @@ class AutomatonTest(unittest.TestCase):
                         stream = automaton.stream(overlapping=name == "find_overlapping")
                         pieces = [haystack[at : at + size] for at in range(0, len(haystack), size)]
                         self.assertEqual([match for piece in [*pieces, b""] for match in stream.feed(piece)], matches)
+
+    def test_patterns(self):
+        for kind, any_case, patterns, listed in listings():
+            with self.subTest(kind=kind, any_case=any_case, patterns=patterns):
+                with Automaton(patterns, kind=kind, ascii_case_insensitive=any_case) as automaton:
+                    self.assertEqual(automaton.patterns(), listed)
+                again, values = [it for it, _ in listed], [value for _, value in listed]
+                with Automaton(again, values=values) as automaton:
+                    self.assertEqual(automaton.patterns(), listed)
+        many = [number.to_bytes(2, "big") for number in range(1000)]
+        with Automaton(reversed(many), values=range(2**32 - 1, 2**32 - 1001, -1)) as automaton:
+            self.assertEqual(automaton.patterns(), [(it, 2**32 - 1000 + at) for at, it in enumerate(many)])
 
     def test_stream(self):
         with Automaton([b"a", b"aa"]) as automaton:
@@ -113,6 +142,7 @@ class AutomatonTest(unittest.TestCase):
                 self.refused(Refusal.INVALID_AUTOMATON, lambda: Automaton.read(written[:end]))
         automaton.close()
         self.refused(Refusal.EMPTY_HANDLE, lambda: automaton.find(b"abcd"))
+        self.refused(Refusal.EMPTY_HANDLE, automaton.patterns)
 
     def test_threads(self):
         with Automaton(PATTERNS) as automaton:

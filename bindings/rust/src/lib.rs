@@ -129,6 +129,17 @@ extern "C" {
         written: *mut usize,
     ) -> u32;
     fn daachorse_write(handle: *mut Handle, out: *mut u8, room: usize, size: *mut usize) -> u32;
+    fn daachorse_list(
+        handle: *mut Handle,
+        bytes: *mut u8,
+        bytes_len: usize,
+        ends: *mut usize,
+        ends_len: usize,
+        values: *mut u32,
+        values_len: usize,
+        size: *mut usize,
+        count: *mut usize,
+    ) -> u32;
     fn daachorse_read(handle: *mut Handle, bytes: *const u8, len: usize, taken: *mut usize) -> u32;
     fn daachorse_free(handle: *mut Handle);
 }
@@ -313,6 +324,51 @@ impl Automaton {
         }
     }
 
+    /// Lists the patterns that the automaton holds, each with its value: in byte order, and equal ones as they were
+    /// registered.
+    ///
+    /// One of the kind [`Kind::LeftmostFirst`] holds no pattern that extends one registered before it, and one that
+    /// disregards the case of ASCII letters holds a to z in place of A to Z.
+    ///
+    /// ```
+    /// use daachorse_c::{Automaton, Kind};
+    ///
+    /// let patterns: [&[u8]; 3] = [b"b", b"abc", b"ab"];
+    /// let mut automaton = Automaton::new(Kind::Standard, true, patterns)?;
+    /// let listed = automaton.patterns()?;
+    /// assert_eq!(listed, [(b"ab".to_vec(), 2), (b"abc".to_vec(), 1), (b"b".to_vec(), 0)]);
+    /// # Ok::<(), daachorse_c::Refusal>(())
+    /// ```
+    ///
+    /// # Errors
+    ///
+    /// An allocation of the library failed.
+    pub fn patterns(&mut self) -> Result<Vec<(Vec<u8>, u32)>, Refusal> {
+        let (mut bytes, mut ends, mut values) = (Vec::new(), Vec::new(), Vec::new());
+        let (mut size, mut count) = (0, 0);
+        loop {
+            let answer = unsafe {
+                daachorse_list(
+                    &mut self.handle,
+                    bytes.as_mut_ptr(),
+                    bytes.len(),
+                    ends.as_mut_ptr(),
+                    ends.len(),
+                    values.as_mut_ptr(),
+                    values.len(),
+                    &mut size,
+                    &mut count,
+                )
+            };
+            if answer != Refusal::NO_ROOM {
+                return done(answer).map(|()| patterns_in(&bytes, &ends, &values));
+            }
+            bytes.resize(size, 0);
+            ends.resize(count, 0);
+            values.resize(count, 0);
+        }
+    }
+
     /// Finds matches that do not overlap, each as early as it can end.
     ///
     /// # Errors
@@ -408,6 +464,17 @@ impl Automaton {
             found.resize(room, found[0]);
         }
     }
+}
+
+/// The patterns that end in the bytes at each of these, each with its value.
+fn patterns_in(bytes: &[u8], ends: &[usize], values: &[u32]) -> Vec<(Vec<u8>, u32)> {
+    let mut start = 0;
+    let mut patterns = Vec::with_capacity(ends.len());
+    for (&end, &value) in ends.iter().zip(values) {
+        patterns.push((bytes[start..end].to_vec(), value));
+        start = end;
+    }
+    patterns
 }
 
 const NO_MATCH: Match = Match {
@@ -538,26 +605,52 @@ mod tests {
         (next(), next(), next() as u32)
     }
 
-    /// Of the table `bindings/rows`, by which C and Python are tested too.
+    /// The words of each row of the table `bindings/rows`, by which C and Python are tested too.
+    fn rows() -> impl Iterator<Item = Vec<&'static str>> {
+        let rows = include_str!("../../rows").lines();
+        rows.map(|row| row.split(' ').collect())
+    }
+
+    /// What a row says of a build, and the patterns.
+    fn settings(words: &[&str]) -> (Builder, Vec<Vec<u8>>) {
+        let kinds = [Kind::Standard, Kind::LeftmostLongest, Kind::LeftmostFirst];
+        let builder = Builder::new()
+            .kind(kinds[words[1].parse::<usize>().unwrap()])
+            .ascii_case_insensitive(words[2] == "1");
+        let patterns = match words[3] {
+            "none" => Vec::new(),
+            listed => listed.split(',').map(text).collect(),
+        };
+        (builder, patterns)
+    }
+
+    #[test]
+    fn each_row_is_listed() {
+        for words in rows().filter(|words| words[0] == "patterns") {
+            let pair = |word: &&str| {
+                let (pattern, value) = word.split_once(':').unwrap();
+                (text(pattern), value.parse::<u32>().unwrap())
+            };
+            let wanted: Vec<_> = words[6..].iter().map(pair).collect();
+            let (builder, patterns) = settings(&words);
+            let mut automaton = builder.build(patterns.iter().map(Vec::as_slice)).unwrap();
+            assert_eq!(automaton.patterns().unwrap(), wanted, "{words:?}");
+            let listed = wanted.iter().map(|(pattern, value)| (&pattern[..], *value));
+            let mut again = Builder::new().build_with_values(listed).unwrap();
+            assert_eq!(again.patterns().unwrap(), wanted, "{words:?}");
+        }
+    }
+
     #[test]
     fn each_row_is_found() {
-        for row in include_str!("../../rows").lines() {
-            let words: Vec<&str> = row.split(' ').collect();
-            let kind = [Kind::Standard, Kind::LeftmostLongest, Kind::LeftmostFirst]
-                [words[1].parse::<usize>().unwrap()];
-            let any_case = words[2] == "1";
-            let patterns: Vec<Vec<u8>> = match words[3] {
-                "none" => Vec::new(),
-                listed => listed.split(',').map(text).collect(),
-            };
+        for words in rows().filter(|words| words[0] != "patterns") {
+            let (builder, patterns) = settings(&words);
             let haystack = text(words[4]);
             let wanted: Vec<_> = words[6..].iter().map(|word| numbers(word)).collect();
             for use_prefilter in [false, true] {
                 let patterns = patterns.iter().map(Vec::as_slice);
-                let mut automaton = Builder::new()
-                    .kind(kind)
+                let mut automaton = builder
                     .use_prefilter(use_prefilter)
-                    .ascii_case_insensitive(any_case)
                     .build(patterns)
                     .unwrap();
                 let found = match words[0] {
@@ -566,14 +659,14 @@ mod tests {
                     "find_overlapping_no_suffix" => automaton.find_overlapping_no_suffix(&haystack),
                     _ => automaton.leftmost_find(&haystack),
                 };
-                assert_eq!(triples(found), wanted, "{row}");
+                assert_eq!(triples(found), wanted, "{words:?}");
                 if let "find" | "find_overlapping" = words[0] {
                     let mut stream = automaton.stream(words[0] != "find").unwrap();
                     let mut told = triples(stream.feed(b""));
                     for piece in haystack.chunks(2) {
                         told.extend(triples(stream.feed(piece)));
                     }
-                    assert_eq!(told, wanted, "{row}");
+                    assert_eq!(told, wanted, "{words:?}");
                 }
             }
         }

@@ -1,4 +1,5 @@
 mod Crossing
+mod Listed
 mod Registrations
 mod Telling
 mod Values

@@ -1,6 +1,7 @@
 pub mod Building
 pub mod Handle
 pub mod Held
+pub mod Listing
 pub mod Patterns
 pub mod Refusals
 pub mod Searches

@@ -14,10 +14,10 @@ use Rattle.daachorse_c.specs.Searches.{IsUseCause}
 abbrev pub form_of : Searches ℕ → List ℕ
 form_of a = written_form (number_form w32) a
 
--- the bytes stand at the beginning, and behind them what was there
-pub record StandsInFront (bytes old new : List ℕ) : Type 0 where
-  pub fits : length bytes ≤ length old
-  pub copied : new ≡ bytes ++ drop (length bytes) old
+-- they stand at the beginning, and behind them what was there
+pub record StandsInFront (items old new : List ℕ) : Type 0 where
+  pub fits : length items ≤ length old
+  pub copied : new ≡ items ++ drop (length items) old
 
 -- why an automaton is not written to this room, where `size` is told
 abbrev pub IsNotWritten : Searches ℕ → List ℕ → ℕ → Refusal → Type 0

@@ -1,8 +1,8 @@
 //! What a handle keeps, and what the calls of C ask of it.
 //!
 //! The layers above may rely on the first matches of a search in the haystack as the automaton reads it, as
-//! many as there is room for, on whether a pattern occurs, on the written form, where there is room for it, and
-//! on a stream telling its next matches.
+//! many as there is room for, on whether a pattern occurs, on the written form and the listing, where there is room for
+//! them, and on a stream telling its next matches.
 
 ghost use Rattle.std.specs.Prelude.{◌≡◌, ◌≢◌, ◌↔◌, [], None, IfErr, IfOk, IsTrue, OnErr, OnOk, length};
 ghost use Rattle.daachorse_model.specs.declared.MatchKind.TheVariants.{Standard};
@@ -11,12 +11,14 @@ ghost use Rattle.daachorse_model.specs.Matches.{overlapping};
 ghost use Rattle.daachorse_model.specs.Units.{byte_width};
 ghost use Rattle.daachorse_bytewise.specs.Automata.{dictionary_of, kind_of};
 ghost use Rattle.daachorse_c.specs.declared.refusal.Refusal.TheVariants.{WrongKind};
+ghost use Rattle.daachorse_c.specs.Listing.{IsNotListed, Lists, arrays};
 ghost use Rattle.daachorse_c.specs.Searches.{IsFor, found_by};
 ghost use Rattle.daachorse_c.specs.Streaming.{HasBegun, HasConsumed, IsIdleCause};
 ghost use Rattle.daachorse_c.specs.Writes.{Writes};
 ghost use Rattle.daachorse_c.specs.Written.{IsNotWritten, StandsInFront, form_of};
 
 use crate::found::{CMatch, fill};
+use crate::listing::Listing;
 use crate::refusal::Refusal;
 use crate::room::copy_to_front;
 use crate::search::Search;
@@ -107,6 +109,34 @@ impl Automaton {
         let form = self.searches.serialize(alloc)?;
         *size = form.len();
         copy_to_front(&form, out)
+    }
+
+    /// Writes the patterns to the beginning of three arrays, as a build takes them, in byte order and equal ones
+    /// as they were registered; to `size` how many bytes they have, and to `count` how many they are.
+    ///
+    /// # Errors
+    ///
+    /// An allocation failed, and 0 is written to `size` and `count`; or there is too little room. Nothing is
+    /// written to the arrays then.
+    pub(crate) fn list(
+        &self,
+        alloc: Global,
+        bytes: &mut [u8],
+        ends: &mut [usize],
+        values: &mut [u32],
+        size: &mut usize,
+        count: &mut usize,
+    ) -> Result<(), Refusal>
+        ensures listed { OnOk result (Lists self.now.searches (arrays bytes.old ends.old values.old) (arrays bytes.new ends.new values.new) size.new count.new) }
+        ensures refused { IfErr result (IsNotListed self.now.searches (arrays bytes.old ends.old values.old) size.new count.new) }
+        ensures unwritten { OnErr result (arrays bytes.new ends.new values.new ≡ arrays bytes.old ends.old values.old) }
+    {
+        *size = 0;
+        *count = 0;
+        let listing = Listing::new(alloc, &self.searches)?;
+        *size = listing.bytes.len();
+        *count = listing.ends.len();
+        listing.copy_to_front(bytes, ends, values)
     }
 
     /// Begins a stream, for all matches or for those that do not overlap. The one before it ends.

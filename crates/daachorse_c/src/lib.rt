@@ -1,9 +1,9 @@
 //! Automata over bytes for C, and for what can call C.
 //!
 //! C keeps a [`Handle`](handle::Handle), which is empty at first, and passes its address.
-//! [`daachorse_build`] fills it, the searches use it, and [`daachorse_free`] empties it again. Each
-//! call answers 0, or the number of a [`Refusal`](refusal::Refusal). The header `bindings/c/daachorse.h` says
-//! what C has to keep to.
+//! [`daachorse_build`] fills it, the searches use it, [`daachorse_list`] gives its patterns, and
+//! [`daachorse_free`] empties it again. Each call answers 0, or the number of a [`Refusal`](refusal::Refusal).
+//! The header `bindings/c/daachorse.h` says what C has to keep to.
 #![tactic(auto)]
 
 ghost use Rattle.std.specs.Prelude.{◌≡◌, ◌≢◌, ◌↔◌, [], None, IsNone, IsSomeAnd, IsTrue, false, length};
@@ -13,6 +13,7 @@ ghost use Rattle.daachorse_model.specs.Units.{byte_width};
 ghost use Rattle.daachorse_bytewise.specs.Automata.{dictionary_of};
 ghost use Rattle.daachorse_c.specs.declared.search.Search.TheVariants.{Find, Leftmost, NoSuffix, Overlapping};
 ghost use Rattle.daachorse_c.specs.Building.{IsBuildCause, IsBuilt};
+ghost use Rattle.daachorse_c.specs.Listing.{IsListCause, Lists, arrays};
 ghost use Rattle.daachorse_c.specs.Refusals.{IsDoneOr};
 ghost use Rattle.daachorse_c.specs.Searches.{IsSearchOf, IsUseCause};
 ghost use Rattle.daachorse_c.specs.Streaming.{HasBegun, IsBeginCause, IsConsumption};
@@ -30,6 +31,7 @@ mod automaton;
 mod building;
 mod found;
 mod handle;
+mod listing;
 mod loose;
 mod patterns;
 mod reading;
@@ -277,6 +279,44 @@ pub extern "C" fn daachorse_write(
         return Refusal::EmptyHandle.number();
     };
     let answer = automaton.write(alloc, out, size);
+    handle.put(automaton);
+    match answer {
+        Ok(()) => DONE,
+        Err(refusal) => refusal.number(),
+    }
+}
+
+/// Writes the patterns that the automaton holds to the beginnings of three arrays, in the form in which
+/// [`daachorse_build`] takes them: in byte order, and equal ones as they were registered.
+///
+/// Pattern `i`, counted from 0, stands in `bytes` between the end before it, or 0, and `ends[i]`, and has the value
+/// `values[i]`. How many bytes they have is written to `size`, and how many they are to `count`.
+///
+/// # Errors
+///
+/// The numbers of [`Refusal::EmptyHandle`] and `OutOfMemory`, where 0 is written to `size` and `count`; and of `NoRoom`,
+/// where these say how much room is needed. Nothing is written to the arrays then.
+#[unsafe(no_mangle)]
+pub extern "C" fn daachorse_list(
+    alloc: Global,
+    handle: &mut Handle,
+    bytes: &mut [u8],
+    ends: &mut [usize],
+    values: &mut [u32],
+    size: &mut usize,
+    count: &mut usize,
+) -> u32
+    ensures kept { handle.new.automaton ≡ handle.old.automaton }
+    ensures listed { result ≡ 0 → IsSomeAnd handle.old.automaton (λ a. Lists a.searches (arrays bytes.old ends.old values.old) (arrays bytes.new ends.new values.new) size.new count.new) }
+    ensures refused { IsDoneOr (IsListCause handle.old.automaton (arrays bytes.old ends.old values.old) size.new count.new) result }
+    ensures unwritten { result ≢ 0 → arrays bytes.new ends.new values.new ≡ arrays bytes.old ends.old values.old }
+{
+    *size = 0;
+    *count = 0;
+    let Some(automaton) = handle.take(alloc) else {
+        return Refusal::EmptyHandle.number();
+    };
+    let answer = automaton.list(alloc, bytes, ends, values, size, count);
     handle.put(automaton);
     match answer {
         Ok(()) => DONE,

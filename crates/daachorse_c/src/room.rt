@@ -1,4 +1,4 @@
-//! Bytes for C, where there is room for them.
+//! Bytes and numbers for C, where there is room for them.
 
 ghost use Rattle.std.specs.Prelude.{◌≡◌, ◌<◌, ◌≤◌, ◌++◌, IfErr, OnErr, OnOk, drop, length};
 ghost use Rattle.daachorse_c.specs.declared.refusal.Refusal.TheVariants.{NoRoom};
@@ -19,6 +19,14 @@ pub(crate) fn copy_to_front(bytes: &[u8], out: &mut [u8]) -> Result<(), Refusal>
     if out.len() < bytes.len() {
         return Err(Refusal::NoRoom);
     }
-    out[..bytes.len()].copy_from_slice(bytes);
+    put_in_front(bytes, out);
     Ok(())
+}
+
+/// Copies items to the beginning of `out`.
+pub(crate) fn put_in_front<T: Copy>(items: &[T], out: &mut [T])
+    requires { length items.now ≤ length out.old }
+    ensures { out.new ≡ items.now ++ drop (length items.now) out.old }
+{
+    out[..items.len()].copy_from_slice(items);
 }

@@ -1,0 +1,71 @@
+-- What a listing for C promises, and why it is refused: the patterns of an automaton, in the form in which a build takes them.
+use Rattle.std.specs.Prelude.{◌≡◌, ◌⊎◌, ℕ, ◌<◌, List, [], ◌∷◌, ◌++◌, length, Option, IsSomeAnd}
+use Rattle.daachorse_model.specs.Prefixes.{IsListing}
+use Rattle.daachorse_bytewise.specs.Automata.{Automaton as Searches, dictionary_of}
+use Rattle.daachorse_c.specs.declared.listing.Listing.{Listing}
+use Rattle.daachorse_c.specs.declared.refusal.Refusal.{Refusal}
+use Rattle.daachorse_c.specs.declared.refusal.Refusal.TheVariants.{NoRoom, OutOfMemory}
+use Rattle.daachorse_c.specs.Held.{Held}
+use Rattle.daachorse_c.specs.Patterns.{ArePatterns, registrations}
+use Rattle.daachorse_c.specs.Searches.{IsUseCause}
+use Rattle.daachorse_c.specs.Written.{StandsInFront}
+
+-- three arrays as C has them: bytes, where patterns end in them, and values
+pub record Arrays : Type 0 where
+  pub bytes : List ℕ
+  pub ends : List ℕ
+  pub values : List ℕ
+
+abbrev pub arrays : List ℕ → List ℕ → List ℕ → Arrays
+arrays bytes ends values = record { bytes = bytes; ends = ends; values = values }
+
+abbrev pub arrays_of : Listing → Arrays
+arrays_of l = arrays l.bytes.items l.ends.items l.values.items
+
+-- a pattern and its value behind the others
+abbrev pub one_more : Arrays → List ℕ → ℕ → Arrays
+one_more p pattern value = arrays (p.bytes ++ pattern) (p.ends ++ length (p.bytes ++ pattern) ∷ []) (p.values ++ value ∷ [])
+
+-- where the last pattern ends, or `start` if there is none
+abbrev pub last_end : ℕ → List ℕ → ℕ
+last_end start [] = start
+last_end start (e ∷ es) = last_end e es
+
+-- They are the patterns that the automaton holds, in byte order, equal ones as they were registered, and no byte stands behind the last.
+pub record AreListed (a : Searches ℕ) (p : Arrays) : Type 0 where
+  pub right : ArePatterns p.bytes p.ends p.values
+  pub whole : last_end 0 p.ends ≡ length p.bytes
+  pub listing : IsListing (dictionary_of a) (registrations p.bytes 0 p.ends p.values)
+
+-- the same, of so many bytes and so many patterns
+pub record AreCounted (a : Searches ℕ) (p : Arrays) (size count : ℕ) : Type 0 where
+  pub listed : AreListed a p
+  pub bytes : size ≡ length p.bytes
+  pub patterns : count ≡ length p.ends
+
+-- they stand at the beginning of the arrays, and behind them what was there
+pub record StandInFront (p old new : Arrays) : Type 0 where
+  pub bytes : StandsInFront p.bytes old.bytes new.bytes
+  pub ends : StandsInFront p.ends old.ends new.ends
+  pub values : StandsInFront p.values old.values new.values
+
+-- some array is too short for them
+abbrev pub LackRoom : Arrays → Arrays → Type 0
+LackRoom p room = (length room.bytes < length p.bytes) ⊎ (length room.ends < length p.ends) ⊎ (length room.values < length p.values)
+
+-- the automaton's patterns stand at the beginning of the arrays, and are told to be so many bytes and so many patterns
+abbrev pub Lists : Searches ℕ → Arrays → Arrays → ℕ → ℕ → Type 0
+Lists a old new size count = (p : Arrays) × AreCounted a p size count × StandInFront p old new
+
+-- no number is told
+abbrev pub TellsNone : ℕ → ℕ → Type 0
+TellsNone size count = (size ≡ 0) × (count ≡ 0)
+
+-- why an automaton's patterns are not written to these arrays, and what is told then
+abbrev pub IsNotListed : Searches ℕ → Arrays → ℕ → ℕ → Refusal → Type 0
+IsNotListed a room size count r =
+    ((r ≡ OutOfMemory) × TellsNone size count) ⊎ ((r ≡ NoRoom) × ((p : Arrays) × AreCounted a p size count × LackRoom p room))
+
+-- why a call to list is refused, and what is told then
+abbrev pub IsListCause : Option Held → Arrays → ℕ → ℕ → Refusal → Type 0
+IsListCause held room size count r = (IsUseCause held r × TellsNone size count) ⊎ IsSomeAnd held (λ a. IsNotListed a.searches room size count r)

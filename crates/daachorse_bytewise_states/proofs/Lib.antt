@@ -14,3 +14,4 @@ pub mod EdgeLaws
 pub mod ListingLaws
 pub mod FormLaws
 pub mod GroupedLaws
+pub mod EdgeByteLaws

@@ -9,3 +9,5 @@ pub mod Equality
 pub mod Edges
 pub mod PartForms
 pub mod Grouped
+pub mod EdgeBytes
+pub mod StateRows

@@ -11,6 +11,7 @@ mod leftmost;
 mod packing;
 mod standard;
 pub mod state;
+mod state_rows;
 pub mod states;
 mod unchecked;
 pub mod views;

@@ -1,0 +1,102 @@
+//! Rows of the states near the root.
+//!
+//! The layers above may rely on [`States::rows`] being right for both views of the states.
+
+ghost use Rattle.std.specs.Prelude.{◌≡◌, ◌≤◌, length, IfOk};
+ghost use Rattle.daachorse_rows.specs.Rows.{AreLabels};
+ghost use Rattle.daachorse_bytewise_states.specs.EdgeBytes.{AreListed, MarksBases, MarksEdges};
+ghost use Rattle.daachorse_bytewise_states.specs.Parts.{content, count};
+ghost use Rattle.daachorse_bytewise_states.specs.StateRows.{HasRows};
+
+use crate::states::States;
+use daachorse_core::MatchKind;
+use daachorse_rows::rows::Rows;
+use std::alloc::{AllocError, Allocator};
+
+impl<V: Copy, A: Allocator> States<V, A> {
+    /// Rows of the states near the root, in at most 256 KiB, and two bytes beside them for each
+    /// element.
+    ///
+    /// # Errors
+    ///
+    /// An allocation failed.
+    pub fn rows<L: Allocator + Copy>(&self, alloc: L) -> Result<Rows<L>, AllocError>
+        ensures { IfOk result (HasRows self.now) }
+    {
+        let bytes = self.edge_bytes(alloc)?;
+        let count = self.num_elements() as u32;
+        // A field is read for what the parts keep.
+        let _num_states = self.num_states;
+        match self.kind() {
+            MatchKind::Standard => {
+                let view = self.standard();
+                Rows::new(alloc, &view, bytes.as_slice(), count)
+            }
+            MatchKind::LeftmostLongest | MatchKind::LeftmostFirst => {
+                let view = self.leftmost();
+                Rows::new(alloc, &view, bytes.as_slice(), count)
+            }
+        }
+    }
+
+    /// The bytes that lead from an element to another, in order.
+    fn edge_bytes<L: Allocator + Copy>(&self, alloc: L) -> Result<Vec<u8, L>, AllocError>
+        ensures few { IfOk result (λ v. length v.items ≤ 256) }
+        ensures all { IfOk result (λ v. AreLabels (content self.now) (λ label unit. label ≡ unit) v.items) }
+    {
+        let bases = self.mark_bases(alloc)?;
+        let edges = self.mark_edges(alloc, &bases)?;
+        let bytes = list_marked(alloc, &edges)?;
+        // A field is read for what the parts keep.
+        let _num_states = self.num_states;
+        Ok(bytes)
+    }
+
+    /// Of each element whether it is the base of one.
+    fn mark_bases<L: Allocator>(&self, alloc: L) -> Result<Vec<bool, L>, AllocError>
+        ensures { IfOk result (λ v. MarksBases self.now (count self.now) v.items) }
+    {
+        // A field is read for what the parts keep.
+        let _num_states = self.num_states;
+        let mut marks = Vec::from_elem(alloc, false, self.num_elements())?;
+        for element in 0..self.num_elements() {
+            if let Some(base) = self.base_at(element) {
+                marks[base.get() as usize] = true;
+            }
+        }
+        Ok(marks)
+    }
+
+    /// Of each byte whether it leads to an element from one of these bases.
+    fn mark_edges<L: Allocator>(
+        &self,
+        alloc: L,
+        bases: &Vec<bool, L>,
+    ) -> Result<Vec<bool, L>, AllocError>
+        requires { length bases.now.items ≡ count self.now }
+        ensures { IfOk result (λ v. MarksEdges self.now bases.now.items (count self.now) v.items) }
+    {
+        let mut marks = Vec::from_elem(alloc, false, 256)?;
+        for element in 0..self.num_elements() {
+            let check = self.check_at(element);
+            if bases[element ^ check as usize] {
+                marks[check as usize] = true;
+            }
+        }
+        Ok(marks)
+    }
+}
+
+/// The bytes that are marked, in order.
+fn list_marked<L: Allocator>(alloc: L, marks: &Vec<bool, L>) -> Result<Vec<u8, L>, AllocError>
+    requires { length marks.now.items ≡ 256 }
+    ensures { IfOk result (λ v. AreListed marks.now.items 256 v.items) }
+{
+    let mut bytes = Vec::new(alloc);
+    for byte in 0..256u32 {
+        if marks[byte as usize] {
+            bytes.push(byte as u8)?;
+        }
+    }
+    Ok(bytes)
+}

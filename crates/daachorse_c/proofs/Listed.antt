@@ -1,17 +1,8 @@
 -- A pattern behind the others.
 use Rattle.std.proofs.Common.{◌≡◌, ℕ, ◌-◌, ◌≤◌, List, [], ◌∷◌, ◌++◌, length, drop, take, slice_range, refl, ap, ◌∙◌, length-append, arith}
 use Rattle.std.proofs.lemmas.List.{drop-append-le, drop_at, length-drop, length_push, take-append-le, take_all}
-use Rattle.daachorse_c.specs.Listing.{Arrays, last_end, one_more}
-use Rattle.daachorse_c.specs.Patterns.{AreEnds, ArePatterns, registrations}
-
--- the patterns with their values
-abbrev pub entries : Arrays → List (List ℕ × ℕ)
-entries p = registrations p.bytes 0 p.ends p.values
-
--- they are patterns, and no byte stands behind the last
-pub record AreWhole (p : Arrays) : Type 0 where
-  pub right : ArePatterns p.bytes p.ends p.values
-  pub whole : last_end 0 p.ends ≡ length p.bytes
+use Rattle.daachorse_c.specs.Listing.{Arrays, AreWhole, entries, last_end, one_more}
+use Rattle.daachorse_c.specs.Patterns.{AreEnds, registrations}
 
 module _ (bytes w : List ℕ) where
   before : (start e : ℕ) → start ≤ e → e ≤ length bytes → slice_range (bytes ++ w) start e ≡ slice_range bytes start e

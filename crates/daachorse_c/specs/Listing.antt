@@ -31,11 +31,19 @@ abbrev pub last_end : ℕ → List ℕ → ℕ
 last_end start [] = start
 last_end start (e ∷ es) = last_end e es
 
--- They are the patterns that the automaton holds, in byte order, equal ones as they were registered, and no byte stands behind the last.
-pub record AreListed (a : Searches ℕ) (p : Arrays) : Type 0 where
+-- they are patterns as a build takes them, and no byte stands behind the last
+pub record AreWhole (p : Arrays) : Type 0 where
   pub right : ArePatterns p.bytes p.ends p.values
   pub whole : last_end 0 p.ends ≡ length p.bytes
-  pub listing : IsListing (dictionary_of a) (registrations p.bytes 0 p.ends p.values)
+
+-- the patterns, each with its value
+abbrev pub entries : Arrays → List (List ℕ × ℕ)
+entries p = registrations p.bytes 0 p.ends p.values
+
+-- they are the patterns that the automaton holds, in byte order, and equal ones as they were registered
+pub record AreListed (a : Searches ℕ) (p : Arrays) : Type 0 where
+  pub whole : AreWhole p
+  pub listing : IsListing (dictionary_of a) (entries p)
 
 -- the same, of so many bytes and so many patterns
 pub record AreCounted (a : Searches ℕ) (p : Arrays) (size count : ℕ) : Type 0 where

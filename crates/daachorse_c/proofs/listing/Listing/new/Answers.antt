@@ -2,8 +2,8 @@
 use Rattle.std.proofs.Common.{◌≡◌, ◌∷◌, [], ◌++◌, sym, ap, ◌∙◌, subst, append_assoc}
 use Rattle.daachorse_model.specs.Prefixes.{IsListing}
 use Rattle.daachorse_bytewise.specs.Automata.{dictionary_of}
-use Rattle.daachorse_c.specs.Listing.{arrays_of}
-use Rattle.daachorse_c.proofs.Listed.{AreWhole, entries, entries-more, whole-more}
+use Rattle.daachorse_c.specs.Listing.{AreWhole, arrays_of, entries}
+use Rattle.daachorse_c.proofs.Listed.{entries-more, whole-more}
 use Rattle.daachorse_c.proofs.listing.Listing.new.Goals as goal
 
 pub loop-item-preserved : goal.loop-item-preserved

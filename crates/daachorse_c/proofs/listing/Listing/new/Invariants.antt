@@ -2,8 +2,7 @@
 use Rattle.std.proofs.Common.{◌++◌}
 use Rattle.daachorse_model.specs.Prefixes.{IsListing}
 use Rattle.daachorse_bytewise.specs.Automata.{dictionary_of}
-use Rattle.daachorse_c.specs.Listing.{arrays_of}
-use Rattle.daachorse_c.proofs.Listed.{AreWhole, entries}
+use Rattle.daachorse_c.specs.Listing.{AreWhole, arrays_of, entries}
 use Rattle.daachorse_c.proofs.listing.Listing.new.Given as goal
 
 abbrev pub invariant-loop-item : goal.invariant-loop-item

@@ -3,6 +3,7 @@ pub mod Automata
 pub mod WrittenForms
 pub mod ReadForms
 pub mod Standings
+pub mod Accelerated
 pub use Rattle.daachorse_core.specs.Refusals
 pub use Rattle.daachorse_listing.specs.Listing
 pub use Rattle.daachorse_patterns.specs.Folding

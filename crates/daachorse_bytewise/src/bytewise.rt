@@ -26,6 +26,7 @@ ghost use Rattle.daachorse_core.specs.Seen.{units};
 ghost use Rattle.daachorse_bytewise.specs.Standings.{IsFindStandingIn, IsOverlappingStandingIn};
 ghost use Rattle.daachorse_bytewise.specs.Building.{HoldsPatterns, IsBuildRefusal, IsBuiltOf, IsRefusalOf, kept_filter};
 
+pub mod accelerated;
 pub mod builder;
 mod by_kind;
 pub mod iter;
@@ -33,6 +34,7 @@ mod replacing;
 pub mod states;
 mod written;
 
+pub use crate::bytewise::accelerated::Accelerated;
 pub use crate::bytewise::builder::DoubleArrayAhoCorasickBuilder;
 use crate::bytewise::iter::{
     FindIterator, FindOverlappingIterator, FindOverlappingNoSuffixIterator,

@@ -6,6 +6,8 @@
 #![tactic(auto)]
 
 #[cfg(test)]
+mod accelerated;
+#[cfg(test)]
 mod automata;
 #[cfg(test)]
 mod bytewise;

@@ -1,0 +1,94 @@
+//! The worked rows over bytes where the states near the root have rows, and each request for memory refused.
+
+ghost use Rattle.std.specs.Prelude.{◌≡◌};
+ghost use Rattle.daachorse_model.specs.declared.MatchKind.TheVariants.{Standard};
+
+use crate::automata::{bytewise, bytewise_by, in_bytes};
+use crate::expect;
+use crate::finding::{Found, gives, gives_leftmost};
+use crate::requests::answer_of;
+use crate::rows::{FOLDED_ROWS, FOLDING_WAYS, ROWS, Row, Search, WAYS, Way};
+use daachorse::bytewise::Accelerated;
+use daachorse::{MatchKind, Result};
+use refusing::{Answer, Call, Refusing, each_request};
+use std::alloc::{Allocator, Global};
+
+/// Whether a search of a standard automaton finds just these matches.
+fn finds_standard(
+    accelerated: &Accelerated<'_, u32>,
+    search: Search,
+    haystack: &[u8],
+    expected: &[Found],
+) -> bool
+    requires { accelerated.now.automaton.parts.kind ≡ Standard }
+{
+    match search {
+        Search::Overlapping => gives(accelerated.find_overlapping_iter(haystack), expected),
+        Search::NoSuffix => gives(
+            accelerated.find_overlapping_no_suffix_iter(haystack),
+            expected,
+        ),
+        Search::Standard => gives(accelerated.find_iter(haystack), expected),
+        Search::Leftmost(_) => false,
+    }
+}
+
+/// Whether the search finds just these matches.
+fn finds(
+    accelerated: &Accelerated<'_, u32>,
+    search: Search,
+    haystack: &[u8],
+    expected: &[Found],
+) -> bool {
+    if !accelerated.automaton().match_kind().is_standard() {
+        return gives_leftmost(accelerated.leftmost_find_iter(haystack), expected);
+    }
+    finds_standard(accelerated, search, haystack, expected)
+}
+
+/// Whether a row holds of an automaton that comes about this way, with rows of its states.
+fn holds(alloc: Global, way: Way, row: &Row) -> Result<bool> {
+    let (_, search, patvals, haystack, expected) = *row;
+    let patvals = in_bytes(alloc, patvals)?;
+    let automaton = bytewise_by(alloc, way, search.kind(), &patvals)?;
+    let accelerated = automaton.accelerate(alloc)?;
+    Ok(finds(&accelerated, search, haystack.as_bytes(), expected))
+}
+
+#[test]
+fn rows_hold_of_an_accelerated_automaton(rt: HostRuntime) {
+    for row in ROWS {
+        expect(&rt, holds(rt.alloc(), WAYS[0], row) == Ok(true), row.0);
+    }
+    for row in FOLDED_ROWS {
+        expect(
+            &rt,
+            holds(rt.alloc(), FOLDING_WAYS[0], row) == Ok(true),
+            row.0,
+        );
+    }
+}
+
+/// Whether an automaton with rows finds what it should.
+fn finds_with_rows<A: Allocator + Copy>(alloc: A) -> Result<bool> {
+    let automaton = bytewise(alloc, MatchKind::Standard, &[(b"ab", 0), (b"b", 1)])?;
+    let accelerated = automaton.accelerate(alloc)?;
+    Ok(gives(
+        accelerated.find_overlapping_iter(b"ab"),
+        &[(0, 2, 0), (1, 2, 1)],
+    ))
+}
+
+/// A build of an automaton, and of rows of its states.
+struct Accelerates;
+
+impl Call for Accelerates {
+    fn answer(&self, heap: &Refusing<Global>) -> Answer {
+        answer_of(&finds_with_rows(heap))
+    }
+}
+
+#[test]
+fn each_request_of_accelerate_may_be_refused(rt: HostRuntime) {
+    expect(&rt, each_request(rt.alloc(), &Accelerates), "accelerate");
+}

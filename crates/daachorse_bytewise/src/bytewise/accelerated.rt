@@ -36,9 +36,10 @@ use std::marker::Model;
 /// while it stands at a state with a row, and follows no link. Below these states it looks at the
 /// automaton as any search does. What is found is the same.
 ///
-/// It pays where much is searched and most bytes lead to states with rows: with up to some 50,000
-/// states, and where few of the 256 bytes occur in patterns. The rows take at most 256 KiB, and two
-/// bytes for each element of the automaton stand beside them.
+/// It pays where much is searched and most bytes are read at states with rows: with some thousands
+/// of states, where few of the 256 bytes occur in patterns. A leftmost search gains less than the
+/// standard ones. The rows take at most 256 KiB, and two bytes for each element of the automaton
+/// stand beside them.
 #[derive(Drop)]
 pub struct Accelerated<'a, V: Copy, A: Allocator = Global> {
     automaton: &'a DoubleArrayAhoCorasick<V, A>,

@@ -3,20 +3,13 @@
 //! that was written.
 #![tactic(auto)]
 
-use crate::command::run_program;
-use crate::inputs::FileInputs;
-use crate::sink::WriterSink;
+use daacfind_command::command::run_program;
+use daacfind_command::inputs::FileInputs;
+use daacfind_command::sink::WriterSink;
 use daachorse::errors::DaachorseError;
 use std::alloc::AllocError;
 use std::io::{self, BufWriter};
 use std::process::ExitCode;
-
-mod command;
-mod inputs;
-mod mode;
-mod run;
-mod sink;
-mod written;
 
 fn main(rt: HostRuntime) -> ExitCode {
     match status(&rt) {
@@ -40,6 +33,3 @@ fn status(rt: &HostRuntime) -> Result<u8, DaachorseError> {
     )?;
     Ok(status)
 }
-
-#[cfg(test)]
-mod tests;

@@ -16,6 +16,8 @@ mod changed;
 #[cfg(test)]
 mod charwise;
 #[cfg(test)]
+mod command;
+#[cfg(test)]
 mod corpus;
 #[cfg(test)]
 mod cuts;
@@ -45,6 +47,10 @@ mod rows;
 mod steppers;
 #[cfg(test)]
 mod texts;
+#[cfg(test)]
+mod tokens;
+#[cfg(test)]
+mod uses;
 #[cfg(test)]
 mod values;
 #[cfg(test)]

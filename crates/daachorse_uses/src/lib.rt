@@ -9,6 +9,4 @@ pub mod lookup;
 pub mod redact;
 pub mod redactor;
 pub mod rules;
-#[cfg(test)]
-mod tests;
 pub mod words;

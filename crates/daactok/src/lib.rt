@@ -196,6 +196,3 @@ fn part<V: Copy>(text: &str, start: usize, end: usize, value: Option<V>) -> Toke
         value,
     }
 }
-
-#[cfg(test)]
-mod tests;

@@ -1,9 +1,0 @@
--- The chain gives the pieces.
-use Rattle.std.proofs.Common.{◌==◌, rules}
-use Rattle.std.proofs.lemmas.Iterator.Consumers.{map_from_collect}
-use Rattle.std.proofs.lemmas.Iterator.Splits.{YieldsList-from_slice_split}
-use borrow.Author.Tests.{tests}
-use Rattle.daacfind.proofs.run.pieces.Goals as goal
-
-pub returns : goal.returns
-returns g c = map_from_collect _ c.collect.ensures.ran (YieldsList-from_slice_split _ (λ b. b == 10) c.args.file.now c.split.ensures.rest c.split.ensures.done c.split.ensures.closure (λ x b q k. search (rules, tests)))

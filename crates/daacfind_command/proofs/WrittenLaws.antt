@@ -1,0 +1,50 @@
+-- What a run wrote is read as the automaton that was written: so it is refused for want of memory alone, it is of the kind that it was written for, and what it finds is what the pattern file asks for.
+use Rattle.std.proofs.Common.{◌≡◌, ◌⊎◌, ◌^◌, ◌<◌, ℕ, false, List, ◌++◌, ap, subst, ◌∙◌}
+use Rattle.std.specs.Int.{w32}
+use Rattle.daachorse_core.specs.declared.errors.DaachorseError.{DaachorseError}
+use Rattle.daachorse_core.specs.Refusals.{IsOutOfMemory}
+use Rattle.daachorse_model.specs.declared.MatchKind.{MatchKind}
+use Rattle.daachorse_model.specs.Folding.{as_read}
+use Rattle.daachorse_model.specs.Program.{match_text, pattern_lines}
+use Rattle.daachorse_serializer.specs.Forms.{number_form, take_number}
+use Rattle.daachorse_serializer.specs.Laws.{number_law}
+use Rattle.daachorse_bytewise.specs.Automata.{Automaton as Searches, dictionary_of, kind_of}
+use Rattle.daachorse_bytewise.specs.Building.{IsBuiltOf}
+use Rattle.daachorse_bytewise.specs.ReadForms.{GivesAutomaton, GivesNoAutomaton}
+use Rattle.daachorse_bytewise.specs.WrittenForms.{IsAutomaton, without_depths, written_form}
+use Rattle.daachorse_bytewise.proofs.WrittenLaws.{gives_written, refuses_written}
+use Rattle.daacfind_command.specs.declared.mode.Mode.{Mode}
+use Rattle.daacfind_command.specs.Modes.{found_by, kind_of_mode, text_of_mode}
+use Rattle.daacfind_command.specs.Runs.{value_gives}
+use Rattle.daacfind_command.specs.Written.{IsFormOf, IsOfAnotherKind, IsTextBy}
+use Rattle.daacfind_command.proofs.Built.{text_of_built}
+
+-- the bytes of an automaton that was built of the lines
+pub form_of_built : (mode : Mode) (patterns : List ℕ) (kind : MatchKind) (a : Searches ℕ) (bytes : List ℕ) → kind ≡ kind_of_mode mode → IsBuiltOf value_gives kind (pattern_lines patterns) a → kind_of a ≡ kind → a.folds ≡ false
+    → IsAutomaton (λ v. v < 2 ^ 32) a → bytes ≡ written_form (number_form w32) a → IsFormOf mode patterns bytes
+form_of_built mode patterns kind a bytes is built of_kind folds is_one form =
+    let P : MatchKind → Type 0 = λ k. IsBuiltOf value_gives k (pattern_lines patterns) a in
+    record { automaton = a; built = subst P is built; kind = of_kind ∙ is; folds = folds; is_one = is_one; form = form }
+
+module _ (wrote : Mode) (patterns bytes rest : List ℕ) (form : IsFormOf wrote patterns bytes) where
+  abbrev pub all_bytes : List ℕ
+  all_bytes = bytes ++ rest
+
+  -- what the bytes give is what was written
+  gives_same : (a : Searches ℕ) (left : List ℕ) → GivesAutomaton (take_number w32) all_bytes a left → without_depths a ≡ without_depths form.automaton
+  gives_same = gives_written (number_law w32) all_bytes rest form.automaton form.is_one (ap (λ l. l ++ rest) form.form)
+
+  -- a read refuses it for want of memory alone
+  pub refused_for_memory : (e : DaachorseError) → IsOutOfMemory e ⊎ GivesNoAutomaton (take_number w32) all_bytes → IsOutOfMemory e
+  refused_for_memory = refuses_written (number_law w32) all_bytes rest form.automaton form.is_one (ap (λ l. l ++ rest) form.form)
+
+  module _ (mode : Mode) (kinds : kind_of_mode wrote ≡ kind_of_mode mode) where
+    -- it is of the kind of any mode that asks for the same kind
+    pub kind_is_right : IsOfAnotherKind mode all_bytes → ⊥
+    kind_is_right other = other.kind (ap kind_of (gives_same other.automaton other.rest other.given) ∙ form.kind ∙ kinds)
+
+    -- such a mode finds with it what the pattern file asks for
+    pub finds_same : (haystack text : List ℕ) → IsTextBy mode all_bytes haystack text → text ≡ text_of_mode mode patterns haystack
+    finds_same haystack text read =
+        let text_by : Searches ℕ → List ℕ = λ a. match_text (found_by mode (dictionary_of a) (as_read a.folds haystack)) in
+        read.found ∙ ap text_by (gives_same read.automaton read.rest read.given) ∙ text_of_built mode patterns haystack form.automaton (kind_of_mode wrote) kinds form.folds form.built

@@ -1,0 +1,47 @@
+//! The modes: how the program matches, and the word that asks for it.
+
+ghost use Rattle.std.specs.Prelude.{◌≡◌, ◌↔◌};
+ghost use Rattle.daacfind_command.specs.Modes.{kind_of_mode, word_of};
+
+use daachorse::MatchKind;
+
+/// How matches are found.
+#[derive(Clone, Copy, Debug, PartialEq, Eq)]
+pub enum Mode {
+    /// Every match, also those that overlap.
+    Overlapping,
+    /// The longest match at each end.
+    NoSuffix,
+    /// Matches that do not overlap, each as early as it can end.
+    Find,
+    /// Leftmost matches, the longest at each start.
+    Longest,
+    /// Leftmost matches, the first registered at each start.
+    First,
+}
+
+impl Mode {
+    /// Returns the mode that the word names, if there is one.
+    pub fn from_word(word: &str) -> Option<Mode>
+        ensures { (mode : Mode) → (result ≡ Some mode) ↔ (word.now ≡ word_of mode) }
+    {
+        match word {
+            "overlapping" => Some(Mode::Overlapping),
+            "nosuffix" => Some(Mode::NoSuffix),
+            "find" => Some(Mode::Find),
+            "longest" => Some(Mode::Longest),
+            "first" => Some(Mode::First),
+            _ => None,
+        }
+    }
+    /// Returns the kind of searches that the automaton is to be built for.
+    pub fn match_kind(self) -> MatchKind
+        ensures { result ≡ kind_of_mode self }
+    {
+        match self {
+            Mode::Overlapping | Mode::NoSuffix | Mode::Find => MatchKind::Standard,
+            Mode::Longest => MatchKind::LeftmostLongest,
+            Mode::First => MatchKind::LeftmostFirst,
+        }
+    }
+}

@@ -1,0 +1,195 @@
+//! The engine: from the bytes of both files to the text that is written.
+//!
+//! The layers above may rely on [`run`] writing the text of the mode's matches, and on what it
+//! wrote and what its sink counted where it gives up.
+
+ghost use Rattle.std.specs.Prelude.{◌≡◌, ℕ, ◌+◌, ◌≤◌, ◌∷◌, ◌++◌, ◌-◌, ◌==◌, ◌↔◌, false, [], IsTrue, slice_get, List, length, map, drop, decimal, IfOk, IfErr, OnOk, OnErr};
+ghost use Rattle.std.specs.Iterator.{AlwaysYields, IsFinite};
+ghost use Rattle.std.specs.List.{slice_split};
+ghost use Rattle.std.specs.Io.KnownBytes.{Appends, Keeps};
+ghost use Rattle.daachorse_model.specs.declared.Match.{Match};
+ghost use Rattle.daachorse_model.specs.Folding.{as_read};
+ghost use Rattle.daachorse_model.specs.Program.{pattern_lines, match_line, match_text};
+ghost use Rattle.daachorse_bytewise.specs.Automata.{dictionary_of, kind_of};
+ghost use Rattle.daachorse_bytewise.specs.Building.{IsBuiltOf, IsBuildRefusal};
+ghost use Rattle.daachorse_replacing.specs.Replaced.{AppendsBeginning};
+ghost use Rattle.daacfind_command.specs.declared.run.RunError.TheVariants.{Build, Write};
+ghost use Rattle.daacfind_command.specs.Modes.{found_by, kind_of_mode, text_of_mode};
+ghost use Rattle.daacfind_command.specs.Runs.{IfBuild, OnWrite, value_gives};
+
+use crate::mode::Mode;
+use crate::sink::{Sink, SinkError, write_whole};
+use daachorse::errors::DaachorseError;
+use daachorse::{DoubleArrayAhoCorasick, DoubleArrayAhoCorasickBuilder, Match, MatchKind};
+use itoa::write_digits;
+use std::alloc::{AllocError, Allocator};
+use thiserror::Error;
+
+// The greatest number of bytes of a line: two places of 20 digits, a value of 10, two spaces and
+// a line feed.
+const LINE_LEN: usize = 53;
+
+/// Why a run gave up.
+#[derive(Debug, Drop, Error)]
+pub enum RunError {
+    /// The build refused the patterns.
+    #[error(transparent)]
+    Build(DaachorseError),
+    /// The sink failed.
+    #[error("daacfind: cannot write")]
+    Write,
+}
+
+impl From<DaachorseError> for RunError {
+    ghost from_gives = { λ refusal e. e ≡ Build refusal };
+
+    fn from(refusal: DaachorseError) -> RunError {
+        RunError::Build(refusal)
+    }
+}
+
+impl From<SinkError> for RunError {
+    ghost from_gives = { λ _ e. e ≡ Write };
+
+    fn from(_failure: SinkError) -> RunError {
+        RunError::Write
+    }
+}
+
+/// Writes the matches in `haystack` of the patterns, which are the lines of `patterns`.
+///
+/// The patterns have the values 0, 1, 2 and so on. The build takes memory from `alloc`; the search
+/// takes none. Each match is a line: its start and its end, in bytes, and its value, in decimal,
+/// with a space between. The sink is flushed once, at the end.
+///
+/// # Errors
+///
+/// [`RunError::Build`] where the build refuses the patterns, and nothing was written then.
+/// [`RunError::Write`] where the sink failed: a beginning of the text was written, and all of it
+/// where only the flush failed.
+pub fn run<S: Sink, A: Allocator + Copy>(
+    alloc: A,
+    mode: Mode,
+    patterns: &[u8],
+    haystack: &[u8],
+    out: &mut S,
+) -> Result<(), RunError>
+    ensures written { OnOk result (Appends (S.taken out.old) (S.taken out.new) (text_of_mode mode patterns.now haystack.now)) }
+    ensures unfailed { OnOk result (S.failures out.new ≡ S.failures out.old) }
+    ensures beginning { IfErr result (λ e. OnWrite e (AppendsBeginning (S.taken out.old) (S.taken out.new) (text_of_mode mode patterns.now haystack.now))) }
+    ensures failed { IfErr result (λ e. OnWrite e (S.failures out.new ≡ S.failures out.old + 1)) }
+    ensures refusal { IfErr result (λ e. IfBuild e (IsBuildRefusal value_gives (kind_of_mode mode) (pattern_lines patterns.now))) }
+    ensures unwritten { IfErr result (λ e. IfBuild e (λ _. Keeps (S.taken out.old) (S.taken out.new))) }
+    ensures untried { IfErr result (λ e. IfBuild e (λ _. S.failures out.new ≡ S.failures out.old)) }
+{
+    let automaton = build(alloc, mode.match_kind(), patterns)?;
+    write_mode(mode, &automaton, haystack, out)?;
+    out.flush()?;
+    Ok(())
+}
+
+// The automaton of the lines of a pattern file.
+pub(crate) fn build<A: Allocator + Copy>(
+    alloc: A,
+    kind: MatchKind,
+    file: &[u8],
+) -> Result<DoubleArrayAhoCorasick<u32, A>, DaachorseError>
+    ensures built { IfOk result (IsBuiltOf value_gives kind (pattern_lines file.now)) }
+    ensures kind { IfOk result (λ a. kind_of a ≡ kind) }
+    ensures folds { IfOk result (λ a. a.folds ≡ false) }
+    ensures refused { IfErr result (IsBuildRefusal value_gives kind (pattern_lines file.now)) }
+{
+    let patterns = lines(alloc, file)?;
+    let builder = DoubleArrayAhoCorasickBuilder::new().match_kind(kind);
+    builder.build(alloc, patterns.iter().copied())
+}
+
+// The pieces between line feeds, less an empty one at the end.
+fn lines<A: Allocator>(alloc: A, file: &[u8]) -> Result<Vec<&[u8], A>, AllocError>
+    ensures { IfOk result (λ v. map (λ line. line.now) v.items ≡ pattern_lines file.now) }
+{
+    let mut lines = pieces(alloc, file)?;
+    if ends_empty(&lines) {
+        lines.pop();
+    }
+    Ok(lines)
+}
+
+// Whether the last of the pieces is empty.
+fn ends_empty(pieces: &[&[u8]]) -> bool
+    ensures { IsTrue result ↔ (slice_get (map (λ piece. piece.now) pieces.now) (length pieces.now - 1) ≡ Some []) }
+{
+    match pieces.last() {
+        Some(last) => last.is_empty(),
+        None => false,
+    }
+}
+
+fn pieces<A: Allocator>(alloc: A, file: &[u8]) -> Result<Vec<&[u8], A>, AllocError>
+    ensures { IfOk result (λ v. map (λ piece. piece.now) v.items ≡ slice_split (λ b. b == 10) file.now) }
+{
+    file.split(|b| *b == b'\n').collect(alloc)
+}
+
+// Writes what the mode finds in the haystack.
+pub(crate) fn write_mode<S: Sink, A: Allocator + Copy>(
+    mode: Mode,
+    automaton: &DoubleArrayAhoCorasick<u32, A>,
+    haystack: &[u8],
+    out: &mut S,
+) -> Result<(), SinkError>
+    requires { kind_of automaton.now ≡ kind_of_mode mode }
+    ensures whole { OnOk result (Appends (S.taken out.old) (S.taken out.new) (match_text (found_by mode (dictionary_of automaton.now) (as_read automaton.now.folds haystack.now)))) }
+    ensures unfailed { OnOk result (S.failures out.new ≡ S.failures out.old) }
+    ensures beginning { OnErr result (AppendsBeginning (S.taken out.old) (S.taken out.new) (match_text (found_by mode (dictionary_of automaton.now) (as_read automaton.now.folds haystack.now)))) }
+    ensures failed { OnErr result (S.failures out.new ≡ S.failures out.old + 1) }
+{
+    match mode {
+        Mode::Overlapping => write_matches(automaton.find_overlapping_iter(haystack), out),
+        Mode::NoSuffix => write_matches(automaton.find_overlapping_no_suffix_iter(haystack), out),
+        Mode::Find => write_matches(automaton.find_iter(haystack), out),
+        Mode::Longest => write_matches(automaton.leftmost_find_iter(haystack), out),
+        Mode::First => write_matches(automaton.leftmost_find_iter(haystack), out),
+    }
+}
+
+// Writes each match on a line.
+fn write_matches<I: Iterator<Item = Match<u32>> + Drop, S: Sink>(
+    matches: I,
+    out: &mut S,
+) -> Result<(), SinkError>
+    requires can { I.can_next matches }
+    requires ends { IsFinite (I.remaining matches) }
+    ensures whole { OnOk result ((all : List (Match ℕ)) → AlwaysYields I.next_gives (λ m. m) matches all → Appends (S.taken out.old) (S.taken out.new) (match_text all)) }
+    ensures unfailed { OnOk result (S.failures out.new ≡ S.failures out.old) }
+    ensures beginning { OnErr result ((all : List (Match ℕ)) → AlwaysYields I.next_gives (λ m. m) matches all → AppendsBeginning (S.taken out.old) (S.taken out.new) (match_text all)) }
+    ensures failed { OnErr result (S.failures out.new ≡ S.failures out.old + 1) }
+{
+    for found in matches {
+        let mut line = [0; LINE_LEN];
+        let start = render(found, &mut line);
+        write_whole(out, &line[start..])?;
+    }
+    Ok(())
+}
+
+// Writes the match's line at the end of `line`, and answers where it begins.
+fn render(found: Match<u32>, line: &mut [u8; LINE_LEN]) -> usize
+    ensures within { result ≤ 53 }
+    ensures written { drop result line.new ≡ match_line found }
+{
+    let at = render_number(u64::from(found.value), b'\n', line, LINE_LEN);
+    let at = render_number(found.end as u64, b' ', line, at);
+    render_number(found.start as u64, b' ', line, at)
+}
+
+// Writes the digits of `n`, and `mark` behind them, so that they end at `end`.
+fn render_number(n: u64, mark: u8, line: &mut [u8], end: usize) -> usize
+    requires room { length (decimal n) + 1 ≤ end }
+    requires within { end ≤ length line.old }
+    ensures start { result + length (decimal n) + 1 ≡ end }
+    ensures written { drop result line.new ≡ decimal n ++ mark ∷ drop end line.old }
+{
+    line[end - 1] = mark;
+    write_digits(n, line, end - 1)
+}

@@ -1,0 +1,127 @@
+//! Where text goes.
+//!
+//! The layers above may rely on a sink counting exactly its failures, and, where it tells the
+//! bytes that it took, on these growing by what each write says.
+
+ghost use Rattle.std.specs.Prelude.{◌≡◌, ℕ, ◌+◌, ◌≤◌, List, Option, length, IfOk, OnOk, OnErr};
+ghost use Rattle.std.specs.Io.KnownBytes.{Appends, Keeps, WriteAppends};
+ghost use Rattle.daachorse_replacing.specs.Replaced.{AppendsBeginning};
+ghost use Rattle.daacfind_command.specs.Failures.{failures_after_write, failures_after_flush};
+
+use daachorse_core::counter::Counter;
+use std::io::Write;
+use std::marker::Model;
+
+/// A sink could not take bytes.
+#[derive(Clone, Copy, Debug, PartialEq, Eq)]
+pub struct SinkError;
+
+/// A place that takes bytes, perhaps only some at a time, and counts its failures.
+///
+/// An error is a failure, and so is a write that takes no byte of some.
+pub trait Sink {
+    // The bytes that the sink took, where it tells them.
+    ghost taken: { Self → Option (List ℕ) };
+
+    // The number of failures.
+    ghost failures: { Self → ℕ };
+
+    /// Takes the first `n` of the bytes, and returns `n`. Where it returns an error, it took none.
+    fn write(&mut self, bytes: &[u8]) -> Result<usize, SinkError>
+        ensures bound { IfOk result (λ n. n ≤ length bytes.now) }
+        ensures taken { WriteAppends (taken self.old) (taken self.new) result bytes.now }
+        ensures failures { failures self.new ≡ failures_after_write result bytes.now (failures self.old) };
+
+    /// Passes on what is buffered.
+    fn flush(&mut self) -> Result<(), SinkError>
+        ensures taken { Keeps (taken self.old) (taken self.new) }
+        ensures failures { failures self.new ≡ failures_after_flush result (failures self.old) };
+}
+
+/// A sink over a writer. The count of its failures is for contracts alone, and takes no byte.
+#[derive(Drop)]
+pub struct WriterSink<W: Write> {
+    writer: W,
+    failures: Counter,
+}
+
+impl<W: Write> Model for WriterSink<W> {
+    ghost use Rattle.daacfind_command.specs.Sinks.{CountedWriter};
+
+    ghost Value = { CountedWriter W };
+
+    ghost view = { λ s. record { writer = s.writer; failures = s.failures } };
+}
+
+impl<W: Write> WriterSink<W> {
+    /// Makes a sink over the writer, with no failure yet.
+    pub fn new(writer: W) -> Self
+        ensures writer { result.writer ≡ writer }
+        ensures failures { result.failures ≡ 0 }
+    {
+        WriterSink {
+            writer,
+            failures: Counter::new(),
+        }
+    }
+
+    /// Returns the writer.
+    pub fn writer(&self) -> &W
+        ensures { result.now ≡ self.now.writer }
+    {
+        &self.writer
+    }
+
+    fn fail(&mut self) -> SinkError
+        ensures writer { self.new.writer ≡ self.old.writer }
+        ensures failures { self.new.failures ≡ self.old.failures + 1 }
+    {
+        self.failures.increment();
+        SinkError
+    }
+}
+
+impl<W: Write> Sink for WriterSink<W> {
+    ghost taken = { λ s. W.contents s.writer };
+
+    ghost failures = { λ s. s.failures };
+
+    fn write(&mut self, bytes: &[u8]) -> Result<usize, SinkError> {
+        match self.writer.write(bytes) {
+            Ok(0) if !bytes.is_empty() => {
+                self.fail();
+                Ok(0)
+            }
+            Ok(n) => Ok(n),
+            Err(_) => Err(self.fail()),
+        }
+    }
+
+    fn flush(&mut self) -> Result<(), SinkError> {
+        match self.writer.flush() {
+            Ok(()) => Ok(()),
+            Err(_) => Err(self.fail()),
+        }
+    }
+}
+
+/// Writes all of the bytes, in as many writes as the sink needs.
+///
+/// # Errors
+///
+/// The sink failed: a beginning of the bytes was taken, and no write came after the failure.
+pub fn write_whole<S: Sink>(out: &mut S, bytes: &[u8]) -> Result<(), SinkError>
+    ensures whole { OnOk result (Appends (S.taken out.old) (S.taken out.new) bytes.now) }
+    ensures unfailed { OnOk result (S.failures out.new ≡ S.failures out.old) }
+    ensures beginning { OnErr result (AppendsBeginning (S.taken out.old) (S.taken out.new) bytes.now) }
+    ensures failed { OnErr result (S.failures out.new ≡ S.failures out.old + 1) }
+{
+    let mut rest = bytes;
+    while !rest.is_empty() {
+        match out.write(rest)? {
+            0 => return Err(SinkError),
+            n => rest = &rest[n..],
+        }
+    }
+    Ok(())
+}

@@ -1,10 +1,9 @@
 -- The bytes that lead to an element from the base of one are all that some pattern has.
-use Rattle.std.proofs.Common.{◌≡◌, ◌≢◌, ◌⊎◌, inl, inr, ℕ, zero, suc, ◌+◌, ◌<◌, ◌≤◌, Bool, true, false, cond, List, [], ◌∷◌, ◌++◌, length, bit_xor, Option, Some, None, refl, sym, ap, ◌∙◌, subst, arith, length-append}
+use Rattle.std.proofs.Common.{◌≡◌, ◌≢◌, ◌⊎◌, inl, inr, ℕ, ◌+◌, ◌<◌, ◌≤◌, Bool, true, false, cond, List, length, bit_xor, Option, Some, None, refl, sym, ap, ◌∙◌, subst, arith}
 use Rattle.std.specs.Prelude.{slice_index, slice_index_or, slice_set}
 use Rattle.std.proofs.Math.ListN.{get_or-eq_default}
-use Rattle.std.proofs.Math.Seq.{get_or-append_seam}
 use Rattle.std.proofs.lemmas.Bool.{cases_eq}
-use Rattle.std.proofs.lemmas.List.{get_or_append_left, get_or-set_same, get_or-set_other, length-set}
+use Rattle.std.proofs.lemmas.List.{get_or-set_same, get_or-set_other, length-set}
 use Rattle.daachorse_core.proofs.Xor.{xor_back}
 use Rattle.daachorse_core.specs.declared.outputs.Empty.{Empty}
 use Rattle.daachorse_core.specs.Looks.{IsForeign}
@@ -12,20 +11,15 @@ use Rattle.daachorse_model.specs.Kinds.{is_leftmost}
 use Rattle.daachorse_model.specs.Units.{byte_width}
 use Rattle.daachorse_machine.proofs.ChildLaws.{child_at-from, child_at-inside}
 use Rattle.daachorse_machine.proofs.MachineLaws.{foreign}
-use Rattle.daachorse_rows.specs.Rows.{AreLabels}
+use Rattle.daachorse_rows.specs.Rows.{AreLabels, AreListed}
+use Rattle.daachorse_rows.proofs.MakingLaws.{below_or_at}
 use Rattle.daachorse_bytewise_states.specs.declared.state.State.{State}
 use Rattle.daachorse_bytewise_states.specs.Elements.{base_in, vacant, vacant_left}
-use Rattle.daachorse_bytewise_states.specs.EdgeBytes.{AreListed, MarksBases, MarksEdges}
+use Rattle.daachorse_bytewise_states.specs.EdgeBytes.{IsMarked, MarksBases, MarksEdges}
 use Rattle.daachorse_bytewise_states.specs.Parts.{Parts, base_of, check_of, child, child_by, content, count, machine}
 use Rattle.daachorse_bytewise_states.specs.Valid.{IsValid}
 use Rattle.daachorse_model.proofs.Suffixes.{le_or_lt}
 use Rattle.daachorse_bytewise_states.proofs.ByteLaws.{valid_machine}
-
-below_or_at : (c n : ℕ) → c < n + 1 → (c < n) ⊎ (c ≡ n)
-below_or_at zero zero h = inr refl
-below_or_at zero (suc n) h = inl (omega arith)
-below_or_at (suc c) zero h = absurd (omega arith)
-below_or_at (suc c) (suc n) h = elim (below_or_at c n (omega arith)) [ inl less ↦ inl (omega arith) | inr same ↦ inr (ap (λ k. suc k) same) ]
 
 -- past the last element there is no base
 base_past : (b : Bool) (left : List (State Empty)) (standard : List (State ℕ)) (i : ℕ) → cond b (length left) (length standard) ≤ i → cond b (base_in (slice_index_or left i vacant_left)) (base_in (slice_index_or standard i vacant)) ≡ 0
@@ -82,10 +76,10 @@ module _ {V : Type 0} (p : Parts V) where
     }
 
   -- a byte that is not listed leads nowhere, so no pattern has it
-  pub listed_labels : (bases marks : List Bool) (bytes : List ℕ) → IsValid p → MarksBases p (count p) bases → MarksEdges p bases (count p) marks → AreListed marks 256 bytes
+  pub listed_labels : (bases marks : List Bool) (bytes : List ℕ) → IsValid p → MarksBases p (count p) bases → MarksEdges p bases (count p) marks → AreListed (IsMarked marks) 256 bytes
       → AreLabels (content p) (λ label unit. label ≡ unit) bytes
   listed_labels bases marks bytes valid based edged listed = record {
-    all = λ label unit byte same. by label unit byte same (slice_index_or marks label false) refl;
+    all = λ label unit low same. by label unit low same (slice_index_or marks label false) refl;
     none_idle = λ k below. (_, refl);
   }
     where
@@ -109,35 +103,13 @@ module _ {V : Type 0} (p : Parts V) where
                 absurd (cc)
           ]
 
-      by : (label unit : ℕ) → label < 256 → label ≡ unit → (b : Bool) → slice_index_or marks label false ≡ b → IsForeign (content p) unit ⊎ ((k : ℕ) × (k < length bytes) × (slice_index bytes k ≡ label))
-      by label unit byte same true is = inr (listed.all label byte is)
-      by label unit byte same false is =
+      by : (label unit : ℕ) → label < 510 → label ≡ unit → (b : Bool) → slice_index_or marks label false ≡ b → IsForeign (content p) unit ⊎ ((k : ℕ) × (k < length bytes) × (slice_index bytes k ≡ label))
+      by label unit low same true is = elim (le_or_lt 256 label) [
+        | inl past ↦
+            let clash : true ≡ false = sym is ∙ get_or-eq_default marks false (omega (arith, past, edged.size)) in
+            absurd (cc)
+        | inr byte ↦ inr (listed.all label byte is)
+      ]
+      by label unit low same false is =
           let P : ℕ → Type 0 = λ u. IsForeign (content p) u in
           inl (subst P same (foreign byte_width (machine p) (is_leftmost p.kind) (count p) 256 (valid_machine p valid) label (nowhere label is)))
-
-pub AreListed-skip : (marks : List Bool) (n : ℕ) (bytes : List ℕ) → AreListed marks n bytes → slice_index_or marks n false ≡ false → AreListed marks (n + 1) bytes
-AreListed-skip marks n bytes h none = record {
-  few = omega (arith, h.few);
-  all = λ byte below marked.
-      elim (below_or_at byte n below) [
-        | inl less ↦ h.all byte less marked
-        | inr same ↦
-            let clash : true ≡ false = sym marked ∙ (ap (λ k. slice_index_or marks k false) same ∙ none) in
-            absurd (cc)
-      ];
-}
-
-pub AreListed-more : (marks : List Bool) (n : ℕ) (bytes bytes' : List ℕ) → AreListed marks n bytes → bytes' ≡ bytes ++ n ∷ [] → AreListed marks (n + 1) bytes'
-AreListed-more marks n bytes bytes' h is = record {
-  few = omega (arith, h.few, size);
-  all = λ byte below marked.
-      elim (below_or_at byte n below) [
-        | inl less ↦
-            let old = h.all byte less marked in
-            (old.0, omega (arith, old.1, size), ap (λ l. slice_index l old.0) is ∙ (get_or_append_left bytes (n ∷ []) 0 old.0 old.1 ∙ old.2))
-        | inr same ↦ (length bytes, omega (arith, size), ap (λ l. slice_index l (length bytes)) is ∙ (get_or-append_seam bytes n [] 0 ∙ sym same))
-      ];
-}
-  where
-    size : length bytes' ≡ length bytes + 1
-    size = ap length is ∙ length-append bytes (n ∷ [])

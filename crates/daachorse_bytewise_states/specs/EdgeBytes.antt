@@ -1,5 +1,5 @@
 -- Which bytes lead from an element to another: those that lead to an element from the base of one.
-use Rattle.std.specs.Prelude.{◌≡◌, ◌≢◌, ℕ, ◌<◌, ◌≤◌, Bool, true, false, List, length, bit_xor, slice_index, slice_index_or}
+use Rattle.std.specs.Prelude.{◌≡◌, ◌≢◌, ℕ, ◌<◌, Bool, true, false, List, length, bit_xor, slice_index_or}
 use Rattle.daachorse_bytewise_states.specs.Parts.{Parts, base_of, check_of, count}
 
 module _ {V : Type 0} (p : Parts V) where
@@ -13,7 +13,6 @@ module _ {V : Type 0} (p : Parts V) where
     pub size : length marks ≡ 256
     pub marked : (i : ℕ) → i < n → slice_index_or bases (bit_xor i (check_of p i)) false ≡ true → slice_index_or marks (check_of p i) false ≡ true
 
--- the marked bytes below n are listed
-pub record AreListed (marks : List Bool) (n : ℕ) (bytes : List ℕ) : Type 0 where
-  pub few : length bytes ≤ n
-  pub all : (byte : ℕ) → byte < n → slice_index_or marks byte false ≡ true → (k : ℕ) × (k < length bytes) × (slice_index bytes k ≡ byte)
+-- the byte is marked
+abbrev pub IsMarked : List Bool → ℕ → Type 0
+IsMarked marks byte = slice_index_or marks byte false ≡ true

@@ -3,8 +3,8 @@
 //! The layers above may rely on [`States::rows`] being right for both views of the states.
 
 ghost use Rattle.std.specs.Prelude.{◌≡◌, ◌≤◌, length, IfOk};
-ghost use Rattle.daachorse_rows.specs.Rows.{AreLabels};
-ghost use Rattle.daachorse_bytewise_states.specs.EdgeBytes.{AreListed, MarksBases, MarksEdges};
+ghost use Rattle.daachorse_rows.specs.Rows.{AreLabels, AreListed};
+ghost use Rattle.daachorse_bytewise_states.specs.EdgeBytes.{IsMarked, MarksBases, MarksEdges};
 ghost use Rattle.daachorse_bytewise_states.specs.Parts.{content, count};
 ghost use Rattle.daachorse_bytewise_states.specs.StateRows.{HasRows};
 
@@ -90,7 +90,7 @@ impl<V: Copy, A: Allocator> States<V, A> {
 /// The bytes that are marked, in order.
 fn list_marked<L: Allocator>(alloc: L, marks: &Vec<bool, L>) -> Result<Vec<u8, L>, AllocError>
     requires { length marks.now.items ≡ 256 }
-    ensures { IfOk result (λ v. AreListed marks.now.items 256 v.items) }
+    ensures { IfOk result (λ v. AreListed (IsMarked marks.now.items) 256 v.items) }
 {
     let mut bytes = Vec::new(alloc);
     for byte in 0..256u32 {

@@ -12,3 +12,4 @@ pub mod WrittenLaws
 pub mod FormLaws
 pub mod BlockLaws
 pub mod GroupedLaws
+pub mod CodeListLaws

@@ -11,3 +11,4 @@ pub mod Writing
 pub mod Written
 pub mod PartForms
 pub mod Grouped
+pub mod StateRows

@@ -118,7 +118,7 @@ impl<'a, V: Copy, A: Allocator> Elements<'a, V, A> {
     }
 
     /// The character of a code, if there is one.
-    fn character(&self, code: usize) -> Option<char>
+    pub(crate) fn character(&self, code: usize) -> Option<char>
         ensures { result ≡ character_of self.now code }
     {
         *self.characters.get(code)?

@@ -10,6 +10,7 @@ mod filters;
 mod folded;
 mod packing;
 pub mod state;
+mod state_rows;
 pub mod states;
 mod unchecked;
 pub mod view;

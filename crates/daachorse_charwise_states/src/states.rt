@@ -45,7 +45,7 @@ pub struct States<V: Copy, A: Allocator = Global> {
     states: Vec<State, A>,
     mapper: CodeMapper<A>,
     outputs: Vec<Output<V>, A>,
-    num_states: u32,
+    pub(crate) num_states: u32,
 }
 
 impl<V: Copy, A: Allocator> Model for States<V, A> {

@@ -1,15 +1,15 @@
 -- Rows as they are made: one slot after the other, and one state after the other.
-use Rattle.std.proofs.Common.{◌≡◌, ◌≢◌, ℕ, zero, suc, ◌+◌, ◌*◌, ◌/◌, ◌<◌, ◌≤◌, ◌^◌, ◌⊎◌, inl, inr, List, [], ◌∷◌, ◌++◌, length, refl, sym, ap, ◌∙◌, subst, arith, length-append}
+use Rattle.std.proofs.Common.{◌≡◌, ◌≢◌, ℕ, zero, suc, ◌+◌, ◌*◌, ◌/◌, ◌<◌, ◌≤◌, ◌^◌, ◌⊎◌, inl, inr, List, [], ◌∷◌, ◌++◌, length, refl, sym, ap, ◌∙◌, subst, arith, length-append, map, get_or}
 use Rattle.std.specs.Prelude.{slice_index, slice_set, Option, None}
 use Rattle.std.specs.declared.num.NonZeroU32.{NonZeroU32}
 use Rattle.std.proofs.Math.Seq.{get_or-append_seam}
 use Rattle.std.proofs.Math.Nat.{div-mul-le_self}
 use Rattle.std.proofs.lemmas.Nat.{mul-add-lt, mul-le}
 use Rattle.std.proofs.lemmas.Bool.{cases_eq}
-use Rattle.std.proofs.lemmas.List.{get_or_append_left, get_or-set_same, get_or-set_other, length-set}
+use Rattle.std.proofs.lemmas.List.{get_or_append_left, get_or-map, get_or-set_same, get_or-set_other, length-map, length-set}
 use Rattle.daachorse_core.specs.Looks.{IsForeign, StepEnds}
 use Rattle.daachorse_model.specs.Dictionary.{Dictionary}
-use Rattle.daachorse_rows.specs.Rows.{state_at, RowTable, IsEntry, StandsFor, IsSlotOf, AreSlots, Leads, AreLabels, AreRows, AreHomes, Stands, AreChosen, IsSlot, AreWritten}
+use Rattle.daachorse_rows.specs.Rows.{state_at, RowTable, IsEntry, StandsFor, IsSlotOf, AreSlots, Leads, AreLabels, AreRows, Stands, AreChosen, IsSlot, AreWritten, stands_by}
 use Rattle.daachorse_rows.proofs.RowLaws.{place_behind, state_at-slot}
 
 pub below_or_at : (c n : ℕ) → c < n + 1 → (c < n) ⊎ (c ≡ n)
@@ -24,6 +24,24 @@ read-old xs ys v i is below = ap (λ l. slice_index l i) is ∙ get_or_append_le
 
 pub read-new : (xs ys : List ℕ) (v i : ℕ) → ys ≡ xs ++ v ∷ [] → i ≡ length xs → slice_index ys i ≡ v
 read-new xs ys v i is at = ap (λ l. slice_index l i) is ∙ (ap (λ n. slice_index (xs ++ v ∷ []) n) at ∙ get_or-append_seam xs v [] 0)
+
+-- ---- labels and their numbers
+
+module _ {L : Type 0} (number : L → ℕ) where
+  -- the number of a label that was read
+  pub number_read : (labels : List L) (k : ℕ) (label : L) → k < length labels → label ≡ get_or labels k label → slice_index (map number labels) k ≡ number label
+  number_read labels k label less is = get_or-map number labels k label 0 less ∙ ap number (sym is)
+
+  -- what stands by the number of a label in hand, the label stands for
+  pub stands_own : (exact : (a b : L) → number a ≡ number b → a ≡ b) (stands : L → ℕ → Type 0) (label : L) (n unit : ℕ) → n ≡ number label → stands_by number stands n unit → stands label unit
+  stands_own exact stands label n unit is (other, named, coded) = let P : L → Type 0 = λ l. stands l unit in subst P (exact other label (named ∙ is)) coded
+
+  -- a listed label that was read stands for some unit
+  pub unit_read : {V : Type 0} (K : Dictionary V) (exact : (a b : L) → number a ≡ number b → a ≡ b) (stands : L → ℕ → Type 0) (labels : List L) (k : ℕ) (label : L) → AreLabels K (stands_by number stands) (map number labels) → k < length labels
+      → label ≡ get_or labels k label → (unit : ℕ) × stands label unit
+  unit_read K exact stands labels k label named less is =
+      let some = named.none_idle k (omega (arith, less, length-map labels number)) in
+      (some.0, stands_own exact stands label (slice_index (map number labels) k) some.0 (number_read labels k label less is) some.1)
 
 -- ---- the slots of labels
 
@@ -167,14 +185,14 @@ module _ {V : Type 0} (K : Dictionary V) (reached : ℕ → Type 0) (text : ℕ 
       IsEntry-map (λ x. Stands order width base x s) (λ x. Stands order width base x s) (o ≡ None) (first (text s) None) v entry (λ x there. there) (λ none. subst P none at)
 
   module _ (named : AreLabels K stands labels) where
-    foreign : (label unit : ℕ) → label < 256 → stands label unit → ((k : ℕ) → k < length labels → slice_index labels k ≢ label) → IsForeign K unit
+    foreign : (label unit : ℕ) → label < 510 → stands label unit → ((k : ℕ) → k < length labels → slice_index labels k ≢ label) → IsForeign K unit
     foreign label unit byte coded none = elim (named.all label unit byte coded) [ inl f ↦ f | inr at ↦ absurd (none at.0 at.1 at.2) ]
 
     -- the labels that are not listed lead to the root
     pub slot_foreign : (k v s : ℕ) (o : Option NonZeroU32) → IsEntry (λ x. Stands order width base x s) (o ≡ None) v → first (text s) o → reached s → text s ≡ [] → Slot k 1 v
     slot_foreign k v s o entry at there empty = (s, entry_first s v o entry at, leads)
       where
-        leads : (label : ℕ) → label < 256 → IsSlotOf labels label 1 → Leads K reached text dead stands first (slice_index order k) label s
+        leads : (label : ℕ) → label < 510 → IsSlotOf labels label 1 → Leads K reached text dead stands first (slice_index order k) label s
         leads label byte (inl (j, below, here, is)) = absurd (omega (arith, is))
         leads label byte (inr (is, none)) = record { is_state = there; ends = λ unit coded. inl (foreign label unit byte coded none, empty) }
 
@@ -183,7 +201,7 @@ module _ {V : Type 0} (K : Dictionary V) (reached : ℕ → Type 0) (text : ℕ 
         → ((unit : ℕ) → stands (slice_index labels j) unit → StepEnds K dead (text (slice_index order k)) unit (text t)) → Slot k c v
     slot_step k c j v t o at entry told there ends = let P : ℕ → Type 0 = λ x. Slot k x v in subst P (let e : suc (suc j) ≡ c = omega (arith, at) in e) (t, entry_first t v o entry told, leads)
       where
-        leads : (label : ℕ) → label < 256 → IsSlotOf labels label (suc (suc j)) → Leads K reached text dead stands first (slice_index order k) label t
+        leads : (label : ℕ) → label < 510 → IsSlotOf labels label (suc (suc j)) → Leads K reached text dead stands first (slice_index order k) label t
         leads label byte (inl (i, below, here, is)) =
             let same : i ≡ j = omega (arith, is) in
             let named_j : slice_index labels j ≡ label = ap (slice_index labels) (sym same) ∙ here in
@@ -206,7 +224,7 @@ module _ {V : Type 0} (K : Dictionary V) (reached : ℕ → Type 0) (text : ℕ 
       let P : ℕ → Type 0 = λ y. StandsFor r y s in
       subst P e (place_behind r s)
 
-  pub AreRows-made : (s count : ℕ) → r.width ≡ length labels + 2 → AreSlots labels 256 r.classes → AreChosen reached order r.homes (65536 / r.width)
+  pub AreRows-made : (s count : ℕ) → r.width ≡ length labels + 2 → AreSlots labels 510 r.classes → AreChosen reached order r.homes (65536 / r.width)
       → ((t : ℕ) → reached t → t < count) → count < 2 ^ 32 → Stands order r.width (length order * r.width) r.root s → reached s → text s ≡ []
       → AreRows K reached text dead stands first r
   AreRows-made s count is slots chosen below fits place there empty = record {
@@ -221,7 +239,7 @@ module _ {V : Type 0} (K : Dictionary V) (reached : ℕ → Type 0) (text : ℕ 
     root_state = (s, stands_for r.root s place, there, empty);
   }
     where
-      right : (k label : ℕ) → k < length order → label < 256 → (c : ℕ) × (slice_index r.classes label ≡ suc c)
+      right : (k label : ℕ) → k < length order → label < 510 → (c : ℕ) × (slice_index r.classes label ≡ suc c)
           → (t : ℕ) × IsEntry (λ x. StandsFor r x t) (first (text t) None) (slice_index r.top (k * r.width + slice_index r.classes label)) × Leads K reached text dead stands first (slice_index r.top (k * r.width)) label t
       right k label more less (c, at) =
           let slot : IsSlotOf labels label (slice_index r.classes label) = slots.right label less in

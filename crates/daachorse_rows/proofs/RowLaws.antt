@@ -50,7 +50,7 @@ module _ {V : Type 0} (K : Dictionary V) (reached : ℕ → Type 0) (text : ℕ 
         }
 
     -- a slot of a row
-    pub slot_inside : (x label : ℕ) → IsPlace r x → x < length r.top → label < 256 → x + slice_index r.classes label < length r.top
+    pub slot_inside : (x label : ℕ) → IsPlace r x → x < length r.top → label < 510 → x + slice_index r.classes label < length r.top
     slot_inside x label (inr behind) within byte = absurd (omega arith)
     slot_inside x label (inl (k, less, is)) within byte = omega (arith, row_within k (slice_index r.classes label) less (h.inside label byte), is)
 
@@ -60,7 +60,7 @@ module _ {V : Type 0} (K : Dictionary V) (reached : ℕ → Type 0) (text : ℕ 
       pub tells : IsEntry (λ y. StandsFor r y state) (first (text state) None) entry
       pub leads : Leads K reached text dead stands first (state_at r.top x) label state
 
-    pub row_step : (x label : ℕ) → IsPlace r x → x < length r.top → label < 256 → IsRowStep x label (slice_index r.top (x + slice_index r.classes label))
+    pub row_step : (x label : ℕ) → IsPlace r x → x < length r.top → label < 510 → IsRowStep x label (slice_index r.top (x + slice_index r.classes label))
     row_step x label (inr behind) within byte = absurd (omega arith)
     row_step x label (inl (k, less, is)) within byte =
         let class = slice_index r.classes label in
@@ -91,7 +91,7 @@ module _ {V : Type 0} (K : Dictionary V) (reached : ℕ → Type 0) (text : ℕ 
             subst P same step.tells.stands_for
 
     -- a look at the row x by a label
-    module _ (x label : ℕ) (place : IsPlace r x) (within : x < length r.top) (byte : label < 256) where
+    module _ (x label : ℕ) (place : IsPlace r x) (within : x < length r.top) (byte : label < 510) where
       abbrev entry : ℕ
       entry = slice_index r.top (x + slice_index r.classes label)
 

@@ -4,6 +4,14 @@ use Rattle.std.specs.declared.num.NonZeroU32.{NonZeroU32}
 use Rattle.daachorse_core.specs.Looks.{IsForeign, StepEnds}
 use Rattle.daachorse_model.specs.Dictionary.{Dictionary}
 
+-- a number tells which label it is
+pub exact_number : (a b : ℕ) → a ≡ b → a ≡ b
+exact_number a b same = same
+
+-- the label of the number n stands for the unit
+abbrev pub stands_by : {L : Type 0} → (L → ℕ) → (L → ℕ → Type 0) → ℕ → ℕ → Type 0
+stands_by {L} number stands n unit = (label : L) × (number label ≡ n) × stands label unit
+
 -- the state that a place stands for
 abbrev pub state_at : List ℕ → ℕ → ℕ
 state_at [] x = x
@@ -58,9 +66,15 @@ module _ (labels : List ℕ) where
     pub size : length classes ≡ n
     pub right : (label : ℕ) → label < n → IsSlotOf label (slice_index classes label)
 
--- the labels that some key has are listed, and none that stands for nothing
+-- the numbers below n of which something holds are listed, and no others
+pub record AreListed (holds : ℕ → Type 0) (n : ℕ) (listed : List ℕ) : Type 0 where
+  pub few : length listed ≤ n
+  pub all : (x : ℕ) → x < n → holds x → (k : ℕ) × (k < length listed) × (slice_index listed k ≡ x)
+  pub only : (k : ℕ) → k < length listed → holds (slice_index listed k)
+
+-- the labels below 510 that some key has are listed, and none that stands for nothing
 pub record AreLabels {V : Type 0} (K : Dictionary V) (stands : ℕ → ℕ → Type 0) (labels : List ℕ) : Type 0 where
-  pub all : (label unit : ℕ) → label < 256 → stands label unit → IsForeign K unit ⊎ ((k : ℕ) × (k < length labels) × (slice_index labels k ≡ label))
+  pub all : (label unit : ℕ) → label < 510 → stands label unit → IsForeign K unit ⊎ ((k : ℕ) × (k < length labels) × (slice_index labels k ≡ label))
   pub none_idle : (k : ℕ) → k < length labels → (unit : ℕ) × stands (slice_index labels k) unit
 
 -- Of an automaton: `first` says of a text at which position the outputs of its state begin.
@@ -75,9 +89,9 @@ module _ {V : Type 0} (K : Dictionary V) (reached : ℕ → Type 0) (text : ℕ 
     pub size : length r.top ≡ r.count * r.width
     pub few : length r.top ≤ 65536
     pub wide : 0 < r.width
-    pub classes_size : length r.classes ≡ 256
-    pub inside : (label : ℕ) → label < 256 → slice_index r.classes label < r.width
-    pub right : (k label : ℕ) → k < r.count → label < 256 → (t : ℕ) × IsEntry (λ x. StandsFor r x t) (first (text t) None) (slice_index r.top (k * r.width + slice_index r.classes label)) × Leads (slice_index r.top (k * r.width)) label t
+    pub classes_size : length r.classes ≡ 510
+    pub inside : (label : ℕ) → label < 510 → slice_index r.classes label < r.width
+    pub right : (k label : ℕ) → k < r.count → label < 510 → (t : ℕ) × IsEntry (λ x. StandsFor r x t) (first (text t) None) (slice_index r.top (k * r.width + slice_index r.classes label)) × Leads (slice_index r.top (k * r.width)) label t
     -- in the table of the states' rows 65,535 stands for none
     pub homes : (s : ℕ) → s < length r.homes → slice_index r.homes s ≢ 65535 → (slice_index r.homes s < r.count) × (slice_index r.top (slice_index r.homes s * r.width) ≡ s)
     pub small : (s : ℕ) → reached s → length r.top + s < 2 ^ 32
@@ -106,7 +120,7 @@ module _ {V : Type 0} (K : Dictionary V) (reached : ℕ → Type 0) (text : ℕ 
   abbrev pub IsSlot : ℕ → ℕ → ℕ → Type 0
   IsSlot k zero v = v ≡ slice_index order k
   IsSlot k (suc c) v =
-      (t : ℕ) × IsEntry (λ x. Stands order width base x t) (first (text t) None) v × ((label : ℕ) → label < 256 → IsSlotOf labels label (suc c) → Leads K reached text dead stands first (slice_index order k) label t)
+      (t : ℕ) × IsEntry (λ x. Stands order width base x t) (first (text t) None) v × ((label : ℕ) → label < 510 → IsSlotOf labels label (suc c) → Leads K reached text dead stands first (slice_index order k) label t)
 
   -- k rows were written, and c slots of the next
   pub record AreWritten (k c : ℕ) (top : List ℕ) : Type 0 where

@@ -3,10 +3,11 @@
 //! The states are those to which the fewest steps lead from the root, in the order in which steps
 //! come to them. The layers above may rely on the rows being right, and on no order.
 
-ghost use Rattle.std.specs.Prelude.{◌≡◌, ◌*◌, ◌+◌, ◌/◌, ◌<◌, ◌≤◌, ◌^◌, ℕ, length, IfOk, OnOk, None};
+ghost use Rattle.std.specs.Prelude.{◌≡◌, ◌*◌, ◌+◌, ◌/◌, ◌<◌, ◌≤◌, ◌^◌, ℕ, length, map, IfOk, OnOk, None};
 ghost use Rattle.daachorse_core.specs.Looks.{IsFirstOutput};
-ghost use Rattle.daachorse_rows.specs.Rows.{AreChosen, AreHomes, AreLabels, AreSlots, AreWritten, IsEntry, IsSlotOf, Stands};
+ghost use Rattle.daachorse_rows.specs.Rows.{AreChosen, AreHomes, AreLabels, AreSlots, AreWritten, IsEntry, IsSlotOf, Stands, stands_by};
 
+use crate::label::{RowLabel, SLOTTED};
 use daachorse_core::turns::Turns;
 use daachorse_search::automaton::{Automaton, follow};
 use std::alloc::{AllocError, Allocator};
@@ -25,27 +26,30 @@ pub(crate) const HAS_OUTPUTS: u32 = 2_147_483_648;
 /// `HAS_OUTPUTS`.
 const MOST_STATES: u32 = 2_147_418_112;
 
-/// The slot of a label: behind the state first that of the labels that are not listed.
-fn slot_of(labels: &[u8], label: u8) -> u16
-    requires { length labels.now ≤ 256 }
-    ensures { IsSlotOf labels.now label result }
+/// The slot of the label of a number: behind the state first that of the labels that are not listed.
+fn slot_of<T: RowLabel>(labels: &[T], number: usize) -> u16
+    requires { length labels.now ≤ 510 }
+    ensures { IsSlotOf (map T.number labels.now) number result }
 {
     for k in 0..labels.len() {
-        if labels[k] == label {
+        if labels[k].index() == number {
             return 2 + k as u16;
         }
     }
     1
 }
 
-/// The slot of each label.
-pub(crate) fn slots_of<L: Allocator>(alloc: L, labels: &[u8]) -> Result<Vec<u16, L>, AllocError>
-    requires { length labels.now ≤ 256 }
-    ensures { IfOk result (λ v. AreSlots labels.now 256 v.items) }
+/// The slot of each label, by its number.
+pub(crate) fn slots_of<T: RowLabel, L: Allocator>(
+    alloc: L,
+    labels: &[T],
+) -> Result<Vec<u16, L>, AllocError>
+    requires { length labels.now ≤ 510 }
+    ensures { IfOk result (λ v. AreSlots (map T.number labels.now) 510 v.items) }
 {
-    let mut slots = Vec::with_capacity(alloc, 256)?;
-    for label in 0..256u32 {
-        slots.push(slot_of(labels, label as u8))?;
+    let mut slots = Vec::with_capacity(alloc, SLOTTED as usize)?;
+    for number in 0..SLOTTED as usize {
+        slots.push(slot_of(labels, number))?;
     }
     Ok(slots)
 }
@@ -91,14 +95,16 @@ impl<L: Allocator> Chosen<L> {
 }
 
 /// The states of the rows, at most so many.
-pub(crate) fn choose<V: Copy, A: Automaton<V, Label = u8>, L: Allocator + Copy>(
+pub(crate) fn choose<V: Copy, A: Automaton<V>, L: Allocator + Copy>(
     alloc: L,
     automaton: &A,
-    labels: &[u8],
+    labels: &[A::Label],
     count: u32,
     most: usize,
 ) -> Result<Chosen<L>, AllocError>
-    requires labels { AreLabels (A.content automaton.now) (A.labels automaton.now) labels.now }
+where
+    A::Label: RowLabel,
+    requires labels { AreLabels (A.content automaton.now) (stands_by A.Label.number (A.labels automaton.now)) (map A.Label.number labels.now) }
     requires count { (s : ℕ) → A.reached automaton.now s → s < count }
     requires some { 0 < most }
     requires few { most < 65535 }
@@ -126,14 +132,16 @@ pub(crate) fn choose<V: Copy, A: Automaton<V, Label = u8>, L: Allocator + Copy>(
 
 /// Gives rows to the states at which the steps from the state of the row `at` end, while there is
 /// room.
-fn choose_ends<V: Copy, A: Automaton<V, Label = u8>, L: Allocator>(
+fn choose_ends<V: Copy, A: Automaton<V>, L: Allocator>(
     automaton: &A,
-    labels: &[u8],
+    labels: &[A::Label],
     chosen: &mut Chosen<L>,
     at: usize,
     most: usize,
 ) -> Result<(), AllocError>
-    requires labels { AreLabels (A.content automaton.now) (A.labels automaton.now) labels.now }
+where
+    A::Label: RowLabel,
+    requires labels { AreLabels (A.content automaton.now) (stands_by A.Label.number (A.labels automaton.now)) (map A.Label.number labels.now) }
     requires chosen { AreChosen (A.reached automaton.now) chosen.old.order.items chosen.old.homes.items most }
     requires count { (s : ℕ) → A.reached automaton.now s → s < length chosen.old.homes.items }
     requires at { at < length chosen.old.order.items }
@@ -155,19 +163,21 @@ fn choose_ends<V: Copy, A: Automaton<V, Label = u8>, L: Allocator>(
 }
 
 /// The slots of the rows.
-pub(crate) fn write<V: Copy, A: Automaton<V, Label = u8>, L: Allocator + Copy>(
+pub(crate) fn write<V: Copy, A: Automaton<V>, L: Allocator + Copy>(
     alloc: L,
     automaton: &A,
-    labels: &[u8],
+    labels: &[A::Label],
     chosen: &Chosen<L>,
     width: u32,
 ) -> Result<Vec<u32, L>, AllocError>
-    requires labels { AreLabels (A.content automaton.now) (A.labels automaton.now) labels.now }
+where
+    A::Label: RowLabel,
+    requires labels { AreLabels (A.content automaton.now) (stands_by A.Label.number (A.labels automaton.now)) (map A.Label.number labels.now) }
     requires chosen { AreChosen (A.reached automaton.now) chosen.now.order.items chosen.now.homes.items (65536 / width) }
     requires width { width ≡ length labels.now + 2 }
-    ensures { IfOk result (λ top. AreWritten (A.content automaton.now) (A.reached automaton.now) (A.text automaton.now) (A.dead automaton.now) (A.labels automaton.now)
+    ensures { IfOk result (λ top. AreWritten (A.content automaton.now) (A.reached automaton.now) (A.text automaton.now) (A.dead automaton.now) (stands_by A.Label.number (A.labels automaton.now))
         (IsFirstOutput A.Unit.width (A.content automaton.now) (A.dead automaton.now) (A.has_output automaton.now) (A.outputs automaton.now) (A.most_outputs automaton.now))
-        labels.now chosen.now.order.items width (length chosen.now.order.items * width) (length chosen.now.order.items) 0 top.items) }
+        (map A.Label.number labels.now) chosen.now.order.items width (length chosen.now.order.items * width) (length chosen.now.order.items) 0 top.items) }
 {
     let base = chosen.order.len() as u32 * width;
     let mut top = Vec::with_capacity(alloc, base as usize)?;
@@ -179,24 +189,26 @@ pub(crate) fn write<V: Copy, A: Automaton<V, Label = u8>, L: Allocator + Copy>(
 
 /// Writes a row: its state, where the labels that are not listed lead, which is the root, and of each
 /// label in order where the step ends.
-fn write_row<V: Copy, A: Automaton<V, Label = u8>, L: Allocator>(
+fn write_row<V: Copy, A: Automaton<V>, L: Allocator>(
     automaton: &A,
-    labels: &[u8],
+    labels: &[A::Label],
     chosen: &Chosen<L>,
     width: u32,
     row: usize,
     top: &mut Vec<u32, L>,
 ) -> Result<(), AllocError>
-    requires labels { AreLabels (A.content automaton.now) (A.labels automaton.now) labels.now }
+where
+    A::Label: RowLabel,
+    requires labels { AreLabels (A.content automaton.now) (stands_by A.Label.number (A.labels automaton.now)) (map A.Label.number labels.now) }
     requires chosen { AreChosen (A.reached automaton.now) chosen.now.order.items chosen.now.homes.items (65536 / width) }
     requires width { width ≡ length labels.now + 2 }
     requires row { row < length chosen.now.order.items }
-    requires written { AreWritten (A.content automaton.now) (A.reached automaton.now) (A.text automaton.now) (A.dead automaton.now) (A.labels automaton.now)
+    requires written { AreWritten (A.content automaton.now) (A.reached automaton.now) (A.text automaton.now) (A.dead automaton.now) (stands_by A.Label.number (A.labels automaton.now))
         (IsFirstOutput A.Unit.width (A.content automaton.now) (A.dead automaton.now) (A.has_output automaton.now) (A.outputs automaton.now) (A.most_outputs automaton.now))
-        labels.now chosen.now.order.items width (length chosen.now.order.items * width) row 0 top.old.items }
-    ensures { OnOk result (AreWritten (A.content automaton.now) (A.reached automaton.now) (A.text automaton.now) (A.dead automaton.now) (A.labels automaton.now)
+        (map A.Label.number labels.now) chosen.now.order.items width (length chosen.now.order.items * width) row 0 top.old.items }
+    ensures { OnOk result (AreWritten (A.content automaton.now) (A.reached automaton.now) (A.text automaton.now) (A.dead automaton.now) (stands_by A.Label.number (A.labels automaton.now))
         (IsFirstOutput A.Unit.width (A.content automaton.now) (A.dead automaton.now) (A.has_output automaton.now) (A.outputs automaton.now) (A.most_outputs automaton.now))
-        labels.now chosen.now.order.items width (length chosen.now.order.items * width) (row + 1) 0 top.new.items) }
+        (map A.Label.number labels.now) chosen.now.order.items width (length chosen.now.order.items * width) (row + 1) 0 top.new.items) }
 {
     let base = chosen.order.len() as u32 * width;
     let state = chosen.order[row];

@@ -5,8 +5,9 @@
 
 ghost use Rattle.std.specs.Prelude.{◌≡◌};
 ghost use Rattle.daachorse_core.specs.Looks.{IsFirstOutput};
-ghost use Rattle.daachorse_rows.specs.Rows.{AreRows, SharesText, StandsFor, state_at};
+ghost use Rattle.daachorse_rows.specs.Rows.{AreRows, SharesText, StandsFor, stands_by, state_at};
 
+use crate::label::{RowLabel, SLOTTED};
 use crate::making::{HAS_OUTPUTS, NO_ROW};
 use daachorse_core::Output;
 use daachorse_core::turns::{Look, Turns};
@@ -18,9 +19,12 @@ use std::num::NonZeroU32;
 ///
 /// A state is told by its place: that of its row, where it has one, or its number behind all slots.
 #[derive(Drop)]
-pub struct RowView<'a, V: Copy, A: Automaton<V, Label = u8>> {
+pub struct RowView<'a, V: Copy, A: Automaton<V>>
+where
+    A::Label: RowLabel,
+{
     automaton: A,
-    // The slot of each label.
+    // The slot of each label that has one, by its number.
     classes: &'a [u16],
     // The slots. The first of a row is its state.
     top: &'a [u32],
@@ -33,20 +37,26 @@ pub struct RowView<'a, V: Copy, A: Automaton<V, Label = u8>> {
     of: PhantomData<V>,
 }
 
-impl<'a, V: Copy, A: Automaton<V, Label = u8>> Model for RowView<'a, V, A> {
+impl<'a, V: Copy, A: Automaton<V>> Model for RowView<'a, V, A>
+where
+    A::Label: RowLabel,
+{
     ghost use Rattle.daachorse_core.specs.Looks.{IsFirstOutput};
-    ghost use Rattle.daachorse_rows.specs.Rows.{AreRows, Rowed};
+    ghost use Rattle.daachorse_rows.specs.Rows.{AreRows, Rowed, stands_by};
 
     ghost Value = { Rowed A };
 
     ghost view = { λ s. record { automaton = s.automaton; rows = record { classes = s.classes.now; top = s.top.now; homes = s.homes.now; count = s.count; width = s.width; root = s.root } } };
 
-    ghost invariant = { λ s. AreRows (A.content s.automaton) (A.reached s.automaton) (A.text s.automaton) (A.dead s.automaton) (A.labels s.automaton)
+    ghost invariant = { λ s. AreRows (A.content s.automaton) (A.reached s.automaton) (A.text s.automaton) (A.dead s.automaton) (stands_by A.Label.number (A.labels s.automaton))
         (IsFirstOutput A.Unit.width (A.content s.automaton) (A.dead s.automaton) (A.has_output s.automaton) (A.outputs s.automaton) (A.most_outputs s.automaton))
         (record { classes = s.classes.now; top = s.top.now; homes = s.homes.now; count = s.count; width = s.width; root = s.root }) };
 }
 
-impl<'a, V: Copy, A: Automaton<V, Label = u8>> RowView<'a, V, A> {
+impl<'a, V: Copy, A: Automaton<V>> RowView<'a, V, A>
+where
+    A::Label: RowLabel,
+{
     /// The view of these tables.
     #[inline(always)]
     pub(crate) fn new(
@@ -58,7 +68,7 @@ impl<'a, V: Copy, A: Automaton<V, Label = u8>> RowView<'a, V, A> {
         width: u32,
         root: u32,
     ) -> Self
-        requires { AreRows (A.content automaton) (A.reached automaton) (A.text automaton) (A.dead automaton) (A.labels automaton)
+        requires { AreRows (A.content automaton) (A.reached automaton) (A.text automaton) (A.dead automaton) (stands_by A.Label.number (A.labels automaton))
             (IsFirstOutput A.Unit.width (A.content automaton) (A.dead automaton) (A.has_output automaton) (A.outputs automaton) (A.most_outputs automaton))
             (record { classes = classes.now; top = top.now; homes = homes.now; count = count; width = width; root = root }) }
         ensures { result ≡ record { automaton = automaton; rows = record { classes = classes.entry.now; top = top.entry.now; homes = homes.entry.now; count = count; width = width; root = root } } }
@@ -113,12 +123,15 @@ impl<'a, V: Copy, A: Automaton<V, Label = u8>> RowView<'a, V, A> {
     }
 }
 
-impl<'a, V: Copy, A: Automaton<V, Label = u8>> Automaton<V> for RowView<'a, V, A> {
+impl<'a, V: Copy, A: Automaton<V>> Automaton<V> for RowView<'a, V, A>
+where
+    A::Label: RowLabel,
+{
     ghost use Rattle.daachorse_rows.specs.Rows.{IsPlace, state_at};
 
     type Unit = A::Unit;
 
-    type Label = u8;
+    type Label = A::Label;
 
     ghost content = { λ p. A.content p.automaton };
 
@@ -151,24 +164,24 @@ impl<'a, V: Copy, A: Automaton<V, Label = u8>> Automaton<V> for RowView<'a, V, A
     }
 
     #[inline(always)]
-    fn label(&self, unit: A::Unit) -> Option<u8> {
+    fn label(&self, unit: A::Unit) -> Option<A::Label> {
         self.automaton.label(unit)
     }
 
     #[inline(always)]
-    fn turn(&self, state: u32, label: u8, turns: &mut Turns) -> Look {
+    fn turn(&self, state: u32, label: A::Label, turns: &mut Turns) -> Look {
         let place = state as usize;
-        if place < self.top.len() {
+        let number = label.index();
+        if place < self.top.len() && number < SLOTTED as usize {
             turns.tick();
-            let entry = self.top[place + self.classes[label as usize] as usize];
+            let entry = self.top[place + self.classes[number] as usize];
             if entry < HAS_OUTPUTS {
                 return Look::Next(entry, None);
             }
             let next = entry - HAS_OUTPUTS;
             return Look::Next(next, self.output_pos(next));
         }
-        let below = (place - self.top.len()) as u32;
-        match self.automaton.turn(below, label, turns) {
+        match self.automaton.turn(self.state(state), label, turns) {
             Look::Next(next, position) => Look::Next(self.place_below(next), position),
             Look::Fail(link) => Look::Fail(self.place(link)),
         }

@@ -1,5 +1,6 @@
-use Rattle.daachorse_bytewise_states.specs.EdgeBytes.{AreListed}
+use Rattle.daachorse_rows.specs.Rows.{AreListed}
+use Rattle.daachorse_bytewise_states.specs.EdgeBytes.{IsMarked}
 use Rattle.daachorse_bytewise_states.proofs.state_rows.list_marked.Given as goal
 
 abbrev pub invariant-loop-byte : goal.invariant-loop-byte
-invariant-loop-byte g l = AreListed l.marks.items l.byte l.bytes.items
+invariant-loop-byte g l = AreListed (IsMarked l.marks.items) l.byte l.bytes.items

@@ -1,12 +1,14 @@
 use Rattle.std.proofs.Common.{◌≡◌, ℕ, [], ◌∷◌, length, length-append, ap, ◌∙◌, arith}
 use Rattle.std.specs.Prelude.{slice_set}
 use Rattle.std.proofs.lemmas.List.{length-set}
-use Rattle.daachorse_rows.proofs.MakingLaws.{AreChosen-fits, AreChosen-more}
+use Rattle.daachorse_rows.proofs.MakingLaws.{AreChosen-fits, AreChosen-more, unit_read}
 use Rattle.daachorse_rows.proofs.making.choose_ends.Goals.{then-len-most+then-index+in_ok-push, else-len-most}
 use Rattle.daachorse_rows.proofs.making.choose_ends.Goals as goal
 
 pub follow-next-requires-clause-unit : goal.follow-next-requires-clause-unit
-follow-next-requires-clause-unit g c = c.requires.labels.none_idle c.loop-k.k c.loop-k-test.true
+follow-next-requires-clause-unit g c =
+    let A = g.A.Automaton in let a = c.args.automaton.now in
+    unit_read g.A.Label.RowLabel.number (A.content a) g.met.A.Label.RowLabel.exact (A.labels a) c.args.labels.now c.loop-k.k c.index-labels-k.result c.requires.labels c.loop-k-test.true c.index-labels-k.is
 
 pub loop-k-preserved : goal.loop-k-preserved
 loop-k-preserved g c = elim c.if-len-most.branch [

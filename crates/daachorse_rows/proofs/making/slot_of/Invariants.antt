@@ -1,6 +1,6 @@
-use Rattle.std.proofs.Common.{◌≢◌, ◌<◌, ℕ}
+use Rattle.std.proofs.Common.{◌≢◌, ◌<◌, ℕ, map}
 use Rattle.std.specs.Prelude.{slice_index}
 use Rattle.daachorse_rows.proofs.making.slot_of.Given as goal
 
 abbrev pub invariant-loop-k : goal.invariant-loop-k
-invariant-loop-k l = (j : ℕ) → j < l.k → slice_index l.labels j ≢ l.label
+invariant-loop-k g l = (j : ℕ) → j < l.k → slice_index (map g.T.RowLabel.number l.labels) j ≢ l.number

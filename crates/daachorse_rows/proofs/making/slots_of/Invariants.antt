@@ -1,5 +1,6 @@
+use Rattle.std.proofs.Common.{map}
 use Rattle.daachorse_rows.specs.Rows.{AreSlots}
 use Rattle.daachorse_rows.proofs.making.slots_of.Given as goal
 
-abbrev pub invariant-loop-label : goal.invariant-loop-label
-invariant-loop-label g l = AreSlots l.labels l.label l.slots.items
+abbrev pub invariant-loop-number : goal.invariant-loop-number
+invariant-loop-number g l = AreSlots (map g.T.RowLabel.number l.labels) l.number l.slots.items

@@ -1,10 +1,10 @@
-use Rattle.std.proofs.Common.{◌≡◌, ℕ, List, ◌+◌, ◌*◌, ◌/◌, ◌<◌, ◌≤◌, length, get_or, ap, subst, refl, sym, arith}
+use Rattle.std.proofs.Common.{◌≡◌, ℕ, List, ◌+◌, ◌*◌, ◌/◌, ◌<◌, length, map, get_or, ap, subst, refl, sym, arith}
 use Rattle.std.specs.Prelude.{slice_index, Option, None}
 use Rattle.std.specs.declared.num.NonZeroU32.{NonZeroU32}
 use Rattle.std.proofs.lemmas.List.{get_or_read}
 use Rattle.daachorse_core.specs.Looks.{IsFirstOutput, StepEnds}
-use Rattle.daachorse_rows.specs.Rows.{IsEntry, Stands}
-use Rattle.daachorse_rows.proofs.MakingLaws.{AreChosen-fits, AreWritten-next, AreWritten-push, fits_rows, slot_foreign, slot_step}
+use Rattle.daachorse_rows.specs.Rows.{IsEntry, Stands, stands_by}
+use Rattle.daachorse_rows.proofs.MakingLaws.{AreChosen-fits, AreWritten-next, AreWritten-push, fits_rows, number_read, slot_foreign, slot_step, stands_own, unit_read}
 use Rattle.daachorse_rows.proofs.making.write_row.Goals as goal
 
 row_state : (order : List ℕ) (row s : ℕ) → row < length order → s ≡ get_or order row s → s ≡ slice_index order row
@@ -13,14 +13,14 @@ row_state order row s less is = get_or_read order row s less is 0
 -- the state, and the slot of the labels that are not listed
 pub loop-k-init : goal.loop-k-init
 loop-k-init g c =
-    let A = g.A.Automaton in let a = c.args.automaton.now in let order = c.args.chosen.now.order.items in let labels = c.args.labels.now in
+    let A = g.A.Automaton in let a = c.args.automaton.now in let order = c.args.chosen.now.order.items in let labels = map g.A.Label.RowLabel.number c.args.labels.now in
     let width = c.args.width in let base = length order * width in let K = A.content a in
     let F : List ℕ → Option NonZeroU32 → Type 0 = IsFirstOutput g.A.Unit.EdgeLabel.width (A.content a) (A.dead a) (A.has_output a) (A.outputs a) (A.most_outputs a) in
     let e : c.len.result ≡ length order = omega (arith, c.len.ensures, c.args.chosen.now.order.ok.0) in
     let S : ℕ → Type 0 = λ n. IsEntry (λ x. Stands order width (n * width) x c.root-root.result) (c.output_pos.result ≡ None) c.entry.result in
-    let one = AreWritten-push K (A.reached a) (A.text a) (A.dead a) (A.labels a) F labels order width base c.args.row 0 1 c.index-state.result.now _ _ c.requires.written c.in_ok-push.ensures.items (row_state order c.args.row c.index-state.result.now c.requires.row c.index-state.ensures) refl in
-    AreWritten-push K (A.reached a) (A.text a) (A.dead a) (A.labels a) F labels order width base c.args.row 1 2 c.entry.result _ _ one c.in_ok-push-2.ensures.items
-    (slot_foreign K (A.reached a) (A.text a) (A.dead a) (A.labels a) F labels order width base c.requires.labels c.args.row c.entry.result c.root-root.result c.output_pos.result (subst S e c.entry.ensures) c.output_pos.ensures c.root-root.ensures.reached c.root-root.ensures.text) refl
+    let one = AreWritten-push K (A.reached a) (A.text a) (A.dead a) (stands_by g.A.Label.RowLabel.number (A.labels a)) F labels order width base c.args.row 0 1 c.index-state.result.now _ _ c.requires.written c.in_ok-push.ensures.items (row_state order c.args.row c.index-state.result.now c.requires.row c.index-state.ensures) refl in
+    AreWritten-push K (A.reached a) (A.text a) (A.dead a) (stands_by g.A.Label.RowLabel.number (A.labels a)) F labels order width base c.args.row 1 2 c.entry.result _ _ one c.in_ok-push-2.ensures.items
+    (slot_foreign K (A.reached a) (A.text a) (A.dead a) (stands_by g.A.Label.RowLabel.number (A.labels a)) F labels order width base c.requires.labels c.args.row c.entry.result c.root-root.result c.output_pos.result (subst S e c.entry.ensures) c.output_pos.ensures c.root-root.ensures.reached c.root-root.ensures.text) refl
 
 pub follow-next-requires-clause-reached : goal.follow-next-requires-clause-reached
 follow-next-requires-clause-reached g c =
@@ -29,7 +29,9 @@ follow-next-requires-clause-reached g c =
     subst P (sym (row_state order c.args.row c.index-state.result.now c.requires.row c.index-state.ensures)) (c.requires.chosen.states c.args.row c.requires.row)
 
 pub follow-next-requires-clause-unit : goal.follow-next-requires-clause-unit
-follow-next-requires-clause-unit g c = c.requires.labels.none_idle c.loop-k.k c.loop-k-test.true
+follow-next-requires-clause-unit g c =
+    let A = g.A.Automaton in let a = c.args.automaton.now in
+    unit_read g.A.Label.RowLabel.number (A.content a) g.met.A.Label.RowLabel.exact (A.labels a) c.args.labels.now c.loop-k.k c.index-labels-k.result c.requires.labels c.loop-k-test.true c.index-labels-k.is
 
 pub entry-requires-in-loop-k-clause-fits : goal.entry-requires-in-loop-k-clause-fits
 entry-requires-in-loop-k-clause-fits g c =
@@ -41,19 +43,21 @@ entry-requires-in-loop-k-clause-fits g c =
 
 pub loop-k-preserved : goal.loop-k-preserved
 loop-k-preserved g c =
-    let A = g.A.Automaton in let a = c.args.automaton.now in let order = c.args.chosen.now.order.items in let labels = c.args.labels.now in
+    let A = g.A.Automaton in let a = c.args.automaton.now in let order = c.args.chosen.now.order.items in let labels = map g.A.Label.RowLabel.number c.args.labels.now in
     let width = c.args.width in let base = length order * width in let K = A.content a in
     let F : List ℕ → Option NonZeroU32 → Type 0 = IsFirstOutput g.A.Unit.EdgeLabel.width (A.content a) (A.dead a) (A.has_output a) (A.outputs a) (A.most_outputs a) in
     let e : c.len.result ≡ length order = omega (arith, c.len.ensures, c.args.chosen.now.order.ok.0) in
     let S : ℕ → Type 0 = λ n. IsEntry (λ x. Stands order width (n * width) x c.follow-next.result.0) (c.follow-next.result.1 ≡ None) c.entry-in-loop-k.result in
     let same = row_state order c.args.row c.index-state.result.now c.requires.row c.index-state.ensures in
-    let P : ℕ → Type 0 = λ s. (unit : ℕ) → A.labels a (slice_index labels c.loop-k.k) unit → StepEnds K (A.dead a) (A.text a s) unit (A.text a c.follow-next.result.0) in
+    let label = c.index-labels-k.result in
+    let read = number_read g.A.Label.RowLabel.number c.args.labels.now c.loop-k.k label c.loop-k-test.true c.index-labels-k.is in
+    let P : ℕ → Type 0 = λ s. (unit : ℕ) → A.labels a label unit → StepEnds K (A.dead a) (A.text a s) unit (A.text a c.follow-next.result.0) in
     let ends : P (slice_index order c.args.row) = subst P same c.follow-next.ensures.ends in
-    AreWritten-push K (A.reached a) (A.text a) (A.dead a) (A.labels a) F labels order width base c.args.row (2 + c.loop-k.k) (2 + (c.loop-k.k + 1)) c.entry-in-loop-k.result _ _ c.loop-k.invariant c.in_ok-push-3.ensures.items
-    (slot_step K (A.reached a) (A.text a) (A.dead a) (A.labels a) F labels order width base c.requires.labels c.args.row (2 + c.loop-k.k) c.loop-k.k c.entry-in-loop-k.result c.follow-next.result.0 c.follow-next.result.1 refl (subst S e c.entry-in-loop-k.ensures) c.follow-next.ensures.output c.follow-next.ensures.reached ends) (omega arith)
+    AreWritten-push K (A.reached a) (A.text a) (A.dead a) (stands_by g.A.Label.RowLabel.number (A.labels a)) F labels order width base c.args.row (2 + c.loop-k.k) (2 + (c.loop-k.k + 1)) c.entry-in-loop-k.result _ _ c.loop-k.invariant c.in_ok-push-3.ensures.items
+    (slot_step K (A.reached a) (A.text a) (A.dead a) (stands_by g.A.Label.RowLabel.number (A.labels a)) F labels order width base c.requires.labels c.args.row (2 + c.loop-k.k) c.loop-k.k c.entry-in-loop-k.result c.follow-next.result.0 c.follow-next.result.1 refl (subst S e c.entry-in-loop-k.ensures) c.follow-next.ensures.output c.follow-next.ensures.reached (λ unit coded. ends unit (stands_own g.A.Label.RowLabel.number g.met.A.Label.RowLabel.exact (A.labels a) label (slice_index labels c.loop-k.k) unit read coded))) (omega arith)
 
 pub returns : goal.returns
 returns g c =
     let A = g.A.Automaton in let a = c.args.automaton.now in let order = c.args.chosen.now.order.items in
     let F : List ℕ → Option NonZeroU32 → Type 0 = IsFirstOutput g.A.Unit.EdgeLabel.width (A.content a) (A.dead a) (A.has_output a) (A.outputs a) (A.most_outputs a) in
-    AreWritten-next (A.content a) (A.reached a) (A.text a) (A.dead a) (A.labels a) F c.args.labels.now order c.args.width (length order * c.args.width) c.args.row (2 + c.loop-k.k) _ c.loop-k.invariant (omega (arith, c.requires.width, c.loop-k-test.false, c.loop-k.auto.k-end))
+    AreWritten-next (A.content a) (A.reached a) (A.text a) (A.dead a) (stands_by g.A.Label.RowLabel.number (A.labels a)) F (map g.A.Label.RowLabel.number c.args.labels.now) order c.args.width (length order * c.args.width) c.args.row (2 + c.loop-k.k) _ c.loop-k.invariant (omega (arith, c.requires.width, c.loop-k-test.false, c.loop-k.auto.k-end))

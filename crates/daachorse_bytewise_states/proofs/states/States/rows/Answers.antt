@@ -1,7 +1,8 @@
 -- Either view has the parts, whose states are elements.
-use Rattle.std.proofs.Common.{◌≡◌, ◌<◌, ℕ, List, sym, subst, arith}
+use Rattle.std.proofs.Common.{◌≡◌, ◌<◌, ℕ, List, map, sym, subst, arith}
 use Rattle.std.specs.Prelude.{IfOk}
-use Rattle.daachorse_rows.specs.Rows.{AreLabels}
+use Rattle.daachorse_rows.specs.Rows.{AreLabels, stands_by}
+use Rattle.daachorse_rows.proofs.ListedLaws.{AreLabels-own}
 use Rattle.daachorse_bytewise_states.specs.Parts.{Parts, content, count}
 use Rattle.daachorse_bytewise_states.specs.StateRows.{HasRows}
 use Rattle.daachorse_bytewise_states.specs.Valid.{IsState, IsValid}
@@ -9,11 +10,11 @@ use Rattle.daachorse_bytewise_states.proofs.ByteLaws.{state_inside}
 use Rattle.daachorse_bytewise_states.proofs.states.States.rows.Goals as goal
 
 module _ {V : Type 0} (p q : Parts V) (same : q ≡ p) where
-  labels_along : (bytes listed : List ℕ) → listed ≡ bytes → AreLabels (content p) (λ label unit. label ≡ unit) bytes → AreLabels (content q) (λ label unit. label ≡ unit) listed
+  labels_along : (bytes listed : List ℕ) → listed ≡ bytes → AreLabels (content p) (λ label unit. label ≡ unit) bytes → AreLabels (content q) (stands_by (λ (byte : ℕ). byte) (λ label unit. label ≡ unit)) (map (λ (byte : ℕ). byte) listed)
   labels_along bytes listed is labels =
       let P : Parts V → Type 0 = λ x. AreLabels (content x) (λ label unit. label ≡ unit) listed in
       let Q : List ℕ → Type 0 = λ l. AreLabels (content p) (λ label unit. label ≡ unit) l in
-      subst P (sym same) (subst Q (sym is) labels)
+      AreLabels-own (content q) (λ label unit. label ≡ unit) listed (subst P (sym same) (subst Q (sym is) labels))
 
   states_along : (n : ℕ) → IsValid p → n ≡ count p → (s : ℕ) → IsState q s → s < n
   states_along n valid all s there =

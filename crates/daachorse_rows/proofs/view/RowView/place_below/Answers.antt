@@ -1,5 +1,5 @@
 use Rattle.std.proofs.Common.{subst, refl, length, ap, ◌∙◌, ◌+◌, ◌%◌, ◌^◌}
-use Rattle.daachorse_rows.specs.Rows.{Rowed, SharesText}
+use Rattle.daachorse_rows.specs.Rows.{Rowed, SharesText, stands_by}
 use Rattle.daachorse_rows.proofs.RowLaws.{place_past, shares_root, shares_state}
 use Rattle.daachorse_rows.proofs.view.RowView.place_below.Goals as goal
 
@@ -13,5 +13,5 @@ pub returns : goal.returns
 returns g c =
     let A = g.A.Automaton in let s = c.self.inside in let a = s.automaton in
     let P : Rowed g.row.A.Denot → Type 0 = λ p. A.reached p.automaton c.args.state → SharesText (A.reached p.automaton) (A.text p.automaton) p.rows ((length s.top.now + c.args.state) % 2 ^ 32) c.args.state in
-    subst P c.self.view_is (λ there. shares_state (A.content a) (A.reached a) (A.text a) (A.dead a) (A.labels a) (λ w o. Unit {0}) _ _ c.args.state
+    subst P c.self.view_is (λ there. shares_state (A.content a) (A.reached a) (A.text a) (A.dead a) (stands_by g.A.Label.RowLabel.number (A.labels a)) (λ w o. Unit {0}) _ _ c.args.state
     (place_past _ c.args.state ((length s.top.now + c.args.state) % 2 ^ 32) refl (c.self.invariant.small c.args.state there)) there)

@@ -1,9 +1,9 @@
-use Rattle.std.proofs.Common.{◌≡◌, ℕ, ◌+◌, ◌-◌, ◌≤◌, List, length, sym, subst, arith}
+use Rattle.std.proofs.Common.{ℕ, ◌+◌, ◌-◌, List, sym, subst}
 use Rattle.std.specs.Prelude.{slice_index, None}
 use Rattle.daachorse_core.specs.Looks.{IsFirstOutput, LookGives, StepEnds}
 use Rattle.daachorse_core.specs.declared.turns.Look.TheVariants.{Next, Fail}
-use Rattle.daachorse_rows.specs.Rows.{Rowed, IsPlace, state_at}
-use Rattle.daachorse_rows.proofs.RowLaws.{look_below, look_link, look_loud, look_quiet, output_quiet, reached_loud, state_at-past}
+use Rattle.daachorse_rows.specs.Rows.{Rowed, IsPlace, stands_by, state_at}
+use Rattle.daachorse_rows.proofs.RowLaws.{look_below, look_link, look_loud, look_quiet, output_quiet, reached_loud}
 use Rattle.daachorse_rows.proofs.view.RowViewAutomaton.turn.Goals as goal
 
 -- at a row, by the entry
@@ -11,60 +11,56 @@ pub returns-then-entry-lt-HAS_OUTPUTS-clause-look :
     goal.returns-then-entry-lt-HAS_OUTPUTS-clause-look
 returns-then-entry-lt-HAS_OUTPUTS-clause-look g c =
     let A = g.A.Automaton in let s = c.self.inside in
-    let e : ℕ = slice_index s.top.now (c.args.state + slice_index s.classes.now c.args.label) in
+    let e : ℕ = slice_index s.top.now (c.args.state + slice_index s.classes.now c.index-number.result) in
     let R : Rowed g.row.A.Denot → Type 0 = λ p. IsPlace p.rows c.args.state in
     let P : Rowed g.row.A.Denot → Type 0 = λ p. (unit : ℕ) → A.labels p.automaton c.args.label unit → (IsPlace p.rows e × A.reached p.automaton (state_at p.rows.top e))
     × StepEnds (A.content p.automaton) (A.dead p.automaton) (A.text p.automaton (state_at p.rows.top c.args.state)) unit (A.text p.automaton (state_at p.rows.top e)) in
-    subst P c.self.view_is (look_quiet _ _ _ _ _ _ _ c.self.invariant c.args.state c.args.label (subst R (sym c.self.view_is) c.requires.0) c.if-place-self.true (omega arith) c.if-entry-lt-HAS_OUTPUTS.true)
+    subst P c.self.view_is (λ unit coded. look_quiet _ _ _ _ _ _ _ c.self.invariant c.args.state c.index-number.result (subst R (sym c.self.view_is) c.requires.0) c.if-place-self.true c.if-number.true c.if-entry-lt-HAS_OUTPUTS.true unit (c.args.label, sym c.index-number.ensures, coded))
 
 pub returns-then-entry-lt-HAS_OUTPUTS-clause-output :
     goal.returns-then-entry-lt-HAS_OUTPUTS-clause-output
 returns-then-entry-lt-HAS_OUTPUTS-clause-output g c =
     let A = g.A.Automaton in let s = c.self.inside in
-    let e : ℕ = slice_index s.top.now (c.args.state + slice_index s.classes.now c.args.label) in
+    let e : ℕ = slice_index s.top.now (c.args.state + slice_index s.classes.now c.index-number.result) in
     let R : Rowed g.row.A.Denot → Type 0 = λ p. IsPlace p.rows c.args.state in
     let P : Rowed g.row.A.Denot → Type 0 = λ p. (unit : ℕ) → A.labels p.automaton c.args.label unit
     → IsFirstOutput g.A.Unit.EdgeLabel.width (A.content p.automaton) (A.dead p.automaton) (A.has_output p.automaton) (A.outputs p.automaton) (A.most_outputs p.automaton) (A.text p.automaton (state_at p.rows.top e)) None in
-    subst P c.self.view_is (λ unit coded. output_quiet _ _ _ _ _ _ _ c.self.invariant c.args.state c.args.label (subst R (sym c.self.view_is) c.requires.0) c.if-place-self.true (omega arith) c.if-entry-lt-HAS_OUTPUTS.true)
+    subst P c.self.view_is (λ unit coded. output_quiet _ _ _ _ _ _ _ c.self.invariant c.args.state c.index-number.result (subst R (sym c.self.view_is) c.requires.0) c.if-place-self.true c.if-number.true c.if-entry-lt-HAS_OUTPUTS.true)
 
 pub output_pos-requires : goal.output_pos-requires
 output_pos-requires g c =
     let A = g.A.Automaton in let s = c.self.inside in
-    let e : ℕ = slice_index s.top.now (c.args.state + slice_index s.classes.now c.args.label) in
+    let e : ℕ = slice_index s.top.now (c.args.state + slice_index s.classes.now c.index-number.result) in
     let R : Rowed g.row.A.Denot → Type 0 = λ p. IsPlace p.rows c.args.state in
     let P : Rowed g.row.A.Denot → Type 0 = λ p. IsPlace p.rows (e - 2147483648) × A.reached p.automaton (state_at p.rows.top (e - 2147483648)) in
-    subst P c.self.view_is (reached_loud _ _ _ _ _ _ _ c.self.invariant c.args.state c.args.label (subst R (sym c.self.view_is) c.requires.0) c.if-place-self.true (omega arith) c.if-entry-lt-HAS_OUTPUTS.false)
+    subst P c.self.view_is (reached_loud _ _ _ _ _ _ _ c.self.invariant c.args.state c.index-number.result (subst R (sym c.self.view_is) c.requires.0) c.if-place-self.true c.if-number.true c.if-entry-lt-HAS_OUTPUTS.false)
 
-pub returns-then-place-self-clause-look : goal.returns-then-place-self-clause-look
-returns-then-place-self-clause-look g c =
+pub returns-then-number-clause-look : goal.returns-then-number-clause-look
+returns-then-number-clause-look g c =
     let A = g.A.Automaton in let s = c.self.inside in
-    let e : ℕ = slice_index s.top.now (c.args.state + slice_index s.classes.now c.args.label) in
+    let e : ℕ = slice_index s.top.now (c.args.state + slice_index s.classes.now c.index-number.result) in
     let R : Rowed g.row.A.Denot → Type 0 = λ p. IsPlace p.rows c.args.state in
     let P : Rowed g.row.A.Denot → Type 0 = λ p. (unit : ℕ) → A.labels p.automaton c.args.label unit → (IsPlace p.rows (e - 2147483648) × A.reached p.automaton (state_at p.rows.top (e - 2147483648)))
     × StepEnds (A.content p.automaton) (A.dead p.automaton) (A.text p.automaton (state_at p.rows.top c.args.state)) unit (A.text p.automaton (state_at p.rows.top (e - 2147483648))) in
-    subst P c.self.view_is (look_loud _ _ _ _ _ _ _ c.self.invariant c.args.state c.args.label (subst R (sym c.self.view_is) c.requires.0) c.if-place-self.true (omega arith) c.if-entry-lt-HAS_OUTPUTS.false)
+    subst P c.self.view_is (λ unit coded. look_loud _ _ _ _ _ _ _ c.self.invariant c.args.state c.index-number.result (subst R (sym c.self.view_is) c.requires.0) c.if-place-self.true c.if-number.true c.if-entry-lt-HAS_OUTPUTS.false unit (c.args.label, sym c.index-number.ensures, coded))
 
--- below the rows, what the automaton's own look tells
+-- below the rows and by a label with no slot, what the automaton's own look tells
 pub turn-requires : goal.turn-requires
 turn-requires g c =
-    let A = g.A.Automaton in let s = c.self.inside in
-    let R : Rowed g.row.A.Denot → Type 0 = λ p. A.reached p.automaton (state_at p.rows.top c.args.state) in
-    let Q : ℕ → Type 0 = λ x. A.reached s.automaton x in
-    subst Q (sym (state_at-past s.top.now c.args.state c.if-place-self.false)) (subst R (sym c.self.view_is) c.requires.1)
+    let A = g.A.Automaton in
+    let R : Rowed g.row.A.Denot → Type 0 = λ p. A.reached p.automaton c.state.result in
+    let Q : ℕ → Type 0 = λ x. A.reached c.args.self.now.automaton x in
+    subst R (sym c.self.view_is) (subst Q (sym c.state.ensures) c.requires.1)
 
 pub returns-in-Next-clause-look : goal.returns-in-Next-clause-look
 returns-in-Next-clause-look g c = λ unit coded.
     let A = g.A.Automaton in let p = c.args.self.now in let a = p.automaton in
     let told = Next c.in-Next.next c.in-Next.position in
-    let P : Rowed g.row.A.Denot → Type 0 = λ q. A.labels q.automaton c.args.label unit → LookGives (A.content q.automaton) (A.reached q.automaton) (A.text q.automaton) (A.dead q.automaton) (A.text q.automaton (c.args.state - length q.rows.top)) unit told in
+    let P : Rowed g.row.A.Denot → Type 0 = λ q. A.labels q.automaton c.args.label unit → LookGives (A.content q.automaton) (A.reached q.automaton) (A.text q.automaton) (A.dead q.automaton) (A.text q.automaton c.state.result) unit told in
     let own : P p = subst P c.self.view_is (c.in-Next.ensures.look unit) in
-    let here : c.args.state - length p.rows.top ≡ state_at p.rows.top c.args.state = state_at-past p.rows.top c.args.state past in
     let Q : ℕ → Type 0 = λ x. LookGives (A.content a) (A.reached a) (A.text a) (A.dead a) (A.text a x) unit told in
-    let look = subst Q here (own coded) in
-    look_below (A.content a) (A.reached a) (A.text a) (A.dead a) (A.labels a) (λ w o. Unit {0}) p.rows (A.text a (state_at p.rows.top c.args.state)) unit c.in-Next.next c.place_below.result c.in-Next.position (c.place_below.ensures look.0) look
-  where
-    past : length c.args.self.now.rows.top ≤ c.args.state
-    past = let P : Rowed g.row.A.Denot → Type 0 = λ q. length q.rows.top ≤ c.args.state in subst P c.self.view_is c.if-place-self.false
+    let look = subst Q c.state.ensures (own coded) in
+    look_below (A.content a) (A.reached a) (A.text a) (A.dead a) (stands_by g.A.Label.RowLabel.number (A.labels a)) (λ w o. Unit {0}) p.rows (A.text a (state_at p.rows.top c.args.state)) unit c.in-Next.next c.place_below.result c.in-Next.position (c.place_below.ensures look.0) look
 
 pub returns-in-Next-clause-output : goal.returns-in-Next-clause-output
 returns-in-Next-clause-output g c = λ unit coded.
@@ -79,12 +75,8 @@ pub returns-in-Fail-clause-look : goal.returns-in-Fail-clause-look
 returns-in-Fail-clause-look g c = λ unit coded.
     let A = g.A.Automaton in let p = c.args.self.now in let a = p.automaton in
     let told = Fail c.in-Fail.link in
-    let P : Rowed g.row.A.Denot → Type 0 = λ q. A.labels q.automaton c.args.label unit → LookGives (A.content q.automaton) (A.reached q.automaton) (A.text q.automaton) (A.dead q.automaton) (A.text q.automaton (c.args.state - length q.rows.top)) unit told in
+    let P : Rowed g.row.A.Denot → Type 0 = λ q. A.labels q.automaton c.args.label unit → LookGives (A.content q.automaton) (A.reached q.automaton) (A.text q.automaton) (A.dead q.automaton) (A.text q.automaton c.state.result) unit told in
     let own : P p = subst P c.self.view_is (c.in-Fail.ensures.look unit) in
-    let here : c.args.state - length p.rows.top ≡ state_at p.rows.top c.args.state = state_at-past p.rows.top c.args.state past in
     let Q : ℕ → Type 0 = λ x. LookGives (A.content a) (A.reached a) (A.text a) (A.dead a) (A.text a x) unit told in
-    let look = subst Q here (own coded) in
-    look_link (A.content a) (A.reached a) (A.text a) (A.dead a) (A.labels a) (λ w o. Unit {0}) p.rows (A.text a (state_at p.rows.top c.args.state)) unit c.in-Fail.link c.place.result (c.place.ensures look.0) look
-  where
-    past : length c.args.self.now.rows.top ≤ c.args.state
-    past = let P : Rowed g.row.A.Denot → Type 0 = λ q. length q.rows.top ≤ c.args.state in subst P c.self.view_is c.if-place-self.false
+    let look = subst Q c.state.ensures (own coded) in
+    look_link (A.content a) (A.reached a) (A.text a) (A.dead a) (stands_by g.A.Label.RowLabel.number (A.labels a)) (λ w o. Unit {0}) p.rows (A.text a (state_at p.rows.top c.args.state)) unit c.in-Fail.link c.place.result (c.place.ensures look.0) look

@@ -1,0 +1,6 @@
+use Rattle.daachorse_rows.specs.Rows.{AreListed}
+use Rattle.daachorse_charwise_states.specs.StateRows.{IsUsed}
+use Rattle.daachorse_charwise_states.proofs.state_rows.list_used.Given as goal
+
+abbrev pub invariant-loop-code : goal.invariant-loop-code
+invariant-loop-code g l = AreListed (IsUsed l.elements) l.code l.codes.items

@@ -1,0 +1,21 @@
+-- Right rows of the states over characters, and the codes that stand in them.
+use Rattle.std.specs.Prelude.{◌≡◌, ◌≤◌, ℕ, true, length, Some, is_some}
+use Rattle.daachorse_core.specs.Looks.{IsFirstOutput}
+use Rattle.daachorse_core.specs.Outputs.{outputs_at}
+use Rattle.daachorse_model.specs.Units.{char_width}
+use Rattle.daachorse_rows.specs.Rows.{AreRows, RowTable, stands_by}
+use Rattle.daachorse_charwise_states.specs.Edges.{Lettered, character_of}
+use Rattle.daachorse_charwise_states.specs.Parts.{Parts, char_code, content}
+use Rattle.daachorse_charwise_states.specs.Valid.{IsState, dead, text}
+
+-- some character has the code
+abbrev pub IsUsed : {V : Type 0} → Lettered V → ℕ → Type 0
+IsUsed a code = is_some (character_of a code) ≡ true
+
+-- the code stands for the character
+abbrev pub stands_for : {V : Type 0} → Parts V → ℕ → ℕ → Type 0
+stands_for p code unit = char_code p.coding unit ≡ Some code
+
+abbrev pub HasRows : {V : Type 0} → Parts V → RowTable → Type 0
+HasRows p r =
+    AreRows (content p) (IsState p) (text p) (dead p) (stands_by (λ (code : ℕ). code) (stands_for p)) (IsFirstOutput char_width (content p) (dead p) (λ position. position ≤ length p.outputs) (outputs_at p.outputs) (length p.outputs)) r

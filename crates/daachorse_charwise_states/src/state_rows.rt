@@ -1,0 +1,72 @@
+//! Rows of the states near the root.
+//!
+//! The layers above may rely on [`States::rows`] being right for both views of the states.
+
+ghost use Rattle.std.specs.Prelude.{◌≤◌, length, IfOk, IfErr};
+ghost use Rattle.daachorse_core.specs.Refusals.{IsOutOfMemory};
+ghost use Rattle.daachorse_rows.specs.Rows.{AreLabels, AreListed};
+ghost use Rattle.daachorse_charwise_states.specs.Parts.{content};
+ghost use Rattle.daachorse_charwise_states.specs.StateRows.{HasRows, IsUsed, stands_for};
+
+use crate::edges::Elements;
+use crate::states::States;
+use daachorse_core::MatchKind;
+use daachorse_core::errors::Result;
+use daachorse_rows::label::SLOTTED;
+use daachorse_rows::rows::Rows;
+use std::alloc::Allocator;
+
+impl<V: Copy, A: Allocator + Copy> States<V, A> {
+    /// Rows of the states near the root, with the 510 most frequent characters of the patterns, in
+    /// at most 256 KiB, and two bytes beside them for each element.
+    ///
+    /// # Errors
+    ///
+    /// An allocation failed.
+    pub fn rows(&self, alloc: A) -> Result<Rows<A>>
+        ensures ok { IfOk result (HasRows self.now) }
+        ensures err { IfErr result IsOutOfMemory }
+    {
+        let codes = self.row_codes(alloc)?;
+        let count = self.num_elements() as u32;
+        // A field is read for what the parts keep.
+        let _num_states = self.num_states;
+        match self.kind() {
+            MatchKind::Standard => {
+                let view = self.standard();
+                Ok(Rows::new(alloc, &view, codes.as_slice(), count)?)
+            }
+            MatchKind::LeftmostLongest | MatchKind::LeftmostFirst => {
+                let view = self.leftmost();
+                Ok(Rows::new(alloc, &view, codes.as_slice(), count)?)
+            }
+        }
+    }
+
+    /// The codes of characters that stand in rows, in order.
+    fn row_codes(&self, alloc: A) -> Result<Vec<u32, A>>
+        ensures few { IfOk result (λ v. length v.items ≤ 510) }
+        ensures all { IfOk result (λ v. AreLabels (content self.now) (stands_for self.now) v.items) }
+        ensures err { IfErr result IsOutOfMemory }
+    {
+        let elements = self.elements(alloc)?;
+        list_used(alloc, &elements)
+    }
+}
+
+/// The codes that may stand in rows and that some character has, in order.
+fn list_used<V: Copy, A: Allocator + Copy>(
+    alloc: A,
+    elements: &Elements<'_, V, A>,
+) -> Result<Vec<u32, A>>
+    ensures ok { IfOk result (λ v. AreListed (IsUsed elements.now) 510 v.items) }
+    ensures err { IfErr result IsOutOfMemory }
+{
+    let mut codes = Vec::new(alloc);
+    for code in 0..SLOTTED {
+        if elements.character(code as usize).is_some() {
+            codes.push(code)?;
+        }
+    }
+    Ok(codes)
+}

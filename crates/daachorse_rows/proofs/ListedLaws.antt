@@ -1,0 +1,44 @@
+-- Labels are listed one after the other, and each is its own number.
+use Rattle.std.proofs.Common.{◌≡◌, inl, inr, ℕ, ◌+◌, List, [], ◌∷◌, ◌++◌, length, map, refl, sym, ap, ◌∙◌, subst, arith, length-append}
+use Rattle.std.specs.Prelude.{slice_index}
+use Rattle.std.proofs.lemmas.List.{map-id}
+use Rattle.daachorse_model.specs.Dictionary.{Dictionary}
+use Rattle.daachorse_rows.specs.Rows.{AreLabels, AreListed, stands_by}
+use Rattle.daachorse_rows.proofs.MakingLaws.{below_or_at, read-new, read-old}
+
+module _ (holds : ℕ → Type 0) (n : ℕ) (xs : List ℕ) (h : AreListed holds n xs) where
+  -- nothing holds of n
+  pub AreListed-skip : ¬ holds n → AreListed holds (n + 1) xs
+  AreListed-skip not = record {
+    few = omega (arith, h.few);
+    all = λ x below held. elim (below_or_at x n below) [
+      | inl less ↦ h.all x less held
+      | inr same ↦ absurd (not (subst holds same held))
+    ];
+    only = h.only;
+  }
+
+  pub AreListed-more : (ys : List ℕ) → ys ≡ xs ++ n ∷ [] → holds n → AreListed holds (n + 1) ys
+  AreListed-more ys is held = record {
+    few = omega (arith, h.few, size);
+    all = λ x below of_x. elim (below_or_at x n below) [
+      | inl less ↦ let old = h.all x less of_x in (old.0, omega (arith, old.1, size), read-old xs ys n old.0 is old.1 ∙ old.2)
+      | inr same ↦ (length xs, omega (arith, size), read-new xs ys n (length xs) is refl ∙ sym same)
+    ];
+    only = λ k below. elim (below_or_at k (length xs) (omega (arith, below, size))) [
+      | inl old ↦ subst holds (sym (read-old xs ys n k is old)) (h.only k old)
+      | inr new ↦ subst holds (sym (read-new xs ys n k is new)) held
+    ];
+  }
+    where
+      size : length ys ≡ length xs + 1
+      size = ap length is ∙ length-append xs (n ∷ [])
+
+-- labels that are their own numbers
+pub AreLabels-own : {V : Type 0} (K : Dictionary V) (stands : ℕ → ℕ → Type 0) (labels : List ℕ) → AreLabels K stands labels → AreLabels K (stands_by (λ (x : ℕ). x) stands) (map (λ (x : ℕ). x) labels)
+AreLabels-own K stands labels h =
+    let P : List ℕ → Type 0 = λ l. AreLabels K (stands_by (λ (x : ℕ). x) stands) l in
+    subst P (sym (map-id labels)) (record {
+      all = λ label unit low (other, same, coded). let Q : ℕ → Type 0 = λ l. stands l unit in h.all label unit low (subst Q same coded);
+      none_idle = λ k below. let some = h.none_idle k below in (some.0, (slice_index labels k, refl, some.1));
+    })

@@ -1,0 +1,47 @@
+//! Labels by which rows are looked at: bytes, or the codes of characters.
+//!
+//! The layers above may rely on a label's number telling it from each other one.
+
+ghost use Rattle.std.specs.Prelude.{◌≡◌, ℕ};
+
+/// Labels with a number below it have a slot in each row, so that there is room for 128 rows.
+pub const SLOTTED: u32 = 510;
+
+/// A label by which rows are looked at.
+pub trait RowLabel: Copy + Drop {
+    /// The number of a label.
+    ghost number: { Self → ℕ };
+
+    /// Returns the number of the label.
+    fn index(self) -> usize
+        ensures { result ≡ number self };
+
+    // A number is that of one label alone.
+    ghost exact: { (a b : Self) → number a ≡ number b → a ≡ b };
+}
+
+impl RowLabel for u8 {
+    ghost use Rattle.daachorse_rows.specs.Rows.{exact_number};
+
+    ghost number = { λ byte. byte };
+
+    #[inline(always)]
+    fn index(self) -> usize {
+        self as usize
+    }
+
+    ghost exact = { exact_number };
+}
+
+impl RowLabel for u32 {
+    ghost use Rattle.daachorse_rows.specs.Rows.{exact_number};
+
+    ghost number = { λ code. code };
+
+    #[inline(always)]
+    fn index(self) -> usize {
+        self as usize
+    }
+
+    ghost exact = { exact_number };
+}

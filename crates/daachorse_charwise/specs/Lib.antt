@@ -3,6 +3,7 @@ pub mod Building
 pub mod Frequencies
 pub mod WrittenForms
 pub mod ReadForms
+pub mod Accelerated
 pub use Rattle.daachorse_core.specs.Refusals
 pub use Rattle.daachorse_listing.specs.Listing
 pub use Rattle.daachorse_patterns.specs.Folding

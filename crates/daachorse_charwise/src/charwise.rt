@@ -27,6 +27,7 @@ ghost use Rattle.daachorse_charwise.specs.Automata.{HasDepths, MayFold, MayHaveF
 ghost use Rattle.daachorse_charwise.specs.Building.{HoldsPatterns, IsBuildRefusal, IsBuiltOf, IsRefusalOf, kept_filter, registered_texts, spelled};
 ghost use Rattle.daachorse_charwise_states.specs.Texts.{AreTexts};
 
+pub mod accelerated;
 pub mod builder;
 mod by_kind;
 mod frequencies;
@@ -36,6 +37,7 @@ mod replacing;
 pub mod states;
 mod written;
 
+pub use crate::charwise::accelerated::Accelerated;
 pub use crate::charwise::builder::CharwiseDoubleArrayAhoCorasickBuilder;
 use crate::charwise::iter::{
     FindIterator, FindOverlappingIterator, FindOverlappingNoSuffixIterator,

@@ -8,6 +8,7 @@
 //! the text if there is one; none of them takes memory. The patterns of an automaton are given in
 //! the order of the listing, each in memory of its own.
 
+pub mod accelerated;
 mod patterns;
 
 pub use crate::charwise::iter::patterns::PatternIterator;

@@ -1,0 +1,12 @@
+-- What callers see of an automaton over characters with rows: the automaton, and the rows of its states near the root.
+use Rattle.daachorse_rows.specs.Rows.{RowTable, Rowed}
+use Rattle.daachorse_charwise_states.specs.Parts.{Parts}
+use Rattle.daachorse_charwise.specs.Automata.{Automaton, states_of}
+
+pub record Accelerated (V : Type 0) : Type 0 where
+  pub automaton : Automaton V
+  pub rows : RowTable
+
+-- its states with their rows, through which its searches go
+abbrev pub rowed_states : {V : Type 0} → Accelerated V → Rowed (Parts V)
+rowed_states a = record { automaton = states_of a.automaton; rows = a.rows }

@@ -1,0 +1,46 @@
+//! The searches in texts over an automaton with rows: those of the automaton, over the rows of its
+//! states.
+//!
+//! The layers above may rely on all that the searches of the same names over the automaton promise.
+
+use crate::charwise::states::{Leftmost, Standard};
+use daachorse_folding::leftmost::LeftmostMatchesAsRead;
+use daachorse_folding::matches::MatchesAsRead;
+use daachorse_rows::view::RowView;
+use daachorse_search::find::FindWalk;
+use daachorse_search::overlapping::{NoSuffixWalk, OverlappingWalk};
+use daachorse_skipping::skipping::Skipping;
+use daachorse_text::text::Text;
+use std::alloc::Global;
+
+/// An iterator over non-overlapping matches in a text, each of which ends as early as possible.
+pub type FindSliceIterator<'a, V, A = Global> = MatchesAsRead<
+    V,
+    FindWalk<V, RowView<'a, V, Standard<'a, V>>>,
+    Text<'a>,
+    Skipping<'a, A>,
+>;
+
+/// An iterator over all matches in a text, by rising ends.
+pub type FindOverlappingSliceIterator<'a, V, A = Global> = MatchesAsRead<
+    V,
+    OverlappingWalk<V, RowView<'a, V, Standard<'a, V>>>,
+    Text<'a>,
+    Skipping<'a, A>,
+>;
+
+/// An iterator over the longest match at each end in a text.
+pub type FindOverlappingNoSuffixSliceIterator<'a, V, A = Global> = MatchesAsRead<
+    V,
+    NoSuffixWalk<V, RowView<'a, V, Standard<'a, V>>>,
+    Text<'a>,
+    Skipping<'a, A>,
+>;
+
+/// An iterator over non-overlapping matches in a text, each of which starts as early as possible.
+pub type LeftmostFindIterator<'a, V, A = Global> = LeftmostMatchesAsRead<
+    V,
+    RowView<'a, V, Leftmost<'a, V>>,
+    Text<'a>,
+    Skipping<'a, A>,
+>;

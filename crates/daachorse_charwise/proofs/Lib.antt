@@ -3,3 +3,4 @@ pub mod CodedLaws
 pub mod BuildLaws
 pub mod TextLaws
 pub use Rattle.daachorse_search.proofs.MatchesLemmas
+pub mod RowedLaws

@@ -1,24 +1,29 @@
-//! An automaton over characters with rows of the states near its root, for faster searches in texts.
+//! An automaton over characters with rows of the states near its root, for faster searches.
 //!
 //! The layers above may rely on each search giving the whole list that the automaton's own search of
-//! its name gives, within the same bounds of the turns.
+//! its name gives, within the same bounds of the turns, and on a stepper telling the matches that
+//! that of its name tells.
 
-ghost use Rattle.std.specs.Prelude.{◌≡◌, ◌≢◌, IfOk, IfErr};
+ghost use Rattle.std.specs.Prelude.{◌≡◌, ◌≢◌, [], IfOk, IfErr, take};
+ghost use Rattle.std.specs.Option.{option_to_list};
 ghost use Rattle.std.specs.Str.{chars};
 ghost use Rattle.daachorse_core.specs.Refusals.{IsOutOfMemory};
 ghost use Rattle.daachorse_model.specs.declared.MatchKind.TheVariants.{Standard};
 ghost use Rattle.daachorse_model.specs.Folding.{as_read};
 ghost use Rattle.daachorse_model.specs.Leftmost.{leftmost};
-ghost use Rattle.daachorse_model.specs.Matches.{no_suffix, overlapping, standard};
+ghost use Rattle.daachorse_model.specs.Matches.{matches_after, no_suffix, overlapping, standard, standard_after};
 ghost use Rattle.daachorse_model.specs.Units.{char_width};
+ghost use Rattle.daachorse_folding.specs.SourceSearches.{BeginsFromAsRead};
+ghost use Rattle.daachorse_folding.specs.Steppers.{BeginsSteppingAsRead};
 ghost use Rattle.daachorse_search.specs.Beginnings.{BeginsWith};
 ghost use Rattle.daachorse_skipping.specs.Asked.{BeginsAsking};
 ghost use Rattle.daachorse_charwise.specs.Accelerated.{rowed_states};
 ghost use Rattle.daachorse_charwise.specs.Automata.{dictionary_of, kind_of, states_of};
 
 use crate::charwise::iter::accelerated::{
-    FindOverlappingNoSuffixSliceIterator, FindOverlappingSliceIterator, FindSliceIterator,
-    LeftmostFindIterator,
+    FindIterator, FindOverlappingIterator, FindOverlappingNoSuffixIterator,
+    FindOverlappingNoSuffixSliceIterator, FindOverlappingSliceIterator, FindOverlappingStepper,
+    FindSliceIterator, FindStepper, LeftmostFindIterator,
 };
 use crate::charwise::{CharwiseDoubleArrayAhoCorasick, states};
 use daachorse_core::errors::Result;
@@ -26,7 +31,12 @@ use daachorse_folding::leftmost::LeftmostMatchesAsRead;
 use daachorse_folding::matches::{
     find_as_read, find_overlapping_as_read, find_overlapping_no_suffix_as_read,
 };
+use daachorse_folding::matches_from::MatchesFromAsRead;
 use daachorse_rows::rows::Rows;
+use daachorse_rows::view::RowView;
+use daachorse_search::find::FindWalk;
+use daachorse_search::overlapping::{NoSuffixWalk, OverlappingWalk};
+use daachorse_text::decoding::Decoded;
 use daachorse_text::text::Text;
 use std::alloc::{Allocator, Global};
 use std::marker::Model;
@@ -58,7 +68,7 @@ impl<'a, V: Copy, A: Allocator> Model for Accelerated<'a, V, A> {
 }
 
 impl<V: Copy, A: Allocator + Copy> CharwiseDoubleArrayAhoCorasick<V, A> {
-    /// Makes rows of the states near the root, for faster searches in texts.
+    /// Makes rows of the states near the root, for faster searches.
     ///
     /// It borrows the automaton, and takes at most 256 KiB and two bytes for each element. While it
     /// is made it takes 4 bytes more for each code of a character. The work grows with the elements,
@@ -107,6 +117,24 @@ impl<'a, V: Copy, A: Allocator> Accelerated<'a, V, A> {
         self.automaton
     }
 
+    /// What the standard searches see of the states and their rows.
+    #[inline(always)]
+    fn standard<'s>(&'s self) -> RowView<'s, V, states::Standard<'s, V>>
+        requires { kind_of self.now.automaton ≡ Standard }
+        ensures { result ≡ rowed_states self.entry.now }
+    {
+        self.rows.view(self.automaton.standard())
+    }
+
+    /// What the leftmost searches see of the states and their rows.
+    #[inline(always)]
+    fn leftmost<'s>(&'s self) -> RowView<'s, V, states::Leftmost<'s, V>>
+        requires { kind_of self.now.automaton ≢ Standard }
+        ensures { result ≡ rowed_states self.entry.now }
+    {
+        self.rows.view(self.automaton.leftmost())
+    }
+
     /// Finds the matches of [`CharwiseDoubleArrayAhoCorasick::find_iter`].
     ///
     /// It takes at most two turns, which are looks at one state, for each character of the haystack, and
@@ -117,6 +145,7 @@ impl<'a, V: Copy, A: Allocator> Accelerated<'a, V, A> {
     /// The automaton is for the standard searches: its kind is
     /// [`MatchKind::Standard`](daachorse_core::MatchKind::Standard).
     #[inline(always)]
+    #[tactic(auto, using(daachorse_charwise_states::proofs::DeadLaws::alive))]
     pub fn find_iter<'s>(&'s self, haystack: &'s str) -> FindSliceIterator<'s, V, A>
         requires { kind_of self.now.automaton ≡ Standard }
         ensures begins { BeginsWith (rowed_states self.entry.now) (as_read self.entry.now.automaton.folds (chars haystack.entry.now))
@@ -124,10 +153,38 @@ impl<'a, V: Copy, A: Allocator> Accelerated<'a, V, A> {
         ensures asks { BeginsAsking self.entry.now.automaton.filter result.filter }
     {
         find_as_read(
-            self.rows.view(self.automaton.standard()),
+            self.standard(),
             Text::new(haystack),
-            self.automaton.skipping(),
-            self.automaton.is_ascii_case_insensitive(),
+            self.automaton().skipping(),
+            self.automaton().is_ascii_case_insensitive(),
+        )
+    }
+
+    /// Finds the matches of [`CharwiseDoubleArrayAhoCorasick::find_iter_from_iter`].
+    ///
+    /// Each is returned before a byte past its end is taken; with an empty pattern, before the byte
+    /// behind its place is taken. It takes at most two turns, which are looks at one state, for each
+    /// character that it takes, and no memory.
+    ///
+    /// # Conditions
+    ///
+    /// The automaton is for the standard searches: its kind is
+    /// [`MatchKind::Standard`](daachorse_core::MatchKind::Standard). What may be read of the source
+    /// is a condition of the search's `next`.
+    #[inline(always)]
+    #[tactic(auto, using(daachorse_charwise_states::proofs::DeadLaws::alive))]
+    pub fn find_iter_from_iter<'s, P: Iterator<Item = u8>>(
+        &'s self,
+        haystack: P,
+    ) -> FindIterator<'s, P, V>
+        requires { kind_of self.now.automaton ≡ Standard }
+        ensures { BeginsFromAsRead (rowed_states self.entry.now) haystack
+            (option_to_list (standard_after char_width (dictionary_of self.entry.now.automaton) [])) self.entry.now.automaton.folds result }
+    {
+        MatchesFromAsRead::new(
+            FindWalk::new(self.standard()),
+            Decoded::new(haystack),
+            self.automaton().is_ascii_case_insensitive(),
         )
     }
 
@@ -141,6 +198,7 @@ impl<'a, V: Copy, A: Allocator> Accelerated<'a, V, A> {
     /// The automaton is for the standard searches: its kind is
     /// [`MatchKind::Standard`](daachorse_core::MatchKind::Standard).
     #[inline(always)]
+    #[tactic(auto, using(daachorse_charwise_states::proofs::DeadLaws::alive))]
     pub fn find_overlapping_iter<'s>(
         &'s self,
         haystack: &'s str,
@@ -151,10 +209,37 @@ impl<'a, V: Copy, A: Allocator> Accelerated<'a, V, A> {
         ensures asks { BeginsAsking self.entry.now.automaton.filter result.filter }
     {
         find_overlapping_as_read(
-            self.rows.view(self.automaton.standard()),
+            self.standard(),
             Text::new(haystack),
-            self.automaton.skipping(),
-            self.automaton.is_ascii_case_insensitive(),
+            self.automaton().skipping(),
+            self.automaton().is_ascii_case_insensitive(),
+        )
+    }
+
+    /// Finds the matches of [`CharwiseDoubleArrayAhoCorasick::find_overlapping_iter_from_iter`].
+    ///
+    /// Each is returned before a byte past its end is taken. It takes at most two turns, which are
+    /// looks at one state, for each character that it takes, and no memory.
+    ///
+    /// # Conditions
+    ///
+    /// The automaton is for the standard searches: its kind is
+    /// [`MatchKind::Standard`](daachorse_core::MatchKind::Standard). What may be read of the source
+    /// is a condition of the search's `next`.
+    #[inline(always)]
+    #[tactic(auto, using(daachorse_charwise_states::proofs::DeadLaws::alive))]
+    pub fn find_overlapping_iter_from_iter<'s, P: Iterator<Item = u8>>(
+        &'s self,
+        haystack: P,
+    ) -> FindOverlappingIterator<'s, P, V>
+        requires { kind_of self.now.automaton ≡ Standard }
+        ensures { BeginsFromAsRead (rowed_states self.entry.now) haystack
+            (matches_after char_width (dictionary_of self.entry.now.automaton) []) self.entry.now.automaton.folds result }
+    {
+        MatchesFromAsRead::new(
+            OverlappingWalk::new(self.standard()),
+            Decoded::new(haystack),
+            self.automaton().is_ascii_case_insensitive(),
         )
     }
 
@@ -168,6 +253,7 @@ impl<'a, V: Copy, A: Allocator> Accelerated<'a, V, A> {
     /// The automaton is for the standard searches: its kind is
     /// [`MatchKind::Standard`](daachorse_core::MatchKind::Standard).
     #[inline(always)]
+    #[tactic(auto, using(daachorse_charwise_states::proofs::DeadLaws::alive))]
     pub fn find_overlapping_no_suffix_iter<'s>(
         &'s self,
         haystack: &'s str,
@@ -178,24 +264,52 @@ impl<'a, V: Copy, A: Allocator> Accelerated<'a, V, A> {
         ensures asks { BeginsAsking self.entry.now.automaton.filter result.filter }
     {
         find_overlapping_no_suffix_as_read(
-            self.rows.view(self.automaton.standard()),
+            self.standard(),
             Text::new(haystack),
-            self.automaton.skipping(),
-            self.automaton.is_ascii_case_insensitive(),
+            self.automaton().skipping(),
+            self.automaton().is_ascii_case_insensitive(),
+        )
+    }
+
+    /// Finds the matches of [`CharwiseDoubleArrayAhoCorasick::find_overlapping_no_suffix_iter_from_iter`].
+    ///
+    /// Each is returned before a byte past its end is taken. It takes at most two turns, which are
+    /// looks at one state, for each character that it takes, and no memory.
+    ///
+    /// # Conditions
+    ///
+    /// The automaton is for the standard searches: its kind is
+    /// [`MatchKind::Standard`](daachorse_core::MatchKind::Standard). What may be read of the source
+    /// is a condition of the search's `next`.
+    #[inline(always)]
+    #[tactic(auto, using(daachorse_charwise_states::proofs::DeadLaws::alive))]
+    pub fn find_overlapping_no_suffix_iter_from_iter<'s, P: Iterator<Item = u8>>(
+        &'s self,
+        haystack: P,
+    ) -> FindOverlappingNoSuffixIterator<'s, P, V>
+        requires { kind_of self.now.automaton ≡ Standard }
+        ensures { BeginsFromAsRead (rowed_states self.entry.now) haystack
+            (take 1 (matches_after char_width (dictionary_of self.entry.now.automaton) [])) self.entry.now.automaton.folds result }
+    {
+        MatchesFromAsRead::new(
+            NoSuffixWalk::new(self.standard()),
+            Decoded::new(haystack),
+            self.automaton().is_ascii_case_insensitive(),
         )
     }
 
     /// Finds the matches of [`CharwiseDoubleArrayAhoCorasick::leftmost_find_iter`].
     ///
     /// It takes no memory. After `g` matches it has taken at most two turns, which are looks at one
-    /// state, for each character that it passed, and four times the characters of the longest
-    /// pattern for each match.
+    /// state, for each character that it passed, and four times the characters of the longest pattern for
+    /// each match.
     ///
     /// # Conditions
     ///
     /// The automaton is for a leftmost search: its kind is not
     /// [`MatchKind::Standard`](daachorse_core::MatchKind::Standard).
     #[inline(always)]
+    #[tactic(auto, using(daachorse_charwise_states::proofs::DeadLaws::is_leftmost_automaton))]
     pub fn leftmost_find_iter<'s>(&'s self, haystack: &'s str) -> LeftmostFindIterator<'s, V, A>
         requires { kind_of self.now.automaton ≢ Standard }
         ensures begins { BeginsWith (rowed_states self.entry.now) (as_read self.entry.now.automaton.folds (chars haystack.entry.now))
@@ -203,10 +317,50 @@ impl<'a, V: Copy, A: Allocator> Accelerated<'a, V, A> {
         ensures asks { BeginsAsking self.entry.now.automaton.filter result.filter }
     {
         LeftmostMatchesAsRead::new(
-            self.rows.view(self.automaton.leftmost()),
+            self.leftmost(),
             Text::new(haystack),
-            self.automaton.skipping(),
-            self.automaton.is_ascii_case_insensitive(),
+            self.automaton().skipping(),
+            self.automaton().is_ascii_case_insensitive(),
         )
+    }
+
+    /// Starts the search of [`CharwiseDoubleArrayAhoCorasick::find_stepper`].
+    ///
+    /// After each character that `consume` is given, `matches` tells the match that ends there, if
+    /// there is one. In all it takes at most two turns, which are looks at one state, for each
+    /// character that it is given, and no memory. It tells no depths, even where the automaton has them cached.
+    ///
+    /// # Conditions
+    ///
+    /// The automaton is for the standard searches: its kind is
+    /// [`MatchKind::Standard`](daachorse_core::MatchKind::Standard).
+    #[inline(always)]
+    #[tactic(auto, using(daachorse_charwise_states::proofs::DeadLaws::alive))]
+    pub fn find_stepper<'s>(&'s self) -> FindStepper<'s, V>
+        requires { kind_of self.now.automaton ≡ Standard }
+        ensures { BeginsSteppingAsRead (rowed_states self.entry.now) [] self.entry.now.automaton.folds result }
+    {
+        let folds = self.automaton().is_ascii_case_insensitive();
+        FindStepper::new(self.standard(), &[], folds)
+    }
+
+    /// Starts the search of [`CharwiseDoubleArrayAhoCorasick::find_overlapping_stepper`].
+    ///
+    /// After each character that `consume` is given, `matches` tells all matches that end there, the
+    /// longest first. In all it takes at most two turns, which are looks at one state, for each
+    /// character that it is given, and no memory. It tells no depths, even where the automaton has them cached.
+    ///
+    /// # Conditions
+    ///
+    /// The automaton is for the standard searches: its kind is
+    /// [`MatchKind::Standard`](daachorse_core::MatchKind::Standard).
+    #[inline(always)]
+    #[tactic(auto, using(daachorse_charwise_states::proofs::DeadLaws::alive))]
+    pub fn find_overlapping_stepper<'s>(&'s self) -> FindOverlappingStepper<'s, V>
+        requires { kind_of self.now.automaton ≡ Standard }
+        ensures { BeginsSteppingAsRead (rowed_states self.entry.now) [] self.entry.now.automaton.folds result }
+    {
+        let folds = self.automaton().is_ascii_case_insensitive();
+        FindOverlappingStepper::new(self.standard(), &[], folds)
     }
 }

@@ -1,15 +1,20 @@
-//! The searches in texts over an automaton with rows: those of the automaton, over the rows of its
+//! The searches over an automaton with rows: those of the automaton, over the rows of its
 //! states.
 //!
 //! The layers above may rely on all that the searches of the same names over the automaton promise.
 
 use crate::charwise::states::{Leftmost, Standard};
+use daachorse_folding::find_stepper::FindStepperAsRead;
 use daachorse_folding::leftmost::LeftmostMatchesAsRead;
 use daachorse_folding::matches::MatchesAsRead;
+use daachorse_folding::matches_from::MatchesFromAsRead;
+use daachorse_folding::overlapping_stepper::FindOverlappingStepperAsRead;
 use daachorse_rows::view::RowView;
+use daachorse_search::ending_here::EndingHere;
 use daachorse_search::find::FindWalk;
 use daachorse_search::overlapping::{NoSuffixWalk, OverlappingWalk};
 use daachorse_skipping::skipping::Skipping;
+use daachorse_text::decoding::Decoded;
 use daachorse_text::text::Text;
 use std::alloc::Global;
 
@@ -21,12 +26,26 @@ pub type FindSliceIterator<'a, V, A = Global> = MatchesAsRead<
     Skipping<'a, A>,
 >;
 
+/// An iterator over non-overlapping matches in the text whose bytes a source yields.
+pub type FindIterator<'a, P, V> = MatchesFromAsRead<
+    V,
+    FindWalk<V, RowView<'a, V, Standard<'a, V>>>,
+    Decoded<P>,
+>;
+
 /// An iterator over all matches in a text, by rising ends.
 pub type FindOverlappingSliceIterator<'a, V, A = Global> = MatchesAsRead<
     V,
     OverlappingWalk<V, RowView<'a, V, Standard<'a, V>>>,
     Text<'a>,
     Skipping<'a, A>,
+>;
+
+/// An iterator over all matches in the text whose bytes a source yields.
+pub type FindOverlappingIterator<'a, P, V> = MatchesFromAsRead<
+    V,
+    OverlappingWalk<V, RowView<'a, V, Standard<'a, V>>>,
+    Decoded<P>,
 >;
 
 /// An iterator over the longest match at each end in a text.
@@ -37,6 +56,13 @@ pub type FindOverlappingNoSuffixSliceIterator<'a, V, A = Global> = MatchesAsRead
     Skipping<'a, A>,
 >;
 
+/// An iterator over the longest match at each end in the text whose bytes a source yields.
+pub type FindOverlappingNoSuffixIterator<'a, P, V> = MatchesFromAsRead<
+    V,
+    NoSuffixWalk<V, RowView<'a, V, Standard<'a, V>>>,
+    Decoded<P>,
+>;
+
 /// An iterator over non-overlapping matches in a text, each of which starts as early as possible.
 pub type LeftmostFindIterator<'a, V, A = Global> = LeftmostMatchesAsRead<
     V,
@@ -44,3 +70,17 @@ pub type LeftmostFindIterator<'a, V, A = Global> = LeftmostMatchesAsRead<
     Text<'a>,
     Skipping<'a, A>,
 >;
+
+/// A search for non-overlapping matches that is given one character at a time. It tells no depths.
+pub type FindStepper<'a, V> = FindStepperAsRead<'a, V, RowView<'a, V, Standard<'a, V>>>;
+
+/// A search for all matches that is given one character at a time. It tells no depths.
+pub type FindOverlappingStepper<'a, V> = FindOverlappingStepperAsRead<
+    'a,
+    V,
+    RowView<'a, V, Standard<'a, V>>,
+>;
+
+/// An iterator over the matches that end with the characters that a stepper consumed, the longest first.
+/// It keeps its place while the stepper goes on.
+pub type FindOverlappingStepperIterator<'a, V> = EndingHere<V, RowView<'a, V, Standard<'a, V>>>;

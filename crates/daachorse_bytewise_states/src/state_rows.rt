@@ -14,7 +14,7 @@ use daachorse_rows::rows::Rows;
 use std::alloc::{AllocError, Allocator};
 
 impl<V: Copy, A: Allocator> States<V, A> {
-    /// Rows of the states near the root, in at most 256 KiB, and two bytes beside them for each
+    /// Rows of the states near the root, in at most 257 KiB, and two bytes beside them for each
     /// element.
     ///
     /// # Errors

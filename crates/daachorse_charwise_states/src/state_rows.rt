@@ -18,7 +18,7 @@ use std::alloc::Allocator;
 
 impl<V: Copy, A: Allocator + Copy> States<V, A> {
     /// Rows of the states near the root, with the 510 most frequent characters of the patterns, in
-    /// at most 256 KiB, and two bytes beside them for each element.
+    /// at most 257 KiB, and two bytes beside them for each element.
     ///
     /// # Errors
     ///

@@ -8,6 +8,8 @@
 #[cfg(test)]
 mod accelerated;
 #[cfg(test)]
+mod accelerated_text;
+#[cfg(test)]
 mod automata;
 #[cfg(test)]
 mod bytewise;

@@ -52,7 +52,7 @@ use std::marker::Model;
 ///
 /// It pays where much is searched and most bytes are read at states with rows: with some thousands
 /// of states, where few of the 256 bytes occur in patterns. A leftmost search gains less than the
-/// standard ones. The rows take at most 256 KiB, and two bytes for each element of the automaton
+/// standard ones. The rows take at most 257 KiB, and two bytes for each element of the automaton
 /// stand beside them.
 #[derive(Drop)]
 pub struct Accelerated<'a, V: Copy, A: Allocator = Global> {
@@ -74,7 +74,7 @@ impl<'a, V: Copy, A: Allocator> Model for Accelerated<'a, V, A> {
 impl<V: Copy, A: Allocator + Copy> DoubleArrayAhoCorasick<V, A> {
     /// Makes rows of the states near the root, for faster searches.
     ///
-    /// It borrows the automaton, and takes at most 256 KiB and two bytes for each element. The work
+    /// It borrows the automaton, and takes at most 257 KiB and two bytes for each element. The work
     /// grows with the elements, and with the slots of the rows, at most 65,536; it has no bound by
     /// proof.
     ///

@@ -48,7 +48,7 @@ use std::marker::Model;
 /// row, and follows no link. For any other character, and below these states, it looks at the
 /// automaton as any search does. What is found is the same.
 ///
-/// The rows take at most 256 KiB, and two bytes for each element of the automaton stand beside
+/// The rows take at most 257 KiB, and two bytes for each element of the automaton stand beside
 /// them.
 #[derive(Drop)]
 pub struct Accelerated<'a, V: Copy, A: Allocator = Global> {
@@ -70,9 +70,9 @@ impl<'a, V: Copy, A: Allocator> Model for Accelerated<'a, V, A> {
 impl<V: Copy, A: Allocator + Copy> CharwiseDoubleArrayAhoCorasick<V, A> {
     /// Makes rows of the states near the root, for faster searches.
     ///
-    /// It borrows the automaton, and takes at most 256 KiB and two bytes for each element. While it
-    /// is made it takes 4 bytes more for each code of a character. The work grows with the elements,
-    /// the codes, and the slots of the rows, at most 65,536; it has no bound by proof.
+    /// It borrows the automaton, and takes at most 257 KiB and two bytes for each element. Beside
+    /// these stands a list of the characters while rows are made. The work grows with the elements,
+    /// the characters, and the slots of the rows, at most 65,536; it has no bound by proof.
     ///
     /// # Errors
     ///
@@ -137,8 +137,8 @@ impl<'a, V: Copy, A: Allocator> Accelerated<'a, V, A> {
 
     /// Finds the matches of [`CharwiseDoubleArrayAhoCorasick::find_iter`].
     ///
-    /// It takes at most two turns, which are looks at one state, for each character of the haystack, and
-    /// no memory.
+    /// It takes at most two turns, which are looks at one state, for each character of the
+    /// haystack, and no memory.
     ///
     /// # Conditions
     ///
@@ -190,8 +190,8 @@ impl<'a, V: Copy, A: Allocator> Accelerated<'a, V, A> {
 
     /// Finds the matches of [`CharwiseDoubleArrayAhoCorasick::find_overlapping_iter`].
     ///
-    /// It takes at most two turns, which are looks at one state, for each character of the haystack, and
-    /// no memory.
+    /// It takes at most two turns, which are looks at one state, for each character of the
+    /// haystack, and no memory.
     ///
     /// # Conditions
     ///
@@ -245,8 +245,8 @@ impl<'a, V: Copy, A: Allocator> Accelerated<'a, V, A> {
 
     /// Finds the matches of [`CharwiseDoubleArrayAhoCorasick::find_overlapping_no_suffix_iter`].
     ///
-    /// It takes at most two turns, which are looks at one state, for each character of the haystack, and
-    /// no memory.
+    /// It takes at most two turns, which are looks at one state, for each character of the
+    /// haystack, and no memory.
     ///
     /// # Conditions
     ///

@@ -1,0 +1,136 @@
+//! The worked rows over characters where the states near the root have rows, characters that have no
+//! slot there, and each request for memory refused.
+
+ghost use Rattle.std.specs.Prelude.{◌≡◌};
+ghost use Rattle.daachorse_model.specs.declared.MatchKind.TheVariants.{Standard};
+
+use crate::automata::{charwise, charwise_by};
+use crate::expect;
+use crate::finding::{Found, gives, gives_leftmost};
+use crate::requests::answer_of;
+use crate::rows::{FOLDED_ROWS, FOLDING_WAYS, ROWS, ROWS_OF_CHARACTERS, Row, Search, WAYS, Way};
+use daachorse::charwise::Accelerated;
+use daachorse::{MatchKind, Result};
+use refusing::{Answer, Call, Refusing, each_request};
+use std::alloc::{Allocator, Global};
+
+/// Whether a search of a standard automaton finds just these matches.
+fn finds_standard(
+    accelerated: &Accelerated<'_, u32>,
+    search: Search,
+    text: &str,
+    expected: &[Found],
+) -> bool
+    requires { accelerated.now.automaton.parts.kind ≡ Standard }
+{
+    match search {
+        Search::Overlapping => gives(accelerated.find_overlapping_iter(text), expected),
+        Search::NoSuffix => gives(accelerated.find_overlapping_no_suffix_iter(text), expected),
+        Search::Standard => gives(accelerated.find_iter(text), expected),
+        Search::Leftmost(_) => false,
+    }
+}
+
+/// Whether the search finds just these matches.
+fn finds(
+    accelerated: &Accelerated<'_, u32>,
+    search: Search,
+    text: &str,
+    expected: &[Found],
+) -> bool {
+    if !accelerated.automaton().match_kind().is_standard() {
+        return gives_leftmost(accelerated.leftmost_find_iter(text), expected);
+    }
+    finds_standard(accelerated, search, text, expected)
+}
+
+/// Whether a row holds of an automaton that comes about this way, with rows of its states.
+fn holds(alloc: Global, way: Way, row: &Row) -> Result<bool> {
+    let (_, search, patvals, text, expected) = *row;
+    let automaton = charwise_by(alloc, way, search.kind(), patvals)?;
+    let accelerated = automaton.accelerate(alloc)?;
+    Ok(finds(&accelerated, search, text, expected))
+}
+
+#[test]
+fn rows_hold_of_an_accelerated_automaton_over_text(rt: HostRuntime) {
+    for row in ROWS {
+        expect(&rt, holds(rt.alloc(), WAYS[0], row) == Ok(true), row.0);
+    }
+    for row in ROWS_OF_CHARACTERS {
+        expect(&rt, holds(rt.alloc(), WAYS[0], row) == Ok(true), row.0);
+    }
+    for row in FOLDED_ROWS {
+        expect(
+            &rt,
+            holds(rt.alloc(), FOLDING_WAYS[0], row) == Ok(true),
+            row.0,
+        );
+    }
+}
+
+/// The characters from U+4E00 on, so many.
+fn characters(alloc: Global, count: u32) -> Result<String> {
+    let mut text = String::new(alloc);
+    for k in 0..count {
+        if let Some(character) = char::from_u32(0x4e00 + k) {
+            text.push(character)?;
+        }
+    }
+    Ok(text)
+}
+
+/// Whether the last of 600 characters, which are equally frequent, is found behind a state with a
+/// row and behind one with none. It has no slot.
+fn finds_without_slot(alloc: Global) -> Result<bool> {
+    let most = characters(alloc, 599)?;
+    let all = characters(alloc, 600)?;
+    let patvals = [(most.as_str(), 0), (all.as_str(), 1), ("\u{5057}", 2)];
+    let automaton = charwise(alloc, MatchKind::Standard, &patvals)?;
+    let accelerated = automaton.accelerate(alloc)?;
+    let short = "\u{4e00}\u{5057}\u{4e01}\u{4e00}";
+    Ok(
+        gives(accelerated.find_overlapping_iter(short), &[(3, 6, 2)])
+            && gives(
+                accelerated.find_overlapping_iter(all.as_str()),
+                &[(0, 1797, 0), (0, 1800, 1), (1797, 1800, 2)],
+            ),
+    )
+}
+
+#[test]
+fn a_character_without_a_slot_is_found(rt: HostRuntime) {
+    expect(
+        &rt,
+        finds_without_slot(rt.alloc()) == Ok(true),
+        "600 characters",
+    );
+}
+
+/// Whether an automaton with rows finds what it should.
+fn finds_with_rows<A: Allocator + Copy>(alloc: A) -> Result<bool> {
+    let automaton = charwise(alloc, MatchKind::Standard, &[("aß", 0), ("ß", 1)])?;
+    let accelerated = automaton.accelerate(alloc)?;
+    Ok(gives(
+        accelerated.find_overlapping_iter("aß"),
+        &[(0, 3, 0), (1, 3, 1)],
+    ))
+}
+
+/// A build of an automaton, and of rows of its states.
+struct Accelerates;
+
+impl Call for Accelerates {
+    fn answer(&self, heap: &Refusing<Global>) -> Answer {
+        answer_of(&finds_with_rows(heap))
+    }
+}
+
+#[test]
+fn each_request_of_accelerate_over_text_may_be_refused(rt: HostRuntime) {
+    expect(
+        &rt,
+        each_request(rt.alloc(), &Accelerates),
+        "accelerate over text",
+    );
+}

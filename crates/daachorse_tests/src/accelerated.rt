@@ -5,7 +5,7 @@ ghost use Rattle.daachorse_model.specs.declared.MatchKind.TheVariants.{Standard}
 
 use crate::automata::{bytewise, bytewise_by, in_bytes};
 use crate::expect;
-use crate::finding::{Found, gives, gives_leftmost};
+use crate::finding::{Found, are, are_found, are_found_overlapping, gives, gives_leftmost};
 use crate::requests::answer_of;
 use crate::rows::{FOLDED_ROWS, FOLDING_WAYS, ROWS, Row, Search, WAYS, Way};
 use daachorse::bytewise::Accelerated;
@@ -13,27 +13,43 @@ use daachorse::{MatchKind, Result};
 use refusing::{Answer, Call, Refusing, each_request};
 use std::alloc::{Allocator, Global};
 
-/// Whether a search of a standard automaton finds just these matches.
-fn finds_standard(
-    accelerated: &Accelerated<'_, u32>,
-    search: Search,
-    haystack: &[u8],
-    expected: &[Found],
-) -> bool
+fn overlapping(accelerated: &Accelerated<'_, u32>, haystack: &[u8], expected: &[Found]) -> bool
     requires { accelerated.now.automaton.parts.kind ≡ Standard }
 {
-    match search {
-        Search::Overlapping => gives(accelerated.find_overlapping_iter(haystack), expected),
-        Search::NoSuffix => gives(
-            accelerated.find_overlapping_no_suffix_iter(haystack),
+    let source = haystack.iter().copied();
+    let mut stepper = accelerated.find_overlapping_stepper();
+    gives(accelerated.find_overlapping_iter(haystack), expected)
+        && are(
+            accelerated.find_overlapping_iter_from_iter(source),
             expected,
-        ),
-        Search::Standard => gives(accelerated.find_iter(haystack), expected),
-        Search::Leftmost(_) => false,
-    }
+        )
+        && are_found_overlapping(&mut stepper, haystack, expected)
 }
 
-/// Whether the search finds just these matches.
+fn no_suffix(accelerated: &Accelerated<'_, u32>, haystack: &[u8], expected: &[Found]) -> bool
+    requires { accelerated.now.automaton.parts.kind ≡ Standard }
+{
+    let source = haystack.iter().copied();
+    gives(
+        accelerated.find_overlapping_no_suffix_iter(haystack),
+        expected,
+    ) && are(
+        accelerated.find_overlapping_no_suffix_iter_from_iter(source),
+        expected,
+    )
+}
+
+fn standard(accelerated: &Accelerated<'_, u32>, haystack: &[u8], expected: &[Found]) -> bool
+    requires { accelerated.now.automaton.parts.kind ≡ Standard }
+{
+    let source = haystack.iter().copied();
+    let mut stepper = accelerated.find_stepper();
+    gives(accelerated.find_iter(haystack), expected)
+        && are(accelerated.find_iter_from_iter(source), expected)
+        && are_found(&mut stepper, haystack, expected)
+}
+
+/// Whether each form of the search finds just these matches.
 fn finds(
     accelerated: &Accelerated<'_, u32>,
     search: Search,
@@ -43,7 +59,12 @@ fn finds(
     if !accelerated.automaton().match_kind().is_standard() {
         return gives_leftmost(accelerated.leftmost_find_iter(haystack), expected);
     }
-    finds_standard(accelerated, search, haystack, expected)
+    match search {
+        Search::Overlapping => overlapping(accelerated, haystack, expected),
+        Search::NoSuffix => no_suffix(accelerated, haystack, expected),
+        Search::Standard => standard(accelerated, haystack, expected),
+        Search::Leftmost(_) => false,
+    }
 }
 
 /// Whether a row holds of an automaton that comes about this way, with rows of its states.
@@ -69,14 +90,37 @@ fn rows_hold_of_an_accelerated_automaton(rt: HostRuntime) {
     }
 }
 
+/// Whether a stepper that goes on where another stood tells the match of both bytes.
+fn is_resumed<A: Allocator>(accelerated: &Accelerated<'_, u32, A>) -> bool
+    requires { accelerated.now.automaton.parts.kind ≡ Standard }
+{
+    let mut stepper = accelerated.find_stepper();
+    stepper.consume(b'a');
+    let mut resumed = accelerated.resume_find_stepper(stepper.into_standing());
+    resumed.consume(b'b');
+    are(resumed.matches().into_iter(), &[(0, 2, 0)])
+}
+
+/// The same of a stepper for all matches.
+fn is_resumed_overlapping<A: Allocator>(accelerated: &Accelerated<'_, u32, A>) -> bool
+    requires { accelerated.now.automaton.parts.kind ≡ Standard }
+{
+    let mut stepper = accelerated.find_overlapping_stepper();
+    stepper.consume(b'a');
+    let mut resumed = accelerated.resume_find_overlapping_stepper(stepper.into_standing());
+    resumed.consume(b'b');
+    are(resumed.matches(), &[(0, 2, 0), (1, 2, 1)])
+}
+
 /// Whether an automaton with rows finds what it should.
 fn finds_with_rows<A: Allocator + Copy>(alloc: A) -> Result<bool> {
     let automaton = bytewise(alloc, MatchKind::Standard, &[(b"ab", 0), (b"b", 1)])?;
     let accelerated = automaton.accelerate(alloc)?;
-    Ok(gives(
+    let found = gives(
         accelerated.find_overlapping_iter(b"ab"),
         &[(0, 2, 0), (1, 2, 1)],
-    ))
+    );
+    Ok(found && is_resumed(&accelerated) && is_resumed_overlapping(&accelerated))
 }
 
 /// A build of an automaton, and of rows of its states.

@@ -49,6 +49,17 @@ mod over_bytes {
     };
 }
 
+/// The names of the automaton over bytes with rows of its states.
+mod over_rows {
+    pub use daachorse::bytewise::Accelerated;
+    pub use daachorse::bytewise::accelerated::Accelerated as ByItsModule;
+    pub use daachorse::bytewise::iter::accelerated::{
+        FindIterator, FindOverlappingIterator, FindOverlappingNoSuffixIterator,
+        FindOverlappingNoSuffixSliceIterator, FindOverlappingSliceIterator, FindOverlappingStepper,
+        FindOverlappingStepperIterator, FindSliceIterator, FindStepper, LeftmostFindIterator,
+    };
+}
+
 /// The names of the automaton over characters.
 mod over_characters {
     pub use daachorse::charwise::builder::CharwiseDoubleArrayAhoCorasickBuilder;

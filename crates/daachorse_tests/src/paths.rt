@@ -74,7 +74,8 @@ mod over_characters {
         Automaton, Leftmost, Look, Seen, Standard, State, States, Turns,
     };
     pub use daachorse::charwise::{
-        CharwiseDoubleArrayAhoCorasick, CharwiseDoubleArrayAhoCorasickBuilder as Builder,
+        Accelerated, CharwiseDoubleArrayAhoCorasick,
+        CharwiseDoubleArrayAhoCorasickBuilder as Builder,
     };
 }
 

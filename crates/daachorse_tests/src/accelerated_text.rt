@@ -6,7 +6,7 @@ ghost use Rattle.daachorse_model.specs.declared.MatchKind.TheVariants.{Standard}
 
 use crate::automata::{charwise, charwise_by};
 use crate::expect;
-use crate::finding::{Found, gives, gives_leftmost};
+use crate::finding::{Found, are, are_found, are_found_overlapping, gives, gives_leftmost};
 use crate::requests::answer_of;
 use crate::rows::{FOLDED_ROWS, FOLDING_WAYS, ROWS, ROWS_OF_CHARACTERS, Row, Search, WAYS, Way};
 use daachorse::charwise::Accelerated;
@@ -14,34 +14,67 @@ use daachorse::{MatchKind, Result};
 use refusing::{Answer, Call, Refusing, each_request};
 use std::alloc::{Allocator, Global};
 
-/// Whether a search of a standard automaton finds just these matches.
-fn finds_standard(
+fn overlapping(
     accelerated: &Accelerated<'_, u32>,
-    search: Search,
     text: &str,
+    units: &[char],
     expected: &[Found],
 ) -> bool
     requires { accelerated.now.automaton.parts.kind ≡ Standard }
 {
-    match search {
-        Search::Overlapping => gives(accelerated.find_overlapping_iter(text), expected),
-        Search::NoSuffix => gives(accelerated.find_overlapping_no_suffix_iter(text), expected),
-        Search::Standard => gives(accelerated.find_iter(text), expected),
-        Search::Leftmost(_) => false,
-    }
+    let _len = text.len();
+    let mut stepper = accelerated.find_overlapping_stepper();
+    gives(accelerated.find_overlapping_iter(text), expected)
+        && are(
+            accelerated.find_overlapping_iter_from_iter(text.bytes()),
+            expected,
+        )
+        && are_found_overlapping(&mut stepper, units, expected)
 }
 
-/// Whether the search finds just these matches.
+fn no_suffix(accelerated: &Accelerated<'_, u32>, text: &str, expected: &[Found]) -> bool
+    requires { accelerated.now.automaton.parts.kind ≡ Standard }
+{
+    let _len = text.len();
+    gives(accelerated.find_overlapping_no_suffix_iter(text), expected)
+        && are(
+            accelerated.find_overlapping_no_suffix_iter_from_iter(text.bytes()),
+            expected,
+        )
+}
+
+fn standard(
+    accelerated: &Accelerated<'_, u32>,
+    text: &str,
+    units: &[char],
+    expected: &[Found],
+) -> bool
+    requires { accelerated.now.automaton.parts.kind ≡ Standard }
+{
+    let _len = text.len();
+    let mut stepper = accelerated.find_stepper();
+    gives(accelerated.find_iter(text), expected)
+        && are(accelerated.find_iter_from_iter(text.bytes()), expected)
+        && are_found(&mut stepper, units, expected)
+}
+
+/// Whether each form of the search finds just these matches.
 fn finds(
     accelerated: &Accelerated<'_, u32>,
     search: Search,
     text: &str,
+    units: &[char],
     expected: &[Found],
 ) -> bool {
     if !accelerated.automaton().match_kind().is_standard() {
         return gives_leftmost(accelerated.leftmost_find_iter(text), expected);
     }
-    finds_standard(accelerated, search, text, expected)
+    match search {
+        Search::Overlapping => overlapping(accelerated, text, units, expected),
+        Search::NoSuffix => no_suffix(accelerated, text, expected),
+        Search::Standard => standard(accelerated, text, units, expected),
+        Search::Leftmost(_) => false,
+    }
 }
 
 /// Whether a row holds of an automaton that comes about this way, with rows of its states.
@@ -49,7 +82,8 @@ fn holds(alloc: Global, way: Way, row: &Row) -> Result<bool> {
     let (_, search, patvals, text, expected) = *row;
     let automaton = charwise_by(alloc, way, search.kind(), patvals)?;
     let accelerated = automaton.accelerate(alloc)?;
-    Ok(finds(&accelerated, search, text, expected))
+    let units: Vec<char> = text.chars().collect(alloc)?;
+    Ok(finds(&accelerated, search, text, &units, expected))
 }
 
 #[test]

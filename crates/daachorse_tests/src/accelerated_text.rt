@@ -103,11 +103,11 @@ fn rows_hold_of_an_accelerated_automaton_over_text(rt: HostRuntime) {
     }
 }
 
-/// The characters from U+4E00 on, so many.
-fn characters(alloc: Global, count: u32) -> Result<String> {
+/// The characters from U+4E00 to the one before this code point.
+fn characters(alloc: Global, past: u32) -> Result<String> {
     let mut text = String::new(alloc);
-    for k in 0..count {
-        if let Some(character) = char::from_u32(0x4e00 + k) {
+    for code_point in 0x4e00..past {
+        if let Some(character) = char::from_u32(code_point) {
             text.push(character)?;
         }
     }
@@ -117,8 +117,8 @@ fn characters(alloc: Global, count: u32) -> Result<String> {
 /// Whether the last of 600 characters, which are equally frequent, is found behind a state with a
 /// row and behind one with none. It has no slot.
 fn finds_without_slot(alloc: Global) -> Result<bool> {
-    let most = characters(alloc, 599)?;
-    let all = characters(alloc, 600)?;
+    let most = characters(alloc, 0x5057)?;
+    let all = characters(alloc, 0x5058)?;
     let patvals = [(most.as_str(), 0), (all.as_str(), 1), ("\u{5057}", 2)];
     let automaton = charwise(alloc, MatchKind::Standard, &patvals)?;
     let accelerated = automaton.accelerate(alloc)?;

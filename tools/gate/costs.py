@@ -1,15 +1,20 @@
 #!/usr/bin/env python3
-"""costs.py [FILE]: runs the gate, and tells what each crate costs.
+"""costs.py [--record RECORD] [FILE] [NAME..]: runs the gate, and tells what each crate costs.
 
-It runs `rt ci` at the top of the repository and passes on what that prints. From this output it
+It runs `rt ci NAME..` at the top of the repository and passes on what that prints. From this output it
 takes how many functions, tests and wrong bodies each crate has, and from the processes that the gate
 starts how many processor seconds each crate's proof, tests and wrong bodies took. It prints a table
-at the end and, where FILE is given, writes it there between the lines `<!-- costs -->` and
-`<!-- end of costs -->`. Its exit status is the gate's.
+at the end and, where FILE (a name that ends in .md) is given, writes it there between the lines
+`<!-- costs -->` and `<!-- end of costs -->`. Its exit status is the gate's.
 
-The seconds of a process are read twice a second, so a crate's are a little less than it took; the
-sum in the last line is what the system counted.
+The gate does again only what is not kept from an earlier run on the machine. With RECORD, a file that this
+program makes, the table is of all runs with the same RECORD: what a run did counts in place of what the record
+has of it, and what it took from an earlier run counts as the record says. So the gate may be run in stages.
+
+The seconds of a process are read twice a second, so a crate's are a little less than it took. Without RECORD
+the sum in the last line is what the system counted.
 """
+import json
 import os
 import re
 import resource
@@ -101,10 +106,37 @@ def in_order():
     return [re.split(r"[ :]", line)[0] for line in lines if line]
 
 
-def table(counts, taken, processors, wall, total):
+def by_crate(taken):
+    """The seconds of each crate's proof, tests and wrong bodies."""
     sums = {}
     for (_, (name, part)), seconds in taken.items():
         sums.setdefault(name, [0.0, 0.0, 0.0])[part] += seconds
+    return sums
+
+
+def recorded(path, lines, counts, sums):
+    """The numbers and the seconds of all runs with this record, which is written anew."""
+    runs = {}
+    if os.path.exists(path):
+        with open(path) as it:
+            runs = json.load(it)
+    kept = [re.match(r"rt: (\w+): (\d+) of its \d+ must-fail edits were tried by an earlier run", line) for line in lines]
+    kept = {it[1]: int(it[2]) for it in kept if it}
+    for name in {*counts, *sums}:
+        run = runs.setdefault(name, [[0, 0, 0], [0.0, 0.0, 0.0]])
+        for part in range(3):
+            number, seconds = counts.get(name, [0] * 3)[part], sums.get(name, [0.0] * 3)[part]
+            if part == 2 and name in kept and number:
+                # Wrong bodies that an earlier run tried are still of the record.
+                run[0][2], run[1][2] = kept[name] + number, run[1][2] + seconds
+            elif seconds:
+                run[0][part], run[1][part] = number, seconds
+    with open(path, "w") as it:
+        json.dump(runs, it, indent=1, sort_keys=True)
+    return {name: run[0] for name, run in runs.items()}, {name: run[1] for name, run in runs.items()}
+
+
+def table(counts, sums):
     rows = ["| crate | functions | tests | wrong bodies | proof, s | tests, s | wrong bodies, s |", "|---|---|---|---|---|---|---|"]
     for name in in_order():
         numbers, seconds = counts.get(name, [0, 0, 0]), sums.get(name, [0.0, 0.0, 0.0])
@@ -112,8 +144,7 @@ def table(counts, taken, processors, wall, total):
     numbers = [sum(it[part] for it in counts.values()) for part in range(3)]
     seconds = [sum(it[part] for it in sums.values()) for part in range(3)]
     rows.append("| all | " + " | ".join([*map(str, numbers), *(f"{it:.0f}" for it in seconds)]) + " |")
-    rows += ["", f"The whole took {total:.0f} processor seconds, and {wall:.0f} s on {processors} processors."]
-    return "\n".join(rows)
+    return "\n".join(rows), sum(seconds)
 
 
 def put(file, text):
@@ -127,9 +158,12 @@ def put(file, text):
         it.write(f"{before}{BEGIN}\n{text}\n{END}{after}")
 
 
-def main(files):
+def main(words):
+    record = words[1] if words[:1] == ["--record"] else None
+    words = words[2:] if record else words
+    files = [it for it in words if it.endswith(".md")]
     began, lines, taken = time.monotonic(), [], {}
-    gate = subprocess.Popen(["rt", "ci"], cwd=TOP, stdout=subprocess.PIPE, stderr=subprocess.STDOUT, text=True, errors="replace")
+    gate = subprocess.Popen(["rt", "ci", *(it for it in words if it not in files)], cwd=TOP, stdout=subprocess.PIPE, stderr=subprocess.STDOUT, text=True, errors="replace")
     watcher = threading.Thread(target=watch, args=(gate, taken))
     watcher.start()
     for line in gate.stdout:
@@ -138,7 +172,15 @@ def main(files):
     status = gate.wait()
     watcher.join()
     used = resource.getrusage(resource.RUSAGE_CHILDREN)
-    text = table(counted(lines), taken, len(os.sched_getaffinity(0)), time.monotonic() - began, used.ru_utime + used.ru_stime)
+    counts, sums = counted(lines), by_crate(taken)
+    if record:
+        counts, sums = recorded(record, lines, counts, sums)
+    text, whole = table(counts, sums)
+    if record:
+        text += f"\n\nThe whole takes {whole:.0f} processor seconds."
+    else:
+        wall, processors = time.monotonic() - began, len(os.sched_getaffinity(0))
+        text += f"\n\nThe whole took {used.ru_utime + used.ru_stime:.0f} processor seconds, and {wall:.0f} s on {processors} processors."
     print(f"\n{text}")
     for file in files[:1]:
         put(file, text)

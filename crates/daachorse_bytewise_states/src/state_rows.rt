@@ -14,8 +14,9 @@ use daachorse_rows::rows::Rows;
 use std::alloc::{AllocError, Allocator};
 
 impl<V: Copy, A: Allocator> States<V, A> {
-    /// Rows of the states near the root, in at most 256 KiB, and two bytes beside them for each
-    /// element.
+    /// Rows of the states near the root.
+    ///
+    /// They take at most 256 KiB of slots, two bytes for each element, and a table of 1,020 bytes.
     ///
     /// # Errors
     ///

@@ -17,8 +17,9 @@ use daachorse_rows::rows::Rows;
 use std::alloc::Allocator;
 
 impl<V: Copy, A: Allocator + Copy> States<V, A> {
-    /// Rows of the states near the root, with the 510 most frequent characters of the patterns, in
-    /// at most 256 KiB, and two bytes beside them for each element.
+    /// Rows of the states near the root, with the 510 most frequent characters of the patterns.
+    ///
+    /// They take at most 256 KiB of slots, two bytes for each element, and a table of 1,020 bytes.
     ///
     /// # Errors
     ///

@@ -51,9 +51,8 @@ use std::marker::Model;
 /// automaton as any search does. What is found is the same.
 ///
 /// It pays where much is searched and most bytes are read at states with rows: with some thousands
-/// of states, where few of the 256 bytes occur in patterns. A leftmost search gains less than the
-/// standard ones. The rows take at most 257 KiB, and two bytes for each element of the automaton
-/// stand beside them.
+/// of states, where few of the 256 bytes occur in patterns.
+/// [`DoubleArrayAhoCorasick::accelerate`] makes it, and tells when to use it and what it takes.
 #[derive(Drop)]
 pub struct Accelerated<'a, V: Copy, A: Allocator = Global> {
     automaton: &'a DoubleArrayAhoCorasick<V, A>,
@@ -74,9 +73,18 @@ impl<'a, V: Copy, A: Allocator> Model for Accelerated<'a, V, A> {
 impl<V: Copy, A: Allocator + Copy> DoubleArrayAhoCorasick<V, A> {
     /// Makes rows of the states near the root, for faster searches.
     ///
-    /// It borrows the automaton, and takes at most 257 KiB and two bytes for each element. The work
-    /// grows with the elements, and with the slots of the rows, at most 65,536; it has no bound by
-    /// proof.
+    /// Use it where much is searched for up to some thousand words, and for a leftmost search up to
+    /// about one thousand. With tens of thousands of words, rows cost more than they save in an
+    /// overlapping or a leftmost search. Where the filter passes over most of the haystack, they
+    /// change little. `docs/SPEED.md` has what was measured.
+    ///
+    /// Of the patterns `ab` and `b` in the haystack `ab` the search
+    /// [`Accelerated::find_overlapping_iter`] finds `ab` from 0 to 2 and `b` from 1 to 2
+    /// (`daachorse_tests` runs this).
+    ///
+    /// It borrows the automaton, and takes at most 256 KiB for the slots of the rows, two bytes for
+    /// each element and 1,020 bytes. The work grows with the elements and with the slots, of which
+    /// there are at most 65,536; it has no bound by proof.
     ///
     /// # Errors
     ///
@@ -115,6 +123,8 @@ impl<V: Copy, A: Allocator> DoubleArrayAhoCorasick<V, A> {
 
 impl<'a, V: Copy, A: Allocator> Accelerated<'a, V, A> {
     /// Returns the automaton whose states have the rows.
+    ///
+    /// It is borrowed, and nothing is copied. `daachorse_tests` asks it for its kind.
     pub fn automaton(&self) -> &'a DoubleArrayAhoCorasick<V, A>
         ensures { result.now ≡ self.now.automaton }
     {
@@ -139,7 +149,13 @@ impl<'a, V: Copy, A: Allocator> Accelerated<'a, V, A> {
         self.rows.view(self.automaton.leftmost())
     }
 
-    /// Finds the matches of [`DoubleArrayAhoCorasick::find_iter`].
+    /// Finds non-overlapping matches in a haystack, each of which ends as early as possible.
+    ///
+    /// They are the matches of [`DoubleArrayAhoCorasick::find_iter`], where the rest is said of
+    /// which is taken.
+    ///
+    /// Places count bytes. Of the patterns `bcd`, `ab` and `a`, in this order, in the haystack
+    /// `abcd` it finds `a` from 0 to 1 and `bcd` from 1 to 4 (`daachorse_tests` runs this).
     ///
     /// It takes at most two turns, which are looks at one state, for each byte of the haystack, and
     /// no memory.
@@ -164,11 +180,14 @@ impl<'a, V: Copy, A: Allocator> Accelerated<'a, V, A> {
         )
     }
 
-    /// Finds the matches of [`DoubleArrayAhoCorasick::find_iter_from_iter`].
+    /// Finds non-overlapping matches in the bytes that `haystack` yields.
     ///
-    /// Each is returned before a byte past its end is taken; with an empty pattern, before the byte
-    /// behind its place is taken. It takes at most two turns, which are looks at one state, for each
-    /// byte that it takes, and no memory.
+    /// They are the matches of [`Self::find_iter`]. Each is returned before a byte past its end is
+    /// taken; with an empty pattern, before the byte behind its place is taken.
+    ///
+    /// Places count bytes from where the source stands. It takes at most two turns, which are looks
+    /// at one state, for each byte that it takes, and no memory. `daachorse_tests` runs it over the
+    /// same haystacks as [`Self::find_iter`].
     ///
     /// # Conditions
     ///
@@ -192,7 +211,14 @@ impl<'a, V: Copy, A: Allocator> Accelerated<'a, V, A> {
         )
     }
 
-    /// Finds the matches of [`DoubleArrayAhoCorasick::find_overlapping_iter`].
+    /// Finds every match in a haystack, also those that overlap.
+    ///
+    /// They are the matches of [`DoubleArrayAhoCorasick::find_overlapping_iter`], in its order: by
+    /// rising ends, and of those that end together the longest first.
+    ///
+    /// Places count bytes. Of the patterns `bcd`, `ab` and `a`, in this order, in the haystack
+    /// `abcd` it finds `a` from 0 to 1, `ab` from 0 to 2 and `bcd` from 1 to 4 (`daachorse_tests`
+    /// runs this).
     ///
     /// It takes at most two turns, which are looks at one state, for each byte of the haystack, and
     /// no memory.
@@ -220,10 +246,14 @@ impl<'a, V: Copy, A: Allocator> Accelerated<'a, V, A> {
         )
     }
 
-    /// Finds the matches of [`DoubleArrayAhoCorasick::find_overlapping_iter_from_iter`].
+    /// Finds every match in the bytes that `haystack` yields.
     ///
-    /// Each is returned before a byte past its end is taken. It takes at most two turns, which are
-    /// looks at one state, for each byte that it takes, and no memory.
+    /// They are the matches of [`Self::find_overlapping_iter`]. Each is returned before a byte past
+    /// its end is taken.
+    ///
+    /// Places count bytes from where the source stands. It takes at most two turns, which are looks
+    /// at one state, for each byte that it takes, and no memory. `daachorse_tests` runs it over the
+    /// same haystacks as [`Self::find_overlapping_iter`].
     ///
     /// # Conditions
     ///
@@ -247,7 +277,14 @@ impl<'a, V: Copy, A: Allocator> Accelerated<'a, V, A> {
         )
     }
 
-    /// Finds the matches of [`DoubleArrayAhoCorasick::find_overlapping_no_suffix_iter`].
+    /// Finds the longest match at each end in a haystack.
+    ///
+    /// They are the matches of [`DoubleArrayAhoCorasick::find_overlapping_no_suffix_iter`], in its
+    /// order: by rising ends.
+    ///
+    /// Places count bytes. Of the patterns `abcd`, `cd` and `bc` in the haystack `abcd` it finds
+    /// `bc` from 1 to 3 and `abcd` from 0 to 4, and not `cd`, which ends `abcd` (`daachorse_tests`
+    /// runs this).
     ///
     /// It takes at most two turns, which are looks at one state, for each byte of the haystack, and
     /// no memory.
@@ -275,10 +312,14 @@ impl<'a, V: Copy, A: Allocator> Accelerated<'a, V, A> {
         )
     }
 
-    /// Finds the matches of [`DoubleArrayAhoCorasick::find_overlapping_no_suffix_iter_from_iter`].
+    /// Finds the longest match at each end in the bytes that `haystack` yields.
     ///
-    /// Each is returned before a byte past its end is taken. It takes at most two turns, which are
-    /// looks at one state, for each byte that it takes, and no memory.
+    /// They are the matches of [`Self::find_overlapping_no_suffix_iter`]. Each is returned before a
+    /// byte past its end is taken.
+    ///
+    /// Places count bytes from where the source stands. It takes at most two turns, which are looks
+    /// at one state, for each byte that it takes, and no memory. `daachorse_tests` runs it over the
+    /// same haystacks as [`Self::find_overlapping_no_suffix_iter`].
     ///
     /// # Conditions
     ///
@@ -302,7 +343,16 @@ impl<'a, V: Copy, A: Allocator> Accelerated<'a, V, A> {
         )
     }
 
-    /// Finds the matches of [`DoubleArrayAhoCorasick::leftmost_find_iter`].
+    /// Finds non-overlapping matches in a haystack, each of which starts as early as possible.
+    ///
+    /// They are the matches of [`DoubleArrayAhoCorasick::leftmost_find_iter`], where it is said
+    /// which of those that start together is taken.
+    ///
+    /// Places count bytes. Of the patterns `ab`, `a` and `abcd`, in this order, in the haystack
+    /// `abcd` an automaton for
+    /// [`MatchKind::LeftmostLongest`](daachorse_core::MatchKind::LeftmostLongest) finds `abcd`, and
+    /// one for [`MatchKind::LeftmostFirst`](daachorse_core::MatchKind::LeftmostFirst) finds `ab`
+    /// (`daachorse_tests` runs this).
     ///
     /// It takes no memory. After `g` matches it has taken at most two turns, which are looks at one
     /// state, for each byte that it passed, and four times the bytes of the longest pattern for
@@ -328,11 +378,12 @@ impl<'a, V: Copy, A: Allocator> Accelerated<'a, V, A> {
         )
     }
 
-    /// Starts the search of [`DoubleArrayAhoCorasick::find_stepper`].
+    /// Starts the search of [`Self::find_iter`], to be given one byte at a time.
     ///
     /// After each byte that `consume` is given, `matches` tells the match that ends there, if there
-    /// is one. In all it takes at most two turns, which are looks at one state, for each byte that it
-    /// is given, and no memory. It tells no depths, even where the automaton has them cached.
+    /// is one. In all it takes at most two turns, which are looks at one state, for each byte that
+    /// it is given, and no memory. It tells no depths, even where the automaton has them cached.
+    /// `daachorse_tests` runs it over the haystacks of [`Self::find_iter`].
     ///
     /// # Conditions
     ///
@@ -348,11 +399,12 @@ impl<'a, V: Copy, A: Allocator> Accelerated<'a, V, A> {
         FindStepper::new(self.standard(), &[], folds)
     }
 
-    /// Starts the search of [`DoubleArrayAhoCorasick::find_overlapping_stepper`].
+    /// Starts the search of [`Self::find_overlapping_iter`], to be given one byte at a time.
     ///
     /// After each byte that `consume` is given, `matches` tells all matches that end there, the
-    /// longest first. In all it takes at most two turns, which are looks at one state, for each byte
-    /// that it is given, and no memory. It tells no depths, even where the automaton has them cached.
+    /// longest first. In all it takes at most two turns, which are looks at one state, for each
+    /// byte that it is given, and no memory. It tells no depths, even where the automaton has them
+    /// cached. `daachorse_tests` runs it over the haystacks of [`Self::find_overlapping_iter`].
     ///
     /// # Conditions
     ///
@@ -373,6 +425,9 @@ impl<'a, V: Copy, A: Allocator> Accelerated<'a, V, A> {
     /// What was read before counts on: the places of later matches count bytes from the beginning
     /// of the whole haystack. It takes no memory and no turn.
     ///
+    /// With the patterns `ab` and `b`, where the first stepper was given `a`, the next is given `b`
+    /// and then tells `ab` from 0 to 2 (`daachorse_tests` runs this).
+    ///
     /// # Conditions
     ///
     /// The automaton is for the standard searches, and a stepper over these rows stood so.
@@ -389,10 +444,14 @@ impl<'a, V: Copy, A: Allocator> Accelerated<'a, V, A> {
         FindStepper::resume(self.standard(), &[], standing, folds)
     }
 
-    /// Goes on with a search of [`Self::find_overlapping_stepper`] from where one over these rows stood.
+    /// Goes on with a search of [`Self::find_overlapping_stepper`] from where one over these rows
+    /// stood.
     ///
     /// What was read before counts on: the places of later matches count bytes from the beginning
     /// of the whole haystack. It takes no memory and no turn.
+    ///
+    /// With the patterns `ab` and `b`, where the first stepper was given `a`, the next is given `b`
+    /// and then tells `ab` from 0 to 2 and `b` from 1 to 2 (`daachorse_tests` runs this).
     ///
     /// # Conditions
     ///

@@ -48,8 +48,8 @@ use std::marker::Model;
 /// row, and follows no link. For any other character, and below these states, it looks at the
 /// automaton as any search does. What is found is the same.
 ///
-/// The rows take at most 257 KiB, and two bytes for each element of the automaton stand beside
-/// them.
+/// [`CharwiseDoubleArrayAhoCorasick::accelerate`] makes it, and tells when to use it and what it
+/// takes.
 #[derive(Drop)]
 pub struct Accelerated<'a, V: Copy, A: Allocator = Global> {
     automaton: &'a CharwiseDoubleArrayAhoCorasick<V, A>,
@@ -70,9 +70,19 @@ impl<'a, V: Copy, A: Allocator> Model for Accelerated<'a, V, A> {
 impl<V: Copy, A: Allocator + Copy> CharwiseDoubleArrayAhoCorasick<V, A> {
     /// Makes rows of the states near the root, for faster searches.
     ///
-    /// It borrows the automaton, and takes at most 257 KiB and two bytes for each element. Beside
-    /// these stands a list of the characters while rows are made. The work grows with the elements,
-    /// the characters, and the slots of the rows, at most 65,536; it has no bound by proof.
+    /// Use it where much is searched for up to some thousand words of few different characters.
+    /// With many characters, as in Japanese words, a row is long and few states have one: a search
+    /// gains with about one thousand words, and with several thousand rows cost more than they
+    /// save. `docs/SPEED.md` has what was measured.
+    ///
+    /// Of the patterns `aß` and `ß` in the haystack `aß` the search
+    /// [`Accelerated::find_overlapping_iter`] finds `aß` from 0 to 3 and `ß` from 1 to 3
+    /// (`daachorse_tests` runs this).
+    ///
+    /// It borrows the automaton, and takes at most 256 KiB for the slots of the rows, two bytes for
+    /// each element and 1,020 bytes. Beside these stands a list of the characters while rows are
+    /// made. The work grows with the elements, the characters and the slots, of which there are at
+    /// most 65,536; it has no bound by proof.
     ///
     /// # Errors
     ///
@@ -111,6 +121,8 @@ impl<V: Copy, A: Allocator> CharwiseDoubleArrayAhoCorasick<V, A> {
 
 impl<'a, V: Copy, A: Allocator> Accelerated<'a, V, A> {
     /// Returns the automaton whose states have the rows.
+    ///
+    /// It is borrowed, and nothing is copied. `daachorse_tests` asks it for its kind.
     pub fn automaton(&self) -> &'a CharwiseDoubleArrayAhoCorasick<V, A>
         ensures { result.now ≡ self.now.automaton }
     {
@@ -135,7 +147,14 @@ impl<'a, V: Copy, A: Allocator> Accelerated<'a, V, A> {
         self.rows.view(self.automaton.leftmost())
     }
 
-    /// Finds the matches of [`CharwiseDoubleArrayAhoCorasick::find_iter`].
+    /// Finds non-overlapping matches in a haystack, each of which ends as early as possible.
+    ///
+    /// They are the matches of [`CharwiseDoubleArrayAhoCorasick::find_iter`], where the rest is
+    /// said of which is taken.
+    ///
+    /// Places count the bytes of the text. Of the patterns `bcd`, `ab` and `a`, in this order, in
+    /// the haystack `abcd` it finds `a` from 0 to 1 and `bcd` from 1 to 4 (`daachorse_tests` runs
+    /// this).
     ///
     /// It takes at most two turns, which are looks at one state, for each character of the
     /// haystack, and no memory.
@@ -160,11 +179,14 @@ impl<'a, V: Copy, A: Allocator> Accelerated<'a, V, A> {
         )
     }
 
-    /// Finds the matches of [`CharwiseDoubleArrayAhoCorasick::find_iter_from_iter`].
+    /// Finds non-overlapping matches in the text whose bytes `haystack` yields.
     ///
-    /// Each is returned before a byte past its end is taken; with an empty pattern, before the byte
-    /// behind its place is taken. It takes at most two turns, which are looks at one state, for each
-    /// character that it takes, and no memory.
+    /// They are the matches of [`Self::find_iter`]. Each is returned before a byte past its end is
+    /// taken; with an empty pattern, before the byte behind its place is taken.
+    ///
+    /// Places count bytes from where the source stands. It takes at most two turns, which are looks
+    /// at one state, for each character that it takes, and no memory. `daachorse_tests` runs it
+    /// over the same haystacks as [`Self::find_iter`].
     ///
     /// # Conditions
     ///
@@ -188,7 +210,14 @@ impl<'a, V: Copy, A: Allocator> Accelerated<'a, V, A> {
         )
     }
 
-    /// Finds the matches of [`CharwiseDoubleArrayAhoCorasick::find_overlapping_iter`].
+    /// Finds every match in a haystack, also those that overlap.
+    ///
+    /// They are the matches of [`CharwiseDoubleArrayAhoCorasick::find_overlapping_iter`], in its
+    /// order: by rising ends, and of those that end together the longest first.
+    ///
+    /// Places count the bytes of the text. Of the patterns `bcd`, `ab` and `a`, in this order, in
+    /// the haystack `abcd` it finds `a` from 0 to 1, `ab` from 0 to 2 and `bcd` from 1 to 4
+    /// (`daachorse_tests` runs this).
     ///
     /// It takes at most two turns, which are looks at one state, for each character of the
     /// haystack, and no memory.
@@ -216,10 +245,14 @@ impl<'a, V: Copy, A: Allocator> Accelerated<'a, V, A> {
         )
     }
 
-    /// Finds the matches of [`CharwiseDoubleArrayAhoCorasick::find_overlapping_iter_from_iter`].
+    /// Finds every match in the text whose bytes `haystack` yields.
     ///
-    /// Each is returned before a byte past its end is taken. It takes at most two turns, which are
-    /// looks at one state, for each character that it takes, and no memory.
+    /// They are the matches of [`Self::find_overlapping_iter`]. Each is returned before a byte past
+    /// its end is taken.
+    ///
+    /// Places count bytes from where the source stands. It takes at most two turns, which are looks
+    /// at one state, for each character that it takes, and no memory. `daachorse_tests` runs it
+    /// over the same haystacks as [`Self::find_overlapping_iter`].
     ///
     /// # Conditions
     ///
@@ -243,7 +276,14 @@ impl<'a, V: Copy, A: Allocator> Accelerated<'a, V, A> {
         )
     }
 
-    /// Finds the matches of [`CharwiseDoubleArrayAhoCorasick::find_overlapping_no_suffix_iter`].
+    /// Finds the longest match at each end in a haystack.
+    ///
+    /// They are the matches of [`CharwiseDoubleArrayAhoCorasick::find_overlapping_no_suffix_iter`],
+    /// in its order: by rising ends.
+    ///
+    /// Places count the bytes of the text. Of the patterns `abcd`, `cd` and `bc` in the haystack
+    /// `abcd` it finds `bc` from 1 to 3 and `abcd` from 0 to 4, and not `cd`, which ends `abcd`
+    /// (`daachorse_tests` runs this).
     ///
     /// It takes at most two turns, which are looks at one state, for each character of the
     /// haystack, and no memory.
@@ -271,10 +311,14 @@ impl<'a, V: Copy, A: Allocator> Accelerated<'a, V, A> {
         )
     }
 
-    /// Finds the matches of [`CharwiseDoubleArrayAhoCorasick::find_overlapping_no_suffix_iter_from_iter`].
+    /// Finds the longest match at each end in the text whose bytes `haystack` yields.
     ///
-    /// Each is returned before a byte past its end is taken. It takes at most two turns, which are
-    /// looks at one state, for each character that it takes, and no memory.
+    /// They are the matches of [`Self::find_overlapping_no_suffix_iter`]. Each is returned before a
+    /// byte past its end is taken.
+    ///
+    /// Places count bytes from where the source stands. It takes at most two turns, which are looks
+    /// at one state, for each character that it takes, and no memory. `daachorse_tests` runs it
+    /// over the same haystacks as [`Self::find_overlapping_no_suffix_iter`].
     ///
     /// # Conditions
     ///
@@ -298,11 +342,20 @@ impl<'a, V: Copy, A: Allocator> Accelerated<'a, V, A> {
         )
     }
 
-    /// Finds the matches of [`CharwiseDoubleArrayAhoCorasick::leftmost_find_iter`].
+    /// Finds non-overlapping matches in a haystack, each of which starts as early as possible.
+    ///
+    /// They are the matches of [`CharwiseDoubleArrayAhoCorasick::leftmost_find_iter`], where it is
+    /// said which of those that start together is taken.
+    ///
+    /// Places count the bytes of the text. Of the patterns `ab`, `a` and `abcd`, in this order, in
+    /// the haystack `abcd` an automaton for
+    /// [`MatchKind::LeftmostLongest`](daachorse_core::MatchKind::LeftmostLongest) finds `abcd`, and
+    /// one for [`MatchKind::LeftmostFirst`](daachorse_core::MatchKind::LeftmostFirst) finds `ab`
+    /// (`daachorse_tests` runs this).
     ///
     /// It takes no memory. After `g` matches it has taken at most two turns, which are looks at one
-    /// state, for each character that it passed, and four times the characters of the longest pattern for
-    /// each match.
+    /// state, for each character that it passed, and four times the characters of the longest
+    /// pattern for each match.
     ///
     /// # Conditions
     ///
@@ -324,11 +377,12 @@ impl<'a, V: Copy, A: Allocator> Accelerated<'a, V, A> {
         )
     }
 
-    /// Starts the search of [`CharwiseDoubleArrayAhoCorasick::find_stepper`].
+    /// Starts the search of [`Self::find_iter`], to be given one character at a time.
     ///
     /// After each character that `consume` is given, `matches` tells the match that ends there, if
     /// there is one. In all it takes at most two turns, which are looks at one state, for each
-    /// character that it is given, and no memory. It tells no depths, even where the automaton has them cached.
+    /// character that it is given, and no memory. It tells no depths, even where the automaton has
+    /// them cached. `daachorse_tests` runs it over the haystacks of [`Self::find_iter`].
     ///
     /// # Conditions
     ///
@@ -344,11 +398,13 @@ impl<'a, V: Copy, A: Allocator> Accelerated<'a, V, A> {
         FindStepper::new(self.standard(), &[], folds)
     }
 
-    /// Starts the search of [`CharwiseDoubleArrayAhoCorasick::find_overlapping_stepper`].
+    /// Starts the search of [`Self::find_overlapping_iter`], to be given one character at a time.
     ///
-    /// After each character that `consume` is given, `matches` tells all matches that end there, the
-    /// longest first. In all it takes at most two turns, which are looks at one state, for each
-    /// character that it is given, and no memory. It tells no depths, even where the automaton has them cached.
+    /// After each character that `consume` is given, `matches` tells all matches that end there,
+    /// the longest first. In all it takes at most two turns, which are looks at one state, for each
+    /// character that it is given, and no memory. It tells no depths, even where the automaton has
+    /// them cached. `daachorse_tests` runs it over the haystacks of
+    /// [`Self::find_overlapping_iter`].
     ///
     /// # Conditions
     ///

@@ -25,7 +25,7 @@
 //! - [`DoubleArrayAhoCorasick`] searches bytes, and [`CharwiseDoubleArrayAhoCorasick`] text, a
 //!   character at a time. Their builders set the kind of matches, the filter and the layout.
 //! - [`bytewise::Accelerated`] and [`charwise::Accelerated`], which `accelerate` of an automaton
-//!   makes, search slices and texts faster where the automaton is small.
+//!   makes where there is room, search slices and texts faster where the automaton is small.
 //! - [`MatchKind`] says which matches are wanted, and [`Match`] is one of them.
 //! - [`errors`] has what a call may refuse with; [`Result`] is short for it.
 //! - [`bytewise`] and [`charwise`] have the types of the searches, of the steppers and of the

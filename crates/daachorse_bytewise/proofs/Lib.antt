@@ -1,4 +1,3 @@
 pub mod TurnLaws
-pub mod RowedLaws
 pub use Rattle.daachorse_search.proofs.MatchesLemmas
 pub mod WrittenLaws

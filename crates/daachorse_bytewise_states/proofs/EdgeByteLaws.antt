@@ -80,6 +80,7 @@ module _ {V : Type 0} (p : Parts V) where
       → AreLabels (content p) (λ label unit. label ≡ unit) bytes
   listed_labels bases marks bytes valid based edged listed = record {
     all = λ label unit low same. by label unit low same (slice_index_or marks label false) refl;
+    below = λ k within. omega (arith, (listed.only k within).0);
     none_idle = λ k below. (_, refl);
   }
     where

@@ -1,12 +1,13 @@
 //! Rows of the states near the root.
 //!
-//! The layers above may rely on [`States::rows`] being right for both views of the states.
+//! The layers above may rely on [`States::rows`] being right for both views of the states, and on the
+//! states near the root having rows.
 
-ghost use Rattle.std.specs.Prelude.{◌≡◌, ◌≤◌, length, IfOk};
+ghost use Rattle.std.specs.Prelude.{◌≡◌, ◌≤◌, length, IfOk, IfSome};
 ghost use Rattle.daachorse_rows.specs.Rows.{AreLabels, AreListed};
 ghost use Rattle.daachorse_bytewise_states.specs.EdgeBytes.{IsMarked, MarksBases, MarksEdges};
 ghost use Rattle.daachorse_bytewise_states.specs.Parts.{content, count};
-ghost use Rattle.daachorse_bytewise_states.specs.StateRows.{HasRows};
+ghost use Rattle.daachorse_bytewise_states.specs.StateRows.{CoversNear, HasNoRoom, HasRows};
 
 use crate::states::States;
 use daachorse_core::MatchKind;
@@ -16,13 +17,18 @@ use std::alloc::{AllocError, Allocator};
 impl<V: Copy, A: Allocator> States<V, A> {
     /// Rows of the states near the root.
     ///
+    /// Each state has one whose text has at most two bytes, and as many others as there is room for.
+    /// Where those alone are more than there is room for, the answer is `None`; 254 rows always fit.
+    ///
     /// They take at most 256 KiB of slots, two bytes for each element, and a table of 1,020 bytes.
     ///
     /// # Errors
     ///
     /// An allocation failed.
-    pub fn rows<L: Allocator + Copy>(&self, alloc: L) -> Result<Rows<L>, AllocError>
-        ensures { IfOk result (HasRows self.now) }
+    pub fn rows<L: Allocator + Copy>(&self, alloc: L) -> Result<Option<Rows<L>>, AllocError>
+        ensures right { IfOk result (λ rows. IfSome rows (HasRows self.now)) }
+        ensures covered { IfOk result (λ rows. IfSome rows (CoversNear self.now)) }
+        ensures none { IfOk result (λ rows. rows ≡ None → HasNoRoom self.now) }
     {
         let bytes = self.edge_bytes(alloc)?;
         let count = self.num_elements() as u32;

@@ -1,6 +1,7 @@
 -- What callers see of an automaton over characters with rows: the automaton, and the rows of its states near the root.
 use Rattle.daachorse_rows.specs.Rows.{RowTable, Rowed}
 use Rattle.daachorse_charwise_states.specs.Parts.{Parts}
+use Rattle.daachorse_charwise_states.specs.StateRows.{CoversNear}
 use Rattle.daachorse_charwise.specs.Automata.{Automaton, states_of}
 
 pub record Accelerated (V : Type 0) : Type 0 where
@@ -10,3 +11,7 @@ pub record Accelerated (V : Type 0) : Type 0 where
 -- its states with their rows, through which its searches go
 abbrev pub rowed_states : {V : Type 0} → Accelerated V → Rowed (Parts V)
 rowed_states a = record { automaton = states_of a.automaton; rows = a.rows }
+
+-- each text of at most two characters with codes below 510 that begins a pattern is that of a state with a row
+abbrev pub HasRowsNear : {V : Type 0} → Accelerated V → Type 0
+HasRowsNear a = CoversNear (states_of a.automaton) a.rows

@@ -14,7 +14,8 @@ some_of (Some unit) some = (unit, refl)
 pub used_labels : {V : Type 0} (a : Lettered V) (codes : List ℕ) → IsLettered a → AreListed (IsUsed a) 510 codes → AreLabels (content a.parts) (stands_for a.parts) codes
 used_labels a codes lettered listed = record {
   all = λ code unit low coded. inr (listed.all code low (ap is_some (lettered.letters.from_code unit code (coded_inside a.parts.coding unit code coded) coded)));
-  none_idle = λ k below. let used = some_of (character_of a (slice_index codes k)) (listed.only k below) in (used.0, lettered.letters.to_code used.0 (slice_index codes k) used.1);
+  below = λ k within. (listed.only k within).0;
+  none_idle = λ k below. let used = some_of (character_of a (slice_index codes k)) (listed.only k below).1 in (used.0, lettered.letters.to_code used.0 (slice_index codes k) used.1);
 }
 
 -- so they are where a list was made at all

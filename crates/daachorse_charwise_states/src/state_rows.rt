@@ -1,12 +1,13 @@
 //! Rows of the states near the root.
 //!
-//! The layers above may rely on [`States::rows`] being right for both views of the states.
+//! The layers above may rely on [`States::rows`] being right for both views of the states, and on the
+//! states near the root having rows.
 
-ghost use Rattle.std.specs.Prelude.{◌≤◌, length, IfOk, IfErr};
+ghost use Rattle.std.specs.Prelude.{◌≡◌, ◌≤◌, length, IfOk, IfSome, IfErr};
 ghost use Rattle.daachorse_core.specs.Refusals.{IsOutOfMemory};
 ghost use Rattle.daachorse_rows.specs.Rows.{AreLabels, AreListed};
 ghost use Rattle.daachorse_charwise_states.specs.Parts.{content};
-ghost use Rattle.daachorse_charwise_states.specs.StateRows.{HasRows, IsUsed, stands_for};
+ghost use Rattle.daachorse_charwise_states.specs.StateRows.{CoversNear, HasNoRoom, HasRows, IsUsed, stands_for};
 
 use crate::edges::Elements;
 use crate::states::States;
@@ -19,13 +20,19 @@ use std::alloc::Allocator;
 impl<V: Copy, A: Allocator + Copy> States<V, A> {
     /// Rows of the states near the root, with the 510 most frequent characters of the patterns.
     ///
+    /// Each state has one whose text has at most two characters, all among these 510, and as many
+    /// others as there is room for. Where those alone are more than there is room for, the answer is
+    /// `None`; 128 rows always fit.
+    ///
     /// They take at most 256 KiB of slots, two bytes for each element, and a table of 1,020 bytes.
     ///
     /// # Errors
     ///
     /// An allocation failed.
-    pub fn rows(&self, alloc: A) -> Result<Rows<A>>
-        ensures ok { IfOk result (HasRows self.now) }
+    pub fn rows(&self, alloc: A) -> Result<Option<Rows<A>>>
+        ensures right { IfOk result (λ rows. IfSome rows (HasRows self.now)) }
+        ensures covered { IfOk result (λ rows. IfSome rows (CoversNear self.now)) }
+        ensures none { IfOk result (λ rows. rows ≡ None → HasNoRoom self.now) }
         ensures err { IfErr result IsOutOfMemory }
     {
         let codes = self.row_codes(alloc)?;

@@ -15,7 +15,7 @@ module _ (holds : ℕ → Type 0) (n : ℕ) (xs : List ℕ) (h : AreListed holds
       | inl less ↦ h.all x less held
       | inr same ↦ absurd (not (subst holds same held))
     ];
-    only = h.only;
+    only = λ k below. let old = h.only k below in (omega (arith, old.0), old.1);
   }
 
   pub AreListed-more : (ys : List ℕ) → ys ≡ xs ++ n ∷ [] → holds n → AreListed holds (n + 1) ys
@@ -26,8 +26,8 @@ module _ (holds : ℕ → Type 0) (n : ℕ) (xs : List ℕ) (h : AreListed holds
       | inr same ↦ (length xs, omega (arith, size), read-new xs ys n (length xs) is refl ∙ sym same)
     ];
     only = λ k below. elim (below_or_at k (length xs) (omega (arith, below, size))) [
-      | inl old ↦ subst holds (sym (read-old xs ys n k is old)) (h.only k old)
-      | inr new ↦ subst holds (sym (read-new xs ys n k is new)) held
+      | inl old ↦ let was = h.only k old in let read = read-old xs ys n k is old in (omega (arith, read, was.0), subst holds (sym read) was.1)
+      | inr new ↦ let read = read-new xs ys n k is new in (omega (arith, read), subst holds (sym read) held)
     ];
   }
     where
@@ -40,5 +40,6 @@ AreLabels-own K stands labels h =
     let P : List ℕ → Type 0 = λ l. AreLabels K (stands_by (λ (x : ℕ). x) stands) l in
     subst P (sym (map-id labels)) (record {
       all = λ label unit low (other, same, coded). let Q : ℕ → Type 0 = λ l. stands l unit in h.all label unit low (subst Q same coded);
+      below = h.below;
       none_idle = λ k below. let some = h.none_idle k below in (some.0, (slice_index labels k, refl, some.1));
     })

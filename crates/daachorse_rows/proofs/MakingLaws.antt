@@ -9,7 +9,7 @@ use Rattle.std.proofs.lemmas.Bool.{cases_eq}
 use Rattle.std.proofs.lemmas.List.{get_or_append_left, get_or-map, get_or-set_same, get_or-set_other, length-map, length-set}
 use Rattle.daachorse_core.specs.Looks.{IsForeign, StepEnds}
 use Rattle.daachorse_model.specs.Dictionary.{Dictionary}
-use Rattle.daachorse_rows.specs.Rows.{state_at, RowTable, IsEntry, StandsFor, IsSlotOf, AreSlots, Leads, AreLabels, AreRows, Stands, AreChosen, IsSlot, AreWritten, stands_by}
+use Rattle.daachorse_rows.specs.Rows.{state_at, RowTable, IsEntry, StandsFor, IsSlotOf, AreSlots, Leads, AreLabels, AreRows, Stands, AreChosen, AreCovered, Covers, IsSlot, AreWritten, stands_by}
 use Rattle.daachorse_rows.proofs.RowLaws.{place_behind, state_at-slot}
 
 pub below_or_at : (c n : ℕ) → c < n + 1 → (c < n) ⊎ (c ≡ n)
@@ -42,6 +42,13 @@ module _ {L : Type 0} (number : L → ℕ) where
   unit_read K exact stands labels k label named less is =
       let some = named.none_idle k (omega (arith, less, length-map labels number)) in
       (some.0, stands_own exact stands label (slice_index (map number labels) k) some.0 (number_read labels k label less is) some.1)
+
+  -- where a step by a listed label that was read ends
+  pub ends_read : {V : Type 0} (K : Dictionary V) (dead : List ℕ → Type 0) (text : ℕ → List ℕ) (exact : (a b : L) → number a ≡ number b → a ≡ b) (stands : L → ℕ → Type 0) (labels : List L) (k : ℕ) (label : L) (s state t : ℕ) → k < length labels
+      → label ≡ get_or labels k label → state ≡ s → ((unit : ℕ) → stands label unit → StepEnds K dead (text state) unit (text t)) → (unit : ℕ) → stands_by number stands (slice_index (map number labels) k) unit → StepEnds K dead (text s) unit (text t)
+  ends_read K dead text exact stands labels k label s state t less is same ends unit coded =
+      let P : ℕ → Type 0 = λ x. StepEnds K dead (text x) unit (text t) in
+      subst P same (ends unit (stands_own exact stands label (slice_index (map number labels) k) unit (number_read labels k label less is) coded))
 
 -- ---- the slots of labels
 
@@ -89,46 +96,62 @@ Stands-small order width base x s (inl (k, below, is, at)) wide few fits = omega
 Stands-small order width base x s (inr is) wide few fits = omega (arith, is)
 
 module _ (reached : ℕ → Type 0) (order homes : List ℕ) (most : ℕ) where
-  -- there are none
-  pub AreChosen-none : order ≡ [] → homes ≡ [] → AreChosen reached order homes most
-  AreChosen-none none_chosen no_homes = record {
-    states = λ k below. absurd (omega (arith, ap length none_chosen));
-    homes = λ s below some. absurd (omega (arith, ap length no_homes));
+  -- there are none yet
+  pub AreChosen-none : order ≡ [] → ((s : ℕ) → s < length homes → slice_index homes s ≡ 65535) → ((s : ℕ) → reached s → s + 65536 < 2147483648) → AreChosen reached order homes most
+  AreChosen-none none_chosen no_homes fits = record {
+    states = λ k below. absurd (omega (arith, below, ap length none_chosen));
+    homes = λ s below some. absurd (some (no_homes s below));
+    own = λ k below. absurd (omega (arith, below, ap length none_chosen));
     few = omega (arith, ap length none_chosen);
-    fits = inl (ap length none_chosen);
+    fits = fits;
   }
 
   module _ (h : AreChosen reached order homes most) where
     -- one state more, whose row is the next
-    pub AreChosen-more : (s : ℕ) (order' homes' : List ℕ) → order' ≡ order ++ s ∷ [] → homes' ≡ slice_set homes s (length order) → s < length homes → length order < most → reached s
-        → ((t : ℕ) → reached t → t + 65536 < 2147483648) → AreChosen reached order' homes' most
-    AreChosen-more s order' homes' is at within less there fits = record {
+    pub AreChosen-more : (s : ℕ) (order' homes' : List ℕ) → order' ≡ order ++ s ∷ [] → homes' ≡ slice_set homes s (length order) → s < length homes → slice_index homes s ≡ 65535 → length order < most → most < 65535 → reached s
+        → AreChosen reached order' homes' most
+    AreChosen-more s order' homes' is at within none less room there = record {
       states = λ k below.
-          elim (below_or_at k (length order) (omega (arith, below, ap length is, length-append order (s ∷ [])))) [
+          elim (below_or_at k (length order) (count k below)) [
             | inl old ↦ let P : ℕ → Type 0 = λ x. reached x in subst P (sym (read-old order order' s k is old)) (h.states k old)
             | inr new ↦ let P : ℕ → Type 0 = λ x. reached x in subst P (sym (read-new order order' s k is new)) there
           ];
       homes = λ q below some.
           elim (cases_eq q s) [
             | inl same ↦
-                let home : slice_index homes' q ≡ length order = ap (λ l. slice_index l q) at ∙ (ap (λ n. slice_index (slice_set homes s (length order)) n) same ∙ get_or-set_same homes s (length order) 0 within) in
-                (omega (arith, home, ap length is, length-append order (s ∷ [])), read-new order order' s (slice_index homes' q) is home ∙ sym same)
+                let home : slice_index homes' q ≡ length order = ap (slice_index homes') same ∙ own_home in
+                (omega (arith, home, size), read-new order order' s (slice_index homes' q) is home ∙ sym same)
             | inr other ↦
-                let old : slice_index homes' q ≡ slice_index homes q = ap (λ l. slice_index l q) at ∙ get_or-set_other homes s q (length order) 0 other in
-                let size : length homes' ≡ length homes = ap length at ∙ length-set homes s (length order) in
-                let home = h.homes q (omega (arith, below, size)) (λ e. some (old ∙ e)) in
-                (omega (arith, old, home.0, ap length is, length-append order (s ∷ [])), ap (slice_index order') old ∙ (read-old order order' s (slice_index homes q) is home.0 ∙ home.1))
+                let old : slice_index homes' q ≡ slice_index homes q = other_home q other in
+                let home = h.homes q (omega (arith, below, ap length at, length-set homes s (length order))) (λ e. some (old ∙ e)) in
+                (omega (arith, old, home.0, size), ap (slice_index order') old ∙ (read-old order order' s (slice_index homes q) is home.0 ∙ home.1))
           ];
-      few = omega (arith, ap length is, length-append order (s ∷ []));
-      fits = inr fits;
+      own = λ k below.
+          elim (below_or_at k (length order) (count k below)) [
+            | inl old ↦ ap (slice_index homes') (read-old order order' s k is old) ∙ (other_home (slice_index order k) (taken k old) ∙ h.own k old)
+            | inr new ↦ ap (slice_index homes') (read-new order order' s k is new) ∙ (own_home ∙ sym new)
+          ];
+      few = omega (arith, size, less);
+      fits = h.fits;
     }
+      where
+        size : length order' ≡ length order + 1
+        size = ap length is ∙ length-append order (s ∷ [])
 
-    -- where there is a row, all places of states are small
-    pub AreChosen-fits : (k : ℕ) → k < length order → (s : ℕ) → reached s → s + 65536 < 2147483648
-    AreChosen-fits k below s there = elim h.fits [ inl none ↦ absurd (omega (arith, none)) | inr fits ↦ fits s there ]
+        count : (k : ℕ) → k < length order' → k < length order + 1
+        count k below = omega (arith, below, size)
 
-    pub AreChosen-small : (width s : ℕ) → length order * width ≤ 65536 → reached s → s < 2 ^ 32 → length order * width + s < 2 ^ 32
-    AreChosen-small width s few there below = elim h.fits [ inl empty ↦ omega (arith, ap (λ n. n * width) empty, below) | inr fits ↦ omega (arith, fits s there, few) ]
+        own_home : slice_index homes' s ≡ length order
+        own_home = ap (λ l. slice_index l s) at ∙ get_or-set_same homes s (length order) 0 within
+
+        other_home : (q : ℕ) → q ≢ s → slice_index homes' q ≡ slice_index homes q
+        other_home q other = ap (λ l. slice_index l q) at ∙ get_or-set_other homes s q (length order) 0 other
+
+        taken : (k : ℕ) → k < length order → slice_index order k ≢ s
+        taken k below same = omega (arith, none, ap (slice_index homes) same, h.own k below, below, less, room)
+
+    pub AreChosen-small : (width s : ℕ) → length order * width ≤ 65536 → reached s → length order * width + s < 2 ^ 32
+    AreChosen-small width s few there = omega (arith, h.fits s there, few)
 
 -- ---- the slots of the rows
 
@@ -224,10 +247,16 @@ module _ {V : Type 0} (K : Dictionary V) (reached : ℕ → Type 0) (text : ℕ 
       let P : ℕ → Type 0 = λ y. StandsFor r y s in
       subst P e (place_behind r s)
 
-  pub AreRows-made : (s count : ℕ) → r.width ≡ length labels + 2 → AreSlots labels 510 r.classes → AreChosen reached order r.homes (65536 / r.width)
-      → ((t : ℕ) → reached t → t < count) → count < 2 ^ 32 → Stands order r.width (length order * r.width) r.root s → reached s → text s ≡ []
+  -- what the rows' states cover, the rows cover
+  pub Covers-made : (n : ℕ) → AreCovered K text stands n order → Covers K text stands n r
+  Covers-made n covered w begins shallow =
+      let row = covered w begins shallow in
+      (row.0, omega (arith, row.1, count_is), ap text (at_start row.0 row.1) ∙ row.2)
+
+  pub AreRows-made : (s : ℕ) → r.width ≡ length labels + 2 → AreSlots labels 510 r.classes → AreChosen reached order r.homes (65536 / r.width)
+      → Stands order r.width (length order * r.width) r.root s → reached s → text s ≡ []
       → AreRows K reached text dead stands first r
-  AreRows-made s count is slots chosen below fits place there empty = record {
+  AreRows-made s is slots chosen place there empty = record {
     size = omega (arith, w.size, ap (λ n. n * r.width) count_is);
     few = omega (arith, w.size, fits_rows (length order) r.width chosen.few);
     wide = wide;
@@ -235,7 +264,7 @@ module _ {V : Type 0} (K : Dictionary V) (reached : ℕ → Type 0) (text : ℕ 
     inside = λ label less. omega (arith, is, slot_inside labels label (slice_index r.classes label) (slots.right label less));
     right = λ k label more less. right k label (omega (arith, more, count_is)) less (slot_some labels label (slice_index r.classes label) (slots.right label less));
     homes = λ t within some. let home = chosen.homes t within some in (omega (arith, home.0, count_is), at_start (slice_index r.homes t) home.0 ∙ home.1);
-    small = λ t here. omega (arith, w.size, AreChosen-small reached order r.homes (65536 / r.width) chosen r.width t (fits_rows (length order) r.width chosen.few) here (omega (arith, below t here, fits)));
+    small = λ t here. omega (arith, w.size, AreChosen-small reached order r.homes (65536 / r.width) chosen r.width t (fits_rows (length order) r.width chosen.few) here);
     root_state = (s, stands_for r.root s place, there, empty);
   }
     where

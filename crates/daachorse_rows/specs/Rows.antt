@@ -1,8 +1,10 @@
 -- Rows of the states near the root: of each label where the step ends. A place stands for a state: a row's first slot, in which the state is written, or behind all slots the states in order.
-use Rattle.std.specs.Prelude.{◌≡◌, ◌≢◌, ◌⊎◌, ℕ, zero, suc, ◌+◌, ◌*◌, ◌<◌, ◌≤◌, ◌^◌, List, [], ◌∷◌, length, slice_index, Option, None}
+use Rattle.std.specs.Prelude.{◌≡◌, ◌≢◌, ◌⊎◌, ℕ, zero, suc, ◌+◌, ◌*◌, ◌<◌, ◌≤◌, ◌^◌, List, [], ◌∷◌, ◌++◌, length, slice_index, Option, None}
+use Rattle.std.specs.List.{All}
 use Rattle.std.specs.declared.num.NonZeroU32.{NonZeroU32}
 use Rattle.daachorse_core.specs.Looks.{IsForeign, StepEnds}
 use Rattle.daachorse_model.specs.Dictionary.{Dictionary}
+use Rattle.daachorse_model.specs.Prefixes.{IsPrefix}
 
 -- a number tells which label it is
 pub exact_number : (a b : ℕ) → a ≡ b → a ≡ b
@@ -70,12 +72,35 @@ module _ (labels : List ℕ) where
 pub record AreListed (holds : ℕ → Type 0) (n : ℕ) (listed : List ℕ) : Type 0 where
   pub few : length listed ≤ n
   pub all : (x : ℕ) → x < n → holds x → (k : ℕ) × (k < length listed) × (slice_index listed k ≡ x)
-  pub only : (k : ℕ) → k < length listed → holds (slice_index listed k)
+  pub only : (k : ℕ) → k < length listed → (slice_index listed k < n) × holds (slice_index listed k)
 
--- the labels below 510 that some key has are listed, and none that stands for nothing
+-- the labels below 510 that some key has are listed, no others from 510 on, and none that stands for nothing
 pub record AreLabels {V : Type 0} (K : Dictionary V) (stands : ℕ → ℕ → Type 0) (labels : List ℕ) : Type 0 where
   pub all : (label unit : ℕ) → label < 510 → stands label unit → IsForeign K unit ⊎ ((k : ℕ) × (k < length labels) × (slice_index labels k ≡ label))
+  pub below : (k : ℕ) → k < length labels → slice_index labels k < 510
   pub none_idle : (k : ℕ) → k < length labels → (unit : ℕ) × stands (slice_index labels k) unit
+
+-- ---- the states near the root, which all have rows
+
+-- some label below 510 stands for the unit
+abbrev pub HasSlot : (ℕ → ℕ → Type 0) → ℕ → Type 0
+HasSlot stands unit = (label : ℕ) × (label < 510) × stands label unit
+
+-- at most n units, each with a slot
+pub record IsShallow (stands : ℕ → ℕ → Type 0) (n : ℕ) (w : List ℕ) : Type 0 where
+  pub short : length w ≤ n
+  pub slots : All (HasSlot stands) w
+
+-- the texts of more than `room` different states have at most n units, each with a slot
+pub record AreTooMany (reached : ℕ → Type 0) (text : ℕ → List ℕ) (stands : ℕ → ℕ → Type 0) (n room : ℕ) : Type 0 where
+  pub states : List ℕ
+  pub many : room < length states
+  pub different : (i j : ℕ) → i < length states → j < length states → slice_index states i ≡ slice_index states j → i ≡ j
+  pub shallow : (i : ℕ) → i < length states → reached (slice_index states i) × IsShallow stands n (text (slice_index states i))
+
+-- each text of at most n units, each with a slot, that begins a key is that of a state with a row
+abbrev pub Covers : {V : Type 0} → Dictionary V → (ℕ → List ℕ) → (ℕ → ℕ → Type 0) → ℕ → RowTable → Type 0
+Covers K text stands n r = (w : List ℕ) → IsPrefix K w → IsShallow stands n w → (k : ℕ) × (k < r.count) × (text (slice_index r.top (k * r.width)) ≡ w)
 
 -- Of an automaton: `first` says of a text at which position the outputs of its state begin.
 module _ {V : Type 0} (K : Dictionary V) (reached : ℕ → Type 0) (text : ℕ → List ℕ) (dead : List ℕ → Type 0) (stands : ℕ → ℕ → Type 0) (first : List ℕ → Option NonZeroU32 → Type 0) where
@@ -108,12 +133,31 @@ module _ (order : List ℕ) (width base : ℕ) where
 abbrev pub AreHomes : List ℕ → List ℕ → Type 0
 AreHomes order homes = (s : ℕ) → s < length homes → slice_index homes s ≢ 65535 → (slice_index homes s < length order) × (slice_index order (slice_index homes s) ≡ s)
 
--- the states of the rows can be reached, and their rows are known; there are none where states are too many for an entry
+-- the states of the rows can be reached, and the row of each is known; no state is too many for an entry
 pub record AreChosen (reached : ℕ → Type 0) (order table : List ℕ) (most : ℕ) : Type 0 where
   pub states : (k : ℕ) → k < length order → reached (slice_index order k)
   pub homes : AreHomes order table
+  pub own : (k : ℕ) → k < length order → slice_index table (slice_index order k) ≡ k
   pub few : length order ≤ most
-  pub fits : (length order ≡ 0) ⊎ ((s : ℕ) → reached s → s + 65536 < 2147483648)
+  pub fits : (s : ℕ) → reached s → s + 65536 < 2147483648
+
+-- the rows stay, and more may follow
+pub record GoesOn (old new : List ℕ) : Type 0 where
+  pub more : length old ≤ length new
+  pub same : (k : ℕ) → k < length old → slice_index new k ≡ slice_index old k
+
+-- the texts of the rows' states have at most n units, each with a slot
+abbrev pub AreShallow : (ℕ → List ℕ) → (ℕ → ℕ → Type 0) → ℕ → List ℕ → Type 0
+AreShallow text stands n order = (k : ℕ) → k < length order → IsShallow stands n (text (slice_index order k))
+
+module _ {V : Type 0} (K : Dictionary V) (text : ℕ → List ℕ) (stands : ℕ → ℕ → Type 0) where
+  -- the state that the label leads to from the state s has a row, where that text begins a key
+  abbrev pub HasEnd : ℕ → ℕ → List ℕ → Type 0
+  HasEnd s label order = (unit : ℕ) → stands label unit → IsPrefix K (text s ++ unit ∷ []) → (k : ℕ) × (k < length order) × (text (slice_index order k) ≡ text s ++ unit ∷ [])
+
+  -- each such text that begins a key is that of a row's state
+  abbrev pub AreCovered : ℕ → List ℕ → Type 0
+  AreCovered n order = (w : List ℕ) → IsPrefix K w → IsShallow stands n w → (k : ℕ) × (k < length order) × (text (slice_index order k) ≡ w)
 
 module _ {V : Type 0} (K : Dictionary V) (reached : ℕ → Type 0) (text : ℕ → List ℕ) (dead : List ℕ → Type 0) (stands : ℕ → ℕ → Type 0) (first : List ℕ → Option NonZeroU32 → Type 0) (labels order : List ℕ) (width base : ℕ) where
   -- the slot c of the row k

@@ -1,11 +1,12 @@
 //! How rows are made: which states have one, and what is written into it.
 //!
 //! The states are those to which the fewest steps lead from the root, in the order in which steps
-//! come to them. The layers above may rely on the rows being right, and on no order.
+//! come to them. The layers above may rely on the rows being right, on each state to which at most
+//! two steps lead having one, and on no order.
 
-ghost use Rattle.std.specs.Prelude.{◌≡◌, ◌*◌, ◌+◌, ◌/◌, ◌<◌, ◌≤◌, ◌^◌, ℕ, length, map, IfOk, OnOk, None};
+ghost use Rattle.std.specs.Prelude.{◌≡◌, ◌⊎◌, ◌*◌, ◌+◌, ◌/◌, ◌<◌, ◌≤◌, ◌^◌, ℕ, true, false, length, map, slice_index, IfOk, MatchOption, OnOk, None};
 ghost use Rattle.daachorse_core.specs.Looks.{IsFirstOutput};
-ghost use Rattle.daachorse_rows.specs.Rows.{AreChosen, AreHomes, AreLabels, AreSlots, AreWritten, IsEntry, IsSlotOf, Stands, stands_by};
+ghost use Rattle.daachorse_rows.specs.Rows.{AreChosen, AreCovered, AreHomes, AreLabels, AreShallow, AreSlots, AreTooMany, AreWritten, GoesOn, HasEnd, IsEntry, IsShallow, IsSlotOf, Stands, stands_by};
 
 use crate::label::{RowLabel, SLOTTED};
 use daachorse_core::turns::Turns;
@@ -94,51 +95,134 @@ impl<L: Allocator> Chosen<L> {
     }
 }
 
-/// The states of the rows, at most so many.
+/// The states of the rows, at most so many: `None` where those whose texts have at most two units
+/// with a slot are more, or where the states are too many for an entry.
 pub(crate) fn choose<V: Copy, A: Automaton<V>, L: Allocator + Copy>(
     alloc: L,
     automaton: &A,
     labels: &[A::Label],
     count: u32,
     most: usize,
-) -> Result<Chosen<L>, AllocError>
+) -> Result<Option<Chosen<L>>, AllocError>
 where
     A::Label: RowLabel,
     requires labels { AreLabels (A.content automaton.now) (stands_by A.Label.number (A.labels automaton.now)) (map A.Label.number labels.now) }
     requires count { (s : ℕ) → A.reached automaton.now s → s < count }
     requires some { 0 < most }
     requires few { most < 65535 }
-    ensures { IfOk result (λ c. AreChosen (A.reached automaton.now) c.order.items c.homes.items most) }
+    ensures { IfOk result (λ chosen. MatchOption chosen
+        (AreTooMany (A.reached automaton.now) (A.text automaton.now) (stands_by A.Label.number (A.labels automaton.now)) 2 most ⊎ (2147418112 < count))
+        (λ c. AreChosen (A.reached automaton.now) c.order.items c.homes.items most
+        × AreCovered (A.content automaton.now) (A.text automaton.now) (stands_by A.Label.number (A.labels automaton.now)) 2 c.order.items)) }
 {
     if count > MOST_STATES {
-        return Ok(Chosen {
-            order: Vec::new(alloc),
-            homes: Vec::new(alloc),
-        });
+        return Ok(None);
     }
+    let mut chosen = choose_root(alloc, automaton, count, most)?;
+    if !choose_next(automaton, labels, &mut chosen, most)? {
+        return Ok(None);
+    }
+    let near = chosen.order.len();
+    if !choose_next(automaton, labels, &mut chosen, most)? {
+        return Ok(None);
+    }
+    choose_rest(automaton, labels, &mut chosen, near, most)?;
+    Ok(Some(chosen))
+}
+
+/// Gives a row to the root.
+fn choose_root<V: Copy, A: Automaton<V>, L: Allocator + Copy>(
+    alloc: L,
+    automaton: &A,
+    count: u32,
+    most: usize,
+) -> Result<Chosen<L>, AllocError>
+where
+    A::Label: RowLabel,
+    requires count { (s : ℕ) → A.reached automaton.now s → s < count }
+    requires fits { count ≤ 2147418112 }
+    requires some { 0 < most }
+    ensures chosen { IfOk result (λ c. AreChosen (A.reached automaton.now) c.order.items c.homes.items most) }
+    ensures size { IfOk result (λ c. length c.homes.items ≡ count) }
+    ensures shallow { IfOk result (λ c. AreShallow (A.text automaton.now) (stands_by A.Label.number (A.labels automaton.now)) 0 c.order.items) }
+    ensures covered { IfOk result (λ c. AreCovered (A.content automaton.now) (A.text automaton.now) (stands_by A.Label.number (A.labels automaton.now)) 0 c.order.items) }
+{
     let mut order = Vec::new(alloc);
     let mut homes = Vec::from_elem(alloc, NO_ROW, count as usize)?;
     let root = automaton.root();
     homes[root as usize] = 0;
     order.push(root)?;
-    let mut chosen = Chosen { order, homes };
-    let mut at = 0;
+    Ok(Chosen { order, homes })
+}
+
+/// Gives rows to the states at which the steps from the states that have rows end. It tells whether
+/// there is room for all.
+fn choose_next<V: Copy, A: Automaton<V>, L: Allocator>(
+    automaton: &A,
+    labels: &[A::Label],
+    chosen: &mut Chosen<L>,
+    most: usize,
+) -> Result<bool, AllocError>
+where
+    A::Label: RowLabel,
+    requires labels { AreLabels (A.content automaton.now) (stands_by A.Label.number (A.labels automaton.now)) (map A.Label.number labels.now) }
+    requires chosen { AreChosen (A.reached automaton.now) chosen.old.order.items chosen.old.homes.items most }
+    requires count { (s : ℕ) → A.reached automaton.now s → s < length chosen.old.homes.items }
+    requires few { most < 65535 }
+    ensures chosen { OnOk result (AreChosen (A.reached automaton.now) chosen.new.order.items chosen.new.homes.items most) }
+    ensures same { OnOk result (length chosen.new.homes.items ≡ length chosen.old.homes.items) }
+    ensures shallow { OnOk result ((n : ℕ) → AreShallow (A.text automaton.now) (stands_by A.Label.number (A.labels automaton.now)) n chosen.old.order.items
+        → AreShallow (A.text automaton.now) (stands_by A.Label.number (A.labels automaton.now)) (n + 1) chosen.new.order.items) }
+    ensures all { IfOk result (λ all. all ≡ true → (n : ℕ) → AreCovered (A.content automaton.now) (A.text automaton.now) (stands_by A.Label.number (A.labels automaton.now)) n chosen.old.order.items
+        → AreCovered (A.content automaton.now) (A.text automaton.now) (stands_by A.Label.number (A.labels automaton.now)) (n + 1) chosen.new.order.items) }
+    ensures full { IfOk result (λ all. all ≡ false → (n : ℕ) → AreShallow (A.text automaton.now) (stands_by A.Label.number (A.labels automaton.now)) n chosen.old.order.items
+        → AreTooMany (A.reached automaton.now) (A.text automaton.now) (stands_by A.Label.number (A.labels automaton.now)) (n + 1) most) }
+{
+    for at in 0..chosen.order.len() {
+        if !choose_ends(automaton, labels, chosen, at, most)? {
+            return Ok(false);
+        }
+    }
+    Ok(true)
+}
+
+/// Gives rows to further states, those first to which fewer steps lead, while there is room. The
+/// rows before `from` have the ends of their steps.
+fn choose_rest<V: Copy, A: Automaton<V>, L: Allocator>(
+    automaton: &A,
+    labels: &[A::Label],
+    chosen: &mut Chosen<L>,
+    from: usize,
+    most: usize,
+) -> Result<(), AllocError>
+where
+    A::Label: RowLabel,
+    requires labels { AreLabels (A.content automaton.now) (stands_by A.Label.number (A.labels automaton.now)) (map A.Label.number labels.now) }
+    requires chosen { AreChosen (A.reached automaton.now) chosen.old.order.items chosen.old.homes.items most }
+    requires count { (s : ℕ) → A.reached automaton.now s → s < length chosen.old.homes.items }
+    requires few { most < 65535 }
+    ensures chosen { OnOk result (AreChosen (A.reached automaton.now) chosen.new.order.items chosen.new.homes.items most) }
+    ensures on { OnOk result (GoesOn chosen.old.order.items chosen.new.order.items) }
+{
+    let mut at = from;
     while at < chosen.order.len() {
-        choose_ends(automaton, labels, &mut chosen, at, most)?;
+        if !choose_ends(automaton, labels, chosen, at, most)? {
+            return Ok(());
+        }
         at += 1;
     }
-    Ok(chosen)
+    Ok(())
 }
 
 /// Gives rows to the states at which the steps from the state of the row `at` end, while there is
-/// room.
+/// room. It tells whether there is room for all.
 fn choose_ends<V: Copy, A: Automaton<V>, L: Allocator>(
     automaton: &A,
     labels: &[A::Label],
     chosen: &mut Chosen<L>,
     at: usize,
     most: usize,
-) -> Result<(), AllocError>
+) -> Result<bool, AllocError>
 where
     A::Label: RowLabel,
     requires labels { AreLabels (A.content automaton.now) (stands_by A.Label.number (A.labels automaton.now)) (map A.Label.number labels.now) }
@@ -148,18 +232,29 @@ where
     requires few { most < 65535 }
     ensures chosen { OnOk result (AreChosen (A.reached automaton.now) chosen.new.order.items chosen.new.homes.items most) }
     ensures same { OnOk result (length chosen.new.homes.items ≡ length chosen.old.homes.items) }
-    ensures more { OnOk result (length chosen.old.order.items ≤ length chosen.new.order.items) }
+    ensures on { OnOk result (GoesOn chosen.old.order.items chosen.new.order.items) }
+    ensures shallow { OnOk result ((n : ℕ) → IsShallow (stands_by A.Label.number (A.labels automaton.now)) n (A.text automaton.now (slice_index chosen.old.order.items at))
+        → AreShallow (A.text automaton.now) (stands_by A.Label.number (A.labels automaton.now)) (n + 1) chosen.old.order.items
+        → AreShallow (A.text automaton.now) (stands_by A.Label.number (A.labels automaton.now)) (n + 1) chosen.new.order.items) }
+    ensures all { IfOk result (λ all. all ≡ true → (label : ℕ) → label < 510
+        → HasEnd (A.content automaton.now) (A.text automaton.now) (stands_by A.Label.number (A.labels automaton.now)) (slice_index chosen.old.order.items at) label chosen.new.order.items) }
+    ensures full { IfOk result (λ all. all ≡ false → (n : ℕ) → IsShallow (stands_by A.Label.number (A.labels automaton.now)) n (A.text automaton.now (slice_index chosen.old.order.items at))
+        → AreShallow (A.text automaton.now) (stands_by A.Label.number (A.labels automaton.now)) (n + 1) chosen.old.order.items
+        → AreTooMany (A.reached automaton.now) (A.text automaton.now) (stands_by A.Label.number (A.labels automaton.now)) (n + 1) most) }
 {
     let state = chosen.order[at];
     let mut turns = Turns::new();
     for k in 0..labels.len() {
         let (next, _) = follow(automaton, state, labels[k], &mut turns);
-        if chosen.order.len() < most && chosen.homes[next as usize] == NO_ROW {
+        if chosen.homes[next as usize] == NO_ROW {
+            if chosen.order.len() == most {
+                return Ok(false);
+            }
             chosen.homes[next as usize] = chosen.order.len() as u16;
             chosen.order.push(next)?;
         }
     }
-    Ok(())
+    Ok(true)
 }
 
 /// The slots of the rows.

@@ -72,7 +72,9 @@ fn holds(alloc: Global, way: Way, row: &Row) -> Result<bool> {
     let (_, search, patvals, haystack, expected) = *row;
     let patvals = in_bytes(alloc, patvals)?;
     let automaton = bytewise_by(alloc, way, search.kind(), &patvals)?;
-    let accelerated = automaton.accelerate(alloc)?;
+    let Some(accelerated) = automaton.accelerate(alloc)? else {
+        return Ok(false);
+    };
     Ok(finds(&accelerated, search, haystack.as_bytes(), expected))
 }
 
@@ -88,6 +90,24 @@ fn rows_hold_of_an_accelerated_automaton(rt: HostRuntime) {
             row.0,
         );
     }
+}
+
+/// Whether there is room for rows of 253 patterns of one byte each, and of so many of two of these
+/// bytes. A row has 255 slots, so that there are 257 rows.
+fn has_room(alloc: Global, pairs: usize) -> Result<bool> {
+    let bytes: Vec<u8> = (0..253u8).collect(alloc)?;
+    let mut patvals = Vec::new(alloc);
+    for pattern in bytes.chunks(1).chain(bytes.windows(2).take(pairs)) {
+        patvals.push((pattern, 0))?;
+    }
+    let automaton = bytewise(alloc, MatchKind::Standard, &patvals)?;
+    Ok(automaton.accelerate(alloc)?.is_some())
+}
+
+#[test]
+fn rows_are_refused_past_their_room(rt: HostRuntime) {
+    expect(&rt, has_room(rt.alloc(), 3) == Ok(true), "257 states");
+    expect(&rt, has_room(rt.alloc(), 4) == Ok(false), "258 states");
 }
 
 /// Whether a stepper that goes on where another stood tells the match of both bytes.
@@ -115,7 +135,9 @@ fn is_resumed_overlapping<A: Allocator>(accelerated: &Accelerated<'_, u32, A>) -
 /// Whether an automaton with rows finds what it should.
 fn finds_with_rows<A: Allocator + Copy>(alloc: A) -> Result<bool> {
     let automaton = bytewise(alloc, MatchKind::Standard, &[(b"ab", 0), (b"b", 1)])?;
-    let accelerated = automaton.accelerate(alloc)?;
+    let Some(accelerated) = automaton.accelerate(alloc)? else {
+        return Ok(false);
+    };
     let found = gives(
         accelerated.find_overlapping_iter(b"ab"),
         &[(0, 2, 0), (1, 2, 1)],

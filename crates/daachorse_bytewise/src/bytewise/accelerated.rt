@@ -4,7 +4,7 @@
 //! its name gives, within the same bounds of the turns, and on a stepper telling the matches that
 //! that of its name tells.
 
-ghost use Rattle.std.specs.Prelude.{◌≡◌, ◌≢◌, [], IfOk, IfErr, take};
+ghost use Rattle.std.specs.Prelude.{◌≡◌, ◌≢◌, [], IfOk, IfSome, IfErr, take};
 ghost use Rattle.std.specs.Option.{option_to_list};
 ghost use Rattle.daachorse_core.specs.Refusals.{IsOutOfMemory};
 ghost use Rattle.daachorse_model.specs.declared.MatchKind.TheVariants.{Standard};
@@ -16,7 +16,8 @@ ghost use Rattle.daachorse_folding.specs.SourceSearches.{BeginsFromAsRead};
 ghost use Rattle.daachorse_folding.specs.Steppers.{BeginsSteppingAsRead};
 ghost use Rattle.daachorse_search.specs.Beginnings.{BeginsWith};
 ghost use Rattle.daachorse_skipping.specs.Asked.{BeginsAsking};
-ghost use Rattle.daachorse_bytewise.specs.Accelerated.{rowed_states};
+ghost use Rattle.daachorse_bytewise_states.specs.StateRows.{HasNoRoom};
+ghost use Rattle.daachorse_bytewise.specs.Accelerated.{HasRowsNear, rowed_states};
 ghost use Rattle.daachorse_core.specs.Seen.{units};
 ghost use Rattle.daachorse_bytewise.specs.Automata.{dictionary_of, kind_of, states_of};
 ghost use Rattle.daachorse_bytewise.specs.Standings.{IsFindStandingOver, IsOverlappingStandingOver};
@@ -73,31 +74,41 @@ impl<'a, V: Copy, A: Allocator> Model for Accelerated<'a, V, A> {
 impl<V: Copy, A: Allocator + Copy> DoubleArrayAhoCorasick<V, A> {
     /// Makes rows of the states near the root, for faster searches.
     ///
+    /// Each text of at most two bytes that begins a pattern has a row, and so have longer ones
+    /// while there is room. The answer is `None` where those alone are more than there is room for:
+    /// a row has two slots and one for each byte that occurs in patterns, and there are 65,536
+    /// slots, which are at least 254 rows.
+    ///
     /// Use it where much is searched for up to some thousand words, and for a leftmost search up to
     /// about one thousand. With tens of thousands of words, rows cost more than they save in an
     /// overlapping or a leftmost search. Where the filter passes over most of the haystack, they
     /// change little. `docs/SPEED.md` has what was measured.
     ///
     /// Of the patterns `ab` and `b` in the haystack `ab` the search
-    /// [`Accelerated::find_overlapping_iter`] finds `ab` from 0 to 2 and `b` from 1 to 2
-    /// (`daachorse_tests` runs this).
+    /// [`Accelerated::find_overlapping_iter`] finds `ab` from 0 to 2 and `b` from 1 to 2. Of 253
+    /// patterns of one byte each and four of two of these bytes there are no rows
+    /// (`daachorse_tests` runs both).
     ///
     /// It borrows the automaton, and takes at most 256 KiB for the slots of the rows, two bytes for
-    /// each element and 1,020 bytes. The work grows with the elements and with the slots, of which
-    /// there are at most 65,536; it has no bound by proof.
+    /// each element and 1,020 bytes. The work grows with the elements and with the slots; it has no
+    /// bound by proof.
     ///
     /// # Errors
     ///
     /// An allocation failed.
-    pub fn accelerate<'a>(&'a self, alloc: A) -> Result<Accelerated<'a, V, A>>
-        ensures automaton { IfOk result (λ a. a.automaton ≡ self.entry.now) }
+    pub fn accelerate<'a>(&'a self, alloc: A) -> Result<Option<Accelerated<'a, V, A>>>
+        ensures automaton { IfOk result (λ a. IfSome a (λ a. a.automaton ≡ self.entry.now)) }
+        ensures covered { IfOk result (λ a. IfSome a HasRowsNear) }
+        ensures none { IfOk result (λ a. a ≡ None → HasNoRoom (states_of self.entry.now)) }
         ensures err { IfErr result IsOutOfMemory }
     {
-        let rows = self.states.rows(alloc)?;
-        Ok(Accelerated {
+        let Some(rows) = self.states.rows(alloc)? else {
+            return Ok(None);
+        };
+        Ok(Some(Accelerated {
             automaton: self,
             rows,
-        })
+        }))
     }
 }
 

@@ -4,7 +4,7 @@
 //! its name gives, within the same bounds of the turns, and on a stepper telling the matches that
 //! that of its name tells.
 
-ghost use Rattle.std.specs.Prelude.{◌≡◌, ◌≢◌, [], IfOk, IfErr, take};
+ghost use Rattle.std.specs.Prelude.{◌≡◌, ◌≢◌, [], IfOk, IfSome, IfErr, take};
 ghost use Rattle.std.specs.Option.{option_to_list};
 ghost use Rattle.std.specs.Str.{chars};
 ghost use Rattle.daachorse_core.specs.Refusals.{IsOutOfMemory};
@@ -17,7 +17,8 @@ ghost use Rattle.daachorse_folding.specs.SourceSearches.{BeginsFromAsRead};
 ghost use Rattle.daachorse_folding.specs.Steppers.{BeginsSteppingAsRead};
 ghost use Rattle.daachorse_search.specs.Beginnings.{BeginsWith};
 ghost use Rattle.daachorse_skipping.specs.Asked.{BeginsAsking};
-ghost use Rattle.daachorse_charwise.specs.Accelerated.{rowed_states};
+ghost use Rattle.daachorse_charwise_states.specs.StateRows.{HasNoRoom};
+ghost use Rattle.daachorse_charwise.specs.Accelerated.{HasRowsNear, rowed_states};
 ghost use Rattle.daachorse_charwise.specs.Automata.{dictionary_of, kind_of, states_of};
 
 use crate::charwise::iter::accelerated::{
@@ -70,10 +71,14 @@ impl<'a, V: Copy, A: Allocator> Model for Accelerated<'a, V, A> {
 impl<V: Copy, A: Allocator + Copy> CharwiseDoubleArrayAhoCorasick<V, A> {
     /// Makes rows of the states near the root, for faster searches.
     ///
+    /// Each text of at most two characters that begins a pattern has a row, if both are among the
+    /// 510 most frequent ones, and so have longer ones while there is room. The answer is `None`
+    /// where those alone are more than there is room for: a row has two slots and one for each of
+    /// these characters, and there are 65,536 slots, which are at least 128 rows.
+    ///
     /// Use it where much is searched for up to some thousand words of few different characters.
-    /// With many characters, as in Japanese words, a row is long and few states have one: a search
-    /// gains with about one thousand words, and with several thousand rows cost more than they
-    /// save. `docs/SPEED.md` has what was measured.
+    /// With many characters, as in 1,000 Japanese words, there is no room for rows. `docs/SPEED.md`
+    /// has what was measured.
     ///
     /// Of the patterns `aß` and `ß` in the haystack `aß` the search
     /// [`Accelerated::find_overlapping_iter`] finds `aß` from 0 to 3 and `ß` from 1 to 3
@@ -81,21 +86,25 @@ impl<V: Copy, A: Allocator + Copy> CharwiseDoubleArrayAhoCorasick<V, A> {
     ///
     /// It borrows the automaton, and takes at most 256 KiB for the slots of the rows, two bytes for
     /// each element and 1,020 bytes. Beside these stands a list of the characters while rows are
-    /// made. The work grows with the elements, the characters and the slots, of which there are at
-    /// most 65,536; it has no bound by proof.
+    /// made. The work grows with the elements, the characters and the slots; it has no bound by
+    /// proof.
     ///
     /// # Errors
     ///
     /// An allocation failed.
-    pub fn accelerate<'a>(&'a self, alloc: A) -> Result<Accelerated<'a, V, A>>
-        ensures automaton { IfOk result (λ a. a.automaton ≡ self.entry.now) }
+    pub fn accelerate<'a>(&'a self, alloc: A) -> Result<Option<Accelerated<'a, V, A>>>
+        ensures automaton { IfOk result (λ a. IfSome a (λ a. a.automaton ≡ self.entry.now)) }
+        ensures covered { IfOk result (λ a. IfSome a HasRowsNear) }
+        ensures none { IfOk result (λ a. a ≡ None → HasNoRoom (states_of self.entry.now)) }
         ensures err { IfErr result IsOutOfMemory }
     {
-        let rows = self.states.rows(alloc)?;
-        Ok(Accelerated {
+        let Some(rows) = self.states.rows(alloc)? else {
+            return Ok(None);
+        };
+        Ok(Some(Accelerated {
             automaton: self,
             rows,
-        })
+        }))
     }
 }
 

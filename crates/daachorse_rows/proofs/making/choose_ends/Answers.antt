@@ -1,8 +1,11 @@
-use Rattle.std.proofs.Common.{◌≡◌, ℕ, [], ◌∷◌, length, length-append, ap, ◌∙◌, arith}
-use Rattle.std.specs.Prelude.{slice_set}
-use Rattle.std.proofs.lemmas.List.{length-set}
-use Rattle.daachorse_rows.proofs.MakingLaws.{AreChosen-fits, AreChosen-more, unit_read}
-use Rattle.daachorse_rows.proofs.making.choose_ends.Goals.{then-len-most+then-index+in_ok-push, else-len-most}
+use Rattle.std.proofs.Common.{◌≡◌, ◌+◌, ◌<◌, ℕ, inl, inr, length, map, sym, subst, ap, ◌∙◌, arith}
+use Rattle.std.specs.Prelude.{slice_index, slice_set}
+use Rattle.std.proofs.lemmas.List.{get_or_read, length-map, length-set}
+use Rattle.daachorse_core.specs.Looks.{StepEnds}
+use Rattle.daachorse_rows.specs.Rows.{HasEnd, stands_by}
+use Rattle.daachorse_rows.proofs.MakingLaws.{AreChosen-more, below_or_at, ends_read, unit_read}
+use Rattle.daachorse_rows.proofs.ShallowLaws.{AreShallow-push, AreTooMany-full, GoesOn-push, GoesOn-through, HasEnd-all, HasEnd-on, HasEnd-row, end_shallow, row_last}
+use Rattle.daachorse_rows.proofs.making.choose_ends.Goals.{then-index+else-len-most+in_ok-push, else-index}
 use Rattle.daachorse_rows.proofs.making.choose_ends.Goals as goal
 
 pub follow-next-requires-clause-unit : goal.follow-next-requires-clause-unit
@@ -11,18 +14,66 @@ follow-next-requires-clause-unit g c =
     unit_read g.A.Label.RowLabel.number (A.content a) g.met.A.Label.RowLabel.exact (A.labels a) c.args.labels.now c.loop-k.k c.index-labels-k.result c.requires.labels c.loop-k-test.true c.index-labels-k.is
 
 pub loop-k-preserved : goal.loop-k-preserved
-loop-k-preserved g c = elim c.if-len-most.branch [
-  | then-len-most+then-index+in_ok-push w ↦
-      let reached = g.A.Automaton.reached c.args.automaton.now in
-      let order = c.loop-k.chosen.order.items in let homes = c.loop-k.chosen.homes.items in let next = c.follow-next.result.0 in
-      let e : w.len-then-index.result ≡ length order = omega (arith, w.len-then-index.ensures, c.loop-k.chosen.order.ok.0) in
-      let more = AreChosen-more reached order homes c.args.most c.loop-k.invariant.chosen next w.push.new.self.items _ w.in_ok-push.ensures.items (ap (λ (n : ℕ). slice_set homes next n) e)
-      (omega (arith, c.loop-k.invariant.same, c.requires.count next c.follow-next.ensures.reached)) (omega (arith, w.if-len-most.true, c.len.ensures, e)) c.follow-next.ensures.reached
-      (AreChosen-fits reached c.args.chosen.now.order.items c.args.chosen.now.homes.items c.args.most c.requires.chosen c.args.at c.requires.at) in
-      rw w.chosen-is (record {
-        chosen = more;
-        same = length-set homes next _ ∙ c.loop-k.invariant.same;
-        more = omega (arith, ap length w.in_ok-push.ensures.items, length-append order (next ∷ []), c.loop-k.invariant.more);
-      })
-  | else-len-most w ↦ rw w.chosen-is c.loop-k.invariant
-]
+loop-k-preserved g c =
+    let A = g.A.Automaton in let a = c.args.automaton.now in let number = g.A.Label.RowLabel.number in let K = A.content a in
+    let stands = stands_by number (A.labels a) in let labels = map number c.args.labels.now in let named = c.requires.labels in
+    let old = c.args.chosen.now.order.items in let order = c.loop-k.chosen.order.items in let homes = c.loop-k.chosen.homes.items in
+    let s = slice_index old c.args.at in let next = c.follow-next.result.0 in let k = c.loop-k.k in let kept = c.loop-k.invariant in
+    let within : next < length homes = omega (arith, kept.same, c.requires.count next c.follow-next.ensures.reached) in
+    let home = get_or_read homes next c.index.result.now within c.index.ensures 0 in
+    let ends : (unit : ℕ) → stands (slice_index labels k) unit → StepEnds K (A.dead a) (A.text a s) unit (A.text a next) =
+    ends_read number K (A.dead a) (A.text a) g.met.A.Label.RowLabel.exact (A.labels a) c.args.labels.now k c.index-labels-k.result s c.index-state.result.now next c.loop-k-test.true c.index-labels-k.is
+    (get_or_read old c.args.at c.index-state.result.now c.requires.at c.index-state.ensures 0) c.follow-next.ensures.ends in
+    let listed : k < length labels = omega (arith, c.loop-k-test.true, length-map c.args.labels.now number) in
+    elim c.if-index.branch [
+      | then-index+else-len-most+in_ok-push w ↦
+          let order' = w.push.new.self.items in
+          let e : w.len-then-index.result ≡ length order = omega (arith, w.len-then-index.ensures, c.loop-k.chosen.order.ok.0) in
+          let room : length order < c.args.most = omega (arith, w.if-len-most.false, w.len.ensures, c.loop-k.chosen.order.ok.0, kept.chosen.few) in
+          let is = w.in_ok-push.ensures.items in
+          rw w.chosen-is (record {
+            chosen = AreChosen-more (A.reached a) order homes c.args.most kept.chosen next order' _ is (ap (λ (n : ℕ). slice_set homes next n) e) within (sym home ∙ w.if-index.true) room c.requires.few c.follow-next.ensures.reached;
+            same = length-set homes next _ ∙ kept.same;
+            on = GoesOn-through old order order' kept.on (GoesOn-push order order' next is);
+            shallow = λ n shallow all. AreShallow-push order order' next is (A.text a) stands (n + 1) (kept.shallow n shallow all) (end_shallow K (A.text a) stands (A.dead a) s (slice_index labels k) next ends n (named.below k listed) (named.none_idle k listed) shallow);
+            ends = λ j below. elim (below_or_at j k below) [
+              | inl before ↦ HasEnd-on K (A.text a) stands s (slice_index labels j) order order' (GoesOn-push order order' next is) (kept.ends j before)
+              | inr same ↦ let P : ℕ → Type 0 = λ i. HasEnd K (A.text a) stands s (slice_index labels i) order' in subst P (sym same) (HasEnd-row K (A.text a) stands (A.dead a) s (slice_index labels k) next ends order' (row_last order order' next is))
+            ];
+          })
+      | else-index w ↦
+          let row = kept.chosen.homes next within (λ none. w.if-index.false (home ∙ none)) in
+          rw w.chosen-is (record {
+            chosen = kept.chosen;
+            same = kept.same;
+            on = kept.on;
+            shallow = kept.shallow;
+            ends = λ j below. elim (below_or_at j k below) [
+              | inl before ↦ kept.ends j before
+              | inr same ↦ let P : ℕ → Type 0 = λ i. HasEnd K (A.text a) stands s (slice_index labels i) order in subst P (sym same) (HasEnd-row K (A.text a) stands (A.dead a) s (slice_index labels k) next ends order (slice_index homes next, row.0, row.1))
+            ];
+          })
+    ]
+
+pub returns-then-len-most-clause-full : goal.returns-then-len-most-clause-full
+returns-then-len-most-clause-full g c = λ _ n shallow all.
+    let A = g.A.Automaton in let a = c.args.automaton.now in let number = g.A.Label.RowLabel.number in let K = A.content a in
+    let stands = stands_by number (A.labels a) in let labels = map number c.args.labels.now in let named = c.requires.labels in
+    let old = c.args.chosen.now.order.items in let order = c.loop-k.chosen.order.items in let homes = c.loop-k.chosen.homes.items in
+    let s = slice_index old c.args.at in let next = c.follow-next.result.0 in let k = c.loop-k.k in let kept = c.loop-k.invariant in
+    let within : next < length homes = omega (arith, kept.same, c.requires.count next c.follow-next.ensures.reached) in
+    let home = get_or_read homes next c.index.result.now within c.index.ensures 0 in
+    let ends : (unit : ℕ) → stands (slice_index labels k) unit → StepEnds K (A.dead a) (A.text a s) unit (A.text a next) =
+    ends_read number K (A.dead a) (A.text a) g.met.A.Label.RowLabel.exact (A.labels a) c.args.labels.now k c.index-labels-k.result s c.index-state.result.now next c.loop-k-test.true c.index-labels-k.is
+    (get_or_read old c.args.at c.index-state.result.now c.requires.at c.index-state.ensures 0) c.follow-next.ensures.ends in
+    let listed : k < length labels = omega (arith, c.loop-k-test.true, length-map c.args.labels.now number) in
+    let full : length order ≡ c.args.most = omega (arith, c.if-len-most.true, c.len.ensures, c.loop-k.chosen.order.ok.0) in
+    AreTooMany-full (A.reached a) (A.text a) stands (n + 1) order homes c.args.most kept.chosen (kept.shallow n shallow all) full c.requires.few next c.follow-next.ensures.reached
+    (end_shallow K (A.text a) stands (A.dead a) s (slice_index labels k) next ends n (named.below k listed) (named.none_idle k listed) shallow) (sym home ∙ c.if-index.true)
+
+pub returns-clause-all : goal.returns-clause-all
+returns-clause-all g c = λ _.
+    let A = g.A.Automaton in let a = c.args.automaton.now in let number = g.A.Label.RowLabel.number in
+    let labels = map number c.args.labels.now in
+    HasEnd-all (A.content a) (A.text a) (stands_by number (A.labels a)) labels c.requires.labels (slice_index c.args.chosen.now.order.items c.args.at) c.loop-k.chosen.order.items
+    (λ k below. c.loop-k.invariant.ends k (omega (arith, below, c.loop-k-test.false, c.loop-k.auto.k-end, length-map c.args.labels.now number)))

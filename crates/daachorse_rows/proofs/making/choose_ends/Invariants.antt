@@ -1,11 +1,16 @@
-use Rattle.std.proofs.Common.{◌≡◌, ◌≤◌, length}
-use Rattle.daachorse_rows.specs.Rows.{AreChosen}
+use Rattle.std.proofs.Common.{◌≡◌, ◌+◌, ◌<◌, ℕ, length, map}
+use Rattle.std.specs.Prelude.{slice_index}
+use Rattle.daachorse_rows.specs.Rows.{AreChosen, AreShallow, GoesOn, HasEnd, IsShallow, stands_by}
 use Rattle.daachorse_rows.proofs.making.choose_ends.Given as goal
 
 abbrev pub invariant-loop-k : goal.invariant-loop-k
 invariant-loop-k g l =
+    let A = g.A.Automaton in let a = l.automaton in let number = g.A.Label.RowLabel.number in let stands = stands_by number (A.labels a) in
+    let old = l.fn.chosen.order.items in
     record {
-      chosen : AreChosen (g.A.Automaton.reached l.automaton) l.chosen.order.items l.chosen.homes.items l.most;
+      chosen : AreChosen (A.reached a) l.chosen.order.items l.chosen.homes.items l.most;
       same : length l.chosen.homes.items ≡ length l.fn.chosen.homes.items;
-      more : length l.fn.chosen.order.items ≤ length l.chosen.order.items;
+      on : GoesOn old l.chosen.order.items;
+      shallow : (n : ℕ) → IsShallow stands n (A.text a (slice_index old l.at)) → AreShallow (A.text a) stands (n + 1) old → AreShallow (A.text a) stands (n + 1) l.chosen.order.items;
+      ends : (j : ℕ) → j < l.k → HasEnd (A.content a) (A.text a) stands (slice_index old l.at) (slice_index (map number l.labels) j) l.chosen.order.items;
     }

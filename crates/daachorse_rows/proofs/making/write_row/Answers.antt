@@ -1,10 +1,10 @@
-use Rattle.std.proofs.Common.{◌≡◌, ℕ, List, ◌+◌, ◌*◌, ◌/◌, ◌<◌, length, map, get_or, ap, subst, refl, sym, arith}
+use Rattle.std.proofs.Common.{◌≡◌, ℕ, List, ◌+◌, ◌*◌, ◌<◌, length, map, get_or, ap, subst, refl, sym, arith}
 use Rattle.std.specs.Prelude.{slice_index, Option, None}
 use Rattle.std.specs.declared.num.NonZeroU32.{NonZeroU32}
 use Rattle.std.proofs.lemmas.List.{get_or_read}
-use Rattle.daachorse_core.specs.Looks.{IsFirstOutput, StepEnds}
+use Rattle.daachorse_core.specs.Looks.{IsFirstOutput}
 use Rattle.daachorse_rows.specs.Rows.{IsEntry, Stands, stands_by}
-use Rattle.daachorse_rows.proofs.MakingLaws.{AreChosen-fits, AreWritten-next, AreWritten-push, fits_rows, number_read, slot_foreign, slot_step, stands_own, unit_read}
+use Rattle.daachorse_rows.proofs.MakingLaws.{AreWritten-next, AreWritten-push, ends_read, fits_rows, slot_foreign, slot_step, unit_read}
 use Rattle.daachorse_rows.proofs.making.write_row.Goals as goal
 
 row_state : (order : List ℕ) (row s : ℕ) → row < length order → s ≡ get_or order row s → s ≡ slice_index order row
@@ -38,7 +38,7 @@ entry-requires-in-loop-k-clause-fits g c =
     let order = c.args.chosen.now.order.items in
     let e : c.len.result ≡ length order = omega (arith, c.len.ensures, c.args.chosen.now.order.ok.0) in
     let few = fits_rows (length order) c.args.width c.requires.chosen.few in
-    let fits = AreChosen-fits (g.A.Automaton.reached c.args.automaton.now) order c.args.chosen.now.homes.items (65536 / c.args.width) c.requires.chosen c.args.row c.requires.row c.follow-next.result.0 c.follow-next.ensures.reached in
+    let fits = c.requires.chosen.fits c.follow-next.result.0 c.follow-next.ensures.reached in
     omega (arith, few, fits, ap (λ (n : ℕ). n * c.args.width) e)
 
 pub loop-k-preserved : goal.loop-k-preserved
@@ -50,11 +50,9 @@ loop-k-preserved g c =
     let S : ℕ → Type 0 = λ n. IsEntry (λ x. Stands order width (n * width) x c.follow-next.result.0) (c.follow-next.result.1 ≡ None) c.entry-in-loop-k.result in
     let same = row_state order c.args.row c.index-state.result.now c.requires.row c.index-state.ensures in
     let label = c.index-labels-k.result in
-    let read = number_read g.A.Label.RowLabel.number c.args.labels.now c.loop-k.k label c.loop-k-test.true c.index-labels-k.is in
-    let P : ℕ → Type 0 = λ s. (unit : ℕ) → A.labels a label unit → StepEnds K (A.dead a) (A.text a s) unit (A.text a c.follow-next.result.0) in
-    let ends : P (slice_index order c.args.row) = subst P same c.follow-next.ensures.ends in
+    let ends = ends_read g.A.Label.RowLabel.number K (A.dead a) (A.text a) g.met.A.Label.RowLabel.exact (A.labels a) c.args.labels.now c.loop-k.k label (slice_index order c.args.row) c.index-state.result.now c.follow-next.result.0 c.loop-k-test.true c.index-labels-k.is same c.follow-next.ensures.ends in
     AreWritten-push K (A.reached a) (A.text a) (A.dead a) (stands_by g.A.Label.RowLabel.number (A.labels a)) F labels order width base c.args.row (2 + c.loop-k.k) (2 + (c.loop-k.k + 1)) c.entry-in-loop-k.result _ _ c.loop-k.invariant c.in_ok-push-3.ensures.items
-    (slot_step K (A.reached a) (A.text a) (A.dead a) (stands_by g.A.Label.RowLabel.number (A.labels a)) F labels order width base c.requires.labels c.args.row (2 + c.loop-k.k) c.loop-k.k c.entry-in-loop-k.result c.follow-next.result.0 c.follow-next.result.1 refl (subst S e c.entry-in-loop-k.ensures) c.follow-next.ensures.output c.follow-next.ensures.reached (λ unit coded. ends unit (stands_own g.A.Label.RowLabel.number g.met.A.Label.RowLabel.exact (A.labels a) label (slice_index labels c.loop-k.k) unit read coded))) (omega arith)
+    (slot_step K (A.reached a) (A.text a) (A.dead a) (stands_by g.A.Label.RowLabel.number (A.labels a)) F labels order width base c.requires.labels c.args.row (2 + c.loop-k.k) c.loop-k.k c.entry-in-loop-k.result c.follow-next.result.0 c.follow-next.result.1 refl (subst S e c.entry-in-loop-k.ensures) c.follow-next.ensures.output c.follow-next.ensures.reached ends) (omega arith)
 
 pub returns : goal.returns
 returns g c =

@@ -1,10 +1,17 @@
 -- The rows are those of the states that the automaton keeps.
 use Rattle.std.proofs.Common.{subst}
-use Rattle.daachorse_bytewise_states.specs.StateRows.{HasRows}
+use Rattle.std.specs.Prelude.{IfSome}
+use Rattle.std.proofs.lemmas.Option.{MatchOption-at_some}
+use Rattle.daachorse_bytewise_states.specs.StateRows.{CoversNear, HasRows}
 use Rattle.daachorse_bytewise.specs.Automata.{Automaton}
 use Rattle.daachorse_bytewise.proofs.bytewise.DoubleArrayAhoCorasick.accelerate.Goals as goal
 
 pub invariant_of-result : goal.invariant_of-result
 invariant_of-result g c =
-    let P : Automaton g.row.V.Denot → Type 0 = λ a. HasRows a.parts c.in_ok-rows.rows in
-    subst P c.self.view_is c.in_ok-rows.ensures
+    let P : Automaton g.row.V.Denot → Type 0 = λ a. HasRows a.parts c.in-Some.rows in
+    subst P c.self.view_is (MatchOption-at_some _ (λ r. HasRows c.self.inside.states r) c.in-Some.rows c.in-Some.is c.in_ok-rows.ensures.right)
+
+pub returns-clause-covered : goal.returns-clause-covered
+returns-clause-covered g c =
+    let P : Automaton g.row.V.Denot → Type 0 = λ a. CoversNear a.parts c.in-Some.rows in
+    subst P c.self.view_is (MatchOption-at_some _ (λ r. CoversNear c.self.inside.states r) c.in-Some.rows c.in-Some.is c.in_ok-rows.ensures.covered)

@@ -1,11 +1,12 @@
 -- Either view has the parts, whose states are elements.
-use Rattle.std.proofs.Common.{◌≡◌, ◌<◌, ℕ, List, map, sym, subst, arith}
-use Rattle.std.specs.Prelude.{IfOk}
-use Rattle.daachorse_rows.specs.Rows.{AreLabels, stands_by}
+use Rattle.std.proofs.Common.{◌≡◌, ◌⊎◌, ◌+◌, ◌/◌, ◌<◌, ◌≤◌, inl, inr, ℕ, List, length, map, ap, sym, subst, arith}
+use Rattle.std.specs.Prelude.{IfOk, IfSome, Option, None, Result, Ok, Err}
+use Rattle.daachorse_rows.specs.Rows.{AreLabels, AreTooMany, stands_by}
 use Rattle.daachorse_rows.proofs.ListedLaws.{AreLabels-own}
+use Rattle.daachorse_rows.proofs.ShallowLaws.{AreTooMany-weaker, room_least}
 use Rattle.daachorse_bytewise_states.specs.Parts.{Parts, content, count}
-use Rattle.daachorse_bytewise_states.specs.StateRows.{HasRows}
-use Rattle.daachorse_bytewise_states.specs.Valid.{IsState, IsValid}
+use Rattle.daachorse_bytewise_states.specs.StateRows.{CoversNear, HasNoRoom, HasRows, stands_for}
+use Rattle.daachorse_bytewise_states.specs.Valid.{IsState, IsValid, text}
 use Rattle.daachorse_bytewise_states.proofs.ByteLaws.{state_inside}
 use Rattle.daachorse_bytewise_states.proofs.states.States.rows.Goals as goal
 
@@ -21,6 +22,17 @@ module _ {V : Type 0} (p q : Parts V) (same : q ≡ p) where
       let P : Parts V → Type 0 = λ x. IsState x s in
       omega (arith, state_inside p valid s (subst P same there), all)
 
+  -- what leaves no room for rows of one view does so for the parts
+  no_room : {R E : Type 0} (made : Result (Option R) E) (n : ℕ) (listed bytes : List ℕ) → listed ≡ bytes → length bytes ≤ 256 → n ≡ count p
+      → IfOk made (λ rows. rows ≡ None → AreTooMany (IsState q) (text q) stands_for 2 (65536 / (length listed + 2)) ⊎ (2147418112 < n)) → IfOk made (λ rows. rows ≡ None → HasNoRoom p)
+  no_room (Err e) n listed bytes is few all none = tt
+  no_room (Ok rows) n listed bytes is few all none = λ at. elim (none at) [
+    | inl many ↦
+        let P : Parts V → Type 0 = λ x. AreTooMany (IsState x) (text x) stands_for 2 254 in
+        inl (subst P same (AreTooMany-weaker (IsState q) (text q) stands_for 2 2 (65536 / (length listed + 2)) 254 (omega arith) (room_least (length listed) 254 (omega (arith, ap length is, few))) many))
+    | inr past ↦ inr (omega (arith, past, all))
+  ]
+
 pub new-requires-clause-labels : goal.new-requires-clause-labels
 new-requires-clause-labels g c = labels_along c.args.self.now _ c.standard-view.ensures _ _ c.as_slice.ensures.value c.in_ok-bytes.ensures.all
 
@@ -29,10 +41,18 @@ new-requires-clause-count g c =
     let valid : IsValid c.args.self.now = rw (← c.self.view_is) c.self.invariant.valid in
     states_along c.args.self.now _ c.standard-view.ensures c.num_elements-count.result valid c.num_elements-count.ensures.all
 
-pub returns-in-Standard : goal.returns-in-Standard
-returns-in-Standard g c =
-    let P : Parts g.row.V.Denot → Type 0 = λ p. IfOk c.new.result (λ r. HasRows p r) in
-    subst P c.standard-view.ensures c.new.ensures
+pub returns-in-Standard-clause-right : goal.returns-in-Standard-clause-right
+returns-in-Standard-clause-right g c =
+    let P : Parts g.row.V.Denot → Type 0 = λ p. IfOk c.new.result (λ rows. IfSome rows (HasRows p)) in
+    subst P c.standard-view.ensures c.new.ensures.right
+
+pub returns-in-Standard-clause-covered : goal.returns-in-Standard-clause-covered
+returns-in-Standard-clause-covered g c =
+    let P : Parts g.row.V.Denot → Type 0 = λ p. IfOk c.new.result (λ rows. IfSome rows (CoversNear p)) in
+    subst P c.standard-view.ensures c.new.ensures.covered
+
+pub returns-in-Standard-clause-none : goal.returns-in-Standard-clause-none
+returns-in-Standard-clause-none g c = no_room c.args.self.now _ c.standard-view.ensures c.new.result _ _ c.in_ok-bytes.bytes.items c.as_slice.ensures.value c.in_ok-bytes.ensures.few c.num_elements-count.ensures.all c.new.ensures.none
 
 pub new-requires-in-LeftmostLongest-clause-labels : goal.new-requires-in-LeftmostLongest-clause-labels
 new-requires-in-LeftmostLongest-clause-labels g c = labels_along c.args.self.now _ c.leftmost-view.ensures _ _ c.as_slice-in-LeftmostLongest.ensures.value c.in_ok-bytes.ensures.all
@@ -42,7 +62,15 @@ new-requires-in-LeftmostLongest-clause-count g c =
     let valid : IsValid c.args.self.now = rw (← c.self.view_is) c.self.invariant.valid in
     states_along c.args.self.now _ c.leftmost-view.ensures c.num_elements-count.result valid c.num_elements-count.ensures.all
 
-pub returns : goal.returns
-returns g c =
-    let P : Parts g.row.V.Denot → Type 0 = λ p. IfOk c.new-in-LeftmostLongest.result (λ r. HasRows p r) in
-    subst P c.leftmost-view.ensures c.new-in-LeftmostLongest.ensures
+pub returns-clause-right : goal.returns-clause-right
+returns-clause-right g c =
+    let P : Parts g.row.V.Denot → Type 0 = λ p. IfOk c.new-in-LeftmostLongest.result (λ rows. IfSome rows (HasRows p)) in
+    subst P c.leftmost-view.ensures c.new-in-LeftmostLongest.ensures.right
+
+pub returns-clause-covered : goal.returns-clause-covered
+returns-clause-covered g c =
+    let P : Parts g.row.V.Denot → Type 0 = λ p. IfOk c.new-in-LeftmostLongest.result (λ rows. IfSome rows (CoversNear p)) in
+    subst P c.leftmost-view.ensures c.new-in-LeftmostLongest.ensures.covered
+
+pub returns-clause-none : goal.returns-clause-none
+returns-clause-none g c = no_room c.args.self.now _ c.leftmost-view.ensures c.new-in-LeftmostLongest.result _ _ c.in_ok-bytes.bytes.items c.as_slice-in-LeftmostLongest.ensures.value c.in_ok-bytes.ensures.few c.num_elements-count.ensures.all c.new-in-LeftmostLongest.ensures.none

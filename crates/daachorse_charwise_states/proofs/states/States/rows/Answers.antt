@@ -1,13 +1,18 @@
 -- Either view has the parts, whose states are elements.
-use Rattle.std.proofs.Common.{◌≡◌, ◌<◌, ℕ, List, map, sym, subst, arith}
+use Rattle.std.proofs.Common.{◌≡◌, ◌⊎◌, ◌+◌, ◌/◌, ◌<◌, ◌≤◌, inl, inr, ℕ, List, length, map, ap, sym, subst, arith}
+use Rattle.std.specs.Prelude.{IfSome}
 use Rattle.daachorse_machine.proofs.MachineLaws.{Reached-inside}
-use Rattle.daachorse_rows.specs.Rows.{AreLabels, stands_by}
+use Rattle.daachorse_rows.specs.Rows.{AreLabels, AreTooMany, stands_by}
 use Rattle.daachorse_rows.proofs.ListedLaws.{AreLabels-own}
+use Rattle.daachorse_rows.proofs.ShallowLaws.{AreTooMany-weaker, room_least}
 use Rattle.daachorse_charwise_states.specs.Parts.{Parts, content, count}
-use Rattle.daachorse_charwise_states.specs.StateRows.{HasRows, stands_for}
-use Rattle.daachorse_charwise_states.specs.Valid.{IsState, IsValid}
+use Rattle.daachorse_charwise_states.specs.StateRows.{CoversNear, HasNoRoom, HasRows, stands_for}
+use Rattle.daachorse_charwise_states.specs.Valid.{IsState, IsValid, text}
 use Rattle.daachorse_charwise_states.proofs.CharLaws.{valid_machine}
 use Rattle.daachorse_charwise_states.proofs.states.States.rows.Goals as goal
+
+abbrev coded : {V : Type 0} → Parts V → ℕ → ℕ → Type 0
+coded p = stands_by (λ (code : ℕ). code) (stands_for p)
 
 module _ {V : Type 0} (p q : Parts V) (same : q ≡ p) where
   labels_along : (codes listed : List ℕ) → listed ≡ codes → AreLabels (content p) (stands_for p) codes → AreLabels (content q) (stands_by (λ (code : ℕ). code) (stands_for q)) (map (λ (code : ℕ). code) listed)
@@ -21,6 +26,13 @@ module _ {V : Type 0} (p q : Parts V) (same : q ≡ p) where
       let P : Parts V → Type 0 = λ x. IsState x s in
       omega (arith, Reached-inside _ _ _ _ _ (valid_machine p valid) s (subst P same there), all)
 
+  -- what leaves no room for rows of one view does so for the parts
+  no_room : (n : ℕ) (listed codes : List ℕ) → listed ≡ codes → length codes ≤ 510 → n ≡ count p → AreTooMany (IsState q) (text q) (coded q) 2 (65536 / (length listed + 2)) ⊎ (2147418112 < n) → HasNoRoom p
+  no_room n listed codes is few all (inl many) =
+      let P : Parts V → Type 0 = λ x. AreTooMany (IsState x) (text x) (coded x) 2 128 in
+      inl (subst P same (AreTooMany-weaker (IsState q) (text q) (coded q) 2 2 (65536 / (length listed + 2)) 128 (omega arith) (room_least (length listed) 128 (omega (arith, ap length is, few))) many))
+  no_room n listed codes is few all (inr past) = inr (omega (arith, past, all))
+
 pub new-requires-clause-labels : goal.new-requires-clause-labels
 new-requires-clause-labels g c = labels_along c.args.self.now _ c.standard-view.ensures _ _ c.as_slice.ensures.value c.in_ok-codes.ensures.all
 
@@ -29,10 +41,18 @@ new-requires-clause-count g c =
     let valid : IsValid c.args.self.now = rw (← c.self.view_is) c.self.invariant in
     states_along c.args.self.now _ c.standard-view.ensures c.num_elements-count.result valid c.num_elements-count.ensures.all
 
-pub returns-in-Standard-clause-ok : goal.returns-in-Standard-clause-ok
-returns-in-Standard-clause-ok g c =
-    let P : Parts g.row.V.Denot → Type 0 = λ p. HasRows p c.in_ok-new-in-Standard.field-0 in
-    subst P c.standard-view.ensures c.in_ok-new-in-Standard.ensures
+pub returns-in-Standard-clause-right : goal.returns-in-Standard-clause-right
+returns-in-Standard-clause-right g c =
+    let P : Parts g.row.V.Denot → Type 0 = λ p. IfSome c.in_ok-new-in-Standard.field-0 (HasRows p) in
+    subst P c.standard-view.ensures c.in_ok-new-in-Standard.ensures.right
+
+pub returns-in-Standard-clause-covered : goal.returns-in-Standard-clause-covered
+returns-in-Standard-clause-covered g c =
+    let P : Parts g.row.V.Denot → Type 0 = λ p. IfSome c.in_ok-new-in-Standard.field-0 (CoversNear p) in
+    subst P c.standard-view.ensures c.in_ok-new-in-Standard.ensures.covered
+
+pub returns-in-Standard-clause-none : goal.returns-in-Standard-clause-none
+returns-in-Standard-clause-none g c = λ at. no_room c.args.self.now _ c.standard-view.ensures _ _ c.in_ok-codes.codes.items c.as_slice.ensures.value c.in_ok-codes.ensures.few c.num_elements-count.ensures.all (c.in_ok-new-in-Standard.ensures.none at)
 
 pub new-requires-in-LeftmostLongest-clause-labels : goal.new-requires-in-LeftmostLongest-clause-labels
 new-requires-in-LeftmostLongest-clause-labels g c = labels_along c.args.self.now _ c.leftmost-view.ensures _ _ c.as_slice-in-LeftmostLongest.ensures.value c.in_ok-codes.ensures.all
@@ -42,7 +62,15 @@ new-requires-in-LeftmostLongest-clause-count g c =
     let valid : IsValid c.args.self.now = rw (← c.self.view_is) c.self.invariant in
     states_along c.args.self.now _ c.leftmost-view.ensures c.num_elements-count.result valid c.num_elements-count.ensures.all
 
-pub returns-clause-ok : goal.returns-clause-ok
-returns-clause-ok g c =
-    let P : Parts g.row.V.Denot → Type 0 = λ p. HasRows p c.in_ok-new-in-LeftmostLongest.field-0 in
-    subst P c.leftmost-view.ensures c.in_ok-new-in-LeftmostLongest.ensures
+pub returns-clause-right : goal.returns-clause-right
+returns-clause-right g c =
+    let P : Parts g.row.V.Denot → Type 0 = λ p. IfSome c.in_ok-new-in-LeftmostLongest.field-0 (HasRows p) in
+    subst P c.leftmost-view.ensures c.in_ok-new-in-LeftmostLongest.ensures.right
+
+pub returns-clause-covered : goal.returns-clause-covered
+returns-clause-covered g c =
+    let P : Parts g.row.V.Denot → Type 0 = λ p. IfSome c.in_ok-new-in-LeftmostLongest.field-0 (CoversNear p) in
+    subst P c.leftmost-view.ensures c.in_ok-new-in-LeftmostLongest.ensures.covered
+
+pub returns-clause-none : goal.returns-clause-none
+returns-clause-none g c = λ at. no_room c.args.self.now _ c.leftmost-view.ensures _ _ c.in_ok-codes.codes.items c.as_slice-in-LeftmostLongest.ensures.value c.in_ok-codes.ensures.few c.num_elements-count.ensures.all (c.in_ok-new-in-LeftmostLongest.ensures.none at)

@@ -1,7 +1,11 @@
 -- The view has the states and their rows, and the haystack has the characters of the string. The filter is sound for the states' dictionary.
+use Rattle.std.proofs.Common.{ap, ◌∙◌}
 use Rattle.daachorse_model.specs.Units.{char_width}
 use Rattle.daachorse_model.specs.Matches.{no_suffix}
-use Rattle.daachorse_charwise.proofs.RowedLaws.{begins_rowed, sound_rowed}
+use Rattle.daachorse_rows.proofs.RowedLaws.{begins_rowed}
+use Rattle.daachorse_charwise_states.specs.Parts.{content}
+use Rattle.daachorse_charwise.specs.Accelerated.{rowed_states}
+use Rattle.daachorse_charwise.proofs.RowedLaws.{sound_rowed}
 use Rattle.daachorse_charwise.proofs.charwise.accelerated.Accelerated.find_overlapping_no_suffix_iter.Goals as goal
 
 pub find_overlapping_no_suffix_as_read-requires-clause-sound : goal.find_overlapping_no_suffix_as_read-requires-clause-sound
@@ -10,5 +14,6 @@ find_overlapping_no_suffix_as_read-requires-clause-sound g c = sound_rowed c.arg
 pub returns-clause-begins : goal.returns-clause-begins
 returns-clause-begins g c =
     let e = c.find_overlapping_no_suffix_as_read.ensures in
-    begins_rowed (no_suffix char_width) c.args.self.now c.standard.result c.automaton-2.result.now c.is_ascii_case_insensitive.result _ _ c.find_overlapping_no_suffix_as_read.result c.standard.ensures c.automaton-2.ensures c.is_ascii_case_insensitive.ensures c.new.ensures.characters
+    begins_rowed content (no_suffix char_width) (rowed_states c.args.self.now) c.standard.result c.is_ascii_case_insensitive.result c.args.self.now.automaton.folds _ _ c.find_overlapping_no_suffix_as_read.result c.standard.ensures
+    (c.is_ascii_case_insensitive.ensures ∙ ap (λ x. x.folds) c.automaton-2.ensures) c.new.ensures.characters
     (record { automaton = e.automaton; haystack = e.haystack; left = e.left; passed = e.passed; turns = e.turns; given = e.given })

@@ -1,0 +1,187 @@
+-- The states near the root: where steps from them end, and that each has a row or there is no room.
+use Rattle.std.proofs.Common.{◌≡◌, ◌≢◌, ℕ, zero, suc, ◌+◌, ◌*◌, ◌/◌, ◌<◌, ◌≤◌, ◌⊎◌, inl, inr, List, [], ◌∷◌, ◌++◌, length, refl, sym, ap, ◌∙◌, subst, arith, length-append}
+use Rattle.std.specs.Prelude.{slice_index}
+use Rattle.std.specs.List.{All}
+use Rattle.std.proofs.Math.Nat.{le-div_iff_mul-le}
+use Rattle.std.proofs.lemmas.List.Elements.{All-append, All-cons, All-head, All-nil, All-tail}
+use Rattle.daachorse_core.specs.Looks.{EndsAfter, IsForeign, StepEnds}
+use Rattle.daachorse_model.specs.Dictionary.{Dictionary}
+use Rattle.daachorse_model.specs.Prefixes.{IsPrefix, IsSuffix}
+use Rattle.daachorse_model.proofs.Steps.{IsPrefix-less}
+use Rattle.daachorse_rows.specs.Rows.{AreChosen, AreCovered, AreLabels, AreShallow, AreTooMany, GoesOn, HasEnd, HasSlot, IsShallow}
+use Rattle.daachorse_rows.proofs.MakingLaws.{below_or_at, read-new, read-old}
+
+All-behind : {X : Type 0} (P : X → Type 0) (front back : List X) → All P (front ++ back) → All P back
+All-behind P [] back h = h
+All-behind P (x ∷ front) back h = All-behind P front back (All-tail P x (front ++ back) h)
+
+All-before : {X : Type 0} (P : X → Type 0) (front back : List X) → All P (front ++ back) → All P front
+All-before P [] back h = All-nil P
+All-before P (x ∷ front) back h = All-cons P x front (All-head P x (front ++ back) h) (All-before P front back (All-tail P x (front ++ back) h))
+
+-- a text is empty, or a unit behind another text
+ends_in : (w : List ℕ) → (w ≡ []) ⊎ ((v : List ℕ) × (u : ℕ) × (w ≡ v ++ u ∷ []))
+ends_in [] = inl refl
+ends_in (x ∷ w) = inr (elim (ends_in w) [
+  | inl none ↦ ([], x, ap (λ l. x ∷ l) none)
+  | inr more ↦ (x ∷ more.0, more.1, ap (λ l. x ∷ l) more.2)
+])
+
+module _ (stands : ℕ → ℕ → Type 0) where
+  pub IsShallow-none : (n : ℕ) (w : List ℕ) → w ≡ [] → IsShallow stands n w
+  IsShallow-none n w none = let P : List ℕ → Type 0 = λ l. IsShallow stands n l in subst P (sym none) (record { short = omega arith; slots = All-nil (HasSlot stands) })
+
+  pub IsShallow-weaker : (n m : ℕ) (w : List ℕ) → n ≤ m → IsShallow stands n w → IsShallow stands m w
+  IsShallow-weaker n m w less h = record { short = omega (arith, less, h.short); slots = h.slots }
+
+  IsShallow-suffix : (n : ℕ) (s w : List ℕ) → IsSuffix s w → IsShallow stands n w → IsShallow stands n s
+  IsShallow-suffix n s w (front, is) h = record {
+    short = omega (arith, h.short, ap length is, length-append front s);
+    slots = let P : List ℕ → Type 0 = λ l. All (HasSlot stands) l in All-behind (HasSlot stands) front s (subst P (sym is) h.slots);
+  }
+
+  IsShallow-push : (n : ℕ) (w : List ℕ) (u : ℕ) → IsShallow stands n w → HasSlot stands u → IsShallow stands (n + 1) (w ++ u ∷ [])
+  IsShallow-push n w u h slot = record {
+    short = omega (arith, h.short, length-append w (u ∷ []));
+    slots = All-append (HasSlot stands) w (u ∷ []) h.slots (All-cons (HasSlot stands) u [] slot (All-nil (HasSlot stands)));
+  }
+
+  IsShallow-last : (n : ℕ) (w : List ℕ) (u : ℕ) → IsShallow stands (n + 1) (w ++ u ∷ []) → IsShallow stands n w × HasSlot stands u
+  IsShallow-last n w u h = (
+    record { short = omega (arith, h.short, length-append w (u ∷ [])); slots = All-before (HasSlot stands) w (u ∷ []) h.slots },
+    All-head (HasSlot stands) u [] (All-behind (HasSlot stands) w (u ∷ []) h.slots),
+  )
+
+  module _ {V : Type 0} (K : Dictionary V) (dead : List ℕ → Type 0) where
+    after_shallow : (k n : ℕ) (w t : List ℕ) (u : ℕ) → EndsAfter K dead k w u t → IsShallow stands n w → HasSlot stands u → IsShallow stands (n + 1) t
+    after_shallow zero n w t u (inl on) h slot = let P : List ℕ → Type 0 = λ l. IsShallow stands (n + 1) l in subst P (sym on.1) (IsShallow-push n w u h slot)
+    after_shallow zero n w t u (inr (stuck, ends, empty)) h slot = IsShallow-none (n + 1) t empty
+    after_shallow (suc k) n w t u (stuck, live, (s, link, ends)) h slot = after_shallow k n s t u ends (IsShallow-suffix n s w link.ends h) slot
+
+    -- where a step ends, there is at most one unit more
+    pub StepEnds-shallow : (n : ℕ) (w t : List ℕ) (u : ℕ) → StepEnds K dead w u t → IsShallow stands n w → HasSlot stands u → IsShallow stands (n + 1) t
+    StepEnds-shallow n w t u (inl foreign) h slot = IsShallow-none (n + 1) t foreign.1
+    StepEnds-shallow n w t u (inr (k, ends)) h slot = after_shallow k n w t u ends h slot
+
+module _ {V : Type 0} (K : Dictionary V) (dead : List ℕ → Type 0) where
+  after_on : (k : ℕ) (w t : List ℕ) (u : ℕ) → EndsAfter K dead k w u t → IsPrefix K (w ++ u ∷ []) → t ≡ w ++ u ∷ []
+  after_on zero w t u (inl on) begins = on.1
+  after_on zero w t u (inr (stuck, ends, empty)) begins = absurd (stuck begins)
+  after_on (suc k) w t u (stuck, live, further) begins = absurd (stuck begins)
+
+  -- a step goes on where that begins a key
+  pub StepEnds-on : (w t : List ℕ) (u : ℕ) → StepEnds K dead w u t → IsPrefix K (w ++ u ∷ []) → t ≡ w ++ u ∷ []
+  StepEnds-on w t u (inl foreign) begins = absurd (foreign.0 w begins)
+  StepEnds-on w t u (inr (k, ends)) begins = after_on k w t u ends begins
+
+-- ---- the rows go on
+
+pub GoesOn-same : (order : List ℕ) → GoesOn order order
+GoesOn-same order = record { more = omega arith; same = λ k below. refl }
+
+pub GoesOn-through : (a b c : List ℕ) → GoesOn a b → GoesOn b c → GoesOn a c
+GoesOn-through a b c p q = record {
+  more = omega (arith, p.more, q.more);
+  same = λ k below. q.same k (omega (arith, below, p.more)) ∙ p.same k below;
+}
+
+module _ (text : ℕ → List ℕ) (old new : List ℕ) (on : GoesOn old new) where
+  -- a text that a row's state has it still has
+  pub row_on : (w : List ℕ) → (k : ℕ) × (k < length old) × (text (slice_index old k) ≡ w) → (k : ℕ) × (k < length new) × (text (slice_index new k) ≡ w)
+  row_on w (k, below, is) = (k, omega (arith, below, on.more), ap text (on.same k below) ∙ is)
+
+module _ (order order' : List ℕ) (s : ℕ) (is : order' ≡ order ++ s ∷ []) where
+  pub GoesOn-push : GoesOn order order'
+  GoesOn-push = record { more = omega (arith, ap length is, length-append order (s ∷ [])); same = λ k below. read-old order order' s k is below }
+
+  -- the state that was added has the last row
+  pub row_last : (k : ℕ) × (k < length order') × (slice_index order' k ≡ s)
+  row_last = (length order, omega (arith, ap length is, length-append order (s ∷ [])), read-new order order' s (length order) is refl)
+
+  pub AreShallow-push : (text : ℕ → List ℕ) (stands : ℕ → ℕ → Type 0) (n : ℕ) → AreShallow text stands n order → IsShallow stands n (text s) → AreShallow text stands n order'
+  AreShallow-push text stands n shallow last k below =
+      let P : ℕ → Type 0 = λ x. IsShallow stands n (text x) in
+      elim (below_or_at k (length order) (omega (arith, below, ap length is, length-append order (s ∷ [])))) [
+        | inl old ↦ subst P (sym (read-old order order' s k is old)) (shallow k old)
+        | inr new ↦ subst P (sym (read-new order order' s k is new)) last
+      ]
+
+-- a row's state has the text that it had
+pub state_shallow : (text : ℕ → List ℕ) (stands : ℕ → ℕ → Type 0) (n : ℕ) (old new : List ℕ) (k : ℕ) → GoesOn old new → k < length old → AreShallow text stands n old → IsShallow stands n (text (slice_index new k))
+state_shallow text stands n old new k on below shallow = let P : ℕ → Type 0 = λ s. IsShallow stands n (text s) in subst P (sym (on.same k below)) (shallow k below)
+
+module _ {V : Type 0} (K : Dictionary V) (text : ℕ → List ℕ) (stands : ℕ → ℕ → Type 0) where
+  -- with the ends of all steps the rows cover the texts with one unit more
+  pub AreCovered-next : (n : ℕ) (old new : List ℕ) → GoesOn old new → ((k : ℕ) → k < length old → (label : ℕ) → label < 510 → HasEnd K text stands (slice_index old k) label new) → AreCovered K text stands n old
+      → AreCovered K text stands (n + 1) new
+  AreCovered-next n old new on ends covered w begins shallow = by (ends_in w)
+    where
+      by : (w ≡ []) ⊎ ((v : List ℕ) × (u : ℕ) × (w ≡ v ++ u ∷ [])) → (k : ℕ) × (k < length new) × (text (slice_index new k) ≡ w)
+      by (inl none) = row_on text old new on w (covered w begins (IsShallow-none stands n w none))
+      by (inr (v, u, is)) =
+          let P : List ℕ → Type 0 = λ l. IsPrefix K l in
+          let Q : List ℕ → Type 0 = λ l. IsShallow stands (n + 1) l in
+          let last = IsShallow-last stands n v u (subst Q is shallow) in
+          let at = covered v (IsPrefix-less K v (u ∷ []) (subst P is begins)) last.0 in
+          let R : List ℕ → Type 0 = λ l. IsPrefix K (l ++ u ∷ []) in
+          let end = ends at.0 at.1 last.1.0 last.1.1 u last.1.2 (subst R (sym at.2) (subst P is begins)) in
+          (end.0, end.1, end.2 ∙ (ap (λ l. l ++ u ∷ []) at.2 ∙ sym is))
+
+  pub AreCovered-on : (n : ℕ) (old new : List ℕ) → GoesOn old new → AreCovered K text stands n old → AreCovered K text stands n new
+  AreCovered-on n old new on covered w begins shallow = row_on text old new on w (covered w begins shallow)
+
+  pub HasEnd-on : (s label : ℕ) (old new : List ℕ) → GoesOn old new → HasEnd K text stands s label old → HasEnd K text stands s label new
+  HasEnd-on s label old new on ends unit coded begins = row_on text old new on (text s ++ unit ∷ []) (ends unit coded begins)
+
+  -- the labels that are not listed lead nowhere
+  pub HasEnd-all : (labels : List ℕ) → AreLabels K stands labels → (s : ℕ) (order : List ℕ) → ((k : ℕ) → k < length labels → HasEnd K text stands s (slice_index labels k) order) → (label : ℕ) → label < 510 → HasEnd K text stands s label order
+  HasEnd-all labels named s order ends label low unit coded begins = elim (named.all label unit low coded) [
+    | inl foreign ↦ absurd (foreign (text s) begins)
+    | inr at ↦ let P : ℕ → Type 0 = λ l. HasEnd K text stands s l order in subst P at.2 (ends at.0 at.1) unit coded begins
+  ]
+
+  module _ (dead : List ℕ → Type 0) (s label t : ℕ) (ends : (unit : ℕ) → stands label unit → StepEnds K dead (text s) unit (text t)) where
+    -- the state at which the step ends has a row
+    pub HasEnd-row : (order : List ℕ) → (k : ℕ) × (k < length order) × (slice_index order k ≡ t) → HasEnd K text stands s label order
+    HasEnd-row order (k, below, is) unit coded begins = (k, below, ap text is ∙ StepEnds-on K dead (text s) (text t) unit (ends unit coded) begins)
+
+    -- its text has at most one unit more
+    pub end_shallow : (n : ℕ) → label < 510 → (unit : ℕ) × stands label unit → IsShallow stands n (text s) → IsShallow stands (n + 1) (text t)
+    end_shallow n low some shallow = StepEnds-shallow stands K dead n (text s) (text t) some.0 (ends some.0 some.1) shallow (label, low, some.1)
+
+-- ---- there is no room
+
+-- the states of the rows, and one more that has none, are too many
+pub AreTooMany-full : (reached : ℕ → Type 0) (text : ℕ → List ℕ) (stands : ℕ → ℕ → Type 0) (n : ℕ) (order homes : List ℕ) (most : ℕ) → AreChosen reached order homes most → AreShallow text stands n order → length order ≡ most → most < 65535
+    → (s : ℕ) → reached s → IsShallow stands n (text s) → slice_index homes s ≡ 65535 → AreTooMany reached text stands n most
+AreTooMany-full reached text stands n order homes most chosen shallow full few s there last none = record {
+  states = s ∷ order;
+  many = omega (arith, full);
+  different = different;
+  shallow = each;
+}
+  where
+    fresh : (k : ℕ) → k < length order → s ≢ slice_index order k
+    fresh k below same = omega (arith, none, ap (slice_index homes) same, chosen.own k below, below, full, few)
+
+    different : (i j : ℕ) → i < length (s ∷ order) → j < length (s ∷ order) → slice_index (s ∷ order) i ≡ slice_index (s ∷ order) j → i ≡ j
+    different zero zero p q same = refl
+    different zero (suc j) p q same = absurd (fresh j (omega (arith, q)) same)
+    different (suc i) zero p q same = absurd (fresh i (omega (arith, p)) (sym same))
+    different (suc i) (suc j) p q same = ap suc (sym (chosen.own i (omega (arith, p))) ∙ (ap (slice_index homes) same ∙ chosen.own j (omega (arith, q))))
+
+    each : (i : ℕ) → i < length (s ∷ order) → reached (slice_index (s ∷ order) i) × IsShallow stands n (text (slice_index (s ∷ order) i))
+    each zero p = (there, last)
+    each (suc i) p = (chosen.states i (omega (arith, p)), shallow i (omega (arith, p)))
+
+pub AreTooMany-weaker : (reached : ℕ → Type 0) (text : ℕ → List ℕ) (stands : ℕ → ℕ → Type 0) (n m room least : ℕ) → n ≤ m → least ≤ room → AreTooMany reached text stands n room → AreTooMany reached text stands m least
+AreTooMany-weaker reached text stands n m room least less fewer h = record {
+  states = h.states;
+  many = omega (arith, fewer, h.many);
+  different = h.different;
+  shallow = λ i below. ((h.shallow i below).0, IsShallow-weaker stands n m (text (slice_index h.states i)) less (h.shallow i below).1);
+}
+
+-- so many rows fit in any case
+pub room_least : (labels least : ℕ) → least * (labels + 2) ≤ 65536 → least ≤ 65536 / (labels + 2)
+room_least labels least fits = (le-div_iff_mul-le (omega arith)).1 fits

@@ -1,0 +1,44 @@
+use Rattle.std.proofs.Common.{◌<◌, ℕ, inl, inr, length, sym, subst, arith}
+use Rattle.std.specs.Prelude.{slice_index}
+use Rattle.daachorse_rows.specs.Rows.{HasEnd, stands_by}
+use Rattle.daachorse_rows.proofs.MakingLaws.{below_or_at}
+use Rattle.daachorse_rows.proofs.ShallowLaws.{AreCovered-next, GoesOn-through, HasEnd-on, state_shallow}
+use Rattle.daachorse_rows.proofs.making.choose_next.Goals as goal
+
+pub returns-then-not-branch-clause-shallow : goal.returns-then-not-branch-clause-shallow
+returns-then-not-branch-clause-shallow g c = λ n shallow.
+    let A = g.A.Automaton in let a = c.args.automaton.now in let stands = stands_by g.A.Label.RowLabel.number (A.labels a) in
+    let inside : c.loop-at.at < length c.args.chosen.now.order.items = omega (arith, c.loop-at-test.true, c.loop-at.auto.at-end, c.len-at-end.ensures, c.args.chosen.now.order.ok.0) in
+    c.in_ok-choose_ends.ensures.shallow n (state_shallow (A.text a) stands n c.args.chosen.now.order.items c.loop-at.chosen.order.items c.loop-at.at c.loop-at.invariant.on inside shallow) (c.loop-at.invariant.shallow n shallow)
+
+pub returns-then-not-branch-clause-full : goal.returns-then-not-branch-clause-full
+returns-then-not-branch-clause-full g c = λ _ n shallow.
+    let A = g.A.Automaton in let a = c.args.automaton.now in let stands = stands_by g.A.Label.RowLabel.number (A.labels a) in
+    let inside : c.loop-at.at < length c.args.chosen.now.order.items = omega (arith, c.loop-at-test.true, c.loop-at.auto.at-end, c.len-at-end.ensures, c.args.chosen.now.order.ok.0) in
+    c.in_ok-choose_ends.ensures.full (c.if-not-branch.true) n (state_shallow (A.text a) stands n c.args.chosen.now.order.items c.loop-at.chosen.order.items c.loop-at.at c.loop-at.invariant.on inside shallow) (c.loop-at.invariant.shallow n shallow)
+
+pub loop-at-preserved : goal.loop-at-preserved
+loop-at-preserved g c =
+    let A = g.A.Automaton in let a = c.args.automaton.now in let stands = stands_by g.A.Label.RowLabel.number (A.labels a) in
+    let old = c.args.chosen.now.order.items in let now = c.loop-at.chosen.order.items in let at = c.loop-at.at in
+    let inside : at < length old = omega (arith, c.loop-at-test.true, c.loop-at.auto.at-end, c.len-at-end.ensures, c.args.chosen.now.order.ok.0) in
+    let made = c.in_ok-choose_ends.ensures in let kept = c.loop-at.invariant in
+    let P : ℕ → Type 0 = λ s. (label : ℕ) → label < 510 → HasEnd (A.content a) (A.text a) stands s label c.choose_ends.new.chosen.order.items in
+    let Q : ℕ → Type 0 = λ k. P (slice_index old k) in
+    record {
+      chosen = made.chosen;
+      same = omega (arith, made.same, kept.same);
+      on = GoesOn-through old now c.choose_ends.new.chosen.order.items kept.on made.on;
+      shallow = λ n shallow. made.shallow n (state_shallow (A.text a) stands n old now at kept.on inside shallow) (kept.shallow n shallow);
+      ends = λ k below. elim (below_or_at k at below) [
+        | inl before ↦ λ label low. HasEnd-on (A.content a) (A.text a) stands (slice_index old k) label now c.choose_ends.new.chosen.order.items made.on (kept.ends k before label low)
+        | inr same ↦ subst Q (sym same) (subst P (kept.on.same at inside) (made.all (c.if-not-branch.false)))
+      ];
+    }
+
+pub returns-clause-all : goal.returns-clause-all
+returns-clause-all g c = λ _ n covered.
+    let A = g.A.Automaton in let a = c.args.automaton.now in let stands = stands_by g.A.Label.RowLabel.number (A.labels a) in
+    let kept = c.loop-at.invariant in
+    AreCovered-next (A.content a) (A.text a) stands n c.args.chosen.now.order.items c.loop-at.chosen.order.items kept.on
+    (λ k below. kept.ends k (omega (arith, below, c.loop-at-test.false, c.loop-at.auto.at-end, c.len-at-end.ensures, c.args.chosen.now.order.ok.0))) covered

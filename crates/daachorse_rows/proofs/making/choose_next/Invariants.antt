@@ -1,0 +1,15 @@
+use Rattle.std.proofs.Common.{◌≡◌, ◌+◌, ◌<◌, ℕ, length}
+use Rattle.std.specs.Prelude.{slice_index}
+use Rattle.daachorse_rows.specs.Rows.{AreChosen, AreShallow, GoesOn, HasEnd, stands_by}
+use Rattle.daachorse_rows.proofs.making.choose_next.Given as goal
+
+abbrev pub invariant-loop-at : goal.invariant-loop-at
+invariant-loop-at g l =
+    let A = g.A.Automaton in let a = l.automaton in let stands = stands_by g.A.Label.RowLabel.number (A.labels a) in
+    record {
+      chosen : AreChosen (A.reached a) l.chosen.order.items l.chosen.homes.items l.most;
+      same : length l.chosen.homes.items ≡ length l.fn.chosen.homes.items;
+      on : GoesOn l.fn.chosen.order.items l.chosen.order.items;
+      shallow : (n : ℕ) → AreShallow (A.text a) stands n l.fn.chosen.order.items → AreShallow (A.text a) stands (n + 1) l.chosen.order.items;
+      ends : (k : ℕ) → k < l.at → (label : ℕ) → label < 510 → HasEnd (A.content a) (A.text a) stands (slice_index l.fn.chosen.order.items k) label l.chosen.order.items;
+    }

@@ -443,25 +443,25 @@ impl Automaton {
     /// Searches until there is room for all matches: at first with little room, and then with as much as is likely
     /// to be enough.
     fn search(&mut self, search: Search, haystack: &[u8]) -> Result<vec::IntoIter<Match>, Refusal> {
-        let mut found = vec![NO_MATCH; 64];
-        let mut written = 0;
+        let mut found = Vec::with_capacity(64);
         loop {
+            let mut written = 0;
             done(unsafe {
                 search(
                     &mut self.handle,
                     haystack.as_ptr(),
                     haystack.len(),
                     found.as_mut_ptr(),
-                    found.len(),
+                    found.capacity(),
                     &mut written,
                 )
             })?;
-            if written < found.len() {
-                found.truncate(written);
+            // The library wrote so many matches to the room, and reads none of it.
+            unsafe { found.set_len(written) };
+            if written < found.capacity() {
                 return Ok(found.into_iter());
             }
-            let room = room_for(haystack.len(), &found);
-            found.resize(room, found[0]);
+            found = Vec::with_capacity(room_for(haystack.len(), &found));
         }
     }
 }
@@ -690,7 +690,10 @@ mod tests {
         told.extend(triples(stream.feed(&[b'a'; 500])));
         assert_eq!(told, wanted);
         let mut first = Automaton::new(Kind::LeftmostFirst, true, patterns).unwrap();
-        assert_eq!(first.stream(true).map(|_| ()).err(), Some(Refusal::WRONG_KIND));
+        assert_eq!(
+            first.stream(true).map(|_| ()).err(),
+            Some(Refusal::WRONG_KIND)
+        );
     }
 
     #[test]

@@ -245,6 +245,7 @@ impl Builder {
                 values.len(),
             )
         })?;
+        automaton.has_empty = automaton.is_match(b"");
         Ok(automaton)
     }
 }
@@ -252,6 +253,8 @@ impl Builder {
 /// An automaton over bytes, with a value of 32 bits for each pattern.
 pub struct Automaton {
     handle: Handle,
+    // Whether some pattern is empty.
+    has_empty: bool,
 }
 
 // The library proves that a handle may go to another thread. Each call takes the automaton by a `&mut`.
@@ -302,6 +305,7 @@ impl Automaton {
                 &mut taken,
             )
         })?;
+        automaton.has_empty = automaton.is_match(b"");
         Ok((automaton, &bytes[taken..]))
     }
 
@@ -375,7 +379,7 @@ impl Automaton {
     ///
     /// [`Refusal::WRONG_KIND`]: the automaton is not standard.
     pub fn find(&mut self, haystack: &[u8]) -> Result<vec::IntoIter<Match>, Refusal> {
-        self.search(daachorse_find, haystack)
+        self.search_apart(daachorse_find, haystack)
     }
 
     /// Finds every match.
@@ -405,7 +409,7 @@ impl Automaton {
     ///
     /// [`Refusal::WRONG_KIND`]: the automaton is standard.
     pub fn leftmost_find(&mut self, haystack: &[u8]) -> Result<vec::IntoIter<Match>, Refusal> {
-        self.search(daachorse_leftmost_find, haystack)
+        self.search_apart(daachorse_leftmost_find, haystack)
     }
 
     /// Returns whether some pattern occurs.
@@ -437,7 +441,10 @@ impl Automaton {
         let handle = Handle {
             opaque: std::ptr::null_mut(),
         };
-        Automaton { handle }
+        Automaton {
+            handle,
+            has_empty: false,
+        }
     }
 
     /// Searches until there is room for all matches: at first with little room, and then with as much as is likely
@@ -445,24 +452,71 @@ impl Automaton {
     fn search(&mut self, search: Search, haystack: &[u8]) -> Result<vec::IntoIter<Match>, Refusal> {
         let mut found = Vec::with_capacity(64);
         loop {
-            let mut written = 0;
-            done(unsafe {
-                search(
-                    &mut self.handle,
-                    haystack.as_ptr(),
-                    haystack.len(),
-                    found.as_mut_ptr(),
-                    found.capacity(),
-                    &mut written,
-                )
-            })?;
-            // The library wrote so many matches to the room, and reads none of it.
-            unsafe { found.set_len(written) };
-            if written < found.capacity() {
+            self.fill(search, haystack, &mut found)?;
+            if found.len() < found.capacity() {
                 return Ok(found.into_iter());
             }
             found = Vec::with_capacity(room_for(haystack.len(), &found));
         }
+    }
+
+    /// Searches for matches that do not overlap until there is room for all: at first for one in two bytes, at most
+    /// 65,536, and then for twice as many as there are. Where no pattern is empty, those that are left are the matches of
+    /// what is behind the last one, so no byte is searched twice.
+    fn search_apart(
+        &mut self,
+        search: Search,
+        haystack: &[u8],
+    ) -> Result<vec::IntoIter<Match>, Refusal> {
+        if self.has_empty {
+            return self.search(search, haystack);
+        }
+        let mut found = Vec::with_capacity((haystack.len() / 2 + 64).min(1 << 16));
+        let mut place = 0;
+        loop {
+            let told = found.len();
+            self.fill(search, &haystack[place..], &mut found)?;
+            if place > 0 {
+                move_by(place, &mut found[told..]);
+            }
+            if found.len() < found.capacity() {
+                return Ok(found.into_iter());
+            }
+            place = found.last().map_or(0, |last| last.end);
+            found.reserve_exact(found.len());
+        }
+    }
+
+    /// Has a search write its first matches behind those found, as many as there is room for.
+    fn fill(
+        &mut self,
+        search: Search,
+        haystack: &[u8],
+        found: &mut Vec<Match>,
+    ) -> Result<(), Refusal> {
+        let room = found.spare_capacity_mut();
+        let mut written = 0;
+        done(unsafe {
+            search(
+                &mut self.handle,
+                haystack.as_ptr(),
+                haystack.len(),
+                room.as_mut_ptr().cast(),
+                room.len(),
+                &mut written,
+            )
+        })?;
+        // The library wrote so many matches to the room, and reads none of it.
+        unsafe { found.set_len(found.len() + written) };
+        Ok(())
+    }
+}
+
+/// Moves matches in what is behind a place to where they are in the whole.
+fn move_by(place: usize, matches: &mut [Match]) {
+    for found in matches {
+        found.start += place;
+        found.end += place;
     }
 }
 
@@ -678,6 +732,31 @@ mod tests {
         let found = triples(automaton.find_overlapping(&[b'a'; 1000]));
         assert_eq!(found.len(), 1000);
         assert_eq!(found[999], (999, 1000, 5));
+    }
+
+    #[test]
+    fn matches_behind_a_full_room_are_those_of_the_whole() {
+        let haystack: Vec<u8> = b"aabaaab".iter().copied().cycle().take(3000).collect();
+        let lists: [&[&[u8]]; 3] = [&[b"a", b"b"], &[b"a", b"b", b"ba"], &[b"a", b"", b"ab"]];
+        for patterns in lists {
+            for kind in [Kind::Standard, Kind::LeftmostLongest, Kind::LeftmostFirst] {
+                let mut automaton = Automaton::new(kind, true, patterns.iter().copied()).unwrap();
+                assert_eq!(automaton.has_empty, patterns.contains(&&b""[..]));
+                let (found, wanted) = match kind {
+                    Kind::Standard => (
+                        automaton.find(&haystack),
+                        automaton.search(daachorse_find, &haystack),
+                    ),
+                    _ => (
+                        automaton.leftmost_find(&haystack),
+                        automaton.search(daachorse_leftmost_find, &haystack),
+                    ),
+                };
+                let found = triples(found);
+                assert!(found.len() > haystack.len() / 2 + 64);
+                assert_eq!(found, triples(wanted));
+            }
+        }
     }
 
     #[test]

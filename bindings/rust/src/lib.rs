@@ -462,7 +462,7 @@ impl Automaton {
 
     /// Searches for matches that do not overlap until there is room for all: at first for one in two bytes, at most
     /// 65,536, and then for twice as many as there are. Where no pattern is empty, those that are left are the matches of
-    /// what is behind the last one, so no byte is searched twice.
+    /// what is behind the last one, so none is searched for twice.
     fn search_apart(
         &mut self,
         search: Search,

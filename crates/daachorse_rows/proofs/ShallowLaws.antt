@@ -4,7 +4,7 @@ use Rattle.std.specs.Prelude.{slice_index}
 use Rattle.std.specs.List.{All}
 use Rattle.std.proofs.Math.Nat.{le-div_iff_mul-le}
 use Rattle.std.proofs.lemmas.List.Elements.{All-append, All-cons, All-head, All-nil, All-tail}
-use Rattle.daachorse_core.specs.Looks.{EndsAfter, IsForeign, StepEnds}
+use Rattle.daachorse_core.specs.Looks.{EndsAfter, StepEnds}
 use Rattle.daachorse_model.specs.Dictionary.{Dictionary}
 use Rattle.daachorse_model.specs.Prefixes.{IsPrefix, IsSuffix}
 use Rattle.daachorse_model.proofs.Steps.{IsPrefix-less}

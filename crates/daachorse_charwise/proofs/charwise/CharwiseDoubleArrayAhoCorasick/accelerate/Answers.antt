@@ -1,6 +1,5 @@
 -- The rows are those of the states that the automaton keeps.
 use Rattle.std.proofs.Common.{subst}
-use Rattle.std.specs.Prelude.{IfSome}
 use Rattle.std.proofs.lemmas.Option.{MatchOption-at_some}
 use Rattle.daachorse_charwise_states.specs.StateRows.{CoversNear, HasRows}
 use Rattle.daachorse_charwise.specs.Automata.{Automaton}

@@ -74,7 +74,7 @@ pub record AreListed (holds : ℕ → Type 0) (n : ℕ) (listed : List ℕ) : Ty
   pub all : (x : ℕ) → x < n → holds x → (k : ℕ) × (k < length listed) × (slice_index listed k ≡ x)
   pub only : (k : ℕ) → k < length listed → (slice_index listed k < n) × holds (slice_index listed k)
 
--- the labels below 510 that some key has are listed, no others from 510 on, and none that stands for nothing
+-- the labels below 510 that some key has are listed, none from 510 on, and none that stands for nothing
 pub record AreLabels {V : Type 0} (K : Dictionary V) (stands : ℕ → ℕ → Type 0) (labels : List ℕ) : Type 0 where
   pub all : (label unit : ℕ) → label < 510 → stands label unit → IsForeign K unit ⊎ ((k : ℕ) × (k < length labels) × (slice_index labels k ≡ label))
   pub below : (k : ℕ) → k < length labels → slice_index labels k < 510
@@ -133,7 +133,7 @@ module _ (order : List ℕ) (width base : ℕ) where
 abbrev pub AreHomes : List ℕ → List ℕ → Type 0
 AreHomes order homes = (s : ℕ) → s < length homes → slice_index homes s ≢ 65535 → (slice_index homes s < length order) × (slice_index order (slice_index homes s) ≡ s)
 
--- the states of the rows can be reached, and the row of each is known; no state is too many for an entry
+-- the states of the rows can be reached, and the row of each is known; no state is too large for an entry
 pub record AreChosen (reached : ℕ → Type 0) (order table : List ℕ) (most : ℕ) : Type 0 where
   pub states : (k : ℕ) → k < length order → reached (slice_index order k)
   pub homes : AreHomes order table

@@ -1,9 +1,9 @@
 //! The worked rows over bytes where the states near the root have rows, and each request for memory refused.
 
-ghost use Rattle.std.specs.Prelude.{◌≡◌};
+ghost use Rattle.std.specs.Prelude.{◌≡◌, ◌≢◌};
 ghost use Rattle.daachorse_model.specs.declared.MatchKind.TheVariants.{Standard};
 
-use crate::automata::{bytewise, bytewise_by, in_bytes};
+use crate::automata::{Bytewise, bytewise, bytewise_by, in_bytes};
 use crate::expect;
 use crate::finding::{Found, are, are_found, are_found_overlapping, gives, gives_leftmost};
 use crate::requests::answer_of;
@@ -13,27 +13,63 @@ use daachorse::{MatchKind, Result};
 use refusing::{Answer, Call, Refusing, each_request};
 use std::alloc::{Allocator, Global};
 
+/// The automaton with rows of its states, where there is room for them.
+fn with_rows<A: Allocator + Copy>(
+    alloc: A,
+    automaton: &Bytewise<A>,
+) -> Result<Option<Accelerated<'_, u32, A>>> {
+    automaton.accelerate(alloc)
+}
+
 fn overlapping(accelerated: &Accelerated<'_, u32>, haystack: &[u8], expected: &[Found]) -> bool
     requires { accelerated.now.automaton.parts.kind ≡ Standard }
 {
-    let source = haystack.iter().copied();
-    let mut stepper = accelerated.find_overlapping_stepper();
     gives(accelerated.find_overlapping_iter(haystack), expected)
-        && are(
-            accelerated.find_overlapping_iter_from_iter(source),
-            expected,
-        )
-        && are_found_overlapping(&mut stepper, haystack, expected)
+}
+
+fn overlapping_of_source(
+    accelerated: &Accelerated<'_, u32>,
+    haystack: &[u8],
+    expected: &[Found],
+) -> bool
+    requires { accelerated.now.automaton.parts.kind ≡ Standard }
+{
+    let source = haystack.iter().copied();
+    are(
+        accelerated.find_overlapping_iter_from_iter(source),
+        expected,
+    )
+}
+
+fn overlapping_by_steps(
+    accelerated: &Accelerated<'_, u32>,
+    haystack: &[u8],
+    expected: &[Found],
+) -> bool
+    requires { accelerated.now.automaton.parts.kind ≡ Standard }
+{
+    let mut stepper = accelerated.find_overlapping_stepper();
+    are_found_overlapping(&mut stepper, haystack, expected)
 }
 
 fn no_suffix(accelerated: &Accelerated<'_, u32>, haystack: &[u8], expected: &[Found]) -> bool
     requires { accelerated.now.automaton.parts.kind ≡ Standard }
 {
-    let source = haystack.iter().copied();
     gives(
         accelerated.find_overlapping_no_suffix_iter(haystack),
         expected,
-    ) && are(
+    )
+}
+
+fn no_suffix_of_source(
+    accelerated: &Accelerated<'_, u32>,
+    haystack: &[u8],
+    expected: &[Found],
+) -> bool
+    requires { accelerated.now.automaton.parts.kind ≡ Standard }
+{
+    let source = haystack.iter().copied();
+    are(
         accelerated.find_overlapping_no_suffix_iter_from_iter(source),
         expected,
     )
@@ -42,11 +78,35 @@ fn no_suffix(accelerated: &Accelerated<'_, u32>, haystack: &[u8], expected: &[Fo
 fn standard(accelerated: &Accelerated<'_, u32>, haystack: &[u8], expected: &[Found]) -> bool
     requires { accelerated.now.automaton.parts.kind ≡ Standard }
 {
-    let source = haystack.iter().copied();
-    let mut stepper = accelerated.find_stepper();
     gives(accelerated.find_iter(haystack), expected)
-        && are(accelerated.find_iter_from_iter(source), expected)
-        && are_found(&mut stepper, haystack, expected)
+}
+
+fn standard_of_source(
+    accelerated: &Accelerated<'_, u32>,
+    haystack: &[u8],
+    expected: &[Found],
+) -> bool
+    requires { accelerated.now.automaton.parts.kind ≡ Standard }
+{
+    let source = haystack.iter().copied();
+    are(accelerated.find_iter_from_iter(source), expected)
+}
+
+fn standard_by_steps(
+    accelerated: &Accelerated<'_, u32>,
+    haystack: &[u8],
+    expected: &[Found],
+) -> bool
+    requires { accelerated.now.automaton.parts.kind ≡ Standard }
+{
+    let mut stepper = accelerated.find_stepper();
+    are_found(&mut stepper, haystack, expected)
+}
+
+fn leftmost(accelerated: &Accelerated<'_, u32>, haystack: &[u8], expected: &[Found]) -> bool
+    requires { accelerated.now.automaton.parts.kind ≢ Standard }
+{
+    gives_leftmost(accelerated.leftmost_find_iter(haystack), expected)
 }
 
 /// Whether each form of the search finds just these matches.
@@ -57,12 +117,23 @@ fn finds(
     expected: &[Found],
 ) -> bool {
     if !accelerated.automaton().match_kind().is_standard() {
-        return gives_leftmost(accelerated.leftmost_find_iter(haystack), expected);
+        return leftmost(accelerated, haystack, expected);
     }
     match search {
-        Search::Overlapping => overlapping(accelerated, haystack, expected),
-        Search::NoSuffix => no_suffix(accelerated, haystack, expected),
-        Search::Standard => standard(accelerated, haystack, expected),
+        Search::Overlapping => {
+            overlapping(accelerated, haystack, expected)
+                && overlapping_of_source(accelerated, haystack, expected)
+                && overlapping_by_steps(accelerated, haystack, expected)
+        }
+        Search::NoSuffix => {
+            no_suffix(accelerated, haystack, expected)
+                && no_suffix_of_source(accelerated, haystack, expected)
+        }
+        Search::Standard => {
+            standard(accelerated, haystack, expected)
+                && standard_of_source(accelerated, haystack, expected)
+                && standard_by_steps(accelerated, haystack, expected)
+        }
         Search::Leftmost(_) => false,
     }
 }
@@ -72,7 +143,7 @@ fn holds(alloc: Global, way: Way, row: &Row) -> Result<bool> {
     let (_, search, patvals, haystack, expected) = *row;
     let patvals = in_bytes(alloc, patvals)?;
     let automaton = bytewise_by(alloc, way, search.kind(), &patvals)?;
-    let Some(accelerated) = automaton.accelerate(alloc)? else {
+    let Some(accelerated) = with_rows(alloc, &automaton)? else {
         return Ok(false);
     };
     Ok(finds(&accelerated, search, haystack.as_bytes(), expected))
@@ -101,7 +172,7 @@ fn has_room(alloc: Global, pairs: usize) -> Result<bool> {
         patvals.push((pattern, 0))?;
     }
     let automaton = bytewise(alloc, MatchKind::Standard, &patvals)?;
-    Ok(automaton.accelerate(alloc)?.is_some())
+    Ok(with_rows(alloc, &automaton)?.is_some())
 }
 
 #[test]
@@ -132,17 +203,26 @@ fn is_resumed_overlapping<A: Allocator>(accelerated: &Accelerated<'_, u32, A>) -
     are(resumed.matches(), &[(0, 2, 0), (1, 2, 1)])
 }
 
+/// Whether all matches in two bytes are found.
+fn finds_all<A: Allocator>(accelerated: &Accelerated<'_, u32, A>) -> bool
+    requires { accelerated.now.automaton.parts.kind ≡ Standard }
+{
+    let expected = [(0, 2, 0), (1, 2, 1)];
+    gives(accelerated.find_overlapping_iter(b"ab"), &expected)
+}
+
 /// Whether an automaton with rows finds what it should.
 fn finds_with_rows<A: Allocator + Copy>(alloc: A) -> Result<bool> {
     let automaton = bytewise(alloc, MatchKind::Standard, &[(b"ab", 0), (b"b", 1)])?;
-    let Some(accelerated) = automaton.accelerate(alloc)? else {
+    let Some(accelerated) = with_rows(alloc, &automaton)? else {
         return Ok(false);
     };
-    let found = gives(
-        accelerated.find_overlapping_iter(b"ab"),
-        &[(0, 2, 0), (1, 2, 1)],
-    );
-    Ok(found && is_resumed(&accelerated) && is_resumed_overlapping(&accelerated))
+    Ok(
+        accelerated.automaton().match_kind().is_standard()
+            && finds_all(&accelerated)
+            && is_resumed(&accelerated)
+            && is_resumed_overlapping(&accelerated),
+    )
 }
 
 /// A build of an automaton, and of rows of its states.

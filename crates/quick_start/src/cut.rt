@@ -1,23 +1,39 @@
 //! A text as the words of a dictionary, and what stands between them.
 
-use anyhow::Result;
-use daachorse::{CharwiseDoubleArrayAhoCorasick, CharwiseDoubleArrayAhoCorasickBuilder, MatchKind};
-use daactok::Tokenizer;
+ghost use Rattle.std.specs.Prelude.{◌≡◌, IfOk};
+ghost use Rattle.daachorse_model.specs.declared.MatchKind.TheVariants.{LeftmostLongest};
+ghost use Rattle.daachorse_charwise.specs.Automata.{kind_of};
 
-/// Writes the text, the start, the end and the value of each token on a line.
-pub fn cut(rt: &HostRuntime) -> Result<()> {
+use anyhow::Result;
+use daachorse::errors::DaachorseError;
+use daachorse::{CharwiseDoubleArrayAhoCorasick, CharwiseDoubleArrayAhoCorasickBuilder, MatchKind};
+use daactok::{Token, Tokenizer};
+use std::alloc::Global;
+
+/// The dictionary of three words.
+fn dictionary(alloc: Global) -> Result<CharwiseDoubleArrayAhoCorasick<u32>, DaachorseError>
+    ensures { IfOk result (λ words. kind_of words ≡ LeftmostLongest) }
+{
     let builder = CharwiseDoubleArrayAhoCorasickBuilder::new();
     let builder = builder.match_kind(MatchKind::LeftmostLongest);
-    let words: CharwiseDoubleArrayAhoCorasick<u32> = builder.build(
-        rt.alloc(),
-        ["東京", "京都", "東京都"],
+    builder.build(alloc, ["東京", "京都", "東京都"])
+}
+
+/// Writes the text, the start, the end and the value of a token on a line.
+fn write(rt: &HostRuntime, token: &Token<'_, u32>) -> Result<()> {
+    println!(rt;
+        "{} {} {} {:?}",
+        token.text, token.start, token.end, token.value
     )?;
+    Ok(())
+}
+
+/// Writes each token of a text on a line.
+pub fn cut(rt: &HostRuntime) -> Result<()> {
+    let words = dictionary(rt.alloc())?;
     let tokenizer = Tokenizer::new(&words)?;
     for token in tokenizer.tokens("東京都に") {
-        println!(rt;
-            "{} {} {} {:?}",
-            token.text, token.start, token.end, token.value
-        )?;
+        write(rt, &token)?;
     }
     Ok(())
 }

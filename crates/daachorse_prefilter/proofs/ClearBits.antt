@@ -1,11 +1,11 @@
 -- Which bits of a byte are 0 after each step of the code.
 use Rattle.std.proofs.Common.{◌≡◌, ◌≢◌, ℕ, zero, suc, ◌+◌, ◌*◌, ◌/◌, ◌%◌, ◌^◌, ◌<◌, true, false, ◌&&◌, sym, ap, ◌∙◌, arith}
-use Rattle.std.specs.Prelude.{◌==◌, max, bit_and, bit_or}
+use Rattle.std.specs.Prelude.{◌==◌, ◌||◌, max, min, bit_and, bit_or}
 use Rattle.std.specs.Int.{bit_at, bit_not, w8}
 use Rattle.std.proofs.lemmas.Bool.{eq-eqb}
 use Rattle.std.proofs.lemmas.Bool.Decides.{nat_tests}
 use Rattle.std.proofs.lemmas.Nat.{one_shl, pow_pos}
-use Rattle.std.proofs.lemmas.Nat.Bits.{bit_at_or, bit_at-suc, bit_at_cat_low, bit_at_ones, bit_at-lt, and_pow, bit_at_clear_same, bit_at_clear_other, same_from_bits_below}
+use Rattle.std.proofs.lemmas.Nat.Bits.{bit_at_and, bit_at_or, bit_at-suc, bit_at_cat_low, bit_at_ones, bit_at-lt, and_pow, bit_at_clear_same, bit_at_clear_other, same_from_bits_below}
 use Rattle.daachorse_model.specs.Filter.{is_clear}
 
 both_zero : (x y : ℕ) → (max x y == 0) ≡ ((x == 0) && (y == 0))
@@ -13,6 +13,12 @@ both_zero x y = grind (arith, nat_tests)
 
 pub is_clear-or : (a b j : ℕ) → is_clear (bit_or a b) j ≡ (is_clear a j && is_clear b j)
 is_clear-or a b j = ap (λ n. n == 0) (bit_at_or a b j) ∙ both_zero (bit_at a j) (bit_at b j)
+
+one_zero : (x y : ℕ) → (min x y == 0) ≡ ((x == 0) || (y == 0))
+one_zero x y = grind (arith, nat_tests)
+
+pub is_clear-and : (a b j : ℕ) → is_clear (bit_and a b) j ≡ (is_clear a j || is_clear b j)
+is_clear-and a b j = ap (λ n. n == 0) (bit_at_and a b j) ∙ one_zero (bit_at a j) (bit_at b j)
 
 pub is_clear_shifted_first : (n : ℕ) → is_clear ((n * 2 ^ 1) % 2 ^ 8) 0 ≡ true
 is_clear_shifted_first n = eq-eqb _ 0 (omega arith)

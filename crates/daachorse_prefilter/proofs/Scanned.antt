@@ -1,10 +1,10 @@
 -- What the shift-or state knows: bit j is 0 where the last j + 1 pairs are those that a window begins with, from the first place on.
-use Rattle.std.proofs.Common.{◌≡◌, ℕ, zero, suc, ◌+◌, ◌-◌, ◌*◌, ◌%◌, ◌^◌, ◌<◌, ◌≤◌, ◌⊎◌, true, false, ◌&&◌, List, length, drop, get_or, refl, sym, ap, ◌∙◌, inl, inr, arith}
-use Rattle.std.specs.Prelude.{nat_le, bit_and, bit_or}
+use Rattle.std.proofs.Common.{◌≡◌, ℕ, zero, suc, ◌+◌, ◌-◌, ◌*◌, ◌%◌, ◌^◌, ◌<◌, ◌≤◌, ◌⊎◌, Bool, true, false, ◌&&◌, List, length, drop, get_or, refl, sym, ap, ◌∙◌, inl, inr, arith}
+use Rattle.std.specs.Prelude.{nat_le, ◌||◌, bit_and, bit_or}
 use Rattle.std.proofs.lemmas.Bool.{cases_lt, le-leb, lt-leb, eq-eqb, ne_eqb}
 use Rattle.std.proofs.lemmas.List.{get_or-drop, length-drop}
 use Rattle.daachorse_model.specs.Filter.{is_clear, pairs_pass, passes, next_position}
-use Rattle.daachorse_prefilter.proofs.ClearBits.{is_clear-or, is_clear_shifted_first, is_clear_shifted_later, is_clear_ones, is_clear_test}
+use Rattle.daachorse_prefilter.proofs.ClearBits.{is_clear-and, is_clear-or, is_clear_shifted_first, is_clear_shifted_later, is_clear_ones, is_clear_test}
 use Rattle.daachorse_prefilter.proofs.NextPlaces.{pairs_pass_more, passes_short, next_position_is}
 
 abbrev pub entry_in : List ℕ → ℕ → ℕ
@@ -130,9 +130,68 @@ step_hit entries h m pos i before byte seen low high after inside is read bits n
     found entries h m pos i next low high (omega arith) after more clear none
 
 -- byte i is read, and the window that ends with it doesn't pass
-pub step_miss : (entries h : List ℕ) (m pos i before byte seen : ℕ) → 2 ≤ m → m ≤ 9 → pos + 1 ≤ i → i < length h → before ≡ get_or h (i - 1) 0 * 256 → byte ≡ get_or h i 0 → AreBits entries h pos i seen → NonePasses entries h m pos i → (bit_and (next_state entries seen (before + byte)) (1 * 2 ^ (m - 2) % 2 ^ 8) ≡ 0 → ⊥) → AreBits entries h pos (i + 1) (next_state entries seen (before + byte)) × NonePasses entries h m pos (i + 1)
-step_miss entries h m pos i before byte seen low high after inside is read bits none set_bit =
+clear_miss : (entries h : List ℕ) (m pos i before byte seen : ℕ) → 2 ≤ m → m ≤ 9 → pos + 1 ≤ i → i < length h → before ≡ get_or h (i - 1) 0 * 256 → byte ≡ get_or h i 0 → AreBits entries h pos i seen → NonePasses entries h m pos i → is_clear (next_state entries seen (before + byte)) (m - 2) ≡ false → AreBits entries h pos (i + 1) (next_state entries seen (before + byte)) × NonePasses entries h m pos (i + 1)
+clear_miss entries h m pos i before byte seen low high after inside is read bits none unclear =
     let next = next_state entries seen (before + byte) in
     let more = bits_more entries h pos i seen (before + byte) after inside (omega (arith, is, read)) bits in
-    let unclear : is_clear next (m - 2) ≡ false = sym (is_clear_test next (m - 2) (omega arith)) ∙ ne_eqb _ 0 set_bit in
     (more, none_more entries h m pos i next low high (omega arith) more unclear none)
+
+pub step_miss : (entries h : List ℕ) (m pos i before byte seen : ℕ) → 2 ≤ m → m ≤ 9 → pos + 1 ≤ i → i < length h → before ≡ get_or h (i - 1) 0 * 256 → byte ≡ get_or h i 0 → AreBits entries h pos i seen → NonePasses entries h m pos i → (bit_and (next_state entries seen (before + byte)) (1 * 2 ^ (m - 2) % 2 ^ 8) ≡ 0 → ⊥) → AreBits entries h pos (i + 1) (next_state entries seen (before + byte)) × NonePasses entries h m pos (i + 1)
+step_miss entries h m pos i before byte seen low high after inside is read bits none set_bit =
+    clear_miss entries h m pos i before byte seen low high after inside is read bits none
+    (sym (is_clear_test (next_state entries seen (before + byte)) (m - 2) (omega arith)) ∙ ne_eqb _ 0 set_bit)
+
+-- one test of the states after two bytes tells whether the last bit is 0 in either
+either_clear : (once twice m : ℕ) → 2 ≤ m → m ≤ 9 → bit_and (bit_and once twice) (1 * 2 ^ (m - 2) % 2 ^ 8) ≡ 0 → (is_clear once (m - 2) || is_clear twice (m - 2)) ≡ true
+either_clear once twice m low high zero_bit =
+    sym (is_clear-and once twice (m - 2)) ∙ sym (is_clear_test (bit_and once twice) (m - 2) (omega arith)) ∙ eq-eqb _ 0 zero_bit
+
+neither_clear : (once twice m : ℕ) → 2 ≤ m → m ≤ 9 → (bit_and (bit_and once twice) (1 * 2 ^ (m - 2) % 2 ^ 8) ≡ 0 → ⊥) → (is_clear once (m - 2) || is_clear twice (m - 2)) ≡ false
+neither_clear once twice m low high set_bit =
+    sym (is_clear-and once twice (m - 2)) ∙ sym (is_clear_test (bit_and once twice) (m - 2) (omega arith)) ∙ ne_eqb _ 0 set_bit
+
+left_false : (x y : Bool) → (x || y) ≡ false → x ≡ false
+left_false false y e = refl
+left_false true y e = absurd (cc)
+
+right_false : (x y : Bool) → (x || y) ≡ false → y ≡ false
+right_false false y e = e
+right_false true y e = absurd (cc)
+
+right_true : (x y : Bool) → (x || y) ≡ true → x ≡ false → y ≡ true
+right_true false y e n = e
+right_true true y e n = absurd (cc)
+
+-- bytes i and i + 1 are read, and neither window that ends with one of them passes
+pub two_miss : (entries h : List ℕ) (m pos i before byte next seen : ℕ) → 2 ≤ m → m ≤ 9 → pos + 1 ≤ i → i + 1 < length h → before ≡ get_or h (i - 1) 0 * 256 → byte ≡ get_or h i 0 → next ≡ get_or h (i + 1) 0 → AreBits entries h pos i seen → NonePasses entries h m pos i → (bit_and (bit_and (next_state entries seen (before + byte)) (next_state entries (next_state entries seen (before + byte)) (byte * 256 + next))) (1 * 2 ^ (m - 2) % 2 ^ 8) ≡ 0 → ⊥) → AreBits entries h pos (i + 2) (next_state entries (next_state entries seen (before + byte)) (byte * 256 + next)) × NonePasses entries h m pos (i + 2)
+two_miss entries h m pos i before byte next seen low high after inside is read read_next bits none set_bit =
+    let once = next_state entries seen (before + byte) in
+    let twice = next_state entries once (byte * 256 + next) in
+    let neither = neither_clear once twice m low high set_bit in
+    let first = clear_miss entries h m pos i before byte seen low high after (omega arith) is read bits none (left_false _ _ neither) in
+    let back : i + 1 - 1 ≡ i = omega arith in
+    let place : i + 1 + 1 ≡ i + 2 = omega arith in
+    let was : byte * 256 ≡ get_or h (i + 1 - 1) 0 * 256 = rw (back, read) refl in
+    rw (sym place) (clear_miss entries h m pos (i + 1) (byte * 256) next once low high (omega arith) inside was read_next first.0 first.1 (right_false _ _ neither))
+
+-- bytes i and i + 1 are read, and the window that ends with the second passes where that which ends with the first doesn't
+second_hit : (entries h : List ℕ) (m pos i before byte next seen : ℕ) → 2 ≤ m → m ≤ 9 → pos + 1 ≤ i → i + 1 < length h → before ≡ get_or h (i - 1) 0 * 256 → byte ≡ get_or h i 0 → next ≡ get_or h (i + 1) 0 → AreBits entries h pos i seen → NonePasses entries h m pos i → (bit_and (next_state entries seen (before + byte)) (1 * 2 ^ (m - 2) % 2 ^ 8) ≡ 0 → ⊥) → bit_and (bit_and (next_state entries seen (before + byte)) (next_state entries (next_state entries seen (before + byte)) (byte * 256 + next))) (1 * 2 ^ (m - 2) % 2 ^ 8) ≡ 0 → (pos + m ≤ i + 2) × (i + 2 - m ≡ next_position (entry_in entries) m h pos)
+second_hit entries h m pos i before byte next seen low high after inside is read read_next bits none set_bit zero_bit =
+    let once = next_state entries seen (before + byte) in
+    let twice = next_state entries once (byte * 256 + next) in
+    let unclear : is_clear once (m - 2) ≡ false = sym (is_clear_test once (m - 2) (omega arith)) ∙ ne_eqb _ 0 set_bit in
+    let first = clear_miss entries h m pos i before byte seen low high after (omega arith) is read bits none unclear in
+    let back : i + 1 - 1 ≡ i = omega arith in
+    let place : i + 1 + 1 ≡ i + 2 = omega arith in
+    let was : get_or h (i + 1 - 1) 0 * 256 + get_or h (i + 1) 0 ≡ byte * 256 + next = rw (back, sym read, sym read_next) refl in
+    let more = bits_more entries h pos (i + 1) once (byte * 256 + next) (omega arith) inside (sym was) first.0 in
+    let clear = right_true _ _ (either_clear once twice m low high zero_bit) unclear in
+    rw (sym place) (found entries h m pos (i + 1) twice low high (omega arith) (omega arith) more clear first.1)
+
+-- bytes i and i + 1 are read, and a window that ends with one of them passes
+pub two_hit : (entries h : List ℕ) (m pos i before byte next seen last : ℕ) → 2 ≤ m → m ≤ 9 → pos + 1 ≤ i → i + 1 < length h → before ≡ get_or h (i - 1) 0 * 256 → byte ≡ get_or h i 0 → next ≡ get_or h (i + 1) 0 → AreBits entries h pos i seen → NonePasses entries h m pos i → ((bit_and (next_state entries seen (before + byte)) (1 * 2 ^ (m - 2) % 2 ^ 8) ≡ 0) × (last ≡ i)) ⊎ ((bit_and (next_state entries seen (before + byte)) (1 * 2 ^ (m - 2) % 2 ^ 8) ≡ 0 → ⊥) × (last ≡ i + 1)) → bit_and (bit_and (next_state entries seen (before + byte)) (next_state entries (next_state entries seen (before + byte)) (byte * 256 + next))) (1 * 2 ^ (m - 2) % 2 ^ 8) ≡ 0 → (pos + m ≤ last + 1) × (last + 1 - m ≡ next_position (entry_in entries) m h pos)
+two_hit entries h m pos i before byte next seen last low high after inside is read read_next bits none (inl first) zero_bit =
+    rw (first.1) (step_hit entries h m pos i before byte seen low high after (omega arith) is read bits none first.0)
+two_hit entries h m pos i before byte next seen last low high after inside is read read_next bits none (inr second) zero_bit =
+    let place : last + 1 ≡ i + 2 = omega (arith, second.1) in
+    rw place (second_hit entries h m pos i before byte next seen low high after inside is read read_next bits none second.0 zero_bit)

@@ -214,13 +214,26 @@ fn scan<R: Reading>(table: &[u8], window_len: u8, haystack: &[u8], pos: usize) -
     let mut before = R::read(*first) as usize * 256;
     // Bit j is 0 where the last j + 1 pairs are those that a window begins with.
     let mut seen = u8::MAX;
-    for i in pos + 1..haystack.len() {
+    let mut i = pos + 1;
+    // Two bytes are read in a round, with one test of both, which is faster wherever the loop stands.
+    while i + 1 < haystack.len() {
         let byte = R::read(haystack[i]) as usize;
-        seen = (seen << 1) | table[before + byte];
-        if seen & last_pair == 0 {
+        let next = R::read(haystack[i + 1]) as usize;
+        let once = (seen << 1) | table[before + byte];
+        let twice = (once << 1) | table[byte * 256 + next];
+        if once & twice & last_pair == 0 {
+            let last = if once & last_pair == 0 { i } else { i + 1 };
+            return last + 1 - window_len as usize;
+        }
+        seen = twice;
+        before = next * 256;
+        i += 2;
+    }
+    if i < haystack.len() {
+        let byte = R::read(haystack[i]) as usize;
+        if ((seen << 1) | table[before + byte]) & last_pair == 0 {
             return i + 1 - window_len as usize;
         }
-        before = byte * 256;
     }
     haystack.len()
 }

@@ -5,7 +5,7 @@
 //! turns: at most twice the units to come, and no more than lead one unit further past the start of
 //! the match than the longest pattern has units.
 
-ghost use Rattle.std.specs.Prelude.{◌≡◌, ◌+◌, ◌<◌, ◌≤◌, ◌^◌, ℕ, IfSome, None, Some};
+ghost use Rattle.std.specs.Prelude.{◌≡◌, ◌+◌, ◌<◌, ◌≤◌, ◌^◌, ℕ, [], IfSome, None, Some};
 ghost use Rattle.daachorse_model.specs.Units.{size};
 ghost use Rattle.daachorse_model.specs.Best.{IsLeftmost};
 ghost use Rattle.daachorse_search.specs.BestScans.{IsBestScan, IsClear, IsScanning, IsTheBest};
@@ -59,11 +59,7 @@ pub fn scan_best<V: Copy, A: Automaton<V>, H: Reread<A::Unit>>(
 {
     let mut source = haystack.after(0);
     let mut state = automaton.root();
-    let first = match automaton.output_pos(state) {
-        Some(position) => Some(position),
-        None => scan_to_match(automaton, &mut source, &mut state, may_stop, turns),
-    };
-    match first {
+    match scan_to_match(automaton, &mut source, &mut state, may_stop, turns) {
         Some(position) => {
             Scanned::Best(scan_on(automaton, haystack, source, state, position, turns))
         }
@@ -71,8 +67,8 @@ pub fn scan_best<V: Copy, A: Automaton<V>, H: Reread<A::Unit>>(
     }
 }
 
-/// Reads on while nothing occurs, and answers the position of the first output of the match that
-/// ends first; `None` where the haystack ends, or at the root where the scan may stop.
+/// Reads on from the root while nothing occurs, and answers the position of the first output of the
+/// match that ends first; `None` where the haystack ends, or at the root where the scan may stop.
 #[inline(always)]
 fn scan_to_match<V: Copy, A: Automaton<V>, H: Reread<A::Unit>>(
     automaton: &A,
@@ -83,8 +79,7 @@ fn scan_to_match<V: Copy, A: Automaton<V>, H: Reread<A::Unit>>(
 ) -> Option<NonZeroU32>
     requires kind { IsLeftmost (A.content automaton.now) (A.dead automaton.now) }
     requires reached { A.reached automaton.now state.old }
-    requires scanning { IsScanning A.Unit.width (A.content automaton.now) (A.has_output automaton.now) (A.outputs automaton.now) (A.has_label automaton.now)
-        (H.rest source.old) (H.rest source.old) (A.text automaton.now state.old) None turns.old turns.old }
+    requires root { A.text automaton.now state.old ≡ [] }
     ensures reached { A.reached automaton.now state.new }
     ensures left { size A.Unit.width (H.rest source.new) ≤ size A.Unit.width (H.rest source.old) }
     ensures some { IfSome result (λ position. IsScanning A.Unit.width (A.content automaton.now) (A.has_output automaton.now) (A.outputs automaton.now) (A.has_label automaton.now)
@@ -93,14 +88,20 @@ fn scan_to_match<V: Copy, A: Automaton<V>, H: Reread<A::Unit>>(
         → IsClear A.Unit.width (A.content automaton.now) (A.has_output automaton.now) (A.outputs automaton.now) (A.has_label automaton.now)
         (H.rest source.old) may_stop end turns.old turns.new }
 {
+    if let Some(position) = automaton.output_pos(*state) {
+        return Some(position);
+    }
     'units: loop {
         let Some(unit) = source.next() else {
             return None;
         };
         let (next, position) = step(automaton, *state, unit, turns);
         *state = next;
-        if position.is_some() || (may_stop && automaton.is_root(next)) {
-            return position;
+        if let Some(position) = position {
+            return Some(position);
+        }
+        if may_stop && automaton.is_root(next) {
+            return None;
         }
     }
 }

@@ -1,9 +1,9 @@
 -- A scan for the leftmost match from one place of a haystack: what it answers.
-use Rattle.std.specs.Prelude.{◌≡◌, ℕ, ◌+◌, ◌*◌, ◌≤◌, ◌<◌, Bool, false, List, [], ◌∷◌, ◌++◌, length, take, count_by}
+use Rattle.std.specs.Prelude.{◌≡◌, ℕ, ◌+◌, ◌*◌, ◌≤◌, ◌<◌, Bool, false, List, [], ◌∷◌, ◌++◌, length, take, count_by, Option, None, Some}
 use Rattle.daachorse_model.specs.Units.{size}
 use Rattle.daachorse_model.specs.Dictionary.{Dictionary}
 use Rattle.daachorse_model.specs.Prefixes.{IsKey}
-use Rattle.daachorse_model.specs.Best.{IsBest, NoneStarts}
+use Rattle.daachorse_model.specs.Best.{IsBest, IsBestSoFar, IsSteady, NoneStarts}
 use Rattle.daachorse_search.specs.declared.best.Scanned.{Scanned}
 use Rattle.daachorse_search.specs.declared.best.Scanned.TheVariants.{Best, Clear}
 
@@ -50,3 +50,25 @@ module _ {V : Type 0} (width : ℕ → ℕ) (K : Dictionary V) (has_output : ℕ
   abbrev pub IsBestScan : List ℕ → Bool → ℕ → ℕ → Scanned → Type 0
   IsBestScan text may_stop before turns (Best found) = IsTheBest text found.position.value found.end before turns
   IsBestScan text may_stop before turns (Clear end) = IsClear text may_stop end before turns
+
+  -- the best in w ends where so many bytes of `text` are to come, and its output is at this position
+  pub record IsFound (text w : List ℕ) (m : ℕ × ℕ) : Type 0 where
+    pub front : List ℕ
+    pub key : List ℕ
+    pub best : IsBest K w front key
+    pub ends : size width text ≡ size width (front ++ key) + m.1
+    pub output : IsOutputOf width K has_output outputs m.0 key
+
+  -- that is so, or nothing occurs in w
+  abbrev pub IsFoundSoFar : List ℕ → List ℕ → Option (ℕ × ℕ) → Type 0
+  IsFoundSoFar text w None = IsBestSoFar K w None
+  IsFoundSoFar text w (Some m) = IsFound text w m
+
+  -- a scan of `text` that has read all but `left`, and stands at a state with the text t
+  pub record IsScanning (text left t : List ℕ) (best : Option (ℕ × ℕ)) (before turns : ℕ) : Type 0 where
+    pub seen : List ℕ
+    pub parts : text ≡ seen ++ left
+    pub steady : IsSteady K seen t
+    pub found : IsFoundSoFar text seen best
+    pub counted : turns + length t ≤ before + 2 * length seen
+    pub least : before + count_by has_label seen ≤ turns

@@ -5,10 +5,10 @@
 //! turns: at most twice the units to come, and no more than lead one unit further past the start of
 //! the match than the longest pattern has units.
 
-ghost use Rattle.std.specs.Prelude.{◌≡◌, ◌+◌, ◌<◌, ◌≤◌, ◌^◌};
+ghost use Rattle.std.specs.Prelude.{◌≡◌, ◌+◌, ◌<◌, ◌≤◌, ◌^◌, ℕ, [], IfSome, None, Some};
 ghost use Rattle.daachorse_model.specs.Units.{size};
 ghost use Rattle.daachorse_model.specs.Best.{IsLeftmost};
-ghost use Rattle.daachorse_search.specs.BestScans.{IsBestScan};
+ghost use Rattle.daachorse_search.specs.BestScans.{IsBestScan, IsClear, IsScanning, IsTheBest};
 
 use crate::automaton::{Automaton, step};
 use crate::haystack::Reread;
@@ -59,30 +59,89 @@ pub fn scan_best<V: Copy, A: Automaton<V>, H: Reread<A::Unit>>(
 {
     let mut source = haystack.after(0);
     let mut state = automaton.root();
-    let mut best = None;
-    if let Some(position) = automaton.output_pos(state) {
-        let behind = source.after(0);
-        best = Some(Mark { position, behind });
+    match scan_to_match(automaton, &mut source, &mut state, may_stop, turns) {
+        Some(position) => {
+            Scanned::Best(scan_on(automaton, haystack, source, state, position, turns))
+        }
+        None => Scanned::Clear(haystack.left() - source.left()),
+    }
+}
+
+/// Reads on from the root while nothing occurs, and answers the position of the first output of the
+/// match that ends first; `None` where the haystack ends, or at the root where the scan may stop.
+#[inline(always)]
+fn scan_to_match<V: Copy, A: Automaton<V>, H: Reread<A::Unit>>(
+    automaton: &A,
+    source: &mut H,
+    state: &mut u32,
+    may_stop: bool,
+    turns: &mut Turns,
+) -> Option<NonZeroU32>
+    requires kind { IsLeftmost (A.content automaton.now) (A.dead automaton.now) }
+    requires reached { A.reached automaton.now state.old }
+    requires root { A.text automaton.now state.old ≡ [] }
+    ensures reached { A.reached automaton.now state.new }
+    ensures left { size A.Unit.width (H.rest source.new) ≤ size A.Unit.width (H.rest source.old) }
+    ensures some { IfSome result (λ position. IsScanning A.Unit.width (A.content automaton.now) (A.has_output automaton.now) (A.outputs automaton.now) (A.has_label automaton.now)
+        (H.rest source.old) (H.rest source.new) (A.text automaton.now state.new) (Some (position.value, size A.Unit.width (H.rest source.new))) turns.old turns.new) }
+    ensures none { result ≡ None → (end : ℕ) → end + size A.Unit.width (H.rest source.new) ≡ size A.Unit.width (H.rest source.old)
+        → IsClear A.Unit.width (A.content automaton.now) (A.has_output automaton.now) (A.outputs automaton.now) (A.has_label automaton.now)
+        (H.rest source.old) may_stop end turns.old turns.new }
+{
+    if let Some(position) = automaton.output_pos(*state) {
+        return Some(position);
     }
     'units: loop {
         let Some(unit) = source.next() else {
-            return match best {
-                Some(mark) => Scanned::Best(found_at(&mark, haystack)),
-                None => Scanned::Clear(haystack.left()),
-            };
+            return None;
+        };
+        let (next, position) = step(automaton, *state, unit, turns);
+        *state = next;
+        if let Some(position) = position {
+            return Some(position);
+        }
+        if may_stop && automaton.is_root(next) {
+            return None;
+        }
+    }
+}
+
+/// Reads on from the end of a match, and answers the best of all that is still to come.
+#[inline(always)]
+fn scan_on<V: Copy, A: Automaton<V>, H: Reread<A::Unit>>(
+    automaton: &A,
+    haystack: &H,
+    source: H,
+    state: u32,
+    position: NonZeroU32,
+    turns: &mut Turns,
+) -> Found
+    requires kind { IsLeftmost (A.content automaton.now) (A.dead automaton.now) }
+    requires reached { A.reached automaton.now state }
+    requires left { size A.Unit.width (H.rest source) ≤ size A.Unit.width (H.rest haystack.now) }
+    ensures { (before : ℕ) → IsScanning A.Unit.width (A.content automaton.now) (A.has_output automaton.now) (A.outputs automaton.now) (A.has_label automaton.now)
+        (H.rest haystack.now) (H.rest source) (A.text automaton.now state) (Some (position.value, size A.Unit.width (H.rest source))) before turns.old
+        → IsTheBest A.Unit.width (A.content automaton.now) (A.has_output automaton.now) (A.outputs automaton.now) (A.has_label automaton.now)
+        (H.rest haystack.now) result.position.value result.end before turns.new }
+{
+    let mut source = source;
+    let mut state = state;
+    let mut mark = Mark {
+        position,
+        behind: source.after(0),
+    };
+    'units: loop {
+        let Some(unit) = source.next() else {
+            return found_at(&mark, haystack);
         };
         let (next, position) = step(automaton, state, unit, turns);
         state = next;
         if automaton.is_root(state) {
-            if let Some(mark) = best {
-                return Scanned::Best(found_at(&mark, haystack));
-            }
-            if may_stop {
-                return Scanned::Clear(haystack.left() - source.left());
-            }
-        } else if let Some(position) = position {
+            return found_at(&mark, haystack);
+        }
+        if let Some(position) = position {
             let behind = source.after(0);
-            best = Some(Mark { position, behind });
+            mark = Mark { position, behind };
         }
     }
 }

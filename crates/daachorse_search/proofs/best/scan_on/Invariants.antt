@@ -1,0 +1,19 @@
+use Rattle.std.proofs.Common.{ℕ, ◌≤◌, length, Some}
+use Rattle.daachorse_model.specs.Units.{size}
+use Rattle.daachorse_search.specs.BestScans.{IsScanning}
+use Rattle.daachorse_search.proofs.best.scan_on.Given as goal
+
+abbrev pub invariant-units : goal.invariant-units
+invariant-units g l =
+    let A = g.A.Automaton in let a = l.automaton in let width = g.A.Unit.EdgeLabel.width in let rest = g.H.Haystack.rest in
+    let Scanning = IsScanning width (A.content a) (A.has_output a) (A.outputs a) (A.has_label a) (rest l.haystack) in
+    record {
+      reached : A.reached a l.state;
+      left : size width (rest l.source) ≤ size width (rest l.haystack);
+      behind : size width (rest l.mark.behind) ≤ size width (rest l.haystack);
+      scanning : (before : ℕ) → Scanning (rest l.fn.source) (A.text a l.fn.state) (Some (l.fn.position.value, size width (rest l.fn.source))) before l.fn.turns
+          → Scanning (rest l.source) (A.text a l.state) (Some (l.mark.position.value, size width (rest l.mark.behind))) before l.turns;
+    }
+
+abbrev pub decreases-units : goal.decreases-units
+decreases-units g l = length (g.H.Haystack.rest l.source)

@@ -1,0 +1,14 @@
+use Rattle.std.proofs.Common.{length, None}
+use Rattle.daachorse_search.specs.BestScans.{IsScanning}
+use Rattle.daachorse_search.proofs.best.scan_to_match.Given as goal
+
+abbrev pub invariant-units : goal.invariant-units
+invariant-units g l =
+    let A = g.A.Automaton in let a = l.automaton in let rest = g.H.Haystack.rest in
+    record {
+      reached : A.reached a l.state;
+      scanning : IsScanning g.A.Unit.EdgeLabel.width (A.content a) (A.has_output a) (A.outputs a) (A.has_label a) (rest l.fn.source) (rest l.source) (A.text a l.state) None l.fn.turns l.turns;
+    }
+
+abbrev pub decreases-units : goal.decreases-units
+decreases-units g l = length (g.H.Haystack.rest l.source)

@@ -82,6 +82,7 @@ pub trait Automaton<V: Copy>: Drop {
 
     /// Whether the first look of a step stands ahead of the loop along the links. The step is the
     /// same either way; which is faster was measured for each automaton.
+    #[inline(always)]
     fn looks_ahead(&self) -> bool {
         true
     }

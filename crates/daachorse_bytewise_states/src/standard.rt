@@ -120,6 +120,13 @@ impl<'a, V: Copy> Automaton<V> for Standard<'a, V> {
     }
 
     #[inline(always)]
+    fn looks_ahead(&self) -> bool {
+        // A field is read for what the parts keep.
+        let _ = &self.states;
+        false
+    }
+
+    #[inline(always)]
     fn output_pos(&self, state: u32) -> Option<NonZeroU32> {
         self.states[state as usize].output_pos()
     }

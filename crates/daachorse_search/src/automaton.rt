@@ -80,6 +80,13 @@ pub trait Automaton<V: Copy>: Drop {
             → TellsOutput Self.Unit.width (content self.now) (dead self.now) (has_output self.now) (outputs self.now) (most_outputs self.now) (text self.now) result }
         ensures counted { turns.new ≡ turns.old + 1 };
 
+    /// Whether the first look of a step stands ahead of the loop along the links. The step is the
+    /// same either way; which is faster was measured for each automaton.
+    #[inline(always)]
+    fn looks_ahead(&self) -> bool {
+        true
+    }
+
     /// The position of a state's first output.
     fn output_pos(&self, state: u32) -> Option<NonZeroU32>
         requires { reached self.now state }
@@ -149,11 +156,13 @@ pub fn follow<V: Copy, A: Automaton<V>>(
     ensures most { turns.new + length (A.text automaton.now result.0) ≤ turns.old + length (A.text automaton.now state) + 2 }
     ensures least { turns.old + 1 ≤ turns.new }
 {
-    // Most steps end at the first look, which stands before the loop for speed.
-    let mut at = match automaton.turn(state, label, turns) {
-        Look::Next(next, position) => return (next, position),
-        Look::Fail(link) => link,
-    };
+    let mut at = state;
+    if automaton.looks_ahead() {
+        match automaton.turn(state, label, turns) {
+            Look::Next(next, position) => return (next, position),
+            Look::Fail(link) => at = link,
+        }
+    }
     'links: loop {
         match automaton.turn(at, label, turns) {
             Look::Next(next, position) => return (next, position),

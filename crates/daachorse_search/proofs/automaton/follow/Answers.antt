@@ -1,8 +1,9 @@
 use Rattle.std.proofs.Common.{arith}
 use Rattle.daachorse_search.proofs.LookLemmas.{StepEnds-length, StepEnds-link}
 use Rattle.daachorse_search.proofs.automaton.follow.Goals as goal
+use Rattle.daachorse_search.proofs.automaton.follow.Goals.{then-looks_ahead+in-Fail, else-looks_ahead}
 
--- the first look ends the step, or its link is followed
+-- a look ahead of the loop ends the step, or its link is followed
 pub returns-in-Next-clause-output : goal.returns-in-Next-clause-output
 returns-in-Next-clause-output g c = c.in-Next.ensures.output c.requires.unit.0 c.requires.unit.1
 
@@ -18,13 +19,18 @@ returns-in-Next-clause-most g c =
 pub links-init : goal.links-init
 links-init g c =
     let A = g.A.Automaton in let a = c.args.automaton.now in
-    let looked = c.in-Fail.ensures.look c.requires.unit.0 c.requires.unit.1 in
-    record {
-      reached = looked.0;
-      on = λ unit t coded ends. let here = c.in-Fail.ensures.look unit coded in StepEnds-link (A.content a) (A.dead a) _ _ t unit here.1 here.2 here.3 ends;
-      counted = omega (arith, looked.3.shorter, c.in-Fail.ensures.counted);
-      more = omega (arith, c.in-Fail.ensures.counted);
-    }
+    elim c.if-looks_ahead.branch [
+      | then-looks_ahead+in-Fail w ↦
+          let looked = w.in-Fail.ensures.look c.requires.unit.0 c.requires.unit.1 in
+          rw (w.at-is, w.turns-is) (record {
+            reached = looked.0;
+            on = λ unit t coded ends. let here = w.in-Fail.ensures.look unit coded in StepEnds-link (A.content a) (A.dead a) _ _ t unit here.1 here.2 here.3 ends;
+            counted = omega (arith, looked.3.shorter, w.in-Fail.ensures.counted);
+            more = omega (arith, w.in-Fail.ensures.counted);
+          })
+      | else-looks_ahead w ↦
+          rw (w.at-is, w.turns-is) (record { reached = c.requires.reached; on = λ unit t coded ends. ends; counted = omega arith; more = omega arith })
+    ]
 
 -- so do the others
 pub returns-in-Next-turn-clause-output : goal.returns-in-Next-turn-clause-output

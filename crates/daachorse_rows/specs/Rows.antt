@@ -1,5 +1,5 @@
 -- Rows of the states near the root: of each label where the step ends. A place stands for a state: a row's first slot, in which the state is written, or behind all slots the states in order.
-use Rattle.std.specs.Prelude.{◌≡◌, ◌≢◌, ◌⊎◌, ℕ, zero, suc, ◌+◌, ◌*◌, ◌<◌, ◌≤◌, ◌^◌, List, [], ◌∷◌, ◌++◌, length, slice_index, Option, None}
+use Rattle.std.specs.Prelude.{◌≡◌, ◌≢◌, ◌⊎◌, ℕ, zero, suc, ◌+◌, ◌*◌, ◌%◌, ◌<◌, ◌≤◌, ◌^◌, List, [], ◌∷◌, ◌++◌, length, slice_index, Option, None}
 use Rattle.std.specs.List.{All}
 use Rattle.std.specs.declared.num.NonZeroU32.{NonZeroU32}
 use Rattle.daachorse_core.specs.Looks.{IsForeign, StepEnds}
@@ -49,6 +49,12 @@ pub record SharesText (reached : ℕ → Type 0) (text : ℕ → List ℕ) (r : 
   pub is_place : IsPlace r x
   pub is_state : reached (state_at r.top x)
   pub same : text (state_at r.top x) ≡ text s
+
+-- each label has a slot, and the root and each slot lead to a row, so that no step leaves the rows
+pub record AreClosed (stands : ℕ → ℕ → Type 0) (r : RowTable) : Type 0 where
+  pub slots : (label unit : ℕ) → stands label unit → label < 510
+  pub root : r.root < length r.top
+  pub stays : (k label : ℕ) → k < r.count → label < 510 → slice_index r.top (k * r.width + slice_index r.classes label) % 2147483648 < length r.top
 
 -- what a slot holds for a state: a place that stands for it, to which 2 ^ 31 is added, unless the state is quiet
 pub record IsEntry (stands : ℕ → Type 0) (quiet : Type 0) (entry : ℕ) : Type 0 where

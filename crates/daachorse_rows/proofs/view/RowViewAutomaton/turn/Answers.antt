@@ -1,8 +1,8 @@
-use Rattle.std.proofs.Common.{ℕ, ◌+◌, ◌-◌, List, sym, subst}
+use Rattle.std.proofs.Common.{ℕ, ◌+◌, ◌-◌, ◌<◌, List, length, sym, subst}
 use Rattle.std.specs.Prelude.{slice_index, None}
 use Rattle.daachorse_core.specs.Looks.{IsFirstOutput, LookGives, StepEnds}
 use Rattle.daachorse_core.specs.declared.turns.Look.TheVariants.{Next, Fail}
-use Rattle.daachorse_rows.specs.Rows.{Rowed, IsPlace, stands_by, state_at}
+use Rattle.daachorse_rows.specs.Rows.{Rowed, AreClosed, IsPlace, stands_by, state_at}
 use Rattle.daachorse_rows.proofs.RowLaws.{look_below, look_link, look_loud, look_quiet, output_quiet, reached_loud}
 use Rattle.daachorse_rows.proofs.view.RowViewAutomaton.turn.Goals as goal
 
@@ -13,7 +13,7 @@ returns-then-entry-lt-HAS_OUTPUTS-clause-look g c =
     let A = g.A.Automaton in let s = c.self.inside in
     let e : ℕ = slice_index s.top.now (c.args.state + slice_index s.classes.now c.index-number.result) in
     let R : Rowed g.row.A.Denot → Type 0 = λ p. IsPlace p.rows c.args.state in
-    let P : Rowed g.row.A.Denot → Type 0 = λ p. (unit : ℕ) → A.labels p.automaton c.args.label unit → (IsPlace p.rows e × A.reached p.automaton (state_at p.rows.top e))
+    let P : Rowed g.row.A.Denot → Type 0 = λ p. (unit : ℕ) → A.labels p.automaton c.args.label unit → (IsPlace p.rows e × A.reached p.automaton (state_at p.rows.top e) × (AreClosed (stands_by g.A.Label.RowLabel.number (A.labels p.automaton)) p.rows → e < length p.rows.top))
     × StepEnds (A.content p.automaton) (A.dead p.automaton) (A.text p.automaton (state_at p.rows.top c.args.state)) unit (A.text p.automaton (state_at p.rows.top e)) in
     subst P c.self.view_is (λ unit coded. look_quiet _ _ _ _ _ _ _ c.self.invariant c.args.state c.index-number.result (subst R (sym c.self.view_is) c.requires.0) c.if-place-self.true c.if-number.true c.if-entry-lt-HAS_OUTPUTS.true unit (c.args.label, sym c.index-number.ensures, coded))
 
@@ -32,7 +32,7 @@ output_pos-requires g c =
     let A = g.A.Automaton in let s = c.self.inside in
     let e : ℕ = slice_index s.top.now (c.args.state + slice_index s.classes.now c.index-number.result) in
     let R : Rowed g.row.A.Denot → Type 0 = λ p. IsPlace p.rows c.args.state in
-    let P : Rowed g.row.A.Denot → Type 0 = λ p. IsPlace p.rows (e - 2147483648) × A.reached p.automaton (state_at p.rows.top (e - 2147483648)) in
+    let P : Rowed g.row.A.Denot → Type 0 = λ p. IsPlace p.rows (e - 2147483648) × A.reached p.automaton (state_at p.rows.top (e - 2147483648)) × (AreClosed (stands_by g.A.Label.RowLabel.number (A.labels p.automaton)) p.rows → e - 2147483648 < length p.rows.top) in
     subst P c.self.view_is (reached_loud _ _ _ _ _ _ _ c.self.invariant c.args.state c.index-number.result (subst R (sym c.self.view_is) c.requires.0) c.if-place-self.true c.if-number.true c.if-entry-lt-HAS_OUTPUTS.false)
 
 pub returns-then-number-clause-look : goal.returns-then-number-clause-look
@@ -40,7 +40,7 @@ returns-then-number-clause-look g c =
     let A = g.A.Automaton in let s = c.self.inside in
     let e : ℕ = slice_index s.top.now (c.args.state + slice_index s.classes.now c.index-number.result) in
     let R : Rowed g.row.A.Denot → Type 0 = λ p. IsPlace p.rows c.args.state in
-    let P : Rowed g.row.A.Denot → Type 0 = λ p. (unit : ℕ) → A.labels p.automaton c.args.label unit → (IsPlace p.rows (e - 2147483648) × A.reached p.automaton (state_at p.rows.top (e - 2147483648)))
+    let P : Rowed g.row.A.Denot → Type 0 = λ p. (unit : ℕ) → A.labels p.automaton c.args.label unit → (IsPlace p.rows (e - 2147483648) × A.reached p.automaton (state_at p.rows.top (e - 2147483648)) × (AreClosed (stands_by g.A.Label.RowLabel.number (A.labels p.automaton)) p.rows → e - 2147483648 < length p.rows.top))
     × StepEnds (A.content p.automaton) (A.dead p.automaton) (A.text p.automaton (state_at p.rows.top c.args.state)) unit (A.text p.automaton (state_at p.rows.top (e - 2147483648))) in
     subst P c.self.view_is (λ unit coded. look_loud _ _ _ _ _ _ _ c.self.invariant c.args.state c.index-number.result (subst R (sym c.self.view_is) c.requires.0) c.if-place-self.true c.if-number.true c.if-entry-lt-HAS_OUTPUTS.false unit (c.args.label, sym c.index-number.ensures, coded))
 

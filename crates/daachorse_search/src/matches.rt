@@ -129,9 +129,8 @@ impl<V: Copy, W: Stepwise<V>, H: Reread<W::Unit>, F: Filter<W::Unit, H>> Matches
     }
 
     /// Does nothing, and promises that the turns are at most twice the units passed, at most as many as
-    /// these where each look ends its step, and at least
-    /// those of them that take a look and at which the filter passes; the bounds of the walk for what it
-    /// read since it last began at the root, and for all that was passed where the filter passes
+    /// these where each look ends its step, and at least those of them that take a look and at which
+    /// the filter passes; the bounds of the walk for what it read since it last began at the root, and for all that was passed where the filter passes
     /// everywhere; that there are none where a filter that was open passes nowhere; and that the haystack
     /// begins with the units passed.
     #[inline(always)]

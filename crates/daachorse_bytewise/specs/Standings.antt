@@ -22,7 +22,7 @@ module _ {V : Type 0} where
   -- ---- over rows of the states, where a stepper stands at the place of its state
 
   abbrev IsAt : Rowed (Parts V) → ℕ → Type 0
-  IsAt q place = IsPlace q.rows place × IsState q.automaton (state_at q.rows.top place) × (AreClosed stands_for q.rows → place < length q.rows.top)
+  IsAt q place = IsPlace q.rows place × IsState q.automaton (state_at q.rows.top place) × (AreClosed 256 stands_for q.rows → place < length q.rows.top)
 
   abbrev text_at : Rowed (Parts V) → ℕ → List ℕ
   text_at q place = text q.automaton (state_at q.rows.top place)
@@ -30,9 +30,9 @@ module _ {V : Type 0} where
   -- a stepper of the standard search
   abbrev pub IsFindStandingOver : Rowed (Parts V) → FindStanding → Type 0
   IsFindStandingOver =
-      IsFindStanding byte_width (λ q. content q.automaton) IsAt text_at (λ q. dead q.automaton) (λ q unit. true) (λ q. AreClosed stands_for q.rows) (λ q position. position ≤ length q.automaton.outputs) (λ q position. outputs_at q.automaton.outputs position)
+      IsFindStanding byte_width (λ q. content q.automaton) IsAt text_at (λ q. dead q.automaton) (λ q unit. true) (λ q. AreClosed 256 stands_for q.rows) (λ q position. position ≤ length q.automaton.outputs) (λ q position. outputs_at q.automaton.outputs position)
 
   -- a stepper of the search for all matches
   abbrev pub IsOverlappingStandingOver : Rowed (Parts V) → OverlappingStanding → Type 0
   IsOverlappingStandingOver =
-      IsOverlappingStanding byte_width (λ q. content q.automaton) IsAt text_at (λ q. dead q.automaton) (λ q unit. true) (λ q. AreClosed stands_for q.rows) (λ q position. position ≤ length q.automaton.outputs) (λ q position. outputs_at q.automaton.outputs position)
+      IsOverlappingStanding byte_width (λ q. content q.automaton) IsAt text_at (λ q. dead q.automaton) (λ q unit. true) (λ q. AreClosed 256 stands_for q.rows) (λ q position. position ≤ length q.automaton.outputs) (λ q position. outputs_at q.automaton.outputs position)

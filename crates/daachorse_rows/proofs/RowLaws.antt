@@ -30,9 +30,9 @@ pub place_past : (r : RowTable) (s x : ℕ) → x ≡ (length r.top + s) % 2 ^ 3
 place_past r s x is fits =
     let e : length r.top + s ≡ x = omega (arith, is) in let P : ℕ → Type 0 = λ y. StandsFor r y s in subst P e (place_behind r s)
 
-module _ {V : Type 0} (K : Dictionary V) (reached : ℕ → Type 0) (text : ℕ → List ℕ) (dead : List ℕ → Type 0) (stands : ℕ → ℕ → Type 0) (first : List ℕ → Option NonZeroU32 → Type 0) where
+module _ {V : Type 0} (K : Dictionary V) (reached : ℕ → Type 0) (text : ℕ → List ℕ) (dead : List ℕ → Type 0) (stands : ℕ → ℕ → Type 0) (first : List ℕ → Option NonZeroU32 → Type 0) (most : ℕ) where
   abbrev Reached : RowTable → ℕ → Type 0
-  Reached r y = IsPlace r y × reached (state_at r.top y) × (AreClosed stands r → y < length r.top)
+  Reached r y = IsPlace r y × reached (state_at r.top y) × (AreClosed most stands r → y < length r.top)
 
   module _ (r : RowTable) (h : AreRows K reached text dead stands first r) where
     -- the beginning of a row is within the slots
@@ -99,7 +99,7 @@ module _ {V : Type 0} (K : Dictionary V) (reached : ℕ → Type 0) (text : ℕ 
       step = row_step x label place within byte
 
       -- closed rows lead to a row
-      stays : (x' : ℕ) → IsPlace r x' → x' < length r.top → AreClosed stands r → slice_index r.top (x' + slice_index r.classes label) % 2147483648 < length r.top
+      stays : (x' : ℕ) → IsPlace r x' → x' < length r.top → AreClosed most stands r → slice_index r.top (x' + slice_index r.classes label) % 2147483648 < length r.top
       stays x' (inr behind) within' closed = absurd (omega arith)
       stays x' (inl (k, less, is)) within' closed =
           let P : ℕ → Type 0 = λ n. slice_index r.top (n + slice_index r.classes label) % 2147483648 < length r.top in
@@ -145,13 +145,13 @@ module _ {V : Type 0} (K : Dictionary V) (reached : ℕ → Type 0) (text : ℕ 
   shares_state r x s there here = let P : ℕ → Type 0 = λ y. reached y in record { is_place = there.place; is_state = subst P (sym there.state) here; same = ap text there.state }
 
   -- a look below the rows tells what the automaton's own tells, in places
-  pub look_below : (r : RowTable) (w : List ℕ) (unit s x : ℕ) (o : Option NonZeroU32) → (AreClosed stands r → x < length r.top) → SharesText reached text r x s → LookGives K reached text dead w unit (Next s o)
+  pub look_below : (r : RowTable) (w : List ℕ) (unit s x : ℕ) (o : Option NonZeroU32) → (AreClosed most stands r → x < length r.top) → SharesText reached text r x s → LookGives K reached text dead w unit (Next s o)
       → LookGives K (Reached r) (λ y. text (state_at r.top y)) dead w unit (Next x o)
   look_below r w unit s x o closed shares look =
       let P : List ℕ → Type 0 = λ t. StepEnds K dead w unit t in
       ((shares.is_place, shares.is_state, closed), subst P (sym shares.same) look.1)
 
-  pub look_link : (r : RowTable) (w : List ℕ) (unit s x : ℕ) → (AreClosed stands r → x < length r.top) → StandsFor r x s → LookGives K reached text dead w unit (Fail s)
+  pub look_link : (r : RowTable) (w : List ℕ) (unit s x : ℕ) → (AreClosed most stands r → x < length r.top) → StandsFor r x s → LookGives K reached text dead w unit (Fail s)
       → LookGives K (Reached r) (λ y. text (state_at r.top y)) dead w unit (Fail x)
   look_link r w unit s x closed place look =
       let P : ℕ → Type 0 = λ y. LookGives K reached text dead w unit (Fail y) in

@@ -137,7 +137,7 @@ where
     ghost content = { λ p. A.content p.automaton };
 
     ghost reached = { λ p place. IsPlace p.rows place × A.reached p.automaton (state_at p.rows.top place)
-        × (AreClosed (stands_by A.Label.number (A.labels p.automaton)) p.rows → place < length p.rows.top) };
+        × (AreClosed A.Label.most (stands_by A.Label.number (A.labels p.automaton)) p.rows → place < length p.rows.top) };
 
     ghost text = { λ p place. A.text p.automaton (state_at p.rows.top place) };
 
@@ -153,7 +153,7 @@ where
 
     ghost most_outputs = { λ p. A.most_outputs p.automaton };
 
-    ghost ends_at_once = { λ p. AreClosed (stands_by A.Label.number (A.labels p.automaton)) p.rows };
+    ghost ends_at_once = { λ p. AreClosed A.Label.most (stands_by A.Label.number (A.labels p.automaton)) p.rows };
 
     #[inline(always)]
     fn root(&self) -> u32 {

@@ -13,9 +13,9 @@ returns-then-entry-lt-HAS_OUTPUTS-clause-look g c =
     let A = g.A.Automaton in let s = c.self.inside in
     let e : ℕ = slice_index s.top.now (c.args.state + slice_index s.classes.now c.index-number.result) in
     let R : Rowed g.row.A.Denot → Type 0 = λ p. IsPlace p.rows c.args.state in
-    let P : Rowed g.row.A.Denot → Type 0 = λ p. (unit : ℕ) → A.labels p.automaton c.args.label unit → (IsPlace p.rows e × A.reached p.automaton (state_at p.rows.top e) × (AreClosed (stands_by g.A.Label.RowLabel.number (A.labels p.automaton)) p.rows → e < length p.rows.top))
+    let P : Rowed g.row.A.Denot → Type 0 = λ p. (unit : ℕ) → A.labels p.automaton c.args.label unit → (IsPlace p.rows e × A.reached p.automaton (state_at p.rows.top e) × (AreClosed g.A.Label.RowLabel.most (stands_by g.A.Label.RowLabel.number (A.labels p.automaton)) p.rows → e < length p.rows.top))
     × StepEnds (A.content p.automaton) (A.dead p.automaton) (A.text p.automaton (state_at p.rows.top c.args.state)) unit (A.text p.automaton (state_at p.rows.top e)) in
-    subst P c.self.view_is (λ unit coded. look_quiet _ _ _ _ _ _ _ c.self.invariant c.args.state c.index-number.result (subst R (sym c.self.view_is) c.requires.0) c.if-place-self.true c.if-number.true c.if-entry-lt-HAS_OUTPUTS.true unit (c.args.label, sym c.index-number.ensures, coded))
+    subst P c.self.view_is (λ unit coded. look_quiet _ _ _ _ _ _ g.A.Label.RowLabel.most _ c.self.invariant c.args.state c.index-number.result (subst R (sym c.self.view_is) c.requires.0) c.if-place-self.true c.if-number.true c.if-entry-lt-HAS_OUTPUTS.true unit (c.args.label, sym c.index-number.ensures.is, coded))
 
 pub returns-then-entry-lt-HAS_OUTPUTS-clause-output :
     goal.returns-then-entry-lt-HAS_OUTPUTS-clause-output
@@ -25,24 +25,24 @@ returns-then-entry-lt-HAS_OUTPUTS-clause-output g c =
     let R : Rowed g.row.A.Denot → Type 0 = λ p. IsPlace p.rows c.args.state in
     let P : Rowed g.row.A.Denot → Type 0 = λ p. (unit : ℕ) → A.labels p.automaton c.args.label unit
     → IsFirstOutput g.A.Unit.EdgeLabel.width (A.content p.automaton) (A.dead p.automaton) (A.has_output p.automaton) (A.outputs p.automaton) (A.most_outputs p.automaton) (A.text p.automaton (state_at p.rows.top e)) None in
-    subst P c.self.view_is (λ unit coded. output_quiet _ _ _ _ _ _ _ c.self.invariant c.args.state c.index-number.result (subst R (sym c.self.view_is) c.requires.0) c.if-place-self.true c.if-number.true c.if-entry-lt-HAS_OUTPUTS.true)
+    subst P c.self.view_is (λ unit coded. output_quiet _ _ _ _ _ _ g.A.Label.RowLabel.most _ c.self.invariant c.args.state c.index-number.result (subst R (sym c.self.view_is) c.requires.0) c.if-place-self.true c.if-number.true c.if-entry-lt-HAS_OUTPUTS.true)
 
 pub output_pos-requires : goal.output_pos-requires
 output_pos-requires g c =
     let A = g.A.Automaton in let s = c.self.inside in
     let e : ℕ = slice_index s.top.now (c.args.state + slice_index s.classes.now c.index-number.result) in
     let R : Rowed g.row.A.Denot → Type 0 = λ p. IsPlace p.rows c.args.state in
-    let P : Rowed g.row.A.Denot → Type 0 = λ p. IsPlace p.rows (e - 2147483648) × A.reached p.automaton (state_at p.rows.top (e - 2147483648)) × (AreClosed (stands_by g.A.Label.RowLabel.number (A.labels p.automaton)) p.rows → e - 2147483648 < length p.rows.top) in
-    subst P c.self.view_is (reached_loud _ _ _ _ _ _ _ c.self.invariant c.args.state c.index-number.result (subst R (sym c.self.view_is) c.requires.0) c.if-place-self.true c.if-number.true c.if-entry-lt-HAS_OUTPUTS.false)
+    let P : Rowed g.row.A.Denot → Type 0 = λ p. IsPlace p.rows (e - 2147483648) × A.reached p.automaton (state_at p.rows.top (e - 2147483648)) × (AreClosed g.A.Label.RowLabel.most (stands_by g.A.Label.RowLabel.number (A.labels p.automaton)) p.rows → e - 2147483648 < length p.rows.top) in
+    subst P c.self.view_is (reached_loud _ _ _ _ _ _ g.A.Label.RowLabel.most _ c.self.invariant c.args.state c.index-number.result (subst R (sym c.self.view_is) c.requires.0) c.if-place-self.true c.if-number.true c.if-entry-lt-HAS_OUTPUTS.false)
 
 pub returns-then-number-clause-look : goal.returns-then-number-clause-look
 returns-then-number-clause-look g c =
     let A = g.A.Automaton in let s = c.self.inside in
     let e : ℕ = slice_index s.top.now (c.args.state + slice_index s.classes.now c.index-number.result) in
     let R : Rowed g.row.A.Denot → Type 0 = λ p. IsPlace p.rows c.args.state in
-    let P : Rowed g.row.A.Denot → Type 0 = λ p. (unit : ℕ) → A.labels p.automaton c.args.label unit → (IsPlace p.rows (e - 2147483648) × A.reached p.automaton (state_at p.rows.top (e - 2147483648)) × (AreClosed (stands_by g.A.Label.RowLabel.number (A.labels p.automaton)) p.rows → e - 2147483648 < length p.rows.top))
+    let P : Rowed g.row.A.Denot → Type 0 = λ p. (unit : ℕ) → A.labels p.automaton c.args.label unit → (IsPlace p.rows (e - 2147483648) × A.reached p.automaton (state_at p.rows.top (e - 2147483648)) × (AreClosed g.A.Label.RowLabel.most (stands_by g.A.Label.RowLabel.number (A.labels p.automaton)) p.rows → e - 2147483648 < length p.rows.top))
     × StepEnds (A.content p.automaton) (A.dead p.automaton) (A.text p.automaton (state_at p.rows.top c.args.state)) unit (A.text p.automaton (state_at p.rows.top (e - 2147483648))) in
-    subst P c.self.view_is (λ unit coded. look_loud _ _ _ _ _ _ _ c.self.invariant c.args.state c.index-number.result (subst R (sym c.self.view_is) c.requires.0) c.if-place-self.true c.if-number.true c.if-entry-lt-HAS_OUTPUTS.false unit (c.args.label, sym c.index-number.ensures, coded))
+    subst P c.self.view_is (λ unit coded. look_loud _ _ _ _ _ _ g.A.Label.RowLabel.most _ c.self.invariant c.args.state c.index-number.result (subst R (sym c.self.view_is) c.requires.0) c.if-place-self.true c.if-number.true c.if-entry-lt-HAS_OUTPUTS.false unit (c.args.label, sym c.index-number.ensures.is, coded))
 
 -- below the rows and by a label with no slot, what the automaton's own look tells
 pub turn-requires : goal.turn-requires
@@ -60,7 +60,7 @@ returns-in-Next-clause-look g c = λ unit coded.
     let own : P p = subst P c.self.view_is (c.in-Next.ensures.look unit) in
     let Q : ℕ → Type 0 = λ x. LookGives (A.content a) (A.reached a) (A.text a) (A.dead a) (A.text a x) unit told in
     let look = subst Q c.state.ensures (own coded) in
-    look_below (A.content a) (A.reached a) (A.text a) (A.dead a) (stands_by g.A.Label.RowLabel.number (A.labels a)) (λ w o. Unit {0}) p.rows (A.text a (state_at p.rows.top c.args.state)) unit c.in-Next.next c.place_below.result c.in-Next.position (c.place_below.ensures look.0) look
+    look_below (A.content a) (A.reached a) (A.text a) (A.dead a) (stands_by g.A.Label.RowLabel.number (A.labels a)) (λ w o. Unit {0}) g.A.Label.RowLabel.most p.rows (A.text a (state_at p.rows.top c.args.state)) unit c.in-Next.next c.place_below.result c.in-Next.position (c.place_below.ensures look.0) look
 
 pub returns-in-Next-clause-output : goal.returns-in-Next-clause-output
 returns-in-Next-clause-output g c = λ unit coded.
@@ -79,4 +79,4 @@ returns-in-Fail-clause-look g c = λ unit coded.
     let own : P p = subst P c.self.view_is (c.in-Fail.ensures.look unit) in
     let Q : ℕ → Type 0 = λ x. LookGives (A.content a) (A.reached a) (A.text a) (A.dead a) (A.text a x) unit told in
     let look = subst Q c.state.ensures (own coded) in
-    look_link (A.content a) (A.reached a) (A.text a) (A.dead a) (stands_by g.A.Label.RowLabel.number (A.labels a)) (λ w o. Unit {0}) p.rows (A.text a (state_at p.rows.top c.args.state)) unit c.in-Fail.link c.place.result (c.place.ensures look.0) look
+    look_link (A.content a) (A.reached a) (A.text a) (A.dead a) (stands_by g.A.Label.RowLabel.number (A.labels a)) (λ w o. Unit {0}) g.A.Label.RowLabel.most p.rows (A.text a (state_at p.rows.top c.args.state)) unit c.in-Fail.link c.place.result (c.place.ensures look.0) look

@@ -1,6 +1,7 @@
 -- Each row's steps end in rows, one row after the other, or there are too many states.
 use Rattle.std.proofs.Common.{◌+◌, ◌<◌, ℕ, inl, inr, length, map, refl, arith}
 use Rattle.std.specs.Prelude.{slice_index}
+use Rattle.std.proofs.lemmas.List.{length-map}
 use Rattle.daachorse_rows.specs.Rows.{stands_by}
 use Rattle.daachorse_rows.proofs.ShallowLaws.{AreStepped-fewer, AreStepped-more, GoesOn-same, GoesOn-through, IsShallow-weaker}
 use Rattle.daachorse_rows.proofs.making.choose_rest.Goals as goal
@@ -19,7 +20,7 @@ loop-at-preserved g c =
       count = omega (arith, made.same, kept.count);
       on = GoesOn-through old now later kept.on made.on;
       shallow = λ n shallow. (let all = kept.shallow n shallow in (all.0 + 1, made.shallow all.0 (all.1 at inside) (λ k below. IsShallow-weaker stands all.0 (all.0 + 1) (A.text a (slice_index now k)) (omega arith) (all.1 k below))));
-      steps = λ stepped. AreStepped-more (A.content a) (A.text a) stands (A.dead a) (map g.A.Label.RowLabel.number c.args.labels.now) at now later made.on inside (kept.steps stepped) (made.ends (c.if-not-branch.false));
+      steps = λ stepped. AreStepped-more (A.content a) (A.text a) stands (A.dead a) (map g.A.Label.RowLabel.number c.args.labels.now) at now later made.on inside (kept.steps stepped) (λ j below. made.ends (c.if-not-branch.false) j (omega (arith, below, length-map c.args.labels.now g.A.Label.RowLabel.number)));
     }
 
 pub returns-then-not-branch-clause-stepped : goal.returns-then-not-branch-clause-stepped

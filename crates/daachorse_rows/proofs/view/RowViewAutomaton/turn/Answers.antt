@@ -1,9 +1,10 @@
-use Rattle.std.proofs.Common.{ℕ, ◌+◌, ◌-◌, ◌<◌, List, length, sym, subst}
+use Rattle.std.proofs.Common.{ℕ, ◌+◌, ◌-◌, ◌<◌, List, length, refl, sym, subst, arith}
 use Rattle.std.specs.Prelude.{slice_index, None}
 use Rattle.daachorse_core.specs.Looks.{IsFirstOutput, LookGives, StepEnds}
 use Rattle.daachorse_core.specs.declared.turns.Look.TheVariants.{Next, Fail}
 use Rattle.daachorse_rows.specs.Rows.{Rowed, AreClosed, IsPlace, stands_by, state_at}
 use Rattle.daachorse_rows.proofs.RowLaws.{look_below, look_link, look_loud, look_quiet, output_quiet, reached_loud}
+use Rattle.daachorse_rows.proofs.view.RowViewAutomaton.turn.Goals.{else-place-self-via-then-place-self+else-number, else-place-self-via-else-place-self}
 use Rattle.daachorse_rows.proofs.view.RowViewAutomaton.turn.Goals as goal
 
 -- at a row, by the entry
@@ -60,7 +61,16 @@ returns-in-Next-clause-look g c = λ unit coded.
     let own : P p = subst P c.self.view_is (c.in-Next.ensures.look unit) in
     let Q : ℕ → Type 0 = λ x. LookGives (A.content a) (A.reached a) (A.text a) (A.dead a) (A.text a x) unit told in
     let look = subst Q c.state.ensures (own coded) in
-    look_below (A.content a) (A.reached a) (A.text a) (A.dead a) (stands_by g.A.Label.RowLabel.number (A.labels a)) (λ w o. Unit {0}) g.A.Label.RowLabel.most p.rows (A.text a (state_at p.rows.top c.args.state)) unit c.in-Next.next c.place_below.result c.in-Next.position (c.place_below.ensures look.0) look
+    look_below (A.content a) (A.reached a) (A.text a) (A.dead a) (stands_by g.A.Label.RowLabel.number (A.labels a)) (λ w o. Unit {0}) g.A.Label.RowLabel.most p.rows (A.text a (state_at p.rows.top c.args.state)) unit c.in-Next.next c.place_below.result c.in-Next.position
+    (λ closed.
+        let low = closed.slots (g.A.Label.RowLabel.number c.args.label) unit c.index-number.ensures.below (c.args.label, refl, coded) in
+        let I : Rowed g.row.A.Denot → Type 0 = λ q. c.args.state < length q.rows.top in
+        let inside = subst I (sym c.self.view_is) (c.requires.2 closed) in
+        elim c.else-place-self.branch [
+          | else-place-self-via-then-place-self+else-number w ↦ absurd (omega (arith, w.if-number.false, c.index-number.ensures.is, low))
+          | else-place-self-via-else-place-self w ↦ absurd (omega (arith, w.if-place-self.false, inside))
+        ])
+    (c.place_below.ensures look.0) look
 
 pub returns-in-Next-clause-output : goal.returns-in-Next-clause-output
 returns-in-Next-clause-output g c = λ unit coded.
@@ -79,4 +89,24 @@ returns-in-Fail-clause-look g c = λ unit coded.
     let own : P p = subst P c.self.view_is (c.in-Fail.ensures.look unit) in
     let Q : ℕ → Type 0 = λ x. LookGives (A.content a) (A.reached a) (A.text a) (A.dead a) (A.text a x) unit told in
     let look = subst Q c.state.ensures (own coded) in
-    look_link (A.content a) (A.reached a) (A.text a) (A.dead a) (stands_by g.A.Label.RowLabel.number (A.labels a)) (λ w o. Unit {0}) g.A.Label.RowLabel.most p.rows (A.text a (state_at p.rows.top c.args.state)) unit c.in-Fail.link c.place.result (c.place.ensures look.0) look
+    look_link (A.content a) (A.reached a) (A.text a) (A.dead a) (stands_by g.A.Label.RowLabel.number (A.labels a)) (λ w o. Unit {0}) g.A.Label.RowLabel.most p.rows (A.text a (state_at p.rows.top c.args.state)) unit c.in-Fail.link c.place.result
+    (λ closed.
+        let low = closed.slots (g.A.Label.RowLabel.number c.args.label) unit c.index-number.ensures.below (c.args.label, refl, coded) in
+        let I : Rowed g.row.A.Denot → Type 0 = λ q. c.args.state < length q.rows.top in
+        let inside = subst I (sym c.self.view_is) (c.requires.2 closed) in
+        elim c.else-place-self.branch [
+          | else-place-self-via-then-place-self+else-number w ↦ absurd (omega (arith, w.if-number.false, c.index-number.ensures.is, low))
+          | else-place-self-via-else-place-self w ↦ absurd (omega (arith, w.if-place-self.false, inside))
+        ])
+    (c.place.ensures look.0) look
+
+-- where the rows are closed, no look is below them
+pub returns-in-Fail-clause-single : goal.returns-in-Fail-clause-single
+returns-in-Fail-clause-single g c = λ closed unit link coded _.
+    let low = closed.slots (g.A.Label.RowLabel.number c.args.label) unit c.index-number.ensures.below (c.args.label, refl, coded) in
+    let I : Rowed g.row.A.Denot → Type 0 = λ q. c.args.state < length q.rows.top in
+    let inside = subst I (sym c.self.view_is) (c.requires.2 closed) in
+    elim c.else-place-self.branch [
+      | else-place-self-via-then-place-self+else-number w ↦ absurd (omega (arith, w.if-number.false, c.index-number.ensures.is, low))
+      | else-place-self-via-else-place-self w ↦ absurd (omega (arith, w.if-place-self.false, inside))
+    ]

@@ -35,4 +35,4 @@ pub returns-clause-stepped : goal.returns-clause-stepped
 returns-clause-stepped g c = λ n shallow stepped.
     let A = g.A.Automaton in let a = c.args.automaton.now in
     inl (AreStepped-fewer (A.content a) (A.text a) (stands_by g.A.Label.RowLabel.number (A.labels a)) (A.dead a) (map g.A.Label.RowLabel.number c.args.labels.now) (length c.loop-at.chosen.order.items) c.loop-at.at c.loop-at.chosen.order.items
-        (omega (arith, c.loop-at-test.false, c.len.ensures, c.loop-at.chosen.order.ok.0)) (c.loop-at.invariant.steps stepped))
+    (omega (arith, c.loop-at-test.false, c.len.ensures, c.loop-at.chosen.order.ok.0)) (c.loop-at.invariant.steps stepped))

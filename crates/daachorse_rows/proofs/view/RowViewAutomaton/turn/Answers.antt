@@ -63,13 +63,13 @@ returns-in-Next-clause-look g c = λ unit coded.
     let look = subst Q c.state.ensures (own coded) in
     look_below (A.content a) (A.reached a) (A.text a) (A.dead a) (stands_by g.A.Label.RowLabel.number (A.labels a)) (λ w o. Unit {0}) g.A.Label.RowLabel.most p.rows (A.text a (state_at p.rows.top c.args.state)) unit c.in-Next.next c.place_below.result c.in-Next.position
     (λ closed.
-        let low = closed.slots (g.A.Label.RowLabel.number c.args.label) unit c.index-number.ensures.below (c.args.label, refl, coded) in
-        let I : Rowed g.row.A.Denot → Type 0 = λ q. c.args.state < length q.rows.top in
-        let inside = subst I (sym c.self.view_is) (c.requires.2 closed) in
-        elim c.else-place-self.branch [
-          | else-place-self-via-then-place-self+else-number w ↦ absurd (omega (arith, w.if-number.false, c.index-number.ensures.is, low))
-          | else-place-self-via-else-place-self w ↦ absurd (omega (arith, w.if-place-self.false, inside))
-        ])
+    let low = closed.slots (g.A.Label.RowLabel.number c.args.label) unit c.index-number.ensures.below (c.args.label, refl, coded) in
+    let I : Rowed g.row.A.Denot → Type 0 = λ q. c.args.state < length q.rows.top in
+    let inside = subst I (sym c.self.view_is) (c.requires.2 closed) in
+    elim c.else-place-self.branch [
+      | else-place-self-via-then-place-self+else-number w ↦ absurd (omega (arith, w.if-number.false, c.index-number.ensures.is, low))
+      | else-place-self-via-else-place-self w ↦ absurd (omega (arith, w.if-place-self.false, inside))
+    ])
     (c.place_below.ensures look.0) look
 
 pub returns-in-Next-clause-output : goal.returns-in-Next-clause-output
@@ -91,13 +91,13 @@ returns-in-Fail-clause-look g c = λ unit coded.
     let look = subst Q c.state.ensures (own coded) in
     look_link (A.content a) (A.reached a) (A.text a) (A.dead a) (stands_by g.A.Label.RowLabel.number (A.labels a)) (λ w o. Unit {0}) g.A.Label.RowLabel.most p.rows (A.text a (state_at p.rows.top c.args.state)) unit c.in-Fail.link c.place.result
     (λ closed.
-        let low = closed.slots (g.A.Label.RowLabel.number c.args.label) unit c.index-number.ensures.below (c.args.label, refl, coded) in
-        let I : Rowed g.row.A.Denot → Type 0 = λ q. c.args.state < length q.rows.top in
-        let inside = subst I (sym c.self.view_is) (c.requires.2 closed) in
-        elim c.else-place-self.branch [
-          | else-place-self-via-then-place-self+else-number w ↦ absurd (omega (arith, w.if-number.false, c.index-number.ensures.is, low))
-          | else-place-self-via-else-place-self w ↦ absurd (omega (arith, w.if-place-self.false, inside))
-        ])
+    let low = closed.slots (g.A.Label.RowLabel.number c.args.label) unit c.index-number.ensures.below (c.args.label, refl, coded) in
+    let I : Rowed g.row.A.Denot → Type 0 = λ q. c.args.state < length q.rows.top in
+    let inside = subst I (sym c.self.view_is) (c.requires.2 closed) in
+    elim c.else-place-self.branch [
+      | else-place-self-via-then-place-self+else-number w ↦ absurd (omega (arith, w.if-number.false, c.index-number.ensures.is, low))
+      | else-place-self-via-else-place-self w ↦ absurd (omega (arith, w.if-place-self.false, inside))
+    ])
     (c.place.ensures look.0) look
 
 -- where the rows are closed, no look is below them

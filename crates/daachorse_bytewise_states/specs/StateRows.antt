@@ -3,7 +3,7 @@ use Rattle.std.specs.Prelude.{◌≡◌, ◌<◌, ◌≤◌, ◌⊎◌, ℕ, len
 use Rattle.daachorse_core.specs.Looks.{IsFirstOutput}
 use Rattle.daachorse_core.specs.Outputs.{outputs_at}
 use Rattle.daachorse_model.specs.Units.{byte_width}
-use Rattle.daachorse_rows.specs.Rows.{AreRows, AreTooMany, Covers, RowTable, stands_by}
+use Rattle.daachorse_rows.specs.Rows.{AreClosed, AreRows, AreTooMany, ClosesOrFills, Covers, RowTable, stands_by}
 use Rattle.daachorse_bytewise_states.specs.Parts.{Parts, content, count}
 use Rattle.daachorse_bytewise_states.specs.Valid.{IsState, dead, text}
 
@@ -18,6 +18,14 @@ HasRows p r =
 -- each text of at most two bytes that begins a pattern is that of a state with a row
 abbrev pub CoversNear : {V : Type 0} → Parts V → RowTable → Type 0
 CoversNear p r = Covers (content p) (text p) stands_for 2 r
+
+-- the root and each slot lead to a row, so that a standard search takes one look for each byte
+abbrev pub StaysInRows : RowTable → Type 0
+StaysInRows r = AreClosed 256 stands_for r
+
+-- they do, or more than 254 states have a text
+abbrev pub StaysUnlessLarge : {V : Type 0} → Parts V → RowTable → Type 0
+StaysUnlessLarge p r = ClosesOrFills 256 (IsState p) (text p) stands_for 254 r
 
 -- more than 254 states have a text of at most two bytes, or the elements are more than an entry of a row can tell
 abbrev pub HasNoRoom : {V : Type 0} → Parts V → Type 0

@@ -4,10 +4,11 @@
 //! states near the root having rows.
 
 ghost use Rattle.std.specs.Prelude.{◌≡◌, ◌≤◌, length, IfOk, IfSome};
+ghost use Rattle.daachorse_model.specs.declared.MatchKind.TheVariants.{Standard};
 ghost use Rattle.daachorse_rows.specs.Rows.{AreLabels, AreListed};
 ghost use Rattle.daachorse_bytewise_states.specs.EdgeBytes.{IsMarked, MarksBases, MarksEdges};
 ghost use Rattle.daachorse_bytewise_states.specs.Parts.{content, count};
-ghost use Rattle.daachorse_bytewise_states.specs.StateRows.{CoversNear, HasNoRoom, HasRows};
+ghost use Rattle.daachorse_bytewise_states.specs.StateRows.{CoversNear, HasNoRoom, HasRows, StaysUnlessLarge};
 
 use crate::states::States;
 use daachorse_core::MatchKind;
@@ -18,7 +19,8 @@ impl<V: Copy, A: Allocator> States<V, A> {
     /// Rows of the states near the root.
     ///
     /// Each state has one whose text has at most two bytes, and as many others as there is room for.
-    /// Where those alone are more than there is room for, the answer is `None`; 254 rows always fit.
+    /// Where those alone are more than there is room for, the answer is `None`; 254 rows always fit. Where
+    /// there are no more states, each has a row, and a standard search takes one look for each byte.
     ///
     /// They take at most 256 KiB of slots, two bytes for each element, and a table of 1,020 bytes.
     ///
@@ -28,6 +30,7 @@ impl<V: Copy, A: Allocator> States<V, A> {
     pub fn rows<L: Allocator + Copy>(&self, alloc: L) -> Result<Option<Rows<L>>, AllocError>
         ensures right { IfOk result (λ rows. IfSome rows (HasRows self.now)) }
         ensures covered { IfOk result (λ rows. IfSome rows (CoversNear self.now)) }
+        ensures stays { IfOk result (λ rows. IfSome rows (λ r. self.now.kind ≡ Standard → StaysUnlessLarge self.now r)) }
         ensures none { IfOk result (λ rows. rows ≡ None → HasNoRoom self.now) }
     {
         let bytes = self.edge_bytes(alloc)?;

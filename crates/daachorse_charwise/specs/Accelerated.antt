@@ -1,7 +1,7 @@
 -- What callers see of an automaton over characters with rows: the automaton, and the rows of its states near the root.
 use Rattle.daachorse_rows.specs.Rows.{RowTable, Rowed}
 use Rattle.daachorse_charwise_states.specs.Parts.{Parts}
-use Rattle.daachorse_charwise_states.specs.StateRows.{CoversNear}
+use Rattle.daachorse_charwise_states.specs.StateRows.{CoversNear, StaysInRows, StaysUnlessLarge}
 use Rattle.daachorse_charwise.specs.Automata.{Automaton, states_of}
 
 pub record Accelerated (V : Type 0) : Type 0 where
@@ -15,3 +15,11 @@ rowed_states a = record { automaton = states_of a.automaton; rows = a.rows }
 -- each text of at most two characters with codes below 510 that begins a pattern is that of a state with a row
 abbrev pub HasRowsNear : {V : Type 0} → Accelerated V → Type 0
 HasRowsNear a = CoversNear (states_of a.automaton) a.rows
+
+-- each step by a character ends in a row, so that its standard searches and steppers take at most one turn for each character
+abbrev pub IsAllRows : {V : Type 0} → Accelerated V → Type 0
+IsAllRows a = StaysInRows (states_of a.automaton) a.rows
+
+-- it does, or more than 128 texts begin a pattern, the empty one among them
+abbrev pub IsAllRowsUnlessLarge : {V : Type 0} → Accelerated V → Type 0
+IsAllRowsUnlessLarge a = StaysUnlessLarge (states_of a.automaton) a.rows

@@ -1,9 +1,9 @@
 -- Right rows of the states over characters, the codes that stand in them, and the states near the root, which all have a row.
-use Rattle.std.specs.Prelude.{◌≡◌, ◌<◌, ◌≤◌, ◌⊎◌, ℕ, true, length, Some, is_some}
+use Rattle.std.specs.Prelude.{◌≡◌, ◌<◌, ◌≤◌, ◌^◌, ◌⊎◌, ℕ, true, length, Some, is_some}
 use Rattle.daachorse_core.specs.Looks.{IsFirstOutput}
 use Rattle.daachorse_core.specs.Outputs.{outputs_at}
 use Rattle.daachorse_model.specs.Units.{char_width}
-use Rattle.daachorse_rows.specs.Rows.{AreRows, AreTooMany, Covers, RowTable, stands_by}
+use Rattle.daachorse_rows.specs.Rows.{AreClosed, AreRows, AreTooMany, ClosesOrFills, Covers, RowTable, stands_by}
 use Rattle.daachorse_charwise_states.specs.Edges.{Lettered, character_of}
 use Rattle.daachorse_charwise_states.specs.Parts.{Parts, char_code, content, count}
 use Rattle.daachorse_charwise_states.specs.Valid.{IsState, dead, text}
@@ -23,6 +23,18 @@ HasRows p r =
 -- each text of at most two characters with codes below 510 that begins a pattern is that of a state with a row
 abbrev pub CoversNear : {V : Type 0} → Parts V → RowTable → Type 0
 CoversNear p r = Covers (content p) (text p) (stands_by (λ (code : ℕ). code) (stands_for p)) 2 r
+
+-- each code is below 510
+abbrev pub HasFewCodes : {V : Type 0} → Parts V → Type 0
+HasFewCodes p = (unit code : ℕ) → stands_for p code unit → code < 510
+
+-- each code has a slot, and the root and each slot lead to a row, so that a standard search takes one look for each character
+abbrev pub StaysInRows : {V : Type 0} → Parts V → RowTable → Type 0
+StaysInRows p r = AreClosed (2 ^ 32) (stands_by (λ (code : ℕ). code) (stands_for p)) r
+
+-- so it is, or more than 128 states have a text
+abbrev pub StaysUnlessLarge : {V : Type 0} → Parts V → RowTable → Type 0
+StaysUnlessLarge p r = ClosesOrFills (2 ^ 32) (IsState p) (text p) (stands_by (λ (code : ℕ). code) (stands_for p)) 128 r
 
 -- more than 128 states have a text of at most two such characters, or the elements are more than an entry of a row can tell
 abbrev pub HasNoRoom : {V : Type 0} → Parts V → Type 0

@@ -5,9 +5,10 @@
 
 ghost use Rattle.std.specs.Prelude.{◌≡◌, ◌≤◌, length, IfOk, IfSome, IfErr};
 ghost use Rattle.daachorse_core.specs.Refusals.{IsOutOfMemory};
+ghost use Rattle.daachorse_model.specs.declared.MatchKind.TheVariants.{Standard};
 ghost use Rattle.daachorse_rows.specs.Rows.{AreLabels, AreListed};
 ghost use Rattle.daachorse_charwise_states.specs.Parts.{content};
-ghost use Rattle.daachorse_charwise_states.specs.StateRows.{CoversNear, HasNoRoom, HasRows, IsUsed, stands_for};
+ghost use Rattle.daachorse_charwise_states.specs.StateRows.{CoversNear, HasFewCodes, HasNoRoom, HasRows, StaysUnlessLarge, IsUsed, stands_for};
 
 use crate::edges::Elements;
 use crate::states::States;
@@ -22,7 +23,8 @@ impl<V: Copy, A: Allocator + Copy> States<V, A> {
     ///
     /// Each state has one whose text has at most two characters, all among these 510, and as many
     /// others as there is room for. Where those alone are more than there is room for, the answer is
-    /// `None`; 128 rows always fit.
+    /// `None`; 128 rows always fit. Where there are no more states, and no more characters, each has a
+    /// row, and a standard search takes one look for each character.
     ///
     /// They take at most 256 KiB of slots, two bytes for each element, and a table of 1,020 bytes.
     ///
@@ -32,6 +34,7 @@ impl<V: Copy, A: Allocator + Copy> States<V, A> {
     pub fn rows(&self, alloc: A) -> Result<Option<Rows<A>>>
         ensures right { IfOk result (λ rows. IfSome rows (HasRows self.now)) }
         ensures covered { IfOk result (λ rows. IfSome rows (CoversNear self.now)) }
+        ensures stays { IfOk result (λ rows. IfSome rows (λ r. self.now.kind ≡ Standard → HasFewCodes self.now → StaysUnlessLarge self.now r)) }
         ensures none { IfOk result (λ rows. rows ≡ None → HasNoRoom self.now) }
         ensures err { IfErr result IsOutOfMemory }
     {

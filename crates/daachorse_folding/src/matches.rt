@@ -85,14 +85,15 @@ where
         }
     }
 
-    /// Does nothing, and promises that the turns are at most twice the units passed, and at least
-    /// those of them that take a look and at which the filter passes; the bounds of the walk for what it
-    /// read since it last began at the root, and for all that was passed where the filter passes
+    /// Does nothing, and promises that the turns are at most twice the units passed, at most as many as
+    /// these where each look ends its step, and at least those of them that take a look and at which
+    /// the filter passes; the bounds of the walk for what it read since it last began at the root, and for all that was passed where the filter passes
     /// everywhere; that there are none where a filter that was open passes nowhere; and that the haystack
     /// begins with the units passed.
     #[inline(always)]
     pub fn turns_are_bounded(&self)
         ensures most { self.now.turns ≤ 2 * length self.now.passed }
+        ensures single { W.ends_at_once self.now.automaton → self.now.turns ≤ length self.now.passed }
         ensures passing { count_passing (F.passes self.now.filter) (W.looks_at self.now.automaton) self.now.haystack self.now.passed ≤ self.now.turns }
         ensures behind { AreBoundedBehind W.bounds self.now.automaton self.now.passed self.now.since self.now.turns }
         ensures bounds { ((w : List ℕ) → F.passes self.now.filter w ≡ true)

@@ -1,5 +1,5 @@
 -- Rows as they are made: one slot after the other, and one state after the other.
-use Rattle.std.proofs.Common.{◌≡◌, ◌≢◌, ℕ, zero, suc, ◌+◌, ◌*◌, ◌/◌, ◌<◌, ◌≤◌, ◌^◌, ◌⊎◌, inl, inr, List, [], ◌∷◌, ◌++◌, length, refl, sym, ap, ◌∙◌, subst, arith, length-append, map, get_or}
+use Rattle.std.proofs.Common.{◌≡◌, ◌≢◌, ℕ, zero, suc, ◌+◌, ◌*◌, ◌/◌, ◌%◌, ◌<◌, ◌≤◌, ◌^◌, ◌⊎◌, inl, inr, List, [], ◌∷◌, ◌++◌, length, refl, sym, ap, ◌∙◌, subst, arith, length-append, map, get_or}
 use Rattle.std.specs.Prelude.{slice_index, slice_set, Option, None}
 use Rattle.std.specs.declared.num.NonZeroU32.{NonZeroU32}
 use Rattle.std.proofs.Math.Seq.{get_or-append_seam}
@@ -9,7 +9,9 @@ use Rattle.std.proofs.lemmas.Bool.{cases_eq}
 use Rattle.std.proofs.lemmas.List.{get_or_append_left, get_or-map, get_or-set_same, get_or-set_other, length-map, length-set}
 use Rattle.daachorse_core.specs.Looks.{IsForeign, StepEnds}
 use Rattle.daachorse_model.specs.Dictionary.{Dictionary}
-use Rattle.daachorse_rows.specs.Rows.{state_at, RowTable, IsEntry, StandsFor, IsSlotOf, AreSlots, Leads, AreLabels, AreRows, Stands, AreChosen, AreCovered, Covers, IsSlot, AreWritten, stands_by}
+use Rattle.daachorse_model.proofs.Steps.{IsLong-same}
+use Rattle.daachorse_search.proofs.LookLemmas.{StepEnds-long}
+use Rattle.daachorse_rows.specs.Rows.{state_at, RowTable, IsEntry, StandsFor, IsSlotOf, AreSlots, Leads, AreLabels, AreRows, Stands, AreChosen, AreClosed, AreCovered, AreStepped, Covers, IsSlot, AreWritten, MayClose, stands_by}
 use Rattle.daachorse_rows.proofs.RowLaws.{place_behind, state_at-slot}
 
 pub below_or_at : (c n : ℕ) → c < n + 1 → (c < n) ⊎ (c ≡ n)
@@ -93,7 +95,7 @@ fits_rows n w few = omega (arith, mul-le n w (65536 / w) w few (omega arith), di
 
 pub Stands-small : (order : List ℕ) (width base x s : ℕ) → Stands order width base x s → 0 < width → length order * width ≤ 65536 → base + s < 2147483648 → x < 2147483648
 Stands-small order width base x s (inl (k, below, is, at)) wide few fits = omega (arith, is, mul-add-lt k width 0 (length order) below wide)
-Stands-small order width base x s (inr is) wide few fits = omega (arith, is)
+Stands-small order width base x s (inr (is, none)) wide few fits = omega (arith, is)
 
 module _ (reached : ℕ → Type 0) (order homes : List ℕ) (most : ℕ) where
   -- there are none yet
@@ -128,8 +130,15 @@ module _ (reached : ℕ → Type 0) (order homes : List ℕ) (most : ℕ) where
           ];
       own = λ k below.
           elim (below_or_at k (length order) (count k below)) [
-            | inl old ↦ ap (slice_index homes') (read-old order order' s k is old) ∙ (other_home (slice_index order k) (taken k old) ∙ h.own k old)
-            | inr new ↦ ap (slice_index homes') (read-new order order' s k is new) ∙ (own_home ∙ sym new)
+            | inl old ↦
+                let kept = h.own k old in let here = read-old order order' s k is old in (
+                  omega (arith, kept.0, here, ap length at, length-set homes s (length order)),
+                  ap (slice_index homes') here ∙ (other_home (slice_index order k) (taken k old) ∙ kept.1),
+                  omega (arith, old, less, room),
+                )
+            | inr new ↦
+                let here = read-new order order' s k is new in
+                (omega (arith, within, here, ap length at, length-set homes s (length order)), ap (slice_index homes') here ∙ (own_home ∙ sym new), omega (arith, new, less, room))
           ];
       few = omega (arith, size, less);
       fits = h.fits;
@@ -148,7 +157,7 @@ module _ (reached : ℕ → Type 0) (order homes : List ℕ) (most : ℕ) where
         other_home q other = ap (λ l. slice_index l q) at ∙ get_or-set_other homes s q (length order) 0 other
 
         taken : (k : ℕ) → k < length order → slice_index order k ≢ s
-        taken k below same = omega (arith, none, ap (slice_index homes) same, h.own k below, below, less, room)
+        taken k below same = omega (arith, none, ap (slice_index homes) same, (h.own k below).1, below, less, room)
 
     pub AreChosen-small : (width s : ℕ) → length order * width ≤ 65536 → reached s → length order * width + s < 2 ^ 32
     AreChosen-small width s few there = omega (arith, h.fits s there, few)
@@ -213,7 +222,7 @@ module _ {V : Type 0} (K : Dictionary V) (reached : ℕ → Type 0) (text : ℕ 
 
     -- the labels that are not listed lead to the root
     pub slot_foreign : (k v s : ℕ) (o : Option NonZeroU32) → IsEntry (λ x. Stands order width base x s) (o ≡ None) v → first (text s) o → reached s → text s ≡ [] → Slot k 1 v
-    slot_foreign k v s o entry at there empty = (s, entry_first s v o entry at, leads)
+    slot_foreign k v s o entry at there empty = (s, entry_first s v o entry at, leads, λ _. empty)
       where
         leads : (label : ℕ) → label < 510 → IsSlotOf labels label 1 → Leads K reached text dead stands first (slice_index order k) label s
         leads label byte (inl (j, below, here, is)) = absurd (omega (arith, is))
@@ -222,7 +231,7 @@ module _ {V : Type 0} (K : Dictionary V) (reached : ℕ → Type 0) (text : ℕ 
     -- a listed label leads to where the step ends
     pub slot_step : (k c j v t : ℕ) (o : Option NonZeroU32) → c ≡ 2 + j → IsEntry (λ x. Stands order width base x t) (o ≡ None) v → first (text t) o → reached t
         → ((unit : ℕ) → stands (slice_index labels j) unit → StepEnds K dead (text (slice_index order k)) unit (text t)) → Slot k c v
-    slot_step k c j v t o at entry told there ends = let P : ℕ → Type 0 = λ x. Slot k x v in subst P (let e : suc (suc j) ≡ c = omega (arith, at) in e) (t, entry_first t v o entry told, leads)
+    slot_step k c j v t o at entry told there ends = let P : ℕ → Type 0 = λ x. Slot k x v in subst P (let e : suc (suc j) ≡ c = omega (arith, at) in e) (t, entry_first t v o entry told, leads, λ none. absurd (omega (arith, none)))
       where
         leads : (label : ℕ) → label < 510 → IsSlotOf labels label (suc (suc j)) → Leads K reached text dead stands first (slice_index order k) label t
         leads label byte (inl (i, below, here, is)) =
@@ -242,7 +251,7 @@ module _ {V : Type 0} (K : Dictionary V) (reached : ℕ → Type 0) (text : ℕ 
     place = inl (k, omega (arith, below, count_is), is);
     state = ap (state_at r.top) is ∙ (sym (state_at-slot r.top (k * r.width) (omega (arith, w.size, mul-add-lt k r.width 0 (length order) below wide))) ∙ (at_start k below ∙ at));
   }
-  stands_for x s (inr is) =
+  stands_for x s (inr (is, none)) =
       let e : length r.top + s ≡ x = omega (arith, is, w.size) in
       let P : ℕ → Type 0 = λ y. StandsFor r y s in
       subst P e (place_behind r s)
@@ -281,3 +290,50 @@ module _ {V : Type 0} (K : Dictionary V) (reached : ℕ → Type 0) (text : ℕ 
         where
           in_slot : IsSlot K reached text dead stands first labels order r.width (length order * r.width) k (suc c) (slice_index r.top (k * r.width + suc c))
           in_slot = w.rows k (suc c) more (omega (arith, is, at, slot_inside labels label (slice_index r.classes label) (slots.right label less)))
+
+  -- a state with a row is told by it
+  row_place : (x t : ℕ) → Stands order r.width (length order * r.width) x t → (k : ℕ) × (k < length order) × (slice_index order k ≡ t) → x < length r.top
+  row_place x t (inl (k, below, is, at)) row = omega (arith, is, w.size, mul-add-lt k r.width 0 (length order) below wide)
+  row_place x t (inr (is, none)) row = absurd (none row.0 row.1 row.2)
+
+  -- where each step from a row ends in a row, the rows are closed
+  pub AreClosed-made : (most s : ℕ) → r.width ≡ length labels + 2 → AreSlots labels 510 r.classes → AreLabels K stands labels → ((k : ℕ) → k < length order → reached (slice_index order k))
+      → Stands order r.width (length order * r.width) r.root s → reached s → text s ≡ [] → AreStepped K text stands dead labels (length order) order → MayClose most reached text dead stands → AreClosed most stands r
+  AreClosed-made most s is slots named states place there empty stepped may = record {
+    slots = may.slots;
+    root = row_place r.root s place (row_of_root s there empty);
+    stays = λ k label more less. stays k label (omega (arith, more, count_is)) less (slot_some labels label (slice_index r.classes label) (slots.right label less));
+  }
+    where
+      row_of_root : (t : ℕ) → reached t → text t ≡ [] → (k : ℕ) × (k < length order) × (slice_index order k ≡ t)
+      row_of_root t here none = (0, stepped.root.0, may.single (slice_index order 0) t (states 0 stepped.root.0) here (stepped.root.1 ∙ sym none))
+
+      stays : (k label : ℕ) → k < length order → label < 510 → (c : ℕ) × (slice_index r.classes label ≡ suc c) → slice_index r.top (k * r.width + slice_index r.classes label) % 2147483648 < length r.top
+      stays k label more less (c, at) =
+          let P : ℕ → Type 0 = λ x. slice_index r.top (k * r.width + x) % 2147483648 < length r.top in
+          subst P (sym at) (within in_slot.1.is (row_place in_slot.1.place in_slot.0 in_slot.1.stands_for (row_of (subst Q at (slots.right label less)))))
+        where
+          Q : ℕ → Type 0
+          Q x = IsSlotOf labels label x
+
+          in_slot : IsSlot K reached text dead stands first labels order r.width (length order * r.width) k (suc c) (slice_index r.top (k * r.width + suc c))
+          in_slot = w.rows k (suc c) more (omega (arith, is, at, slot_inside labels label (slice_index r.classes label) (slots.right label less)))
+
+          within : ((slice_index r.top (k * r.width + suc c) ≡ in_slot.1.place) × first (text in_slot.0) None) ⊎ (slice_index r.top (k * r.width + suc c) ≡ in_slot.1.place + 2147483648) → in_slot.1.place < length r.top
+              → slice_index r.top (k * r.width + suc c) % 2147483648 < length r.top
+          within (inl (low, quiet)) inside = omega (arith, low, in_slot.1.small, inside)
+          within (inr high) inside = omega (arith, high, in_slot.1.small, inside)
+
+          row_of : IsSlotOf labels label (suc c) → (j : ℕ) × (j < length order) × (slice_index order j ≡ in_slot.0)
+          row_of (inr (one, none)) =
+              let leads = in_slot.2 label less (inr (one, none)) in
+              row_of_root in_slot.0 leads.is_state (in_slot.3 (omega (arith, one)))
+          row_of (inl (j, below, here, slot)) =
+              let leads = in_slot.2 label less (inl (j, below, here, slot)) in
+              let some = named.none_idle j below in
+              let row = stepped.ends k j more below in
+              let U : ℕ → Type 0 = λ l. stands l some.0 in
+              let w' : List ℕ = text (slice_index order k) in
+              let own = StepEnds-long K dead w' (text in_slot.0) some.0 (leads.ends some.0 (subst U here some.1)) may.alive in
+              let other = StepEnds-long K dead w' (text (slice_index order row.0)) some.0 (row.2 some.0 some.1) may.alive in
+              (row.0, row.1, may.single (slice_index order row.0) in_slot.0 (states row.0 row.1) leads.is_state (IsLong-same K (w' ++ some.0 ∷ []) (text (slice_index order row.0)) (text in_slot.0) other own))

@@ -6,7 +6,7 @@ use Rattle.std.proofs.lemmas.Nat.{mul-add-lt}
 use Rattle.daachorse_core.specs.Looks.{StepEnds, LookGives}
 use Rattle.daachorse_core.specs.declared.turns.Look.TheVariants.{Next, Fail}
 use Rattle.daachorse_model.specs.Dictionary.{Dictionary}
-use Rattle.daachorse_rows.specs.Rows.{state_at, RowTable, IsPlace, IsEntry, SharesText, StandsFor, AreRows, Leads}
+use Rattle.daachorse_rows.specs.Rows.{state_at, RowTable, IsPlace, IsEntry, SharesText, StandsFor, AreClosed, AreRows, Leads}
 
 -- within the slots it is what is written there
 pub state_at-slot : (top : List ℕ) (x : ℕ) → x < length top → slice_index top x ≡ state_at top x
@@ -30,9 +30,9 @@ pub place_past : (r : RowTable) (s x : ℕ) → x ≡ (length r.top + s) % 2 ^ 3
 place_past r s x is fits =
     let e : length r.top + s ≡ x = omega (arith, is) in let P : ℕ → Type 0 = λ y. StandsFor r y s in subst P e (place_behind r s)
 
-module _ {V : Type 0} (K : Dictionary V) (reached : ℕ → Type 0) (text : ℕ → List ℕ) (dead : List ℕ → Type 0) (stands : ℕ → ℕ → Type 0) (first : List ℕ → Option NonZeroU32 → Type 0) where
+module _ {V : Type 0} (K : Dictionary V) (reached : ℕ → Type 0) (text : ℕ → List ℕ) (dead : List ℕ → Type 0) (stands : ℕ → ℕ → Type 0) (first : List ℕ → Option NonZeroU32 → Type 0) (most : ℕ) where
   abbrev Reached : RowTable → ℕ → Type 0
-  Reached r y = IsPlace r y × reached (state_at r.top y)
+  Reached r y = IsPlace r y × reached (state_at r.top y) × (AreClosed most stands r → y < length r.top)
 
   module _ (r : RowTable) (h : AreRows K reached text dead stands first r) where
     -- the beginning of a row is within the slots
@@ -98,16 +98,29 @@ module _ {V : Type 0} (K : Dictionary V) (reached : ℕ → Type 0) (text : ℕ 
       step : IsRowStep x label entry
       step = row_step x label place within byte
 
-      reached_step : (y : ℕ) → StandsFor r y step.state → Reached r y
-      reached_step y there = let P : ℕ → Type 0 = λ s. reached s in (there.place, subst P (sym there.state) step.leads.is_state)
+      -- closed rows lead to a row
+      stays : (x' : ℕ) → IsPlace r x' → x' < length r.top → AreClosed most stands r → slice_index r.top (x' + slice_index r.classes label) % 2147483648 < length r.top
+      stays x' (inr behind) within' closed = absurd (omega arith)
+      stays x' (inl (k, less, is)) within' closed =
+          let P : ℕ → Type 0 = λ n. slice_index r.top (n + slice_index r.classes label) % 2147483648 < length r.top in
+          subst P (sym is) (closed.stays k label less byte)
 
-      look_step : (y : ℕ) → StandsFor r y step.state → (unit : ℕ) → stands label unit → Reached r y × StepEnds K dead (text (state_at r.top x)) unit (text (state_at r.top y))
-      look_step y there unit coded =
+      small : entry < 4294967296
+      small = elim step.tells.is [ inl low ↦ omega (arith, low.0, step.tells.small) | inr high ↦ omega (arith, high, step.tells.small) ]
+
+      reached_step : (y : ℕ) → StandsFor r y step.state → y ≡ entry % 2147483648 → Reached r y
+      reached_step y there is =
+          let P : ℕ → Type 0 = λ s. reached s in
+          let Q : ℕ → Type 0 = λ s. s < length r.top in
+          (there.place, subst P (sym there.state) step.leads.is_state, λ closed. subst Q (sym is) (stays x place within closed))
+
+      look_step : (y : ℕ) → StandsFor r y step.state → y ≡ entry % 2147483648 → (unit : ℕ) → stands label unit → Reached r y × StepEnds K dead (text (state_at r.top x)) unit (text (state_at r.top y))
+      look_step y there is unit coded =
           let P : ℕ → Type 0 = λ s. StepEnds K dead (text (state_at r.top x)) unit (text s) in
-          (reached_step y there, subst P (sym there.state) (step.leads.ends unit coded))
+          (reached_step y there is, subst P (sym there.state) (step.leads.ends unit coded))
 
       pub look_quiet : entry < 2147483648 → (unit : ℕ) → stands label unit → Reached r entry × StepEnds K dead (text (state_at r.top x)) unit (text (state_at r.top entry))
-      look_quiet low = look_step entry (quiet_entry x label entry step low).0
+      look_quiet low = look_step entry (quiet_entry x label entry step low).0 (omega (arith, low))
 
       pub output_quiet : entry < 2147483648 → first (text (state_at r.top entry)) None
       output_quiet low =
@@ -116,10 +129,10 @@ module _ {V : Type 0} (K : Dictionary V) (reached : ℕ → Type 0) (text : ℕ 
           subst P (sym quiet.0.state) quiet.1
 
       pub reached_loud : 2147483648 ≤ entry → Reached r (entry - 2147483648)
-      reached_loud high = reached_step (entry - 2147483648) (loud_entry x label entry step high)
+      reached_loud high = reached_step (entry - 2147483648) (loud_entry x label entry step high) (omega (arith, high, small))
 
       pub look_loud : 2147483648 ≤ entry → (unit : ℕ) → stands label unit → Reached r (entry - 2147483648) × StepEnds K dead (text (state_at r.top x)) unit (text (state_at r.top (entry - 2147483648)))
-      look_loud high = look_step (entry - 2147483648) (loud_entry x label entry step high)
+      look_loud high = look_step (entry - 2147483648) (loud_entry x label entry step high) (omega (arith, high, small))
 
     -- the root's place has the root's text
     pub shares_root : (s : ℕ) → text s ≡ [] → SharesText reached text r r.root s
@@ -132,15 +145,15 @@ module _ {V : Type 0} (K : Dictionary V) (reached : ℕ → Type 0) (text : ℕ 
   shares_state r x s there here = let P : ℕ → Type 0 = λ y. reached y in record { is_place = there.place; is_state = subst P (sym there.state) here; same = ap text there.state }
 
   -- a look below the rows tells what the automaton's own tells, in places
-  pub look_below : (r : RowTable) (w : List ℕ) (unit s x : ℕ) (o : Option NonZeroU32) → SharesText reached text r x s → LookGives K reached text dead w unit (Next s o)
+  pub look_below : (r : RowTable) (w : List ℕ) (unit s x : ℕ) (o : Option NonZeroU32) → (AreClosed most stands r → x < length r.top) → SharesText reached text r x s → LookGives K reached text dead w unit (Next s o)
       → LookGives K (Reached r) (λ y. text (state_at r.top y)) dead w unit (Next x o)
-  look_below r w unit s x o shares look =
+  look_below r w unit s x o closed shares look =
       let P : List ℕ → Type 0 = λ t. StepEnds K dead w unit t in
-      ((shares.is_place, shares.is_state), subst P (sym shares.same) look.1)
+      ((shares.is_place, shares.is_state, closed), subst P (sym shares.same) look.1)
 
-  pub look_link : (r : RowTable) (w : List ℕ) (unit s x : ℕ) → StandsFor r x s → LookGives K reached text dead w unit (Fail s)
+  pub look_link : (r : RowTable) (w : List ℕ) (unit s x : ℕ) → (AreClosed most stands r → x < length r.top) → StandsFor r x s → LookGives K reached text dead w unit (Fail s)
       → LookGives K (Reached r) (λ y. text (state_at r.top y)) dead w unit (Fail x)
-  look_link r w unit s x place look =
+  look_link r w unit s x closed place look =
       let P : ℕ → Type 0 = λ y. LookGives K reached text dead w unit (Fail y) in
       let there = subst P (sym place.state) look in
-      ((place.place, there.0), there.1, there.2, there.3)
+      ((place.place, there.0, closed), there.1, there.2, there.3)

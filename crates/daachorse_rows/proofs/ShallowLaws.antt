@@ -8,7 +8,7 @@ use Rattle.daachorse_core.specs.Looks.{EndsAfter, StepEnds}
 use Rattle.daachorse_model.specs.Dictionary.{Dictionary}
 use Rattle.daachorse_model.specs.Prefixes.{IsPrefix, IsSuffix}
 use Rattle.daachorse_model.proofs.Steps.{IsPrefix-less}
-use Rattle.daachorse_rows.specs.Rows.{AreChosen, AreCovered, AreLabels, AreShallow, AreTooMany, GoesOn, HasEnd, HasSlot, IsShallow}
+use Rattle.daachorse_rows.specs.Rows.{AreChosen, AreCovered, AreLabels, AreShallow, AreStepped, AreTooMany, EndsInRow, GoesOn, HasEnd, HasSlot, IsShallow}
 use Rattle.daachorse_rows.proofs.MakingLaws.{below_or_at, read-new, read-old}
 
 All-behind : {X : Type 0} (P : X → Type 0) (front back : List X) → All P (front ++ back) → All P back
@@ -133,6 +133,37 @@ module _ {V : Type 0} (K : Dictionary V) (text : ℕ → List ℕ) (stands : ℕ
   pub HasEnd-on : (s label : ℕ) (old new : List ℕ) → GoesOn old new → HasEnd K text stands s label old → HasEnd K text stands s label new
   HasEnd-on s label old new on ends unit coded begins = row_on text old new on (text s ++ unit ∷ []) (ends unit coded begins)
 
+  pub EndsInRow-on : (dead : List ℕ → Type 0) (s label : ℕ) (old new : List ℕ) → GoesOn old new → EndsInRow K text stands dead s label old → EndsInRow K text stands dead s label new
+  EndsInRow-on dead s label old new on (k, below, ends) =
+      let P : ℕ → Type 0 = λ x. (unit : ℕ) → stands label unit → StepEnds K dead (text s) unit (text x) in
+      (k, omega (arith, below, on.more), subst P (sym (on.same k below)) ends)
+
+  -- the state at which the step ends has a row
+  pub EndsInRow-row : (dead : List ℕ → Type 0) (s label t : ℕ) → ((unit : ℕ) → stands label unit → StepEnds K dead (text s) unit (text t)) → (order : List ℕ) → (k : ℕ) × (k < length order) × (slice_index order k ≡ t) → EndsInRow K text stands dead s label order
+  EndsInRow-row dead s label t ends order (k, below, is) =
+      let P : ℕ → Type 0 = λ x. (unit : ℕ) → stands label unit → StepEnds K dead (text s) unit (text x) in
+      (k, below, subst P (sym is) ends)
+
+  module _ (dead : List ℕ → Type 0) (labels : List ℕ) where
+    pub AreStepped-none : (order : List ℕ) → (0 < length order) × (text (slice_index order 0) ≡ []) → AreStepped K text stands dead labels 0 order
+    AreStepped-none order root = record { root = root; ends = λ k j below. absurd (omega (arith, below)) }
+
+    pub AreStepped-fewer : (n m : ℕ) (order : List ℕ) → n ≤ m → AreStepped K text stands dead labels m order → AreStepped K text stands dead labels n order
+    AreStepped-fewer n m order fewer h = record { root = h.root; ends = λ k j below. h.ends k j (omega (arith, below, fewer)) }
+
+    -- the ends of the steps from one row more
+    pub AreStepped-more : (n : ℕ) (old new : List ℕ) → GoesOn old new → n < length old → AreStepped K text stands dead labels n old → ((j : ℕ) → j < length labels → EndsInRow K text stands dead (slice_index old n) (slice_index labels j) new)
+        → AreStepped K text stands dead labels (n + 1) new
+    AreStepped-more n old new on inside h here = record {
+      root = (omega (arith, h.root.0, on.more), ap text (on.same 0 h.root.0) ∙ h.root.1);
+      ends = λ k j below low.
+          let P : ℕ → Type 0 = λ x. EndsInRow K text stands dead x (slice_index labels j) new in
+          elim (below_or_at k n below) [
+            | inl before ↦ subst P (sym (on.same k (omega (arith, before, inside)))) (EndsInRow-on dead (slice_index old k) (slice_index labels j) old new on (h.ends k j before low))
+            | inr same ↦ let Q : ℕ → Type 0 = λ i. P (slice_index new i) in subst Q (sym same) (subst P (sym (on.same n inside)) (here j low))
+          ];
+    }
+
   -- the labels that are not listed lead nowhere
   pub HasEnd-all : (labels : List ℕ) → AreLabels K stands labels → (s : ℕ) (order : List ℕ) → ((k : ℕ) → k < length labels → HasEnd K text stands s (slice_index labels k) order) → (label : ℕ) → label < 510 → HasEnd K text stands s label order
   HasEnd-all labels named s order ends label low unit coded begins = elim (named.all label unit low coded) [
@@ -162,13 +193,13 @@ AreTooMany-full reached text stands n order homes most chosen shallow full few s
 }
   where
     fresh : (k : ℕ) → k < length order → s ≢ slice_index order k
-    fresh k below same = omega (arith, none, ap (slice_index homes) same, chosen.own k below, below, full, few)
+    fresh k below same = omega (arith, none, ap (slice_index homes) same, (chosen.own k below).1, below, full, few)
 
     different : (i j : ℕ) → i < length (s ∷ order) → j < length (s ∷ order) → slice_index (s ∷ order) i ≡ slice_index (s ∷ order) j → i ≡ j
     different zero zero p q same = refl
     different zero (suc j) p q same = absurd (fresh j (omega (arith, q)) same)
     different (suc i) zero p q same = absurd (fresh i (omega (arith, p)) (sym same))
-    different (suc i) (suc j) p q same = ap suc (sym (chosen.own i (omega (arith, p))) ∙ (ap (slice_index homes) same ∙ chosen.own j (omega (arith, q))))
+    different (suc i) (suc j) p q same = ap suc (sym (chosen.own i (omega (arith, p))).1 ∙ (ap (slice_index homes) same ∙ (chosen.own j (omega (arith, q))).1))
 
     each : (i : ℕ) → i < length (s ∷ order) → reached (slice_index (s ∷ order) i) × IsShallow stands n (text (slice_index (s ∷ order) i))
     each zero p = (there, last)

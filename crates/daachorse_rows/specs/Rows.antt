@@ -1,5 +1,5 @@
 -- Rows of the states near the root: of each label where the step ends. A place stands for a state: a row's first slot, in which the state is written, or behind all slots the states in order.
-use Rattle.std.specs.Prelude.{◌≡◌, ◌≢◌, ◌⊎◌, ℕ, zero, suc, ◌+◌, ◌*◌, ◌<◌, ◌≤◌, ◌^◌, List, [], ◌∷◌, ◌++◌, length, slice_index, Option, None}
+use Rattle.std.specs.Prelude.{◌≡◌, ◌≢◌, ◌⊎◌, ℕ, zero, suc, ◌+◌, ◌*◌, ◌%◌, ◌<◌, ◌≤◌, ◌^◌, List, [], ◌∷◌, ◌++◌, length, slice_index, Option, None}
 use Rattle.std.specs.List.{All}
 use Rattle.std.specs.declared.num.NonZeroU32.{NonZeroU32}
 use Rattle.daachorse_core.specs.Looks.{IsForeign, StepEnds}
@@ -49,6 +49,12 @@ pub record SharesText (reached : ℕ → Type 0) (text : ℕ → List ℕ) (r : 
   pub is_place : IsPlace r x
   pub is_state : reached (state_at r.top x)
   pub same : text (state_at r.top x) ≡ text s
+
+-- each label below `most` has a slot, and the root and each slot lead to a row, so that no step leaves the rows
+pub record AreClosed (most : ℕ) (stands : ℕ → ℕ → Type 0) (r : RowTable) : Type 0 where
+  pub slots : (label unit : ℕ) → label < most → stands label unit → label < 510
+  pub root : r.root < length r.top
+  pub stays : (k label : ℕ) → k < r.count → label < 510 → slice_index r.top (k * r.width + slice_index r.classes label) % 2147483648 < length r.top
 
 -- what a slot holds for a state: a place that stands for it, to which 2 ^ 31 is added, unless the state is quiet
 pub record IsEntry (stands : ℕ → Type 0) (quiet : Type 0) (entry : ℕ) : Type 0 where
@@ -102,6 +108,16 @@ pub record AreTooMany (reached : ℕ → Type 0) (text : ℕ → List ℕ) (stan
 abbrev pub Covers : {V : Type 0} → Dictionary V → (ℕ → List ℕ) → (ℕ → ℕ → Type 0) → ℕ → RowTable → Type 0
 Covers K text stands n r = (w : List ℕ) → IsPrefix K w → IsShallow stands n w → (k : ℕ) × (k < r.count) × (text (slice_index r.top (k * r.width)) ≡ w)
 
+-- no link is dead, states with the same text are the same, and each label below `most` has a slot
+pub record MayClose (most : ℕ) (reached : ℕ → Type 0) (text : ℕ → List ℕ) (dead : List ℕ → Type 0) (stands : ℕ → ℕ → Type 0) : Type 0 where
+  pub alive : (w : List ℕ) → ¬ dead w
+  pub single : (s t : ℕ) → reached s → reached t → text s ≡ text t → s ≡ t
+  pub slots : (label unit : ℕ) → label < most → stands label unit → label < 510
+
+-- the rows are closed, or the texts of more than `room` different states have units with a slot alone
+abbrev pub ClosesOrFills : ℕ → (ℕ → Type 0) → (ℕ → List ℕ) → (ℕ → ℕ → Type 0) → ℕ → RowTable → Type 0
+ClosesOrFills most reached text stands room r = AreClosed most stands r ⊎ ((n : ℕ) × AreTooMany reached text stands n room)
+
 -- Of an automaton: `first` says of a text at which position the outputs of its state begin.
 module _ {V : Type 0} (K : Dictionary V) (reached : ℕ → Type 0) (text : ℕ → List ℕ) (dead : List ℕ → Type 0) (stands : ℕ → ℕ → Type 0) (first : List ℕ → Option NonZeroU32 → Type 0) where
   -- the step from the state s by the label ends at the state t
@@ -125,19 +141,23 @@ module _ {V : Type 0} (K : Dictionary V) (reached : ℕ → Type 0) (text : ℕ 
 -- ---- while they are made: `order` are the states of the rows, and `base` is where the slots end
 
 module _ (order : List ℕ) (width base : ℕ) where
-  -- the place stands for the state
+  -- the place stands for the state: its row's, where it has one
   abbrev pub Stands : ℕ → ℕ → Type 0
-  Stands x s = ((k : ℕ) × (k < length order) × (x ≡ k * width) × (slice_index order k ≡ s)) ⊎ (x ≡ base + s)
+  Stands x s = ((k : ℕ) × (k < length order) × (x ≡ k * width) × (slice_index order k ≡ s)) ⊎ ((x ≡ base + s) × ((k : ℕ) → k < length order → slice_index order k ≢ s))
 
 -- the rows of the states of the rows
 abbrev pub AreHomes : List ℕ → List ℕ → Type 0
 AreHomes order homes = (s : ℕ) → s < length homes → slice_index homes s ≢ 65535 → (slice_index homes s < length order) × (slice_index order (slice_index homes s) ≡ s)
 
+-- each state of the rows has its own
+abbrev pub AreOwn : List ℕ → List ℕ → Type 0
+AreOwn order homes = (k : ℕ) → k < length order → (slice_index order k < length homes) × (slice_index homes (slice_index order k) ≡ k) × (k < 65535)
+
 -- the states of the rows can be reached, and the row of each is known; no state is too large for an entry
 pub record AreChosen (reached : ℕ → Type 0) (order table : List ℕ) (most : ℕ) : Type 0 where
   pub states : (k : ℕ) → k < length order → reached (slice_index order k)
   pub homes : AreHomes order table
-  pub own : (k : ℕ) → k < length order → slice_index table (slice_index order k) ≡ k
+  pub own : AreOwn order table
   pub few : length order ≤ most
   pub fits : (s : ℕ) → reached s → s + 65536 < 2147483648
 
@@ -155,6 +175,15 @@ module _ {V : Type 0} (K : Dictionary V) (text : ℕ → List ℕ) (stands : ℕ
   abbrev pub HasEnd : ℕ → ℕ → List ℕ → Type 0
   HasEnd s label order = (unit : ℕ) → stands label unit → IsPrefix K (text s ++ unit ∷ []) → (k : ℕ) × (k < length order) × (text (slice_index order k) ≡ text s ++ unit ∷ [])
 
+  -- the step by the label from the state s ends at the text of a row's state
+  abbrev pub EndsInRow : (List ℕ → Type 0) → ℕ → ℕ → List ℕ → Type 0
+  EndsInRow dead s label order = (k : ℕ) × (k < length order) × ((unit : ℕ) → stands label unit → StepEnds K dead (text s) unit (text (slice_index order k)))
+
+  -- so do those by each of these labels from the first n rows, and the first row is the root's
+  pub record AreStepped (dead : List ℕ → Type 0) (labels : List ℕ) (n : ℕ) (order : List ℕ) : Type 0 where
+    pub root : (0 < length order) × (text (slice_index order 0) ≡ [])
+    pub ends : (k j : ℕ) → k < n → j < length labels → EndsInRow dead (slice_index order k) (slice_index labels j) order
+
   -- each such text that begins a key is that of a row's state
   abbrev pub AreCovered : ℕ → List ℕ → Type 0
   AreCovered n order = (w : List ℕ) → IsPrefix K w → IsShallow stands n w → (k : ℕ) × (k < length order) × (text (slice_index order k) ≡ w)
@@ -164,7 +193,7 @@ module _ {V : Type 0} (K : Dictionary V) (reached : ℕ → Type 0) (text : ℕ 
   abbrev pub IsSlot : ℕ → ℕ → ℕ → Type 0
   IsSlot k zero v = v ≡ slice_index order k
   IsSlot k (suc c) v =
-      (t : ℕ) × IsEntry (λ x. Stands order width base x t) (first (text t) None) v × ((label : ℕ) → label < 510 → IsSlotOf labels label (suc c) → Leads K reached text dead stands first (slice_index order k) label t)
+      (t : ℕ) × IsEntry (λ x. Stands order width base x t) (first (text t) None) v × ((label : ℕ) → label < 510 → IsSlotOf labels label (suc c) → Leads K reached text dead stands first (slice_index order k) label t) × (c ≡ 0 → text t ≡ [])
 
   -- k rows were written, and c slots of the next
   pub record AreWritten (k c : ℕ) (top : List ℕ) : Type 0 where

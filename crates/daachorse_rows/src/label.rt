@@ -2,7 +2,7 @@
 //!
 //! The layers above may rely on a label's number telling it from each other one.
 
-ghost use Rattle.std.specs.Prelude.{◌≡◌, ℕ};
+ghost use Rattle.std.specs.Prelude.{◌≡◌, ◌<◌, ◌^◌, ℕ};
 
 /// Labels with a number below it have a slot in each row, so that there is room for 128 rows.
 pub const SLOTTED: u32 = 510;
@@ -12,9 +12,13 @@ pub trait RowLabel: Copy + Drop {
     /// The number of a label.
     ghost number: { Self → ℕ };
 
+    /// No label in hand has it, or a larger one.
+    ghost most: { ℕ };
+
     /// Returns the number of the label.
     fn index(self) -> usize
-        ensures { result ≡ number self };
+        ensures is { result ≡ number self }
+        ensures below { number self < most };
 
     // A number is that of one label alone.
     ghost exact: { (a b : Self) → number a ≡ number b → a ≡ b };
@@ -25,6 +29,8 @@ impl RowLabel for u8 {
 
     ghost number = { λ byte. byte };
 
+    ghost most = { 256 };
+
     #[inline(always)]
     fn index(self) -> usize {
         self as usize
@@ -34,9 +40,12 @@ impl RowLabel for u8 {
 }
 
 impl RowLabel for u32 {
+    ghost use Rattle.std.specs.Prelude.{◌^◌};
     ghost use Rattle.daachorse_rows.specs.Rows.{exact_number};
 
     ghost number = { λ code. code };
+
+    ghost most = { 2 ^ 32 };
 
     #[inline(always)]
     fn index(self) -> usize {

@@ -4,9 +4,9 @@
 //! come to them. The layers above may rely on the rows being right, on each state to which at most
 //! two steps lead having one, and on no order.
 
-ghost use Rattle.std.specs.Prelude.{◌≡◌, ◌⊎◌, ◌*◌, ◌+◌, ◌/◌, ◌<◌, ◌≤◌, ◌^◌, ℕ, true, false, length, map, slice_index, IfOk, MatchOption, OnOk, None};
+ghost use Rattle.std.specs.Prelude.{◌≡◌, ◌⊎◌, ◌*◌, ◌+◌, ◌/◌, ◌<◌, ◌≤◌, ◌^◌, ℕ, [], true, false, length, map, slice_index, IfOk, MatchOption, OnOk, None};
 ghost use Rattle.daachorse_core.specs.Looks.{IsFirstOutput};
-ghost use Rattle.daachorse_rows.specs.Rows.{AreChosen, AreCovered, AreHomes, AreLabels, AreShallow, AreSlots, AreTooMany, AreWritten, GoesOn, HasEnd, IsEntry, IsShallow, IsSlotOf, Stands, stands_by};
+ghost use Rattle.daachorse_rows.specs.Rows.{AreChosen, AreCovered, AreHomes, AreLabels, AreOwn, AreShallow, AreSlots, AreStepped, AreTooMany, AreWritten, EndsInRow, GoesOn, HasEnd, IsEntry, IsShallow, IsSlotOf, Stands, stands_by};
 
 use crate::label::{RowLabel, SLOTTED};
 use daachorse_core::turns::Turns;
@@ -68,6 +68,7 @@ impl<L: Allocator> Chosen<L> {
     /// The place of a state, where the slots end at `base`.
     pub(crate) fn place(&self, base: u32, state: u32, width: u32) -> u32
         requires homes { AreHomes self.now.order.items self.now.homes.items }
+        requires own { AreOwn self.now.order.items self.now.homes.items }
         requires few { length self.now.order.items * width ≤ 65536 }
         requires fits { base + state < 2 ^ 32 }
         ensures { Stands self.now.order.items width base result state }
@@ -82,6 +83,7 @@ impl<L: Allocator> Chosen<L> {
     /// What a slot holds for a state whose outputs begin at this position.
     fn entry(&self, base: u32, state: u32, position: Option<NonZeroU32>, width: u32) -> u32
         requires homes { AreHomes self.now.order.items self.now.homes.items }
+        requires own { AreOwn self.now.order.items self.now.homes.items }
         requires few { length self.now.order.items * width ≤ 65536 }
         requires wide { 0 < width }
         requires fits { base + state < 2147483648 }
@@ -113,7 +115,9 @@ where
     ensures { IfOk result (λ chosen. MatchOption chosen
         (AreTooMany (A.reached automaton.now) (A.text automaton.now) (stands_by A.Label.number (A.labels automaton.now)) 2 most ⊎ (2147418112 < count))
         (λ c. AreChosen (A.reached automaton.now) c.order.items c.homes.items most
-        × AreCovered (A.content automaton.now) (A.text automaton.now) (stands_by A.Label.number (A.labels automaton.now)) 2 c.order.items)) }
+        × AreCovered (A.content automaton.now) (A.text automaton.now) (stands_by A.Label.number (A.labels automaton.now)) 2 c.order.items
+        × (AreStepped (A.content automaton.now) (A.text automaton.now) (stands_by A.Label.number (A.labels automaton.now)) (A.dead automaton.now) (map A.Label.number labels.now) (length c.order.items) c.order.items
+        ⊎ ((n : ℕ) × AreTooMany (A.reached automaton.now) (A.text automaton.now) (stands_by A.Label.number (A.labels automaton.now)) n most)))) }
 {
     if count > MOST_STATES {
         return Ok(None);
@@ -146,6 +150,7 @@ where
     ensures size { IfOk result (λ c. length c.homes.items ≡ count) }
     ensures shallow { IfOk result (λ c. AreShallow (A.text automaton.now) (stands_by A.Label.number (A.labels automaton.now)) 0 c.order.items) }
     ensures covered { IfOk result (λ c. AreCovered (A.content automaton.now) (A.text automaton.now) (stands_by A.Label.number (A.labels automaton.now)) 0 c.order.items) }
+    ensures root { IfOk result (λ c. (0 < length c.order.items) × (A.text automaton.now (slice_index c.order.items 0) ≡ [])) }
 {
     let mut order = Vec::new(alloc);
     let mut homes = Vec::from_elem(alloc, NO_ROW, count as usize)?;
@@ -171,6 +176,9 @@ where
     requires few { most < 65535 }
     ensures chosen { OnOk result (AreChosen (A.reached automaton.now) chosen.new.order.items chosen.new.homes.items most) }
     ensures same { OnOk result (length chosen.new.homes.items ≡ length chosen.old.homes.items) }
+    ensures on { OnOk result (GoesOn chosen.old.order.items chosen.new.order.items) }
+    ensures stepped { IfOk result (λ all. all ≡ true → (0 < length chosen.old.order.items) × (A.text automaton.now (slice_index chosen.old.order.items 0) ≡ [])
+        → AreStepped (A.content automaton.now) (A.text automaton.now) (stands_by A.Label.number (A.labels automaton.now)) (A.dead automaton.now) (map A.Label.number labels.now) (length chosen.old.order.items) chosen.new.order.items) }
     ensures shallow { OnOk result ((n : ℕ) → AreShallow (A.text automaton.now) (stands_by A.Label.number (A.labels automaton.now)) n chosen.old.order.items
         → AreShallow (A.text automaton.now) (stands_by A.Label.number (A.labels automaton.now)) (n + 1) chosen.new.order.items) }
     ensures all { IfOk result (λ all. all ≡ true → (n : ℕ) → AreCovered (A.content automaton.now) (A.text automaton.now) (stands_by A.Label.number (A.labels automaton.now)) n chosen.old.order.items
@@ -203,6 +211,10 @@ where
     requires few { most < 65535 }
     ensures chosen { OnOk result (AreChosen (A.reached automaton.now) chosen.new.order.items chosen.new.homes.items most) }
     ensures on { OnOk result (GoesOn chosen.old.order.items chosen.new.order.items) }
+    ensures stepped { OnOk result ((n : ℕ) → AreShallow (A.text automaton.now) (stands_by A.Label.number (A.labels automaton.now)) n chosen.old.order.items
+        → AreStepped (A.content automaton.now) (A.text automaton.now) (stands_by A.Label.number (A.labels automaton.now)) (A.dead automaton.now) (map A.Label.number labels.now) from chosen.old.order.items
+        → AreStepped (A.content automaton.now) (A.text automaton.now) (stands_by A.Label.number (A.labels automaton.now)) (A.dead automaton.now) (map A.Label.number labels.now) (length chosen.new.order.items) chosen.new.order.items
+        ⊎ ((m : ℕ) × AreTooMany (A.reached automaton.now) (A.text automaton.now) (stands_by A.Label.number (A.labels automaton.now)) m most)) }
 {
     let mut at = from;
     while at < chosen.order.len() {
@@ -238,6 +250,8 @@ where
         → AreShallow (A.text automaton.now) (stands_by A.Label.number (A.labels automaton.now)) (n + 1) chosen.new.order.items) }
     ensures all { IfOk result (λ all. all ≡ true → (label : ℕ) → label < 510
         → HasEnd (A.content automaton.now) (A.text automaton.now) (stands_by A.Label.number (A.labels automaton.now)) (slice_index chosen.old.order.items at) label chosen.new.order.items) }
+    ensures ends { IfOk result (λ all. all ≡ true → (j : ℕ) → j < length labels.now
+        → EndsInRow (A.content automaton.now) (A.text automaton.now) (stands_by A.Label.number (A.labels automaton.now)) (A.dead automaton.now) (slice_index chosen.old.order.items at) (slice_index (map A.Label.number labels.now) j) chosen.new.order.items) }
     ensures full { IfOk result (λ all. all ≡ false → (n : ℕ) → IsShallow (stands_by A.Label.number (A.labels automaton.now)) n (A.text automaton.now (slice_index chosen.old.order.items at))
         → AreShallow (A.text automaton.now) (stands_by A.Label.number (A.labels automaton.now)) (n + 1) chosen.old.order.items
         → AreTooMany (A.reached automaton.now) (A.text automaton.now) (stands_by A.Label.number (A.labels automaton.now)) (n + 1) most) }

@@ -1,9 +1,10 @@
 //! What a search sees of an automaton with rows.
 //!
 //! The layers above may rely on [`RowView`] being an automaton of the same dictionary as the one
-//! below, on one look a unit where a row is looked at, and on no call taking memory.
+//! below, on one look a unit where a row is looked at, which is everywhere where the rows are closed,
+//! and on no call taking memory.
 
-ghost use Rattle.std.specs.Prelude.{◌≡◌};
+ghost use Rattle.std.specs.Prelude.{◌≡◌, ◌<◌, length};
 ghost use Rattle.daachorse_core.specs.Looks.{IsFirstOutput};
 ghost use Rattle.daachorse_rows.specs.Rows.{AreRows, SharesText, StandsFor, stands_by, state_at};
 
@@ -127,7 +128,7 @@ impl<'a, V: Copy, A: Automaton<V>> Automaton<V> for RowView<'a, V, A>
 where
     A::Label: RowLabel,
 {
-    ghost use Rattle.daachorse_rows.specs.Rows.{IsPlace, state_at};
+    ghost use Rattle.daachorse_rows.specs.Rows.{AreClosed, IsPlace, state_at};
 
     type Unit = A::Unit;
 
@@ -135,7 +136,8 @@ where
 
     ghost content = { λ p. A.content p.automaton };
 
-    ghost reached = { λ p place. IsPlace p.rows place × A.reached p.automaton (state_at p.rows.top place) };
+    ghost reached = { λ p place. IsPlace p.rows place × A.reached p.automaton (state_at p.rows.top place)
+        × (AreClosed A.Label.most (stands_by A.Label.number (A.labels p.automaton)) p.rows → place < length p.rows.top) };
 
     ghost text = { λ p place. A.text p.automaton (state_at p.rows.top place) };
 
@@ -150,6 +152,8 @@ where
     ghost outputs = { λ p. A.outputs p.automaton };
 
     ghost most_outputs = { λ p. A.most_outputs p.automaton };
+
+    ghost ends_at_once = { λ p. AreClosed A.Label.most (stands_by A.Label.number (A.labels p.automaton)) p.rows };
 
     #[inline(always)]
     fn root(&self) -> u32 {

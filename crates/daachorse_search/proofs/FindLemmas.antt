@@ -292,20 +292,22 @@ module _ {V A : Type 0} (width : ℕ → ℕ) (wide : (u : ℕ) → 1 ≤ width 
           subst Q (sym keyed) (omega (arith, none_counted (units s.seen)))
 
   -- the bounds of the turns, of what was read since the last match
-  pub finding-bounded : (s : Walked A) (o : Option NonZeroU32) → finding s.automaton s.seen s.turns o → s.turns ≤ 2 * length (units s.seen)
-      → ((t : List ℕ) → IsLong (content s.automaton) s.seen.since t → s.turns + length t ≤ 2 * length (units s.seen)) → count_by (has_label s.automaton) s.seen.looked ≤ s.turns
-      → AreBoundedSince (content s.automaton) (has_label s.automaton) width (units s.seen) s.turns
-  finding-bounded s None h most' deep least =
+  pub finding-bounded : (ends_at_once : Type 0) (s : Walked A) (o : Option NonZeroU32) → finding s.automaton s.seen s.turns o → s.turns ≤ 2 * length (units s.seen)
+      → ((t : List ℕ) → IsLong (content s.automaton) s.seen.since t → s.turns + length t ≤ 2 * length (units s.seen)) → (ends_at_once → s.turns ≤ length (units s.seen))
+      → count_by (has_label s.automaton) s.seen.looked ≤ s.turns → AreBoundedSince (content s.automaton) (has_label s.automaton) ends_at_once width (units s.seen) s.turns
+  finding-bounded once s None h most' deep single least =
       let P : List ℕ → Type 0 = λ l. count_by (has_label s.automaton) l ≤ s.turns in
       record {
         most = most';
         deep = deep_since s None h deep;
+        single = single;
         least = λ _. subst P h.all least;
         idle = λ keyed. absurd (keyed h.resumed.no_empty);
       }
-  finding-bounded s (Some p) h most' deep least = record {
+  finding-bounded once s (Some p) h most' deep single least = record {
     most = most';
     deep = deep_since s (Some p) h deep;
+    single = single;
     least = λ none. absurd (h.keyed none);
     idle = λ _. h.idle;
   }

@@ -51,9 +51,9 @@ pub no_place_on : (p q : List ℕ → Bool) (opened : Type 0) (read rest : List 
 no_place_on p q opened read rest places (inl none) = inl none
 no_place_on p q opened read rest places (inr (open_now, none, nowhere)) = inr (open_now, none, nowhere_on p q rest places nowhere)
 
-module _ {V A W : Type 0} (width : ℕ → ℕ) (automaton : W → A) (text : W → List ℕ) (turns_of : W → ℕ) (found : A → List ℕ → List (Match V)) (content : A → Dictionary V) (looks_at : A → ℕ → Bool) where
+module _ {V A W : Type 0} (width : ℕ → ℕ) (automaton : W → A) (text : W → List ℕ) (turns_of : W → ℕ) (found : A → List ℕ → List (Match V)) (content : A → Dictionary V) (looks_at : A → ℕ → Bool) (ends_at_once : A → Type 0) where
   abbrev skips : (List ℕ → Bool) → W → List ℕ → ℕ → List (Match V) → W → List ℕ → ℕ → Type 0
-  skips passes = SkipsTo width automaton text found looks_at passes
+  skips passes = SkipsTo width automaton text found looks_at ends_at_once passes
 
   -- the same places, whatever the filter
   pub SkipsTo-places : (p q : List ℕ → Bool) (from : W) (rest : List ℕ) (before : ℕ) (ms : List (Match V)) (to : W) (later : List ℕ) (taken : ℕ) → ((w : List ℕ) → q w ≡ p w) → skips q from rest before ms to later taken → skips p from rest before ms to later taken
@@ -71,6 +71,7 @@ module _ {V A W : Type 0} (width : ℕ → ℕ) (automaton : W → A) (text : W 
     fewer = omega arith;
     left = sym (shifted-none (past_each_end (found (automaton from)) (text from) rest));
     most = omega arith;
+    single = λ _. omega arith;
     least = omega arith;
     plain = λ everywhere. (refl, refl);
   }
@@ -86,9 +87,9 @@ module _ {V A W : Type 0} (width : ℕ → ℕ) (automaton : W → A) (text : W 
 
   -- a walk that begins again behind units at which the filter does not pass
   pub SkipsTo-again : (passes : List ℕ → Bool) (from : W) (rest : List ℕ) (before : ℕ) (to : W) (later : List ℕ) (taken : ℕ) → IsSoundFor passes (content (automaton from)) → IsNextPassing passes rest later → size width later < size width rest
-      → GoesOnAfresh width (content (automaton from)) (found (automaton from)) (text from) → turns_of from ≤ 2 * length (text from) → count_by (looks_at (automaton from)) (text from) ≤ turns_of from
-      → automaton to ≡ automaton from → text to ≡ [] → taken ≡ before + turns_of from → skips passes from rest before [] to later taken
-  SkipsTo-again passes from rest before to later taken sound next less afresh most' least' same begun counted =
+      → GoesOnAfresh width (content (automaton from)) (found (automaton from)) (text from) → turns_of from ≤ 2 * length (text from) → (ends_at_once (automaton from) → turns_of from ≤ length (text from))
+      → count_by (looks_at (automaton from)) (text from) ≤ turns_of from → automaton to ≡ automaton from → text to ≡ [] → taken ≡ before + turns_of from → skips passes from rest before [] to later taken
+  SkipsTo-again passes from rest before to later taken sound next less afresh most' single' least' same begun counted =
       let front : List ℕ = next.front in let read : List ℕ = text from in let looks = looks_at (automaton from) in
       let some : 0 < length front = longer front (omega (arith, less, ap (size width) next.parts, size-append width front later)) in
       let N : List ℕ → Type 0 = λ x. NoneStarts (content (automaton from)) (length front) x in
@@ -108,6 +109,7 @@ module _ {V A W : Type 0} (width : ℕ → ℕ) (automaton : W → A) (text : W 
             ∙ ap (λ (a : A). map (shifted (size width (read ++ front))) (past_each_end (found a) [] later)) (sym same)
             ∙ ap (λ t. map (shifted (size width (read ++ front))) (past_each_end (found (automaton to)) t later)) (sym begun);
         most = omega (arith, counted, most', length-append read front);
+        single = λ once. omega (arith, counted, single' once, length-append read front);
         least = omega (arith, counted, split, none, few, least');
         plain = λ everywhere. absurd (never (next.none [] rest refl (omega (arith, some, ap length next.parts, length-append front later))) (everywhere rest));
       }
@@ -159,6 +161,7 @@ module _ {V A W : Type 0} (width : ℕ → ℕ) (automaton : W → A) (text : W 
             ∙ shifted-twice (size width a.gap) (size width b.gap) ms'
             ∙ ap (λ n. map (shifted n) ms') (sym (size-append width a.gap b.gap));
         most = omega (arith, a.most, b.most, length-append a.gap b.gap);
+        single = λ once. omega (arith, a.single once, b.single (subst ends_at_once (sym a.same) once), length-append a.gap b.gap);
         least = omega (arith, a.least, least', split);
         plain = λ everywhere. (let x = a.plain everywhere in let y = b.plain everywhere in (ap (λ l. l ++ b.gap) x.0 ∙ y.0, y.1 ∙ x.1));
       }
@@ -173,6 +176,7 @@ module _ {V A W : Type 0} (width : ℕ → ℕ) (automaton : W → A) (text : W 
     fewer = omega (arith, a.fewer, fewer);
     left = a.left ∙ ap (map (shifted (size width a.gap))) b.left;
     most = a.most;
+    single = a.single;
     least = a.least;
     plain = a.plain;
   }
@@ -181,7 +185,7 @@ module _ {V A W : Type 0} (width : ℕ → ℕ) (automaton : W → A) (text : W 
 
   module _ (has_output : W → ℕ → Type 0) (given_from : W → ℕ → List (Match V)) (passes : List ℕ → Bool) (asked : Type 0) (whole : List ℕ) (bytes : ℕ) where
     abbrev pub reading : Type 0 → W → List ℕ → ℕ → ℕ → Type 0
-    reading opened walk rest position before = IsReading width (content (automaton walk)) (has_output walk) (looks_at (automaton walk)) passes asked opened whole (text walk) rest position bytes before (turns_of walk)
+    reading opened walk rest position before = IsReading width (content (automaton walk)) (has_output walk) (looks_at (automaton walk)) (ends_at_once (automaton walk)) passes asked opened whole (text walk) rest position bytes before (turns_of walk)
 
     abbrev pub left_of : W → List ℕ → ℕ → List (Match V)
     left_of walk rest position = matches_behind width (found (automaton walk)) whole (given_from walk position) (text walk) rest
@@ -204,6 +208,7 @@ module _ {V A W : Type 0} (width : ℕ → ℕ) (automaton : W → A) (text : W 
       spans = sized ∙ ap (size width) (sym same);
       sound = sound;
       most = omega (arith, zero);
+      single = λ _. omega (arith, zero);
       least = omega arith;
       plain = λ everywhere. (refl, zero);
       idle = λ ask nowhere. (omega (arith, zero, idle), inr (opens ask, none, (let P : List ℕ → Type 0 = λ x. PassesNowhere passes x in subst P same nowhere)));
@@ -227,6 +232,7 @@ module _ {V A W : Type 0} (width : ℕ → ℕ) (automaton : W → A) (text : W 
             spans = h.spans;
             sound = subst S (sym on.same) h.sound;
             most = omega (arith, h.most, on.most, length-append h.base on.gap);
+            single = λ once. (let once' = subst ends_at_once on.same once in omega (arith, h.single once', on.single once', length-append h.base on.gap));
             least = subst L (sym on.same) (omega (arith, split, h.least, on.least));
             plain = λ everywhere. (let x = h.plain everywhere in let y = on.plain everywhere in (ap (λ l. l ++ on.gap) x.0 ∙ y.0, y.1 ∙ x.1));
             idle = λ ask nowhere. (let x = h.idle ask nowhere in let y = idle x.1 in (y.0 ∙ x.0, inl y.1));
@@ -252,7 +258,7 @@ module _ {V A W : Type 0} (width : ℕ → ℕ) (automaton : W → A) (text : W 
         let b : ℕ = size width was.base in
         let past : List (Match V) = past_each_end (found (automaton walk)) (text walk) rest in
         let at : place ≡ b + size width (text walk) = omega (arith, here, place_is opened walk rest position before was) in (
-          record { output = output; base = was.base; parts = was.parts; spans = was.spans; sound = was.sound; most = was.most; least = was.least; plain = was.plain; idle = was.idle },
+          record { output = output; base = was.base; parts = was.parts; spans = was.spans; sound = was.sound; most = was.most; single = was.single; least = was.least; plain = was.plain; idle = was.idle },
           left_is walk rest position was.base was.parts
               ∙ map-append (shifted b) (given_from walk position) past
               ∙ ap (λ l. l ++ map (shifted b) past) (given b at)
@@ -282,6 +288,12 @@ module _ {V A W : Type 0} (width : ℕ → ℕ) (automaton : W → A) (text : W 
           omega (arith, was.most, most', ap length passed, length-append was.base (text walk)),
           omega (arith, ap (count_passing passes looks whole) passed, split, was.least, few, least'),
         )
+
+    -- where each look ends its step
+    pub reading-single : (opened : Type 0) (walk : W) (rest : List ℕ) (position before : ℕ) (was : reading opened walk rest position before) → (ends_at_once (automaton walk) → turns_of walk ≤ length (text walk))
+        → ends_at_once (automaton walk) → before + turns_of walk ≤ length (before_rest whole rest)
+    reading-single opened walk rest position before was single' once =
+        omega (arith, was.single once, single' once, ap length (passed_is opened walk rest position before was), length-append was.base (text walk))
 
     -- where the filter passes everywhere, the walk began at the beginning
     pub reading-plain : (opened : Type 0) (walk : W) (rest : List ℕ) (position before : ℕ) (was : reading opened walk rest position before) → ((w : List ℕ) → passes w ≡ true) → (before_rest whole rest ≡ text walk) × (before + turns_of walk ≡ turns_of walk)

@@ -17,7 +17,7 @@ matches_behind width found whole pending read rest = map (shifted (size width (b
 abbrev pub HasNoPlace : (List ℕ → Bool) → Type 0 → List ℕ → List ℕ → Type 0
 HasNoPlace passes opened read rest = (rest ≡ []) ⊎ (opened × (read ≡ []) × PassesNowhere passes rest)
 
-module _ {V A W : Type 0} (width : ℕ → ℕ) (automaton : W → A) (text : W → List ℕ) (found : A → List ℕ → List (Match V)) (looks_at : A → ℕ → Bool) (passes : List ℕ → Bool) where
+module _ {V A W : Type 0} (width : ℕ → ℕ) (automaton : W → A) (text : W → List ℕ) (found : A → List ℕ → List (Match V)) (looks_at : A → ℕ → Bool) (ends_at_once : A → Type 0) (passes : List ℕ → Bool) where
   -- A walk read on in a haystack, where it began again behind the units `gap`, and of all that was left found these matches. `before` and `taken` are the turns that it took up to where it began.
   pub record SkipsTo (from : W) (rest : List ℕ) (before : ℕ) (matches : List (Match V)) (to : W) (later : List ℕ) (taken : ℕ) : Type 0 where
     pub gap : List ℕ
@@ -26,10 +26,11 @@ module _ {V A W : Type 0} (width : ℕ → ℕ) (automaton : W → A) (text : W 
     pub fewer : length later ≤ length rest
     pub left : past_each_end (found (automaton from)) (text from) rest ≡ map (shifted (size width gap)) (matches_left (found (automaton to)) matches (text to) later)
     pub most : taken ≤ before + 2 * length gap
+    pub single : ends_at_once (automaton from) → taken ≤ before + length gap
     pub least : before + count_passing passes (looks_at (automaton from)) (text from ++ rest) gap ≤ taken
     pub plain : ((w : List ℕ) → passes w ≡ true) → (gap ≡ []) × (taken ≡ before)
 
-module _ {V : Type 0} (width : ℕ → ℕ) (K : Dictionary V) (has_output : ℕ → Type 0) (looks_at : ℕ → Bool) (passes : List ℕ → Bool) (asked : Type 0) where
+module _ {V : Type 0} (width : ℕ → ℕ) (K : Dictionary V) (has_output : ℕ → Type 0) (looks_at : ℕ → Bool) (ends_at_once : Type 0) (passes : List ℕ → Bool) (asked : Type 0) where
   -- Between two calls: the next output to give stands at the position, and the walk began behind `base`, up to where it took `before` turns. It asks a filter that passes by `passes`, where `asked` says that it was open at the beginning, and `opened` that it is.
   pub record IsReading (opened : Type 0) (whole read rest : List ℕ) (position bytes before turns : ℕ) : Type 0 where
     pub output : has_output position
@@ -38,6 +39,7 @@ module _ {V : Type 0} (width : ℕ → ℕ) (K : Dictionary V) (has_output : ℕ
     pub spans : bytes ≡ size width whole
     pub sound : IsSoundFor passes K
     pub most : before ≤ 2 * length base
+    pub single : ends_at_once → before ≤ length base
     pub least : count_passing passes looks_at whole base ≤ before
     pub plain : ((w : List ℕ) → passes w ≡ true) → (base ≡ []) × (before ≡ 0)
     pub idle : asked → PassesNowhere passes whole → (before + turns ≡ 0) × HasNoPlace passes opened read rest

@@ -28,10 +28,11 @@ module _ {V A W : Type 0} (automaton : W → A) (read : W → List ℕ) (found :
     pub some : IfSome position (λ p. 0 < length (given_from walk p.value))
 
 module _ {V : Type 0} (K : Dictionary V) (has_label : ℕ → Bool) where
-  -- The turns of a search that begins at the root once: at most twice the units read, less the length of its state's text, and at least the units read that some key has.
-  pub record AreBounded (read : List ℕ) (turns : ℕ) : Type 0 where
+  -- The turns of a search that begins at the root once: at most twice the units read, less the length of its state's text, at most the units read where each look ends its step, and at least the units read that some key has.
+  pub record AreBounded (ends_at_once : Type 0) (read : List ℕ) (turns : ℕ) : Type 0 where
     pub most : turns ≤ 2 * length read
     pub deep : (s : List ℕ) → IsLong K read s → turns + length s ≤ 2 * length read
+    pub single : ends_at_once → turns ≤ length read
     pub least : count_by has_label read ≤ turns
 
   -- a search that looks up nothing where some key is empty looks at each unit that some key has, where none is
@@ -39,8 +40,9 @@ module _ {V : Type 0} (K : Dictionary V) (has_label : ℕ → Bool) where
   looks_unless_empty u = cond (is_key K []) false (has_label u)
 
   -- The same for a search that begins again at the root behind each match. With an empty key it takes no turn.
-  pub record AreBoundedSince (width : ℕ → ℕ) (read : List ℕ) (turns : ℕ) : Type 0 where
+  pub record AreBoundedSince (ends_at_once : Type 0) (width : ℕ → ℕ) (read : List ℕ) (turns : ℕ) : Type 0 where
     pub most : turns ≤ 2 * length read
     pub deep : (since s : List ℕ) → IsSinceMatch width K read since → IsLong K since s → turns + length s ≤ 2 * length read
+    pub single : ends_at_once → turns ≤ length read
     pub least : K [] ≡ [] → count_by has_label read ≤ turns
     pub idle : K [] ≢ [] → turns ≡ 0

@@ -69,10 +69,11 @@ module _ {V : Type 0} (width : ℕ → ℕ) (K : Dictionary V) (has_output : ℕ
     pub matches : matches_since width K seen.before seen.since ≡ matches_of_outputs (size width (units seen)) (outputs position)
 
 -- The walk stands at the state of the units read since it last began at the root, with these bounds on its turns.
-module _ {V : Type 0} (K : Dictionary V) (reached : ℕ → Type 0) (text : ℕ → List ℕ) (dead : List ℕ → Type 0) (has_label : ℕ → Bool) where
+module _ {V : Type 0} (K : Dictionary V) (reached : ℕ → Type 0) (text : ℕ → List ℕ) (dead : List ℕ → Type 0) (has_label : ℕ → Bool) (ends_at_once : Type 0) where
   pub record IsWalking (seen : SeenUnits) (state turns : ℕ) : Type 0 where
     pub alive : (w : List ℕ) → ¬ dead w
     pub at_state : reached state
     pub long : IsLong K seen.since (text state)
     pub most : turns + length (text state) ≤ 2 * length (units seen)
+    pub single : ends_at_once → turns ≤ length (units seen)
     pub least : count_by has_label seen.looked ≤ turns

@@ -4,13 +4,14 @@
 //! that is the state of the longest end of the text that begins a key, and in a leftmost one that of
 //! what may still become a match as early as the best so far, which is the cut of what was read; and
 //! on its turns: at most two, less what the state's text grew by, at least one for a unit with a
-//! label, and none for a unit without.
+//! label, and none for a unit without; at most one where each look ends its step.
 
-ghost use Rattle.std.specs.Prelude.{◌≡◌, ◌+◌, ◌≤◌, ◌<◌, ℕ, Bool, false, true, List, [], ◌∷◌, ◌++◌, IfSome, MatchOption, IsTrue, ◌↔◌, length, if◌then◌else◌};
+ghost use Rattle.std.specs.Prelude.{◌≡◌, ◌+◌, ◌≤◌, ◌<◌, ℕ, Bool, false, true, List, [], ◌∷◌, ◌++◌, IfSome, MatchOption, IsTrue, ◌↔◌, length, if◌then◌else◌, ◌≢◌};
 ghost use Rattle.daachorse_model.specs.Dictionary.{Dictionary};
 ghost use Rattle.daachorse_model.specs.Best.{IsLeftmost, IsSteady, LeftSteps};
 ghost use Rattle.daachorse_model.specs.Prefixes.{IsCut, IsLong};
 ghost use Rattle.daachorse_core.specs.Outputs.{value_of, length_of, parent_of};
+ghost use Rattle.daachorse_core.specs.declared.turns.Look.TheVariants.{Fail};
 ghost use Rattle.daachorse_core.specs.Looks.{IsFirstOutput, IsForeign, LookGives, StepEnds, TellsOutput};
 
 use daachorse_core::Output;
@@ -55,6 +56,9 @@ pub trait Automaton<V: Copy>: Drop {
     /// No state has more outputs.
     ghost most_outputs: { Self → ℕ };
 
+    /// Each look ends its step, so that no link is followed. Where nothing is said, some may not.
+    ghost ends_at_once: { Self → Type 0 } = { λ _. ⊥ };
+
     /// The state of the empty text.
     fn root(&self) -> u32
         ensures reached { reached self.now result }
@@ -78,7 +82,8 @@ pub trait Automaton<V: Copy>: Drop {
             → LookGives (content self.now) (reached self.now) (text self.now) (dead self.now) (text self.now state) unit result }
         ensures output { (unit : ℕ) → labels self.now label unit
             → TellsOutput Self.Unit.width (content self.now) (dead self.now) (has_output self.now) (outputs self.now) (most_outputs self.now) (text self.now) result }
-        ensures counted { turns.new ≡ turns.old + 1 };
+        ensures counted { turns.new ≡ turns.old + 1 }
+        ensures single { ends_at_once self.now → (unit link : ℕ) → labels self.now label unit → result ≢ Fail link };
 
     /// Whether the first look of a step stands ahead of the loop along the links. The step is the
     /// same either way; which is faster was measured for each automaton.
@@ -128,6 +133,7 @@ pub fn step<V: Copy, A: Automaton<V>>(
     ensures cut { IsLeftmost (A.content automaton.now) (A.dead automaton.now) → (w : List ℕ) → IsSteady (A.content automaton.now) w (A.text automaton.now state)
         → IsCut (A.content automaton.now) (w ++ A.Unit.unit unit ∷ []) (A.text automaton.now result.0) }
     ensures most { turns.new + length (A.text automaton.now result.0) ≤ turns.old + length (A.text automaton.now state) + 2 }
+    ensures single { A.ends_at_once automaton.now → turns.new ≤ turns.old + 1 }
     ensures least { turns.old + (if A.has_label automaton.now (A.Unit.unit unit) then 1 else 0) ≤ turns.new }
     ensures no_label { A.has_label automaton.now (A.Unit.unit unit) ≡ false → (turns.new ≡ turns.old) × (A.text automaton.now result.0 ≡ []) }
 {
@@ -154,6 +160,7 @@ pub fn follow<V: Copy, A: Automaton<V>>(
     ensures ends { (unit : ℕ) → A.labels automaton.now label unit
         → StepEnds (A.content automaton.now) (A.dead automaton.now) (A.text automaton.now state) unit (A.text automaton.now result.0) }
     ensures most { turns.new + length (A.text automaton.now result.0) ≤ turns.old + length (A.text automaton.now state) + 2 }
+    ensures single { A.ends_at_once automaton.now → turns.new ≤ turns.old + 1 }
     ensures least { turns.old + 1 ≤ turns.new }
 {
     let mut at = state;

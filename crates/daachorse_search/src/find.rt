@@ -78,7 +78,7 @@ impl<V: Copy, A: Automaton<V>> FindWalk<V, A> {
     /// Where the walk stands, and the outputs of the empty key, for [`Self::resume`].
     #[inline(always)]
     pub fn into_standing(self) -> (Standing, Option<NonZeroU32>)
-        ensures walks { IsWalking (A.content self.automaton) (A.reached self.automaton) (A.text self.automaton) (A.dead self.automaton) (A.has_label self.automaton)
+        ensures walks { IsWalking (A.content self.automaton) (A.reached self.automaton) (A.text self.automaton) (A.dead self.automaton) (A.has_label self.automaton) (A.ends_at_once self.automaton)
             result.0.seen result.0.state result.0.turns }
         ensures finds { IsFinding A.Unit.width (A.content self.automaton) (A.has_output self.automaton) (A.outputs self.automaton) result.0.seen result.0.turns result.1 }
         ensures seen { result.0.seen ≡ self.seen }
@@ -91,7 +91,7 @@ impl<V: Copy, A: Automaton<V>> FindWalk<V, A> {
     /// A walk that goes on where one through the same automaton stood.
     #[inline(always)]
     pub fn resume(automaton: A, standing: Standing, everywhere: Option<NonZeroU32>) -> Self
-        requires walks { IsWalking (A.content automaton) (A.reached automaton) (A.text automaton) (A.dead automaton) (A.has_label automaton)
+        requires walks { IsWalking (A.content automaton) (A.reached automaton) (A.text automaton) (A.dead automaton) (A.has_label automaton) (A.ends_at_once automaton)
             standing.seen standing.state standing.turns }
         requires finds { IsFinding A.Unit.width (A.content automaton) (A.has_output automaton) (A.outputs automaton) standing.seen standing.turns everywhere }
         ensures automaton { result.automaton ≡ automaton }
@@ -131,7 +131,9 @@ impl<V: Copy, A: Automaton<V>> Stepwise<V> for FindWalk<V, A> {
 
     ghost looks_at = { λ a. looks_unless_empty (A.content a) (A.has_label a) };
 
-    ghost bounds = { λ a read turns. AreBoundedSince (A.content a) (A.has_label a) A.Unit.width read turns };
+    ghost ends_at_once = { A.ends_at_once };
+
+    ghost bounds = { λ a read turns. AreBoundedSince (A.content a) (A.has_label a) (A.ends_at_once a) A.Unit.width read turns };
 
     #[inline(always)]
     fn begin(&self) -> Option<NonZeroU32> {

@@ -90,8 +90,8 @@ impl<'a, V: Copy, A: Automaton<V>> FindStepper<'a, V, A> {
 
     /// Consumes one unit.
     ///
-    /// The turns, which are looks at one state, are in all at most twice the units consumed, and no
-    /// memory is taken.
+    /// The turns, which are looks at one state, are in all at most twice the units consumed, at most as
+    /// many as these where each look ends its step, and no memory is taken.
     #[inline(always)]
     pub fn consume(&mut self, unit: A::Unit)
         requires { size A.Unit.width self.old.read + A.Unit.width (A.Unit.unit unit) < 2 ^ 64 }
@@ -132,7 +132,7 @@ impl<'a, V: Copy, A: Automaton<V>> FindStepper<'a, V, A> {
     /// the automaton is borrowed again.
     #[inline(always)]
     pub fn into_standing(self) -> FindStanding
-        ensures stands { IsFindStanding A.Unit.width A.content A.reached A.text A.dead A.has_label A.has_output A.outputs self.entry.automaton result }
+        ensures stands { IsFindStanding A.Unit.width A.content A.reached A.text A.dead A.has_label A.ends_at_once A.has_output A.outputs self.entry.automaton result }
         ensures read { units result.walk.seen ≡ self.entry.read }
     {
         let FindStepper {
@@ -154,7 +154,7 @@ impl<'a, V: Copy, A: Automaton<V>> FindStepper<'a, V, A> {
     /// automaton's states, or none.
     #[inline(always)]
     pub fn resume(automaton: A, depths: &'a [u32], standing: FindStanding) -> Self
-        requires stands { IsFindStanding A.Unit.width A.content A.reached A.text A.dead A.has_label A.has_output A.outputs automaton standing }
+        requires stands { IsFindStanding A.Unit.width A.content A.reached A.text A.dead A.has_label A.ends_at_once A.has_output A.outputs automaton standing }
         requires depths { AreDepths (A.reached automaton) (A.text automaton) depths.now }
         ensures automaton { result.automaton ≡ automaton }
         ensures depths { result.depths ≡ depths.entry.now }
@@ -177,7 +177,7 @@ impl<'a, V: Copy, A: Automaton<V>> FindStepper<'a, V, A> {
     /// Does nothing, and promises the bounds of the turns.
     #[inline(always)]
     pub fn turns_are_bounded(&self)
-        ensures { AreBoundedSince (A.content self.now.automaton) (A.has_label self.now.automaton) A.Unit.width self.now.read self.now.turns }
+        ensures { AreBoundedSince (A.content self.now.automaton) (A.has_label self.now.automaton) (A.ends_at_once self.now.automaton) A.Unit.width self.now.read self.now.turns }
     {
         self.walk.turns_are_bounded();
     }

@@ -73,7 +73,7 @@ impl<V: Copy, W: Stepwise<V>, H: Reread<W::Unit>, F: Filter<W::Unit, H>> Model
     } };
 
     ghost invariant = { λ s. ((w : List ℕ) → F.passes s.filter w ≡ F.passes s.first_filter.value w)
-        × IsReading W.Unit.width (W.content (W.automaton s.walk)) (W.has_output s.walk) (W.looks_at (W.automaton s.walk)) (F.passes s.first_filter.value) (F.opened s.first_filter.value)
+        × IsReading W.Unit.width (W.content (W.automaton s.walk)) (W.has_output s.walk) (W.looks_at (W.automaton s.walk)) (W.ends_at_once (W.automaton s.walk)) (F.passes s.first_filter.value) (F.opened s.first_filter.value)
         (F.opened s.filter) (H.rest s.whole.value) (W.read s.walk) (H.rest s.rest) (number s.output) s.size s.taken (W.turns s.walk) };
 }
 
@@ -128,14 +128,15 @@ impl<V: Copy, W: Stepwise<V>, H: Reread<W::Unit>, F: Filter<W::Unit, H>> Matches
         }
     }
 
-    /// Does nothing, and promises that the turns are at most twice the units passed, and at least
-    /// those of them that take a look and at which the filter passes; the bounds of the walk for what it
-    /// read since it last began at the root, and for all that was passed where the filter passes
+    /// Does nothing, and promises that the turns are at most twice the units passed, at most as many as
+    /// these where each look ends its step, and at least those of them that take a look and at which
+    /// the filter passes; the bounds of the walk for what it read since it last began at the root, and for all that was passed where the filter passes
     /// everywhere; that there are none where a filter that was open passes nowhere; and that the haystack
     /// begins with the units passed.
     #[inline(always)]
     pub fn turns_are_bounded(&self)
         ensures most { self.now.turns ≤ 2 * length self.now.passed }
+        ensures single { W.ends_at_once self.now.automaton → self.now.turns ≤ length self.now.passed }
         ensures passing { count_passing (F.passes self.now.filter) (W.looks_at self.now.automaton) self.now.haystack self.now.passed ≤ self.now.turns }
         ensures behind { AreBoundedBehind W.bounds self.now.automaton self.now.passed self.now.since self.now.turns }
         ensures bounds { ((w : List ℕ) → F.passes self.now.filter w ≡ true)
@@ -188,7 +189,7 @@ fn go_on<V: Copy, W: Stepwise<V>, H: Reread<W::Unit>, F: Filter<W::Unit, H>>(
 ) -> Option<NonZeroU32>
     requires { IsSoundFor (F.passes filter.old) (W.content (W.automaton walk.old)) }
     ensures passes { (w : List ℕ) → F.passes filter.new w ≡ F.passes filter.old w }
-    ensures reads { SkipsTo W.Unit.width W.automaton W.read W.found W.looks_at (F.passes filter.old) walk.old (H.rest rest.old) taken.old (W.given_from walk.new (number result)) walk.new (H.rest rest.new) taken.new }
+    ensures reads { SkipsTo W.Unit.width W.automaton W.read W.found W.looks_at W.ends_at_once (F.passes filter.old) walk.old (H.rest rest.old) taken.old (W.given_from walk.new (number result)) walk.new (H.rest rest.new) taken.new }
     ensures output { W.has_output walk.new (number result) }
     ensures ended { IfNone result (H.rest rest.new ≡ []) }
     ensures idle { HasNoPlace (F.passes filter.old) (F.opened filter.old) (W.read walk.old) (H.rest rest.old)
@@ -210,7 +211,7 @@ fn skip_on<V: Copy, W: Stepwise<V>, H: Reread<W::Unit>, F: Filter<W::Unit, H>>(
 ) -> Option<NonZeroU32>
     requires { IsSoundFor (F.passes filter.old) (W.content (W.automaton walk.old)) }
     ensures passes { (w : List ℕ) → F.passes filter.new w ≡ F.passes filter.old w }
-    ensures reads { SkipsTo W.Unit.width W.automaton W.read W.found W.looks_at (F.passes filter.old) walk.old (H.rest rest.old) taken.old (W.given_from walk.new (number result)) walk.new (H.rest rest.new) taken.new }
+    ensures reads { SkipsTo W.Unit.width W.automaton W.read W.found W.looks_at W.ends_at_once (F.passes filter.old) walk.old (H.rest rest.old) taken.old (W.given_from walk.new (number result)) walk.new (H.rest rest.new) taken.new }
     ensures output { W.has_output walk.new (number result) }
     ensures ended { IfNone result (H.rest rest.new ≡ []) }
     ensures idle { HasNoPlace (F.passes filter.old) (F.opened filter.old) (W.read walk.old) (H.rest rest.old)
@@ -242,7 +243,7 @@ fn skip_at_root<V: Copy, W: Stepwise<V>, H: Reread<W::Unit>, F: Filter<W::Unit, 
     requires sound { IsSoundFor (F.passes filter.old) (W.content (W.automaton walk.old)) }
     requires asked { F.may_ask filter.old }
     ensures passes { (w : List ℕ) → F.passes filter.new w ≡ F.passes filter.old w }
-    ensures skips { SkipsTo W.Unit.width W.automaton W.read W.found W.looks_at (F.passes filter.old) walk.old (H.rest rest.old) taken.old [] walk.new (H.rest rest.new) taken.new }
+    ensures skips { SkipsTo W.Unit.width W.automaton W.read W.found W.looks_at W.ends_at_once (F.passes filter.old) walk.old (H.rest rest.old) taken.old [] walk.new (H.rest rest.new) taken.new }
     ensures turns { taken.new + W.turns walk.new ≡ taken.old + W.turns walk.old }
     ensures idle { W.read walk.old ≡ [] → PassesNowhere (F.passes filter.old) (H.rest rest.old) → H.rest rest.new ≡ [] }
 {

@@ -81,7 +81,7 @@ impl<V: Copy, A: Automaton<V>> OverlappingWalk<V, A> {
     /// Where the walk stands, for [`Self::resume`].
     #[inline(always)]
     pub fn into_standing(self) -> Standing
-        ensures walks { IsWalking (A.content self.automaton) (A.reached self.automaton) (A.text self.automaton) (A.dead self.automaton) (A.has_label self.automaton)
+        ensures walks { IsWalking (A.content self.automaton) (A.reached self.automaton) (A.text self.automaton) (A.dead self.automaton) (A.has_label self.automaton) (A.ends_at_once self.automaton)
             result.seen result.state result.turns }
         ensures fresh { IsFresh result.seen }
         ensures seen { result.seen ≡ self.seen }
@@ -94,7 +94,7 @@ impl<V: Copy, A: Automaton<V>> OverlappingWalk<V, A> {
     /// A walk that goes on where one through the same automaton stood.
     #[inline(always)]
     pub fn resume(automaton: A, standing: Standing) -> Self
-        requires walks { IsWalking (A.content automaton) (A.reached automaton) (A.text automaton) (A.dead automaton) (A.has_label automaton)
+        requires walks { IsWalking (A.content automaton) (A.reached automaton) (A.text automaton) (A.dead automaton) (A.has_label automaton) (A.ends_at_once automaton)
             standing.seen standing.state standing.turns }
         requires fresh { IsFresh standing.seen }
         ensures automaton { result.automaton ≡ automaton }
@@ -137,7 +137,9 @@ impl<V: Copy, A: Automaton<V>> Stepwise<V> for OverlappingWalk<V, A> {
 
     ghost looks_at = { A.has_label };
 
-    ghost bounds = { λ a read turns. AreBounded (A.content a) (A.has_label a) read turns };
+    ghost ends_at_once = { A.ends_at_once };
+
+    ghost bounds = { λ a read turns. AreBounded (A.content a) (A.has_label a) (A.ends_at_once a) read turns };
 
     #[inline(always)]
     fn begin(&self) -> Option<NonZeroU32> {
@@ -255,7 +257,9 @@ impl<V: Copy, A: Automaton<V>> Stepwise<V> for NoSuffixWalk<V, A> {
 
     ghost looks_at = { A.has_label };
 
-    ghost bounds = { λ a read turns. AreBounded (A.content a) (A.has_label a) read turns };
+    ghost ends_at_once = { A.ends_at_once };
+
+    ghost bounds = { λ a read turns. AreBounded (A.content a) (A.has_label a) (A.ends_at_once a) read turns };
 
     #[inline(always)]
     fn begin(&self) -> Option<NonZeroU32> {

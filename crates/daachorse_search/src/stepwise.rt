@@ -51,6 +51,9 @@ pub trait Stepwise<V: Copy>: Drop {
     /// Reading such a unit takes a look, at least.
     ghost looks_at: { Self.Automaton → ℕ → Bool };
 
+    /// Reading a unit takes no second look.
+    ghost ends_at_once: { Self.Automaton → Type 0 };
+
     /// What is promised of the turns for what was read.
     ghost bounds: { Self.Automaton → List ℕ → ℕ → Type 0 };
 
@@ -101,6 +104,7 @@ pub trait Stepwise<V: Copy>: Drop {
     fn turns_are_bounded(&self)
         ensures bounds { bounds (automaton self.now) (read self.now) (turns self.now) }
         ensures most { turns self.now ≤ 2 * length (read self.now) }
+        ensures single { ends_at_once (automaton self.now) → turns self.now ≤ length (read self.now) }
         ensures least { count_by (looks_at (automaton self.now)) (read self.now) ≤ turns self.now };
 
     // From position 0 on nothing is given.

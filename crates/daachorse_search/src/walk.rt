@@ -50,7 +50,7 @@ impl<V: Copy, A: Automaton<V>> Model for Walk<V, A> {
 
     ghost view = { λ s. record { automaton = s.automaton; seen = s.seen; turns = s.turns } };
 
-    ghost invariant = { λ s. IsWalking (A.content s.automaton) (A.reached s.automaton) (A.text s.automaton) (A.dead s.automaton) (A.has_label s.automaton) s.seen s.state s.turns };
+    ghost invariant = { λ s. IsWalking (A.content s.automaton) (A.reached s.automaton) (A.text s.automaton) (A.dead s.automaton) (A.has_label s.automaton) (A.ends_at_once s.automaton) s.seen s.state s.turns };
 }
 
 impl<V: Copy, A: Automaton<V>> Walk<V, A> {
@@ -184,7 +184,7 @@ impl<V: Copy, A: Automaton<V>> Walk<V, A> {
     /// Where the walk stands, for [`Self::resume`].
     #[inline(always)]
     pub fn into_standing(self) -> Standing
-        ensures walks { IsWalking (A.content self.automaton) (A.reached self.automaton) (A.text self.automaton) (A.dead self.automaton) (A.has_label self.automaton)
+        ensures walks { IsWalking (A.content self.automaton) (A.reached self.automaton) (A.text self.automaton) (A.dead self.automaton) (A.has_label self.automaton) (A.ends_at_once self.automaton)
             result.seen result.state result.turns }
         ensures seen { result.seen ≡ self.seen }
         ensures turns { result.turns ≡ self.turns }
@@ -202,7 +202,7 @@ impl<V: Copy, A: Automaton<V>> Walk<V, A> {
     /// A walk that goes on where one through the same automaton stood.
     #[inline(always)]
     pub fn resume(automaton: A, standing: Standing) -> Self
-        requires { IsWalking (A.content automaton) (A.reached automaton) (A.text automaton) (A.dead automaton) (A.has_label automaton)
+        requires { IsWalking (A.content automaton) (A.reached automaton) (A.text automaton) (A.dead automaton) (A.has_label automaton) (A.ends_at_once automaton)
             standing.seen standing.state standing.turns }
         ensures automaton { result.automaton ≡ automaton }
         ensures seen { result.seen ≡ standing.seen }
@@ -219,12 +219,14 @@ impl<V: Copy, A: Automaton<V>> Walk<V, A> {
     }
 
     /// Does nothing, and promises that the turns are at most twice the units read, less the
-    /// length of the state's text, and at least as many as the units looked up that some key has.
+    /// length of the state's text, and at least as many as the units looked up that some key has;
+    /// and where each look ends its step, at most as many as the units read.
     #[inline(always)]
     pub fn turns_are_bounded(&self)
         ensures most { self.now.turns ≤ 2 * length (units self.now.seen) }
         ensures deep { (s : List ℕ) → IsLong (A.content self.now.automaton) self.now.seen.since s
             → self.now.turns + length s ≤ 2 * length (units self.now.seen) }
+        ensures single { A.ends_at_once self.now.automaton → self.now.turns ≤ length (units self.now.seen) }
         ensures least { count_by (A.has_label self.now.automaton) self.now.seen.looked ≤ self.now.turns }
     {
         let _ = &self.state;

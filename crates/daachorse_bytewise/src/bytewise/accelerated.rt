@@ -1,8 +1,8 @@
 //! An automaton over bytes with rows of the states near its root, for faster searches.
 //!
 //! The layers above may rely on each search giving the whole list that the automaton's own search of
-//! its name gives, within the same bounds of the turns, and on a stepper telling the matches that
-//! that of its name tells.
+//! its name gives, within the same bounds of the turns, of a standard search at most one for each byte
+//! where no step leaves the rows, and on a stepper telling the matches that that of its name tells.
 
 ghost use Rattle.std.specs.Prelude.{◌≡◌, ◌≢◌, [], IfOk, IfSome, IfErr, take};
 ghost use Rattle.std.specs.Option.{option_to_list};
@@ -17,7 +17,7 @@ ghost use Rattle.daachorse_folding.specs.Steppers.{BeginsSteppingAsRead};
 ghost use Rattle.daachorse_search.specs.Beginnings.{BeginsWith};
 ghost use Rattle.daachorse_skipping.specs.Asked.{BeginsAsking};
 ghost use Rattle.daachorse_bytewise_states.specs.StateRows.{HasNoRoom};
-ghost use Rattle.daachorse_bytewise.specs.Accelerated.{HasRowsNear, rowed_states};
+ghost use Rattle.daachorse_bytewise.specs.Accelerated.{HasRowsNear, IsAllRowsUnlessLarge, rowed_states};
 ghost use Rattle.daachorse_core.specs.Seen.{units};
 ghost use Rattle.daachorse_bytewise.specs.Automata.{dictionary_of, kind_of, states_of};
 ghost use Rattle.daachorse_bytewise.specs.Standings.{IsFindStandingOver, IsOverlappingStandingOver};
@@ -49,7 +49,8 @@ use std::marker::Model;
 ///
 /// A row tells of each byte where the whole step ends, so that a search takes one look for each byte
 /// while it stands at a state with a row, and follows no link. Below these states it looks at the
-/// automaton as any search does. What is found is the same.
+/// automaton as any search does. Where no step leads below them, each standard search and stepper
+/// takes at most one turn for each byte. What is found is the same.
 ///
 /// It pays where much is searched and most bytes are read at states with rows: with some thousands
 /// of states, where few of the 256 bytes occur in patterns.
@@ -77,7 +78,8 @@ impl<V: Copy, A: Allocator + Copy> DoubleArrayAhoCorasick<V, A> {
     /// Each text of at most two bytes that begins a pattern has a row, and so have longer ones
     /// while there is room. The answer is `None` where those alone are more than there is room for:
     /// a row has two slots and one for each byte that occurs in patterns, and there are 65,536
-    /// slots, which are at least 254 rows.
+    /// slots, which are at least 254 rows. Where at most 254 texts begin a pattern, each has a row, and
+    /// each standard search and stepper takes at most one turn for each byte.
     ///
     /// Use it where much is searched for up to some thousand words, and for a leftmost search up to
     /// about one thousand. With tens of thousands of words, rows cost more than they save in an
@@ -99,6 +101,7 @@ impl<V: Copy, A: Allocator + Copy> DoubleArrayAhoCorasick<V, A> {
     pub fn accelerate<'a>(&'a self, alloc: A) -> Result<Option<Accelerated<'a, V, A>>>
         ensures automaton { IfOk result (λ a. IfSome a (λ a. a.automaton ≡ self.entry.now)) }
         ensures covered { IfOk result (λ a. IfSome a HasRowsNear) }
+        ensures stays { IfOk result (λ a. IfSome a (λ a. kind_of a.automaton ≡ Standard → IsAllRowsUnlessLarge a)) }
         ensures none { IfOk result (λ a. a ≡ None → HasNoRoom (states_of self.entry.now)) }
         ensures err { IfErr result IsOutOfMemory }
     {

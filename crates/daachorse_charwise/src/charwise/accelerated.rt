@@ -17,8 +17,8 @@ ghost use Rattle.daachorse_folding.specs.SourceSearches.{BeginsFromAsRead};
 ghost use Rattle.daachorse_folding.specs.Steppers.{BeginsSteppingAsRead};
 ghost use Rattle.daachorse_search.specs.Beginnings.{BeginsWith};
 ghost use Rattle.daachorse_skipping.specs.Asked.{BeginsAsking};
-ghost use Rattle.daachorse_charwise_states.specs.StateRows.{HasNoRoom};
-ghost use Rattle.daachorse_charwise.specs.Accelerated.{HasRowsNear, rowed_states};
+ghost use Rattle.daachorse_charwise_states.specs.StateRows.{HasFewCodes, HasNoRoom};
+ghost use Rattle.daachorse_charwise.specs.Accelerated.{HasRowsNear, IsAllRowsUnlessLarge, rowed_states};
 ghost use Rattle.daachorse_charwise.specs.Automata.{dictionary_of, kind_of, states_of};
 
 use crate::charwise::iter::accelerated::{
@@ -47,7 +47,8 @@ use std::marker::Model;
 /// A row tells of each of the 510 most frequent characters of the patterns where the whole step
 /// ends, so that a search takes one look for such a character while it stands at a state with a
 /// row, and follows no link. For any other character, and below these states, it looks at the
-/// automaton as any search does. What is found is the same.
+/// automaton as any search does. Where no step leads below them, each standard search and stepper
+/// takes at most one turn for each character. What is found is the same.
 ///
 /// [`CharwiseDoubleArrayAhoCorasick::accelerate`] makes it, and tells when to use it and what it
 /// takes.
@@ -74,7 +75,9 @@ impl<V: Copy, A: Allocator + Copy> CharwiseDoubleArrayAhoCorasick<V, A> {
     /// Each text of at most two characters that begins a pattern has a row, if both are among the
     /// 510 most frequent ones, and so have longer ones while there is room. The answer is `None`
     /// where those alone are more than there is room for: a row has two slots and one for each of
-    /// these characters, and there are 65,536 slots, which are at least 128 rows.
+    /// these characters, and there are 65,536 slots, which are at least 128 rows. Where at most 128
+    /// texts begin a pattern, and no more than 510 characters occur, each has a row, and each standard
+    /// search and stepper takes at most one turn for each character.
     ///
     /// Use it where much is searched for up to some thousand words of few different characters.
     /// With many characters, as in 1,000 Japanese words, there is no room for rows. `docs/SPEED.md`
@@ -95,6 +98,7 @@ impl<V: Copy, A: Allocator + Copy> CharwiseDoubleArrayAhoCorasick<V, A> {
     pub fn accelerate<'a>(&'a self, alloc: A) -> Result<Option<Accelerated<'a, V, A>>>
         ensures automaton { IfOk result (λ a. IfSome a (λ a. a.automaton ≡ self.entry.now)) }
         ensures covered { IfOk result (λ a. IfSome a HasRowsNear) }
+        ensures stays { IfOk result (λ a. IfSome a (λ a. kind_of a.automaton ≡ Standard → HasFewCodes (states_of a.automaton) → IsAllRowsUnlessLarge a)) }
         ensures none { IfOk result (λ a. a ≡ None → HasNoRoom (states_of self.entry.now)) }
         ensures err { IfErr result IsOutOfMemory }
     {

@@ -2,9 +2,9 @@ use Rattle.std.proofs.Common.{◌≡◌, ◌+◌, ◌<◌, ℕ, inl, inr, length
 use Rattle.std.specs.Prelude.{slice_index, slice_set}
 use Rattle.std.proofs.lemmas.List.{get_or_read, length-map, length-set}
 use Rattle.daachorse_core.specs.Looks.{StepEnds}
-use Rattle.daachorse_rows.specs.Rows.{HasEnd, stands_by}
+use Rattle.daachorse_rows.specs.Rows.{EndsInRow, HasEnd, stands_by}
 use Rattle.daachorse_rows.proofs.MakingLaws.{AreChosen-more, below_or_at, ends_read, unit_read}
-use Rattle.daachorse_rows.proofs.ShallowLaws.{AreShallow-push, AreTooMany-full, GoesOn-push, GoesOn-through, HasEnd-all, HasEnd-on, HasEnd-row, end_shallow, row_last}
+use Rattle.daachorse_rows.proofs.ShallowLaws.{AreShallow-push, AreTooMany-full, EndsInRow-on, EndsInRow-row, GoesOn-push, GoesOn-through, HasEnd-all, HasEnd-on, HasEnd-row, end_shallow, row_last}
 use Rattle.daachorse_rows.proofs.making.choose_ends.Goals.{then-index+else-len-most+in_ok-push, else-index}
 use Rattle.daachorse_rows.proofs.making.choose_ends.Goals as goal
 
@@ -36,6 +36,10 @@ loop-k-preserved g c =
             same = length-set homes next _ ∙ kept.same;
             on = GoesOn-through old order order' kept.on (GoesOn-push order order' next is);
             shallow = λ n shallow all. AreShallow-push order order' next is (A.text a) stands (n + 1) (kept.shallow n shallow all) (end_shallow K (A.text a) stands (A.dead a) s (slice_index labels k) next ends n (named.below k listed) (named.none_idle k listed) shallow);
+            steps = λ j below. elim (below_or_at j k below) [
+              | inl before ↦ EndsInRow-on K (A.text a) stands (A.dead a) s (slice_index labels j) order order' (GoesOn-push order order' next is) (kept.steps j before)
+              | inr same ↦ let P : ℕ → Type 0 = λ i. EndsInRow K (A.text a) stands (A.dead a) s (slice_index labels i) order' in subst P (sym same) (EndsInRow-row K (A.text a) stands (A.dead a) s (slice_index labels k) next ends order' (row_last order order' next is))
+            ];
             ends = λ j below. elim (below_or_at j k below) [
               | inl before ↦ HasEnd-on K (A.text a) stands s (slice_index labels j) order order' (GoesOn-push order order' next is) (kept.ends j before)
               | inr same ↦ let P : ℕ → Type 0 = λ i. HasEnd K (A.text a) stands s (slice_index labels i) order' in subst P (sym same) (HasEnd-row K (A.text a) stands (A.dead a) s (slice_index labels k) next ends order' (row_last order order' next is))
@@ -48,6 +52,10 @@ loop-k-preserved g c =
             same = kept.same;
             on = kept.on;
             shallow = kept.shallow;
+            steps = λ j below. elim (below_or_at j k below) [
+              | inl before ↦ kept.steps j before
+              | inr same ↦ let P : ℕ → Type 0 = λ i. EndsInRow K (A.text a) stands (A.dead a) s (slice_index labels i) order in subst P (sym same) (EndsInRow-row K (A.text a) stands (A.dead a) s (slice_index labels k) next ends order (slice_index homes next, row.0, row.1))
+            ];
             ends = λ j below. elim (below_or_at j k below) [
               | inl before ↦ kept.ends j before
               | inr same ↦ let P : ℕ → Type 0 = λ i. HasEnd K (A.text a) stands s (slice_index labels i) order in subst P (sym same) (HasEnd-row K (A.text a) stands (A.dead a) s (slice_index labels k) next ends order (slice_index homes next, row.0, row.1))
@@ -77,3 +85,6 @@ returns-clause-all g c = λ _.
     let labels = map number c.args.labels.now in
     HasEnd-all (A.content a) (A.text a) (stands_by number (A.labels a)) labels c.requires.labels (slice_index c.args.chosen.now.order.items c.args.at) c.loop-k.chosen.order.items
     (λ k below. c.loop-k.invariant.ends k (omega (arith, below, c.loop-k-test.false, c.loop-k.auto.k-end, length-map c.args.labels.now number)))
+
+pub returns-clause-ends : goal.returns-clause-ends
+returns-clause-ends g c = λ _ j below. c.loop-k.invariant.steps j (omega (arith, below, c.loop-k-test.false, c.loop-k.auto.k-end))

@@ -1,6 +1,6 @@
 use Rattle.std.proofs.Common.{◌≡◌, ◌+◌, ◌<◌, ℕ, length, map}
 use Rattle.std.specs.Prelude.{slice_index}
-use Rattle.daachorse_rows.specs.Rows.{AreChosen, AreShallow, GoesOn, HasEnd, IsShallow, stands_by}
+use Rattle.daachorse_rows.specs.Rows.{AreChosen, AreShallow, EndsInRow, GoesOn, HasEnd, IsShallow, stands_by}
 use Rattle.daachorse_rows.proofs.making.choose_ends.Given as goal
 
 abbrev pub invariant-loop-k : goal.invariant-loop-k
@@ -12,5 +12,6 @@ invariant-loop-k g l =
       same : length l.chosen.homes.items ≡ length l.fn.chosen.homes.items;
       on : GoesOn old l.chosen.order.items;
       shallow : (n : ℕ) → IsShallow stands n (A.text a (slice_index old l.at)) → AreShallow (A.text a) stands (n + 1) old → AreShallow (A.text a) stands (n + 1) l.chosen.order.items;
+      steps : (j : ℕ) → j < l.k → EndsInRow (A.content a) (A.text a) stands (A.dead a) (slice_index old l.at) (slice_index (map number l.labels) j) l.chosen.order.items;
       ends : (j : ℕ) → j < l.k → HasEnd (A.content a) (A.text a) stands (slice_index old l.at) (slice_index (map number l.labels) j) l.chosen.order.items;
     }

@@ -1,8 +1,9 @@
-use Rattle.std.proofs.Common.{◌<◌, ℕ, inl, inr, length, sym, subst, arith}
+use Rattle.std.proofs.Common.{◌<◌, ℕ, inl, inr, length, map, sym, subst, arith}
 use Rattle.std.specs.Prelude.{slice_index}
+use Rattle.std.proofs.lemmas.List.{length-map}
 use Rattle.daachorse_rows.specs.Rows.{HasEnd, stands_by}
 use Rattle.daachorse_rows.proofs.MakingLaws.{below_or_at}
-use Rattle.daachorse_rows.proofs.ShallowLaws.{AreCovered-next, GoesOn-through, HasEnd-on, state_shallow}
+use Rattle.daachorse_rows.proofs.ShallowLaws.{AreCovered-next, AreStepped-fewer, AreStepped-more, GoesOn-through, HasEnd-on, state_shallow}
 use Rattle.daachorse_rows.proofs.making.choose_next.Goals as goal
 
 pub returns-then-not-branch-clause-shallow : goal.returns-then-not-branch-clause-shallow
@@ -29,6 +30,7 @@ loop-at-preserved g c =
       chosen = made.chosen;
       same = omega (arith, made.same, kept.same);
       on = GoesOn-through old now c.choose_ends.new.chosen.order.items kept.on made.on;
+      steps = λ root. AreStepped-more (A.content a) (A.text a) stands (A.dead a) (map g.A.Label.RowLabel.number c.args.labels.now) at now c.choose_ends.new.chosen.order.items made.on (omega (arith, inside, kept.on.more)) (kept.steps root) (λ j below. made.ends (c.if-not-branch.false) j (omega (arith, below, length-map c.args.labels.now g.A.Label.RowLabel.number)));
       shallow = λ n shallow. made.shallow n (state_shallow (A.text a) stands n old now at kept.on inside shallow) (kept.shallow n shallow);
       ends = λ k below. elim (below_or_at k at below) [
         | inl before ↦ λ label low. HasEnd-on (A.content a) (A.text a) stands (slice_index old k) label now c.choose_ends.new.chosen.order.items made.on (kept.ends k before label low)
@@ -42,3 +44,9 @@ returns-clause-all g c = λ _ n covered.
     let kept = c.loop-at.invariant in
     AreCovered-next (A.content a) (A.text a) stands n c.args.chosen.now.order.items c.loop-at.chosen.order.items kept.on
     (λ k below. kept.ends k (omega (arith, below, c.loop-at-test.false, c.loop-at.auto.at-end, c.len-at-end.ensures, c.args.chosen.now.order.ok.0))) covered
+
+pub returns-clause-stepped : goal.returns-clause-stepped
+returns-clause-stepped g c = λ _ root.
+    let A = g.A.Automaton in let a = c.args.automaton.now in
+    AreStepped-fewer (A.content a) (A.text a) (stands_by g.A.Label.RowLabel.number (A.labels a)) (A.dead a) (map g.A.Label.RowLabel.number c.args.labels.now) (length c.args.chosen.now.order.items) c.loop-at.at c.loop-at.chosen.order.items
+    (omega (arith, c.loop-at-test.false, c.loop-at.auto.at-end, c.len-at-end.ensures, c.args.chosen.now.order.ok.0)) (c.loop-at.invariant.steps root)

@@ -1,6 +1,6 @@
-use Rattle.std.proofs.Common.{◌≡◌, ◌+◌, ◌<◌, ℕ, length}
+use Rattle.std.proofs.Common.{◌≡◌, ◌+◌, ◌<◌, ℕ, [], length, map}
 use Rattle.std.specs.Prelude.{slice_index}
-use Rattle.daachorse_rows.specs.Rows.{AreChosen, AreShallow, GoesOn, HasEnd, stands_by}
+use Rattle.daachorse_rows.specs.Rows.{AreChosen, AreShallow, AreStepped, GoesOn, HasEnd, stands_by}
 use Rattle.daachorse_rows.proofs.making.choose_next.Given as goal
 
 abbrev pub invariant-loop-at : goal.invariant-loop-at
@@ -10,6 +10,7 @@ invariant-loop-at g l =
       chosen : AreChosen (A.reached a) l.chosen.order.items l.chosen.homes.items l.most;
       same : length l.chosen.homes.items ≡ length l.fn.chosen.homes.items;
       on : GoesOn l.fn.chosen.order.items l.chosen.order.items;
+      steps : (0 < length l.fn.chosen.order.items) × (A.text a (slice_index l.fn.chosen.order.items 0) ≡ []) → AreStepped (A.content a) (A.text a) stands (A.dead a) (map g.A.Label.RowLabel.number l.labels) l.at l.chosen.order.items;
       shallow : (n : ℕ) → AreShallow (A.text a) stands n l.fn.chosen.order.items → AreShallow (A.text a) stands (n + 1) l.chosen.order.items;
       ends : (k : ℕ) → k < l.at → (label : ℕ) → label < 510 → HasEnd (A.content a) (A.text a) stands (slice_index l.fn.chosen.order.items k) label l.chosen.order.items;
     }

@@ -10,5 +10,5 @@ loop-k-preserved g c = λ j below.
       | inl less ↦ c.loop-k.invariant j less
       | inr same ↦ λ e.
           let read = number_read number labels c.loop-k.k c.index-labels-k.result c.loop-k-test.true c.index-labels-k.is in
-          c.if-index-number.false (c.index.ensures ∙ (sym read ∙ (ap (slice_index (map number labels)) (sym same) ∙ e)))
+          c.if-index-number.false (c.index.ensures.is ∙ (sym read ∙ (ap (slice_index (map number labels)) (sym same) ∙ e)))
     ]

@@ -1,4 +1,4 @@
-use Rattle.std.proofs.Common.{arith}
+use Rattle.std.proofs.Common.{refl, arith}
 use Rattle.daachorse_search.proofs.LookLemmas.{StepEnds-length, StepEnds-link}
 use Rattle.daachorse_search.proofs.automaton.follow.Goals as goal
 use Rattle.daachorse_search.proofs.automaton.follow.Goals.{then-looks_ahead+in-Fail, else-looks_ahead}
@@ -27,9 +27,10 @@ links-init g c =
             on = λ unit t coded ends. let here = w.in-Fail.ensures.look unit coded in StepEnds-link (A.content a) (A.dead a) _ _ t unit here.1 here.2 here.3 ends;
             counted = omega (arith, looked.3.shorter, w.in-Fail.ensures.counted);
             more = omega (arith, w.in-Fail.ensures.counted);
+            linked = λ once. absurd (w.in-Fail.ensures.single once c.requires.unit.0 _ c.requires.unit.1 refl);
           })
       | else-looks_ahead w ↦
-          rw (w.at-is, w.turns-is) (record { reached = c.requires.reached; on = λ unit t coded ends. ends; counted = omega arith; more = omega arith })
+          rw (w.at-is, w.turns-is) (record { reached = c.requires.reached; on = λ unit t coded ends. ends; counted = omega arith; more = omega arith; linked = λ once. refl })
     ]
 
 -- so do the others
@@ -45,6 +46,9 @@ returns-in-Next-turn-clause-most g c =
     let looked = c.in-Next-turn.ensures.look c.requires.unit.0 c.requires.unit.1 in
     omega (arith, StepEnds-length (A.content a) (A.dead a) _ _ _ looked.1, c.in-Next-turn.ensures.counted, c.links.invariant.counted)
 
+pub returns-in-Next-turn-clause-single : goal.returns-in-Next-turn-clause-single
+returns-in-Next-turn-clause-single g c = λ once. omega (arith, c.in-Next-turn.ensures.counted, c.links.invariant.linked once)
+
 pub links-preserved : goal.links-preserved
 links-preserved g c =
     let A = g.A.Automaton in let a = c.args.automaton.now in
@@ -54,4 +58,5 @@ links-preserved g c =
       on = λ unit t coded ends. let here = c.in-Fail-turn.ensures.look unit coded in c.links.invariant.on unit t coded (StepEnds-link (A.content a) (A.dead a) _ _ t unit here.1 here.2 here.3 ends);
       counted = omega (arith, looked.3.shorter, c.in-Fail-turn.ensures.counted, c.links.invariant.counted);
       more = omega (arith, c.in-Fail-turn.ensures.counted, c.links.invariant.more);
+      linked = λ once. absurd (c.in-Fail-turn.ensures.single once c.requires.unit.0 _ c.requires.unit.1 refl);
     }

@@ -1,4 +1,4 @@
-use Rattle.std.proofs.Common.{◌+◌, ◌≤◌, List, ℕ, length}
+use Rattle.std.proofs.Common.{◌≡◌, ◌+◌, ◌≤◌, List, ℕ, length}
 use Rattle.daachorse_core.specs.Looks.{StepEnds}
 use Rattle.daachorse_search.proofs.automaton.follow.Given as goal
 
@@ -10,6 +10,7 @@ invariant-links g l =
       on : (unit : ℕ) (t : List ℕ) → A.labels l.automaton l.label unit → StepEnds K dead (text l.at) unit t → StepEnds K dead (text l.fn.state) unit t;
       counted : l.turns + length (text l.at) ≤ l.fn.turns + length (text l.fn.state);
       more : l.fn.turns ≤ l.turns;
+      linked : A.ends_at_once l.automaton → l.turns ≡ l.fn.turns;
     }
 
 abbrev pub decreases-links : goal.decreases-links

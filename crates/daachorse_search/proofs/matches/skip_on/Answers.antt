@@ -10,7 +10,7 @@ use Rattle.daachorse_search.proofs.matches.skip_on.Goals as goal
 pub units-init : goal.units-init
 units-init g c =
     let W = g.W.Stepwise in let passes = g.F.Filter.passes c.args.filter.now in let rest = g.H.Haystack.rest in
-    record { passes = λ w. refl; skips = SkipsTo-first g.W.Unit.EdgeLabel.width W.automaton W.read W.turns W.found W.content W.looks_at passes c.args.walk.now (rest c.args.rest.now) c.args.taken.now; idle = λ h. (refl, h) }
+    record { passes = λ w. refl; skips = SkipsTo-first g.W.Unit.EdgeLabel.width W.automaton W.read W.turns W.found W.content W.looks_at W.ends_at_once passes c.args.walk.now (rest c.args.rest.now) c.args.taken.now; idle = λ h. (refl, h) }
 
 pub skip_at_root-requires-clause-sound : goal.skip_at_root-requires-clause-sound
 skip_at_root-requires-clause-sound g c =
@@ -20,7 +20,7 @@ skip_at_root-requires-clause-sound g c =
 pub returns-then-not-is_open-clause-reads : goal.returns-then-not-is_open-clause-reads
 returns-then-not-is_open-clause-reads g c =
     let W = g.W.Stepwise in let rest = g.H.Haystack.rest in let l = c.units in let to = c.read_on.new in let read = c.read_on.ensures in
-    SkipsTo-reads g.W.Unit.EdgeLabel.width W.automaton W.read W.turns W.found W.content W.looks_at (g.F.Filter.passes c.args.filter.now) c.args.walk.now (rest c.args.rest.now) c.args.taken.now l.walk (rest l.rest) l.taken _ to.walk (rest to.rest) l.invariant.skips
+    SkipsTo-reads g.W.Unit.EdgeLabel.width W.automaton W.read W.turns W.found W.content W.looks_at W.ends_at_once (g.F.Filter.passes c.args.filter.now) c.args.walk.now (rest c.args.rest.now) c.args.taken.now l.walk (rest l.rest) l.taken _ to.walk (rest to.rest) l.invariant.skips
     (record { same = read.on.same; haystack = read.on.haystack; left = read.on.left })
     read.fewer
 
@@ -39,8 +39,8 @@ returns-in_default-clause-reads g c =
     let W = g.W.Stepwise in let rest = g.H.Haystack.rest in let to = c.skip_at_root.new in
     let P : Option g.row.W-Unit.Denot → Type 0 = λ r. YieldsFirstBy g.W.Unit.EdgeLabel.unit rest to.rest r c.next.new.self in
     let over : P None = subst P c.in_default.is (g.met.H.Haystack.gives to.rest c.next.result c.next.new.self c.next.ensures.steps) in
-    SkipsTo-ended g.W.Unit.EdgeLabel.width W.automaton W.read W.turns W.found W.content W.looks_at (g.F.Filter.passes c.args.filter.now) c.args.walk.now (rest c.args.rest.now) c.args.taken.now to.walk (rest to.rest) (rest c.next.new.self) to.taken (W.given_from to.walk 0) (SkipsTo-then g.W.Unit.EdgeLabel.width W.automaton W.read W.turns W.found W.content W.looks_at (g.F.Filter.passes c.args.filter.now) c.args.walk.now (rest c.args.rest.now) c.args.taken.now c.units.walk (rest c.units.rest) c.units.taken [] to.walk (rest to.rest) to.taken c.units.invariant.skips
-    (SkipsTo-places g.W.Unit.EdgeLabel.width W.automaton W.read W.turns W.found W.content W.looks_at (g.F.Filter.passes c.args.filter.now) (g.F.Filter.passes c.units.filter) c.units.walk (rest c.units.rest) c.units.taken [] to.walk (rest to.rest) to.taken c.units.invariant.passes c.skip_at_root.ensures.skips)) (g.met.W.Stepwise.no_output to.walk).1 over.0 over.1
+    SkipsTo-ended g.W.Unit.EdgeLabel.width W.automaton W.read W.turns W.found W.content W.looks_at W.ends_at_once (g.F.Filter.passes c.args.filter.now) c.args.walk.now (rest c.args.rest.now) c.args.taken.now to.walk (rest to.rest) (rest c.next.new.self) to.taken (W.given_from to.walk 0) (SkipsTo-then g.W.Unit.EdgeLabel.width W.automaton W.read W.turns W.found W.content W.looks_at W.ends_at_once (g.F.Filter.passes c.args.filter.now) c.args.walk.now (rest c.args.rest.now) c.args.taken.now c.units.walk (rest c.units.rest) c.units.taken [] to.walk (rest to.rest) to.taken c.units.invariant.skips
+    (SkipsTo-places g.W.Unit.EdgeLabel.width W.automaton W.read W.turns W.found W.content W.looks_at W.ends_at_once (g.F.Filter.passes c.args.filter.now) (g.F.Filter.passes c.units.filter) c.units.walk (rest c.units.rest) c.units.taken [] to.walk (rest to.rest) to.taken c.units.invariant.passes c.skip_at_root.ensures.skips)) (g.met.W.Stepwise.no_output to.walk).1 over.0 over.1
 
 pub returns-in_default-clause-idle : goal.returns-in_default-clause-idle
 returns-in_default-clause-idle g c h =
@@ -55,8 +55,8 @@ returns-in-Some-advance-clause-reads g c =
     let one = g.met.H.Haystack.gives to.rest _ c.next.new.self c.in-Some.ensures.steps in
     let read = c.in-Some-advance.ensures in
     let given = W.given_from now c.in-Some-advance.position.value in
-    SkipsTo-reads g.W.Unit.EdgeLabel.width W.automaton W.read W.turns W.found W.content W.looks_at (g.F.Filter.passes c.args.filter.now) c.args.walk.now (rest c.args.rest.now) c.args.taken.now to.walk (rest to.rest) to.taken given now (rest c.next.new.self) (SkipsTo-then g.W.Unit.EdgeLabel.width W.automaton W.read W.turns W.found W.content W.looks_at (g.F.Filter.passes c.args.filter.now) c.args.walk.now (rest c.args.rest.now) c.args.taken.now c.units.walk (rest c.units.rest) c.units.taken [] to.walk (rest to.rest) to.taken c.units.invariant.skips
-    (SkipsTo-places g.W.Unit.EdgeLabel.width W.automaton W.read W.turns W.found W.content W.looks_at (g.F.Filter.passes c.args.filter.now) (g.F.Filter.passes c.units.filter) c.units.walk (rest c.units.rest) c.units.taken [] to.walk (rest to.rest) to.taken c.units.invariant.passes c.skip_at_root.ensures.skips))
+    SkipsTo-reads g.W.Unit.EdgeLabel.width W.automaton W.read W.turns W.found W.content W.looks_at W.ends_at_once (g.F.Filter.passes c.args.filter.now) c.args.walk.now (rest c.args.rest.now) c.args.taken.now to.walk (rest to.rest) to.taken given now (rest c.next.new.self) (SkipsTo-then g.W.Unit.EdgeLabel.width W.automaton W.read W.turns W.found W.content W.looks_at W.ends_at_once (g.F.Filter.passes c.args.filter.now) c.args.walk.now (rest c.args.rest.now) c.args.taken.now c.units.walk (rest c.units.rest) c.units.taken [] to.walk (rest to.rest) to.taken c.units.invariant.skips
+    (SkipsTo-places g.W.Unit.EdgeLabel.width W.automaton W.read W.turns W.found W.content W.looks_at W.ends_at_once (g.F.Filter.passes c.args.filter.now) (g.F.Filter.passes c.units.filter) c.units.walk (rest c.units.rest) c.units.taken [] to.walk (rest to.rest) to.taken c.units.invariant.passes c.skip_at_root.ensures.skips))
     (ReadsTo-one W.automaton W.read W.found to.walk (rest to.rest) to.walk (rest to.rest) (unit c.in-Some.unit) (rest c.next.new.self) now given (ReadsTo-first W.automaton W.read W.found to.walk (rest to.rest)) one read.automaton read.read read.stops.matches)
     (omega (arith, ap length one))
 
@@ -76,8 +76,8 @@ units-preserved g c =
     let nothing : W.found (W.automaton now) (W.read now) ≡ [] = none_found (W.found (W.automaton now) (W.read now)) (W.given_from now) c.advance.result read.stops.matches c.in_default-advance.is (g.met.W.Stepwise.no_output now).1 in
     record {
       passes = λ w. c.skip_at_root.ensures.passes w ∙ l.invariant.passes w;
-      skips = SkipsTo-reads g.W.Unit.EdgeLabel.width W.automaton W.read W.turns W.found W.content W.looks_at (F.passes c.args.filter.now) c.args.walk.now (rest c.args.rest.now) c.args.taken.now to.walk (rest to.rest) to.taken [] now (rest c.next.new.self) (SkipsTo-then g.W.Unit.EdgeLabel.width W.automaton W.read W.turns W.found W.content W.looks_at (g.F.Filter.passes c.args.filter.now) c.args.walk.now (rest c.args.rest.now) c.args.taken.now c.units.walk (rest c.units.rest) c.units.taken [] to.walk (rest to.rest) to.taken c.units.invariant.skips
-          (SkipsTo-places g.W.Unit.EdgeLabel.width W.automaton W.read W.turns W.found W.content W.looks_at (g.F.Filter.passes c.args.filter.now) (g.F.Filter.passes c.units.filter) c.units.walk (rest c.units.rest) c.units.taken [] to.walk (rest to.rest) to.taken c.units.invariant.passes c.skip_at_root.ensures.skips))
+      skips = SkipsTo-reads g.W.Unit.EdgeLabel.width W.automaton W.read W.turns W.found W.content W.looks_at W.ends_at_once (F.passes c.args.filter.now) c.args.walk.now (rest c.args.rest.now) c.args.taken.now to.walk (rest to.rest) to.taken [] now (rest c.next.new.self) (SkipsTo-then g.W.Unit.EdgeLabel.width W.automaton W.read W.turns W.found W.content W.looks_at W.ends_at_once (g.F.Filter.passes c.args.filter.now) c.args.walk.now (rest c.args.rest.now) c.args.taken.now c.units.walk (rest c.units.rest) c.units.taken [] to.walk (rest to.rest) to.taken c.units.invariant.skips
+          (SkipsTo-places g.W.Unit.EdgeLabel.width W.automaton W.read W.turns W.found W.content W.looks_at W.ends_at_once (g.F.Filter.passes c.args.filter.now) (g.F.Filter.passes c.units.filter) c.units.walk (rest c.units.rest) c.units.taken [] to.walk (rest to.rest) to.taken c.units.invariant.passes c.skip_at_root.ensures.skips))
           (ReadsTo-one W.automaton W.read W.found to.walk (rest to.rest) to.walk (rest to.rest) (unit c.in-Some.unit) (rest c.next.new.self) now [] (ReadsTo-first W.automaton W.read W.found to.walk (rest to.rest)) one read.automaton read.read nothing)
           (omega (arith, ap length one));
       idle = λ h.

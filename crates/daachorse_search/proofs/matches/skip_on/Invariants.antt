@@ -7,7 +7,7 @@ invariant-units g l =
     let W = g.W.Stepwise in let F = g.F.Filter in let rest = g.H.Haystack.rest in
     record {
       passes : (w : List ℕ) → F.passes l.filter w ≡ F.passes l.fn.filter w;
-      skips : SkipsTo g.W.Unit.EdgeLabel.width W.automaton W.read W.found W.looks_at (F.passes l.fn.filter) l.fn.walk (rest l.fn.rest) l.fn.taken [] l.walk (rest l.rest) l.taken;
+      skips : SkipsTo g.W.Unit.EdgeLabel.width W.automaton W.read W.found W.looks_at W.ends_at_once (F.passes l.fn.filter) l.fn.walk (rest l.fn.rest) l.fn.taken [] l.walk (rest l.rest) l.taken;
       idle : HasNoPlace (F.passes l.fn.filter) (F.opened l.fn.filter) (W.read l.fn.walk) (rest l.fn.rest) →
           (l.taken + W.turns l.walk ≡ l.fn.taken + W.turns l.fn.walk) × HasNoPlace (F.passes l.fn.filter) (F.opened l.filter) (W.read l.walk) (rest l.rest);
     }

@@ -1,7 +1,8 @@
 -- The rows are those of the states that the automaton keeps.
-use Rattle.std.proofs.Common.{subst}
+use Rattle.std.proofs.Common.{◌≡◌, subst}
 use Rattle.std.proofs.lemmas.Option.{MatchOption-at_some}
-use Rattle.daachorse_bytewise_states.specs.StateRows.{CoversNear, HasRows}
+use Rattle.daachorse_model.specs.declared.MatchKind.TheVariants.{Standard}
+use Rattle.daachorse_bytewise_states.specs.StateRows.{CoversNear, HasRows, StaysUnlessLarge}
 use Rattle.daachorse_bytewise.specs.Automata.{Automaton}
 use Rattle.daachorse_bytewise.proofs.bytewise.DoubleArrayAhoCorasick.accelerate.Goals as goal
 
@@ -14,3 +15,8 @@ pub returns-clause-covered : goal.returns-clause-covered
 returns-clause-covered g c =
     let P : Automaton g.row.V.Denot → Type 0 = λ a. CoversNear a.parts c.in-Some.rows in
     subst P c.self.view_is (MatchOption-at_some _ (λ r. CoversNear c.self.inside.states r) c.in-Some.rows c.in-Some.is c.in_ok-rows.ensures.covered)
+
+pub returns-clause-stays : goal.returns-clause-stays
+returns-clause-stays g c =
+    let P : Automaton g.row.V.Denot → Type 0 = λ a. a.parts.kind ≡ Standard → StaysUnlessLarge a.parts c.in-Some.rows in
+    subst P c.self.view_is (MatchOption-at_some _ (λ r. c.self.inside.states.kind ≡ Standard → StaysUnlessLarge c.self.inside.states r) c.in-Some.rows c.in-Some.is c.in_ok-rows.ensures.stays)

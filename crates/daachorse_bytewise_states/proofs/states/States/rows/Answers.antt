@@ -1,16 +1,42 @@
 -- Either view has the parts, whose states are elements.
-use Rattle.std.proofs.Common.{◌≡◌, ◌⊎◌, ◌+◌, ◌/◌, ◌<◌, ◌≤◌, inl, inr, ℕ, List, length, map, ap, sym, subst, arith}
-use Rattle.std.specs.Prelude.{IfOk, IfSome, Option, None, Result, Ok, Err}
-use Rattle.daachorse_rows.specs.Rows.{AreLabels, AreTooMany, stands_by}
+use Rattle.std.proofs.Common.{◌≡◌, ◌⊎◌, ◌+◌, ◌/◌, ◌<◌, ◌≤◌, inl, inr, ℕ, List, length, map, ap, sym, ◌∙◌, subst, arith}
+use Rattle.std.specs.Prelude.{IfOk, IfSome, Option, Some, None, Result, Ok, Err, unwrap_or}
+use Rattle.daachorse_model.specs.declared.MatchKind.TheVariants.{Standard}
+use Rattle.daachorse_model.specs.Paths.{walk}
+use Rattle.daachorse_rows.specs.Rows.{AreLabels, AreTooMany, ClosesOrFills, MayClose, RowTable, stands_by}
 use Rattle.daachorse_rows.proofs.ListedLaws.{AreLabels-own}
 use Rattle.daachorse_rows.proofs.ShallowLaws.{AreTooMany-weaker, room_least}
-use Rattle.daachorse_bytewise_states.specs.Parts.{Parts, content, count}
-use Rattle.daachorse_bytewise_states.specs.StateRows.{CoversNear, HasNoRoom, HasRows, stands_for}
-use Rattle.daachorse_bytewise_states.specs.Valid.{IsState, IsValid, text}
+use Rattle.daachorse_bytewise_states.specs.Parts.{Parts, child, content, count}
+use Rattle.daachorse_bytewise_states.specs.StateRows.{CoversNear, HasNoRoom, HasRows, StaysUnlessLarge, stands_for}
+use Rattle.daachorse_bytewise_states.specs.Valid.{IsState, IsValid, dead, text}
 use Rattle.daachorse_bytewise_states.proofs.ByteLaws.{state_inside}
+use Rattle.daachorse_bytewise_states.proofs.DeadLaws.{alive}
 use Rattle.daachorse_bytewise_states.proofs.states.States.rows.Goals as goal
 
+-- a standard automaton has no dead link, and a text leads to one state
+may_close : {V : Type 0} (p : Parts V) → p.kind ≡ Standard → MayClose 256 (IsState p) (text p) (dead p) stands_for
+may_close p standard = record {
+  alive = alive p standard;
+  single = λ s t here there same. ap (λ o. unwrap_or o 0) (sym here ∙ (ap (walk (child p) 0) same ∙ there));
+  slots = λ label unit below stands. omega (arith, below);
+}
+
 module _ {V : Type 0} (p q : Parts V) (same : q ≡ p) where
+  -- the rows of one view stay where those of the parts do
+  stays : {E : Type 0} (made : Result (Option RowTable) E) (listed bytes : List ℕ) → listed ≡ bytes → length bytes ≤ 256
+      → IfOk made (λ rows. IfSome rows (λ r. MayClose 256 (IsState q) (text q) (dead q) stands_for → ClosesOrFills 256 (IsState q) (text q) stands_for (65536 / (length listed + 2)) r))
+      → IfOk made (λ rows. IfSome rows (λ r. p.kind ≡ Standard → StaysUnlessLarge p r))
+  stays (Err e) listed bytes is few closed = tt
+  stays (Ok None) listed bytes is few closed = tt
+  stays (Ok (Some r)) listed bytes is few closed = λ standard.
+      let P : Parts V → Type 0 = λ x. MayClose 256 (IsState x) (text x) (dead x) stands_for in
+      let Q : Parts V → Type 0 = λ x. StaysUnlessLarge x r in
+      let fits = room_least (length listed) 254 (omega (arith, ap length is, few)) in
+      subst Q same (elim (closed (subst P (sym same) (may_close p standard))) [
+        | inl all ↦ inl all
+        | inr many ↦ inr (many.0, AreTooMany-weaker (IsState q) (text q) stands_for many.0 many.0 (65536 / (length listed + 2)) 254 (omega arith) fits many.1)
+      ])
+
   labels_along : (bytes listed : List ℕ) → listed ≡ bytes → AreLabels (content p) (λ label unit. label ≡ unit) bytes → AreLabels (content q) (stands_by (λ (byte : ℕ). byte) (λ label unit. label ≡ unit)) (map (λ (byte : ℕ). byte) listed)
   labels_along bytes listed is labels =
       let P : Parts V → Type 0 = λ x. AreLabels (content x) (λ label unit. label ≡ unit) listed in
@@ -51,6 +77,9 @@ returns-in-Standard-clause-covered g c =
     let P : Parts g.row.V.Denot → Type 0 = λ p. IfOk c.new.result (λ rows. IfSome rows (CoversNear p)) in
     subst P c.standard-view.ensures c.new.ensures.covered
 
+pub returns-in-Standard-clause-stays : goal.returns-in-Standard-clause-stays
+returns-in-Standard-clause-stays g c = stays c.args.self.now _ c.standard-view.ensures c.new.result _ _ c.as_slice.ensures.value c.in_ok-bytes.ensures.few c.new.ensures.closed
+
 pub returns-in-Standard-clause-none : goal.returns-in-Standard-clause-none
 returns-in-Standard-clause-none g c = no_room c.args.self.now _ c.standard-view.ensures c.new.result _ _ c.in_ok-bytes.bytes.items c.as_slice.ensures.value c.in_ok-bytes.ensures.few c.num_elements-count.ensures.all c.new.ensures.none
 
@@ -71,6 +100,9 @@ pub returns-clause-covered : goal.returns-clause-covered
 returns-clause-covered g c =
     let P : Parts g.row.V.Denot → Type 0 = λ p. IfOk c.new-in-LeftmostLongest.result (λ rows. IfSome rows (CoversNear p)) in
     subst P c.leftmost-view.ensures c.new-in-LeftmostLongest.ensures.covered
+
+pub returns-clause-stays : goal.returns-clause-stays
+returns-clause-stays g c = stays c.args.self.now _ c.leftmost-view.ensures c.new-in-LeftmostLongest.result _ _ c.as_slice-in-LeftmostLongest.ensures.value c.in_ok-bytes.ensures.few c.new-in-LeftmostLongest.ensures.closed
 
 pub returns-clause-none : goal.returns-clause-none
 returns-clause-none g c = no_room c.args.self.now _ c.leftmost-view.ensures c.new-in-LeftmostLongest.result _ _ c.in_ok-bytes.bytes.items c.as_slice-in-LeftmostLongest.ensures.value c.in_ok-bytes.ensures.few c.num_elements-count.ensures.all c.new-in-LeftmostLongest.ensures.none

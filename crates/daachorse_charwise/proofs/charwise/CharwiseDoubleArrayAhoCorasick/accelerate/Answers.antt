@@ -1,7 +1,8 @@
 -- The rows are those of the states that the automaton keeps.
-use Rattle.std.proofs.Common.{subst}
+use Rattle.std.proofs.Common.{◌≡◌, subst}
 use Rattle.std.proofs.lemmas.Option.{MatchOption-at_some}
-use Rattle.daachorse_charwise_states.specs.StateRows.{CoversNear, HasRows}
+use Rattle.daachorse_model.specs.declared.MatchKind.TheVariants.{Standard}
+use Rattle.daachorse_charwise_states.specs.StateRows.{CoversNear, HasFewCodes, HasRows, StaysUnlessLarge}
 use Rattle.daachorse_charwise.specs.Automata.{Automaton}
 use Rattle.daachorse_charwise.proofs.charwise.CharwiseDoubleArrayAhoCorasick.accelerate.Goals as goal
 
@@ -14,3 +15,8 @@ pub returns-clause-covered : goal.returns-clause-covered
 returns-clause-covered g c =
     let P : Automaton g.row.V.Denot → Type 0 = λ a. CoversNear a.parts c.in-Some.rows in
     subst P c.self.view_is (MatchOption-at_some _ (λ r. CoversNear c.self.inside.states r) c.in-Some.rows c.in-Some.is c.in_ok-rows.ensures.covered)
+
+pub returns-clause-stays : goal.returns-clause-stays
+returns-clause-stays g c =
+    let P : Automaton g.row.V.Denot → Type 0 = λ a. a.parts.kind ≡ Standard → HasFewCodes a.parts → StaysUnlessLarge a.parts c.in-Some.rows in
+    subst P c.self.view_is (MatchOption-at_some _ (λ r. c.self.inside.states.kind ≡ Standard → HasFewCodes c.self.inside.states → StaysUnlessLarge c.self.inside.states r) c.in-Some.rows c.in-Some.is c.in_ok-rows.ensures.stays)

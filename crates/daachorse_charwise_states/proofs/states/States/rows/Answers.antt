@@ -1,20 +1,45 @@
 -- Either view has the parts, whose states are elements.
-use Rattle.std.proofs.Common.{◌≡◌, ◌⊎◌, ◌+◌, ◌/◌, ◌<◌, ◌≤◌, inl, inr, ℕ, List, length, map, ap, sym, subst, arith}
-use Rattle.std.specs.Prelude.{IfSome}
+use Rattle.std.proofs.Common.{◌≡◌, ◌⊎◌, ◌+◌, ◌/◌, ◌<◌, ◌≤◌, inl, inr, ℕ, List, length, map, ap, sym, ◌∙◌, subst, arith}
+use Rattle.std.specs.Prelude.{◌^◌, IfSome, Option, Some, None, unwrap_or}
+use Rattle.daachorse_model.specs.declared.MatchKind.TheVariants.{Standard}
+use Rattle.daachorse_model.specs.Paths.{walk}
 use Rattle.daachorse_machine.proofs.MachineLaws.{Reached-inside}
-use Rattle.daachorse_rows.specs.Rows.{AreLabels, AreTooMany, stands_by}
+use Rattle.daachorse_rows.specs.Rows.{AreLabels, AreTooMany, ClosesOrFills, MayClose, RowTable, stands_by}
 use Rattle.daachorse_rows.proofs.ListedLaws.{AreLabels-own}
 use Rattle.daachorse_rows.proofs.ShallowLaws.{AreTooMany-weaker, room_least}
-use Rattle.daachorse_charwise_states.specs.Parts.{Parts, content, count}
-use Rattle.daachorse_charwise_states.specs.StateRows.{CoversNear, HasNoRoom, HasRows, stands_for}
-use Rattle.daachorse_charwise_states.specs.Valid.{IsState, IsValid, text}
+use Rattle.daachorse_charwise_states.specs.Parts.{Parts, child, content, count}
+use Rattle.daachorse_charwise_states.specs.StateRows.{CoversNear, HasFewCodes, HasNoRoom, HasRows, StaysUnlessLarge, stands_for}
+use Rattle.daachorse_charwise_states.specs.Valid.{IsState, IsValid, dead, text}
 use Rattle.daachorse_charwise_states.proofs.CharLaws.{valid_machine}
+use Rattle.daachorse_charwise_states.proofs.DeadLaws.{alive}
 use Rattle.daachorse_charwise_states.proofs.states.States.rows.Goals as goal
 
 abbrev coded : {V : Type 0} → Parts V → ℕ → ℕ → Type 0
 coded p = stands_by (λ (code : ℕ). code) (stands_for p)
 
+-- a standard automaton has no dead link, and a text leads to one state
+may_close : {V : Type 0} (p : Parts V) → p.kind ≡ Standard → HasFewCodes p → MayClose (2 ^ 32) (IsState p) (text p) (dead p) (coded p)
+may_close p standard few = record {
+  alive = alive p standard;
+  single = λ s t here there same. ap (λ o. unwrap_or o 0) (sym here ∙ (ap (walk (child p) 0) same ∙ there));
+  slots = λ label unit below stands. omega (arith, stands.1, few unit stands.0 stands.2);
+}
+
 module _ {V : Type 0} (p q : Parts V) (same : q ≡ p) where
+  -- the rows of one view stay where those of the parts do
+  stays : (made : Option RowTable) (listed codes : List ℕ) → listed ≡ codes → length codes ≤ 510
+      → IfSome made (λ r. MayClose (2 ^ 32) (IsState q) (text q) (dead q) (coded q) → ClosesOrFills (2 ^ 32) (IsState q) (text q) (coded q) (65536 / (length listed + 2)) r)
+      → IfSome made (λ r. p.kind ≡ Standard → HasFewCodes p → StaysUnlessLarge p r)
+  stays None listed codes is few closed = tt
+  stays (Some r) listed codes is few closed = λ standard coding.
+      let P : Parts V → Type 0 = λ x. MayClose (2 ^ 32) (IsState x) (text x) (dead x) (coded x) in
+      let Q : Parts V → Type 0 = λ x. StaysUnlessLarge x r in
+      let fits = room_least (length listed) 128 (omega (arith, ap length is, few)) in
+      subst Q same (elim (closed (subst P (sym same) (may_close p standard coding))) [
+        | inl all ↦ inl all
+        | inr many ↦ inr (many.0, AreTooMany-weaker (IsState q) (text q) (coded q) many.0 many.0 (65536 / (length listed + 2)) 128 (omega arith) fits many.1)
+      ])
+
   labels_along : (codes listed : List ℕ) → listed ≡ codes → AreLabels (content p) (stands_for p) codes → AreLabels (content q) (stands_by (λ (code : ℕ). code) (stands_for q)) (map (λ (code : ℕ). code) listed)
   labels_along codes listed is labels =
       let P : Parts V → Type 0 = λ x. AreLabels (content x) (stands_for x) listed in
@@ -51,6 +76,9 @@ returns-in-Standard-clause-covered g c =
     let P : Parts g.row.V.Denot → Type 0 = λ p. IfSome c.in_ok-new-in-Standard.field-0 (CoversNear p) in
     subst P c.standard-view.ensures c.in_ok-new-in-Standard.ensures.covered
 
+pub returns-in-Standard-clause-stays : goal.returns-in-Standard-clause-stays
+returns-in-Standard-clause-stays g c = stays c.args.self.now _ c.standard-view.ensures c.in_ok-new-in-Standard.field-0 _ _ c.as_slice.ensures.value c.in_ok-codes.ensures.few c.in_ok-new-in-Standard.ensures.closed
+
 pub returns-in-Standard-clause-none : goal.returns-in-Standard-clause-none
 returns-in-Standard-clause-none g c = λ at. no_room c.args.self.now _ c.standard-view.ensures _ _ c.in_ok-codes.codes.items c.as_slice.ensures.value c.in_ok-codes.ensures.few c.num_elements-count.ensures.all (c.in_ok-new-in-Standard.ensures.none at)
 
@@ -71,6 +99,9 @@ pub returns-clause-covered : goal.returns-clause-covered
 returns-clause-covered g c =
     let P : Parts g.row.V.Denot → Type 0 = λ p. IfSome c.in_ok-new-in-LeftmostLongest.field-0 (CoversNear p) in
     subst P c.leftmost-view.ensures c.in_ok-new-in-LeftmostLongest.ensures.covered
+
+pub returns-clause-stays : goal.returns-clause-stays
+returns-clause-stays g c = stays c.args.self.now _ c.leftmost-view.ensures c.in_ok-new-in-LeftmostLongest.field-0 _ _ c.as_slice-in-LeftmostLongest.ensures.value c.in_ok-codes.ensures.few c.in_ok-new-in-LeftmostLongest.ensures.closed
 
 pub returns-clause-none : goal.returns-clause-none
 returns-clause-none g c = λ at. no_room c.args.self.now _ c.leftmost-view.ensures _ _ c.in_ok-codes.codes.items c.as_slice-in-LeftmostLongest.ensures.value c.in_ok-codes.ensures.few c.num_elements-count.ensures.all (c.in_ok-new-in-LeftmostLongest.ensures.none at)

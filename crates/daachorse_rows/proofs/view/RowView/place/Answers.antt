@@ -8,7 +8,7 @@ pub returns-then-self-index : goal.returns-then-self-index
 returns-then-self-index g c =
     let s = c.self.inside in
     let P : Rowed g.row.A.Denot → Type 0 = λ p. g.A.Automaton.reached p.automaton c.args.state → StandsFor p.rows (slice_index s.homes.now c.args.state * s.width) c.args.state in
-    subst P c.self.view_is (λ there. place_home _ _ _ _ _ _ _ c.self.invariant c.args.state c.if-index-self.true c.if-self-index.true)
+    subst P c.self.view_is (λ there. place_home _ _ _ _ _ _ g.A.Label.RowLabel.most _ c.self.invariant c.args.state c.if-index-self.true c.if-self-index.true)
 
 pub returns : goal.returns
 returns g c =

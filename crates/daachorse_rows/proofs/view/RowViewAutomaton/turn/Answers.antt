@@ -1,9 +1,10 @@
-use Rattle.std.proofs.Common.{ℕ, ◌+◌, ◌-◌, List, sym, subst}
+use Rattle.std.proofs.Common.{ℕ, ◌+◌, ◌-◌, ◌<◌, List, length, refl, sym, subst, arith}
 use Rattle.std.specs.Prelude.{slice_index, None}
 use Rattle.daachorse_core.specs.Looks.{IsFirstOutput, LookGives, StepEnds}
 use Rattle.daachorse_core.specs.declared.turns.Look.TheVariants.{Next, Fail}
-use Rattle.daachorse_rows.specs.Rows.{Rowed, IsPlace, stands_by, state_at}
+use Rattle.daachorse_rows.specs.Rows.{Rowed, AreClosed, IsPlace, stands_by, state_at}
 use Rattle.daachorse_rows.proofs.RowLaws.{look_below, look_link, look_loud, look_quiet, output_quiet, reached_loud}
+use Rattle.daachorse_rows.proofs.view.RowViewAutomaton.turn.Goals.{else-place-self-via-then-place-self+else-number, else-place-self-via-else-place-self}
 use Rattle.daachorse_rows.proofs.view.RowViewAutomaton.turn.Goals as goal
 
 -- at a row, by the entry
@@ -13,9 +14,9 @@ returns-then-entry-lt-HAS_OUTPUTS-clause-look g c =
     let A = g.A.Automaton in let s = c.self.inside in
     let e : ℕ = slice_index s.top.now (c.args.state + slice_index s.classes.now c.index-number.result) in
     let R : Rowed g.row.A.Denot → Type 0 = λ p. IsPlace p.rows c.args.state in
-    let P : Rowed g.row.A.Denot → Type 0 = λ p. (unit : ℕ) → A.labels p.automaton c.args.label unit → (IsPlace p.rows e × A.reached p.automaton (state_at p.rows.top e))
+    let P : Rowed g.row.A.Denot → Type 0 = λ p. (unit : ℕ) → A.labels p.automaton c.args.label unit → (IsPlace p.rows e × A.reached p.automaton (state_at p.rows.top e) × (AreClosed g.A.Label.RowLabel.most (stands_by g.A.Label.RowLabel.number (A.labels p.automaton)) p.rows → e < length p.rows.top))
     × StepEnds (A.content p.automaton) (A.dead p.automaton) (A.text p.automaton (state_at p.rows.top c.args.state)) unit (A.text p.automaton (state_at p.rows.top e)) in
-    subst P c.self.view_is (λ unit coded. look_quiet _ _ _ _ _ _ _ c.self.invariant c.args.state c.index-number.result (subst R (sym c.self.view_is) c.requires.0) c.if-place-self.true c.if-number.true c.if-entry-lt-HAS_OUTPUTS.true unit (c.args.label, sym c.index-number.ensures, coded))
+    subst P c.self.view_is (λ unit coded. look_quiet _ _ _ _ _ _ g.A.Label.RowLabel.most _ c.self.invariant c.args.state c.index-number.result (subst R (sym c.self.view_is) c.requires.0) c.if-place-self.true c.if-number.true c.if-entry-lt-HAS_OUTPUTS.true unit (c.args.label, sym c.index-number.ensures.is, coded))
 
 pub returns-then-entry-lt-HAS_OUTPUTS-clause-output :
     goal.returns-then-entry-lt-HAS_OUTPUTS-clause-output
@@ -25,24 +26,24 @@ returns-then-entry-lt-HAS_OUTPUTS-clause-output g c =
     let R : Rowed g.row.A.Denot → Type 0 = λ p. IsPlace p.rows c.args.state in
     let P : Rowed g.row.A.Denot → Type 0 = λ p. (unit : ℕ) → A.labels p.automaton c.args.label unit
     → IsFirstOutput g.A.Unit.EdgeLabel.width (A.content p.automaton) (A.dead p.automaton) (A.has_output p.automaton) (A.outputs p.automaton) (A.most_outputs p.automaton) (A.text p.automaton (state_at p.rows.top e)) None in
-    subst P c.self.view_is (λ unit coded. output_quiet _ _ _ _ _ _ _ c.self.invariant c.args.state c.index-number.result (subst R (sym c.self.view_is) c.requires.0) c.if-place-self.true c.if-number.true c.if-entry-lt-HAS_OUTPUTS.true)
+    subst P c.self.view_is (λ unit coded. output_quiet _ _ _ _ _ _ g.A.Label.RowLabel.most _ c.self.invariant c.args.state c.index-number.result (subst R (sym c.self.view_is) c.requires.0) c.if-place-self.true c.if-number.true c.if-entry-lt-HAS_OUTPUTS.true)
 
 pub output_pos-requires : goal.output_pos-requires
 output_pos-requires g c =
     let A = g.A.Automaton in let s = c.self.inside in
     let e : ℕ = slice_index s.top.now (c.args.state + slice_index s.classes.now c.index-number.result) in
     let R : Rowed g.row.A.Denot → Type 0 = λ p. IsPlace p.rows c.args.state in
-    let P : Rowed g.row.A.Denot → Type 0 = λ p. IsPlace p.rows (e - 2147483648) × A.reached p.automaton (state_at p.rows.top (e - 2147483648)) in
-    subst P c.self.view_is (reached_loud _ _ _ _ _ _ _ c.self.invariant c.args.state c.index-number.result (subst R (sym c.self.view_is) c.requires.0) c.if-place-self.true c.if-number.true c.if-entry-lt-HAS_OUTPUTS.false)
+    let P : Rowed g.row.A.Denot → Type 0 = λ p. IsPlace p.rows (e - 2147483648) × A.reached p.automaton (state_at p.rows.top (e - 2147483648)) × (AreClosed g.A.Label.RowLabel.most (stands_by g.A.Label.RowLabel.number (A.labels p.automaton)) p.rows → e - 2147483648 < length p.rows.top) in
+    subst P c.self.view_is (reached_loud _ _ _ _ _ _ g.A.Label.RowLabel.most _ c.self.invariant c.args.state c.index-number.result (subst R (sym c.self.view_is) c.requires.0) c.if-place-self.true c.if-number.true c.if-entry-lt-HAS_OUTPUTS.false)
 
 pub returns-then-number-clause-look : goal.returns-then-number-clause-look
 returns-then-number-clause-look g c =
     let A = g.A.Automaton in let s = c.self.inside in
     let e : ℕ = slice_index s.top.now (c.args.state + slice_index s.classes.now c.index-number.result) in
     let R : Rowed g.row.A.Denot → Type 0 = λ p. IsPlace p.rows c.args.state in
-    let P : Rowed g.row.A.Denot → Type 0 = λ p. (unit : ℕ) → A.labels p.automaton c.args.label unit → (IsPlace p.rows (e - 2147483648) × A.reached p.automaton (state_at p.rows.top (e - 2147483648)))
+    let P : Rowed g.row.A.Denot → Type 0 = λ p. (unit : ℕ) → A.labels p.automaton c.args.label unit → (IsPlace p.rows (e - 2147483648) × A.reached p.automaton (state_at p.rows.top (e - 2147483648)) × (AreClosed g.A.Label.RowLabel.most (stands_by g.A.Label.RowLabel.number (A.labels p.automaton)) p.rows → e - 2147483648 < length p.rows.top))
     × StepEnds (A.content p.automaton) (A.dead p.automaton) (A.text p.automaton (state_at p.rows.top c.args.state)) unit (A.text p.automaton (state_at p.rows.top (e - 2147483648))) in
-    subst P c.self.view_is (λ unit coded. look_loud _ _ _ _ _ _ _ c.self.invariant c.args.state c.index-number.result (subst R (sym c.self.view_is) c.requires.0) c.if-place-self.true c.if-number.true c.if-entry-lt-HAS_OUTPUTS.false unit (c.args.label, sym c.index-number.ensures, coded))
+    subst P c.self.view_is (λ unit coded. look_loud _ _ _ _ _ _ g.A.Label.RowLabel.most _ c.self.invariant c.args.state c.index-number.result (subst R (sym c.self.view_is) c.requires.0) c.if-place-self.true c.if-number.true c.if-entry-lt-HAS_OUTPUTS.false unit (c.args.label, sym c.index-number.ensures.is, coded))
 
 -- below the rows and by a label with no slot, what the automaton's own look tells
 pub turn-requires : goal.turn-requires
@@ -60,7 +61,16 @@ returns-in-Next-clause-look g c = λ unit coded.
     let own : P p = subst P c.self.view_is (c.in-Next.ensures.look unit) in
     let Q : ℕ → Type 0 = λ x. LookGives (A.content a) (A.reached a) (A.text a) (A.dead a) (A.text a x) unit told in
     let look = subst Q c.state.ensures (own coded) in
-    look_below (A.content a) (A.reached a) (A.text a) (A.dead a) (stands_by g.A.Label.RowLabel.number (A.labels a)) (λ w o. Unit {0}) p.rows (A.text a (state_at p.rows.top c.args.state)) unit c.in-Next.next c.place_below.result c.in-Next.position (c.place_below.ensures look.0) look
+    look_below (A.content a) (A.reached a) (A.text a) (A.dead a) (stands_by g.A.Label.RowLabel.number (A.labels a)) (λ w o. Unit {0}) g.A.Label.RowLabel.most p.rows (A.text a (state_at p.rows.top c.args.state)) unit c.in-Next.next c.place_below.result c.in-Next.position
+    (λ closed.
+    let low = closed.slots (g.A.Label.RowLabel.number c.args.label) unit c.index-number.ensures.below (c.args.label, refl, coded) in
+    let I : Rowed g.row.A.Denot → Type 0 = λ q. c.args.state < length q.rows.top in
+    let inside = subst I (sym c.self.view_is) (c.requires.2 closed) in
+    elim c.else-place-self.branch [
+      | else-place-self-via-then-place-self+else-number w ↦ absurd (omega (arith, w.if-number.false, c.index-number.ensures.is, low))
+      | else-place-self-via-else-place-self w ↦ absurd (omega (arith, w.if-place-self.false, inside))
+    ])
+    (c.place_below.ensures look.0) look
 
 pub returns-in-Next-clause-output : goal.returns-in-Next-clause-output
 returns-in-Next-clause-output g c = λ unit coded.
@@ -79,4 +89,24 @@ returns-in-Fail-clause-look g c = λ unit coded.
     let own : P p = subst P c.self.view_is (c.in-Fail.ensures.look unit) in
     let Q : ℕ → Type 0 = λ x. LookGives (A.content a) (A.reached a) (A.text a) (A.dead a) (A.text a x) unit told in
     let look = subst Q c.state.ensures (own coded) in
-    look_link (A.content a) (A.reached a) (A.text a) (A.dead a) (stands_by g.A.Label.RowLabel.number (A.labels a)) (λ w o. Unit {0}) p.rows (A.text a (state_at p.rows.top c.args.state)) unit c.in-Fail.link c.place.result (c.place.ensures look.0) look
+    look_link (A.content a) (A.reached a) (A.text a) (A.dead a) (stands_by g.A.Label.RowLabel.number (A.labels a)) (λ w o. Unit {0}) g.A.Label.RowLabel.most p.rows (A.text a (state_at p.rows.top c.args.state)) unit c.in-Fail.link c.place.result
+    (λ closed.
+    let low = closed.slots (g.A.Label.RowLabel.number c.args.label) unit c.index-number.ensures.below (c.args.label, refl, coded) in
+    let I : Rowed g.row.A.Denot → Type 0 = λ q. c.args.state < length q.rows.top in
+    let inside = subst I (sym c.self.view_is) (c.requires.2 closed) in
+    elim c.else-place-self.branch [
+      | else-place-self-via-then-place-self+else-number w ↦ absurd (omega (arith, w.if-number.false, c.index-number.ensures.is, low))
+      | else-place-self-via-else-place-self w ↦ absurd (omega (arith, w.if-place-self.false, inside))
+    ])
+    (c.place.ensures look.0) look
+
+-- where the rows are closed, no look is below them
+pub returns-in-Fail-clause-single : goal.returns-in-Fail-clause-single
+returns-in-Fail-clause-single g c = λ closed unit link coded _.
+    let low = closed.slots (g.A.Label.RowLabel.number c.args.label) unit c.index-number.ensures.below (c.args.label, refl, coded) in
+    let I : Rowed g.row.A.Denot → Type 0 = λ q. c.args.state < length q.rows.top in
+    let inside = subst I (sym c.self.view_is) (c.requires.2 closed) in
+    elim c.else-place-self.branch [
+      | else-place-self-via-then-place-self+else-number w ↦ absurd (omega (arith, w.if-number.false, c.index-number.ensures.is, low))
+      | else-place-self-via-else-place-self w ↦ absurd (omega (arith, w.if-place-self.false, inside))
+    ]

@@ -9,8 +9,8 @@ use Rattle.daachorse_search.proofs.find.FindWalkStepwise.turns_are_bounded.Goals
 pub returns-clause-bounds : goal.returns-clause-bounds
 returns-clause-bounds g c =
     let A = g.A.Automaton in let unit = g.A.Unit.EdgeLabel in let s = c.self.inside in let bounds = c.turns_are_bounded.ensures in
-    let P : Walked g.row.A.Denot → Type 0 = λ x. AreBoundedSince (A.content x.automaton) (A.has_label x.automaton) unit.width (units x.seen) x.turns in
-    subst P c.self.view_is (finding-bounded unit.width g.met.A.Unit.EdgeLabel.wide A.content A.has_label A.has_output A.outputs A.most_outputs s.walk s.everywhere c.self.invariant bounds.most bounds.deep bounds.least)
+    let P : Walked g.row.A.Denot → Type 0 = λ x. AreBoundedSince (A.content x.automaton) (A.has_label x.automaton) (A.ends_at_once x.automaton) unit.width (units x.seen) x.turns in
+    subst P c.self.view_is (finding-bounded unit.width g.met.A.Unit.EdgeLabel.wide A.content A.has_label A.has_output A.outputs A.most_outputs (A.ends_at_once s.walk.automaton) s.walk s.everywhere c.self.invariant bounds.most bounds.deep bounds.single bounds.least)
 
 pub returns-clause-least : goal.returns-clause-least
 returns-clause-least g c =

@@ -22,12 +22,12 @@ Ins g = Inside g.row.V.Denot g.row.W.Denot g.row.H.Denot g.row.F.Denot g.row.W-U
 abbrev standing : (g : given.Over) → Ins g → ℕ → Type 0
 standing g i position =
     let W = g.W.Stepwise in let F = g.F.Filter in let rest = g.H.Haystack.rest in
-    ((w : List ℕ) → F.passes i.filter w ≡ F.passes i.first_filter.value w) × reading g.W.Unit.EdgeLabel.width W.automaton W.read W.turns W.found W.content W.looks_at W.has_output W.given_from (F.passes i.first_filter.value) (F.opened i.first_filter.value) (rest i.whole.value) i.size (F.opened i.filter) i.walk (rest i.rest) position i.taken
+    ((w : List ℕ) → F.passes i.filter w ≡ F.passes i.first_filter.value w) × reading g.W.Unit.EdgeLabel.width W.automaton W.read W.turns W.found W.content W.looks_at W.ends_at_once W.has_output W.given_from (F.passes i.first_filter.value) (F.opened i.first_filter.value) (rest i.whole.value) i.size (F.opened i.filter) i.walk (rest i.rest) position i.taken
 
 abbrev left_at : (g : given.Over) → Ins g → ℕ → List (Match g.row.V.Denot)
 left_at g i position =
     let W = g.W.Stepwise in let F = g.F.Filter in let rest = g.H.Haystack.rest in
-    left_of g.W.Unit.EdgeLabel.width W.automaton W.read W.turns W.found W.content W.looks_at W.has_output W.given_from (F.passes i.first_filter.value) (F.opened i.first_filter.value) (rest i.whole.value) i.size i.walk (rest i.rest) position
+    left_of g.W.Unit.EdgeLabel.width W.automaton W.read W.turns W.found W.content W.looks_at W.ends_at_once W.has_output W.given_from (F.passes i.first_filter.value) (F.opened i.first_filter.value) (rest i.whole.value) i.size i.walk (rest i.rest) position
 
 -- a call that began as `was` came to the output at the position
 record Came (g : given.Over) (was now : Ins g) (position : ℕ) : Type 0 where
@@ -41,16 +41,16 @@ record Came (g : given.Over) (was now : Ins g) (position : ℕ) : Type 0 where
 -- none was pending, and the search went on
 went_on : (g : given.Over) (was : Ins g) (walk : g.row.W.Denot) (later : g.row.H.Denot) (taken position : ℕ) (filter : g.row.F.Denot) → standing g was (number was.output) → was.output ≡ None
     → ((w : List ℕ) → g.F.Filter.passes filter w ≡ g.F.Filter.passes was.filter w)
-    → SkipsTo g.W.Unit.EdgeLabel.width g.W.Stepwise.automaton g.W.Stepwise.read g.W.Stepwise.found g.W.Stepwise.looks_at (g.F.Filter.passes was.filter) was.walk (g.H.Haystack.rest was.rest) was.taken (g.W.Stepwise.given_from walk position) walk (g.H.Haystack.rest later) taken
+    → SkipsTo g.W.Unit.EdgeLabel.width g.W.Stepwise.automaton g.W.Stepwise.read g.W.Stepwise.found g.W.Stepwise.looks_at g.W.Stepwise.ends_at_once (g.F.Filter.passes was.filter) was.walk (g.H.Haystack.rest was.rest) was.taken (g.W.Stepwise.given_from walk position) walk (g.H.Haystack.rest later) taken
     → g.W.Stepwise.has_output walk position
     → (HasNoPlace (g.F.Filter.passes was.filter) (g.F.Filter.opened was.filter) (g.W.Stepwise.read was.walk) (g.H.Haystack.rest was.rest) → (taken + g.W.Stepwise.turns walk ≡ was.taken + g.W.Stepwise.turns was.walk) × (g.H.Haystack.rest later ≡ []))
     → Came g was (record was { walk = walk; taken = taken; rest = later; filter = filter }) position
 went_on g was walk later taken position filter stands pending places reads output idle =
     let W = g.W.Stepwise in let F = g.F.Filter in let rest = g.H.Haystack.rest in let first = F.passes was.first_filter.value in
     let zero : number was.output ≡ 0 = ap number pending in
-    let R : ℕ → Type 0 = λ n. reading g.W.Unit.EdgeLabel.width W.automaton W.read W.turns W.found W.content W.looks_at W.has_output W.given_from (F.passes was.first_filter.value) (F.opened was.first_filter.value) (rest was.whole.value) was.size (F.opened was.filter) was.walk (rest was.rest) n was.taken in
-    let on = reading-on g.W.Unit.EdgeLabel.width W.automaton W.read W.turns W.found W.content W.looks_at W.has_output W.given_from (F.passes was.first_filter.value) (F.opened was.first_filter.value) (rest was.whole.value) was.size (F.opened was.filter) (F.opened filter) was.walk (rest was.rest) was.taken walk (rest later) taken position (subst R zero stands.1) (g.met.W.Stepwise.no_output was.walk).1
-    (SkipsTo-places g.W.Unit.EdgeLabel.width W.automaton W.read W.turns W.found W.content W.looks_at first (F.passes was.filter) was.walk (rest was.rest) was.taken (W.given_from walk position) walk (rest later) taken stands.0 reads) output
+    let R : ℕ → Type 0 = λ n. reading g.W.Unit.EdgeLabel.width W.automaton W.read W.turns W.found W.content W.looks_at W.ends_at_once W.has_output W.given_from (F.passes was.first_filter.value) (F.opened was.first_filter.value) (rest was.whole.value) was.size (F.opened was.filter) was.walk (rest was.rest) n was.taken in
+    let on = reading-on g.W.Unit.EdgeLabel.width W.automaton W.read W.turns W.found W.content W.looks_at W.ends_at_once W.has_output W.given_from (F.passes was.first_filter.value) (F.opened was.first_filter.value) (rest was.whole.value) was.size (F.opened was.filter) (F.opened filter) was.walk (rest was.rest) was.taken walk (rest later) taken position (subst R zero stands.1) (g.met.W.Stepwise.no_output was.walk).1
+    (SkipsTo-places g.W.Unit.EdgeLabel.width W.automaton W.read W.turns W.found W.content W.looks_at W.ends_at_once first (F.passes was.filter) was.walk (rest was.rest) was.taken (W.given_from walk position) walk (rest later) taken stands.0 reads) output
     (λ none. idle (no_place_on first (F.passes was.filter) (F.opened was.filter) (W.read was.walk) (rest was.rest) stands.0 none)) in
     record { filter = refl; whole = refl; seen = refl; automaton = reads.same; stands = (λ w. places w ∙ stands.0 w, on.0); left = ap (left_at g was) zero ∙ on.1 }
 
@@ -93,12 +93,12 @@ came_on g c =
 pub overflow_sub-place : goal.overflow_sub-place
 overflow_sub-place g c =
     let W = g.W.Stepwise in let F = g.F.Filter in let rest = g.H.Haystack.rest in let now = c.match-self.self-inside in
-    omega (arith, place_is g.W.Unit.EdgeLabel.width W.automaton W.read W.turns W.found W.content W.looks_at W.has_output W.given_from (F.passes now.first_filter.value) (F.opened now.first_filter.value) (rest now.whole.value) now.size (F.opened now.filter) now.walk (rest now.rest) c.match-self.position.value now.taken (came g c).stands.1, c.left.ensures)
+    omega (arith, place_is g.W.Unit.EdgeLabel.width W.automaton W.read W.turns W.found W.content W.looks_at W.ends_at_once W.has_output W.given_from (F.passes now.first_filter.value) (F.opened now.first_filter.value) (rest now.whole.value) now.size (F.opened now.filter) now.walk (rest now.rest) c.match-self.position.value now.taken (came g c).stands.1, c.left.ensures)
 
 pub give-found-requires-clause-here : goal.give-found-requires-clause-here
 give-found-requires-clause-here g c =
     let W = g.W.Stepwise in let F = g.F.Filter in let rest = g.H.Haystack.rest in let now = c.match-self.self-inside in
-    omega (arith, place_is g.W.Unit.EdgeLabel.width W.automaton W.read W.turns W.found W.content W.looks_at W.has_output W.given_from (F.passes now.first_filter.value) (F.opened now.first_filter.value) (rest now.whole.value) now.size (F.opened now.filter) now.walk (rest now.rest) c.match-self.position.value now.taken (came g c).stands.1, c.left.ensures)
+    omega (arith, place_is g.W.Unit.EdgeLabel.width W.automaton W.read W.turns W.found W.content W.looks_at W.ends_at_once W.has_output W.given_from (F.passes now.first_filter.value) (F.opened now.first_filter.value) (rest now.whole.value) now.size (F.opened now.filter) now.walk (rest now.rest) c.match-self.position.value now.taken (came g c).stands.1, c.left.ensures)
 
 -- the haystack ended: nothing is pending
 pub invariant_of-self : goal.invariant_of-self
@@ -118,7 +118,7 @@ returns-in_err-position-in-None-clause-steps g c =
     let gone : Came g was after 0 = subst C (ap number c.in_err-position-in-None.was) (went_on g was to.walk to.rest to.taken (number c.go_on.result) to.filter c.self.invariant c.in-None.is found.passes found.reads found.output found.idle) in
     let E : Option NonZeroU32 → Type 0 = λ r. IfNone r (rest to.rest ≡ []) in
     let over : rest to.rest ≡ [] = subst E c.in_err-position-in-None.was found.ended in
-    let ended = reading-ended g.W.Unit.EdgeLabel.width W.automaton W.read W.turns W.found W.content W.looks_at W.has_output W.given_from (F.passes after.first_filter.value) (F.opened after.first_filter.value) (rest after.whole.value) after.size (F.opened after.filter) to.walk (rest to.rest) to.taken gone.stands.1 (g.met.W.Stepwise.no_output to.walk).1 over in
+    let ended = reading-ended g.W.Unit.EdgeLabel.width W.automaton W.read W.turns W.found W.content W.looks_at W.ends_at_once W.has_output W.given_from (F.passes after.first_filter.value) (F.opened after.first_filter.value) (rest after.whole.value) after.size (F.opened after.filter) to.walk (rest to.rest) to.taken gone.stands.1 (g.met.W.Stepwise.no_output to.walk).1 over in
     let t : Progress g.row.V.Denot g.row.W-Automaton.Denot g.row.F.Denot = record {
       automaton = W.automaton to.walk;
       filter = was.first_filter.value;
@@ -152,8 +152,8 @@ gives : (g : given.Over) (c : goal.After-give g) → standing g (given_on g c) (
 gives g c =
     let W = g.W.Stepwise in let F = g.F.Filter in let rest = g.H.Haystack.rest in let now = c.match-self.self-inside in let found = c.give-found in
     let stands = (came_on g c).stands in
-    let next = reading-gives g.W.Unit.EdgeLabel.width W.automaton W.read W.turns W.found W.content W.looks_at W.has_output W.given_from (F.passes now.first_filter.value) (F.opened now.first_filter.value) (rest now.whole.value) now.size (F.opened now.filter) now.walk (rest now.rest) c.match-self.position.value (number found.result.1) now.taken (now.size - c.left.result) found.result.0 stands.1
-    (omega (arith, place_is g.W.Unit.EdgeLabel.width W.automaton W.read W.turns W.found W.content W.looks_at W.has_output W.given_from (F.passes now.first_filter.value) (F.opened now.first_filter.value) (rest now.whole.value) now.size (F.opened now.filter) now.walk (rest now.rest) c.match-self.position.value now.taken stands.1, c.left.ensures)) found.ensures.given found.ensures.ends found.ensures.place in
+    let next = reading-gives g.W.Unit.EdgeLabel.width W.automaton W.read W.turns W.found W.content W.looks_at W.ends_at_once W.has_output W.given_from (F.passes now.first_filter.value) (F.opened now.first_filter.value) (rest now.whole.value) now.size (F.opened now.filter) now.walk (rest now.rest) c.match-self.position.value (number found.result.1) now.taken (now.size - c.left.result) found.result.0 stands.1
+    (omega (arith, place_is g.W.Unit.EdgeLabel.width W.automaton W.read W.turns W.found W.content W.looks_at W.ends_at_once W.has_output W.given_from (F.passes now.first_filter.value) (F.opened now.first_filter.value) (rest now.whole.value) now.size (F.opened now.filter) now.walk (rest now.rest) c.match-self.position.value now.taken stands.1, c.left.ensures)) found.ensures.given found.ensures.ends found.ensures.place in
     ((stands.0, next.0), next.1, next.2)
 
 pub invariant_of-self-2 : goal.invariant_of-self-2

@@ -1,0 +1,38 @@
+-- Each row's steps end in rows, one row after the other, or there are too many states.
+use Rattle.std.proofs.Common.{◌+◌, ◌<◌, ℕ, inl, inr, length, map, refl, arith}
+use Rattle.std.specs.Prelude.{slice_index}
+use Rattle.std.proofs.lemmas.List.{length-map}
+use Rattle.daachorse_rows.specs.Rows.{stands_by}
+use Rattle.daachorse_rows.proofs.ShallowLaws.{AreStepped-fewer, AreStepped-more, GoesOn-same, GoesOn-through, IsShallow-weaker}
+use Rattle.daachorse_rows.proofs.making.choose_rest.Goals as goal
+
+pub loop-at-init : goal.loop-at-init
+loop-at-init g c = record { chosen = c.requires.chosen; count = refl; on = GoesOn-same c.args.chosen.now.order.items; shallow = λ n shallow. (n, shallow); steps = λ stepped. stepped }
+
+pub loop-at-preserved : goal.loop-at-preserved
+loop-at-preserved g c =
+    let A = g.A.Automaton in let a = c.args.automaton.now in let stands = stands_by g.A.Label.RowLabel.number (A.labels a) in
+    let old = c.args.chosen.now.order.items in let now = c.loop-at.chosen.order.items in let at = c.loop-at.at in let later = c.choose_ends.new.chosen.order.items in
+    let inside : at < length now = omega (arith, c.loop-at-test.true, c.len.ensures, c.loop-at.chosen.order.ok.0) in
+    let made = c.in_ok-choose_ends.ensures in let kept = c.loop-at.invariant in
+    record {
+      chosen = made.chosen;
+      count = omega (arith, made.same, kept.count);
+      on = GoesOn-through old now later kept.on made.on;
+      shallow = λ n shallow. (let all = kept.shallow n shallow in (all.0 + 1, made.shallow all.0 (all.1 at inside) (λ k below. IsShallow-weaker stands all.0 (all.0 + 1) (A.text a (slice_index now k)) (omega arith) (all.1 k below))));
+      steps = λ stepped. AreStepped-more (A.content a) (A.text a) stands (A.dead a) (map g.A.Label.RowLabel.number c.args.labels.now) at now later made.on inside (kept.steps stepped) (λ j below. made.ends (c.if-not-branch.false) j (omega (arith, below, length-map c.args.labels.now g.A.Label.RowLabel.number)));
+    }
+
+pub returns-then-not-branch-clause-stepped : goal.returns-then-not-branch-clause-stepped
+returns-then-not-branch-clause-stepped g c = λ n shallow stepped.
+    let A = g.A.Automaton in let a = c.args.automaton.now in let stands = stands_by g.A.Label.RowLabel.number (A.labels a) in
+    let now = c.loop-at.chosen.order.items in let at = c.loop-at.at in
+    let inside : at < length now = omega (arith, c.loop-at-test.true, c.len.ensures, c.loop-at.chosen.order.ok.0) in
+    let all = c.loop-at.invariant.shallow n shallow in
+    inr (all.0 + 1, c.in_ok-choose_ends.ensures.full (c.if-not-branch.true) all.0 (all.1 at inside) (λ k below. IsShallow-weaker stands all.0 (all.0 + 1) (A.text a (slice_index now k)) (omega arith) (all.1 k below)))
+
+pub returns-clause-stepped : goal.returns-clause-stepped
+returns-clause-stepped g c = λ n shallow stepped.
+    let A = g.A.Automaton in let a = c.args.automaton.now in
+    inl (AreStepped-fewer (A.content a) (A.text a) (stands_by g.A.Label.RowLabel.number (A.labels a)) (A.dead a) (map g.A.Label.RowLabel.number c.args.labels.now) (length c.loop-at.chosen.order.items) c.loop-at.at c.loop-at.chosen.order.items
+    (omega (arith, c.loop-at-test.false, c.len.ensures, c.loop-at.chosen.order.ok.0)) (c.loop-at.invariant.steps stepped))

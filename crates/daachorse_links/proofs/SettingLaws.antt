@@ -7,24 +7,12 @@ use Rattle.daachorse_links.specs.Near.{up, near, right, AreNear, IsChecked, IsSa
 use Rattle.daachorse_links.specs.Tours.{IsEntering, IsLeaving}
 use Rattle.daachorse_links.proofs.ChildLaws.{edge, back}
 use Rattle.daachorse_links.proofs.NearLaws.{near_child, near_other}
+use Rattle.daachorse_links.proofs.StartLaws.{not_after, not_before}
 
 module _ (parents labels : List ℕ) (stops : List Bool) (fails : List ℕ) (alphabet : ℕ) (trie : IsTrie parents labels alphabet) (each : length fails ≡ length parents) (falls : LinksFall fails)
     (starts : List ℕ) (are : AreStarts parents starts) (p : ℕ) (within : p < length parents) where
   fall_to : (q : ℕ) → 0 < q → q ≤ p → q < length fails → (get_or fails q 0 < q) ⊎ (get_or fails q 0 ≡ length fails)
   fall_to q low _ high = falls q low high
-
-  -- the children of p stand from its start to the next
-  pub is_child : (m : ℕ) → get_or starts p 0 ≤ m → m < get_or starts (p + 1) 0 → (0 < m) × (m < length parents) × (get_or parents m 0 ≡ p)
-  is_child m low high =
-      let pos : 0 < m = omega (arith, are.to.least p (omega (arith, within)), low) in
-      let lt : m < length parents = omega (arith, are.to.most (p + 1) (omega (arith, within)), high) in
-      (pos, lt, omega (arith, are.to.before (p + 1) m (omega (arith, within)) pos high, are.to.after p m (omega (arith, within)) low lt))
-
-  not_before : (m : ℕ) → 0 < m → m < get_or starts p 0 → get_or parents m 0 ≡ p → ⊥
-  not_before m pos lt e = omega (arith, are.to.before p m (omega (arith, within)) pos lt, e)
-
-  not_after : (m : ℕ) → get_or starts (p + 1) 0 ≤ m → m < length parents → get_or parents m 0 ≡ p → ⊥
-  not_after m le lt e = omega (arith, are.to.after (p + 1) m (omega (arith, within)) le lt, e)
 
   -- no child of p but m has m's label
   one_label : (j m : ℕ) → 0 < j → j < length parents → 0 < m → m < length parents → get_or parents j 0 ≡ p → get_or parents m 0 ≡ p → get_or labels j 0 ≡ get_or labels m 0 → j ≡ m
@@ -37,10 +25,10 @@ module _ (parents labels : List ℕ) (stops : List Bool) (fails : List ℕ) (alp
   -- ---- coming
   pub entering_start : (array saved : List ℕ) → AreNear parents labels fails array (up fails p) → IsEntering parents labels stops fails array saved saved p (get_or starts p 0)
   entering_start array saved near' = record {
-    checked = λ j pos lt low e. absurd (not_before j pos low e);
-    mine = λ j pos lt low e. absurd (not_before j pos low e);
+    checked = λ j pos lt low e. absurd (not_before parents starts are p within j pos low e);
+    mine = λ j pos lt low e. absurd (not_before parents starts are p within j pos low e);
     other = λ c lt _. near' c lt;
-    kept = λ j pos lt low e. absurd (not_before j pos low e);
+    kept = λ j pos lt low e. absurd (not_before parents starts are p within j pos low e);
     frame = λ j _. refl;
   }
 
@@ -83,7 +71,7 @@ module _ (parents labels : List ℕ) (stops : List Bool) (fails : List ℕ) (alp
       ∙ sym (near_child parents labels fails alphabet trie each p fall_to p c j (omega arith) (omega (arith, within, each)) e)
     where
       in_range : (j : ℕ) → j < length parents → get_or parents j 0 ≡ p → j < m
-      in_range j lj ej = elim (cases_lt j m) [ inl h ↦ h | inr h ↦ absurd (not_after j (omega (arith, done, h)) lj ej) ]
+      in_range j lj ej = elim (cases_lt j m) [ inl h ↦ h | inr h ↦ absurd (not_after parents starts are p within j (omega (arith, done, h)) lj ej) ]
   entered_at array saved old m done is c lt None e =
       is.other c lt (λ j pos hj low ej g. no_child j pos hj ej g)
       ∙ sym (near_other parents labels fails alphabet trie each p fall_to p c (omega arith) (omega (arith, within, each)) e)
@@ -100,11 +88,11 @@ module _ (parents labels : List ℕ) (stops : List Bool) (fails : List ℕ) (alp
 
   pub entered_checked : (array saved old : List ℕ) (m : ℕ) → get_or starts (p + 1) 0 ≤ m → IsEntering parents labels stops fails array saved old p m → IsChecked parents labels stops fails p
   entered_checked array saved old m done is j pos lt e =
-      elim (cases_lt j m) [ inl h ↦ is.checked j pos lt h e | inr h ↦ absurd (not_after j (omega (arith, done, h)) lt e) ]
+      elim (cases_lt j m) [ inl h ↦ is.checked j pos lt h e | inr h ↦ absurd (not_after parents starts are p within j (omega (arith, done, h)) lt e) ]
 
   pub entered_saved : (array saved old : List ℕ) (m : ℕ) → get_or starts (p + 1) 0 ≤ m → IsEntering parents labels stops fails array saved old p m → IsSaved parents labels fails saved p
   entered_saved array saved old m done is j pos lt e =
-      elim (cases_lt j m) [ inl h ↦ is.kept j pos lt h e | inr h ↦ absurd (not_after j (omega (arith, done, h)) lt e) ]
+      elim (cases_lt j m) [ inl h ↦ is.kept j pos lt h e | inr h ↦ absurd (not_after parents starts are p within j (omega (arith, done, h)) lt e) ]
 
   pub entered_kept : (array saved old : List ℕ) (m : ℕ) → get_or starts (p + 1) 0 ≤ m → IsEntering parents labels stops fails array saved old p m → (q : ℕ) → IsSaved parents labels fails old q → IsSaved parents labels fails saved q
   entered_kept array saved old m done is q was j pos lt e =
@@ -116,7 +104,7 @@ module _ (parents labels : List ℕ) (stops : List Bool) (fails : List ℕ) (alp
   -- ---- going back
   pub leaving_start : (array : List ℕ) → AreNear parents labels fails array p → IsLeaving parents labels fails array p (get_or starts p 0)
   leaving_start array near' = record {
-    back = λ j pos lt low e. absurd (not_before j pos low e);
+    back = λ j pos lt low e. absurd (not_before parents starts are p within j pos low e);
     other = λ c lt _. near' c lt;
   }
 
@@ -143,7 +131,7 @@ module _ (parents labels : List ℕ) (stops : List Bool) (fails : List ℕ) (alp
       subst (λ x. get_or array x 0 ≡ near parents labels fails (up fails p) x) r.3 (is.back j r.0 r.1 low r.2)
     where
       in_range : (j : ℕ) → j < length parents → get_or parents j 0 ≡ p → j < m
-      in_range j lj ej = elim (cases_lt j m) [ inl h ↦ h | inr h ↦ absurd (not_after j (omega (arith, done, h)) lj ej) ]
+      in_range j lj ej = elim (cases_lt j m) [ inl h ↦ h | inr h ↦ absurd (not_after parents starts are p within j (omega (arith, done, h)) lj ej) ]
   left_at array m done is c lt None e =
       is.other c lt (λ j pos hj low ej g. no_child j pos hj ej g)
       ∙ near_other parents labels fails alphabet trie each p fall_to p c (omega arith) (omega (arith, within, each)) e

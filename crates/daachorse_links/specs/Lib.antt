@@ -2,3 +2,4 @@ pub mod Links
 pub mod Places
 pub mod Near
 pub mod Tours
+pub mod Following

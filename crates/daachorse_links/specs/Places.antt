@@ -25,6 +25,10 @@ pub record IsTrie (parents labels : List ℕ) (alphabet : ℕ) : Type 0 where
   pub inside : (m : ℕ) → 0 < m → m < length parents → slice_index labels m < alphabet
   pub apart : (l m : ℕ) → 0 < l → l < m → m < length parents → slice_index parents l ≡ slice_index parents m → slice_index labels l ≡ slice_index labels m → ⊥
 
+-- such places, whatever bounds their labels
+abbrev pub IsLabelled : List ℕ → List ℕ → Type 0
+IsLabelled parents labels = (alphabet : ℕ) × IsTrie parents labels alphabet
+
 -- whether a place stops
 abbrev pub stop : List Bool → ℕ → Bool
 stop stops i = get_or stops i false

@@ -1,5 +1,9 @@
 //! A trie with links that may be wrong, and their check.
 //!
+//! The links are followed as a build follows them, so long as that takes few steps: they lead to the places of short
+//! texts, which are together at the front. Some tries would take the square of their size so. Of these a tour tells,
+//! which takes more time a place, since it goes all over them, but no more steps than there are places and labels.
+//!
 //! The given links are a forest, wrong or not, once each leads to an earlier place. A tour goes
 //! through it: each place comes after its link, and the link of the next place is on the way back from
 //! the one before. At each place it keeps, of each label, the child by it of the nearest place on the way
@@ -10,6 +14,8 @@ ghost use Rattle.daachorse_core.specs.Refusals.{IsOutOfMemory};
 ghost use Rattle.daachorse_links.specs.Places.{IsOrder, IsTrie, HasLinks, LinksFall, AreStarts, stop};
 ghost use Rattle.daachorse_links.specs.Near.{up, near, top, above, root_value, or_top, IsAbove, AreNear, IsChecked, IsSaved};
 ghost use Rattle.daachorse_links.specs.Tours.{IsTour};
+
+mod following;
 
 use daachorse_core::errors::Result;
 use std::alloc::{Allocator, Global};
@@ -232,6 +238,9 @@ impl<A: Allocator + Copy> Trie<A> {
         }
         let count = self.fails.len() as u32;
         let starts = self.starts(alloc)?;
+        if let Some(valid) = self.follows(&starts) {
+            return Ok(valid);
+        }
         let tour = self.tour(alloc)?;
         let mut near = vec![in alloc; 0; alphabet as usize]?;
         let mut saved = vec![in alloc; 0; self.fails.len()]?;

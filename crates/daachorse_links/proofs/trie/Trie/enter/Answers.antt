@@ -4,7 +4,8 @@ use Rattle.std.proofs.lemmas.Grind.{common_steps}
 use Rattle.daachorse_links.specs.Places.{stop}
 use Rattle.daachorse_links.specs.Near.{up, near, right, or_top}
 use Rattle.daachorse_links.specs.Tours.{IsEntering}
-use Rattle.daachorse_links.proofs.SettingLaws.{is_child, entered, entering_reads, entering_next}
+use Rattle.daachorse_links.proofs.SettingLaws.{entered, entering_reads, entering_next}
+use Rattle.daachorse_links.proofs.StartLaws.{is_child}
 use Rattle.daachorse_links.proofs.trie.Trie.enter.Goals as goal
 
 pub returns-clause-near : goal.returns-clause-near
@@ -25,7 +26,7 @@ loop-m-preserved g c =
     let saved = c.loop-m.saved.items in
     let wide : length near' ≡ length c.args.near.now.items = inv.same in
     let size : length saved ≡ length t.parents.items = inv.size ∙ r.size in
-    let at = is_child t.parents.items t.labels.items t.stops.items t.fails.items (length c.args.near.now.items) r.trie r.each r.fall c.args.starts.now r.starts p r.within m inv.low (omega (arith, c.loop-m-test.true, inv.end)) in
+    let at = is_child t.parents.items c.args.starts.now r.starts p r.within m inv.low (omega (arith, c.loop-m-test.true, inv.end)) in
     let label : c.index.result.now ≡ get_or t.labels.items m 0 = get_or_read t.labels.items m c.index.result.now (omega (arith, at.1, r.trie.each)) c.index.ensures 0 in
     let inside : c.index.result.now < length near' = omega (arith, label, r.trie.inside m at.0 at.1, wide) in
     let read : c.index-found.result.now ≡ get_or near' c.index.result.now 0 = get_or_read near' c.index.result.now c.index-found.result.now inside c.index-found.ensures 0 in

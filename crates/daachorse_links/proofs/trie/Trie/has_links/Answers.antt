@@ -70,7 +70,7 @@ pub retreat-requires-clause-saved : goal.retreat-requires-clause-saved
 retreat-requires-clause-saved g c j =
     let t = c.args.self.now in
     let k = c.loop-k in
-    subst (λ xs. IsSaved t.parents.items t.labels.items t.fails.items xs (above (up t.fails.items) j k.here)) (sym c.deref-in-loop-k.ensures.value) (k.invariant.touring.path j)
+    subst (λ xs. IsSaved t.parents.items t.labels.items t.fails.items xs (above (up t.fails.items) j k.here)) (sym c.deref-in-loop-k-2.ensures.value) (k.invariant.touring.path j)
 
 pub enter-requires-clause-within : goal.enter-requires-clause-within
 enter-requires-clause-within g c =

@@ -1,0 +1,12 @@
+use Rattle.std.proofs.Common.{◌≡◌, ℕ, ◌<◌, ◌-◌, length, get_or}
+use Rattle.daachorse_links.specs.Near.{right}
+use Rattle.daachorse_links.proofs.trie.Trie.follows.Given as goal
+
+abbrev pub invariant-loop-m : goal.invariant-loop-m
+invariant-loop-m g l = record {
+  low : 0 < l.m;
+  checked : (k : ℕ) → 0 < k → k < l.m → k < length l.self.parents.items → get_or l.self.fails.items k 0 ≡ right l.self.parents.items l.self.labels.items l.self.stops.items l.self.fails.items (get_or l.self.parents.items k 0) k (get_or l.self.labels.items k 0);
+}
+
+abbrev pub decreases-loop-m : goal.decreases-loop-m
+decreases-loop-m g l = l.count - l.m

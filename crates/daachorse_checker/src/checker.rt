@@ -85,6 +85,9 @@ fn stops<V: Copy, E: Array, A: Allocator + Copy>(
     ensures each { IfOk result (λ stops. length stops.items ≡ length places.now.order.items) }
     ensures err { IfErr result IsOutOfMemory }
 {
+    if !leftmost {
+        return Ok(vec![in alloc; false; places.order.len()]?);
+    }
     let mut stops = Vec::with_capacity(alloc, places.order.len())?;
     let mut place: usize = 0;
     while place < places.order.len() {
@@ -92,7 +95,7 @@ fn stops<V: Copy, E: Array, A: Allocator + Copy>(
         let size = sizes[place];
         let first = array.first(element as usize);
         let own = has_own(outputs, size, first);
-        stops.push(leftmost && own)?;
+        stops.push(own)?;
         place += 1;
     }
     Ok(stops)

@@ -115,8 +115,8 @@ fn passes_key<E: Spelled, B: Allocator>(
     ensures no { (text : List ℕ) → HasRead filter.now text window → result ≡ false
         → (E.is_key array.now element ≡ true) × (admits filter.now text ≡ false) }
 {
-    if array.is_key(element) {
-        return filter.admits(window);
+    if filter.admits(window) {
+        return true;
     }
-    true
+    !array.is_key(element)
 }

@@ -8,7 +8,6 @@ use Rattle.daachorse_checker.specs.Chains.{AreStopsAt, machine_of}
 use Rattle.daachorse_checker.specs.Runs.{has_values}
 use Rattle.daachorse_checker.proofs.LeafLaws.{stops_push}
 use Rattle.daachorse_checker.proofs.checker.stops.Goals as goal
-use Rattle.daachorse_checker.proofs.checker.stops.Goals.{then-leftmost, else-leftmost}
 
 pub loop-place-preserved : goal.loop-place-preserved
 loop-place-preserved g c =
@@ -17,7 +16,7 @@ loop-place-preserved g c =
     let sizes = c.args.sizes.now in
     let m = c.loop-place.place in
     let stops = c.loop-place.stops.items in
-    let stop = c.if-leftmost.push in
+    let stop = c.has_own-own.result in
     let a = machine_of (g.E.Edges.child arr) (g.E.Array.fail arr) (g.E.Array.first arr) c.args.outputs.now in
     let lt : m < length order = omega (arith, c.loop-place-test.true, c.len-in-loop-place.ensures) in
     let element : c.index-element.result.now ≡ get_or order m 0 = get_or_read order m c.index-element.result.now lt c.index-element.ensures 0 in
@@ -25,11 +24,7 @@ loop-place-preserved g c =
     let own : c.has_own-own.result ≡ has_values (own_from c.args.outputs.now (g.E.Array.first arr (get_or order m 0)) (get_or sizes m 0) (g.E.Array.first arr (get_or order m 0))).0 =
     c.has_own-own.ensures ∙ ap (λ p. has_values (own_from c.args.outputs.now p (get_or sizes m 0) p).0) first in
     let stop_if : Bool → Bool = λ b. cond b (has_values (own_from c.args.outputs.now (g.E.Array.first arr (get_or order m 0)) (get_or sizes m 0) (g.E.Array.first arr (get_or order m 0))).0) false in
-    let is : stop ≡ stop_if c.args.leftmost =
-    elim c.if-leftmost.branch [
-      | then-leftmost w ↦ let on : stop_if true ≡ stop_if c.args.leftmost = ap stop_if (sym w.if-leftmost.true) in w.push-is ∙ own ∙ on
-      | else-leftmost w ↦ let off : stop_if false ≡ stop_if c.args.leftmost = ap stop_if (sym w.if-leftmost.false) in w.push-is ∙ w.if-leftmost.false ∙ off
-    ] in
+    let is : stop ≡ stop_if c.args.leftmost = let on : stop_if true ≡ stop_if c.args.leftmost = ap stop_if (sym c.if-not-leftmost.false) in own ∙ on in
     let items : c.push.new.self.items ≡ stops ++ stop ∷ [] = c.in_ok-push.ensures.items in
     record {
       within = omega (arith, lt);
@@ -39,10 +34,10 @@ loop-place-preserved g c =
     }
 
 pub returns-in_err-stops-clause-ok : goal.returns-in_err-stops-clause-ok
-returns-in_err-stops-clause-ok g c = IfOk-from_err c.from_residual.result _ c.from_residual.ensures.0
+returns-in_err-stops-clause-ok g c = IfOk-from_err c.from_residual-in_err-stops.result _ c.from_residual-in_err-stops.ensures.0
 
 pub returns-in_err-stops-clause-each : goal.returns-in_err-stops-clause-each
-returns-in_err-stops-clause-each g c = IfOk-from_err c.from_residual.result _ c.from_residual.ensures.0
+returns-in_err-stops-clause-each g c = IfOk-from_err c.from_residual-in_err-stops.result _ c.from_residual-in_err-stops.ensures.0
 
 pub first-first-requires : goal.first-first-requires
 first-first-requires g c = grind (arith, elements)

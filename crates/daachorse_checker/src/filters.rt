@@ -1,21 +1,20 @@
 //! Whether a filter passes at each key of an array.
 //!
 //! The layers above may rely on the answer being right of any filter, in time and memory linear in the
-//! elements: each place reads its unit behind what its parent has read, and a window keeps no more than
-//! the filter looks at.
+//! elements: each reads its unit behind what its parent has read, and a window keeps no more than the
+//! filter looks at.
 
-ghost use Rattle.std.specs.Prelude.{◌≡◌, ◌++◌, ◌<◌, ◌^◌, ℕ, Bool, List, Some, true, false, IfOk, IfErr};
+ghost use Rattle.std.specs.Prelude.{◌≡◌, ◌++◌, ◌<◌, ℕ, Bool, List, [], All, Some, true, false, length, slice_index_or, IfOk, IfErr, IfSome, IfNone};
 ghost use Rattle.daachorse_core.specs.Refusals.{IsOutOfMemory};
-ghost use Rattle.daachorse_listing.specs.Edges.{TellChildren};
+ghost use Rattle.daachorse_listing.specs.Edges.{TellChildren, members};
 ghost use Rattle.daachorse_listing.specs.Listing.{unit_of};
-ghost use Rattle.daachorse_prefilter.specs.Filters.{admits};
 ghost use Rattle.daachorse_prefilter.specs.Windows.{HasRead};
-ghost use Rattle.daachorse_checker.specs.Filters.{PassesAll};
-ghost use Rattle.daachorse_checker.specs.Places.{ArePlaces, HasOnePath};
+ghost use Rattle.daachorse_checker.specs.Filters.{HasRefused, IsNextOf, IsPushed, PassesAll};
+ghost use Rattle.daachorse_checker.specs.Places.{HasOnePath};
 
-use crate::places::Places;
 use daachorse_core::errors::Result;
 use daachorse_listing::edges::Edges;
+use daachorse_listing::siblings::Siblings;
 use daachorse_prefilter::prefilter::{Prefilter, Window};
 use std::alloc::Allocator;
 
@@ -41,6 +40,9 @@ pub trait Spelled: Edges {
 
 /// Whether a filter passes at the beginning of each key of a tree.
 ///
+/// It goes over levels, the elements that texts of so many units lead to. Where the filter passes at
+/// the beginning of a text it passes at that of each longer one, so that nothing behind is looked at.
+///
 /// # Errors
 ///
 /// An allocation failed.
@@ -57,66 +59,86 @@ pub fn passes_all<E: Spelled, A: Allocator + Copy, B: Allocator>(
     ensures no { IfOk result (λ passes. passes ≡ false → PassesAll (E.child array.now) E.bytes (E.is_key array.now) filter.now → ⊥) }
     ensures err { IfErr result IsOutOfMemory }
 {
-    let Some(places) = Places::new(alloc, array)? else {
-        return Ok(false);
-    };
-    let passes = passes_places(alloc, array, filter, &places)?;
-    Ok(passes)
-}
-
-/// The same, where the elements have places.
-///
-/// # Errors
-///
-/// An allocation failed.
-fn passes_places<E: Spelled, A: Allocator + Copy, B: Allocator>(
-    alloc: A,
-    array: &E,
-    filter: &Prefilter<B>,
-    places: &Places<A>,
-) -> Result<bool>
-    requires tell { TellChildren (E.child array.now) (E.group array.now) (E.edge array.now) (E.count array.now) }
-    requires tree { HasOnePath (E.child array.now) }
-    requires places { ArePlaces (E.child array.now) (λ j. unit_of (E.edge array.now j)) (E.count array.now) places.now.order.items places.now.parents.items places.now.labels.items places.now.marks.items }
-    ensures yes { IfOk result (λ passes. passes ≡ true → PassesAll (E.child array.now) E.bytes (E.is_key array.now) filter.now) }
-    ensures no { IfOk result (λ passes. passes ≡ false → PassesAll (E.child array.now) E.bytes (E.is_key array.now) filter.now → ⊥) }
-    ensures err { IfErr result IsOutOfMemory }
-{
-    let root = Window::new();
-    if !passes_key(array, filter, 0, root) {
-        return Ok(false);
-    }
-    let mut windows = Vec::with_capacity(alloc, places.order.len())?;
-    windows.push(root)?;
-    let mut place: usize = 1;
-    while place < places.order.len() {
-        let element = places.order[place] as usize;
-        let before = windows[places.parents[place] as usize];
-        let window = array.read(element, filter, before);
-        if !passes_key(array, filter, element, window) {
-            return Ok(false);
+    let groups = Siblings::new(alloc, array)?;
+    let mut level = Vec::new(alloc);
+    level.push((0, Window::new()))?;
+    for _depth in 0..array.num_elements() {
+        if level.is_empty() {
+            return Ok(true);
         }
-        windows.push(window)?;
-        place += 1;
+        let Some(next) = next_level(alloc, array, &groups, filter, &level)? else {
+            return Ok(false);
+        };
+        level = next;
     }
     Ok(true)
 }
 
-/// Whether an element, whose text a window has read, is no key or the filter passes.
-fn passes_key<E: Spelled, B: Allocator>(
+/// The next level: the children of the elements at whose texts the filter does not pass, with their
+/// windows; none where one of these elements is a key.
+///
+/// # Errors
+///
+/// An allocation failed.
+fn next_level<E: Spelled, A: Allocator + Copy, B: Allocator>(
+    alloc: A,
     array: &E,
+    groups: &Siblings<A>,
     filter: &Prefilter<B>,
-    element: usize,
-    window: Window,
-) -> bool
-    requires { element < E.count array.now }
-    ensures yes { (text : List ℕ) → HasRead filter.now text window → result ≡ true
-        → E.is_key array.now element ≡ true → admits filter.now text ≡ true }
-    ensures no { (text : List ℕ) → HasRead filter.now text window → result ≡ false
-        → (E.is_key array.now element ≡ true) × (admits filter.now text ≡ false) }
+    level: &[(u32, Window)],
+) -> Result<Option<Vec<(u32, Window), A>>>
+    requires tell { TellChildren (E.child array.now) (E.group array.now) (E.edge array.now) (E.count array.now) }
+    requires groups { (g : ℕ) → g < E.count array.now
+        → slice_index_or groups.now g [] ≡ members (E.edge array.now) g (E.count array.now) }
+    requires each { length groups.now ≡ E.count array.now }
+    requires inside { (i c j : ℕ) → E.child array.now i c ≡ Some j → (j < E.count array.now) × (c < E.units array.now) }
+    requires elements { All (λ e. e.0 < E.count array.now) level.now }
+    ensures some { IfOk result (λ found. IfSome found (λ next. IsNextOf (E.child array.now) E.bytes filter.now (E.is_key array.now) level.now (length level.now) next.items)) }
+    ensures none { IfOk result (λ found. IfNone found (HasRefused filter.now (E.is_key array.now) level.now)) }
+    ensures err { IfErr result IsOutOfMemory }
 {
-    if filter.admits(window) {
-        return true;
+    let mut next = Vec::new(alloc);
+    let mut number: usize = 0;
+    while number < level.len() {
+        let entry = level[number];
+        if !filter.admits(entry.1) {
+            if array.is_key(entry.0 as usize) {
+                return Ok(None);
+            }
+            push_children(array, groups, filter, entry, &mut next)?;
+        }
+        number += 1;
     }
-    !array.is_key(element)
+    Ok(Some(next))
+}
+
+/// Puts the children of an element behind others, with their windows.
+///
+/// # Errors
+///
+/// An allocation failed.
+fn push_children<E: Spelled, A: Allocator, B: Allocator>(
+    array: &E,
+    groups: &Siblings<A>,
+    filter: &Prefilter<B>,
+    entry: (u32, Window),
+    next: &mut Vec<(u32, Window), A>,
+) -> Result<()>
+    requires tell { TellChildren (E.child array.now) (E.group array.now) (E.edge array.now) (E.count array.now) }
+    requires groups { (g : ℕ) → g < E.count array.now
+        → slice_index_or groups.now g [] ≡ members (E.edge array.now) g (E.count array.now) }
+    requires each { length groups.now ≡ E.count array.now }
+    requires inside { (i c j : ℕ) → E.child array.now i c ≡ Some j → (j < E.count array.now) × (c < E.units array.now) }
+    requires element { entry.0 < E.count array.now }
+    ensures ok { IfOk result (λ done. IsPushed (E.child array.now) E.bytes filter.now entry next.old.items next.new.items) }
+    ensures err { IfErr result IsOutOfMemory }
+{
+    let Some(group) = array.group(entry.0 as usize) else {
+        return Ok(());
+    };
+    for member in groups.members(group) {
+        let window = array.read(member as usize, filter, entry.1);
+        next.push((member, window))?;
+    }
+    Ok(())
 }

@@ -1,0 +1,7 @@
+-- The members of the group that are left have no entries yet.
+use Rattle.daachorse_checker.proofs.FilterLaws.{IsPushing}
+use Rattle.daachorse_checker.proofs.filters.push_children.Given as goal
+
+abbrev pub invariant-loop-member : goal.invariant-loop-member
+invariant-loop-member g l =
+    IsPushing (g.E.Edges.child l.array) g.E.Spelled.bytes l.filter (g.E.Edges.edge l.array) (g.E.Edges.count l.array) l.group l.entry l.member-iterator l.fn.next.items l.next.items

@@ -56,7 +56,8 @@ pub fn sizes<E: Array, A: Allocator + Copy>(
     ensures each { IfOk result (λ sizes. length sizes.items ≡ length places.now.order.items) }
     ensures err { IfErr result IsOutOfMemory }
 {
-    let mut sizes = vec![in alloc; 0; 1]?;
+    let mut sizes = Vec::with_capacity(alloc, places.order.len())?;
+    sizes.push(0)?;
     let mut place: usize = 1;
     while place < places.order.len() {
         let parent = places.parents[place] as usize;

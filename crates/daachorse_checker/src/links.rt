@@ -65,7 +65,8 @@ pub fn link_places<E: Array, A: Allocator + Copy>(
     ensures none { IfOk result (λ found. IfNone found (HasNoPlace leftmost (E.fail array.now) places.now.order.items)) }
     ensures err { IfErr result IsOutOfMemory }
 {
-    let mut fails = vec![in alloc; 0; 1]?;
+    let mut fails = Vec::with_capacity(alloc, places.order.len())?;
+    fails.push(0)?;
     let mut place: usize = 1;
     while place < places.order.len() {
         let element = places.order[place];

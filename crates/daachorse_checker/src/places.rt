@@ -44,12 +44,16 @@ impl<A: Allocator + Copy> Places<A> {
         ensures err { IfErr result IsOutOfMemory }
     {
         let groups = Siblings::new(alloc, array)?;
+        let count = array.num_elements();
         let mut places = Places {
-            order: vec![in alloc; 0; 1]?,
-            parents: vec![in alloc; 0; 1]?,
-            labels: vec![in alloc; 0; 1]?,
-            marks: vec![in alloc; 0; array.num_elements()]?,
+            order: Vec::with_capacity(alloc, count)?,
+            parents: Vec::with_capacity(alloc, count)?,
+            labels: Vec::with_capacity(alloc, count)?,
+            marks: vec![in alloc; 0; count]?,
         };
+        places.order.push(0)?;
+        places.parents.push(0)?;
+        places.labels.push(0)?;
         let mut next: u32 = 0;
         while (next as usize) < places.order.len() {
             if !places.expand(array, &groups, next)? {

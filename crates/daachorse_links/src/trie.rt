@@ -73,7 +73,7 @@ impl<A: Allocator + Copy> Trie<A> {
         ensures err { IfErr result IsOutOfMemory }
     {
         let count = self.parents.len() as u32;
-        let mut starts = Vec::new(alloc);
+        let mut starts = Vec::with_capacity(alloc, self.parents.len())?;
         let mut m: u32 = 1;
         while m < count {
             let parent = self.parents[m as usize];

@@ -12,7 +12,7 @@ pub loop-place-init : goal.loop-place-init
 loop-place-init g c =
     let p = c.args.places.now in
     let a = c.args.array.now in
-    let items = c.in_ok-sizes.sizes.items in
+    let items = c.push.new.self.items in
     let zero : items ≡ 0 ∷ [] = search rules in
     record {
       low = omega arith;
@@ -56,7 +56,7 @@ loop-place-preserved g c =
     let unit : c.width.result ≡ g.E.Array.width a (get_or p.labels.items m 0) = c.width.ensures.value ∙ ap (g.E.Array.width a) label in
     let from : get_or sizes c.index.result.now 0 ≡ get_or sizes (get_or p.parents.items m 0) 0 = ap (λ i. get_or sizes i 0) parent in
     let value : s ≡ get_or sizes (get_or p.parents.items m 0) 0 + g.E.Array.width a (get_or p.labels.items m 0) = omega (arith, size, from, unit) in
-    let items : c.push.new.self.items ≡ sizes ++ s ∷ [] = search rules in
+    let items : c.push-in-loop-place.new.self.items ≡ sizes ++ s ∷ [] = search rules in
     let fits : s ≤ 4 * m = omega (arith, size, inv.short c.index.result.now in', c.width.ensures.short, parent, up) in
     let are : AreSizes (g.E.Edges.child a) (g.E.Array.width a) p.order.items (sizes ++ s ∷ []) =
     size_push (g.E.Edges.child a) (λ j. unit_of (g.E.Edges.edge a j)) (g.E.Edges.count a) p.order.items p.parents.items p.labels.items p.marks.items c.requires.places c.requires.tree (g.E.Array.width a) sizes m s inv.low lt inv.each inv.are value in

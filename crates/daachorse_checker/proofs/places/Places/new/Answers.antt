@@ -12,7 +12,7 @@ overflow_add-next g c =
     let a = c.args.array.now in
     let walk = c.loop-next.invariant.walk in
     let most = few_places (g.E.Edges.child a) (g.E.Edges.group a) (g.E.Edges.edge a) (g.E.Edges.count a) c.requires.tell (λ i u j h. (c.requires.inside i u j h).0) t.order.items t.parents.items t.labels.items t.marks.items walk.places walk.marks_each in
-    omega (arith, most, c.num_elements.ensures.all, c.num_elements.ensures.few, c.loop-next-test.true, c.len.ensures)
+    omega (arith, most, c.num_elements-count.ensures.all, c.num_elements-count.ensures.few, c.loop-next-test.true, c.len.ensures)
 
 pub loop-next-smaller : goal.loop-next-smaller
 loop-next-smaller g c =

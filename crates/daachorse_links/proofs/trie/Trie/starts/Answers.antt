@@ -28,7 +28,7 @@ pub loop-starts-preserved : goal.loop-starts-preserved
 loop-starts-preserved g c = grind (arith, elements)
 
 pub returns-in_err-push-clause-ok : goal.returns-in_err-push-clause-ok
-returns-in_err-push-clause-ok g c = IfOk-from_err c.from_residual.result _ c.from_residual.ensures.0
+returns-in_err-push-clause-ok g c = IfOk-from_err c.from_residual-in_err-push.result _ c.from_residual-in_err-push.ensures.0
 
 pub loop-m-preserved : goal.loop-m-preserved
 loop-m-preserved g c = grind (arith, common_steps)

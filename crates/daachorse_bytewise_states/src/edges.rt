@@ -15,7 +15,7 @@ use daachorse_core::errors::Result;
 use daachorse_core::{DEAD_STATE_IDX, Output, ROOT_STATE_IDX};
 use daachorse_listing::depths::depths;
 use daachorse_listing::edges::Edges;
-use daachorse_listing::patterns::{Outputs, PatternWalk};
+use daachorse_listing::patterns::{Keys, Outputs, PatternWalk};
 use std::alloc::Allocator;
 
 /// The elements of a group are those that the bytes lead to from one base.
@@ -65,20 +65,34 @@ impl<V: Copy, A: Allocator> Outputs<V> for States<V, A> {
         self.check_at(element)
     }
 
-    fn own_outputs(&self, element: usize) -> (usize, usize) {
-        let first = self.output_at(element);
+    fn first_output(&self, element: usize) -> usize {
+        self.output_at(element)
+    }
+
+    fn own_end(&self, element: usize) -> usize {
         if element == ROOT_STATE_IDX as usize {
-            return (first, 0);
+            return 0;
         }
         let link = self.fail_at(element);
         if link == DEAD_STATE_IDX as usize {
-            return (first, 0);
+            return 0;
         }
-        (first, self.output_at(link))
+        self.output_at(link)
     }
 
     fn output(&self, position: usize) -> Output<V> {
         self.output(position)
+    }
+}
+
+/// A key is the bytes of a text.
+impl<V: Copy, A: Allocator> Keys<V, A> for States<V, A> {
+    type Key = Vec<u8, A>;
+
+    ghost units_of = { λ key. key.items };
+
+    fn key(&self, alloc: A, units: &[u8]) -> Result<Vec<u8, A>> {
+        Ok(Vec::from_slice(alloc, units)?)
     }
 }
 

@@ -25,8 +25,7 @@ impl<V: Copy, A: Allocator> Spelled for States<V, A> {
     ghost is_key = { λ p. has_own (machine p) };
 
     fn is_key(&self, element: usize) -> bool {
-        let (first, end) = self.own_outputs(element);
-        first != end
+        self.first_output(element) != self.own_end(element)
     }
 
     fn read<B: Allocator>(&self, element: usize, filter: &Prefilter<B>, window: Window) -> Window {

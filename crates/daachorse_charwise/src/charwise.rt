@@ -242,7 +242,7 @@ impl<V: Copy, A: Allocator + Copy> CharwiseDoubleArrayAhoCorasick<V, A> {
         ensures err { IfErr result IsOutOfMemory }
     {
         let walk = self.states.pattern_iter(alloc)?;
-        Ok(PatternIterator { walk, alloc })
+        Ok(PatternIterator { walk })
     }
 
     /// Makes a copy of the automaton, in memory of its own.

@@ -1,5 +1,5 @@
 -- The codes that some character has are labels enough for rows: each that stands for a character is listed.
-use Rattle.std.proofs.Common.{◌≡◌, ℕ, ◌<◌, true, List, length, Option, None, Some, inr, refl, ap, Vec}
+use Rattle.std.proofs.Common.{◌≡◌, ℕ, true, List, Option, None, Some, inr, refl, ap, Vec}
 use Rattle.std.specs.Prelude.{slice_index, is_some, IfOk, Result, Ok, Err}
 use Rattle.daachorse_rows.specs.Rows.{AreLabels, AreListed}
 use Rattle.daachorse_charwise_states.specs.Edges.{IsLettered, Lettered, character_of}

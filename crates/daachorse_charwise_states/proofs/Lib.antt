@@ -13,3 +13,4 @@ pub mod FormLaws
 pub mod BlockLaws
 pub mod GroupedLaws
 pub mod CodeListLaws
+mod StringLaws

@@ -18,12 +18,13 @@ ghost use Rattle.daachorse_charwise_states.specs.Views.{parts_of};
 
 use crate::state::State;
 use crate::states::States;
+use crate::strings::text_of;
 use daachorse_checker::array::Array;
 use daachorse_core::errors::Result;
 use daachorse_core::{DEAD_STATE_IDX, MatchKind, Output, ROOT_STATE_IDX};
 use daachorse_listing::depths::depths;
 use daachorse_listing::edges::Edges;
-use daachorse_listing::patterns::{Outputs, PatternWalk};
+use daachorse_listing::patterns::{Keys, Outputs, PatternWalk};
 use daachorse_mapper::mapper::{CodeMapper, INVALID_CODE};
 use std::alloc::{Allocator, Global};
 use std::marker::Model;
@@ -193,22 +194,39 @@ impl<'a, V: Copy, A: Allocator> Outputs<V> for Elements<'a, V, A> {
         }
     }
 
-    fn own_outputs(&self, element: usize) -> (usize, usize) {
-        let first = self.output_at(element) as usize;
+    fn first_output(&self, element: usize) -> usize {
+        self.output_at(element) as usize
+    }
+
+    fn own_end(&self, element: usize) -> usize {
         if element == ROOT_STATE_IDX as usize {
-            return (first, 0);
+            return 0;
         }
         let states = self.states;
         let link = states[element].fail();
         if link == DEAD_STATE_IDX {
-            return (first, 0);
+            return 0;
         }
-        (first, self.output_at(link as usize) as usize)
+        self.output_at(link as usize) as usize
     }
 
     fn output(&self, position: usize) -> Output<V> {
         let outputs = self.outputs;
         outputs[position - 1]
+    }
+}
+
+/// A key is the string of a text.
+impl<'a, V: Copy, A: Allocator> Keys<V, A> for Elements<'a, V, A> {
+    ghost use Rattle.std.specs.Str.{chars};
+    ghost use Rattle.std.specs.String.{string_bytes};
+
+    type Key = String<A>;
+
+    ghost units_of = { λ key. chars (string_bytes key) };
+
+    fn key(&self, alloc: A, units: &[char]) -> Result<String<A>> {
+        text_of(alloc, units)
     }
 }
 

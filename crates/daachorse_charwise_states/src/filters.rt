@@ -27,8 +27,7 @@ impl<'a, V: Copy, A: Allocator> Spelled for Elements<'a, V, A> {
     ghost is_key = { λ a. has_own (machine a.parts) };
 
     fn is_key(&self, element: usize) -> bool {
-        let (first, end) = self.own_outputs(element);
-        first != end
+        self.first_output(element) != self.own_end(element)
     }
 
     fn read<B: Allocator>(&self, element: usize, filter: &Prefilter<B>, window: Window) -> Window {

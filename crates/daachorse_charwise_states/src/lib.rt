@@ -12,5 +12,6 @@ mod packing;
 pub mod state;
 mod state_rows;
 pub mod states;
+mod strings;
 mod unchecked;
 pub mod view;

@@ -5,7 +5,7 @@ pub mod Orders
 pub mod WalkLaws
 pub mod DepthLaws
 pub mod ListingLaws
-pub mod NextTexts
+pub mod EntryLaws
 pub mod PatternLaws
 pub mod ReachLaws
 pub mod MachineTrees

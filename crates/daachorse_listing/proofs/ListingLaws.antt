@@ -199,7 +199,7 @@ module _ {V : Type 0} (text : ℕ → List ℕ) (vals : ℕ → List V) where
 
 -- ---- the listing
 
-module _ {V : Type 0} (width : ℕ → ℕ) (a : Machine V) (leftmost : Bool) (n m : ℕ) (h : IsMachine width a leftmost n m) (taken depths : List ℕ) (l : IsListed a.child n m taken depths)
+module _ {V : Type 0} (width : ℕ → ℕ) (a : Machine V) (leftmost : Bool) (n m : ℕ) (h : IsMachine width a leftmost n m) (taken : List ℕ) (l : IsListed a.child n m taken)
     (stop : ℕ → ℕ) (stops : (i : ℕ) → IsReached a.child m n i → (own width a (text_of a.child m n i) i).1 ≡ stop i) where
   abbrev text : ℕ → List ℕ
   text i = text_of a.child m n i

@@ -49,6 +49,6 @@ module _ {V : Type 0} (width : ℕ → ℕ) (a : Machine V) (leftmost : Bool) (n
       ∙ sym (ap (λ o. is_key (λ (_ : List ℕ). values_at width a (u ∷ w) o) []) leads)
 
   pub machine_listing : (entries : List (List ℕ × V)) → IsPatterns a.child n m a.outputs a.output (own_end a) entries → IsListing (content width a) entries
-  machine_listing entries (taken, depths, listed, is) =
+  machine_listing entries (taken, listed, is) =
       let P : List (List ℕ × V) → Type 0 = λ l. IsListing (content width a) l in
-      subst P (sym is) (listing-is width a leftmost n m machine taken depths listed (own_end a) ends)
+      subst P (sym is) (listing-is width a leftmost n m machine taken listed (own_end a) ends)

@@ -169,7 +169,3 @@ elements-pop stack rest x e = ap elements_of e ∙ ap (λ l. map (λ p. p.1) l) 
 
 pub length-elements : (stack : List (ℕ × ℕ)) → length (elements_of stack) ≡ length stack
 length-elements stack = length-map (reverse stack) (λ p. p.1) ∙ length-reverse stack
-
-pub elements-none : (stack : List (ℕ × ℕ)) → length stack ≡ 0 → elements_of stack ≡ []
-elements-none [] e = refl
-elements-none (x ∷ stack) e = absurd (omega arith)

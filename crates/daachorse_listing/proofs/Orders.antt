@@ -1,19 +1,14 @@
 -- The order of texts: an end keeps two texts apart that differ at a unit, and a text comes before what goes on with it.
-use Rattle.std.proofs.Common.{◌≡◌, ℕ, ◌<◌, ◌⊎◌, inl, inr, List, [], ◌∷◌, ◌++◌, refl, sym, ap, ◌∙◌, arith}
+use Rattle.std.proofs.Common.{◌≡◌, ℕ, ◌<◌, inl, inr, List, [], ◌∷◌, ◌++◌, refl, sym, ap, ◌∙◌, arith}
 use Rattle.std.specs.Cmp.Lexicographic.{slice_cmp}
 use Rattle.std.specs.Ordering.{nat_cmp, ordering_then}
 use Rattle.std.specs.declared.cmp.Ordering.{Ordering}
 use Rattle.std.specs.declared.cmp.Ordering.TheVariants.{Less, Equal}
 use Rattle.std.proofs.lemmas.Bool.Decides.{nat_tests}
+use Rattle.daachorse_listing.specs.Trees.{Diverges}
 
 abbrev pub order : List ℕ → List ℕ → Ordering
 order = slice_cmp nat_cmp
-
--- v has the lesser unit where the two first differ
-abbrev pub Diverges : List ℕ → List ℕ → Type 0
-Diverges [] w = ⊥
-Diverges (a ∷ v) [] = ⊥
-Diverges (a ∷ v) (b ∷ w) = (a < b) ⊎ ((a ≡ b) × Diverges v w)
 
 cmp-less : (a b : ℕ) → a < b → nat_cmp a b ≡ Less
 cmp-less a b h = grind (arith, nat_tests)

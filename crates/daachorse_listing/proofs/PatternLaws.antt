@@ -1,69 +1,116 @@
--- What is left of a walk over the patterns: an element's values one by one, and then the next element's.
-use Rattle.std.proofs.Common.{◌≡◌, ◌≢◌, ℕ, zero, suc, ◌+◌, ◌-◌, ◌<◌, ◌⊎◌, List, [], ◌∷◌, ◌++◌, length, get_or, set, take, drop, Option, Some, refl, sym, ap, ◌∙◌, arith, subst, add-one, sub-one, drop-cons}
+-- What is left of a walk over the patterns: an element's values one by one, and then those of the element that is taken next.
+use Rattle.std.proofs.Common.{◌≡◌, ◌≢◌, ℕ, zero, suc, ◌+◌, ◌-◌, ◌<◌, ◌≤◌, ◌⊎◌, inl, inr, List, [], ◌∷◌, ◌++◌, length, map, reverse, set, take, Option, Some, refl, sym, ap, ◌∙◌, arith, subst, sub-one, length-append}
 use Rattle.std.specs.Prelude.{slice_get}
-use Rattle.std.proofs.lemmas.List.{drop_all}
+use Rattle.std.proofs.lemmas.List.{nil_from_length, reverse-append}
 use Rattle.daachorse_core.specs.declared.outputs.Output.{Output}
 use Rattle.daachorse_core.specs.Outputs.{value_of, parent_of}
 use Rattle.daachorse_machine.specs.Texts.{IsReached, text_of}
-use Rattle.daachorse_listing.specs.Listing.{values_until, with_values, patterns_of, left_of, unit_of, IsLast, IsWalking}
-use Rattle.daachorse_listing.proofs.Members.{among-read}
-use Rattle.daachorse_listing.proofs.WalkLaws.{reached-inside, text-short}
-use Rattle.daachorse_listing.proofs.NextTexts.{written-room, next-text}
+use Rattle.daachorse_listing.specs.Edges.{children, put_before}
+use Rattle.daachorse_listing.specs.Listing.{AreEntries, IsEntry, values_until, with_values, patterns_of, left_of, unit_of, IsWalking}
+use Rattle.daachorse_listing.specs.Trees.{IsWalk, elements_of, taken_from}
+use Rattle.daachorse_listing.proofs.EntryLaws.{entries-elements, entries-longer, entries-put, entries-written, text-written, child-entry, written-room}
 use Rattle.daachorse_listing.proofs.ListingLaws.{values_until-step, values_until-end}
+use Rattle.daachorse_listing.proofs.Members.{All-among, among-children, elements-pop, length-elements}
+use Rattle.daachorse_listing.proofs.WalkLaws.{reached-inside, text-short, walk-next, walk-pop, taken-none, taken-room, taken-step}
 
-module _ {V : Type 0} {child : ℕ → ℕ → Option ℕ} {group : ℕ → Option ℕ} {edge : ℕ → Option (ℕ × ℕ)} {n m : ℕ} {outputs : List (Output V)} {first : ℕ → ℕ} (stop : ℕ → ℕ) (order depths buffer : List ℕ) (entered element depth position : ℕ)
-    (w : IsWalking child group edge n m outputs first order depths buffer entered element depth position) where
-  abbrev rest : List (List ℕ × V)
-  rest = patterns_of (text_of child m n) outputs first stop (drop entered order)
+-- ---- the values of a text
 
-  -- nothing is left of the element
-  pub left-of-rest : (end : ℕ) → (position ≡ end) ⊎ (position ≡ 0) → left_of child n m outputs first stop order entered element end position ≡ rest
-  left-of-rest end h = ap (λ vs. with_values (text_of child m n element) vs ++ rest) (values_until-end outputs w.patterns.falls end position h)
-
-  -- nothing is left of the elements
-  pub rest-of-all : entered ≡ length order → rest ≡ []
-  rest-of-all e = ap (λ l. patterns_of (text_of child m n) outputs first stop l) (ap (λ k. drop k order) e ∙ drop_all (length order) order (omega arith))
-
-  -- the next element's values come
-  pub rest-next : (x : ℕ) → entered < length order → x ≡ get_or order entered 0 → rest ≡ left_of child n m outputs first stop order (entered + 1) x (stop x) (first x)
-  rest-next x less e =
-      ap (λ l. patterns_of (text_of child m n) outputs first stop l) (drop-cons order entered 0 less)
-      ∙ (ap (λ y. with_values (text_of child m n y) (values_until outputs (stop y) (first y)) ++ patterns_of (text_of child m n) outputs first stop (drop (suc entered) order)) (sym e)
-      ∙ ap (λ k. with_values (text_of child m n x) (values_until outputs (stop x) (first x)) ++ patterns_of (text_of child m n) outputs first stop (drop k order)) (sym (add-one entered)))
-
-  pub next-reached : (x : ℕ) → entered < length order → x ≡ get_or order entered 0 → IsReached child m n x
-  next-reached x less e = subst (IsReached child m n) (sym e) (w.listed.reached (get_or order entered 0) (among-read order entered less))
-
-  -- the last unit of its text is written behind that of its parent
-  pub next-walking : (x d : ℕ) (new : List ℕ) → entered < length order → x ≡ get_or order entered 0 → d ≡ get_or depths x 0 → (d ≡ 0 → new ≡ buffer) → (0 < d → new ≡ set buffer (d - 1) (unit_of (edge x)))
-      → IsWalking child group edge n m outputs first order depths new (entered + 1) x d (first x)
-  next-walking x d new less e deep root other = record {
-    patterns = w.patterns;
-    listed = w.listed;
-    within = omega (arith, less);
-    reached = here;
-    last = λ more. subst (λ k. IsLast order k x) (sym (add-one entered)) e;
-    room = written-room buffer new d (unit_of (edge x)) n w.room root other;
-    short = let short : length (text_of child m n x) < n = text-short w.patterns.tree x here in omega (arith, is, short);
-    text = rw is (next-text w.patterns.tree order depths w.listed w.patterns.tell buffer new w.room entered x element less e (w.last less) (ap (λ k. take k buffer) (sym w.deep) ∙ w.text) (λ h. root (is ∙ h)) (λ h. other (omega (arith, is, h)) ∙ ap (λ k. set buffer (k - 1) (unit_of (edge x))) is));
-    deep = is;
-    inside = w.patterns.inside x (reached-inside w.patterns.tree x here);
-  }
-    where
-      here : IsReached child m n x
-      here = next-reached x less e
-
-      is : d ≡ length (text_of child m n x)
-      is = deep ∙ w.listed.depth x here
+module _ {V : Type 0} (child : ℕ → ℕ → Option ℕ) (n m : ℕ) (outputs : List (Output V)) (first stop : ℕ → ℕ) (falls : (q : ℕ) (o : Output V) → slice_get outputs q ≡ Some o → parent_of o ≤ q) (text aside : List ℕ) (end position : ℕ) where
+  -- nothing is left of the text
+  pub left-of-rest : (position ≡ end) ⊎ (position ≡ 0) → left_of child n m outputs first stop text aside end position ≡ patterns_of (text_of child m n) outputs first stop (taken_from child n m n aside)
+  left-of-rest h = ap (λ vs. with_values text vs ++ patterns_of (text_of child m n) outputs first stop (taken_from child n m n aside)) (values_until-end outputs falls end position h)
 
   -- a value is given
-  pub left-of-value : (end : ℕ) (o : Output V) → position ≢ end → position ≢ 0 → slice_get outputs (position - 1) ≡ Some o
-      → left_of child n m outputs first stop order entered element end position ≡ (text_of child m n element, value_of o) ∷ left_of child n m outputs first stop order entered element end (parent_of o)
-  left-of-value end o other some e = at position other some e
+  pub left-of-value : (o : Output V) → position ≢ end → position ≢ 0 → slice_get outputs (position - 1) ≡ Some o
+      → left_of child n m outputs first stop text aside end position ≡ (text, value_of o) ∷ left_of child n m outputs first stop text aside end (parent_of o)
+  left-of-value o other some e = at position other some e
     where
       at : (p : ℕ) → p ≢ end → p ≢ 0 → slice_get outputs (p - 1) ≡ Some o
-          → left_of child n m outputs first stop order entered element end p ≡ (text_of child m n element, value_of o) ∷ left_of child n m outputs first stop order entered element end (parent_of o)
+          → left_of child n m outputs first stop text aside end p ≡ (text, value_of o) ∷ left_of child n m outputs first stop text aside end (parent_of o)
       at zero other some e = absurd (some refl)
       at (suc q) other some e =
           let here : slice_get outputs q ≡ Some o = ap (slice_get outputs) (sym (sub-one (suc q))) ∙ e in
-          ap (λ vs. with_values (text_of child m n element) vs ++ rest) (values_until-step outputs w.patterns.falls end q o other here)
+          ap (λ vs. with_values text vs ++ patterns_of (text_of child m n) outputs first stop (taken_from child n m n aside)) (values_until-step outputs falls end q o other here)
+
+-- nothing is put aside
+pub rest-of-none : {V : Type 0} (child : ℕ → ℕ → Option ℕ) (n m : ℕ) (outputs : List (Output V)) (first stop : ℕ → ℕ) (aside : List (ℕ × ℕ)) → length aside ≡ 0 → patterns_of (text_of child m n) outputs first stop (taken_from child n m n (elements_of aside)) ≡ []
+rest-of-none child n m outputs first stop aside e =
+    ap (λ l. patterns_of (text_of child m n) outputs first stop l) (ap (λ l. taken_from child n m n (elements_of l)) (nil_from_length aside e) ∙ taken-none child n m n)
+
+-- ---- the next element
+
+module _ {V : Type 0} {child : ℕ → ℕ → Option ℕ} {group : ℕ → Option ℕ} {edge : ℕ → Option (ℕ × ℕ)} {n m : ℕ} {outputs : List (Output V)} {first : ℕ → ℕ} (stop : ℕ → ℕ) (groups : List (List ℕ)) (aside : List (ℕ × ℕ)) (buffer : List ℕ) (depth position room room_for_children : ℕ)
+    (w : IsWalking child group edge n m outputs first groups aside buffer depth position room room_for_children) where
+  module _ (rest : List (ℕ × ℕ)) (d x : ℕ) (e : aside ≡ rest ++ (d, x) ∷ []) where
+    abbrev kids : List ℕ
+    kids = children child x m
+
+    some : 0 < length aside
+    some = omega (arith, ap length e, length-append rest ((d, x) ∷ []))
+
+    abbrev taken : List ℕ
+    taken = (w.walk some).0
+
+    under : IsWalk child n m taken (x ∷ elements_of rest)
+    under = walk-pop taken aside rest (d, x) e (w.walk some).1
+
+    pub next-reached : IsReached child m n x
+    next-reached = under.reached x (inr (inl refl))
+
+    entries : AreEntries child n m buffer (suc depth) ((d, x) ∷ reverse rest)
+    entries = let P : List (ℕ × ℕ) → Type 0 = AreEntries child n m buffer (suc depth) in subst P (ap reverse e ∙ reverse-append rest ((d, x) ∷ [])) w.entries
+
+    pub next-deep : d ≡ length (text_of child m n x)
+    next-deep = entries.1.0
+
+    pub next-room : length rest + length kids ≤ room
+    next-room = let few = taken-room w.patterns.tree taken (elements_of rest) x under in omega (arith, few, length-elements rest, w.wide)
+
+    -- the next element's values come
+    next-left : patterns_of (text_of child m n) outputs first stop (taken_from child n m n (elements_of aside))
+        ≡ with_values (text_of child m n x) (values_until outputs (stop x) (first x)) ++ patterns_of (text_of child m n) outputs first stop (taken_from child n m n (put_before kids (elements_of rest)))
+    next-left =
+        ap (λ l. patterns_of (text_of child m n) outputs first stop l)
+        (ap (λ l. taken_from child n m n l) (elements-pop aside rest (d, x) e) ∙ taken-step w.patterns.tree taken (elements_of rest) x under)
+
+    -- fewer are left to be taken
+    pub next-fewer : length (taken_from child n m n (elements_of aside)) ≡ suc (length (taken_from child n m n (put_before kids (elements_of rest))))
+    next-fewer = ap length (ap (λ l. taken_from child n m n l) (elements-pop aside rest (d, x) e) ∙ taken-step w.patterns.tree taken (elements_of rest) x under)
+
+    pub next-aside : (more : List (ℕ × ℕ)) → reverse more ≡ put_before (map (λ j. (suc d, j)) kids) (reverse rest) → elements_of more ≡ put_before kids (elements_of rest)
+    next-aside more put = ap (map (λ p. p.1)) put ∙ entries-elements (suc d) kids (reverse rest)
+
+    -- where its own outputs end matters only where it has an output
+    values-own : (at end : ℕ) → at ≡ first x → (0 < at → end ≡ stop x) → values_until outputs end at ≡ values_until outputs (stop x) (first x)
+    values-own zero end is ends = ap (values_until outputs (stop x)) is
+    values-own (suc k) end is ends = ap (λ t. values_until outputs t (suc k)) (ends (omega arith)) ∙ ap (values_until outputs (stop x)) is
+
+    module _ (new : List ℕ) (none : d ≡ 0 → new ≡ buffer) (last : 0 < d → new ≡ set buffer (d - 1) (unit_of (edge x)))
+        (more : List (ℕ × ℕ)) (put : reverse more ≡ put_before (map (λ j. (suc d, j)) kids) (reverse rest)) (at : ℕ) (is : at ≡ first x) where
+      next-text : take d new ≡ text_of child m n x
+      next-text = text-written w.patterns.tree w.patterns.tell buffer new w.size x d next-reached entries.1 none last
+
+      pub next-walking : (more_room more_room_for_children : ℕ) → n ≤ more_room → n ≤ more_room_for_children → IsWalking child group edge n m outputs first groups more new d at more_room more_room_for_children
+      next-walking more_room more_room_for_children wide wide_for_children = record {
+        patterns = w.patterns;
+        groups_are = w.groups_are;
+        each = w.each;
+        walk = λ some. (taken ++ x ∷ [], (let P : List ℕ → Type 0 = λ l. IsWalk child n m (taken ++ x ∷ []) l in subst P (sym (next-aside more put)) (walk-next w.patterns.tree taken (elements_of rest) x under)));
+        entries = let P : List (ℕ × ℕ) → Type 0 = AreEntries child n m new (suc d) in
+            subst P (sym put) (entries-put child n m new (suc d) kids (reverse rest)
+            (All-among (λ j. IsEntry child n m new (suc d, j)) kids (λ j a. (let kid = among-children child x m j a in child-entry w.patterns.tree new x d kid.0 j next-reached next-deep next-text kid.1)))
+            (entries-longer child n m new d (suc d) (reverse rest) (omega arith) (entries-written child n m buffer new d (unit_of (edge x)) d (reverse rest) none last (omega arith) entries.2)));
+        size = written-room buffer new d (unit_of (edge x)) n w.size none last;
+        short = let short = text-short w.patterns.tree x next-reached in omega (arith, next-deep, short);
+        inside = let inside = w.patterns.inside x (reached-inside w.patterns.tree x next-reached) in omega (arith, inside, is);
+        wide = wide;
+        wide_for_children = wide_for_children;
+      }
+
+      -- what was left are its values and what is left behind it
+      pub next-left-of : (end : ℕ) → (0 < at → end ≡ stop x)
+          → left_of child n m outputs first stop (take d new) (elements_of more) end at ≡ patterns_of (text_of child m n) outputs first stop (taken_from child n m n (elements_of aside))
+      next-left-of end ends =
+          ap (λ t. with_values t (values_until outputs end at) ++ patterns_of (text_of child m n) outputs first stop (taken_from child n m n (elements_of more))) next-text
+          ∙ (ap (λ vs. with_values (text_of child m n x) vs ++ patterns_of (text_of child m n) outputs first stop (taken_from child n m n (elements_of more))) (values-own at end is ends)
+          ∙ (ap (λ l. with_values (text_of child m n x) (values_until outputs (stop x) (first x)) ++ patterns_of (text_of child m n) outputs first stop (taken_from child n m n l)) (next-aside more put) ∙ sym next-left))

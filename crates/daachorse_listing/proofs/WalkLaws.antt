@@ -1,45 +1,23 @@
--- A walk that takes the last element put aside lists the elements in the order of their texts.
-use Rattle.std.proofs.Common.{◌≡◌, ℕ, suc, ◌+◌, ◌<◌, ◌≤◌, ◌⊎◌, inl, inr, List, [], ◌∷◌, ◌++◌, length, get_or, set, replicate, reverse, Option, Some, None, refl, sym, ap, ◌∙◌, arith, subst, length-append}
-use Rattle.std.proofs.lemmas.List.{get_or-replicate, get_or-set_same, get_or-set_other, length-set, length-replicate, reverse-append}
+-- A walk that takes the last element put aside takes the elements in the order of their texts.
+use Rattle.std.proofs.Common.{◌≡◌, ℕ, zero, suc, ◌+◌, ◌<◌, ◌≤◌, ◌⊎◌, inl, inr, List, [], ◌∷◌, ◌++◌, length, Option, Some, None, refl, sym, ap, ◌∙◌, arith, subst, length-append, append-nil, append_assoc}
 use Rattle.std.specs.Cmp.Lexicographic.{nat_list_cmp_total}
 use Rattle.std.specs.declared.cmp.Ordering.{Ordering}
 use Rattle.std.specs.declared.cmp.Ordering.TheVariants.{Less, Equal}
 use Rattle.daachorse_model.specs.Paths.{walk, Leads}
 use Rattle.daachorse_machine.specs.Texts.{IsReached}
 use Rattle.daachorse_machine.proofs.PathLaws.{walk-push, and_then_inv, text_of-Leads, Leads-inside, Leads-length}
-use Rattle.std.proofs.lemmas.Option.{same_Some, slice_get-get_or}
-use Rattle.daachorse_listing.specs.Depths.{IsDepthTable}
+use Rattle.std.proofs.lemmas.Option.{same_Some}
 use Rattle.daachorse_listing.specs.Edges.{put_before, children, IsTree, TellChildren}
 use Rattle.daachorse_listing.specs.Listing.{unit_of}
-use Rattle.daachorse_listing.specs.Trees.{IsAmong, Pairs, IsMarking, text, ComesBefore, IsListed}
-use Rattle.daachorse_listing.proofs.Members.{among-append, among-left, among-right, among-put, put-left, put-right, among-either, All-among, among-All, among-children, children-among, Pairs-children, Pairs-append, Pairs-map, Pairs-push, Pairs-few, length-put}
-use Rattle.daachorse_listing.proofs.Orders.{order, Diverges, Diverges-order, Diverges-on, Diverges-last, order-longer, order-itself}
-
-module _ (child : ℕ → ℕ → Option ℕ) (n m : ℕ) where
-  abbrev pub Apart : ℕ → ℕ → Type 0
-  Apart i j = Diverges (text child n m i) (text child n m j)
-
-  -- the elements that were taken, in order, and those that were put aside: what the first of these lead to comes before what the others do
-  pub record IsWalk (taken aside depths : List ℕ) : Type 0 where
-    pub reached : (i : ℕ) → IsAmong taken i ⊎ IsAmong aside i → IsReached child m n i
-    pub root : IsAmong taken 0 ⊎ IsAmong aside 0
-    pub closed : (i c j : ℕ) → IsAmong taken i → child i c ≡ Some j → IsAmong taken j ⊎ IsAmong aside j
-    pub rising : Pairs (ComesBefore child n m) taken
-    pub apart : Pairs Apart aside
-    pub across : (i j : ℕ) → IsAmong taken i → IsAmong aside j → ComesBefore child n m i j
-    pub depths_size : length depths ≡ n
-    pub depth : (i : ℕ) → IsAmong taken i ⊎ IsAmong aside i → get_or depths i 0 ≡ length (text child n m i)
-    pub others : (i : ℕ) → i < n → ¬ IsAmong taken i → ¬ IsAmong aside i → get_or depths i 0 ≡ 4294967295
+use Rattle.daachorse_listing.specs.Trees.{IsAmong, Pairs, Diverges, text, Apart, ComesBefore, IsListed, IsWalk, elements_of, taken_from}
+use Rattle.daachorse_listing.proofs.Members.{among-append, among-left, among-right, among-put, put-left, put-right, All-among, among-All, among-children, children-among, Pairs-children, Pairs-append, Pairs-map, Pairs-push, Pairs-few, length-put, elements-pop}
+use Rattle.daachorse_listing.proofs.Orders.{order, Diverges-order, Diverges-on, Diverges-last, order-longer, order-itself}
 
 -- the last element of a stack is the first that was put aside
-pub walk-pop : {child : ℕ → ℕ → Option ℕ} {n m : ℕ} (taken depths stack rest : List ℕ) (x : ℕ) → stack ≡ rest ++ x ∷ [] → IsWalk child n m taken (reverse stack) depths → IsWalk child n m taken (x ∷ reverse rest) depths
-walk-pop {child} {n} {m} taken depths stack rest x e w =
-    let P : List ℕ → Type 0 = λ l. IsWalk child n m taken l depths in
-    subst P (ap reverse e ∙ reverse-append rest (x ∷ [])) w
-
-pub walk-empty : {child : ℕ → ℕ → Option ℕ} {n m : ℕ} (taken depths stack : List ℕ) → length stack ≡ 0 → IsWalk child n m taken (reverse stack) depths → IsWalk child n m taken [] depths
-walk-empty taken depths [] e w = w
-walk-empty taken depths (x ∷ stack) e w = absurd (omega arith)
+pub walk-pop : {child : ℕ → ℕ → Option ℕ} {n m : ℕ} (taken : List ℕ) (stack rest : List (ℕ × ℕ)) (x : ℕ × ℕ) → stack ≡ rest ++ x ∷ [] → IsWalk child n m taken (elements_of stack) → IsWalk child n m taken (x.1 ∷ elements_of rest)
+walk-pop {child} {n} {m} taken stack rest x e w =
+    let P : List ℕ → Type 0 = λ l. IsWalk child n m taken l in
+    subst P (elements-pop stack rest x e) w
 
 module _ {child : ℕ → ℕ → Option ℕ} {n m : ℕ} (tree : IsTree child n m) where
   text-is : (w : List ℕ) (i : ℕ) → Leads child w i → text child n m i ≡ w
@@ -75,43 +53,20 @@ module _ {child : ℕ → ℕ → Option ℕ} {n m : ℕ} (tree : IsTree child n
 
   -- ---- the start
 
-  pub walk-start : (depths : List ℕ) → depths ≡ replicate n 4294967295 → IsWalk child n m [] (0 ∷ []) (set depths 0 0)
-  walk-start depths e = record {
+  pub walk-start : IsWalk child n m [] (0 ∷ [])
+  walk-start = record {
     reached = λ i h. elim h [ inl bad ↦ absurd bad | inr a ↦ elim a [ inl same ↦ subst (IsReached child m n) (sym same) root-reached | inr bad ↦ absurd bad ] ];
     root = inr (inl refl);
     closed = λ i c j bad e. absurd bad;
     rising = tt;
     apart = (tt, tt);
     across = λ i j bad h. absurd bad;
-    depths_size = length-set depths 0 0 ∙ long;
-    depth = λ i h. elim h [ inl bad ↦ absurd bad | inr a ↦ elim a [ inl same ↦ rw same (get_or-set_same depths 0 0 0 inside ∙ sym (ap length root-text)) | inr bad ↦ absurd bad ] ];
-    others = λ i less out free.
-        get_or-set_other depths 0 i 0 0 (λ same. free (inl same)) ∙ (ap (λ l. get_or l i 0) e ∙ get_or-replicate n i 4294967295 0 less);
   }
-    where
-      long : length depths ≡ n
-      long = ap length e ∙ length-replicate n 4294967295
-
-      inside : 0 < length depths
-      inside = let some : 0 < n = tree.some in omega (arith, long, some)
-
-  pub walk-begin : (taken aside depths : List ℕ) → taken ≡ [] → aside ≡ 0 ∷ [] → depths ≡ replicate n 4294967295 → IsWalk child n m taken aside (set depths 0 0)
-  walk-begin taken aside depths a b d = rw (a, b) (walk-start depths d)
 
   -- ---- one element is taken, and its children are put aside
-  module _ (taken aside depths : List ℕ) (x : ℕ) (w : IsWalk child n m taken (x ∷ aside) depths) where
+  module _ (taken aside : List ℕ) (x : ℕ) (w : IsWalk child n m taken (x ∷ aside)) where
     here : IsReached child m n x
     here = w.reached x (inr (inl refl))
-
-    pub taken-depth : get_or depths x 0 ≡ length (text child n m x)
-    taken-depth = w.depth x (inr (inl refl))
-
-    pub taken-inside : x < n
-    taken-inside = reached-inside x here
-
-    -- the depth of a child is a number of 32 bits below the greatest
-    pub taken-shallow : get_or depths x 0 < 4294967295
-    taken-shallow = let less : length (text child n m x) < 4294967295 = tree.shallow x (text child n m x) here in omega (arith, taken-depth, less)
 
     abbrev pub kids : List ℕ
     kids = children child x m
@@ -180,56 +135,29 @@ module _ {child : ℕ → ℕ → Option ℕ} {n m : ℕ} (tree : IsTree child n
         before-itself (λ k a. reached-inside k (reached-next k (among-append (taken ++ x ∷ []) rest k a))) in
         omega (arith, few, length-append (taken ++ x ∷ []) rest, length-append taken (x ∷ []), length-put kids aside)
 
-    module _ (new_depths : List ℕ) (depth : ℕ) (deeper : depth ≡ suc (get_or depths x 0)) (d : IsMarking kids [] depth depths new_depths) where
-      at-kid : (i c : ℕ) → child x c ≡ Some i → get_or new_depths i 0 ≡ length (text child n m i)
-      at-kid i c e = elim (d.written i among) [ inl bad ↦ absurd bad | inr is ↦ deep is ]
-        where
-          among : IsAmong kids i
-          among = children-among child x m c i (tree.inside x c i e).1 e
-
-          deep : get_or new_depths i 0 ≡ depth → get_or new_depths i 0 ≡ length (text child n m i)
-          deep is = let long : length (text child n m i) ≡ length (text child n m x ++ c ∷ []) = ap length (child-text x c i here e) in omega (arith, is, deeper, taken-depth, long, length-append (text child n m x) (c ∷ []))
-
-      pub walk-next : IsWalk child n m (taken ++ x ∷ []) rest new_depths
-      walk-next = record {
-        reached = reached-next;
-        root = keep 0 w.root;
-        closed = λ i c j a e. elim (among-append taken (x ∷ []) i a) [
-          | inl old ↦ keep j (w.closed i c j old e)
-          | inr new ↦ elim new [
-            | inl same ↦ (let e' : child x c ≡ Some j = ap (λ k. child k c) (sym same) ∙ e in inr (put-left kids aside j (children-among child x m c j (tree.inside x c j e').1 e')))
-            | inr bad ↦ absurd bad
-          ]
-        ];
-        rising = rising-next;
-        apart = apart-next;
-        across = across-next;
-        depths_size = d.size ∙ w.depths_size;
-        depth = λ i h. elim (among-either kids i) [
-          | inl kid ↦ (let at = among-children child x m i kid in at-kid i at.0 at.1)
-          | inr out ↦ elim (split i h) [
-            | inl old ↦ d.other i out ∙ w.depth i old
-            | inr kid ↦ absurd (out (children-among child x m kid.0 i (tree.inside x kid.0 i kid.1).1 kid.1))
-          ]
-        ];
-        others = λ i less no_taken no_rest.
-            d.other i (λ kid. no_rest (put-left kids aside i kid))
-            ∙ w.others i less (λ a. no_taken (among-left taken (x ∷ []) i a)) (λ a. elim a [
-              | inl same ↦ no_taken (among-right taken (x ∷ []) i (inl same))
-              | inr old ↦ no_rest (put-right kids aside i old)
-            ]);
-      }
+    pub walk-next : IsWalk child n m (taken ++ x ∷ []) rest
+    walk-next = record {
+      reached = reached-next;
+      root = keep 0 w.root;
+      closed = λ i c j a e. elim (among-append taken (x ∷ []) i a) [
+        | inl old ↦ keep j (w.closed i c j old e)
+        | inr new ↦ elim new [
+          | inl same ↦ (let e' : child x c ≡ Some j = ap (λ k. child k c) (sym same) ∙ e in inr (put-left kids aside j (children-among child x m c j (tree.inside x c j e').1 e')))
+          | inr bad ↦ absurd bad
+        ]
+      ];
+      rising = rising-next;
+      apart = apart-next;
+      across = across-next;
+    }
 
   -- ---- the end
 
-  pub walk-end : (taken depths : List ℕ) → IsWalk child n m taken [] depths → IsListed child n m taken depths
-  walk-end taken depths w = record {
+  walk-end : (taken : List ℕ) → IsWalk child n m taken [] → IsListed child n m taken
+  walk-end taken w = record {
     reached = λ i a. w.reached i (inl a);
     complete = λ i r. along (text child n m i) i r;
     rising = w.rising;
-    depths_size = w.depths_size;
-    depth = λ i r. w.depth i (inl (along (text child n m i) i r));
-    others = λ i less out. w.others i less (λ a. out (w.reached i (inl a))) (λ bad. bad);
   }
     where
       only : (i : ℕ) → IsAmong taken i ⊎ IsAmong [] i → IsAmong taken i
@@ -245,13 +173,42 @@ module _ {child : ℕ → ℕ → Option ℕ} {n m : ℕ} (tree : IsTree child n
       along : (v : List ℕ) (i : ℕ) → Leads child v i → IsAmong taken i
       along v i e = from v 0 i (only 0 w.root) e
 
-  -- the depths of a listing, read as entries
-  pub listed-depths : (taken depths : List ℕ) → IsListed child n m taken depths → IsDepthTable child m n depths
-  listed-depths taken depths l = record {
-    size = l.depths_size;
-    reached = λ i r. slice_get-get_or depths i 0 (let less : i < n = reached-inside i r in omega (arith, less, l.depths_size)) ∙ ap (λ k. Some k) (l.depth i r);
-    others = λ i less out. slice_get-get_or depths i 0 (omega (arith, less, l.depths_size)) ∙ ap (λ k. Some k) (l.others i less out);
-  }
+  -- no more is taken than all elements
+  taken-few : (taken aside : List ℕ) (x : ℕ) → IsWalk child n m taken (x ∷ aside) → length taken < n
+  taken-few taken aside x w = let few = taken-room taken aside x w in omega (arith, few)
+
+  -- where steps are enough for all that was not taken, all that is reached is taken
+  pub walked : (steps : ℕ) (taken aside : List ℕ) → IsWalk child n m taken aside → n ≤ length taken + steps → IsListed child n m (taken ++ taken_from child n m steps aside)
+  walked zero taken [] w enough = subst (IsListed child n m) (sym (append-nil taken)) (walk-end taken w)
+  walked zero taken (x ∷ aside) w enough = absurd (let few = taken-few taken aside x w in omega (arith, few, enough))
+  walked (suc steps) taken [] w enough = subst (IsListed child n m) (sym (append-nil taken)) (walk-end taken w)
+  walked (suc steps) taken (x ∷ aside) w enough =
+      let next = put_before (children child x m) aside in
+      let more : n ≤ length (taken ++ x ∷ []) + steps = omega (arith, enough, length-append taken (x ∷ [])) in
+      subst (IsListed child n m) (append_assoc taken (x ∷ []) (taken_from child n m steps next)) (walked steps (taken ++ x ∷ []) next (walk-next taken aside x w) more)
+
+  -- and one step more takes nothing else
+  pub taken-enough : (steps : ℕ) (taken aside : List ℕ) → IsWalk child n m taken aside → n ≤ length taken + steps → taken_from child n m (suc steps) aside ≡ taken_from child n m steps aside
+  taken-enough zero taken [] w enough = refl
+  taken-enough zero taken (x ∷ aside) w enough = absurd (let few = taken-few taken aside x w in omega (arith, few, enough))
+  taken-enough (suc steps) taken [] w enough = refl
+  taken-enough (suc steps) taken (x ∷ aside) w enough =
+      let more : n ≤ length (taken ++ x ∷ []) + steps = omega (arith, enough, length-append taken (x ∷ [])) in
+      ap (λ l. x ∷ l) (taken-enough steps (taken ++ x ∷ []) (put_before (children child x m) aside) (walk-next taken aside x w) more)
+
+  -- what is taken from here on: the first that was put aside, and then what is taken behind it
+  pub taken-step : (taken aside : List ℕ) (x : ℕ) → IsWalk child n m taken (x ∷ aside) → taken_from child n m n (x ∷ aside) ≡ x ∷ taken_from child n m n (put_before (children child x m) aside)
+  taken-step taken aside x w = at n refl
+    where
+      at : (k : ℕ) → k ≡ n → taken_from child n m k (x ∷ aside) ≡ x ∷ taken_from child n m k (put_before (children child x m) aside)
+      at zero e = absurd (let few = taken-few taken aside x w in omega (arith, few, e))
+      at (suc k) e =
+          ap (λ l. x ∷ l) (sym (taken-enough k (taken ++ x ∷ []) (put_before (children child x m) aside) (walk-next taken aside x w) (omega (arith, e, length-append taken (x ∷ [])))))
+
+-- nothing is taken where nothing is put aside
+pub taken-none : (child : ℕ → ℕ → Option ℕ) (n m steps : ℕ) → taken_from child n m steps [] ≡ []
+taken-none child n m zero = refl
+taken-none child n m (suc steps) = refl
 
 -- the unit of a child's edge is the one that leads to it
 pub unit-is : {child : ℕ → ℕ → Option ℕ} {group : ℕ → Option ℕ} {edge : ℕ → Option (ℕ × ℕ)} {n : ℕ} → TellChildren child group edge n → (p c j : ℕ) → p < n → child p c ≡ Some j → unit_of (edge j) ≡ c

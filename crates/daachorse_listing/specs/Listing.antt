@@ -1,13 +1,13 @@
 -- The patterns of a tree with outputs: of each element, in the order of the texts, its text with the values of its own outputs.
-use Rattle.std.specs.Prelude.{◌≡◌, ℕ, zero, suc, ◌≤◌, ◌<◌, ◌==◌, Bool, true, false, cond, List, [], ◌∷◌, ◌++◌, drop, flat_map, length, map, slice_get, slice_index, take, Option, Some, None, ◌≢◌, Result, MatchOption, MatchResult}
+use Rattle.std.specs.Prelude.{◌≡◌, ℕ, zero, suc, ◌-◌, ◌≤◌, ◌<◌, ◌==◌, Bool, true, false, cond, List, [], ◌∷◌, ◌++◌, flat_map, length, map, reverse, slice_get, slice_index_or, take, Option, Some, None, ◌≢◌, Result, MatchOption, MatchResult}
 use Rattle.daachorse_core.specs.declared.errors.DaachorseError.{DaachorseError}
 use Rattle.daachorse_core.specs.Refusals.{IsOutOfMemory}
 use Rattle.daachorse_core.specs.declared.outputs.Output.{Output}
 use Rattle.daachorse_core.specs.Outputs.{value_of, parent_of, ParentsFall}
 use Rattle.daachorse_machine.specs.Machines.{Machine}
-use Rattle.daachorse_machine.specs.Texts.{IsReached, text_of}
-use Rattle.daachorse_listing.specs.Edges.{IsTree, TellChildren}
-use Rattle.daachorse_listing.specs.Trees.{IsListed}
+use Rattle.daachorse_machine.specs.Texts.{text_of}
+use Rattle.daachorse_listing.specs.Edges.{IsTree, TellChildren, members}
+use Rattle.daachorse_listing.specs.Trees.{IsListed, IsWalk, elements_of, taken_from}
 
 -- the unit of an edge
 abbrev pub unit_of : Option (ℕ × ℕ) → ℕ
@@ -55,30 +55,35 @@ pub record HasPatterns {V : Type 0} (child : ℕ → ℕ → Option ℕ) (group 
 module _ {V : Type 0} (child : ℕ → ℕ → Option ℕ) (n m : ℕ) (outputs : List (Output V)) (first stop : ℕ → ℕ) where
   -- all patterns: those of the reached elements, in the order of their texts
   abbrev pub IsPatterns : List (List ℕ × V) → Type 0
-  IsPatterns entries = (order depths : List ℕ) × IsListed child n m order depths × (entries ≡ patterns_of (text_of child m n) outputs first stop order)
+  IsPatterns entries = (order : List ℕ) × IsListed child n m order × (entries ≡ patterns_of (text_of child m n) outputs first stop order)
 
-  -- the patterns that are left: those of one element from a position until the end of its own outputs, and those of the elements that were not entered
-  abbrev pub left_of : List ℕ → ℕ → ℕ → ℕ → ℕ → List (List ℕ × V)
-  left_of order entered element end position =
-      with_values (text_of child m n element) (values_until outputs end position) ++ patterns_of (text_of child m n) outputs first stop (drop entered order)
+  -- the patterns that are left: those of one text from a position until the end of its own outputs, and those of the elements that are taken from here on
+  abbrev pub left_of : List ℕ → List ℕ → ℕ → ℕ → List (List ℕ × V)
+  left_of text aside end position =
+      with_values text (values_until outputs end position) ++ patterns_of (text_of child m n) outputs first stop (taken_from child n m n aside)
 
--- the element that was entered last, the root where none was
-abbrev pub IsLast : List ℕ → ℕ → ℕ → Type 0
-IsLast order zero element = element ≡ 0
-IsLast order (suc k) element = element ≡ slice_index order k
+module _ (child : ℕ → ℕ → Option ℕ) (n m : ℕ) (buffer : List ℕ) where
+  -- an element behind the length of its text, of which all units but the last stand in the buffer
+  abbrev pub IsEntry : ℕ × ℕ → Type 0
+  IsEntry e = (e.0 ≡ length (text_of child m n e.1)) × (take (e.0 - 1) buffer ≡ take (e.0 - 1) (text_of child m n e.1))
 
--- What holds of a walk over the patterns: so many units of a buffer are the text of the element, which was entered last while others are left.
-pub record IsWalking {V : Type 0} (child : ℕ → ℕ → Option ℕ) (group : ℕ → Option ℕ) (edge : ℕ → Option (ℕ × ℕ)) (n m : ℕ) (outputs : List (Output V)) (first : ℕ → ℕ) (order depths buffer : List ℕ) (entered element depth position : ℕ) : Type 0 where
+  -- entries whose texts are at most so long, and none longer than that of an entry before it
+  abbrev pub AreEntries : ℕ → List (ℕ × ℕ) → Type 0
+  AreEntries most [] = Unit {0}
+  AreEntries most (e ∷ entries) = (e.0 ≤ most) × IsEntry e × AreEntries e.0 entries
+
+-- What holds of a walk over the patterns: so many units of a buffer are the text of the element that was taken last, and there is room for what is put aside.
+pub record IsWalking {V : Type 0} (child : ℕ → ℕ → Option ℕ) (group : ℕ → Option ℕ) (edge : ℕ → Option (ℕ × ℕ)) (n m : ℕ) (outputs : List (Output V)) (first : ℕ → ℕ) (groups : List (List ℕ)) (aside : List (ℕ × ℕ)) (buffer : List ℕ) (depth position room room_for_children : ℕ) : Type 0 where
   pub patterns : HasPatterns child group edge n m outputs first
-  pub listed : IsListed child n m order depths
-  pub within : entered ≤ length order
-  pub reached : IsReached child m n element
-  pub last : entered < length order → IsLast order entered element
-  pub room : length buffer ≡ n
-  pub short : depth < n
-  pub text : take depth buffer ≡ text_of child m n element
-  pub deep : depth ≡ length (text_of child m n element)
+  pub groups_are : (g : ℕ) → g < n → slice_index_or groups g [] ≡ members edge g n
+  pub each : length groups ≡ n
+  pub walk : 0 < length aside → (taken : List ℕ) × IsWalk child n m taken (elements_of aside)
+  pub entries : AreEntries child n m buffer (suc depth) (reverse aside)
+  pub size : length buffer ≡ n
+  pub short : depth ≤ n
   pub inside : position ≤ length outputs
+  pub wide : n ≤ room
+  pub wide_for_children : n ≤ room_for_children
 
 -- A call gives the first pattern, or an error behind which nothing is left; `text` reads the key.
 abbrev pub GivesPattern : {K V : Type 0} → (K → List ℕ) → List (List ℕ × V) → Option (Result (K × V) DaachorseError) → List (List ℕ × V) → Type 0

@@ -1,10 +1,11 @@
 -- The reached elements of an array, as a walk lists them: each after those whose texts come before its own.
-use Rattle.std.specs.Prelude.{◌≡◌, ◌≢◌, ◌⊎◌, ℕ, ◌<◌, List, [], ◌∷◌, ◌++◌, length, map, reverse, slice_index, Option, Some}
+use Rattle.std.specs.Prelude.{◌≡◌, ◌≢◌, ◌⊎◌, ℕ, zero, suc, ◌<◌, List, [], ◌∷◌, ◌++◌, length, map, reverse, slice_index, Option, Some}
 use Rattle.std.specs.List.{AllByRecursion}
 use Rattle.std.specs.Cmp.Lexicographic.{slice_cmp}
 use Rattle.std.specs.Ordering.{nat_cmp}
 use Rattle.std.specs.declared.cmp.Ordering.TheVariants.{Less}
 use Rattle.daachorse_machine.specs.Texts.{IsReached, text_of}
+use Rattle.daachorse_listing.specs.Edges.{children, put_before}
 
 -- x is one of these
 abbrev pub IsAmong : List ℕ → ℕ → Type 0
@@ -36,6 +37,12 @@ pub record IsNoting (from : ℕ → Option ℕ) (depth : ℕ) (reached depths mo
   pub once : Pairs ◌≢◌ kids
   pub marked : IsMarking kids [] depth depths deeper
 
+-- v has the lesser unit where the two first differ
+abbrev pub Diverges : List ℕ → List ℕ → Type 0
+Diverges [] w = ⊥
+Diverges (a ∷ v) [] = ⊥
+Diverges (a ∷ v) (b ∷ w) = (a < b) ⊎ ((a ≡ b) × Diverges v w)
+
 module _ (child : ℕ → ℕ → Option ℕ) (n m : ℕ) where
   abbrev pub text : ℕ → List ℕ
   text i = text_of child m n i
@@ -44,11 +51,27 @@ module _ (child : ℕ → ℕ → Option ℕ) (n m : ℕ) where
   abbrev pub ComesBefore : ℕ → ℕ → Type 0
   ComesBefore i j = slice_cmp nat_cmp (text i) (text j) ≡ Less
 
-  -- all reached elements in the order of their texts, and the depths, 4294967295 for an element that is not reached
-  pub record IsListed (order depths : List ℕ) : Type 0 where
+  -- all reached elements in the order of their texts
+  pub record IsListed (order : List ℕ) : Type 0 where
     pub reached : (i : ℕ) → IsAmong order i → IsReached child m n i
     pub complete : (i : ℕ) → IsReached child m n i → IsAmong order i
     pub rising : Pairs ComesBefore order
-    pub depths_size : length depths ≡ n
-    pub depth : (i : ℕ) → IsReached child m n i → slice_index depths i ≡ length (text i)
-    pub others : (i : ℕ) → i < n → ¬ IsReached child m n i → slice_index depths i ≡ 4294967295
+
+  -- the texts of i and j differ, first at a lesser unit of i's
+  abbrev pub Apart : ℕ → ℕ → Type 0
+  Apart i j = Diverges (text i) (text j)
+
+  -- the elements that were taken, in order, and those that were put aside: what the first of these lead to comes before what the others do
+  pub record IsWalk (taken aside : List ℕ) : Type 0 where
+    pub reached : (i : ℕ) → IsAmong taken i ⊎ IsAmong aside i → IsReached child m n i
+    pub root : IsAmong taken 0 ⊎ IsAmong aside 0
+    pub closed : (i c j : ℕ) → IsAmong taken i → child i c ≡ Some j → IsAmong taken j ⊎ IsAmong aside j
+    pub rising : Pairs ComesBefore taken
+    pub apart : Pairs Apart aside
+    pub across : (i j : ℕ) → IsAmong taken i → IsAmong aside j → ComesBefore i j
+
+  -- the elements that are taken in at most so many steps: the first that is put aside, and then its children ahead of the others
+  abbrev pub taken_from : ℕ → List ℕ → List ℕ
+  taken_from zero aside = []
+  taken_from (suc steps) [] = []
+  taken_from (suc steps) (x ∷ aside) = x ∷ taken_from steps (put_before (children child x m) aside)

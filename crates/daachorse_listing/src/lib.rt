@@ -1,7 +1,8 @@
-//! The reached elements of an array with children: in the order of their texts, with their depths.
+//! The reached elements of an array with children: their patterns in the order of their texts, and their depths.
 //!
-//! The layers above may rely on [`tree::Tree`] holding each element that a text leads to, once, and
-//! on [`depths::depths`] giving the length of each element's text.
+//! The layers above may rely on [`patterns::PatternWalk`] giving the patterns of each element that a
+//! text leads to, in the order of these texts, and on [`depths::depths`] giving the length of each
+//! element's text.
 #![tactic(auto)]
 
 mod children;
@@ -9,4 +10,3 @@ pub mod depths;
 pub mod edges;
 pub mod patterns;
 pub mod siblings;
-mod tree;

@@ -6,13 +6,14 @@
 //! The text of an element begins with that of its parent, and so does each text from there to its
 //! own in their order. So a walk keeps one text, whose unit at the depth that it comes to is written.
 
-ghost use Rattle.std.specs.Prelude.{◌≡◌, ◌<◌, ◌≤◌, ◌-◌, ℕ, List, [], Some, length, slice_get, slice_set, IfOk, IfErr};
+ghost use Rattle.std.specs.Prelude.{◌≡◌, ◌<◌, ◌≤◌, ◌-◌, ℕ, List, [], Some, length, map, slice_get, slice_set, IfOk, IfErr};
 ghost use Rattle.daachorse_core.specs.Refusals.{IsOutOfMemory};
 ghost use Rattle.daachorse_core.specs.declared.outputs.Output.{Output};
 ghost use Rattle.daachorse_listing.specs.Listing.{HasPatterns, IsPatterns, unit_of};
 
+use crate::children::put_aside;
 use crate::edges::Edges;
-use crate::tree::Tree;
+use crate::siblings::Siblings;
 use daachorse_core::Output;
 use daachorse_core::errors::Result;
 use std::alloc::{Allocator, Global};
@@ -41,11 +42,15 @@ pub trait Outputs<V: Copy>: Edges {
         requires { element < Self.count self.now }
         ensures { number result ≡ unit_of (Self.edge self.now element) };
 
-    /// The position of an element's first output, and that where its own outputs end; 0 is the end
-    /// of all.
-    fn own_outputs(&self, element: usize) -> (usize, usize)
+    /// The position of an element's first output; 0 if there is none.
+    fn first_output(&self, element: usize) -> usize
         requires { element < Self.count self.now }
-        ensures { result ≡ (first self.now element, stop self.now element) };
+        ensures { result ≡ first self.now element };
+
+    /// The position where an element's own outputs end; 0 is the end of all.
+    fn own_end(&self, element: usize) -> usize
+        requires { element < Self.count self.now }
+        ensures { result ≡ stop self.now element };
 
     /// The output at a position.
     fn output(&self, position: usize) -> Output<V>
@@ -69,12 +74,44 @@ impl<V: Copy, E: Outputs<V>> Outputs<V> for &E {
         (**self).unit(element)
     }
 
-    fn own_outputs(&self, element: usize) -> (usize, usize) {
-        (**self).own_outputs(element)
+    fn first_output(&self, element: usize) -> usize {
+        (**self).first_output(element)
+    }
+
+    fn own_end(&self, element: usize) -> usize {
+        (**self).own_end(element)
     }
 
     fn output(&self, position: usize) -> Output<V> {
         (**self).output(position)
+    }
+}
+
+/// Outputs whose texts are given as keys, in memory of an allocator.
+pub trait Keys<V: Copy, A: Allocator>: Outputs<V> {
+    /// A text in memory of its own.
+    type Key;
+
+    /// The numbers of the units of a key.
+    ghost units_of: { Self.Key → List ℕ };
+
+    /// Makes the key of these units.
+    ///
+    /// # Errors
+    ///
+    /// An allocation failed.
+    fn key(&self, alloc: A, units: &[Self::Unit]) -> Result<Self::Key>
+        ensures ok { IfOk result (λ key. units_of key ≡ map Self.number units.now) }
+        ensures err { IfErr result IsOutOfMemory };
+}
+
+impl<V: Copy, A: Allocator, E: Keys<V, A>> Keys<V, A> for &E {
+    type Key = E::Key;
+
+    ghost units_of = { E.units_of };
+
+    fn key(&self, alloc: A, units: &[E::Unit]) -> Result<E::Key> {
+        (**self).key(alloc, units)
     }
 }
 
@@ -83,11 +120,14 @@ impl<V: Copy, E: Outputs<V>> Outputs<V> for &E {
 #[derive(Drop)]
 pub struct PatternWalk<V: Copy, E: Outputs<V>, A: Allocator = Global> {
     elements: E,
-    tree: Tree<A>,
-    // How many elements of the order were entered, and the last of them.
-    entered: usize,
-    element: usize,
-    // How many units its text has, and a buffer that begins with them.
+    groups: Siblings<A>,
+    // The elements that were put aside, the next one last, each behind the length of its text. There
+    // is room for all elements.
+    aside: Vec<(u32, u32), A>,
+    // Room for the children of one element.
+    children: Vec<(u32, u32), A>,
+    // How many units the text of the last element that was entered has, and a buffer that begins with
+    // them.
     depth: usize,
     buffer: Vec<E::Unit, A>,
     // What is left of its own outputs: those from a position until another.
@@ -97,18 +137,19 @@ pub struct PatternWalk<V: Copy, E: Outputs<V>, A: Allocator = Global> {
 }
 
 impl<V: Copy, E: Outputs<V>, A: Allocator> Model for PatternWalk<V, E, A> {
-    ghost use Rattle.std.specs.Prelude.{List, ℕ, map};
+    ghost use Rattle.std.specs.Prelude.{List, ℕ, map, take, vec_capacity};
     ghost use Rattle.daachorse_listing.specs.Listing.{IsWalking, left_of};
+    ghost use Rattle.daachorse_listing.specs.Trees.{elements_of};
 
     ghost Value = { List (List ℕ × V) };
 
     ghost view = { λ s. left_of (E.child s.elements) (E.count s.elements) (E.units s.elements)
         (E.outputs s.elements) (E.first s.elements) (E.stop s.elements)
-        s.tree.order.items s.entered s.element s.stop s.position };
+        (take s.depth (map E.number s.buffer.items)) (elements_of s.aside.items) s.stop s.position };
 
     ghost invariant = { λ s. IsWalking (E.child s.elements) (E.group s.elements) (E.edge s.elements) (E.count s.elements) (E.units s.elements)
         (E.outputs s.elements) (E.first s.elements)
-        s.tree.order.items s.tree.depths.items (map E.number s.buffer.items) s.entered s.element s.depth s.position };
+        s.groups s.aside.items (map E.number s.buffer.items) s.depth s.position (vec_capacity s.aside) (vec_capacity s.children) };
 }
 
 impl<V: Copy, E: Outputs<V> + Drop, A: Allocator + Copy> PatternWalk<V, E, A> {
@@ -122,13 +163,17 @@ impl<V: Copy, E: Outputs<V> + Drop, A: Allocator + Copy> PatternWalk<V, E, A> {
         ensures ok { IfOk result (λ walk. IsPatterns (E.child elements) (E.count elements) (E.units elements) (E.outputs elements) (E.first elements) (E.stop elements) walk) }
         ensures err { IfErr result IsOutOfMemory }
     {
-        let tree = Tree::new(alloc, &elements)?;
-        let buffer = vec![in alloc; elements.unit(0); elements.num_elements()]?;
+        let groups = Siblings::new(alloc, &elements)?;
+        let count = elements.num_elements();
+        let mut aside = Vec::with_capacity(alloc, count)?;
+        aside.push_reserved((0, 0));
+        let children = Vec::with_capacity(alloc, count)?;
+        let buffer = vec![in alloc; elements.unit(0); count]?;
         Ok(PatternWalk {
             elements,
-            tree,
-            entered: 0,
-            element: 0,
+            groups,
+            aside,
+            children,
             depth: 0,
             buffer,
             position: 0,
@@ -144,44 +189,50 @@ impl<V: Copy, E: Outputs<V>, A: Allocator> PatternWalk<V, E, A> {
         ensures { self.new ≡ [] }
     {
         self.position = 0;
-        self.entered = self.tree.order.len();
+        self.aside.clear();
     }
 }
 
-impl<V: Copy, E: Outputs<V> + Drop, A: Allocator + Copy> Iterator for PatternWalk<V, E, A> {
-    ghost use Rattle.std.specs.Prelude.{map};
+impl<V: Copy, E: Keys<V, A> + Drop, A: Allocator + Copy> Iterator for PatternWalk<V, E, A> {
     ghost use Rattle.std.specs.Iterator.{item_count};
     ghost use Rattle.daachorse_listing.specs.Listing.{GivesPattern};
 
-    type Item = Result<(Vec<E::Unit, A>, V)>;
+    type Item = Result<(E::Key, V)>;
 
-    ghost next_gives = { GivesPattern (λ key. map E.number key.items) };
+    ghost next_gives = { GivesPattern E.units_of };
 
     ghost remaining = { item_count (λ left. left) };
 
-    fn next(&mut self) -> Option<Result<(Vec<E::Unit, A>, V)>> {
+    fn next(&mut self) -> Option<Result<(E::Key, V)>> {
         while self.position == self.stop || self.position == 0 {
-            if self.entered == self.tree.order.len() {
+            let Some((depth, next)) = self.aside.pop() else {
                 return None;
-            }
-            let element = self.tree.order[self.entered] as usize;
-            self.entered += 1;
-            self.element = element;
-            self.depth = self.tree.depths[element] as usize;
+            };
+            let element = next as usize;
+            self.depth = depth as usize;
             write_last(&mut self.buffer, self.depth, self.elements.unit(element));
-            let (position, stop) = self.elements.own_outputs(element);
+            let (position, stop) = own_outputs(&self.elements, element);
             self.position = position;
             self.stop = stop;
+            put_aside(
+                &self.elements,
+                &self.groups,
+                element,
+                depth + 1,
+                &mut self.children,
+                &mut self.aside,
+            );
         }
         let output = self.elements.output(self.position);
-        match Vec::from_slice(*self.buffer.allocator(), &self.buffer[..self.depth]) {
+        let alloc = *self.buffer.allocator();
+        match self.elements.key(alloc, &self.buffer[..self.depth]) {
             Ok(key) => {
                 self.position = output.parent().map_or(0, NonZeroU32::get) as usize;
                 Some(Ok((key, output.value())))
             }
             Err(error) => {
                 self.end();
-                Some(Err(error.into()))
+                Some(Err(error))
             }
         }
     }
@@ -196,4 +247,18 @@ fn write_last<U: Copy, A: Allocator>(buffer: &mut Vec<U, A>, depth: usize, unit:
     if depth > 0 {
         buffer[depth - 1] = unit;
     }
+}
+
+/// The position of an element's first output, and that where its own outputs end, which is read only
+/// where there is an output.
+fn own_outputs<V: Copy, E: Outputs<V>>(elements: &E, element: usize) -> (usize, usize)
+    requires { element < E.count elements.now }
+    ensures first { result.0 ≡ E.first elements.now element }
+    ensures stop { 0 < result.0 → result.1 ≡ E.stop elements.now element }
+{
+    let first = elements.first_output(element);
+    if first == 0 {
+        return (0, 0);
+    }
+    (first, elements.own_end(element))
 }

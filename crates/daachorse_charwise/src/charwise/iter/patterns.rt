@@ -1,10 +1,5 @@
 //! The patterns of an automaton over characters, one by one.
 
-ghost use Rattle.std.specs.Prelude.{◌≡◌, length, IfOk, IfErr};
-ghost use Rattle.std.specs.Str.{chars, encode_utf8_all};
-ghost use Rattle.std.specs.String.{string_bytes};
-ghost use Rattle.daachorse_core.specs.Refusals.{IsOutOfMemory};
-
 use daachorse_charwise_states::edges::Elements;
 use daachorse_core::errors::Result;
 use daachorse_listing::patterns::PatternWalk;
@@ -21,7 +16,6 @@ use std::marker::Model;
 #[derive(Drop)]
 pub struct PatternIterator<'a, V: Copy, A: Allocator = Global> {
     pub(crate) walk: PatternWalk<V, Elements<'a, V, A>, A>,
-    pub(crate) alloc: A,
 }
 
 impl<'a, V: Copy, A: Allocator> Model for PatternIterator<'a, V, A> {
@@ -47,38 +41,6 @@ impl<'a, V: Copy, A: Allocator + Copy> Iterator for PatternIterator<'a, V, A> {
     ghost remaining = { item_count (λ left. left) };
 
     fn next(&mut self) -> Option<Result<(String<A>, V)>> {
-        match self.walk.next()? {
-            Ok((characters, value)) => match text_of(self.alloc, &characters) {
-                Ok(text) => Some(Ok((text, value))),
-                Err(error) => {
-                    self.walk.end();
-                    Some(Err(error))
-                }
-            },
-            Err(error) => Some(Err(error)),
-        }
+        self.walk.next()
     }
-}
-
-/// Makes the text of these characters.
-fn text_of<A: Allocator>(alloc: A, characters: &[char]) -> Result<String<A>>
-    ensures ok { IfOk result (λ text. chars (string_bytes text) ≡ characters.now) }
-    ensures err { IfErr result IsOutOfMemory }
-{
-    let mut text = String::with_capacity(alloc, num_bytes(characters))?;
-    for &c in characters {
-        text.push(c)?;
-    }
-    Ok(text)
-}
-
-/// How many bytes the text of these characters takes.
-fn num_bytes(characters: &[char]) -> usize
-    ensures { result ≡ length (encode_utf8_all characters.now) }
-{
-    let mut size = 0;
-    for &c in characters {
-        size += c.len_utf8();
-    }
-    size
 }

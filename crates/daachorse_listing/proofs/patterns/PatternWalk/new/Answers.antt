@@ -1,19 +1,41 @@
--- A walk starts before the first element, with nothing left of the root.
-use Rattle.std.proofs.Common.{refl, sym, ap, ◌∙◌, length, arith}
+-- A walk starts with the root put aside.
+use Rattle.std.proofs.Common.{◌≡◌, ℕ, List, [], ◌∷◌, ◌++◌, refl, sym, ap, ◌∙◌, length, map, reverse, subst, arith}
 use Rattle.std.proofs.lemmas.List.{length-map}
-use Rattle.daachorse_listing.proofs.WalkLaws.{root-reached, root-text}
+use Rattle.daachorse_machine.specs.Texts.{text_of}
+use Rattle.daachorse_listing.specs.Listing.{AreEntries, patterns_of}
+use Rattle.daachorse_listing.specs.Trees.{IsWalk, elements_of, taken_from}
+use Rattle.daachorse_listing.proofs.WalkLaws.{root-text, walk-start, walked}
 use Rattle.daachorse_listing.proofs.patterns.PatternWalk.new.Goals as goal
 
 pub invariant_of-result : goal.invariant_of-result
-invariant_of-result g c = record {
-  patterns = c.requires;
-  listed = c.in_ok-tree.ensures.ok;
-  within = omega arith;
-  reached = root-reached c.requires.tree;
-  last = λ more. refl;
-  room = length-map c.in_ok-buffer.buffer.items g.E.Outputs.number ∙ omega (arith, c.in_ok-buffer.ensures, c.num_elements.ensures.all);
-  short = c.requires.tree.some;
-  text = sym (root-text c.requires.tree);
-  deep = sym (ap length (root-text c.requires.tree));
-  inside = omega arith;
-}
+invariant_of-result g c =
+    let child = g.E.Edges.child c.args.elements in
+    let n = g.E.Edges.count c.args.elements in
+    let m = g.E.Edges.units c.args.elements in
+    let buffer = map g.E.Outputs.number c.in_ok-buffer.buffer.items in
+    let aside : c.push_reserved.new.self.items ≡ (0, 0) ∷ [] = c.push_reserved.ensures.items ∙ ap (λ l. l ++ (0, 0) ∷ []) c.in_ok-aside.ensures.items in
+    let W : List (ℕ × ℕ) → Type 0 = λ l. IsWalk child n m [] (elements_of l) in
+    let R : List (ℕ × ℕ) → Type 0 = λ l. AreEntries child n m buffer 1 (reverse l) in
+    record {
+      patterns = c.requires;
+      groups_are = c.in_ok-groups.ensures.ok;
+      each = c.in_ok-groups.ensures.size;
+      walk = λ some. ([], subst W (sym aside) (walk-start c.requires.tree));
+      entries = subst R (sym aside) (omega arith, (sym (ap length (root-text c.requires.tree)), refl), tt);
+      size = length-map c.in_ok-buffer.buffer.items g.E.Outputs.number ∙ omega (arith, c.in_ok-buffer.ensures, c.num_elements-count.ensures.all);
+      short = omega arith;
+      inside = omega arith;
+      wide = omega (arith, c.in_ok-aside.ensures.exact, c.push_reserved.ensures.capacity, c.num_elements-count.ensures.all);
+      wide_for_children = omega (arith, c.in_ok-children.ensures.exact, c.num_elements-count.ensures.all);
+    }
+
+pub returns-clause-ok : goal.returns-clause-ok
+returns-clause-ok g c =
+    let child = g.E.Edges.child c.args.elements in
+    let n = g.E.Edges.count c.args.elements in
+    let m = g.E.Edges.units c.args.elements in
+    let aside : c.push_reserved.new.self.items ≡ (0, 0) ∷ [] = c.push_reserved.ensures.items ∙ ap (λ l. l ++ (0, 0) ∷ []) c.in_ok-aside.ensures.items in (
+      taken_from child n m n (0 ∷ []),
+      walked c.requires.tree n [] (0 ∷ []) (walk-start c.requires.tree) (omega arith),
+      ap (λ l. patterns_of (text_of child m n) (g.E.Outputs.outputs c.args.elements) (g.E.Outputs.first c.args.elements) (g.E.Outputs.stop c.args.elements) (taken_from child n m n (elements_of l))) aside,
+    )

@@ -1,6 +1,8 @@
--- While nothing is left of an element, the patterns that are left are those of the elements that were not entered.
-use Rattle.std.proofs.Common.{◌≡◌, ◌-◌, length, map}
+-- While nothing is left of an element, the patterns that are left are those of the elements that are taken from here on.
+use Rattle.std.proofs.Common.{◌≡◌, length, map, take}
+use Rattle.std.specs.Prelude.{vec_capacity}
 use Rattle.daachorse_listing.specs.Listing.{IsWalking, left_of}
+use Rattle.daachorse_listing.specs.Trees.{elements_of, taken_from}
 use Rattle.daachorse_listing.proofs.patterns.PatternWalkIterator.next.Given as goal
 
 abbrev pub invariant-loop-self : goal.invariant-loop-self
@@ -9,10 +11,13 @@ invariant-loop-self g l =
     let elements = s.elements in
     record {
       walking : IsWalking (g.E.Edges.child elements) (g.E.Edges.group elements) (g.E.Edges.edge elements) (g.E.Edges.count elements) (g.E.Edges.units elements) (g.E.Outputs.outputs elements) (g.E.Outputs.first elements)
-          s.tree.order.items s.tree.depths.items (map g.E.Outputs.number s.buffer.items) s.entered s.element s.depth s.position;
+          s.groups s.aside.items (map g.E.Outputs.number s.buffer.items) s.depth s.position (vec_capacity s.aside) (vec_capacity s.children);
       left : left_of (g.E.Edges.child elements) (g.E.Edges.count elements) (g.E.Edges.units elements) (g.E.Outputs.outputs elements) (g.E.Outputs.first elements) (g.E.Outputs.stop elements)
-          s.tree.order.items s.entered s.element s.stop s.position ≡ l.fn.self;
+          (take s.depth (map g.E.Outputs.number s.buffer.items)) (elements_of s.aside.items) s.stop s.position ≡ l.fn.self;
     }
 
 abbrev pub decreases-loop-self : goal.decreases-loop-self
-decreases-loop-self g l = length l.self-inside.tree.order.items - l.self-inside.entered
+decreases-loop-self g l =
+    let s = l.self-inside in
+    let count = g.E.Edges.count s.elements in
+    length (taken_from (g.E.Edges.child s.elements) count (g.E.Edges.units s.elements) count (elements_of s.aside.items))

@@ -2,8 +2,8 @@
 use Rattle.std.proofs.Common.{◌≡◌, ℕ, length, slice_index, take, refl, sym, ap, ◌∙◌, arith, length-append}
 use Rattle.std.proofs.Math.Utf8.{encode, encodes}
 use Rattle.std.proofs.lemmas.List.{get_or_default, take_all}
-use Rattle.daachorse_charwise.proofs.TextLaws.{written_more}
-use Rattle.daachorse_charwise.proofs.charwise.iter.patterns.num_bytes.Goals as goal
+use Rattle.daachorse_charwise_states.proofs.StringLaws.{written_more}
+use Rattle.daachorse_charwise_states.proofs.strings.num_bytes.Goals as goal
 
 pub loop-c-preserved : goal.loop-c-preserved
 loop-c-preserved c =

@@ -6,8 +6,8 @@ use Rattle.std.specs.Str.{all_scalars, chars}
 use Rattle.std.specs.String.{string_bytes}
 use Rattle.std.proofs.lemmas.List.{get_or_default, take_all}
 use Rattle.std.proofs.lemmas.Str.{chars-encodes}
-use Rattle.daachorse_charwise.proofs.TextLaws.{scalars_more, written_more}
-use Rattle.daachorse_charwise.proofs.charwise.iter.patterns.text_of.Goals as goal
+use Rattle.daachorse_charwise_states.proofs.StringLaws.{scalars_more, written_more}
+use Rattle.daachorse_charwise_states.proofs.strings.text_of.Goals as goal
 
 pub loop-c-preserved : goal.loop-c-preserved
 loop-c-preserved g c =

@@ -4,7 +4,7 @@ use Rattle.std.proofs.Math.Utf8.{encodes}
 use Rattle.std.specs.Prelude.{IsTrue}
 use Rattle.std.specs.Str.{all_scalars}
 use Rattle.std.specs.String.{string_bytes}
-use Rattle.daachorse_charwise.proofs.charwise.iter.patterns.text_of.Given as goal
+use Rattle.daachorse_charwise_states.proofs.strings.text_of.Given as goal
 
 abbrev pub invariant-loop-c : goal.invariant-loop-c
 invariant-loop-c g l = record {

@@ -1,7 +1,7 @@
 -- The bytes of the characters so far are counted, at most four of each.
 use Rattle.std.proofs.Common.{◌≡◌, ◌*◌, ◌≤◌, length, take}
 use Rattle.std.proofs.Math.Utf8.{encodes}
-use Rattle.daachorse_charwise.proofs.charwise.iter.patterns.num_bytes.Given as goal
+use Rattle.daachorse_charwise_states.proofs.strings.num_bytes.Given as goal
 
 abbrev pub invariant-loop-c : goal.invariant-loop-c
 invariant-loop-c l = record {

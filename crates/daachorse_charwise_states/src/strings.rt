@@ -1,0 +1,38 @@
+//! The string of characters, as a key is given.
+//!
+//! The layers above may rely on the string having just these characters.
+
+ghost use Rattle.std.specs.Prelude.{◌≡◌, length, IfOk, IfErr};
+ghost use Rattle.std.specs.Str.{chars, encode_utf8_all};
+ghost use Rattle.std.specs.String.{string_bytes};
+ghost use Rattle.daachorse_core.specs.Refusals.{IsOutOfMemory};
+
+use daachorse_core::errors::Result;
+use std::alloc::Allocator;
+
+/// Makes the text of these characters.
+///
+/// # Errors
+///
+/// An allocation failed.
+pub(crate) fn text_of<A: Allocator>(alloc: A, characters: &[char]) -> Result<String<A>>
+    ensures ok { IfOk result (λ text. chars (string_bytes text) ≡ characters.now) }
+    ensures err { IfErr result IsOutOfMemory }
+{
+    let mut text = String::with_capacity(alloc, num_bytes(characters))?;
+    for &c in characters {
+        text.push(c)?;
+    }
+    Ok(text)
+}
+
+/// How many bytes the text of these characters takes.
+fn num_bytes(characters: &[char]) -> usize
+    ensures { result ≡ length (encode_utf8_all characters.now) }
+{
+    let mut size = 0;
+    for &c in characters {
+        size += c.len_utf8();
+    }
+    size
+}

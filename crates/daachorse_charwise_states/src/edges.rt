@@ -141,11 +141,10 @@ impl<'a, V: Copy, A: Allocator> Elements<'a, V, A> {
     }
 }
 
-/// The children of an element are a group of their own, whose number is the element's. That group is
-/// empty where there are none, so that an element's group is known without a look at the element.
+/// The children of an element are a group of their own, whose number is the element's.
 impl<'a, V: Copy, A: Allocator> Edges for Elements<'a, V, A> {
     ghost use Rattle.std.specs.Prelude.{length};
-    ghost use Rattle.daachorse_charwise_states.specs.Edges.{edge_of};
+    ghost use Rattle.daachorse_charwise_states.specs.Edges.{edge_of, group_of};
     ghost use Rattle.daachorse_charwise_states.specs.Parts.{child, count};
 
     ghost count = { λ a. count a.parts };
@@ -154,7 +153,7 @@ impl<'a, V: Copy, A: Allocator> Edges for Elements<'a, V, A> {
 
     ghost child = { λ a. child a.parts };
 
-    ghost group = { λ a i. Some i };
+    ghost group = { group_of };
 
     ghost edge = { edge_of };
 
@@ -163,6 +162,7 @@ impl<'a, V: Copy, A: Allocator> Edges for Elements<'a, V, A> {
     }
 
     fn group(&self, element: usize) -> Option<usize> {
+        self.base_at(element)?;
         Some(element)
     }
 

@@ -1,1 +1,3 @@
+pub mod CodedTexts
 pub mod RisingLaws
+pub mod EverywhereLemmas

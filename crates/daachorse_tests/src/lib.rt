@@ -8,6 +8,8 @@
 #[cfg(test)]
 mod accelerated;
 #[cfg(test)]
+mod accelerated_text;
+#[cfg(test)]
 mod automata;
 #[cfg(test)]
 mod bytewise;
@@ -18,9 +20,19 @@ mod charwise;
 #[cfg(test)]
 mod command;
 #[cfg(test)]
+mod corpus;
+#[cfg(test)]
+mod cuts;
+#[cfg(test)]
+mod depths;
+#[cfg(test)]
+mod drops;
+#[cfg(test)]
 mod edge_map;
 #[cfg(test)]
 mod finding;
+#[cfg(test)]
+mod firsts;
 #[cfg(test)]
 mod listing;
 #[cfg(test)]
@@ -34,9 +46,9 @@ mod requests;
 #[cfg(test)]
 mod rows;
 #[cfg(test)]
-mod searches;
-#[cfg(test)]
 mod steppers;
+#[cfg(test)]
+mod texts;
 #[cfg(test)]
 mod tokens;
 #[cfg(test)]

@@ -4,7 +4,6 @@
 ghost use Rattle.std.specs.Prelude.{◌≡◌, IfOk};
 ghost use Rattle.daachorse_model.specs.declared.MatchKind.TheVariants.{Standard};
 
-use crate::expect;
 use daachorse::MatchKind;
 pub use daachorse::build_helper::{BuildHelper, ListItem, Profile, SiblingGroup, VacantIter};
 use daachorse::bytewise::states::{Automaton, Look, States, Turns};
@@ -109,23 +108,14 @@ fn states_of(alloc: Global, patvals: &[(&[u8], u32)]) -> Result<States<u32>>
     States::build(alloc, MatchKind::Standard, nfa, &Profile::new(alloc))
 }
 
-/// Whether a leads from the root to a state, and b back to it.
-fn are_looks(states: &States<u32>) -> bool
-    requires { states.now.kind ≡ Standard }
-{
-    let mut turns = Turns::new();
-    let (look, position) = look_at_root(&states.standard(), b'a', &mut turns);
-    let (back, _position) = look_at_root(&states.standard(), b'b', &mut turns);
-    let is_away = match look {
-        Look::Next(state, _) => state != daachorse::ROOT_STATE_IDX,
-        _ => false,
-    };
-    is_away && position.is_some() && back == Look::Next(daachorse::ROOT_STATE_IDX, position)
-}
-
 #[test]
 fn a_state_is_looked_at_by_public_paths(rt: HostRuntime) -> Result<(), Fail> {
     let states = states_of(rt.alloc(), &[(b"a", 7), (b"", 8)])?;
-    expect(&rt, are_looks(&states), "the looks");
+    let mut turns = Turns::new();
+    let (look, position) = look_at_root(&states.standard(), b'a', &mut turns);
+    assert!(rt; matches!(look, Look::Next(state, _) if state != daachorse::ROOT_STATE_IDX));
+    assert!(rt; position.is_some());
+    let (look, position) = look_at_root(&states.standard(), b'b', &mut turns);
+    assert_eq!(rt; look, Look::Next(daachorse::ROOT_STATE_IDX, position));
     Ok(())
 }

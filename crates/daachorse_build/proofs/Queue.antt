@@ -1,4 +1,4 @@
--- The queue of a breadth-first walk, from step to step.
+-- The queue of a breadth-first traversal, from step to step.
 use Rattle.std.proofs.Common.{◌≡◌, ◌≢◌, ℕ, zero, suc, ◌+◌, ◌<◌, ◌≤◌, ◌⊎◌, Bool, true, false, cond, eqb, List, [], ◌∷◌, ◌++◌, length, get_or, take, set, replicate, Some, refl, sym, ap, ◌∙◌, subst, inl, inr, arith, append_assoc, get_or-set_same, get_or-set_other}
 use Rattle.std.proofs.lemmas.Option.{none-some, same_Some}
 use Rattle.std.proofs.lemmas.List.{append-nil, take-append-le, get_or_append_left, get_or_push, length_push, length-set, length-replicate, get_or-replicate, take_more, take_all, length-take-le, get_or-take, take_at, flat_map_more, get_or_default}
@@ -19,7 +19,7 @@ use Rattle.std.specs.Map.{keys_of, values_of}
 use Rattle.daachorse_build.specs.Left.{IsLeftFailOf}
 use Rattle.daachorse_build.specs.Tables.{child_in, IsTable}
 use Rattle.daachorse_build.proofs.LeftLinks.{fail_of_left, left_of_fail, alive}
-use Rattle.daachorse_build.specs.Orders.{IsIn, IsKnown, children, IsBreadthFirst, LeftLinksComeFirst, StandOnce, IsLinked, IsLeftLinked, AllLeftLinked, IsLinkAmong, IsSearch}
+use Rattle.daachorse_build.specs.Orders.{IsIn, IsKnown, children, IsBreadthFirst, LeftLinksComeFirst, StandOnce, IsLinked, IsLeftLinked, AllLeftLinked, IsLinkAmong, IsTraversal}
 
 -- ---- elements
 pub in_left : (xs ys : List ℕ) (t : ℕ) → IsIn xs t → IsIn (xs ++ ys) t
@@ -288,11 +288,11 @@ module _ {L : Type 0} (cmp : L → L → Ordering) (total : IsTotalOrder cmp) (e
   pub all_in_order : (order : List ℕ) → IsBreadthFirst edges order → (t : ℕ) → 1 < t → t < length edges → IsIn order t
   all_in_order order first t low high = complete_by order first t t (omega arith) low high
 
-  -- ---- the walk, where the states that stops names stop
+  -- ---- the traversal, where the states that stops names stop
   module _ (stops : ℕ → Bool) where
     -- nothing is in the queue
-    pub search_start : (n : ℕ) → n ≡ length edges → IsSearch cmp stops edges [] (replicate n 0) [] 0 []
-    search_start n e = record {
+    pub traversal_start : (n : ℕ) → n ≡ length edges → IsTraversal cmp stops edges [] (replicate n 0) [] 0 []
+    traversal_start n e = record {
       queue = refl;
       within = omega arith;
       states = λ t h. absurd h;
@@ -304,19 +304,19 @@ module _ {L : Type 0} (cmp : L → L → Ordering) (total : IsTotalOrder cmp) (e
     }
 
     -- the state that is left next is known, and so is its link
-    pub link_is_known : (fails order pending : List ℕ) (next : ℕ) → IsSearch cmp stops edges (children edges 0) fails order next pending → next < length order → IsLinkAmong (take next order) (get_or fails (get_or order next 0) 0)
-    link_is_known fails order pending next search l = search.earlier next l
+    pub link_is_known : (fails order pending : List ℕ) (next : ℕ) → IsTraversal cmp stops edges (children edges 0) fails order next pending → next < length order → IsLinkAmong (take next order) (get_or fails (get_or order next 0) 0)
+    link_is_known fails order pending next traversal l = traversal.earlier next l
 
     -- the link of a known state is known
-    pub known_link : (fails order pending : List ℕ) (next t : ℕ) → IsSearch cmp stops edges (children edges 0) fails order next pending → IsIn (take next order) t → IsLinkAmong (take next order) (get_or fails t 0)
-    known_link fails order pending next t search h = link_among fails order next t search.within search.earlier h
+    pub known_link : (fails order pending : List ℕ) (next t : ℕ) → IsTraversal cmp stops edges (children edges 0) fails order next pending → IsIn (take next order) t → IsLinkAmong (take next order) (get_or fails t 0)
+    known_link fails order pending next t traversal h = link_among fails order next t traversal.within traversal.earlier h
 
     -- a child of the state that is left, which comes after the children pending, is new
-    pub child_is_new : (fails order : List ℕ) (next k : ℕ) (c : L) (t : ℕ) → (s : ℕ) → IsSearch cmp stops edges (children edges 0) fails order next (take k (children edges s)) → next < length order → get_or order next 0 ≡ s → slice_get (get_or edges s []) k ≡ Some (c, t) → IsIn order t → ⊥
-    child_is_new fails order next k c t s search l is at h =
+    pub child_is_new : (fails order : List ℕ) (next k : ℕ) (c : L) (t : ℕ) → (s : ℕ) → IsTraversal cmp stops edges (children edges 0) fails order next (take k (children edges s)) → next < length order → get_or order next 0 ≡ s → slice_get (get_or edges s []) k ≡ Some (c, t) → IsIn order t → ⊥
+    child_is_new fails order next k c t s traversal l is at h =
         let here = child_at_place s k c t at in
-        let low : 1 < s = omega (arith, search.states (get_or order next 0) (in_at order next l), is) in
-        elim (in_cases (children edges 0 ++ flat_map (children edges) (take next order)) (take k (children edges s)) t (in_same _ _ t search.queue h)) [
+        let low : 1 < s = omega (arith, traversal.states (get_or order next 0) (in_at order next l), is) in
+        elim (in_cases (children edges 0 ++ flat_map (children edges) (take next order)) (take k (children edges s)) t (in_same _ _ t traversal.queue h)) [
           | inl before ↦
               elim (in_cases (children edges 0) (flat_map (children edges) (take next order)) t before) [
                 | inl first ↦
@@ -327,7 +327,7 @@ module _ {L : Type 0} (cmp : L → L → Ordering) (total : IsTotalOrder cmp) (e
                     let p = in_flat_map (children edges) (take next order) t later in
                     let r = child_of_listed p.0 t p.2 in
                     let one = table.trie.one_parent p.0 r.0 s c t r.1 here in
-                    search.once next l (in_equal _ _ _ (one.0 ∙ sym is) p.1)
+                    traversal.once next l (in_equal _ _ _ (one.0 ∙ sym is) p.1)
               ]
           | inr pending ↦
               let v = value_at (get_or edges s []) k c t at in
@@ -395,83 +395,83 @@ module _ {L : Type 0} (cmp : L → L → Ordering) (total : IsTotalOrder cmp) (e
         get_or-set_other fails t 0 r 0 ne ∙ root
 
     -- one child more
-    pub search_push : (fails order : List ℕ) (next k : ℕ) (c : L) (t s r : ℕ) → IsSearch cmp stops edges (children edges 0) fails order next (take k (children edges s)) → next < length order → get_or order next 0 ≡ s → slice_get (get_or edges s []) k ≡ Some (c, t) → IsLeftFailOf (child_in cmp edges) stops t r → ComesFrom (take next order) c r → IsSearch cmp stops edges (children edges 0) (set fails t r) (order ++ t ∷ []) next (take (k + 1) (children edges s))
-    search_push fails order next k c t s r search l is at link from =
+    pub traversal_push : (fails order : List ℕ) (next k : ℕ) (c : L) (t s r : ℕ) → IsTraversal cmp stops edges (children edges 0) fails order next (take k (children edges s)) → next < length order → get_or order next 0 ≡ s → slice_get (get_or edges s []) k ≡ Some (c, t) → IsLeftFailOf (child_in cmp edges) stops t r → ComesFrom (take next order) c r → IsTraversal cmp stops edges (children edges 0) (set fails t r) (order ++ t ∷ []) next (take (k + 1) (children edges s))
+    traversal_push fails order next k c t s r traversal l is at link from =
         let here = child_at_place s k c t at in
         let b = table.trie.bounds s c t here in
         let v = value_at (get_or edges s []) k c t at in
-        let low : 1 < s = omega (arith, search.states (get_or order next 0) (in_at order next l), is) in
-        let fresh : IsIn order t → ⊥ = child_is_new fails order next k c t s search l is at in
-        let in' : t < length fails = omega (arith, b.3, search.one_each) in
+        let low : 1 < s = omega (arith, traversal.states (get_or order next 0) (in_at order next l), is) in
+        let fresh : IsIn order t → ⊥ = child_is_new fails order next k c t s traversal l is at in
+        let in' : t < length fails = omega (arith, b.3, traversal.one_each) in
         let front : take next (order ++ t ∷ []) ≡ take next order = take-append-le next order (t ∷ []) (omega arith) in
         record {
           queue =
-              ap (λ xs. xs ++ t ∷ []) search.queue
+              ap (λ xs. xs ++ t ∷ []) traversal.queue
               ∙ append_assoc (children edges 0 ++ flat_map (children edges) (take next order)) (take k (children edges s)) (t ∷ [])
               ∙ ap (λ xs. (children edges 0 ++ flat_map (children edges) (take next order)) ++ xs) (ap (λ u. take k (children edges s) ++ u ∷ []) (sym v.1) ∙ sym (take_more (children edges s) k 0 v.0))
               ∙ ap (λ xs. (children edges 0 ++ flat_map (children edges) xs) ++ take (k + 1) (children edges s)) (sym front);
           within = omega (arith, length_push order t);
-          states = states_push order t search.states (b.2, b.3);
-          one_each = length-set fails t r ∙ search.one_each;
-          root = root_push fails t r b.2 search.root;
-          linked = linked_push fails order t r in' search.linked fresh link;
-          earlier = earlier_push fails order t r in' search.earlier fresh (among_reached order _ next c r search.queue from);
-          once = once_push order t search.once fresh;
+          states = states_push order t traversal.states (b.2, b.3);
+          one_each = length-set fails t r ∙ traversal.one_each;
+          root = root_push fails t r b.2 traversal.root;
+          linked = linked_push fails order t r in' traversal.linked fresh link;
+          earlier = earlier_push fails order t r in' traversal.earlier fresh (among_reached order _ next c r traversal.queue from);
+          once = once_push order t traversal.once fresh;
         }
 
     -- on to the state after the one that is left
-    pub search_next : (fails order : List ℕ) (next s : ℕ) → IsSearch cmp stops edges (children edges 0) fails order next (children edges s) → next < length order → get_or order next 0 ≡ s → IsSearch cmp stops edges (children edges 0) fails order (next + 1) []
-    search_next fails order next s search l is =
+    pub traversal_next : (fails order : List ℕ) (next s : ℕ) → IsTraversal cmp stops edges (children edges 0) fails order next (children edges s) → next < length order → get_or order next 0 ≡ s → IsTraversal cmp stops edges (children edges 0) fails order (next + 1) []
+    traversal_next fails order next s traversal l is =
         let more : take (next + 1) order ≡ take next order ++ s ∷ [] = take_more order next 0 l ∙ ap (λ u. take next order ++ u ∷ []) is in
         record {
           queue =
-              search.queue
+              traversal.queue
               ∙ flat_map_more (children edges) (children edges 0) (take next order) s
               ∙ ap (λ xs. children edges 0 ++ flat_map (children edges) xs) (sym more)
               ∙ sym (append-nil (children edges 0 ++ flat_map (children edges) (take (next + 1) order)));
           within = omega arith;
-          states = search.states;
-          one_each = search.one_each;
-          root = search.root;
-          linked = search.linked;
-          earlier = search.earlier;
-          once = search.once;
+          states = traversal.states;
+          one_each = traversal.one_each;
+          root = traversal.root;
+          linked = traversal.linked;
+          earlier = traversal.earlier;
+          once = traversal.once;
         }
 
     -- where each state has been left, the order is breadth-first
-    pub search_end : (fails order : List ℕ) (next : ℕ) → IsSearch cmp stops edges (children edges 0) fails order next [] → length order ≤ next → IsBreadthFirst edges order
-    search_end fails order next search l =
-        search.queue ∙ append-nil _ ∙ ap (λ xs. children edges 0 ++ flat_map (children edges) xs) (take_all next order l)
+    pub traversal_end : (fails order : List ℕ) (next : ℕ) → IsTraversal cmp stops edges (children edges 0) fails order next [] → length order ≤ next → IsBreadthFirst edges order
+    traversal_end fails order next traversal l =
+        traversal.queue ∙ append-nil _ ∙ ap (λ xs. children edges 0 ++ flat_map (children edges) xs) (take_all next order l)
 
     -- no more states stand in the queue than there are
-    pub length-order : (fails order pending : List ℕ) (next : ℕ) → IsSearch cmp stops edges (children edges 0) fails order next pending → length order ≤ length edges
-    length-order fails order pending next search =
-        length-once order (length edges) search.once (λ q h. (search.states q h).1)
+    pub length-order : (fails order pending : List ℕ) (next : ℕ) → IsTraversal cmp stops edges (children edges 0) fails order next pending → length order ≤ length edges
+    length-order fails order pending next traversal =
+        length-once order (length edges) traversal.once (λ q h. (traversal.states q h).1)
 
     -- a known state is one
-    pub known_bounds : (fails order pending : List ℕ) (next t : ℕ) → IsSearch cmp stops edges (children edges 0) fails order next pending → IsKnown (take next order) t → t < length edges
-    known_bounds fails order pending next t search (inl e) = omega (arith, table.trie.two, e)
-    known_bounds fails order pending next t search (inr known) = omega (arith, (search.states t (in_take next order t known)).1)
+    pub known_bounds : (fails order pending : List ℕ) (next t : ℕ) → IsTraversal cmp stops edges (children edges 0) fails order next pending → IsKnown (take next order) t → t < length edges
+    known_bounds fails order pending next t traversal (inl e) = omega (arith, table.trie.two, e)
+    known_bounds fails order pending next t traversal (inr known) = omega (arith, (traversal.states t (in_take next order t known)).1)
 
     -- a child of the root more
-    pub search_first : (fails order : List ℕ) (k : ℕ) (c : L) (t r : ℕ) → IsSearch cmp stops edges (take k (children edges 0)) fails order 0 [] → slice_get (get_or edges 0 []) k ≡ Some (c, t) → IsLeftFailOf (child_in cmp edges) stops t r → IsLinkAmong order r → IsSearch cmp stops edges (take (k + 1) (children edges 0)) (set fails t r) (order ++ t ∷ []) 0 []
-    search_first fails order k c t r search at link among =
+    pub traversal_first : (fails order : List ℕ) (k : ℕ) (c : L) (t r : ℕ) → IsTraversal cmp stops edges (take k (children edges 0)) fails order 0 [] → slice_get (get_or edges 0 []) k ≡ Some (c, t) → IsLeftFailOf (child_in cmp edges) stops t r → IsLinkAmong order r → IsTraversal cmp stops edges (take (k + 1) (children edges 0)) (set fails t r) (order ++ t ∷ []) 0 []
+    traversal_first fails order k c t r traversal at link among =
         let here = child_at_place 0 k c t at in
         let b = table.trie.bounds 0 c t here in
         let v = value_at (get_or edges 0 []) k c t at in
-        let queue : order ≡ take k (children edges 0) = search.queue ∙ append-nil _ ∙ append-nil _ in
+        let queue : order ≡ take k (children edges 0) = traversal.queue ∙ append-nil _ ∙ append-nil _ in
         let fresh : IsIn order t → ⊥ = λ h. children_once 0 k v.0 (in_equal _ _ _ (sym v.1) (in_same _ _ t queue h)) in
-        let in' : t < length fails = omega (arith, b.3, search.one_each) in
+        let in' : t < length fails = omega (arith, b.3, traversal.one_each) in
         let more : order ++ t ∷ [] ≡ take (k + 1) (children edges 0) = ap (λ xs. xs ++ t ∷ []) queue ∙ ap (λ u. take k (children edges 0) ++ u ∷ []) (sym v.1) ∙ sym (take_more (children edges 0) k 0 v.0) in
         record {
           queue = more ∙ sym (append-nil _) ∙ sym (append-nil _);
           within = omega arith;
-          states = states_push order t search.states (b.2, b.3);
-          one_each = length-set fails t r ∙ search.one_each;
-          root = root_push fails t r b.2 search.root;
-          linked = linked_push fails order t r in' search.linked fresh link;
-          earlier = earlier_push fails order t r in' search.earlier fresh among;
-          once = once_push order t search.once fresh;
+          states = states_push order t traversal.states (b.2, b.3);
+          one_each = length-set fails t r ∙ traversal.one_each;
+          root = root_push fails t r b.2 traversal.root;
+          linked = linked_push fails order t r in' traversal.linked fresh link;
+          earlier = earlier_push fails order t r in' traversal.earlier fresh among;
+          once = once_push order t traversal.once fresh;
         }
 
   -- where no state stops, the links are the standard ones

@@ -3,7 +3,7 @@ pub mod Trie
 pub mod Left
 pub mod Tables
 pub mod Orders
-pub mod Searches
+pub mod Traversals
 pub mod Growth
 pub mod Holds
 pub mod Lists

@@ -9,36 +9,35 @@
 //! goes on at the position of the link; `profile_haystack` ends for every document, and no count
 //! falls; and `sibling_groups` has each state with edges once, with its children.
 
-ghost use Rattle.std.specs.Prelude.{◌≡◌, ◌≢◌, ◌⊎◌, Bool, true, false, Some, ℕ, ◌+◌, ◌<◌, ◌≤◌, ◌++◌, ◌∷◌, [], List, None, length, map, take, slice_index, vec_len, IfOk, IfErr, OnOk, OnErr};
+ghost use Rattle.std.specs.Prelude.{◌≡◌, ◌≢◌, ◌⊎◌, true, false, Some, ℕ, ◌+◌, ◌<◌, ◌≤◌, ◌++◌, ◌∷◌, [], List, length, map, slice_index, IfOk, IfErr, OnOk};
 ghost use Rattle.daachorse_model.specs.Units.{size};
 ghost use Rattle.daachorse_model.specs.Dictionary.{dictionary, kept};
 ghost use Rattle.daachorse_model.specs.Paths.{Leads};
 ghost use Rattle.daachorse_model.specs.Outputs.{outputs_of_ends, IsChain};
 ghost use Rattle.daachorse_model.specs.Prefixes.{IsDead};
 ghost use Rattle.daachorse_core.specs.Outputs.{ParentsFall, outputs_at, number};
-ghost use Rattle.daachorse_core.specs.Chains.{Passes};
 ghost use Rattle.daachorse_core.specs.declared.errors.Limit.TheVariants.{Outputs, StateId};
-ghost use Rattle.daachorse_core.specs.declared.errors.DaachorseError.TheVariants.{InvalidArgument};
-ghost use Rattle.daachorse_core.specs.declared.outputs.Output.{Output as OutputOf};
-ghost use Rattle.daachorse_build.specs.Tables.{edges_of, fails_of, positions_of, own_of, own_at, output_count, child_of, stops_of, HoldTrie, edge_map, held_by, link_of, position_of};
-ghost use Rattle.daachorse_build.specs.Orders.{IsIn, IsKnown, IsLinkAmong, HoldLinks, HoldLeftLinks};
-ghost use Rattle.daachorse_build.specs.Left.{IsLeftFailOf, LinksLeft, meets_early};
-ghost use Rattle.daachorse_build.specs.Searches.{Searches, LeadsTo, ComesFrom};
-ghost use Rattle.daachorse_build.specs.Growth.{Extends, IsAdded, HasTrieOf, Overflows};
+ghost use Rattle.daachorse_build.specs.Tables.{edges_of, fails_of, positions_of, own_of, output_count, child_of, stops_of, HoldTrie, edge_map, held_by, link_of, position_of};
+ghost use Rattle.daachorse_build.specs.Orders.{IsIn, HoldLinks, HoldLeftLinks};
+ghost use Rattle.daachorse_build.specs.Left.{LinksLeft};
+ghost use Rattle.daachorse_build.specs.Growth.{HasTrieOf};
 ghost use Rattle.daachorse_build.specs.Holds.{in_units, HasMorePrefixes};
-ghost use Rattle.daachorse_build.specs.Lists.{PositionsFit, AreListed, AreChained, IsChainedAt, IsParent};
+ghost use Rattle.daachorse_build.specs.Lists.{IsChainedAt};
 ghost use Rattle.daachorse_build.specs.Counts.{HasCounts, HasSameCounts, IsCounted, LinksLeadBack};
 ghost use Rattle.daachorse_build.specs.Groups.{GivesCodes, AreCodes, AreTrieGroups, AreWeighed, AreFalling, AreLight, IsProfileOf};
 ghost use Rattle.daachorse_placement.specs.Placement.{AreGroups};
 ghost use Rattle.daachorse_build.specs.Builders.{states_of, outputs_of, count_of, kind_of, Registered};
 ghost use Rattle.daachorse_core.specs.Refusals.{IsRefusal, IsOutOfMemory};
 
+mod adding;
+mod links;
+mod outputs;
 mod profile;
 mod siblings;
 
 use crate::edge_map::EdgeMap;
 pub use daachorse_core::edge_label::EdgeLabel;
-use daachorse_core::errors::{DaachorseError, Limit, OutOfMemoryError, Result};
+use daachorse_core::errors::{DaachorseError, OutOfMemoryError, Result};
 use daachorse_core::{MatchKind, Output};
 use daachorse_placement::build_helper::{Profile, SiblingGroup};
 use std::alloc::{Allocator, Global};
@@ -226,15 +225,15 @@ impl<L: EdgeLabel, V: Copy, A: Allocator + Copy> NfaBuilder<L, V, A> {
         ensures fits { OnOk result (length (states_of self.old) ≤ 4294967296 → length (states_of self.new) ≤ 4294967296) }
         ensures refused { IfErr result (IsRefusal (4294967295 < size L.width (map L.unit pattern.now)) StateId ((size L.width (map L.unit pattern.now) ≤ 4294967295) × ((rs : List (List L × V)) → Registered L.cmp L.unit L.width self.old rs → HasMorePrefixes (dictionary (kind_of self.old) (in_units L.unit (rs ++ (pattern.now, value) ∷ []))) 4294967295))) }
     {
-        let size = pattern_size(pattern)?;
-        if self.kind.is_leftmost_first() && extends_key(&self.states, pattern) {
+        let size = adding::pattern_size(pattern)?;
+        if self.kind.is_leftmost_first() && adding::extends_key(&self.states, pattern) {
             return Ok(());
         }
         // No growth is refused here, and none will be: to add 2^64 patterns takes centuries.
         let Some(len) = self.len.checked_add(1) else {
             return Err(DaachorseError::OutOfMemory(OutOfMemoryError));
         };
-        add_pattern(&mut self.states, pattern, value, size)?;
+        adding::add_pattern(&mut self.states, pattern, value, size)?;
         self.len = len;
         Ok(())
     }
@@ -292,13 +291,7 @@ impl<L: EdgeLabel, V: Copy, A: Allocator + Copy> NfaBuilder<L, V, A> {
         ensures states { IfOk result (λ order. (t : ℕ) → IsIn order.items t → (1 < t) × (t < length (states_of self.new))) }
         ensures refused { IfErr result IsOutOfMemory }
     {
-        let mut search = Search::new(alloc, &self.states, leftmost)?;
-        while search.next < search.order.len() {
-            search.expand(&self.states)?;
-        }
-        set_links(&mut self.states, &search.links);
-        let Search { order, .. } = search;
-        Ok(order)
+        links::link_states(alloc, &mut self.states, leftmost)
     }
 
     /// Makes the lists of outputs: that of the root is its own outputs, and that of each other
@@ -332,7 +325,7 @@ impl<L: EdgeLabel, V: Copy, A: Allocator + Copy> NfaBuilder<L, V, A> {
         ensures refused { IfErr result (IsRefusal ⊥ Outputs ((rs : List (List L × V)) → Registered L.cmp L.unit L.width self.old rs → 4294967295 < length (kept (kind_of self.old) (in_units L.unit rs)))) }
     {
         self.outputs.clear();
-        put_lists(&mut self.states, &mut self.outputs, order)
+        outputs::put_lists(&mut self.states, &mut self.outputs, order)
     }
 
     /// Counts into the profile what a search over a document reads. The search begins at the root
@@ -420,22 +413,6 @@ impl<L: EdgeLabel, V: Copy, A: Allocator + Copy> NfaBuilder<L, V, A> {
     }
 }
 
-/// How many bytes a pattern takes.
-fn pattern_size<L: EdgeLabel>(pattern: &[L]) -> Result<u32>
-    ensures size { IfOk result (λ n. n ≡ size L.width (map L.unit pattern.now)) }
-    ensures refused { IfErr result (λ e. (e ≡ InvalidArgument (record {})) × (4294967295 < size L.width (map L.unit pattern.now))) }
-{
-    let mut size = 0;
-    for label in pattern {
-        label.in_range();
-        size += label.num_bytes();
-        if size > u32::MAX as usize {
-            return Err(DaachorseError::invalid_argument());
-        }
-    }
-    Ok(size as u32)
-}
-
 /// The child of a state by a label.
 fn child<L: EdgeLabel, V: Copy, A: Allocator>(
     states: &[NfaBuilderState<L, V, A>],
@@ -448,76 +425,6 @@ fn child<L: EdgeLabel, V: Copy, A: Allocator>(
     states[id as usize].edges.get(&label).copied()
 }
 
-/// The child of a state by a label, which is made where there is none.
-fn child_or_new<L: EdgeLabel, V: Copy, A: Allocator + Copy>(
-    states: &mut Vec<NfaBuilderState<L, V, A>, A>,
-    id: u32,
-    label: L,
-) -> Result<u32>
-    requires trie { HoldTrie L.cmp states.old.items }
-    requires in_range { id < vec_len states.old }
-    requires alive { id ≢ 1 }
-    ensures ok { IfOk result (λ t. Extends L.cmp states.old.items states.new.items id label t) }
-    ensures kept { OnErr result (edges_of states.new.items ≡ edges_of states.old.items) }
-    ensures fits { OnOk result (vec_len states.old ≤ 4294967296 → vec_len states.new ≤ 4294967296) }
-    ensures refused { IfErr result (IsRefusal ⊥ StateId ((4294967295 < vec_len states.old) × (child_of L.cmp states.old.items id label ≡ None))) }
-{
-    if let Some(found) = child(states, id, label) {
-        return Ok(found);
-    }
-    let Ok(fresh) = u32::try_from(states.len()) else {
-        return Err(DaachorseError::automaton_scale(Limit::StateId));
-    };
-    let alloc = *states.allocator();
-    // The child comes with its edge, or neither does.
-    states.reserve(1)?;
-    states[id as usize].edges.insert(alloc, label, fresh)?;
-    states.push(NfaBuilderState::new(alloc))?;
-    Ok(fresh)
-}
-
-/// Whether a key, shorter than the pattern, begins it.
-fn extends_key<L: EdgeLabel, V: Copy, A: Allocator>(
-    states: &[NfaBuilderState<L, V, A>],
-    pattern: &[L],
-) -> bool
-    requires { HoldTrie L.cmp states.now }
-    ensures { result ≡ meets_early (child_of L.cmp states.now) (stops_of true states.now) 0 pattern.now }
-{
-    let mut id = ROOT_STATE_ID;
-    for label in pattern {
-        if stops(states, true, id) {
-            return true;
-        }
-        let Some(next) = child(states, id, *label) else {
-            return false;
-        };
-        id = next;
-    }
-    false
-}
-
-/// Adds a pattern of `size` bytes with its value.
-fn add_pattern<L: EdgeLabel, V: Copy, A: Allocator + Copy>(
-    states: &mut Vec<NfaBuilderState<L, V, A>, A>,
-    pattern: &[L],
-    value: V,
-    size: u32,
-) -> Result<()>
-    requires { HoldTrie L.cmp states.old.items }
-    ensures ok { OnOk result (IsAdded L.cmp states.old.items states.new.items pattern.now (value, size)) }
-    ensures trie { HoldTrie L.cmp states.new.items }
-    ensures fits { OnOk result (vec_len states.old ≤ 4294967296 → vec_len states.new ≤ 4294967296) }
-    ensures refused { IfErr result (IsRefusal ⊥ StateId (Overflows L.cmp states.old.items pattern.now 4294967295)) }
-{
-    let mut id = ROOT_STATE_ID;
-    for label in pattern {
-        id = child_or_new(states, id, *label)?;
-    }
-    states[id as usize].output.push((value, size))?;
-    Ok(())
-}
-
 /// Whether links end at a state: at each with an own output, if matches are leftmost.
 fn stops<L: EdgeLabel, V: Copy, A: Allocator>(
     states: &[NfaBuilderState<L, V, A>],
@@ -528,251 +435,4 @@ fn stops<L: EdgeLabel, V: Copy, A: Allocator>(
     ensures { result ≡ stops_of leftmost states.now id }
 {
     leftmost && !states[id as usize].output.is_empty()
-}
-
-/// The link of a child of the root.
-fn first_link<L: EdgeLabel, V: Copy, A: Allocator>(
-    states: &[NfaBuilderState<L, V, A>],
-    leftmost: bool,
-    child: u32,
-) -> u32
-    requires table { HoldTrie L.cmp states.now }
-    requires edge { (c : L) × (child_of L.cmp states.now 0 c ≡ Some child) }
-    ensures link { IsLeftFailOf (child_of L.cmp states.now) (stops_of leftmost states.now) child result }
-    ensures among { IsLinkAmong [] result }
-{
-    if stops(states, leftmost, ROOT_STATE_ID) || stops(states, leftmost, child) {
-        return DEAD_STATE_ID;
-    }
-    ROOT_STATE_ID
-}
-
-/// A breadth-first walk over a trie, with the links found so far.
-#[derive(Drop)]
-struct Search<A: Allocator> {
-    // The failure link of each state that was found, and 0 for the others.
-    links: Vec<u32, A>,
-    order: Vec<u32, A>,
-    next: usize,
-    // Whether a state with an own output ends the links.
-    leftmost: bool,
-}
-
-impl<A: Allocator + Copy> Search<A> {
-    /// The walk that has left the root.
-    fn new<L: EdgeLabel, V: Copy>(
-        alloc: A,
-        states: &[NfaBuilderState<L, V, A>],
-        leftmost: bool,
-    ) -> Result<Self>
-        requires { HoldTrie L.cmp states.now }
-        ensures search { IfOk result (λ search. Searches L.cmp states.now search []) }
-        ensures kind { IfOk result (λ search. search.leftmost ≡ leftmost) }
-        ensures refused { IfErr result IsOutOfMemory }
-    {
-        let mut links = vec![in alloc; 0; states.len()]?;
-        let root = ROOT_STATE_ID as usize;
-        let mut order = Vec::with_capacity(alloc, states.len())?;
-        for (_, child) in states[root].edges.iter() {
-            links[*child as usize] = first_link(states, leftmost, *child);
-            order.push(*child)?;
-        }
-        Ok(Self {
-            links,
-            order,
-            next: 0,
-            leftmost,
-        })
-    }
-}
-
-impl<A: Allocator> Search<A> {
-    /// The state that `label` leads to from `start` or the first of the links after it with such
-    /// an edge: the root where none has one, and the dead state behind a dead link.
-    fn follow<L: EdgeLabel, V: Copy>(
-        &self,
-        states: &[NfaBuilderState<L, V, A>],
-        start: u32,
-        label: L,
-    ) -> u32
-        requires table { HoldTrie L.cmp states.now }
-        requires search { (pending : List ℕ) × Searches L.cmp states.now self.now pending }
-        requires known { IsKnown (take self.now.next self.now.order.items) start }
-        requires goes { stops_of self.now.leftmost states.now 0 ≡ false }
-        ensures link { LeadsTo L.cmp (stops_of self.now.leftmost states.now) (edges_of states.now) start label result }
-        ensures from { ComesFrom L.cmp (edges_of states.now) (take self.now.next self.now.order.items) label result }
-    {
-        let mut id = start;
-        loop {
-            if let Some(found) = child(states, id, label) {
-                return found;
-            }
-            if id == ROOT_STATE_ID {
-                return ROOT_STATE_ID;
-            }
-            id = self.links[id as usize];
-            if id == DEAD_STATE_ID {
-                return DEAD_STATE_ID;
-            }
-        }
-    }
-
-    /// The link of the child by `label` of a state whose link is `start`.
-    fn link<L: EdgeLabel, V: Copy>(
-        &self,
-        states: &[NfaBuilderState<L, V, A>],
-        start: u32,
-        label: L,
-        child: u32,
-    ) -> u32
-        requires table { HoldTrie L.cmp states.now }
-        requires search { (pending : List ℕ) × Searches L.cmp states.now self.now pending }
-        requires parent { (s : ℕ) × (1 < s) × (child_of L.cmp states.now s label ≡ Some child) × IsLeftFailOf (child_of L.cmp states.now) (stops_of self.now.leftmost states.now) s start }
-        requires known { IsLinkAmong (take self.now.next self.now.order.items) start }
-        ensures link { IsLeftFailOf (child_of L.cmp states.now) (stops_of self.now.leftmost states.now) child result }
-        ensures from { ComesFrom L.cmp (edges_of states.now) (take self.now.next self.now.order.items) label result }
-    {
-        if start == DEAD_STATE_ID || stops(states, self.leftmost, child) {
-            return DEAD_STATE_ID;
-        }
-        self.follow(states, start, label)
-    }
-
-    /// Puts the children of the next state into the queue.
-    fn expand<L: EdgeLabel, V: Copy>(&mut self, states: &[NfaBuilderState<L, V, A>]) -> Result<()>
-        requires table { HoldTrie L.cmp states.now }
-        requires search { Searches L.cmp states.now self.old [] }
-        requires more { self.old.next < vec_len self.old.order }
-        ensures search { OnOk result (Searches L.cmp states.now self.new []) }
-        ensures next { OnOk result (self.new.next ≡ self.old.next + 1) }
-        ensures kind { self.new.leftmost ≡ self.old.leftmost }
-        ensures refused { IfErr result IsOutOfMemory }
-    {
-        let id = self.order[self.next];
-        let start = self.links[id as usize];
-        for (label, child) in states[id as usize].edges.iter() {
-            let fail = self.link(states, start, *label, *child);
-            self.links[*child as usize] = fail;
-            self.order.push(*child)?;
-        }
-        self.next += 1;
-        Ok(())
-    }
-}
-
-/// Gives each state its link.
-fn set_links<L: EdgeLabel, V: Copy, A: Allocator>(
-    states: &mut [NfaBuilderState<L, V, A>],
-    fails: &[u32],
-)
-    requires { length fails.now ≡ length states.old }
-    ensures kept { HasTrieOf states.old states.new }
-    ensures links { fails_of states.new ≡ fails.now }
-{
-    for i in 0..states.len() {
-        states[i].fail = fails[i];
-    }
-}
-
-/// Puts a state's own outputs in front of the list at a position, and returns where the new list
-/// begins.
-fn push_chain<V: Copy, A: Allocator>(
-    outputs: &mut Vec<Output<V>, A>,
-    own: &[(V, u32)],
-    parent: u32,
-) -> Result<u32>
-    requires parents { ParentsFall outputs.old.items }
-    requires parent { parent ≤ vec_len outputs.old }
-    ensures longer { (more : List (OutputOf V)) × (outputs.new.items ≡ outputs.old.items ++ more) }
-    ensures parents { ParentsFall outputs.new.items }
-    ensures count { OnOk result (vec_len outputs.new ≡ vec_len outputs.old + length own.now) }
-    ensures few { OnOk result (vec_len outputs.old ≤ 4294967295 → vec_len outputs.new ≤ 4294967295) }
-    ensures fits { IfOk result (λ position. position ≤ vec_len outputs.new) }
-    ensures list { IfOk result (λ position. outputs_at outputs.new.items position ≡ own.now ++ outputs_at outputs.old.items parent) }
-    ensures passes { IfOk result (λ position. Passes outputs.new.items position own.now parent) }
-    ensures refused { IfErr result (IsRefusal ⊥ Outputs (4294967295 < vec_len outputs.old + length own.now)) }
-{
-    let mut last = parent;
-    let mut i = own.len();
-    while i > 0 {
-        i -= 1;
-        if outputs.len() >= u32::MAX as usize {
-            return Err(DaachorseError::automaton_scale(Limit::Outputs));
-        }
-        let output = own[i];
-        outputs.push(Output::new(output.0, output.1, NonZeroU32::new(last)))?;
-        last = outputs.len() as u32;
-    }
-    Ok(last)
-}
-
-/// Gives a state its own outputs and then the list at `parent`.
-fn put_list<L: EdgeLabel, V: Copy, A: Allocator>(
-    states: &mut [NfaBuilderState<L, V, A>],
-    outputs: &mut Vec<Output<V>, A>,
-    id: u32,
-    parent: u32,
-) -> Result<()>
-    requires id { id < length states.old }
-    requires parents { ParentsFall outputs.old.items }
-    requires parent { parent ≤ vec_len outputs.old }
-    ensures kept { HasTrieOf states.old states.new }
-    ensures fails { fails_of states.new ≡ fails_of states.old }
-    ensures longer { (more : List (OutputOf V)) × (outputs.new.items ≡ outputs.old.items ++ more) }
-    ensures parents { ParentsFall outputs.new.items }
-    ensures count { OnOk result (vec_len outputs.new ≡ vec_len outputs.old + length (own_at (own_of states.old) id)) }
-    ensures few { OnOk result (vec_len outputs.old ≤ 4294967295 → vec_len outputs.new ≤ 4294967295) }
-    ensures fits { OnOk result (slice_index (positions_of states.new) id ≤ vec_len outputs.new) }
-    ensures list { OnOk result (outputs_at outputs.new.items (slice_index (positions_of states.new) id) ≡ own_at (own_of states.old) id ++ outputs_at outputs.old.items parent) }
-    ensures passes { OnOk result (Passes outputs.new.items (slice_index (positions_of states.new) id) (own_at (own_of states.old) id) parent) }
-    ensures others { OnOk result ((t : ℕ) → t ≢ id → slice_index (positions_of states.new) t ≡ slice_index (positions_of states.old) t) }
-    ensures refused { IfErr result (IsRefusal ⊥ Outputs (4294967295 < vec_len outputs.old + length (own_at (own_of states.old) id))) }
-{
-    let state = &mut states[id as usize];
-    state.output_pos = push_chain(outputs, &state.output, parent)?;
-    Ok(())
-}
-
-/// The position of the list of a state's link, 0 where that is dead.
-fn fail_position<L: EdgeLabel, V: Copy, A: Allocator>(
-    states: &[NfaBuilderState<L, V, A>],
-    id: u32,
-) -> u32
-    requires id { id < length states.now }
-    requires fail { slice_index (fails_of states.now) id < length states.now }
-    ensures { IsParent (positions_of states.now) (slice_index (fails_of states.now) id) result }
-{
-    let fail = states[id as usize].fail;
-    if fail == DEAD_STATE_ID {
-        return 0;
-    }
-    states[fail as usize].output_pos
-}
-
-/// Makes the lists of outputs, of the root and then in order.
-fn put_lists<L: EdgeLabel, V: Copy, A: Allocator>(
-    states: &mut [NfaBuilderState<L, V, A>],
-    outputs: &mut Vec<Output<V>, A>,
-    order: &[u32],
-) -> Result<()>
-    requires trie { HoldTrie L.cmp states.old }
-    requires links { (leftmost : Bool) × HoldLeftLinks L.cmp leftmost states.old order.now }
-    requires unbuilt { outputs.old.items ≡ [] }
-    ensures kept { HasTrieOf states.old states.new }
-    ensures fails { fails_of states.new ≡ fails_of states.old }
-    ensures parents { ParentsFall outputs.new.items }
-    ensures positions { OnOk result (PositionsFit order.now outputs.new.items (positions_of states.new)) }
-    ensures lists { OnOk result ((leftmost : Bool) → HoldLeftLinks L.cmp leftmost states.old order.now → AreListed L.cmp (stops_of leftmost states.old) states.old order.now outputs.new.items (positions_of states.new)) }
-    ensures chained { OnOk result ((leftmost : Bool) → HoldLeftLinks L.cmp leftmost states.old order.now → AreChained (own_of states.old) (fails_of states.old) order.now outputs.new.items (positions_of states.new)) }
-    ensures bound { OnOk result (vec_len outputs.new ≤ output_count (own_of states.old)) }
-    ensures whole { OnOk result (own_at (own_of states.old) 1 ≡ [] → vec_len outputs.new ≡ output_count (own_of states.old)) }
-    ensures few { OnOk result (vec_len outputs.new ≤ 4294967295) }
-    ensures refused { IfErr result (IsRefusal ⊥ Outputs (4294967295 < output_count (own_of states.old))) }
-{
-    put_list(states, outputs, ROOT_STATE_ID, 0)?;
-    for id in order {
-        let parent = fail_position(states, *id);
-        put_list(states, outputs, *id, parent)?;
-    }
-    Ok(())
 }

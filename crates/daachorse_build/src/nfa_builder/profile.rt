@@ -3,7 +3,7 @@
 //! The layer above may rely on the search ending for every document, on no count falling, and on
 //! both lists of the profile keeping their lengths.
 
-ghost use Rattle.std.specs.Prelude.{◌≡◌, ◌≢◌, ℕ, ◌<◌, ◌≤◌, [], length, vec_len, IfSome};
+ghost use Rattle.std.specs.Prelude.{◌≡◌, ◌≢◌, ◌<◌, ◌≤◌, [], length, vec_len, IfSome};
 ghost use Rattle.daachorse_build.specs.Tables.{HoldTrie};
 ghost use Rattle.daachorse_build.specs.Counts.{HasCounts, HasSameCounts, HaveGrown, IsCounted, LinksLeadBack};
 

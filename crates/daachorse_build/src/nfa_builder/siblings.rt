@@ -3,11 +3,11 @@
 //! The layer above may rely on one group for each state with an edge, in the order in which a
 //! stack of states gives them.
 
-ghost use Rattle.std.specs.Prelude.{◌≡◌, ℕ, ◌<◌, ◌++◌, List, length, map, filter, IfOk, IfErr, OnOk};
+ghost use Rattle.std.specs.Prelude.{◌≡◌, ℕ, ◌<◌, ◌++◌, List, length, filter, IfOk, IfErr, OnOk};
 ghost use Rattle.std.specs.Map.{values_of};
 ghost use Rattle.daachorse_core.specs.Refusals.{IsOutOfMemory};
 ghost use Rattle.daachorse_build.specs.Tables.{edges_of, HoldTrie};
-ghost use Rattle.daachorse_build.specs.Groups.{edges_at, has_edges, IsWalk, IsProfileOf, AreGiven, AreFamilies, AreWeighed, weight_at, parents_of};
+ghost use Rattle.daachorse_build.specs.Groups.{has_edges, IsWalk, IsProfileOf, AreGiven, AreFamilies, AreWeighed, weight_at, parents_of};
 
 use super::{NfaBuilderState, ROOT_STATE_ID};
 use crate::edge_map::EdgeMap;

@@ -1,0 +1,125 @@
+//! The lists of outputs of a trie's states, which share their ends.
+//!
+//! The layer above may rely on the list at a state's position: its own outputs, and then the list of
+//! its link, unless that is dead.
+
+ghost use Rattle.std.specs.Prelude.{◌≡◌, ◌≢◌, ◌+◌, ◌<◌, ◌≤◌, ◌++◌, ℕ, Bool, [], List, length, slice_index, vec_len, IfOk, IfErr, OnOk};
+ghost use Rattle.daachorse_core.specs.Outputs.{ParentsFall, outputs_at};
+ghost use Rattle.daachorse_core.specs.Chains.{Passes};
+ghost use Rattle.daachorse_core.specs.Refusals.{IsRefusal};
+ghost use Rattle.daachorse_core.specs.declared.errors.Limit.TheVariants.{Outputs};
+ghost use Rattle.daachorse_core.specs.declared.outputs.Output.{Output as OutputOf};
+ghost use Rattle.daachorse_build.specs.Tables.{fails_of, positions_of, own_of, own_at, output_count, stops_of, HoldTrie};
+ghost use Rattle.daachorse_build.specs.Orders.{HoldLeftLinks};
+ghost use Rattle.daachorse_build.specs.Growth.{HasTrieOf};
+ghost use Rattle.daachorse_build.specs.Lists.{PositionsFit, AreListed, AreChained, IsParent};
+
+use super::{DEAD_STATE_ID, NfaBuilderState, ROOT_STATE_ID};
+use daachorse_core::Output;
+use daachorse_core::edge_label::EdgeLabel;
+use daachorse_core::errors::{DaachorseError, Limit, Result};
+use std::alloc::Allocator;
+use std::num::NonZeroU32;
+
+/// Puts a state's own outputs in front of the list at a position, and returns where the new list
+/// begins.
+fn push_chain<V: Copy, A: Allocator>(
+    outputs: &mut Vec<Output<V>, A>,
+    own: &[(V, u32)],
+    parent: u32,
+) -> Result<u32>
+    requires parents { ParentsFall outputs.old.items }
+    requires parent { parent ≤ vec_len outputs.old }
+    ensures longer { (more : List (OutputOf V)) × (outputs.new.items ≡ outputs.old.items ++ more) }
+    ensures parents { ParentsFall outputs.new.items }
+    ensures count { OnOk result (vec_len outputs.new ≡ vec_len outputs.old + length own.now) }
+    ensures few { OnOk result (vec_len outputs.old ≤ 4294967295 → vec_len outputs.new ≤ 4294967295) }
+    ensures fits { IfOk result (λ position. position ≤ vec_len outputs.new) }
+    ensures list { IfOk result (λ position. outputs_at outputs.new.items position ≡ own.now ++ outputs_at outputs.old.items parent) }
+    ensures passes { IfOk result (λ position. Passes outputs.new.items position own.now parent) }
+    ensures refused { IfErr result (IsRefusal ⊥ Outputs (4294967295 < vec_len outputs.old + length own.now)) }
+{
+    let mut last = parent;
+    let mut i = own.len();
+    while i > 0 {
+        i -= 1;
+        if outputs.len() >= u32::MAX as usize {
+            return Err(DaachorseError::automaton_scale(Limit::Outputs));
+        }
+        let output = own[i];
+        outputs.push(Output::new(output.0, output.1, NonZeroU32::new(last)))?;
+        last = outputs.len() as u32;
+    }
+    Ok(last)
+}
+
+/// Gives a state its own outputs and then the list at `parent`.
+fn put_list<L: EdgeLabel, V: Copy, A: Allocator>(
+    states: &mut [NfaBuilderState<L, V, A>],
+    outputs: &mut Vec<Output<V>, A>,
+    id: u32,
+    parent: u32,
+) -> Result<()>
+    requires id { id < length states.old }
+    requires parents { ParentsFall outputs.old.items }
+    requires parent { parent ≤ vec_len outputs.old }
+    ensures kept { HasTrieOf states.old states.new }
+    ensures fails { fails_of states.new ≡ fails_of states.old }
+    ensures longer { (more : List (OutputOf V)) × (outputs.new.items ≡ outputs.old.items ++ more) }
+    ensures parents { ParentsFall outputs.new.items }
+    ensures count { OnOk result (vec_len outputs.new ≡ vec_len outputs.old + length (own_at (own_of states.old) id)) }
+    ensures few { OnOk result (vec_len outputs.old ≤ 4294967295 → vec_len outputs.new ≤ 4294967295) }
+    ensures fits { OnOk result (slice_index (positions_of states.new) id ≤ vec_len outputs.new) }
+    ensures list { OnOk result (outputs_at outputs.new.items (slice_index (positions_of states.new) id) ≡ own_at (own_of states.old) id ++ outputs_at outputs.old.items parent) }
+    ensures passes { OnOk result (Passes outputs.new.items (slice_index (positions_of states.new) id) (own_at (own_of states.old) id) parent) }
+    ensures others { OnOk result ((t : ℕ) → t ≢ id → slice_index (positions_of states.new) t ≡ slice_index (positions_of states.old) t) }
+    ensures refused { IfErr result (IsRefusal ⊥ Outputs (4294967295 < vec_len outputs.old + length (own_at (own_of states.old) id))) }
+{
+    let state = &mut states[id as usize];
+    state.output_pos = push_chain(outputs, &state.output, parent)?;
+    Ok(())
+}
+
+/// The position of the list of a state's link, 0 where that is dead.
+fn fail_position<L: EdgeLabel, V: Copy, A: Allocator>(
+    states: &[NfaBuilderState<L, V, A>],
+    id: u32,
+) -> u32
+    requires id { id < length states.now }
+    requires fail { slice_index (fails_of states.now) id < length states.now }
+    ensures { IsParent (positions_of states.now) (slice_index (fails_of states.now) id) result }
+{
+    let fail = states[id as usize].fail;
+    if fail == DEAD_STATE_ID {
+        return 0;
+    }
+    states[fail as usize].output_pos
+}
+
+/// Makes the lists of outputs, of the root and then in order.
+pub(super) fn put_lists<L: EdgeLabel, V: Copy, A: Allocator>(
+    states: &mut [NfaBuilderState<L, V, A>],
+    outputs: &mut Vec<Output<V>, A>,
+    order: &[u32],
+) -> Result<()>
+    requires trie { HoldTrie L.cmp states.old }
+    requires links { (leftmost : Bool) × HoldLeftLinks L.cmp leftmost states.old order.now }
+    requires unbuilt { outputs.old.items ≡ [] }
+    ensures kept { HasTrieOf states.old states.new }
+    ensures fails { fails_of states.new ≡ fails_of states.old }
+    ensures parents { ParentsFall outputs.new.items }
+    ensures positions { OnOk result (PositionsFit order.now outputs.new.items (positions_of states.new)) }
+    ensures lists { OnOk result ((leftmost : Bool) → HoldLeftLinks L.cmp leftmost states.old order.now → AreListed L.cmp (stops_of leftmost states.old) states.old order.now outputs.new.items (positions_of states.new)) }
+    ensures chained { OnOk result ((leftmost : Bool) → HoldLeftLinks L.cmp leftmost states.old order.now → AreChained (own_of states.old) (fails_of states.old) order.now outputs.new.items (positions_of states.new)) }
+    ensures bound { OnOk result (vec_len outputs.new ≤ output_count (own_of states.old)) }
+    ensures whole { OnOk result (own_at (own_of states.old) 1 ≡ [] → vec_len outputs.new ≡ output_count (own_of states.old)) }
+    ensures few { OnOk result (vec_len outputs.new ≤ 4294967295) }
+    ensures refused { IfErr result (IsRefusal ⊥ Outputs (4294967295 < output_count (own_of states.old))) }
+{
+    put_list(states, outputs, ROOT_STATE_ID, 0)?;
+    for id in order {
+        let parent = fail_position(states, *id);
+        put_list(states, outputs, *id, parent)?;
+    }
+    Ok(())
+}

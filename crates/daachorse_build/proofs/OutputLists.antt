@@ -24,6 +24,7 @@ use Rattle.daachorse_build.proofs.LeftLinks.{left_state, left_met, left_rest, me
 use Rattle.daachorse_build.proofs.Queue.{in_cases, in_same, in_equal, in_at, in_flat_map, bounds_of_listed, all_in_order}
 use Rattle.daachorse_build.proofs.Cleared.{all_cleared, cleared}
 use Rattle.daachorse_build.proofs.States.{outputs_missing, outputs_found}
+use Rattle.daachorse_build.specs.Few.{items_of}
 use Rattle.daachorse_build.proofs.OutputChains.{outputs_at-longer}
 
 module _ {L V A : Type 0} (cmp : L → L → Ordering) (total : IsTotalOrder cmp) (exact : (x y : L) → cmp x y ≡ Equal → x ≡ y) where
@@ -71,7 +72,7 @@ module _ {L V A : Type 0} (cmp : L → L → Ordering) (total : IsTotalOrder cmp
 
     -- each state but the dead one is known, so only it can have outputs that are left
     pub none_left : own_at (own_of states) 1 ≡ [] → output_count (cleared (own_of states) (0 ∷ order)) ≡ 0
-    none_left dead = all_cleared (own_of states) (0 ∷ order) (λ t low. done t (omega (arith, low, length-map states (λ s. s.edges), length-map states (λ s. s.output.items))))
+    none_left dead = all_cleared (own_of states) (0 ∷ order) (λ t low. done t (omega (arith, low, length-map states (λ s. s.edges), length-map states (λ s. items_of s.output))))
       where
         done : (t : ℕ) → t < length (edges_of states) → IsIn (0 ∷ order) t ⊎ (own_at (own_of states) t ≡ [])
         done zero low = inl (inl refl)

@@ -15,6 +15,7 @@ use Rattle.daachorse_build.specs.Tables.{child_in, child_of, edges_of, fails_of,
 use Rattle.daachorse_build.specs.Growth.{IsPrefixOf, AddsEdge, Extends, IsAdding, IsAdded, HasTrieOf}
 use Rattle.std.proofs.lemmas.List.Sums.{sum_by-set, sum_by-append}
 use Rattle.daachorse_build.proofs.Walks.{walk-push, walk-same, walk-bounds, walk-append}
+use Rattle.daachorse_build.specs.Few.{items_of}
 use Rattle.daachorse_build.proofs.Growing.{adds_edge, table_grows, walk_stays, walk_came, is_here}
 
 -- one element changed, and one more
@@ -31,10 +32,10 @@ pub map_stays : {X Y : Type 0} (f : X → Y) (xs : List X) (i : ℕ) (x y : X) �
 map_stays f xs i x y l is same = map-set f xs i y ∙ map_kept f xs i x y l is same
 
 -- one output more for a state
-pub output_pushed : {L V A : Type 0} (states : List (NfaBuilderState L V A)) (id : ℕ) (x y : NfaBuilderState L V A) (out : V × ℕ) → id < length states → x ≡ get_or states id x → y.output.items ≡ x.output.items ++ out ∷ [] → own_of (set states id y) ≡ set (own_of states) id (own_at (own_of states) id ++ out ∷ [])
+pub output_pushed : {L V A : Type 0} (states : List (NfaBuilderState L V A)) (id : ℕ) (x y : NfaBuilderState L V A) (out : V × ℕ) → id < length states → x ≡ get_or states id x → items_of y.output ≡ items_of x.output ++ out ∷ [] → own_of (set states id y) ≡ set (own_of states) id (own_at (own_of states) id ++ out ∷ [])
 output_pushed states id x y out l is pushed =
-    let here : own_at (own_of states) id ≡ x.output.items = get_or-map (λ s. s.output.items) states id x [] l ∙ ap (λ s. s.output.items) (sym is) in
-    map-set (λ s. s.output.items) states id y ∙ ap (set (own_of states) id) (pushed ∙ ap (λ os. os ++ out ∷ []) (sym here))
+    let here : own_at (own_of states) id ≡ items_of x.output = get_or-map (λ s. items_of s.output) states id x [] l ∙ ap (λ s. items_of s.output) (sym is) in
+    map-set (λ s. items_of s.output) states id y ∙ ap (set (own_of states) id) (pushed ∙ ap (λ os. os ++ out ∷ []) (sym here))
 
 own_push : {V : Type 0} (xss : List (List (V × ℕ))) (v : ℕ) → get_or (xss ++ [] ∷ []) v [] ≡ get_or xss v []
 own_push [] zero = refl
@@ -47,7 +48,7 @@ prefix_more w p c h = (h.0 ++ c ∷ [], sym (append_assoc w h.0 (c ∷ [])) ∙ 
 
 module _ {L V A : Type 0} (cmp : L → L → Ordering) (total : IsTotalOrder cmp) (exact : (x y : L) → cmp x y ≡ Equal → x ≡ y) where
   -- a new child of the state at id
-  pub extends_new : (old new : List (NfaBuilderState L V A)) (id : ℕ) (label : L) (parent : NfaBuilderState L V A) (m : List (L × ℕ)) (state : NfaBuilderState L V A) → HoldTrie cmp old → id < length old → id ≢ 1 → child_of cmp old id label ≡ None → parent ≡ get_or old id parent → IsOrdered cmp m → Updates cmp parent.edges m label (length old) → state.edges ≡ [] → state.output.items ≡ [] → new ≡ set old id (record parent { edges = m }) ++ state ∷ [] → Extends cmp old new id label (length old)
+  pub extends_new : (old new : List (NfaBuilderState L V A)) (id : ℕ) (label : L) (parent : NfaBuilderState L V A) (m : List (L × ℕ)) (state : NfaBuilderState L V A) → HoldTrie cmp old → id < length old → id ≢ 1 → child_of cmp old id label ≡ None → parent ≡ get_or old id parent → IsOrdered cmp m → Updates cmp parent.edges m label (length old) → state.edges ≡ [] → items_of state.output ≡ [] → new ≡ set old id (record parent { edges = m }) ++ state ∷ [] → Extends cmp old new id label (length old)
   extends_new old new id label parent m state table l ne none is ordered updates no_edges no_output e =
       let edges = edges_of old in
       let count : length edges ≡ length old = length-map old (λ s. s.edges) in
@@ -58,7 +59,7 @@ module _ {L V A : Type 0} (cmp : L → L → Ordering) (total : IsTotalOrder cmp
       let made : edges_of new ≡ set edges id m ++ [] ∷ [] =
       ap edges_of e ∙ map_edit (λ s. s.edges) old id (record parent { edges = m }) state ∙ ap (λ es. set edges id m ++ es ∷ []) no_edges in
       let outputs : own_of new ≡ own_of old ++ [] ∷ [] =
-      ap own_of e ∙ map_edit (λ s. s.output.items) old id (record parent { edges = m }) state ∙ ap (λ os. set (own_of old) id parent.output.items ++ os ∷ []) no_output ∙ ap (λ os. os ++ [] ∷ []) (map_kept (λ s. s.output.items) old id parent (record parent { edges = m }) l is refl) in
+      ap own_of e ∙ map_edit (λ s. items_of s.output) old id (record parent { edges = m }) state ∙ ap (λ os. set (own_of old) id (items_of parent.output) ++ os ∷ []) no_output ∙ ap (λ os. os ++ [] ∷ []) (map_kept (λ s. items_of s.output) old id parent (record parent { edges = m }) l is refl) in
       let adds = adds_edge cmp total exact edges table id label m low ne none ordered found in
       let grown = table_grows cmp total exact edges table id label m low ne none ordered found in
       let hit = is_here cmp total exact edges table id label m low ne none ordered found in
@@ -148,7 +149,7 @@ module _ {L V A : Type 0} (cmp : L → L → Ordering) (total : IsTotalOrder cmp
           elim (adding.grows.news w v e) [
             | inl was ↦ absurd (none-some v (sym f ∙ was))
             | inr fresh ↦
-                let past : length (own_of old) ≤ v = omega (arith, fresh.0, length-map old (λ s. s.output.items)) in
+                let past : length (own_of old) ≤ v = omega (arith, fresh.0, length-map old (λ s. items_of s.output)) in
                 outputs_found mid w v e ∙ adding.outputs v ∙ get_or_past (own_of old) v [] past ∙ sym (outputs_missing old w f)
           ]
 
@@ -158,7 +159,7 @@ module _ {L V A : Type 0} (cmp : L → L → Ordering) (total : IsTotalOrder cmp
       let kept = outputs_kept old mid p id table adding in
       let W : List L → ℕ → List (List (L × ℕ)) → Type 0 = λ w v es. walk (child_in cmp es) 0 w ≡ Some v in
       let bound = walk-bounds (child_of cmp mid) (length (edges_of mid)) adding.trie.trie p id adding.here in
-      let count : length (edges_of mid) ≡ length (own_of mid) = length-map mid (λ s. s.edges) ∙ sym (length-map mid (λ s. s.output.items)) in
+      let count : length (edges_of mid) ≡ length (own_of mid) = length-map mid (λ s. s.edges) ∙ sym (length-map mid (λ s. items_of s.output)) in
       let low : id < length (own_of mid) = omega (arith, bound.0, count) in
       let same : (w : List L) → held_at cmp new w ≡ unwrap_or (option_map (own_at (set (own_of mid) id (own_at (own_of mid) id ++ out ∷ []))) (walk (child_of cmp mid) 0 w)) [] =
       λ w. ap (λ es. unwrap_or (option_map (own_at (own_of new)) (walk (child_in cmp es) 0 w)) []) edges ∙ ap (λ os. unwrap_or (option_map (own_at os) (walk (child_of cmp mid) 0 w)) []) outputs in
@@ -204,7 +205,7 @@ link_set old states fails i x y l low is e kept links =
     let count : i < length (fails_of states) = omega (arith, l, length-map states (λ s. s.fail)) in (
       record {
         edges = map_stays (λ s. s.edges) states i x y l is (ap (λ s. s.edges) e) ∙ kept.edges;
-        outputs = map_stays (λ s. s.output.items) states i x y l is (ap (λ s. s.output.items) e) ∙ kept.outputs;
+        outputs = map_stays (λ s. items_of s.output) states i x y l is (ap (λ s. items_of s.output) e) ∙ kept.outputs;
       },
       ap (take (i + 1)) (map-set (λ s. s.fail) states i y ∙ ap (λ s. set (fails_of states) i s.fail) e)
           ∙ take_more_set (fails_of states) i (get_or fails i 0) count ∙ ap (λ fs. fs ++ get_or fails i 0 ∷ []) links ∙ sym (take_more fails i 0 low),
@@ -215,7 +216,7 @@ pub position_set : {L V A : Type 0} (states : List (NfaBuilderState L V A)) (i :
 position_set states i x y p l is e = (
   record {
     edges = map_stays (λ s. s.edges) states i x y l is (ap (λ s. s.edges) e);
-    outputs = map_stays (λ s. s.output.items) states i x y l is (ap (λ s. s.output.items) e);
+    outputs = map_stays (λ s. items_of s.output) states i x y l is (ap (λ s. items_of s.output) e);
   },
   map_stays (λ s. s.fail) states i x y l is (ap (λ s. s.fail) e),
   map-set (λ s. s.output_pos) states i y ∙ ap (λ s. set (positions_of states) i s.output_pos) e,

@@ -1,17 +1,9 @@
 -- What contracts see of a map of edges: its edges, by rising labels.
-use Rattle.std.specs.Prelude.{◌≡◌, ℕ, cond, List, [], ◌∷◌, Option, Some}
+use Rattle.std.specs.Prelude.{◌≡◌, ℕ, cond, List, Option, Some}
 use Rattle.std.specs.declared.cmp.Ordering.{Ordering}
 use Rattle.std.specs.BTreeMap.{is_at}
 use Rattle.std.specs.List.Sorted.{IsStrictlySortedBy}
 use Rattle.std.specs.Map.{lookup, keys_of}
-use Rattle.daachorse_build.specs.declared.edge_map.Edges.{Edges}
-use Rattle.daachorse_build.specs.declared.edge_map.Edges.TheVariants.{Empty, One, Many}
-
--- the edges, whichever the case
-abbrev pub edges_in : {L A : Type 0} → Edges L A → List (L × ℕ)
-edges_in Empty = []
-edges_in (One e) = e ∷ []
-edges_in (Many es) = es.items
 
 module _ {L : Type 0} (cmp : L → L → Ordering) where
   -- the id at a label

@@ -1,3 +1,4 @@
+pub mod Few
 pub mod EdgeMaps
 pub mod Trie
 pub mod Left

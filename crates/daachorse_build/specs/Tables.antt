@@ -3,6 +3,7 @@ use Rattle.std.specs.Prelude.{Bool, not, ◌&&◌, ◌==◌, ℕ, List, [], Opti
 use Rattle.std.specs.declared.cmp.Ordering.{Ordering}
 use Rattle.daachorse_model.specs.Paths.{walk}
 use Rattle.daachorse_build.specs.declared.nfa_builder.NfaBuilderState.{NfaBuilderState}
+use Rattle.daachorse_build.specs.Few.{items_of}
 use Rattle.daachorse_build.specs.EdgeMaps.{id_at, IsOrdered}
 use Rattle.daachorse_build.specs.Trie.{IsTrie}
 
@@ -13,7 +14,7 @@ edge_map s = s.edges
 
 -- its own outputs: the values of its text, each with the length of the pattern in bytes
 abbrev pub held_by : {L V A : Type 0} → NfaBuilderState L V A → List (V × ℕ)
-held_by s = s.output.items
+held_by s = items_of s.output
 
 -- the failure link
 abbrev pub link_of : {L V A : Type 0} → NfaBuilderState L V A → ℕ
@@ -34,7 +35,7 @@ fails_of states = map (λ s. s.fail) states
 
 -- the own outputs of each state
 abbrev pub own_of : {L V A : Type 0} → List (NfaBuilderState L V A) → List (List (V × ℕ))
-own_of states = map (λ s. s.output.items) states
+own_of states = map (λ s. items_of s.output) states
 
 -- where the list of outputs of each state begins, or 0
 abbrev pub positions_of : {L V A : Type 0} → List (NfaBuilderState L V A) → List ℕ

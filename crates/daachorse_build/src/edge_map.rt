@@ -14,8 +14,10 @@ ghost use Rattle.std.specs.declared.cmp.Ordering.TheVariants.{Less, Equal, Great
 ghost use Rattle.std.specs.Map.Iter.{TakesFirst, ShowsInOrder, deref, deref_pair};
 ghost use Rattle.std.specs.Iterator.{at_most};
 ghost use Rattle.daachorse_core.specs.Refusals.{IsOutOfMemory};
-ghost use Rattle.daachorse_build.specs.EdgeMaps.{edges_in, id_at, IsOrdered, Updates};
+ghost use Rattle.daachorse_build.specs.EdgeMaps.{id_at, IsOrdered, Updates};
+ghost use Rattle.daachorse_build.specs.Few.{items_of};
 
+use crate::few::Few;
 use daachorse_core::edge_label::EdgeLabel;
 use daachorse_core::errors::Result;
 use std::alloc::{Allocator, Global};
@@ -29,15 +31,8 @@ use std::slice;
 /// stand in a sorted vector. `daachorse_part_tests` lists the edges of a map.
 #[derive(Drop)]
 pub struct EdgeMap<L: EdgeLabel, A: Allocator = Global> {
-    edges: Edges<L, A>,
-}
-
-#[derive(Drop)]
-enum Edges<L: EdgeLabel, A: Allocator> {
-    Empty,
-    One((L, u32)),
     // By rising labels.
-    Many(Vec<(L, u32), A>),
+    edges: Few<(L, u32), A>,
 }
 
 impl<L: EdgeLabel, A: Allocator> Model for EdgeMap<L, A> {
@@ -45,20 +40,19 @@ impl<L: EdgeLabel, A: Allocator> Model for EdgeMap<L, A> {
 
     ghost Value = { List (L × ℕ) };
 
-    ghost use Rattle.daachorse_build.specs.EdgeMaps.{edges_in, IsOrdered};
+    ghost use Rattle.daachorse_build.specs.EdgeMaps.{IsOrdered};
+    ghost use Rattle.daachorse_build.specs.Few.{items_of};
 
-    ghost view = { λ m. edges_in m.edges };
+    ghost view = { λ m. items_of m.edges };
 
-    ghost invariant = { λ m. IsOrdered L.cmp (edges_in m.edges) };
+    ghost invariant = { λ m. IsOrdered L.cmp (items_of m.edges) };
 }
 
 impl<L: EdgeLabel, A: Allocator> Default for EdgeMap<L, A> {
     ghost is_default = { λ m. m ≡ [] };
 
     fn default() -> Self {
-        Self {
-            edges: Edges::Empty,
-        }
+        Self { edges: Few::Empty }
     }
 }
 
@@ -73,15 +67,12 @@ impl<L: EdgeLabel, A: Allocator> EdgeMap<L, A> {
         ensures { option_copied result ≡ id_at L.cmp self.now label.now }
     {
         match &self.edges {
-            Edges::Empty => None,
-            Edges::One(edge) => match label.cmp(&edge.0) {
+            Few::Empty => None,
+            Few::One(edge) => match label.cmp(&edge.0) {
                 Ordering::Equal => Some(&edge.1),
                 _ => None,
             },
-            Edges::Many(edges) => match find(edges, label) {
-                Ok(place) => Some(&edges[place].1),
-                Err(_) => None,
-            },
+            Few::Many(edges) => get_among(edges, label),
         }
     }
 
@@ -89,11 +80,7 @@ impl<L: EdgeLabel, A: Allocator> EdgeMap<L, A> {
     pub fn len(&self) -> usize
         ensures { result ≡ length self.now }
     {
-        match &self.edges {
-            Edges::Empty => 0,
-            Edges::One(_) => 1,
-            Edges::Many(edges) => edges.len(),
-        }
+        self.edges.len()
     }
 
     /// Whether there is no edge.
@@ -110,9 +97,9 @@ impl<L: EdgeLabel, A: Allocator> EdgeMap<L, A> {
         ensures ordered { IsOrdered L.cmp self.now }
     {
         match &self.edges {
-            Edges::Empty => Iter::new(None, &[]),
-            Edges::One(edge) => Iter::new(Some(edge), &[]),
-            Edges::Many(edges) => Iter::new(None, edges),
+            Few::Empty => Iter::new(None, &[]),
+            Few::One(edge) => Iter::new(Some(edge), &[]),
+            Few::Many(edges) => Iter::new(None, edges),
         }
     }
 
@@ -123,7 +110,9 @@ impl<L: EdgeLabel, A: Allocator> EdgeMap<L, A> {
     {
         Values { edges: self.iter() }
     }
+}
 
+impl<L: EdgeLabel, A: Allocator + Copy> EdgeMap<L, A> {
     /// Gives a label this id, in place of the one that it may have. The second edge is the first
     /// that takes memory.
     ///
@@ -142,9 +131,7 @@ impl<L: EdgeLabel, A: Allocator> EdgeMap<L, A> {
     {
         put(&mut self.edges, alloc, (label, id))
     }
-}
 
-impl<L: EdgeLabel, A: Allocator + Copy> EdgeMap<L, A> {
     /// A map with the same edges, in memory of its own.
     ///
     /// # Errors
@@ -154,13 +141,7 @@ impl<L: EdgeLabel, A: Allocator + Copy> EdgeMap<L, A> {
         ensures same { IfOk result (λ map. map ≡ self.now) }
         ensures refused { IfErr result IsOutOfMemory }
     {
-        let edges = match &self.edges {
-            Edges::Empty => Edges::Empty,
-            Edges::One(edge) => Edges::One(*edge),
-            Edges::Many(edges) => {
-                Edges::Many(Vec::from_slice(*edges.allocator(), edges.as_slice())?)
-            }
-        };
+        let edges = self.edges.clone()?;
         Ok(Self { edges })
     }
 }
@@ -255,40 +236,53 @@ fn find<L: EdgeLabel>(edges: &[(L, u32)], label: &L) -> Result<usize, usize>
     edges.binary_search_by(|edge| edge.0.cmp(label))
 }
 
-/// Two edges, by rising labels.
-fn pair<L: EdgeLabel, A: Allocator>(
-    alloc: A,
-    first: (L, u32),
-    second: (L, u32),
-) -> Result<Edges<L, A>>
-    ensures edges { IfOk result (λ edges. edges_in edges ≡ first ∷ second ∷ []) }
+/// The id at a label among edges.
+#[inline]
+fn get_among<'a, L: EdgeLabel>(edges: &'a [(L, u32)], label: &L) -> Option<&'a u32>
+    requires { IsOrdered L.cmp edges.now }
+    ensures { option_copied result ≡ id_at L.cmp edges.now label.now }
+{
+    match find(edges, label) {
+        Ok(place) => Some(&edges[place].1),
+        Err(_) => None,
+    }
+}
+
+/// Puts an edge among two or more, or gives the one with its label the new id.
+fn put_among<L: EdgeLabel, A: Allocator>(edges: &mut Vec<(L, u32), A>, edge: (L, u32)) -> Result<()>
+    requires { IsOrdered L.cmp edges.old.items }
+    ensures edges { OnOk result (edges.new.items ≡ insert_entry L.cmp edges.old.items edge.0 edge.1) }
+    ensures unchanged { OnErr result (edges.new.items ≡ edges.old.items) }
+    ensures absent { OnErr result (id_at L.cmp edges.old.items edge.0 ≡ None) }
     ensures refused { IfErr result IsOutOfMemory }
 {
-    let mut edges = Vec::with_capacity(alloc, 2)?;
-    edges.push(first)?;
-    edges.push(second)?;
-    Ok(Edges::Many(edges))
+    match find(edges, &edge.0) {
+        Ok(place) => edges[place].1 = edge.1,
+        Err(place) => edges.insert(place, edge)?,
+    }
+    Ok(())
 }
 
 /// Puts an edge among edges, or gives the one with its label the new id.
-fn put<L: EdgeLabel, A: Allocator>(edges: &mut Edges<L, A>, alloc: A, edge: (L, u32)) -> Result<()>
-    requires { IsOrdered L.cmp (edges_in edges.old) }
-    ensures edges { OnOk result (edges_in edges.new ≡ insert_entry L.cmp (edges_in edges.old) edge.0 edge.1) }
-    ensures unchanged { OnErr result (edges_in edges.new ≡ edges_in edges.old) }
-    ensures absent { OnErr result (id_at L.cmp (edges_in edges.old) edge.0 ≡ None) }
+fn put<L: EdgeLabel, A: Allocator + Copy>(
+    edges: &mut Few<(L, u32), A>,
+    alloc: A,
+    edge: (L, u32),
+) -> Result<()>
+    requires { IsOrdered L.cmp (items_of edges.old) }
+    ensures edges { OnOk result (items_of edges.new ≡ insert_entry L.cmp (items_of edges.old) edge.0 edge.1) }
+    ensures unchanged { OnErr result (items_of edges.new ≡ items_of edges.old) }
+    ensures absent { OnErr result (id_at L.cmp (items_of edges.old) edge.0 ≡ None) }
     ensures refused { IfErr result IsOutOfMemory }
 {
     match edges {
-        Edges::Empty => *edges = Edges::One(edge),
-        Edges::One(only) => match edge.0.cmp(&only.0) {
-            Ordering::Less => *edges = pair(alloc, edge, *only)?,
+        Few::Empty => *edges = Few::One(edge),
+        Few::One(only) => match edge.0.cmp(&only.0) {
+            Ordering::Less => *edges = Few::two(alloc, edge, *only)?,
             Ordering::Equal => only.1 = edge.1,
-            Ordering::Greater => *edges = pair(alloc, *only, edge)?,
+            Ordering::Greater => *edges = Few::two(alloc, *only, edge)?,
         },
-        Edges::Many(many) => match find(many, &edge.0) {
-            Ok(place) => many[place].1 = edge.1,
-            Err(place) => many.insert(place, edge)?,
-        },
+        Few::Many(many) => put_among(many, edge)?,
     }
     Ok(())
 }

@@ -5,4 +5,5 @@
 #![tactic(auto)]
 
 pub mod edge_map;
+mod few;
 pub mod nfa_builder;

@@ -36,6 +36,7 @@ mod profile;
 mod siblings;
 
 use crate::edge_map::EdgeMap;
+use crate::few::Few;
 pub use daachorse_core::edge_label::EdgeLabel;
 use daachorse_core::errors::{DaachorseError, OutOfMemoryError, Result};
 use daachorse_core::{MatchKind, Output};
@@ -53,11 +54,11 @@ pub const DEAD_STATE_ID: u32 = 1;
 
 /// A state of the trie.
 ///
-/// It takes memory of its own from its second edge and its first output on.
+/// It takes memory of its own from its second edge and its second output on.
 #[derive(Drop)]
 pub struct NfaBuilderState<L: EdgeLabel, V: Copy, A: Allocator = Global> {
     edges: EdgeMap<L, A>,
-    output: Vec<(V, u32), A>,
+    output: Few<(V, u32), A>,
     // The two numbers stand together, since fields are laid out in order.
     fail: u32,
     // 0 stands for none, since an `Option<NonZeroU32>` would take twice the bytes.
@@ -97,7 +98,7 @@ impl<L: EdgeLabel, V: Copy, A: Allocator + Copy> NfaBuilderState<L, V, A> {
     {
         Self {
             edges: EdgeMap::default(),
-            output: Vec::new(alloc),
+            output: Few::Empty,
             fail: ROOT_STATE_ID,
             output_pos: 0,
         }
@@ -117,7 +118,7 @@ impl<L: EdgeLabel, V: Copy, A: Allocator + Copy> NfaBuilderState<L, V, A> {
     {
         Ok(Self {
             edges: self.edges.clone()?,
-            output: Vec::from_slice(*self.output.allocator(), &self.output)?,
+            output: self.output.clone()?,
             fail: self.fail,
             output_pos: self.output_pos,
         })

@@ -100,6 +100,7 @@ pub(super) fn add_pattern<L: EdgeLabel, V: Copy, A: Allocator + Copy>(
     for label in pattern {
         id = child_or_new(states, id, *label)?;
     }
-    states[id as usize].output.push((value, size))?;
+    let alloc = *states.allocator();
+    states[id as usize].output.push(alloc, (value, size))?;
     Ok(())
 }

@@ -9,12 +9,14 @@ ghost use Rattle.daachorse_core.specs.Chains.{Passes};
 ghost use Rattle.daachorse_core.specs.Refusals.{IsRefusal};
 ghost use Rattle.daachorse_core.specs.declared.errors.Limit.TheVariants.{Outputs};
 ghost use Rattle.daachorse_core.specs.declared.outputs.Output.{Output as OutputOf};
+ghost use Rattle.daachorse_build.specs.Few.{items_of};
 ghost use Rattle.daachorse_build.specs.Tables.{fails_of, positions_of, own_of, own_at, output_count, stops_of, HoldTrie};
 ghost use Rattle.daachorse_build.specs.Orders.{HoldLeftLinks};
 ghost use Rattle.daachorse_build.specs.Growth.{HasTrieOf};
 ghost use Rattle.daachorse_build.specs.Lists.{PositionsFit, AreListed, AreChained, IsParent};
 
 use super::{DEAD_STATE_ID, NfaBuilderState, ROOT_STATE_ID};
+use crate::few::Few;
 use daachorse_core::Output;
 use daachorse_core::edge_label::EdgeLabel;
 use daachorse_core::errors::{DaachorseError, Limit, Result};
@@ -25,19 +27,19 @@ use std::num::NonZeroU32;
 /// begins.
 fn push_chain<V: Copy, A: Allocator>(
     outputs: &mut Vec<Output<V>, A>,
-    own: &[(V, u32)],
+    own: &Few<(V, u32), A>,
     parent: u32,
 ) -> Result<u32>
     requires parents { ParentsFall outputs.old.items }
     requires parent { parent ≤ vec_len outputs.old }
     ensures longer { (more : List (OutputOf V)) × (outputs.new.items ≡ outputs.old.items ++ more) }
     ensures parents { ParentsFall outputs.new.items }
-    ensures count { OnOk result (vec_len outputs.new ≡ vec_len outputs.old + length own.now) }
+    ensures count { OnOk result (vec_len outputs.new ≡ vec_len outputs.old + length (items_of own.now)) }
     ensures few { OnOk result (vec_len outputs.old ≤ 4294967295 → vec_len outputs.new ≤ 4294967295) }
     ensures fits { IfOk result (λ position. position ≤ vec_len outputs.new) }
-    ensures list { IfOk result (λ position. outputs_at outputs.new.items position ≡ own.now ++ outputs_at outputs.old.items parent) }
-    ensures passes { IfOk result (λ position. Passes outputs.new.items position own.now parent) }
-    ensures refused { IfErr result (IsRefusal ⊥ Outputs (4294967295 < vec_len outputs.old + length own.now)) }
+    ensures list { IfOk result (λ position. outputs_at outputs.new.items position ≡ items_of own.now ++ outputs_at outputs.old.items parent) }
+    ensures passes { IfOk result (λ position. Passes outputs.new.items position (items_of own.now) parent) }
+    ensures refused { IfErr result (IsRefusal ⊥ Outputs (4294967295 < vec_len outputs.old + length (items_of own.now))) }
 {
     let mut last = parent;
     let mut i = own.len();
@@ -46,7 +48,7 @@ fn push_chain<V: Copy, A: Allocator>(
         if outputs.len() >= u32::MAX as usize {
             return Err(DaachorseError::automaton_scale(Limit::Outputs));
         }
-        let output = own[i];
+        let output = own.at(i);
         outputs.push(Output::new(output.0, output.1, NonZeroU32::new(last)))?;
         last = outputs.len() as u32;
     }

@@ -2,7 +2,6 @@
 use Rattle.std.proofs.Common.{rules, ◌≡◌, ◌≤◌, ◌+◌, ◌⊎◌, true, false, List, length, map, sym, ap, ◌∙◌, inl, inr, arith, ◌++◌, ◌∷◌, [], ℕ}
 use Rattle.std.proofs.lemmas.List.{length_push}
 use Rattle.std.proofs.lemmas.Result.{err_from_is_err_and, IfOk-from_err}
-use Rattle.std.proofs.lemmas.Grind.{elements}
 use Rattle.std.specs.declared.cmp.Ordering.{Ordering}
 use Rattle.daachorse_model.specs.declared.MatchKind.{MatchKind}
 use Rattle.daachorse_model.specs.Units.{size}
@@ -10,6 +9,7 @@ use Rattle.daachorse_model.specs.Kinds.{is_leftmost_first}
 use Rattle.daachorse_model.specs.Dictionary.{kept}
 use Rattle.daachorse_core.specs.declared.errors.Limit.TheVariants.{StateId}
 use Rattle.daachorse_build.specs.declared.nfa_builder.NfaBuilderState.{NfaBuilderState}
+use Rattle.daachorse_build.specs.Builders.{states_of}
 use Rattle.daachorse_build.specs.Tables.{child_of, stops_of}
 use Rattle.daachorse_build.specs.Left.{meets_early}
 use Rattle.daachorse_build.specs.Holds.{in_units, Holds}
@@ -107,4 +107,6 @@ pub returns-in_err-add_pattern-clause-fits : goal.returns-in_err-add_pattern-cla
 returns-in_err-add_pattern-clause-fits g c = IfOk-from_err c.from_residual-in_err-add_pattern.result _ c.from_residual-in_err-add_pattern.ensures.0
 
 pub returns-clause-fits : goal.returns-clause-fits
-returns-clause-fits g c = grind (arith, elements)
+returns-clause-fits g c = λ fits.
+    let was = ap (λ b. length (states_of b)) c.self.view_is in
+    omega (arith, c.in_ok-add_pattern.ensures.fits (omega (arith, was, fits)))

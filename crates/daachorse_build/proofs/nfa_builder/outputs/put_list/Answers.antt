@@ -1,5 +1,5 @@
 -- One position is written, and nothing else in the states changes.
-use Rattle.std.proofs.Common.{◌≡◌, ◌<◌, ℕ, List, [], ◌++◌, length, get_or, sym, ap, ◌∙◌, subst, arith, get_or-set_same, get_or-set_other}
+use Rattle.std.proofs.Common.{◌≡◌, ◌<◌, ℕ, List, [], ◌++◌, length, get_or, refl, sym, ap, ◌∙◌, subst, arith, get_or-set_same, get_or-set_other}
 use Rattle.std.proofs.lemmas.List.{length-map, get_or-map, set-get_or}
 use Rattle.std.proofs.lemmas.Result.{err_from_is_err_and, IfOk-from_err}
 use Rattle.std.proofs.lemmas.Grind.{common_steps}
@@ -8,11 +8,12 @@ use Rattle.daachorse_core.specs.Chains.{Passes}
 use Rattle.daachorse_build.specs.declared.nfa_builder.NfaBuilderState.{NfaBuilderState}
 use Rattle.daachorse_build.specs.Tables.{edges_of, fails_of, own_at, own_of, positions_of}
 use Rattle.daachorse_build.proofs.States.{position_set}
+use Rattle.daachorse_build.specs.Few.{items_of}
 use Rattle.daachorse_build.proofs.nfa_builder.outputs.put_list.Goals as goal
 
 -- the own outputs of the state at an index
-own_here : {L V A : Type 0} (states : List (NfaBuilderState L V A)) (i : ℕ) (x : NfaBuilderState L V A) (own : List (V × ℕ)) → i < length states → own ≡ (get_or states i x).output.items → own_at (own_of states) i ≡ own
-own_here states i x own l e = get_or-map (λ s. s.output.items) states i x [] l ∙ sym e
+own_here : {L V A : Type 0} (states : List (NfaBuilderState L V A)) (i : ℕ) (x : NfaBuilderState L V A) (own : List (V × ℕ)) → i < length states → own ≡ items_of (get_or states i x).output → own_at (own_of states) i ≡ own
+own_here states i x own l e = get_or-map (λ s. items_of s.output) states i x [] l ∙ sym e
 
 pub returns-in_err-state-clause-kept : goal.returns-in_err-state-clause-kept
 returns-in_err-state-clause-kept g c =
@@ -43,7 +44,7 @@ returns-in_err-state-clause-others g c = IfOk-from_err c.from_residual.result _ 
 pub returns-in_err-state-clause-refused : goal.returns-in_err-state-clause-refused
 returns-in_err-state-clause-refused g c =
     let p = err_from_is_err_and c.from_residual.result c.from_residual.ensures.1 in
-    let own = own_here c.args.states.now c.args.id c.index-states-id.result c.deref.result.now c.requires.id c.deref.ensures.value in
+    let own = own_here c.args.states.now c.args.id c.index-states-id.result _ c.requires.id refl in
     rw (p.1, p.2) (rw own c.in_err-state.ensures.refused)
 
 pub returns-clause-kept : goal.returns-clause-kept
@@ -56,7 +57,7 @@ returns-clause-fails g c =
 
 pub returns-clause-count : goal.returns-clause-count
 returns-clause-count g c =
-    let own = own_here c.args.states.now c.args.id c.index-states-id.result c.deref.result.now c.requires.id c.deref.ensures.value in
+    let own = own_here c.args.states.now c.args.id c.index-states-id.result _ c.requires.id refl in
     rw own c.in_ok-state.ensures.count
 
 pub returns-clause-fits : goal.returns-clause-fits
@@ -73,7 +74,7 @@ returns-clause-list g c =
     let count : c.args.id < length (positions_of states) = omega (arith, c.requires.id, length-map states (λ s. s.output_pos)) in
     let set' = (position_set states c.args.id c.index-states-id.result _ c.in_ok-state.field-0 c.requires.id c.index-states-id.is (ap (λ (s : NfaBuilderState g.row.L.Denot g.row.V.Denot g.row.A.Denot). record s { output_pos = c.in_ok-state.field-0 }) (sym c.index-states-id.is))).2 in
     let here = ap (λ ps. get_or ps c.args.id 0) set' ∙ get_or-set_same (positions_of states) c.args.id c.in_ok-state.field-0 0 count in
-    let own = own_here states c.args.id c.index-states-id.result c.deref.result.now c.requires.id c.deref.ensures.value in
+    let own = own_here states c.args.id c.index-states-id.result _ c.requires.id refl in
     ap (λ q. outputs_at c.push_chain.new.outputs.items q) here ∙ c.in_ok-state.ensures.list ∙ ap (λ os. os ++ outputs_at c.args.outputs.now.items c.args.parent) (sym own)
 
 pub returns-clause-passes : goal.returns-clause-passes
@@ -82,7 +83,7 @@ returns-clause-passes g c =
     let count : c.args.id < length (positions_of states) = omega (arith, c.requires.id, length-map states (λ s. s.output_pos)) in
     let set' = (position_set states c.args.id c.index-states-id.result _ c.in_ok-state.field-0 c.requires.id c.index-states-id.is (ap (λ (s : NfaBuilderState g.row.L.Denot g.row.V.Denot g.row.A.Denot). record s { output_pos = c.in_ok-state.field-0 }) (sym c.index-states-id.is))).2 in
     let here = ap (λ ps. get_or ps c.args.id 0) set' ∙ get_or-set_same (positions_of states) c.args.id c.in_ok-state.field-0 0 count in
-    let own = own_here states c.args.id c.index-states-id.result c.deref.result.now c.requires.id c.deref.ensures.value in
+    let own = own_here states c.args.id c.index-states-id.result _ c.requires.id refl in
     let P : ℕ → Type 0 = λ p. Passes c.push_chain.new.outputs.items p (own_at (own_of states) c.args.id) c.args.parent in
     let Q : List (g.row.V.Denot × ℕ) → Type 0 = λ os. Passes c.push_chain.new.outputs.items c.in_ok-state.field-0 os c.args.parent in
     subst P (sym here) (subst Q (sym own) c.in_ok-state.ensures.passes)

@@ -20,6 +20,7 @@ use Rattle.daachorse_build.proofs.Passes.{chained_start, chained_more}
 use Rattle.daachorse_build.proofs.OutputLists.{listed_start, listed_more, fits_more, fail_known, none_left, order-bounds}
 use Rattle.daachorse_core.proofs.Refusals.{IsRefusal-weaker}
 use Rattle.daachorse_core.specs.Chains.{Passes}
+use Rattle.daachorse_build.specs.Few.{items_of}
 use Rattle.daachorse_build.proofs.nfa_builder.outputs.put_lists.Goals as goal
 
 -- as many states, at a trie's twin
@@ -45,7 +46,7 @@ module _ {L V A : Type 0} (cmp : L → L → Ordering) (total : IsTotalOrder cmp
   count_next =
       let t = get_or order i 0 in
       let b = order-bounds cmp total exact stops old table order (fails_of old) links t (in_at order i l) in
-      let low : t < length (own_of old) = omega (arith, b.1, length-map old (λ s. s.edges), length-map old (λ s. s.output.items)) in
+      let low : t < length (own_of old) = omega (arith, b.1, length-map old (λ s. s.edges), length-map old (λ s. items_of s.output)) in
       let apart : IsIn (0 ∷ take i order) t → ⊥ = λ h.
       elim h [
         | inl e ↦ omega (arith, e, b.0)
@@ -62,7 +63,7 @@ pub returns-in_err-put_list-clause-refused : goal.returns-in_err-put_list-clause
 returns-in_err-put_list-clause-refused g c =
     let p = err_from_is_err_and c.from_residual.result c.from_residual.ensures.1 in
     let states = c.args.states.now in
-    let two : 0 < length (own_of states) = omega (arith, c.requires.trie.trie.two, length-map states (λ s. s.edges), length-map states (λ s. s.output.items)) in
+    let two : 0 < length (own_of states) = omega (arith, c.requires.trie.trie.two, length-map states (λ s. s.edges), length-map states (λ s. items_of s.output)) in
     let count = first_cleared (own_of states) two in
     let none = ap length c.requires.unbuilt in
     let fewer : 4294967295 < vec_len c.args.outputs.now + length (own_at (own_of states) 0) → 4294967295 < output_count (own_of states) = λ h. omega (arith, h, count, none) in
@@ -72,7 +73,7 @@ pub loop-id-init : goal.loop-id-init
 loop-id-init g c =
     let e = c.in_ok-put_list.ensures in
     let states = c.args.states.now in
-    let two : 0 < length (own_of states) = omega (arith, c.requires.trie.trie.two, length-map states (λ s. s.edges), length-map states (λ s. s.output.items)) in
+    let two : 0 < length (own_of states) = omega (arith, c.requires.trie.trie.two, length-map states (λ s. s.edges), length-map states (λ s. items_of s.output)) in
     record {
       kept = e.kept;
       fails = e.fails;

@@ -2,7 +2,6 @@
 use Rattle.std.proofs.Common.{◌≡◌, ◌<◌, ℕ, not, List, [], ◌∷◌, ◌++◌, length, get_or, refl, sym, ap, ◌∙◌, subst, arith}
 use Rattle.std.proofs.lemmas.List.{length-map, get_or-map, append-nil}
 use Rattle.std.proofs.lemmas.List.Elements.{All-push}
-use Rattle.std.proofs.lemmas.Grind.{common_steps}
 use Rattle.std.proofs.lemmas.Result.{IfOk-from_err}
 use Rattle.std.specs.List.{filter}
 use Rattle.std.specs.Map.{values_of}
@@ -148,9 +147,6 @@ returns-clause-parents g c =
     let zero' : length c.loop-id.stack.items ≡ 0 = omega (arith, c.in_default.ensures.cases.0) in
     let none = nothing c.loop-id.stack.items zero' in
     (walk.0, walk_end g.L.Ord.cmp g.met.L.Ord.total edges c.requires.trie walk.0 (subst P none walk.1), walk.2)
-
-pub returns-in_err-push-clause-refused : goal.returns-in_err-push-clause-refused
-returns-in_err-push-clause-refused g c = grind (arith, common_steps)
 
 pub returns-in_err-push-clause-parents : goal.returns-in_err-push-clause-parents
 returns-in_err-push-clause-parents g c = IfOk-from_err c.from_residual.result _ c.from_residual.ensures.0

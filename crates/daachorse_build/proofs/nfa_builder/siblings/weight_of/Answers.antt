@@ -42,6 +42,9 @@ weight_start p w e fits = omega arith
 weight_step : (p s v w r : ℕ) → w ≡ min (p + s) (2 ^ 64 - 1) → r ≡ min (w + v) (2 ^ 64 - 1) → r ≡ min (p + (s + v)) (2 ^ 64 - 1)
 weight_step p s v w r e f = omega arith
 
+if_counted-none : (xs : List ℕ) (n : ℕ) → xs ≡ [] → if_counted xs n ≡ 0
+if_counted-none xs n e = ap (λ ys. if_counted ys n) e
+
 if_counted-some : (xs : List ℕ) (n : ℕ) → (xs ≡ [] → ⊥) → if_counted xs n ≡ n
 if_counted-some [] n ne = absurd (ne refl)
 if_counted-some (x ∷ xs) n ne = refl
@@ -112,7 +115,7 @@ pub offset_bounds-states-parent : goal.offset_bounds-states-parent
 offset_bounds-states-parent g c = omega (arith, c.requires.parent)
 
 pub returns-then-is_empty : goal.returns-then-is_empty
-returns-then-is_empty g c = grind (arith, common_steps)
+returns-then-is_empty g c = sym (if_counted-none c.args.profile.now.visits.items _ (c.if-is_empty.ensures.0 refl))
 
 pub index-weight-requires : goal.index-weight-requires
 index-weight-requires g c = grind (arith, common_steps)

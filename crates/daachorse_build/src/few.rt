@@ -1,0 +1,98 @@
+//! A list of few items, kept in two words where an item takes one.
+//!
+//! A trie has a state for nearly each byte of its patterns, and most of these have one edge and no
+//! output. So a list keeps one item in itself, and more of them in a vector behind a pointer. The
+//! modules of this crate may rely on a list being its items in order, on `push` adding one behind
+//! the others, and on a list that was refused memory being as it was.
+
+ghost use Rattle.std.specs.Prelude.{◌≡◌, ◌==◌, ◌<◌, ◌++◌, ◌∷◌, [], Some, length, IfOk, IfErr, OnOk, OnErr};
+ghost use Rattle.std.specs.List.{slice_get};
+ghost use Rattle.daachorse_core.specs.Refusals.{IsOutOfMemory};
+ghost use Rattle.daachorse_build.specs.Few.{items_of};
+
+use daachorse_core::errors::Result;
+use std::alloc::Allocator;
+
+/// The items of a list, in order.
+#[derive(Drop)]
+pub(crate) enum Few<T: Copy, A: Allocator> {
+    Empty,
+    One(T),
+    // It is longer only where more than one was put in.
+    Many(Box<Vec<T, A>, A>),
+}
+
+impl<T: Copy, A: Allocator> Few<T, A> {
+    /// How many items there are.
+    pub(crate) fn len(&self) -> usize
+        ensures { result ≡ length (items_of self.now) }
+    {
+        match self {
+            Few::Empty => 0,
+            Few::One(_) => 1,
+            Few::Many(items) => items.len(),
+        }
+    }
+
+    /// Whether there is no item.
+    pub(crate) fn is_empty(&self) -> bool
+        ensures { result ≡ (length (items_of self.now) == 0) }
+    {
+        self.len() == 0
+    }
+
+    /// The item at a place.
+    pub(crate) fn at(&self, place: usize) -> T
+        requires { place < length (items_of self.now) }
+        ensures { slice_get (items_of self.now) place ≡ Some result }
+    {
+        match self {
+            Few::Empty => unreachable!(),
+            Few::One(item) => *item,
+            Few::Many(items) => items[place],
+        }
+    }
+}
+
+impl<T: Copy, A: Allocator + Copy> Few<T, A> {
+    /// Two items. It takes memory for the vector and for what points to it.
+    pub(crate) fn two(alloc: A, first: T, second: T) -> Result<Self>
+        ensures items { IfOk result (λ few. items_of few ≡ first ∷ second ∷ []) }
+        ensures refused { IfErr result IsOutOfMemory }
+    {
+        let mut items = Vec::with_capacity(alloc, 2)?;
+        items.push(first)?;
+        items.push(second)?;
+        Ok(Few::Many(Box::new(alloc, items)?))
+    }
+
+    /// Puts an item behind the others. The second is the first that takes memory.
+    pub(crate) fn push(&mut self, alloc: A, item: T) -> Result<()>
+        ensures items { OnOk result (items_of self.new ≡ items_of self.old ++ item ∷ []) }
+        ensures unchanged { OnErr result (items_of self.new ≡ items_of self.old) }
+        ensures refused { IfErr result IsOutOfMemory }
+    {
+        match self {
+            Few::Empty => *self = Few::One(item),
+            Few::One(only) => *self = Few::two(alloc, *only, item)?,
+            Few::Many(items) => items.push(item)?,
+        }
+        Ok(())
+    }
+
+    /// A list of the same items, in memory of its own.
+    pub(crate) fn clone(&self) -> Result<Self>
+        ensures same { IfOk result (λ few. items_of few ≡ items_of self.now) }
+        ensures refused { IfErr result IsOutOfMemory }
+    {
+        match self {
+            Few::Empty => Ok(Few::Empty),
+            Few::One(item) => Ok(Few::One(*item)),
+            Few::Many(items) => {
+                let alloc = *items.allocator();
+                let items = Vec::from_slice(alloc, items.as_slice())?;
+                Ok(Few::Many(Box::new(alloc, items)?))
+            }
+        }
+    }
+}

@@ -1,17 +1,18 @@
 -- What is left of a walk over the patterns: an element's values one by one, and then those of the element that is taken next.
-use Rattle.std.proofs.Common.{◌≡◌, ◌≢◌, ℕ, zero, suc, ◌+◌, ◌-◌, ◌<◌, ◌≤◌, ◌⊎◌, inl, inr, List, [], ◌∷◌, ◌++◌, length, map, reverse, set, take, Option, Some, refl, sym, ap, ◌∙◌, arith, subst, sub-one, length-append}
+use Rattle.std.proofs.Common.{◌≡◌, ◌≢◌, ℕ, zero, suc, ◌+◌, ◌-◌, ◌<◌, ◌≤◌, ◌⊎◌, inl, inr, List, [], ◌∷◌, ◌++◌, length, map, reverse, take, Option, Some, refl, sym, ap, ◌∙◌, arith, subst, sub-one, length-append}
 use Rattle.std.specs.Prelude.{slice_get}
-use Rattle.std.proofs.lemmas.List.{nil_from_length, reverse-append}
+use Rattle.std.proofs.lemmas.List.{nil_from_length, reverse-append, take_all}
 use Rattle.daachorse_core.specs.declared.outputs.Output.{Output}
 use Rattle.daachorse_core.specs.Outputs.{value_of, parent_of}
 use Rattle.daachorse_machine.specs.Texts.{IsReached, text_of}
 use Rattle.daachorse_listing.specs.Edges.{children, put_before}
 use Rattle.daachorse_listing.specs.Listing.{AreEntries, IsEntry, values_until, with_values, patterns_of, left_of, unit_of, IsWalking}
 use Rattle.daachorse_listing.specs.Trees.{IsWalk, elements_of, taken_from}
-use Rattle.daachorse_listing.proofs.EntryLaws.{entries-elements, entries-longer, entries-put, entries-written, text-written, child-entry, written-room}
+use Rattle.daachorse_listing.proofs.EntryLaws.{entries-elements, entries-longer, entries-put, entries-written, text-written, child-entry}
 use Rattle.daachorse_listing.proofs.ListingLaws.{values_until-step, values_until-end}
-use Rattle.daachorse_listing.proofs.Members.{All-among, among-children, elements-pop, length-elements}
-use Rattle.daachorse_listing.proofs.WalkLaws.{reached-inside, text-short, walk-next, walk-pop, taken-none, taken-room, taken-step}
+use Rattle.daachorse_listing.proofs.Members.{All-among, among-children, elements-pop, length-elements, length-put}
+use Rattle.daachorse_listing.proofs.RoomLaws.{aside-leaves, text-parents}
+use Rattle.daachorse_listing.proofs.WalkLaws.{reached-inside, walk-next, walk-pop, taken-none, taken-step}
 
 -- ---- the values of a text
 
@@ -39,8 +40,8 @@ rest-of-none child n m outputs first stop aside e =
 
 -- ---- the next element
 
-module _ {V : Type 0} {child : ℕ → ℕ → Option ℕ} {group : ℕ → Option ℕ} {edge : ℕ → Option (ℕ × ℕ)} {n m : ℕ} {outputs : List (Output V)} {first : ℕ → ℕ} (stop : ℕ → ℕ) (groups : List (List ℕ)) (aside : List (ℕ × ℕ)) (buffer : List ℕ) (depth position room room_for_children : ℕ)
-    (w : IsWalking child group edge n m outputs first groups aside buffer depth position room room_for_children) where
+module _ {V : Type 0} {child : ℕ → ℕ → Option ℕ} {group : ℕ → Option ℕ} {edge : ℕ → Option (ℕ × ℕ)} {n m : ℕ} {outputs : List (Output V)} {first : ℕ → ℕ} (stop : ℕ → ℕ) (groups : List (List ℕ)) (aside : List (ℕ × ℕ)) (last_text : List ℕ) (position room room_for_children room_for_text : ℕ)
+    (w : IsWalking child group edge n m outputs first groups aside last_text position room room_for_children room_for_text) where
   module _ (rest : List (ℕ × ℕ)) (d x : ℕ) (e : aside ≡ rest ++ (d, x) ∷ []) where
     abbrev kids : List ℕ
     kids = children child x m
@@ -57,14 +58,20 @@ module _ {V : Type 0} {child : ℕ → ℕ → Option ℕ} {group : ℕ → Opti
     pub next-reached : IsReached child m n x
     next-reached = under.reached x (inr (inl refl))
 
-    entries : AreEntries child n m buffer (suc depth) ((d, x) ∷ reverse rest)
-    entries = let P : List (ℕ × ℕ) → Type 0 = AreEntries child n m buffer (suc depth) in subst P (ap reverse e ∙ reverse-append rest ((d, x) ∷ [])) w.entries
+    entries : AreEntries child n m last_text (suc (length last_text)) ((d, x) ∷ reverse rest)
+    entries = let P : List (ℕ × ℕ) → Type 0 = AreEntries child n m last_text (suc (length last_text)) in subst P (ap reverse e ∙ reverse-append rest ((d, x) ∷ [])) w.entries
 
     pub next-deep : d ≡ length (text_of child m n x)
     next-deep = entries.1.0
 
     pub next-room : length rest + length kids ≤ room
-    next-room = let few = taken-room w.patterns.tree taken (elements_of rest) x under in omega (arith, few, length-elements rest, w.wide)
+    next-room =
+        let after = walk-next w.patterns.tree taken (elements_of rest) x under in
+        let few = aside-leaves w.patterns.tree w.patterns.tell (put_before kids (elements_of rest)) after.apart (λ i a. after.reached i (inr a)) in
+        omega (arith, few, length-put kids (elements_of rest), length-elements rest, w.wide)
+
+    pub next-text-room : d ≤ room_for_text
+    next-text-room = let few = text-parents w.patterns.tree x next-reached in omega (arith, few, next-deep, w.wide_for_text)
 
     -- the next element's values come
     next-left : patterns_of (text_of child m n) outputs first stop (taken_from child n m n (elements_of aside))
@@ -85,31 +92,37 @@ module _ {V : Type 0} {child : ℕ → ℕ → Option ℕ} {group : ℕ → Opti
     values-own zero end is ends = ap (values_until outputs (stop x)) is
     values-own (suc k) end is ends = ap (λ t. values_until outputs t (suc k)) (ends (omega arith)) ∙ ap (values_until outputs (stop x)) is
 
-    module _ (new : List ℕ) (none : d ≡ 0 → new ≡ buffer) (last : 0 < d → new ≡ set buffer (d - 1) (unit_of (edge x)))
+    module _ (new : List ℕ) (none : d ≡ 0 → new ≡ []) (last : 0 < d → new ≡ take (d - 1) last_text ++ unit_of (edge x) ∷ [])
         (more : List (ℕ × ℕ)) (put : reverse more ≡ put_before (map (λ j. (suc d, j)) kids) (reverse rest)) (at : ℕ) (is : at ≡ first x) where
-      next-text : take d new ≡ text_of child m n x
-      next-text = text-written w.patterns.tree w.patterns.tell buffer new w.size x d next-reached entries.1 none last
+      next-text : new ≡ text_of child m n x
+      next-text = text-written w.patterns.tree w.patterns.tell last_text new x d next-reached entries.1 none last
 
-      pub next-walking : (more_room more_room_for_children : ℕ) → n ≤ more_room → n ≤ more_room_for_children → IsWalking child group edge n m outputs first groups more new d at more_room more_room_for_children
-      next-walking more_room more_room_for_children wide wide_for_children = record {
+      next-begun : take d new ≡ text_of child m n x
+      next-begun = ap (take d) next-text ∙ take_all d (text_of child m n x) (omega (arith, next-deep))
+
+      next-long : length new ≡ d
+      next-long = ap length next-text ∙ sym next-deep
+
+      pub next-walking : (more_room more_room_for_children more_room_for_text : ℕ) → room ≤ more_room → room_for_children ≤ more_room_for_children → room_for_text ≤ more_room_for_text
+          → IsWalking child group edge n m outputs first groups more new at more_room more_room_for_children more_room_for_text
+      next-walking more_room more_room_for_children more_room_for_text wide wide_for_children wide_for_text = record {
         patterns = w.patterns;
         groups_are = w.groups_are;
         each = w.each;
         walk = λ some. (taken ++ x ∷ [], (let P : List ℕ → Type 0 = λ l. IsWalk child n m (taken ++ x ∷ []) l in subst P (sym (next-aside more put)) (walk-next w.patterns.tree taken (elements_of rest) x under)));
-        entries = let P : List (ℕ × ℕ) → Type 0 = AreEntries child n m new (suc d) in
-            subst P (sym put) (entries-put child n m new (suc d) kids (reverse rest)
-            (All-among (λ j. IsEntry child n m new (suc d, j)) kids (λ j a. (let kid = among-children child x m j a in child-entry w.patterns.tree new x d kid.0 j next-reached next-deep next-text kid.1)))
-            (entries-longer child n m new d (suc d) (reverse rest) (omega arith) (entries-written child n m buffer new d (unit_of (edge x)) d (reverse rest) none last (omega arith) entries.2)));
-        size = written-room buffer new d (unit_of (edge x)) n w.size none last;
-        short = let short = text-short w.patterns.tree x next-reached in omega (arith, next-deep, short);
+        entries = let P : List (ℕ × ℕ) → Type 0 = AreEntries child n m new (suc (length new)) in
+            subst P (sym put) (entries-longer child n m new (suc d) (suc (length new)) (put_before (map (λ j. (suc d, j)) kids) (reverse rest)) (omega (arith, next-long)) (entries-put child n m new (suc d) kids (reverse rest)
+            (All-among (λ j. IsEntry child n m new (suc d, j)) kids (λ j a. (let kid = among-children child x m j a in child-entry w.patterns.tree new x d kid.0 j next-reached next-deep next-begun kid.1)))
+            (entries-longer child n m new d (suc d) (reverse rest) (omega arith) (entries-written child n m last_text new d d (reverse rest) (ap (take (d - 1)) next-text ∙ sym entries.1.1) (omega arith) entries.2))));
         inside = let inside = w.patterns.inside x (reached-inside w.patterns.tree x next-reached) in omega (arith, inside, is);
-        wide = wide;
-        wide_for_children = wide_for_children;
+        wide = omega (arith, wide, w.wide);
+        wide_for_children = λ g less. (let few = w.wide_for_children g less in omega (arith, few, wide_for_children));
+        wide_for_text = omega (arith, wide_for_text, w.wide_for_text);
       }
 
       -- what was left are its values and what is left behind it
       pub next-left-of : (end : ℕ) → (0 < at → end ≡ stop x)
-          → left_of child n m outputs first stop (take d new) (elements_of more) end at ≡ patterns_of (text_of child m n) outputs first stop (taken_from child n m n (elements_of aside))
+          → left_of child n m outputs first stop new (elements_of more) end at ≡ patterns_of (text_of child m n) outputs first stop (taken_from child n m n (elements_of aside))
       next-left-of end ends =
           ap (λ t. with_values t (values_until outputs end at) ++ patterns_of (text_of child m n) outputs first stop (taken_from child n m n (elements_of more))) next-text
           ∙ (ap (λ vs. with_values (text_of child m n x) vs ++ patterns_of (text_of child m n) outputs first stop (taken_from child n m n (elements_of more))) (values-own at end is ends)

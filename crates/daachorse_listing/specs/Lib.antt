@@ -5,3 +5,4 @@ pub mod Depths
 pub mod Automata
 pub mod Listing
 pub mod EqualOutputs
+pub mod Room

@@ -7,6 +7,7 @@ use Rattle.daachorse_core.specs.Outputs.{value_of, parent_of, ParentsFall}
 use Rattle.daachorse_machine.specs.Machines.{Machine}
 use Rattle.daachorse_machine.specs.Texts.{text_of}
 use Rattle.daachorse_listing.specs.Edges.{IsTree, TellChildren, members}
+use Rattle.daachorse_listing.specs.Room.{num_parents, num_leaves}
 use Rattle.daachorse_listing.specs.Trees.{IsListed, IsWalk, elements_of, taken_from}
 
 -- the unit of an edge
@@ -62,28 +63,27 @@ module _ {V : Type 0} (child : ℕ → ℕ → Option ℕ) (n m : ℕ) (outputs 
   left_of text aside end position =
       with_values text (values_until outputs end position) ++ patterns_of (text_of child m n) outputs first stop (taken_from child n m n aside)
 
-module _ (child : ℕ → ℕ → Option ℕ) (n m : ℕ) (buffer : List ℕ) where
-  -- an element behind the length of its text, of which all units but the last stand in the buffer
+module _ (child : ℕ → ℕ → Option ℕ) (n m : ℕ) (last_text : List ℕ) where
+  -- an element behind the length of its text, which begins as the text of the element that was taken last in all units but its own last
   abbrev pub IsEntry : ℕ × ℕ → Type 0
-  IsEntry e = (e.0 ≡ length (text_of child m n e.1)) × (take (e.0 - 1) buffer ≡ take (e.0 - 1) (text_of child m n e.1))
+  IsEntry e = (e.0 ≡ length (text_of child m n e.1)) × (take (e.0 - 1) last_text ≡ take (e.0 - 1) (text_of child m n e.1))
 
   -- entries whose texts are at most so long, and none longer than that of an entry before it
   abbrev pub AreEntries : ℕ → List (ℕ × ℕ) → Type 0
   AreEntries most [] = Unit {0}
   AreEntries most (e ∷ entries) = (e.0 ≤ most) × IsEntry e × AreEntries e.0 entries
 
--- What holds of a walk over the patterns: so many units of a buffer are the text of the element that was taken last, and there is room for what is put aside.
-pub record IsWalking {V : Type 0} (child : ℕ → ℕ → Option ℕ) (group : ℕ → Option ℕ) (edge : ℕ → Option (ℕ × ℕ)) (n m : ℕ) (outputs : List (Output V)) (first : ℕ → ℕ) (groups : List (List ℕ)) (aside : List (ℕ × ℕ)) (buffer : List ℕ) (depth position room room_for_children : ℕ) : Type 0 where
+-- What holds of a walk over the patterns, with the text of the element that was taken last: there is room for what is put aside, for the children of one element and for each text.
+pub record IsWalking {V : Type 0} (child : ℕ → ℕ → Option ℕ) (group : ℕ → Option ℕ) (edge : ℕ → Option (ℕ × ℕ)) (n m : ℕ) (outputs : List (Output V)) (first : ℕ → ℕ) (groups : List (List ℕ)) (aside : List (ℕ × ℕ)) (last_text : List ℕ) (position room room_for_children room_for_text : ℕ) : Type 0 where
   pub patterns : HasPatterns child group edge n m outputs first
   pub groups_are : (g : ℕ) → g < n → slice_index_or groups g [] ≡ members edge g n
   pub each : length groups ≡ n
   pub walk : 0 < length aside → (taken : List ℕ) × IsWalk child n m taken (elements_of aside)
-  pub entries : AreEntries child n m buffer (suc depth) (reverse aside)
-  pub size : length buffer ≡ n
-  pub short : depth ≤ n
+  pub entries : AreEntries child n m last_text (suc (length last_text)) (reverse aside)
   pub inside : position ≤ length outputs
-  pub wide : n ≤ room
-  pub wide_for_children : n ≤ room_for_children
+  pub wide : num_leaves child edge n m ≤ room
+  pub wide_for_children : (g : ℕ) → g < n → length (members edge g n) ≤ room_for_children
+  pub wide_for_text : num_parents child n m ≤ room_for_text
 
 -- A call gives the first pattern, or an error behind which nothing is left; `text` reads the key.
 abbrev pub GivesPattern : {K V : Type 0} → (K → List ℕ) → List (List ℕ × V) → Option (Result (K × V) DaachorseError) → List (List ℕ × V) → Type 0

@@ -23,7 +23,8 @@ pub(crate) fn put_aside<E: Edges, A: Allocator>(
         → slice_index_or groups.now g [] ≡ members (E.edge edges.now) g (E.count edges.now) }
     requires each { length groups.now ≡ E.count edges.now }
     requires element { element < E.count edges.now }
-    requires list { E.count edges.now ≤ vec_capacity list.old }
+    requires list { (g : ℕ) → g < E.count edges.now
+        → length (members (E.edge edges.now) g (E.count edges.now)) ≤ vec_capacity list.old }
     requires room { length aside.old.items + length (children (E.child edges.now) element (E.units edges.now)) ≤ vec_capacity aside.old }
     ensures aside { reverse aside.new.items ≡ put_before (map (λ j. (depth, j)) (children (E.child edges.now) element (E.units edges.now))) (reverse aside.old.items) }
     ensures capacity { vec_capacity aside.new ≡ vec_capacity aside.old }
@@ -75,7 +76,8 @@ fn list_children<E: Edges, A: Allocator>(
         → slice_index_or groups.now g [] ≡ members (E.edge edges.now) g (E.count edges.now) }
     requires each { length groups.now ≡ E.count edges.now }
     requires element { element < E.count edges.now }
-    requires room { E.count edges.now ≤ vec_capacity list.old }
+    requires room { (g : ℕ) → g < E.count edges.now
+        → length (members (E.edge edges.now) g (E.count edges.now)) ≤ vec_capacity list.old }
     ensures all { elements_of list.new.items ≡ children (E.child edges.now) element (E.units edges.now) }
     ensures capacity { vec_capacity list.new ≡ vec_capacity list.old }
 {

@@ -9,4 +9,5 @@ mod children;
 pub mod depths;
 pub mod edges;
 pub mod patterns;
+mod room;
 pub mod siblings;

@@ -4,15 +4,18 @@
 //! order; and on one error, and then the end, where memory is refused.
 //!
 //! The text of an element begins with that of its parent, and so does each text from there to its
-//! own in their order. So a walk keeps one text, whose unit at the depth that it comes to is written.
+//! own in their order. So a walk keeps one text, of which it writes the last unit of each element
+//! that it comes to. What it needs room for it counts before it starts, so that memory is refused
+//! there, or with a pattern that is to be given.
 
-ghost use Rattle.std.specs.Prelude.{◌≡◌, ◌<◌, ◌≤◌, ◌-◌, ℕ, List, [], Some, length, map, slice_get, slice_set, IfOk, IfErr};
+ghost use Rattle.std.specs.Prelude.{◌≡◌, ◌<◌, ◌≤◌, ◌-◌, ◌++◌, ℕ, List, [], ◌∷◌, Some, length, map, slice_get, take, vec_capacity, IfOk, IfErr};
 ghost use Rattle.daachorse_core.specs.Refusals.{IsOutOfMemory};
 ghost use Rattle.daachorse_core.specs.declared.outputs.Output.{Output};
 ghost use Rattle.daachorse_listing.specs.Listing.{HasPatterns, IsPatterns, unit_of};
 
 use crate::children::put_aside;
 use crate::edges::Edges;
+use crate::room::{count_elements, largest_group};
 use crate::siblings::Siblings;
 use daachorse_core::Output;
 use daachorse_core::errors::Result;
@@ -122,14 +125,12 @@ pub struct PatternWalk<V: Copy, E: Outputs<V>, A: Allocator = Global> {
     elements: E,
     groups: Siblings<A>,
     // The elements that were put aside, the next one last, each behind the length of its text. There
-    // is room for all elements.
+    // is room for as many as there are leaves.
     aside: Vec<(u32, u32), A>,
-    // Room for the children of one element.
+    // Room for the children of any one element.
     children: Vec<(u32, u32), A>,
-    // How many units the text of the last element that was entered has, and a buffer that begins with
-    // them.
-    depth: usize,
-    buffer: Vec<E::Unit, A>,
+    // The text of the element that was taken last, with room for that of any other.
+    text: Vec<E::Unit, A>,
     // What is left of its own outputs: those from a position until another.
     position: usize,
     stop: usize,
@@ -137,7 +138,7 @@ pub struct PatternWalk<V: Copy, E: Outputs<V>, A: Allocator = Global> {
 }
 
 impl<V: Copy, E: Outputs<V>, A: Allocator> Model for PatternWalk<V, E, A> {
-    ghost use Rattle.std.specs.Prelude.{List, ℕ, map, take, vec_capacity};
+    ghost use Rattle.std.specs.Prelude.{List, ℕ, map, vec_capacity};
     ghost use Rattle.daachorse_listing.specs.Listing.{IsWalking, left_of};
     ghost use Rattle.daachorse_listing.specs.Trees.{elements_of};
 
@@ -145,11 +146,11 @@ impl<V: Copy, E: Outputs<V>, A: Allocator> Model for PatternWalk<V, E, A> {
 
     ghost view = { λ s. left_of (E.child s.elements) (E.count s.elements) (E.units s.elements)
         (E.outputs s.elements) (E.first s.elements) (E.stop s.elements)
-        (take s.depth (map E.number s.buffer.items)) (elements_of s.aside.items) s.stop s.position };
+        (map E.number s.text.items) (elements_of s.aside.items) s.stop s.position };
 
     ghost invariant = { λ s. IsWalking (E.child s.elements) (E.group s.elements) (E.edge s.elements) (E.count s.elements) (E.units s.elements)
         (E.outputs s.elements) (E.first s.elements)
-        s.groups s.aside.items (map E.number s.buffer.items) s.depth s.position (vec_capacity s.aside) (vec_capacity s.children) };
+        s.groups s.aside.items (map E.number s.text.items) s.position (vec_capacity s.aside) (vec_capacity s.children) (vec_capacity s.text) };
 }
 
 impl<V: Copy, E: Outputs<V> + Drop, A: Allocator + Copy> PatternWalk<V, E, A> {
@@ -164,18 +165,17 @@ impl<V: Copy, E: Outputs<V> + Drop, A: Allocator + Copy> PatternWalk<V, E, A> {
         ensures err { IfErr result IsOutOfMemory }
     {
         let groups = Siblings::new(alloc, &elements)?;
-        let count = elements.num_elements();
-        let mut aside = Vec::with_capacity(alloc, count)?;
+        let (leaves, parents) = count_elements(&elements, &groups);
+        let mut aside = Vec::with_capacity(alloc, leaves)?;
         aside.push_reserved((0, 0));
-        let children = Vec::with_capacity(alloc, count)?;
-        let buffer = vec![in alloc; elements.unit(0); count]?;
+        let children = Vec::with_capacity(alloc, largest_group(&elements, &groups))?;
+        let text = Vec::with_capacity(alloc, parents)?;
         Ok(PatternWalk {
             elements,
             groups,
             aside,
             children,
-            depth: 0,
-            buffer,
+            text,
             position: 0,
             stop: 0,
             values: PhantomData,
@@ -209,8 +209,7 @@ impl<V: Copy, E: Keys<V, A> + Drop, A: Allocator + Copy> Iterator for PatternWal
                 return None;
             };
             let element = next as usize;
-            self.depth = depth as usize;
-            write_last(&mut self.buffer, self.depth, self.elements.unit(element));
+            write_last(&mut self.text, depth as usize, self.elements.unit(element));
             let (position, stop) = own_outputs(&self.elements, element);
             self.position = position;
             self.stop = stop;
@@ -224,8 +223,8 @@ impl<V: Copy, E: Keys<V, A> + Drop, A: Allocator + Copy> Iterator for PatternWal
             );
         }
         let output = self.elements.output(self.position);
-        let alloc = *self.buffer.allocator();
-        match self.elements.key(alloc, &self.buffer[..self.depth]) {
+        let alloc = *self.text.allocator();
+        match self.elements.key(alloc, &self.text) {
             Ok(key) => {
                 self.position = output.parent().map_or(0, NonZeroU32::get) as usize;
                 Some(Ok((key, output.value())))
@@ -238,15 +237,19 @@ impl<V: Copy, E: Keys<V, A> + Drop, A: Allocator + Copy> Iterator for PatternWal
     }
 }
 
-/// Writes the last of so many units, if there is one.
-fn write_last<U: Copy, A: Allocator>(buffer: &mut Vec<U, A>, depth: usize, unit: U)
-    requires { depth ≤ length buffer.old.items }
-    ensures none { depth ≡ 0 → buffer.new.items ≡ buffer.old.items }
-    ensures some { 0 < depth → buffer.new.items ≡ slice_set buffer.old.items (depth - 1) unit }
+/// Makes a text one of so many units that ends with this one: those before it stay.
+fn write_last<U: Copy, A: Allocator>(text: &mut Vec<U, A>, depth: usize, unit: U)
+    requires { depth ≤ vec_capacity text.old }
+    ensures none { depth ≡ 0 → text.new.items ≡ [] }
+    ensures some { 0 < depth → text.new.items ≡ take (depth - 1) text.old.items ++ unit ∷ [] }
+    ensures capacity { vec_capacity text.new ≡ vec_capacity text.old }
 {
-    if depth > 0 {
-        buffer[depth - 1] = unit;
+    if depth == 0 {
+        text.clear();
+        return;
     }
+    text.truncate(depth - 1);
+    text.push_reserved(unit);
 }
 
 /// The position of an element's first output, and that where its own outputs end, which is read only

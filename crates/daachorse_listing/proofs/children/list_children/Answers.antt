@@ -5,7 +5,7 @@ use Rattle.std.proofs.lemmas.List.Sorted.{IsPermutation-refl}
 use Rattle.daachorse_listing.specs.Edges.{is_in, members}
 use Rattle.daachorse_listing.specs.Trees.{elements_of}
 use Rattle.daachorse_listing.proofs.Members.{no-children}
-use Rattle.daachorse_listing.proofs.SortLaws.{below-All, below-few, kid_of, sorted-few, sorted-children}
+use Rattle.daachorse_listing.proofs.SortLaws.{below-All, kid_of, sorted-few, sorted-children}
 use Rattle.daachorse_listing.proofs.children.list_children.Goals as goal
 
 pub returns-in_default-clause-all : goal.returns-in_default-clause-all
@@ -20,10 +20,11 @@ loop-member-init g c =
     let count = g.E.Edges.count c.args.edges.now in
     let is : c.into_iter-member-iterator.result ≡ members edge c.in-Some.group count =
     c.into_iter-member-iterator.ensures.into_iter_gives ∙ c.members-member-items.ensures ∙ c.requires.groups c.in-Some.group (c.requires.tell.inside c.args.element c.in-Some.group c.requires.element (sym c.in-Some.ensures)) in
+    let few = c.requires.room c.in-Some.group (c.requires.tell.inside c.args.element c.in-Some.group c.requires.element (sym c.in-Some.ensures)) in
     record {
       less = rw is (below-All (λ j. is_in c.in-Some.group (edge j)) count);
       done = ap (λ l. l ++ map (kid_of edge) c.into_iter-member-iterator.result) c.clear.ensures.items ∙ ap (map (kid_of edge)) is;
-      room = omega (arith, ap length is, ap length c.clear.ensures.items, below-few (λ j. is_in c.in-Some.group (edge j)) count, c.requires.room, c.clear.ensures.capacity);
+      room = omega (arith, ap length is, ap length c.clear.ensures.items, few, c.clear.ensures.capacity);
       same = c.clear.ensures.capacity;
     }
 

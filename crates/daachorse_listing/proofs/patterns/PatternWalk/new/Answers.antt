@@ -1,9 +1,9 @@
 -- A walk starts with the root put aside.
-use Rattle.std.proofs.Common.{◌≡◌, ℕ, List, [], ◌∷◌, ◌++◌, refl, sym, ap, ◌∙◌, length, map, reverse, subst, arith}
-use Rattle.std.proofs.lemmas.List.{length-map}
+use Rattle.std.proofs.Common.{◌≡◌, inr, ℕ, List, [], ◌∷◌, ◌++◌, refl, sym, ap, ◌∙◌, length, map, reverse, subst, suc, arith}
 use Rattle.daachorse_machine.specs.Texts.{text_of}
 use Rattle.daachorse_listing.specs.Listing.{AreEntries, patterns_of}
 use Rattle.daachorse_listing.specs.Trees.{IsWalk, elements_of, taken_from}
+use Rattle.daachorse_listing.proofs.RoomLaws.{aside-leaves}
 use Rattle.daachorse_listing.proofs.WalkLaws.{root-text, walk-start, walked}
 use Rattle.daachorse_listing.proofs.patterns.PatternWalk.new.Goals as goal
 
@@ -12,22 +12,28 @@ invariant_of-result g c =
     let child = g.E.Edges.child c.args.elements in
     let n = g.E.Edges.count c.args.elements in
     let m = g.E.Edges.units c.args.elements in
-    let buffer = map g.E.Outputs.number c.in_ok-buffer.buffer.items in
+    let text = map g.E.Outputs.number c.in_ok-text.text.items in
     let aside : c.push_reserved.new.self.items ≡ (0, 0) ∷ [] = c.push_reserved.ensures.items ∙ ap (λ l. l ++ (0, 0) ∷ []) c.in_ok-aside.ensures.items in
     let W : List (ℕ × ℕ) → Type 0 = λ l. IsWalk child n m [] (elements_of l) in
-    let R : List (ℕ × ℕ) → Type 0 = λ l. AreEntries child n m buffer 1 (reverse l) in
+    let R : List (ℕ × ℕ) → Type 0 = λ l. AreEntries child n m text (suc (length text)) (reverse l) in
     record {
       patterns = c.requires;
       groups_are = c.in_ok-groups.ensures.ok;
       each = c.in_ok-groups.ensures.size;
       walk = λ some. ([], subst W (sym aside) (walk-start c.requires.tree));
       entries = subst R (sym aside) (omega arith, (sym (ap length (root-text c.requires.tree)), refl), tt);
-      size = length-map c.in_ok-buffer.buffer.items g.E.Outputs.number ∙ omega (arith, c.in_ok-buffer.ensures, c.num_elements-count.ensures.all);
-      short = omega arith;
       inside = omega arith;
-      wide = omega (arith, c.in_ok-aside.ensures.exact, c.push_reserved.ensures.capacity, c.num_elements-count.ensures.all);
-      wide_for_children = omega (arith, c.in_ok-children.ensures.exact, c.num_elements-count.ensures.all);
+      wide = omega (arith, c.in_ok-aside.ensures.exact, c.push_reserved.ensures.capacity, c.count_elements-leaves.ensures.leaves);
+      wide_for_children = λ q less. (let few = c.largest_group.ensures q less in omega (arith, few, c.in_ok-children.ensures.exact));
+      wide_for_text = omega (arith, c.in_ok-text.ensures.exact, c.count_elements-leaves.ensures.parents);
     }
+
+-- the root leads to a leaf
+pub push_reserved-requires : goal.push_reserved-requires
+push_reserved-requires g c =
+    let start = walk-start c.requires.tree in
+    let some = aside-leaves c.requires.tree c.requires.tell (0 ∷ []) start.apart (λ i a. start.reached i (inr a)) in
+    omega (arith, some, c.in_ok-aside.ensures.exact, ap length c.in_ok-aside.ensures.items, c.count_elements-leaves.ensures.leaves)
 
 pub returns-clause-ok : goal.returns-clause-ok
 returns-clause-ok g c =

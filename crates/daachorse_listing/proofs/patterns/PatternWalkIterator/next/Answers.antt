@@ -1,12 +1,12 @@
--- Where nothing is left of the last element the next one is taken, and its last unit is written; a value is given with the text that stands in the buffer.
-use Rattle.std.proofs.Common.{◌≡◌, ◌⊎◌, inl, inr, ◌<◌, ◌-◌, [], ℕ, length, map, reverse, take, set, sym, ap, subst, ◌∙◌, arith, rules, add-one, length-append}
-use Rattle.std.proofs.lemmas.List.{length-map, map-set, take-map}
+-- Where nothing is left of the last element the next one is taken, and its last unit is written; a value is given with the text.
+use Rattle.std.proofs.Common.{◌≡◌, ◌⊎◌, inl, inr, ◌<◌, ◌-◌, [], ◌∷◌, ◌++◌, ℕ, length, map, reverse, take, sym, ap, subst, ◌∙◌, arith, rules, add-one, length-append}
+use Rattle.std.proofs.lemmas.List.{map-append, take-map}
 use Rattle.daachorse_core.specs.Outputs.{parent_of}
 use Rattle.daachorse_listing.specs.Edges.{children, put_before}
 use Rattle.daachorse_listing.specs.Listing.{unit_of}
 use Rattle.daachorse_listing.specs.Trees.{elements_of, taken_from}
-use Rattle.daachorse_listing.proofs.WalkLaws.{reached-inside, text-short}
-use Rattle.daachorse_listing.proofs.PatternLaws.{left-of-rest, left-of-value, rest-of-none, next-reached, next-deep, next-room, next-left-of, next-fewer, next-aside, next-walking}
+use Rattle.daachorse_listing.proofs.WalkLaws.{reached-inside}
+use Rattle.daachorse_listing.proofs.PatternLaws.{left-of-rest, left-of-value, rest-of-none, next-reached, next-room, next-text-room, next-left-of, next-fewer, next-aside, next-walking}
 use Rattle.daachorse_listing.proofs.patterns.PatternWalkIterator.next.Goals as goal
 use Rattle.daachorse_listing.proofs.patterns.PatternWalkIterator.next.Goals.{then-self, else-self+then-self-eq0}
 
@@ -20,7 +20,7 @@ returns-in_default-clause-steps g c =
     let outputs = g.E.Outputs.outputs s.elements in
     let first = g.E.Outputs.first s.elements in
     let stop = g.E.Outputs.stop s.elements in
-    let text = take s.depth (map g.E.Outputs.number s.buffer.items) in
+    let text = map g.E.Outputs.number s.text.items in
     let end : (s.position ≡ s.stop) ⊎ (s.position ≡ 0) = elim c.if-self.branch [ then-self v ↦ inl v.if-self.true | else-self+then-self-eq0 v ↦ inr v.if-self-eq0.true ] in
     let none : length s.aside.items ≡ 0 = omega (arith, c.in_default.ensures.cases.0, s.aside.ok) in
     let still : length c.pop.new.self.items ≡ 0 = omega (arith, none, ap length c.in_default.ensures.items, length-append c.pop.new.self.items []) in (
@@ -33,7 +33,7 @@ unit-requires g c =
     let s = c.loop-self.self-inside in
     let w = c.loop-self.invariant.walking in
     reached-inside w.patterns.tree c.in-Some.next
-    (next-reached (g.E.Outputs.stop s.elements) s.groups s.aside.items _ s.depth s.position _ _ w c.pop.new.self.items c.in-Some.depth c.in-Some.next c.in-Some.ensures.items)
+    (next-reached (g.E.Outputs.stop s.elements) s.groups s.aside.items _ s.position _ _ _ w c.pop.new.self.items c.in-Some.depth c.in-Some.next c.in-Some.ensures.items)
 
 pub write_last-requires : goal.write_last-requires
 write_last-requires g c =
@@ -41,29 +41,28 @@ write_last-requires g c =
     let w = c.loop-self.invariant.walking in
     let stop = g.E.Outputs.stop s.elements in
     let x = c.in-Some.next in
-    let deep = next-deep stop s.groups s.aside.items _ s.depth s.position _ _ w c.pop.new.self.items c.in-Some.depth x c.in-Some.ensures.items in
-    let short = text-short w.patterns.tree x (next-reached stop s.groups s.aside.items _ s.depth s.position _ _ w c.pop.new.self.items c.in-Some.depth x c.in-Some.ensures.items) in
-    omega (arith, deep, short, w.size, length-map s.buffer.items g.E.Outputs.number)
+    let room = next-text-room stop s.groups s.aside.items _ s.position _ _ _ w c.pop.new.self.items c.in-Some.depth x c.in-Some.ensures.items in
+    omega (arith, room)
 
 pub own_outputs-position-requires : goal.own_outputs-position-requires
 own_outputs-position-requires g c =
     let s = c.loop-self.self-inside in
     let w = c.loop-self.invariant.walking in
     reached-inside w.patterns.tree c.in-Some.next
-    (next-reached (g.E.Outputs.stop s.elements) s.groups s.aside.items _ s.depth s.position _ _ w c.pop.new.self.items c.in-Some.depth c.in-Some.next c.in-Some.ensures.items)
+    (next-reached (g.E.Outputs.stop s.elements) s.groups s.aside.items _ s.position _ _ _ w c.pop.new.self.items c.in-Some.depth c.in-Some.next c.in-Some.ensures.items)
 
 pub put_aside-requires-clause-element : goal.put_aside-requires-clause-element
 put_aside-requires-clause-element g c =
     let s = c.loop-self.self-inside in
     let w = c.loop-self.invariant.walking in
     reached-inside w.patterns.tree c.in-Some.next
-    (next-reached (g.E.Outputs.stop s.elements) s.groups s.aside.items _ s.depth s.position _ _ w c.pop.new.self.items c.in-Some.depth c.in-Some.next c.in-Some.ensures.items)
+    (next-reached (g.E.Outputs.stop s.elements) s.groups s.aside.items _ s.position _ _ _ w c.pop.new.self.items c.in-Some.depth c.in-Some.next c.in-Some.ensures.items)
 
 pub put_aside-requires-clause-room : goal.put_aside-requires-clause-room
 put_aside-requires-clause-room g c =
     let s = c.loop-self.self-inside in
     let w = c.loop-self.invariant.walking in
-    let few = next-room (g.E.Outputs.stop s.elements) s.groups s.aside.items _ s.depth s.position _ _ w c.pop.new.self.items c.in-Some.depth c.in-Some.next c.in-Some.ensures.items in
+    let few = next-room (g.E.Outputs.stop s.elements) s.groups s.aside.items _ s.position _ _ _ w c.pop.new.self.items c.in-Some.depth c.in-Some.next c.in-Some.ensures.items in
     omega (arith, few, c.pop.ensures.capacity)
 
 pub loop-self-smaller : goal.loop-self-smaller
@@ -80,8 +79,8 @@ loop-self-smaller g c =
     let more = c.put_aside.new.aside.items in
     let Put : ℕ → Type 0 = λ k. reverse more ≡ put_before (map (λ j. (k, j)) (children child x m)) (reverse rest) in
     let put = subst Put (add-one d) c.put_aside.ensures.aside in
-    let fewer = next-fewer stop s.groups s.aside.items _ s.depth s.position _ _ w rest d x c.in-Some.ensures.items in
-    let same = ap (λ l. length (taken_from child n m n l)) (next-aside stop s.groups s.aside.items _ s.depth s.position _ _ w rest d x c.in-Some.ensures.items more put) in
+    let fewer = next-fewer stop s.groups s.aside.items _ s.position _ _ _ w rest d x c.in-Some.ensures.items in
+    let same = ap (λ l. length (taken_from child n m n l)) (next-aside stop s.groups s.aside.items _ s.position _ _ _ w rest d x c.in-Some.ensures.items more put) in
     omega (arith, fewer, same)
 
 pub loop-self-preserved : goal.loop-self-preserved
@@ -100,20 +99,21 @@ loop-self-preserved g c =
     let x = c.in-Some.next in
     let rest = c.pop.new.self.items in
     let more = c.put_aside.new.aside.items in
-    let new = map number c.write_last.new.buffer.items in
+    let new = map number c.write_last.new.text.items in
     let Put : ℕ → Type 0 = λ k. reverse more ≡ put_before (map (λ j. (k, j)) (children child x m)) (reverse rest) in
     let put = subst Put (add-one d) c.put_aside.ensures.aside in
-    let none : d ≡ 0 → new ≡ map number s.buffer.items = λ h. ap (map number) (c.write_last.ensures.none h) in
-    let last : 0 < d → new ≡ set (map number s.buffer.items) (d - 1) (unit_of (g.E.Edges.edge s.elements x)) =
-    λ h. ap (map number) (c.write_last.ensures.some h) ∙ (map-set number s.buffer.items (d - 1) c.unit.result ∙ ap (set (map number s.buffer.items) (d - 1)) c.unit.ensures) in
+    let none : d ≡ 0 → new ≡ [] = λ h. ap (map number) (c.write_last.ensures.none h) in
+    let last : 0 < d → new ≡ take (d - 1) (map number s.text.items) ++ unit_of (g.E.Edges.edge s.elements x) ∷ [] =
+    λ h. ap (map number) (c.write_last.ensures.some h) ∙ (map-append number (take (d - 1) s.text.items) (c.unit.result ∷ []) ∙ (ap (λ l. l ++ number c.unit.result ∷ []) (sym (take-map number (d - 1) s.text.items)) ∙ ap (λ u. take (d - 1) (map number s.text.items) ++ u ∷ []) c.unit.ensures)) in
     let at = c.own_outputs-position.result.0 in
     let is = c.own_outputs-position.ensures.first in
     record {
-      walking = next-walking stop s.groups s.aside.items _ s.depth s.position _ _ w rest d x c.in-Some.ensures.items new none last more put at is _ _
-          (omega (arith, w.wide, c.put_aside.ensures.capacity, c.pop.ensures.capacity))
-          (omega (arith, w.wide_for_children, c.put_aside.ensures.list_capacity));
-      left = next-left-of stop s.groups s.aside.items _ s.depth s.position _ _ w rest d x c.in-Some.ensures.items new none last more put at is c.own_outputs-position.result.1 c.own_outputs-position.ensures.stop
-          ∙ (sym (left-of-rest child n m outputs first stop w.patterns.falls (take s.depth (map number s.buffer.items)) (elements_of s.aside.items) s.stop s.position end) ∙ c.loop-self.invariant.left);
+      walking = next-walking stop s.groups s.aside.items _ s.position _ _ _ w rest d x c.in-Some.ensures.items new none last more put at is _ _ _
+          (omega (arith, c.put_aside.ensures.capacity, c.pop.ensures.capacity))
+          (omega (arith, c.put_aside.ensures.list_capacity))
+          (omega (arith, c.write_last.ensures.capacity));
+      left = next-left-of stop s.groups s.aside.items _ s.position _ _ _ w rest d x c.in-Some.ensures.items new none last more put at is c.own_outputs-position.result.1 c.own_outputs-position.ensures.stop
+          ∙ (sym (left-of-rest child n m outputs first stop w.patterns.falls (map number s.text.items) (elements_of s.aside.items) s.stop s.position end) ∙ c.loop-self.invariant.left);
     }
 
 pub returns-in-Ok-clause-steps : goal.returns-in-Ok-clause-steps
@@ -122,9 +122,9 @@ returns-in-Ok-clause-steps g c =
     let w = c.loop-self.invariant.walking in
     let o = c.output-output.result in
     let number = g.E.Outputs.number in
-    let text = take s.depth (map number s.buffer.items) in
+    let text = map number s.text.items in
     let position : c.map_or.result ≡ parent_of o = search rules in
-    let key : g.E.Keys.units_of c.in-Ok.key ≡ text = c.in-Ok.ensures.ok ∙ (ap (λ l. map number (take s.depth l)) c.deref.ensures.value ∙ sym (take-map number s.depth s.buffer.items)) in
+    let key : g.E.Keys.units_of c.in-Ok.key ≡ text = c.in-Ok.ensures.ok ∙ ap (map number) c.deref.ensures.value in
     let given = sym c.loop-self.invariant.left ∙ left-of-value (g.E.Edges.child s.elements) (g.E.Edges.count s.elements) (g.E.Edges.units s.elements) (g.E.Outputs.outputs s.elements) (g.E.Outputs.first s.elements) (g.E.Outputs.stop s.elements) w.patterns.falls
     text (elements_of s.aside.items) s.stop s.position o c.if-self.false c.if-self-eq0.false c.output-output.ensures in
     rw (position, c.value.ensures, key) given
@@ -138,7 +138,7 @@ returns-in-Err-clause-steps g c =
     let w = c.loop-self.invariant.walking in
     let o = c.output-output.result in
     let given = sym c.loop-self.invariant.left ∙ left-of-value (g.E.Edges.child s.elements) (g.E.Edges.count s.elements) (g.E.Edges.units s.elements) (g.E.Outputs.outputs s.elements) (g.E.Outputs.first s.elements) (g.E.Outputs.stop s.elements) w.patterns.falls
-    (take s.depth (map g.E.Outputs.number s.buffer.items)) (elements_of s.aside.items) s.stop s.position o c.if-self.false c.if-self-eq0.false c.output-output.ensures in
+    (map g.E.Outputs.number s.text.items) (elements_of s.aside.items) s.stop s.position o c.if-self.false c.if-self-eq0.false c.output-output.ensures in
     (search rules, (λ none. let bad = sym none ∙ given in cc), c.end.ensures)
 
 pub returns-in-Err-clause-goes : goal.returns-in-Err-clause-goes
@@ -147,5 +147,5 @@ returns-in-Err-clause-goes g c =
     let w = c.loop-self.invariant.walking in
     let o = c.output-output.result in
     let given = sym c.loop-self.invariant.left ∙ left-of-value (g.E.Edges.child s.elements) (g.E.Edges.count s.elements) (g.E.Edges.units s.elements) (g.E.Outputs.outputs s.elements) (g.E.Outputs.first s.elements) (g.E.Outputs.stop s.elements) w.patterns.falls
-    (take s.depth (map g.E.Outputs.number s.buffer.items)) (elements_of s.aside.items) s.stop s.position o c.if-self.false c.if-self-eq0.false c.output-output.ensures in
+    (map g.E.Outputs.number s.text.items) (elements_of s.aside.items) s.stop s.position o c.if-self.false c.if-self-eq0.false c.output-output.ensures in
     rw (given, c.end.ensures) (search rules)

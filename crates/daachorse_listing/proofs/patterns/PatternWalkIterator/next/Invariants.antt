@@ -1,5 +1,5 @@
 -- While nothing is left of an element, the patterns that are left are those of the elements that are taken from here on.
-use Rattle.std.proofs.Common.{◌≡◌, length, map, take}
+use Rattle.std.proofs.Common.{◌≡◌, length, map}
 use Rattle.std.specs.Prelude.{vec_capacity}
 use Rattle.daachorse_listing.specs.Listing.{IsWalking, left_of}
 use Rattle.daachorse_listing.specs.Trees.{elements_of, taken_from}
@@ -11,9 +11,9 @@ invariant-loop-self g l =
     let elements = s.elements in
     record {
       walking : IsWalking (g.E.Edges.child elements) (g.E.Edges.group elements) (g.E.Edges.edge elements) (g.E.Edges.count elements) (g.E.Edges.units elements) (g.E.Outputs.outputs elements) (g.E.Outputs.first elements)
-          s.groups s.aside.items (map g.E.Outputs.number s.buffer.items) s.depth s.position (vec_capacity s.aside) (vec_capacity s.children);
+          s.groups s.aside.items (map g.E.Outputs.number s.text.items) s.position (vec_capacity s.aside) (vec_capacity s.children) (vec_capacity s.text);
       left : left_of (g.E.Edges.child elements) (g.E.Edges.count elements) (g.E.Edges.units elements) (g.E.Outputs.outputs elements) (g.E.Outputs.first elements) (g.E.Outputs.stop elements)
-          (take s.depth (map g.E.Outputs.number s.buffer.items)) (elements_of s.aside.items) s.stop s.position ≡ l.fn.self;
+          (map g.E.Outputs.number s.text.items) (elements_of s.aside.items) s.stop s.position ≡ l.fn.self;
     }
 
 abbrev pub decreases-loop-self : goal.decreases-loop-self

@@ -5,7 +5,7 @@ use Rattle.std.specs.List.{All, AllZip, AllAdjacentBelow}
 use Rattle.daachorse_model.specs.Paths.{Leads}
 use Rattle.daachorse_placement.specs.declared.build_helper.SiblingGroup.{SiblingGroup}
 use Rattle.daachorse_placement.specs.declared.build_helper.profile.Profile.{Profile}
-use Rattle.daachorse_placement.specs.Placement.{children_of, parent_of}
+use Rattle.daachorse_placement.specs.Placement.{children_of, parent_of, AreGroups}
 use Rattle.daachorse_build.specs.declared.nfa_builder.NfaBuilderState.{NfaBuilderState}
 use Rattle.daachorse_build.specs.Tables.{edges_of, child_in, child_of}
 use Rattle.daachorse_build.specs.Orders.{IsIn, StandOnce, children}
@@ -101,3 +101,13 @@ AreFamilies gives edges gs = All (λ g. AreGiven gives (edges_at edges g.parent)
 -- no group asks to be placed well
 abbrev pub AreLight : {A : Type 0} → List (SiblingGroup A) → Type 0
 AreLight gs = All (λ g. g.weight ≡ 0) gs
+
+-- The groups of the states, with what was given for each label. Where that is a code, they are a trie's, and may be placed.
+pub record AreSiblingGroups {L V A : Type 0} (cmp : L → L → Ordering) (gives : L → ℕ → Type 0) (states : List (NfaBuilderState L V A)) (profile : Profile A) (gs : List (SiblingGroup A)) : Type 0 where
+  pub trie : (code : L → ℕ) → GivesCodes cmp (edges_of states) gives code → AreTrieGroups cmp code states gs
+  pub groups : (code : L → ℕ) (block : ℕ) → GivesCodes cmp (edges_of states) gives code → AreCodes cmp (edges_of states) gives code block → AreGroups gs (length states) block
+  pub bound : length gs < length states
+  pub weights : AreWeighed (edges_of states) profile gs
+  pub falling : AreFalling gs
+  -- where nothing was counted
+  pub light : profile.visits.items ≡ [] → AreLight gs

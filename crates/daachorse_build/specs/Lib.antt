@@ -9,5 +9,6 @@ pub mod Growth
 pub mod Holds
 pub mod Lists
 pub mod Builders
+pub mod Steps
 pub mod Groups
 pub mod Counts

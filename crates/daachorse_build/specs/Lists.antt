@@ -6,9 +6,9 @@ use Rattle.daachorse_core.specs.Outputs.{outputs_at}
 use Rattle.daachorse_core.specs.Chains.{Passes}
 use Rattle.daachorse_model.specs.Paths.{Leads}
 use Rattle.daachorse_build.specs.declared.nfa_builder.NfaBuilderState.{NfaBuilderState}
-use Rattle.daachorse_build.specs.Tables.{child_of, held_at, own_at}
+use Rattle.daachorse_build.specs.Tables.{child_of, fails_of, held_at, own_at, own_of, output_count, positions_of, stops_of}
 use Rattle.daachorse_build.specs.Left.{meets}
-use Rattle.daachorse_build.specs.Orders.{IsKnown}
+use Rattle.daachorse_build.specs.Orders.{HoldLeftLinks, IsKnown}
 
 -- the own outputs of a text and of each of its suffixes, the longest first
 abbrev pub suffix_outputs : {L V A : Type 0} → (L → L → Ordering) → List (NfaBuilderState L V A) → List L → List (V × ℕ)
@@ -47,3 +47,12 @@ IsChainedAt own fails outputs positions t =
 abbrev pub AreChained : {V : Type 0} → List (List (V × ℕ)) → List ℕ → List ℕ → List (Output V) → List ℕ → Type 0
 AreChained own fails done outputs positions =
     (t : ℕ) → IsKnown done t → IsChainedAt own fails outputs positions t
+
+-- the states of `old`, whose links are in this order, have their lists in `new`
+pub record HaveLists {L V A : Type 0} (cmp : L → L → Ordering) (old new : List (NfaBuilderState L V A)) (order : List ℕ) (outputs : List (Output V)) : Type 0 where
+  pub positions : PositionsFit order outputs (positions_of new)
+  pub lists : (leftmost : Bool) → HoldLeftLinks cmp leftmost old order → AreListed cmp (stops_of leftmost old) old order outputs (positions_of new)
+  pub chained : (leftmost : Bool) → HoldLeftLinks cmp leftmost old order → AreChained (own_of old) (fails_of old) order outputs (positions_of new)
+  pub bound : length outputs ≤ output_count (own_of old)
+  pub whole : own_at (own_of old) 1 ≡ [] → length outputs ≡ output_count (own_of old)
+  pub few : length outputs ≤ 4294967295

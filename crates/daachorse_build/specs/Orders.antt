@@ -70,6 +70,12 @@ pub record IsLeftLinked {L : Type 0} (cmp : L → L → Ordering) (stops : ℕ �
 abbrev pub HoldLeftLinks : {L V A : Type 0} → (L → L → Ordering) → Bool → List (NfaBuilderState L V A) → List ℕ → Type 0
 HoldLeftLinks cmp leftmost states order = IsLeftLinked cmp (stops_of leftmost states) (edges_of states) (fails_of states) order
 
+-- the links are of that kind, the root's is the root, and the states of the order are neither the root nor dead
+pub record HaveLinks {L V A : Type 0} (cmp : L → L → Ordering) (leftmost : Bool) (states : List (NfaBuilderState L V A)) (order : List ℕ) : Type 0 where
+  pub links : HoldLeftLinks cmp leftmost states order
+  pub root : slice_index (fails_of states) 0 ≡ 0
+  pub within : (t : ℕ) → IsIn order t → (1 < t) × (t < length states)
+
 -- a traversal whose first next states have been left, and which stands at the children pending of the one after them; of the root's children the list start is in the queue, and the root's link is the root
 pub record IsTraversal {L : Type 0} (cmp : L → L → Ordering) (stops : ℕ → Bool) (edges : List (List (L × ℕ))) (start fails order : List ℕ) (next : ℕ) (pending : List ℕ) : Type 0 where
   pub queue : order ≡ (start ++ flat_map (children edges) (take next order)) ++ pending

@@ -9,24 +9,15 @@
 //! goes on at the position of the link; `profile_haystack` ends for every document, and no count
 //! falls; and `sibling_groups` has each state with edges once, with its children.
 
-ghost use Rattle.std.specs.Prelude.{◌≡◌, ◌≢◌, ◌⊎◌, true, false, Some, ℕ, ◌+◌, ◌<◌, ◌≤◌, ◌++◌, ◌∷◌, [], List, length, map, slice_index, IfOk, IfErr, OnOk};
+ghost use Rattle.std.specs.Prelude.{◌≡◌, true, false, Some, ◌+◌, ◌<◌, ◌≤◌, [], length, map, IfOk, IfErr, OnOk};
 ghost use Rattle.daachorse_model.specs.Units.{size};
-ghost use Rattle.daachorse_model.specs.Dictionary.{dictionary, kept};
-ghost use Rattle.daachorse_model.specs.Paths.{Leads};
-ghost use Rattle.daachorse_model.specs.Outputs.{outputs_of_ends, IsChain};
-ghost use Rattle.daachorse_model.specs.Prefixes.{IsDead};
-ghost use Rattle.daachorse_core.specs.Outputs.{ParentsFall, outputs_at, number};
+ghost use Rattle.daachorse_core.specs.Outputs.{ParentsFall, number};
 ghost use Rattle.daachorse_core.specs.declared.errors.Limit.TheVariants.{Outputs, StateId};
-ghost use Rattle.daachorse_build.specs.Tables.{edges_of, fails_of, positions_of, own_of, output_count, child_of, stops_of, HoldTrie, edge_map, held_by, link_of, position_of};
-ghost use Rattle.daachorse_build.specs.Orders.{IsIn, HoldLinks, HoldLeftLinks};
-ghost use Rattle.daachorse_build.specs.Left.{LinksLeft};
-ghost use Rattle.daachorse_build.specs.Growth.{HasTrieOf};
-ghost use Rattle.daachorse_build.specs.Holds.{in_units, HasMorePrefixes};
-ghost use Rattle.daachorse_build.specs.Lists.{IsChainedAt};
+ghost use Rattle.daachorse_build.specs.Tables.{fails_of, child_of, stops_of, HoldTrie, edge_map, held_by, link_of, position_of};
 ghost use Rattle.daachorse_build.specs.Counts.{HasCounts, HasSameCounts, IsCounted, LinksLeadBack};
-ghost use Rattle.daachorse_build.specs.Groups.{GivesCodes, AreCodes, AreTrieGroups, AreWeighed, AreFalling, AreLight, IsProfileOf};
-ghost use Rattle.daachorse_placement.specs.Placement.{AreGroups};
+ghost use Rattle.daachorse_build.specs.Groups.{AreSiblingGroups, IsProfileOf};
 ghost use Rattle.daachorse_build.specs.Builders.{states_of, outputs_of, count_of, kind_of, Registered};
+ghost use Rattle.daachorse_build.specs.Steps.{KeepsPatterns, HasAdded, IsOneTooMany, HasLinksOf, AreLinked, HasOutputsOf, KeepsMoreThan};
 ghost use Rattle.daachorse_core.specs.Refusals.{IsRefusal, IsOutOfMemory};
 
 mod adding;
@@ -220,11 +211,8 @@ impl<L: EdgeLabel, V: Copy, A: Allocator + Copy> NfaBuilder<L, V, A> {
     pub fn add(&mut self, pattern: &[L], value: V) -> Result<()>
         ensures kind { kind_of self.new ≡ kind_of self.old }
         ensures outputs { outputs_of self.new ≡ outputs_of self.old }
-        ensures trie { OnOk result (HoldTrie L.cmp (states_of self.new)) }
-        ensures registered { OnOk result ((rs : List (List L × V)) → Registered L.cmp L.unit L.width self.old rs → Registered L.cmp L.unit L.width self.new (rs ++ (pattern.now, value) ∷ [])) }
-        ensures short { OnOk result (size L.width (map L.unit pattern.now) ≤ 4294967295) }
-        ensures fits { OnOk result (length (states_of self.old) ≤ 4294967296 → length (states_of self.new) ≤ 4294967296) }
-        ensures refused { IfErr result (IsRefusal (4294967295 < size L.width (map L.unit pattern.now)) StateId ((size L.width (map L.unit pattern.now) ≤ 4294967295) × ((rs : List (List L × V)) → Registered L.cmp L.unit L.width self.old rs → HasMorePrefixes (dictionary (kind_of self.old) (in_units L.unit (rs ++ (pattern.now, value) ∷ []))) 4294967295))) }
+        ensures added { OnOk result (HasAdded L.cmp L.unit L.width self.old self.new pattern.now value) }
+        ensures refused { IfErr result (IsRefusal (4294967295 < size L.width (map L.unit pattern.now)) StateId (IsOneTooMany L.cmp L.unit L.width self.old pattern.now value)) }
     {
         let size = adding::pattern_size(pattern)?;
         if self.kind.is_leftmost_first() && adding::extends_key(&self.states, pattern) {
@@ -250,12 +238,9 @@ impl<L: EdgeLabel, V: Copy, A: Allocator + Copy> NfaBuilder<L, V, A> {
     ///
     /// It fails where an allocation does.
     pub fn build_fails(&mut self, alloc: A) -> Result<Vec<u32, A>>
-        ensures kind { kind_of self.new ≡ kind_of self.old }
-        ensures patterns { count_of self.new ≡ count_of self.old }
+        ensures kept { KeepsPatterns self.old self.new }
         ensures outputs { outputs_of self.new ≡ outputs_of self.old }
-        ensures kept { HasTrieOf (states_of self.old) (states_of self.new) }
-        ensures links { IfOk result (λ order. HoldLinks L.cmp (states_of self.new) order.items) }
-        ensures root { OnOk result (slice_index (fails_of (states_of self.new)) 0 ≡ 0) }
+        ensures links { IfOk result (λ order. HasLinksOf L.cmp L.unit L.width false self.old self.new order.items) }
         ensures refused { IfErr result IsOutOfMemory }
     {
         self.find_links(alloc, false)
@@ -269,27 +254,18 @@ impl<L: EdgeLabel, V: Copy, A: Allocator + Copy> NfaBuilder<L, V, A> {
     ///
     /// An allocation failed.
     pub fn build_fails_leftmost(&mut self, alloc: A) -> Result<Vec<u32, A>>
-        ensures kind { kind_of self.new ≡ kind_of self.old }
-        ensures patterns { count_of self.new ≡ count_of self.old }
+        ensures kept { KeepsPatterns self.old self.new }
         ensures outputs { outputs_of self.new ≡ outputs_of self.old }
-        ensures kept { HasTrieOf (states_of self.old) (states_of self.new) }
-        ensures links { IfOk result (λ order. HoldLeftLinks L.cmp true (states_of self.new) order.items) }
-        ensures root { OnOk result (slice_index (fails_of (states_of self.new)) 0 ≡ 0) }
-        ensures left { OnOk result ((rs : List (List L × V)) → Registered L.cmp L.unit L.width self.old rs → (w : List L) (t : ℕ) → w ≢ [] → Leads (child_of L.cmp (states_of self.old)) w t → LinksLeft (dictionary (kind_of self.old) (in_units L.unit rs)) L.unit (child_of L.cmp (states_of self.old)) w (slice_index (fails_of (states_of self.new)) t)) }
+        ensures links { IfOk result (λ order. HasLinksOf L.cmp L.unit L.width true self.old self.new order.items) }
         ensures refused { IfErr result IsOutOfMemory }
     {
         self.find_links(alloc, true)
     }
 
     fn find_links(&mut self, alloc: A, leftmost: bool) -> Result<Vec<u32, A>>
-        ensures trie { HoldTrie L.cmp (states_of self.old) }
-        ensures kind { kind_of self.new ≡ kind_of self.old }
-        ensures patterns { count_of self.new ≡ count_of self.old }
+        ensures kept { KeepsPatterns self.old self.new }
         ensures outputs { outputs_of self.new ≡ outputs_of self.old }
-        ensures kept { HasTrieOf (states_of self.old) (states_of self.new) }
-        ensures links { IfOk result (λ order. HoldLeftLinks L.cmp leftmost (states_of self.new) order.items) }
-        ensures root { OnOk result (slice_index (fails_of (states_of self.new)) 0 ≡ 0) }
-        ensures states { IfOk result (λ order. (t : ℕ) → IsIn order.items t → (1 < t) × (t < length (states_of self.new))) }
+        ensures links { IfOk result (λ order. HasLinksOf L.cmp L.unit L.width leftmost self.old self.new order.items) }
         ensures refused { IfErr result IsOutOfMemory }
     {
         links::link_states(alloc, &mut self.states, leftmost)
@@ -310,20 +286,12 @@ impl<L: EdgeLabel, V: Copy, A: Allocator + Copy> NfaBuilder<L, V, A> {
     ///
     /// More than 4,294,967,295 outputs are refused.
     pub fn build_outputs(&mut self, order: &[u32]) -> Result<()>
-        requires { HoldLinks L.cmp (states_of self.old) order.now ⊎ HoldLeftLinks L.cmp true (states_of self.old) order.now }
-        ensures kind { kind_of self.new ≡ kind_of self.old }
-        ensures patterns { count_of self.new ≡ count_of self.old }
-        ensures kept { HasTrieOf (states_of self.old) (states_of self.new) }
-        ensures fails { fails_of (states_of self.new) ≡ fails_of (states_of self.old) }
+        requires { AreLinked L.cmp (states_of self.old) order.now }
+        ensures kept { KeepsPatterns self.old self.new }
+        ensures links { fails_of (states_of self.new) ≡ fails_of (states_of self.old) }
         ensures parents { ParentsFall (outputs_of self.new) }
-        ensures positions { OnOk result ((w : List L) (t : ℕ) → Leads (child_of L.cmp (states_of self.old)) w t → slice_index (positions_of (states_of self.new)) t ≤ length (outputs_of self.new)) }
-        ensures lists { OnOk result (HoldLinks L.cmp (states_of self.old) order.now → (rs : List (List L × V)) → Registered L.cmp L.unit L.width self.old rs → (w : List L) (t : ℕ) → Leads (child_of L.cmp (states_of self.old)) w t → outputs_at (outputs_of self.new) (slice_index (positions_of (states_of self.new)) t) ≡ outputs_of_ends L.width (dictionary (kind_of self.old) (in_units L.unit rs)) (map L.unit w)) }
-        ensures chains { OnOk result (HoldLeftLinks L.cmp true (states_of self.old) order.now → (rs : List (List L × V)) → Registered L.cmp L.unit L.width self.old rs → (w : List L) (t : ℕ) → Leads (child_of L.cmp (states_of self.old)) w t → IsChain L.width (dictionary (kind_of self.old) (in_units L.unit rs)) (IsDead (dictionary (kind_of self.old) (in_units L.unit rs))) (map L.unit w) (outputs_at (outputs_of self.new) (slice_index (positions_of (states_of self.new)) t))) }
-        ensures follows { OnOk result ((w : List L) (t : ℕ) → Leads (child_of L.cmp (states_of self.old)) w t → IsChainedAt (own_of (states_of self.old)) (fails_of (states_of self.old)) (outputs_of self.new) (positions_of (states_of self.new)) t) }
-        ensures bound { OnOk result (length (outputs_of self.new) ≤ output_count (own_of (states_of self.old))) }
-        ensures few { OnOk result (length (outputs_of self.new) ≤ 4294967295) }
-        ensures all_kept { OnOk result ((rs : List (List L × V)) → Registered L.cmp L.unit L.width self.old rs → length (outputs_of self.new) ≡ count_of self.old) }
-        ensures refused { IfErr result (IsRefusal ⊥ Outputs ((rs : List (List L × V)) → Registered L.cmp L.unit L.width self.old rs → 4294967295 < length (kept (kind_of self.old) (in_units L.unit rs)))) }
+        ensures outputs { OnOk result (HasOutputsOf L.cmp L.unit L.width self.old self.new order.now) }
+        ensures refused { IfErr result (IsRefusal ⊥ Outputs (KeepsMoreThan L.cmp L.unit L.width 4294967295 self.old)) }
     {
         self.outputs.clear();
         outputs::put_lists(&mut self.states, &mut self.outputs, order)
@@ -398,12 +366,7 @@ impl<L: EdgeLabel, V: Copy, A: Allocator + Copy> NfaBuilder<L, V, A> {
     ) -> Result<Vec<SiblingGroup<A>, A>>
         requires profile { IsProfileOf (length (states_of self.now)) profile.now }
         requires callable { F.IsAlwaysCallable map_label }
-        ensures trie { IfOk result (λ groups. (code : L → ℕ) → GivesCodes L.cmp (edges_of (states_of self.now)) (F.post map_label) code → AreTrieGroups L.cmp code (states_of self.now) groups.items) }
-        ensures groups { IfOk result (λ groups. (code : L → ℕ) (block : ℕ) → GivesCodes L.cmp (edges_of (states_of self.now)) (F.post map_label) code → AreCodes L.cmp (edges_of (states_of self.now)) (F.post map_label) code block → AreGroups groups.items (length (states_of self.now)) block) }
-        ensures bound { IfOk result (λ groups. length groups.items < length (states_of self.now)) }
-        ensures weights { IfOk result (λ groups. AreWeighed (edges_of (states_of self.now)) profile.now groups.items) }
-        ensures falling { IfOk result (λ groups. AreFalling groups.items) }
-        ensures light { profile.now.visits.items ≡ [] → IfOk result (λ groups. AreLight groups.items) }
+        ensures groups { IfOk result (λ groups. AreSiblingGroups L.cmp (F.post map_label) (states_of self.now) profile.now groups.items) }
         ensures refused { IfErr result IsOutOfMemory }
     {
         let mut groups = siblings::groups_of(alloc, &self.states, profile, &map_label)?;

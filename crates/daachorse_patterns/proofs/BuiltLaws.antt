@@ -1,5 +1,5 @@
 -- From a builder's trie, links and outputs to the dictionary of its patterns.
-use Rattle.std.proofs.Common.{◌≡◌, ◌≢◌, ℕ, ◌<◌, ◌≤◌, ◌⊎◌, Bool, true, false, List, [], ◌∷◌, length, map, Option, Some, None, refl, sym, ap, ◌∙◌, subst, arith, inl, inr}
+use Rattle.std.proofs.Common.{◌≡◌, ◌≢◌, ℕ, ◌<◌, ◌≤◌, Bool, true, false, List, [], ◌∷◌, length, map, Option, Some, None, refl, sym, ap, ◌∙◌, subst, arith, inl, inr}
 use Rattle.std.specs.Prelude.{slice_index, is_some, option_map, unwrap_or, IfSome}
 use Rattle.std.specs.declared.cmp.Ordering.{Ordering}
 use Rattle.std.specs.Cmp.{IsTotalOrder}
@@ -9,7 +9,6 @@ use Rattle.std.proofs.lemmas.Option.{same_Some}
 use Rattle.daachorse_core.specs.Chains.{Passes}
 use Rattle.daachorse_core.specs.Outputs.{ParentsFall}
 use Rattle.daachorse_model.specs.declared.MatchKind.{MatchKind}
-use Rattle.daachorse_model.specs.declared.MatchKind.TheVariants.{Standard, LeftmostLongest, LeftmostFirst}
 use Rattle.daachorse_model.specs.Dictionary.{Dictionary, dictionary, kept}
 use Rattle.daachorse_model.specs.Kinds.{is_leftmost}
 use Rattle.daachorse_model.specs.Outputs.{own_outputs}
@@ -17,48 +16,47 @@ use Rattle.daachorse_model.specs.Paths.{Leads, walk, is_reached}
 use Rattle.daachorse_model.specs.Prefixes.{IsDead, IsLink, IsPrefix, long}
 use Rattle.daachorse_model.proofs.Links.{link-is}
 use Rattle.daachorse_build.specs.declared.nfa_builder.NfaBuilder.{NfaBuilder}
-use Rattle.daachorse_build.specs.Builders.{Registered, states_of, outputs_of, count_of, kind_of}
+use Rattle.daachorse_build.specs.Builders.{Registered, states_of, outputs_of, kind_of}
 use Rattle.daachorse_build.specs.Growth.{HasTrieOf}
 use Rattle.daachorse_build.specs.Holds.{Holds, in_units}
 use Rattle.daachorse_build.specs.Left.{LinksLeft}
 use Rattle.daachorse_build.specs.Lists.{IsChainedAt, IsRest}
 use Rattle.daachorse_build.specs.Orders.{HoldLinks, IsLinked}
+use Rattle.daachorse_build.specs.Steps.{AreLeft, AreLinked, HasLinksOf, HasOutputsOf, KeepsPatterns}
 use Rattle.daachorse_build.specs.Tables.{child_in, child_of, edge_map, edges_of, fails_of, held_at, own_at, own_of, positions_of}
 use Rattle.daachorse_build.proofs.Fitting.{state_of}
 use Rattle.daachorse_build.proofs.Queue.{all_in_order}
 use Rattle.daachorse_build.proofs.Registrations.{holds_twin}
 use Rattle.daachorse_build.proofs.Walks.{walk-bounds, walk-same}
 use Rattle.daachorse_machine.specs.Copies.{HoldsDictionary, IsLinkedTo, LinkedTrie, next_output}
-use Rattle.daachorse_machine.proofs.DeadLaws.{leftmost_kind}
-use Rattle.daachorse_patterns.specs.Tries.{AreLeft, HasTexts, IsBuilt, LeadsByUnit, trie_by}
+use Rattle.daachorse_patterns.specs.Tries.{HasTexts, IsBuilt, LeadsByUnit, trie_by}
 use Rattle.daachorse_patterns.proofs.UnitTries.{long-units, text_of_units, walk-units}
 
--- a kind is that of the standard searches, or another
-pub standard_or_not : (kind : MatchKind) → (kind ≡ Standard) ⊎ (kind ≢ Standard)
-standard_or_not Standard = inl refl
-standard_or_not LeftmostLongest = inr (λ e. cc)
-standard_or_not LeftmostFirst = inr (λ e. cc)
-
 module _ {L V A : Type 0} (cmp : L → L → Ordering) (unit : L → ℕ) (width : ℕ → ℕ) where
+  -- the links of either kind
+  pub either_linked : (leftmost : Bool) (o b : NfaBuilder L V A) (order : List ℕ) → HasLinksOf cmp unit width leftmost o b order → AreLinked cmp (states_of b) order
+  either_linked false o b order linked = inl (linked.standard refl)
+  either_linked true o b order linked = inr (linked.leftmost refl)
+
   -- what was registered stays so where the trie and its outputs do
-  Registered-kept : (b d : NfaBuilder L V A) (rs : List (List L × V)) → HasTrieOf (states_of b) (states_of d) → kind_of d ≡ kind_of b → count_of d ≡ count_of b → Registered cmp unit width b rs → Registered cmp unit width d rs
-  Registered-kept b d rs same kind count was =
+  Registered-kept : (b d : NfaBuilder L V A) (rs : List (List L × V)) → KeepsPatterns b d → Registered cmp unit width b rs → Registered cmp unit width d rs
+  Registered-kept b d rs keeps was =
       let P : MatchKind → Type 0 = λ k. Holds cmp unit width k (states_of d) rs in
       record {
-        holds = subst P (sym kind) (holds_twin cmp unit width (kind_of b) (states_of b) (states_of d) rs same was.holds);
-        count = count ∙ was.count ∙ ap (λ k. length (kept k (in_units unit rs))) (sym kind);
+        holds = subst P (sym keeps.kind) (holds_twin cmp unit width (kind_of b) (states_of b) (states_of d) rs keeps.kept was.holds);
+        count = keeps.patterns ∙ was.count ∙ ap (λ k. length (kept k (in_units unit rs))) (sym keeps.kind);
       }
 
-  pub HasTexts-kept : (b d : NfaBuilder L V A) (rs : List (List ℕ × V)) → HasTrieOf (states_of b) (states_of d) → kind_of d ≡ kind_of b → count_of d ≡ count_of b → HasTexts cmp unit width b rs → HasTexts cmp unit width d rs
-  HasTexts-kept b d rs same kind count was = record { labels = was.labels; registered = Registered-kept b d was.labels same kind count was.registered; units = was.units }
+  pub HasTexts-kept : (b d : NfaBuilder L V A) (rs : List (List ℕ × V)) → KeepsPatterns b d → HasTexts cmp unit width b rs → HasTexts cmp unit width d rs
+  HasTexts-kept b d rs keeps was = record { labels = was.labels; registered = Registered-kept b d was.labels keeps was.registered; units = was.units }
 
   -- the leftmost links, as the builder has them once they are built
-  AreLeft-kept : (o b : NfaBuilder L V A) (rs : List (List L × V)) → HasTrieOf (states_of o) (states_of b) → kind_of b ≡ kind_of o → AreLeft cmp unit (kind_of o) (states_of o) (states_of b) rs → AreLeft cmp unit (kind_of b) (states_of b) (states_of b) rs
-  AreLeft-kept o b rs kept kind left =
+  AreLeft-kept : (o b : NfaBuilder L V A) (rs : List (List L × V)) → KeepsPatterns o b → AreLeft cmp unit (kind_of o) (states_of o) (states_of b) rs → AreLeft cmp unit (kind_of b) (states_of b) (states_of b) rs
+  AreLeft-kept o b rs keeps left =
       let E : List (List (L × ℕ)) → Type 0 = λ es. (w : List L) (t : ℕ) → w ≢ [] → Leads (child_in cmp es) w t
       → LinksLeft (dictionary (kind_of o) (in_units unit rs)) unit (child_in cmp es) w (slice_index (fails_of (states_of b)) t) in
       let K : MatchKind → Type 0 = λ k. AreLeft cmp unit k (states_of b) (states_of b) rs in
-      subst K (sym kind) (subst E (sym kept.edges) left)
+      subst K (sym keeps.kind) (subst E (sym keeps.kept.edges) left)
 
 -- The trie of a builder with patterns, read by units.
 module _ {L V A : Type 0} (cmp : L → L → Ordering) (unit : L → ℕ) (width : ℕ → ℕ) (total : IsTotalOrder cmp) (d : NfaBuilder L V A) (rs : List (List L × V)) (was : Registered cmp unit width d rs)
@@ -177,19 +175,15 @@ module _ {L V A : Type 0} (cmp : L → L → Ordering) (unit : L → ℕ) (width
       → ParentsFall (outputs_of d) → HoldsDictionary width K leftmost trie (outputs_of d)
   holds leftmost links follows parents = record { one_path = one_path; begins = begins; only = only; links = links; chains = chains follows; parents_fall = parents }
 
-  pub holds_standard : (kind : MatchKind) → kind ≡ Standard → (order : List ℕ) → HoldLinks cmp (states_of d) order
+  -- standard links in an order, or leftmost ones
+  pub holds_linked : (kind : MatchKind) (order : List ℕ) → (is_leftmost kind ≡ false → HoldLinks cmp (states_of d) order) → (is_leftmost kind ≡ true → AreLeft cmp unit (kind_of d) (states_of d) (states_of d) rs)
       → ((w : List L) (s : ℕ) → Leads to w s → IsChainedAt (own_of (states_of d)) (fails_of (states_of d)) (outputs_of d) (positions_of (states_of d)) s)
       → ParentsFall (outputs_of d) → HoldsDictionary width K (is_leftmost kind) trie (outputs_of d)
-  holds_standard kind standard order linked follows parents =
-      let P : Bool → Type 0 = λ b. HoldsDictionary width K b trie (outputs_of d) in
-      subst P (sym (ap is_leftmost standard)) (holds false (links-standard order linked) follows parents)
-
-  pub holds_left : (kind : MatchKind) → kind ≢ Standard → AreLeft cmp unit (kind_of d) (states_of d) (states_of d) rs
-      → ((w : List L) (s : ℕ) → Leads to w s → IsChainedAt (own_of (states_of d)) (fails_of (states_of d)) (outputs_of d) (positions_of (states_of d)) s)
-      → ParentsFall (outputs_of d) → HoldsDictionary width K (is_leftmost kind) trie (outputs_of d)
-  holds_left kind other left follows parents =
-      let P : Bool → Type 0 = λ b. HoldsDictionary width K b trie (outputs_of d) in
-      subst P (sym (leftmost_kind kind other)) (holds true (links-left left) follows parents)
+  holds_linked kind order standard left follows parents = go (is_leftmost kind) standard left
+    where
+      go : (b : Bool) → (b ≡ false → HoldLinks cmp (states_of d) order) → (b ≡ true → AreLeft cmp unit (kind_of d) (states_of d) (states_of d) rs) → HoldsDictionary width K b trie (outputs_of d)
+      go false standard left = holds false (links-standard order (standard refl)) follows parents
+      go true standard left = holds true (links-left (left refl)) follows parents
 
 -- a number below a limit, and below the one that holds where none is given
 pub few_for : (most : Option ℕ) (n : ℕ) → IfSome most (λ m. n ≤ m) → n ≤ 4294967295 → n ≤ unwrap_or most 4294967295
@@ -198,30 +192,29 @@ few_for (Some m) n low few = low
 
 -- what the builder o becomes: b with its links, and d with its outputs too
 module _ {L V A : Type 0} (cmp : L → L → Ordering) (unit : L → ℕ) (width : ℕ → ℕ) (total : IsTotalOrder cmp) (most : Option ℕ) (kind : MatchKind) (o b d : NfaBuilder L V A) (order : List ℕ) (is_kind : kind_of o ≡ kind) (fits : length (states_of o) ≤ 4294967296)
-    (linked : HasTrieOf (states_of o) (states_of b)) (kind-b : kind_of b ≡ kind_of o) (count-b : count_of b ≡ count_of o) (root : slice_index (fails_of (states_of b)) 0 ≡ 0)
-    (standard : kind ≡ Standard → HoldLinks cmp (states_of b) order) (left : kind ≢ Standard → (rs : List (List L × V)) → Registered cmp unit width o rs → AreLeft cmp unit (kind_of o) (states_of o) (states_of b) rs)
-    (put : HasTrieOf (states_of b) (states_of d)) (kind-d : kind_of d ≡ kind_of b) (count-d : count_of d ≡ count_of b) (fails : fails_of (states_of d) ≡ fails_of (states_of b))
-    (parents : ParentsFall (outputs_of d)) (few : length (outputs_of d) ≤ unwrap_or most 4294967295)
-    (positions : (w : List L) (t : ℕ) → Leads (child_of cmp (states_of b)) w t → slice_index (positions_of (states_of d)) t ≤ length (outputs_of d))
-    (follows : (w : List L) (t : ℕ) → Leads (child_of cmp (states_of b)) w t → IsChainedAt (own_of (states_of b)) (fails_of (states_of b)) (outputs_of d) (positions_of (states_of d)) t) where
+    (keeps : KeepsPatterns o b) (linked : HasLinksOf cmp unit width (is_leftmost kind) o b order)
+    (keeps-d : KeepsPatterns b d) (fails : fails_of (states_of d) ≡ fails_of (states_of b)) (parents : ParentsFall (outputs_of d)) (made : HasOutputsOf cmp unit width b d order) (few : length (outputs_of d) ≤ unwrap_or most 4294967295) where
   finished : (rs : List (List L × V)) → Registered cmp unit width o rs → IsBuilt cmp unit width most kind d (dictionary (kind_of d) (in_units unit rs))
   finished rs was = record {
     trie = held.holds.trie;
     holds = all;
-    root = ap (λ fs. slice_index fs 0) fails ∙ root;
+    root = ap (λ fs. slice_index fs 0) fails ∙ linked.root;
     positions = positions_d;
     few_outputs = few;
-    few_states = omega (arith, fits, ap length (put.edges ∙ linked.edges), length-map (states_of d) edge_map, length-map (states_of o) edge_map);
+    few_states = omega (arith, fits, ap length (put.edges ∙ keeps.kept.edges), length-map (states_of d) edge_map, length-map (states_of o) edge_map);
   }
     where
+      put : HasTrieOf (states_of b) (states_of d)
+      put = keeps-d.kept
+
       held : Registered cmp unit width d rs
-      held = Registered-kept cmp unit width b d rs put kind-d count-d (Registered-kept cmp unit width o b rs linked kind-b count-b was)
+      held = Registered-kept cmp unit width b d rs keeps-d (Registered-kept cmp unit width o b rs keeps was)
 
       R : List (List (L × ℕ)) → Type 0
       R es = (w : List L) (t : ℕ) → Leads (child_in cmp es) w t → slice_index (positions_of (states_of d)) t ≤ length (outputs_of d)
 
       positions_d : R (edges_of (states_of d))
-      positions_d = subst R (sym put.edges) positions
+      positions_d = subst R (sym put.edges) made.positions
 
       C : List (List (L × ℕ)) → List (List (V × ℕ)) → List ℕ → Type 0
       C es own fs = (w : List L) (t : ℕ) → Leads (child_in cmp es) w t → IsChainedAt own fs (outputs_of d) (positions_of (states_of d)) t
@@ -236,7 +229,7 @@ module _ {L V A : Type 0} (cmp : L → L → Ordering) (unit : L → ℕ) (width
       CF fs = C (edges_of (states_of d)) (own_of (states_of d)) fs
 
       follows_d : CF (fails_of (states_of d))
-      follows_d = subst CF (sym fails) (subst CO (sym put.outputs) (subst CE (sym put.edges) follows))
+      follows_d = subst CF (sym fails) (subst CO (sym put.outputs) (subst CE (sym put.edges) made.follows))
 
       P : List (List (L × ℕ)) → Type 0
       P es = IsLinked cmp es (fails_of (states_of b)) order
@@ -251,17 +244,14 @@ module _ {L V A : Type 0} (cmp : L → L → Ordering) (unit : L → ℕ) (width
       F fs = (w : List L) (t : ℕ) → w ≢ [] → Leads (child_of cmp (states_of d)) w t → LinksLeft (dictionary (kind_of b) (in_units unit rs)) unit (child_of cmp (states_of d)) w (slice_index fs t)
 
       all : (child : ℕ → ℕ → Option ℕ) → LeadsByUnit cmp unit (edges_of (states_of d)) child → HoldsDictionary width (dictionary (kind_of d) (in_units unit rs)) (is_leftmost kind) (trie_by child (fails_of (states_of d)) (positions_of (states_of d))) (outputs_of d)
-      all child by = elim (standard_or_not kind) [
-        | inl is ↦ holds_standard cmp unit width total d rs held child by kind is order (subst Q (sym fails) (subst P (sym put.edges) (standard is))) follows_d parents
-        | inr other ↦
-            let b_left = AreLeft-kept cmp unit width o b rs linked kind-b (left other rs was) in
-            let K : MatchKind → Type 0 = λ k. AreLeft cmp unit k (states_of d) (states_of d) rs in
-            holds_left cmp unit width total d rs held child by kind other (subst K (sym kind-d) (subst F (sym fails) (subst E (sym put.edges) b_left))) follows_d parents
-      ]
+      all child by =
+          let K : MatchKind → Type 0 = λ k. AreLeft cmp unit k (states_of d) (states_of d) rs in
+          holds_linked cmp unit width total d rs held child by kind order (λ is. subst Q (sym fails) (subst P (sym put.edges) (linked.standard is)))
+          (λ is. subst K (sym keeps-d.kind) (subst F (sym fails) (subst E (sym put.edges) (AreLeft-kept cmp unit width o b rs keeps (linked.left is rs was))))) follows_d parents
 
   -- the builder holds the dictionary of its patterns
   pub finished_for : (rs : List (List ℕ × V)) → HasTexts cmp unit width o rs → IsBuilt cmp unit width most kind d (dictionary kind rs)
   finished_for rs texts =
       let P : MatchKind → Type 0 = λ k. IsBuilt cmp unit width most kind d (dictionary k (in_units unit texts.labels)) in
       let R : List (List ℕ × V) → Type 0 = λ xs. IsBuilt cmp unit width most kind d (dictionary kind xs) in
-      subst R texts.units (subst P (kind-d ∙ (kind-b ∙ is_kind)) (finished texts.labels texts.registered))
+      subst R texts.units (subst P (keeps-d.kind ∙ (keeps.kind ∙ is_kind)) (finished texts.labels texts.registered))

@@ -1,16 +1,14 @@
 -- Builders whose links and outputs are built, and the dictionary that each holds.
-use Rattle.std.specs.Prelude.{◌≡◌, ◌≢◌, ℕ, ◌≤◌, List, [], length, slice_index, Option, Some, unwrap_or}
+use Rattle.std.specs.Prelude.{◌≡◌, ℕ, ◌≤◌, List, length, slice_index, Option, Some, unwrap_or}
 use Rattle.std.specs.declared.cmp.Ordering.{Ordering}
 use Rattle.daachorse_model.specs.declared.MatchKind.{MatchKind}
-use Rattle.daachorse_model.specs.Dictionary.{Dictionary, dictionary}
+use Rattle.daachorse_model.specs.Dictionary.{Dictionary}
 use Rattle.daachorse_model.specs.Kinds.{is_leftmost}
 use Rattle.daachorse_model.specs.Paths.{Leads}
-use Rattle.daachorse_build.specs.declared.nfa_builder.NfaBuilderState.{NfaBuilderState}
 use Rattle.daachorse_build.specs.declared.nfa_builder.NfaBuilder.{NfaBuilder}
 use Rattle.daachorse_build.specs.Builders.{Registered, outputs_of, states_of}
 use Rattle.daachorse_build.specs.Holds.{in_units}
-use Rattle.daachorse_build.specs.Left.{LinksLeft}
-use Rattle.daachorse_build.specs.Tables.{HoldTrie, child_in, child_of, edges_of, fails_of, positions_of}
+use Rattle.daachorse_build.specs.Tables.{HoldTrie, child_in, edges_of, fails_of, positions_of}
 use Rattle.daachorse_machine.specs.Copies.{HoldsDictionary, LinkedTrie}
 
 -- a unit leads where its label does, and a unit of no label leads nowhere
@@ -36,9 +34,3 @@ pub record HasTexts {L V A : Type 0} (cmp : L → L → Ordering) (unit : L → 
   pub labels : List (List L × V)
   pub registered : Registered cmp unit width b labels
   pub units : in_units unit labels ≡ rs
-
--- in the trie of `old` each nonempty text has its leftmost link in `new`, for the patterns that were registered
-abbrev pub AreLeft : {L V A : Type 0} → (L → L → Ordering) → (L → ℕ) → MatchKind → List (NfaBuilderState L V A) → List (NfaBuilderState L V A) → List (List L × V) → Type 0
-AreLeft {L} cmp unit kind old new rs =
-    (w : List L) (t : ℕ) → w ≢ [] → Leads (child_of cmp old) w t
-    → LinksLeft (dictionary kind (in_units unit rs)) unit (child_of cmp old) w (slice_index (fails_of new) t)

@@ -3,18 +3,16 @@
 //! The layers above may rely on its dictionary being that of the patterns for the kind of searches,
 //! and on each refusal being the first in the order of the work.
 
-ghost use Rattle.std.specs.Prelude.{◌≡◌, ◌≢◌, true, ◌≤◌, ℕ, List, [], None, ◌<◌, IfOk, IfErr, IfSome, IsSomeAnd, OnOk, length, slice_index};
+ghost use Rattle.std.specs.Prelude.{◌≡◌, ◌≤◌, [], None, ◌<◌, IfOk, IfErr, IfSome, IsSomeAnd, OnOk, length};
 ghost use Rattle.daachorse_core.specs.Refusals.{IsOutOfMemory};
 ghost use Rattle.daachorse_core.specs.declared.errors.Limit.TheVariants.{PatternValues};
-ghost use Rattle.daachorse_model.specs.declared.MatchKind.TheVariants.{Standard};
 ghost use Rattle.daachorse_model.specs.Dictionary.{dictionary, kept};
-ghost use Rattle.daachorse_build.specs.Builders.{Registered, count_of, kind_of, outputs_of, states_of};
-ghost use Rattle.daachorse_build.specs.Growth.{HasTrieOf};
-ghost use Rattle.daachorse_build.specs.Orders.{HoldLeftLinks, HoldLinks};
-ghost use Rattle.daachorse_build.specs.Tables.{fails_of};
+ghost use Rattle.daachorse_model.specs.Kinds.{is_leftmost};
+ghost use Rattle.daachorse_build.specs.Builders.{Registered, kind_of, outputs_of, states_of};
+ghost use Rattle.daachorse_build.specs.Steps.{HasLinksOf, KeepsPatterns};
 ghost use Rattle.daachorse_patterns.specs.Building.{Fit, IsRefusalWithin, Limits};
 ghost use Rattle.daachorse_patterns.specs.Patterns.{texts_of};
-ghost use Rattle.daachorse_patterns.specs.Tries.{AreLeft, HasTexts, IsBuilt};
+ghost use Rattle.daachorse_patterns.specs.Tries.{HasTexts, IsBuilt};
 
 use crate::pattern::Pattern;
 use daachorse_build::nfa_builder::NfaBuilder;
@@ -94,18 +92,14 @@ fn build_links<L: EdgeLabel, V: Copy, A: Allocator + Copy>(
     kind: MatchKind,
     nfa: &mut NfaBuilder<L, V, A>,
 ) -> Result<Vec<u32, A>>
-    ensures kind { kind_of nfa.new ≡ kind_of nfa.old }
-    ensures patterns { count_of nfa.new ≡ count_of nfa.old }
+    ensures kept { KeepsPatterns nfa.old nfa.new }
     ensures outputs { outputs_of nfa.new ≡ outputs_of nfa.old }
-    ensures kept { HasTrieOf (states_of nfa.old) (states_of nfa.new) }
-    ensures standard { IfOk result (λ order. kind ≡ Standard → HoldLinks L.cmp (states_of nfa.new) order.items) }
-    ensures leftmost { IfOk result (λ order. kind ≢ Standard → HoldLeftLinks L.cmp true (states_of nfa.new) order.items) }
-    ensures root { OnOk result (slice_index (fails_of (states_of nfa.new)) 0 ≡ 0) }
-    ensures left { IfOk result (λ order. kind ≢ Standard → (rs : List (List L × V)) → Registered L.cmp L.unit L.width nfa.old rs → AreLeft L.cmp L.unit (kind_of nfa.old) (states_of nfa.old) (states_of nfa.new) rs) }
+    ensures links { IfOk result (λ order. HasLinksOf L.cmp L.unit L.width (is_leftmost kind) nfa.old nfa.new order.items) }
     ensures err { IfErr result IsOutOfMemory }
 {
-    match kind {
-        MatchKind::Standard => nfa.build_fails(alloc),
-        MatchKind::LeftmostLongest | MatchKind::LeftmostFirst => nfa.build_fails_leftmost(alloc),
+    if kind.is_leftmost() {
+        nfa.build_fails_leftmost(alloc)
+    } else {
+        nfa.build_fails(alloc)
     }
 }

@@ -4,10 +4,10 @@
 //! that is returned: it is breadth-first, and in it the link of a state is dead, or the root, or
 //! stands before the state.
 
-ghost use Rattle.std.specs.Prelude.{◌≡◌, ◌+◌, ◌<◌, ℕ, false, [], List, Some, length, take, slice_index, vec_len, IfOk, IfErr, OnOk};
+ghost use Rattle.std.specs.Prelude.{◌≡◌, ◌+◌, ◌<◌, ℕ, false, [], List, Some, length, take, vec_len, IfOk, IfErr, OnOk};
 ghost use Rattle.daachorse_core.specs.Refusals.{IsOutOfMemory};
 ghost use Rattle.daachorse_build.specs.Tables.{child_of, edges_of, fails_of, stops_of, HoldTrie};
-ghost use Rattle.daachorse_build.specs.Orders.{IsIn, IsKnown, IsLinkAmong, HoldLeftLinks};
+ghost use Rattle.daachorse_build.specs.Orders.{IsKnown, IsLinkAmong, HaveLinks};
 ghost use Rattle.daachorse_build.specs.Left.{IsLeftFailOf};
 ghost use Rattle.daachorse_build.specs.Traversals.{Traverses, LeadsTo, ComesFrom};
 ghost use Rattle.daachorse_build.specs.Growth.{HasTrieOf};
@@ -26,9 +26,7 @@ pub(super) fn link_states<L: EdgeLabel, V: Copy, A: Allocator + Copy>(
 ) -> Result<Vec<u32, A>>
     requires { HoldTrie L.cmp states.old }
     ensures kept { HasTrieOf states.old states.new }
-    ensures links { IfOk result (λ order. HoldLeftLinks L.cmp leftmost states.new order.items) }
-    ensures root { OnOk result (slice_index (fails_of states.new) 0 ≡ 0) }
-    ensures states { IfOk result (λ order. (t : ℕ) → IsIn order.items t → (1 < t) × (t < length states.new)) }
+    ensures links { IfOk result (λ order. HaveLinks L.cmp leftmost states.new order.items) }
     ensures refused { IfErr result IsOutOfMemory }
 {
     let mut traversal = BreadthFirstTraversal::new(alloc, states, leftmost)?;

@@ -10,10 +10,10 @@ ghost use Rattle.daachorse_core.specs.Refusals.{IsRefusal};
 ghost use Rattle.daachorse_core.specs.declared.errors.Limit.TheVariants.{Outputs};
 ghost use Rattle.daachorse_core.specs.declared.outputs.Output.{Output as OutputOf};
 ghost use Rattle.daachorse_build.specs.Few.{items_of};
-ghost use Rattle.daachorse_build.specs.Tables.{fails_of, positions_of, own_of, own_at, output_count, stops_of, HoldTrie};
+ghost use Rattle.daachorse_build.specs.Tables.{fails_of, positions_of, own_of, own_at, output_count, HoldTrie};
 ghost use Rattle.daachorse_build.specs.Orders.{HoldLeftLinks};
 ghost use Rattle.daachorse_build.specs.Growth.{HasTrieOf};
-ghost use Rattle.daachorse_build.specs.Lists.{PositionsFit, AreListed, AreChained, IsParent};
+ghost use Rattle.daachorse_build.specs.Lists.{HaveLists, IsParent};
 
 use super::{DEAD_STATE_ID, NfaBuilderState, ROOT_STATE_ID};
 use crate::few::Few;
@@ -110,12 +110,7 @@ pub(super) fn put_lists<L: EdgeLabel, V: Copy, A: Allocator>(
     ensures kept { HasTrieOf states.old states.new }
     ensures fails { fails_of states.new ≡ fails_of states.old }
     ensures parents { ParentsFall outputs.new.items }
-    ensures positions { OnOk result (PositionsFit order.now outputs.new.items (positions_of states.new)) }
-    ensures lists { OnOk result ((leftmost : Bool) → HoldLeftLinks L.cmp leftmost states.old order.now → AreListed L.cmp (stops_of leftmost states.old) states.old order.now outputs.new.items (positions_of states.new)) }
-    ensures chained { OnOk result ((leftmost : Bool) → HoldLeftLinks L.cmp leftmost states.old order.now → AreChained (own_of states.old) (fails_of states.old) order.now outputs.new.items (positions_of states.new)) }
-    ensures bound { OnOk result (vec_len outputs.new ≤ output_count (own_of states.old)) }
-    ensures whole { OnOk result (own_at (own_of states.old) 1 ≡ [] → vec_len outputs.new ≡ output_count (own_of states.old)) }
-    ensures few { OnOk result (vec_len outputs.new ≤ 4294967295) }
+    ensures lists { OnOk result (HaveLists L.cmp states.old states.new order.now outputs.new.items) }
     ensures refused { IfErr result (IsRefusal ⊥ Outputs (4294967295 < output_count (own_of states.old))) }
 {
     put_list(states, outputs, ROOT_STATE_ID, 0)?;

@@ -9,7 +9,7 @@ use Rattle.daachorse_charwise_states.proofs.packing.coded_groups.Goals as goal
 
 pub returns-clause-ok : goal.returns-clause-ok
 returns-clause-ok g c block two fits =
-    let made = c.in_ok-groups.ensures in
+    let made = c.in_ok-groups.ensures.groups in
     let code : ℕ → ℕ = code_in c.args.mapper.now in
     let states = states_of c.args.nfa.now in
     let trie = made.trie code (λ s u t e r gives. gives) in

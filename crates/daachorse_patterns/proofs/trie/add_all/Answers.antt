@@ -32,7 +32,7 @@ returns-in_err-add-clause-err g c =
     (texts_around units patterns i pair c.loop-pattern-test.true c.loop-pattern-item.is)
     (Fit-texts g.L.Ord.cmp g.L.EdgeLabel.unit width c.loop-pattern.nfa (texts_of units (take i patterns)) was.so_far was.fits was.short)
     c.in_err-add.field-0.0 _ _ (λ much. subst M same much)
-    (λ passed. (subst S same passed.0, prefixes_more g.L.Ord.cmp g.L.EdgeLabel.unit width c.loop-pattern.nfa (texts_of units (take i patterns)) labels text pair.1 was.so_far same passed.1))
+    (λ passed. (subst S same passed.short, prefixes_more g.L.Ord.cmp g.L.EdgeLabel.unit width c.loop-pattern.nfa (texts_of units (take i patterns)) labels text pair.1 was.so_far same passed.more))
     c.in_err-add.ensures.refused))
 
 pub returns-clause-fit : goal.returns-clause-fit
@@ -59,11 +59,11 @@ loop-pattern-preserved g c =
     let S : List ℕ → Type 0 = λ x. size width x ≤ 4294967295 in
     let more = texts_more units patterns i pair c.loop-pattern-test.true c.loop-pattern-item.is in
     record {
-      so_far = subst P more (HasTexts-push cmp unit width c.loop-pattern.nfa c.add.new.self before labels text pair.1 was.so_far same c.in_ok-add.ensures.registered);
+      so_far = subst P more (HasTexts-push cmp unit width c.loop-pattern.nfa c.add.new.self before labels text pair.1 was.so_far same c.in_ok-add.ensures.added.registered);
       kind = c.in_ok-add.ensures.kind ∙ was.kind;
       outputs = c.in_ok-add.ensures.outputs ∙ was.outputs;
-      short = subst Q more (All-push (λ r. size width r.0 ≤ 4294967295) before (text, pair.1) was.short (subst S same c.in_ok-add.ensures.short));
-      fits = c.in_ok-add.ensures.fits was.fits;
+      short = subst Q more (All-push (λ r. size width r.0 ≤ 4294967295) before (text, pair.1) was.short (subst S same c.in_ok-add.ensures.added.short));
+      fits = c.in_ok-add.ensures.added.fits was.fits;
     }
 
 pub returns-in_err-labels-clause-ok : goal.returns-in_err-labels-clause-ok

@@ -1,15 +1,16 @@
 -- The trie of all patterns has its links and outputs, and the first step that refuses refuses the build.
-use Rattle.std.proofs.Common.{◌≡◌, ◌≤◌, ◌⊎◌, ℕ, List, true, length, None, ◌∙◌, ap, subst, sym, inl, inr, arith}
+use Rattle.std.proofs.Common.{◌≡◌, ◌≤◌, ℕ, List, length, None, ◌∙◌, ap, subst, sym, arith}
 use Rattle.std.specs.Prelude.{IfSome}
 use Rattle.std.proofs.lemmas.Option.{IfSome_then}
 use Rattle.std.proofs.lemmas.Result.{err_from_is_err_and, IfOk-from_err}
 use Rattle.daachorse_model.specs.declared.MatchKind.{MatchKind}
 use Rattle.daachorse_model.specs.Dictionary.{kept}
+use Rattle.daachorse_model.specs.Kinds.{is_leftmost}
 use Rattle.daachorse_build.specs.Builders.{kind_of, outputs_of, states_of}
-use Rattle.daachorse_build.specs.Orders.{HoldLeftLinks, HoldLinks}
+use Rattle.daachorse_build.specs.Steps.{AreLinked, HasOutputsOf}
 use Rattle.daachorse_patterns.specs.Building.{Fit, IsRefusalWithin, Limits}
 use Rattle.daachorse_patterns.specs.Patterns.{texts_of}
-use Rattle.daachorse_patterns.proofs.BuiltLaws.{HasTexts-kept, few_for, finished_for, standard_or_not}
+use Rattle.daachorse_patterns.proofs.BuiltLaws.{HasTexts-kept, either_linked, few_for, finished_for}
 use Rattle.daachorse_patterns.proofs.RefusalLaws.{HasTexts-count, count_refused, outputs_refused}
 use Rattle.daachorse_patterns.proofs.trie.build_trie.Goals as goal
 
@@ -32,12 +33,8 @@ returns-in_err-check_count-clause-err g c =
 
 pub build_outputs-requires : goal.build_outputs-requires
 build_outputs-requires g c =
-    let states = states_of c.build_links.new.nfa in
-    let P : List ℕ → Type 0 = λ order. HoldLinks g.L.Ord.cmp states order ⊎ HoldLeftLinks g.L.Ord.cmp true states order in
-    subst P (sym c.deref.ensures.value) (elim (standard_or_not c.args.kind) [
-      | inl standard ↦ inl (c.in_ok-order.ensures.standard standard)
-      | inr left ↦ inr (c.in_ok-order.ensures.leftmost left)
-    ])
+    let P : List ℕ → Type 0 = λ order. AreLinked g.L.Ord.cmp (states_of c.build_links.new.nfa) order in
+    subst P (sym c.deref.ensures.value) (either_linked g.L.Ord.cmp g.L.EdgeLabel.unit g.L.EdgeLabel.width (is_leftmost c.args.kind) c.add_all.new.nfa c.build_links.new.nfa c.in_ok-order.order.items c.in_ok-order.ensures.links)
 
 pub returns-in_err-build_outputs-clause-err : goal.returns-in_err-build_outputs-clause-err
 returns-in_err-build_outputs-clause-err g c =
@@ -48,10 +45,10 @@ returns-in_err-build_outputs-clause-err g c =
     let F : MatchKind → Type 0 = λ k. Fit width k rs in
     let few : IfSome c.args.max_patterns (λ n. length (kept c.args.kind rs) ≤ n) = IfSome_then c.args.max_patterns c.in_ok-check_count.ensures.ok (λ n low. omega (arith, low, count)) in
     let linked = c.in_ok-order.ensures in let b = c.build_links.new.nfa in
-    let texts = HasTexts-kept cmp unit width c.add_all.new.nfa b rs linked.kept linked.kind linked.patterns added.ok in
+    let texts = HasTexts-kept cmp unit width c.add_all.new.nfa b rs linked.kept added.ok in
     let p = err_from_is_err_and c.from_residual-in_err-build_outputs.result c.from_residual-in_err-build_outputs.ensures.1 in
     rw (p.1, p.2) (outputs_refused width c.args.max_patterns None c.args.kind rs c.requires few (subst F old added.fit) c.in_err-build_outputs.field-0.0 _
-    (λ passed. let many = passed texts.labels texts.registered in omega (arith, many, ap (λ xs. length (kept (kind_of b) xs)) texts.units, ap (λ k. length (kept k rs)) (linked.kind ∙ (added.kind ∙ old))))
+    (λ passed. let many = passed texts.labels texts.registered in omega (arith, many, ap (λ xs. length (kept (kind_of b) xs)) texts.units, ap (λ k. length (kept k rs)) (linked.kept.kind ∙ (added.kind ∙ old))))
     c.in_err-build_outputs.ensures.refused)
 
 pub returns-clause-ok : goal.returns-clause-ok
@@ -61,10 +58,10 @@ returns-clause-ok g c =
     let added = c.in_ok-add_all.ensures in let old = c.in_ok-nfa.ensures.kind in
     let linked = c.in_ok-order.ensures in let made = c.in_ok-build_outputs.ensures in
     let o = c.add_all.new.nfa in let b = c.build_links.new.nfa in let d = c.build_outputs.new.self in
-    let texts = HasTexts-kept cmp unit width o b rs linked.kept linked.kind linked.patterns added.ok in
-    let bound = made.all_kept texts.labels texts.registered in
-    let few : IfSome c.args.max_patterns (λ n. length (outputs_of d) ≤ n) = IfSome_then c.args.max_patterns c.in_ok-check_count.ensures.ok (λ n low. omega (arith, low, bound, linked.patterns, c.num_patterns.ensures)) in
-    finished_for cmp unit width g.met.L.Ord.total c.args.max_patterns c.args.kind o b d c.in_ok-order.order.items (added.kind ∙ old) added.fits linked.kept linked.kind linked.patterns linked.root linked.standard linked.left made.kept made.kind made.patterns made.fails made.parents (few_for c.args.max_patterns (length (outputs_of d)) few made.few) made.positions made.follows rs added.ok
+    let texts = HasTexts-kept cmp unit width o b rs linked.kept added.ok in
+    let bound = made.outputs.all_kept texts.labels texts.registered in
+    let few : IfSome c.args.max_patterns (λ n. length (outputs_of d) ≤ n) = IfSome_then c.args.max_patterns c.in_ok-check_count.ensures.ok (λ n low. omega (arith, low, bound, linked.kept.patterns, c.num_patterns.ensures)) in
+    finished_for cmp unit width g.met.L.Ord.total c.args.max_patterns c.args.kind o b d c.in_ok-order.order.items (added.kind ∙ old) added.fits linked.kept linked.links made.kept made.links made.parents (let P : List ℕ → Type 0 = λ order. HasOutputsOf cmp unit width b d order in subst P c.deref.ensures.value made.outputs) (few_for c.args.max_patterns (length (outputs_of d)) few made.outputs.few) rs added.ok
 
 pub returns-clause-outputs : goal.returns-clause-outputs
 returns-clause-outputs g c =
@@ -73,10 +70,10 @@ returns-clause-outputs g c =
     let added = c.in_ok-add_all.ensures in let old = c.in_ok-nfa.ensures.kind in
     let linked = c.in_ok-order.ensures in let made = c.in_ok-build_outputs.ensures in
     let o = c.add_all.new.nfa in let b = c.build_links.new.nfa in
-    let texts = HasTexts-kept cmp unit width o b rs linked.kept linked.kind linked.patterns added.ok in
-    let all = made.all_kept texts.labels texts.registered in
+    let texts = HasTexts-kept cmp unit width o b rs linked.kept added.ok in
+    let all = made.outputs.all_kept texts.labels texts.registered in
     let count : c.num_patterns.result ≡ length (kept c.args.kind rs) = c.num_patterns.ensures ∙ HasTexts-count cmp unit width o rs added.ok ∙ ap (λ k. length (kept k rs)) (added.kind ∙ old) in
-    omega (arith, all, made.few, linked.patterns, c.num_patterns.ensures, count)
+    omega (arith, all, made.outputs.few, linked.kept.patterns, c.num_patterns.ensures, count)
 
 pub returns-clause-few : goal.returns-clause-few
 returns-clause-few g c =

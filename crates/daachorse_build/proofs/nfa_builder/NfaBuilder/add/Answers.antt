@@ -9,7 +9,6 @@ use Rattle.daachorse_model.specs.Kinds.{is_leftmost_first}
 use Rattle.daachorse_model.specs.Dictionary.{kept}
 use Rattle.daachorse_core.specs.declared.errors.Limit.TheVariants.{StateId}
 use Rattle.daachorse_build.specs.declared.nfa_builder.NfaBuilderState.{NfaBuilderState}
-use Rattle.daachorse_build.specs.Builders.{states_of}
 use Rattle.daachorse_build.specs.Tables.{child_of, stops_of}
 use Rattle.daachorse_build.specs.Left.{meets_early}
 use Rattle.daachorse_build.specs.Holds.{in_units, Holds}
@@ -46,11 +45,11 @@ returns-in_err-add_pattern-clause-refused g c =
     elim c.else-is_leftmost_first.branch [ else-is_leftmost_first-via-then-is_leftmost_first+else-extends_key w ↦ inr (ap (λ (ss : List (NfaBuilderState g.row.L.Denot g.row.V.Denot g.row.A.Denot)). meets_early (child_of cmp ss) (stops_of true ss) 0 c.args.pattern.now) (sym w.deref.ensures.value) ∙ sym w.extends_key.ensures ∙ w.if-extends_key.false) | else-is_leftmost_first-via-else-is_leftmost_first w ↦ inl (sym c.is_leftmost_first.ensures ∙ w.if-is_leftmost_first.false) ] in
     let short : size width (map unit pattern) ≤ 4294967295 = rw (← c.in_ok-size.ensures.size) (search rules) in
     rw (← c.self.view_is, p.1, p.2) (IsRefusal-weaker ⊥ _ StateId _ _ (λ none. absurd none)
-    (λ over. (short, λ rs reg. too_many cmp unit g.met.L.EdgeLabel.exact width b.kind b.states.items rs pattern c.args.value (counts cmp unit width b.kind b.states.items rs reg.holds pattern c.args.value why) reg.holds 4294967295 over))
+    (λ over. record { short = short; more = λ rs reg. too_many cmp unit g.met.L.EdgeLabel.exact width b.kind b.states.items rs pattern c.args.value (counts cmp unit width b.kind b.states.items rs reg.holds pattern c.args.value why) reg.holds 4294967295 over })
     _ c.in_err-add_pattern.ensures.refused)
 
-pub returns-clause-registered : goal.returns-clause-registered
-returns-clause-registered g c = rw (← c.self.view_is) (λ rs reg.
+pub returns-clause-added : goal.returns-clause-added
+returns-clause-added g c = rw (← c.self.view_is) (
     let b = c.self.inside in
     let cmp = g.L.Ord.cmp in
     let unit = g.L.EdgeLabel.unit in
@@ -59,16 +58,22 @@ returns-clause-registered g c = rw (← c.self.view_is) (λ rs reg.
     let early = meets_early (child_of cmp b.states.items) (stops_of true b.states.items) 0 p in
     let why : (is_leftmost_first b.kind ≡ false) ⊎ (early ≡ false) =
     elim c.else-is_leftmost_first.branch [ else-is_leftmost_first-via-then-is_leftmost_first+else-extends_key w ↦ inr (ap (λ (ss : List (NfaBuilderState g.row.L.Denot g.row.V.Denot g.row.A.Denot)). meets_early (child_of cmp ss) (stops_of true ss) 0 c.args.pattern.now) (sym w.deref.ensures.value) ∙ sym w.extends_key.ensures ∙ w.if-extends_key.false) | else-is_leftmost_first-via-else-is_leftmost_first w ↦ inl (sym c.is_leftmost_first.ensures ∙ w.if-is_leftmost_first.false) ] in
-    let more = counts cmp unit width b.kind b.states.items rs reg.holds p c.args.value why in
     let added = rw c.in_ok-size.ensures.size at c.in_ok-add_pattern.ensures.ok in
     let len : c.in-Some.len ≡ b.len + 1 = search rules in
     record {
-      holds = holds_more unit g.met.L.EdgeLabel.exact b.kind rs p c.args.value more cmp width b.states.items c.add_pattern.new.states.items reg.holds added;
-      count = omega (arith, len, reg.count, ap length more, length_push (kept b.kind (in_units unit rs)) (map unit p, c.args.value));
+      trie = c.add_pattern.ensures.trie;
+      registered = λ rs reg.
+          let more = counts cmp unit width b.kind b.states.items rs reg.holds p c.args.value why in
+          record {
+            holds = holds_more unit g.met.L.EdgeLabel.exact b.kind rs p c.args.value more cmp width b.states.items c.add_pattern.new.states.items reg.holds added;
+            count = omega (arith, len, reg.count, ap length more, length_push (kept b.kind (in_units unit rs)) (map unit p, c.args.value));
+          };
+      short = rw (← c.in_ok-size.ensures.size) (search rules);
+      fits = λ few. omega (arith, c.in_ok-add_pattern.ensures.fits (omega (arith, few)));
     })
 
-pub returns-then-extends_key-clause-registered : goal.returns-then-extends_key-clause-registered
-returns-then-extends_key-clause-registered g c = rw (← c.self.view_is) (λ rs reg.
+pub returns-then-extends_key-clause-added : goal.returns-then-extends_key-clause-added
+returns-then-extends_key-clause-added g c = rw (← c.self.view_is) (
     let b = c.self.inside in
     let cmp = g.L.Ord.cmp in
     let unit = g.L.EdgeLabel.unit in
@@ -76,37 +81,20 @@ returns-then-extends_key-clause-registered g c = rw (← c.self.view_is) (λ rs 
     let p = c.args.pattern.now in
     let early : meets_early (child_of cmp b.states.items) (stops_of true b.states.items) 0 p ≡ true =
     ap (λ (ss : List (NfaBuilderState g.row.L.Denot g.row.V.Denot g.row.A.Denot)). meets_early (child_of cmp ss) (stops_of true ss) 0 p) (sym c.deref.ensures.value) ∙ sym c.extends_key.ensures ∙ c.if-extends_key.true in
-    let same = drops cmp unit width b.kind b.states.items rs reg.holds p c.args.value (sym c.is_leftmost_first.ensures ∙ c.if-is_leftmost_first.true) early in
     record {
-      holds = holds_same cmp unit width b.kind b.states.items rs (rs ++ (p, c.args.value) ∷ []) reg.holds same;
-      count = reg.count ∙ ap length (sym same);
+      trie = c.self.invariant;
+      registered = λ rs reg.
+          let same = drops cmp unit width b.kind b.states.items rs reg.holds p c.args.value (sym c.is_leftmost_first.ensures ∙ c.if-is_leftmost_first.true) early in
+          record {
+            holds = holds_same cmp unit width b.kind b.states.items rs (rs ++ (p, c.args.value) ∷ []) reg.holds same;
+            count = reg.count ∙ ap length (sym same);
+          };
+      short = rw (← c.in_ok-size.ensures.size) (search rules);
+      fits = λ few. few;
     })
 
-pub returns-in_err-size-clause-trie : goal.returns-in_err-size-clause-trie
-returns-in_err-size-clause-trie g c = IfOk-from_err c.from_residual.result _ c.from_residual.ensures.0
+pub returns-in_err-size-clause-added : goal.returns-in_err-size-clause-added
+returns-in_err-size-clause-added g c = IfOk-from_err c.from_residual.result _ c.from_residual.ensures.0
 
-pub returns-in_err-size-clause-registered : goal.returns-in_err-size-clause-registered
-returns-in_err-size-clause-registered g c = IfOk-from_err c.from_residual.result _ c.from_residual.ensures.0
-
-pub returns-in_err-size-clause-short : goal.returns-in_err-size-clause-short
-returns-in_err-size-clause-short g c = IfOk-from_err c.from_residual.result _ c.from_residual.ensures.0
-
-pub returns-in_err-size-clause-fits : goal.returns-in_err-size-clause-fits
-returns-in_err-size-clause-fits g c = IfOk-from_err c.from_residual.result _ c.from_residual.ensures.0
-
-pub returns-in_err-add_pattern-clause-trie : goal.returns-in_err-add_pattern-clause-trie
-returns-in_err-add_pattern-clause-trie g c = IfOk-from_err c.from_residual-in_err-add_pattern.result _ c.from_residual-in_err-add_pattern.ensures.0
-
-pub returns-in_err-add_pattern-clause-registered : goal.returns-in_err-add_pattern-clause-registered
-returns-in_err-add_pattern-clause-registered g c = IfOk-from_err c.from_residual-in_err-add_pattern.result _ c.from_residual-in_err-add_pattern.ensures.0
-
-pub returns-in_err-add_pattern-clause-short : goal.returns-in_err-add_pattern-clause-short
-returns-in_err-add_pattern-clause-short g c = IfOk-from_err c.from_residual-in_err-add_pattern.result _ c.from_residual-in_err-add_pattern.ensures.0
-
-pub returns-in_err-add_pattern-clause-fits : goal.returns-in_err-add_pattern-clause-fits
-returns-in_err-add_pattern-clause-fits g c = IfOk-from_err c.from_residual-in_err-add_pattern.result _ c.from_residual-in_err-add_pattern.ensures.0
-
-pub returns-clause-fits : goal.returns-clause-fits
-returns-clause-fits g c = λ fits.
-    let was = ap (λ b. length (states_of b)) c.self.view_is in
-    omega (arith, c.in_ok-add_pattern.ensures.fits (omega (arith, was, fits)))
+pub returns-in_err-add_pattern-clause-added : goal.returns-in_err-add_pattern-clause-added
+returns-in_err-add_pattern-clause-added g c = IfOk-from_err c.from_residual-in_err-add_pattern.result _ c.from_residual-in_err-add_pattern.ensures.0

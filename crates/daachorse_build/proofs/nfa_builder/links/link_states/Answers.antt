@@ -33,18 +33,12 @@ returns-clause-links g c =
     let i = c.loop-traversal.invariant.traversal in
     let fails : s.links.items ≡ fails_of new = sym c.deref.ensures.value ∙ sym c.set_links.ensures.links in
     let done : s.order.items ≡ _ = traversal_end g.L.Ord.cmp g.met.L.Ord.total (edges_of old) c.requires (stops_of s.leftmost old) s.links.items s.order.items s.next i (omega arith) in
-    linked_same g.L.Ord.cmp s.leftmost c.args.leftmost (own_of old) (own_of new) (edges_of old) (edges_of new) s.links.items (fails_of new) s.order.items c.loop-traversal.invariant.kind (sym c.set_links.ensures.kept.outputs) (sym c.set_links.ensures.kept.edges) fails
-    (record { first = done; linked = i.linked; earlier = i.earlier; once = i.once })
-
-pub returns-clause-root : goal.returns-clause-root
-returns-clause-root g c =
-    let fails = c.set_links.ensures.links ∙ c.deref.ensures.value in
-    ap (λ fs. get_or fs 0 0) fails ∙ c.loop-traversal.invariant.traversal.root
-
-pub returns-clause-states : goal.returns-clause-states
-returns-clause-states g c = λ t h.
-    let b = c.loop-traversal.invariant.traversal.states t h in
-    (b.0, omega (arith, b.1, length-map c.args.states.now (λ s. s.edges), c.set_links.auto.states))
+    record {
+      links = linked_same g.L.Ord.cmp s.leftmost c.args.leftmost (own_of old) (own_of new) (edges_of old) (edges_of new) s.links.items (fails_of new) s.order.items c.loop-traversal.invariant.kind (sym c.set_links.ensures.kept.outputs) (sym c.set_links.ensures.kept.edges) fails
+          (record { first = done; linked = i.linked; earlier = i.earlier; once = i.once });
+      root = ap (λ fs. get_or fs 0 0) (sym fails) ∙ i.root;
+      within = λ t h. (let b = i.states t h in (b.0, omega (arith, b.1, length-map old (λ s. s.edges), c.set_links.auto.states)));
+    }
 
 pub set_links-requires : goal.set_links-requires
 set_links-requires g c =
@@ -53,17 +47,5 @@ set_links-requires g c =
 pub returns-in_err-traversal-clause-links : goal.returns-in_err-traversal-clause-links
 returns-in_err-traversal-clause-links g c = IfOk-from_err c.from_residual.result _ c.from_residual.ensures.0
 
-pub returns-in_err-traversal-clause-root : goal.returns-in_err-traversal-clause-root
-returns-in_err-traversal-clause-root g c = IfOk-from_err c.from_residual.result _ c.from_residual.ensures.0
-
-pub returns-in_err-traversal-clause-states : goal.returns-in_err-traversal-clause-states
-returns-in_err-traversal-clause-states g c = IfOk-from_err c.from_residual.result _ c.from_residual.ensures.0
-
 pub returns-in_err-expand-clause-links : goal.returns-in_err-expand-clause-links
 returns-in_err-expand-clause-links g c = IfOk-from_err c.from_residual-in_err-expand.result _ c.from_residual-in_err-expand.ensures.0
-
-pub returns-in_err-expand-clause-root : goal.returns-in_err-expand-clause-root
-returns-in_err-expand-clause-root g c = IfOk-from_err c.from_residual-in_err-expand.result _ c.from_residual-in_err-expand.ensures.0
-
-pub returns-in_err-expand-clause-states : goal.returns-in_err-expand-clause-states
-returns-in_err-expand-clause-states g c = IfOk-from_err c.from_residual-in_err-expand.result _ c.from_residual-in_err-expand.ensures.0

@@ -153,31 +153,6 @@ loop-id-preserved g c =
       count = omega (arith, e.count, own, i.count, count_next g.L.Ord.cmp g.met.L.Ord.total (label_exact g.L.EdgeLabel.unit g.L.Ord.cmp g.met.L.EdgeLabel.exact g.met.L.EdgeLabel.by_unit) c.args.states.now c.loop-id.states c.args.order.now c.requires.trie (stops_of c.requires.links.0 c.args.states.now) c.requires.links.1 c.loop-id.invariant.kept c.loop-id.id-index c.loop-id-test.true);
     }
 
-pub returns-clause-whole : goal.returns-clause-whole
-returns-clause-whole g c = λ dead.
-    let states = c.args.states.now in
-    let exact = label_exact g.L.EdgeLabel.unit g.L.Ord.cmp g.met.L.EdgeLabel.exact g.met.L.EdgeLabel.by_unit in
-    let none = none_left g.L.Ord.cmp g.met.L.Ord.total exact (stops_of c.requires.links.0 states) states c.requires.trie c.args.order.now (fails_of states) c.requires.links.1 dead in
-    let all = take_all c.loop-id.id-index c.args.order.now c.loop-id-test.false in
-    omega (arith, none, c.loop-id.invariant.count, ap (λ ts. output_count (cleared (own_of states) (0 ∷ ts))) all)
-
-pub returns-clause-positions : goal.returns-clause-positions
-returns-clause-positions g c =
-    let whole = take_all c.loop-id.id-index c.args.order.now c.loop-id-test.false in
-    rw whole at c.loop-id.invariant.fits
-
-pub returns-clause-lists : goal.returns-clause-lists
-returns-clause-lists g c = λ leftmost links.
-    let whole = take_all c.loop-id.id-index c.args.order.now c.loop-id-test.false in
-    let lists = c.loop-id.invariant.lists leftmost links in
-    rw whole at lists
-
-pub returns-clause-chained : goal.returns-clause-chained
-returns-clause-chained g c = λ leftmost links.
-    let whole = take_all c.loop-id.id-index c.args.order.now c.loop-id-test.false in
-    let chained = c.loop-id.invariant.chained leftmost links in
-    rw whole at chained
-
 pub put_list-requires-clause-id : goal.put_list-requires-clause-id
 put_list-requires-clause-id g c = omega (arith, c.requires.trie.trie.two, length-map c.args.states.now (λ s. s.edges))
 
@@ -189,41 +164,25 @@ returns-in_err-put_list-2-clause-kept g c =
 pub returns-in_err-put_list-2-clause-fails : goal.returns-in_err-put_list-2-clause-fails
 returns-in_err-put_list-2-clause-fails g c = c.in_err-put_list-2.ensures.fails ∙ c.loop-id.invariant.fails
 
-pub returns-clause-bound : goal.returns-clause-bound
-returns-clause-bound g c = omega (arith, c.loop-id.invariant.count)
-
-pub returns-in_err-put_list-clause-positions : goal.returns-in_err-put_list-clause-positions
-returns-in_err-put_list-clause-positions g c = IfOk-from_err c.from_residual.result _ c.from_residual.ensures.0
+pub returns-clause-lists : goal.returns-clause-lists
+returns-clause-lists g c =
+    let i = c.loop-id.invariant in
+    let states = c.args.states.now in
+    let exact = label_exact g.L.EdgeLabel.unit g.L.Ord.cmp g.met.L.EdgeLabel.exact g.met.L.EdgeLabel.by_unit in
+    let all = take_all c.loop-id.id-index c.args.order.now c.loop-id-test.false in
+    record {
+      positions = rw all at i.fits;
+      lists = λ leftmost links. (let lists = i.lists leftmost links in rw all at lists);
+      chained = λ leftmost links. (let chained = i.chained leftmost links in rw all at chained);
+      bound = omega (arith, i.count);
+      whole = λ dead.
+          let none = none_left g.L.Ord.cmp g.met.L.Ord.total exact (stops_of c.requires.links.0 states) states c.requires.trie c.args.order.now (fails_of states) c.requires.links.1 dead in
+          omega (arith, none, i.count, ap (λ ts. output_count (cleared (own_of states) (0 ∷ ts))) all);
+      few = i.few;
+    }
 
 pub returns-in_err-put_list-clause-lists : goal.returns-in_err-put_list-clause-lists
 returns-in_err-put_list-clause-lists g c = IfOk-from_err c.from_residual.result _ c.from_residual.ensures.0
 
-pub returns-in_err-put_list-clause-chained : goal.returns-in_err-put_list-clause-chained
-returns-in_err-put_list-clause-chained g c = IfOk-from_err c.from_residual.result _ c.from_residual.ensures.0
-
-pub returns-in_err-put_list-clause-bound : goal.returns-in_err-put_list-clause-bound
-returns-in_err-put_list-clause-bound g c = IfOk-from_err c.from_residual.result _ c.from_residual.ensures.0
-
-pub returns-in_err-put_list-clause-whole : goal.returns-in_err-put_list-clause-whole
-returns-in_err-put_list-clause-whole g c = IfOk-from_err c.from_residual.result _ c.from_residual.ensures.0
-
-pub returns-in_err-put_list-clause-few : goal.returns-in_err-put_list-clause-few
-returns-in_err-put_list-clause-few g c = IfOk-from_err c.from_residual.result _ c.from_residual.ensures.0
-
-pub returns-in_err-put_list-2-clause-positions : goal.returns-in_err-put_list-2-clause-positions
-returns-in_err-put_list-2-clause-positions g c = IfOk-from_err c.from_residual-in_err-put_list-2.result _ c.from_residual-in_err-put_list-2.ensures.0
-
 pub returns-in_err-put_list-2-clause-lists : goal.returns-in_err-put_list-2-clause-lists
 returns-in_err-put_list-2-clause-lists g c = IfOk-from_err c.from_residual-in_err-put_list-2.result _ c.from_residual-in_err-put_list-2.ensures.0
-
-pub returns-in_err-put_list-2-clause-chained : goal.returns-in_err-put_list-2-clause-chained
-returns-in_err-put_list-2-clause-chained g c = IfOk-from_err c.from_residual-in_err-put_list-2.result _ c.from_residual-in_err-put_list-2.ensures.0
-
-pub returns-in_err-put_list-2-clause-bound : goal.returns-in_err-put_list-2-clause-bound
-returns-in_err-put_list-2-clause-bound g c = IfOk-from_err c.from_residual-in_err-put_list-2.result _ c.from_residual-in_err-put_list-2.ensures.0
-
-pub returns-in_err-put_list-2-clause-whole : goal.returns-in_err-put_list-2-clause-whole
-returns-in_err-put_list-2-clause-whole g c = IfOk-from_err c.from_residual-in_err-put_list-2.result _ c.from_residual-in_err-put_list-2.ensures.0
-
-pub returns-in_err-put_list-2-clause-few : goal.returns-in_err-put_list-2-clause-few
-returns-in_err-put_list-2-clause-few g c = IfOk-from_err c.from_residual-in_err-put_list-2.result _ c.from_residual-in_err-put_list-2.ensures.0

@@ -1,5 +1,5 @@
 -- Lists of outputs that share their ends.
-use Rattle.std.specs.Prelude.{◌≡◌, ◌≢◌, ℕ, ◌≤◌, ◌⊎◌, Bool, cond, List, [], ◌∷◌, ◌++◌, length, slice_index}
+use Rattle.std.specs.Prelude.{◌≡◌, ◌≢◌, ℕ, ◌+◌, ◌≤◌, ◌⊎◌, Bool, cond, List, [], ◌∷◌, ◌++◌, length, slice_index}
 use Rattle.std.specs.declared.cmp.Ordering.{Ordering}
 use Rattle.daachorse_core.specs.declared.outputs.Output.{Output}
 use Rattle.daachorse_core.specs.Outputs.{outputs_at}
@@ -47,6 +47,14 @@ IsChainedAt own fails outputs positions t =
 abbrev pub AreChained : {V : Type 0} → List (List (V × ℕ)) → List ℕ → List ℕ → List (Output V) → List ℕ → Type 0
 AreChained own fails done outputs positions =
     (t : ℕ) → IsKnown done t → IsChainedAt own fails outputs positions t
+
+-- a state's own outputs stand in front of the list at `parent`, and the new list begins at `position`
+pub record HasChain {V : Type 0} (old new : List (Output V)) (own : List (V × ℕ)) (parent position : ℕ) : Type 0 where
+  pub count : length new ≡ length old + length own
+  pub few : length old ≤ 4294967295 → length new ≤ 4294967295
+  pub fits : position ≤ length new
+  pub list : outputs_at new position ≡ own ++ outputs_at old parent
+  pub passes : Passes new position own parent
 
 -- the states of `old`, whose links are in this order, have their lists in `new`
 pub record HaveLists {L V A : Type 0} (cmp : L → L → Ordering) (old new : List (NfaBuilderState L V A)) (order : List ℕ) (outputs : List (Output V)) : Type 0 where

@@ -30,12 +30,12 @@ AreLeft {L} cmp unit kind old new rs =
     → LinksLeft (dictionary kind (in_units unit rs)) unit (child_of cmp old) w (slice_index (fails_of new) t)
 
 -- standard links in this order, or leftmost ones
-abbrev pub AreLinked : {L V A : Type 0} → (L → L → Ordering) → List (NfaBuilderState L V A) → List ℕ → Type 0
-AreLinked cmp states order = HoldLinks cmp states order ⊎ HoldLeftLinks cmp true states order
+abbrev pub HoldEitherLinks : {L V A : Type 0} → (L → L → Ordering) → List (NfaBuilderState L V A) → List ℕ → Type 0
+HoldEitherLinks cmp states order = HoldLinks cmp states order ⊎ HoldLeftLinks cmp true states order
 
 module _ {L V A : Type 0} (cmp : L → L → Ordering) (unit : L → ℕ) (width : ℕ → ℕ) where
   -- the pattern was added to `old` with its value, behind those that were registered
-  pub record HasAdded (old new : Builder L V A) (pattern : List L) (value : V) : Type 0 where
+  pub record AddsPattern (old new : Builder L V A) (pattern : List L) (value : V) : Type 0 where
     pub trie : HoldTrie cmp (states_of new)
     pub registered : (rs : List (List L × V)) → Registered cmp unit width old rs → Registered cmp unit width new (rs ++ (pattern, value) ∷ [])
     pub short : size width (map unit pattern) ≤ 4294967295

@@ -17,7 +17,7 @@ ghost use Rattle.daachorse_build.specs.Tables.{fails_of, child_of, stops_of, Hol
 ghost use Rattle.daachorse_build.specs.Counts.{HasCounts, HasSameCounts, IsCounted, LinksLeadBack};
 ghost use Rattle.daachorse_build.specs.Groups.{AreSiblingGroups, IsProfileOf};
 ghost use Rattle.daachorse_build.specs.Builders.{states_of, outputs_of, count_of, kind_of, Registered};
-ghost use Rattle.daachorse_build.specs.Steps.{KeepsPatterns, HasAdded, IsOneTooMany, HasLinksOf, AreLinked, HasOutputsOf, KeepsMoreThan};
+ghost use Rattle.daachorse_build.specs.Steps.{KeepsPatterns, AddsPattern, IsOneTooMany, HasLinksOf, HoldEitherLinks, HasOutputsOf, KeepsMoreThan};
 ghost use Rattle.daachorse_core.specs.Refusals.{IsRefusal, IsOutOfMemory};
 
 mod adding;
@@ -211,7 +211,7 @@ impl<L: EdgeLabel, V: Copy, A: Allocator + Copy> NfaBuilder<L, V, A> {
     pub fn add(&mut self, pattern: &[L], value: V) -> Result<()>
         ensures kind { kind_of self.new ≡ kind_of self.old }
         ensures outputs { outputs_of self.new ≡ outputs_of self.old }
-        ensures added { OnOk result (HasAdded L.cmp L.unit L.width self.old self.new pattern.now value) }
+        ensures added { OnOk result (AddsPattern L.cmp L.unit L.width self.old self.new pattern.now value) }
         ensures refused { IfErr result (IsRefusal (4294967295 < size L.width (map L.unit pattern.now)) StateId (IsOneTooMany L.cmp L.unit L.width self.old pattern.now value)) }
     {
         let size = adding::pattern_size(pattern)?;
@@ -286,7 +286,7 @@ impl<L: EdgeLabel, V: Copy, A: Allocator + Copy> NfaBuilder<L, V, A> {
     ///
     /// More than 4,294,967,295 outputs are refused.
     pub fn build_outputs(&mut self, order: &[u32]) -> Result<()>
-        requires { AreLinked L.cmp (states_of self.old) order.now }
+        requires { HoldEitherLinks L.cmp (states_of self.old) order.now }
         ensures kept { KeepsPatterns self.old self.new }
         ensures links { fails_of (states_of self.new) ≡ fails_of (states_of self.old) }
         ensures parents { ParentsFall (outputs_of self.new) }

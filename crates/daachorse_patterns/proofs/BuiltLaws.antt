@@ -22,7 +22,7 @@ use Rattle.daachorse_build.specs.Holds.{Holds, in_units}
 use Rattle.daachorse_build.specs.Left.{LinksLeft}
 use Rattle.daachorse_build.specs.Lists.{IsChainedAt, IsRest}
 use Rattle.daachorse_build.specs.Orders.{HoldLinks, IsLinked}
-use Rattle.daachorse_build.specs.Steps.{AreLeft, AreLinked, HasLinksOf, HasOutputsOf, KeepsPatterns}
+use Rattle.daachorse_build.specs.Steps.{AreLeft, HoldEitherLinks, HasLinksOf, HasOutputsOf, KeepsPatterns}
 use Rattle.daachorse_build.specs.Tables.{child_in, child_of, edge_map, edges_of, fails_of, held_at, own_at, own_of, positions_of}
 use Rattle.daachorse_build.proofs.Fitting.{state_of}
 use Rattle.daachorse_build.proofs.Queue.{all_in_order}
@@ -34,7 +34,7 @@ use Rattle.daachorse_patterns.proofs.UnitTries.{long-units, text_of_units, walk-
 
 module _ {L V A : Type 0} (cmp : L → L → Ordering) (unit : L → ℕ) (width : ℕ → ℕ) where
   -- the links of either kind
-  pub either_linked : (leftmost : Bool) (o b : NfaBuilder L V A) (order : List ℕ) → HasLinksOf cmp unit width leftmost o b order → AreLinked cmp (states_of b) order
+  pub either_linked : (leftmost : Bool) (o b : NfaBuilder L V A) (order : List ℕ) → HasLinksOf cmp unit width leftmost o b order → HoldEitherLinks cmp (states_of b) order
   either_linked false o b order linked = inl (linked.standard refl)
   either_linked true o b order linked = inr (linked.leftmost refl)
 

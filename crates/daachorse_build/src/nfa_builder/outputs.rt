@@ -4,8 +4,7 @@
 //! its link, unless that is dead.
 
 ghost use Rattle.std.specs.Prelude.{◌≡◌, ◌≢◌, ◌+◌, ◌<◌, ◌≤◌, ◌++◌, ℕ, Bool, [], List, length, slice_index, vec_len, IfOk, IfErr, OnOk};
-ghost use Rattle.daachorse_core.specs.Outputs.{ParentsFall, outputs_at};
-ghost use Rattle.daachorse_core.specs.Chains.{Passes};
+ghost use Rattle.daachorse_core.specs.Outputs.{ParentsFall};
 ghost use Rattle.daachorse_core.specs.Refusals.{IsRefusal};
 ghost use Rattle.daachorse_core.specs.declared.errors.Limit.TheVariants.{Outputs};
 ghost use Rattle.daachorse_core.specs.declared.outputs.Output.{Output as OutputOf};
@@ -13,7 +12,7 @@ ghost use Rattle.daachorse_build.specs.Few.{items_of};
 ghost use Rattle.daachorse_build.specs.Tables.{fails_of, positions_of, own_of, own_at, output_count, HoldTrie};
 ghost use Rattle.daachorse_build.specs.Orders.{HoldLeftLinks};
 ghost use Rattle.daachorse_build.specs.Growth.{HasTrieOf};
-ghost use Rattle.daachorse_build.specs.Lists.{HaveLists, IsParent};
+ghost use Rattle.daachorse_build.specs.Lists.{HasChain, HaveLists, IsParent};
 
 use super::{DEAD_STATE_ID, NfaBuilderState, ROOT_STATE_ID};
 use crate::few::Few;
@@ -34,11 +33,7 @@ fn push_chain<V: Copy, A: Allocator>(
     requires parent { parent ≤ vec_len outputs.old }
     ensures longer { (more : List (OutputOf V)) × (outputs.new.items ≡ outputs.old.items ++ more) }
     ensures parents { ParentsFall outputs.new.items }
-    ensures count { OnOk result (vec_len outputs.new ≡ vec_len outputs.old + length (items_of own.now)) }
-    ensures few { OnOk result (vec_len outputs.old ≤ 4294967295 → vec_len outputs.new ≤ 4294967295) }
-    ensures fits { IfOk result (λ position. position ≤ vec_len outputs.new) }
-    ensures list { IfOk result (λ position. outputs_at outputs.new.items position ≡ items_of own.now ++ outputs_at outputs.old.items parent) }
-    ensures passes { IfOk result (λ position. Passes outputs.new.items position (items_of own.now) parent) }
+    ensures chain { IfOk result (λ position. HasChain outputs.old.items outputs.new.items (items_of own.now) parent position) }
     ensures refused { IfErr result (IsRefusal ⊥ Outputs (4294967295 < vec_len outputs.old + length (items_of own.now))) }
 {
     let mut last = parent;
@@ -69,11 +64,7 @@ fn put_list<L: EdgeLabel, V: Copy, A: Allocator>(
     ensures fails { fails_of states.new ≡ fails_of states.old }
     ensures longer { (more : List (OutputOf V)) × (outputs.new.items ≡ outputs.old.items ++ more) }
     ensures parents { ParentsFall outputs.new.items }
-    ensures count { OnOk result (vec_len outputs.new ≡ vec_len outputs.old + length (own_at (own_of states.old) id)) }
-    ensures few { OnOk result (vec_len outputs.old ≤ 4294967295 → vec_len outputs.new ≤ 4294967295) }
-    ensures fits { OnOk result (slice_index (positions_of states.new) id ≤ vec_len outputs.new) }
-    ensures list { OnOk result (outputs_at outputs.new.items (slice_index (positions_of states.new) id) ≡ own_at (own_of states.old) id ++ outputs_at outputs.old.items parent) }
-    ensures passes { OnOk result (Passes outputs.new.items (slice_index (positions_of states.new) id) (own_at (own_of states.old) id) parent) }
+    ensures chain { OnOk result (HasChain outputs.old.items outputs.new.items (own_at (own_of states.old) id) parent (slice_index (positions_of states.new) id)) }
     ensures others { OnOk result ((t : ℕ) → t ≢ id → slice_index (positions_of states.new) t ≡ slice_index (positions_of states.old) t) }
     ensures refused { IfErr result (IsRefusal ⊥ Outputs (4294967295 < vec_len outputs.old + length (own_at (own_of states.old) id))) }
 {

@@ -7,7 +7,7 @@ use Rattle.daachorse_model.specs.declared.MatchKind.{MatchKind}
 use Rattle.daachorse_model.specs.Dictionary.{kept}
 use Rattle.daachorse_model.specs.Kinds.{is_leftmost}
 use Rattle.daachorse_build.specs.Builders.{kind_of, outputs_of, states_of}
-use Rattle.daachorse_build.specs.Steps.{AreLinked, HasOutputsOf}
+use Rattle.daachorse_build.specs.Steps.{HoldEitherLinks, HasOutputsOf}
 use Rattle.daachorse_patterns.specs.Building.{Fit, IsRefusalWithin, Limits}
 use Rattle.daachorse_patterns.specs.Patterns.{texts_of}
 use Rattle.daachorse_patterns.proofs.BuiltLaws.{HasTexts-kept, either_linked, few_for, finished_for}
@@ -33,7 +33,7 @@ returns-in_err-check_count-clause-err g c =
 
 pub build_outputs-requires : goal.build_outputs-requires
 build_outputs-requires g c =
-    let P : List ℕ → Type 0 = λ order. AreLinked g.L.Ord.cmp (states_of c.build_links.new.nfa) order in
+    let P : List ℕ → Type 0 = λ order. HoldEitherLinks g.L.Ord.cmp (states_of c.build_links.new.nfa) order in
     subst P (sym c.deref.ensures.value) (either_linked g.L.Ord.cmp g.L.EdgeLabel.unit g.L.EdgeLabel.width (is_leftmost c.args.kind) c.add_all.new.nfa c.build_links.new.nfa c.in_ok-order.order.items c.in_ok-order.ensures.links)
 
 pub returns-in_err-build_outputs-clause-err : goal.returns-in_err-build_outputs-clause-err

@@ -16,7 +16,7 @@ use Rattle.daachorse_build.specs.Builders.{Builder}
 use Rattle.daachorse_build.specs.Tables.{child_of, edges_of, fails_of, stops_of, HoldTrie}
 use Rattle.daachorse_build.specs.Orders.{IsKnown, HoldLinks, HoldLeftLinks}
 use Rattle.daachorse_build.specs.Lists.{HaveLists}
-use Rattle.daachorse_build.specs.Steps.{AreLinked, HasOutputsOf}
+use Rattle.daachorse_build.specs.Steps.{HoldEitherLinks, HasOutputsOf}
 use Rattle.daachorse_build.proofs.Labels.{label_exact}
 use Rattle.daachorse_build.proofs.Queue.{left_of_linked}
 use Rattle.daachorse_build.proofs.OutputLists.{known_of_leads, suffix_outputs-held, left_outputs-never}
@@ -30,13 +30,13 @@ module _ {L V A : Type 0} (cmp : L → L → Ordering) (total : IsTotalOrder cmp
   never : HoldLinks cmp states order → HoldLeftLinks cmp false states order
   never links = left_of_linked cmp total (edges_of states) table (stops_of false states) (λ s. refl) (fails_of states) order links
 
-  either : AreLinked cmp states order → (leftmost : Bool) × HoldLeftLinks cmp leftmost states order
+  either : HoldEitherLinks cmp states order → (leftmost : Bool) × HoldLeftLinks cmp leftmost states order
   either (inl links) = (false, never links)
   either (inr links) = (true, links)
 
 -- the lists of states are those of their builder
 outputs-built : {L V A : Type 0} (cmp : L → L → Ordering) (total : IsTotalOrder cmp) (exact : (x y : L) → cmp x y ≡ Equal → x ≡ y) (unit : L → ℕ) (width : ℕ → ℕ) (b : Builder L V A) (new : List (NfaBuilderState L V A)) (outputs : List (Output V)) (order : List ℕ)
-    → HoldTrie cmp b.states → AreLinked cmp b.states order → HaveLists cmp b.states new order outputs → HasOutputsOf cmp unit width b (record b { states = new; outputs = outputs }) order
+    → HoldTrie cmp b.states → HoldEitherLinks cmp b.states order → HaveLists cmp b.states new order outputs → HasOutputsOf cmp unit width b (record b { states = new; outputs = outputs }) order
 outputs-built {L} {V} cmp total exact unit width b new outputs order table linked made =
     let links = either cmp total b.states table order linked in
     let known : (leftmost : Bool) → HoldLeftLinks cmp leftmost b.states order → (w : List L) (t : ℕ) → Leads (child_of cmp b.states) w t → IsKnown order t =

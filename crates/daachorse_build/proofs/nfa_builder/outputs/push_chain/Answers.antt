@@ -39,17 +39,11 @@ loop-i-preserved g c =
 pub loop-i-init : goal.loop-i-init
 loop-i-init g c = grind (arith, common_steps)
 
-pub returns-in_err-push-clause-count : goal.returns-in_err-push-clause-count
-returns-in_err-push-clause-count g c = IfOk-from_err c.from_residual.result _ c.from_residual.ensures.0
+pub returns-clause-chain : goal.returns-clause-chain
+returns-clause-chain g c =
+    let i = c.loop-i.invariant in
+    let none : c.loop-i.i ≡ 0 = omega arith in
+    record { count = omega (arith, i.count); few = i.few; fits = i.fits; list = rw none at i.list; passes = rw none at i.passes }
 
-pub returns-in_err-push-clause-few : goal.returns-in_err-push-clause-few
-returns-in_err-push-clause-few g c = IfOk-from_err c.from_residual.result _ c.from_residual.ensures.0
-
-pub returns-in_err-push-clause-fits : goal.returns-in_err-push-clause-fits
-returns-in_err-push-clause-fits g c = IfOk-from_err c.from_residual.result _ c.from_residual.ensures.0
-
-pub returns-in_err-push-clause-list : goal.returns-in_err-push-clause-list
-returns-in_err-push-clause-list g c = IfOk-from_err c.from_residual.result _ c.from_residual.ensures.0
-
-pub returns-in_err-push-clause-passes : goal.returns-in_err-push-clause-passes
-returns-in_err-push-clause-passes g c = IfOk-from_err c.from_residual.result _ c.from_residual.ensures.0
+pub returns-in_err-push-clause-chain : goal.returns-in_err-push-clause-chain
+returns-in_err-push-clause-chain g c = IfOk-from_err c.from_residual.result _ c.from_residual.ensures.0

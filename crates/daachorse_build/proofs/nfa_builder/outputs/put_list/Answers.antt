@@ -1,11 +1,9 @@
 -- One position is written, and nothing else in the states changes.
-use Rattle.std.proofs.Common.{◌≡◌, ◌<◌, ℕ, List, [], ◌++◌, length, get_or, refl, sym, ap, ◌∙◌, subst, arith, get_or-set_same, get_or-set_other}
+use Rattle.std.proofs.Common.{◌≡◌, ◌<◌, ℕ, List, [], length, get_or, refl, sym, ap, ◌∙◌, subst, arith, get_or-set_same, get_or-set_other}
 use Rattle.std.proofs.lemmas.List.{length-map, get_or-map, set-get_or}
 use Rattle.std.proofs.lemmas.Result.{err_from_is_err_and, IfOk-from_err}
-use Rattle.std.proofs.lemmas.Grind.{common_steps}
-use Rattle.daachorse_core.specs.Outputs.{outputs_at}
-use Rattle.daachorse_core.specs.Chains.{Passes}
 use Rattle.daachorse_build.specs.declared.nfa_builder.NfaBuilderState.{NfaBuilderState}
+use Rattle.daachorse_build.specs.Lists.{HasChain}
 use Rattle.daachorse_build.specs.Tables.{edges_of, fails_of, own_at, own_of, positions_of}
 use Rattle.daachorse_build.proofs.States.{position_set}
 use Rattle.daachorse_build.specs.Few.{items_of}
@@ -23,20 +21,8 @@ returns-in_err-state-clause-kept g c =
 pub returns-in_err-state-clause-fails : goal.returns-in_err-state-clause-fails
 returns-in_err-state-clause-fails g c = ap fails_of (set-get_or c.args.states.now c.args.id c.index-states-id.result)
 
-pub returns-in_err-state-clause-count : goal.returns-in_err-state-clause-count
-returns-in_err-state-clause-count g c = IfOk-from_err c.from_residual.result _ c.from_residual.ensures.0
-
-pub returns-in_err-state-clause-few : goal.returns-in_err-state-clause-few
-returns-in_err-state-clause-few g c = IfOk-from_err c.from_residual.result _ c.from_residual.ensures.0
-
-pub returns-in_err-state-clause-fits : goal.returns-in_err-state-clause-fits
-returns-in_err-state-clause-fits g c = IfOk-from_err c.from_residual.result _ c.from_residual.ensures.0
-
-pub returns-in_err-state-clause-list : goal.returns-in_err-state-clause-list
-returns-in_err-state-clause-list g c = IfOk-from_err c.from_residual.result _ c.from_residual.ensures.0
-
-pub returns-in_err-state-clause-passes : goal.returns-in_err-state-clause-passes
-returns-in_err-state-clause-passes g c = IfOk-from_err c.from_residual.result _ c.from_residual.ensures.0
+pub returns-in_err-state-clause-chain : goal.returns-in_err-state-clause-chain
+returns-in_err-state-clause-chain g c = IfOk-from_err c.from_residual.result _ c.from_residual.ensures.0
 
 pub returns-in_err-state-clause-others : goal.returns-in_err-state-clause-others
 returns-in_err-state-clause-others g c = IfOk-from_err c.from_residual.result _ c.from_residual.ensures.0
@@ -55,44 +41,19 @@ pub returns-clause-fails : goal.returns-clause-fails
 returns-clause-fails g c =
     (position_set c.args.states.now c.args.id c.index-states-id.result _ c.in_ok-state.field-0 (omega arith) c.index-states-id.is (ap (λ (s : NfaBuilderState g.row.L.Denot g.row.V.Denot g.row.A.Denot). record s { output_pos = c.in_ok-state.field-0 }) (sym c.index-states-id.is))).1
 
-pub returns-clause-count : goal.returns-clause-count
-returns-clause-count g c =
-    let own = own_here c.args.states.now c.args.id c.index-states-id.result _ c.requires.id refl in
-    rw own c.in_ok-state.ensures.count
-
-pub returns-clause-fits : goal.returns-clause-fits
-returns-clause-fits g c =
-    let states = c.args.states.now in
-    let count : c.args.id < length (positions_of states) = omega (arith, c.requires.id, length-map states (λ s. s.output_pos)) in
-    let set' = (position_set states c.args.id c.index-states-id.result _ c.in_ok-state.field-0 c.requires.id c.index-states-id.is (ap (λ (s : NfaBuilderState g.row.L.Denot g.row.V.Denot g.row.A.Denot). record s { output_pos = c.in_ok-state.field-0 }) (sym c.index-states-id.is))).2 in
-    let here = ap (λ ps. get_or ps c.args.id 0) set' ∙ get_or-set_same (positions_of states) c.args.id c.in_ok-state.field-0 0 count in
-    rw here c.in_ok-state.ensures.fits
-
-pub returns-clause-list : goal.returns-clause-list
-returns-clause-list g c =
+pub returns-clause-chain : goal.returns-clause-chain
+returns-clause-chain g c =
     let states = c.args.states.now in
     let count : c.args.id < length (positions_of states) = omega (arith, c.requires.id, length-map states (λ s. s.output_pos)) in
     let set' = (position_set states c.args.id c.index-states-id.result _ c.in_ok-state.field-0 c.requires.id c.index-states-id.is (ap (λ (s : NfaBuilderState g.row.L.Denot g.row.V.Denot g.row.A.Denot). record s { output_pos = c.in_ok-state.field-0 }) (sym c.index-states-id.is))).2 in
     let here = ap (λ ps. get_or ps c.args.id 0) set' ∙ get_or-set_same (positions_of states) c.args.id c.in_ok-state.field-0 0 count in
     let own = own_here states c.args.id c.index-states-id.result _ c.requires.id refl in
-    ap (λ q. outputs_at c.push_chain.new.outputs.items q) here ∙ c.in_ok-state.ensures.list ∙ ap (λ os. os ++ outputs_at c.args.outputs.now.items c.args.parent) (sym own)
-
-pub returns-clause-passes : goal.returns-clause-passes
-returns-clause-passes g c =
-    let states = c.args.states.now in
-    let count : c.args.id < length (positions_of states) = omega (arith, c.requires.id, length-map states (λ s. s.output_pos)) in
-    let set' = (position_set states c.args.id c.index-states-id.result _ c.in_ok-state.field-0 c.requires.id c.index-states-id.is (ap (λ (s : NfaBuilderState g.row.L.Denot g.row.V.Denot g.row.A.Denot). record s { output_pos = c.in_ok-state.field-0 }) (sym c.index-states-id.is))).2 in
-    let here = ap (λ ps. get_or ps c.args.id 0) set' ∙ get_or-set_same (positions_of states) c.args.id c.in_ok-state.field-0 0 count in
-    let own = own_here states c.args.id c.index-states-id.result _ c.requires.id refl in
-    let P : ℕ → Type 0 = λ p. Passes c.push_chain.new.outputs.items p (own_at (own_of states) c.args.id) c.args.parent in
-    let Q : List (g.row.V.Denot × ℕ) → Type 0 = λ os. Passes c.push_chain.new.outputs.items c.in_ok-state.field-0 os c.args.parent in
-    subst P (sym here) (subst Q (sym own) c.in_ok-state.ensures.passes)
+    let P : ℕ → Type 0 = λ p. HasChain c.args.outputs.now.items c.push_chain.new.outputs.items (own_at (own_of states) c.args.id) c.args.parent p in
+    let Q : List (g.row.V.Denot × ℕ) → Type 0 = λ os. HasChain c.args.outputs.now.items c.push_chain.new.outputs.items os c.args.parent c.in_ok-state.field-0 in
+    subst P (sym here) (subst Q (sym own) c.in_ok-state.ensures.chain)
 
 pub returns-clause-others : goal.returns-clause-others
 returns-clause-others g c = λ t ne.
     let states = c.args.states.now in
     let set' = (position_set states c.args.id c.index-states-id.result _ c.in_ok-state.field-0 c.requires.id c.index-states-id.is (ap (λ (s : NfaBuilderState g.row.L.Denot g.row.V.Denot g.row.A.Denot). record s { output_pos = c.in_ok-state.field-0 }) (sym c.index-states-id.is))).2 in
     ap (λ ps. get_or ps t 0) set' ∙ get_or-set_other (positions_of states) c.args.id t c.in_ok-state.field-0 0 ne
-
-pub returns-clause-few : goal.returns-clause-few
-returns-clause-few g c = grind (arith, common_steps)

@@ -78,11 +78,11 @@ loop-id-init g c =
       kept = e.kept;
       fails = e.fails;
       parents = e.parents;
-      fits = λ t h. elim h [ inl root ↦ omega (arith, ap (λ u. get_or (positions_of c.put_list.new.states) u 0) root, e.fits) | inr none ↦ absurd none ];
-      lists = λ leftmost links. listed_start g.L.Ord.cmp g.met.L.Ord.total (label_exact g.L.EdgeLabel.unit g.L.Ord.cmp g.met.L.EdgeLabel.exact g.met.L.EdgeLabel.by_unit) (stops_of leftmost states) states c.put_list.new.outputs.items (positions_of c.put_list.new.states) c.requires.trie e.list;
-      chained = λ leftmost links. chained_start (own_of states) (fails_of states) c.put_list.new.outputs.items (positions_of c.put_list.new.states) e.passes;
-      few = omega (arith, e.few (omega (arith, ap length c.requires.unbuilt)));
-      count = omega (arith, e.count, first_cleared (own_of states) two, ap length c.requires.unbuilt);
+      fits = λ t h. elim h [ inl root ↦ omega (arith, ap (λ u. get_or (positions_of c.put_list.new.states) u 0) root, e.chain.fits) | inr none ↦ absurd none ];
+      lists = λ leftmost links. listed_start g.L.Ord.cmp g.met.L.Ord.total (label_exact g.L.EdgeLabel.unit g.L.Ord.cmp g.met.L.EdgeLabel.exact g.met.L.EdgeLabel.by_unit) (stops_of leftmost states) states c.put_list.new.outputs.items (positions_of c.put_list.new.states) c.requires.trie e.chain.list;
+      chained = λ leftmost links. chained_start (own_of states) (fails_of states) c.put_list.new.outputs.items (positions_of c.put_list.new.states) e.chain.passes;
+      few = omega (arith, e.chain.few (omega (arith, ap length c.requires.unbuilt)));
+      count = omega (arith, e.chain.count, first_cleared (own_of states) two, ap length c.requires.unbuilt);
     }
 
 pub fail_position-parent-requires-clause-id : goal.fail_position-parent-requires-clause-id
@@ -138,19 +138,19 @@ loop-id-preserved g c =
     let known = fail_known g.L.Ord.cmp g.met.L.Ord.total (label_exact g.L.EdgeLabel.unit g.L.Ord.cmp g.met.L.EdgeLabel.exact g.met.L.EdgeLabel.by_unit) (stops_of c.requires.links.0 c.args.states.now) c.args.states.now c.requires.trie c.args.order.now (fails_of c.args.states.now) c.requires.links.1 c.loop-id.id-index (get_or c.args.order.now c.loop-id.id-index 0) (get_or (fails_of c.args.states.now) (get_or c.args.order.now c.loop-id.id-index 0) 0) c.loop-id-test.true refl refl in
     let at = parent_is (fails_of states) (fails_of c.loop-id.states) (positions_of c.loop-id.states) t c.fail_position-parent.result i.fails c.fail_position-parent.ensures in
     let list : outputs_at now.outputs.items (get_or (positions_of now.states) t 0) ≡ own_at (own_of states) t ++ outputs_at c.loop-id.outputs.items c.fail_position-parent.result =
-    e.list ∙ ap (λ os. own_at os t ++ outputs_at c.loop-id.outputs.items c.fail_position-parent.result) i.kept.outputs in
+    e.chain.list ∙ ap (λ os. own_at os t ++ outputs_at c.loop-id.outputs.items c.fail_position-parent.result) i.kept.outputs in
     let own : length (own_at (own_of c.loop-id.states) t) ≡ length (own_at (own_of states) t) = ap (λ os. length (own_at os t)) i.kept.outputs in
     let P : List (List (g.row.V.Denot × ℕ)) → Type 0 = λ os. Passes now.outputs.items (get_or (positions_of now.states) t 0) (own_at os t) c.fail_position-parent.result in
-    let passes = subst P i.kept.outputs e.passes in
+    let passes = subst P i.kept.outputs e.chain.passes in
     record {
       kept = record { edges = e.kept.edges ∙ i.kept.edges; outputs = e.kept.outputs ∙ i.kept.outputs };
       fails = e.fails ∙ i.fails;
       parents = e.parents;
-      fits = fits_more g.L.Ord.cmp g.met.L.Ord.total (label_exact g.L.EdgeLabel.unit g.L.Ord.cmp g.met.L.EdgeLabel.exact g.met.L.EdgeLabel.by_unit) (stops_of c.requires.links.0 c.args.states.now) c.args.states.now c.requires.trie c.args.order.now (fails_of c.args.states.now) c.requires.links.1 c.loop-id.id-index (get_or c.args.order.now c.loop-id.id-index 0) (get_or (fails_of c.args.states.now) (get_or c.args.order.now c.loop-id.id-index 0) 0) c.loop-id-test.true refl refl c.loop-id.outputs.items now.outputs.items e.longer.0 (positions_of c.loop-id.states) (positions_of now.states) e.longer.1 e.others i.fits (omega (arith, e.fits));
+      fits = fits_more g.L.Ord.cmp g.met.L.Ord.total (label_exact g.L.EdgeLabel.unit g.L.Ord.cmp g.met.L.EdgeLabel.exact g.met.L.EdgeLabel.by_unit) (stops_of c.requires.links.0 c.args.states.now) c.args.states.now c.requires.trie c.args.order.now (fails_of c.args.states.now) c.requires.links.1 c.loop-id.id-index (get_or c.args.order.now c.loop-id.id-index 0) (get_or (fails_of c.args.states.now) (get_or c.args.order.now c.loop-id.id-index 0) 0) c.loop-id-test.true refl refl c.loop-id.outputs.items now.outputs.items e.longer.0 (positions_of c.loop-id.states) (positions_of now.states) e.longer.1 e.others i.fits (omega (arith, e.chain.fits));
       lists = λ leftmost links. listed_more g.L.Ord.cmp g.met.L.Ord.total (label_exact g.L.EdgeLabel.unit g.L.Ord.cmp g.met.L.EdgeLabel.exact g.met.L.EdgeLabel.by_unit) (stops_of leftmost c.args.states.now) c.args.states.now c.requires.trie c.args.order.now (fails_of c.args.states.now) links c.loop-id.id-index (get_or c.args.order.now c.loop-id.id-index 0) (get_or (fails_of c.args.states.now) (get_or c.args.order.now c.loop-id.id-index 0) 0) c.loop-id-test.true refl refl c.loop-id.outputs.items now.outputs.items e.longer.0 (positions_of c.loop-id.states) (positions_of now.states) e.longer.1 e.others i.fits c.fail_position-parent.result at i.parents (i.lists leftmost links) list;
       chained = λ leftmost links. chained_more g.L.Ord.cmp g.met.L.Ord.total (label_exact g.L.EdgeLabel.unit g.L.Ord.cmp g.met.L.EdgeLabel.exact g.met.L.EdgeLabel.by_unit) (stops_of leftmost states) states c.requires.trie c.args.order.now (fails_of states) links c.loop-id.id-index c.loop-id-test.true c.loop-id.outputs.items now.outputs.items e.longer.0 (positions_of c.loop-id.states) (positions_of now.states) e.longer.1 e.others (own_of states) c.fail_position-parent.result at (i.chained leftmost links) passes;
-      few = omega (arith, e.few (omega (arith, i.few)));
-      count = omega (arith, e.count, own, i.count, count_next g.L.Ord.cmp g.met.L.Ord.total (label_exact g.L.EdgeLabel.unit g.L.Ord.cmp g.met.L.EdgeLabel.exact g.met.L.EdgeLabel.by_unit) c.args.states.now c.loop-id.states c.args.order.now c.requires.trie (stops_of c.requires.links.0 c.args.states.now) c.requires.links.1 c.loop-id.invariant.kept c.loop-id.id-index c.loop-id-test.true);
+      few = omega (arith, e.chain.few (omega (arith, i.few)));
+      count = omega (arith, e.chain.count, own, i.count, count_next g.L.Ord.cmp g.met.L.Ord.total (label_exact g.L.EdgeLabel.unit g.L.Ord.cmp g.met.L.EdgeLabel.exact g.met.L.EdgeLabel.by_unit) c.args.states.now c.loop-id.states c.args.order.now c.requires.trie (stops_of c.requires.links.0 c.args.states.now) c.requires.links.1 c.loop-id.invariant.kept c.loop-id.id-index c.loop-id-test.true);
     }
 
 pub put_list-requires-clause-id : goal.put_list-requires-clause-id

@@ -1,5 +1,5 @@
 -- Where there is no document, nothing is counted; else there are as many counts as states.
-use Rattle.std.proofs.Common.{◌≡◌, false, true, ℕ, length, map, vec_len, sym, ap, ◌∙◌, arith}
+use Rattle.std.proofs.Common.{◌≡◌, false, true, length, map, vec_len, sym, ap, ◌∙◌, arith}
 use Rattle.std.specs.Prelude.{◌==◌}
 use Rattle.std.proofs.lemmas.Bool.{false≢true}
 use Rattle.std.proofs.lemmas.List.{length-map}

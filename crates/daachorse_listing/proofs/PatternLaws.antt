@@ -11,7 +11,7 @@ use Rattle.daachorse_listing.specs.Trees.{IsWalk, elements_of, taken_from}
 use Rattle.daachorse_listing.proofs.EntryLaws.{entries-elements, entries-longer, entries-put, entries-written, text-written, child-entry}
 use Rattle.daachorse_listing.proofs.ListingLaws.{values_until-step, values_until-end}
 use Rattle.daachorse_listing.proofs.Members.{All-among, among-children, elements-pop, length-elements, length-put}
-use Rattle.daachorse_listing.proofs.RoomLaws.{aside-leaves, text-parents}
+use Rattle.daachorse_listing.proofs.RoomLaws.{aside-few, text-others}
 use Rattle.daachorse_listing.proofs.WalkLaws.{reached-inside, walk-next, walk-pop, taken-none, taken-step}
 
 -- ---- the values of a text
@@ -67,11 +67,11 @@ module _ {V : Type 0} {child : ℕ → ℕ → Option ℕ} {group : ℕ → Opti
     pub next-room : length rest + length kids ≤ room
     next-room =
         let after = walk-next w.patterns.tree taken (elements_of rest) x under in
-        let few = aside-leaves w.patterns.tree w.patterns.tell (put_before kids (elements_of rest)) after.apart (λ i a. after.reached i (inr a)) in
+        let few = aside-few w.patterns.tree w.patterns.tell (put_before kids (elements_of rest)) after.apart (λ i a. after.reached i (inr a)) in
         omega (arith, few, length-put kids (elements_of rest), length-elements rest, w.wide)
 
     pub next-text-room : d ≤ room_for_text
-    next-text-room = let few = text-parents w.patterns.tree x next-reached in omega (arith, few, next-deep, w.wide_for_text)
+    next-text-room = let few = text-others w.patterns.tree w.patterns.tell (text_of child m n x) x next-reached in omega (arith, few, next-deep, w.wide_for_text)
 
     -- the next element's values come
     next-left : patterns_of (text_of child m n) outputs first stop (taken_from child n m n (elements_of aside))

@@ -7,7 +7,7 @@ use Rattle.daachorse_core.specs.Outputs.{value_of, parent_of, ParentsFall}
 use Rattle.daachorse_machine.specs.Machines.{Machine}
 use Rattle.daachorse_machine.specs.Texts.{text_of}
 use Rattle.daachorse_listing.specs.Edges.{IsTree, TellChildren, members}
-use Rattle.daachorse_listing.specs.Room.{num_parents, num_leaves}
+use Rattle.daachorse_listing.specs.Room.{num_later}
 use Rattle.daachorse_listing.specs.Trees.{IsListed, IsWalk, elements_of, taken_from}
 
 -- the unit of an edge
@@ -81,9 +81,9 @@ pub record IsWalking {V : Type 0} (child : ℕ → ℕ → Option ℕ) (group : 
   pub walk : 0 < length aside → (taken : List ℕ) × IsWalk child n m taken (elements_of aside)
   pub entries : AreEntries child n m last_text (suc (length last_text)) (reverse aside)
   pub inside : position ≤ length outputs
-  pub wide : num_leaves child edge n m ≤ room
+  pub wide : num_later edge n < room
   pub wide_for_children : (g : ℕ) → g < n → length (members edge g n) ≤ room_for_children
-  pub wide_for_text : num_parents child n m ≤ room_for_text
+  pub wide_for_text : n - num_later edge n ≤ room_for_text
 
 -- A call gives the first pattern, or an error behind which nothing is left; `text` reads the key.
 abbrev pub GivesPattern : {K V : Type 0} → (K → List ℕ) → List (List ℕ × V) → Option (Result (K × V) DaachorseError) → List (List ℕ × V) → Type 0

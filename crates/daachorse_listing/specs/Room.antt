@@ -1,23 +1,21 @@
--- The room that a walk takes: of two elements that are put aside none leads to the other, so that they are no more than the leaves; and behind each unit of a text there is an element less that has children.
-use Rattle.std.specs.Prelude.{ℕ, Bool, true, false, cond, ◌==◌, List, [], ◌∷◌, length, Option, is_some}
-use Rattle.daachorse_listing.specs.Edges.{below, children}
+-- The room that a walk takes is counted by the elements that come later in their groups: one more is room for all that is put aside and for the children of one element, and a text has no more units than there are others.
+use Rattle.std.specs.Prelude.{ℕ, Bool, true, false, List, [], ◌∷◌, length, Option, Some, None}
+use Rattle.daachorse_listing.specs.Edges.{below, members}
 
 abbrev pub is_filled : List ℕ → Bool
 is_filled [] = false
 is_filled (x ∷ xs) = true
 
-module _ (child : ℕ → ℕ → Option ℕ) (m : ℕ) where
-  -- element i has children
-  abbrev pub has_children : ℕ → Bool
-  has_children i = is_filled (children child i m)
+module _ (edge : ℕ → Option (ℕ × ℕ)) where
+  -- of the group of this edge there are elements below j
+  abbrev pub has_before : ℕ → Option (ℕ × ℕ) → Bool
+  has_before j None = false
+  has_before j (Some e) = is_filled (members edge e.0 j)
 
-  -- element i has no children, but is the root or has an edge
-  abbrev pub is_leaf : (ℕ → Option (ℕ × ℕ)) → ℕ → Bool
-  is_leaf edge i = cond (has_children i) false (cond (i == 0) true (is_some (edge i)))
+  -- an element of the group of j has a lesser number
+  abbrev pub is_later : ℕ → Bool
+  is_later j = has_before j (edge j)
 
--- how many of n elements have children, and how many are leaves
-abbrev pub num_parents : (ℕ → ℕ → Option ℕ) → ℕ → ℕ → ℕ
-num_parents child n m = length (below (has_children child m) n)
-
-abbrev pub num_leaves : (ℕ → ℕ → Option ℕ) → (ℕ → Option (ℕ × ℕ)) → ℕ → ℕ → ℕ
-num_leaves child edge n m = length (below (is_leaf child m edge) n)
+  -- how many of n elements are not the first of their group
+  abbrev pub num_later : ℕ → ℕ
+  num_later n = length (below is_later n)

@@ -9,5 +9,4 @@ mod children;
 pub mod depths;
 pub mod edges;
 pub mod patterns;
-mod room;
 pub mod siblings;

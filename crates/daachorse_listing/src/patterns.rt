@@ -5,8 +5,8 @@
 //!
 //! The text of an element begins with that of its parent, and so does each text from there to its
 //! own in their order. So a walk keeps one text, of which it writes the last unit of each element
-//! that it comes to. What it needs room for it counts before it starts, so that memory is refused
-//! there, or with a pattern that is to be given.
+//! that it comes to. What it needs room for is counted before it starts, so that memory is refused
+//! there, or for a pattern that is to be given.
 
 ghost use Rattle.std.specs.Prelude.{◌≡◌, ◌<◌, ◌≤◌, ◌-◌, ◌++◌, ℕ, List, [], ◌∷◌, Some, length, map, slice_get, take, vec_capacity, IfOk, IfErr};
 ghost use Rattle.daachorse_core.specs.Refusals.{IsOutOfMemory};
@@ -15,7 +15,6 @@ ghost use Rattle.daachorse_listing.specs.Listing.{HasPatterns, IsPatterns, unit_
 
 use crate::children::put_aside;
 use crate::edges::Edges;
-use crate::room::{count_elements, largest_group};
 use crate::siblings::Siblings;
 use daachorse_core::Output;
 use daachorse_core::errors::Result;
@@ -125,7 +124,7 @@ pub struct PatternWalk<V: Copy, E: Outputs<V>, A: Allocator = Global> {
     elements: E,
     groups: Siblings<A>,
     // The elements that were put aside, the next one last, each behind the length of its text. There
-    // is room for as many as there are leaves.
+    // is room for one more than come later in their groups.
     aside: Vec<(u32, u32), A>,
     // Room for the children of any one element.
     children: Vec<(u32, u32), A>,
@@ -164,12 +163,12 @@ impl<V: Copy, E: Outputs<V> + Drop, A: Allocator + Copy> PatternWalk<V, E, A> {
         ensures ok { IfOk result (λ walk. IsPatterns (E.child elements) (E.count elements) (E.units elements) (E.outputs elements) (E.first elements) (E.stop elements) walk) }
         ensures err { IfErr result IsOutOfMemory }
     {
-        let groups = Siblings::new(alloc, &elements)?;
-        let (leaves, parents) = count_elements(&elements, &groups);
-        let mut aside = Vec::with_capacity(alloc, leaves)?;
+        let (groups, later) = Siblings::counted(alloc, &elements)?;
+        let count = elements.num_elements();
+        let mut aside = Vec::with_capacity(alloc, later + 1)?;
         aside.push_reserved((0, 0));
-        let children = Vec::with_capacity(alloc, largest_group(&elements, &groups))?;
-        let text = Vec::with_capacity(alloc, parents)?;
+        let children = Vec::with_capacity(alloc, later + 1)?;
+        let text = Vec::with_capacity(alloc, count - later)?;
         Ok(PatternWalk {
             elements,
             groups,

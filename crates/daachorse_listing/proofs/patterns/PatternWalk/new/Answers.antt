@@ -1,9 +1,9 @@
 -- A walk starts with the root put aside.
-use Rattle.std.proofs.Common.{◌≡◌, inr, ℕ, List, [], ◌∷◌, ◌++◌, refl, sym, ap, ◌∙◌, length, map, reverse, subst, suc, arith}
+use Rattle.std.proofs.Common.{◌≡◌, ℕ, List, [], ◌∷◌, ◌++◌, refl, sym, ap, ◌∙◌, length, map, reverse, subst, suc, arith}
 use Rattle.daachorse_machine.specs.Texts.{text_of}
 use Rattle.daachorse_listing.specs.Listing.{AreEntries, patterns_of}
 use Rattle.daachorse_listing.specs.Trees.{IsWalk, elements_of, taken_from}
-use Rattle.daachorse_listing.proofs.RoomLaws.{aside-leaves}
+use Rattle.daachorse_listing.proofs.RoomLaws.{members-few}
 use Rattle.daachorse_listing.proofs.WalkLaws.{root-text, walk-start, walked}
 use Rattle.daachorse_listing.proofs.patterns.PatternWalk.new.Goals as goal
 
@@ -23,17 +23,10 @@ invariant_of-result g c =
       walk = λ some. ([], subst W (sym aside) (walk-start c.requires.tree));
       entries = subst R (sym aside) (omega arith, (sym (ap length (root-text c.requires.tree)), refl), tt);
       inside = omega arith;
-      wide = omega (arith, c.in_ok-aside.ensures.exact, c.push_reserved.ensures.capacity, c.count_elements-leaves.ensures.leaves);
-      wide_for_children = λ q less. (let few = c.largest_group.ensures q less in omega (arith, few, c.in_ok-children.ensures.exact));
-      wide_for_text = omega (arith, c.in_ok-text.ensures.exact, c.count_elements-leaves.ensures.parents);
+      wide = omega (arith, c.in_ok-aside.ensures.exact, c.push_reserved.ensures.capacity, c.in_ok-groups.ensures.later);
+      wide_for_children = λ q less. (let few = members-few (g.E.Edges.edge c.args.elements) q n in omega (arith, few, c.in_ok-children.ensures.exact, c.in_ok-groups.ensures.later));
+      wide_for_text = omega (arith, c.in_ok-text.ensures.exact, c.in_ok-groups.ensures.later, c.num_elements-count.ensures.all);
     }
-
--- the root leads to a leaf
-pub push_reserved-requires : goal.push_reserved-requires
-push_reserved-requires g c =
-    let start = walk-start c.requires.tree in
-    let some = aside-leaves c.requires.tree c.requires.tell (0 ∷ []) start.apart (λ i a. start.reached i (inr a)) in
-    omega (arith, some, c.in_ok-aside.ensures.exact, ap length c.in_ok-aside.ensures.items, c.count_elements-leaves.ensures.leaves)
 
 pub returns-clause-ok : goal.returns-clause-ok
 returns-clause-ok g c =

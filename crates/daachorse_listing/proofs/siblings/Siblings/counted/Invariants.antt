@@ -1,0 +1,14 @@
+-- The elements that were passed stand in the lists of their groups, those of them that came later in their groups were counted, and there is room for all.
+use Rattle.std.proofs.Common.{◌≡◌, ◌≤◌}
+use Rattle.std.specs.Prelude.{vec_capacity}
+use Rattle.daachorse_listing.specs.Room.{num_later}
+use Rattle.daachorse_listing.proofs.LinkedLaws.{IsGrouped}
+use Rattle.daachorse_listing.proofs.siblings.Siblings.counted.Given as goal
+
+abbrev pub invariant-loop-element : goal.invariant-loop-element
+invariant-loop-element g l = record {
+  grouped : IsGrouped (g.E.Edges.edge l.edges) (g.E.Edges.count l.edges) l.element l.first.items l.next.items;
+  later : l.later ≡ num_later (g.E.Edges.edge l.edges) l.element;
+  few : l.later ≤ l.element;
+  room : g.E.Edges.count l.edges ≤ vec_capacity l.next;
+}

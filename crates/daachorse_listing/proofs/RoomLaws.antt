@@ -1,4 +1,4 @@
--- A walk up from an element that is put aside, along the first of each group, comes to an element that is later in its group, or to the root. No two come to the same one, since then one would lead to the other. And a text passes a group at each unit, whose first element is not later.
+-- The way up from an element that is put aside, along elements that are the least of their groups, comes to one that is later in its group, or to the root. No two come to the same one, since then one would lead to the other. And a text passes a group at each unit, whose least element is not later.
 use Rattle.std.proofs.Common.{◌≡◌, ◌≢◌, ℕ, zero, suc, ◌+◌, ◌-◌, ◌<◌, ◌≤◌, ◌⊎◌, inl, inr, Bool, true, false, cond, ◌==◌, List, [], ◌∷◌, ◌++◌, length, take, drop, get_or, Option, Some, None, refl, sym, ap, ◌∙◌, arith, subst, length-append, add-one, nat_lt}
 use Rattle.std.proofs.lemmas.List.{take-append-drop, length-take-le, length-drop, take_all}
 use Rattle.std.proofs.lemmas.Option.{same_Some}
@@ -228,14 +228,14 @@ module _ {child : ℕ → ℕ → Option ℕ} {group : ℕ → Option ℕ} {edge
   kid_of_group None = 0
   kid_of_group (Some g) = least (λ j. is_in g (edge j)) n
 
-  -- the child that is the first of its group
+  -- the child that is the least of its group
   kid : ℕ → ℕ
   kid i = kid_of_group (group i)
 
   record IsKid (i k : ℕ) : Type 0 where
     real : k < n
     own : (c : ℕ) × (child i c ≡ Some k)
-    first : is_later edge k ≡ false
+    least_one : is_later edge k ≡ false
 
   later-in : (g u k : ℕ) → edge k ≡ Some (g, u) → is_later edge k ≡ is_filled (members edge g k)
   later-in g u k e = ap (has_before edge k) e
@@ -255,7 +255,7 @@ module _ {child : ℕ → ℕ → Option ℕ} {group : ℕ → Option ℕ} {edge
           record {
             real = h.inside;
             own = (unit_of (edge k), tell.to_child i g (unit_of (edge k)) k real own h.inside is);
-            first = later-in g (unit_of (edge k)) k is ∙ h.alone;
+            least_one = later-in g (unit_of (edge k)) k is ∙ h.alone;
           }
 
   -- a child that is not later is that one
@@ -314,7 +314,7 @@ module _ {child : ℕ → ℕ → Option ℕ} {group : ℕ → Option ℕ} {edge
         is d less = let step = node-child d less in kid-is (node w d) step.0 (node w (suc d)) (node-real d) step.1
 
         passes : (d : ℕ) → d < length w → (kid (node w d) < n) × (others (is_later edge) (kid (node w d)) ≡ true)
-        passes d less = let k = is d less in (k.real, ap (λ b. cond b false true) k.first)
+        passes d less = let k = is d less in (k.real, ap (λ b. cond b false true) k.least_one)
 
         long : (d : ℕ) (less : d < length w) → Leads child (take d w ++ (let k = is d less in k.own.0) ∷ []) (kid (node w d))
         long d less = let k = is d less in walk-push child 0 (node w d) (take d w) k.own.0 (at-node d).0 ∙ k.own.1
@@ -327,7 +327,7 @@ module _ {child : ℕ → ℕ → Option ℕ} {group : ℕ → Option ℕ} {edge
             let left : length (take j w) ≡ j = length-take-le j w (omega (arith, below-k)) in
             let right : length (take k w) ≡ k = length-take-le k w (omega (arith, less)) in
             omega (arith, lengths, left, right, up, length-append (take j w) ((is j below-k).own.0 ∷ []), length-append (take k w) ((is k less).own.0 ∷ []))
-        -- ---- up to the first that is later
+        -- ---- up to one that is later
 
   top : List ℕ → ℕ → ℕ
   top w zero = 0

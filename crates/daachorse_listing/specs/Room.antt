@@ -12,10 +12,10 @@ module _ (edge : ℕ → Option (ℕ × ℕ)) where
   has_before j None = false
   has_before j (Some e) = is_filled (members edge e.0 j)
 
-  -- an element of the group of j has a lesser number
+  -- j comes later in its group than an element with a lesser number
   abbrev pub is_later : ℕ → Bool
   is_later j = has_before j (edge j)
 
-  -- how many of n elements are not the first of their group
+  -- how many of n elements are later in their group than another
   abbrev pub num_later : ℕ → ℕ
   num_later n = length (below is_later n)

@@ -1,6 +1,6 @@
 -- The elements of valid parts are a tree, and checks, bases and codes tell the children.
 use Rattle.std.proofs.Common.{◌≡◌, ◌≢◌, ℕ, zero, suc, ◌<◌, ◌==◌, Bool, true, false, cond, bit_xor, List, [], ◌∷◌, length, slice_index_or, Option, Some, None, refl, sym, ap, ◌∙◌, arith}
-use Rattle.std.specs.Prelude.{option_and_then, option_map}
+use Rattle.std.specs.Prelude.{option_map}
 use Rattle.std.proofs.lemmas.Option.{same_Some}
 use Rattle.std.proofs.lemmas.Nat.{xor_comm}
 use Rattle.daachorse_core.proofs.Xor.{xor_back}
@@ -11,9 +11,9 @@ use Rattle.daachorse_machine.proofs.PathLaws.{and_then_inv}
 use Rattle.daachorse_listing.specs.Edges.{IsTree, TellChildren}
 use Rattle.daachorse_listing.proofs.MachineTrees.{machine_tree}
 use Rattle.daachorse_charwise_states.specs.declared.state.State.{State}
-use Rattle.daachorse_charwise_states.specs.Edges.{AreCharacters, Lettered, character_of, edge_between, edge_of, group_of}
+use Rattle.daachorse_charwise_states.specs.Edges.{AreCharacters, Lettered, character_of, edge_between, edge_of}
 use Rattle.daachorse_charwise_states.specs.Elements.{base_in, check_in, vacant}
-use Rattle.daachorse_charwise_states.specs.Parts.{Parts, base_of, char_code, check_of, child, child_among, child_by, count, machine}
+use Rattle.daachorse_charwise_states.specs.Parts.{Parts, base_of, char_code, check_of, child, child_among, count, machine}
 use Rattle.daachorse_charwise_states.specs.Valid.{IsValid}
 use Rattle.daachorse_charwise_states.proofs.CharLaws.{child_by_code, valid_machine}
 use Rattle.daachorse_charwise_states.proofs.Codes.{coded_inside}
@@ -25,10 +25,6 @@ valid_tree p valid few = machine_tree char_width (machine p) (is_leftmost p.kind
 second : {X : Type 0} (b : Bool) (o : Option X) (x : X) → cond b None o ≡ Some x → (b ≡ false) × (o ≡ Some x)
 second true o x e = absurd (cc)
 second false o x e = (refl, e)
-
-first : {X : Type 0} (b : Bool) (x : X) → cond b None (Some x) ≡ None → b ≡ true
-first true x e = refl
-first false x e = absurd (cc)
 
 -- an edge is by the character that is found
 edge_is : (o : Option ℕ) (i g u : ℕ) → option_map {U = ℕ × ℕ} (λ v. (i, v)) o ≡ Some (g, u) → (i ≡ g) × (o ≡ Some u)
@@ -61,22 +57,15 @@ module _ {V : Type 0} (a : Lettered V) (letters : AreCharacters a.parts.coding (
   pub edge_inside : (j g u : ℕ) → edge_of a j ≡ Some (g, u) → (g < count a.parts) × (u < length a.parts.coding.table)
   edge_inside j g u e = let parts = edge_parts j g u e in (based a.parts.states g parts.1, coded_inside a.parts.coding u _ parts.2)
 
-  pub valid_tells : TellChildren (child a.parts) (group_of a) (edge_of a) (count a.parts)
+  pub valid_tells : TellChildren (child a.parts) (λ i. Some i) (edge_of a) (count a.parts)
   valid_tells = record {
-    inside = λ i g h e. (let same = same_Some i g (second (base_of a.parts i == 0) (Some i) g e).1 in omega (arith, same, h));
-    alone = λ i u h e. none i u (let test : (base_of a.parts i == 0) ≡ true = first (base_of a.parts i == 0) i e in grind (arith, test));
+    inside = λ i g h e. (let same = same_Some i g e in omega (arith, same, h));
+    alone = λ i u h e. absurd (let bad : ◌≡◌ {A = Option ℕ} (Some i) None = e in cc);
     from_child = λ i g u j h own e. from i g u j own e;
     to_child = λ i g u j h own less e. to i g u j own less e;
   }
     where
-      none : (i u : ℕ) → base_of a.parts i ≡ 0 → child a.parts i u ≡ None
-      none i u without = go (char_code a.parts.coding u) refl
-        where
-          go : (o : Option ℕ) → char_code a.parts.coding u ≡ o → child a.parts i u ≡ None
-          go None e = ap (λ k. option_and_then (λ c. child_among a.parts.states i c) k) e
-          go (Some c) e = child_by_code a.parts.states a.parts.coding i u c e ∙ ap (λ b. child_by (count a.parts) check_at i b c) without
-
-      from : (i g u j : ℕ) → group_of a i ≡ Some g → child a.parts i u ≡ Some j → edge_of a j ≡ Some (g, u)
+      from : (i g u j : ℕ) → Some i ≡ Some g → child a.parts i u ≡ Some j → edge_of a j ≡ Some (g, u)
       from i g u j own e =
           let code = and_then_inv (λ c. child_among a.parts.states i c) (char_code a.parts.coding u) j e in
           let c : ℕ = code.0 in
@@ -86,15 +75,15 @@ module _ {V : Type 0} (a : Lettered V) (letters : AreCharacters a.parts.coding (
           ap (bit_xor (base_of a.parts i)) (sym at.1 ∙ xor_comm (base_of a.parts i) c) ∙ (xor_comm (base_of a.parts i) (bit_xor c (base_of a.parts i)) ∙ xor_back c (base_of a.parts i)) in
           let entry : character_of a c ≡ Some u = letters.from_code u c (coded_inside a.parts.coding u c code.1) code.1 in
           let test : (base_of a.parts i == 0) ≡ false = grind (arith, at.0) in
-          let group : i ≡ g = same_Some i g (second (base_of a.parts i == 0) (Some i) g own).1 in
+          let group : i ≡ g = same_Some i g own in
           ap (λ k. edge_between a k j) check
           ∙ (ap (λ b. cond b None (option_map {U = ℕ × ℕ} (λ v. (i, v)) (character_of a (bit_xor (base_of a.parts i) j)))) test
           ∙ (ap (λ k. option_map {U = ℕ × ℕ} (λ v. (i, v)) (character_of a k)) back
           ∙ (ap (option_map {U = ℕ × ℕ} (λ v. (i, v))) entry ∙ ap (λ k. Some (k, u)) group)))
 
-      to : (i g u j : ℕ) → group_of a i ≡ Some g → j < count a.parts → edge_of a j ≡ Some (g, u) → child a.parts i u ≡ Some j
+      to : (i g u j : ℕ) → Some i ≡ Some g → j < count a.parts → edge_of a j ≡ Some (g, u) → child a.parts i u ≡ Some j
       to i g u j own less e =
-          let group : i ≡ g = same_Some i g (second (base_of a.parts i == 0) (Some i) g own).1 in
+          let group : i ≡ g = same_Some i g own in
           let parts = edge_parts j g u e in
           let c : ℕ = bit_xor (base_of a.parts i) j in
           let code : char_code a.parts.coding u ≡ Some c = parts.2 ∙ ap (λ k. Some (bit_xor (base_of a.parts k) j)) (sym group) in

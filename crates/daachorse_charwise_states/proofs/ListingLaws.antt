@@ -1,5 +1,5 @@
 -- What a walk over the patterns of valid parts gives is the listing of their dictionary, whose keys are texts.
-use Rattle.std.proofs.Common.{◌≡◌, ◌≢◌, ℕ, ◌<◌, Bool, true, false, cond, List, [], ◌∷◌, length, refl, sym, ap, ◌∙◌}
+use Rattle.std.proofs.Common.{◌≡◌, ◌≢◌, ℕ, ◌<◌, Bool, true, false, cond, List, [], ◌∷◌, length, refl, sym, ap, ◌∙◌, Some}
 use Rattle.std.specs.Prelude.{IsTrue}
 use Rattle.std.specs.List.{AllByRecursion}
 use Rattle.std.specs.Str.{all_scalars}
@@ -10,7 +10,7 @@ use Rattle.daachorse_model.specs.Prefixes.{IsListing}
 use Rattle.daachorse_model.specs.Units.{char_width, same_text}
 use Rattle.daachorse_listing.specs.Listing.{HasPatterns, IsPatterns, own_end}
 use Rattle.daachorse_listing.proofs.MachineListings.{machine_listing, machine_patterns}
-use Rattle.daachorse_charwise_states.specs.Edges.{AreCharacters, Lettered, edge_of, group_of}
+use Rattle.daachorse_charwise_states.specs.Edges.{AreCharacters, Lettered, edge_of}
 use Rattle.daachorse_charwise_states.specs.Parts.{Parts, child, content, count, machine, output_of}
 use Rattle.daachorse_charwise_states.specs.Texts.{AreTexts}
 use Rattle.daachorse_charwise_states.specs.Valid.{IsValid}
@@ -40,10 +40,10 @@ module _ {V : Type 0} where
 
 module _ {V : Type 0} (a : Lettered V) (valid : IsValid a.parts) where
   pub valid_patterns : AreCharacters a.parts.coding (length a.parts.coding.table) a.characters → a.parts.num_states < 4294967296
-      → HasPatterns (child a.parts) (group_of a) (edge_of a) (count a.parts) (length a.parts.coding.table) a.parts.outputs (output_of a.parts)
+      → HasPatterns (child a.parts) (λ i. Some i) (edge_of a) (count a.parts) (length a.parts.coding.table) a.parts.outputs (output_of a.parts)
   valid_patterns letters few =
       machine_patterns char_width (machine a.parts) (is_leftmost a.parts.kind) (count a.parts) (length a.parts.coding.table) (valid_machine a.parts valid) a.parts.num_states valid.counted few
-      (group_of a) (edge_of a) (valid_tells a letters)
+      (λ i. Some i) (edge_of a) (valid_tells a letters)
 
   pub patterns_listing : (entries : List (List ℕ × V)) → IsPatterns (child a.parts) (count a.parts) (length a.parts.coding.table) a.parts.outputs (output_of a.parts) (own_end (machine a.parts)) entries
       → IsListing (content a.parts) entries

@@ -26,10 +26,6 @@ pub record IsLettered {V : Type 0} (a : Lettered V) : Type 0 where
   pub letters : AreCharacters a.parts.coding (length a.parts.coding.table) a.characters
 
 module _ {V : Type 0} (a : Lettered V) where
-  -- the children of an element are a group of their own
-  abbrev pub group_of : ℕ → Option ℕ
-  group_of i = cond (base_of a.parts i == 0) None (Some i)
-
   -- the character of a code, if there is one
   abbrev pub character_of : ℕ → Option ℕ
   character_of k = slice_index_or a.characters k None

@@ -141,10 +141,11 @@ impl<'a, V: Copy, A: Allocator> Elements<'a, V, A> {
     }
 }
 
-/// The children of an element are a group of their own, whose number is the element's.
+/// The children of an element are a group of their own, whose number is the element's. That group is
+/// empty where there are none, so that an element's group is known without a look at the element.
 impl<'a, V: Copy, A: Allocator> Edges for Elements<'a, V, A> {
     ghost use Rattle.std.specs.Prelude.{length};
-    ghost use Rattle.daachorse_charwise_states.specs.Edges.{edge_of, group_of};
+    ghost use Rattle.daachorse_charwise_states.specs.Edges.{edge_of};
     ghost use Rattle.daachorse_charwise_states.specs.Parts.{child, count};
 
     ghost count = { λ a. count a.parts };
@@ -153,7 +154,7 @@ impl<'a, V: Copy, A: Allocator> Edges for Elements<'a, V, A> {
 
     ghost child = { λ a. child a.parts };
 
-    ghost group = { group_of };
+    ghost group = { λ a i. Some i };
 
     ghost edge = { edge_of };
 
@@ -162,7 +163,6 @@ impl<'a, V: Copy, A: Allocator> Edges for Elements<'a, V, A> {
     }
 
     fn group(&self, element: usize) -> Option<usize> {
-        self.base_at(element)?;
         Some(element)
     }
 

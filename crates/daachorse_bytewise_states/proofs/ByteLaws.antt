@@ -1,5 +1,5 @@
 -- Valid parts are a right machine, so that looks, chains and outputs are those of the dictionary that they hold.
-use Rattle.std.proofs.Common.{◌≡◌, ◌≢◌, Bool, true, false, cond, ℕ, ◌<◌, ◌≤◌, ◌%◌, List, [], length, Option, Some, None, refl, sym, ap, ◌∙◌, subst, arith}
+use Rattle.std.proofs.Common.{◌≡◌, ◌≢◌, Bool, true, false, cond, ℕ, ◌<◌, ◌≤◌, ◌/◌, ◌%◌, List, [], length, Option, Some, None, refl, sym, ap, ◌∙◌, subst, arith}
 use Rattle.std.specs.Prelude.{slice_index_or, unwrap_or}
 use Rattle.std.specs.declared.num.NonZeroU32.{NonZeroU32}
 use Rattle.daachorse_core.specs.Outputs.{number, outputs_at}
@@ -12,6 +12,7 @@ use Rattle.daachorse_core.specs.Looks.{IsFirstOutput, LookGives}
 use Rattle.daachorse_machine.specs.Machines.{IsMachine}
 use Rattle.daachorse_machine.proofs.ChildLaws.{child_at-inside}
 use Rattle.daachorse_machine.proofs.MachineLaws.{Reached-inside, Reached-root, first-output, text-root, root-text, turn-next, turn-root, turn-dead, turn-link, standard-alive}
+use Rattle.daachorse_bytewise_states.specs.Elements.{output_in, vacant, vacant_left}
 use Rattle.daachorse_bytewise_states.specs.Parts.{Parts, base_of, check_of, child, content, count, fail_of, machine, output_of, word_at}
 use Rattle.daachorse_bytewise_states.specs.Valid.{IsRootTable, IsState, IsValid, dead, text}
 use Rattle.daachorse_bytewise_states.proofs.DeadLaws.{alive}
@@ -74,9 +75,8 @@ module _ {V : Type 0} (p : Parts V) where
     look_fail i c f r e other at live = turn-link byte_width (machine p) (is_leftmost p.kind) (count p) 256 is_machine i c f r e other at live
 
     -- no link is dead where the searches are standard
-    pub look_link : p.kind ≡ Standard → (i c f : ℕ) → IsState p i → child p i c ≡ None → i ≢ 0 → fail_of p i ≡ f → Gives i c (Fail f)
-    look_link standard i c f r e other at =
-        look_fail i c f r e other at (λ one. standard-alive byte_width (machine p) (is_leftmost p.kind) (count p) 256 is_machine i r other (alive p standard) (at ∙ one))
+    pub link_alive : p.kind ≡ Standard → (i f : ℕ) → IsState p i → i ≢ 0 → fail_of p i ≡ f → f ≢ 1
+    link_alive standard i f r other at one = standard-alive byte_width (machine p) (is_leftmost p.kind) (count p) 256 is_machine i r other (alive p standard) (at ∙ one)
 
     -- by the table of the root
     pub look_table : (root : List (ℕ × ℕ)) → IsRootTable (child p 0) (word_at p) 256 root → (i c j : ℕ) → IsState p i → c < 256 → i ≡ 0 → j ≡ (slice_index_or root c (0, 0)).0 → (o : Option NonZeroU32) → Gives i c (Next j o)
@@ -88,11 +88,13 @@ module _ {V : Type 0} (p : Parts V) where
         go None e = look_root i c r (ap (λ x. child p x c) top ∙ e) top o
         go (Some k) e = look_child i c k r (ap (λ x. child p x c) top ∙ e) o
 
-    -- the table has the word of each element that it has
-    pub table_word : (root : List (ℕ × ℕ)) → IsRootTable (child p 0) (word_at p) 256 root → (c : ℕ) → c < 256 → word_at p (slice_index_or root c (0, 0)).0 ≡ (slice_index_or root c (0, 0)).1
-    table_word root table c byte =
+    -- the table has the first output of each element that it has
+    pub table_output : is_leftmost p.kind ≡ false → (root : List (ℕ × ℕ)) → IsRootTable (child p 0) (word_at p) 256 root → (c : ℕ) → c < 256 → output_of p (slice_index_or root c (0, 0)).0 ≡ (slice_index_or root c (0, 0)).1 / 256
+    table_output standard root table c byte =
+        let j : ℕ = (slice_index_or root c (0, 0)).0 in
         let at = table.right c byte in
-        ap (λ e. word_at p e.0) at ∙ sym (ap (λ e. e.1) at)
+        let word : word_at p j ≡ (slice_index_or root c (0, 0)).1 = ap (λ e. word_at p e.0) at ∙ sym (ap (λ e. e.1) at) in
+        ap (λ b. cond b (output_in (slice_index_or p.leftmost j vacant_left)) (output_in (slice_index_or p.standard j vacant))) standard ∙ ap (λ w. w / 256) word
 
     -- ---- outputs
 

@@ -5,8 +5,7 @@ pub mod PackedValid
 pub mod ChildLaws
 pub mod ByteLaws
 pub mod DeadLaws
-pub mod StandardLaws
-pub mod LeftmostLaws
+pub mod ViewLaws
 pub mod WrittenLaws
 pub mod BuiltLaws
 pub mod Rows

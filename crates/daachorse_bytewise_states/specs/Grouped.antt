@@ -1,8 +1,6 @@
 -- Parts that were read: which may be looked at, and which are no automaton's.
 use Rattle.std.specs.Prelude.{◌≡◌, ℕ, ◌<◌, ◌%◌, Bool, true, false, List, length, slice_index_or, Option}
 use Rattle.daachorse_core.specs.declared.outputs.Empty.{Empty}
-use Rattle.daachorse_core.specs.declared.outputs.Output.{Output}
-use Rattle.daachorse_model.specs.declared.MatchKind.{MatchKind}
 use Rattle.daachorse_model.specs.Kinds.{is_leftmost}
 use Rattle.daachorse_checker.specs.Reads.{HasNoParts}
 use Rattle.daachorse_prefilter.specs.Filters.{Filter}
@@ -11,11 +9,6 @@ use Rattle.daachorse_bytewise_states.specs.declared.state.State.{State}
 use Rattle.daachorse_bytewise_states.specs.Elements.{base_in, vacant, vacant_left}
 use Rattle.daachorse_bytewise_states.specs.Parts.{Parts, base_of, count}
 use Rattle.daachorse_bytewise_states.specs.Valid.{AreFew, HasShape, IsValid}
-
--- the parts of these lists
-abbrev pub parts_read : {V : Type 0} → MatchKind → List (State ℕ) → List (State Empty) → List ℕ → List (Output V) → ℕ → Parts V
-parts_read kind standard leftmost fails outputs n =
-    record { kind = kind; standard = standard; leftmost = leftmost; fails = fails; outputs = outputs; num_states = n }
 
 -- Elements in whole blocks, at least one, whose bases are elements. So a base leads by each byte to an element.
 pub record AreBlocks {F : Type 0} (default : State F) (elements : List (State F)) : Type 0 where

@@ -11,3 +11,4 @@ pub mod PartForms
 pub mod Grouped
 pub mod EdgeBytes
 pub mod StateRows
+pub mod Views

@@ -73,17 +73,12 @@ module _ {V : Type 0} (p : Parts V) where
 abbrev pub without_link : State ℕ → State Empty
 without_link e = record { base = e.base; fail = record {}; packed = e.packed }
 
--- the parts of standard searches
-abbrev pub standard_parts : {V : Type 0} → List (State ℕ) → List (Output V) → ℕ → Parts V
-standard_parts elements outputs n =
-    record { kind = Standard; standard = elements; leftmost = []; fails = []; outputs = outputs; num_states = n }
-
--- the parts of leftmost searches of a kind
-abbrev pub leftmost_parts : {V : Type 0} → MatchKind → List (State Empty) → List ℕ → List (Output V) → ℕ → Parts V
-leftmost_parts kind elements fails outputs n =
-    record { kind = kind; standard = []; leftmost = elements; fails = fails; outputs = outputs; num_states = n }
+-- the parts that these lists make up
+abbrev pub parts_with : {V : Type 0} → MatchKind → List (State ℕ) → List (State Empty) → List ℕ → List (Output V) → ℕ → Parts V
+parts_with kind standard leftmost fails outputs n =
+    record { kind = kind; standard = standard; leftmost = leftmost; fails = fails; outputs = outputs; num_states = n }
 
 -- the parts that elements with their links make up
 abbrev pub parts_of : {V : Type 0} → MatchKind → List (State ℕ) → List (Output V) → ℕ → Parts V
 parts_of kind elements outputs n =
-    cond (is_leftmost kind) (leftmost_parts kind (map without_link elements) (map fail_in elements) outputs n) (standard_parts elements outputs n)
+    cond (is_leftmost kind) (parts_with kind [] (map without_link elements) (map fail_in elements) outputs n) (parts_with Standard elements [] [] outputs n)

@@ -1,17 +1,15 @@
 //! The states of the automaton over bytes, in a double array.
 //!
 //! The layers above may rely on [`states::States`] holding just the dictionary that it was built
-//! for, and on what a search sees of it: [`views::Standard`] and [`views::Leftmost`].
+//! for, and on what a search sees of it: [`view::View`].
 #![tactic(auto)]
 
 mod edges;
 mod filters;
 mod folded;
-mod leftmost;
 mod packing;
-mod standard;
 pub mod state;
 mod state_rows;
 pub mod states;
 mod unchecked;
-pub mod views;
+pub mod view;

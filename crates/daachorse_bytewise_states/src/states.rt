@@ -23,7 +23,7 @@ mod form;
 
 use crate::packing::pack;
 use crate::state::State;
-use crate::views;
+use crate::view::{Leftmost, Standard, View};
 use daachorse_build::nfa_builder::NfaBuilder;
 use daachorse_core::errors::Result;
 use daachorse_core::{Empty, MatchKind, Output, ROOT_STATE_IDX};
@@ -242,11 +242,12 @@ impl<V: Copy, A: Allocator> States<V, A> {
 
     /// What the standard searches see.
     #[inline(always)]
-    pub fn standard(&self) -> views::Standard<'_, V>
+    pub fn standard(&self) -> Standard<'_, V>
         requires { self.now.kind ≡ Standard }
         ensures { result ≡ self.entry.now }
     {
-        views::Standard::new(
+        View::new(
+            self.kind,
             self.standard.as_slice(),
             self.root.as_slice(),
             self.outputs.as_slice(),
@@ -257,11 +258,11 @@ impl<V: Copy, A: Allocator> States<V, A> {
     /// What the leftmost searches see.
     #[inline(always)]
     #[tactic(auto, using(daachorse_machine::proofs::DeadLaws::leftmost_kind))]
-    pub fn leftmost(&self) -> views::Leftmost<'_, V>
+    pub fn leftmost(&self) -> Leftmost<'_, V>
         requires { self.now.kind ≢ Standard }
         ensures { result ≡ self.entry.now }
     {
-        views::Leftmost::new(
+        View::new(
             self.kind,
             self.leftmost.as_slice(),
             self.fails.as_slice(),

@@ -6,11 +6,11 @@
 
 ghost use Rattle.std.specs.Prelude.{◌≡◌, ◌<◌, ◌%◌, bit_xor, true, false, length, slice_index_or, IfOk, IfErr, IfSome, IfNone};
 ghost use Rattle.daachorse_core.specs.Refusals.{IsOutOfMemory};
-ghost use Rattle.daachorse_bytewise_states.specs.Grouped.{AreBlocks, AreLists, IsGrouped, parts_read};
+ghost use Rattle.daachorse_bytewise_states.specs.Grouped.{AreBlocks, AreLists, IsGrouped};
 ghost use Rattle.daachorse_model.specs.Kinds.{is_leftmost};
 ghost use Rattle.daachorse_bytewise_states.specs.declared.state.State.{State};
 ghost use Rattle.daachorse_bytewise_states.specs.Elements.{base_in};
-ghost use Rattle.daachorse_bytewise_states.specs.Parts.{check_of, count};
+ghost use Rattle.daachorse_bytewise_states.specs.Parts.{check_of, count, parts_with};
 ghost use Rattle.daachorse_bytewise_states.specs.Valid.{AreFew, IsValid};
 
 use crate::state::State;
@@ -35,14 +35,14 @@ pub(crate) struct Unchecked<'a, V: Copy> {
 }
 
 impl<'a, V: Copy> Model for Unchecked<'a, V> {
-    ghost use Rattle.daachorse_bytewise_states.specs.Grouped.{IsGrouped, parts_read};
-    ghost use Rattle.daachorse_bytewise_states.specs.Parts.{Parts};
+    ghost use Rattle.daachorse_bytewise_states.specs.Grouped.{IsGrouped};
+    ghost use Rattle.daachorse_bytewise_states.specs.Parts.{Parts, parts_with};
 
     ghost Value = { Parts V };
 
-    ghost view = { λ s. parts_read s.kind s.standard.now s.leftmost.now s.fails.now s.outputs.now s.num_states };
+    ghost view = { λ s. parts_with s.kind s.standard.now s.leftmost.now s.fails.now s.outputs.now s.num_states };
 
-    ghost invariant = { λ s. IsGrouped (parts_read s.kind s.standard.now s.leftmost.now s.fails.now s.outputs.now s.num_states) };
+    ghost invariant = { λ s. IsGrouped (parts_with s.kind s.standard.now s.leftmost.now s.fails.now s.outputs.now s.num_states) };
 }
 
 /// The base of an element, 0 for none.
@@ -129,9 +129,9 @@ impl<'a, V: Copy> Unchecked<'a, V> {
         outputs: &'a [Output<V>],
         num_states: u32,
     ) -> Option<Self>
-        requires { AreFew (parts_read kind standard.now leftmost.now fails.now outputs.now num_states) }
-        ensures some { IfSome result (λ p. p ≡ parts_read kind standard.entry.now leftmost.entry.now fails.entry.now outputs.entry.now num_states) }
-        ensures none { IfNone result (IsGrouped (parts_read kind standard.entry.now leftmost.entry.now fails.entry.now outputs.entry.now num_states) → ⊥) }
+        requires { AreFew (parts_with kind standard.now leftmost.now fails.now outputs.now num_states) }
+        ensures some { IfSome result (λ p. p ≡ parts_with kind standard.entry.now leftmost.entry.now fails.entry.now outputs.entry.now num_states) }
+        ensures none { IfNone result (IsGrouped (parts_with kind standard.entry.now leftmost.entry.now fails.entry.now outputs.entry.now num_states) → ⊥) }
     {
         if !are_lists(kind, standard, leftmost, fails) {
             return None;

@@ -1,11 +1,11 @@
 use Rattle.std.proofs.Common.{◌≡◌, rules}
 use Rattle.daachorse_bytewise_states.proofs.ByteLaws.{root_text, text_root}
-use Rattle.daachorse_bytewise_states.proofs.StandardLaws.{standard_valid}
-use Rattle.daachorse_bytewise_states.proofs.standard.StandardAutomaton.is_root.Goals as goal
+use Rattle.daachorse_bytewise_states.proofs.ViewLaws.{seen_by}
+use Rattle.daachorse_bytewise_states.proofs.view.ViewAutomaton.is_root.Goals as goal
 
 pub returns : goal.returns
 returns g c =
-    let valid = standard_valid _ _ _ _ _ c.self.view_is c.self.invariant in (
+    let valid = (seen_by c.self.view_is c.self.invariant).stored.valid in (
       λ h. text_root _ valid c.args.state (let e : c.args.state ≡ 0 = search (rules, h) in e),
       λ h. let e : c.args.state ≡ 0 = root_text _ valid c.args.state c.requires h in search (rules, e),
     )

@@ -1,0 +1,90 @@
+use Rattle.std.proofs.Common.{◌≢◌, ◌<◌, ◌∙◌, ap, arith, cond, length, sym}
+use Rattle.daachorse_core.specs.declared.turns.Look.TheVariants.{Next, Fail}
+use Rattle.daachorse_bytewise_states.proofs.ByteLaws.{first_at, gives_label, look_child, look_dead, look_fail, look_root, root_state}
+use Rattle.daachorse_bytewise_states.proofs.ViewLaws.{seen_alive, seen_base, seen_by, seen_child, seen_entry, seen_inside, seen_link}
+use Rattle.daachorse_bytewise_states.proofs.view.ViewAutomaton.turn.Goals.{else-are_leftmost-via-then-are_leftmost+else-link-eq-DEAD_STATE_IDX, else-are_leftmost-via-else-are_leftmost}
+use Rattle.daachorse_bytewise_states.proofs.view.ViewAutomaton.turn.Goals as goal
+
+pub from_root-requires : goal.from_root-requires
+from_root-requires g c standard = c.self.invariant.size_beside ∙ ap (λ b. cond b (length c.self.inside.states.now) 256) standard
+
+-- by the table of the root
+pub returns-in-Some-clause-look : goal.returns-in-Some-clause-look
+returns-in-Some-clause-look g c =
+    let seen = seen_by c.self.view_is c.self.invariant in
+    let entry = seen_entry seen c.in-Some.ensures.0 c.args.state c.args.label (c.in-Some.child, c.in-Some.position) c.requires (omega arith) c.if-state-eq-ROOT_STATE_IDX.true c.in-Some.ensures.1 in
+    gives_label c.args.self.now c.args.state c.args.label (Next c.in-Some.child c.in-Some.position) entry.0
+
+pub returns-in-Some-clause-output : goal.returns-in-Some-clause-output
+returns-in-Some-clause-output g c = λ unit same.
+    let seen = seen_by c.self.view_is c.self.invariant in
+    let entry = seen_entry seen c.in-Some.ensures.0 c.args.state c.args.label (c.in-Some.child, c.in-Some.position) c.requires (omega arith) c.if-state-eq-ROOT_STATE_IDX.true c.in-Some.ensures.1 in
+    first_at _ seen.stored.valid c.in-Some.child c.in-Some.position entry.0.0 entry.1
+
+pub bounds-states-state : goal.bounds-states-state
+bounds-states-state g c = seen_inside (seen_by c.self.view_is c.self.invariant) c.args.state c.requires
+
+pub offset_bounds-states-state : goal.offset_bounds-states-state
+offset_bounds-states-state g c = omega (arith, seen_inside (seen_by c.self.view_is c.self.invariant) c.args.state c.requires)
+
+pub child_and_output-requires-clause-inside : goal.child_and_output-requires-clause-inside
+child_and_output-requires-clause-inside g c = seen_base (seen_by c.self.view_is c.self.invariant) _ c.args.state c.index-states-state.is c.requires
+
+-- by the element's own child
+pub returns-in-Some-child_and_output-clause-look :
+    goal.returns-in-Some-child_and_output-clause-look
+returns-in-Some-child_and_output-clause-look g c =
+    let seen = seen_by c.self.view_is c.self.invariant in
+    let at = c.in-Some-child_and_output in
+    let next = seen_child seen _ c.args.state c.index-states-state.is c.requires c.args.label ∙ at.ensures.0 in
+    gives_label c.args.self.now c.args.state c.args.label (Next at.child at.position) (look_child _ seen.stored.valid c.args.state c.args.label at.child c.requires next at.position)
+
+pub returns-in-Some-child_and_output-clause-output :
+    goal.returns-in-Some-child_and_output-clause-output
+returns-in-Some-child_and_output-clause-output g c = λ unit same.
+    let seen = seen_by c.self.view_is c.self.invariant in
+    let at = c.in-Some-child_and_output in
+    let next = seen_child seen _ c.args.state c.index-states-state.is c.requires c.args.label ∙ at.ensures.0 in
+    let reached = (look_child _ seen.stored.valid c.args.state c.args.label at.child c.requires next at.position).0 in
+    first_at _ seen.stored.valid at.child at.position reached (seen.output at.child _ (seen_inside seen at.child reached) ∙ sym at.ensures.1)
+
+pub returns-then-state-eq-ROOT_STATE_IDX-2-clause-look :
+    goal.returns-then-state-eq-ROOT_STATE_IDX-2-clause-look
+returns-then-state-eq-ROOT_STATE_IDX-2-clause-look g c =
+    let seen = seen_by c.self.view_is c.self.invariant in
+    let none = seen_child seen _ c.args.state c.index-states-state.is c.requires c.args.label ∙ c.in_default-child_and_output.ensures in
+    gives_label c.args.self.now c.args.state c.args.label (Next 0 c.output_pos.result) (look_root _ seen.stored.valid c.args.state c.args.label c.requires none c.if-state-eq-ROOT_STATE_IDX-2.true c.output_pos.result)
+
+pub link-link-requires : goal.link-link-requires
+link-link-requires g c left =
+    let size = c.self.invariant.size_beside ∙ ap (λ b. cond b (length c.self.inside.states.now) 256) left in
+    let inside = seen_inside (seen_by c.self.view_is c.self.invariant) c.args.state c.requires in
+    let all : c.args.state < length c.self.inside.beside.now = omega (arith, inside, size) in
+    all
+
+-- the root is a state
+pub output_pos-requires-then-link-eq-DEAD_STATE_IDX :
+    goal.output_pos-requires-then-link-eq-DEAD_STATE_IDX
+output_pos-requires-then-link-eq-DEAD_STATE_IDX g c = root_state _ (seen_by c.self.view_is c.self.invariant).stored.valid
+
+pub returns-then-link-eq-DEAD_STATE_IDX-clause-look :
+    goal.returns-then-link-eq-DEAD_STATE_IDX-clause-look
+returns-then-link-eq-DEAD_STATE_IDX-clause-look g c =
+    let seen = seen_by c.self.view_is c.self.invariant in
+    let none = seen_child seen _ c.args.state c.index-states-state.is c.requires c.args.label ∙ c.in_default-child_and_output.ensures in
+    let link = seen_link seen _ c.args.state c.index-states-state.is c.requires ∙ (sym c.link-link.ensures ∙ c.if-link-eq-DEAD_STATE_IDX.true) in
+    let position = c.output_pos-then-link-eq-DEAD_STATE_IDX.result in
+    gives_label c.args.self.now c.args.state c.args.label (Next 0 position) (look_dead _ seen.stored.valid c.args.state c.args.label c.requires none c.if-state-eq-ROOT_STATE_IDX-2.false link position)
+
+-- the link was seen not to be dead, or the searches are standard
+pub returns-clause-look : goal.returns-clause-look
+returns-clause-look g c =
+    let seen = seen_by c.self.view_is c.self.invariant in
+    let none = seen_child seen _ c.args.state c.index-states-state.is c.requires c.args.label ∙ c.in_default-child_and_output.ensures in
+    let to = c.link-link.result in
+    let link = seen_link seen _ c.args.state c.index-states-state.is c.requires ∙ sym c.link-link.ensures in
+    let live : to ≢ 1 = elim c.else-are_leftmost.branch [
+      | else-are_leftmost-via-then-are_leftmost+else-link-eq-DEAD_STATE_IDX w ↦ w.if-link-eq-DEAD_STATE_IDX.false
+      | else-are_leftmost-via-else-are_leftmost w ↦ seen_alive seen (sym c.are_leftmost.ensures ∙ w.if-are_leftmost.false) c.args.state to c.requires c.if-state-eq-ROOT_STATE_IDX-2.false link
+    ] in
+    gives_label c.args.self.now c.args.state c.args.label (Fail to) (look_fail _ seen.stored.valid c.args.state c.args.label to c.requires none c.if-state-eq-ROOT_STATE_IDX-2.false link live)

@@ -1,0 +1,283 @@
+//! What a search sees of the states.
+//!
+//! The layers above may rely on a [`View`] being the automaton of its parts, on `turn` looking at
+//! one element and its child alone and counting one turn, and on no call taking memory.
+
+ghost use Rattle.std.specs.Prelude.{◌≡◌, ◌<◌, ℕ, Bool, true, false, List, [], length, slice_index, IfSome};
+ghost use Rattle.daachorse_bytewise_states.specs.declared.state.State.{State};
+ghost use Rattle.daachorse_bytewise_states.specs.Elements.{fail_in};
+ghost use Rattle.daachorse_bytewise_states.specs.Views.{IsEntry, IsSeen, Lists, seen_parts};
+
+use crate::state::State;
+use daachorse_core::turns::{Look, Turns};
+use daachorse_core::{DEAD_STATE_IDX, Empty, MatchKind, Output, ROOT_STATE_IDX};
+use daachorse_search::automaton::Automaton;
+use std::marker::{Model, PhantomData};
+use std::num::NonZeroU32;
+
+/// The searches that a view is for, and what they read.
+pub trait Searches {
+    /// What an element has as its link.
+    type Link: Copy;
+
+    /// What stands beside the elements.
+    type Beside: Copy;
+
+    /// Whether they are leftmost.
+    ghost leftmost: { Bool };
+
+    /// The lists of the parts, of which some are empty.
+    ghost lists: { List (State Self.Link) → List Self.Beside → Lists };
+
+    /// The table of the root.
+    ghost root: { List Self.Beside → List (ℕ × ℕ) };
+
+    /// The link of an element at an index.
+    ghost link: { State Self.Link → List Self.Beside → ℕ → ℕ };
+
+    /// Whether they are leftmost, so that a link may be dead.
+    fn are_leftmost() -> bool
+        ensures { result ≡ leftmost };
+
+    /// Where a byte leads from the root, and the position of the first output there, if that stands in a table.
+    fn from_root(beside: &[Self::Beside], label: u8) -> Option<(u32, Option<NonZeroU32>)>
+        requires { leftmost ≡ false → length beside.now ≡ 256 }
+        ensures { IfSome result (λ to. (leftmost ≡ false) × IsEntry (root beside.now) label to) };
+
+    /// The link of the element of a state.
+    fn link(element: State<Self::Link>, beside: &[Self::Beside], state: u32) -> u32
+        requires { leftmost ≡ true → state < length beside.now }
+        ensures { result ≡ link element beside.now state };
+}
+
+/// The standard searches: an element has its link, and a table tells where each byte leads from the root.
+#[derive(Clone, Copy, Debug)]
+pub struct ForStandard;
+
+impl Searches for ForStandard {
+    type Link = u32;
+
+    type Beside = (u32, u32);
+
+    ghost leftmost = { false };
+
+    ghost lists = { λ elements table. (elements, [], []) };
+
+    ghost root = { λ table. table };
+
+    ghost link = { λ element table state. fail_in element };
+
+    #[inline(always)]
+    fn are_leftmost() -> bool {
+        false
+    }
+
+    #[inline(always)]
+    fn from_root(beside: &[(u32, u32)], label: u8) -> Option<(u32, Option<NonZeroU32>)> {
+        // The position is taken out of the word as it is of an element's, so that both ways meet in one.
+        let (child, word) = beside[label as usize];
+        Some((child, NonZeroU32::new(word / 256)))
+    }
+
+    #[inline(always)]
+    fn link(element: State<u32>, _beside: &[(u32, u32)], _state: u32) -> u32
+        ensures { result ≡ fail_in element }
+    {
+        element.fail()
+    }
+}
+
+/// The leftmost searches: the links stand beside the elements, and the root is looked at as any state is.
+#[derive(Clone, Copy, Debug)]
+pub struct ForLeftmost;
+
+impl Searches for ForLeftmost {
+    type Link = Empty;
+
+    type Beside = u32;
+
+    ghost leftmost = { true };
+
+    ghost lists = { λ elements links. ([], elements, links) };
+
+    ghost root = { λ links. [] };
+
+    ghost link = { λ element links state. slice_index links state };
+
+    #[inline(always)]
+    fn are_leftmost() -> bool {
+        true
+    }
+
+    #[inline(always)]
+    fn from_root(_beside: &[u32], _label: u8) -> Option<(u32, Option<NonZeroU32>)> {
+        None
+    }
+
+    #[inline(always)]
+    fn link(_element: State<Empty>, beside: &[u32], state: u32) -> u32
+        requires { state < length beside.now }
+        ensures { result ≡ slice_index beside.now state }
+    {
+        beside[state as usize]
+    }
+}
+
+/// The states as the standard searches see them.
+pub type Standard<'a, V> = View<'a, V, ForStandard>;
+
+/// The states as the leftmost searches see them.
+pub type Leftmost<'a, V> = View<'a, V, ForLeftmost>;
+
+/// The states as the searches `S` see them.
+#[derive(Drop)]
+pub struct View<'a, V: Copy, S: Searches> {
+    states: &'a [State<S::Link>],
+    beside: &'a [S::Beside],
+    outputs: &'a [Output<V>],
+    // For contracts alone, and so is the number of states.
+    kind: MatchKind,
+    num_states: u32,
+    searches: PhantomData<S>,
+}
+
+impl<'a, V: Copy, S: Searches> Model for View<'a, V, S> {
+    ghost use Rattle.daachorse_bytewise_states.specs.Parts.{Parts};
+    ghost use Rattle.daachorse_bytewise_states.specs.Views.{IsSeen, seen_parts};
+
+    ghost Value = { Parts V };
+
+    ghost view = { λ s. seen_parts s.kind (S.lists s.states.now s.beside.now) s.outputs.now s.num_states };
+
+    ghost invariant = { λ s. IsSeen S.leftmost S.link s.states.now s.beside.now (S.root s.beside.now)
+        (seen_parts s.kind (S.lists s.states.now s.beside.now) s.outputs.now s.num_states) };
+}
+
+impl<'a, V: Copy, S: Searches> View<'a, V, S> {
+    /// The automaton of these elements, with what stands beside them.
+    #[inline(always)]
+    pub(crate) fn new(
+        kind: MatchKind,
+        states: &'a [State<S::Link>],
+        beside: &'a [S::Beside],
+        outputs: &'a [Output<V>],
+        num_states: u32,
+    ) -> Self
+        requires { IsSeen S.leftmost S.link states.now beside.now (S.root beside.now) (seen_parts kind (S.lists states.now beside.now) outputs.now num_states) }
+        ensures { result ≡ seen_parts kind (S.lists states.entry.now beside.entry.now) outputs.entry.now num_states }
+    {
+        Self {
+            states,
+            beside,
+            outputs,
+            kind,
+            num_states,
+            searches: PhantomData,
+        }
+    }
+}
+
+impl<'a, V: Copy, S: Searches> Automaton<V> for View<'a, V, S> {
+    ghost use Rattle.std.specs.Prelude.{◌≡◌, ◌≤◌, length, Bool, true};
+    ghost use Rattle.daachorse_core.specs.Outputs.{outputs_at};
+    ghost use Rattle.daachorse_bytewise_states.specs.Parts.{content};
+    ghost use Rattle.daachorse_bytewise_states.specs.Valid.{IsState, dead, no_output, text};
+
+    type Unit = u8;
+
+    type Label = u8;
+
+    ghost content = { content };
+
+    ghost reached = { IsState };
+
+    ghost text = { text };
+
+    ghost dead = { dead };
+
+    ghost has_label = { λ p unit. true };
+
+    ghost labels = { λ p label unit. label ≡ unit };
+
+    ghost has_output = { λ p position. position ≤ length p.outputs };
+
+    ghost outputs = { λ p position. outputs_at p.outputs position };
+
+    ghost most_outputs = { λ p. length p.outputs };
+
+    #[inline(always)]
+    fn root(&self) -> u32 {
+        // A field is read for what the parts keep.
+        let _ = &self.states;
+        ROOT_STATE_IDX
+    }
+
+    #[inline(always)]
+    fn is_root(&self, state: u32) -> bool {
+        // A field is read for what the parts keep.
+        let _ = &self.states;
+        state == ROOT_STATE_IDX
+    }
+
+    #[inline(always)]
+    fn label(&self, unit: u8) -> Option<u8> {
+        Some(unit)
+    }
+
+    #[inline(always)]
+    fn turn(&self, state: u32, label: u8, turns: &mut Turns) -> Look {
+        turns.tick();
+        if state == ROOT_STATE_IDX {
+            if let Some((child, position)) = S::from_root(self.beside, label) {
+                return Look::Next(child, position);
+            }
+        }
+        // A copy loads base and link at once, and then its place isn't needed again.
+        let states = self.states;
+        let element = states[state as usize];
+        if let Some((child, position)) = element.child_and_output(label, states) {
+            return Look::Next(child, position);
+        }
+        if state == ROOT_STATE_IDX {
+            return Look::Next(ROOT_STATE_IDX, self.output_pos(ROOT_STATE_IDX));
+        }
+        let link = S::link(element, self.beside, state);
+        if S::are_leftmost() && link == DEAD_STATE_IDX {
+            return Look::Next(ROOT_STATE_IDX, self.output_pos(ROOT_STATE_IDX));
+        }
+        Look::Fail(link)
+    }
+
+    #[inline(always)]
+    fn looks_ahead(&self) -> bool {
+        // A field is read for what the parts keep.
+        let _ = &self.states;
+        S::are_leftmost()
+    }
+
+    #[inline(always)]
+    fn output_pos(&self, state: u32) -> Option<NonZeroU32> {
+        let states = self.states;
+        states[state as usize].output_pos()
+    }
+
+    #[inline(always)]
+    fn output(&self, position: NonZeroU32) -> Output<V> {
+        let outputs = self.outputs;
+        outputs[position.get() as usize - 1]
+    }
+
+    #[inline(always)]
+    fn again(&self) -> Self {
+        Self {
+            states: self.states,
+            beside: self.beside,
+            outputs: self.outputs,
+            kind: self.kind,
+            num_states: self.num_states,
+            searches: PhantomData,
+        }
+    }
+
+    ghost no_output = { no_output };
+}

@@ -129,8 +129,8 @@ uint32_t daachorse_consume(daachorse *handle, const uint8_t *bytes, size_t bytes
 /* Writes the automaton to the beginning of out, and to size how many bytes that takes. daachorse_read reads it back, with
  * its kind and with whether it disregards ASCII case.
  * The answer is DAACHORSE_DONE, DAACHORSE_EMPTY_HANDLE, DAACHORSE_OUT_OF_MEMORY or
- * DAACHORSE_NO_ROOM; after the last, size is the room that is needed. Unless it is the first, nothing is written to
- * out. */
+ * DAACHORSE_NO_ROOM; after the last, size is the room that is needed, and after the two before it 0. Unless it is the
+ * first, nothing is written to out. */
 uint32_t daachorse_write(daachorse *handle, uint8_t *out, size_t out_len, size_t *size);
 
 /* Writes the patterns that the automaton holds to the beginnings of bytes, ends and values, in the form in which
@@ -148,7 +148,8 @@ uint32_t daachorse_list(daachorse *handle, uint8_t *bytes, size_t bytes_len, siz
 
 /* Fills the handle with the automaton that the bytes begin with, whoever wrote them, and writes to taken how many of
  * them it takes. What the handle had is freed. The answer is DAACHORSE_DONE, DAACHORSE_OUT_OF_MEMORY or, where the
- * bytes begin with no automaton, DAACHORSE_INVALID_AUTOMATON. Unless it is the first, the handle is unchanged. */
+ * bytes begin with no automaton, DAACHORSE_INVALID_AUTOMATON. Unless it is the first, the handle is unchanged, and 0 is
+ * written to taken. */
 uint32_t daachorse_read(daachorse *handle, const uint8_t *bytes, size_t bytes_len, size_t *taken);
 
 /* Gives back what the handle has, if it has something. It is empty then. */

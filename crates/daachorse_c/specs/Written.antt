@@ -19,13 +19,13 @@ pub record StandsInFront (items old new : List ℕ) : Type 0 where
   pub fits : length items ≤ length old
   pub copied : new ≡ items ++ drop (length items) old
 
--- why an automaton is not written to this room, where `size` is told
+-- why an automaton is not written to this room, and what `size` tells then
 abbrev pub IsNotWritten : Searches ℕ → List ℕ → ℕ → Refusal → Type 0
-IsNotWritten a room size r = (r ≡ OutOfMemory) ⊎ ((r ≡ NoRoom) × (size ≡ length (form_of a)) × (length room < size))
+IsNotWritten a room size r = ((r ≡ OutOfMemory) × (size ≡ 0)) ⊎ ((r ≡ NoRoom) × (size ≡ length (form_of a)) × (length room < size))
 
--- why a call to write is refused
+-- why a call to write is refused, and what `size` tells then
 abbrev pub IsWriteCause : Option Held → List ℕ → ℕ → Refusal → Type 0
-IsWriteCause held room size r = IsUseCause held r ⊎ IsSomeAnd held (λ a. IsNotWritten a.searches room size r)
+IsWriteCause held room size r = (IsUseCause held r × (size ≡ 0)) ⊎ IsSomeAnd held (λ a. IsNotWritten a.searches room size r)
 
 -- the bytes begin with this automaton, which takes so many of them
 pub record IsRead (bytes : List ℕ) (a : Searches ℕ) (count : ℕ) : Type 0 where

@@ -93,7 +93,8 @@ impl Automaton {
     ///
     /// # Errors
     ///
-    /// An allocation failed, or there is too little room. Nothing is written to `out` then.
+    /// An allocation failed, and 0 is written to `size`; or there is too little room. Nothing is written to
+    /// `out` then.
     pub(crate) fn write(
         &self,
         alloc: Global,

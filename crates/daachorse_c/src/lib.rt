@@ -260,8 +260,8 @@ pub extern "C" fn daachorse_consume(
 ///
 /// # Errors
 ///
-/// The numbers of [`Refusal::EmptyHandle`], of `NoRoom`, where `size` says how much room is needed, and of
-/// `OutOfMemory`. Nothing is written to `out` then.
+/// The numbers of [`Refusal::EmptyHandle`] and `OutOfMemory`, where 0 is written to `size`; and of `NoRoom`, where
+/// `size` says how much room is needed. Nothing is written to `out` then.
 #[unsafe(no_mangle)]
 pub extern "C" fn daachorse_write(
     alloc: Global,
@@ -331,7 +331,7 @@ pub extern "C" fn daachorse_list(
 /// # Errors
 ///
 /// The numbers of [`Refusal::InvalidAutomaton`], where the bytes do not begin with an automaton, and of `OutOfMemory`.
-/// The handle is then unchanged.
+/// The handle is then unchanged, and 0 is written to `taken`.
 #[unsafe(no_mangle)]
 pub extern "C" fn daachorse_read(
     alloc: Global,
@@ -343,6 +343,7 @@ pub extern "C" fn daachorse_read(
     ensures stream { result ≡ 0 → IsSomeAnd handle.new.automaton (λ a. a.stream ≡ None) }
     ensures refused { IsDoneOr (IsReadCause bytes.now) result }
     ensures unchanged { result ≢ 0 → handle.new.automaton ≡ handle.old.automaton }
+    ensures untaken { result ≢ 0 → taken.new ≡ 0 }
 {
     *taken = 0;
     match read(alloc, bytes) {

@@ -4,4 +4,4 @@ use Rattle.daachorse_c.specs.declared.refusal.Refusal.TheVariants.{EmptyHandle}
 use Rattle.daachorse_c.proofs.daachorse_write.Goals as goal
 
 pub returns-in_default-clause-refused : goal.returns-in_default-clause-refused
-returns-in_default-clause-refused c = inr (EmptyHandle, c.number.ensures.is, inl (refl, subst IsNone (sym c.in_default.ensures.taken) refl))
+returns-in_default-clause-refused c = inr (EmptyHandle, c.number.ensures.is, inl ((refl, subst IsNone (sym c.in_default.ensures.taken) refl), refl))

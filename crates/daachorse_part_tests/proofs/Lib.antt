@@ -1,3 +1,1 @@
-pub mod CodedTexts
 pub mod RisingLaws
-pub mod EverywhereLemmas

@@ -6,23 +6,15 @@
 #[cfg(test)]
 mod bytewise_states;
 #[cfg(test)]
-mod charwise_states;
+mod elements;
 #[cfg(test)]
 mod errors;
 #[cfg(test)]
-mod everywhere;
-#[cfg(test)]
-mod folding;
-#[cfg(test)]
 mod forms;
-#[cfg(test)]
-mod labels;
-#[cfg(test)]
-mod leftmost_searches;
 #[cfg(test)]
 mod mapper;
 #[cfg(test)]
-mod model;
+mod parts;
 #[cfg(test)]
 mod patterns;
 #[cfg(test)]
@@ -32,18 +24,12 @@ mod prefilter;
 #[cfg(test)]
 mod profile;
 #[cfg(test)]
-mod searches;
-#[cfg(test)]
 mod serializer;
-#[cfg(test)]
-mod slow_searches;
 #[cfg(test)]
 mod texts;
 #[cfg(test)]
 mod trie;
 
-#[cfg(test)]
-use std::hash::{DefaultHasher, Hash, Hasher};
 #[cfg(test)]
 use std::process::Abort;
 
@@ -51,11 +37,4 @@ use std::process::Abort;
 #[cfg(test)]
 fn expect(rt: &impl Abort, holds: bool, what: &str) {
     assert!(rt; holds, "{what}");
-}
-
-#[cfg(test)]
-fn hash_of<T: Hash>(value: &T) -> u64 {
-    let mut state = DefaultHasher::new();
-    value.hash(&mut state);
-    state.finish()
 }

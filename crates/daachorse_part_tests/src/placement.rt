@@ -6,7 +6,7 @@ ghost use Rattle.daachorse_placement.specs.Placement.{AreGroups, HasSizes};
 ghost use Rattle.daachorse_part_tests.specs.Rising.{AreRising};
 
 use crate::expect;
-use daachorse_placement::build_helper::{BuildHelper, ListItem, Profile, SiblingGroup};
+use daachorse_placement::build_helper::{BuildHelper, ListItem, SiblingGroup};
 use std::alloc::{AllocError, Global};
 use std::process::Abort;
 use std::test::Fail;
@@ -109,14 +109,13 @@ fn place(
     Ok(helper)
 }
 
-/// Whether these are by block the least base that isn't taken.
-fn are_unused_bases(
+/// By block the least base that isn't taken.
+fn unused_bases(
     alloc: Global,
     helper: &BuildHelper,
     block_len: u32,
     num_nfa_states: usize,
-    expected: &[Option<u32>],
-) -> Result<bool, AllocError>
+) -> Result<Vec<Option<u32>>, AllocError>
     requires two { 2 ≤ block_len }
     requires sizes { HasSizes helper.now block_len num_nfa_states }
 {
@@ -124,39 +123,32 @@ fn are_unused_bases(
     for block_idx in 0..helper.num_elements() / block_len {
         unused.push(helper.unused_base_in_block(block_idx))?;
     }
-    Ok(unused.as_slice() == expected)
+    Ok(unused)
 }
 
-/// Whether these are by element whether it is used.
-fn are_used_indexes(
-    alloc: Global,
-    helper: &BuildHelper,
-    expected: &[bool],
-) -> Result<bool, AllocError> {
+/// The elements or bases that are used, in rising order.
+fn used(alloc: Global, helper: &BuildHelper, of_bases: bool) -> Result<Vec<u32>, AllocError> {
     let mut used = Vec::new(alloc);
-    for idx in 0..helper.num_elements() {
-        used.push(helper.is_used_index(idx))?;
+    for place in 0..helper.num_elements() {
+        let is_used = if of_bases {
+            helper.is_used_base(place)
+        } else {
+            helper.is_used_index(place)
+        };
+        if is_used {
+            used.push(place)?;
+        }
     }
-    Ok(used.as_slice() == expected)
+    Ok(used)
 }
 
-/// Whether these are by base whether it is taken.
-fn are_used_bases(
-    alloc: Global,
-    helper: &BuildHelper,
-    expected: &[bool],
-) -> Result<bool, AllocError> {
-    let mut used = Vec::new(alloc);
-    for base in 0..helper.num_elements() {
-        used.push(helper.is_used_base(base))?;
+/// The vacant elements that are listed.
+fn vacant(alloc: Global, helper: &BuildHelper) -> Result<Vec<u32>, AllocError> {
+    let mut vacant = Vec::new(alloc);
+    for place in helper.vacant_iter() {
+        vacant.push(place)?;
     }
-    Ok(used.as_slice() == expected)
-}
-
-/// Whether these are the vacant elements that are listed.
-fn are_vacant(alloc: Global, helper: &BuildHelper, expected: &[u32]) -> Result<bool, AllocError> {
-    let vacant: Vec<u32> = helper.vacant_iter().collect(alloc)?;
-    Ok(vacant.as_slice() == expected)
+    Ok(vacant)
 }
 
 /// Groups with their weights and labels, and where they stand.
@@ -167,26 +159,19 @@ struct Row {
     groups: &'static [(usize, &'static [u32])],
     idx_map: &'static [u32],
     bases: &'static [u32],
-    used_indexes: &'static [bool],
-    used_bases: &'static [bool],
+    used_indexes: &'static [u32],
+    used_bases: &'static [u32],
     vacant: &'static [u32],
     unused: &'static [Option<u32>],
 }
 
-/// Asserts what the helper tells of the elements and of the bases of a row.
-fn assert_marks(
-    rt: &impl Abort,
-    alloc: Global,
-    helper: &BuildHelper,
-    row: &Row,
-) -> Result<(), AllocError> {
-    let used_indexes = are_used_indexes(alloc, helper, row.used_indexes)?;
-    expect(rt, used_indexes, "the used indexes");
-    let used_bases = are_used_bases(alloc, helper, row.used_bases)?;
-    expect(rt, used_bases, "the used bases");
-    let vacant = are_vacant(alloc, helper, row.vacant)?;
-    expect(rt, vacant, "what is vacant");
-    Ok(())
+/// Whether the helper tells of the elements and of the bases what a row says.
+fn has_marks(alloc: Global, helper: &BuildHelper, row: &Row) -> Result<bool, AllocError> {
+    Ok(
+        used(alloc, helper, false)?.as_slice() == row.used_indexes
+            && used(alloc, helper, true)?.as_slice() == row.used_bases
+            && vacant(alloc, helper)?.as_slice() == row.vacant,
+    )
 }
 
 /// Places the groups of a row, and asserts all that the helper tells of them.
@@ -198,9 +183,9 @@ fn assert_row(rt: &impl Abort, alloc: Global, row: &Row) -> Result<(), Fail> {
     let helper = place(rt, alloc, &groups, num_nfa_states, block_len, tracked)?;
     expect(rt, helper.idx_map() == row.idx_map, "the map");
     expect(rt, helper.bases() == row.bases, "the bases");
-    assert_marks(rt, alloc, &helper, row)?;
-    let unused = are_unused_bases(alloc, &helper, block_len, num_nfa_states, row.unused)?;
-    expect(rt, unused, "the unused bases");
+    expect(rt, has_marks(alloc, &helper, row)?, "the marks");
+    let unused = unused_bases(alloc, &helper, block_len, num_nfa_states)?;
+    expect(rt, unused.as_slice() == row.unused, "the unused bases");
     Ok(())
 }
 
@@ -212,8 +197,8 @@ const ROWS: &[Row] = &[
         groups: &[],
         idx_map: &[0, 1, 1],
         bases: &[0, 0, 0],
-        used_indexes: &[true, true, false, false],
-        used_bases: &[false, false, false, false],
+        used_indexes: &[0, 1],
+        used_bases: &[],
         vacant: &[2, 3],
         unused: &[Some(0)],
     },
@@ -224,8 +209,8 @@ const ROWS: &[Row] = &[
         groups: &[(1, &[1]), (1, &[0])],
         idx_map: &[0, 1, 2, 4],
         bases: &[3, 4, 0, 0],
-        used_indexes: &[true, true, true, false, true, false, false, false],
-        used_bases: &[false, false, false, true, true, false, false, false],
+        used_indexes: &[0, 1, 2, 4],
+        used_bases: &[3, 4],
         vacant: &[3, 5, 6, 7],
         unused: &[Some(0), Some(5)],
     },
@@ -236,8 +221,8 @@ const ROWS: &[Row] = &[
         groups: &[(1, &[1]), (1, &[0])],
         idx_map: &[0, 1, 2, 3],
         bases: &[3, 3, 0, 0],
-        used_indexes: &[true, true, true, true],
-        used_bases: &[false, false, false, false],
+        used_indexes: &[0, 1, 2, 3],
+        used_bases: &[],
         vacant: &[],
         unused: &[Some(0)],
     },
@@ -248,8 +233,8 @@ const ROWS: &[Row] = &[
         groups: &[(1, &[2])],
         idx_map: &[0, 1, 3],
         bases: &[1, 0, 0],
-        used_indexes: &[true, true, false, true],
-        used_bases: &[false, true, false, false],
+        used_indexes: &[0, 1, 3],
+        used_bases: &[1],
         vacant: &[2],
         unused: &[Some(0)],
     },
@@ -260,8 +245,8 @@ const ROWS: &[Row] = &[
         groups: &[(1, &[0, 3]), (1, &[1, 2])],
         idx_map: &[0, 1, 4, 7, 6, 5],
         bases: &[4, 7, 0, 0, 0, 0],
-        used_indexes: &[true, true, false, false, true, true, true, true],
-        used_bases: &[false, false, false, false, true, false, false, true],
+        used_indexes: &[0, 1, 4, 5, 6, 7],
+        used_bases: &[4, 7],
         vacant: &[2, 3],
         unused: &[Some(0), Some(5)],
     },
@@ -272,8 +257,8 @@ const ROWS: &[Row] = &[
         groups: &[(1, &[0, 3]), (1, &[1, 2])],
         idx_map: &[0, 1, 4, 7, 5, 6],
         bases: &[4, 4, 0, 0, 0, 0],
-        used_indexes: &[true, true, false, false, true, true, true, true],
-        used_bases: &[false, false, false, false, false, false, false, false],
+        used_indexes: &[0, 1, 4, 5, 6, 7],
+        used_bases: &[],
         vacant: &[2, 3],
         unused: &[Some(0), Some(4)],
     },
@@ -284,8 +269,8 @@ const ROWS: &[Row] = &[
         groups: &[(1, &[0]), (1, &[0])],
         idx_map: &[0, 1, 2, 3],
         bases: &[2, 3, 0, 0],
-        used_indexes: &[true, true, true, true],
-        used_bases: &[false, false, true, true],
+        used_indexes: &[0, 1, 2, 3],
+        used_bases: &[2, 3],
         vacant: &[],
         unused: &[Some(0), None],
     },
@@ -296,14 +281,8 @@ const ROWS: &[Row] = &[
         groups: &[(1, &[0, 1, 2]), (1, &[2]), (1, &[0, 2])],
         idx_map: &[0, 1, 4, 5, 6, 3, 8, 10],
         bases: &[4, 1, 8, 0, 0, 0, 0, 0],
-        used_indexes: &[
-            true, true, false, true, true, true, true, false, true, false, true, false, false,
-            false, false, false,
-        ],
-        used_bases: &[
-            false, true, false, false, true, false, false, false, true, false, false, false, false,
-            false, false, false,
-        ],
+        used_indexes: &[0, 1, 3, 4, 5, 6, 8, 10],
+        used_bases: &[1, 4, 8],
         vacant: &[2, 7, 9, 11, 12, 13, 14, 15],
         unused: &[Some(0)],
     },
@@ -363,14 +342,8 @@ fn assert_last_row(rt: &impl Abort, alloc: Global, row: &LastRow) -> Result<(), 
         helper.num_elements() == row.num_elements,
         "the elements",
     );
-    assert!(rt; helper.num_elements() > 3);
-    let is_used = helper.is_used_index(3);
-    expect(rt, is_used == (row.element == 3), "element 3");
-    expect(
-        rt,
-        are_vacant(alloc, &helper, row.vacant)?,
-        "what is vacant",
-    );
+    let vacant = vacant(alloc, &helper)?;
+    expect(rt, vacant.as_slice() == row.vacant, "what is vacant");
     Ok(())
 }
 
@@ -439,69 +412,16 @@ fn a_group_of_weight_0_looks_at_the_last_16_blocks(rt: HostRuntime) -> Result<()
     Ok(())
 }
 
-/// The counts of a profile with a visit and a probe at place 2, once it has so many places.
-fn counts(alloc: Global, len: usize) -> Result<(Vec<usize>, Vec<usize>), Fail> {
-    let mut profile = Profile::new(alloc);
-    profile.resize(2)?;
-    profile.visits.push(5)?;
-    profile.probes.push(7)?;
-    profile.resize(len)?;
-    Ok((profile.visits, profile.probes))
-}
-
 #[test]
-fn a_profile_keeps_its_counts(rt: HostRuntime) -> Result<(), Fail> {
-    let (visits, probes) = counts(rt.alloc(), 4)?;
-    expect(&rt, visits.as_slice() == [0, 0, 5, 0].as_slice(), "visits");
-    expect(&rt, probes.as_slice() == [0, 0, 7, 0].as_slice(), "probes");
-    let (visits, probes) = counts(rt.alloc(), 1)?;
-    expect(
-        &rt,
-        visits.as_slice() == [0].as_slice(),
-        "the first of the visits",
-    );
-    expect(
-        &rt,
-        probes.as_slice() == [0].as_slice(),
-        "the first of the probes",
-    );
-    Ok(())
-}
-
-#[test]
-fn a_new_profile_is_empty(rt: HostRuntime) -> Result<(), Fail> {
-    let mut profile = Profile::new(rt.alloc());
-    expect(&rt, profile.is_empty(), "no place");
-    profile.resize(2)?;
-    expect(&rt, !profile.is_empty(), "two places");
-    Ok(())
-}
-
-#[test]
-fn a_list_item_has_two_places(rt: HostRuntime) {
-    let mut item = ListItem::default();
-    expect(&rt, (item.next(), item.prev()) == (0, 0), "at first");
-    *item.next_mut() = 3;
-    *item.prev_mut() = 5;
-    expect(&rt, (item.next(), item.prev()) == (3, 5), "both");
-}
-
-#[test]
-fn a_list_item_has_two_flags(rt: HostRuntime) -> Result<(), Fail> {
+fn a_list_item_keeps_its_parts(rt: HostRuntime) {
     let mut item = ListItem::default();
     *item.next_mut() = 3;
     *item.prev_mut() = 5;
     item.use_base();
-    let copy = item.clone()?;
+    let flags = (item.is_used_base(), item.is_used_index());
+    expect(&rt, flags == (true, false), "one flag");
     item.use_index();
-    expect(
-        &rt,
-        (copy.next(), copy.prev()) == (3, 5),
-        "the places of a copy",
-    );
-    let flags = (copy.is_used_base(), copy.is_used_index());
-    expect(&rt, flags == (true, false), "the flags of a copy");
     let flags = (item.is_used_base(), item.is_used_index());
     expect(&rt, flags == (true, true), "both flags");
-    Ok(())
+    expect(&rt, (item.next(), item.prev()) == (3, 5), "the places");
 }

@@ -1,17 +1,17 @@
-//! Automata for the tests: built, laid out by a corpus, and read back.
+//! What is asked of an automaton over bytes as of one over characters: how it comes about, and what it
+//! finds, lists, replaces and is written as.
 
-ghost use Rattle.std.specs.Prelude.{◌≡◌, IfOk};
+use crate::finding::Found;
+use crate::rows::{Read, Search, Way};
+use daachorse::{CharwiseDoubleArrayAhoCorasick, DoubleArrayAhoCorasick, Match, MatchKind, Result};
+use daachorse_model::slow::Width;
+use std::alloc::{Allocator, Global};
+use std::hash::Hash;
+use std::io::{self, Write};
 
-use crate::rows::Way;
-use daachorse::{
-    CharwiseDoubleArrayAhoCorasick, CharwiseDoubleArrayAhoCorasickBuilder, DoubleArrayAhoCorasick,
-    DoubleArrayAhoCorasickBuilder, MatchKind, Result, Serializable,
-};
-use std::alloc::{AllocError, Allocator, Global};
+pub type Bytewise<A = Global> = DoubleArrayAhoCorasick<u32, A>;
 
-pub type Bytewise<A> = DoubleArrayAhoCorasick<u32, A>;
-
-pub type Charwise<A> = CharwiseDoubleArrayAhoCorasick<u32, A>;
+pub type Charwise<A = Global> = CharwiseDoubleArrayAhoCorasick<u32, A>;
 
 pub const KINDS: [MatchKind; 3] = [
     MatchKind::Standard,
@@ -19,242 +19,136 @@ pub const KINDS: [MatchKind; 3] = [
     MatchKind::LeftmostFirst,
 ];
 
-/// The texts as bytes, with their values.
-pub fn in_bytes<'a, A: Allocator>(
-    alloc: A,
-    patvals: &[(&'a str, u32)],
-) -> Result<Vec<(&'a [u8], u32), A>, AllocError> {
-    let mut all = Vec::new(alloc);
-    for (text, value) in patvals {
-        all.push((text.as_bytes(), *value))?;
-    }
-    Ok(all)
+/// Patterns for the ways to build by indexes. None is shorter than two bytes, so that they have a filter.
+pub const PATTERNS: [&str; 3] = ["bcd", "abc", "ab"];
+
+/// The same with their indexes.
+pub const PATVALS: [(&str, u32); 3] = [("bcd", 0), ("abc", 1), ("ab", 2)];
+
+/// A build for the standard searches that is told nothing but `PATTERNS`, or with the values of `PATVALS`.
+#[derive(Clone, Copy)]
+pub enum Plainly {
+    New,
+    WithValues,
+    Build,
 }
 
-/// An automaton over bytes.
-pub fn bytewise<A: Allocator + Copy>(
-    alloc: A,
-    kind: MatchKind,
-    patvals: &[(&[u8], u32)],
-) -> Result<Bytewise<A>>
-    ensures { IfOk result (λ a. a.parts.kind ≡ kind) }
-{
-    DoubleArrayAhoCorasickBuilder::new()
-        .match_kind(kind)
-        .build_with_values(alloc, patvals.iter().copied())
+/// Patterns by their units, with their values.
+pub type Listed<A = Global> = Vec<(Vec<u32, A>, u32), A>;
+
+/// What is searched for matches in a text, with the text's bytes or its characters for units.
+pub trait Searched {
+    type Alloc: Allocator + Copy;
+
+    /// Whether a search in the text as a whole finds just these matches. It is a leftmost search where
+    /// the automaton is for these.
+    fn finds_in_slice(&self, search: Search, text: &str, expected: &[Found]) -> bool;
+
+    /// Whether a search over the text's bytes one by one does, if there is one.
+    fn finds_in_source(&self, search: Search, text: &str, expected: &[Found]) -> bool;
+
+    /// Whether a stepper does that is given the text's units, if there is one, and tells these depths
+    /// before the first unit and behind each, or none.
+    fn finds_by_steps(
+        &self,
+        alloc: Self::Alloc,
+        search: Search,
+        text: &str,
+        expected: &[Found],
+        depths: &[u32],
+    ) -> Result<bool>;
 }
 
-/// The same, laid out by these documents.
-pub fn bytewise_by_corpus<A: Allocator + Copy>(
-    alloc: A,
-    kind: MatchKind,
-    patvals: &[(&[u8], u32)],
-    documents: &[&[u8]],
-) -> Result<Bytewise<A>>
-    ensures { IfOk result (λ a. a.parts.kind ≡ kind) }
-{
-    DoubleArrayAhoCorasickBuilder::new()
-        .match_kind(kind)
-        .corpus(alloc, documents.iter().copied())?
-        .build_with_values(alloc, patvals.iter().copied())
+/// Whether each form of a search finds just these matches in a text.
+pub fn finds<S: Searched>(
+    alloc: S::Alloc,
+    searched: &S,
+    search: Search,
+    text: &str,
+    expected: &[Found],
+) -> Result<bool> {
+    Ok(
+        searched.finds_in_slice(search, text, expected)
+            && searched.finds_in_source(search, text, expected)
+            && searched.finds_by_steps(alloc, search, text, expected, &[])?,
+    )
 }
 
-/// The same without a filter, laid out by these documents if there are any.
-fn bytewise_unfiltered(
-    alloc: Global,
-    kind: MatchKind,
-    patvals: &[(&[u8], u32)],
-    documents: &[&[u8]],
-) -> Result<Bytewise<Global>>
-    ensures { IfOk result (λ a. a.parts.kind ≡ kind) }
-{
-    let mut builder = DoubleArrayAhoCorasickBuilder::new().match_kind(kind);
-    if !documents.is_empty() {
-        builder = builder.corpus(alloc, documents.iter().copied())?;
-    }
-    builder
-        .use_prefilter(false)
-        .build_with_values(alloc, patvals.iter().copied())
+/// An automaton, with texts for patterns.
+pub trait Automaton: Searched + PartialEq + Hash + Drop + Sized {
+    /// How wide its units are.
+    fn width() -> Width;
+
+    /// The units of a text.
+    fn units(alloc: Self::Alloc, text: &str) -> Result<Vec<u32, Self::Alloc>>;
+
+    /// The automaton of these patterns as this way builds it.
+    fn built(
+        alloc: Self::Alloc,
+        way: Way,
+        kind: MatchKind,
+        patvals: &[(&str, u32)],
+    ) -> Result<Self>;
+
+    /// The automaton of `PATVALS`.
+    fn built_plainly(alloc: Self::Alloc, how: Plainly) -> Result<Self>;
+
+    /// The automaton written and read back with a byte 42 behind it, by the read that checks or the
+    /// other, and whether that byte alone is left.
+    fn read_back(&self, alloc: Self::Alloc, is_checked: bool) -> Result<(Self, bool)>;
+
+    /// The automaton that these bytes hold, by the read that checks.
+    fn read(alloc: Self::Alloc, bytes: &[u8]) -> Result<Self>;
+
+    /// Its bytes.
+    fn written(&self, alloc: Self::Alloc) -> Result<Vec<u8, Self::Alloc>>;
+
+    /// A clone.
+    fn cloned(&self) -> Result<Self>;
+
+    /// Caches the depths, if it is for the standard searches.
+    fn cache(&mut self) -> Result<()>;
+
+    /// The patterns that it lists.
+    fn listed(&self, alloc: Self::Alloc) -> Result<Listed<Self::Alloc>>;
+
+    /// Its kind of searches, and whether they disregard the case of ASCII letters.
+    fn kind(&self) -> (MatchKind, bool);
+
+    /// How many states it has.
+    fn count_states(&self) -> usize;
+
+    /// The first match by its kind in a text, and whether there is one.
+    fn first(&self, text: &str) -> (Option<Match<u32>>, bool);
+
+    /// Whether each form of a search finds just these matches with rows of its states. Not so where there
+    /// is no room for rows.
+    fn finds_with_rows(
+        &self,
+        alloc: Self::Alloc,
+        search: Search,
+        text: &str,
+        expected: &[Found],
+    ) -> Result<bool>;
+
+    /// The text's bytes with a dash for each match of value 0, and nothing for one of value 1.
+    fn replaced(&self, alloc: Self::Alloc, text: &str) -> Result<Vec<u8, Self::Alloc>>;
+
+    /// The same, written.
+    fn replaces_into<W: Write>(&self, text: &str, out: &mut W) -> io::Result<()>;
 }
 
-/// The same without regard to the case of ASCII letters, with a filter if it is wanted.
-fn bytewise_folding(
-    alloc: Global,
-    kind: MatchKind,
-    patvals: &[(&[u8], u32)],
-    filtered: bool,
-) -> Result<Bytewise<Global>>
-    ensures { IfOk result (λ a. a.parts.kind ≡ kind) }
-{
-    DoubleArrayAhoCorasickBuilder::new()
-        .match_kind(kind)
-        .ascii_case_insensitive(true)
-        .use_prefilter(filtered)
-        .build_with_values(alloc, patvals.iter().copied())
-}
-
-/// An automaton written and read back with a byte 42 behind it, and whether that byte alone is left.
-pub fn read_back<V: Serializable + Copy, A: Allocator + Copy>(
-    alloc: A,
-    automaton: &DoubleArrayAhoCorasick<V, A>,
-) -> Result<(DoubleArrayAhoCorasick<V, A>, bool)>
-    ensures { IfOk result (λ r. r.0.parts ≡ automaton.now.parts) }
-{
-    let mut bytes = automaton.serialize(alloc)?;
-    bytes.push(42)?;
-    let (read, rest) = DoubleArrayAhoCorasick::deserialize_unchecked(alloc, &bytes)?;
-    let is_left = matches!(rest, [42]);
-    Ok((read, is_left))
-}
-
-/// The same as [`read_back`] by the read that checks.
-pub fn read_checked<V: Serializable + Copy, A: Allocator + Copy>(
-    alloc: A,
-    automaton: &DoubleArrayAhoCorasick<V, A>,
-) -> Result<(DoubleArrayAhoCorasick<V, A>, bool)>
-    ensures { IfOk result (λ r. r.0.parts ≡ automaton.now.parts) }
-{
-    let mut bytes = automaton.serialize(alloc)?;
-    bytes.push(42)?;
-    let (read, rest) = DoubleArrayAhoCorasick::deserialize(alloc, &bytes)?;
-    let is_left = matches!(rest, [42]);
-    Ok((read, is_left))
-}
-
-/// An automaton over bytes that comes about this way.
-pub fn bytewise_by(
-    alloc: Global,
-    way: Way,
-    kind: MatchKind,
-    patvals: &[(&[u8], u32)],
-) -> Result<Bytewise<Global>>
-    ensures { IfOk result (λ a. a.parts.kind ≡ kind) }
-{
-    match way {
-        Way::Built => bytewise(alloc, kind, patvals),
-        Way::ByCorpus => bytewise_by_corpus(alloc, kind, patvals, &[b"ariaaria", b"abcd"]),
-        Way::Unfiltered => bytewise_unfiltered(alloc, kind, patvals, &[]),
-        Way::UnfilteredByCorpus => bytewise_unfiltered(alloc, kind, patvals, &[b"ariaaria"]),
-        Way::ReadBack => Ok(read_checked(alloc, &bytewise(alloc, kind, patvals)?)?.0),
-        Way::Folding => bytewise_folding(alloc, kind, patvals, true),
-        Way::FoldingUnfiltered => bytewise_folding(alloc, kind, patvals, false),
-        Way::FoldingReadBack => {
-            let automaton = bytewise_folding(alloc, kind, patvals, true)?;
-            Ok(read_checked(alloc, &automaton)?.0)
-        }
-    }
-}
-
-/// An automaton over characters.
-pub fn charwise<A: Allocator + Copy>(
-    alloc: A,
-    kind: MatchKind,
-    patvals: &[(&str, u32)],
-) -> Result<Charwise<A>>
-    ensures { IfOk result (λ a. a.parts.kind ≡ kind) }
-{
-    CharwiseDoubleArrayAhoCorasickBuilder::new()
-        .match_kind(kind)
-        .build_with_values(alloc, patvals.iter().copied())
-}
-
-/// The same, laid out by these documents.
-pub fn charwise_by_corpus<A: Allocator + Copy>(
-    alloc: A,
-    kind: MatchKind,
-    patvals: &[(&str, u32)],
-    documents: &[&str],
-) -> Result<Charwise<A>>
-    ensures { IfOk result (λ a. a.parts.kind ≡ kind) }
-{
-    CharwiseDoubleArrayAhoCorasickBuilder::new()
-        .match_kind(kind)
-        .corpus(alloc, documents.iter().copied())?
-        .build_with_values(alloc, patvals.iter().copied())
-}
-
-/// The same without a filter, laid out by these documents if there are any.
-fn charwise_unfiltered(
-    alloc: Global,
-    kind: MatchKind,
-    patvals: &[(&str, u32)],
-    documents: &[&str],
-) -> Result<Charwise<Global>>
-    ensures { IfOk result (λ a. a.parts.kind ≡ kind) }
-{
-    let mut builder = CharwiseDoubleArrayAhoCorasickBuilder::new().match_kind(kind);
-    if !documents.is_empty() {
-        builder = builder.corpus(alloc, documents.iter().copied())?;
-    }
-    builder
-        .use_prefilter(false)
-        .build_with_values(alloc, patvals.iter().copied())
-}
-
-/// The same without regard to the case of ASCII letters, with a filter if it is wanted.
-fn charwise_folding(
-    alloc: Global,
-    kind: MatchKind,
-    patvals: &[(&str, u32)],
-    filtered: bool,
-) -> Result<Charwise<Global>>
-    ensures { IfOk result (λ a. a.parts.kind ≡ kind) }
-{
-    CharwiseDoubleArrayAhoCorasickBuilder::new()
-        .match_kind(kind)
-        .ascii_case_insensitive(true)
-        .use_prefilter(filtered)
-        .build_with_values(alloc, patvals.iter().copied())
-}
-
-/// The same as [`read_back`] over characters.
-pub fn read_back_charwise<V: Serializable + Copy, A: Allocator + Copy>(
-    alloc: A,
-    automaton: &CharwiseDoubleArrayAhoCorasick<V, A>,
-) -> Result<(CharwiseDoubleArrayAhoCorasick<V, A>, bool)>
-    ensures { IfOk result (λ r. r.0.parts ≡ automaton.now.parts) }
-{
-    let mut bytes = automaton.serialize(alloc)?;
-    bytes.push(42)?;
-    let (read, rest) = CharwiseDoubleArrayAhoCorasick::deserialize_unchecked(alloc, &bytes)?;
-    let is_left = matches!(rest, [42]);
-    Ok((read, is_left))
-}
-
-/// The same as [`read_checked`] over characters.
-pub fn read_checked_charwise<V: Serializable + Copy, A: Allocator + Copy>(
-    alloc: A,
-    automaton: &CharwiseDoubleArrayAhoCorasick<V, A>,
-) -> Result<(CharwiseDoubleArrayAhoCorasick<V, A>, bool)>
-    ensures { IfOk result (λ r. r.0.parts ≡ automaton.now.parts) }
-{
-    let mut bytes = automaton.serialize(alloc)?;
-    bytes.push(42)?;
-    let (read, rest) = CharwiseDoubleArrayAhoCorasick::deserialize(alloc, &bytes)?;
-    let is_left = matches!(rest, [42]);
-    Ok((read, is_left))
-}
-
-/// An automaton over characters that comes about this way.
-pub fn charwise_by(
-    alloc: Global,
+/// The automaton of these patterns that comes about this way.
+pub fn made<S: Automaton>(
+    alloc: S::Alloc,
     way: Way,
     kind: MatchKind,
     patvals: &[(&str, u32)],
-) -> Result<Charwise<Global>>
-    ensures { IfOk result (λ a. a.parts.kind ≡ kind) }
-{
-    match way {
-        Way::Built => charwise(alloc, kind, patvals),
-        Way::ByCorpus => charwise_by_corpus(alloc, kind, patvals, &["世界中に", "abcd"]),
-        Way::Unfiltered => charwise_unfiltered(alloc, kind, patvals, &[]),
-        Way::UnfilteredByCorpus => charwise_unfiltered(alloc, kind, patvals, &["世界中に"]),
-        Way::ReadBack => Ok(read_checked_charwise(alloc, &charwise(alloc, kind, patvals)?)?.0),
-        Way::Folding => charwise_folding(alloc, kind, patvals, true),
-        Way::FoldingUnfiltered => charwise_folding(alloc, kind, patvals, false),
-        Way::FoldingReadBack => {
-            let automaton = charwise_folding(alloc, kind, patvals, true)?;
-            Ok(read_checked_charwise(alloc, &automaton)?.0)
-        }
+) -> Result<S> {
+    let automaton = S::built(alloc, way, kind, patvals)?;
+    if way.read == Read::No {
+        return Ok(automaton);
     }
+    let (read, _is_left) = automaton.read_back(alloc, way.read == Read::Checked)?;
+    Ok(read)
 }

@@ -1,188 +1,275 @@
-//! The worked rows over bytes, and how far a search reads a source.
+//! The automaton over bytes, as it is and with rows of its states.
 
-ghost use Rattle.std.specs.Prelude.{◌≡◌, ◌≢◌};
-ghost use Rattle.daachorse_model.specs.declared.MatchKind.TheVariants.{Standard};
-
-use crate::automata::{Bytewise, bytewise, bytewise_by, in_bytes};
-use crate::expect;
+use crate::automata::{Automaton, Bytewise, Listed, PATVALS, Plainly, Searched, finds};
 use crate::finding::{Found, are, are_found, are_found_overlapping, gives, gives_leftmost};
-use crate::rows::{FOLDED_ROWS, FOLDING_WAYS, ROWS, Row, Search, WAYS, Way};
-use daachorse::{MatchKind, Result};
-use std::alloc::Global;
-use std::test::Fail;
+use crate::replaced::instead;
+use crate::rows::{Search, Way};
+use daachorse::bytewise::Accelerated;
+use daachorse::{DoubleArrayAhoCorasick, DoubleArrayAhoCorasickBuilder, Match, MatchKind, Result};
+use daachorse_model::slow::Width;
+use std::alloc::{AllocError, Allocator};
+use std::io::{self, Write};
 
-fn overlapping(automaton: &Bytewise<Global>, haystack: &[u8], expected: &[Found]) -> bool
-    requires { automaton.now.parts.kind ≡ Standard }
-{
-    gives(automaton.find_overlapping_iter(haystack), expected)
-}
+impl<A: Allocator + Copy> Searched for Bytewise<A> {
+    type Alloc = A;
 
-fn overlapping_of_source(automaton: &Bytewise<Global>, haystack: &[u8], expected: &[Found]) -> bool
-    requires { automaton.now.parts.kind ≡ Standard }
-{
-    let source = haystack.iter().copied();
-    are(automaton.find_overlapping_iter_from_iter(source), expected)
-}
-
-fn overlapping_by_steps(automaton: &Bytewise<Global>, haystack: &[u8], expected: &[Found]) -> bool
-    requires { automaton.now.parts.kind ≡ Standard }
-{
-    let mut stepper = automaton.find_overlapping_stepper();
-    are_found_overlapping(&mut stepper, haystack, expected)
-}
-
-fn no_suffix(automaton: &Bytewise<Global>, haystack: &[u8], expected: &[Found]) -> bool
-    requires { automaton.now.parts.kind ≡ Standard }
-{
-    gives(
-        automaton.find_overlapping_no_suffix_iter(haystack),
-        expected,
-    )
-}
-
-fn no_suffix_of_source(automaton: &Bytewise<Global>, haystack: &[u8], expected: &[Found]) -> bool
-    requires { automaton.now.parts.kind ≡ Standard }
-{
-    let source = haystack.iter().copied();
-    are(
-        automaton.find_overlapping_no_suffix_iter_from_iter(source),
-        expected,
-    )
-}
-
-fn standard(automaton: &Bytewise<Global>, haystack: &[u8], expected: &[Found]) -> bool
-    requires { automaton.now.parts.kind ≡ Standard }
-{
-    gives(automaton.find_iter(haystack), expected)
-}
-
-fn standard_of_source(automaton: &Bytewise<Global>, haystack: &[u8], expected: &[Found]) -> bool
-    requires { automaton.now.parts.kind ≡ Standard }
-{
-    let source = haystack.iter().copied();
-    are(automaton.find_iter_from_iter(source), expected)
-}
-
-fn standard_by_steps(automaton: &Bytewise<Global>, haystack: &[u8], expected: &[Found]) -> bool
-    requires { automaton.now.parts.kind ≡ Standard }
-{
-    let mut stepper = automaton.find_stepper();
-    are_found(&mut stepper, haystack, expected)
-}
-
-fn leftmost(automaton: &Bytewise<Global>, haystack: &[u8], expected: &[Found]) -> bool
-    requires { automaton.now.parts.kind ≢ Standard }
-{
-    gives_leftmost(automaton.leftmost_find_iter(haystack), expected)
-}
-
-/// Whether the search in a slice finds just these matches.
-pub fn finds_in_slice(
-    automaton: &Bytewise<Global>,
-    search: Search,
-    haystack: &[u8],
-    expected: &[Found],
-) -> bool {
-    if !automaton.match_kind().is_standard() {
-        return leftmost(automaton, haystack, expected);
-    }
-    match search {
-        Search::Overlapping => overlapping(automaton, haystack, expected),
-        Search::NoSuffix => no_suffix(automaton, haystack, expected),
-        Search::Standard => standard(automaton, haystack, expected),
-        Search::Leftmost(_) => false,
-    }
-}
-
-/// Whether each form of the search that takes bytes one by one finds just these matches.
-pub fn finds_by_units(
-    automaton: &Bytewise<Global>,
-    search: Search,
-    haystack: &[u8],
-    expected: &[Found],
-) -> bool {
-    if !automaton.match_kind().is_standard() {
-        return true;
-    }
-    match search {
-        Search::Overlapping => {
-            overlapping_of_source(automaton, haystack, expected)
-                && overlapping_by_steps(automaton, haystack, expected)
+    fn finds_in_slice(&self, search: Search, text: &str, expected: &[Found]) -> bool {
+        let haystack = text.as_bytes();
+        if !self.match_kind().is_standard() {
+            return gives_leftmost(self.leftmost_find_iter(haystack), expected);
         }
-        Search::NoSuffix => no_suffix_of_source(automaton, haystack, expected),
-        Search::Standard => {
-            standard_of_source(automaton, haystack, expected)
-                && standard_by_steps(automaton, haystack, expected)
-        }
-        Search::Leftmost(_) => false,
-    }
-}
-
-/// Whether a row holds of an automaton that comes about this way.
-fn holds(alloc: Global, way: Way, row: &Row) -> Result<bool> {
-    let (_, search, patvals, haystack, expected) = *row;
-    let patvals = in_bytes(alloc, patvals)?;
-    let automaton = bytewise_by(alloc, way, search.kind(), &patvals)?;
-    let is_kind = automaton.match_kind() == search.kind();
-    let haystack = haystack.as_bytes();
-    Ok(
-        is_kind
-            && finds_in_slice(&automaton, search, haystack, expected)
-            && finds_by_units(&automaton, search, haystack, expected),
-    )
-}
-
-/// Whether a row holds in each of these ways.
-fn holds_in_each(alloc: Global, ways: &[Way], row: &Row) -> Result<bool> {
-    for way in ways {
-        if !holds(alloc, *way, row)? {
-            return Ok(false);
+        match search {
+            Search::Overlapping => gives(self.find_overlapping_iter(haystack), expected),
+            Search::NoSuffix => gives(self.find_overlapping_no_suffix_iter(haystack), expected),
+            Search::Standard => gives(self.find_iter(haystack), expected),
+            Search::Leftmost(_) => false,
         }
     }
-    Ok(true)
-}
 
-#[test]
-fn rows_hold_without_regard_to_case(rt: HostRuntime) -> Result<(), Fail> {
-    for row in FOLDED_ROWS {
-        expect(&rt, holds_in_each(rt.alloc(), &FOLDING_WAYS, row)?, row.0);
+    fn finds_in_source(&self, search: Search, text: &str, expected: &[Found]) -> bool {
+        if !self.match_kind().is_standard() {
+            return true;
+        }
+        let source = text.as_bytes().iter().copied();
+        match search {
+            Search::Overlapping => are(self.find_overlapping_iter_from_iter(source), expected),
+            Search::NoSuffix => are(
+                self.find_overlapping_no_suffix_iter_from_iter(source),
+                expected,
+            ),
+            Search::Standard => are(self.find_iter_from_iter(source), expected),
+            Search::Leftmost(_) => false,
+        }
     }
-    Ok(())
-}
 
-#[test]
-fn rows_hold_over_bytes(rt: HostRuntime) -> Result<(), Fail> {
-    for row in ROWS {
-        expect(&rt, holds_in_each(rt.alloc(), &WAYS, row)?, row.0);
+    fn finds_by_steps(
+        &self,
+        _alloc: A,
+        search: Search,
+        text: &str,
+        expected: &[Found],
+        depths: &[u32],
+    ) -> Result<bool> {
+        if !self.match_kind().is_standard() {
+            return Ok(true);
+        }
+        let units = text.as_bytes();
+        match search {
+            Search::Overlapping => {
+                let mut stepper = self.find_overlapping_stepper();
+                Ok(are_found_overlapping(&mut stepper, units, expected, depths))
+            }
+            Search::Standard => {
+                let mut stepper = self.find_stepper();
+                Ok(are_found(&mut stepper, units, expected, depths))
+            }
+            _ => Ok(true),
+        }
     }
-    Ok(())
 }
 
-/// How many of the bytes are left to a source when the search has found its first match.
-fn left_by_standard(automaton: &Bytewise<Global>, bytes: &[u8]) -> usize
-    requires { automaton.now.parts.kind ≡ Standard }
-{
-    let mut source = bytes.iter().copied();
-    let _first = automaton.find_iter_from_iter(&mut source).next();
-    source.len()
+impl<A: Allocator + Copy> Searched for Accelerated<'_, u32, A> {
+    type Alloc = A;
+
+    fn finds_in_slice(&self, search: Search, text: &str, expected: &[Found]) -> bool {
+        let haystack = text.as_bytes();
+        if !self.automaton().match_kind().is_standard() {
+            return gives_leftmost(self.leftmost_find_iter(haystack), expected);
+        }
+        match search {
+            Search::Overlapping => gives(self.find_overlapping_iter(haystack), expected),
+            Search::NoSuffix => gives(self.find_overlapping_no_suffix_iter(haystack), expected),
+            Search::Standard => gives(self.find_iter(haystack), expected),
+            Search::Leftmost(_) => false,
+        }
+    }
+
+    fn finds_in_source(&self, search: Search, text: &str, expected: &[Found]) -> bool {
+        if !self.automaton().match_kind().is_standard() {
+            return true;
+        }
+        let source = text.as_bytes().iter().copied();
+        match search {
+            Search::Overlapping => are(self.find_overlapping_iter_from_iter(source), expected),
+            Search::NoSuffix => are(
+                self.find_overlapping_no_suffix_iter_from_iter(source),
+                expected,
+            ),
+            Search::Standard => are(self.find_iter_from_iter(source), expected),
+            Search::Leftmost(_) => false,
+        }
+    }
+
+    fn finds_by_steps(
+        &self,
+        _alloc: A,
+        search: Search,
+        text: &str,
+        expected: &[Found],
+        depths: &[u32],
+    ) -> Result<bool> {
+        if !self.automaton().match_kind().is_standard() {
+            return Ok(true);
+        }
+        let units = text.as_bytes();
+        match search {
+            Search::Overlapping => {
+                let mut stepper = self.find_overlapping_stepper();
+                Ok(are_found_overlapping(&mut stepper, units, expected, depths))
+            }
+            Search::Standard => {
+                let mut stepper = self.find_stepper();
+                Ok(are_found(&mut stepper, units, expected, depths))
+            }
+            _ => Ok(true),
+        }
+    }
 }
 
-fn left_by_overlapping(automaton: &Bytewise<Global>, bytes: &[u8]) -> usize
-    requires { automaton.now.parts.kind ≡ Standard }
-{
-    let mut source = bytes.iter().copied();
-    let _first = automaton
-        .find_overlapping_iter_from_iter(&mut source)
-        .next();
-    source.len()
+/// The texts as bytes, with their values.
+pub fn in_bytes<'a, A: Allocator>(
+    alloc: A,
+    patvals: &[(&'a str, u32)],
+) -> Result<Vec<(&'a [u8], u32), A>, AllocError> {
+    let mut all = Vec::new(alloc);
+    for (text, value) in patvals {
+        all.push((text.as_bytes(), *value))?;
+    }
+    Ok(all)
 }
 
-#[test]
-fn a_source_is_read_to_the_end_of_the_match(rt: HostRuntime) -> Result<(), Fail> {
-    let automaton = bytewise(rt.alloc(), MatchKind::Standard, &[(b"ab", 0)])?;
-    let left = left_by_standard(&automaton, b"abab");
-    expect(&rt, left == 2, "without overlaps");
-    let left = left_by_overlapping(&automaton, b"abab");
-    expect(&rt, left == 2, "all matches");
-    Ok(())
+/// The builder for this way.
+fn builder<A: Allocator + Copy>(
+    alloc: A,
+    way: Way,
+    kind: MatchKind,
+) -> Result<DoubleArrayAhoCorasickBuilder<A>> {
+    let builder = DoubleArrayAhoCorasickBuilder::new()
+        .match_kind(kind)
+        .use_prefilter(way.filtered)
+        .ascii_case_insensitive(way.folds);
+    if way.by_corpus {
+        return builder.corpus(alloc, [b"ariaaria".as_slice(), b"abcd"]);
+    }
+    Ok(builder)
+}
+
+/// The numbers of bytes.
+fn numbers<A: Allocator>(alloc: A, bytes: &[u8]) -> Result<Vec<u32, A>> {
+    let mut numbers = Vec::new(alloc);
+    for byte in bytes {
+        numbers.push(u32::from(*byte))?;
+    }
+    Ok(numbers)
+}
+
+/// Appends a pattern, if it came.
+fn push<A: Allocator + Copy>(
+    patterns: &mut Listed<A>,
+    item: Result<(Vec<u8, A>, u32)>,
+) -> Result<()> {
+    let (pattern, value) = item?;
+    let units = numbers(*patterns.allocator(), &pattern)?;
+    Ok(patterns.push((units, value))?)
+}
+
+const PATTERNS: [&[u8]; 3] = [b"bcd", b"abc", b"ab"];
+
+impl<A: Allocator + Copy> Automaton for Bytewise<A> {
+    fn width() -> Width {
+        Width::Bytes
+    }
+
+    fn units(alloc: A, text: &str) -> Result<Vec<u32, A>> {
+        numbers(alloc, text.as_bytes())
+    }
+
+    fn built(alloc: A, way: Way, kind: MatchKind, patvals: &[(&str, u32)]) -> Result<Self> {
+        let patvals = in_bytes(alloc, patvals)?;
+        builder(alloc, way, kind)?.build_with_values(alloc, patvals.iter().copied())
+    }
+
+    fn built_plainly(alloc: A, how: Plainly) -> Result<Self> {
+        match how {
+            Plainly::New => DoubleArrayAhoCorasick::new(alloc, PATTERNS),
+            Plainly::WithValues => {
+                let patvals = in_bytes(alloc, &PATVALS)?;
+                DoubleArrayAhoCorasick::with_values(alloc, patvals.iter().copied())
+            }
+            Plainly::Build => DoubleArrayAhoCorasickBuilder::default().build(alloc, PATTERNS),
+        }
+    }
+
+    fn read_back(&self, alloc: A, is_checked: bool) -> Result<(Self, bool)> {
+        let mut bytes = self.serialize(alloc)?;
+        bytes.push(42)?;
+        let (read, rest) = if is_checked {
+            DoubleArrayAhoCorasick::deserialize(alloc, &bytes)?
+        } else {
+            DoubleArrayAhoCorasick::deserialize_unchecked(alloc, &bytes)?
+        };
+        let is_left = matches!(rest, [42]);
+        Ok((read, is_left))
+    }
+
+    fn read(alloc: A, bytes: &[u8]) -> Result<Self> {
+        Ok(DoubleArrayAhoCorasick::deserialize(alloc, bytes)?.0)
+    }
+
+    fn written(&self, alloc: A) -> Result<Vec<u8, A>> {
+        self.serialize(alloc)
+    }
+
+    fn cloned(&self) -> Result<Self> {
+        self.clone()
+    }
+
+    fn cache(&mut self) -> Result<()> {
+        if self.match_kind().is_standard() {
+            return self.cache_depths();
+        }
+        Ok(())
+    }
+
+    fn listed(&self, alloc: A) -> Result<Listed<A>> {
+        let mut patterns = Vec::new(alloc);
+        for item in self.iter(alloc)? {
+            push(&mut patterns, item)?;
+        }
+        Ok(patterns)
+    }
+
+    fn kind(&self) -> (MatchKind, bool) {
+        (self.match_kind(), self.is_ascii_case_insensitive())
+    }
+
+    fn count_states(&self) -> usize {
+        self.num_states()
+    }
+
+    fn first(&self, text: &str) -> (Option<Match<u32>>, bool) {
+        let haystack = text.as_bytes();
+        (self.find(haystack), self.is_match(haystack))
+    }
+
+    fn finds_with_rows(
+        &self,
+        alloc: A,
+        search: Search,
+        text: &str,
+        expected: &[Found],
+    ) -> Result<bool> {
+        match self.accelerate(alloc)? {
+            Some(accelerated) => finds(alloc, &accelerated, search, text, expected),
+            None => Ok(false),
+        }
+    }
+
+    fn replaced(&self, alloc: A, text: &str) -> Result<Vec<u8, A>> {
+        self.replace_all(alloc, text.as_bytes(), instead)
+    }
+
+    fn replaces_into<W: Write>(&self, text: &str, out: &mut W) -> io::Result<()> {
+        self.replace_all_into(text.as_bytes(), instead, out)
+    }
 }

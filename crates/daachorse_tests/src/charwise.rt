@@ -1,195 +1,269 @@
-//! The worked rows over characters, and the turns of a whole search.
+//! The automaton over characters, as it is and with rows of its states.
 
-ghost use Rattle.std.specs.Prelude.{◌≡◌, ◌≢◌, ◌*◌, ◌≤◌, length};
-ghost use Rattle.std.specs.Str.{chars};
-ghost use Rattle.daachorse_model.specs.declared.MatchKind.TheVariants.{Standard};
-
-use crate::automata::{Charwise, charwise, charwise_by};
-use crate::expect;
+use crate::automata::{Automaton, Charwise, Listed, PATTERNS, PATVALS, Plainly, Searched, finds};
 use crate::finding::{Found, are, are_found, are_found_overlapping, gives, gives_leftmost};
-use crate::rows::{FOLDED_ROWS, FOLDING_WAYS, ROWS, ROWS_OF_CHARACTERS, Row, Search, WAYS, Way};
-use daachorse::charwise::iter::FindOverlappingSliceIterator;
-use daachorse::{MatchKind, Result};
-use std::alloc::Global;
-use std::test::Fail;
+use crate::replaced::instead_of_text;
+use crate::rows::{Search, Way};
+use daachorse::charwise::Accelerated;
+use daachorse::{
+    CharwiseDoubleArrayAhoCorasick, CharwiseDoubleArrayAhoCorasickBuilder, Match, MatchKind, Result,
+};
+use daachorse_model::slow::Width;
+use std::alloc::Allocator;
+use std::io::{self, Write};
 
-fn overlapping(automaton: &Charwise<Global>, text: &str, expected: &[Found]) -> bool
-    requires { automaton.now.parts.kind ≡ Standard }
-{
-    gives(automaton.find_overlapping_iter(text), expected)
-}
+impl<A: Allocator + Copy> Searched for Charwise<A> {
+    type Alloc = A;
 
-fn overlapping_of_source(automaton: &Charwise<Global>, text: &str, expected: &[Found]) -> bool
-    requires { automaton.now.parts.kind ≡ Standard }
-{
-    let _len = text.len();
-    are(
-        automaton.find_overlapping_iter_from_iter(text.bytes()),
-        expected,
-    )
-}
-
-fn overlapping_by_steps(automaton: &Charwise<Global>, units: &[char], expected: &[Found]) -> bool
-    requires { automaton.now.parts.kind ≡ Standard }
-{
-    let mut stepper = automaton.find_overlapping_stepper();
-    are_found_overlapping(&mut stepper, units, expected)
-}
-
-fn no_suffix(automaton: &Charwise<Global>, text: &str, expected: &[Found]) -> bool
-    requires { automaton.now.parts.kind ≡ Standard }
-{
-    gives(automaton.find_overlapping_no_suffix_iter(text), expected)
-}
-
-fn no_suffix_of_source(automaton: &Charwise<Global>, text: &str, expected: &[Found]) -> bool
-    requires { automaton.now.parts.kind ≡ Standard }
-{
-    let _len = text.len();
-    are(
-        automaton.find_overlapping_no_suffix_iter_from_iter(text.bytes()),
-        expected,
-    )
-}
-
-fn standard(automaton: &Charwise<Global>, text: &str, expected: &[Found]) -> bool
-    requires { automaton.now.parts.kind ≡ Standard }
-{
-    gives(automaton.find_iter(text), expected)
-}
-
-fn standard_of_source(automaton: &Charwise<Global>, text: &str, expected: &[Found]) -> bool
-    requires { automaton.now.parts.kind ≡ Standard }
-{
-    let _len = text.len();
-    are(automaton.find_iter_from_iter(text.bytes()), expected)
-}
-
-fn standard_by_steps(automaton: &Charwise<Global>, units: &[char], expected: &[Found]) -> bool
-    requires { automaton.now.parts.kind ≡ Standard }
-{
-    let mut stepper = automaton.find_stepper();
-    are_found(&mut stepper, units, expected)
-}
-
-fn leftmost(automaton: &Charwise<Global>, text: &str, expected: &[Found]) -> bool
-    requires { automaton.now.parts.kind ≢ Standard }
-{
-    gives_leftmost(automaton.leftmost_find_iter(text), expected)
-}
-
-/// Whether the search in a text finds just these matches.
-pub fn finds_in_slice(
-    automaton: &Charwise<Global>,
-    search: Search,
-    text: &str,
-    expected: &[Found],
-) -> bool {
-    if !automaton.match_kind().is_standard() {
-        return leftmost(automaton, text, expected);
-    }
-    match search {
-        Search::Overlapping => overlapping(automaton, text, expected),
-        Search::NoSuffix => no_suffix(automaton, text, expected),
-        Search::Standard => standard(automaton, text, expected),
-        Search::Leftmost(_) => false,
-    }
-}
-
-/// Whether each form of the search that takes bytes or characters one by one finds just these matches.
-pub fn finds_by_units(
-    automaton: &Charwise<Global>,
-    search: Search,
-    text: &str,
-    units: &[char],
-    expected: &[Found],
-) -> bool {
-    if !automaton.match_kind().is_standard() {
-        return true;
-    }
-    match search {
-        Search::Overlapping => {
-            overlapping_of_source(automaton, text, expected)
-                && overlapping_by_steps(automaton, units, expected)
+    fn finds_in_slice(&self, search: Search, text: &str, expected: &[Found]) -> bool {
+        if !self.match_kind().is_standard() {
+            return gives_leftmost(self.leftmost_find_iter(text), expected);
         }
-        Search::NoSuffix => no_suffix_of_source(automaton, text, expected),
-        Search::Standard => {
-            standard_of_source(automaton, text, expected)
-                && standard_by_steps(automaton, units, expected)
-        }
-        Search::Leftmost(_) => false,
-    }
-}
-
-/// Whether a row holds of an automaton that comes about this way.
-fn holds(alloc: Global, way: Way, row: &Row) -> Result<bool> {
-    let (_, search, patvals, text, expected) = *row;
-    let automaton = charwise_by(alloc, way, search.kind(), patvals)?;
-    let is_kind = automaton.match_kind() == search.kind();
-    let units: Vec<char> = text.chars().collect(alloc)?;
-    Ok(
-        is_kind
-            && finds_in_slice(&automaton, search, text, expected)
-            && finds_by_units(&automaton, search, text, &units, expected),
-    )
-}
-
-/// Whether a row holds in each of these ways.
-fn holds_in_each(alloc: Global, ways: &[Way], row: &Row) -> Result<bool> {
-    for way in ways {
-        if !holds(alloc, *way, row)? {
-            return Ok(false);
+        match search {
+            Search::Overlapping => gives(self.find_overlapping_iter(text), expected),
+            Search::NoSuffix => gives(self.find_overlapping_no_suffix_iter(text), expected),
+            Search::Standard => gives(self.find_iter(text), expected),
+            Search::Leftmost(_) => false,
         }
     }
-    Ok(true)
-}
 
-#[test]
-fn rows_hold_without_regard_to_case(rt: HostRuntime) -> Result<(), Fail> {
-    for row in FOLDED_ROWS {
-        expect(&rt, holds_in_each(rt.alloc(), &FOLDING_WAYS, row)?, row.0);
+    fn finds_in_source(&self, search: Search, text: &str, expected: &[Found]) -> bool {
+        if !self.match_kind().is_standard() {
+            return true;
+        }
+        let _len = text.len();
+        let source = text.bytes();
+        match search {
+            Search::Overlapping => are(self.find_overlapping_iter_from_iter(source), expected),
+            Search::NoSuffix => are(
+                self.find_overlapping_no_suffix_iter_from_iter(source),
+                expected,
+            ),
+            Search::Standard => are(self.find_iter_from_iter(source), expected),
+            Search::Leftmost(_) => false,
+        }
     }
-    Ok(())
-}
 
-#[test]
-fn rows_hold_over_characters(rt: HostRuntime) -> Result<(), Fail> {
-    for row in ROWS {
-        expect(&rt, holds_in_each(rt.alloc(), &WAYS, row)?, row.0);
+    fn finds_by_steps(
+        &self,
+        alloc: A,
+        search: Search,
+        text: &str,
+        expected: &[Found],
+        depths: &[u32],
+    ) -> Result<bool> {
+        if !self.match_kind().is_standard() {
+            return Ok(true);
+        }
+        let units = characters(alloc, text)?;
+        match search {
+            Search::Overlapping => {
+                let mut stepper = self.find_overlapping_stepper();
+                Ok(are_found_overlapping(&mut stepper, &units, expected, depths))
+            }
+            Search::Standard => {
+                let mut stepper = self.find_stepper();
+                Ok(are_found(&mut stepper, &units, expected, depths))
+            }
+            _ => Ok(true),
+        }
     }
-    Ok(())
 }
 
-#[test]
-fn rows_of_characters_hold(rt: HostRuntime) -> Result<(), Fail> {
-    for row in ROWS_OF_CHARACTERS {
-        expect(&rt, holds_in_each(rt.alloc(), &WAYS, row)?, row.0);
+impl<A: Allocator + Copy> Searched for Accelerated<'_, u32, A> {
+    type Alloc = A;
+
+    fn finds_in_slice(&self, search: Search, text: &str, expected: &[Found]) -> bool {
+        if !self.automaton().match_kind().is_standard() {
+            return gives_leftmost(self.leftmost_find_iter(text), expected);
+        }
+        match search {
+            Search::Overlapping => gives(self.find_overlapping_iter(text), expected),
+            Search::NoSuffix => gives(self.find_overlapping_no_suffix_iter(text), expected),
+            Search::Standard => gives(self.find_iter(text), expected),
+            Search::Leftmost(_) => false,
+        }
     }
-    Ok(())
+
+    fn finds_in_source(&self, search: Search, text: &str, expected: &[Found]) -> bool {
+        if !self.automaton().match_kind().is_standard() {
+            return true;
+        }
+        let _len = text.len();
+        let source = text.bytes();
+        match search {
+            Search::Overlapping => are(self.find_overlapping_iter_from_iter(source), expected),
+            Search::NoSuffix => are(
+                self.find_overlapping_no_suffix_iter_from_iter(source),
+                expected,
+            ),
+            Search::Standard => are(self.find_iter_from_iter(source), expected),
+            Search::Leftmost(_) => false,
+        }
+    }
+
+    fn finds_by_steps(
+        &self,
+        alloc: A,
+        search: Search,
+        text: &str,
+        expected: &[Found],
+        depths: &[u32],
+    ) -> Result<bool> {
+        if !self.automaton().match_kind().is_standard() {
+            return Ok(true);
+        }
+        let units = characters(alloc, text)?;
+        match search {
+            Search::Overlapping => {
+                let mut stepper = self.find_overlapping_stepper();
+                Ok(are_found_overlapping(&mut stepper, &units, expected, depths))
+            }
+            Search::Standard => {
+                let mut stepper = self.find_stepper();
+                Ok(are_found(&mut stepper, &units, expected, depths))
+            }
+            _ => Ok(true),
+        }
+    }
 }
 
-/// A whole search, whose turns are at most twice the characters of the text.
-fn run_overlapping<'a>(
-    automaton: &'a Charwise<Global>,
-    text: &'a str,
-) -> FindOverlappingSliceIterator<'a, u32>
-    requires { automaton.now.parts.kind ≡ Standard }
-    ensures { result.turns ≤ 2 * length (chars text.entry.now) }
-{
-    let mut search = automaton.find_overlapping_iter(text);
-    'matches: loop {
-        let Some(_found) = search.next() else {
-            search.turns_are_bounded();
-            return search;
+/// The characters of a text.
+fn characters<A: Allocator>(alloc: A, text: &str) -> Result<Vec<char, A>> {
+    let mut characters = Vec::new(alloc);
+    for character in text.chars() {
+        characters.push(character)?;
+    }
+    Ok(characters)
+}
+
+/// The builder for this way.
+fn builder<A: Allocator + Copy>(
+    alloc: A,
+    way: Way,
+    kind: MatchKind,
+) -> Result<CharwiseDoubleArrayAhoCorasickBuilder<A>> {
+    let builder = CharwiseDoubleArrayAhoCorasickBuilder::new()
+        .match_kind(kind)
+        .use_prefilter(way.filtered)
+        .ascii_case_insensitive(way.folds);
+    if way.by_corpus {
+        return builder.corpus(alloc, ["世界中に", "abcd"]);
+    }
+    Ok(builder)
+}
+
+/// The numbers of the characters of a text.
+fn numbers<A: Allocator>(alloc: A, text: &str) -> Result<Vec<u32, A>> {
+    let mut numbers = Vec::new(alloc);
+    for character in text.chars() {
+        numbers.push(u32::from(character))?;
+    }
+    Ok(numbers)
+}
+
+/// Appends a pattern, if it came.
+fn push<A: Allocator + Copy>(
+    patterns: &mut Listed<A>,
+    item: Result<(String<A>, u32)>,
+) -> Result<()> {
+    let (pattern, value) = item?;
+    let units = numbers(*patterns.allocator(), &pattern)?;
+    Ok(patterns.push((units, value))?)
+}
+
+impl<A: Allocator + Copy> Automaton for Charwise<A> {
+    fn width() -> Width {
+        Width::Chars
+    }
+
+    fn units(alloc: A, text: &str) -> Result<Vec<u32, A>> {
+        numbers(alloc, text)
+    }
+
+    fn built(alloc: A, way: Way, kind: MatchKind, patvals: &[(&str, u32)]) -> Result<Self> {
+        builder(alloc, way, kind)?.build_with_values(alloc, patvals.iter().copied())
+    }
+
+    fn built_plainly(alloc: A, how: Plainly) -> Result<Self> {
+        match how {
+            Plainly::New => CharwiseDoubleArrayAhoCorasick::new(alloc, PATTERNS),
+            Plainly::WithValues => CharwiseDoubleArrayAhoCorasick::with_values(alloc, PATVALS),
+            Plainly::Build => CharwiseDoubleArrayAhoCorasickBuilder::default().build(
+                alloc, PATTERNS,
+            ),
+        }
+    }
+
+    fn read_back(&self, alloc: A, is_checked: bool) -> Result<(Self, bool)> {
+        let mut bytes = self.serialize(alloc)?;
+        bytes.push(42)?;
+        let (read, rest) = if is_checked {
+            CharwiseDoubleArrayAhoCorasick::deserialize(alloc, &bytes)?
+        } else {
+            CharwiseDoubleArrayAhoCorasick::deserialize_unchecked(alloc, &bytes)?
         };
+        let is_left = matches!(rest, [42]);
+        Ok((read, is_left))
     }
-}
 
-#[test]
-fn a_whole_search_passes_the_whole_text(rt: HostRuntime) -> Result<(), Fail> {
-    let patvals = [("世界", 0), ("界", 1)];
-    let automaton = charwise(rt.alloc(), MatchKind::Standard, &patvals)?;
-    let mut over = run_overlapping(&automaton, "全世界");
-    expect(&rt, over.next().is_none(), "the end");
-    Ok(())
+    fn read(alloc: A, bytes: &[u8]) -> Result<Self> {
+        Ok(CharwiseDoubleArrayAhoCorasick::deserialize(alloc, bytes)?.0)
+    }
+
+    fn written(&self, alloc: A) -> Result<Vec<u8, A>> {
+        self.serialize(alloc)
+    }
+
+    fn cloned(&self) -> Result<Self> {
+        self.clone()
+    }
+
+    fn cache(&mut self) -> Result<()> {
+        if self.match_kind().is_standard() {
+            return self.cache_depths();
+        }
+        Ok(())
+    }
+
+    fn listed(&self, alloc: A) -> Result<Listed<A>> {
+        let mut patterns = Vec::new(alloc);
+        for item in self.iter(alloc)? {
+            push(&mut patterns, item)?;
+        }
+        Ok(patterns)
+    }
+
+    fn kind(&self) -> (MatchKind, bool) {
+        (self.match_kind(), self.is_ascii_case_insensitive())
+    }
+
+    fn count_states(&self) -> usize {
+        self.num_states()
+    }
+
+    fn first(&self, text: &str) -> (Option<Match<u32>>, bool) {
+        (self.find(text), self.is_match(text))
+    }
+
+    fn finds_with_rows(
+        &self,
+        alloc: A,
+        search: Search,
+        text: &str,
+        expected: &[Found],
+    ) -> Result<bool> {
+        match self.accelerate(alloc)? {
+            Some(accelerated) => finds(alloc, &accelerated, search, text, expected),
+            None => Ok(false),
+        }
+    }
+
+    fn replaced(&self, alloc: A, text: &str) -> Result<Vec<u8, A>> {
+        Ok(self.replace_all(alloc, text, instead_of_text)?.into_bytes())
+    }
+
+    fn replaces_into<W: Write>(&self, text: &str, out: &mut W) -> io::Result<()> {
+        self.replace_all_into(text, instead_of_text, out)
+    }
 }

@@ -11,58 +11,28 @@ use std::test::Fail;
 type Edges<'a> = EdgeMap<u8, &'a Refusing<Global>>;
 
 #[test]
-fn one_edge_takes_no_memory(rt: HostRuntime) -> Result<(), Fail> {
+fn one_edge_takes_no_memory_and_stays(rt: HostRuntime) -> Result<(), Fail> {
     let heap = Refusing::new(rt.alloc(), 0);
     let mut map = Edges::default();
     map.insert(&heap, b'b', 1)?;
     map.insert(&heap, b'b', 2)?;
     expect(&rt, map.clone()?.get(&b'b') == Some(&2), "the edge");
     expect(&rt, !heap.has_refused(), "no request");
-    Ok(())
-}
-
-#[test]
-fn a_refused_edge_leaves_the_first(rt: HostRuntime) -> Result<(), Fail> {
-    let heap = Refusing::new(rt.alloc(), 0);
-    let mut map = Edges::default();
-    map.insert(&heap, b'b', 2)?;
     expect(&rt, map.insert(&heap, b'a', 3).is_err(), "the second edge");
     expect(&rt, heap.has_refused(), "a request");
     expect(&rt, map.get(&b'a').is_none(), "the second");
-    expect(&rt, map.get(&b'b') == Some(&2), "the first");
     Ok(())
 }
 
-/// Labels, with their places among them.
-const LABELS: [(u8, u32); 12] = [
-    (b't', 0),
-    (b'r', 1),
-    (b'e', 2),
-    (b's', 3),
-    (b'n', 4),
-    (b'f', 5),
-    (b'l', 6),
-    (b'o', 7),
-    (b'u', 8),
-    (b'g', 9),
-    (b'm', 10),
-    (b'j', 11),
-];
-
-/// Whether this label is the one that was refused.
-fn is_refused(refused: Option<u8>, label: u8) -> bool {
-    refused == Some(label)
-}
+/// Labels, not in order. The edge of each has for an id the label's number.
+const LABELS: &[u8] = b"tresnflougmj";
 
 /// Whether these are the edges of the labels but for one.
 fn lists(map: &Edges<'_>, refused: Option<u8>) -> bool {
-    for (label, id) in &LABELS {
-        let wanted = if is_refused(refused, *label) {
-            None
-        } else {
-            Some(id)
-        };
-        if map.get(label) != wanted {
+    for label in LABELS {
+        let id = u32::from(*label);
+        let is_edge = map.get(label) == Some(&id);
+        if is_edge == (refused == Some(*label)) {
             return false;
         }
     }
@@ -72,42 +42,26 @@ fn lists(map: &Edges<'_>, refused: Option<u8>) -> bool {
 /// Inserts the labels in turn. The last that is refused is given.
 fn insert_all<'a>(map: &mut Edges<'a>, heap: &'a Refusing<Global>) -> Option<u8> {
     let mut refused = None;
-    for (label, id) in &LABELS {
-        if map.insert(heap, *label, *id).is_err() {
+    for label in LABELS {
+        if map.insert(heap, *label, u32::from(*label)).is_err() {
             refused = Some(*label);
         }
     }
     refused
 }
 
-/// The edges of the labels, each inserted in turn.
+/// The edges of the labels, each inserted in turn, and a copy of them.
 struct Inserts;
 
 impl Call for Inserts {
     fn answer(&self, heap: &Refusing<Global>) -> Answer {
         let mut map = Edges::default();
         let refused = insert_all(&mut map, heap);
-        match (lists(&map, refused), refused) {
-            (false, _) => Answer::Wrong,
-            (true, None) => Answer::Right,
-            (true, Some(_)) => Answer::Refused,
-        }
-    }
-}
-
-/// A copy of the edges of the labels.
-struct Copies;
-
-impl Call for Copies {
-    fn answer(&self, heap: &Refusing<Global>) -> Answer {
-        let mut map = Edges::default();
-        if insert_all(&mut map, heap).is_some() {
-            return Answer::Refused;
-        }
+        let is_listed = lists(&map, refused);
         match map.clone() {
-            Ok(copy) if lists(&copy, None) => Answer::Right,
-            Err(_) if lists(&map, None) => Answer::Refused,
-            _ => Answer::Wrong,
+            Ok(copy) if !is_listed || !lists(&copy, refused) => Answer::Wrong,
+            Ok(_) if refused.is_none() => Answer::Right,
+            _ => Answer::Refused,
         }
     }
 }
@@ -115,5 +69,17 @@ impl Call for Copies {
 #[test]
 fn each_growth_is_refused_in_turn(rt: HostRuntime) {
     expect(&rt, each_request(rt.alloc(), &Inserts), "the inserts");
-    expect(&rt, each_request(rt.alloc(), &Copies), "the copy");
+}
+
+#[test]
+fn the_chosen_request_alone_is_refused(rt: HostRuntime) {
+    for chosen in 0..4u64 {
+        let heap = Refusing::new(rt.alloc(), chosen);
+        for request in 0..3u64 {
+            let mut list: Vec<u8, &Refusing<Global>> = Vec::new(&heap);
+            let is_refused = list.push(1).is_err();
+            expect(&rt, is_refused == (request == chosen), "a request");
+        }
+        expect(&rt, heap.has_refused() == (chosen < 3), "a refusal");
+    }
 }

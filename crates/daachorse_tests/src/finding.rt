@@ -21,19 +21,26 @@ use std::slice::Iter;
 /// The start, the end and the value of a match.
 pub type Found = (usize, usize, u32);
 
-/// The matches that are still expected, and whether all that came were expected.
+/// The matches and the depths that are still expected, and whether all that came were expected.
 #[derive(Drop)]
 struct Expected<'a> {
     left: Iter<'a, Found>,
+    depths: Iter<'a, u32>,
     holds: bool,
 }
 
 impl<'a> Expected<'a> {
-    fn new(matches: &'a [Found]) -> Self {
+    fn new(matches: &'a [Found], depths: &'a [u32]) -> Self {
         Self {
             left: matches.iter(),
+            depths: depths.iter(),
             holds: true,
         }
+    }
+
+    /// Takes the next depth; there is none where none is left.
+    fn take_depth(&mut self, depth: Option<u32>) {
+        self.holds = self.holds && self.depths.next() == depth.as_ref();
     }
 
     /// Takes the next match, and answers whether it was expected.
@@ -71,7 +78,7 @@ pub fn are<I: Iterator<Item = Match<u32>> + Drop>(matches: I, expected: &[Found]
     requires can { I.can_next matches }
     requires ends { IsFinite (I.remaining matches) }
 {
-    let mut expected = Expected::new(expected);
+    let mut expected = Expected::new(expected, &[]);
     expected.take_all(matches);
     expected.is_met()
 }
@@ -85,7 +92,7 @@ pub fn gives<W: Stepwise<u32>, H: Reread<W::Unit>, F: FoldingFilter<W::Unit, H>>
 where
     W::Unit: AsciiFold,
 {
-    let mut expected = Expected::new(expected);
+    let mut expected = Expected::new(expected, &[]);
     expected.take_all(&mut search);
     search.turns_are_bounded();
     expected.is_met()
@@ -99,29 +106,32 @@ pub fn gives_leftmost<A: Automaton<u32>, H: Reread<A::Unit>, F: FoldingFilter<A:
 where
     A::Unit: AsciiFold,
 {
-    let mut expected = Expected::new(expected);
+    let mut expected = Expected::new(expected, &[]);
     expected.take_all(&mut search);
     search.turns_are_bounded();
     expected.is_met()
 }
 
-/// Whether a stepper that has consumed nothing tells just these matches, before the units and after
-/// each of the first four hundred.
+/// Whether a stepper that has consumed nothing tells just these matches and these depths, before the
+/// units and behind each of the first thousand.
 pub fn are_found<A: Automaton<u32>>(
     stepper: &mut FindStepperAsRead<'_, u32, A>,
     units: &[A::Unit],
     expected: &[Found],
+    depths: &[u32],
 ) -> bool
 where
     A::Unit: AsciiFold,
     requires { stepper.old.read ≡ [] }
 {
-    let mut expected = Expected::new(expected);
+    let mut expected = Expected::new(expected, depths);
+    expected.take_depth(stepper.depth());
     expected.take_all(stepper.matches().into_iter());
-    for place in 0..units.len().min(400) {
+    for place in 0..units.len().min(1000) {
         let unit = units[place];
         unit.in_range();
         stepper.consume(unit);
+        expected.take_depth(stepper.depth());
         expected.take_all(stepper.matches().into_iter());
     }
     stepper.turns_are_bounded();
@@ -133,57 +143,22 @@ pub fn are_found_overlapping<A: Automaton<u32>>(
     stepper: &mut FindOverlappingStepperAsRead<'_, u32, A>,
     units: &[A::Unit],
     expected: &[Found],
+    depths: &[u32],
 ) -> bool
 where
     A::Unit: AsciiFold,
     requires { stepper.old.read ≡ [] }
 {
-    let mut expected = Expected::new(expected);
+    let mut expected = Expected::new(expected, depths);
+    expected.take_depth(stepper.depth());
     expected.take_all(stepper.matches());
-    for place in 0..units.len().min(400) {
+    for place in 0..units.len().min(1000) {
         let unit = units[place];
         unit.in_range();
         stepper.consume(unit);
+        expected.take_depth(stepper.depth());
         expected.take_all(stepper.matches());
     }
     stepper.turns_are_bounded();
     expected.is_met()
-}
-
-/// The depths that a stepper tells, before and after each of three units.
-pub fn depths<A: Automaton<u32>>(
-    stepper: &mut FindStepperAsRead<'_, u32, A>,
-    units: &[A::Unit; 3],
-) -> [Option<u32>; 4]
-where
-    A::Unit: AsciiFold,
-    requires { stepper.old.read ≡ [] }
-{
-    let mut depths = [stepper.depth(); 4];
-    for place in 0..3usize {
-        let unit = units[place];
-        unit.in_range();
-        stepper.consume(unit);
-        depths[place + 1] = stepper.depth();
-    }
-    depths
-}
-
-/// The same of a stepper for all matches.
-pub fn depths_overlapping<A: Automaton<u32>>(
-    stepper: &mut FindOverlappingStepperAsRead<'_, u32, A>,
-    units: &[A::Unit; 3],
-) -> [Option<u32>; 4]
-where
-    A::Unit: AsciiFold,
-    requires { stepper.old.read ≡ [] }
-{
-    let mut depths = [stepper.depth(); 4];
-    for place in 0..3usize {
-        let unit = units[place];
-        unit.in_range();
-        stepper.consume(unit);
-        depths[place + 1] = stepper.depth();
-    }
-    depths
 }

@@ -8,8 +8,6 @@
 #[cfg(test)]
 mod accelerated;
 #[cfg(test)]
-mod accelerated_text;
-#[cfg(test)]
 mod automata;
 #[cfg(test)]
 mod bytewise;
@@ -20,19 +18,9 @@ mod charwise;
 #[cfg(test)]
 mod command;
 #[cfg(test)]
-mod corpus;
-#[cfg(test)]
-mod cuts;
-#[cfg(test)]
-mod depths;
-#[cfg(test)]
-mod drops;
-#[cfg(test)]
 mod edge_map;
 #[cfg(test)]
 mod finding;
-#[cfg(test)]
-mod firsts;
 #[cfg(test)]
 mod listing;
 #[cfg(test)]
@@ -46,9 +34,9 @@ mod requests;
 #[cfg(test)]
 mod rows;
 #[cfg(test)]
-mod steppers;
+mod searches;
 #[cfg(test)]
-mod texts;
+mod steppers;
 #[cfg(test)]
 mod tokens;
 #[cfg(test)]

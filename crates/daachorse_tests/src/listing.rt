@@ -1,148 +1,112 @@
-//! The listing of the patterns, the number of states, equality and hashes.
+//! The listing of the patterns, the number of states, equality and hashes, and the ways to build.
 
-use crate::automata::{Bytewise, Charwise, bytewise, charwise};
+use crate::automata::{Automaton, Bytewise, Charwise, KINDS, PATVALS, Plainly};
+use crate::rows::{BUILT, Patvals, UNFILTERED};
 use crate::{expect, hash_of};
-use daachorse::errors::DaachorseError;
 use daachorse::{MatchKind, Result};
-use std::alloc::{Allocator, Global};
+use std::alloc::Global;
 use std::test::Fail;
 
-/// Whether these are the patterns that an automaton lists. Nothing is listed behind an error.
-pub fn lists<A: Allocator + Copy>(
-    alloc: A,
-    automaton: &Bytewise<A>,
-    expected: &[(&[u8], u32)],
-) -> Result<bool> {
-    let mut patterns = automaton.iter(alloc)?;
-    for (text, number) in expected {
-        match patterns.next() {
-            Some(Ok((pattern, value))) => {
-                if pattern.as_slice() != *text || value != *number {
-                    return Ok(false);
-                }
-            }
-            Some(Err(error)) => return refused(error, patterns.next().is_none()),
-            None => return Ok(false),
-        }
-    }
-    Ok(patterns.next().is_none())
-}
-
-/// The error where it was the last of a listing.
-fn refused(error: DaachorseError, is_last: bool) -> Result<bool> {
-    if is_last { Err(error) } else { Ok(false) }
-}
-
-/// The same as [`lists`] over characters.
-pub fn lists_texts<A: Allocator + Copy>(
-    alloc: A,
-    automaton: &Charwise<A>,
+/// Whether these are the patterns that an automaton lists.
+pub fn lists<S: Automaton>(
+    alloc: S::Alloc,
+    automaton: &S,
     expected: &[(&str, u32)],
 ) -> Result<bool> {
-    let mut patterns = automaton.iter(alloc)?;
-    for (text, number) in expected {
-        match patterns.next() {
-            Some(Ok((pattern, value))) => {
-                if pattern.as_str() != *text || value != *number {
-                    return Ok(false);
-                }
-            }
-            Some(Err(error)) => return refused(error, patterns.next().is_none()),
-            None => return Ok(false),
+    let patterns = automaton.listed(alloc)?;
+    for ((pattern, value), (text, number)) in patterns.iter().zip(expected) {
+        if *pattern != S::units(alloc, text)? || *value != *number {
+            return Ok(false);
         }
     }
-    Ok(patterns.next().is_none())
+    Ok(patterns.len() == expected.len())
 }
 
-/// Patterns of bytes with their values.
-type Patvals = &'static [(&'static [u8], u32)];
-
-/// A kind, patterns, the listing of them, and the number of states.
-type Row = (MatchKind, Patvals, Patvals, usize);
+/// A kind, patterns, the listing of them, and the numbers of states over bytes and over characters.
+type Row = (MatchKind, Patvals, Patvals, usize, usize);
 
 const ROWS: &[Row] = &[
     (
         MatchKind::Standard,
-        &[(b"\xff", 0), (b"a\0", 1), (b"\0", 2), (b"\0\xff", 3)],
-        &[(b"\0", 2), (b"\0\xff", 3), (b"a\0", 1), (b"\xff", 0)],
+        &[("é", 0), ("a\0", 1), ("\0", 2), ("\0é", 3)],
+        &[("\0", 2), ("\0é", 3), ("a\0", 1), ("é", 0)],
+        8,
         6,
     ),
     (
         MatchKind::Standard,
-        &[(b"ab", 0), (b"a", 1), (b"ab", 2)],
-        &[(b"a", 1), (b"ab", 0), (b"ab", 2)],
+        &[("ab", 0), ("a", 1), ("ab", 2)],
+        &[("a", 1), ("ab", 0), ("ab", 2)],
+        3,
+        3,
+    ),
+    (
+        MatchKind::Standard,
+        &[("ab", 0), ("a", 1)],
+        &[("a", 1), ("ab", 0)],
+        3,
         3,
     ),
     (
         MatchKind::LeftmostFirst,
-        &[(b"ab", 0), (b"a", 1), (b"abcd", 2)],
-        &[(b"a", 1), (b"ab", 0)],
+        &[("ab", 0), ("a", 1), ("abcd", 2)],
+        &[("a", 1), ("ab", 0)],
+        3,
         3,
     ),
     (
         MatchKind::LeftmostLongest,
-        &[(b"b", 7), (b"", 8)],
-        &[(b"", 8), (b"b", 7)],
+        &[("b", 7), ("", 8)],
+        &[("", 8), ("b", 7)],
+        2,
         2,
     ),
     (
         MatchKind::Standard,
-        &[(b"abba", 0), (b"baaba", 1), (b"ababa", 2)],
-        &[(b"ababa", 2), (b"abba", 0), (b"baaba", 1)],
+        &[("abba", 0), ("baaba", 1), ("ababa", 2)],
+        &[("ababa", 2), ("abba", 0), ("baaba", 1)],
+        13,
         13,
     ),
-    (MatchKind::Standard, &[], &[], 1),
-    (MatchKind::LeftmostLongest, &[], &[], 1),
+    (MatchKind::LeftmostLongest, &[], &[], 1, 1),
+    (
+        MatchKind::Standard,
+        &[("世界", 0), ("界", 1)],
+        &[("世界", 0), ("界", 1)],
+        10,
+        4,
+    ),
+    (
+        MatchKind::Standard,
+        &[("世界", 0), ("に", 1), ("世界", 2), ("ab", 3)],
+        &[("ab", 3), ("に", 1), ("世界", 0), ("世界", 2)],
+        12,
+        6,
+    ),
 ];
 
-/// Whether a row holds.
-fn holds(alloc: Global, row: &Row) -> Result<bool> {
-    let (kind, patvals, listed, num_states) = *row;
-    let automaton = bytewise(alloc, kind, patvals)?;
-    Ok(automaton.num_states() == num_states && lists(alloc, &automaton, listed)?)
+/// Whether a row holds, of automata with so many states.
+fn holds<S: Automaton>(alloc: S::Alloc, row: &Row, num_states: usize) -> Result<bool> {
+    let (kind, patvals, listed, _, _) = *row;
+    let automaton = S::built(alloc, BUILT, kind, patvals)?;
+    Ok(automaton.count_states() == num_states && lists(alloc, &automaton, listed)?)
 }
 
 #[test]
 fn patterns_are_listed_in_byte_order(rt: HostRuntime) -> Result<(), Fail> {
     for row in ROWS {
-        expect(&rt, holds(rt.alloc(), row)?, "a row");
+        expect(&rt, holds::<Bytewise>(rt.alloc(), row, row.3)?, "bytes");
+        expect(
+            &rt,
+            holds::<Charwise>(rt.alloc(), row, row.4)?,
+            "characters",
+        );
     }
     Ok(())
 }
 
-/// Texts with their values.
-type Texts = &'static [(&'static str, u32)];
-
-/// Texts, the listing of them, and the number of states.
-type TextRow = (Texts, Texts, usize);
-
-const TEXT_ROWS: &[TextRow] = &[
-    (&[], &[], 1),
-    (&[("世界", 0), ("界", 1)], &[("世界", 0), ("界", 1)], 4),
-    (
-        &[("全世界", 0), ("世界", 1), ("に", 2), ("世界", 3), ("ab", 4)],
-        &[("ab", 4), ("に", 2), ("世界", 1), ("世界", 3), ("全世界", 0)],
-        9,
-    ),
-];
-
-/// Whether a row of texts holds.
-fn texts_hold(alloc: Global, row: &TextRow) -> Result<bool> {
-    let (patvals, listed, num_states) = *row;
-    let automaton = charwise(alloc, MatchKind::Standard, patvals)?;
-    Ok(automaton.num_states() == num_states && lists_texts(alloc, &automaton, listed)?)
-}
-
-#[test]
-fn texts_are_listed_in_the_order_of_their_characters(rt: HostRuntime) -> Result<(), Fail> {
-    for row in TEXT_ROWS {
-        expect(&rt, texts_hold(rt.alloc(), row)?, "a row");
-    }
-    Ok(())
-}
-
-/// A kind, texts, and the number of elements.
-type Length = (MatchKind, Texts, usize);
+/// A kind, texts, and the number of elements over characters.
+type Length = (MatchKind, Patvals, usize);
 
 const LENGTHS: &[Length] = &[
     (MatchKind::Standard, &[], 2),
@@ -158,70 +122,71 @@ const LENGTHS: &[Length] = &[
 #[test]
 fn blocks_are_as_long_as_the_alphabet(rt: HostRuntime) -> Result<(), Fail> {
     for (kind, patvals, num_elements) in LENGTHS {
-        let automaton = charwise(rt.alloc(), *kind, patvals)?;
+        let automaton = Charwise::built(rt.alloc(), BUILT, *kind, patvals)?;
         let same = automaton.num_elements() == *num_elements;
         expect(&rt, same, "the elements");
     }
     Ok(())
 }
 
-/// Whether two automata over bytes are the same, and have the same hash.
-fn are_same(one: &Bytewise<Global>, other: &Bytewise<Global>) -> bool {
+/// Whether two automata are the same, and have the same hash.
+fn are_same<S: Automaton>(one: &S, other: &S) -> bool {
     one == other && hash_of(one) == hash_of(other)
 }
 
-/// Whether an automaton over bytes is the same as its clone.
-pub fn is_cloned(automaton: &Bytewise<Global>) -> Result<bool> {
-    Ok(are_same(automaton, &automaton.clone()?))
+/// Whether an automaton is the same as its clone and as what is read of its bytes, nothing more.
+fn is_copied<S: Automaton>(alloc: S::Alloc, kind: MatchKind) -> Result<bool> {
+    let automaton = S::built(alloc, BUILT, kind, &PATVALS)?;
+    let (checked, is_left) = automaton.read_back(alloc, true)?;
+    let (unchecked, is_left_unchecked) = automaton.read_back(alloc, false)?;
+    Ok(
+        are_same(&automaton, &automaton.cloned()?)
+            && are_same(&automaton, &checked)
+            && are_same(&automaton, &unchecked)
+            && is_left
+            && is_left_unchecked,
+    )
 }
 
-/// Whether an automaton over bytes differs from the one of these patterns.
-fn differs_from(alloc: Global, automaton: &Bytewise<Global>, patvals: Patvals) -> Result<bool> {
-    Ok(*automaton != bytewise(alloc, MatchKind::Standard, patvals)?)
+/// Whether each way to build gives the same for the standard searches.
+fn are_built_alike<S: Automaton>(alloc: S::Alloc) -> Result<bool> {
+    let automaton = S::built(alloc, BUILT, MatchKind::Standard, &PATVALS)?;
+    for how in [Plainly::New, Plainly::WithValues, Plainly::Build] {
+        if S::built_plainly(alloc, how)? != automaton {
+            return Ok(false);
+        }
+    }
+    Ok(true)
 }
 
-/// Two patterns, and the same with another value.
-const TWO: Patvals = &[(b"ab", 0), (b"b", 1)];
+/// Whether an automaton that has no filter, or caches its depths, is another, with another hash.
+fn are_apart<S: Automaton>(alloc: S::Alloc) -> Result<bool> {
+    let automaton = S::built(alloc, BUILT, MatchKind::Standard, &PATVALS)?;
+    let unfiltered = S::built(alloc, UNFILTERED, MatchKind::Standard, &PATVALS)?;
+    let mut cached = automaton.cloned()?;
+    cached.cache()?;
+    Ok(
+        automaton != unfiltered
+            && hash_of(&automaton) != hash_of(&unfiltered)
+            && automaton != cached
+            && hash_of(&automaton) != hash_of(&cached),
+    )
+}
 
-const OTHER_VALUE: Patvals = &[(b"ab", 0), (b"b", 2)];
+/// Whether copies are the same, and so are automata that are built alike; others are not.
+fn are_told_apart<S: Automaton<Alloc = Global>>(alloc: Global) -> Result<bool> {
+    for kind in KINDS {
+        if !is_copied::<S>(alloc, kind)? {
+            return Ok(false);
+        }
+    }
+    Ok(are_built_alike::<S>(alloc)? && are_apart::<S>(alloc)?)
+}
 
 #[test]
-fn equality_over_bytes_looks_at_cached_depths(rt: HostRuntime) -> Result<(), Fail> {
-    let alloc = rt.alloc();
-    let mut automaton = bytewise(alloc, MatchKind::Standard, TWO)?;
-    let differs = differs_from(alloc, &automaton, OTHER_VALUE)?;
-    expect(&rt, differs, "another value");
-    expect(&rt, is_cloned(&automaton)?, "a clone");
-    automaton.cache_depths()?;
-    expect(&rt, differs_from(alloc, &automaton, TWO)?, "cached depths");
-    expect(&rt, is_cloned(&automaton)?, "cloned depths");
-    Ok(())
-}
-
-/// The same as [`are_same`] over characters.
-fn are_same_charwise(one: &Charwise<Global>, other: &Charwise<Global>) -> bool {
-    one == other && hash_of(one) == hash_of(other)
-}
-
-/// The same as [`is_cloned`] over characters.
-fn is_cloned_charwise(automaton: &Charwise<Global>) -> Result<bool> {
-    Ok(are_same_charwise(automaton, &automaton.clone()?))
-}
-
-/// The same as [`differs_from`] over characters.
-fn differs_from_texts(alloc: Global, automaton: &Charwise<Global>, patvals: Texts) -> Result<bool> {
-    Ok(*automaton != charwise(alloc, MatchKind::Standard, patvals)?)
-}
-
-#[test]
-fn equality_over_characters_looks_at_cached_depths(rt: HostRuntime) -> Result<(), Fail> {
-    let alloc = rt.alloc();
-    let mut automaton = charwise(alloc, MatchKind::Standard, &[("世", 1)])?;
-    let differs = differs_from_texts(alloc, &automaton, &[])?;
-    expect(&rt, differs, "other patterns");
-    expect(&rt, is_cloned_charwise(&automaton)?, "a clone");
-    automaton.cache_depths()?;
-    let differs = differs_from_texts(alloc, &automaton, &[("世", 1)])?;
-    expect(&rt, differs, "cached depths");
+fn automata_are_told_apart(rt: HostRuntime) -> Result<(), Fail> {
+    expect(&rt, are_told_apart::<Bytewise>(rt.alloc())?, "over bytes");
+    let holds = are_told_apart::<Charwise>(rt.alloc())?;
+    expect(&rt, holds, "over characters");
     Ok(())
 }

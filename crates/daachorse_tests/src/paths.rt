@@ -4,6 +4,7 @@
 ghost use Rattle.std.specs.Prelude.{◌≡◌, IfOk};
 ghost use Rattle.daachorse_model.specs.declared.MatchKind.TheVariants.{Standard};
 
+use crate::expect;
 use daachorse::MatchKind;
 pub use daachorse::build_helper::{BuildHelper, ListItem, Profile, SiblingGroup, VacantIter};
 use daachorse::bytewise::states::{Automaton, Look, States, Turns};
@@ -92,14 +93,6 @@ fn look_at_root<A: Automaton<u32>>(
     )
 }
 
-/// Looks at the root of an automaton over characters by the code 0.
-fn look_by_code(
-    automaton: &over_characters::Standard<'_, u32>,
-    turns: &mut over_characters::Turns,
-) -> (over_characters::Look, Option<NonZeroU32>) {
-    look_at_root(automaton, 0, turns)
-}
-
 /// The states of an automaton over bytes for the standard searches.
 fn states_of(alloc: Global, patvals: &[(&[u8], u32)]) -> Result<States<u32>>
     ensures { IfOk result (λ s. s.kind ≡ Standard) }
@@ -108,14 +101,49 @@ fn states_of(alloc: Global, patvals: &[(&[u8], u32)]) -> Result<States<u32>>
     States::build(alloc, MatchKind::Standard, nfa, &Profile::new(alloc))
 }
 
+/// Whether a leads from the root to a state, and b back to it.
+fn are_looks(states: &States<u32>) -> bool
+    requires { states.now.kind ≡ Standard }
+{
+    let mut turns = Turns::new();
+    let (look, position) = look_at_root(&states.standard(), b'a', &mut turns);
+    let (back, _position) = look_at_root(&states.standard(), b'b', &mut turns);
+    let is_away = match look {
+        Look::Next(state, _) => state != daachorse::ROOT_STATE_IDX,
+        _ => false,
+    };
+    is_away && position.is_some() && back == Look::Next(daachorse::ROOT_STATE_IDX, position)
+}
+
+/// The states over characters of no pattern, for the standard searches. The character 0 has a code.
+fn states_of_characters(alloc: Global) -> Result<over_characters::States<u32>>
+    ensures { IfOk result (λ s. s.kind ≡ Standard) }
+{
+    let mapper = over_characters::CodeMapper::new(alloc, &[1])?;
+    if mapper.alphabet_size() > 0x8000_0000 {
+        return Err(DaachorseError::invalid_argument());
+    }
+    let patvals: [(&str, u32); 0] = [];
+    let nfa = build_trie(alloc, MatchKind::Standard, None, &patvals)?;
+    let profile = Profile::new(alloc);
+    over_characters::States::build(alloc, MatchKind::Standard, nfa, &profile, mapper)
+}
+
+/// Whether the code 0 is that of a character, and leads from the root back to it.
+fn is_look(states: &over_characters::States<u32>) -> bool
+    requires { states.now.kind ≡ Standard }
+{
+    let mut turns = over_characters::Turns::new();
+    let (look, position) = look_at_root(&states.standard(), 0, &mut turns);
+    let back = over_characters::Look::Next(daachorse::ROOT_STATE_IDX, None);
+    states.mapper().get('\0') == Some(0) && position.is_none() && look == back
+}
+
 #[test]
 fn a_state_is_looked_at_by_public_paths(rt: HostRuntime) -> Result<(), Fail> {
     let states = states_of(rt.alloc(), &[(b"a", 7), (b"", 8)])?;
-    let mut turns = Turns::new();
-    let (look, position) = look_at_root(&states.standard(), b'a', &mut turns);
-    assert!(rt; matches!(look, Look::Next(state, _) if state != daachorse::ROOT_STATE_IDX));
-    assert!(rt; position.is_some());
-    let (look, position) = look_at_root(&states.standard(), b'b', &mut turns);
-    assert_eq!(rt; look, Look::Next(daachorse::ROOT_STATE_IDX, position));
+    expect(&rt, are_looks(&states), "over bytes");
+    let states = states_of_characters(rt.alloc())?;
+    expect(&rt, is_look(&states), "over characters");
     Ok(())
 }

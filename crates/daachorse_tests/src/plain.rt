@@ -1,195 +1,35 @@
-//! Automata beside the plain searches, over bytes and over characters alike.
+//! Automata of patterns of many kinds beside the plain searches, over bytes and over characters, with a filter and
+//! without.
 
-use crate::automata::{Bytewise, Charwise, bytewise_by, charwise_by, in_bytes};
+use crate::automata::{Automaton, Bytewise, Charwise, KINDS, finds};
+use crate::expect;
 use crate::finding::Found;
-use crate::rows::{Search, Way};
-use crate::{bytewise, charwise};
-use daachorse::errors::DaachorseError;
-use daachorse::{CharwiseDoubleArrayAhoCorasick, DoubleArrayAhoCorasick, MatchKind, Result};
+use crate::rows::{BUILT, ROWS, ROWS_OF_CHARACTERS, Row, Search, UNFILTERED};
+use daachorse::{MatchKind, Result};
 use daachorse_model::slow::{
-    Width, leftmost_slowly, no_suffix_slowly, overlapping_slowly, standard_slowly,
+    leftmost_slowly, no_suffix_slowly, overlapping_slowly, standard_slowly,
 };
 use std::alloc::Global;
+use std::test::Fail;
 
-/// A pattern by its units, and its value.
-type Pattern<'a> = (&'a [u32], u32);
-
-/// An automaton that is set beside the plain searches, with texts for haystacks.
-pub trait Searched: Sized {
-    /// How wide its units are.
-    fn width() -> Width;
-
-    /// The units of a text.
-    fn units(alloc: Global, text: &str) -> Result<Vec<u32>>;
-
-    /// The automaton of these patterns that comes about this way.
-    fn made(alloc: Global, way: Way, kind: MatchKind, patvals: &[(&str, u32)]) -> Result<Self>;
-
-    /// The automaton that these bytes hold, by the read that checks.
-    fn read(alloc: Global, bytes: &[u8]) -> Result<Self>;
-
-    /// Its bytes.
-    fn written(&self, alloc: Global) -> Result<Vec<u8>>;
-
-    /// The patterns that it lists.
-    fn listed(&self, alloc: Global) -> Result<Listed>;
-
-    /// Whether it is for the leftmost searches.
-    fn is_leftmost(&self) -> bool;
-
-    /// Whether a search in a slice finds just these matches in a text.
-    fn finds_in_slice(&self, search: Search, text: &str, expected: &[Found]) -> bool;
-
-    /// Whether each form of a search that takes units one by one finds just these matches in a text.
-    fn finds_by_units(
-        &self,
-        alloc: Global,
-        search: Search,
-        text: &str,
-        expected: &[Found],
-    ) -> Result<bool>;
-}
-
-/// The numbers of bytes.
-fn numbers(alloc: Global, bytes: &[u8]) -> Result<Vec<u32>> {
-    let mut numbers = Vec::new(alloc);
-    for byte in bytes {
-        numbers.push(u32::from(*byte))?;
-    }
-    Ok(numbers)
-}
-
-/// The patterns of an automaton by their units, with their values.
-type Listed = Vec<(Vec<u32>, u32)>;
-
-/// Appends a pattern over bytes, if it came.
-fn push_bytes(patterns: &mut Listed, item: Result<(Vec<u8>, u32)>) -> Result<()> {
-    let (pattern, value) = item?;
-    let units = numbers(*patterns.allocator(), &pattern)?;
-    Ok(patterns.push((units, value))?)
-}
-
-/// Appends a pattern over characters, if it came.
-fn push_text(patterns: &mut Listed, item: Result<(String, u32)>) -> Result<()> {
-    let (pattern, value) = item?;
-    let units = Charwise::<Global>::units(*patterns.allocator(), &pattern)?;
-    Ok(patterns.push((units, value))?)
-}
-
-impl Searched for Bytewise<Global> {
-    fn width() -> Width {
-        Width::Bytes
-    }
-
-    fn units(alloc: Global, text: &str) -> Result<Vec<u32>> {
-        numbers(alloc, text.as_bytes())
-    }
-
-    fn made(alloc: Global, way: Way, kind: MatchKind, patvals: &[(&str, u32)]) -> Result<Self> {
-        bytewise_by(alloc, way, kind, &in_bytes(alloc, patvals)?)
-    }
-
-    fn read(alloc: Global, bytes: &[u8]) -> Result<Self> {
-        Ok(DoubleArrayAhoCorasick::deserialize(alloc, bytes)?.0)
-    }
-
-    fn written(&self, alloc: Global) -> Result<Vec<u8>> {
-        self.serialize(alloc)
-    }
-
-    fn listed(&self, alloc: Global) -> Result<Listed> {
-        let mut patterns = Vec::new(alloc);
-        for item in self.iter(alloc)? {
-            push_bytes(&mut patterns, item)?;
-        }
-        Ok(patterns)
-    }
-
-    fn is_leftmost(&self) -> bool {
-        self.match_kind().is_leftmost()
-    }
-
-    fn finds_in_slice(&self, search: Search, text: &str, expected: &[Found]) -> bool {
-        bytewise::finds_in_slice(self, search, text.as_bytes(), expected)
-    }
-
-    fn finds_by_units(
-        &self,
-        _alloc: Global,
-        search: Search,
-        text: &str,
-        expected: &[Found],
-    ) -> Result<bool> {
-        Ok(bytewise::finds_by_units(self, search, text.as_bytes(), expected))
-    }
-}
-
-impl Searched for Charwise<Global> {
-    fn width() -> Width {
-        Width::Chars
-    }
-
-    fn units(alloc: Global, text: &str) -> Result<Vec<u32>> {
-        let mut units = Vec::new(alloc);
-        for character in text.chars() {
-            units.push(u32::from(character))?;
-        }
-        Ok(units)
-    }
-
-    fn made(alloc: Global, way: Way, kind: MatchKind, patvals: &[(&str, u32)]) -> Result<Self> {
-        charwise_by(alloc, way, kind, patvals)
-    }
-
-    fn read(alloc: Global, bytes: &[u8]) -> Result<Self> {
-        Ok(CharwiseDoubleArrayAhoCorasick::deserialize(alloc, bytes)?.0)
-    }
-
-    fn written(&self, alloc: Global) -> Result<Vec<u8>> {
-        self.serialize(alloc)
-    }
-
-    fn listed(&self, alloc: Global) -> Result<Listed> {
-        let mut patterns = Vec::new(alloc);
-        for item in self.iter(alloc)? {
-            push_text(&mut patterns, item)?;
-        }
-        Ok(patterns)
-    }
-
-    fn is_leftmost(&self) -> bool {
-        self.match_kind().is_leftmost()
-    }
-
-    fn finds_in_slice(&self, search: Search, text: &str, expected: &[Found]) -> bool {
-        charwise::finds_in_slice(self, search, text, expected)
-    }
-
-    fn finds_by_units(
-        &self,
-        alloc: Global,
-        search: Search,
-        text: &str,
-        expected: &[Found],
-    ) -> Result<bool> {
-        let units: Vec<char> = text.chars().collect(alloc)?;
-        Ok(charwise::finds_by_units(self, search, text, &units, expected))
-    }
-}
-
-/// What a plain search finds.
-fn slowly(
+/// What a plain search finds of patterns in a text, over the units of an automaton.
+fn slowly<S: Automaton<Alloc = Global>>(
     alloc: Global,
     search: Search,
-    width: Width,
-    patterns: &[Pattern],
-    text: &[u32],
+    patterns: &[(Vec<u32>, u32)],
+    text: &str,
 ) -> Result<Vec<Found>> {
+    let text = S::units(alloc, text)?;
+    let mut by_units = Vec::new(alloc);
+    for (units, value) in patterns {
+        by_units.push((units.as_slice(), *value))?;
+    }
+    let width = S::width();
     let matches = match search {
-        Search::Overlapping => overlapping_slowly(alloc, width, patterns, text)?,
-        Search::NoSuffix => no_suffix_slowly(alloc, width, patterns, text)?,
-        Search::Standard => standard_slowly(alloc, width, patterns, text)?,
-        Search::Leftmost(kind) => leftmost_slowly(alloc, kind, width, patterns, text)?,
+        Search::Overlapping => overlapping_slowly(alloc, width, &by_units, &text)?,
+        Search::NoSuffix => no_suffix_slowly(alloc, width, &by_units, &text)?,
+        Search::Standard => standard_slowly(alloc, width, &by_units, &text)?,
+        Search::Leftmost(kind) => leftmost_slowly(alloc, kind, width, &by_units, &text)?,
     };
     let mut found = Vec::new(alloc);
     for one in &matches {
@@ -198,44 +38,25 @@ fn slowly(
     Ok(found)
 }
 
-/// Which forms of a search are set beside the plain one.
-#[derive(Clone, Copy, PartialEq, Eq)]
-enum Forms {
-    Slices,
-    All,
-}
-
-/// Whether a search finds in a text what the plain one finds for these patterns, in these forms.
-fn is_plain<S: Searched>(
+/// Whether these searches find in the texts what the plain ones find for these patterns: in slices, and if
+/// that is wanted in each other form.
+fn are_plain<S: Automaton<Alloc = Global>>(
     alloc: Global,
     automaton: &S,
-    forms: Forms,
-    search: Search,
-    patterns: &[Pattern],
-    text: &str,
-) -> Result<bool> {
-    let expected = slowly(alloc, search, S::width(), patterns, &S::units(alloc, text)?)?;
-    if !automaton.finds_in_slice(search, text, &expected) {
-        return Ok(false);
-    }
-    match forms {
-        Forms::Slices => Ok(true),
-        Forms::All => automaton.finds_by_units(alloc, search, text, &expected),
-    }
-}
-
-/// Whether these searches do in each of the texts.
-fn each_is_plain<S: Searched>(
-    alloc: Global,
-    automaton: &S,
-    forms: Forms,
     searches: &[Search],
-    patterns: &[Pattern],
+    patterns: &[(Vec<u32>, u32)],
     texts: &[&str],
+    in_each_form: bool,
 ) -> Result<bool> {
     for search in searches {
         for text in texts {
-            if !is_plain(alloc, automaton, forms, *search, patterns, text)? {
+            let expected = slowly::<S>(alloc, *search, patterns, text)?;
+            let holds = if in_each_form {
+                finds(alloc, automaton, *search, text, &expected)?
+            } else {
+                automaton.finds_in_slice(*search, text, &expected)
+            };
+            if !holds {
                 return Ok(false);
             }
         }
@@ -243,61 +64,119 @@ fn each_is_plain<S: Searched>(
     Ok(true)
 }
 
-/// Whether each search of the automaton's kind does. A leftmost one goes by `kind`.
-fn are_plain<S: Searched>(
-    alloc: Global,
-    automaton: &S,
-    forms: Forms,
-    kind: MatchKind,
-    listed: &[(Vec<u32>, u32)],
-    texts: &[&str],
-) -> Result<bool> {
-    let mut patterns: Vec<Pattern> = Vec::new(alloc);
-    for (units, value) in listed {
-        patterns.push((units.as_slice(), *value))?;
+/// The searches of a kind of automata.
+fn searches_of(kind: MatchKind) -> &'static [Search] {
+    match kind {
+        MatchKind::Standard => &[Search::Overlapping, Search::NoSuffix, Search::Standard],
+        MatchKind::LeftmostLongest => &[Search::Leftmost(MatchKind::LeftmostLongest)],
+        MatchKind::LeftmostFirst => &[Search::Leftmost(MatchKind::LeftmostFirst)],
     }
-    if automaton.is_leftmost() {
-        let search = Search::Leftmost(kind);
-        return each_is_plain(alloc, automaton, forms, &[search], &patterns, texts);
-    }
-    let searches = [Search::Overlapping, Search::NoSuffix, Search::Standard];
-    each_is_plain(alloc, automaton, forms, &searches, &patterns, texts)
 }
 
-/// Whether an automaton of these patterns, come about this way, finds in the texts what the plain searches find.
-pub fn finds_plainly<S: Searched + Drop>(
+/// Whether an automaton finds in the texts what the plain searches find for the patterns that it lists. An
+/// automaton of either leftmost kind finds the longest of the patterns that it kept.
+pub fn finds_plainly<S: Automaton<Alloc = Global>>(
     alloc: Global,
-    way: Way,
-    kind: MatchKind,
-    patvals: &[(&str, u32)],
+    automaton: &S,
     texts: &[&str],
 ) -> Result<bool> {
-    let automaton = S::made(alloc, way, kind, patvals)?;
+    let listed = automaton.listed(alloc)?;
+    let kind = if automaton.kind().0.is_leftmost() {
+        MatchKind::LeftmostLongest
+    } else {
+        MatchKind::Standard
+    };
+    are_plain(alloc, automaton, searches_of(kind), &listed, texts, false)
+}
+
+/// The patterns by their units, with their values.
+fn in_units<S: Automaton<Alloc = Global>>(
+    alloc: Global,
+    patvals: &[(&str, u32)],
+) -> Result<Vec<(Vec<u32>, u32)>> {
     let mut patterns = Vec::new(alloc);
     for (text, value) in patvals {
         patterns.push((S::units(alloc, text)?, *value))?;
     }
-    are_plain(alloc, &automaton, Forms::All, kind, &patterns, texts)
+    Ok(patterns)
 }
 
-/// Whether an error tells that bytes are no automaton.
-pub fn is_invalid(error: &DaachorseError) -> bool {
-    matches!(error, DaachorseError::InvalidAutomaton(_))
-}
-
-/// Whether bytes are refused as no automaton, or read and searched like what they list. An automaton of either
-/// leftmost kind finds the longest of the patterns that it kept.
-pub fn is_refused_or_right<S: Searched + Drop>(
+/// Whether automata of these patterns, of each kind, with a filter and without, find in the texts what the
+/// plain searches find.
+fn are_found<S: Automaton<Alloc = Global>>(
     alloc: Global,
-    bytes: &[u8],
+    patvals: &[(&str, u32)],
     texts: &[&str],
 ) -> Result<bool> {
-    match S::read(alloc, bytes) {
-        Ok(automaton) => {
-            let listed = automaton.listed(alloc)?;
-            let kind = MatchKind::LeftmostLongest;
-            are_plain(alloc, &automaton, Forms::Slices, kind, &listed, texts)
+    let patterns = in_units::<S>(alloc, patvals)?;
+    for kind in KINDS {
+        let searches = searches_of(kind);
+        for way in [BUILT, UNFILTERED] {
+            let automaton = S::built(alloc, way, kind, patvals)?;
+            if !are_plain(alloc, &automaton, searches, &patterns, texts, true)? {
+                return Ok(false);
+            }
         }
-        Err(error) => Ok(is_invalid(&error)),
     }
+    Ok(true)
+}
+
+/// Patterns of one to four bytes a character: equal ones, an empty one, one that another begins with.
+const PATTERNS: [(&str, u32); 6] = [
+    ("é日", 0),
+    ("𝄞", 1),
+    ("é日", 2),
+    ("aé日𝄞", 3),
+    ("日𝄞a", 4),
+    ("", 5),
+];
+
+const TEXTS: [&str; 4] = ["", "aé日𝄞a", "xxxxxxxxxxé日𝄞aé日", "日日é𝄞𝄞"];
+
+#[test]
+fn equal_and_empty_patterns_are_found_as_by_the_plain_searches(
+    rt: HostRuntime,
+) -> Result<(), Fail> {
+    for count in 0..=PATTERNS.len() {
+        let patvals = &PATTERNS[..count];
+        let holds = are_found::<Bytewise>(rt.alloc(), patvals, &TEXTS)?;
+        expect(&rt, holds, "over bytes");
+        let holds = are_found::<Charwise>(rt.alloc(), patvals, &TEXTS)?;
+        expect(&rt, holds, "over characters");
+    }
+    Ok(())
+}
+
+#[test]
+fn a_long_pattern_is_found_as_by_the_plain_searches(rt: HostRuntime) -> Result<(), Fail> {
+    let mut long = String::new(rt.alloc());
+    for _ in 0..30u32 {
+        long.push_str("aé日𝄞")?;
+    }
+    let patvals = [(long.as_str(), 0), ("é日", 1), ("𝄞aé", 2)];
+    let texts = [long.as_str()];
+    let holds = are_found::<Bytewise>(rt.alloc(), &patvals, &texts)?;
+    expect(&rt, holds, "300 bytes");
+    let holds = are_found::<Charwise>(rt.alloc(), &patvals, &texts)?;
+    expect(&rt, holds, "120 characters");
+    Ok(())
+}
+
+/// Whether the plain search of a row finds just the row's matches.
+fn is_found_slowly<S: Automaton<Alloc = Global>>(alloc: Global, row: &Row) -> Result<bool> {
+    let (_, search, patvals, text, expected) = *row;
+    let patterns = in_units::<S>(alloc, patvals)?;
+    Ok(slowly::<S>(alloc, search, &patterns, text)?.as_slice() == expected)
+}
+
+#[test]
+fn the_plain_searches_find_what_the_rows_say(rt: HostRuntime) -> Result<(), Fail> {
+    for row in ROWS {
+        expect(&rt, is_found_slowly::<Bytewise>(rt.alloc(), row)?, row.0);
+        expect(&rt, is_found_slowly::<Charwise>(rt.alloc(), row)?, row.0);
+    }
+    for row in ROWS_OF_CHARACTERS {
+        expect(&rt, is_found_slowly::<Charwise>(rt.alloc(), row)?, row.0);
+    }
+    Ok(())
 }

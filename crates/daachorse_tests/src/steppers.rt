@@ -1,88 +1,122 @@
 //! Clones of steppers, matches that stay while a stepper goes on, and steppers that go on where others stood.
 
-ghost use Rattle.std.specs.Prelude.{◌≡◌};
+ghost use Rattle.std.specs.Prelude.{◌≡◌, IfOk};
 ghost use Rattle.daachorse_model.specs.declared.MatchKind.TheVariants.{Standard};
 
-use crate::automata::{Bytewise, bytewise};
+use crate::automata::Bytewise;
 use crate::expect;
 use crate::finding::are;
-use daachorse::MatchKind;
+use daachorse::bytewise::Accelerated;
+use daachorse::{DoubleArrayAhoCorasick, Result};
 use std::alloc::{AllocError, Global};
 use std::test::Fail;
 
-/// Whether a stepper that has read a byte, and a clone of it, tell the match that ends there.
-fn is_cloned(automaton: &Bytewise<Global>) -> Result<bool, AllocError>
+/// An automaton of ab and b.
+fn automaton(alloc: Global) -> Result<Bytewise>
+    ensures { IfOk result (λ a. a.parts.kind ≡ Standard) }
+{
+    DoubleArrayAhoCorasick::new(alloc, [b"ab".as_slice(), b"b"])
+}
+
+/// Whether a stepper that goes on where another stood tells the match of both bytes.
+fn is_resumed(automaton: &Bytewise) -> bool
     requires { automaton.now.parts.kind ≡ Standard }
 {
     let mut stepper = automaton.find_stepper();
     stepper.consume(b'a');
+    let mut resumed = automaton.resume_find_stepper(stepper.into_standing());
+    resumed.consume(b'b');
+    are(resumed.matches().into_iter(), &[(0, 2, 0)])
+}
+
+/// The same of a stepper for all matches.
+fn is_resumed_overlapping(automaton: &Bytewise) -> bool
+    requires { automaton.now.parts.kind ≡ Standard }
+{
+    let mut stepper = automaton.find_overlapping_stepper();
+    stepper.consume(b'a');
+    let mut resumed = automaton.resume_find_overlapping_stepper(stepper.into_standing());
+    resumed.consume(b'b');
+    are(resumed.matches(), &[(0, 2, 0), (1, 2, 1)])
+}
+
+/// The same as [`is_resumed`] over rows of states.
+fn is_resumed_over_rows(accelerated: &Accelerated<'_, u32>) -> bool
+    requires { accelerated.now.automaton.parts.kind ≡ Standard }
+{
+    let mut stepper = accelerated.find_stepper();
+    stepper.consume(b'a');
+    let mut resumed = accelerated.resume_find_stepper(stepper.into_standing());
+    resumed.consume(b'b');
+    are(resumed.matches().into_iter(), &[(0, 2, 0)])
+}
+
+/// The same of a stepper for all matches.
+fn is_resumed_overlapping_over_rows(accelerated: &Accelerated<'_, u32>) -> bool
+    requires { accelerated.now.automaton.parts.kind ≡ Standard }
+{
+    let mut stepper = accelerated.find_overlapping_stepper();
+    stepper.consume(b'a');
+    let mut resumed = accelerated.resume_find_overlapping_stepper(stepper.into_standing());
+    resumed.consume(b'b');
+    are(resumed.matches(), &[(0, 2, 0), (1, 2, 1)])
+}
+
+/// Whether steppers over rows of states go on where others stood.
+fn are_resumed_over_rows(alloc: Global, automaton: &Bytewise) -> Result<bool>
+    requires { automaton.now.parts.kind ≡ Standard }
+{
+    match automaton.accelerate(alloc)? {
+        Some(accelerated) => Ok(
+            is_resumed_over_rows(&accelerated) && is_resumed_overlapping_over_rows(&accelerated),
+        ),
+        None => Ok(false),
+    }
+}
+
+#[test]
+fn steppers_go_on_where_others_stood(rt: HostRuntime) -> Result<(), Fail> {
+    let automaton = automaton(rt.alloc())?;
+    expect(&rt, is_resumed(&automaton), "without overlaps");
+    expect(&rt, is_resumed_overlapping(&automaton), "all matches");
+    let holds = are_resumed_over_rows(rt.alloc(), &automaton)?;
+    expect(&rt, holds, "over rows");
+    Ok(())
+}
+
+/// Whether a clone of a stepper tells the match that ends with the byte that was read.
+fn is_cloned(automaton: &Bytewise) -> Result<bool, AllocError>
+    requires { automaton.now.parts.kind ≡ Standard }
+{
+    let mut stepper = automaton.find_stepper();
+    stepper.consume(b'b');
     let cloned = stepper.clone()?.matches();
     Ok(cloned.is_some() && cloned == stepper.matches())
 }
 
 /// The same of a stepper for all matches.
-fn is_cloned_overlapping(automaton: &Bytewise<Global>) -> Result<bool, AllocError>
+fn is_cloned_overlapping(automaton: &Bytewise) -> Result<bool, AllocError>
     requires { automaton.now.parts.kind ≡ Standard }
 {
     let mut stepper = automaton.find_overlapping_stepper();
-    stepper.consume(b'a');
-    Ok(are(stepper.clone()?.matches(), &[(0, 1, 0)]))
+    stepper.consume(b'b');
+    Ok(are(stepper.clone()?.matches(), &[(0, 1, 1)]))
 }
 
-/// Whether the matches that end with the first byte stay while the second is read.
-fn stays(automaton: &Bytewise<Global>) -> bool
+/// Whether the matches that end with a byte stay while the stepper goes on.
+fn stays(automaton: &Bytewise) -> bool
     requires { automaton.now.parts.kind ≡ Standard }
 {
     let mut stepper = automaton.find_overlapping_stepper();
-    stepper.consume(b'a');
+    stepper.consume(b'b');
     let first = stepper.matches();
     stepper.consume(b'b');
-    let second = stepper.matches();
-    are(first, &[(0, 1, 0)]) && are(second, &[(0, 2, 1)])
-}
-
-/// Whether a stepper that goes on where another stood finds what one that read both bytes does.
-fn is_resumed(automaton: &Bytewise<Global>) -> bool
-    requires { automaton.now.parts.kind ≡ Standard }
-{
-    let mut plain = automaton.find_stepper();
-    plain.consume(b'a');
-    plain.consume(b'b');
-    let mut stepper = automaton.find_stepper();
-    stepper.consume(b'a');
-    let mut resumed = automaton.resume_find_stepper(stepper.into_standing());
-    resumed.consume(b'b');
-    resumed.matches().is_some() && resumed.matches() == plain.matches()
-}
-
-/// The same of a stepper for all matches.
-fn is_resumed_overlapping(automaton: &Bytewise<Global>) -> bool
-    requires { automaton.now.parts.kind ≡ Standard }
-{
-    let mut plain = automaton.find_overlapping_stepper();
-    plain.consume(b'a');
-    plain.consume(b'b');
-    let mut stepper = automaton.find_overlapping_stepper();
-    stepper.consume(b'a');
-    let mut resumed = automaton.resume_find_overlapping_stepper(stepper.into_standing());
-    resumed.consume(b'b');
-    let both = [(0, 2, 0), (1, 2, 1)];
-    are(resumed.matches(), &both) && are(plain.matches(), &both)
-}
-
-#[test]
-fn steppers_go_on_where_others_stood(rt: HostRuntime) -> Result<(), Fail> {
-    let patvals = [(b"ab".as_slice(), 0), (b"b", 1)];
-    let automaton = bytewise(rt.alloc(), MatchKind::Standard, &patvals)?;
-    expect(&rt, is_resumed(&automaton), "without overlaps");
-    expect(&rt, is_resumed_overlapping(&automaton), "all matches");
-    Ok(())
+    are(first, &[(0, 1, 1)])
 }
 
 #[test]
 fn steppers_are_cloned_and_their_matches_stay(rt: HostRuntime) -> Result<(), Fail> {
-    let patvals = [(b"a".as_slice(), 0), (b"ab", 1)];
-    let automaton = bytewise(rt.alloc(), MatchKind::Standard, &patvals)?;
+    let automaton = automaton(rt.alloc())?;
     expect(&rt, is_cloned(&automaton)?, "without overlaps");
     expect(&rt, is_cloned_overlapping(&automaton)?, "all matches");
     expect(&rt, stays(&automaton), "the first matches");

@@ -1,16 +1,14 @@
-//! `daactok`: worked rows, also over an automaton that was written and read back, and callers that know the
-//! whole list.
+//! `daactok`: worked rows, also over an automaton that was written and read back.
 
-ghost use Rattle.std.specs.Prelude.{◌≡◌, IfOk, length, map};
-ghost use Rattle.daachorse_charwise.specs.Automata.{dictionary_of, kind_of};
-ghost use Rattle.daactok.specs.Tokens.{seen, tokens};
+ghost use Rattle.std.specs.Prelude.{◌≡◌, IfOk};
+ghost use Rattle.daachorse_charwise.specs.Automata.{kind_of};
 
-use daachorse::errors::DaachorseError;
+use crate::expect;
 use daachorse::{
     CharwiseDoubleArrayAhoCorasick, CharwiseDoubleArrayAhoCorasickBuilder, MatchKind, Result,
 };
-use daactok::{Token, Tokenizer, TokenizerError};
-use std::alloc::{AllocError, Global};
+use daactok::Tokenizer;
+use std::alloc::Global;
 use std::test::Fail;
 
 type Words = CharwiseDoubleArrayAhoCorasick<u32>;
@@ -25,157 +23,108 @@ fn build(alloc: Global, kind: MatchKind, folds: bool, words: &[&str]) -> Result<
 }
 
 /// An automaton written, and read back by the read that checks.
-fn read_back(alloc: Global, words: &Words) -> Result<Words>
-    ensures { IfOk result (λ a. kind_of a ≡ kind_of words.now) }
-{
+fn read_back(alloc: Global, words: &Words) -> Result<Words> {
     let bytes = words.serialize(alloc)?;
-    let (read, _rest) = CharwiseDoubleArrayAhoCorasick::deserialize(alloc, &bytes)?;
-    if read.match_kind() == words.match_kind() {
-        Ok(read)
-    } else {
-        Err(DaachorseError::invalid_automaton())
-    }
+    Ok(CharwiseDoubleArrayAhoCorasick::deserialize(alloc, &bytes)?.0)
 }
 
-/// All tokens of a text.
-fn collected<'a>(
-    alloc: Global,
-    tokenizer: &Tokenizer<'a, u32>,
-    text: &'a str,
-) -> Result<Vec<Token<'a, u32>>, AllocError>
-    ensures { IfOk result (λ v. map seen v.items ≡ tokens tokenizer.entry.now.folds (dictionary_of tokenizer.entry.now) text.entry.now) }
-{
-    tokenizer.tokens(text).collect(alloc)
-}
-
-/// How many tokens a text has.
-fn count(tokenizer: &Tokenizer<u32>, text: &str) -> usize
-    ensures { result ≡ length (tokens tokenizer.now.folds (dictionary_of tokenizer.now) text.now) }
-{
-    tokenizer.tokens(text).count()
-}
-
-fn word(text: &str, start: usize, end: usize, value: u32) -> Token<'_, u32> {
-    Token {
-        text,
-        start,
-        end,
-        value: Some(value),
-    }
-}
-
-fn unknown(text: &str, start: usize, end: usize) -> Token<'_, u32> {
-    Token {
-        text,
-        start,
-        end,
-        value: None,
-    }
-}
+/// A token: its text, its start, its end, and its value if it is a word.
+type Piece = (&'static str, usize, usize, Option<u32>);
 
 /// Whether the words cut the text into these tokens; not so where the tokenizer is refused.
-fn cuts(
-    alloc: Global,
-    words: &Words,
-    text: &str,
-    expected: &[Token<u32>],
-) -> Result<bool, AllocError> {
+fn cuts(words: &Words, text: &str, expected: &[Piece]) -> bool {
     if words.match_kind().is_standard() {
-        return Ok(false);
+        return false;
     }
     let Ok(tokenizer) = Tokenizer::new(words) else {
-        return Ok(false);
+        return false;
     };
-    let found = collected(alloc, &tokenizer, text)?;
-    Ok(found.as_slice() == expected && count(&tokenizer, text) == expected.len())
+    let mut left = expected.iter();
+    for token in tokenizer.tokens(text) {
+        let piece = (token.text, token.start, token.end, token.value);
+        if left.next() != Some(&piece) {
+            return false;
+        }
+    }
+    left.next().is_none()
 }
 
 /// What a row asks for: a kind of searches, whether they disregard case, words, a text, and its tokens.
-type Row<'a> = (
+type Row = (
     MatchKind,
     bool,
-    &'a [&'a str],
-    &'a str,
-    &'a [Token<'a, u32>],
+    &'static [&'static str],
+    &'static str,
+    &'static [Piece],
 );
+
+const ROWS: [Row; 6] = [
+    (
+        MatchKind::LeftmostLongest,
+        false,
+        &["東京", "京都", "東京都"],
+        "東京都に",
+        &[("東京都", 0, 9, Some(2)), ("に", 9, 12, None)],
+    ),
+    (
+        MatchKind::LeftmostFirst,
+        false,
+        &["ab", "abc"],
+        "xabcab",
+        &[
+            ("x", 0, 1, None),
+            ("ab", 1, 3, Some(0)),
+            ("c", 3, 4, None),
+            ("ab", 4, 6, Some(0)),
+        ],
+    ),
+    (
+        MatchKind::LeftmostLongest,
+        false,
+        &["ab"],
+        "ab",
+        &[("ab", 0, 2, Some(0))],
+    ),
+    (
+        MatchKind::LeftmostLongest,
+        false,
+        &[],
+        "ab",
+        &[("ab", 0, 2, None)],
+    ),
+    (MatchKind::LeftmostLongest, false, &[], "", &[]),
+    (
+        MatchKind::LeftmostLongest,
+        true,
+        &["the"],
+        "The THE",
+        &[
+            ("The", 0, 3, Some(0)),
+            (" ", 3, 4, None),
+            ("THE", 4, 7, Some(0)),
+        ],
+    ),
+];
 
 #[test]
 fn a_text_is_cut_at_its_words(rt: HostRuntime) -> Result<(), Fail> {
-    let rows: [Row; 6] = [
-        (
-            MatchKind::LeftmostLongest,
-            false,
-            &["東京", "京都", "東京都"],
-            "東京都に",
-            &[word("東京都", 0, 9, 2), unknown("に", 9, 12)],
-        ),
-        (
-            MatchKind::LeftmostFirst,
-            false,
-            &["ab", "abc"],
-            "xabcab",
-            &[
-                unknown("x", 0, 1),
-                word("ab", 1, 3, 0),
-                unknown("c", 3, 4),
-                word("ab", 4, 6, 0),
-            ],
-        ),
-        (
-            MatchKind::LeftmostLongest,
-            false,
-            &["ab"],
-            "ab",
-            &[word("ab", 0, 2, 0)],
-        ),
-        (
-            MatchKind::LeftmostLongest,
-            false,
-            &[],
-            "ab",
-            &[unknown("ab", 0, 2)],
-        ),
-        (MatchKind::LeftmostLongest, false, &[], "", &[]),
-        (
-            MatchKind::LeftmostLongest,
-            true,
-            &["the"],
-            "The THE",
-            &[
-                word("The", 0, 3, 0),
-                unknown(" ", 3, 4),
-                word("THE", 4, 7, 0),
-            ],
-        ),
-    ];
-    for (i, (kind, folds, words, text, expected)) in rows.iter().enumerate() {
-        let Ok(words) = build(rt.alloc(), *kind, *folds, words) else {
-            panic!(rt; "row {i} was refused");
-        };
-        let is_cut = cuts(rt.alloc(), &words, text, expected)?;
-        assert!(rt; is_cut, "row {i}");
-        let Ok(read) = read_back(rt.alloc(), &words) else {
-            panic!(rt; "row {i} was not read back");
-        };
-        let is_cut = cuts(rt.alloc(), &read, text, expected)?;
-        assert!(rt; is_cut, "row {i}, read back");
+    for (kind, folds, words, text, expected) in ROWS {
+        let words = build(rt.alloc(), kind, folds, words)?;
+        expect(&rt, cuts(&words, text, expected), text);
+        let read = read_back(rt.alloc(), &words)?;
+        expect(&rt, cuts(&read, text, expected), text);
     }
     Ok(())
 }
 
 #[test]
 fn a_dictionary_with_the_empty_text_is_refused(rt: HostRuntime) -> Result<(), Fail> {
-    let Ok(words) = build(rt.alloc(), MatchKind::LeftmostLongest, false, &["a", ""]) else {
-        panic!(rt; "the build was refused");
-    };
+    let words = build(rt.alloc(), MatchKind::LeftmostLongest, false, &["a", ""])?;
     let Err(error) = Tokenizer::new(&words) else {
         panic!(rt; "the empty text is a word");
     };
-    assert_eq!(rt; error, TokenizerError::EmptyPattern);
-    let text = format!(in rt.alloc(); "{error}")?;
-    assert_eq!(rt;
-        text.as_str(),
-        "EmptyPattern: the dictionary holds the empty pattern"
-    );
+    let text = error.to_string(rt.alloc())?;
+    let same = text.as_str() == "EmptyPattern: the dictionary holds the empty pattern";
+    expect(&rt, same, "the text of the error");
     Ok(())
 }

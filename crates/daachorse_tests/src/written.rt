@@ -1,270 +1,383 @@
-//! Automata written, by tables of bytes, and read back.
+//! Automata as they are written, by tables of their elements: what a build makes of patterns, and where a
+//! corpus moves it.
 
-use crate::automata::{
-    Bytewise, Charwise, KINDS, bytewise, charwise, read_back, read_back_charwise, read_checked,
-    read_checked_charwise,
+use crate::automata::{Bytewise, Charwise};
+use crate::expect;
+use daachorse::{
+    CharwiseDoubleArrayAhoCorasickBuilder, DoubleArrayAhoCorasick, DoubleArrayAhoCorasickBuilder,
+    Result,
 };
-use crate::listing::is_cloned;
-use crate::{expect, hash_of};
-use daachorse::errors::DaachorseError;
-use daachorse::{DoubleArrayAhoCorasick, DoubleArrayAhoCorasickBuilder, MatchKind, Result};
 use std::alloc::{AllocError, Global};
 use std::test::Fail;
 
-/// An element that is not vacant: its index, base, link and packed word.
-pub type Element = (u32, u32, u32, u32);
-
 /// Appends numbers, each as four bytes.
-pub fn push_numbers(bytes: &mut Vec<u8>, numbers: &[u32]) -> Result<(), AllocError> {
+fn push_numbers(bytes: &mut Vec<u8>, numbers: &[u32]) -> Result<(), AllocError> {
     for number in numbers {
         bytes.extend_from_slice(&number.to_le_bytes())?;
     }
     Ok(())
 }
 
-/// The bytes of 256 elements for the standard searches, vacant but for these, and what follows them.
-pub fn bytes_of(alloc: Global, elements: &[Element], ending: &[u8]) -> Result<Vec<u8>, AllocError> {
+/// An output: its value, its length, and the position of the next, 0 for none.
+type Output = [u32; 3];
+
+/// Appends the outputs and how many there are.
+fn push_outputs(bytes: &mut Vec<u8>, outputs: &[Output]) -> Result<(), AllocError> {
+    push_numbers(bytes, &[u32::try_from(outputs.len()).unwrap_or(0)])?;
+    for output in outputs {
+        push_numbers(bytes, output)?;
+    }
+    Ok(())
+}
+
+/// Appends what stands at the end: the standard kind, the number of states, and no filter.
+fn push_ending(bytes: &mut Vec<u8>, num_states: u32) -> Result<(), AllocError> {
+    bytes.push(0)?;
+    push_numbers(bytes, &[num_states])?;
+    Ok(bytes.push(0)?)
+}
+
+/// An element over bytes that is not vacant: its index, base, link and packed word, the position of its
+/// first output and its check.
+type Element = (u32, u32, u32, u32);
+
+/// Patterns over bytes, the corpora that a builder without a filter is given in turn, and what the
+/// automaton is written as: of 256 elements those that are not vacant, the outputs, and the number of states.
+#[derive(Clone, Copy)]
+pub struct Row {
+    shows: &'static str,
+    patvals: &'static [(&'static [u8], u32)],
+    corpora: &'static [&'static [&'static [u8]]],
+    elements: &'static [Element],
+    outputs: &'static [Output],
+    num_states: u32,
+}
+
+/// The pattern ab.
+const ONE: Row = Row {
+    shows: "a row of siblings before its children",
+    patvals: &[(b"ab", 0)],
+    corpora: &[],
+    elements: &[(0, 99, 0, 0), (2, 97, 0, 97), (3, 0, 0, 354)],
+    outputs: &[[0, 2, 0]],
+    num_states: 3,
+};
+
+/// The same where the heaviest group comes first.
+const ONE_BY_CORPUS: Row = Row {
+    shows: "the heaviest group comes first",
+    corpora: &[&[b"abx"]],
+    elements: &[(0, 98, 0, 0), (2, 0, 0, 354), (3, 96, 0, 97)],
+    ..ONE
+};
+
+/// The patterns ab and b.
+pub const TWO: Row = Row {
+    shows: "a link and a list of outputs",
+    patvals: &[(b"ab", 0), (b"b", 1)],
+    corpora: &[],
+    elements: &[
+        (0, 101, 0, 0),
+        (2, 0, 7, 610),
+        (4, 96, 0, 97),
+        (7, 0, 0, 354),
+    ],
+    outputs: &[[1, 1, 0], [0, 2, 1]],
+    num_states: 4,
+};
+
+const ROWS: [Row; 9] = [
+    Row {
+        shows: "no pattern",
+        patvals: &[],
+        corpora: &[],
+        elements: &[],
+        outputs: &[],
+        num_states: 1,
+    },
+    TWO,
+    Row {
+        shows: "vacant elements are nobody's children",
+        patvals: &[
+            (b"\x00\x00", 0),
+            (b"\x00\x02", 1),
+            (b"\x01\x02", 2),
+            (b"\x02", 3),
+        ],
+        corpora: &[],
+        elements: &[
+            (0, 4, 0, 0),
+            (3, 0, 6, 1026),
+            (4, 8, 0, 0),
+            (5, 1, 0, 1),
+            (6, 0, 0, 258),
+            (8, 0, 4, 512),
+            (10, 0, 6, 770),
+        ],
+        outputs: &[[3, 1, 0], [0, 2, 0], [1, 2, 1], [2, 2, 1]],
+        num_states: 7,
+    },
+    ONE,
+    ONE_BY_CORPUS,
+    Row {
+        shows: "no document",
+        corpora: &[&[]],
+        ..ONE
+    },
+    Row {
+        shows: "no visit",
+        corpora: &[&[b""]],
+        ..ONE
+    },
+    Row {
+        shows: "the last corpus counts, which is empty",
+        corpora: &[&[b"abx"], &[]],
+        ..ONE
+    },
+    Row {
+        shows: "the last corpus counts",
+        corpora: &[&[b"aa"], &[b"a", b"abx"]],
+        ..ONE_BY_CORPUS
+    },
+];
+
+/// The words of the element at an index: its own if it is listed, else those of a vacant one.
+fn words_at(elements: &[Element], index: u32) -> [u32; 3] {
+    for (place, base, link, packed) in elements {
+        if *place == index {
+            return [*base, *link, *packed];
+        }
+    }
+    [0, 0, index]
+}
+
+/// The bytes that a row says.
+pub fn bytes_of(alloc: Global, row: &Row) -> Result<Vec<u8>, AllocError> {
     let mut bytes = Vec::new(alloc);
     push_numbers(&mut bytes, &[256])?;
     for index in 0..256u32 {
-        let listed = elements.iter().find(|e| e.0 == index);
-        let &(_, base, fail, packed) = listed.unwrap_or(&(index, 0, 0, index));
-        push_numbers(&mut bytes, &[base, fail, packed])?;
+        push_numbers(&mut bytes, &words_at(row.elements, index))?;
     }
-    bytes.extend_from_slice(ending)?;
+    // No states for leftmost searches, and no links of these.
+    push_numbers(&mut bytes, &[0, 0])?;
+    push_outputs(&mut bytes, row.outputs)?;
+    push_ending(&mut bytes, row.num_states)?;
     Ok(bytes)
 }
 
-/// A row over bytes: patterns, and the elements and the ending that they are written as.
-#[derive(Clone, Copy)]
-pub struct Row {
-    patvals: &'static [(&'static [u8], u32)],
-    pub elements: &'static [Element],
-    pub ending: &'static [u8],
-}
-
-pub const ROWS: [Row; 2] = [
-    Row {
-        patvals: &[],
-        elements: &[],
-        ending: &[
-            0, 0, 0, 0, // No leftmost states,
-            0, 0, 0, 0, // no links,
-            0, 0, 0, 0, // and no outputs.
-            0, // Standard.
-            1, 0, 0, 0, // One state.
-            0, // No filter.
-        ],
-    },
-    Row {
-        patvals: &[(b"ab", 0), (b"b", 1)],
-        elements: &[
-            (0, 101, 0, 0),
-            (2, 0, 7, 610),
-            (4, 96, 0, 97),
-            (7, 0, 0, 354),
-        ],
-        ending: &[
-            0, 0, 0, 0, // No leftmost states,
-            0, 0, 0, 0, // and no links.
-            2, 0, 0, 0, // Two outputs: value, length, parent.
-            1, 0, 0, 0, 1, 0, 0, 0, 0, 0, 0, 0, //
-            0, 0, 0, 0, 2, 0, 0, 0, 1, 0, 0, 0, //
-            0, // Standard.
-            4, 0, 0, 0, // Four states.
-            0, // No filter.
-        ],
-    },
-];
-
-/// Whether the row's patterns are written as the row's bytes.
-fn is_written(alloc: Global, row: &Row) -> Result<bool> {
-    let bytes = bytewise(alloc, MatchKind::Standard, row.patvals)?.serialize(alloc)?;
-    Ok(bytes == bytes_of(alloc, row.elements, row.ending)?)
+/// The automaton of a row.
+fn built(alloc: Global, row: &Row) -> Result<Bytewise> {
+    let mut builder = DoubleArrayAhoCorasickBuilder::new().use_prefilter(false);
+    for documents in row.corpora {
+        builder = builder.corpus(alloc, documents.iter().copied())?;
+    }
+    builder.build_with_values(alloc, row.patvals.iter().copied())
 }
 
 #[test]
-fn automata_have_their_bytes(rt: HostRuntime) -> Result<(), Fail> {
+fn automata_over_bytes_have_their_bytes(rt: HostRuntime) -> Result<(), Fail> {
     for row in &ROWS {
-        expect(&rt, is_written(rt.alloc(), row)?, "the bytes");
+        let bytes = built(rt.alloc(), row)?.serialize(rt.alloc())?;
+        expect(&rt, bytes == bytes_of(rt.alloc(), row)?, row.shows);
     }
     Ok(())
 }
 
-/// An automaton over characters without a pattern: two elements, no code, no output.
-pub const NO_CHARACTERS: [u8; 54] = [
-    2, 0, 0, 0, // Two elements: base, check, link, output position.
-    0, 0, 0, 0, 1, 0, 0, 0, 0, 0, 0, 0, 0, 0, 0, 0, //
-    0, 0, 0, 0, 1, 0, 0, 0, 1, 0, 0, 0, 0, 0, 0, 0, //
-    0, 0, 0, 0, // No codes,
-    0, 0, 0, 0, // an alphabet of no character,
-    0, 0, 0, 0, // and no outputs.
-    0, // Standard.
-    1, 0, 0, 0, // One state.
-    0, // No filter.
+/// Patterns over characters, the corpora that a builder without a filter is given in turn, and what the automaton is written as:
+/// the elements, each by its base, its check, its link and the position of its first output; how long the table of codes is,
+/// and the characters with codes; how many of them there are; the outputs, and the number of states.
+#[derive(Clone, Copy)]
+pub struct TextRow {
+    pub shows: &'static str,
+    pub patvals: &'static [(&'static str, u32)],
+    pub corpora: &'static [&'static [&'static str]],
+    pub elements: &'static [[u32; 4]],
+    pub num_codes: u32,
+    pub codes: &'static [(u32, u32)],
+    pub alphabet_size: u32,
+    pub outputs: &'static [Output],
+    pub num_states: u32,
+}
+
+/// No pattern over characters: the root and the dead state, and no codes.
+pub const NO_CHARACTERS: TextRow = TextRow {
+    shows: "no pattern",
+    patvals: &[],
+    corpora: &[],
+    elements: &[[0, 1, 0, 0], [0, 1, 1, 0]],
+    num_codes: 0,
+    codes: &[],
+    alphabet_size: 0,
+    outputs: &[],
+    num_states: 1,
+};
+
+/// The patterns ab and b over characters, whose texts ab, a and b have the elements 4, 2 and 3.
+pub const TWO_TEXTS: TextRow = TextRow {
+    shows: "a link and a list of outputs",
+    patvals: &[("ab", 0), ("b", 1)],
+    corpora: &[],
+    elements: &[
+        [3, 1, 0, 0], // The root, whose base leads by the code 1 of a and by the code 0 of b.
+        [0, 1, 1, 0], // The dead state.
+        [4, 0, 0, 0], // a
+        [0, 0, 0, 1], // b
+        [0, 2, 3, 2], // ab
+        [0, 1, 1, 0], // A vacant element.
+    ],
+    num_codes: 99,
+    codes: &[(97, 1), (98, 0)],
+    alphabet_size: 2,
+    outputs: &[[1, 1, 0], [0, 2, 1]],
+    num_states: 4,
+};
+
+/// Patterns whose last units have two groups. The root has the children a at 4 and c at 6.
+const TWO_GROUPS: TextRow = TextRow {
+    shows: "two groups of one weight",
+    patvals: &[("ab", 0), ("cd", 1)],
+    corpora: &[],
+    elements: &[
+        [4, 1, 0, 0],
+        [0, 1, 1, 0],
+        [0, 6, 0, 2],
+        [0, 4, 0, 1],
+        [2, 0, 0, 0],
+        [0, 1, 1, 0],
+        [1, 0, 0, 0],
+        [0, 1, 1, 0],
+    ],
+    num_codes: 101,
+    codes: &[(97, 0), (98, 1), (99, 2), (100, 3)],
+    alphabet_size: 4,
+    outputs: &[[0, 2, 0], [1, 2, 0]],
+    num_states: 5,
+};
+
+const TEXT_ROWS: [TextRow; 7] = [
+    NO_CHARACTERS,
+    TWO_TEXTS,
+    TextRow {
+        shows: "codes by how often characters occur",
+        patvals: &[("ＡＡ", 0), ("ＡＣ", 1), ("ＢＣ", 2), ("Ｃ", 3)],
+        corpora: &[],
+        elements: &[
+            [4, 1, 0, 0],
+            [0, 1, 1, 0],
+            [0, 6, 5, 4],
+            [0, 1, 1, 0],
+            [8, 0, 0, 0],
+            [0, 0, 0, 1],
+            [3, 0, 0, 0],
+            [0, 1, 1, 0],
+            [0, 4, 4, 2],
+            [0, 4, 5, 3],
+            [0, 1, 1, 0],
+            [0, 1, 1, 0],
+        ],
+        num_codes: 0xff24,
+        codes: &[(0xff21, 0), (0xff22, 2), (0xff23, 1)],
+        alphabet_size: 3,
+        outputs: &[[3, 3, 0], [0, 6, 0], [1, 6, 1], [2, 6, 1]],
+        num_states: 7,
+    },
+    TWO_GROUPS,
+    TextRow {
+        shows: "the heaviest group comes first",
+        corpora: &[&["ab"]],
+        elements: &[
+            [4, 1, 0, 0],
+            [0, 1, 1, 0],
+            [0, 4, 0, 1],
+            [0, 1, 1, 0],
+            [3, 0, 0, 0],
+            [0, 6, 0, 2],
+            [6, 0, 0, 0],
+            [0, 1, 1, 0],
+        ],
+        ..TWO_GROUPS
+    },
+    TextRow {
+        shows: "no visit",
+        corpora: &[&["ab"], &[""]],
+        ..TWO_GROUPS
+    },
+    TextRow {
+        shows: "a character without a code counts nothing",
+        corpora: &[&["x", "世界"]],
+        ..TWO_GROUPS
+    },
 ];
 
+/// The code of a character, or the number that stands for none.
+fn code_of(codes: &[(u32, u32)], character: u32) -> u32 {
+    for (coded, code) in codes {
+        if *coded == character {
+            return *code;
+        }
+    }
+    u32::MAX
+}
+
+/// The bytes that a row over characters says.
+pub fn bytes_of_text(alloc: Global, row: &TextRow) -> Result<Vec<u8>, AllocError> {
+    let mut bytes = Vec::new(alloc);
+    push_numbers(
+        &mut bytes,
+        &[u32::try_from(row.elements.len()).unwrap_or(0)],
+    )?;
+    for element in row.elements {
+        push_numbers(&mut bytes, element)?;
+    }
+    push_numbers(&mut bytes, &[row.num_codes])?;
+    for character in 0..row.num_codes {
+        push_numbers(&mut bytes, &[code_of(row.codes, character)])?;
+    }
+    push_numbers(&mut bytes, &[row.alphabet_size])?;
+    push_outputs(&mut bytes, row.outputs)?;
+    push_ending(&mut bytes, row.num_states)?;
+    Ok(bytes)
+}
+
+/// The automaton over characters of a row.
+fn built_of_text(alloc: Global, row: &TextRow) -> Result<Charwise> {
+    let mut builder = CharwiseDoubleArrayAhoCorasickBuilder::new().use_prefilter(false);
+    for documents in row.corpora {
+        builder = builder.corpus(alloc, documents.iter().copied())?;
+    }
+    builder.build_with_values(alloc, row.patvals.iter().copied())
+}
+
 #[test]
-fn no_characters_have_their_bytes(rt: HostRuntime) -> Result<(), Fail> {
-    let bytes = charwise(rt.alloc(), MatchKind::Standard, &[])?.serialize(rt.alloc())?;
-    let same = bytes.as_slice() == NO_CHARACTERS.as_slice();
-    expect(&rt, same, "the bytes");
+fn automata_over_characters_have_their_bytes(rt: HostRuntime) -> Result<(), Fail> {
+    for row in &TEXT_ROWS {
+        let bytes = built_of_text(rt.alloc(), row)?.serialize(rt.alloc())?;
+        expect(&rt, bytes == bytes_of_text(rt.alloc(), row)?, row.shows);
+    }
     Ok(())
 }
 
-/// An automaton over bytes of two words, with a filter if it is wanted.
-pub fn words(alloc: Global, filtered: bool) -> Result<Bytewise<Global>> {
-    DoubleArrayAhoCorasickBuilder::new()
+/// The bytes of an automaton over bytes of two words, with a filter if it is wanted.
+pub fn bytes_of_words(alloc: Global, filtered: bool) -> Result<Vec<u8>> {
+    let words: Bytewise = DoubleArrayAhoCorasickBuilder::new()
         .use_prefilter(filtered)
-        .build(alloc, [b"aria".as_slice(), b"iris"])
+        .build(alloc, [b"aria".as_slice(), b"iris"])?;
+    words.serialize(alloc)
 }
 
-/// How many bytes the two words take, with a filter or without.
-fn len_of_words(alloc: Global, use_prefilter: bool) -> Result<usize> {
-    Ok(words(alloc, use_prefilter)?.serialize(alloc)?.len())
+/// The bytes of an automaton of three letters with values of a byte.
+fn bytes_of_small(alloc: Global) -> Result<Vec<u8>> {
+    let letters = [b"a".as_slice(), b"b", b"c"];
+    DoubleArrayAhoCorasick::<u8>::new(alloc, letters)?.serialize(alloc)
 }
 
 #[test]
 fn elements_outputs_and_filter_take_their_bytes(rt: HostRuntime) -> Result<(), Fail> {
-    let plain = len_of_words(rt.alloc(), false)?;
-    expect(&rt, plain == 3118, "without a filter");
-    let filtered = len_of_words(rt.alloc(), true)?;
-    expect(&rt, filtered == 68655, "with a filter");
-    Ok(())
-}
-
-/// Whether two automata differ, and their hashes do.
-fn are_apart(one: &Bytewise<Global>, other: &Bytewise<Global>) -> bool {
-    one != other && hash_of(one) != hash_of(other)
-}
-
-#[test]
-fn equality_and_hash_look_at_the_filter(rt: HostRuntime) -> Result<(), Fail> {
-    let plain = words(rt.alloc(), false)?;
-    let filtered = words(rt.alloc(), true)?;
-    expect(&rt, are_apart(&plain, &filtered), "equality and hash");
-    expect(&rt, is_cloned(&filtered)?, "clone");
-    Ok(())
-}
-
-/// A byte of the two words with their filter that is changed, what to, and whether that is read.
-const FILTER_CHANGES: [(usize, u8, bool); 7] = [
-    (28065, 255, false), // The entry of a and r, which begin a word.
-    (28065, 0, true),
-    (3118, 5, false), // The length of the window, 4.
-    (3118, 3, true),
-    (3118, 1, false),
-    (3118, 10, false),
-    (3117, 2, false), // Whether there is a filter.
-];
-
-/// Whether bytes are read as an automaton that is not this one.
-fn is_read_as_another(alloc: Global, bytes: &[u8], automaton: &Bytewise<Global>) -> Result<bool> {
-    match DoubleArrayAhoCorasick::<u32>::deserialize(alloc, bytes) {
-        Ok((read, _rest)) => Ok(read != *automaton),
-        Err(DaachorseError::InvalidAutomaton(_)) => Ok(false),
-        Err(error) => Err(error),
-    }
-}
-
-/// Whether the two words with a byte changed are read, with another filter.
-fn is_read_changed(alloc: Global, place: usize, value: u8) -> Result<bool> {
-    let automaton = words(alloc, true)?;
-    let mut bytes = automaton.serialize(alloc)?;
-    if let Some(byte) = bytes.get_mut(place) {
-        *byte = value;
-    }
-    is_read_as_another(alloc, &bytes, &automaton)
-}
-
-#[test]
-fn a_filter_is_read_where_it_passes_at_each_pattern(rt: HostRuntime) -> Result<(), Fail> {
-    for (place, value, is_read) in FILTER_CHANGES {
-        let read = is_read_changed(rt.alloc(), place, value)?;
-        expect(&rt, read == is_read, "a change of the filter");
-    }
-    Ok(())
-}
-
-/// The same as [`is_read`] with values of a byte.
-fn is_small_read(alloc: Global, automaton: &DoubleArrayAhoCorasick<u8>) -> Result<bool> {
-    let (read, is_left) = read_back(alloc, automaton)?;
-    Ok(read == *automaton && is_left)
-}
-
-#[test]
-fn values_of_a_byte_take_a_byte(rt: HostRuntime) -> Result<(), Fail> {
-    let letters = [b"a".as_slice(), b"b", b"c"];
-    let small = DoubleArrayAhoCorasick::<u8>::new(rt.alloc(), letters)?;
-    expect(&rt, small.serialize(rt.alloc())?.len() == 3121, "the bytes");
-    expect(&rt, is_small_read(rt.alloc(), &small)?, "read back");
-    Ok(())
-}
-
-/// Whether an automaton over bytes equals what is read back of it, and nothing more is read.
-fn is_read(alloc: Global, automaton: &Bytewise<Global>) -> Result<bool> {
-    let (read, is_left) = read_back(alloc, automaton)?;
-    Ok(read == *automaton && is_left)
-}
-
-/// The same by the read that checks.
-fn is_read_checked(alloc: Global, automaton: &Bytewise<Global>) -> Result<bool> {
-    let (read, is_left) = read_checked(alloc, automaton)?;
-    Ok(read == *automaton && is_left)
-}
-
-/// Whether an automaton over bytes equals what either read gives back of it, and nothing more is read.
-fn is_read_back(alloc: Global, kind: MatchKind) -> Result<bool> {
-    let patvals = [(b"aria".as_slice(), 0), (b"", 1), (b"iris", 2), (b"ar", 3)];
-    let automaton = bytewise(alloc, kind, &patvals)?;
-    Ok(is_read(alloc, &automaton)? && is_read_checked(alloc, &automaton)?)
-}
-
-/// The same as [`is_read`] over characters.
-fn is_read_charwise(alloc: Global, automaton: &Charwise<Global>) -> Result<bool> {
-    let (read, is_left) = read_back_charwise(alloc, automaton)?;
-    Ok(read == *automaton && is_left)
-}
-
-/// The same as [`is_read_checked`] over characters.
-fn is_read_checked_charwise(alloc: Global, automaton: &Charwise<Global>) -> Result<bool> {
-    let (read, is_left) = read_checked_charwise(alloc, automaton)?;
-    Ok(read == *automaton && is_left)
-}
-
-/// Whether an automaton over characters equals what either read gives back of it, and nothing more is read.
-fn is_read_back_charwise(alloc: Global, kind: MatchKind) -> Result<bool> {
-    let patvals = [("全世界", 0), ("世界", 1), ("", 2), ("に", 3)];
-    let automaton = charwise(alloc, kind, &patvals)?;
-    Ok(is_read_charwise(alloc, &automaton)? && is_read_checked_charwise(alloc, &automaton)?)
-}
-
-#[test]
-fn what_was_written_is_read_back(rt: HostRuntime) -> Result<(), Fail> {
-    for kind in KINDS {
-        expect(&rt, is_read_back(rt.alloc(), kind)?, "over bytes");
-        expect(&rt, is_read_back_charwise(rt.alloc(), kind)?, "characters");
-    }
-    Ok(())
-}
-
-/// Whether an automaton is read back as it was before its depths were cached.
-fn is_read_without_depths(
-    alloc: Global,
-    automaton: &Bytewise<Global>,
-    before: &Bytewise<Global>,
-) -> Result<bool> {
-    let (read, _) = read_back(alloc, automaton)?;
-    Ok(read != *automaton && read == *before)
-}
-
-#[test]
-fn cached_depths_are_not_written(rt: HostRuntime) -> Result<(), Fail> {
-    let patvals = [(b"ab".as_slice(), 0), (b"b", 1)];
-    let before = bytewise(rt.alloc(), MatchKind::Standard, &patvals)?;
-    let mut automaton = before.clone()?;
-    automaton.cache_depths()?;
-    let is_read = is_read_without_depths(rt.alloc(), &automaton, &before)?;
-    expect(&rt, is_read, "no depths");
+    let plain = bytes_of_words(rt.alloc(), false)?;
+    expect(&rt, plain.len() == 3118, "without a filter");
+    let filtered = bytes_of_words(rt.alloc(), true)?;
+    expect(&rt, filtered.len() == 68655, "with a filter");
+    let small = bytes_of_small(rt.alloc())?;
+    expect(&rt, small.len() == 3121, "values of a byte");
     Ok(())
 }

@@ -3,7 +3,7 @@
 //! A test runs a call over `Refusing::new(rt.alloc(), n)` for each `n` in turn, until a run meets
 //! no refusal: so each growth of the call is refused once, as [`each_request`] does. The allocator
 //! is shared as a reference, `&Refusing<Global>`, which is `Copy`. That the blocks are those of the inner allocator is proved;
-//! which request is refused is shown by a test, since no contract can say what a cell holds.
+//! which request is refused is shown by a test of `daachorse_tests`, since no contract can say what a cell holds.
 #![tactic(auto)]
 
 use std::alloc::{AllocError, Allocator, Global};
@@ -87,25 +87,4 @@ pub fn each_request<C: Call>(alloc: Global, call: &C) -> bool {
         }
     }
     false
-}
-
-#[cfg(test)]
-mod tests {
-    use crate::Refusing;
-
-    #[test]
-    fn the_chosen_request_alone_is_refused(rt: HostRuntime) {
-        for chosen in 0..4u64 {
-            let heap = Refusing::new(rt.alloc(), chosen);
-            for request in 0..3u64 {
-                let taken = Vec::<u8, _>::with_capacity(&heap, 1);
-                assert_eq!(rt;
-                    taken.is_err(),
-                    request == chosen,
-                    "request {request} of {chosen}"
-                );
-            }
-            assert_eq!(rt; heap.has_refused(), chosen < 3, "refused {chosen}");
-        }
-    }
 }

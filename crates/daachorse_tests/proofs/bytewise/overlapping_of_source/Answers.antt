@@ -1,9 +1,0 @@
--- Nothing of the source was read.
-use Rattle.std.proofs.Common.{rules}
-use Rattle.daachorse_tests.proofs.FirstReads.{from_first}
-use Rattle.daachorse_tests.proofs.bytewise.overlapping_of_source.Goals as goal
-
-pub are-requires-clause-can : goal.are-requires-clause-can
-are-requires-clause-can c =
-    let begun = c.find_overlapping_iter_from_iter in
-    from_first _ begun.result.folds begun.result.search.source begun.result.search.read begun.ensures.begins.read (search rules)

@@ -1,0 +1,203 @@
+//! The worked rows, over both automata in each way in which these come about.
+
+use crate::automata::{Automaton, Bytewise, Charwise, finds, made};
+use crate::expect;
+use crate::finding::Found;
+use crate::rows::{
+    BUILT, FOLDED_ROWS, FOLDING_WAYS, Patvals, ROWS, ROWS_OF_CHARACTERS, Row, Search, WAYS, Way,
+};
+use daachorse::{Match, MatchKind, Result};
+use std::test::Fail;
+
+/// Whether this is the first of the expected matches, or there is none as expected.
+fn is_first(found: Option<Match<u32>>, expected: &[Found]) -> bool {
+    match (found, expected.first()) {
+        (Some(found), Some((start, end, value))) => {
+            found.start() == *start && found.end() == *end && found.value() == *value
+        }
+        (None, None) => true,
+        _ => false,
+    }
+}
+
+/// Whether the first match by the automaton's kind is the first of these, if that is the row's search.
+fn finds_first<S: Automaton>(
+    automaton: &S,
+    search: Search,
+    text: &str,
+    expected: &[Found],
+) -> bool {
+    match search {
+        Search::Overlapping | Search::NoSuffix => true,
+        Search::Standard | Search::Leftmost(_) => {
+            let (first, is_match) = automaton.first(text);
+            is_first(first, expected) && is_match != expected.is_empty()
+        }
+    }
+}
+
+/// Whether a row holds of an automaton that comes about this way.
+fn holds<S: Automaton>(alloc: S::Alloc, way: Way, row: &Row) -> Result<bool> {
+    let (_, search, patvals, text, expected) = *row;
+    let automaton: S = made(alloc, way, search.kind(), patvals)?;
+    Ok(
+        automaton.kind() == (search.kind(), way.folds)
+            && finds(alloc, &automaton, search, text, expected)?
+            && finds_first(&automaton, search, text, expected),
+    )
+}
+
+/// Whether a row holds of an automaton that comes about this way, with rows of its states.
+fn holds_with_rows<S: Automaton>(alloc: S::Alloc, way: Way, row: &Row) -> Result<bool> {
+    let (_, search, patvals, text, expected) = *row;
+    let automaton: S = made(alloc, way, search.kind(), patvals)?;
+    automaton.finds_with_rows(alloc, search, text, expected)
+}
+
+/// Whether a row holds in each of these ways, and in the first of them with rows of the states.
+fn holds_in_each<S: Automaton>(alloc: S::Alloc, ways: &[Way], row: &Row) -> Result<bool> {
+    for way in ways {
+        if !holds::<S>(alloc, *way, row)? {
+            return Ok(false);
+        }
+    }
+    match ways.first() {
+        Some(way) => holds_with_rows::<S>(alloc, *way, row),
+        None => Ok(true),
+    }
+}
+
+#[test]
+fn rows_hold_over_bytes(rt: HostRuntime) -> Result<(), Fail> {
+    for row in ROWS {
+        let holds = holds_in_each::<Bytewise>(rt.alloc(), &WAYS, row)?;
+        expect(&rt, holds, row.0);
+    }
+    for row in FOLDED_ROWS {
+        let holds = holds_in_each::<Bytewise>(rt.alloc(), &FOLDING_WAYS, row)?;
+        expect(&rt, holds, row.0);
+    }
+    Ok(())
+}
+
+#[test]
+fn rows_hold_over_characters(rt: HostRuntime) -> Result<(), Fail> {
+    for rows in [ROWS, ROWS_OF_CHARACTERS] {
+        for row in rows {
+            let holds = holds_in_each::<Charwise>(rt.alloc(), &WAYS, row)?;
+            expect(&rt, holds, row.0);
+        }
+    }
+    for row in FOLDED_ROWS {
+        let holds = holds_in_each::<Charwise>(rt.alloc(), &FOLDING_WAYS, row)?;
+        expect(&rt, holds, row.0);
+    }
+    Ok(())
+}
+
+/// Whether searches of a row that are dropped past some of its matches leave the automaton as it was. One
+/// is dropped behind the first match that is not expected.
+fn is_left<S: Automaton>(alloc: S::Alloc, row: &Row) -> Result<bool> {
+    let (_, search, patvals, text, expected) = *row;
+    let automaton: S = made(alloc, BUILT, search.kind(), patvals)?;
+    let before = automaton.cloned()?;
+    for count in 0..expected.len() {
+        if automaton.finds_in_slice(search, text, &expected[..count]) || automaton != before {
+            return Ok(false);
+        }
+    }
+    Ok(true)
+}
+
+#[test]
+fn a_dropped_search_leaves_the_automaton(rt: HostRuntime) -> Result<(), Fail> {
+    for row in ROWS {
+        expect(&rt, is_left::<Bytewise>(rt.alloc(), row)?, row.0);
+        expect(&rt, is_left::<Charwise>(rt.alloc(), row)?, row.0);
+    }
+    Ok(())
+}
+
+/// What a row shows, a search, patterns, a text, the matches in it, and the depths that a stepper tells
+/// before the first unit and behind each.
+type DepthRow = (
+    &'static str,
+    Search,
+    Patvals,
+    &'static str,
+    &'static [Found],
+    &'static [u32],
+);
+
+const AB: Patvals = &[("ab", 0), ("b", 1)];
+
+const AND_EMPTY: Patvals = &[("ab", 0), ("", 1)];
+
+const WORDS: Patvals = &[("世界", 0), ("界", 1)];
+
+const DEPTH_ROWS: &[DepthRow] = &[
+    (
+        "all matches",
+        Search::Overlapping,
+        AB,
+        "abb",
+        &[(0, 2, 0), (1, 2, 1), (2, 3, 1)],
+        &[0, 1, 2, 1],
+    ),
+    (
+        "behind each match the search begins again",
+        Search::Standard,
+        AB,
+        "abb",
+        &[(0, 2, 0), (2, 3, 1)],
+        &[0, 1, 0, 0],
+    ),
+    (
+        "all matches with an empty pattern",
+        Search::Overlapping,
+        AND_EMPTY,
+        "abb",
+        &[(0, 0, 1), (1, 1, 1), (0, 2, 0), (2, 2, 1), (3, 3, 1)],
+        &[0, 1, 2, 0],
+    ),
+    (
+        "with an empty pattern the search stays at the root",
+        Search::Standard,
+        AND_EMPTY,
+        "abb",
+        &[(0, 0, 1), (1, 1, 1), (2, 2, 1), (3, 3, 1)],
+        &[0, 0, 0, 0],
+    ),
+];
+
+/// Depths in characters.
+const DEPTH_ROW_OF_CHARACTERS: DepthRow = (
+    "depths are counted in characters",
+    Search::Overlapping,
+    WORDS,
+    "世界界",
+    &[(0, 6, 0), (3, 6, 1), (6, 9, 1)],
+    &[0, 1, 2, 1],
+);
+
+/// Whether a stepper tells no depths before they are cached, and then those of a row.
+fn has_depths<S: Automaton>(alloc: S::Alloc, row: &DepthRow) -> Result<bool> {
+    let (_, search, patvals, text, expected, depths) = *row;
+    let mut automaton: S = made(alloc, BUILT, MatchKind::Standard, patvals)?;
+    if !automaton.finds_by_steps(alloc, search, text, expected, &[])? {
+        return Ok(false);
+    }
+    automaton.cache()?;
+    automaton.finds_by_steps(alloc, search, text, expected, depths)
+}
+
+#[test]
+fn depths_are_those_of_the_states(rt: HostRuntime) -> Result<(), Fail> {
+    for row in DEPTH_ROWS {
+        expect(&rt, has_depths::<Bytewise>(rt.alloc(), row)?, row.0);
+        expect(&rt, has_depths::<Charwise>(rt.alloc(), row)?, row.0);
+    }
+    let row = DEPTH_ROW_OF_CHARACTERS;
+    expect(&rt, has_depths::<Charwise>(rt.alloc(), &row)?, row.0);
+    Ok(())
+}

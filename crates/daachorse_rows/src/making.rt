@@ -10,7 +10,8 @@ ghost use Rattle.daachorse_rows.specs.Rows.{AreChosen, AreCovered, AreHomes, Are
 
 use crate::label::{RowLabel, SLOTTED};
 use daachorse_core::turns::Turns;
-use daachorse_search::automaton::{Automaton, follow};
+use daachorse_search::automaton::Automaton;
+use daachorse_search::walk::follow;
 use std::alloc::{AllocError, Allocator};
 use std::num::NonZeroU32;
 

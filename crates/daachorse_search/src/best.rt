@@ -10,8 +10,9 @@ ghost use Rattle.daachorse_model.specs.Units.{size};
 ghost use Rattle.daachorse_model.specs.Best.{IsLeftmost};
 ghost use Rattle.daachorse_search.specs.BestScans.{IsBestScan, IsClear, IsScanning, IsTheBest};
 
-use crate::automaton::{Automaton, step};
+use crate::automaton::Automaton;
 use crate::haystack::Reread;
+use crate::walk::step;
 use daachorse_core::edge_label::EdgeLabel;
 use daachorse_core::turns::Turns;
 use std::num::NonZeroU32;

@@ -1,23 +1,31 @@
-//! A walk through an automaton, one unit at a time.
+//! The step from state to state, and a walk of such steps through an automaton.
 //!
-//! The layers above may rely on a walk standing at the state of the units that it read since it
-//! last began at the root, and on the bounds of its turns. It counts no bytes: whoever asks for a match
-//! tells the place where the walk stands.
+//! The layers above may rely on a step ending where the links lead; in an automaton with no dead link
+//! that is the state of the longest end of the text that begins a key, and in a leftmost one that of
+//! what may still become a match as early as the best so far, which is the cut of what was read; and
+//! on its turns: at most two, less what the state's text grew by, at least one for a unit with a
+//! label, and none for a unit without; at most one where each look ends its step.
+//!
+//! They may rely on a walk standing at the state of the units that it read since it last began at the
+//! root, and on the bounds of its turns. It counts no bytes: whoever asks for a match tells the place
+//! where the walk stands.
 
-ghost use Rattle.std.specs.Prelude.{◌≡◌, ◌≢◌, Some, None, ◌+◌, ◌*◌, ◌↔◌, ◌^◌, ◌<◌, ◌≤◌, ℕ, List, [], ◌∷◌, ◌++◌, IfSome, IsTrue, length, map, count_by};
+ghost use Rattle.std.specs.Prelude.{◌≡◌, ◌≢◌, Some, None, false, ◌+◌, ◌*◌, ◌↔◌, ◌^◌, ◌<◌, ◌≤◌, ℕ, List, [], ◌∷◌, ◌++◌, IfSome, IsTrue, if◌then◌else◌, length, map, count_by};
 ghost use Rattle.daachorse_model.specs.Units.{size};
-ghost use Rattle.daachorse_model.specs.Prefixes.{IsLong};
+ghost use Rattle.daachorse_model.specs.Best.{IsLeftmost, IsSteady, LeftSteps};
+ghost use Rattle.daachorse_model.specs.Prefixes.{IsCut, IsLong};
 ghost use Rattle.daachorse_core.specs.Outputs.{number};
 ghost use Rattle.daachorse_model.specs.Outputs.{AllWithin, matches_of_outputs};
 ghost use Rattle.daachorse_core.specs.Seen.{units, unread};
 ghost use Rattle.daachorse_core.specs.Depths.{AreDepths};
+ghost use Rattle.daachorse_core.specs.Looks.{IsFirstOutput, StepEnds};
 ghost use Rattle.daachorse_search.specs.Afresh.{shifted};
 ghost use Rattle.daachorse_search.specs.Walks.{read_on, skip_on, begin_on, HasOutputs, IsWalking};
 
-use crate::automaton::{Automaton, step};
+use crate::automaton::Automaton;
 use daachorse_core::Match;
 use daachorse_core::edge_label::EdgeLabel;
-use daachorse_core::turns::{Seen, Turns};
+use daachorse_core::turns::{Look, Seen, Turns};
 use std::alloc::AllocError;
 use std::marker::{Model, PhantomData};
 use std::num::NonZeroU32;
@@ -249,5 +257,71 @@ impl<V: Copy, A: Automaton<V>> Clone for Walk<V, A> {
             seen: self.seen.clone()?,
             of: PhantomData,
         })
+    }
+}
+
+/// The state after one more unit, and the position of its first output; in a leftmost automaton the
+/// root where no match that goes on past the unit starts as early as the best so far. A unit with no
+/// label leads to the root with no turn.
+#[inline(always)]
+pub fn step<V: Copy, A: Automaton<V>>(
+    automaton: &A,
+    state: u32,
+    unit: A::Unit,
+    turns: &mut Turns,
+) -> (u32, Option<NonZeroU32>)
+    requires { A.reached automaton.now state }
+    ensures reached { A.reached automaton.now result.0 }
+    ensures output { IsFirstOutput A.Unit.width (A.content automaton.now) (A.dead automaton.now) (A.has_output automaton.now) (A.outputs automaton.now) (A.most_outputs automaton.now) (A.text automaton.now result.0) result.1 }
+    ensures ends { StepEnds (A.content automaton.now) (A.dead automaton.now) (A.text automaton.now state) (A.Unit.unit unit) (A.text automaton.now result.0) }
+    ensures standard { ((w : List ℕ) → ¬ A.dead automaton.now w)
+        → IsLong (A.content automaton.now) (A.text automaton.now state ++ A.Unit.unit unit ∷ []) (A.text automaton.now result.0) }
+    ensures leftmost { IsLeftmost (A.content automaton.now) (A.dead automaton.now) → (w : List ℕ) → IsSteady (A.content automaton.now) w (A.text automaton.now state)
+        → LeftSteps (A.content automaton.now) w (A.Unit.unit unit) (A.text automaton.now result.0) }
+    ensures cut { IsLeftmost (A.content automaton.now) (A.dead automaton.now) → (w : List ℕ) → IsSteady (A.content automaton.now) w (A.text automaton.now state)
+        → IsCut (A.content automaton.now) (w ++ A.Unit.unit unit ∷ []) (A.text automaton.now result.0) }
+    ensures most { turns.new + length (A.text automaton.now result.0) ≤ turns.old + length (A.text automaton.now state) + 2 }
+    ensures single { A.ends_at_once automaton.now → turns.new ≤ turns.old + 1 }
+    ensures least { turns.old + (if A.has_label automaton.now (A.Unit.unit unit) then 1 else 0) ≤ turns.new }
+    ensures no_label { A.has_label automaton.now (A.Unit.unit unit) ≡ false → (turns.new ≡ turns.old) × (A.text automaton.now result.0 ≡ []) }
+{
+    let Some(label) = automaton.label(unit) else {
+        let root = automaton.root();
+        return (root, automaton.output_pos(root));
+    };
+    follow(automaton, state, label, turns)
+}
+
+/// The same for a label that stands for some unit: the end of the step, however many links lead
+/// there.
+#[inline(always)]
+pub fn follow<V: Copy, A: Automaton<V>>(
+    automaton: &A,
+    state: u32,
+    label: A::Label,
+    turns: &mut Turns,
+) -> (u32, Option<NonZeroU32>)
+    requires reached { A.reached automaton.now state }
+    requires unit { (unit : ℕ) × A.labels automaton.now label unit }
+    ensures reached { A.reached automaton.now result.0 }
+    ensures output { IsFirstOutput A.Unit.width (A.content automaton.now) (A.dead automaton.now) (A.has_output automaton.now) (A.outputs automaton.now) (A.most_outputs automaton.now) (A.text automaton.now result.0) result.1 }
+    ensures ends { (unit : ℕ) → A.labels automaton.now label unit
+        → StepEnds (A.content automaton.now) (A.dead automaton.now) (A.text automaton.now state) unit (A.text automaton.now result.0) }
+    ensures most { turns.new + length (A.text automaton.now result.0) ≤ turns.old + length (A.text automaton.now state) + 2 }
+    ensures single { A.ends_at_once automaton.now → turns.new ≤ turns.old + 1 }
+    ensures least { turns.old + 1 ≤ turns.new }
+{
+    let mut at = state;
+    if automaton.looks_ahead() {
+        match automaton.turn(state, label, turns) {
+            Look::Next(next, position) => return (next, position),
+            Look::Fail(link) => at = link,
+        }
+    }
+    'links: loop {
+        match automaton.turn(at, label, turns) {
+            Look::Next(next, position) => return (next, position),
+            Look::Fail(link) => at = link,
+        }
     }
 }

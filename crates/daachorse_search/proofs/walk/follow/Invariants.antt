@@ -1,6 +1,6 @@
 use Rattle.std.proofs.Common.{◌≡◌, ◌+◌, ◌≤◌, List, ℕ, length}
 use Rattle.daachorse_core.specs.Looks.{StepEnds}
-use Rattle.daachorse_search.proofs.automaton.follow.Given as goal
+use Rattle.daachorse_search.proofs.walk.follow.Given as goal
 
 abbrev pub invariant-links : goal.invariant-links
 invariant-links g l =

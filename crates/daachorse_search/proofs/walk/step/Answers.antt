@@ -1,6 +1,6 @@
 use Rattle.std.proofs.Common.{inl}
 use Rattle.daachorse_search.proofs.LookLemmas.{StepEnds-cut, StepEnds-left, StepEnds-long}
-use Rattle.daachorse_search.proofs.automaton.step.Goals as goal
+use Rattle.daachorse_search.proofs.walk.step.Goals as goal
 
 -- no key has the unit
 pub returns-in_default-clause-ends : goal.returns-in_default-clause-ends

@@ -1,7 +1,7 @@
 use Rattle.std.proofs.Common.{refl, arith}
 use Rattle.daachorse_search.proofs.LookLemmas.{StepEnds-length, StepEnds-link}
-use Rattle.daachorse_search.proofs.automaton.follow.Goals as goal
-use Rattle.daachorse_search.proofs.automaton.follow.Goals.{then-looks_ahead+in-Fail, else-looks_ahead}
+use Rattle.daachorse_search.proofs.walk.follow.Goals as goal
+use Rattle.daachorse_search.proofs.walk.follow.Goals.{then-looks_ahead+in-Fail, else-looks_ahead}
 
 -- a look ahead of the loop ends the step, or its link is followed
 pub returns-in-Next-clause-output : goal.returns-in-Next-clause-output

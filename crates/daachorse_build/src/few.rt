@@ -18,7 +18,7 @@ use std::alloc::Allocator;
 pub(crate) enum Few<T: Copy, A: Allocator> {
     Empty,
     One(T),
-    // It is longer only where more than one was put in.
+    // Two items or more.
     Many(Box<Vec<T, A>, A>),
 }
 

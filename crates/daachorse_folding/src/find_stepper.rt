@@ -108,6 +108,7 @@ where
     pub fn into_standing(self) -> FindStanding
         ensures stands { IsFindStanding A.Unit.width A.content A.reached A.text A.dead A.has_label A.ends_at_once A.has_output A.outputs self.entry.automaton result }
         ensures read { units result.walk.seen ≡ self.entry.read }
+        ensures turns { result.walk.turns ≡ self.entry.turns }
     {
         let FindStepperAsRead {
             stepper,
@@ -126,6 +127,7 @@ where
         ensures depths { result.depths ≡ depths.entry.now }
         ensures folds { result.folds ≡ folds }
         ensures read { result.read ≡ units standing.walk.seen }
+        ensures turns { result.turns ≡ standing.walk.turns }
     {
         FindStepperAsRead {
             stepper: FindStepper::resume(automaton, depths, standing),

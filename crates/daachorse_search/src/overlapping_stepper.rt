@@ -131,6 +131,7 @@ impl<'a, V: Copy, A: Automaton<V>> FindOverlappingStepper<'a, V, A> {
     pub fn into_standing(self) -> OverlappingStanding
         ensures stands { IsOverlappingStanding A.Unit.width A.content A.reached A.text A.dead A.has_label A.ends_at_once A.has_output A.outputs self.entry.automaton result }
         ensures read { units result.walk.seen ≡ self.entry.read }
+        ensures turns { result.walk.turns ≡ self.entry.turns }
     {
         let FindOverlappingStepper {
             walk,
@@ -151,6 +152,7 @@ impl<'a, V: Copy, A: Automaton<V>> FindOverlappingStepper<'a, V, A> {
         ensures automaton { result.automaton ≡ automaton }
         ensures depths { result.depths ≡ depths.entry.now }
         ensures read { result.read ≡ units standing.walk.seen }
+        ensures turns { result.turns ≡ standing.walk.turns }
     {
         let OverlappingStanding { walk, place, found } = standing;
         FindOverlappingStepper {

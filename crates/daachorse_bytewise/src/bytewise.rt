@@ -628,6 +628,7 @@ impl<V: Copy, A: Allocator> DoubleArrayAhoCorasick<V, A> {
         ensures depths { result.depths ≡ self.entry.now.depths }
         ensures folds { result.folds ≡ self.entry.now.folds }
         ensures read { result.read ≡ units standing.walk.seen }
+        ensures turns { result.turns ≡ standing.walk.turns }
     {
         FindStepper::resume(self.states.standard(), &self.depths, standing, self.folds)
     }
@@ -652,6 +653,7 @@ impl<V: Copy, A: Allocator> DoubleArrayAhoCorasick<V, A> {
         ensures depths { result.depths ≡ self.entry.now.depths }
         ensures folds { result.folds ≡ self.entry.now.folds }
         ensures read { result.read ≡ units standing.walk.seen }
+        ensures turns { result.turns ≡ standing.walk.turns }
     {
         FindOverlappingStepper::resume(self.states.standard(), &self.depths, standing, self.folds)
     }

@@ -453,6 +453,7 @@ impl<'a, V: Copy, A: Allocator> Accelerated<'a, V, A> {
         ensures depths { result.depths ≡ [] }
         ensures folds { result.folds ≡ self.entry.now.automaton.folds }
         ensures read { result.read ≡ units standing.walk.seen }
+        ensures turns { result.turns ≡ standing.walk.turns }
     {
         let folds = self.automaton().is_ascii_case_insensitive();
         FindStepper::resume(self.standard(), &[], standing, folds)
@@ -481,6 +482,7 @@ impl<'a, V: Copy, A: Allocator> Accelerated<'a, V, A> {
         ensures depths { result.depths ≡ [] }
         ensures folds { result.folds ≡ self.entry.now.automaton.folds }
         ensures read { result.read ≡ units standing.walk.seen }
+        ensures turns { result.turns ≡ standing.walk.turns }
     {
         let folds = self.automaton().is_ascii_case_insensitive();
         FindOverlappingStepper::resume(self.standard(), &[], standing, folds)

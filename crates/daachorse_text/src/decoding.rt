@@ -3,11 +3,11 @@
 //! The layers above may rely on each call taking just the bytes of the character that it gives,
 //! and on the end coming where the source ends. That the bytes are UTF-8 is a condition.
 
-ghost use Rattle.std.specs.Prelude.{◌≡◌, ◌<◌, ◌≤◌, IfSome};
+ghost use Rattle.std.specs.Prelude.{◌≡◌, ◌<◌, ◌+◌, ◌*◌, ℕ, suc, IfSome};
 ghost use Rattle.std.specs.Iterator.{MakesProgress};
 ghost use Rattle.std.specs.Option.{option_map};
-ghost use Rattle.std.specs.Str.{continuation_len, lead_bits};
 ghost use Rattle.daachorse_model.specs.Units.{char_width};
+ghost use Rattle.daachorse_text.specs.Midway.{IsMidway, TakesInner};
 ghost use Rattle.daachorse_text.specs.TextSources.{IsText, GivesCharacter};
 
 use daachorse_search::source::Source;
@@ -46,16 +46,33 @@ impl<P: Iterator<Item = u8>> Decoded<P> {
         if first < 0x80 {
             return Some((char::from(first), 1));
         }
-        let (mut code, mut more) = lead(first);
-        let bytes = more + 1;
-        while more > 0 {
-            let Some(byte) = self.bytes.next() else {
-                unreachable!()
-            };
-            code = code * 64 + u32::from(byte) % 64;
-            more -= 1;
+        let lead = u32::from(first);
+        let two = self.take_inner(0);
+        if first < 0xe0 {
+            let code = (lead - 0xc0) * 64 + two;
+            return Some((unsafe { char::from_u32_unchecked(code) }, 2));
         }
-        Some((unsafe { char::from_u32_unchecked(code) }, bytes))
+        let three = self.take_inner(two);
+        if first < 0xf0 {
+            let code = (lead - 0xe0) * 4096 + three;
+            return Some((unsafe { char::from_u32_unchecked(code) }, 3));
+        }
+        let four = self.take_inner(three);
+        let code = (lead - 0xf0) * 262144 + four;
+        Some((unsafe { char::from_u32_unchecked(code) }, 4))
+    }
+
+    /// Takes a byte inside a character, and puts its bits behind those of the bytes inside before it.
+    #[inline(always)]
+    fn take_inner(&mut self, code: u32) -> u32
+        requires { (source : P) × (first bits more : ℕ) × IsText P.can_next P.next_gives P.remaining source × IsMidway P.can_next P.next_gives P.remaining source first (bits + code) (suc more) self.old }
+        ensures takes { TakesInner P.can_next P.next_gives P.remaining code self.old result self.new }
+        ensures fits { result < code * 64 + 64 }
+    {
+        let Some(byte) = self.bytes.next() else {
+            unreachable!()
+        };
+        code * 64 + u32::from(byte) % 64
     }
 }
 
@@ -144,23 +161,5 @@ impl<P: Iterator<Item = u8>> Iterator for CharWithEndOffsetIterator<P> {
         let character = self.characters.next()?;
         self.place += character.len_utf8();
         Some((self.place, character))
-    }
-}
-
-/// What the first byte of a character past ASCII tells: its highest bits, and how many bytes
-/// follow.
-#[inline(always)]
-fn lead(first: u8) -> (u32, usize)
-    requires { 192 ≤ first }
-    ensures bits { result.0 ≡ lead_bits first }
-    ensures more { result.1 ≡ continuation_len first }
-{
-    let bits = u32::from(first);
-    if bits < 0xe0 {
-        (bits - 0xc0, 1)
-    } else if bits < 0xf0 {
-        (bits - 0xe0, 2)
-    } else {
-        (bits - 0xf0, 3)
     }
 }

@@ -14,6 +14,7 @@ ghost use Rattle.daachorse_search.specs.Standings.{IsOverlappingStanding};
 ghost use Rattle.daachorse_search.specs.Stepwise.{AreBounded};
 
 use daachorse_core::ascii_fold::AsciiFold;
+use daachorse_core::edge_label::EdgeLabel;
 use daachorse_search::automaton::Automaton;
 use daachorse_search::ending_here::EndingHere;
 use daachorse_search::overlapping_stepper::{FindOverlappingStepper, OverlappingStanding};
@@ -72,11 +73,10 @@ where
         ensures folds { self.new.folds ≡ self.old.folds }
         ensures read { self.new.read ≡ self.old.read ++ as_read self.old.folds (A.Unit.unit unit ∷ []) }
     {
-        if self.folds {
-            self.stepper.consume(unit.folded());
-        } else {
-            self.stepper.consume(unit);
-        }
+        // A folded unit takes as many bytes, so they are counted whether it folds or not.
+        let bytes = unit.num_bytes();
+        let read = if self.folds { unit.folded() } else { unit };
+        self.stepper.consume_wide(read, bytes);
     }
 
     /// The matches that end with the units consumed: the longest first, equal patterns in order of

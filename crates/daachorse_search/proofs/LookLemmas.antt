@@ -1,5 +1,5 @@
 -- The end of a step, however many links lead there: the longest end that begins a key, and in a leftmost automaton what may still become a match.
-use Rattle.std.proofs.Common.{◌≡◌, ℕ, zero, suc, ◌+◌, ◌≤◌, inl, inr, List, [], ◌∷◌, ◌++◌, length, ap, arith, length-append}
+use Rattle.std.proofs.Common.{ℕ, zero, suc, ◌+◌, ◌≤◌, inl, inr, List, [], ◌∷◌, ◌++◌, length, ap, arith, length-append}
 use Rattle.daachorse_core.specs.Looks.{EndsAfter, StepEnds}
 use Rattle.daachorse_model.specs.Dictionary.{Dictionary}
 use Rattle.daachorse_model.specs.Prefixes.{IsPrefix, IsLong, IsLink, IsCut}

@@ -96,7 +96,19 @@ impl<'a, V: Copy, A: Automaton<V>> FindOverlappingStepper<'a, V, A> {
         ensures depths { self.new.depths ≡ self.old.depths }
         ensures read { self.new.read ≡ self.old.read ++ A.Unit.unit unit ∷ [] }
     {
-        self.place += unit.num_bytes();
+        self.consume_wide(unit, unit.num_bytes());
+    }
+
+    /// The same for a unit that takes so many bytes.
+    #[inline(always)]
+    pub fn consume_wide(&mut self, unit: A::Unit, bytes: usize)
+        requires fits { size A.Unit.width self.old.read + A.Unit.width (A.Unit.unit unit) < 2 ^ 64 }
+        requires bytes { bytes ≡ A.Unit.width (A.Unit.unit unit) }
+        ensures automaton { self.new.automaton ≡ self.old.automaton }
+        ensures depths { self.new.depths ≡ self.old.depths }
+        ensures read { self.new.read ≡ self.old.read ++ A.Unit.unit unit ∷ [] }
+    {
+        self.place += bytes;
         self.found = self.walk.advance(unit);
     }
 

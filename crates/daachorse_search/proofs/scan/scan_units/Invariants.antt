@@ -2,7 +2,7 @@ use Rattle.std.proofs.Common.{◌≡◌, List}
 use Rattle.std.specs.Iterator.{items_left}
 use Rattle.daachorse_model.specs.Units.{size}
 use Rattle.daachorse_search.specs.Sources.{IsReady, ScansOver}
-use Rattle.daachorse_search.proofs.scan.scan.Given as goal
+use Rattle.daachorse_search.proofs.scan.scan_units.Given as goal
 
 abbrev pub invariant-units : goal.invariant-units
 invariant-units g l =

@@ -1,3 +1,4 @@
 pub mod TurnLaws
 pub use Rattle.daachorse_search.proofs.MatchesLemmas
 pub mod WrittenLaws
+pub mod RowedLaws

@@ -31,14 +31,14 @@ module _ {V : Type 0} (p : Parts V) where
 
   pub valid_machine : IsValid p → IsMachine byte_width (machine p) (is_leftmost p.kind) (count p) 256
   valid_machine valid = record {
-    some = valid.some;
+    some = valid.grouped.some;
     inside = λ i c j e.
         let parts = child_at-inside (count p) c (base_of p i) c j (check_of p) e in
         let check : check_of p j ≡ c = parts.1 in
         (parts.0, byte j c check);
-    outputs_inside = λ i h. (valid.inside i h).output;
-    parents_fall = valid.parents_fall;
-    right = valid.right;
+    outputs_inside = valid.sound.ranges.positions;
+    parents_fall = valid.sound.parents_fall;
+    right = valid.sound.right;
   }
     where
       byte : (j c : ℕ) → check_of p j ≡ c → c < 256

@@ -22,7 +22,7 @@ nonzero-none (suc b) e = absurd (cc)
 
 module _ {V : Type 0} (p : Parts V) where
   pub valid_tree : IsValid p → p.num_states < 4294967296 → IsTree (child p) (count p) 256
-  valid_tree valid few = machine_tree byte_width (machine p) (is_leftmost p.kind) (count p) 256 p.num_states (valid_machine p valid) valid.counted few
+  valid_tree valid few = machine_tree byte_width (machine p) (is_leftmost p.kind) (count p) 256 p.num_states (valid_machine p valid) valid.sound.counted few
 
   -- bases that are elements are enough
   pub bases_tell : ((i : ℕ) → i < count p → base_of p i < count p) → TellChildren (child p) (group_of p) (edge_of p) (count p)
@@ -55,4 +55,4 @@ module _ {V : Type 0} (p : Parts V) where
           child_at-some (count p) c (base_of p i) c j (check_of p) base.1 moved less check
 
   pub valid_tells : IsValid p → TellChildren (child p) (group_of p) (edge_of p) (count p)
-  valid_tells valid = bases_tell (λ i h. (valid.inside i h).base)
+  valid_tells valid = bases_tell valid.grouped.bases

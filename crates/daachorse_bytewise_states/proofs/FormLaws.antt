@@ -3,9 +3,10 @@ use Rattle.std.proofs.Common.{ℕ, ◌<◌, ◌^◌, Bool, true, false, List, le
 use Rattle.daachorse_model.specs.Kinds.{is_leftmost}
 use Rattle.daachorse_checker.proofs.ReadLaws.{law_where}
 use Rattle.daachorse_serializer.specs.Forms.{IsForm, Taken}
+use Rattle.daachorse_bytewise_states.specs.Grouped.{HasShape}
 use Rattle.daachorse_bytewise_states.specs.Parts.{Parts}
 use Rattle.daachorse_bytewise_states.specs.PartForms.{AreCounted, IsAutomaton, parts_form, parts_law, parts_most, take_parts}
-use Rattle.daachorse_bytewise_states.specs.Valid.{HasShape, IsValid}
+use Rattle.daachorse_bytewise_states.specs.Valid.{IsValid}
 
 module _ {V : Type 0} (p : Parts V) where
   lists-counted : (leftmost : Bool) → cond leftmost (length p.leftmost) (length p.standard) < 2 ^ 32 → length p.outputs < 2 ^ 32 → HasShape p leftmost → AreCounted p
@@ -24,7 +25,7 @@ module _ {V : Type 0} (p : Parts V) where
 
   -- the lists of valid parts can be counted
   valid-counted : IsValid p → AreCounted p
-  valid-counted valid = lists-counted (is_leftmost p.kind) valid.few.elements valid.few.outputs valid.shape
+  valid-counted valid = lists-counted (is_leftmost p.kind) valid.grouped.few.elements valid.grouped.few.outputs valid.grouped.shape
 
 -- the parts of an automaton in hand are read back from their form, whatever follows it
 pub automaton_law : {V : Type 0} {P : V → Type 0} {value : V → List ℕ} {take_value : List ℕ → Taken V} {n : ℕ} → IsForm P value take_value (λ _. n)

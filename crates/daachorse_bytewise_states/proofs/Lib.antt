@@ -12,5 +12,4 @@ pub mod Rows
 pub mod EdgeLaws
 pub mod ListingLaws
 pub mod FormLaws
-pub mod GroupedLaws
 pub mod EdgeByteLaws

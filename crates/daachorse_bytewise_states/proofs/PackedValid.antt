@@ -20,7 +20,8 @@ use Rattle.daachorse_bytewise_states.specs.declared.state.State.{State}
 use Rattle.daachorse_bytewise_states.specs.Elements.{base_in, fail_in, output_in}
 use Rattle.daachorse_bytewise_states.specs.Parts.{Parts, base_of, content, count, fail_of, machine, output_of, parts_of, without_link}
 use Rattle.daachorse_bytewise_states.specs.Packing.{element, ArePacked}
-use Rattle.daachorse_bytewise_states.specs.Valid.{HasShape, IsInside, IsValid}
+use Rattle.daachorse_bytewise_states.specs.Grouped.{HasShape}
+use Rattle.daachorse_bytewise_states.specs.Valid.{IsValid}
 use Rattle.daachorse_packing.specs.Settled.{trie_of}
 use Rattle.daachorse_packing.proofs.Held.{held-in_range, settled-states}
 use Rattle.daachorse_packing.proofs.Places.{some-elements}
@@ -39,18 +40,17 @@ module _ {A V : Type 0} {gs : List (SiblingGroup A)} {l : Layout} {edges : List 
   abbrev parts : Parts V
   parts = parts_of kind es outputs n
 
-  inside_at : (i : ℕ) → i < count parts → IsInside parts i
+  inside_at : (i : ℕ) → i < count parts → (base_of parts i < count parts) × (fail_of parts i < count parts) × (output_of parts i ≤ length parts.outputs)
   inside_at i low =
       let size : count parts ≡ length es = parts-count es outputs n kind in
       let range = held-in_range p.settled fails positions (element-states p) byte_width (is_leftmost kind) K outputs holds root_link fits (some-elements p.settled) i (subst (λ (x : ℕ). i < x) (size ∙ p.held.size) low) in
       let base : base_of parts i ≡ base_in (element es i) = parts-base es outputs n kind i in
       let fail : fail_of parts i ≡ fail_in (element es i) = parts-fail es outputs n kind i in
-      let output : output_of parts i ≡ output_in (element es i) = parts-output es outputs n kind i in
-      record {
-        base = subst (λ (x : ℕ). base_of parts i < x) (sym size) (subst (λ (x : ℕ). x < length es) (sym base) (subst (λ (x : ℕ). base_in (element es i) < x) (sym p.held.size) range.base));
-        fail = subst (λ (x : ℕ). fail_of parts i < x) (sym size) (subst (λ (x : ℕ). x < length es) (sym fail) (subst (λ (x : ℕ). fail_in (element es i) < x) (sym p.held.size) range.fail));
-        output = subst (λ (os : List (Output V)). output_of parts i ≤ length os) (sym (parts-outputs es outputs n kind)) (subst (λ (x : ℕ). x ≤ length outputs) (sym output) range.output);
-      }
+      let output : output_of parts i ≡ output_in (element es i) = parts-output es outputs n kind i in (
+        subst (λ (x : ℕ). base_of parts i < x) (sym size) (subst (λ (x : ℕ). x < length es) (sym base) (subst (λ (x : ℕ). base_in (element es i) < x) (sym p.held.size) range.base)),
+        subst (λ (x : ℕ). fail_of parts i < x) (sym size) (subst (λ (x : ℕ). x < length es) (sym fail) (subst (λ (x : ℕ). fail_in (element es i) < x) (sym p.held.size) range.fail)),
+        subst (λ (os : List (Output V)). output_of parts i ≤ length os) (sym (parts-outputs es outputs n kind)) (subst (λ (x : ℕ). x ≤ length outputs) (sym output) range.output),
+      )
 
   wide : (u : ℕ) → 1 ≤ byte_width u
   wide u = omega arith
@@ -60,17 +60,22 @@ module _ {A V : Type 0} {gs : List (SiblingGroup A)} {l : Layout} {edges : List 
 
   pub packed-IsValid : length es < 2 ^ 32 → length outputs < 2 ^ 32 → n ≡ length edges - 1 → IsValid parts
   packed-IsValid few few_outputs counted = record {
-    blocks = subst (λ (x : ℕ). x % 256 ≡ 0) (sym (parts-count es outputs n kind ∙ p.held.size ∙ p.settled.sizes.elements)) (mul-mod_left l.blocks 256);
-    some = subst (λ (x : ℕ). 0 < x) (sym (parts-count es outputs n kind)) (subst (λ (x : ℕ). 0 < x) (sym p.held.size) (some-elements p.settled));
-    few = record {
-      elements = subst (λ (x : ℕ). x < 2 ^ 32) (sym (parts-count es outputs n kind)) few;
-      outputs = subst (λ (os : List (Output V)). length os < 2 ^ 32) (sym (parts-outputs es outputs n kind)) few_outputs;
+    grouped = record {
+      blocks = subst (λ (x : ℕ). x % 256 ≡ 0) (sym (parts-count es outputs n kind ∙ p.held.size ∙ p.settled.sizes.elements)) (mul-mod_left l.blocks 256);
+      some = subst (λ (x : ℕ). 0 < x) (sym (parts-count es outputs n kind)) (subst (λ (x : ℕ). 0 < x) (sym p.held.size) (some-elements p.settled));
+      few = record {
+        elements = subst (λ (x : ℕ). x < 2 ^ 32) (sym (parts-count es outputs n kind)) few;
+        outputs = subst (λ (os : List (Output V)). length os < 2 ^ 32) (sym (parts-outputs es outputs n kind)) few_outputs;
+      };
+      shape = parts-shape kind es outputs n;
+      bases = λ i low. (inside_at i low).0;
     };
-    shape = parts-shape kind es outputs n;
-    inside = inside_at;
-    parents_fall = subst (λ (os : List (Output V)). ParentsFall os) (sym (parts-outputs es outputs n kind)) holds.parents_fall;
-    right = subst (λ (k : MatchKind). IsRight byte_width (machine parts) (is_leftmost k)) (sym (parts-kind es outputs n kind)) (copy-right byte_width wide K (is_leftmost kind) (trie_of edges fails positions) outputs holds (machine parts) (λ t. get_or l.idx t 0) copy);
-    counted = subst (λ (m : ℕ). IsCounted (machine parts) m) (sym (parts-num_states es outputs n kind ∙ counted)) (copy-counted byte_width wide K (is_leftmost kind) (trie_of edges fails positions) outputs holds (machine parts) (λ t. get_or l.idx t 0) copy (length edges) (settled-states p.settled fails positions));
+    sound = record {
+      ranges = record { links = λ i low. (inside_at i low).1; positions = λ i low. (inside_at i low).2 };
+      parents_fall = subst (λ (os : List (Output V)). ParentsFall os) (sym (parts-outputs es outputs n kind)) holds.parents_fall;
+      right = subst (λ (k : MatchKind). IsRight byte_width (machine parts) (is_leftmost k)) (sym (parts-kind es outputs n kind)) (copy-right byte_width wide K (is_leftmost kind) (trie_of edges fails positions) outputs holds (machine parts) (λ t. get_or l.idx t 0) copy);
+      counted = subst (λ (m : ℕ). IsCounted (machine parts) m) (sym (parts-num_states es outputs n kind ∙ counted)) (copy-counted byte_width wide K (is_leftmost kind) (trie_of edges fails positions) outputs holds (machine parts) (λ t. get_or l.idx t 0) copy (length edges) (settled-states p.settled fails positions));
+    };
   }
 
   -- the parts hold the dictionary

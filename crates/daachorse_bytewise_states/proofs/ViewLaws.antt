@@ -34,7 +34,7 @@ module _ {V F B : Type 0} {leftmost : Bool} {link : State F → List B → ℕ �
     pub seen_base : base_in e < length es
     seen_base =
         let inside = seen_inside i r in
-        let base = (seen.stored.valid.inside i (state_inside p seen.stored.valid i r)).base in
+        let base = seen.stored.valid.grouped.bases i (state_inside p seen.stored.valid i r) in
         let same : base_of p i ≡ base_in e = seen.base i e inside ∙ ap base_in (sym is) in
         omega (arith, base, same, seen.size)
 

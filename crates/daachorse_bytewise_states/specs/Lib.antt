@@ -1,6 +1,7 @@
 pub mod Elements
 pub mod Parts
 pub mod Children
+pub mod Grouped
 pub mod Valid
 pub mod Packing
 pub mod Writing
@@ -8,7 +9,6 @@ pub mod StateForms
 pub mod Equality
 pub mod Edges
 pub mod PartForms
-pub mod Grouped
 pub mod EdgeBytes
 pub mod StateRows
 pub mod Views

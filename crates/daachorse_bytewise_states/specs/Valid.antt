@@ -1,41 +1,20 @@
 -- Which parts are those of an automaton, and what a search sees of them.
-use Rattle.std.specs.Prelude.{◌≡◌, ℕ, ◌<◌, ◌≤◌, ◌%◌, ◌^◌, Bool, true, false, List, [], length, slice_index_or, unwrap_or, Option}
+use Rattle.std.specs.Prelude.{◌≡◌, ℕ, ◌<◌, ◌≤◌, List, [], length, slice_index_or, unwrap_or, Option}
 use Rattle.std.proofs.Common.{arith, refl}
-use Rattle.daachorse_core.specs.Outputs.{outputs_at, ParentsFall}
+use Rattle.daachorse_core.specs.Outputs.{outputs_at}
 use Rattle.daachorse_model.specs.declared.MatchKind.TheVariants.{Standard}
 use Rattle.daachorse_model.specs.Kinds.{is_leftmost}
 use Rattle.daachorse_model.specs.Units.{byte_width}
-use Rattle.daachorse_machine.specs.Machines.{IsCounted, IsRight, dead_in}
+use Rattle.daachorse_machine.specs.Machines.{dead_in}
 use Rattle.daachorse_machine.specs.Texts.{IsReached, text_of}
-use Rattle.daachorse_bytewise_states.specs.Parts.{Parts, base_of, child, count, fail_of, machine, output_of, word_at}
+use Rattle.daachorse_checker.specs.Sound.{IsSoundArray}
+use Rattle.daachorse_bytewise_states.specs.Grouped.{IsGrouped}
+use Rattle.daachorse_bytewise_states.specs.Parts.{Parts, child, count, machine, word_at}
 
-module _ {V : Type 0} (p : Parts V) where
-  -- which lists are used
-  abbrev pub HasShape : Bool → Type 0
-  HasShape false = (p.leftmost ≡ []) × (p.fails ≡ [])
-  HasShape true = (p.standard ≡ []) × (length p.fails ≡ length p.leftmost)
-
-  -- of an element, reached or not: base and link are elements, and the position is one of an output
-  pub record IsInside (i : ℕ) : Type 0 where
-    pub base : base_of p i < count p
-    pub fail : fail_of p i < count p
-    pub output : output_of p i ≤ length p.outputs
-
-  -- a number of 32 bits counts the elements, and so the links, and one counts the outputs
-  pub record AreFew : Type 0 where
-    pub elements : count p < 2 ^ 32
-    pub outputs : length p.outputs < 2 ^ 32
-
-  pub record IsValid : Type 0 where
-    -- whole blocks, at least one
-    pub blocks : count p % 256 ≡ 0
-    pub some : 0 < count p
-    pub few : AreFew
-    pub shape : HasShape (is_leftmost p.kind)
-    pub inside : (i : ℕ) → i < count p → IsInside i
-    pub parents_fall : ParentsFall p.outputs
-    pub right : IsRight byte_width (machine p) (is_leftmost p.kind)
-    pub counted : IsCounted (machine p) p.num_states
+-- elements that may be looked at, and are a sound array
+pub record IsValid {V : Type 0} (p : Parts V) : Type 0 where
+  pub grouped : IsGrouped p
+  pub sound : IsSoundArray byte_width (machine p) (is_leftmost p.kind) (count p) p.num_states
 
 -- the element of the child of each byte below n, the root where there is none, and the word of that element
 pub record IsRootTable (child : ℕ → Option ℕ) (word : ℕ → ℕ) (n : ℕ) (table : List (ℕ × ℕ)) : Type 0 where

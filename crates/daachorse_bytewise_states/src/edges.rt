@@ -1,26 +1,110 @@
-//! The elements and their children, as a listing goes over them.
+//! The elements and their children, as a listing goes over them, and the check of parts that were read.
 //!
-//! The layers above may rely on the table of the depths, which [`States::depths`] makes, and on
-//! [`States::pattern_iter`] giving the listing of the dictionary.
+//! The layers above may rely on the table of the depths, which [`States::depths`] makes, on
+//! [`States::pattern_iter`] giving the listing of the dictionary, and on [`Elements`] looking at any elements, valid
+//! or not, in whole blocks and with bases that are elements.
 
-ghost use Rattle.std.specs.Prelude.{◌≡◌, ◌<◌, IfOk, IfErr};
+ghost use Rattle.std.specs.Prelude.{◌≡◌, ◌<◌, ◌≤◌, ◌-◌, bit_xor, Some, length, slice_get, slice_index_or, IfOk, IfErr};
 ghost use Rattle.daachorse_core.specs.Outputs.{number};
 ghost use Rattle.daachorse_core.specs.Refusals.{IsOutOfMemory};
 ghost use Rattle.daachorse_listing.specs.Depths.{IsDepthTable};
-ghost use Rattle.daachorse_bytewise_states.specs.Parts.{base_of, check_of, child, content, count, output_of};
 ghost use Rattle.daachorse_model.specs.Prefixes.{IsListing};
+ghost use Rattle.daachorse_bytewise_states.specs.declared.state.State.{State};
+ghost use Rattle.daachorse_bytewise_states.specs.Elements.{output_in};
+ghost use Rattle.daachorse_bytewise_states.specs.Grouped.{IsGrouped};
+ghost use Rattle.daachorse_bytewise_states.specs.Parts.{base_of, check_of, child, content, count, parts_with};
 
+use crate::state::State;
 use crate::states::States;
+use daachorse_checker::array::Array;
 use daachorse_core::errors::Result;
-use daachorse_core::{DEAD_STATE_IDX, Output, ROOT_STATE_IDX};
+use daachorse_core::{Empty, MatchKind, Output};
 use daachorse_listing::depths::depths;
 use daachorse_listing::edges::Edges;
+use daachorse_listing::links::Links;
 use daachorse_listing::patterns::{Keys, Outputs, PatternWalk};
 use std::alloc::Allocator;
+use std::marker::Model;
+use std::num::NonZeroU32;
+
+/// Elements that may be looked at. They may be those of an automaton or any others.
+#[derive(Drop)]
+pub struct Elements<'a, V: Copy> {
+    pub(crate) kind: MatchKind,
+    standard: &'a [State<u32>],
+    leftmost: &'a [State<Empty>],
+    fails: &'a [u32],
+    pub(crate) outputs: &'a [Output<V>],
+    pub(crate) num_states: u32,
+}
+
+impl<'a, V: Copy> Model for Elements<'a, V> {
+    ghost use Rattle.daachorse_bytewise_states.specs.Grouped.{IsGrouped};
+    ghost use Rattle.daachorse_bytewise_states.specs.Parts.{Parts, parts_with};
+
+    ghost Value = { Parts V };
+
+    ghost view = { λ s. parts_with s.kind s.standard.now s.leftmost.now s.fails.now s.outputs.now s.num_states };
+
+    ghost invariant = { λ s. IsGrouped (parts_with s.kind s.standard.now s.leftmost.now s.fails.now s.outputs.now s.num_states) };
+}
+
+impl<'a, V: Copy> Elements<'a, V> {
+    /// The elements of these lists.
+    pub(crate) fn new(
+        kind: MatchKind,
+        standard: &'a [State<u32>],
+        leftmost: &'a [State<Empty>],
+        fails: &'a [u32],
+        outputs: &'a [Output<V>],
+        num_states: u32,
+    ) -> Self
+        requires { IsGrouped (parts_with kind standard.now leftmost.now fails.now outputs.now num_states) }
+        ensures { result ≡ parts_with kind standard.entry.now leftmost.entry.now fails.entry.now outputs.entry.now num_states }
+    {
+        Elements {
+            kind,
+            standard,
+            leftmost,
+            fails,
+            outputs,
+            num_states,
+        }
+    }
+
+    /// The base of an element, which is an element.
+    #[inline(always)]
+    pub(crate) fn base_at(&self, element: usize) -> Option<NonZeroU32>
+        requires { element < count self.now }
+        ensures value { number result ≡ base_of self.now element }
+        ensures inside { number result < count self.now }
+    {
+        if self.kind.is_leftmost() {
+            self.leftmost[element].base()
+        } else {
+            self.standard[element].base()
+        }
+    }
+
+    /// The check of an element. In whole blocks it leads from an element to an element.
+    #[inline(always)]
+    pub(crate) fn check_at(&self, element: usize) -> u8
+        requires { element < count self.now }
+        ensures value { result ≡ check_of self.now element }
+        ensures inside { bit_xor element result < count self.now }
+    {
+        if self.kind.is_leftmost() {
+            self.leftmost[element].check()
+        } else {
+            self.standard[element].check()
+        }
+    }
+}
 
 /// The elements of a group are those that the bytes lead to from one base.
-impl<V: Copy, A: Allocator> Edges for States<V, A> {
+impl<'a, V: Copy> Edges for Elements<'a, V> {
     ghost use Rattle.daachorse_bytewise_states.specs.Edges.{edge_of, group_of};
+    ghost use Rattle.daachorse_bytewise_states.specs.Parts.{child, count};
 
     ghost count = { count };
 
@@ -33,7 +117,11 @@ impl<V: Copy, A: Allocator> Edges for States<V, A> {
     ghost edge = { edge_of };
 
     fn num_elements(&self) -> usize {
-        self.num_elements()
+        if self.kind.is_leftmost() {
+            self.leftmost.len()
+        } else {
+            self.standard.len()
+        }
     }
 
     fn group(&self, element: usize) -> Option<usize> {
@@ -47,52 +135,76 @@ impl<V: Copy, A: Allocator> Edges for States<V, A> {
     }
 }
 
-impl<V: Copy, A: Allocator> Outputs<V> for States<V, A> {
-    ghost use Rattle.daachorse_listing.specs.Listing.{own_end};
-    ghost use Rattle.daachorse_bytewise_states.specs.Parts.{machine};
+impl<'a, V: Copy> Links for Elements<'a, V> {
+    ghost use Rattle.daachorse_bytewise_states.specs.Parts.{fail_of, output_of};
 
+    ghost fail = { fail_of };
+
+    ghost first = { output_of };
+
+    fn fail(&self, element: usize) -> u32 {
+        if self.kind.is_leftmost() {
+            self.fails[element]
+        } else {
+            self.standard[element].fail()
+        }
+    }
+
+    fn first(&self, element: usize) -> u32 {
+        if self.kind.is_leftmost() {
+            output_at(self.leftmost, element)
+        } else {
+            output_at(self.standard, element)
+        }
+    }
+}
+
+/// A unit is a byte.
+impl<'a, V: Copy> Outputs<V> for Elements<'a, V> {
     type Unit = u8;
 
     ghost number = { λ byte. byte };
 
     ghost outputs = { λ p. p.outputs };
 
-    ghost first = { output_of };
-
-    ghost stop = { λ p. own_end (machine p) };
-
     fn unit(&self, element: usize) -> u8 {
         self.check_at(element)
     }
 
-    fn first_output(&self, element: usize) -> usize {
-        self.output_at(element)
-    }
-
-    fn own_end(&self, element: usize) -> usize {
-        if element == ROOT_STATE_IDX as usize {
-            return 0;
-        }
-        let link = self.fail_at(element);
-        if link == DEAD_STATE_IDX as usize {
-            return 0;
-        }
-        self.output_at(link)
-    }
-
     fn output(&self, position: usize) -> Output<V> {
-        self.output(position)
+        let outputs = self.outputs;
+        outputs[position - 1]
     }
 }
 
 /// A key is the bytes of a text.
-impl<V: Copy, A: Allocator> Keys<V, A> for States<V, A> {
+impl<'a, V: Copy, A: Allocator> Keys<V, A> for Elements<'a, V> {
     type Key = Vec<u8, A>;
 
     ghost units_of = { λ key. key.items };
 
     fn key(&self, alloc: A, units: &[u8]) -> Result<Vec<u8, A>> {
         Ok(Vec::from_slice(alloc, units)?)
+    }
+}
+
+/// Each byte is a unit, and takes one.
+impl<'a, V: Copy> Array for Elements<'a, V> {
+    ghost use Rattle.daachorse_model.specs.Units.{byte_width};
+
+    ghost width = { λ p. byte_width };
+
+    fn num_units(&self) -> usize {
+        // A field is read for what the elements keep.
+        let _ = self.num_states;
+        256
+    }
+
+    fn width(&self, unit: u32) -> usize {
+        // A field is read for what the elements keep.
+        let _ = self.num_states;
+        let _ = unit;
+        1
     }
 }
 
@@ -107,9 +219,8 @@ impl<V: Copy, A: Allocator + Copy> States<V, A> {
         ensures ok { IfOk result (λ v. IsDepthTable (child self.now) 256 (count self.now) v.items) }
         ensures err { IfErr result IsOutOfMemory }
     {
-        // A field is read for what the parts keep.
-        let _num_states = self.num_states;
-        depths(alloc, self)
+        let elements = self.elements();
+        depths(alloc, &elements)
     }
 
     /// All patterns with their values, in byte order, and those of one pattern in order of
@@ -118,12 +229,22 @@ impl<V: Copy, A: Allocator + Copy> States<V, A> {
     /// # Errors
     ///
     /// An allocation failed.
-    pub fn pattern_iter<'a>(&'a self, alloc: A) -> Result<PatternWalk<V, &'a Self, A>>
+    pub fn pattern_iter<'a>(&'a self, alloc: A) -> Result<PatternWalk<V, Elements<'a, V>, A>>
         ensures ok { IfOk result (λ walk. IsListing (content self.entry.now) walk) }
         ensures err { IfErr result IsOutOfMemory }
     {
-        // A field is read for what the parts keep.
-        let _num_states = self.num_states;
-        PatternWalk::new(alloc, self)
+        let elements = self.elements();
+        PatternWalk::new(alloc, elements)
+    }
+}
+
+/// The position of an element's first output; 0 if it has none, and past the last.
+#[inline(always)]
+fn output_at<F: Copy>(states: &[State<F>], element: usize) -> u32
+    ensures { (default : State F) → output_in default ≡ 0 → result ≡ output_in (slice_index_or states.now element default) }
+{
+    match states.get(element) {
+        Some(state) => state.output_pos().map_or(0, NonZeroU32::get),
+        None => 0,
     }
 }

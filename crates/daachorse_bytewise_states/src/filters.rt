@@ -7,26 +7,18 @@ ghost use Rattle.daachorse_core.specs.Refusals.{IsOutOfMemory};
 ghost use Rattle.daachorse_prefilter.specs.Filters.{PassesKeys};
 ghost use Rattle.daachorse_bytewise_states.specs.Parts.{content};
 
+use crate::edges::Elements;
 use crate::states::States;
 use daachorse_checker::filters::{Spelled, passes_all};
 use daachorse_core::errors::Result;
-use daachorse_listing::patterns::Outputs;
 use daachorse_prefilter::prefilter::{Prefilter, Window};
 use std::alloc::Allocator;
 
 /// A unit is a byte, which spells itself.
-impl<V: Copy, A: Allocator> Spelled for States<V, A> {
+impl<'a, V: Copy> Spelled for Elements<'a, V> {
     ghost use Rattle.std.specs.Prelude.{[], ◌∷◌};
-    ghost use Rattle.daachorse_listing.specs.Listing.{has_own};
-    ghost use Rattle.daachorse_bytewise_states.specs.Parts.{machine};
 
     ghost bytes = { λ byte. byte ∷ [] };
-
-    ghost is_key = { λ p. has_own (machine p) };
-
-    fn is_key(&self, element: usize) -> bool {
-        self.first_output(element) != self.own_end(element)
-    }
 
     fn read<B: Allocator>(&self, element: usize, filter: &Prefilter<B>, window: Window) -> Window {
         filter.read(window, &[self.check_at(element)])
@@ -44,12 +36,11 @@ impl<V: Copy, A: Allocator + Copy> States<V, A> {
         ensures no { IfOk result (λ passes. passes ≡ false → PassesKeys (λ w. w) (content self.now) filter.now → ⊥) }
         ensures err { IfErr result IsOutOfMemory }
     {
-        // A field is read for what the parts keep.
-        let _num_states = self.num_states;
         let Some(filter) = filter else {
             return Ok(true);
         };
-        let passes = passes_all(alloc, self, filter)?;
+        let elements = self.elements();
+        let passes = passes_all(alloc, &elements, filter)?;
         Ok(passes)
     }
 }

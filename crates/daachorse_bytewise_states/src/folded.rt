@@ -24,12 +24,11 @@ impl<V: Copy, A: Allocator + Copy> States<V, A> {
         ensures no { IfOk result (λ may. may ≡ false → (folds ≡ true → HasFoldedKeys (content self.now)) → ⊥) }
         ensures err { IfErr result IsOutOfMemory }
     {
-        // A field is read for what the parts keep.
-        let _num_states = self.num_states;
         if !folds {
             return Ok(true);
         }
-        let folded = is_folded(alloc, self)?;
+        let elements = self.elements();
+        let folded = is_folded(alloc, &elements)?;
         Ok(folded)
     }
 }

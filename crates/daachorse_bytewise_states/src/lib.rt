@@ -4,7 +4,7 @@
 //! for, and on what a search sees of it: [`view::View`].
 #![tactic(auto)]
 
-mod edges;
+pub mod edges;
 mod filters;
 mod folded;
 mod packing;

@@ -10,8 +10,10 @@ ghost use Rattle.daachorse_bytewise_states.specs.EdgeBytes.{IsMarked, MarksBases
 ghost use Rattle.daachorse_bytewise_states.specs.Parts.{content, count};
 ghost use Rattle.daachorse_bytewise_states.specs.StateRows.{CoversNear, HasNoRoom, HasRows, StaysUnlessLarge};
 
+use crate::edges::Elements;
 use crate::states::States;
 use daachorse_core::MatchKind;
+use daachorse_listing::edges::Edges;
 use daachorse_rows::rows::Rows;
 use std::alloc::{AllocError, Allocator};
 
@@ -54,47 +56,46 @@ impl<V: Copy, A: Allocator> States<V, A> {
         ensures few { IfOk result (λ v. length v.items ≤ 256) }
         ensures all { IfOk result (λ v. AreLabels (content self.now) (λ label unit. label ≡ unit) v.items) }
     {
-        let bases = self.mark_bases(alloc)?;
-        let edges = self.mark_edges(alloc, &bases)?;
-        let bytes = list_marked(alloc, &edges)?;
-        // A field is read for what the parts keep.
-        let _num_states = self.num_states;
-        Ok(bytes)
+        let elements = self.elements();
+        let bases = mark_bases(alloc, &elements)?;
+        let edges = mark_edges(alloc, &elements, &bases)?;
+        list_marked(alloc, &edges)
     }
+}
 
-    /// Of each element whether it is the base of one.
-    fn mark_bases<L: Allocator>(&self, alloc: L) -> Result<Vec<bool, L>, AllocError>
-        ensures { IfOk result (λ v. MarksBases self.now (count self.now) v.items) }
-    {
-        // A field is read for what the parts keep.
-        let _num_states = self.num_states;
-        let mut marks = Vec::from_elem(alloc, false, self.num_elements())?;
-        for element in 0..self.num_elements() {
-            if let Some(base) = self.base_at(element) {
-                marks[base.get() as usize] = true;
-            }
+/// Of each element whether it is the base of one.
+fn mark_bases<V: Copy, L: Allocator>(
+    alloc: L,
+    elements: &Elements<'_, V>,
+) -> Result<Vec<bool, L>, AllocError>
+    ensures { IfOk result (λ v. MarksBases elements.now (count elements.now) v.items) }
+{
+    let mut marks = Vec::from_elem(alloc, false, elements.num_elements())?;
+    for element in 0..elements.num_elements() {
+        if let Some(base) = elements.base_at(element) {
+            marks[base.get() as usize] = true;
         }
-        Ok(marks)
     }
+    Ok(marks)
+}
 
-    /// Of each byte whether it leads to an element from one of these bases.
-    fn mark_edges<L: Allocator>(
-        &self,
-        alloc: L,
-        bases: &Vec<bool, L>,
-    ) -> Result<Vec<bool, L>, AllocError>
-        requires { length bases.now.items ≡ count self.now }
-        ensures { IfOk result (λ v. MarksEdges self.now bases.now.items (count self.now) v.items) }
-    {
-        let mut marks = Vec::from_elem(alloc, false, 256)?;
-        for element in 0..self.num_elements() {
-            let check = self.check_at(element);
-            if bases[element ^ check as usize] {
-                marks[check as usize] = true;
-            }
+/// Of each byte whether it leads to an element from one of these bases.
+fn mark_edges<V: Copy, L: Allocator>(
+    alloc: L,
+    elements: &Elements<'_, V>,
+    bases: &Vec<bool, L>,
+) -> Result<Vec<bool, L>, AllocError>
+    requires { length bases.now.items ≡ count elements.now }
+    ensures { IfOk result (λ v. MarksEdges elements.now bases.now.items (count elements.now) v.items) }
+{
+    let mut marks = Vec::from_elem(alloc, false, 256)?;
+    for element in 0..elements.num_elements() {
+        let check = elements.check_at(element);
+        if bases[element ^ check as usize] {
+            marks[check as usize] = true;
         }
-        Ok(marks)
     }
+    Ok(marks)
 }
 
 /// The bytes that are marked, in order.

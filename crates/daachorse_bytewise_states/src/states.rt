@@ -3,9 +3,8 @@
 //! The layers above may rely on the parts being valid, on what is built holding just the dictionary
 //! that it was built for, and on the views of the parts being the same automaton.
 
-ghost use Rattle.std.specs.Prelude.{◌≡◌, ◌≢◌, ◌<◌, ◌%◌, ◌≤◌, ◌-◌, ◌^◌, bit_xor, ℕ, Some, slice_get, List, length, map, slice_index_or, IfOk, IfErr};
+ghost use Rattle.std.specs.Prelude.{◌≡◌, ◌≢◌, ◌<◌, ◌%◌, ◌^◌, ℕ, List, length, map, slice_index_or, IfOk, IfErr};
 ghost use Rattle.daachorse_core.specs.declared.errors.Limit.TheVariants.{NumElements};
-ghost use Rattle.daachorse_core.specs.Outputs.{number};
 ghost use Rattle.daachorse_core.specs.Refusals.{IsOutOfMemory, IsRefusal};
 ghost use Rattle.daachorse_model.specs.Dictionary.{Dictionary};
 ghost use Rattle.daachorse_build.specs.Builders.{states_of};
@@ -16,22 +15,23 @@ ghost use Rattle.daachorse_model.specs.declared.MatchKind.TheVariants.{Standard}
 ghost use Rattle.daachorse_model.specs.Paths.{is_reached};
 ghost use Rattle.daachorse_model.specs.Prefixes.{HasPrefixes, PassesAt};
 ghost use Rattle.daachorse_bytewise_states.specs.Elements.{base_in, fail_in, vacant, word_in};
-ghost use Rattle.daachorse_bytewise_states.specs.Parts.{base_of, check_of, child, child_among, content, count, fail_of, output_of, parts_of, without_link};
+ghost use Rattle.daachorse_bytewise_states.specs.Parts.{child, child_among, content, count, parts_of, without_link};
 ghost use Rattle.daachorse_bytewise_states.specs.Valid.{IsRootTable, IsValid};
 
 mod form;
 
+use crate::edges::Elements;
 use crate::packing::pack;
 use crate::state::State;
 use crate::view::{Leftmost, Standard, View};
 use daachorse_build::nfa_builder::NfaBuilder;
 use daachorse_core::errors::Result;
 use daachorse_core::{Empty, MatchKind, Output, ROOT_STATE_IDX};
+use daachorse_listing::edges::Edges;
 use daachorse_placement::build_helper::Profile;
 use std::alloc::{Allocator, Global};
 use std::hash::{Hash, Hasher};
 use std::marker::Model;
-use std::num::NonZeroU32;
 
 /// The states and the outputs of an automaton over bytes, with values of type `V`.
 ///
@@ -159,76 +159,23 @@ impl<V: Copy, A: Allocator> States<V, A> {
         ensures all { result ≡ count self.now }
         ensures few { result < 2 ^ 32 }
     {
-        if self.kind.is_leftmost() {
-            self.leftmost.len()
-        } else {
-            self.standard.len()
-        }
+        self.elements().num_elements()
     }
 
-    /// The base of an element.
-    #[inline(always)]
-    pub(crate) fn base_at(&self, element: usize) -> Option<NonZeroU32>
-        requires { element < count self.now }
-        ensures { number result ≡ base_of self.now element }
+    /// The elements, as a listing goes over them.
+    pub fn elements(&self) -> Elements<'_, V>
+        ensures parts { result ≡ self.entry.now }
+        ensures valid { IsValid result }
+        ensures few { result.num_states < 2 ^ 32 }
     {
-        if self.kind.is_leftmost() {
-            self.leftmost[element].base()
-        } else {
-            self.standard[element].base()
-        }
-    }
-
-    /// The check of an element. In whole blocks it leads from an element to an element.
-    #[inline(always)]
-    pub(crate) fn check_at(&self, element: usize) -> u8
-        requires { element < count self.now }
-        ensures value { result ≡ check_of self.now element }
-        ensures inside { bit_xor element result < count self.now }
-    {
-        if self.kind.is_leftmost() {
-            self.leftmost[element].check()
-        } else {
-            self.standard[element].check()
-        }
-    }
-
-    /// The failure link of an element, which is an element.
-    #[inline(always)]
-    pub(crate) fn fail_at(&self, element: usize) -> usize
-        requires { element < count self.now }
-        ensures value { result ≡ fail_of self.now element }
-        ensures inside { result < count self.now }
-    {
-        if self.kind.is_leftmost() {
-            self.fails[element] as usize
-        } else {
-            self.standard[element].fail() as usize
-        }
-    }
-
-    /// The position of an element's first output; 0 if it has none.
-    #[inline(always)]
-    pub(crate) fn output_at(&self, element: usize) -> usize
-        requires { element < count self.now }
-        ensures { result ≡ output_of self.now element }
-    {
-        let position = if self.kind.is_leftmost() {
-            self.leftmost[element].output_pos()
-        } else {
-            self.standard[element].output_pos()
-        };
-        position.map_or(0, NonZeroU32::get) as usize
-    }
-
-    /// The output at a position.
-    #[inline(always)]
-    pub(crate) fn output(&self, position: usize) -> Output<V>
-        requires some { 0 < position }
-        requires inside { position ≤ length self.now.outputs }
-        ensures { slice_get self.now.outputs (position - 1) ≡ Some result }
-    {
-        self.outputs[position - 1]
+        Elements::new(
+            self.kind,
+            self.standard.as_slice(),
+            self.leftmost.as_slice(),
+            self.fails.as_slice(),
+            self.outputs.as_slice(),
+            self.num_states,
+        )
     }
 
     /// How many texts begin a pattern, the empty one among them.

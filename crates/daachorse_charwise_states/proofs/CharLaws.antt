@@ -49,11 +49,11 @@ module _ {V : Type 0} (p : Parts V) where
 
   pub valid_machine : IsValid p → IsMachine char_width (machine p) (is_leftmost p.kind) (count p) (length p.coding.table)
   valid_machine valid = record {
-    some = valid.some;
+    some = valid.grouped.some;
     inside = child_inside;
-    outputs_inside = λ i h. (valid.inside i h).output;
-    parents_fall = valid.parents_fall;
-    right = valid.right;
+    outputs_inside = valid.sound.ranges.positions;
+    parents_fall = valid.sound.parents_fall;
+    right = valid.sound.right;
   }
 
   -- no key has a character without a code

@@ -19,7 +19,7 @@ use Rattle.daachorse_charwise_states.proofs.CharLaws.{child_by_code, valid_machi
 use Rattle.daachorse_charwise_states.proofs.Codes.{coded_inside}
 
 pub valid_tree : {V : Type 0} (p : Parts V) → IsValid p → p.num_states < 4294967296 → IsTree (child p) (count p) (length p.coding.table)
-valid_tree p valid few = machine_tree char_width (machine p) (is_leftmost p.kind) (count p) (length p.coding.table) p.num_states (valid_machine p valid) valid.counted few
+valid_tree p valid few = machine_tree char_width (machine p) (is_leftmost p.kind) (count p) (length p.coding.table) p.num_states (valid_machine p valid) valid.sound.counted few
 
 -- a choice by a test that takes the second way
 second : {X : Type 0} (b : Bool) (o : Option X) (x : X) → cond b None o ≡ Some x → (b ≡ false) × (o ≡ Some x)

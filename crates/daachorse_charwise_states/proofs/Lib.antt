@@ -11,6 +11,5 @@ pub mod WritingLaws
 pub mod WrittenLaws
 pub mod FormLaws
 pub mod BlockLaws
-pub mod GroupedLaws
 pub mod CodeListLaws
 mod StringLaws

@@ -1,5 +1,5 @@
 -- Parts that hold the trie of a builder are valid, and hold the builder's dictionary: a copy of the trie is right.
-use Rattle.std.proofs.Common.{◌≡◌, ℕ, ◌-◌, ◌*◌, ◌%◌, ◌^◌, ◌<◌, true, List, [], ◌∷◌, ◌++◌, length, get_or, None, sym, ap, ◌∙◌, subst, inl, inr, append_assoc, arith}
+use Rattle.std.proofs.Common.{◌≡◌, ℕ, ◌-◌, ◌*◌, ◌%◌, ◌^◌, ◌<◌, ◌≤◌, true, List, [], ◌∷◌, ◌++◌, length, get_or, None, sym, ap, ◌∙◌, subst, inl, inr, append_assoc, arith}
 use Rattle.std.specs.Prelude.{is_some, max}
 use Rattle.std.specs.Int.{IsNextPowerOfTwo}
 use Rattle.std.specs.Ordering.{nat_cmp}
@@ -25,8 +25,8 @@ use Rattle.daachorse_packing.proofs.Held.{held-in_range, settled-states}
 use Rattle.daachorse_packing.proofs.Places.{place-dead, place-inside, some-elements}
 use Rattle.daachorse_charwise_states.specs.declared.state.State.{State}
 use Rattle.daachorse_charwise_states.specs.Packing.{AreCoded, AreEdgesCoded, ArePackedOf, IsBuiltFor}
-use Rattle.daachorse_charwise_states.specs.Parts.{Parts, char_code, content, machine}
-use Rattle.daachorse_charwise_states.specs.Valid.{IsInside, IsValid}
+use Rattle.daachorse_charwise_states.specs.Parts.{Parts, base_of, char_code, content, fail_of, machine, output_of}
+use Rattle.daachorse_charwise_states.specs.Valid.{IsValid}
 use Rattle.daachorse_charwise_states.proofs.PackedTrie.{packed-IsCopy}
 
 -- a character that follows a text in a prefix of a key has a code
@@ -62,15 +62,11 @@ module _ {V A : Type 0} (kind : MatchKind) (b : NfaBuilder ℕ V A) (K : Diction
         let dead : get_or p.layout.idx 1 0 ≡ 1 = place-dead p.settled in
         omega (arith, inside, dead)
 
-    inside_at : (n i : ℕ) → i < length es → IsInside (parts n) i
+    inside_at : (n i : ℕ) → i < length es → (base_of (parts n) i < length es) × (fail_of (parts n) i < length es) × (output_of (parts n) i ≤ length (outputs_of b))
     inside_at n i low =
         let size : length es ≡ length p.layout.used = p.held.size in
         let range = held-in_range p.settled (fails_of (states_of b)) (positions_of (states_of b)) p.held.states char_width (is_leftmost kind) K (outputs_of b) (built-holds char_width None kind b K built) built.root built.positions two_elements i (omega (arith, low, size)) in
-        record {
-          base = omega (arith, range.base, size);
-          fail = omega (arith, range.fail, size);
-          output = range.output;
-        }
+        (omega (arith, range.base, size), omega (arith, range.fail, size), range.output)
 
     -- they are those of an automaton
     pub built-valid : IsNextPowerOfTwo (max 2 coding.alphabet_size) block → block < 4294967296 → length es < 2 ^ 32 → IsCountable coding → IsValid (parts (length (states_of b) - 1))
@@ -79,12 +75,17 @@ module _ {V A : Type 0} (kind : MatchKind) (b : NfaBuilder ℕ V A) (K : Diction
         let n = length (states_of b) - 1 in
         let size : length es ≡ p.layout.blocks * block = p.held.size ∙ p.settled.sizes.elements in
         record {
-          blocks = record { block = block; power = least; fits = fits; whole = ap (λ m. m % block) size ∙ mul-mod_left p.layout.blocks block };
-          some = (let some : 0 < length p.layout.used = some-elements p.settled in omega (arith, some, p.held.size));
+          grouped = record {
+            blocks = record { block = block; power = least; fits = fits; whole = ap (λ m. m % block) size ∙ mul-mod_left p.layout.blocks block };
+            some = (let some : 0 < length p.layout.used = some-elements p.settled in omega (arith, some, p.held.size));
+            bases = λ i low. (inside_at n i low).0;
+            codes = is;
+          };
           few = record { elements = few; outputs = omega (arith, built.few_outputs); codes = codes };
-          coding = is;
-          inside = inside_at n;
-          parents_fall = (built-holds char_width None kind b K built).parents_fall;
-          right = copy-right char_width char_wide K (is_leftmost kind) trie (outputs_of b) (built-holds char_width None kind b K built) (machine (parts n)) (λ t. get_or p.layout.idx t 0) (copy n);
-          counted = subst (λ (m : ℕ). PassesAt (is_reached (machine (parts n)).child) (m - 1)) (sym (built-count char_width None kind b K built)) (copy-counted char_width char_wide K (is_leftmost kind) trie (outputs_of b) (built-holds char_width None kind b K built) (machine (parts n)) (λ t. get_or p.layout.idx t 0) (copy n) (length (edges_of (states_of b))) (settled-states p.settled (fails_of (states_of b)) (positions_of (states_of b))));
+          sound = record {
+            ranges = record { links = λ i low. (inside_at n i low).1; positions = λ i low. (inside_at n i low).2 };
+            parents_fall = (built-holds char_width None kind b K built).parents_fall;
+            right = copy-right char_width char_wide K (is_leftmost kind) trie (outputs_of b) (built-holds char_width None kind b K built) (machine (parts n)) (λ t. get_or p.layout.idx t 0) (copy n);
+            counted = subst (λ (m : ℕ). PassesAt (is_reached (machine (parts n)).child) (m - 1)) (sym (built-count char_width None kind b K built)) (copy-counted char_width char_wide K (is_leftmost kind) trie (outputs_of b) (built-holds char_width None kind b K built) (machine (parts n)) (λ t. get_or p.layout.idx t 0) (copy n) (length (edges_of (states_of b))) (settled-states p.settled (fails_of (states_of b)) (positions_of (states_of b))));
+          };
         }

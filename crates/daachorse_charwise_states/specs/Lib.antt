@@ -2,6 +2,7 @@ pub mod Children
 pub mod Edges
 pub mod Elements
 pub mod Equality
+pub mod Grouped
 pub mod Packing
 pub mod Parts
 pub mod Texts
@@ -10,5 +11,4 @@ pub mod Views
 pub mod Writing
 pub mod Written
 pub mod PartForms
-pub mod Grouped
 pub mod StateRows

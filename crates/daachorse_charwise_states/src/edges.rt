@@ -11,7 +11,7 @@ ghost use Rattle.daachorse_listing.specs.Depths.{IsDepthTable};
 ghost use Rattle.daachorse_model.specs.Prefixes.{IsListing};
 ghost use Rattle.daachorse_mapper.specs.Codings.{IsCoding};
 ghost use Rattle.daachorse_charwise_states.specs.Edges.{AreCharacters, IsLettered, character_at, character_of, edge_of};
-ghost use Rattle.daachorse_charwise_states.specs.Parts.{base_of, check_of, child, content, count, output_of};
+ghost use Rattle.daachorse_charwise_states.specs.Parts.{base_of, check_of, child, content, count};
 ghost use Rattle.daachorse_charwise_states.specs.Texts.{AreTexts};
 ghost use Rattle.daachorse_charwise_states.specs.Valid.{AreFew};
 ghost use Rattle.daachorse_charwise_states.specs.Views.{parts_of};
@@ -21,9 +21,10 @@ use crate::states::States;
 use crate::strings::text_of;
 use daachorse_checker::array::Array;
 use daachorse_core::errors::Result;
-use daachorse_core::{DEAD_STATE_IDX, MatchKind, Output, ROOT_STATE_IDX};
+use daachorse_core::{MatchKind, Output};
 use daachorse_listing::depths::depths;
 use daachorse_listing::edges::Edges;
+use daachorse_listing::links::Links;
 use daachorse_listing::patterns::{Keys, Outputs, PatternWalk};
 use daachorse_mapper::mapper::{CodeMapper, INVALID_CODE};
 use std::alloc::{Allocator, Global};
@@ -108,16 +109,6 @@ impl<'a, V: Copy, A: Allocator> Elements<'a, V, A> {
         states[element].check() as usize
     }
 
-    /// The position of an element's first output; 0 if it has none, and past the last.
-    fn output_at(&self, element: usize) -> u32
-        ensures { result ≡ output_of self.now.parts element }
-    {
-        match self.states.get(element) {
-            Some(state) => state.output_pos().map_or(0, NonZeroU32::get),
-            None => 0,
-        }
-    }
-
     /// The character of a code, if there is one.
     pub(crate) fn character(&self, code: usize) -> Option<char>
         ensures { result ≡ character_of self.now code }
@@ -172,42 +163,39 @@ impl<'a, V: Copy, A: Allocator> Edges for Elements<'a, V, A> {
     }
 }
 
+impl<'a, V: Copy, A: Allocator> Links for Elements<'a, V, A> {
+    ghost use Rattle.daachorse_charwise_states.specs.Parts.{fail_of, output_of};
+
+    ghost fail = { λ a. fail_of a.parts };
+
+    ghost first = { λ a. output_of a.parts };
+
+    fn fail(&self, element: usize) -> u32 {
+        let states = self.states;
+        states[element].fail()
+    }
+
+    fn first(&self, element: usize) -> u32 {
+        match self.states.get(element) {
+            Some(state) => state.output_pos().map_or(0, NonZeroU32::get),
+            None => 0,
+        }
+    }
+}
+
 /// A unit is a character.
 impl<'a, V: Copy, A: Allocator> Outputs<V> for Elements<'a, V, A> {
-    ghost use Rattle.daachorse_listing.specs.Listing.{own_end};
-    ghost use Rattle.daachorse_charwise_states.specs.Parts.{machine, output_of};
-
     type Unit = char;
 
     ghost number = { λ character. character };
 
     ghost outputs = { λ a. a.parts.outputs };
 
-    ghost first = { λ a. output_of a.parts };
-
-    ghost stop = { λ a. own_end (machine a.parts) };
-
     fn unit(&self, element: usize) -> char {
         match self.parent(element) {
             Some((_parent, character)) => character,
             None => '\0',
         }
-    }
-
-    fn first_output(&self, element: usize) -> usize {
-        self.output_at(element) as usize
-    }
-
-    fn own_end(&self, element: usize) -> usize {
-        if element == ROOT_STATE_IDX as usize {
-            return 0;
-        }
-        let states = self.states;
-        let link = states[element].fail();
-        if link == DEAD_STATE_IDX {
-            return 0;
-        }
-        self.output_at(link as usize) as usize
     }
 
     fn output(&self, position: usize) -> Output<V> {
@@ -232,26 +220,12 @@ impl<'a, V: Copy, A: Allocator> Keys<V, A> for Elements<'a, V, A> {
 
 /// A number that is no character takes bytes too, as the definitions have it.
 impl<'a, V: Copy, A: Allocator> Array for Elements<'a, V, A> {
-    ghost use Rattle.daachorse_charwise_states.specs.Parts.{fail_of, output_of};
     ghost use Rattle.daachorse_model.specs.Units.{char_width};
-
-    ghost fail = { λ a. fail_of a.parts };
-
-    ghost first = { λ a. output_of a.parts };
 
     ghost width = { λ a. char_width };
 
     fn num_units(&self) -> usize {
         self.mapper.table().len()
-    }
-
-    fn fail(&self, element: usize) -> u32 {
-        let states = self.states;
-        states[element].fail()
-    }
-
-    fn first(&self, element: usize) -> u32 {
-        self.output_at(element)
     }
 
     fn width(&self, unit: u32) -> usize {

@@ -19,16 +19,8 @@ use std::alloc::Allocator;
 /// A unit is a character, which its UTF-8 spells.
 impl<'a, V: Copy, A: Allocator> Spelled for Elements<'a, V, A> {
     ghost use Rattle.std.specs.Char.{encode_utf8};
-    ghost use Rattle.daachorse_listing.specs.Listing.{has_own};
-    ghost use Rattle.daachorse_charwise_states.specs.Parts.{machine};
 
     ghost bytes = { encode_utf8 };
-
-    ghost is_key = { λ a. has_own (machine a.parts) };
-
-    fn is_key(&self, element: usize) -> bool {
-        self.first_output(element) != self.own_end(element)
-    }
 
     fn read<B: Allocator>(&self, element: usize, filter: &Prefilter<B>, window: Window) -> Window {
         let mut buffer = [0; 4];

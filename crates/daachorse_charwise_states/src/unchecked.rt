@@ -7,8 +7,8 @@
 ghost use Rattle.std.specs.Prelude.{◌≡◌, ◌<◌, true, false, length, slice_index_or, IfOk, IfErr};
 ghost use Rattle.daachorse_core.specs.Refusals.{IsOutOfMemory};
 ghost use Rattle.daachorse_charwise_states.specs.Elements.{base_in, vacant};
-ghost use Rattle.daachorse_charwise_states.specs.Grouped.{AreBases, IsGrouped};
-ghost use Rattle.daachorse_charwise_states.specs.Valid.{HasBlocks, IsValid};
+ghost use Rattle.daachorse_charwise_states.specs.Grouped.{AreBases, HasBlocks, IsGrouped};
+ghost use Rattle.daachorse_charwise_states.specs.Valid.{IsValid};
 
 use crate::edges::Elements;
 use crate::state::State;

@@ -1,20 +1,14 @@
-//! What the check asks of an array: its elements' children, failure links and first outputs.
+//! What the check asks of an array beside its elements' children, failure links and first outputs: its units.
 //!
 //! The layers above give this of their arrays, whoever wrote them: all that they have to know first
-//! is that bases, links and positions are in range.
+//! is that bases are in range.
 
 ghost use Rattle.std.specs.Prelude.{◌≡◌, ◌<◌, ◌≤◌, ◌^◌, ℕ};
 
-use daachorse_listing::edges::Edges;
+use daachorse_listing::links::Links;
 
-/// Elements with children, links and outputs.
-pub trait Array: Edges {
-    /// The failure links.
-    ghost fail: { Self → ℕ → ℕ };
-
-    /// The positions of the elements' first outputs, 0 for none.
-    ghost first: { Self → ℕ → ℕ };
-
+/// Elements with children, links and outputs, and with units that take bytes.
+pub trait Array: Links {
     /// How many bytes a unit takes.
     ghost width: { Self → ℕ → ℕ };
 
@@ -22,16 +16,6 @@ pub trait Array: Edges {
     fn num_units(&self) -> usize
         ensures bound { result ≡ Self.units self.now }
         ensures few { result < 2 ^ 32 };
-
-    /// The failure link of an element.
-    fn fail(&self, element: usize) -> u32
-        requires { element < Self.count self.now }
-        ensures { result ≡ fail self.now element };
-
-    /// The position of an element's first output; 0 if there is none.
-    fn first(&self, element: usize) -> u32
-        requires { element < Self.count self.now }
-        ensures { result ≡ first self.now element };
 
     /// How many bytes a unit takes.
     fn width(&self, unit: u32) -> usize

@@ -4,32 +4,24 @@
 //! elements: each reads its unit behind what its parent has read, and a window keeps no more than the
 //! filter looks at.
 
-ghost use Rattle.std.specs.Prelude.{◌≡◌, ◌++◌, ◌<◌, ℕ, Bool, List, [], All, Some, true, false, length, slice_index_or, IfOk, IfErr, IfSome, IfNone};
+ghost use Rattle.std.specs.Prelude.{◌≡◌, ◌++◌, ◌<◌, ℕ, List, [], All, Some, true, false, length, slice_index_or, IfOk, IfErr, IfSome, IfNone};
 ghost use Rattle.daachorse_core.specs.Refusals.{IsOutOfMemory};
 ghost use Rattle.daachorse_listing.specs.Edges.{TellChildren, members};
-ghost use Rattle.daachorse_listing.specs.Listing.{unit_of};
+ghost use Rattle.daachorse_listing.specs.Listing.{has_own, unit_of};
 ghost use Rattle.daachorse_prefilter.specs.Windows.{HasRead};
 ghost use Rattle.daachorse_checker.specs.Filters.{HasRefused, IsNextOf, IsPushed, PassesAll};
 ghost use Rattle.daachorse_checker.specs.Places.{HasOnePath};
 
 use daachorse_core::errors::Result;
-use daachorse_listing::edges::Edges;
+use daachorse_listing::links::{Links, has_own};
 use daachorse_listing::siblings::Siblings;
 use daachorse_prefilter::prefilter::{Prefilter, Window};
 use std::alloc::Allocator;
 
-/// Elements whose units are spelled in bytes, and some of which are keys.
-pub trait Spelled: Edges {
+/// Elements whose units are spelled in bytes. Those with outputs of their own are keys: their texts have values.
+pub trait Spelled: Links {
     /// The bytes of a unit.
     ghost bytes: { ℕ → List ℕ };
-
-    /// Which elements are keys: their texts have values.
-    ghost is_key: { Self → ℕ → Bool };
-
-    /// Whether an element is a key.
-    fn is_key(&self, element: usize) -> bool
-        requires { element < Self.count self.now }
-        ensures { result ≡ is_key self.now element };
 
     /// The window of a filter after the unit that leads to an element.
     fn read<B: Allocator>(&self, element: usize, filter: &Prefilter<B>, window: Window) -> Window
@@ -55,8 +47,8 @@ pub fn passes_all<E: Spelled, A: Allocator + Copy, B: Allocator>(
     requires tell { TellChildren (E.child array.now) (E.group array.now) (E.edge array.now) (E.count array.now) }
     requires some { 0 < E.count array.now }
     requires tree { HasOnePath (E.child array.now) }
-    ensures yes { IfOk result (λ passes. passes ≡ true → PassesAll (E.child array.now) E.bytes (E.is_key array.now) filter.now) }
-    ensures no { IfOk result (λ passes. passes ≡ false → PassesAll (E.child array.now) E.bytes (E.is_key array.now) filter.now → ⊥) }
+    ensures yes { IfOk result (λ passes. passes ≡ true → PassesAll (E.child array.now) E.bytes (has_own (E.fail array.now) (E.first array.now)) filter.now) }
+    ensures no { IfOk result (λ passes. passes ≡ false → PassesAll (E.child array.now) E.bytes (has_own (E.fail array.now) (E.first array.now)) filter.now → ⊥) }
     ensures err { IfErr result IsOutOfMemory }
 {
     let groups = Siblings::new(alloc, array)?;
@@ -93,8 +85,8 @@ fn next_level<E: Spelled, A: Allocator + Copy, B: Allocator>(
     requires each { length groups.now ≡ E.count array.now }
     requires inside { (i c j : ℕ) → E.child array.now i c ≡ Some j → (j < E.count array.now) × (c < E.units array.now) }
     requires elements { All (λ e. e.0 < E.count array.now) level.now }
-    ensures some { IfOk result (λ found. IfSome found (λ next. IsNextOf (E.child array.now) E.bytes filter.now (E.is_key array.now) level.now (length level.now) next.items)) }
-    ensures none { IfOk result (λ found. IfNone found (HasRefused filter.now (E.is_key array.now) level.now)) }
+    ensures some { IfOk result (λ found. IfSome found (λ next. IsNextOf (E.child array.now) E.bytes filter.now (has_own (E.fail array.now) (E.first array.now)) level.now (length level.now) next.items)) }
+    ensures none { IfOk result (λ found. IfNone found (HasRefused filter.now (has_own (E.fail array.now) (E.first array.now)) level.now)) }
     ensures err { IfErr result IsOutOfMemory }
 {
     let mut next = Vec::new(alloc);
@@ -102,7 +94,7 @@ fn next_level<E: Spelled, A: Allocator + Copy, B: Allocator>(
     while number < level.len() {
         let entry = level[number];
         if !filter.admits(entry.1) {
-            if array.is_key(entry.0 as usize) {
+            if has_own(array, entry.0 as usize) {
                 return Ok(None);
             }
             push_children(array, groups, filter, entry, &mut next)?;

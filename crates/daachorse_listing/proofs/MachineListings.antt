@@ -21,13 +21,13 @@ module _ {V : Type 0} (width : ℕ → ℕ) (a : Machine V) (leftmost : Bool) (n
     inside = machine.outputs_inside;
   }
 
-  ends : (i : ℕ) → IsReached a.child m n i → (own width a (text_of a.child m n i) i).1 ≡ own_end a i
+  ends : (i : ℕ) → IsReached a.child m n i → (own width a (text_of a.child m n i) i).1 ≡ own_end a.fail a.output i
   ends i r = at (text_of a.child m n i) refl
     where
-      at : (w : List ℕ) → text_of a.child m n i ≡ w → (own width a w i).1 ≡ own_end a i
+      at : (w : List ℕ) → text_of a.child m n i ≡ w → (own width a w i).1 ≡ own_end a.fail a.output i
       at [] e =
           let root : i ≡ 0 = root-text width a leftmost n m machine i r e in
-          ap (λ k. (own width a [] k).1) root ∙ (machine.right.root_chain ∙ sym (ap (own_end a) root))
+          ap (λ k. (own width a [] k).1) root ∙ (machine.right.root_chain ∙ sym (ap (own_end a.fail a.output) root))
       at (u ∷ w) e =
           let leads : Leads a.child (u ∷ w) i = sym (ap (walk a.child 0) e) ∙ r in
           let other : i ≢ 0 = λ root. (let none : [] ≡ u ∷ w = sym (text-root width a leftmost n m machine i root) ∙ e in cc) in
@@ -35,20 +35,20 @@ module _ {V : Type 0} (width : ℕ → ℕ) (a : Machine V) (leftmost : Bool) (n
           machine.right.chains u i w leads ∙ sym (ap (λ b. cond b 0 (cond (a.fail i == 1) 0 (a.output (a.fail i)))) test)
 
   -- whether the text of an element is a key, by its positions
-  pub key_at : (i : ℕ) (w : List ℕ) → Leads a.child w i → has_own a i ≡ is_key (content width a) w
+  pub key_at : (i : ℕ) (w : List ℕ) → Leads a.child w i → has_own a.fail a.output i ≡ is_key (content width a) w
   key_at i [] leads =
       let root : 0 ≡ i = same_Some 0 i leads in
-      let end : (own width a [] i).1 ≡ own_end a i = ap (λ k. (own width a [] k).1) (sym root) ∙ (machine.right.root_chain ∙ ap (own_end a) root) in
-      own-any a.outputs machine.parents_fall (size width []) (a.output i) (own_end a i) end
+      let end : (own width a [] i).1 ≡ own_end a.fail a.output i = ap (λ k. (own width a [] k).1) (sym root) ∙ (machine.right.root_chain ∙ ap (own_end a.fail a.output) root) in
+      own-any a.outputs machine.parents_fall (size width []) (a.output i) (own_end a.fail a.output i) end
       ∙ sym (ap (λ o. is_key (λ (_ : List ℕ). values_at width a [] o) []) leads)
   key_at i (u ∷ w) leads =
       let text : text_of a.child m n i ≡ u ∷ w = text-Leads width a leftmost n m machine (u ∷ w) i leads in
       let reached : IsReached a.child m n i = Reached-Leads width a leftmost n m machine (u ∷ w) i leads in
-      let end : (own width a (u ∷ w) i).1 ≡ own_end a i = ap (λ v. (own width a v i).1) (sym text) ∙ ends i reached in
-      own-any a.outputs machine.parents_fall (size width (u ∷ w)) (a.output i) (own_end a i) end
+      let end : (own width a (u ∷ w) i).1 ≡ own_end a.fail a.output i = ap (λ v. (own width a v i).1) (sym text) ∙ ends i reached in
+      own-any a.outputs machine.parents_fall (size width (u ∷ w)) (a.output i) (own_end a.fail a.output i) end
       ∙ sym (ap (λ o. is_key (λ (_ : List ℕ). values_at width a (u ∷ w) o) []) leads)
 
-  pub machine_listing : (entries : List (List ℕ × V)) → IsPatterns a.child n m a.outputs a.output (own_end a) entries → IsListing (content width a) entries
+  pub machine_listing : (entries : List (List ℕ × V)) → IsPatterns a.child n m a.outputs a.output (own_end a.fail a.output) entries → IsListing (content width a) entries
   machine_listing entries (taken, listed, is) =
       let P : List (List ℕ × V) → Type 0 = λ l. IsListing (content width a) l in
-      subst P (sym is) (listing-is width a leftmost n m machine taken listed (own_end a) ends)
+      subst P (sym is) (listing-is width a leftmost n m machine taken listed (own_end a.fail a.output) ends)

@@ -4,7 +4,6 @@ use Rattle.daachorse_core.specs.declared.errors.DaachorseError.{DaachorseError}
 use Rattle.daachorse_core.specs.Refusals.{IsOutOfMemory}
 use Rattle.daachorse_core.specs.declared.outputs.Output.{Output}
 use Rattle.daachorse_core.specs.Outputs.{value_of, parent_of, ParentsFall}
-use Rattle.daachorse_machine.specs.Machines.{Machine}
 use Rattle.daachorse_machine.specs.Texts.{text_of}
 use Rattle.daachorse_listing.specs.Edges.{IsTree, TellChildren, members}
 use Rattle.daachorse_listing.specs.Room.{num_later}
@@ -38,13 +37,13 @@ with_values w vs = map (λ v. (w, v)) vs
 abbrev pub patterns_of : {V : Type 0} → (ℕ → List ℕ) → List (Output V) → (ℕ → ℕ) → (ℕ → ℕ) → List ℕ → List (List ℕ × V)
 patterns_of text outputs first stop order = flat_map (λ i. with_values (text i) (values_until outputs (stop i) (first i))) order
 
--- the position where an element's own outputs end in a machine: that of its link, and 0 for the root and behind a dead link
-abbrev pub own_end : {V : Type 0} → Machine V → ℕ → ℕ
-own_end a i = cond (i == 0) 0 (cond (a.fail i == 1) 0 (a.output (a.fail i)))
+-- the position where an element's own outputs end: that of its link's first, and 0 for the root and behind a dead link
+abbrev pub own_end : (ℕ → ℕ) → (ℕ → ℕ) → ℕ → ℕ
+own_end fail first i = cond (i == 0) 0 (cond (fail i == 1) 0 (first (fail i)))
 
 -- an element has outputs of its own: its chain begins before they end
-abbrev pub has_own : {V : Type 0} → Machine V → ℕ → Bool
-has_own a i = cond (a.output i == own_end a i) false true
+abbrev pub has_own : (ℕ → ℕ) → (ℕ → ℕ) → ℕ → Bool
+has_own fail first i = cond (first i == own_end fail first i) false true
 
 -- What a listing goes over: a tree whose n elements have outputs.
 pub record HasPatterns {V : Type 0} (child : ℕ → ℕ → Option ℕ) (group : ℕ → Option ℕ) (edge : ℕ → Option (ℕ × ℕ)) (n m : ℕ) (outputs : List (Output V)) (first : ℕ → ℕ) : Type 0 where

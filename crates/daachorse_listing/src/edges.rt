@@ -40,27 +40,3 @@ pub trait Edges {
         ensures inside { IfSome result (λ e. (e.0 < count self.now) × (e.1 < units self.now)) }
         ensures few { IfSome result (λ e. e.1 < 2 ^ 32) };
 }
-
-impl<E: Edges> Edges for &E {
-    ghost count = { λ e. E.count e.now };
-
-    ghost units = { λ e. E.units e.now };
-
-    ghost child = { λ e. E.child e.now };
-
-    ghost group = { λ e. E.group e.now };
-
-    ghost edge = { λ e. E.edge e.now };
-
-    fn num_elements(&self) -> usize {
-        (**self).num_elements()
-    }
-
-    fn group(&self, element: usize) -> Option<usize> {
-        (**self).group(element)
-    }
-
-    fn edge(&self, element: usize) -> Option<(usize, usize)> {
-        (**self).edge(element)
-    }
-}

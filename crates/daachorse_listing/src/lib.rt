@@ -8,5 +8,6 @@
 mod children;
 pub mod depths;
 pub mod edges;
+pub mod links;
 pub mod patterns;
 pub mod siblings;

@@ -11,10 +11,10 @@
 ghost use Rattle.std.specs.Prelude.{◌≡◌, ◌<◌, ◌≤◌, ◌-◌, ◌++◌, ℕ, List, [], ◌∷◌, Some, length, map, slice_get, take, vec_capacity, IfOk, IfErr};
 ghost use Rattle.daachorse_core.specs.Refusals.{IsOutOfMemory};
 ghost use Rattle.daachorse_core.specs.declared.outputs.Output.{Output};
-ghost use Rattle.daachorse_listing.specs.Listing.{HasPatterns, IsPatterns, unit_of};
+ghost use Rattle.daachorse_listing.specs.Listing.{HasPatterns, IsPatterns, own_end, unit_of};
 
 use crate::children::put_aside;
-use crate::edges::Edges;
+use crate::links::{Links, own_end};
 use crate::siblings::Siblings;
 use daachorse_core::Output;
 use daachorse_core::errors::Result;
@@ -23,7 +23,7 @@ use std::marker::{Model, PhantomData};
 use std::num::NonZeroU32;
 
 /// Edges whose elements have outputs.
-pub trait Outputs<V: Copy>: Edges {
+pub trait Outputs<V: Copy>: Links {
     /// A unit of a text.
     type Unit: Copy;
 
@@ -33,60 +33,16 @@ pub trait Outputs<V: Copy>: Edges {
     /// All outputs.
     ghost outputs: { Self → List (Output V) };
 
-    /// The position of an element's first output; 0 if there is none.
-    ghost first: { Self → ℕ → ℕ };
-
-    /// The position where an element's own outputs end.
-    ghost stop: { Self → ℕ → ℕ };
-
     /// The unit that leads to an element.
     fn unit(&self, element: usize) -> Self::Unit
         requires { element < Self.count self.now }
         ensures { number result ≡ unit_of (Self.edge self.now element) };
-
-    /// The position of an element's first output; 0 if there is none.
-    fn first_output(&self, element: usize) -> usize
-        requires { element < Self.count self.now }
-        ensures { result ≡ first self.now element };
-
-    /// The position where an element's own outputs end; 0 is the end of all.
-    fn own_end(&self, element: usize) -> usize
-        requires { element < Self.count self.now }
-        ensures { result ≡ stop self.now element };
 
     /// The output at a position.
     fn output(&self, position: usize) -> Output<V>
         requires some { 0 < position }
         requires inside { position ≤ length (outputs self.now) }
         ensures { slice_get (outputs self.now) (position - 1) ≡ Some result };
-}
-
-impl<V: Copy, E: Outputs<V>> Outputs<V> for &E {
-    type Unit = E::Unit;
-
-    ghost number = { E.number };
-
-    ghost outputs = { λ e. E.outputs e.now };
-
-    ghost first = { λ e. E.first e.now };
-
-    ghost stop = { λ e. E.stop e.now };
-
-    fn unit(&self, element: usize) -> E::Unit {
-        (**self).unit(element)
-    }
-
-    fn first_output(&self, element: usize) -> usize {
-        (**self).first_output(element)
-    }
-
-    fn own_end(&self, element: usize) -> usize {
-        (**self).own_end(element)
-    }
-
-    fn output(&self, position: usize) -> Output<V> {
-        (**self).output(position)
-    }
 }
 
 /// Outputs whose texts are given as keys, in memory of an allocator.
@@ -105,16 +61,6 @@ pub trait Keys<V: Copy, A: Allocator>: Outputs<V> {
     fn key(&self, alloc: A, units: &[Self::Unit]) -> Result<Self::Key>
         ensures ok { IfOk result (λ key. units_of key ≡ map Self.number units.now) }
         ensures err { IfErr result IsOutOfMemory };
-}
-
-impl<V: Copy, A: Allocator, E: Keys<V, A>> Keys<V, A> for &E {
-    type Key = E::Key;
-
-    ghost units_of = { E.units_of };
-
-    fn key(&self, alloc: A, units: &[E::Unit]) -> Result<E::Key> {
-        (**self).key(alloc, units)
-    }
 }
 
 /// The patterns of an array, one by one: in the order of their texts, and those of one text in the
@@ -138,13 +84,13 @@ pub struct PatternWalk<V: Copy, E: Outputs<V>, A: Allocator = Global> {
 
 impl<V: Copy, E: Outputs<V>, A: Allocator> Model for PatternWalk<V, E, A> {
     ghost use Rattle.std.specs.Prelude.{List, ℕ, map, vec_capacity};
-    ghost use Rattle.daachorse_listing.specs.Listing.{IsWalking, left_of};
+    ghost use Rattle.daachorse_listing.specs.Listing.{IsWalking, left_of, own_end};
     ghost use Rattle.daachorse_listing.specs.Trees.{elements_of};
 
     ghost Value = { List (List ℕ × V) };
 
     ghost view = { λ s. left_of (E.child s.elements) (E.count s.elements) (E.units s.elements)
-        (E.outputs s.elements) (E.first s.elements) (E.stop s.elements)
+        (E.outputs s.elements) (E.first s.elements) (own_end (E.fail s.elements) (E.first s.elements))
         (map E.number s.text.items) (elements_of s.aside.items) s.stop s.position };
 
     ghost invariant = { λ s. IsWalking (E.child s.elements) (E.group s.elements) (E.edge s.elements) (E.count s.elements) (E.units s.elements)
@@ -160,7 +106,7 @@ impl<V: Copy, E: Outputs<V> + Drop, A: Allocator + Copy> PatternWalk<V, E, A> {
     /// An allocation failed.
     pub fn new(alloc: A, elements: E) -> Result<Self>
         requires { HasPatterns (E.child elements) (E.group elements) (E.edge elements) (E.count elements) (E.units elements) (E.outputs elements) (E.first elements) }
-        ensures ok { IfOk result (λ walk. IsPatterns (E.child elements) (E.count elements) (E.units elements) (E.outputs elements) (E.first elements) (E.stop elements) walk) }
+        ensures ok { IfOk result (λ walk. IsPatterns (E.child elements) (E.count elements) (E.units elements) (E.outputs elements) (E.first elements) (own_end (E.fail elements) (E.first elements)) walk) }
         ensures err { IfErr result IsOutOfMemory }
     {
         let (groups, later) = Siblings::counted(alloc, &elements)?;
@@ -253,14 +199,14 @@ fn write_last<U: Copy, A: Allocator>(text: &mut Vec<U, A>, depth: usize, unit: U
 
 /// The position of an element's first output, and that where its own outputs end, which is read only
 /// where there is an output.
-fn own_outputs<V: Copy, E: Outputs<V>>(elements: &E, element: usize) -> (usize, usize)
+fn own_outputs<E: Links>(elements: &E, element: usize) -> (usize, usize)
     requires { element < E.count elements.now }
     ensures first { result.0 ≡ E.first elements.now element }
-    ensures stop { 0 < result.0 → result.1 ≡ E.stop elements.now element }
+    ensures stop { 0 < result.0 → result.1 ≡ own_end (E.fail elements.now) (E.first elements.now) element }
 {
-    let first = elements.first_output(element);
+    let first = elements.first(element);
     if first == 0 {
         return (0, 0);
     }
-    (first, elements.own_end(element))
+    (first as usize, own_end(elements, element) as usize)
 }

@@ -83,8 +83,9 @@ fn built_of(alloc: Global, groups: &[Group<'_>]) -> Result<States<u32>> {
 
 /// Whether these elements have these bases.
 fn have_bases(states: &States<u32>, bases: &[(usize, usize)]) -> bool {
+    let elements = states.elements();
     for (element, base) in bases {
-        if *element >= states.num_elements() || states.group(*element) != Some(*base) {
+        if *element >= elements.num_elements() || elements.group(*element) != Some(*base) {
             return false;
         }
     }

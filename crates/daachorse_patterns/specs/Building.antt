@@ -1,5 +1,6 @@
 -- What a build promises: the dictionary of its patterns, or the first refusal in the order of its work.
 use Rattle.std.specs.Prelude.{◌≡◌, ℕ, ◌<◌, ◌≤◌, ⊤, List, ◌∷◌, ◌++◌, [], length, All, Result, Option, IsNone, IsSomeAnd, IfSome}
+use Rattle.std.specs.declared.cmp.Ordering.{Ordering}
 use Rattle.daachorse_core.specs.declared.errors.DaachorseError.{DaachorseError}
 use Rattle.daachorse_core.specs.declared.errors.DaachorseError.TheVariants.{InvalidArgument, AutomatonScale, InvalidConversion, InvalidAutomaton, OutOfMemory}
 use Rattle.daachorse_core.specs.declared.errors.Limit.{Limit}
@@ -7,9 +8,11 @@ use Rattle.daachorse_core.specs.declared.errors.Limit.TheVariants.{PatternValues
 use Rattle.daachorse_model.specs.declared.MatchKind.{MatchKind}
 use Rattle.daachorse_model.specs.Dictionary.{Dictionary, dictionary, kept}
 use Rattle.daachorse_model.specs.Units.{size}
+use Rattle.daachorse_build.specs.declared.nfa_builder.NfaBuilder.{NfaBuilder}
 use Rattle.daachorse_build.specs.Holds.{HasMorePrefixes}
 use Rattle.daachorse_patterns.specs.Patterns.{AreIndexed, HasNoValue}
 use Rattle.daachorse_patterns.specs.Prefixes.{HasMoreProperPrefixes}
+use Rattle.daachorse_patterns.specs.Tries.{IsBuilt}
 
 -- the limits of an automaton
 pub record Limits : Type 0 where
@@ -22,6 +25,13 @@ pub record Limits : Type 0 where
 pub record Fit {V : Type 0} (width : ℕ → ℕ) (kind : MatchKind) (rs : List (List ℕ × V)) : Type 0 where
   pub short : All (λ r. size width r.0 ≤ 4294967295) rs
   pub few : ¬ HasMorePrefixes (dictionary kind rs) 4294967295
+
+-- a builder holds the dictionary of these patterns, which can all be added, and no more are kept than may be: where they have no limit of their own, than there may be outputs
+pub record IsTrieOf {L V A : Type 0} (cmp : L → L → Ordering) (unit : L → ℕ) (width : ℕ → ℕ) (most : Option ℕ) (kind : MatchKind) (rs : List (List ℕ × V)) (b : NfaBuilder L V A) : Type 0 where
+  pub built : IsBuilt cmp unit width most kind b (dictionary kind rs)
+  pub fit : Fit width kind rs
+  pub outputs : length (kept kind rs) ≤ 4294967295
+  pub few : IfSome most (λ n. length (kept kind rs) ≤ n)
 
 -- the patterns before r can be added, and r is next
 pub record ComesTo {V : Type 0} (width : ℕ → ℕ) (kind : MatchKind) (rs before : List (List ℕ × V)) (r : List ℕ × V) : Type 0 where

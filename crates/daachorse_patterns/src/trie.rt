@@ -6,13 +6,12 @@
 ghost use Rattle.std.specs.Prelude.{◌≡◌, ◌≤◌, [], None, ◌<◌, IfOk, IfErr, IfSome, IsSomeAnd, OnOk, length};
 ghost use Rattle.daachorse_core.specs.Refusals.{IsOutOfMemory};
 ghost use Rattle.daachorse_core.specs.declared.errors.Limit.TheVariants.{PatternValues};
-ghost use Rattle.daachorse_model.specs.Dictionary.{dictionary, kept};
 ghost use Rattle.daachorse_model.specs.Kinds.{is_leftmost};
 ghost use Rattle.daachorse_build.specs.Builders.{Registered, kind_of, outputs_of, states_of};
 ghost use Rattle.daachorse_build.specs.Steps.{HasLinksOf, KeepsPatterns};
-ghost use Rattle.daachorse_patterns.specs.Building.{Fit, IsRefusalWithin, Limits};
+ghost use Rattle.daachorse_patterns.specs.Building.{Fit, IsRefusalWithin, IsTrieOf, Limits};
 ghost use Rattle.daachorse_patterns.specs.Patterns.{texts_of};
-ghost use Rattle.daachorse_patterns.specs.Tries.{HasTexts, IsBuilt};
+ghost use Rattle.daachorse_patterns.specs.Tries.{HasTexts};
 
 use crate::pattern::Pattern;
 use daachorse_build::nfa_builder::NfaBuilder;
@@ -37,10 +36,7 @@ pub fn build_trie<L: EdgeLabel, P: Pattern<L>, V: Copy, A: Allocator + Copy>(
     patterns: &[(P, V)],
 ) -> Result<NfaBuilder<L, V, A>>
     requires { IfSome max_patterns (λ n. n ≤ 4294967295) }
-    ensures ok { IfOk result (λ nfa. IsBuilt L.cmp L.unit L.width max_patterns kind nfa (dictionary kind (texts_of P.units patterns.now))) }
-    ensures fit { OnOk result (Fit L.width kind (texts_of P.units patterns.now)) }
-    ensures outputs { OnOk result (length (kept kind (texts_of P.units patterns.now)) ≤ 4294967295) }
-    ensures few { OnOk result (IfSome max_patterns (λ n. length (kept kind (texts_of P.units patterns.now)) ≤ n)) }
+    ensures ok { IfOk result (IsTrieOf L.cmp L.unit L.width max_patterns kind (texts_of P.units patterns.now)) }
     ensures err { IfErr result (IsRefusalWithin L.width (record { patterns = max_patterns; parents = None }) kind (texts_of P.units patterns.now)) }
 {
     let mut nfa = NfaBuilder::new(alloc, kind)?;

@@ -8,14 +8,15 @@ ghost use Rattle.std.specs.Prelude.{◌≡◌, ◌⊎◌, ◌++◌, ◌-◌, ◌
 ghost use Rattle.daachorse_core.specs.Refusals.{IsOutOfMemory};
 ghost use Rattle.daachorse_prefilter.specs.Filters.{Filter};
 ghost use Rattle.daachorse_serializer.specs.Forms.{GivesView, IsReadRefusal};
-ghost use Rattle.daachorse_bytewise_states.specs.Grouped.{HasNoAutomaton};
+ghost use Rattle.daachorse_checker.specs.Reads.{HasNoParts};
 ghost use Rattle.daachorse_bytewise_states.specs.PartForms.{AreCounted, AreNumbers, BeginsWithAutomaton, IsAutomaton, parts_form, parts_in, parts_most, take_parts};
 ghost use Rattle.daachorse_bytewise_states.specs.Parts.{Parts};
 ghost use Rattle.daachorse_bytewise_states.specs.Valid.{IsValid};
 
 use super::{States, root_table};
+use crate::edges::Elements;
 use crate::state::State;
-use crate::unchecked::Unchecked;
+use crate::unchecked::are_lists;
 use daachorse_core::Empty;
 use daachorse_core::errors::{DaachorseError, Result};
 use daachorse_prefilter::prefilter::Prefilter;
@@ -72,17 +73,19 @@ impl<V: Copy, A: Allocator + Copy> Lists<V, A> {
         ensures no { IfOk result (λ valid. valid ≡ false → IsValid (parts_in self.now).0 → ⊥) }
         ensures err { IfErr result IsOutOfMemory }
     {
-        let Some(parts) = Unchecked::new(
-            self.ending.mode.kind,
+        let kind = self.ending.mode.kind;
+        if !are_lists(kind, &self.standard, &self.leftmost, &self.fails) {
+            return Ok(false);
+        }
+        let elements = Elements::new(
+            kind,
             self.standard.as_slice(),
             self.leftmost.as_slice(),
             self.fails.as_slice(),
             self.ending.outputs.as_slice(),
             self.ending.num_states,
-        ) else {
-            return Ok(false);
-        };
-        let valid = parts.is_valid(alloc)?;
+        );
+        let valid = elements.are_valid(alloc)?;
         Ok(valid)
     }
 }
@@ -188,7 +191,7 @@ impl<V: Serializable + Copy, A: Allocator + Copy> States<V, A> {
     pub fn deserialize(alloc: A, src: &[u8]) -> Result<((Self, bool, Option<Prefilter<A>>), &[u8])>
         ensures given { IfOk result (λ r. take_parts V.taken src.now ≡ Some ((r.0.0, (r.0.1, r.0.2)), r.1.now)) }
         ensures valid { IfOk result (λ r. IsValid r.0.0) }
-        ensures refused { IfErr result (λ e. IsOutOfMemory e ⊎ HasNoAutomaton (take_parts V.taken src.now)) }
+        ensures refused { IfErr result (λ e. IsOutOfMemory e ⊎ HasNoParts IsValid (take_parts V.taken src.now)) }
         ensures cause { IfErr result (IsReadRefusal V.own_refusal) }
     {
         let (lists, rest) = read_lists(alloc, src)?;

@@ -6,9 +6,9 @@
 
 ghost use Rattle.std.specs.Prelude.{◌≡◌, ◌⊎◌, ◌++◌, ◌-◌, ◌^◌, Bool, List, ℕ, Option, Some, true, false, min, IfOk, IfErr};
 ghost use Rattle.daachorse_core.specs.Refusals.{IsOutOfMemory};
+ghost use Rattle.daachorse_checker.specs.Reads.{HasNoParts};
 ghost use Rattle.daachorse_prefilter.specs.Filters.{Filter};
 ghost use Rattle.daachorse_serializer.specs.Forms.{GivesView, IsReadRefusal};
-ghost use Rattle.daachorse_charwise_states.specs.Grouped.{HasNoAutomaton};
 ghost use Rattle.daachorse_charwise_states.specs.PartForms.{AreCounted, AreNumbers, BeginsWithAutomaton, IsAutomaton, parts_form, parts_in, parts_most, take_parts};
 ghost use Rattle.daachorse_charwise_states.specs.Parts.{Parts};
 ghost use Rattle.daachorse_charwise_states.specs.Valid.{IsValid};
@@ -183,7 +183,7 @@ impl<V: Serializable + Copy, A: Allocator + Copy> States<V, A> {
     pub fn deserialize(alloc: A, src: &[u8]) -> Result<((Self, bool, Option<Prefilter<A>>), &[u8])>
         ensures given { IfOk result (λ r. take_parts V.taken src.now ≡ Some ((r.0.0, (r.0.1, r.0.2)), r.1.now)) }
         ensures valid { IfOk result (λ r. IsValid r.0.0) }
-        ensures refused { IfErr result (λ e. IsOutOfMemory e ⊎ HasNoAutomaton (take_parts V.taken src.now)) }
+        ensures refused { IfErr result (λ e. IsOutOfMemory e ⊎ HasNoParts IsValid (take_parts V.taken src.now)) }
         ensures cause { IfErr result (IsReadRefusal V.own_refusal) }
     {
         let (lists, rest) = read_lists(alloc, src)?;

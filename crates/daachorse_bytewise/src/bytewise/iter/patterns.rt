@@ -1,6 +1,6 @@
 //! The patterns of an automaton, one by one.
 
-use daachorse_bytewise_states::states::States;
+use daachorse_bytewise_states::edges::Elements;
 use daachorse_core::errors::Result;
 use daachorse_listing::patterns::PatternWalk;
 use std::alloc::{Allocator, Global};
@@ -14,7 +14,7 @@ use std::marker::Model;
 /// The automaton's `iter` makes it. `daachorse_tests` compares whole listings.
 #[derive(Drop)]
 pub struct PatternIterator<'a, V: Copy, A: Allocator = Global> {
-    pub(crate) walk: PatternWalk<V, &'a States<V, A>, A>,
+    pub(crate) walk: PatternWalk<V, Elements<'a, V>, A>,
 }
 
 impl<'a, V: Copy, A: Allocator> Model for PatternIterator<'a, V, A> {

@@ -10,7 +10,7 @@ pub returns-then-len-num_states-clause-no : goal.returns-then-len-num_states-cla
 returns-then-len-num_states-clause-no g c e right counted =
     let arr = c.args.array.now in
     let p = c.in-Some.places in
-    let a = machine_of (g.E.Edges.child arr) (g.E.Array.fail arr) (g.E.Array.first arr) c.args.outputs.now in
+    let a = machine_of (g.E.Edges.child arr) (g.E.Links.fail arr) (g.E.Links.first arr) c.args.outputs.now in
     let both = rw c.in-Some.is at c.in_ok-places.ensures.yes in
     let same = same_count (g.E.Array.width arr) a (g.E.Edges.group arr) (g.E.Edges.edge arr) (g.E.Edges.count arr) c.requires.tell p.order.items p.parents.items p.labels.items p.marks.items both.1 both.0 c.args.num_states counted in
     let len : c.len.result ≡ length p.order.items = omega (arith, c.len.ensures) in
@@ -31,7 +31,7 @@ pub returns-then-not-chains_hold-clause-no : goal.returns-then-not-chains_hold-c
 returns-then-not-chains_hold-clause-no g c e right counted =
     let arr = c.args.array.now in
     let p = c.in-Some.places in
-    let a = machine_of (g.E.Edges.child arr) (g.E.Array.fail arr) (g.E.Array.first arr) c.args.outputs.now in
+    let a = machine_of (g.E.Edges.child arr) (g.E.Links.fail arr) (g.E.Links.first arr) c.args.outputs.now in
     let both = rw c.in-Some.is at c.in_ok-places.ensures.yes in
     let leaves = c.in_ok-leaves.leaves.items in
     let sizes = c.in_ok-sizes.sizes.items in
@@ -45,7 +45,7 @@ pub returns-clause-yes : goal.returns-clause-yes
 returns-clause-yes g c e =
     let arr = c.args.array.now in
     let p = c.in-Some.places in
-    let a = machine_of (g.E.Edges.child arr) (g.E.Array.fail arr) (g.E.Array.first arr) c.args.outputs.now in
+    let a = machine_of (g.E.Edges.child arr) (g.E.Links.fail arr) (g.E.Links.first arr) c.args.outputs.now in
     let both = rw c.in-Some.is at c.in_ok-places.ensures.yes in
     let leaves = c.in_ok-leaves.leaves.items in
     let sizes = c.in_ok-sizes.sizes.items in

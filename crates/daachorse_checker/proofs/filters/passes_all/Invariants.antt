@@ -1,6 +1,7 @@
 -- The level of the texts of so many units is at hand.
+use Rattle.daachorse_listing.specs.Listing.{has_own}
 use Rattle.daachorse_checker.specs.Filters.{IsLevel}
 use Rattle.daachorse_checker.proofs.filters.passes_all.Given as goal
 
 abbrev pub invariant-loop-depth : goal.invariant-loop-depth
-invariant-loop-depth g l = IsLevel (g.E.Edges.child l.array) g.E.Spelled.bytes l.filter (g.E.Spelled.is_key l.array) l._depth l.level.items
+invariant-loop-depth g l = IsLevel (g.E.Edges.child l.array) g.E.Spelled.bytes l.filter (has_own (g.E.Links.fail l.array) (g.E.Links.first l.array)) l._depth l.level.items

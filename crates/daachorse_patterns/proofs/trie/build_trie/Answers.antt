@@ -60,85 +60,27 @@ returns-clause-ok g c =
     let o = c.add_all.new.nfa in let b = c.build_links.new.nfa in let d = c.build_outputs.new.self in
     let texts = HasTexts-kept cmp unit width o b rs linked.kept added.ok in
     let bound = made.outputs.all_kept texts.labels texts.registered in
-    let few : IfSome c.args.max_patterns (λ n. length (outputs_of d) ≤ n) = IfSome_then c.args.max_patterns c.in_ok-check_count.ensures.ok (λ n low. omega (arith, low, bound, linked.kept.patterns, c.num_patterns.ensures)) in
-    finished_for cmp unit width g.met.L.Ord.total c.args.max_patterns c.args.kind o b d c.in_ok-order.order.items (added.kind ∙ old) added.fits linked.kept linked.links made.kept made.links made.parents (let P : List ℕ → Type 0 = λ order. HasOutputsOf cmp unit width b d order in subst P c.deref.ensures.value made.outputs) (few_for c.args.max_patterns (length (outputs_of d)) few made.outputs.few) rs added.ok
-
-pub returns-clause-outputs : goal.returns-clause-outputs
-returns-clause-outputs g c =
-    let cmp = g.L.Ord.cmp in let unit = g.L.EdgeLabel.unit in let width = g.L.EdgeLabel.width in
-    let rs : List (List ℕ × g.row.V.Denot) = texts_of g.P.Pattern.units c.args.patterns.now in
-    let added = c.in_ok-add_all.ensures in let old = c.in_ok-nfa.ensures.kind in
-    let linked = c.in_ok-order.ensures in let made = c.in_ok-build_outputs.ensures in
-    let o = c.add_all.new.nfa in let b = c.build_links.new.nfa in
-    let texts = HasTexts-kept cmp unit width o b rs linked.kept added.ok in
-    let all = made.outputs.all_kept texts.labels texts.registered in
     let count : c.num_patterns.result ≡ length (kept c.args.kind rs) = c.num_patterns.ensures ∙ HasTexts-count cmp unit width o rs added.ok ∙ ap (λ k. length (kept k rs)) (added.kind ∙ old) in
-    omega (arith, all, made.outputs.few, linked.kept.patterns, c.num_patterns.ensures, count)
-
-pub returns-clause-few : goal.returns-clause-few
-returns-clause-few g c =
-    let cmp = g.L.Ord.cmp in let unit = g.L.EdgeLabel.unit in let width = g.L.EdgeLabel.width in
-    let rs : List (List ℕ × g.row.V.Denot) = texts_of g.P.Pattern.units c.args.patterns.now in
-    let added = c.in_ok-add_all.ensures in let old = c.in_ok-nfa.ensures.kind in
-    let count : c.num_patterns.result ≡ length (kept c.args.kind rs) = c.num_patterns.ensures ∙ HasTexts-count cmp unit width c.add_all.new.nfa rs added.ok ∙ ap (λ k. length (kept k rs)) (added.kind ∙ old) in
-    IfSome_then c.args.max_patterns c.in_ok-check_count.ensures.ok (λ n low. omega (arith, low, count))
+    let few : IfSome c.args.max_patterns (λ n. length (outputs_of d) ≤ n) = IfSome_then c.args.max_patterns c.in_ok-check_count.ensures.ok (λ n low. omega (arith, low, bound, linked.kept.patterns, c.num_patterns.ensures)) in
+    let F : MatchKind → Type 0 = λ k. Fit width k rs in
+    record {
+      built = finished_for cmp unit width g.met.L.Ord.total c.args.max_patterns c.args.kind o b d c.in_ok-order.order.items (added.kind ∙ old) added.fits linked.kept linked.links made.kept made.links made.parents (let P : List ℕ → Type 0 = λ order. HasOutputsOf cmp unit width b d order in subst P c.deref.ensures.value made.outputs) (few_for c.args.max_patterns (length (outputs_of d)) few made.outputs.few) rs added.ok;
+      fit = subst F old added.fit;
+      outputs = omega (arith, bound, made.outputs.few, linked.kept.patterns, c.num_patterns.ensures, count);
+      few = IfSome_then c.args.max_patterns c.in_ok-check_count.ensures.ok (λ n low. omega (arith, low, count));
+    }
 
 pub returns-in_err-nfa-clause-ok : goal.returns-in_err-nfa-clause-ok
 returns-in_err-nfa-clause-ok g c = IfOk-from_err c.from_residual.result _ c.from_residual.ensures.0
 
-pub returns-in_err-nfa-clause-fit : goal.returns-in_err-nfa-clause-fit
-returns-in_err-nfa-clause-fit g c = IfOk-from_err c.from_residual.result _ c.from_residual.ensures.0
-
-pub returns-in_err-nfa-clause-outputs : goal.returns-in_err-nfa-clause-outputs
-returns-in_err-nfa-clause-outputs g c = IfOk-from_err c.from_residual.result _ c.from_residual.ensures.0
-
-pub returns-in_err-nfa-clause-few : goal.returns-in_err-nfa-clause-few
-returns-in_err-nfa-clause-few g c = IfOk-from_err c.from_residual.result _ c.from_residual.ensures.0
-
 pub returns-in_err-add_all-clause-ok : goal.returns-in_err-add_all-clause-ok
 returns-in_err-add_all-clause-ok g c = IfOk-from_err c.from_residual-in_err-add_all.result _ c.from_residual-in_err-add_all.ensures.0
-
-pub returns-in_err-add_all-clause-fit : goal.returns-in_err-add_all-clause-fit
-returns-in_err-add_all-clause-fit g c = IfOk-from_err c.from_residual-in_err-add_all.result _ c.from_residual-in_err-add_all.ensures.0
-
-pub returns-in_err-add_all-clause-outputs : goal.returns-in_err-add_all-clause-outputs
-returns-in_err-add_all-clause-outputs g c = IfOk-from_err c.from_residual-in_err-add_all.result _ c.from_residual-in_err-add_all.ensures.0
-
-pub returns-in_err-add_all-clause-few : goal.returns-in_err-add_all-clause-few
-returns-in_err-add_all-clause-few g c = IfOk-from_err c.from_residual-in_err-add_all.result _ c.from_residual-in_err-add_all.ensures.0
 
 pub returns-in_err-check_count-clause-ok : goal.returns-in_err-check_count-clause-ok
 returns-in_err-check_count-clause-ok g c = IfOk-from_err c.from_residual-in_err-check_count.result _ c.from_residual-in_err-check_count.ensures.0
 
-pub returns-in_err-check_count-clause-fit : goal.returns-in_err-check_count-clause-fit
-returns-in_err-check_count-clause-fit g c = IfOk-from_err c.from_residual-in_err-check_count.result _ c.from_residual-in_err-check_count.ensures.0
-
-pub returns-in_err-check_count-clause-outputs : goal.returns-in_err-check_count-clause-outputs
-returns-in_err-check_count-clause-outputs g c = IfOk-from_err c.from_residual-in_err-check_count.result _ c.from_residual-in_err-check_count.ensures.0
-
-pub returns-in_err-check_count-clause-few : goal.returns-in_err-check_count-clause-few
-returns-in_err-check_count-clause-few g c = IfOk-from_err c.from_residual-in_err-check_count.result _ c.from_residual-in_err-check_count.ensures.0
-
 pub returns-in_err-order-clause-ok : goal.returns-in_err-order-clause-ok
 returns-in_err-order-clause-ok g c = IfOk-from_err c.from_residual-in_err-order.result _ c.from_residual-in_err-order.ensures.0
 
-pub returns-in_err-order-clause-fit : goal.returns-in_err-order-clause-fit
-returns-in_err-order-clause-fit g c = IfOk-from_err c.from_residual-in_err-order.result _ c.from_residual-in_err-order.ensures.0
-
-pub returns-in_err-order-clause-outputs : goal.returns-in_err-order-clause-outputs
-returns-in_err-order-clause-outputs g c = IfOk-from_err c.from_residual-in_err-order.result _ c.from_residual-in_err-order.ensures.0
-
-pub returns-in_err-order-clause-few : goal.returns-in_err-order-clause-few
-returns-in_err-order-clause-few g c = IfOk-from_err c.from_residual-in_err-order.result _ c.from_residual-in_err-order.ensures.0
-
 pub returns-in_err-build_outputs-clause-ok : goal.returns-in_err-build_outputs-clause-ok
 returns-in_err-build_outputs-clause-ok g c = IfOk-from_err c.from_residual-in_err-build_outputs.result _ c.from_residual-in_err-build_outputs.ensures.0
-
-pub returns-in_err-build_outputs-clause-fit : goal.returns-in_err-build_outputs-clause-fit
-returns-in_err-build_outputs-clause-fit g c = IfOk-from_err c.from_residual-in_err-build_outputs.result _ c.from_residual-in_err-build_outputs.ensures.0
-
-pub returns-in_err-build_outputs-clause-outputs : goal.returns-in_err-build_outputs-clause-outputs
-returns-in_err-build_outputs-clause-outputs g c = IfOk-from_err c.from_residual-in_err-build_outputs.result _ c.from_residual-in_err-build_outputs.ensures.0
-
-pub returns-in_err-build_outputs-clause-few : goal.returns-in_err-build_outputs-clause-few
-returns-in_err-build_outputs-clause-few g c = IfOk-from_err c.from_residual-in_err-build_outputs.result _ c.from_residual-in_err-build_outputs.ensures.0

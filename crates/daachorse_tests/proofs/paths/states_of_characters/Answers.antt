@@ -6,4 +6,4 @@ use Rattle.daachorse_tests.proofs.paths.states_of_characters.Goals as goal
 
 pub build-requires-clause-built : goal.build-requires-clause-built
 build-requires-clause-built c =
-    (dictionary Standard [], c.in_ok-nfa.ensures.ok, λ v w u key. absurd (key refl))
+    (dictionary Standard [], c.in_ok-nfa.ensures.ok.built, λ v w u key. absurd (key refl))

@@ -20,27 +20,27 @@ returns-in_err-nfa-clause-err g c =
 
 pub profile_of-requires : goal.profile_of-requires
 profile_of-requires g c =
-    links_back byte_width (Some 16777215) c.args.settings.now.match_kind c.in_ok-nfa.nfa (dictionary c.args.settings.now.match_kind (registered c.args.patterns.now)) c.in_ok-nfa.ensures.ok
+    links_back byte_width (Some 16777215) c.args.settings.now.match_kind c.in_ok-nfa.nfa (dictionary c.args.settings.now.match_kind (registered c.args.patterns.now)) c.in_ok-nfa.ensures.ok.built
 
 pub build-requires-clause-built : goal.build-requires-clause-built
-build-requires-clause-built g c = (dictionary c.args.settings.now.match_kind (registered c.args.patterns.now), c.in_ok-nfa.ensures.ok)
+build-requires-clause-built g c = (dictionary c.args.settings.now.match_kind (registered c.args.patterns.now), c.in_ok-nfa.ensures.ok.built)
 
 pub returns-in_err-states-clause-err : goal.returns-in_err-states-clause-err
 returns-in_err-states-clause-err g c =
     let p = err_from_is_err_and c.from_residual-in_err-states.result c.from_residual-in_err-states.ensures.1 in
     let rs = registered c.args.patterns.now in
-    rw (p.1, p.2) (elements_refused byte_width byte_limits c.args.settings.now.match_kind rs c.in_ok-nfa.ensures.fit c.in_ok-nfa.ensures.few c.in_err-states.field-0.0 _ (λ passed. passed (dictionary c.args.settings.now.match_kind rs) c.in_ok-nfa.ensures.ok) c.in_err-states.ensures.err)
+    rw (p.1, p.2) (elements_refused byte_width byte_limits c.args.settings.now.match_kind rs c.in_ok-nfa.ensures.ok.fit c.in_ok-nfa.ensures.ok.few c.in_err-states.field-0.0 _ (λ passed. passed (dictionary c.args.settings.now.match_kind rs) c.in_ok-nfa.ensures.ok.built) c.in_err-states.ensures.err)
 
 pub of_states-requires-clause-folded : goal.of_states-requires-clause-folded
 of_states-requires-clause-folded g c = λ on k key.
     let kind = c.args.settings.now.match_kind in
     let rs = registered c.args.patterns.now in
-    keys-as_read c.args.settings.now.ascii_case_insensitive kind rs c.requires on k (λ none. key (c.in_ok-states.ensures.ok (dictionary kind rs) c.in_ok-nfa.ensures.ok k ∙ none))
+    keys-as_read c.args.settings.now.ascii_case_insensitive kind rs c.requires on k (λ none. key (c.in_ok-states.ensures.ok (dictionary kind rs) c.in_ok-nfa.ensures.ok.built k ∙ none))
 
 pub of_states-requires-clause-filter : goal.of_states-requires-clause-filter
 of_states-requires-clause-filter g c =
     let K = dictionary c.args.settings.now.match_kind (registered c.args.patterns.now) in
-    passes_along (λ w. w) K (content c.in_ok-states.states) (c.in_ok-states.ensures.ok K c.in_ok-nfa.ensures.ok) c.in_ok-filter.filter (c.in_ok-filter.ensures.passes c.args.settings.now.match_kind)
+    passes_along (λ w. w) K (content c.in_ok-states.states) (c.in_ok-states.ensures.ok K c.in_ok-nfa.ensures.ok.built) c.in_ok-filter.filter (c.in_ok-filter.ensures.passes c.args.settings.now.match_kind)
 
 pub returns-clause-filter : goal.returns-clause-filter
 returns-clause-filter g c =
@@ -51,4 +51,4 @@ pub returns-clause-ok : goal.returns-clause-ok
 returns-clause-ok g c =
     let K = dictionary c.args.settings.now.match_kind (registered c.args.patterns.now) in
     let P : Parts g.row.V.Denot → Type 0 = λ p. (w : List ℕ) → content p w ≡ K w in
-    subst P (sym c.of_states.ensures.states) (c.in_ok-states.ensures.ok K c.in_ok-nfa.ensures.ok)
+    subst P (sym c.of_states.ensures.states) (c.in_ok-states.ensures.ok K c.in_ok-nfa.ensures.ok.built)

@@ -7,4 +7,4 @@ use Rattle.daachorse_bytewise_states.proofs.states.States.num_states.Goals as go
 pub returns-clause-prefixes : goal.returns-clause-prefixes
 returns-clause-prefixes g c =
     let valid = c.self.invariant.valid in
-    rw (← c.self.view_is) (counted-prefixes byte_width _ _ _ 256 c.self.inside.num_states (valid_machine _ valid) valid.counted)
+    rw (← c.self.view_is) (counted-prefixes byte_width _ _ _ 256 c.self.inside.num_states (valid_machine _ valid) valid.sound.counted)

@@ -9,4 +9,4 @@ returns-clause-value g c =
     let low : 0 < c.args.position.value = omega (arith, c.get.ensures) in
     let read : o ≡ get_or c.args.self.now.outputs (c.args.position.value - 1) o =
     c.index-outputs-get.is ∙ (ap (λ p. get_or p.outputs (c.get.result - 1) o) c.self.view_is ∙ ap (λ q. get_or c.args.self.now.outputs (q - 1) o) c.get.ensures.value) in
-    (output_read _ (seen_by c.self.view_is c.self.invariant).stored.valid.parents_fall c.args.position.value o low c.requires read).1
+    (output_read _ (seen_by c.self.view_is c.self.invariant).stored.valid.sound.parents_fall c.args.position.value o low c.requires read).1

@@ -15,14 +15,14 @@ use Rattle.daachorse_charwise.proofs.charwise.builder.from_read.Goals as goal
 
 pub profile_of-requires : goal.profile_of-requires
 profile_of-requires g c =
-    links_back char_width None c.args.settings.now.match_kind c.in_ok-nfa.nfa (dictionary c.args.settings.now.match_kind (registered_texts c.args.patterns.now)) c.in_ok-nfa.ensures.ok
+    links_back char_width None c.args.settings.now.match_kind c.in_ok-nfa.nfa (dictionary c.args.settings.now.match_kind (registered_texts c.args.patterns.now)) c.in_ok-nfa.ensures.ok.built
 
 pub build-requires-clause-built : goal.build-requires-clause-built
 build-requires-clause-built g c =
     let K : Dictionary g.row.V.Denot = dictionary c.args.settings.now.match_kind (registered_texts c.args.patterns.now) in
     let P : List ℕ → Type 0 = λ freqs. IsCodingOf freqs c.in_ok-mapper.mapper in
     let codes = subst P c.deref.ensures.value c.in_ok-mapper.ensures.ok in
-    (K, c.in_ok-nfa.ensures.ok, coded_keys c.args.patterns.now c.in_ok-freqs.freqs.items c.in_ok-mapper.mapper c.in_ok-freqs.ensures.ok codes c.in_ok-freqs.ensures.texts c.args.settings.now.match_kind)
+    (K, c.in_ok-nfa.ensures.ok.built, coded_keys c.args.patterns.now c.in_ok-freqs.freqs.items c.in_ok-mapper.mapper c.in_ok-freqs.ensures.ok codes c.in_ok-freqs.ensures.texts c.args.settings.now.match_kind)
 
 pub build-requires-clause-codes : goal.build-requires-clause-codes
 build-requires-clause-codes g c =
@@ -36,18 +36,18 @@ returns-in_err-states-clause-err g c =
     let P : List ℕ → Type 0 = λ freqs. IsCodingOf freqs c.in_ok-mapper.mapper in
     let codes = codes_of c.args.patterns.now c.in_ok-freqs.freqs.items c.in_ok-mapper.mapper c.in_ok-freqs.ensures.ok (subst P c.deref.ensures.value c.in_ok-mapper.ensures.ok) in
     let p = err_from_is_err_and c.from_residual-in_err-states.result c.from_residual-in_err-states.ensures.1 in
-    rw (p.1, p.2) (elements_refused c.args.settings.now.match_kind rs c.in_ok-mapper.mapper c.in_ok-nfa.ensures.fit c.in_ok-nfa.ensures.outputs codes c.in_err-states.field-0.0 _ (λ many. many K c.in_ok-nfa.ensures.ok) c.in_err-states.ensures.err)
+    rw (p.1, p.2) (elements_refused c.args.settings.now.match_kind rs c.in_ok-mapper.mapper c.in_ok-nfa.ensures.ok.fit c.in_ok-nfa.ensures.ok.outputs codes c.in_err-states.field-0.0 _ (λ many. many K c.in_ok-nfa.ensures.ok.built) c.in_err-states.ensures.err)
 
 pub of_states-requires-clause-folded : goal.of_states-requires-clause-folded
 of_states-requires-clause-folded g c = λ on k key.
     let kind = c.args.settings.now.match_kind in
     let rs : List (List ℕ × g.row.V.Denot) = registered_texts c.args.patterns.now in
-    keys-as_read c.args.settings.now.ascii_case_insensitive kind rs c.requires on k (λ none. key (c.in_ok-states.ensures.ok (dictionary kind rs) c.in_ok-nfa.ensures.ok k ∙ none))
+    keys-as_read c.args.settings.now.ascii_case_insensitive kind rs c.requires on k (λ none. key (c.in_ok-states.ensures.ok (dictionary kind rs) c.in_ok-nfa.ensures.ok.built k ∙ none))
 
 pub of_states-requires-clause-filter : goal.of_states-requires-clause-filter
 of_states-requires-clause-filter g c =
     let K : Dictionary g.row.V.Denot = dictionary c.args.settings.now.match_kind (registered_texts c.args.patterns.now) in
-    passes_along encode_utf8_all K (content c.in_ok-states.states) (c.in_ok-states.ensures.ok K c.in_ok-nfa.ensures.ok) c.in_ok-filter.filter (c.in_ok-filter.ensures.passes c.args.settings.now.match_kind)
+    passes_along encode_utf8_all K (content c.in_ok-states.states) (c.in_ok-states.ensures.ok K c.in_ok-nfa.ensures.ok.built) c.in_ok-filter.filter (c.in_ok-filter.ensures.passes c.args.settings.now.match_kind)
 
 pub returns-clause-filter : goal.returns-clause-filter
 returns-clause-filter g c = c.of_states.ensures.filter ∙ c.in_ok-filter.ensures.ok
@@ -60,5 +60,5 @@ returns-clause-ok g c =
     let codes = codes_of c.args.patterns.now c.in_ok-freqs.freqs.items c.in_ok-mapper.mapper c.in_ok-freqs.ensures.ok (subst P c.deref.ensures.value c.in_ok-mapper.ensures.ok) in
     let C : Coding → Type 0 = λ coding. AreCodesOf (map (λ r. r.0) rs) coding in
     let H : Parts g.row.V.Denot → Type 0 = λ p. ((w : List ℕ) → content p w ≡ K w) × C p.coding in
-    let held = subst H (sym c.of_states.ensures.states) (c.in_ok-states.ensures.ok K c.in_ok-nfa.ensures.ok, subst C (sym c.in_ok-states.ensures.mapper) codes) in
+    let held = subst H (sym c.of_states.ensures.states) (c.in_ok-states.ensures.ok K c.in_ok-nfa.ensures.ok.built, subst C (sym c.in_ok-states.ensures.mapper) codes) in
     record { patterns = held.0; codes = held.1 }

@@ -6,7 +6,6 @@ use Rattle.daachorse_charwise_states.specs.Edges.{IsLettered, Lettered}
 use Rattle.daachorse_charwise_states.specs.Parts.{machine}
 use Rattle.daachorse_charwise_states.proofs.CharLaws.{child_inside}
 use Rattle.daachorse_charwise_states.proofs.EdgeLaws.{valid_tells}
-use Rattle.daachorse_charwise_states.proofs.GroupedLaws.{sound_valid, valid_sound}
 use Rattle.daachorse_charwise_states.proofs.edges.Elements.are_valid.Goals as goal
 
 pub is_sound-requires-clause-inside : goal.is_sound-requires-clause-inside
@@ -24,7 +23,7 @@ returns-clause-yes g c e =
     let kind : c.is_leftmost-leftmost.result ≡ is_leftmost p.kind = c.is_leftmost-leftmost.ensures ∙ ap (λ (a : Lettered g.row.V.Denot). is_leftmost a.parts.kind) c.self.view_is in
     let outputs : c.self.inside.outputs.now ≡ p.outputs = ap (λ (a : Lettered g.row.V.Denot). a.parts.outputs) c.self.view_is in
     let count : c.self.inside.num_states ≡ p.num_states = ap (λ (a : Lettered g.row.V.Denot). a.parts.num_states) c.self.view_is in
-    sound_valid p c.requires lettered.few (told_sound (machine p) kind outputs count (c.in_ok-valid.ensures.yes e))
+    record { grouped = c.requires; few = lettered.few; sound = told_sound (machine p) kind outputs count (c.in_ok-valid.ensures.yes e) }
 
 pub returns-clause-no : goal.returns-clause-no
 returns-clause-no g c e valid =
@@ -32,4 +31,4 @@ returns-clause-no g c e valid =
     let kind : c.is_leftmost-leftmost.result ≡ is_leftmost p.kind = c.is_leftmost-leftmost.ensures ∙ ap (λ (a : Lettered g.row.V.Denot). is_leftmost a.parts.kind) c.self.view_is in
     let outputs : c.self.inside.outputs.now ≡ p.outputs = ap (λ (a : Lettered g.row.V.Denot). a.parts.outputs) c.self.view_is in
     let count : c.self.inside.num_states ≡ p.num_states = ap (λ (a : Lettered g.row.V.Denot). a.parts.num_states) c.self.view_is in
-    c.in_ok-valid.ensures.no e (sound_told (machine p) kind outputs count (valid_sound p valid))
+    c.in_ok-valid.ensures.no e (sound_told (machine p) kind outputs count valid.sound)

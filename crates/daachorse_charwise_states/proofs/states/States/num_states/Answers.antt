@@ -7,4 +7,4 @@ use Rattle.daachorse_charwise_states.proofs.states.States.num_states.Goals as go
 pub returns-clause-prefixes : goal.returns-clause-prefixes
 returns-clause-prefixes g c =
     let valid = c.self.invariant in
-    rw (← c.self.view_is) (counted-prefixes char_width _ _ _ _ c.self.inside.num_states (valid_machine _ valid) valid.counted)
+    rw (← c.self.view_is) (counted-prefixes char_width _ _ _ _ c.self.inside.num_states (valid_machine _ valid) valid.sound.counted)

@@ -26,7 +26,7 @@ passes_all-requires-clause-some g c = (valid_machine c.in_ok-elements.elements.p
 
 pub passes_all-requires-clause-tree : goal.passes_all-requires-clause-tree
 passes_all-requires-clause-tree g c =
-    let right = c.in_ok-elements.ensures.valid.right in record { dead_no_child = right.dead_no_child; one_path = right.one_path }
+    let right = c.in_ok-elements.ensures.valid.sound.right in record { dead_no_child = right.dead_no_child; one_path = right.one_path }
 
 pub returns-clause-yes : goal.returns-clause-yes
 returns-clause-yes g c e =

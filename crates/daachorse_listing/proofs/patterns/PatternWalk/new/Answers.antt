@@ -1,7 +1,7 @@
 -- A walk starts with the root put aside.
 use Rattle.std.proofs.Common.{◌≡◌, ℕ, List, [], ◌∷◌, ◌++◌, refl, sym, ap, ◌∙◌, length, map, reverse, subst, suc, arith}
 use Rattle.daachorse_machine.specs.Texts.{text_of}
-use Rattle.daachorse_listing.specs.Listing.{AreEntries, patterns_of}
+use Rattle.daachorse_listing.specs.Listing.{AreEntries, own_end, patterns_of}
 use Rattle.daachorse_listing.specs.Trees.{IsWalk, elements_of, taken_from}
 use Rattle.daachorse_listing.proofs.RoomLaws.{members-few}
 use Rattle.daachorse_listing.proofs.WalkLaws.{root-text, walk-start, walked}
@@ -36,5 +36,5 @@ returns-clause-ok g c =
     let aside : c.push_reserved.new.self.items ≡ (0, 0) ∷ [] = c.push_reserved.ensures.items ∙ ap (λ l. l ++ (0, 0) ∷ []) c.in_ok-aside.ensures.items in (
       taken_from child n m n (0 ∷ []),
       walked c.requires.tree n [] (0 ∷ []) (walk-start c.requires.tree) (omega arith),
-      ap (λ l. patterns_of (text_of child m n) (g.E.Outputs.outputs c.args.elements) (g.E.Outputs.first c.args.elements) (g.E.Outputs.stop c.args.elements) (taken_from child n m n (elements_of l))) aside,
+      ap (λ l. patterns_of (text_of child m n) (g.E.Outputs.outputs c.args.elements) (g.E.Links.first c.args.elements) (own_end (g.E.Links.fail c.args.elements) (g.E.Links.first c.args.elements)) (taken_from child n m n (elements_of l))) aside,
     )

@@ -3,7 +3,7 @@ use Rattle.std.proofs.Common.{◌≡◌, ◌⊎◌, inl, inr, ◌<◌, ◌-◌, 
 use Rattle.std.proofs.lemmas.List.{map-append, take-map}
 use Rattle.daachorse_core.specs.Outputs.{parent_of}
 use Rattle.daachorse_listing.specs.Edges.{children, put_before}
-use Rattle.daachorse_listing.specs.Listing.{unit_of}
+use Rattle.daachorse_listing.specs.Listing.{own_end, unit_of}
 use Rattle.daachorse_listing.specs.Trees.{elements_of, taken_from}
 use Rattle.daachorse_listing.proofs.WalkLaws.{reached-inside}
 use Rattle.daachorse_listing.proofs.PatternLaws.{left-of-rest, left-of-value, rest-of-none, next-reached, next-room, next-text-room, next-left-of, next-fewer, next-aside, next-walking}
@@ -18,8 +18,8 @@ returns-in_default-clause-steps g c =
     let n = g.E.Edges.count s.elements in
     let m = g.E.Edges.units s.elements in
     let outputs = g.E.Outputs.outputs s.elements in
-    let first = g.E.Outputs.first s.elements in
-    let stop = g.E.Outputs.stop s.elements in
+    let first = g.E.Links.first s.elements in
+    let stop = own_end (g.E.Links.fail s.elements) (g.E.Links.first s.elements) in
     let text = map g.E.Outputs.number s.text.items in
     let end : (s.position ≡ s.stop) ⊎ (s.position ≡ 0) = elim c.if-self.branch [ then-self v ↦ inl v.if-self.true | else-self+then-self-eq0 v ↦ inr v.if-self-eq0.true ] in
     let none : length s.aside.items ≡ 0 = omega (arith, c.in_default.ensures.cases.0, s.aside.ok) in
@@ -33,13 +33,13 @@ unit-requires g c =
     let s = c.loop-self.self-inside in
     let w = c.loop-self.invariant.walking in
     reached-inside w.patterns.tree c.in-Some.next
-    (next-reached (g.E.Outputs.stop s.elements) s.groups s.aside.items _ s.position _ _ _ w c.pop.new.self.items c.in-Some.depth c.in-Some.next c.in-Some.ensures.items)
+    (next-reached (own_end (g.E.Links.fail s.elements) (g.E.Links.first s.elements)) s.groups s.aside.items _ s.position _ _ _ w c.pop.new.self.items c.in-Some.depth c.in-Some.next c.in-Some.ensures.items)
 
 pub write_last-requires : goal.write_last-requires
 write_last-requires g c =
     let s = c.loop-self.self-inside in
     let w = c.loop-self.invariant.walking in
-    let stop = g.E.Outputs.stop s.elements in
+    let stop = own_end (g.E.Links.fail s.elements) (g.E.Links.first s.elements) in
     let x = c.in-Some.next in
     let room = next-text-room stop s.groups s.aside.items _ s.position _ _ _ w c.pop.new.self.items c.in-Some.depth x c.in-Some.ensures.items in
     omega (arith, room)
@@ -49,27 +49,27 @@ own_outputs-position-requires g c =
     let s = c.loop-self.self-inside in
     let w = c.loop-self.invariant.walking in
     reached-inside w.patterns.tree c.in-Some.next
-    (next-reached (g.E.Outputs.stop s.elements) s.groups s.aside.items _ s.position _ _ _ w c.pop.new.self.items c.in-Some.depth c.in-Some.next c.in-Some.ensures.items)
+    (next-reached (own_end (g.E.Links.fail s.elements) (g.E.Links.first s.elements)) s.groups s.aside.items _ s.position _ _ _ w c.pop.new.self.items c.in-Some.depth c.in-Some.next c.in-Some.ensures.items)
 
 pub put_aside-requires-clause-element : goal.put_aside-requires-clause-element
 put_aside-requires-clause-element g c =
     let s = c.loop-self.self-inside in
     let w = c.loop-self.invariant.walking in
     reached-inside w.patterns.tree c.in-Some.next
-    (next-reached (g.E.Outputs.stop s.elements) s.groups s.aside.items _ s.position _ _ _ w c.pop.new.self.items c.in-Some.depth c.in-Some.next c.in-Some.ensures.items)
+    (next-reached (own_end (g.E.Links.fail s.elements) (g.E.Links.first s.elements)) s.groups s.aside.items _ s.position _ _ _ w c.pop.new.self.items c.in-Some.depth c.in-Some.next c.in-Some.ensures.items)
 
 pub put_aside-requires-clause-room : goal.put_aside-requires-clause-room
 put_aside-requires-clause-room g c =
     let s = c.loop-self.self-inside in
     let w = c.loop-self.invariant.walking in
-    let few = next-room (g.E.Outputs.stop s.elements) s.groups s.aside.items _ s.position _ _ _ w c.pop.new.self.items c.in-Some.depth c.in-Some.next c.in-Some.ensures.items in
+    let few = next-room (own_end (g.E.Links.fail s.elements) (g.E.Links.first s.elements)) s.groups s.aside.items _ s.position _ _ _ w c.pop.new.self.items c.in-Some.depth c.in-Some.next c.in-Some.ensures.items in
     omega (arith, few, c.pop.ensures.capacity)
 
 pub loop-self-smaller : goal.loop-self-smaller
 loop-self-smaller g c =
     let s = c.loop-self.self-inside in
     let w = c.loop-self.invariant.walking in
-    let stop = g.E.Outputs.stop s.elements in
+    let stop = own_end (g.E.Links.fail s.elements) (g.E.Links.first s.elements) in
     let child = g.E.Edges.child s.elements in
     let n = g.E.Edges.count s.elements in
     let m = g.E.Edges.units s.elements in
@@ -91,8 +91,8 @@ loop-self-preserved g c =
     let n = g.E.Edges.count s.elements in
     let m = g.E.Edges.units s.elements in
     let outputs = g.E.Outputs.outputs s.elements in
-    let first = g.E.Outputs.first s.elements in
-    let stop = g.E.Outputs.stop s.elements in
+    let first = g.E.Links.first s.elements in
+    let stop = own_end (g.E.Links.fail s.elements) (g.E.Links.first s.elements) in
     let number = g.E.Outputs.number in
     let end : (s.position ≡ s.stop) ⊎ (s.position ≡ 0) = elim c.if-self.branch [ then-self v ↦ inl v.if-self.true | else-self+then-self-eq0 v ↦ inr v.if-self-eq0.true ] in
     let d = c.in-Some.depth in
@@ -125,7 +125,7 @@ returns-in-Ok-clause-steps g c =
     let text = map number s.text.items in
     let position : c.map_or.result ≡ parent_of o = search rules in
     let key : g.E.Keys.units_of c.in-Ok.key ≡ text = c.in-Ok.ensures.ok ∙ ap (map number) c.deref.ensures.value in
-    let given = sym c.loop-self.invariant.left ∙ left-of-value (g.E.Edges.child s.elements) (g.E.Edges.count s.elements) (g.E.Edges.units s.elements) (g.E.Outputs.outputs s.elements) (g.E.Outputs.first s.elements) (g.E.Outputs.stop s.elements) w.patterns.falls
+    let given = sym c.loop-self.invariant.left ∙ left-of-value (g.E.Edges.child s.elements) (g.E.Edges.count s.elements) (g.E.Edges.units s.elements) (g.E.Outputs.outputs s.elements) (g.E.Links.first s.elements) (own_end (g.E.Links.fail s.elements) (g.E.Links.first s.elements)) w.patterns.falls
     text (elements_of s.aside.items) s.stop s.position o c.if-self.false c.if-self-eq0.false c.output-output.ensures in
     rw (position, c.value.ensures, key) given
 
@@ -137,7 +137,7 @@ returns-in-Err-clause-steps g c =
     let s = c.loop-self.self-inside in
     let w = c.loop-self.invariant.walking in
     let o = c.output-output.result in
-    let given = sym c.loop-self.invariant.left ∙ left-of-value (g.E.Edges.child s.elements) (g.E.Edges.count s.elements) (g.E.Edges.units s.elements) (g.E.Outputs.outputs s.elements) (g.E.Outputs.first s.elements) (g.E.Outputs.stop s.elements) w.patterns.falls
+    let given = sym c.loop-self.invariant.left ∙ left-of-value (g.E.Edges.child s.elements) (g.E.Edges.count s.elements) (g.E.Edges.units s.elements) (g.E.Outputs.outputs s.elements) (g.E.Links.first s.elements) (own_end (g.E.Links.fail s.elements) (g.E.Links.first s.elements)) w.patterns.falls
     (map g.E.Outputs.number s.text.items) (elements_of s.aside.items) s.stop s.position o c.if-self.false c.if-self-eq0.false c.output-output.ensures in
     (search rules, (λ none. let bad = sym none ∙ given in cc), c.end.ensures)
 
@@ -146,6 +146,6 @@ returns-in-Err-clause-goes g c =
     let s = c.loop-self.self-inside in
     let w = c.loop-self.invariant.walking in
     let o = c.output-output.result in
-    let given = sym c.loop-self.invariant.left ∙ left-of-value (g.E.Edges.child s.elements) (g.E.Edges.count s.elements) (g.E.Edges.units s.elements) (g.E.Outputs.outputs s.elements) (g.E.Outputs.first s.elements) (g.E.Outputs.stop s.elements) w.patterns.falls
+    let given = sym c.loop-self.invariant.left ∙ left-of-value (g.E.Edges.child s.elements) (g.E.Edges.count s.elements) (g.E.Edges.units s.elements) (g.E.Outputs.outputs s.elements) (g.E.Links.first s.elements) (own_end (g.E.Links.fail s.elements) (g.E.Links.first s.elements)) w.patterns.falls
     (map g.E.Outputs.number s.text.items) (elements_of s.aside.items) s.stop s.position o c.if-self.false c.if-self-eq0.false c.output-output.ensures in
     rw (given, c.end.ensures) (search rules)

@@ -1,11 +1,15 @@
--- The view has the states and their rows, and the haystack has the bytes of the slice.
+-- The view has the states and their rows, and the haystack has the bytes of the slice. The filter is sound for the states' dictionary.
 use Rattle.std.proofs.Common.{ap, ◌∙◌}
 use Rattle.daachorse_model.specs.Units.{byte_width}
 use Rattle.daachorse_model.specs.Matches.{standard}
 use Rattle.daachorse_rows.proofs.RowedLaws.{begins_rowed}
 use Rattle.daachorse_bytewise_states.specs.Parts.{content}
 use Rattle.daachorse_bytewise.specs.Accelerated.{rowed_states}
+use Rattle.daachorse_bytewise.proofs.RowedLaws.{sound_rowed}
 use Rattle.daachorse_bytewise.proofs.bytewise.accelerated.Accelerated.find_iter.Goals as goal
+
+pub find_as_read-requires-clause-sound : goal.find_as_read-requires-clause-sound
+find_as_read-requires-clause-sound g c = sound_rowed c.args.self.now c.standard.result c.automaton.result.now c.skipping.result c.standard.ensures c.automaton.ensures c.skipping.ensures.sound
 
 pub returns-clause-begins : goal.returns-clause-begins
 returns-clause-begins g c =

@@ -2,7 +2,7 @@
 use Rattle.std.proofs.Common.{◌≡◌, ◌%◌}
 use Rattle.daachorse_bytewise_states.specs.Parts.{count}
 use Rattle.daachorse_bytewise_states.proofs.ChildLaws.{moved_inside}
-use Rattle.daachorse_bytewise_states.proofs.unchecked.Unchecked.check_at.Goals as goal
+use Rattle.daachorse_bytewise_states.proofs.edges.Elements.check_at.Goals as goal
 
 pub returns-then-is_leftmost-clause-inside : goal.returns-then-is_leftmost-clause-inside
 returns-then-is_leftmost-clause-inside g c =

@@ -1,12 +1,11 @@
--- The array is sound exactly where the parts, which may be looked at, are valid.
+-- The array is sound exactly where the parts, whose elements may be looked at, are valid.
 use Rattle.std.proofs.Common.{◌≡◌, ◌∙◌, ap}
 use Rattle.daachorse_model.specs.Kinds.{is_leftmost}
 use Rattle.daachorse_checker.proofs.SoundLaws.{sound_told, told_sound}
 use Rattle.daachorse_bytewise_states.specs.Grouped.{IsGrouped}
 use Rattle.daachorse_bytewise_states.specs.Parts.{Parts, machine}
 use Rattle.daachorse_bytewise_states.proofs.EdgeLaws.{bases_tell}
-use Rattle.daachorse_bytewise_states.proofs.GroupedLaws.{sound_valid, valid_sound}
-use Rattle.daachorse_bytewise_states.proofs.unchecked.Unchecked.is_valid.Goals as goal
+use Rattle.daachorse_bytewise_states.proofs.edges.Elements.are_valid.Goals as goal
 
 pub is_sound-requires-clause-tell : goal.is_sound-requires-clause-tell
 is_sound-requires-clause-tell g c =
@@ -20,7 +19,7 @@ returns-clause-yes g c e =
     let kind : c.is_leftmost-leftmost.result ≡ is_leftmost p.kind = c.is_leftmost-leftmost.ensures ∙ ap (λ (q : Parts g.row.V.Denot). is_leftmost q.kind) c.self.view_is in
     let outputs : c.self.inside.outputs.now ≡ p.outputs = ap (λ (q : Parts g.row.V.Denot). q.outputs) c.self.view_is in
     let count : c.self.inside.num_states ≡ p.num_states = ap (λ (q : Parts g.row.V.Denot). q.num_states) c.self.view_is in
-    sound_valid p grouped (told_sound (machine p) kind outputs count (c.in_ok-valid.ensures.yes e))
+    record { grouped = grouped; sound = told_sound (machine p) kind outputs count (c.in_ok-valid.ensures.yes e) }
 
 pub returns-clause-no : goal.returns-clause-no
 returns-clause-no g c e valid =
@@ -28,4 +27,4 @@ returns-clause-no g c e valid =
     let kind : c.is_leftmost-leftmost.result ≡ is_leftmost p.kind = c.is_leftmost-leftmost.ensures ∙ ap (λ (q : Parts g.row.V.Denot). is_leftmost q.kind) c.self.view_is in
     let outputs : c.self.inside.outputs.now ≡ p.outputs = ap (λ (q : Parts g.row.V.Denot). q.outputs) c.self.view_is in
     let count : c.self.inside.num_states ≡ p.num_states = ap (λ (q : Parts g.row.V.Denot). q.num_states) c.self.view_is in
-    c.in_ok-valid.ensures.no e (sound_told (machine p) kind outputs count (valid_sound p valid))
+    c.in_ok-valid.ensures.no e (sound_told (machine p) kind outputs count valid.sound)

@@ -34,6 +34,7 @@ impl<A: Allocator + Copy> Places<A> {
     /// # Errors
     ///
     /// An allocation failed.
+    #[inline(always)]
     pub fn new<E: Edges>(alloc: A, array: &E) -> Result<Option<Self>>
         requires inside { (i c j : ℕ) → E.child array.now i c ≡ Some j → (j < E.count array.now) × (c < E.units array.now) }
         requires tell { TellChildren (E.child array.now) (E.group array.now) (E.edge array.now) (E.count array.now) }
@@ -66,6 +67,7 @@ impl<A: Allocator + Copy> Places<A> {
 
     /// Gives the children of the element at a place places of their own; false where one has a place
     /// already, or is dead.
+    #[inline(always)]
     fn expand<E: Edges>(&mut self, array: &E, groups: &Siblings<A>, place: u32) -> Result<bool>
         requires inside { (i c j : ℕ) → E.child array.now i c ≡ Some j → (j < E.count array.now) × (c < E.units array.now) }
         requires tell { TellChildren (E.child array.now) (E.group array.now) (E.edge array.now) (E.count array.now) }

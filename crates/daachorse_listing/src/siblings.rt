@@ -40,6 +40,7 @@ impl<A: Allocator + Copy> Siblings<A> {
     /// # Errors
     ///
     /// An allocation failed.
+    #[inline(always)]
     pub fn new<E: Edges>(alloc: A, edges: &E) -> Result<Self>
         ensures ok { IfOk result (λ groups. (g : ℕ) → g < E.count edges.now
             → slice_index_or groups g [] ≡ members (E.edge edges.now) g (E.count edges.now)) }
@@ -55,6 +56,7 @@ impl<A: Allocator + Copy> Siblings<A> {
     /// # Errors
     ///
     /// An allocation failed.
+    #[inline(always)]
     pub(crate) fn counted<E: Edges>(alloc: A, edges: &E) -> Result<(Self, usize)>
         ensures ok { IfOk result (λ both. (g : ℕ) → g < E.count edges.now
             → slice_index_or both.0 g [] ≡ members (E.edge edges.now) g (E.count edges.now)) }

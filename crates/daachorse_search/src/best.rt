@@ -89,6 +89,33 @@ fn scan_to_match<V: Copy, A: Automaton<V>, H: Reread<A::Unit>>(
         → IsClear A.Unit.width (A.content automaton.now) (A.has_output automaton.now) (A.outputs automaton.now) (A.has_label automaton.now)
         (H.rest source.old) may_stop end turns.old turns.new }
 {
+    // It is asked ahead of the loop, so that the loop is compiled for each answer and asks no more.
+    if may_stop {
+        return scan_units(automaton, source, state, may_stop, turns);
+    }
+    scan_units(automaton, source, state, may_stop, turns)
+}
+
+/// Does the work of [`scan_to_match`], one unit at a time.
+#[inline(always)]
+fn scan_units<V: Copy, A: Automaton<V>, H: Reread<A::Unit>>(
+    automaton: &A,
+    source: &mut H,
+    state: &mut u32,
+    may_stop: bool,
+    turns: &mut Turns,
+) -> Option<NonZeroU32>
+    requires kind { IsLeftmost (A.content automaton.now) (A.dead automaton.now) }
+    requires reached { A.reached automaton.now state.old }
+    requires root { A.text automaton.now state.old ≡ [] }
+    ensures reached { A.reached automaton.now state.new }
+    ensures left { size A.Unit.width (H.rest source.new) ≤ size A.Unit.width (H.rest source.old) }
+    ensures some { IfSome result (λ position. IsScanning A.Unit.width (A.content automaton.now) (A.has_output automaton.now) (A.outputs automaton.now) (A.has_label automaton.now)
+        (H.rest source.old) (H.rest source.new) (A.text automaton.now state.new) (Some (position.value, size A.Unit.width (H.rest source.new))) turns.old turns.new) }
+    ensures none { result ≡ None → (end : ℕ) → end + size A.Unit.width (H.rest source.new) ≡ size A.Unit.width (H.rest source.old)
+        → IsClear A.Unit.width (A.content automaton.now) (A.has_output automaton.now) (A.outputs automaton.now) (A.has_label automaton.now)
+        (H.rest source.old) may_stop end turns.old turns.new }
+{
     if let Some(position) = automaton.output_pos(*state) {
         return Some(position);
     }

@@ -1,6 +1,6 @@
 use Rattle.std.proofs.Common.{length, None}
 use Rattle.daachorse_search.specs.BestScans.{IsScanning}
-use Rattle.daachorse_search.proofs.best.scan_to_match.Given as goal
+use Rattle.daachorse_search.proofs.best.scan_units.Given as goal
 
 abbrev pub invariant-units : goal.invariant-units
 invariant-units g l =

@@ -10,7 +10,7 @@ use Rattle.daachorse_model.proofs.BestLemmas.{IsSteady-nil}
 use Rattle.daachorse_model.proofs.Suffixes.{size-append}
 use Rattle.daachorse_search.specs.BestScans.{IsClear}
 use Rattle.daachorse_search.proofs.BestScanLemmas.{IsScanning-first, IsScanning-more, IsBehind-now, IsFound-new, IsFound-none, IsFound-keeps, IsClear-ends, IsClear-stops, steady_so_far}
-use Rattle.daachorse_search.proofs.best.scan_to_match.Goals as goal
+use Rattle.daachorse_search.proofs.best.scan_units.Goals as goal
 
 -- the empty key is found at once
 pub returns-in-Some-clause-some : goal.returns-in-Some-clause-some

@@ -46,7 +46,7 @@ pub fn is_refused<S: SerializableVec<Alloc = Global> + Drop>(alloc: Global, byte
     }
 }
 
-/// The same as [`has_form`] of a value with memory of its own.
+/// Does what [`has_form`] does, for a value with memory of its own.
 pub fn has_list_form<S: SerializableVec<Alloc = Global> + PartialEq + Drop>(
     rt: &impl Abort,
     alloc: Global,

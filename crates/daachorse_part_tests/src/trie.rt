@@ -31,7 +31,7 @@ fn unlinked<L: EdgeLabel>(
     Ok(builder)
 }
 
-/// The same with its links and outputs, and the order of the states.
+/// The trie of these patterns with its links and outputs, and the order of the states.
 pub fn trie_of<L: EdgeLabel>(
     alloc: Global,
     kind: MatchKind,

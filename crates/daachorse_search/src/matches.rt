@@ -201,7 +201,7 @@ fn go_on<V: Copy, W: Stepwise<V>, H: Reread<W::Unit>, F: Filter<W::Unit, H>>(
     skip_on(walk, taken, rest, filter)
 }
 
-/// The same, where the filter is asked until it closes.
+/// Does the work of [`go_on`] where the filter is open: it is asked at the root, until it closes.
 #[inline(always)]
 fn skip_on<V: Copy, W: Stepwise<V>, H: Reread<W::Unit>, F: Filter<W::Unit, H>>(
     walk: &mut W,
@@ -277,7 +277,7 @@ fn read_on<V: Copy, W: Stepwise<V>, H: Haystack<W::Unit>>(
     read_units(walk, rest)
 }
 
-/// The same, a unit at a time.
+/// Does the work of [`read_on`], one unit at a time.
 #[inline(always)]
 fn read_units<V: Copy, W: Stepwise<V>, H: Haystack<W::Unit>>(
     walk: &mut W,

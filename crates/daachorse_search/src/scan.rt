@@ -36,7 +36,7 @@ pub fn scan<V: Copy, W: Stepwise<V>, S: Source<W::Unit>>(
     scan_units(walk, source, place)
 }
 
-/// The same, a unit at a time.
+/// Does the work of [`scan`], one unit at a time.
 #[inline(always)]
 fn scan_units<V: Copy, W: Stepwise<V>, S: Source<W::Unit>>(
     walk: &mut W,

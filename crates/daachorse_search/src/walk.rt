@@ -292,8 +292,8 @@ pub fn step<V: Copy, A: Automaton<V>>(
     follow(automaton, state, label, turns)
 }
 
-/// The same for a label that stands for some unit: the end of the step, however many links lead
-/// there.
+/// Does the work of [`step`] for a label, which stands for some unit: it returns the end of the step,
+/// however many links lead there.
 #[inline(always)]
 pub fn follow<V: Copy, A: Automaton<V>>(
     automaton: &A,

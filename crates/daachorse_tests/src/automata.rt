@@ -22,7 +22,7 @@ pub const KINDS: [MatchKind; 3] = [
 /// Patterns for the ways to build by indexes. None is shorter than two bytes, so that they have a filter.
 pub const PATTERNS: [&str; 3] = ["bcd", "abc", "ab"];
 
-/// The same with their indexes.
+/// `PATTERNS` with their indexes for values.
 pub const PATVALS: [(&str, u32); 3] = [("bcd", 0), ("abc", 1), ("ab", 2)];
 
 /// A build for the standard searches that is told nothing but `PATTERNS`, or with the values of `PATVALS`.
@@ -134,7 +134,7 @@ pub trait Automaton: Searched + PartialEq + Hash + Drop + Sized {
     /// The text's bytes with a dash for each match of value 0, and nothing for one of value 1.
     fn replaced(&self, alloc: Self::Alloc, text: &str) -> Result<Vec<u8, Self::Alloc>>;
 
-    /// The same, written.
+    /// Writes what [`Self::replaced`] returns.
     fn replaces_into<W: Write>(&self, text: &str, out: &mut W) -> io::Result<()>;
 }
 

@@ -98,7 +98,8 @@ where
     expected.is_met()
 }
 
-/// The same of a leftmost search.
+/// Whether a leftmost search in a haystack gives the expected matches, in this order. It is dropped behind
+/// the first match that is not expected.
 pub fn gives_leftmost<A: Automaton<u32>, H: Reread<A::Unit>, F: FoldingFilter<A::Unit, H>>(
     mut search: LeftmostMatchesAsRead<u32, A, H, F>,
     expected: &[Found],
@@ -138,7 +139,8 @@ where
     expected.is_met()
 }
 
-/// The same of a stepper for all matches.
+/// Whether a stepper for all matches that has consumed nothing tells just these matches and these depths,
+/// before the units and behind each of the first thousand.
 pub fn are_found_overlapping<A: Automaton<u32>>(
     stepper: &mut FindOverlappingStepperAsRead<'_, u32, A>,
     units: &[A::Unit],

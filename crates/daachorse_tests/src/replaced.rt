@@ -54,7 +54,7 @@ pub fn instead(found: Match<u32>, part: &[u8]) -> &[u8] {
     }
 }
 
-/// The same of text.
+/// What stands in the place of a match in a text: a dash for 0, nothing for 1, and else the match itself.
 pub fn instead_of_text(found: Match<u32>, part: &str) -> &str {
     match found.value() {
         0 => "-",

@@ -29,7 +29,7 @@ fn is_resumed(automaton: &Bytewise) -> bool
     are(resumed.matches().into_iter(), &[(0, 2, 0)])
 }
 
-/// The same of a stepper for all matches.
+/// Whether a stepper for all matches that goes on where another stood tells those of both bytes.
 fn is_resumed_overlapping(automaton: &Bytewise) -> bool
     requires { automaton.now.parts.kind ≡ Standard }
 {
@@ -40,7 +40,7 @@ fn is_resumed_overlapping(automaton: &Bytewise) -> bool
     are(resumed.matches(), &[(0, 2, 0), (1, 2, 1)])
 }
 
-/// The same as [`is_resumed`] over rows of states.
+/// Whether [`is_resumed`] holds over rows of states.
 fn is_resumed_over_rows(accelerated: &Accelerated<'_, u32>) -> bool
     requires { accelerated.now.automaton.parts.kind ≡ Standard }
 {
@@ -51,7 +51,7 @@ fn is_resumed_over_rows(accelerated: &Accelerated<'_, u32>) -> bool
     are(resumed.matches().into_iter(), &[(0, 2, 0)])
 }
 
-/// The same of a stepper for all matches.
+/// Whether [`is_resumed_overlapping`] holds over rows of states.
 fn is_resumed_overlapping_over_rows(accelerated: &Accelerated<'_, u32>) -> bool
     requires { accelerated.now.automaton.parts.kind ≡ Standard }
 {
@@ -94,7 +94,7 @@ fn is_cloned(automaton: &Bytewise) -> Result<bool, AllocError>
     Ok(cloned.is_some() && cloned == stepper.matches())
 }
 
-/// The same of a stepper for all matches.
+/// Whether a clone of a stepper for all matches tells the match that ends with the byte that was read.
 fn is_cloned_overlapping(automaton: &Bytewise) -> Result<bool, AllocError>
     requires { automaton.now.parts.kind ≡ Standard }
 {

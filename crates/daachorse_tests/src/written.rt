@@ -63,7 +63,7 @@ const ONE: Row = Row {
     num_states: 3,
 };
 
-/// The same where the heaviest group comes first.
+/// The automaton of `ONE`, built with a corpus that has another group placed first.
 const ONE_BY_CORPUS: Row = Row {
     shows: "the heaviest group comes first",
     corpora: &[&[b"abx"]],

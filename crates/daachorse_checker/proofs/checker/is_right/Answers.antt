@@ -1,9 +1,11 @@
-use Rattle.std.proofs.Common.{◌≡◌, ℕ, ◌<◌, Bool, List, length, sym, ◌∙◌, subst, refl, arith, get_or}
-use Rattle.std.proofs.lemmas.Result.{IfOk-from_err}
+use Rattle.std.proofs.Common.{◌≡◌, ℕ, ◌<◌, Bool, List, length, sym, ap, ◌∙◌, subst, refl, arith, get_or}
+use Rattle.std.proofs.lemmas.Result.{IfOk-from_err, err_from_is_err_and}
+use Rattle.std.proofs.lemmas.Bool.{false≢true}
 use Rattle.daachorse_machine.specs.Machines.{IsCounted}
 use Rattle.daachorse_checker.specs.Chains.{AreChained, AreLeavesOf, machine_of}
 use Rattle.daachorse_checker.specs.Runs.{AreRuns}
-use Rattle.daachorse_checker.proofs.CheckedLaws.{right_from, chained_from, counted_places, same_count}
+use Rattle.daachorse_checker.specs.Sizes.{AreSizes}
+use Rattle.daachorse_checker.proofs.CheckedLaws.{right_from, chained_from, counted_places, path_of, same_count}
 use Rattle.daachorse_checker.proofs.checker.is_right.Goals as goal
 
 pub returns-then-len-num_states-clause-no : goal.returns-then-len-num_states-clause-no
@@ -63,3 +65,152 @@ returns-in_err-places-clause-yes g c = IfOk-from_err c.from_residual.result _ c.
 
 pub returns-in_err-places-clause-no : goal.returns-in_err-places-clause-no
 returns-in_err-places-clause-no g c = IfOk-from_err c.from_residual.result _ c.from_residual.ensures.0
+
+pub new-requires-clause-inside : goal.new-requires-clause-inside
+new-requires-clause-inside g c = c.requires.inside
+
+pub new-requires-clause-tell : goal.new-requires-clause-tell
+new-requires-clause-tell g c = c.requires.tell
+
+pub new-requires-clause-some : goal.new-requires-clause-some
+new-requires-clause-some g c = c.requires.some
+
+pub returns-in_default-clause-yes : goal.returns-in_default-clause-yes
+returns-in_default-clause-yes g c e = absurd (false≢true e)
+
+pub returns-in_default-clause-no : goal.returns-in_default-clause-no
+returns-in_default-clause-no g c e right counted =
+    let arr = c.args.array.now in
+    let a = machine_of (g.E.Edges.child arr) (g.E.Links.fail arr) (g.E.Links.first arr) c.args.outputs.now in
+    (rw c.in_default.is at c.in_ok-places.ensures.no) (path_of (g.E.Array.width arr) a c.args.leftmost right)
+
+pub returns-then-len-num_states-clause-yes : goal.returns-then-len-num_states-clause-yes
+returns-then-len-num_states-clause-yes g c e = absurd (false≢true e)
+
+pub runs-requires-clause-few : goal.runs-requires-clause-few
+runs-requires-clause-few g c = c.requires.outputs
+
+pub runs-requires-clause-fall : goal.runs-requires-clause-fall
+runs-requires-clause-fall g c = c.requires.falls
+
+pub returns-in_err-runs-clause-yes : goal.returns-in_err-runs-clause-yes
+returns-in_err-runs-clause-yes g c = IfOk-from_err c.from_residual-in_err-runs.result _ c.from_residual-in_err-runs.ensures.0
+
+pub sizes-requires-clause-inside : goal.sizes-requires-clause-inside
+sizes-requires-clause-inside g c = c.requires.inside
+
+pub sizes-requires-clause-tree : goal.sizes-requires-clause-tree
+sizes-requires-clause-tree g c = (rw c.in-Some.is at c.in_ok-places.ensures.yes).0
+
+pub sizes-requires-clause-places : goal.sizes-requires-clause-places
+sizes-requires-clause-places g c = (rw c.in-Some.is at c.in_ok-places.ensures.yes).1
+
+pub sizes-requires-clause-few : goal.sizes-requires-clause-few
+sizes-requires-clause-few g c = c.requires.few
+
+pub leaves-requires-clause-some : goal.leaves-requires-clause-some
+leaves-requires-clause-some g c =
+    let both = rw c.in-Some.is at c.in_ok-places.ensures.yes in
+    subst (λ (xs : List ℕ). 0 < length xs) (sym c.deref.ensures.value) (omega (arith, both.1.places.one_each, both.1.places.some))
+
+pub chains_hold-requires-clause-places : goal.chains_hold-requires-clause-places
+chains_hold-requires-clause-places g c = (rw c.in-Some.is at c.in_ok-places.ensures.yes).1
+
+pub chains_hold-requires-clause-some : goal.chains_hold-requires-clause-some
+chains_hold-requires-clause-some g c = c.requires.some
+
+pub chains_hold-requires-clause-links : goal.chains_hold-requires-clause-links
+chains_hold-requires-clause-links g c = c.requires.links
+
+pub chains_hold-requires-clause-positions : goal.chains_hold-requires-clause-positions
+chains_hold-requires-clause-positions g c = c.requires.positions
+
+pub chains_hold-requires-clause-each : goal.chains_hold-requires-clause-each
+chains_hold-requires-clause-each g c = ap length c.deref-2.ensures.value ∙ c.in_ok-runs.ensures.each
+
+pub chains_hold-requires-clause-sizes : goal.chains_hold-requires-clause-sizes
+chains_hold-requires-clause-sizes g c = ap length c.deref-3.ensures.value ∙ c.in_ok-sizes.ensures.each
+
+pub chains_hold-requires-clause-leaves : goal.chains_hold-requires-clause-leaves
+chains_hold-requires-clause-leaves g c =
+    let both = rw c.in-Some.is at c.in_ok-places.ensures.yes in
+    ap length c.deref-4.ensures.value ∙ c.in_ok-leaves.ensures.ok.each ∙ ap length c.deref.ensures.value ∙ both.1.places.one_each
+
+pub returns-then-not-chains_hold-clause-yes : goal.returns-then-not-chains_hold-clause-yes
+returns-then-not-chains_hold-clause-yes g c e = absurd (false≢true e)
+
+pub links_hold-requires-clause-inside : goal.links_hold-requires-clause-inside
+links_hold-requires-clause-inside g c = c.requires.inside
+
+pub links_hold-requires-clause-tell : goal.links_hold-requires-clause-tell
+links_hold-requires-clause-tell g c = c.requires.tell
+
+pub links_hold-requires-clause-few : goal.links_hold-requires-clause-few
+links_hold-requires-clause-few g c = c.requires.few
+
+pub links_hold-requires-clause-tree : goal.links_hold-requires-clause-tree
+links_hold-requires-clause-tree g c = (rw c.in-Some.is at c.in_ok-places.ensures.yes).0
+
+pub links_hold-requires-clause-places : goal.links_hold-requires-clause-places
+links_hold-requires-clause-places g c = (rw c.in-Some.is at c.in_ok-places.ensures.yes).1
+
+pub links_hold-requires-clause-links : goal.links_hold-requires-clause-links
+links_hold-requires-clause-links g c = c.requires.links
+
+pub links_hold-requires-clause-positions : goal.links_hold-requires-clause-positions
+links_hold-requires-clause-positions g c = c.requires.positions
+
+pub links_hold-requires-clause-sized : goal.links_hold-requires-clause-sized
+links_hold-requires-clause-sized g c = subst (λ (xs : List ℕ). AreSizes (g.E.Edges.child c.args.array.now) (g.E.Array.width c.args.array.now) c.in-Some.places.order.items xs) (sym c.deref-5.ensures.value) c.in_ok-sizes.ensures.ok
+
+pub links_hold-requires-clause-sizes : goal.links_hold-requires-clause-sizes
+links_hold-requires-clause-sizes g c = ap length c.deref-5.ensures.value ∙ c.in_ok-sizes.ensures.each
+
+pub returns-clause-no : goal.returns-clause-no
+returns-clause-no g c e right _ = c.in_ok-right.ensures.no e right.links
+
+pub returns-in_err-runs-clause-no : goal.returns-in_err-runs-clause-no
+returns-in_err-runs-clause-no g c = IfOk-from_err c.from_residual-in_err-runs.result _ c.from_residual-in_err-runs.ensures.0
+
+pub returns-in_err-sizes-clause-yes : goal.returns-in_err-sizes-clause-yes
+returns-in_err-sizes-clause-yes g c = IfOk-from_err c.from_residual-in_err-sizes.result _ c.from_residual-in_err-sizes.ensures.0
+
+pub returns-in_err-sizes-clause-no : goal.returns-in_err-sizes-clause-no
+returns-in_err-sizes-clause-no g c = IfOk-from_err c.from_residual-in_err-sizes.result _ c.from_residual-in_err-sizes.ensures.0
+
+pub returns-in_err-leaves-clause-yes : goal.returns-in_err-leaves-clause-yes
+returns-in_err-leaves-clause-yes g c = IfOk-from_err c.from_residual-in_err-leaves.result _ c.from_residual-in_err-leaves.ensures.0
+
+pub returns-in_err-leaves-clause-no : goal.returns-in_err-leaves-clause-no
+returns-in_err-leaves-clause-no g c = IfOk-from_err c.from_residual-in_err-leaves.result _ c.from_residual-in_err-leaves.ensures.0
+
+pub returns-in_err-right-clause-yes : goal.returns-in_err-right-clause-yes
+returns-in_err-right-clause-yes g c = IfOk-from_err c.from_residual-in_err-right.result _ c.from_residual-in_err-right.ensures.0
+
+pub returns-in_err-right-clause-no : goal.returns-in_err-right-clause-no
+returns-in_err-right-clause-no g c = IfOk-from_err c.from_residual-in_err-right.result _ c.from_residual-in_err-right.ensures.0
+
+pub returns-in_err-places-clause-err : goal.returns-in_err-places-clause-err
+returns-in_err-places-clause-err g c =
+    let p = err_from_is_err_and c.from_residual.result c.from_residual.ensures.1 in
+    rw (p.1, p.2) c.in_err-places.ensures.err
+
+pub returns-in_err-runs-clause-err : goal.returns-in_err-runs-clause-err
+returns-in_err-runs-clause-err g c =
+    let p = err_from_is_err_and c.from_residual-in_err-runs.result c.from_residual-in_err-runs.ensures.1 in
+    rw (p.1, p.2) c.in_err-runs.ensures.err
+
+pub returns-in_err-sizes-clause-err : goal.returns-in_err-sizes-clause-err
+returns-in_err-sizes-clause-err g c =
+    let p = err_from_is_err_and c.from_residual-in_err-sizes.result c.from_residual-in_err-sizes.ensures.1 in
+    rw (p.1, p.2) c.in_err-sizes.ensures.err
+
+pub returns-in_err-leaves-clause-err : goal.returns-in_err-leaves-clause-err
+returns-in_err-leaves-clause-err g c =
+    let p = err_from_is_err_and c.from_residual-in_err-leaves.result c.from_residual-in_err-leaves.ensures.1 in
+    rw (p.1, p.2) c.in_err-leaves.ensures.err
+
+pub returns-in_err-right-clause-err : goal.returns-in_err-right-clause-err
+returns-in_err-right-clause-err g c =
+    let p = err_from_is_err_and c.from_residual-in_err-right.result c.from_residual-in_err-right.ensures.1 in
+    rw (p.1, p.2) c.in_err-right.ensures.err

@@ -1,7 +1,9 @@
-use Rattle.std.proofs.Common.{rules, ◌≡◌, ℕ, ◌+◌, ◌<◌, length, sym, ap, ◌∙◌, refl, subst, get_or, replicate, arith}
+use Rattle.std.proofs.Common.{rules, ◌≡◌, ℕ, ◌+◌, ◌^◌, ◌<◌, ◌≤◌, length, sym, ap, ◌∙◌, refl, subst, get_or, replicate, arith}
 use Rattle.std.proofs.lemmas.List.{get_or_read, get_or-replicate, length-replicate}
-use Rattle.std.proofs.lemmas.Result.{IfOk-from_err}
-use Rattle.daachorse_links.specs.Near.{up, top, above, IsAbove, IsSaved}
+use Rattle.std.proofs.lemmas.Result.{IfOk-from_err, err_from_is_err_and}
+use Rattle.std.proofs.lemmas.Bool.{false≢true}
+use Rattle.daachorse_links.specs.Places.{AreStarts, IsTrie}
+use Rattle.daachorse_links.specs.Near.{up, top, above, AreNear, IsAbove, IsSaved}
 use Rattle.daachorse_links.specs.Tours.{IsTouring}
 use Rattle.daachorse_links.proofs.LinkLaws.{right_falls, right_checked, sound}
 use Rattle.daachorse_links.proofs.TopLaws.{top_end}
@@ -22,7 +24,7 @@ loop-k-init g c =
     let next = c.in_ok-tour.tour.items in
     let near' = c.in_ok-near.near.items in
     let saved = c.in_ok-saved.saved.items in
-    let count : c.len-count.result ≡ n = search rules in
+    let count : c.len-count.result ≡ n = c.len-count.ensures ∙ t.fails.ok.0 in
     let zeros : near' ≡ replicate c.args.alphabet 0 = search rules in
     let wide : length near' ≡ c.args.alphabet = ap length zeros ∙ length-replicate c.args.alphabet 0 in
     let at : (k : ℕ) → k < length near' → get_or near' k 0 ≡ 0 = λ k lt. ap (λ xs. get_or xs k 0) zeros ∙ get_or-replicate c.args.alphabet k 0 0 (omega (arith, lt, wide)) in
@@ -42,14 +44,14 @@ pub above-above-requires-clause-within : goal.above-above-requires-clause-within
 above-above-requires-clause-within g c =
     let t = c.args.self.now in
     let k = c.loop-k in
-    let count : c.len-count.result ≡ length t.fails.items = search rules in
+    let count : c.len-count.result ≡ length t.fails.items = c.len-count.ensures ∙ t.fails.ok.0 in
     next_in t.parents.items t.labels.items t.stops.items t.fails.items c.args.alphabet c.requires.trie c.requires.each c.in_ok-tour.tour.items k.near.items k.saved.items k.k k.here k.next k.other k.invariant.touring (omega (arith, c.loop-k-test.true, count))
 
 pub retreat-requires-clause-above : goal.retreat-requires-clause-above
 retreat-requires-clause-above g c =
     let t = c.args.self.now in
     let k = c.loop-k in
-    let count : c.len-count.result ≡ length t.fails.items = search rules in
+    let count : c.len-count.result ≡ length t.fails.items = c.len-count.ensures ∙ t.fails.ok.0 in
     subst (λ q. IsAbove (up t.fails.items) q k.here) (sym c.above-above.ensures)
     (next_above t.parents.items t.labels.items t.stops.items t.fails.items c.args.alphabet c.requires.trie c.requires.each c.in_ok-tour.tour.items k.near.items k.saved.items k.k k.here k.next k.other k.invariant.touring (omega (arith, c.loop-k-test.true, count)))
 
@@ -62,7 +64,7 @@ pub returns-clause-yes : goal.returns-clause-yes
 returns-clause-yes g c e =
     let t = c.args.self.now in
     let k = c.loop-k in
-    let count : c.len-count.result ≡ length t.fails.items = search rules in
+    let count : c.len-count.result ≡ length t.fails.items = c.len-count.ensures ∙ t.fails.ok.0 in
     sound t.parents.items t.labels.items t.stops.items t.fails.items c.args.alphabet c.requires.trie c.requires.each (c.if-not-links_fall.ensures.yes refl)
     (touring_end t.parents.items t.labels.items t.stops.items t.fails.items c.args.alphabet c.requires.trie c.requires.each c.in_ok-tour.tour.items k.near.items k.saved.items k.k k.here k.next k.other k.invariant.touring (omega (arith, c.loop-k-test.false, count)))
 
@@ -76,7 +78,7 @@ pub enter-requires-clause-within : goal.enter-requires-clause-within
 enter-requires-clause-within g c =
     let t = c.args.self.now in
     let k = c.loop-k in
-    let count : c.len-count.result ≡ length t.fails.items = search rules in
+    let count : c.len-count.result ≡ length t.fails.items = c.len-count.ensures ∙ t.fails.ok.0 in
     let lt = next_in t.parents.items t.labels.items t.stops.items t.fails.items c.args.alphabet c.requires.trie c.requires.each c.in_ok-tour.tour.items k.near.items k.saved.items k.k k.here k.next k.other k.invariant.touring (omega (arith, c.loop-k-test.true, count)) in
     omega (arith, lt, c.requires.each)
 
@@ -85,7 +87,7 @@ enter-requires-clause-other g c =
     let t = c.args.self.now in
     let k = c.loop-k in
     let fs = t.fails.items in
-    let count : c.len-count.result ≡ length fs = search rules in
+    let count : c.len-count.result ≡ length fs = c.len-count.ensures ∙ t.fails.ok.0 in
     elim c.if-above-count.branch [
       | then-above-count w ↦ w.other-is ∙ w.root_value-other.ensures ∙ sym (top_end (up fs) t.stops.items (length fs) (length fs) k.next (sym c.above-above.ensures ∙ w.if-above-count.true ∙ count))
       | else-above-count w ↦
@@ -97,7 +99,7 @@ pub index-next-requires-in-loop-k : goal.index-next-requires-in-loop-k
 index-next-requires-in-loop-k g c =
     let t = c.args.self.now in
     let k = c.loop-k in
-    let count : c.len-count.result ≡ length t.fails.items = search rules in
+    let count : c.len-count.result ≡ length t.fails.items = c.len-count.ensures ∙ t.fails.ok.0 in
     let lt = next_in t.parents.items t.labels.items t.stops.items t.fails.items c.args.alphabet c.requires.trie c.requires.each c.in_ok-tour.tour.items k.near.items k.saved.items k.k k.here k.next k.other k.invariant.touring (omega (arith, c.loop-k-test.true, count)) in
     omega (arith, lt, c.in_ok-tour.ensures.ok.size)
 
@@ -108,7 +110,7 @@ loop-k-preserved g c =
     let fs = t.fails.items in
     let tour = c.in_ok-tour.ensures.ok in
     let next = c.in_ok-tour.tour.items in
-    let count : c.len-count.result ≡ length fs = search rules in
+    let count : c.len-count.result ≡ length fs = c.len-count.ensures ∙ t.fails.ok.0 in
     let more : k.k < length fs = omega (arith, c.loop-k-test.true, count) in
     let lt = next_in t.parents.items t.labels.items t.stops.items fs c.args.alphabet c.requires.trie c.requires.each next k.near.items k.saved.items k.k k.here k.next k.other k.invariant.touring more in
     let other : c.if-above-count.other ≡ top t.stops.items fs k.next =
@@ -152,3 +154,143 @@ returns-in_err-saved-clause-yes g c = IfOk-from_err c.from_residual-in_err-saved
 
 pub returns-in_err-saved-clause-no : goal.returns-in_err-saved-clause-no
 returns-in_err-saved-clause-no g c = IfOk-from_err c.from_residual-in_err-saved.result _ c.from_residual-in_err-saved.ensures.0
+
+pub links_fall-requires : goal.links_fall-requires
+links_fall-requires g c = record { few = subst (λ n. n < 2 ^ 32) (sym c.requires.each) c.requires.few }
+
+pub returns-then-not-links_fall-clause-yes : goal.returns-then-not-links_fall-clause-yes
+returns-then-not-links_fall-clause-yes g c e = absurd (false≢true e)
+
+pub overflow_cast-count : goal.overflow_cast-count
+overflow_cast-count g c = omega (arith, c.len-count.ensures, c.requires.each, c.requires.few)
+
+pub starts-requires-clause-order : goal.starts-requires-clause-order
+starts-requires-clause-order g c = c.requires.trie.order
+
+pub starts-requires-clause-few : goal.starts-requires-clause-few
+starts-requires-clause-few g c = c.requires.few
+
+pub returns-in_err-starts-clause-err : goal.returns-in_err-starts-clause-err
+returns-in_err-starts-clause-err g c =
+    let p = err_from_is_err_and c.from_residual.result c.from_residual.ensures.1 in
+    rw (p.1, p.2) c.in_err-starts.ensures.err
+
+pub returns-in_err-tour-clause-err : goal.returns-in_err-tour-clause-err
+returns-in_err-tour-clause-err g c =
+    let p = err_from_is_err_and c.from_residual-in_err-tour.result c.from_residual-in_err-tour.ensures.1 in
+    rw (p.1, p.2) c.in_err-tour.ensures.err
+
+pub returns-in_err-near-clause-err : goal.returns-in_err-near-clause-err
+returns-in_err-near-clause-err g c =
+    let p = err_from_is_err_and c.from_residual-in_err-near.result c.from_residual-in_err-near.ensures.1 in
+    rw p.1 p.2
+
+pub follows-requires-clause-trie : goal.follows-requires-clause-trie
+follows-requires-clause-trie g c = (c.args.alphabet, c.requires.trie)
+
+pub follows-requires-clause-each : goal.follows-requires-clause-each
+follows-requires-clause-each g c = c.requires.each
+
+pub follows-requires-clause-stops : goal.follows-requires-clause-stops
+follows-requires-clause-stops g c = c.requires.stops
+
+pub follows-requires-clause-few : goal.follows-requires-clause-few
+follows-requires-clause-few g c = c.requires.few
+
+pub follows-requires-clause-fall : goal.follows-requires-clause-fall
+follows-requires-clause-fall g c = c.if-not-links_fall.ensures.yes refl
+
+pub follows-requires-clause-starts : goal.follows-requires-clause-starts
+follows-requires-clause-starts g c = subst (AreStarts c.args.self.now.parents.items) (sym c.deref.ensures.value) c.in_ok-starts.ensures.ok
+
+pub returns-in-Some-clause-yes : goal.returns-in-Some-clause-yes
+returns-in-Some-clause-yes g c = c.in-Some.ensures.yes
+
+pub returns-in-Some-clause-no : goal.returns-in-Some-clause-no
+returns-in-Some-clause-no g c = c.in-Some.ensures.no
+
+pub tour-requires-clause-few : goal.tour-requires-clause-few
+tour-requires-clause-few g c = subst (λ n. n < 2 ^ 32) (sym c.requires.each) c.requires.few
+
+pub tour-requires-clause-fall : goal.tour-requires-clause-fall
+tour-requires-clause-fall g c = c.if-not-links_fall.ensures.yes refl
+
+pub overflow_cast-count-2 : goal.overflow_cast-count-2
+overflow_cast-count-2 g c = omega (arith, c.len-count.type_inv)
+
+pub index-next-requires : goal.index-next-requires
+index-next-requires g c = omega (arith, c.in_ok-tour.ensures.ok.size, c.len-count.ensures)
+
+pub above-above-requires-clause-few : goal.above-above-requires-clause-few
+above-above-requires-clause-few g c = subst (λ n. n < 2 ^ 32) (sym c.requires.each) c.requires.few
+
+pub retreat-requires-clause-trie : goal.retreat-requires-clause-trie
+retreat-requires-clause-trie g c = subst (IsTrie c.args.self.now.parents.items c.args.self.now.labels.items) (sym c.loop-k.invariant.wide) c.requires.trie
+
+pub retreat-requires-clause-each : goal.retreat-requires-clause-each
+retreat-requires-clause-each g c = c.requires.each
+
+pub retreat-requires-clause-few : goal.retreat-requires-clause-few
+retreat-requires-clause-few g c = c.requires.few
+
+pub retreat-requires-clause-fall : goal.retreat-requires-clause-fall
+retreat-requires-clause-fall g c = c.if-not-links_fall.ensures.yes refl
+
+pub retreat-requires-clause-starts : goal.retreat-requires-clause-starts
+retreat-requires-clause-starts g c = subst (AreStarts c.args.self.now.parents.items) (sym c.deref-in-loop-k.ensures.value) c.in_ok-starts.ensures.ok
+
+pub retreat-requires-clause-within : goal.retreat-requires-clause-within
+retreat-requires-clause-within g c = subst (λ n. c.loop-k.here ≤ n) c.requires.each c.loop-k.invariant.touring.low
+
+pub retreat-requires-clause-size : goal.retreat-requires-clause-size
+retreat-requires-clause-size g c = ap length c.deref-in-loop-k-2.ensures.value ∙ c.loop-k.invariant.size
+
+pub retreat-requires-clause-near : goal.retreat-requires-clause-near
+retreat-requires-clause-near g c = c.loop-k.invariant.touring.near
+
+pub root_value-other-requires-clause-few : goal.root_value-other-requires-clause-few
+root_value-other-requires-clause-few g c = subst (λ n. n < 2 ^ 32) (sym c.requires.each) c.requires.few
+
+pub root_value-other-requires-clause-some : goal.root_value-other-requires-clause-some
+root_value-other-requires-clause-some g c = subst (λ n. 0 < n) (sym c.requires.stops) c.requires.trie.order.some
+
+pub enter-requires-clause-trie : goal.enter-requires-clause-trie
+enter-requires-clause-trie g c = subst (IsTrie c.args.self.now.parents.items c.args.self.now.labels.items) (sym (c.retreat.ensures.same ∙ c.loop-k.invariant.wide)) c.requires.trie
+
+pub enter-requires-clause-each : goal.enter-requires-clause-each
+enter-requires-clause-each g c = c.requires.each
+
+pub enter-requires-clause-stops : goal.enter-requires-clause-stops
+enter-requires-clause-stops g c = c.requires.stops
+
+pub enter-requires-clause-few : goal.enter-requires-clause-few
+enter-requires-clause-few g c = c.requires.few
+
+pub enter-requires-clause-fall : goal.enter-requires-clause-fall
+enter-requires-clause-fall g c = c.if-not-links_fall.ensures.yes refl
+
+pub enter-requires-clause-starts : goal.enter-requires-clause-starts
+enter-requires-clause-starts g c = subst (AreStarts c.args.self.now.parents.items) (sym c.deref-in-loop-k-3.ensures.value) c.in_ok-starts.ensures.ok
+
+pub enter-requires-clause-near : goal.enter-requires-clause-near
+enter-requires-clause-near g c = subst (AreNear c.args.self.now.parents.items c.args.self.now.labels.items c.args.self.now.fails.items c.retreat.new.near.items) c.above-above.ensures c.retreat.ensures.near
+
+pub enter-requires-clause-size : goal.enter-requires-clause-size
+enter-requires-clause-size g c = c.loop-k.invariant.size
+
+pub returns-then-not-enter-clause-yes : goal.returns-then-not-enter-clause-yes
+returns-then-not-enter-clause-yes g c e = absurd (false≢true e)
+
+pub overflow_add-k : goal.overflow_add-k
+overflow_add-k g c = omega (arith, c.loop-k-test.true, c.len-count.ensures, c.requires.each, c.requires.few)
+
+pub loop-k-smaller : goal.loop-k-smaller
+loop-k-smaller g c = omega (arith, c.loop-k-test.true)
+
+pub returns-clause-no : goal.returns-clause-no
+returns-clause-no g c e = absurd (false≢true (sym e))
+
+pub returns-in_err-saved-clause-err : goal.returns-in_err-saved-clause-err
+returns-in_err-saved-clause-err g c =
+    let p = err_from_is_err_and c.from_residual-in_err-saved.result c.from_residual-in_err-saved.ensures.1 in
+    rw p.1 p.2

@@ -1,7 +1,7 @@
-use Rattle.std.proofs.Common.{◌≡◌, ◌<◌, false, length, refl, subst, inl, inr, arith, get_or}
+use Rattle.std.proofs.Common.{◌≡◌, ◌<◌, false, length, refl, sym, ap, ◌∙◌, subst, inl, inr, arith, get_or}
 use Rattle.std.proofs.lemmas.List.{get_or_read}
-use Rattle.std.proofs.lemmas.Bool.{cases_lt}
-use Rattle.std.proofs.lemmas.Grind.{elements, common_steps}
+use Rattle.std.proofs.lemmas.Bool.{cases_lt, false≢true}
+use Rattle.daachorse_machine.specs.Machines.{own_from}
 use Rattle.daachorse_checker.specs.Chains.{IsChained, machine_of}
 use Rattle.daachorse_checker.proofs.checker.chains_hold.Goals as goal
 
@@ -24,8 +24,78 @@ loop-place-preserved g c =
       ];
     }
 
+pub rest_at-requires-clause-runs : goal.rest_at-requires-clause-runs
+rest_at-requires-clause-runs g c = c.requires.runs
+
+pub rest_at-requires-clause-inside : goal.rest_at-requires-clause-inside
+rest_at-requires-clause-inside g c = omega (arith, c.first-first.ensures, c.requires.positions 0 c.requires.some, c.requires.each)
+
+pub rest_at-requires-clause-each : goal.rest_at-requires-clause-each
+rest_at-requires-clause-each g c = omega (arith, c.requires.each)
+
+pub returns-then-rest_at-ne0-clause-yes : goal.returns-then-rest_at-ne0-clause-yes
+returns-then-rest_at-ne0-clause-yes g c e = absurd (false≢true e)
+
+pub returns-then-rest_at-ne0-clause-no : goal.returns-then-rest_at-ne0-clause-no
+returns-then-rest_at-ne0-clause-no g c e chained = c.if-rest_at-ne0.true (c.rest_at.ensures ∙ ap (λ p. (own_from c.args.outputs.now p 0 p).1) c.first-first.ensures ∙ chained.root)
+
+pub loop-place-init : goal.loop-place-init
+loop-place-init g c = record { low = omega arith; each = λ k pos less. absurd (omega (arith, pos, less)) }
+
+pub index-element-requires : goal.index-element-requires
+index-element-requires g c = subst (λ n. c.loop-place.place < n) c.len.ensures c.loop-place-test.true
+
+pub bounds-sizes-place : goal.bounds-sizes-place
+bounds-sizes-place g c = omega (arith, c.loop-place-test.true, c.len.ensures, c.args.places.now.order.ok.0, c.requires.sizes)
+
+pub bounds-leaves-place : goal.bounds-leaves-place
+bounds-leaves-place g c = omega (arith, c.loop-place-test.true, c.len.ensures, c.args.places.now.order.ok.0, c.requires.leaves)
+
+pub chain_holds-requires-clause-links : goal.chain_holds-requires-clause-links
+chain_holds-requires-clause-links g c = c.requires.links
+
+pub chain_holds-requires-clause-positions : goal.chain_holds-requires-clause-positions
+chain_holds-requires-clause-positions g c = c.requires.positions
+
+pub chain_holds-requires-clause-runs : goal.chain_holds-requires-clause-runs
+chain_holds-requires-clause-runs g c = c.requires.runs
+
+pub chain_holds-requires-clause-each : goal.chain_holds-requires-clause-each
+chain_holds-requires-clause-each g c = c.requires.each
+
+pub returns-then-not-chain_holds-clause-yes : goal.returns-then-not-chain_holds-clause-yes
+returns-then-not-chain_holds-clause-yes g c e = absurd (false≢true e)
+
+pub overflow_add-place : goal.overflow_add-place
+overflow_add-place g c = omega (arith, c.loop-place-test.true, c.len.type_inv)
+
+pub loop-place-smaller : goal.loop-place-smaller
+loop-place-smaller g c = omega (arith, c.loop-place-test.true, c.len.ensures, c.args.places.now.order.ok.0)
+
+pub returns-clause-yes : goal.returns-clause-yes
+returns-clause-yes g c e = record {
+  root = sym (c.rest_at.ensures ∙ ap (λ p. (own_from c.args.outputs.now p 0 p).1) c.first-first.ensures) ∙ c.if-rest_at-ne0.false;
+  others = λ k pos lt. c.loop-place.invariant.each k pos (omega (arith, lt, c.loop-place-test.false, c.len.ensures, c.args.places.now.order.ok.0));
+}
+
+pub returns-clause-no : goal.returns-clause-no
+returns-clause-no g c e = absurd (false≢true (sym e))
+
 pub chain_holds-requires-clause-element : goal.chain_holds-requires-clause-element
-chain_holds-requires-clause-element g c = grind (arith, elements)
+chain_holds-requires-clause-element g c =
+    let order = c.args.places.now.order.items in
+    let m = c.loop-place.place in
+    let lt : m < length order = omega (arith, c.loop-place-test.true, c.len.ensures, c.args.places.now.order.ok.0) in
+    let at = get_or_read order m c.index-element.result.now lt c.index-element.ensures 0 in
+    omega (arith, at, c.requires.places.places.inside m lt, c.requires.places.marks_each)
 
 pub returns-then-not-chain_holds-clause-no : goal.returns-then-not-chain_holds-clause-no
-returns-then-not-chain_holds-clause-no g c = grind (arith, common_steps)
+returns-then-not-chain_holds-clause-no g c e chained =
+    let arr = c.args.array.now in
+    let order = c.args.places.now.order.items in
+    let m = c.loop-place.place in
+    let a = machine_of (g.E.Edges.child arr) (g.E.Links.fail arr) (g.E.Links.first arr) c.args.outputs.now in
+    let lt : m < length order = omega (arith, c.loop-place-test.true, c.len.ensures, c.args.places.now.order.ok.0) in
+    let at = get_or_read order m c.index-element.result.now lt c.index-element.ensures 0 in
+    c.if-not-chain_holds.ensures.no refl
+    (subst (λ i. IsChained a (get_or c.args.leaves.now m false) (get_or c.args.sizes.now m 0) i) (sym at) (chained.others m c.loop-place.invariant.low lt))

@@ -1,9 +1,10 @@
 -- Where nothing is left of the last element the next one is taken, and its last unit is written; a value is given with the text.
-use Rattle.std.proofs.Common.{◌≡◌, ◌⊎◌, inl, inr, ◌<◌, ◌-◌, [], ◌∷◌, ◌++◌, ℕ, length, map, reverse, take, sym, ap, subst, ◌∙◌, arith, rules, add-one, length-append}
+use Rattle.std.proofs.Common.{◌≡◌, ◌⊎◌, inl, inr, ◌<◌, ◌-◌, [], ◌∷◌, ◌++◌, ℕ, length, map, reverse, take, sym, ap, subst, ◌∙◌, arith, rules, add-one, append-nil, length-append}
 use Rattle.std.proofs.lemmas.List.{map-append, take-map}
+use Rattle.std.specs.Prelude.{vec_capacity}
 use Rattle.daachorse_core.specs.Outputs.{parent_of}
 use Rattle.daachorse_listing.specs.Edges.{children, put_before}
-use Rattle.daachorse_listing.specs.Listing.{own_end, unit_of}
+use Rattle.daachorse_listing.specs.Listing.{IsWalking, own_end, unit_of}
 use Rattle.daachorse_listing.specs.Trees.{elements_of, taken_from}
 use Rattle.daachorse_listing.proofs.WalkLaws.{reached-inside}
 use Rattle.daachorse_listing.proofs.PatternLaws.{left-of-rest, left-of-value, rest-of-none, next-reached, next-room, next-text-room, next-left-of, next-fewer, next-aside, next-walking}
@@ -149,3 +150,61 @@ returns-in-Err-clause-goes g c =
     let given = sym c.loop-self.invariant.left ∙ left-of-value (g.E.Edges.child s.elements) (g.E.Edges.count s.elements) (g.E.Edges.units s.elements) (g.E.Outputs.outputs s.elements) (g.E.Links.first s.elements) (own_end (g.E.Links.fail s.elements) (g.E.Links.first s.elements)) w.patterns.falls
     (map g.E.Outputs.number s.text.items) (elements_of s.aside.items) s.stop s.position o c.if-self.false c.if-self-eq0.false c.output-output.ensures in
     rw (given, c.end.ensures) (search rules)
+
+pub loop-self-init : goal.loop-self-init
+loop-self-init g c = record { walking = c.self.invariant; left = c.self.view_is }
+
+pub invariant_of-self : goal.invariant_of-self
+invariant_of-self g c =
+    let s = c.loop-self.self-inside in
+    let left = c.pop.new.self.items in
+    let same : s.aside.items ≡ left = c.in_default.ensures.items ∙ append-nil left in
+    subst (λ r. IsWalking (g.E.Edges.child s.elements) (g.E.Edges.group s.elements) (g.E.Edges.edge s.elements) (g.E.Edges.count s.elements) (g.E.Edges.units s.elements) (g.E.Outputs.outputs s.elements) (g.E.Links.first s.elements)
+    s.groups left (map g.E.Outputs.number s.text.items) s.position r (vec_capacity s.children) (vec_capacity s.text)) (sym c.in_default.ensures.capacity)
+    (subst (λ xs. IsWalking (g.E.Edges.child s.elements) (g.E.Edges.group s.elements) (g.E.Edges.edge s.elements) (g.E.Edges.count s.elements) (g.E.Edges.units s.elements) (g.E.Outputs.outputs s.elements) (g.E.Links.first s.elements)
+    s.groups xs (map g.E.Outputs.number s.text.items) s.position (vec_capacity s.aside) (vec_capacity s.children) (vec_capacity s.text)) same c.loop-self.invariant.walking)
+
+pub put_aside-requires-clause-inside : goal.put_aside-requires-clause-inside
+put_aside-requires-clause-inside g c = c.loop-self.invariant.walking.patterns.tree.inside
+
+pub put_aside-requires-clause-tell : goal.put_aside-requires-clause-tell
+put_aside-requires-clause-tell g c = c.loop-self.invariant.walking.patterns.tell
+
+pub put_aside-requires-clause-groups : goal.put_aside-requires-clause-groups
+put_aside-requires-clause-groups g c = c.loop-self.invariant.walking.groups_are
+
+pub put_aside-requires-clause-each : goal.put_aside-requires-clause-each
+put_aside-requires-clause-each g c = c.loop-self.invariant.walking.each
+
+pub put_aside-requires-clause-list : goal.put_aside-requires-clause-list
+put_aside-requires-clause-list g c = c.loop-self.invariant.walking.wide_for_children
+
+pub output-output-requires-clause-some : goal.output-output-requires-clause-some
+output-output-requires-clause-some g c = omega (arith, c.if-self-eq0.false)
+
+pub output-output-requires-clause-inside : goal.output-output-requires-clause-inside
+output-output-requires-clause-inside g c = c.loop-self.invariant.walking.inside
+
+pub overflow_cast-self : goal.overflow_cast-self
+overflow_cast-self g c = omega (arith, c.map_or.type_inv)
+
+pub invariant_of-self-in-Ok : goal.invariant_of-self-in-Ok
+invariant_of-self-in-Ok g c =
+    let s = c.loop-self.self-inside in
+    let w = c.loop-self.invariant.walking in
+    let position : c.map_or.result ≡ parent_of c.output-output.result = search rules in
+    let falls = w.patterns.falls (s.position - 1) c.output-output.result c.output-output.ensures in
+    record {
+      patterns = w.patterns;
+      groups_are = w.groups_are;
+      each = w.each;
+      walk = w.walk;
+      entries = w.entries;
+      inside = omega (arith, position, falls, w.inside);
+      wide = w.wide;
+      wide_for_children = w.wide_for_children;
+      wide_for_text = w.wide_for_text;
+    }
+
+pub invariant_of-self-in-Err : goal.invariant_of-self-in-Err
+invariant_of-self-in-Err g c = c.loop-self.invariant.walking

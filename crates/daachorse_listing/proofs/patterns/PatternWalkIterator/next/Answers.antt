@@ -7,7 +7,7 @@ use Rattle.daachorse_listing.specs.Edges.{children, put_before}
 use Rattle.daachorse_listing.specs.Listing.{IsWalking, own_end, unit_of}
 use Rattle.daachorse_listing.specs.Trees.{elements_of, taken_from}
 use Rattle.daachorse_listing.proofs.WalkLaws.{reached-inside}
-use Rattle.daachorse_listing.proofs.PatternLaws.{left-of-rest, left-of-value, rest-of-none, next-reached, next-room, next-text-room, next-left-of, next-fewer, next-aside, next-walking}
+use Rattle.daachorse_listing.proofs.PatternLaws.{left-of-rest, left-of-value, rest-of-none, next-reached, next-deep, next-room, next-text-room, next-left-of, next-fewer, next-aside, next-walking}
 use Rattle.daachorse_listing.proofs.patterns.PatternWalkIterator.next.Goals as goal
 use Rattle.daachorse_listing.proofs.patterns.PatternWalkIterator.next.Goals.{then-self, else-self+then-self-eq0}
 
@@ -208,3 +208,16 @@ invariant_of-self-in-Ok g c =
 
 pub invariant_of-self-in-Err : goal.invariant_of-self-in-Err
 invariant_of-self-in-Err g c = c.loop-self.invariant.walking
+
+pub overflow_add-depth : goal.overflow_add-depth
+overflow_add-depth g c =
+    let s = c.loop-self.self-inside in
+    let w = c.loop-self.invariant.walking in
+    let stop = own_end (g.E.Links.fail s.elements) (g.E.Links.first s.elements) in
+    let d = c.in-Some.depth in
+    let x = c.in-Some.next in
+    let rest = c.pop.new.self.items in
+    let reached = next-reached stop s.groups s.aside.items _ s.position _ _ _ w rest d x c.in-Some.ensures.items in
+    let deep = next-deep stop s.groups s.aside.items _ s.position _ _ _ w rest d x c.in-Some.ensures.items in
+    let low = w.patterns.tree.shallow x _ reached in
+    omega (arith, deep, low)

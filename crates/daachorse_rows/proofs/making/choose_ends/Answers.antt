@@ -1,10 +1,12 @@
-use Rattle.std.proofs.Common.{◌≡◌, ◌+◌, ◌<◌, ℕ, inl, inr, length, map, sym, subst, ap, ◌∙◌, arith}
+use Rattle.std.proofs.Common.{◌≡◌, ◌+◌, ◌<◌, ℕ, inl, inr, length, map, refl, sym, subst, ap, ◌∙◌, arith}
 use Rattle.std.specs.Prelude.{slice_index, slice_set}
+use Rattle.std.proofs.lemmas.Bool.{false≢true}
+use Rattle.std.proofs.lemmas.Result.{IfOk-from_err}
 use Rattle.std.proofs.lemmas.List.{get_or_read, length-map, length-set}
 use Rattle.daachorse_core.specs.Looks.{StepEnds}
 use Rattle.daachorse_rows.specs.Rows.{EndsInRow, HasEnd, stands_by}
 use Rattle.daachorse_rows.proofs.MakingLaws.{AreChosen-more, below_or_at, ends_read, unit_read}
-use Rattle.daachorse_rows.proofs.ShallowLaws.{AreShallow-push, AreTooMany-full, EndsInRow-on, EndsInRow-row, GoesOn-push, GoesOn-through, HasEnd-all, HasEnd-on, HasEnd-row, end_shallow, row_last}
+use Rattle.daachorse_rows.proofs.ShallowLaws.{AreShallow-push, AreTooMany-full, EndsInRow-on, EndsInRow-row, GoesOn-push, GoesOn-same, GoesOn-through, HasEnd-all, HasEnd-on, HasEnd-row, end_shallow, row_last}
 use Rattle.daachorse_rows.proofs.making.choose_ends.Goals.{then-index+else-len-most+in_ok-push, else-index}
 use Rattle.daachorse_rows.proofs.making.choose_ends.Goals as goal
 
@@ -88,3 +90,85 @@ returns-clause-all g c = λ _.
 
 pub returns-clause-ends : goal.returns-clause-ends
 returns-clause-ends g c = λ _ j below. c.loop-k.invariant.steps j (omega (arith, below, c.loop-k-test.false, c.loop-k.auto.k-end))
+
+pub index-state-requires : goal.index-state-requires
+index-state-requires g c = omega (arith, c.requires.at, c.args.chosen.now.order.ok.0)
+
+pub loop-k-init : goal.loop-k-init
+loop-k-init g c = record {
+  chosen = c.requires.chosen;
+  same = refl;
+  on = GoesOn-same c.args.chosen.now.order.items;
+  shallow = λ n here all. all;
+  steps = λ j below. absurd (omega (arith, below));
+  ends = λ j below unit coded begins. absurd (omega (arith, below));
+}
+
+pub follow-next-requires-clause-reached : goal.follow-next-requires-clause-reached
+follow-next-requires-clause-reached g c =
+    let A = g.A.Automaton in let a = c.args.automaton.now in
+    let P : ℕ → Type 0 = λ s. A.reached a s in
+    subst P (sym (get_or_read c.args.chosen.now.order.items c.args.at c.index-state.result.now c.requires.at c.index-state.ensures 0)) (c.requires.chosen.states c.args.at c.requires.at)
+
+pub index-requires : goal.index-requires
+index-requires g c = omega (arith, c.requires.count c.follow-next.result.0 c.follow-next.ensures.reached, c.loop-k.invariant.same, c.loop-k.chosen.homes.ok.0)
+
+pub returns-then-len-most-clause-chosen : goal.returns-then-len-most-clause-chosen
+returns-then-len-most-clause-chosen g c = c.loop-k.invariant.chosen
+
+pub returns-then-len-most-clause-same : goal.returns-then-len-most-clause-same
+returns-then-len-most-clause-same g c = c.loop-k.invariant.same
+
+pub returns-then-len-most-clause-on : goal.returns-then-len-most-clause-on
+returns-then-len-most-clause-on g c = c.loop-k.invariant.on
+
+pub returns-then-len-most-clause-shallow : goal.returns-then-len-most-clause-shallow
+returns-then-len-most-clause-shallow g c = c.loop-k.invariant.shallow
+
+pub returns-then-len-most-clause-all : goal.returns-then-len-most-clause-all
+returns-then-len-most-clause-all g c = λ e. absurd (false≢true e)
+
+pub returns-then-len-most-clause-ends : goal.returns-then-len-most-clause-ends
+returns-then-len-most-clause-ends g c = λ e. absurd (false≢true e)
+
+pub returns-in_err-push-clause-chosen : goal.returns-in_err-push-clause-chosen
+returns-in_err-push-clause-chosen g c = IfOk-from_err c.from_residual.result _ c.from_residual.ensures.0
+
+pub returns-in_err-push-clause-same : goal.returns-in_err-push-clause-same
+returns-in_err-push-clause-same g c = IfOk-from_err c.from_residual.result _ c.from_residual.ensures.0
+
+pub returns-in_err-push-clause-on : goal.returns-in_err-push-clause-on
+returns-in_err-push-clause-on g c = IfOk-from_err c.from_residual.result _ c.from_residual.ensures.0
+
+pub returns-in_err-push-clause-shallow : goal.returns-in_err-push-clause-shallow
+returns-in_err-push-clause-shallow g c = IfOk-from_err c.from_residual.result _ c.from_residual.ensures.0
+
+pub returns-in_err-push-clause-all : goal.returns-in_err-push-clause-all
+returns-in_err-push-clause-all g c = IfOk-from_err c.from_residual.result _ c.from_residual.ensures.0
+
+pub returns-in_err-push-clause-ends : goal.returns-in_err-push-clause-ends
+returns-in_err-push-clause-ends g c = IfOk-from_err c.from_residual.result _ c.from_residual.ensures.0
+
+pub returns-in_err-push-clause-full : goal.returns-in_err-push-clause-full
+returns-in_err-push-clause-full g c = IfOk-from_err c.from_residual.result _ c.from_residual.ensures.0
+
+pub returns-clause-chosen : goal.returns-clause-chosen
+returns-clause-chosen g c = c.loop-k.invariant.chosen
+
+pub returns-clause-same : goal.returns-clause-same
+returns-clause-same g c = c.loop-k.invariant.same
+
+pub returns-clause-on : goal.returns-clause-on
+returns-clause-on g c = c.loop-k.invariant.on
+
+pub returns-clause-shallow : goal.returns-clause-shallow
+returns-clause-shallow g c = c.loop-k.invariant.shallow
+
+pub returns-clause-full : goal.returns-clause-full
+returns-clause-full g c = λ e. absurd (false≢true (sym e))
+
+pub index_mut-requires : goal.index_mut-requires
+index_mut-requires g c = omega (arith, c.requires.count c.follow-next.result.0 c.follow-next.ensures.reached, c.loop-k.invariant.same, c.loop-k.chosen.homes.ok.0)
+
+pub overflow_cast-len : goal.overflow_cast-len
+overflow_cast-len g c = omega (arith, c.len-then-index.ensures, c.loop-k.chosen.order.ok.0, c.loop-k.invariant.chosen.few, c.requires.few)

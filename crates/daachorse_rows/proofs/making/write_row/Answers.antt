@@ -1,6 +1,7 @@
 use Rattle.std.proofs.Common.{◌≡◌, ℕ, List, ◌+◌, ◌*◌, ◌<◌, length, map, get_or, ap, subst, refl, sym, arith}
 use Rattle.std.specs.Prelude.{slice_index, Option, None}
 use Rattle.std.specs.declared.num.NonZeroU32.{NonZeroU32}
+use Rattle.std.proofs.lemmas.Result.{IfOk-from_err}
 use Rattle.std.proofs.lemmas.List.{get_or_read}
 use Rattle.daachorse_core.specs.Looks.{IsFirstOutput}
 use Rattle.daachorse_rows.specs.Rows.{IsEntry, Stands, stands_by}
@@ -59,3 +60,56 @@ returns g c =
     let A = g.A.Automaton in let a = c.args.automaton.now in let order = c.args.chosen.now.order.items in
     let F : List ℕ → Option NonZeroU32 → Type 0 = IsFirstOutput g.A.Unit.EdgeLabel.width (A.content a) (A.dead a) (A.has_output a) (A.outputs a) (A.most_outputs a) in
     AreWritten-next (A.content a) (A.reached a) (A.text a) (A.dead a) (stands_by g.A.Label.RowLabel.number (A.labels a)) F (map g.A.Label.RowLabel.number c.args.labels.now) order c.args.width (length order * c.args.width) c.args.row (2 + c.loop-k.k) _ c.loop-k.invariant (omega (arith, c.requires.width, c.loop-k-test.false, c.loop-k.auto.k-end))
+
+pub index-state-requires : goal.index-state-requires
+index-state-requires g c = omega (arith, c.requires.row, c.args.chosen.now.order.ok.0)
+
+pub output_pos-requires : goal.output_pos-requires
+output_pos-requires g c = c.root-root.ensures.reached
+
+pub returns-in_err-push : goal.returns-in_err-push
+returns-in_err-push g c = IfOk-from_err c.from_residual.result _ c.from_residual.ensures.0
+
+pub returns-in_err-push-2 : goal.returns-in_err-push-2
+returns-in_err-push-2 g c = IfOk-from_err c.from_residual-in_err-push-2.result _ c.from_residual-in_err-push-2.ensures.0
+
+pub returns-in_err-push-3 : goal.returns-in_err-push-3
+returns-in_err-push-3 g c = IfOk-from_err c.from_residual-in_err-push-3.result _ c.from_residual-in_err-push-3.ensures.0
+
+pub entry-requires-clause-homes : goal.entry-requires-clause-homes
+entry-requires-clause-homes g c = c.requires.chosen.homes
+
+pub entry-requires-clause-own : goal.entry-requires-clause-own
+entry-requires-clause-own g c = c.requires.chosen.own
+
+pub entry-requires-clause-few : goal.entry-requires-clause-few
+entry-requires-clause-few g c = fits_rows (length c.args.chosen.now.order.items) c.args.width c.requires.chosen.few
+
+pub entry-requires-clause-wide : goal.entry-requires-clause-wide
+entry-requires-clause-wide g c = omega (arith, c.requires.width)
+
+pub entry-requires-in-loop-k-clause-homes : goal.entry-requires-in-loop-k-clause-homes
+entry-requires-in-loop-k-clause-homes g c = c.requires.chosen.homes
+
+pub entry-requires-in-loop-k-clause-own : goal.entry-requires-in-loop-k-clause-own
+entry-requires-in-loop-k-clause-own g c = c.requires.chosen.own
+
+pub entry-requires-in-loop-k-clause-few : goal.entry-requires-in-loop-k-clause-few
+entry-requires-in-loop-k-clause-few g c = fits_rows (length c.args.chosen.now.order.items) c.args.width c.requires.chosen.few
+
+pub entry-requires-in-loop-k-clause-wide : goal.entry-requires-in-loop-k-clause-wide
+entry-requires-in-loop-k-clause-wide g c = omega (arith, c.requires.width)
+
+pub entry-requires-clause-fits : goal.entry-requires-clause-fits
+entry-requires-clause-fits g c =
+    let order = c.args.chosen.now.order.items in
+    let e : c.len.result ≡ length order = omega (arith, c.len.ensures, c.args.chosen.now.order.ok.0) in
+    let few = fits_rows (length order) c.args.width c.requires.chosen.few in
+    let fits = c.requires.chosen.fits c.root-root.result c.root-root.ensures.reached in
+    omega (arith, few, fits, ap (λ (n : ℕ). n * c.args.width) e)
+
+pub overflow_mul-base : goal.overflow_mul-base
+overflow_mul-base g c =
+    let order = c.args.chosen.now.order.items in
+    let e : c.len.result ≡ length order = omega (arith, c.len.ensures, c.args.chosen.now.order.ok.0) in
+    omega (arith, fits_rows (length order) c.args.width c.requires.chosen.few, ap (λ (n : ℕ). n * c.args.width) e)

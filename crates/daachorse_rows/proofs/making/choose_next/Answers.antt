@@ -1,9 +1,11 @@
-use Rattle.std.proofs.Common.{◌<◌, ℕ, inl, inr, length, map, sym, subst, arith}
+use Rattle.std.proofs.Common.{◌+◌, ◌<◌, ◌∙◌, ℕ, inl, inr, length, map, refl, sym, subst, arith}
 use Rattle.std.specs.Prelude.{slice_index}
+use Rattle.std.proofs.lemmas.Bool.{false≢true}
+use Rattle.std.proofs.lemmas.Result.{IfOk-from_err}
 use Rattle.std.proofs.lemmas.List.{length-map}
 use Rattle.daachorse_rows.specs.Rows.{HasEnd, stands_by}
 use Rattle.daachorse_rows.proofs.MakingLaws.{below_or_at}
-use Rattle.daachorse_rows.proofs.ShallowLaws.{AreCovered-next, AreStepped-fewer, AreStepped-more, GoesOn-through, HasEnd-on, state_shallow}
+use Rattle.daachorse_rows.proofs.ShallowLaws.{AreCovered-next, AreStepped-fewer, AreStepped-more, AreStepped-none, GoesOn-same, GoesOn-through, HasEnd-on, IsShallow-weaker, state_shallow}
 use Rattle.daachorse_rows.proofs.making.choose_next.Goals as goal
 
 pub returns-then-not-branch-clause-shallow : goal.returns-then-not-branch-clause-shallow
@@ -50,3 +52,82 @@ returns-clause-stepped g c = λ _ root.
     let A = g.A.Automaton in let a = c.args.automaton.now in
     AreStepped-fewer (A.content a) (A.text a) (stands_by g.A.Label.RowLabel.number (A.labels a)) (A.dead a) (map g.A.Label.RowLabel.number c.args.labels.now) (length c.args.chosen.now.order.items) c.loop-at.at c.loop-at.chosen.order.items
     (omega (arith, c.loop-at-test.false, c.loop-at.auto.at-end, c.len-at-end.ensures, c.args.chosen.now.order.ok.0)) (c.loop-at.invariant.steps root)
+
+pub loop-at-init : goal.loop-at-init
+loop-at-init g c =
+    let A = g.A.Automaton in let a = c.args.automaton.now in let stands = stands_by g.A.Label.RowLabel.number (A.labels a) in
+    let old = c.args.chosen.now.order.items in
+    record {
+      chosen = c.requires.chosen;
+      same = refl;
+      on = GoesOn-same old;
+      steps = λ root. AreStepped-none (A.content a) (A.text a) stands (A.dead a) (map g.A.Label.RowLabel.number c.args.labels.now) old root;
+      shallow = λ n shallow k below. IsShallow-weaker stands n (n + 1) (A.text a (slice_index old k)) (omega arith) (shallow k below);
+      ends = λ k below label low unit coded begins. absurd (omega (arith, below));
+    }
+
+pub choose_ends-requires-clause-labels : goal.choose_ends-requires-clause-labels
+choose_ends-requires-clause-labels g c = c.requires.labels
+
+pub choose_ends-requires-clause-chosen : goal.choose_ends-requires-clause-chosen
+choose_ends-requires-clause-chosen g c = c.loop-at.invariant.chosen
+
+pub choose_ends-requires-clause-count : goal.choose_ends-requires-clause-count
+choose_ends-requires-clause-count g c = λ s there. omega (arith, c.requires.count s there, c.loop-at.invariant.same)
+
+pub choose_ends-requires-clause-at : goal.choose_ends-requires-clause-at
+choose_ends-requires-clause-at g c = omega (arith, c.loop-at-test.true, c.loop-at.auto.at-end, c.len-at-end.ensures, c.args.chosen.now.order.ok.0, c.loop-at.invariant.on.more)
+
+pub choose_ends-requires-clause-few : goal.choose_ends-requires-clause-few
+choose_ends-requires-clause-few g c = c.requires.few
+
+pub returns-in_err-choose_ends-clause-chosen : goal.returns-in_err-choose_ends-clause-chosen
+returns-in_err-choose_ends-clause-chosen g c = IfOk-from_err c.from_residual.result _ c.from_residual.ensures.0
+
+pub returns-in_err-choose_ends-clause-same : goal.returns-in_err-choose_ends-clause-same
+returns-in_err-choose_ends-clause-same g c = IfOk-from_err c.from_residual.result _ c.from_residual.ensures.0
+
+pub returns-in_err-choose_ends-clause-on : goal.returns-in_err-choose_ends-clause-on
+returns-in_err-choose_ends-clause-on g c = IfOk-from_err c.from_residual.result _ c.from_residual.ensures.0
+
+pub returns-in_err-choose_ends-clause-stepped : goal.returns-in_err-choose_ends-clause-stepped
+returns-in_err-choose_ends-clause-stepped g c = IfOk-from_err c.from_residual.result _ c.from_residual.ensures.0
+
+pub returns-in_err-choose_ends-clause-shallow : goal.returns-in_err-choose_ends-clause-shallow
+returns-in_err-choose_ends-clause-shallow g c = IfOk-from_err c.from_residual.result _ c.from_residual.ensures.0
+
+pub returns-in_err-choose_ends-clause-all : goal.returns-in_err-choose_ends-clause-all
+returns-in_err-choose_ends-clause-all g c = IfOk-from_err c.from_residual.result _ c.from_residual.ensures.0
+
+pub returns-in_err-choose_ends-clause-full : goal.returns-in_err-choose_ends-clause-full
+returns-in_err-choose_ends-clause-full g c = IfOk-from_err c.from_residual.result _ c.from_residual.ensures.0
+
+pub returns-then-not-branch-clause-chosen : goal.returns-then-not-branch-clause-chosen
+returns-then-not-branch-clause-chosen g c = c.in_ok-choose_ends.ensures.chosen
+
+pub returns-then-not-branch-clause-same : goal.returns-then-not-branch-clause-same
+returns-then-not-branch-clause-same g c = c.in_ok-choose_ends.ensures.same ∙ c.loop-at.invariant.same
+
+pub returns-then-not-branch-clause-on : goal.returns-then-not-branch-clause-on
+returns-then-not-branch-clause-on g c = GoesOn-through c.args.chosen.now.order.items c.loop-at.chosen.order.items c.choose_ends.new.chosen.order.items c.loop-at.invariant.on c.in_ok-choose_ends.ensures.on
+
+pub returns-then-not-branch-clause-stepped : goal.returns-then-not-branch-clause-stepped
+returns-then-not-branch-clause-stepped g c = λ e. absurd (false≢true e)
+
+pub returns-then-not-branch-clause-all : goal.returns-then-not-branch-clause-all
+returns-then-not-branch-clause-all g c = λ e. absurd (false≢true e)
+
+pub returns-clause-chosen : goal.returns-clause-chosen
+returns-clause-chosen g c = c.loop-at.invariant.chosen
+
+pub returns-clause-same : goal.returns-clause-same
+returns-clause-same g c = c.loop-at.invariant.same
+
+pub returns-clause-on : goal.returns-clause-on
+returns-clause-on g c = c.loop-at.invariant.on
+
+pub returns-clause-shallow : goal.returns-clause-shallow
+returns-clause-shallow g c = c.loop-at.invariant.shallow
+
+pub returns-clause-full : goal.returns-clause-full
+returns-clause-full g c = λ e. absurd (false≢true (sym e))

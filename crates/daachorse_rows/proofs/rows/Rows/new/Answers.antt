@@ -1,10 +1,10 @@
-use Rattle.std.proofs.Common.{◌≡◌, ℕ, List, ◌+◌, ◌*◌, ◌/◌, ◌⊎◌, inl, inr, length, map, refl, subst, sym, ap, arith}
+use Rattle.std.proofs.Common.{◌≡◌, ℕ, List, ◌+◌, ◌*◌, ◌/◌, ◌⊎◌, inl, inr, length, map, refl, subst, sym, ap, ◌∙◌, arith}
 use Rattle.std.specs.Prelude.{Option}
 use Rattle.std.specs.declared.num.NonZeroU32.{NonZeroU32}
 use Rattle.std.proofs.Math.Nat.{div-mul-le_self}
 use Rattle.std.proofs.lemmas.List.{length-map}
 use Rattle.std.proofs.lemmas.Result.{IfOk-from_err}
-use Rattle.std.proofs.lemmas.Option.{none-some, MatchOption-at_some}
+use Rattle.std.proofs.lemmas.Option.{none-some, MatchOption-at_none, MatchOption-at_some}
 use Rattle.daachorse_core.specs.Looks.{IsFirstOutput}
 use Rattle.daachorse_rows.specs.Rows.{AreChosen, AreCovered, AreStepped, AreTooMany, RowTable, Stands, stands_by}
 use Rattle.daachorse_rows.proofs.MakingLaws.{AreClosed-made, AreRows-made, Covers-made, fits_rows}
@@ -18,7 +18,7 @@ returns-clause-right g c =
     let F : List ℕ → Option NonZeroU32 → Type 0 = IsFirstOutput g.A.Unit.EdgeLabel.width (A.content a) (A.dead a) (A.has_output a) (A.outputs a) (A.most_outputs a) in
     let r : RowTable = record { classes = c.in_ok-classes.classes.items; top = c.in_ok-top.top.items; homes = c.in-Some.chosen.homes.items; count = c.len-count.result; width = width; root = c.place-root.result } in
     let S : ℕ → Type 0 = λ n. Stands order width (n * width) c.place-root.result c.root.result in
-    let e : c.len-count.result ≡ length order = omega (arith, c.len-count.ensures, c.in-Some.chosen.order.ok.0) in
+    let e : c.len-count.result ≡ length order = c.len-count.ensures ∙ c.in-Some.chosen.order.ok.0 in
     let stands = stands_by g.A.Label.RowLabel.number (A.labels a) in
     let chosen = MatchOption-at_some _ (λ x. AreChosen (A.reached a) x.order.items x.homes.items (65536 / width) × AreCovered (A.content a) (A.text a) stands 2 x.order.items
     × (AreStepped (A.content a) (A.text a) stands (A.dead a) (map g.A.Label.RowLabel.number c.args.labels.now) (length x.order.items) x.order.items ⊎ ((n : ℕ) × AreTooMany (A.reached a) (A.text a) stands n (65536 / width)))) c.in-Some.chosen c.in-Some.is c.in_ok-chosen.ensures in
@@ -31,7 +31,7 @@ returns-clause-covered g c =
     let width = length c.args.labels.now + 2 in
     let F : List ℕ → Option NonZeroU32 → Type 0 = IsFirstOutput g.A.Unit.EdgeLabel.width (A.content a) (A.dead a) (A.has_output a) (A.outputs a) (A.most_outputs a) in
     let r : RowTable = record { classes = c.in_ok-classes.classes.items; top = c.in_ok-top.top.items; homes = c.in-Some.chosen.homes.items; count = c.len-count.result; width = width; root = c.place-root.result } in
-    let e : c.len-count.result ≡ length order = omega (arith, c.len-count.ensures, c.in-Some.chosen.order.ok.0) in
+    let e : c.len-count.result ≡ length order = c.len-count.ensures ∙ c.in-Some.chosen.order.ok.0 in
     let stands = stands_by g.A.Label.RowLabel.number (A.labels a) in
     let chosen = MatchOption-at_some _ (λ x. AreChosen (A.reached a) x.order.items x.homes.items (65536 / width) × AreCovered (A.content a) (A.text a) stands 2 x.order.items
     × (AreStepped (A.content a) (A.text a) stands (A.dead a) (map g.A.Label.RowLabel.number c.args.labels.now) (length x.order.items) x.order.items ⊎ ((n : ℕ) × AreTooMany (A.reached a) (A.text a) stands n (65536 / width)))) c.in-Some.chosen c.in-Some.is c.in_ok-chosen.ensures in
@@ -45,7 +45,7 @@ returns-clause-closed g c =
     let F : List ℕ → Option NonZeroU32 → Type 0 = IsFirstOutput g.A.Unit.EdgeLabel.width (A.content a) (A.dead a) (A.has_output a) (A.outputs a) (A.most_outputs a) in
     let r : RowTable = record { classes = c.in_ok-classes.classes.items; top = c.in_ok-top.top.items; homes = c.in-Some.chosen.homes.items; count = c.len-count.result; width = width; root = c.place-root.result } in
     let S : ℕ → Type 0 = λ n. Stands order width (n * width) c.place-root.result c.root.result in
-    let e : c.len-count.result ≡ length order = omega (arith, c.len-count.ensures, c.in-Some.chosen.order.ok.0) in
+    let e : c.len-count.result ≡ length order = c.len-count.ensures ∙ c.in-Some.chosen.order.ok.0 in
     let stands = stands_by g.A.Label.RowLabel.number (A.labels a) in
     let chosen = MatchOption-at_some _ (λ x. AreChosen (A.reached a) x.order.items x.homes.items (65536 / width) × AreCovered (A.content a) (A.text a) stands 2 x.order.items
     × (AreStepped (A.content a) (A.text a) stands (A.dead a) (map g.A.Label.RowLabel.number c.args.labels.now) (length x.order.items) x.order.items ⊎ ((n : ℕ) × AreTooMany (A.reached a) (A.text a) stands n (65536 / width)))) c.in-Some.chosen c.in-Some.is c.in_ok-chosen.ensures in
@@ -107,31 +107,60 @@ pub write-requires-clause-width : goal.write-requires-clause-width
 write-requires-clause-width g c = refl
 
 pub returns-in_default-clause-none : goal.returns-in_default-clause-none
-returns-in_default-clause-none g c = λ _. rw c.in_default.is at c.in_ok-chosen.ensures
+returns-in_default-clause-none g c = λ _.
+    let A = g.A.Automaton in let a = c.args.automaton.now in
+    let width = length c.args.labels.now + 2 in
+    let stands = stands_by g.A.Label.RowLabel.number (A.labels a) in
+    MatchOption-at_none _ (λ x. AreChosen (A.reached a) x.order.items x.homes.items (65536 / width) × AreCovered (A.content a) (A.text a) stands 2 x.order.items
+    × (AreStepped (A.content a) (A.text a) stands (A.dead a) (map g.A.Label.RowLabel.number c.args.labels.now) (length x.order.items) x.order.items ⊎ ((n : ℕ) × AreTooMany (A.reached a) (A.text a) stands n (65536 / width)))) c.in_default.is c.in_ok-chosen.ensures
 
 pub write-requires-clause-chosen : goal.write-requires-clause-chosen
-write-requires-clause-chosen g c = (rw c.in-Some.is at c.in_ok-chosen.ensures).0
+write-requires-clause-chosen g c =
+    let A = g.A.Automaton in let a = c.args.automaton.now in
+    let width = length c.args.labels.now + 2 in
+    let stands = stands_by g.A.Label.RowLabel.number (A.labels a) in
+    let chosen = MatchOption-at_some _ (λ x. AreChosen (A.reached a) x.order.items x.homes.items (65536 / width) × AreCovered (A.content a) (A.text a) stands 2 x.order.items
+    × (AreStepped (A.content a) (A.text a) stands (A.dead a) (map g.A.Label.RowLabel.number c.args.labels.now) (length x.order.items) x.order.items ⊎ ((n : ℕ) × AreTooMany (A.reached a) (A.text a) stands n (65536 / width)))) c.in-Some.chosen c.in-Some.is c.in_ok-chosen.ensures in
+    chosen.0
 
 pub place-root-requires-clause-homes : goal.place-root-requires-clause-homes
-place-root-requires-clause-homes g c = (rw c.in-Some.is at c.in_ok-chosen.ensures).0.homes
+place-root-requires-clause-homes g c =
+    let A = g.A.Automaton in let a = c.args.automaton.now in
+    let width = length c.args.labels.now + 2 in
+    let stands = stands_by g.A.Label.RowLabel.number (A.labels a) in
+    let chosen = MatchOption-at_some _ (λ x. AreChosen (A.reached a) x.order.items x.homes.items (65536 / width) × AreCovered (A.content a) (A.text a) stands 2 x.order.items
+    × (AreStepped (A.content a) (A.text a) stands (A.dead a) (map g.A.Label.RowLabel.number c.args.labels.now) (length x.order.items) x.order.items ⊎ ((n : ℕ) × AreTooMany (A.reached a) (A.text a) stands n (65536 / width)))) c.in-Some.chosen c.in-Some.is c.in_ok-chosen.ensures in
+    chosen.0.homes
 
 pub place-root-requires-clause-few : goal.place-root-requires-clause-few
 place-root-requires-clause-few g c =
-    let chosen = rw c.in-Some.is at c.in_ok-chosen.ensures in
-    fits_rows (length c.in-Some.chosen.order.items) (length c.args.labels.now + 2) chosen.0.few
+    let A = g.A.Automaton in let a = c.args.automaton.now in
+    let width = length c.args.labels.now + 2 in
+    let stands = stands_by g.A.Label.RowLabel.number (A.labels a) in
+    let chosen = MatchOption-at_some _ (λ x. AreChosen (A.reached a) x.order.items x.homes.items (65536 / width) × AreCovered (A.content a) (A.text a) stands 2 x.order.items
+    × (AreStepped (A.content a) (A.text a) stands (A.dead a) (map g.A.Label.RowLabel.number c.args.labels.now) (length x.order.items) x.order.items ⊎ ((n : ℕ) × AreTooMany (A.reached a) (A.text a) stands n (65536 / width)))) c.in-Some.chosen c.in-Some.is c.in_ok-chosen.ensures in
+    fits_rows (length c.in-Some.chosen.order.items) width chosen.0.few
 
 pub place-root-requires-clause-fits : goal.place-root-requires-clause-fits
 place-root-requires-clause-fits g c =
-    let chosen = rw c.in-Some.is at c.in_ok-chosen.ensures in
-    let width = length c.args.labels.now + 2 in let order = c.in-Some.chosen.order.items in
-    let e : c.len-count.result ≡ length order = omega (arith, c.len-count.ensures, c.in-Some.chosen.order.ok.0) in
+    let A = g.A.Automaton in let a = c.args.automaton.now in
+    let width = length c.args.labels.now + 2 in
+    let stands = stands_by g.A.Label.RowLabel.number (A.labels a) in
+    let chosen = MatchOption-at_some _ (λ x. AreChosen (A.reached a) x.order.items x.homes.items (65536 / width) × AreCovered (A.content a) (A.text a) stands 2 x.order.items
+    × (AreStepped (A.content a) (A.text a) stands (A.dead a) (map g.A.Label.RowLabel.number c.args.labels.now) (length x.order.items) x.order.items ⊎ ((n : ℕ) × AreTooMany (A.reached a) (A.text a) stands n (65536 / width)))) c.in-Some.chosen c.in-Some.is c.in_ok-chosen.ensures in
+    let order = c.in-Some.chosen.order.items in
+    let e : c.len-count.result ≡ length order = c.len-count.ensures ∙ c.in-Some.chosen.order.ok.0 in
     omega (arith, fits_rows (length order) width chosen.0.few, chosen.0.fits c.root.result c.root.ensures.reached, ap (λ (n : ℕ). n * width) e)
 
 pub overflow_mul-count : goal.overflow_mul-count
 overflow_mul-count g c =
-    let chosen = rw c.in-Some.is at c.in_ok-chosen.ensures in
-    let width = length c.args.labels.now + 2 in let order = c.in-Some.chosen.order.items in
-    let e : c.len-count.result ≡ length order = omega (arith, c.len-count.ensures, c.in-Some.chosen.order.ok.0) in
+    let A = g.A.Automaton in let a = c.args.automaton.now in
+    let width = length c.args.labels.now + 2 in
+    let stands = stands_by g.A.Label.RowLabel.number (A.labels a) in
+    let chosen = MatchOption-at_some _ (λ x. AreChosen (A.reached a) x.order.items x.homes.items (65536 / width) × AreCovered (A.content a) (A.text a) stands 2 x.order.items
+    × (AreStepped (A.content a) (A.text a) stands (A.dead a) (map g.A.Label.RowLabel.number c.args.labels.now) (length x.order.items) x.order.items ⊎ ((n : ℕ) × AreTooMany (A.reached a) (A.text a) stands n (65536 / width)))) c.in-Some.chosen c.in-Some.is c.in_ok-chosen.ensures in
+    let order = c.in-Some.chosen.order.items in
+    let e : c.len-count.result ≡ length order = c.len-count.ensures ∙ c.in-Some.chosen.order.ok.0 in
     omega (arith, fits_rows (length order) width chosen.0.few, ap (λ (n : ℕ). n * width) e)
 
 pub returns-clause-none : goal.returns-clause-none

@@ -19,8 +19,8 @@ loop-k-init g c =
     let F : List ℕ → Option NonZeroU32 → Type 0 = IsFirstOutput g.A.Unit.EdgeLabel.width (A.content a) (A.dead a) (A.has_output a) (A.outputs a) (A.most_outputs a) in
     let e : c.len.result ≡ length order = omega (arith, c.len.ensures, c.args.chosen.now.order.ok.0) in
     let S : ℕ → Type 0 = λ n. IsEntry (λ x. Stands order width (n * width) x c.root-root.result) (c.output_pos.result ≡ None) c.entry.result in
-    let one = AreWritten-push K (A.reached a) (A.text a) (A.dead a) (stands_by g.A.Label.RowLabel.number (A.labels a)) F labels order width base c.args.row 0 1 c.index-state.result.now _ _ c.requires.written c.in_ok-push.ensures.items (row_state order c.args.row c.index-state.result.now c.requires.row c.index-state.ensures) refl in
-    AreWritten-push K (A.reached a) (A.text a) (A.dead a) (stands_by g.A.Label.RowLabel.number (A.labels a)) F labels order width base c.args.row 1 2 c.entry.result _ _ one c.in_ok-push-2.ensures.items
+    let one = AreWritten-push K (A.reached a) (A.text a) (A.dead a) (stands_by g.A.Label.RowLabel.number (A.labels a)) F labels order width base c.args.row 0 1 c.index-state.result.now c.args.top.now.items c.push.new.self.items c.requires.written c.in_ok-push.ensures.items (row_state order c.args.row c.index-state.result.now c.requires.row c.index-state.ensures) refl in
+    AreWritten-push K (A.reached a) (A.text a) (A.dead a) (stands_by g.A.Label.RowLabel.number (A.labels a)) F labels order width base c.args.row 1 2 c.entry.result c.push.new.self.items c.push-2.new.self.items one c.in_ok-push-2.ensures.items
     (slot_foreign K (A.reached a) (A.text a) (A.dead a) (stands_by g.A.Label.RowLabel.number (A.labels a)) F labels order width base c.requires.labels c.args.row c.entry.result c.root-root.result c.output_pos.result (subst S e c.entry.ensures) c.output_pos.ensures c.root-root.ensures.reached c.root-root.ensures.text) refl
 
 pub follow-next-requires-clause-reached : goal.follow-next-requires-clause-reached
@@ -52,14 +52,14 @@ loop-k-preserved g c =
     let same = row_state order c.args.row c.index-state.result.now c.requires.row c.index-state.ensures in
     let label = c.index-labels-k.result in
     let ends = ends_read g.A.Label.RowLabel.number K (A.dead a) (A.text a) g.met.A.Label.RowLabel.exact (A.labels a) c.args.labels.now c.loop-k.k label (slice_index order c.args.row) c.index-state.result.now c.follow-next.result.0 c.loop-k-test.true c.index-labels-k.is same c.follow-next.ensures.ends in
-    AreWritten-push K (A.reached a) (A.text a) (A.dead a) (stands_by g.A.Label.RowLabel.number (A.labels a)) F labels order width base c.args.row (2 + c.loop-k.k) (2 + (c.loop-k.k + 1)) c.entry-in-loop-k.result _ _ c.loop-k.invariant c.in_ok-push-3.ensures.items
+    AreWritten-push K (A.reached a) (A.text a) (A.dead a) (stands_by g.A.Label.RowLabel.number (A.labels a)) F labels order width base c.args.row (2 + c.loop-k.k) (2 + (c.loop-k.k + 1)) c.entry-in-loop-k.result c.loop-k.top.items c.push-in-loop-k.new.self.items c.loop-k.invariant c.in_ok-push-3.ensures.items
     (slot_step K (A.reached a) (A.text a) (A.dead a) (stands_by g.A.Label.RowLabel.number (A.labels a)) F labels order width base c.requires.labels c.args.row (2 + c.loop-k.k) c.loop-k.k c.entry-in-loop-k.result c.follow-next.result.0 c.follow-next.result.1 refl (subst S e c.entry-in-loop-k.ensures) c.follow-next.ensures.output c.follow-next.ensures.reached ends) (omega arith)
 
 pub returns : goal.returns
 returns g c =
     let A = g.A.Automaton in let a = c.args.automaton.now in let order = c.args.chosen.now.order.items in
     let F : List ℕ → Option NonZeroU32 → Type 0 = IsFirstOutput g.A.Unit.EdgeLabel.width (A.content a) (A.dead a) (A.has_output a) (A.outputs a) (A.most_outputs a) in
-    AreWritten-next (A.content a) (A.reached a) (A.text a) (A.dead a) (stands_by g.A.Label.RowLabel.number (A.labels a)) F (map g.A.Label.RowLabel.number c.args.labels.now) order c.args.width (length order * c.args.width) c.args.row (2 + c.loop-k.k) _ c.loop-k.invariant (omega (arith, c.requires.width, c.loop-k-test.false, c.loop-k.auto.k-end))
+    AreWritten-next (A.content a) (A.reached a) (A.text a) (A.dead a) (stands_by g.A.Label.RowLabel.number (A.labels a)) F (map g.A.Label.RowLabel.number c.args.labels.now) order c.args.width (length order * c.args.width) c.args.row (2 + c.loop-k.k) c.loop-k.top.items c.loop-k.invariant (omega (arith, c.requires.width, c.loop-k-test.false, c.loop-k.auto.k-end))
 
 pub index-state-requires : goal.index-state-requires
 index-state-requires g c = omega (arith, c.requires.row, c.args.chosen.now.order.ok.0)

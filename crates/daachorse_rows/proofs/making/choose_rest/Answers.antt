@@ -1,6 +1,7 @@
 -- Each row's steps end in rows, one row after the other, or there are too many states.
 use Rattle.std.proofs.Common.{◌+◌, ◌<◌, ℕ, inl, inr, length, map, refl, arith}
 use Rattle.std.specs.Prelude.{slice_index}
+use Rattle.std.proofs.lemmas.Result.{IfOk-from_err}
 use Rattle.std.proofs.lemmas.List.{length-map}
 use Rattle.daachorse_rows.specs.Rows.{stands_by}
 use Rattle.daachorse_rows.proofs.ShallowLaws.{AreStepped-fewer, AreStepped-more, GoesOn-same, GoesOn-through, IsShallow-weaker}
@@ -36,3 +37,39 @@ returns-clause-stepped g c = λ n shallow stepped.
     let A = g.A.Automaton in let a = c.args.automaton.now in
     inl (AreStepped-fewer (A.content a) (A.text a) (stands_by g.A.Label.RowLabel.number (A.labels a)) (A.dead a) (map g.A.Label.RowLabel.number c.args.labels.now) (length c.loop-at.chosen.order.items) c.loop-at.at c.loop-at.chosen.order.items
     (omega (arith, c.loop-at-test.false, c.len.ensures, c.loop-at.chosen.order.ok.0)) (c.loop-at.invariant.steps stepped))
+
+pub choose_ends-requires-clause-labels : goal.choose_ends-requires-clause-labels
+choose_ends-requires-clause-labels g c = c.requires.labels
+
+pub choose_ends-requires-clause-chosen : goal.choose_ends-requires-clause-chosen
+choose_ends-requires-clause-chosen g c = c.loop-at.invariant.chosen
+
+pub choose_ends-requires-clause-count : goal.choose_ends-requires-clause-count
+choose_ends-requires-clause-count g c = λ s there. omega (arith, c.requires.count s there, c.loop-at.invariant.count)
+
+pub choose_ends-requires-clause-at : goal.choose_ends-requires-clause-at
+choose_ends-requires-clause-at g c = omega (arith, c.loop-at-test.true, c.len.ensures, c.loop-at.chosen.order.ok.0)
+
+pub choose_ends-requires-clause-few : goal.choose_ends-requires-clause-few
+choose_ends-requires-clause-few g c = c.requires.few
+
+pub returns-in_err-choose_ends-clause-chosen : goal.returns-in_err-choose_ends-clause-chosen
+returns-in_err-choose_ends-clause-chosen g c = IfOk-from_err c.from_residual.result _ c.from_residual.ensures.0
+
+pub returns-in_err-choose_ends-clause-on : goal.returns-in_err-choose_ends-clause-on
+returns-in_err-choose_ends-clause-on g c = IfOk-from_err c.from_residual.result _ c.from_residual.ensures.0
+
+pub returns-in_err-choose_ends-clause-stepped : goal.returns-in_err-choose_ends-clause-stepped
+returns-in_err-choose_ends-clause-stepped g c = IfOk-from_err c.from_residual.result _ c.from_residual.ensures.0
+
+pub returns-then-not-branch-clause-chosen : goal.returns-then-not-branch-clause-chosen
+returns-then-not-branch-clause-chosen g c = c.in_ok-choose_ends.ensures.chosen
+
+pub returns-then-not-branch-clause-on : goal.returns-then-not-branch-clause-on
+returns-then-not-branch-clause-on g c = GoesOn-through c.args.chosen.now.order.items c.loop-at.chosen.order.items c.choose_ends.new.chosen.order.items c.loop-at.invariant.on c.in_ok-choose_ends.ensures.on
+
+pub returns-clause-chosen : goal.returns-clause-chosen
+returns-clause-chosen g c = c.loop-at.invariant.chosen
+
+pub returns-clause-on : goal.returns-clause-on
+returns-clause-on g c = c.loop-at.invariant.on

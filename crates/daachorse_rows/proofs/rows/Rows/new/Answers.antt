@@ -132,6 +132,15 @@ place-root-requires-clause-homes g c =
     × (AreStepped (A.content a) (A.text a) stands (A.dead a) (map g.A.Label.RowLabel.number c.args.labels.now) (length x.order.items) x.order.items ⊎ ((n : ℕ) × AreTooMany (A.reached a) (A.text a) stands n (65536 / width)))) c.in-Some.chosen c.in-Some.is c.in_ok-chosen.ensures in
     chosen.0.homes
 
+pub place-root-requires-clause-own : goal.place-root-requires-clause-own
+place-root-requires-clause-own g c =
+    let A = g.A.Automaton in let a = c.args.automaton.now in
+    let width = length c.args.labels.now + 2 in
+    let stands = stands_by g.A.Label.RowLabel.number (A.labels a) in
+    let chosen = MatchOption-at_some _ (λ x. AreChosen (A.reached a) x.order.items x.homes.items (65536 / width) × AreCovered (A.content a) (A.text a) stands 2 x.order.items
+    × (AreStepped (A.content a) (A.text a) stands (A.dead a) (map g.A.Label.RowLabel.number c.args.labels.now) (length x.order.items) x.order.items ⊎ ((n : ℕ) × AreTooMany (A.reached a) (A.text a) stands n (65536 / width)))) c.in-Some.chosen c.in-Some.is c.in_ok-chosen.ensures in
+    chosen.0.own
+
 pub place-root-requires-clause-few : goal.place-root-requires-clause-few
 place-root-requires-clause-few g c =
     let A = g.A.Automaton in let a = c.args.automaton.now in
@@ -163,6 +172,17 @@ overflow_mul-count g c =
     let e : c.len-count.result ≡ length order = c.len-count.ensures ∙ c.in-Some.chosen.order.ok.0 in
     omega (arith, fits_rows (length order) width chosen.0.few, ap (λ (n : ℕ). n * width) e)
 
+pub overflow_cast-count : goal.overflow_cast-count
+overflow_cast-count g c =
+    let A = g.A.Automaton in let a = c.args.automaton.now in
+    let width = length c.args.labels.now + 2 in
+    let stands = stands_by g.A.Label.RowLabel.number (A.labels a) in
+    let chosen = MatchOption-at_some _ (λ x. AreChosen (A.reached a) x.order.items x.homes.items (65536 / width) × AreCovered (A.content a) (A.text a) stands 2 x.order.items
+    × (AreStepped (A.content a) (A.text a) stands (A.dead a) (map g.A.Label.RowLabel.number c.args.labels.now) (length x.order.items) x.order.items ⊎ ((n : ℕ) × AreTooMany (A.reached a) (A.text a) stands n (65536 / width)))) c.in-Some.chosen c.in-Some.is c.in_ok-chosen.ensures in
+    let order = c.in-Some.chosen.order.items in
+    let e : c.len-count.result ≡ length order = c.len-count.ensures ∙ c.in-Some.chosen.order.ok.0 in
+    omega (arith, e, chosen.0.few, div-mul-le_self 65536 width)
+
 pub returns-clause-none : goal.returns-clause-none
 returns-clause-none g c = λ none. absurd (none-some _ (sym none))
 
@@ -171,3 +191,12 @@ choose-requires-clause-some g c = room_least (length c.args.labels.now) 1 (omega
 
 pub choose-requires-clause-few : goal.choose-requires-clause-few
 choose-requires-clause-few g c = omega (arith, div-mul-le_self 65536 (length c.args.labels.now + 2))
+
+pub overflow_cast-width : goal.overflow_cast-width
+overflow_cast-width g c = omega (arith, c.requires.few)
+
+pub overflow_add-width : goal.overflow_add-width
+overflow_add-width g c = omega (arith, c.requires.few)
+
+pub overflow_cast-width-2 : goal.overflow_cast-width-2
+overflow_cast-width-2 g c = omega (arith, div-mul-le_self 65536 (length c.args.labels.now + 2))

@@ -27,17 +27,11 @@ returns g c =
       c.in_ok-choose_rest.ensures.stepped 2 shallow near,
     )
 
-pub returns-then-count-gt-MOST_STATES : goal.returns-then-count-gt-MOST_STATES
-returns-then-count-gt-MOST_STATES g c = inr c.if-count-gt-MOST_STATES.true
-
 pub choose_root-requires-clause-count : goal.choose_root-requires-clause-count
 choose_root-requires-clause-count g c = c.requires.count
 
 pub choose_root-requires-clause-some : goal.choose_root-requires-clause-some
 choose_root-requires-clause-some g c = c.requires.some
-
-pub choose_root-requires-clause-fits : goal.choose_root-requires-clause-fits
-choose_root-requires-clause-fits g c = c.if-count-gt-MOST_STATES.false
 
 pub returns-in_err-chosen : goal.returns-in_err-chosen
 returns-in_err-chosen g c = IfOk-from_err c.from_residual.result _ c.from_residual.ensures.0

@@ -1,36 +1,74 @@
 -- The text is what the automaton that the bytes begin with finds; a flush takes nothing.
-use Rattle.std.proofs.Common.{◌≡◌, [], append-nil, refl, rules, sym}
+use Rattle.std.proofs.Common.{◌≡◌, ℕ, Bool, false, List, [], Option, append-nil, rules, subst, sym, ◌∙◌, IfErr, refl}
+use Rattle.std.specs.Prelude.{Result}
+use Rattle.std.specs.Result.{IsErrAnd}
+use Rattle.std.specs.declared.result.Result.TheVariants.{Ok, Err}
+use Rattle.std.specs.Int.{w32}
+use Rattle.std.specs.Io.KnownBytes.{Appends}
 use Rattle.std.proofs.KnownBytes.{Appends-kept}
-use Rattle.std.proofs.lemmas.Result.{err_from_is_err_and}
+use mathlib.Core.Bool.{not}
+use denote.Enum.Bare.{sameb}
+use Rattle.daachorse_model.specs.contracts.MatchKind.{the_type}
+use Rattle.daachorse_model.specs.declared.MatchKind.{MatchKind}
 use Rattle.daachorse_model.specs.Folding.{as_read}
 use Rattle.daachorse_model.specs.Program.{match_text}
-use Rattle.daachorse_bytewise.specs.Automata.{dictionary_of, kind_of}
+use Rattle.daachorse_serializer.specs.Forms.{take_number}
+use Rattle.daachorse_bytewise.specs.Automata.{Automaton as Searches, dictionary_of, kind_of}
+use Rattle.daachorse_bytewise.specs.ReadForms.{GivesAutomaton}
+use Rattle.daachorse_replacing.specs.Replaced.{AppendsBeginning}
+use Rattle.daacfind_command.specs.declared.mode.Mode.{Mode}
+use Rattle.daacfind_command.specs.declared.written.WrittenError.{WrittenError}
+use Rattle.daacfind_command.specs.declared.written.WrittenError.TheVariants.{Write}
 use Rattle.daacfind_command.specs.Modes.{found_by, kind_of_mode}
-use Rattle.daacfind_command.specs.Written.{IsTextBy}
+use Rattle.daacfind_command.specs.Written.{IsTextBy, OnFailure}
 use Rattle.daacfind_command.proofs.written.run_written.Goals as goal
+
+-- kinds that do not differ
+same_kind : (a m : MatchKind) (differ : Bool) → differ ≡ not (sameb the_type a m) → differ ≡ false → a ≡ m
+same_kind a m differ is not_so = search (rules, is, not_so)
+
+-- what the automaton finds
+abbrev text_by : Mode → Searches ℕ → List ℕ → List ℕ
+text_by mode a haystack = match_text (found_by mode (dictionary_of a) (as_read a.folds haystack))
+
+by_given : (mode : Mode) (bytes haystack : List ℕ) (a : Searches ℕ) (rest : List ℕ) (k m : MatchKind) (differ : Bool) → GivesAutomaton (take_number w32) bytes a rest → k ≡ kind_of a → m ≡ kind_of_mode mode
+    → differ ≡ not (sameb the_type k m) → differ ≡ false → IsTextBy mode bytes haystack (text_by mode a haystack)
+by_given mode bytes haystack a rest k m differ given is_k is_m is not_so =
+    record { automaton = a; rest = rest; given = given; kind = sym is_k ∙ same_kind k m differ is not_so ∙ is_m; found = refl }
+
+-- where writing failed, a beginning was written
+begun : {T : Type 0} (r : Result T WrittenError) (mode : Mode) (bytes haystack : List ℕ) (old new : Option (List ℕ)) (text : List ℕ) → IsErrAnd r (λ e. e ≡ Write) → IsTextBy mode bytes haystack text → AppendsBeginning old new text
+    → IfErr r (λ e. OnFailure e ((t : List ℕ) × IsTextBy mode bytes haystack t × AppendsBeginning old new t))
+begun (Ok x) mode bytes haystack old new text h by to = tt
+begun (Err e) mode bytes haystack old new text h by to =
+    subst (λ e. OnFailure e ((t : List ℕ) × IsTextBy mode bytes haystack t × AppendsBeginning old new t)) (sym h) (text, by, to)
+
+all_begun : (old new : Option (List ℕ)) (text : List ℕ) → Appends old new text → AppendsBeginning old new text
+all_begun old new text h = (text, [], sym (append-nil text), h)
 
 pub returns-in_err-write_mode-clause-beginning : goal.returns-in_err-write_mode-clause-beginning
 returns-in_err-write_mode-clause-beginning g c =
-    let a = c.in_ok-searches.searches in
-    let kind : kind_of a ≡ kind_of_mode c.args.mode = search (rules, c.ne.ensures, c.if-ne.false, c.match_kind.ensures, c.match_kind-2.ensures) in
-    let text = match_text (found_by c.args.mode (dictionary_of a) (as_read a.folds c.args.haystack.now)) in
-    let by : IsTextBy c.args.mode c.args.automaton.now c.args.haystack.now text = record { automaton = a; rest = c.in_ok-searches._rest.now; given = c.in_ok-searches.ensures.given; kind = kind; found = refl } in
-    let failure = err_from_is_err_and c.from_residual-in_err-write_mode.result c.from_residual-in_err-write_mode.ensures.1 in
-    rw (failure.1, failure.2) (text, by, c.in_err-write_mode.ensures.beginning)
+    let s = c.in_ok-searches in
+    begun c.from_residual-in_err-write_mode.result c.args.mode c.args.automaton.now c.args.haystack.now (g.S.Sink.taken c.args.out.now) (g.S.Sink.taken c.write_mode.new.out) (text_by c.args.mode s.searches c.args.haystack.now)
+    c.from_residual-in_err-write_mode.ensures.1
+    (by_given c.args.mode c.args.automaton.now c.args.haystack.now s.searches s._rest.now c.match_kind.result c.match_kind-2.result c.ne.result s.ensures.given c.match_kind.ensures c.match_kind-2.ensures c.ne.ensures c.if-ne.false)
+    c.in_err-write_mode.ensures.beginning
 
 pub returns-in_err-flush-clause-beginning : goal.returns-in_err-flush-clause-beginning
 returns-in_err-flush-clause-beginning g c =
-    let a = c.in_ok-searches.searches in
-    let kind : kind_of a ≡ kind_of_mode c.args.mode = search (rules, c.ne.ensures, c.if-ne.false, c.match_kind.ensures, c.match_kind-2.ensures) in
-    let text = match_text (found_by c.args.mode (dictionary_of a) (as_read a.folds c.args.haystack.now)) in
-    let by : IsTextBy c.args.mode c.args.automaton.now c.args.haystack.now text = record { automaton = a; rest = c.in_ok-searches._rest.now; given = c.in_ok-searches.ensures.given; kind = kind; found = refl } in
-    let failure = err_from_is_err_and c.from_residual-in_err-flush.result c.from_residual-in_err-flush.ensures.1 in
-    rw (failure.1, failure.2) (text, by, (text, [], sym (append-nil _), Appends-kept _ _ _ _ c.in_ok-write_mode.ensures.whole c.in_err-flush.ensures.taken))
+    let s = c.in_ok-searches in
+    let old = g.S.Sink.taken c.args.out.now in
+    let new = g.S.Sink.taken c.flush.new.self in
+    begun c.from_residual-in_err-flush.result c.args.mode c.args.automaton.now c.args.haystack.now old new (text_by c.args.mode s.searches c.args.haystack.now)
+    c.from_residual-in_err-flush.ensures.1
+    (by_given c.args.mode c.args.automaton.now c.args.haystack.now s.searches s._rest.now c.match_kind.result c.match_kind-2.result c.ne.result s.ensures.given c.match_kind.ensures c.match_kind-2.ensures c.ne.ensures c.if-ne.false)
+    (all_begun old new (text_by c.args.mode s.searches c.args.haystack.now)
+    (Appends-kept old (g.S.Sink.taken c.write_mode.new.out) new (text_by c.args.mode s.searches c.args.haystack.now) c.in_ok-write_mode.ensures.whole c.in_err-flush.ensures.taken))
 
 pub returns-clause-written : goal.returns-clause-written
 returns-clause-written g c =
-    let a = c.in_ok-searches.searches in
-    let kind : kind_of a ≡ kind_of_mode c.args.mode = search (rules, c.ne.ensures, c.if-ne.false, c.match_kind.ensures, c.match_kind-2.ensures) in
-    let text = match_text (found_by c.args.mode (dictionary_of a) (as_read a.folds c.args.haystack.now)) in
-    let by : IsTextBy c.args.mode c.args.automaton.now c.args.haystack.now text = record { automaton = a; rest = c.in_ok-searches._rest.now; given = c.in_ok-searches.ensures.given; kind = kind; found = refl } in
-    (text, by, Appends-kept _ _ _ _ c.in_ok-write_mode.ensures.whole c.in_ok-flush.ensures.taken)
+    let s = c.in_ok-searches in (
+      text_by c.args.mode s.searches c.args.haystack.now,
+      by_given c.args.mode c.args.automaton.now c.args.haystack.now s.searches s._rest.now c.match_kind.result c.match_kind-2.result c.ne.result s.ensures.given c.match_kind.ensures c.match_kind-2.ensures c.ne.ensures c.if-ne.false,
+      Appends-kept (g.S.Sink.taken c.args.out.now) (g.S.Sink.taken c.write_mode.new.out) (g.S.Sink.taken c.flush.new.self) (text_by c.args.mode s.searches c.args.haystack.now) c.in_ok-write_mode.ensures.whole c.in_ok-flush.ensures.taken,
+    )

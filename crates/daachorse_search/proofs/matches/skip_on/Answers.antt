@@ -17,12 +17,27 @@ skip_at_root-requires-clause-sound g c =
     let W = g.W.Stepwise in let passes = g.F.Filter.passes in let l = c.units in
     sound_on (W.content (W.automaton c.args.walk.now)) (W.content (W.automaton l.walk)) (passes c.args.filter.now) (passes l.filter) (ap W.content l.invariant.skips.same) l.invariant.passes c.requires
 
+pub skip_at_root-requires-clause-asked : goal.skip_at_root-requires-clause-asked
+skip_at_root-requires-clause-asked g c = c.is_open.ensures.asked c.if-not-is_open.false
+
+pub next-requires : goal.next-requires
+next-requires g c = g.met.H.Haystack.callable c.skip_at_root.new.rest
+
+pub returns-then-not-is_open-clause-passes : goal.returns-then-not-is_open-clause-passes
+returns-then-not-is_open-clause-passes g c = c.units.invariant.passes
+
 pub returns-then-not-is_open-clause-reads : goal.returns-then-not-is_open-clause-reads
 returns-then-not-is_open-clause-reads g c =
     let W = g.W.Stepwise in let rest = g.H.Haystack.rest in let l = c.units in let to = c.read_on.new in let read = c.read_on.ensures in
     SkipsTo-reads g.W.Unit.EdgeLabel.width W.automaton W.read W.turns W.found W.content W.looks_at W.ends_at_once (g.F.Filter.passes c.args.filter.now) c.args.walk.now (rest c.args.rest.now) c.args.taken.now l.walk (rest l.rest) l.taken _ to.walk (rest to.rest) l.invariant.skips
     (record { same = read.on.same; haystack = read.on.haystack; left = read.on.left })
     read.fewer
+
+pub returns-then-not-is_open-clause-output : goal.returns-then-not-is_open-clause-output
+returns-then-not-is_open-clause-output g c = c.read_on.ensures.on.output
+
+pub returns-then-not-is_open-clause-ended : goal.returns-then-not-is_open-clause-ended
+returns-then-not-is_open-clause-ended g c = c.read_on.ensures.on.ended
 
 -- a filter that is closed has no place to skip to, so there is nothing left
 pub returns-then-not-is_open-clause-idle : goal.returns-then-not-is_open-clause-idle
@@ -34,6 +49,9 @@ returns-then-not-is_open-clause-idle g c h =
     ] in
     (ap (λ w. l.taken + W.turns w) (read.over none) ∙ idle.0, nil_from_length (rest c.read_on.new.rest) (omega (arith, read.fewer, ap length none)))
 
+pub returns-in_default-clause-passes : goal.returns-in_default-clause-passes
+returns-in_default-clause-passes g c w = c.skip_at_root.ensures.passes w ∙ c.units.invariant.passes w
+
 pub returns-in_default-clause-reads : goal.returns-in_default-clause-reads
 returns-in_default-clause-reads g c =
     let W = g.W.Stepwise in let rest = g.H.Haystack.rest in let to = c.skip_at_root.new in
@@ -42,12 +60,25 @@ returns-in_default-clause-reads g c =
     SkipsTo-ended g.W.Unit.EdgeLabel.width W.automaton W.read W.turns W.found W.content W.looks_at W.ends_at_once (g.F.Filter.passes c.args.filter.now) c.args.walk.now (rest c.args.rest.now) c.args.taken.now to.walk (rest to.rest) (rest c.next.new.self) to.taken (W.given_from to.walk 0) (SkipsTo-then g.W.Unit.EdgeLabel.width W.automaton W.read W.turns W.found W.content W.looks_at W.ends_at_once (g.F.Filter.passes c.args.filter.now) c.args.walk.now (rest c.args.rest.now) c.args.taken.now c.units.walk (rest c.units.rest) c.units.taken [] to.walk (rest to.rest) to.taken c.units.invariant.skips
     (SkipsTo-places g.W.Unit.EdgeLabel.width W.automaton W.read W.turns W.found W.content W.looks_at W.ends_at_once (g.F.Filter.passes c.args.filter.now) (g.F.Filter.passes c.units.filter) c.units.walk (rest c.units.rest) c.units.taken [] to.walk (rest to.rest) to.taken c.units.invariant.passes c.skip_at_root.ensures.skips)) (g.met.W.Stepwise.no_output to.walk).1 over.0 over.1
 
+pub returns-in_default-clause-output : goal.returns-in_default-clause-output
+returns-in_default-clause-output g c = (g.met.W.Stepwise.no_output c.skip_at_root.new.walk).0
+
+pub returns-in_default-clause-ended : goal.returns-in_default-clause-ended
+returns-in_default-clause-ended g c =
+    let to = c.skip_at_root.new in
+    let P : Option g.row.W-Unit.Denot → Type 0 = λ r. YieldsFirstBy g.W.Unit.EdgeLabel.unit g.H.Haystack.rest to.rest r c.next.new.self in
+    let over : P None = subst P c.in_default.is (g.met.H.Haystack.gives to.rest c.next.result c.next.new.self c.next.ensures.steps) in
+    over.1
+
 pub returns-in_default-clause-idle : goal.returns-in_default-clause-idle
 returns-in_default-clause-idle g c h =
     let to = c.skip_at_root.new in
     let P : Option g.row.W-Unit.Denot → Type 0 = λ r. YieldsFirstBy g.W.Unit.EdgeLabel.unit g.H.Haystack.rest to.rest r c.next.new.self in
     let over : P None = subst P c.in_default.is (g.met.H.Haystack.gives to.rest c.next.result c.next.new.self c.next.ensures.steps) in
     (c.skip_at_root.ensures.turns ∙ (c.units.invariant.idle h).0, over.1)
+
+pub returns-in-Some-advance-clause-passes : goal.returns-in-Some-advance-clause-passes
+returns-in-Some-advance-clause-passes g c w = c.skip_at_root.ensures.passes w ∙ c.units.invariant.passes w
 
 pub returns-in-Some-advance-clause-reads : goal.returns-in-Some-advance-clause-reads
 returns-in-Some-advance-clause-reads g c =
@@ -59,6 +90,9 @@ returns-in-Some-advance-clause-reads g c =
     (SkipsTo-places g.W.Unit.EdgeLabel.width W.automaton W.read W.turns W.found W.content W.looks_at W.ends_at_once (g.F.Filter.passes c.args.filter.now) (g.F.Filter.passes c.units.filter) c.units.walk (rest c.units.rest) c.units.taken [] to.walk (rest to.rest) to.taken c.units.invariant.passes c.skip_at_root.ensures.skips))
     (ReadsTo-one W.automaton W.read W.found to.walk (rest to.rest) to.walk (rest to.rest) (unit c.in-Some.unit) (rest c.next.new.self) now given (ReadsTo-first W.automaton W.read W.found to.walk (rest to.rest)) one read.automaton read.read read.stops.matches)
     (omega (arith, ap length one))
+
+pub returns-in-Some-advance-clause-output : goal.returns-in-Some-advance-clause-output
+returns-in-Some-advance-clause-output g c = c.in-Some-advance.ensures.stops.place
 
 -- where no place is left, there is no unit to read
 pub returns-in-Some-advance-clause-idle : goal.returns-in-Some-advance-clause-idle

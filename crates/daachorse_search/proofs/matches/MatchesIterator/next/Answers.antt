@@ -1,5 +1,5 @@
 -- A call comes to the next output, by going on where none is pending, and gives its match; what is left begins with it.
-use Rattle.std.proofs.Common.{◌≡◌, ◌+◌, ◌-◌, ◌∷◌, ℕ, List, [], length, Option, Some, None, refl, sym, ap, ◌∙◌, subst, arith}
+use Rattle.std.proofs.Common.{◌≡◌, ◌+◌, ◌-◌, ◌∷◌, ◌++◌, ℕ, List, [], length, Option, Some, None, refl, sym, ap, ◌∙◌, subst, arith}
 use Rattle.std.specs.Prelude.{IfNone}
 use Rattle.std.specs.declared.num.NonZeroU32.{NonZeroU32}
 use Rattle.daachorse_core.specs.Outputs.{number}
@@ -54,6 +54,9 @@ went_on g was walk later taken position filter stands pending places reads outpu
     (λ none. idle (no_place_on first (F.passes was.filter) (F.opened was.filter) (W.read was.walk) (rest was.rest) stands.0 none)) in
     record { filter = refl; whole = refl; seen = refl; automaton = reads.same; stands = (λ w. places w ∙ stands.0 w, on.0); left = ap (left_at g was) zero ∙ on.1 }
 
+pub go_on-requires : goal.go_on-requires
+go_on-requires g c key rest is = c.self.invariant.0 (key ++ rest) ∙ c.self.invariant.1.sound key rest is
+
 -- one was pending
 pending_came : (g : given.Over) (was now : Ins g) (p q : NonZeroU32) → standing g was (number was.output) → was.output ≡ Some q → p ≡ q → now ≡ was → Came g was now p.value
 pending_came g was now p q stands pending same stays =
@@ -100,6 +103,9 @@ give-found-requires-clause-here g c =
     let W = g.W.Stepwise in let F = g.F.Filter in let rest = g.H.Haystack.rest in let now = c.match-self.self-inside in
     omega (arith, place_is g.W.Unit.EdgeLabel.width W.automaton W.read W.turns W.found W.content W.looks_at W.ends_at_once W.has_output W.given_from (F.passes now.first_filter.value) (F.opened now.first_filter.value) (rest now.whole.value) now.size (F.opened now.filter) now.walk (rest now.rest) c.match-self.position.value now.taken (came g c).stands.1, c.left.ensures)
 
+pub give-found-requires-clause-output : goal.give-found-requires-clause-output
+give-found-requires-clause-output g c = (came g c).stands.1.output
+
 -- the haystack ended: nothing is pending
 pub invariant_of-self : goal.invariant_of-self
 invariant_of-self g c =
@@ -141,6 +147,9 @@ returns-in_err-position-in-None-clause-steps g c =
     }) in
     let R : Option (Match g.row.V.Denot) → Type 0 = λ r. GivesFirst (StandsAtEnd {V = g.row.V.Denot} g.W.Unit.EdgeLabel.width) c.args.self.now r t in
     subst R (sym c.from_residual.ensures) gone_none
+
+pub returns-in_err-position-in-None-clause-goes : goal.returns-in_err-position-in-None-clause-goes
+returns-in_err-position-in-None-clause-goes g c = rw c.from_residual.ensures (record { on = λ _. tt; keeps = tt; rests = λ _. tt })
 
 -- the search after the match was given
 abbrev given_on : (g : given.Over) (c : goal.After-give g) → Ins g

@@ -1,5 +1,5 @@
 -- A call comes to the next output, by going on where none is pending, and gives its match; what is left begins with it.
-use Rattle.std.proofs.Common.{◌≡◌, ◌+◌, ◌-◌, ◌∷◌, ◌++◌, ℕ, List, [], length, Option, Some, None, refl, sym, ap, ◌∙◌, subst, arith}
+use Rattle.std.proofs.Common.{◌≡◌, ◌+◌, ◌-◌, ◌∷◌, ℕ, List, [], length, Option, Some, None, refl, sym, ap, ◌∙◌, subst, arith}
 use Rattle.std.specs.Prelude.{IfNone}
 use Rattle.std.specs.declared.num.NonZeroU32.{NonZeroU32}
 use Rattle.daachorse_core.specs.Outputs.{number}
@@ -53,9 +53,6 @@ went_on g was walk later taken position filter stands pending places reads outpu
     (SkipsTo-places g.W.Unit.EdgeLabel.width W.automaton W.read W.turns W.found W.content W.looks_at W.ends_at_once first (F.passes was.filter) was.walk (rest was.rest) was.taken (W.given_from walk position) walk (rest later) taken stands.0 reads) output
     (λ none. idle (no_place_on first (F.passes was.filter) (F.opened was.filter) (W.read was.walk) (rest was.rest) stands.0 none)) in
     record { filter = refl; whole = refl; seen = refl; automaton = reads.same; stands = (λ w. places w ∙ stands.0 w, on.0); left = ap (left_at g was) zero ∙ on.1 }
-
-pub go_on-requires : goal.go_on-requires
-go_on-requires g c key rest is = c.self.invariant.0 (key ++ rest) ∙ c.self.invariant.1.sound key rest is
 
 -- one was pending
 pending_came : (g : given.Over) (was now : Ins g) (p q : NonZeroU32) → standing g was (number was.output) → was.output ≡ Some q → p ≡ q → now ≡ was → Came g was now p.value

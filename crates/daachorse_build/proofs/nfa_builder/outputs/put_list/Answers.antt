@@ -13,6 +13,12 @@ use Rattle.daachorse_build.proofs.nfa_builder.outputs.put_list.Goals as goal
 own_here : {L V A : Type 0} (states : List (NfaBuilderState L V A)) (i : ℕ) (x : NfaBuilderState L V A) (own : List (V × ℕ)) → i < length states → own ≡ items_of (get_or states i x).output → own_at (own_of states) i ≡ own
 own_here states i x own l e = get_or-map (λ s. items_of s.output) states i x [] l ∙ sym e
 
+pub push_chain-requires-clause-parents : goal.push_chain-requires-clause-parents
+push_chain-requires-clause-parents g c = c.requires.parents
+
+pub push_chain-requires-clause-parent : goal.push_chain-requires-clause-parent
+push_chain-requires-clause-parent g c = c.requires.parent
+
 pub returns-in_err-state-clause-kept : goal.returns-in_err-state-clause-kept
 returns-in_err-state-clause-kept g c =
     let same = set-get_or c.args.states.now c.args.id c.index-states-id.result in
@@ -20,6 +26,12 @@ returns-in_err-state-clause-kept g c =
 
 pub returns-in_err-state-clause-fails : goal.returns-in_err-state-clause-fails
 returns-in_err-state-clause-fails g c = ap fails_of (set-get_or c.args.states.now c.args.id c.index-states-id.result)
+
+pub returns-in_err-state-clause-longer : goal.returns-in_err-state-clause-longer
+returns-in_err-state-clause-longer g c = c.push_chain.ensures.longer
+
+pub returns-in_err-state-clause-parents : goal.returns-in_err-state-clause-parents
+returns-in_err-state-clause-parents g c = c.push_chain.ensures.parents
 
 pub returns-in_err-state-clause-chain : goal.returns-in_err-state-clause-chain
 returns-in_err-state-clause-chain g c = IfOk-from_err c.from_residual.result _ c.from_residual.ensures.0
@@ -40,6 +52,12 @@ returns-clause-kept g c =
 pub returns-clause-fails : goal.returns-clause-fails
 returns-clause-fails g c =
     (position_set c.args.states.now c.args.id c.index-states-id.result _ c.in_ok-state.field-0 (omega arith) c.index-states-id.is (ap (λ (s : NfaBuilderState g.row.L.Denot g.row.V.Denot g.row.A.Denot). record s { output_pos = c.in_ok-state.field-0 }) (sym c.index-states-id.is))).1
+
+pub returns-clause-longer : goal.returns-clause-longer
+returns-clause-longer g c = c.push_chain.ensures.longer
+
+pub returns-clause-parents : goal.returns-clause-parents
+returns-clause-parents g c = c.push_chain.ensures.parents
 
 pub returns-clause-chain : goal.returns-clause-chain
 returns-clause-chain g c =

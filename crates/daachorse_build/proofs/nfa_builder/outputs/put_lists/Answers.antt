@@ -59,6 +59,15 @@ module _ {L V A : Type 0} (cmp : L → L → Ordering) (total : IsTotalOrder cmp
 first_cleared : {V : Type 0} (own : List (List (V × ℕ))) → 0 < length own → output_count (cleared own (0 ∷ [])) + length (own_at own 0) ≡ output_count own
 first_cleared own l = count-cleared own [] 0 l (λ h. h)
 
+pub returns-in_err-put_list-clause-kept : goal.returns-in_err-put_list-clause-kept
+returns-in_err-put_list-clause-kept g c = c.put_list.ensures.kept
+
+pub returns-in_err-put_list-clause-fails : goal.returns-in_err-put_list-clause-fails
+returns-in_err-put_list-clause-fails g c = c.put_list.ensures.fails
+
+pub returns-in_err-put_list-clause-parents : goal.returns-in_err-put_list-clause-parents
+returns-in_err-put_list-clause-parents g c = c.put_list.ensures.parents
+
 pub returns-in_err-put_list-clause-refused : goal.returns-in_err-put_list-clause-refused
 returns-in_err-put_list-clause-refused g c =
     let p = err_from_is_err_and c.from_residual.result c.from_residual.ensures.1 in
@@ -96,6 +105,9 @@ fail_position-parent-requires-clause-fail g c =
 pub put_list-requires-in-loop-id-clause-id : goal.put_list-requires-in-loop-id-clause-id
 put_list-requires-in-loop-id-clause-id g c =
     (state_bounds g.L.Ord.cmp g.met.L.Ord.total (label_exact g.L.EdgeLabel.unit g.L.Ord.cmp g.met.L.EdgeLabel.exact g.met.L.EdgeLabel.by_unit) c.args.states.now c.loop-id.states c.args.order.now c.requires.trie (stops_of c.requires.links.0 c.args.states.now) c.requires.links.1 c.loop-id.invariant.kept c.loop-id.id-index c.loop-id-test.true).0
+
+pub put_list-requires-in-loop-id-clause-parents : goal.put_list-requires-in-loop-id-clause-parents
+put_list-requires-in-loop-id-clause-parents g c = c.loop-id.invariant.parents
 
 -- where the list of the link begins
 parent_is : (fails fails' positions : List ℕ) (t p : ℕ) → fails' ≡ fails → IsParent positions (get_or fails' t 0) p → IsParent positions (get_or fails t 0) p
@@ -163,6 +175,18 @@ returns-in_err-put_list-2-clause-kept g c =
 
 pub returns-in_err-put_list-2-clause-fails : goal.returns-in_err-put_list-2-clause-fails
 returns-in_err-put_list-2-clause-fails g c = c.in_err-put_list-2.ensures.fails ∙ c.loop-id.invariant.fails
+
+pub returns-in_err-put_list-2-clause-parents : goal.returns-in_err-put_list-2-clause-parents
+returns-in_err-put_list-2-clause-parents g c = c.put_list-in-loop-id.ensures.parents
+
+pub returns-clause-kept : goal.returns-clause-kept
+returns-clause-kept g c = c.loop-id.invariant.kept
+
+pub returns-clause-fails : goal.returns-clause-fails
+returns-clause-fails g c = c.loop-id.invariant.fails
+
+pub returns-clause-parents : goal.returns-clause-parents
+returns-clause-parents g c = c.loop-id.invariant.parents
 
 pub returns-clause-lists : goal.returns-clause-lists
 returns-clause-lists g c =

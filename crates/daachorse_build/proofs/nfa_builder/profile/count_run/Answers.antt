@@ -1,5 +1,5 @@
 -- A place that is remembered is behind a label, and within the document.
-use Rattle.std.proofs.Common.{ℕ, ◌+◌, ◌<◌, ◌≤◌, Option, Some, None, IfSome, length, sym, subst, arith}
+use Rattle.std.proofs.Common.{ℕ, ◌+◌, ◌<◌, ◌≤◌, Option, Some, None, IfSome, length, sym, ap, subst, arith}
 use Rattle.std.proofs.lemmas.List.{length-map}
 use Rattle.daachorse_build.proofs.GrownCounts.{counted_same, counted_twice, counts_stay, same_counts}
 use Rattle.daachorse_build.proofs.nfa_builder.profile.count_run.Goals as goal
@@ -22,13 +22,32 @@ loop-place-init g c = record {
   match = tt;
 }
 
+pub count_label-id-requires-clause-trie : goal.count_label-id-requires-clause-trie
+count_label-id-requires-clause-trie g c = c.requires.trie
+
+pub count_label-id-requires-clause-links : goal.count_label-id-requires-clause-links
+count_label-id-requires-clause-links g c = c.requires.links
+
 pub count_label-id-requires-clause-counts : goal.count_label-id-requires-clause-counts
 count_label-id-requires-clause-counts g c =
     counts_stay (length c.args.states.now) c.args.profile.now c.loop-place.profile c.requires.counts c.loop-place.invariant.counted
 
+pub count_label-id-requires-clause-callable : goal.count_label-id-requires-clause-callable
+count_label-id-requires-clause-callable g c = c.requires.callable
+
+pub count_label-id-requires-clause-start : goal.count_label-id-requires-clause-start
+count_label-id-requires-clause-start g c = c.loop-place.invariant.state
+
+pub count_label-id-requires-clause-alive : goal.count_label-id-requires-clause-alive
+count_label-id-requires-clause-alive g c = c.loop-place.invariant.alive
+
 pub returns-then-is_some-clause-counted : goal.returns-then-is_some-clause-counted
 returns-then-is_some-clause-counted g c =
     counted_twice c.args.profile.now c.loop-place.profile c.count_label-id.new.profile c.loop-place.invariant.counted c.count_label-id.ensures.counted
+
+-- a document with a label is not empty
+pub returns-then-is_some-clause-empty : goal.returns-then-is_some-clause-empty
+returns-then-is_some-clause-empty g c = λ none. absurd (omega (arith, ap length none))
 
 pub returns-then-is_some-clause-on : goal.returns-then-is_some-clause-on
 returns-then-is_some-clause-on g c =
@@ -50,3 +69,9 @@ loop-place-preserved g c =
             | else-is_leftmost w ↦ subst P (sym w.match_end-is) (behind_more c.loop-place.place (c.loop-place.place + 1) c.loop-place.match_end (omega arith) c.loop-place.invariant.match)
           ];
     }
+
+pub returns-clause-counted : goal.returns-clause-counted
+returns-clause-counted g c = c.loop-place.invariant.counted
+
+pub returns-clause-empty : goal.returns-clause-empty
+returns-clause-empty g c = λ none. c.loop-place.invariant.begun (omega (arith, ap length none))

@@ -4,8 +4,7 @@ use Rattle.std.specs.Map.Iter.{deref_pair}
 use Rattle.std.proofs.lemmas.Map.Iter.{iter_turn, iter_end}
 use Rattle.std.proofs.lemmas.Map.Entries.{length-values_of}
 use Rattle.std.proofs.lemmas.List.{length-map, get_or-map, length_push, take_all}
-use Rattle.std.proofs.lemmas.Result.{IfOk-from_err}
-use Rattle.std.proofs.lemmas.Grind.{common_steps}
+use Rattle.std.proofs.lemmas.Result.{err_from_is_err_and, IfOk-from_err}
 use Rattle.daachorse_build.specs.Tables.{edges_of, stops_of}
 use Rattle.daachorse_build.specs.Orders.{children}
 use Rattle.daachorse_build.proofs.Queue.{traversal_start, traversal_first, child_at_place}
@@ -71,13 +70,17 @@ pub returns-in_err-links-clause-kind : goal.returns-in_err-links-clause-kind
 returns-in_err-links-clause-kind g c = IfOk-from_err c.from_residual.result _ c.from_residual.ensures.0
 
 pub returns-in_err-links-clause-refused : goal.returns-in_err-links-clause-refused
-returns-in_err-links-clause-refused g c = grind (arith, common_steps)
+returns-in_err-links-clause-refused g c =
+    let p = err_from_is_err_and c.from_residual.result c.from_residual.ensures.1 in
+    rw p.1 p.2
 
 pub returns-in_err-order-clause-refused : goal.returns-in_err-order-clause-refused
-returns-in_err-order-clause-refused g c = grind (arith, common_steps)
+returns-in_err-order-clause-refused g c =
+    let p = err_from_is_err_and c.from_residual-in_err-order.result c.from_residual-in_err-order.ensures.1 in
+    rw p.1 p.2
 
 pub bounds-states-root : goal.bounds-states-root
-bounds-states-root g c = grind (arith, common_steps)
+bounds-states-root g c = omega (arith, c.requires.trie.two, length-map c.args.states.now (λ s. s.edges))
 
 pub returns-in_err-order-clause-traversal : goal.returns-in_err-order-clause-traversal
 returns-in_err-order-clause-traversal g c = IfOk-from_err c.from_residual-in_err-order.result _ c.from_residual-in_err-order.ensures.0

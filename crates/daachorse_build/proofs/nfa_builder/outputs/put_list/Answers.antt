@@ -13,9 +13,6 @@ use Rattle.daachorse_build.proofs.nfa_builder.outputs.put_list.Goals as goal
 own_here : {L V A : Type 0} (states : List (NfaBuilderState L V A)) (i : ℕ) (x : NfaBuilderState L V A) (own : List (V × ℕ)) → i < length states → own ≡ items_of (get_or states i x).output → own_at (own_of states) i ≡ own
 own_here states i x own l e = get_or-map (λ s. items_of s.output) states i x [] l ∙ sym e
 
-pub bounds-states-id : goal.bounds-states-id
-bounds-states-id g c = c.requires.id
-
 pub push_chain-requires-clause-parents : goal.push_chain-requires-clause-parents
 push_chain-requires-clause-parents g c = c.requires.parents
 

@@ -17,6 +17,7 @@ use Rattle.daachorse_build.proofs.Labels.{label_exact}
 use Rattle.daachorse_build.proofs.Queue.{in_at, in_take}
 use Rattle.daachorse_build.proofs.Cleared.{cleared, count-cleared}
 use Rattle.daachorse_build.proofs.Passes.{chained_start, chained_more}
+use Rattle.daachorse_build.proofs.OutputChains.{ParentsFall-nil}
 use Rattle.daachorse_build.proofs.OutputLists.{listed_start, listed_more, fits_more, fail_known, none_left, order-bounds}
 use Rattle.daachorse_core.proofs.Refusals.{IsRefusal-weaker}
 use Rattle.daachorse_core.specs.Chains.{Passes}
@@ -164,6 +165,12 @@ loop-id-preserved g c =
       few = omega (arith, e.chain.few (omega (arith, i.few)));
       count = omega (arith, e.chain.count, own, i.count, count_next g.L.Ord.cmp g.met.L.Ord.total (label_exact g.L.EdgeLabel.unit g.L.Ord.cmp g.met.L.EdgeLabel.exact g.met.L.EdgeLabel.by_unit) c.args.states.now c.loop-id.states c.args.order.now c.requires.trie (stops_of c.requires.links.0 c.args.states.now) c.requires.links.1 c.loop-id.invariant.kept c.loop-id.id-index c.loop-id-test.true);
     }
+
+pub put_list-requires-clause-parents : goal.put_list-requires-clause-parents
+put_list-requires-clause-parents g c = rw c.requires.unbuilt ParentsFall-nil
+
+pub put_list-requires-clause-parent : goal.put_list-requires-clause-parent
+put_list-requires-clause-parent g c = omega arith
 
 pub put_list-requires-clause-id : goal.put_list-requires-clause-id
 put_list-requires-clause-id g c = omega (arith, c.requires.trie.trie.two, length-map c.args.states.now (λ s. s.edges))

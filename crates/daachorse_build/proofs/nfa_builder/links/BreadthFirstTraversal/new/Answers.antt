@@ -1,5 +1,5 @@
 -- One child of the root more is in the queue, with its link.
-use Rattle.std.proofs.Common.{rules, ◌≡◌, ◌<◌, [], length, get_or, take, replicate, sym, ap, ◌∙◌, inl, inr, arith}
+use Rattle.std.proofs.Common.{◌≡◌, ◌<◌, [], length, get_or, take, replicate, sym, ap, ◌∙◌, inl, inr, arith}
 use Rattle.std.specs.Map.Iter.{deref_pair}
 use Rattle.std.proofs.lemmas.Map.Iter.{iter_turn, iter_end}
 use Rattle.std.proofs.lemmas.Map.Entries.{length-values_of}
@@ -13,7 +13,7 @@ use Rattle.daachorse_build.proofs.nfa_builder.links.BreadthFirstTraversal.new.Go
 pub loop-child-init : goal.loop-child-init
 loop-child-init g c =
     let states = c.args.states.now in
-    let zeros : c.in_ok-links.links.items ≡ replicate (length states) 0 = search rules in
+    let zeros : c.in_ok-links.links.items ≡ replicate (length states) 0 = c.in_ok-links.ensures.items_if_clones_equal (λ _ e. e) in
     let start = traversal_start g.L.Ord.cmp g.met.L.Ord.total (edges_of states) c.requires (stops_of c.args.leftmost states) (length states) (sym (length-map states (λ s. s.edges))) in
     rw (zeros, c.in_ok-order.ensures.items) start
 

@@ -97,13 +97,6 @@ impl<U: AsciiFold, H: Reread<U>, F: FoldingFilter<U, H>> Filter<U, Folded<H>> fo
     }
 
     #[inline(always)]
-    fn again(&self) -> Self {
-        Self {
-            filter: self.filter.again(),
-        }
-    }
-
-    #[inline(always)]
     fn skip(&mut self, rest: &mut Folded<H>) {
         self.filter.skip_folded(rest);
     }

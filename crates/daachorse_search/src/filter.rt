@@ -26,10 +26,6 @@ pub trait Filter<U: EdgeLabel, H: Reread<U>>: Drop {
         ensures open { opened self.now → IsTrue result }
         ensures asked { IsTrue result → may_ask self.now };
 
-    /// The same filter.
-    fn again(&self) -> Self
-        ensures { result ≡ self.now };
-
     /// Moves the haystack on to the first place that passes, or to its end.
     fn skip(&mut self, rest: &mut H)
         requires { may_ask self.old }
@@ -51,11 +47,6 @@ impl<U: EdgeLabel, H: Reread<U>> Filter<U, H> for NoFilter {
     #[inline(always)]
     fn is_open(&self) -> bool {
         false
-    }
-
-    #[inline(always)]
-    fn again(&self) -> Self {
-        NoFilter
     }
 
     #[inline(always)]

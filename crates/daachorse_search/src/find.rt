@@ -174,24 +174,6 @@ impl<V: Copy, A: Automaton<V>> Stepwise<V> for FindWalk<V, A> {
     }
 
     #[inline(always)]
-    fn again(&self) -> Self {
-        FindWalk {
-            walk: self.walk.again(),
-            everywhere: self.everywhere,
-        }
-    }
-
-    #[inline(always)]
-    fn stand_at(&mut self, other: Self) {
-        // What the empty key has is the automaton's, and stays.
-        let FindWalk {
-            walk,
-            everywhere: _everywhere,
-        } = other;
-        self.walk.stand_at(walk);
-    }
-
-    #[inline(always)]
     fn walked(&self) -> A {
         self.walk.automaton()
     }

@@ -198,41 +198,11 @@ fn go_on<V: Copy, W: Stepwise<V>, H: Reread<W::Unit>, F: Filter<W::Unit, H>>(
     if !filter.is_open() {
         return read_on(walk, rest);
     }
-    skip_apart(walk, taken, rest, filter)
+    skip_on(walk, taken, rest, filter)
 }
 
-/// Does the work of [`go_on`] where the filter is open. That is done on copies by a function of its own, so
-/// that a search past a closed filter keeps what its loop uses in registers.
+/// Does the work of [`go_on`] where the filter is open: it is asked at the root, until it closes.
 #[inline(always)]
-fn skip_apart<V: Copy, W: Stepwise<V>, H: Reread<W::Unit>, F: Filter<W::Unit, H>>(
-    walk: &mut W,
-    taken: &mut Turns,
-    rest: &mut H,
-    filter: &mut F,
-) -> Option<NonZeroU32>
-    requires { IsSoundFor (F.passes filter.old) (W.content (W.automaton walk.old)) }
-    ensures passes { (w : List ℕ) → F.passes filter.new w ≡ F.passes filter.old w }
-    ensures reads { SkipsTo W.Unit.width W.automaton W.read W.found W.looks_at W.ends_at_once (F.passes filter.old) walk.old (H.rest rest.old) taken.old (W.given_from walk.new (number result)) walk.new (H.rest rest.new) taken.new }
-    ensures output { W.has_output walk.new (number result) }
-    ensures ended { IfNone result (H.rest rest.new ≡ []) }
-    ensures idle { HasNoPlace (F.passes filter.old) (F.opened filter.old) (W.read walk.old) (H.rest rest.old)
-        → (taken.new + W.turns walk.new ≡ taken.old + W.turns walk.old) × (H.rest rest.new ≡ []) }
-{
-    let mut walked = walk.again();
-    let mut turns = taken.clone().unwrap();
-    let mut left = rest.after(0);
-    let mut asked = filter.again();
-    let position = skip_on(&mut walked, &mut turns, &mut left, &mut asked);
-    walk.stand_at(walked);
-    *taken = turns;
-    *rest = left;
-    *filter = asked;
-    position
-}
-
-/// Asks the filter at the root until it closes, and reads on.
-#[cold]
-#[inline(never)]
 fn skip_on<V: Copy, W: Stepwise<V>, H: Reread<W::Unit>, F: Filter<W::Unit, H>>(
     walk: &mut W,
     taken: &mut Turns,

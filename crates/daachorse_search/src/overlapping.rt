@@ -172,19 +172,6 @@ impl<V: Copy, A: Automaton<V>> Stepwise<V> for OverlappingWalk<V, A> {
     }
 
     #[inline(always)]
-    fn again(&self) -> Self {
-        OverlappingWalk {
-            walk: self.walk.again(),
-        }
-    }
-
-    #[inline(always)]
-    fn stand_at(&mut self, other: Self) {
-        let OverlappingWalk { walk } = other;
-        self.walk.stand_at(walk);
-    }
-
-    #[inline(always)]
     fn walked(&self) -> A {
         self.walk.automaton()
     }
@@ -302,19 +289,6 @@ impl<V: Copy, A: Automaton<V>> Stepwise<V> for NoSuffixWalk<V, A> {
     #[inline(always)]
     fn give(&self, position: NonZeroU32, place: usize) -> (Match<V>, Option<NonZeroU32>) {
         (self.all.give(position, place).0, None)
-    }
-
-    #[inline(always)]
-    fn again(&self) -> Self {
-        NoSuffixWalk {
-            all: self.all.again(),
-        }
-    }
-
-    #[inline(always)]
-    fn stand_at(&mut self, other: Self) {
-        let NoSuffixWalk { all } = other;
-        self.all.stand_at(all);
     }
 
     #[inline(always)]

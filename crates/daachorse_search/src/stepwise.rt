@@ -96,15 +96,6 @@ pub trait Stepwise<V: Copy>: Drop {
             → map (shifted before) (given_from self.now position.value) ≡ result.0 ∷ map (shifted before) (given_from self.now (number result.1)) }
         ensures ends { result.0.end ≡ place };
 
-    /// The same search, at the same place.
-    fn again(&self) -> Self
-        ensures { result ≡ self.now };
-
-    /// Goes on where another search through the same automaton stands.
-    fn stand_at(&mut self, other: Self)
-        requires { automaton other ≡ automaton self.old }
-        ensures { self.new ≡ other };
-
     /// The automaton that is walked through, for a second walk beside this one.
     fn walked(&self) -> Self::Automaton
         ensures { result ≡ automaton self.now };

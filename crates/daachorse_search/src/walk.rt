@@ -189,32 +189,6 @@ impl<V: Copy, A: Automaton<V>> Walk<V, A> {
         (output.to_match(place), output.parent())
     }
 
-    /// The same walk, at the same place.
-    #[inline(always)]
-    pub fn again(&self) -> Self
-        ensures { result ≡ self.now }
-    {
-        Walk {
-            automaton: self.automaton.again(),
-            state: self.state,
-            turns: self.turns.clone().unwrap(),
-            seen: self.seen.clone().unwrap(),
-            of: PhantomData,
-        }
-    }
-
-    /// Goes on where another walk through the same automaton stands.
-    #[inline(always)]
-    pub fn stand_at(&mut self, other: Self)
-        requires { other.automaton ≡ self.old.automaton }
-        ensures { self.new ≡ other }
-    {
-        let Standing { state, turns, seen } = other.into_standing();
-        self.state = state;
-        self.turns = turns;
-        self.seen = seen;
-    }
-
     /// Where the walk stands, for [`Self::resume`].
     #[inline(always)]
     pub fn into_standing(self) -> Standing
@@ -276,7 +250,13 @@ impl<V: Copy, A: Automaton<V>> Clone for Walk<V, A> {
 
     #[inline(always)]
     fn clone(&self) -> Result<Self, AllocError> {
-        Ok(self.again())
+        Ok(Walk {
+            automaton: self.automaton.again(),
+            state: self.state,
+            turns: self.turns.clone()?,
+            seen: self.seen.clone()?,
+            of: PhantomData,
+        })
     }
 }
 

@@ -54,17 +54,6 @@ impl<'a, A: Allocator> Skipping<'a, A> {
         self.filter
     }
 
-    /// The same filter behind a gate that stands as this one does.
-    #[inline(always)]
-    fn same(&self) -> Self
-        ensures { result ≡ self.now }
-    {
-        Self {
-            filter: self.filter,
-            gate: self.gate.clone().unwrap(),
-        }
-    }
-
     /// Records at the gate that a run of the filter skipped `gain` bytes.
     #[inline(always)]
     pub fn record(&mut self, gain: usize)
@@ -103,13 +92,6 @@ impl<'a, 'h, A: Allocator> Filter<u8, Bytes<'h>> for Skipping<'a, A> {
     }
 
     #[inline(always)]
-    fn again(&self) -> Self
-        ensures { result ≡ self.now }
-    {
-        self.same()
-    }
-
-    #[inline(always)]
     fn skip(&mut self, rest: &mut Bytes<'h>)
         ensures passes { (w : List ℕ) → lets_pass self.new.filter w ≡ lets_pass self.old.filter w }
         ensures goes { IsNextPassing (λ w. lets_pass self.old.filter w) rest.old rest.new }
@@ -137,13 +119,6 @@ impl<'a, 'h, A: Allocator> Filter<char, Text<'h>> for Skipping<'a, A> {
         ensures paying { IsOpenWhilePaying self.now result }
     {
         self.is_worth()
-    }
-
-    #[inline(always)]
-    fn again(&self) -> Self
-        ensures { result ≡ self.now }
-    {
-        self.same()
     }
 
     #[inline(always)]

@@ -1,4 +1,5 @@
 pub mod Built
 pub mod Gives
 pub mod Pieces
+mod Refused
 pub mod WrittenLaws

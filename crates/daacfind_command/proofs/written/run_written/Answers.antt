@@ -1,10 +1,8 @@
 -- The text is what the automaton that the bytes begin with finds; a flush takes nothing.
-use Rattle.std.proofs.Common.{◌≡◌, ℕ, Bool, false, List, [], Option, append-nil, rules, subst, sym, ◌∙◌, IfErr, refl}
+use Rattle.std.proofs.Common.{◌≡◌, ℕ, Bool, false, List, Option, rules, sym, ◌∙◌, IfErr, refl}
 use Rattle.std.specs.Prelude.{Result}
 use Rattle.std.specs.Result.{IsErrAnd}
-use Rattle.std.specs.declared.result.Result.TheVariants.{Ok, Err}
 use Rattle.std.specs.Int.{w32}
-use Rattle.std.specs.Io.KnownBytes.{Appends}
 use Rattle.std.proofs.KnownBytes.{Appends-kept}
 use mathlib.Core.Bool.{not}
 use denote.Enum.Bare.{sameb}
@@ -21,6 +19,7 @@ use Rattle.daacfind_command.specs.declared.written.WrittenError.{WrittenError}
 use Rattle.daacfind_command.specs.declared.written.WrittenError.TheVariants.{Write}
 use Rattle.daacfind_command.specs.Modes.{found_by, kind_of_mode}
 use Rattle.daacfind_command.specs.Written.{IsTextBy, OnFailure}
+use Rattle.daacfind_command.proofs.Refused.{all_begun, at_error}
 use Rattle.daacfind_command.proofs.written.run_written.Goals as goal
 
 -- kinds that do not differ
@@ -39,12 +38,7 @@ by_given mode bytes haystack a rest k m differ given is_k is_m is not_so =
 -- where writing failed, a beginning was written
 begun : {T : Type 0} (r : Result T WrittenError) (mode : Mode) (bytes haystack : List ℕ) (old new : Option (List ℕ)) (text : List ℕ) → IsErrAnd r (λ e. e ≡ Write) → IsTextBy mode bytes haystack text → AppendsBeginning old new text
     → IfErr r (λ e. OnFailure e ((t : List ℕ) × IsTextBy mode bytes haystack t × AppendsBeginning old new t))
-begun (Ok x) mode bytes haystack old new text h by to = tt
-begun (Err e) mode bytes haystack old new text h by to =
-    subst (λ e. OnFailure e ((t : List ℕ) × IsTextBy mode bytes haystack t × AppendsBeginning old new t)) (sym h) (text, by, to)
-
-all_begun : (old new : Option (List ℕ)) (text : List ℕ) → Appends old new text → AppendsBeginning old new text
-all_begun old new text h = (text, [], sym (append-nil text), h)
+begun r mode bytes haystack old new text is by to = at_error r Write (λ e. OnFailure e ((t : List ℕ) × IsTextBy mode bytes haystack t × AppendsBeginning old new t)) is (text, by, to)
 
 pub returns-in_err-write_mode-clause-beginning : goal.returns-in_err-write_mode-clause-beginning
 returns-in_err-write_mode-clause-beginning g c =

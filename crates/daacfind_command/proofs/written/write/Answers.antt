@@ -1,11 +1,9 @@
 -- The bytes are the form of the automaton that was built; a flush takes nothing.
-use Rattle.std.proofs.Common.{◌≡◌, ℕ, ◌+◌, List, [], Option, append-nil, ap, refl, subst, sym, ◌∙◌, IfErr}
+use Rattle.std.proofs.Common.{◌≡◌, ℕ, ◌+◌, List, Option, ap, refl, subst, ◌∙◌, IfErr}
 use Rattle.std.specs.Prelude.{Result}
 use Rattle.std.specs.Result.{IsErrAnd}
-use Rattle.std.specs.declared.result.Result.TheVariants.{Ok, Err}
-use Rattle.std.specs.Io.KnownBytes.{Appends, Keeps}
+use Rattle.std.specs.Io.KnownBytes.{Keeps}
 use Rattle.std.proofs.KnownBytes.{Appends-kept, Keeps-refl}
-use Rattle.daachorse_core.specs.declared.errors.DaachorseError.{DaachorseError}
 use Rattle.daachorse_model.specs.declared.MatchKind.{MatchKind}
 use Rattle.daachorse_model.specs.Program.{pattern_lines}
 use Rattle.daachorse_bytewise.specs.Building.{IsBuildRefusal}
@@ -16,51 +14,39 @@ use Rattle.daacfind_command.specs.declared.run.RunError.TheVariants.{Build, Writ
 use Rattle.daacfind_command.specs.Modes.{kind_of_mode}
 use Rattle.daacfind_command.specs.Runs.{IfBuild, OnWrite, value_gives}
 use Rattle.daacfind_command.specs.Written.{IsFormOf}
+use Rattle.daacfind_command.proofs.Refused.{all_begun, at_error}
 use Rattle.daacfind_command.proofs.WrittenLaws.{form_of_built}
 use Rattle.daacfind_command.proofs.written.write.Goals as goal
 
--- where the build refused
-at_build : {T : Type 0} (r : Result T RunError) (refusal : DaachorseError) (P : DaachorseError → Type 0) → IsErrAnd r (λ e. e ≡ Build refusal) → P refusal → IfErr r (λ e. IfBuild e P)
-at_build (Ok x) refusal P h p = tt
-at_build (Err e) refusal P h p = subst (λ e. IfBuild e P) (sym h) p
-
--- where writing failed
-at_write : {T : Type 0} (r : Result T RunError) (X : Type 0) → IsErrAnd r (λ e. e ≡ Write) → X → IfErr r (λ e. OnWrite e X)
-at_write (Ok x) X h p = tt
-at_write (Err e) X h p = subst (λ e. OnWrite e X) (sym h) p
-
--- a beginning of the form was written then
+-- where writing failed, a beginning of the form was written
 begun : {T : Type 0} (r : Result T RunError) (mode : Mode) (patterns : List ℕ) (old new : Option (List ℕ)) (bytes : List ℕ) → IsErrAnd r (λ e. e ≡ Write) → IsFormOf mode patterns bytes → AppendsBeginning old new bytes
     → IfErr r (λ e. OnWrite e ((b : List ℕ) × IsFormOf mode patterns b × AppendsBeginning old new b))
-begun r mode patterns old new bytes h form to = at_write r ((b : List ℕ) × IsFormOf mode patterns b × AppendsBeginning old new b) h (bytes, form, to)
-
-all_begun : (old new : Option (List ℕ)) (bytes : List ℕ) → Appends old new bytes → AppendsBeginning old new bytes
-all_begun old new bytes h = (bytes, [], sym (append-nil bytes), h)
+begun r mode patterns old new bytes is form to = at_error r Write (λ e. OnWrite e ((b : List ℕ) × IsFormOf mode patterns b × AppendsBeginning old new b)) is (bytes, form, to)
 
 pub returns-in_err-automaton-clause-refusal : goal.returns-in_err-automaton-clause-refusal
 returns-in_err-automaton-clause-refusal g c =
     let P : MatchKind → Type 0 = λ k. IsBuildRefusal value_gives k (pattern_lines c.args.patterns.now) c.in_err-automaton.field-0.0 in
-    at_build c.from_residual.result c.in_err-automaton.field-0.0 (IsBuildRefusal value_gives (kind_of_mode c.args.mode) (pattern_lines c.args.patterns.now)) c.from_residual.ensures.1 (subst P c.match_kind.ensures c.in_err-automaton.ensures.refused)
+    at_error c.from_residual.result (Build c.in_err-automaton.field-0.0) (λ e. IfBuild e (IsBuildRefusal value_gives (kind_of_mode c.args.mode) (pattern_lines c.args.patterns.now))) c.from_residual.ensures.1 (subst P c.match_kind.ensures c.in_err-automaton.ensures.refused)
 
 pub returns-in_err-automaton-clause-unwritten : goal.returns-in_err-automaton-clause-unwritten
 returns-in_err-automaton-clause-unwritten g c =
     let old = g.S.Sink.taken c.args.out.now in
-    at_build c.from_residual.result c.in_err-automaton.field-0.0 (λ _. Keeps old old) c.from_residual.ensures.1 (Keeps-refl old)
+    at_error c.from_residual.result (Build c.in_err-automaton.field-0.0) (λ e. IfBuild e (λ _. Keeps old old)) c.from_residual.ensures.1 (Keeps-refl old)
 
 pub returns-in_err-automaton-clause-untried : goal.returns-in_err-automaton-clause-untried
 returns-in_err-automaton-clause-untried g c =
     let old = g.S.Sink.failures c.args.out.now in
-    at_build c.from_residual.result c.in_err-automaton.field-0.0 (λ _. old ≡ old) c.from_residual.ensures.1 refl
+    at_error c.from_residual.result (Build c.in_err-automaton.field-0.0) (λ e. IfBuild e (λ _. old ≡ old)) c.from_residual.ensures.1 refl
 
 pub returns-in_err-bytes-clause-unwritten : goal.returns-in_err-bytes-clause-unwritten
 returns-in_err-bytes-clause-unwritten g c =
     let old = g.S.Sink.taken c.args.out.now in
-    at_build c.from_residual-in_err-bytes.result c.in_err-bytes.field-0.0 (λ _. Keeps old old) c.from_residual-in_err-bytes.ensures.1 (Keeps-refl old)
+    at_error c.from_residual-in_err-bytes.result (Build c.in_err-bytes.field-0.0) (λ e. IfBuild e (λ _. Keeps old old)) c.from_residual-in_err-bytes.ensures.1 (Keeps-refl old)
 
 pub returns-in_err-bytes-clause-untried : goal.returns-in_err-bytes-clause-untried
 returns-in_err-bytes-clause-untried g c =
     let old = g.S.Sink.failures c.args.out.now in
-    at_build c.from_residual-in_err-bytes.result c.in_err-bytes.field-0.0 (λ _. old ≡ old) c.from_residual-in_err-bytes.ensures.1 refl
+    at_error c.from_residual-in_err-bytes.result (Build c.in_err-bytes.field-0.0) (λ e. IfBuild e (λ _. old ≡ old)) c.from_residual-in_err-bytes.ensures.1 refl
 
 pub returns-in_err-write_whole-clause-beginning : goal.returns-in_err-write_whole-clause-beginning
 returns-in_err-write_whole-clause-beginning g c =
@@ -70,7 +56,7 @@ returns-in_err-write_whole-clause-beginning g c =
 
 pub returns-in_err-write_whole-clause-failed : goal.returns-in_err-write_whole-clause-failed
 returns-in_err-write_whole-clause-failed g c =
-    at_write c.from_residual-in_err-write_whole.result (g.S.Sink.failures c.write_whole.new.out ≡ g.S.Sink.failures c.args.out.now + 1) c.from_residual-in_err-write_whole.ensures.1 c.in_err-write_whole.ensures.failed
+    at_error c.from_residual-in_err-write_whole.result Write (λ e. OnWrite e (g.S.Sink.failures c.write_whole.new.out ≡ g.S.Sink.failures c.args.out.now + 1)) c.from_residual-in_err-write_whole.ensures.1 c.in_err-write_whole.ensures.failed
 
 pub returns-in_err-flush-clause-beginning : goal.returns-in_err-flush-clause-beginning
 returns-in_err-flush-clause-beginning g c =
@@ -82,7 +68,7 @@ returns-in_err-flush-clause-beginning g c =
 
 pub returns-in_err-flush-clause-failed : goal.returns-in_err-flush-clause-failed
 returns-in_err-flush-clause-failed g c =
-    at_write c.from_residual-in_err-flush.result (g.S.Sink.failures c.flush.new.self ≡ g.S.Sink.failures c.args.out.now + 1) c.from_residual-in_err-flush.ensures.1 (c.in_err-flush.ensures.failures ∙ ap (λ n. n + 1) c.in_ok-write_whole.ensures.unfailed)
+    at_error c.from_residual-in_err-flush.result Write (λ e. OnWrite e (g.S.Sink.failures c.flush.new.self ≡ g.S.Sink.failures c.args.out.now + 1)) c.from_residual-in_err-flush.ensures.1 (c.in_err-flush.ensures.failures ∙ ap (λ n. n + 1) c.in_ok-write_whole.ensures.unfailed)
 
 pub returns-clause-written : goal.returns-clause-written
 returns-clause-written g c = (

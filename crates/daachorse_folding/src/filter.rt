@@ -7,9 +7,11 @@ ghost use Rattle.std.specs.Prelude.{◌≡◌, ℕ, List, encode_utf8_all};
 ghost use Rattle.daachorse_search.specs.Filters.{IsNextPassing};
 ghost use Rattle.daachorse_model.specs.Folding.{folded};
 ghost use Rattle.daachorse_model.specs.Units.{byte_width, char_width};
+ghost use Rattle.daachorse_prefilter.specs.Filters.{next_place};
 ghost use Rattle.daachorse_skipping.specs.Asked.{HasRecordedSkip, lets_pass};
 
 use daachorse_core::ascii_fold::AsciiFold;
+use daachorse_prefilter::prefilter::Prefilter;
 use daachorse_search::filter::{Filter, NoFilter};
 use daachorse_search::folded::Folded;
 use daachorse_search::haystack::{Bytes, Reread};
@@ -40,7 +42,7 @@ impl<'a, 'h, A: Allocator> FoldingFilter<u8, Bytes<'h>> for Skipping<'a, A> {
         ensures records { HasRecordedSkip byte_width self.old (folded rest.old) (folded rest.new) self.new }
     {
         if let Some(filter) = self.filter() {
-            let gain = filter.next_position_folded(rest.unfolded().bytes(), 0);
+            let gain = first_place_folded(filter, rest.unfolded().bytes());
             self.record(gain);
             *rest = rest.after(gain);
         }
@@ -100,4 +102,16 @@ impl<U: AsciiFold, H: Reread<U>, F: FoldingFilter<U, H>> Filter<U, Folded<H>> fo
     fn skip(&mut self, rest: &mut Folded<H>) {
         self.filter.skip_folded(rest);
     }
+}
+
+/// The first place of the folded slice at which the filter passes, or its length.
+///
+/// It stands by itself and is marked cold, so that the loop of a search past a closed filter keeps
+/// its registers: a search calls it once for a whole run of bytes.
+#[cold]
+#[inline(never)]
+fn first_place_folded<A: Allocator>(filter: &Prefilter<A>, haystack: &[u8]) -> usize
+    ensures { result ≡ next_place filter.now (folded haystack.now) 0 }
+{
+    filter.next_position_folded(haystack, 0)
 }

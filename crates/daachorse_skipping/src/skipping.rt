@@ -5,6 +5,7 @@
 //! skipped. No search's answer rests on the gate.
 
 ghost use Rattle.std.specs.Prelude.{◌≡◌, ℕ, List, [], ◌∷◌, ◌++◌, option_map, encode_utf8_all, IsTrue};
+ghost use Rattle.daachorse_prefilter.specs.Filters.{next_place};
 ghost use Rattle.daachorse_prefilter.specs.Gates.{HasRecorded};
 ghost use Rattle.daachorse_search.specs.Filters.{IsNextPassing};
 ghost use Rattle.daachorse_model.specs.Units.{byte_width, char_width};
@@ -98,7 +99,7 @@ impl<'a, 'h, A: Allocator> Filter<u8, Bytes<'h>> for Skipping<'a, A> {
         ensures records { HasRecordedSkip byte_width self.old rest.old rest.new self.new }
     {
         if let Some(filter) = self.filter {
-            let gain = filter.next_position(rest.bytes(), 0);
+            let gain = first_place(filter, rest.bytes());
             self.gate.record(gain);
             *rest = rest.after(gain);
         }
@@ -133,4 +134,16 @@ impl<'a, 'h, A: Allocator> Filter<char, Text<'h>> for Skipping<'a, A> {
             *rest = rest.after(gain);
         }
     }
+}
+
+/// The first place of the slice at which the filter passes, or its length.
+///
+/// It stands by itself and is marked cold, so that the loop of a search past a closed filter keeps
+/// its registers: a search calls it once for a whole run of bytes.
+#[cold]
+#[inline(never)]
+fn first_place<A: Allocator>(filter: &Prefilter<A>, haystack: &[u8]) -> usize
+    ensures { result ≡ next_place filter.now haystack.now 0 }
+{
+    filter.next_position(haystack, 0)
 }

@@ -16,22 +16,22 @@ found f h unfolded bytes r is same as_it_is = is ∙ ap (λ w. next_place f (fol
 
 pub after-requires : goal.after-requires
 after-requires g c =
-    let f = c.in-Some.filter.now in let h = folded c.args.rest.now in let r : ℕ = c.next_position_folded-gain.result in
-    let is : r ≡ next_place f h 0 = found f c.args.rest.now c.unfolded.result.now c.bytes.result.now r c.next_position_folded-gain.ensures.first c.bytes.ensures c.unfolded.ensures in
+    let f = c.in-Some.filter.now in let h = folded c.args.rest.now in let r : ℕ = c.first_place_folded-gain.result in
+    let is : r ≡ next_place f h 0 = found f c.args.rest.now c.unfolded.result.now c.bytes.result.now r c.first_place_folded-gain.ensures c.bytes.ensures c.unfolded.ensures in
     (take r h, drop r h, sym (take-append-drop r h), bytes_sized f h r is)
 
 pub returns-in-Some-clause-goes : goal.returns-in-Some-clause-goes
 returns-in-Some-clause-goes g c =
-    let f = c.in-Some.filter.now in let h = folded c.args.rest.now in let r : ℕ = c.next_position_folded-gain.result in let later = folded c.after.result in
-    let is : r ≡ next_place f h 0 = found f c.args.rest.now c.unfolded.result.now c.bytes.result.now r c.next_position_folded-gain.ensures.first c.bytes.ensures c.unfolded.ensures in
+    let f = c.in-Some.filter.now in let h = folded c.args.rest.now in let r : ℕ = c.first_place_folded-gain.result in let later = folded c.after.result in
+    let is : r ≡ next_place f h 0 = found f c.args.rest.now c.unfolded.result.now c.bytes.result.now r c.first_place_folded-gain.ensures c.bytes.ensures c.unfolded.ensures in
     let shown : c.args.self.now.filter ≡ Some f = c.filter.ensures ∙ ap (option_map (λ (x : Bor Filter). x.now)) c.in-Some.is in
     let P : Option Filter → Type 0 = λ o. IsNextPassing (λ w. lets_pass o w) h later in
     subst P (sym shown) (skipped_bytes f h later r is (c.after.ensures (take r h) (drop r h) (sym (take-append-drop r h)) (bytes_sized f h r is)))
 
 pub returns-in-Some-clause-records : goal.returns-in-Some-clause-records
 returns-in-Some-clause-records g c = λ gains before.
-    let f = c.in-Some.filter.now in let h = folded c.args.rest.now in let r : ℕ = c.next_position_folded-gain.result in let later = folded c.after.result in
-    let is : r ≡ next_place f h 0 = found f c.args.rest.now c.unfolded.result.now c.bytes.result.now r c.next_position_folded-gain.ensures.first c.bytes.ensures c.unfolded.ensures in
+    let f = c.in-Some.filter.now in let h = folded c.args.rest.now in let r : ℕ = c.first_place_folded-gain.result in let later = folded c.after.result in
+    let is : r ≡ next_place f h 0 = found f c.args.rest.now c.unfolded.result.now c.bytes.result.now r c.first_place_folded-gain.ensures c.bytes.ensures c.unfolded.ensures in
     let shown : c.args.self.now.filter ≡ Some f = c.filter.ensures ∙ ap (option_map (λ (x : Bor Filter). x.now)) c.in-Some.is in
     let recorded = c.record.ensures.gate gains before in
     let behind : later ≡ drop r h = c.after.ensures (take r h) (drop r h) (sym (take-append-drop r h)) (bytes_sized f h r is) in

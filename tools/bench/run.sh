@@ -48,7 +48,14 @@ build_links() {
         mv "$source" "${source%.in}"
     done
     cat "$top/crates.txt" "$here/crate_line" > "$work/rattle/crates.txt"
-    (cd "$work/rattle/crates/bench_c" && RT_ALLOW_C=bench_c rt lib)
+    export RT_ALLOW_C=bench_c
+    status=0
+    python3 "$top/tools/gate/over_gate.py" "$kit" "$work/rattle" bench_c || status=$?
+    case $status in
+        0) ;;
+        3) (cd "$work/rattle/crates/bench_c" && rt lib) ;;
+        *) exit 1 ;;
+    esac
     cp -r "$here/driver/src" "$work/driver/"
     sed "s|@DAACHORSE@|$crate|" "$here/driver/Cargo.toml.in" > "$work/driver/Cargo.toml"
     seed=1

@@ -35,7 +35,7 @@ fi
 status=3
 if [ "$after_gate" = yes ]; then
     status=0
-    python3 "$here/../tools/gate/over_gate.py" "$kit" "$(dirname -- "$here")" daachorse_c || status=$?
+    python3 "$here/../tools/gate/build_over.py" "$kit" "$(dirname -- "$here")" daachorse_c || status=$?
 fi
 if [ "$status" = 3 ]; then
     status=0

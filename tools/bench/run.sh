@@ -6,7 +6,7 @@
 # earlier run built there is kept.
 #
 # UNITS=bytes or UNITS=chars measures one of the automata.
-# PARTS=counts, PARTS=times or PARTS=build does a part alone. SEEDS is how many links are timed
+# PARTS=build, PARTS=counts, PARTS=memory or PARTS=times does a part alone. SEEDS is how many links are timed
 # (5), ROUNDS how many rounds in each (15), BYTES the part of a text that instructions are counted
 # in (262144). MODES names what is counted, and BUILDS of which kinds a build is. With FILTER=1 the filter
 # of places of both sides is on.
@@ -17,7 +17,7 @@ crate=$(CDPATH= cd -- "$1" && pwd)
 mkdir -p "$2"
 work=$(CDPATH= cd -- "$2" && pwd)
 shift 2
-parts=${PARTS:-build counts times}
+parts=${PARTS:-build counts memory times}
 kit=${KIT:-$(dirname -- "$(rt doc)")}
 bytes=${BYTES:-262144}
 rounds=${ROUNDS:-15}
@@ -26,36 +26,12 @@ units=${UNITS:-bytes chars}
 searches="find overlapping no_suffix longest first tokens find_source overlapping_source no_suffix_source find_stepper overlapping_stepper"
 others="list depths write read_unchecked read"
 
-# The sources of a crate, with what its checks kept where there is none yet.
-copy_crate() {
-    mkdir -p "$2"
-    for part in src specs proofs c; do
-        rm -rf "${2:?}/$part"
-        [ ! -d "$1/$part" ] || cp -rp "$1/$part" "$2/"
-    done
-    [ -d "$2/out" ] || [ ! -d "$1/out" ] || cp -rp "$1/out" "$2/"
-}
-
 # The static library, over a copy of the repository's crates, and the driver, linked SEEDS times
 # with its sections in another order.
 build_links() {
     mkdir -p "$work/driver"
-    for folder in "$top"/crates/* "$here/bench_c"; do
-        copy_crate "$folder" "$work/rattle/crates/$(basename "$folder")"
-    done
-    # The gate takes each source for one of a crate of its own, so they have other names here.
-    find "$work/rattle/crates/bench_c" -name '*.in' | while read -r source; do
-        mv "$source" "${source%.in}"
-    done
-    cat "$top/crates.txt" "$here/crate_line" > "$work/rattle/crates.txt"
-    export RT_ALLOW_C=bench_c
-    status=0
-    python3 "$top/tools/gate/over_gate.py" "$kit" "$work/rattle" bench_c || status=$?
-    case $status in
-        0) ;;
-        3) (cd "$work/rattle/crates/bench_c" && rt lib) ;;
-        *) exit 1 ;;
-    esac
+    # It calls a function of C's, which marks where each build and each round begins and ends.
+    RT_ALLOW_C=bench_c "$top/tools/gate/build_beside.sh" "$here/bench_c" "$work/rattle"
     cp -r "$here/driver/src" "$work/driver/"
     sed "s|@DAACHORSE@|$crate|" "$here/driver/Cargo.toml.in" > "$work/driver/Cargo.toml"
     seed=1
@@ -74,6 +50,24 @@ build_links() {
 instructions() {
     valgrind --tool=callgrind --callgrind-out-file=/dev/null "$work/driver-1" "$@" 2>&1 >/dev/null |
         sed -n 's/.*Collected : //p'
+}
+
+# The most bytes of memory at once in one run of the driver.
+memory() {
+    valgrind --tool=dhat --dhat-out-file=/dev/null "$work/driver-1" "$@" 2>&1 >/dev/null |
+        sed -n 's/.*At t-gmax: *\([0-9,]*\) bytes.*/\1/p' | tr -d ,
+}
+
+# memory_all UNIT WORDS: what a build of either side takes at its most, beside the words.
+memory_all() {
+    printf 'what\tours most bytes\ttheirs\tratio\n'
+    for mode in ${BUILDS-find longest first}; do
+        words=$(memory builds "$1" "$mode" "$2" 0 0)
+        ours=$(($(memory builds "$1" "$mode" "$2" 1 0) - words))
+        theirs=$(($(memory builds "$1" "$mode" "$2" 0 1) - words))
+        awk -v n="build for $mode" -v o="$ours" -v t="$theirs" \
+            'BEGIN { printf "%s\t%d\t%d\t%.3f\n", n, o, t, o / t }'
+    done
 }
 
 # count NAME SIZE HEAD..: instructions of one more round or build of either side, each divided by SIZE.
@@ -136,6 +130,7 @@ while [ $# -ge 2 ]; do
     for unit in $units; do
         echo "# $(basename "$1") in $(basename "$2"), $unit"
         case " $parts " in *" counts "*) count_all "$unit" "$1" "$2" ;; esac
+        case " $parts " in *" memory "*) memory_all "$unit" "$1" ;; esac
         case " $parts " in *" times "*) time_links "$unit" "$1" "$2" ;; esac
     done
     shift 2

@@ -1,10 +1,13 @@
 #!/usr/bin/env python3
 """sets.py OUT SEED [BYTES]
 
-Makes sets of words with a text for a run of the benchmark, the same for the same SEED: rules.50, rules.300
-and rules.3000, each a list of rules of a log, one a line, and log.txt, a log of BYTES bytes (1000000) in which
-one line of fifty has a rule of the smallest list and one of ten a rule of the largest.
+Makes sets of words with a text for a run of the benchmark, the same for the same SEED. rules.50, rules.300
+and rules.3000 are lists of rules of a log, one a line, and log.txt is a log of BYTES bytes (1000000) in which
+one line of fifty has a rule of the smallest list and one of ten a rule of the largest. words.50, words.1000 and
+words.20000 are lists of made-up words, one a line, and text.txt is a text of BYTES bytes of the words of the
+largest list, a word the rarer the further down it stands.
 """
+import itertools
 import os
 import random
 import sys
@@ -23,6 +26,9 @@ PLAIN = [
 SUBJECTS = ["connection", "password", "certificate", "checksum", "deadline", "segment", "replica", "quota", "lease", "handshake"]
 FAULTS = ["refused", "expired", "mismatch", "exceeded", "not found", "denied", "corrupt", "timed out", "lost", "reset by peer"]
 LETTERS = "abcdefghijklmnopqrstuvwxyz"
+ONSETS = ["", "b", "c", "d", "f", "g", "l", "m", "n", "p", "r", "s", "st", "t", "tr", "v"]
+VOWELS = ["a", "e", "i", "o", "u", "ea"]
+ENDS = ["", "", "n", "r", "s", "t"]
 
 
 def word(chance, least=3, most=9):
@@ -81,6 +87,31 @@ def log(chance, size, few, many):
     return "".join(lines)[:size]
 
 
+def vocabulary(chance, count):
+    """Words of one to five syllables."""
+    made = {}
+    while len(made) < count:
+        syllables = [chance.choice(ONSETS) + chance.choice(VOWELS) + chance.choice(ENDS) for _ in range(chance.randint(1, 5))]
+        made["".join(syllables)] = True
+    return list(made)
+
+
+def text(chance, size, words):
+    """Lines of words, of which the n-th is drawn in proportion to 1 / n."""
+    weights = list(itertools.accumulate(1 / (rank + 1) for rank in range(len(words))))
+    lines, length = [], 0
+    while length < size:
+        line = " ".join(chance.choices(words, cum_weights=weights, k=12)) + "\n"
+        lines.append(line)
+        length += len(line)
+    return "".join(lines)[:size]
+
+
+def write(path, text):
+    with open(path, "w") as file:
+        file.write(text)
+
+
 def main():
     out, seed = sys.argv[1], int(sys.argv[2])
     size = int(sys.argv[3]) if len(sys.argv) > 3 else 1000000
@@ -88,10 +119,12 @@ def main():
     os.makedirs(out, exist_ok=True)
     many = rules(chance, 3000)
     for count in (50, 300, 3000):
-        with open(f"{out}/rules.{count}", "w") as file:
-            file.write("".join(f"{line}\n" for line in many[:count]))
-    with open(f"{out}/log.txt", "w") as file:
-        file.write(log(chance, size, many[:50], many))
+        write(f"{out}/rules.{count}", "".join(f"{line}\n" for line in many[:count]))
+    write(f"{out}/log.txt", log(chance, size, many[:50], many))
+    words = vocabulary(chance, 20000)
+    for count in (50, 1000, 20000):
+        write(f"{out}/words.{count}", "".join(f"{it}\n" for it in words[:: len(words) // count]))
+    write(f"{out}/text.txt", text(chance, size, words))
 
 
 main()

@@ -11,25 +11,7 @@ mkdir -p "$1"
 work=$(CDPATH= cd -- "$1" && pwd)
 kit=${KIT:-$(dirname -- "$(rt doc)")}
 
-# The sources of a crate, with what its checks kept where there is none yet.
-copy_crate() {
-    mkdir -p "$2"
-    for part in src specs proofs; do
-        rm -rf "${2:?}/$part"
-        [ ! -d "$1/$part" ] || cp -rp "$1/$part" "$2/"
-    done
-    [ -d "$2/out" ] || [ ! -d "$1/out" ] || cp -rp "$1/out" "$2/"
-}
-
-for folder in "$top"/crates/* "$here/mutate_c"; do
-    copy_crate "$folder" "$work/rattle/crates/$(basename "$folder")"
-done
-# The gate takes each .rt file for one of a crate of its own, so the sources have other names here.
-find "$work/rattle/crates/mutate_c" -name '*.in' | while read -r source; do
-    mv "$source" "${source%.in}"
-done
-cat "$top/crates.txt" "$here/crate_line" > "$work/rattle/crates.txt"
-(cd "$work/rattle/crates/mutate_c" && rt lib)
+"$top/tools/gate/build_beside.sh" "$here/mutate_c" "$work/rattle"
 mkdir -p "$work/driver"
 cp -r "$here/driver/src" "$work/driver/"
 cp "$here/driver/Cargo.toml.in" "$work/driver/Cargo.toml"

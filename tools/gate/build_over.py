@@ -1,0 +1,30 @@
+"""Builds the static library or the program of a crate over the libraries that `rt ci` left in crates/*/out/rlib.
+
+    build_over.py KIT ROOT CRATE
+
+`rt lib` and `rt run` take no library that the gate left, and would prove each of them again. Here the crate alone is
+proved again. It leaves out/libCRATE.a or the program out/CRATE. Status 3 says that some library is not the gate's:
+`rt lib` or `rt run` is to be used then.
+"""
+
+import os
+import sys
+
+kit, root, name = sys.argv[1:]
+sys.dont_write_bytecode = True
+sys.path.insert(0, f"{kit}/bin")
+
+import rtlib
+
+crate = next(it for it in rtlib.crates_below(root) if it.name == name)
+# The gate writes no stamp, and other commands always do. Libraries of the two do not fit together.
+if not all(os.path.isdir(it.rlib) and not os.path.exists(f"{os.path.dirname(it.rlib)}/stamp") for it in crate.below()):
+    sys.exit(3)
+os.makedirs(f"{crate.folder}/out", exist_ok=True)
+made = f"out/{name}.o" if crate.is_program else f"out/lib{name}.a"
+words = crate.words(["--jobs", "1"], keeps=False)
+failed = crate.call(rtlib.RATTLE, "build", *words, "--toolchain", f"{kit}/toolchain", "--backend", "llvm", "-o", made)
+if not failed and crate.is_program:
+    words = ["--target", "x86_64-unknown-linux-gnu", "--toolchain", f"{kit}/toolchain", "-o", f"out/{name}", made]
+    failed = crate.call(f"{kit}/bin/rattle-link", *words, f"{kit}/c/libos_c.a", f"{kit}/c/liblibc_c.a")
+sys.exit(1 if failed else 0)

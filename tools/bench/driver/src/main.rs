@@ -26,17 +26,15 @@ pub struct Words {
 }
 
 impl Words {
-    /// The lines of a file.
+    /// The lines of a file, which is UTF-8.
     fn read(path: &str) -> Words {
         let mut words = Words {
             bytes: Vec::new(),
             ends: Vec::new(),
         };
-        for line in read(path)
-            .split(|b| *b == b'\n')
-            .filter(|line| !line.is_empty())
-        {
-            words.bytes.extend_from_slice(line);
+        let text = String::from_utf8(read(path)).expect("the words are UTF-8");
+        for line in text.split('\n').filter(|line| !line.is_empty()) {
+            words.bytes.extend_from_slice(line.as_bytes());
             words.ends.push(words.bytes.len() as u32);
         }
         words

@@ -5,7 +5,7 @@ use daachorse::{
     CharwiseDoubleArrayAhoCorasick, CharwiseDoubleArrayAhoCorasickBuilder, DoubleArrayAhoCorasick,
     DoubleArrayAhoCorasickBuilder, Match, MatchKind,
 };
-use std::str::from_utf8;
+use std::str::{from_utf8, from_utf8_unchecked};
 
 #[derive(Clone, Copy, PartialEq, Eq)]
 pub enum Unit {
@@ -118,10 +118,7 @@ impl Automaton {
     }
 }
 
-fn text_of(bytes: &[u8]) -> &str {
-    from_utf8(bytes).expect("the words and the text are UTF-8")
-}
-
+/// An automaton of the words, which are those of a `Words`.
 #[inline(never)]
 pub fn build(words: &[&[u8]], unit: Unit, mode: Mode, filter: bool) -> Automaton {
     match unit {
@@ -132,27 +129,39 @@ pub fn build(words: &[&[u8]], unit: Unit, mode: Mode, filter: bool) -> Automaton
         }
         Unit::Char => {
             let builder = CharwiseDoubleArrayAhoCorasickBuilder::new().match_kind(mode.kind());
-            let built = builder.use_prefilter(filter).build(words.iter().map(|word| text_of(word)));
+            // SAFETY: the words of a `Words` are UTF-8. Our side has them as texts ahead of a build too.
+            let texts = words.iter().map(|word| unsafe { from_utf8_unchecked(word) });
+            let built = builder.use_prefilter(filter).build(texts);
             Automaton::Chars(built.expect("the words build"), Vec::new(), Vec::new())
         }
     }
 }
 
 /// Makes what rounds need beside the automaton: its written form, and the characters of the text.
+///
+/// A round takes the text as it is. So that no round looks at it for this, it is seen here to be UTF-8.
 pub fn prepare(automaton: &mut Automaton, text: &[u8], mode: Mode) {
     let reads = matches!(mode, Mode::Read | Mode::ReadUnchecked);
     match automaton {
         Automaton::Bytes(automaton, written) if reads => *written = automaton.serialize(),
-        Automaton::Chars(automaton, written, _) if reads => *written = automaton.serialize(),
-        Automaton::Chars(_, _, units) => *units = text_of(text).chars().collect(),
-        _ => {}
+        Automaton::Bytes(..) => {}
+        Automaton::Chars(automaton, written, units) => {
+            *units = from_utf8(text).expect("the text is UTF-8").chars().collect();
+            if reads {
+                *written = automaton.serialize();
+            }
+        }
     }
 }
 
 pub fn round(automaton: &mut Automaton, text: &[u8], mode: Mode) -> Tally {
     match automaton {
         Automaton::Bytes(automaton, written) => bytes::round(automaton, written, text, text, mode),
-        Automaton::Chars(automaton, written, units) => chars::round(automaton, written, text_of(text), units, mode),
+        Automaton::Chars(automaton, written, units) => {
+            // SAFETY: `prepare` has seen that the text is UTF-8.
+            let text = unsafe { from_utf8_unchecked(text) };
+            chars::round(automaton, written, text, units, mode)
+        }
     }
 }
 

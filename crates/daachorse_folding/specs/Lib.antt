@@ -1,3 +1,4 @@
+pub mod Haystacks
 pub mod Readings
 pub mod Steppers
 pub mod SourceSearches

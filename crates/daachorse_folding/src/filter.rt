@@ -10,6 +10,7 @@ ghost use Rattle.daachorse_model.specs.Units.{byte_width, char_width};
 ghost use Rattle.daachorse_prefilter.specs.Filters.{next_place};
 ghost use Rattle.daachorse_skipping.specs.Asked.{HasRecordedSkip, lets_pass};
 
+use crate::reading::AsRead;
 use daachorse_core::ascii_fold::AsciiFold;
 use daachorse_prefilter::prefilter::Prefilter;
 use daachorse_search::filter::{Filter, NoFilter};
@@ -101,6 +102,52 @@ impl<U: AsciiFold, H: Reread<U>, F: FoldingFilter<U, H>> Filter<U, Folded<H>> fo
     #[inline(always)]
     fn skip(&mut self, rest: &mut Folded<H>) {
         self.filter.skip_folded(rest);
+    }
+}
+
+/// A filter that is asked over the haystack as it is read.
+#[derive(Drop)]
+pub struct FilterAsRead<F> {
+    filter: F,
+}
+
+impl<F> Model for FilterAsRead<F> {
+    ghost Value = { F };
+
+    ghost view = { λ s. s.filter };
+}
+
+impl<F> FilterAsRead<F> {
+    /// The filter, to be asked over the haystack as it is read.
+    #[inline(always)]
+    pub fn new(filter: F) -> Self
+        ensures { result ≡ filter }
+    {
+        Self { filter }
+    }
+}
+
+impl<U: AsciiFold, H: Reread<U>, F: FoldingFilter<U, H>> Filter<U, AsRead<H>> for FilterAsRead<F> {
+    ghost passes = { F.passes };
+
+    ghost opened = { F.opened };
+
+    ghost may_ask = { F.may_ask };
+
+    #[inline(always)]
+    fn is_open(&self) -> bool {
+        self.filter.is_open()
+    }
+
+    #[inline(always)]
+    fn skip(&mut self, rest: &mut AsRead<H>) {
+        if !rest.folds {
+            self.filter.skip(&mut rest.units);
+            return;
+        }
+        let mut folded = Folded::new(rest.units.after(0));
+        self.filter.skip_folded(&mut folded);
+        rest.units = folded.unfolded().after(0);
     }
 }
 

@@ -1,6 +1,6 @@
 //! Searches that read what they are given as it is, or without regard to the case of ASCII letters.
 //!
-//! Each looks once a call whether it folds, never once a unit. The layers above may rely on each
+//! Each asks once a call whether it folds, and a stepper at each unit. The layers above may rely on each
 //! giving what the search of its name gives over its haystack as it is read.
 #![tactic(auto)]
 

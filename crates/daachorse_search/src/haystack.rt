@@ -15,6 +15,13 @@ pub trait Haystack<U: EdgeLabel>: Iterator<Item = U> {
     /// The units that are still to come.
     ghost rest: { Self → List ℕ };
 
+    /// Whether each unit is folded. It is for speed alone: whoever reads on may ask once, ahead of a loop,
+    /// and no clause rests on the answer.
+    #[inline(always)]
+    fn is_folded(&self) -> bool {
+        false
+    }
+
     // It gives the units that it shows, may be called at any time, and ends.
     ghost gives: { (s : Self) (r : Option U) (t : Self) → Self.next_gives s r t → YieldsFirstBy U.unit rest s r t };
 

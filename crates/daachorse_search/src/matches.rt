@@ -270,7 +270,13 @@ fn read_on<V: Copy, W: Stepwise<V>, H: Haystack<W::Unit>>(
     ensures fewer { length (H.rest rest.new) ≤ length (H.rest rest.old) }
     ensures over { H.rest rest.old ≡ [] → walk.new ≡ walk.old }
 {
-    // It is asked ahead of the loop, so that the loop is compiled for each answer and asks no more.
+    // Both are asked ahead of the loop, so that the loop is compiled for each answer and asks no more.
+    if rest.is_folded() {
+        if walk.finds_everywhere() {
+            return read_units(walk, rest);
+        }
+        return read_units(walk, rest);
+    }
     if walk.finds_everywhere() {
         return read_units(walk, rest);
     }

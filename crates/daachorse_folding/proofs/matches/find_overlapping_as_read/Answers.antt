@@ -9,4 +9,4 @@ pub returns-clause-left : goal.returns-clause-left
 returns-clause-left g c =
     let A = g.A.Automaton in let unit = g.A.Unit.EdgeLabel in let read = as_read c.args.folds (g.H.Haystack.rest c.args.haystack) in
     let found = λ (a : g.row.A.Denot). at_each_end (all_found unit.width A.content a) [] read in
-    c.new-2.ensures.left ∙ ap found c.new.ensures.automaton
+    c.search_as_read.ensures.left ∙ ap found c.new.ensures.automaton

@@ -1,8 +1,11 @@
 -- A text's bytes are those of its characters in a row, so the first characters and the others stand apart in it.
-use Rattle.std.proofs.Common.{◌≡◌, ℕ, Option, Some, None, List, [], ◌∷◌, ◌++◌, length, drop, true, refl, sym, ap, ◌∙◌, subst, arith}
-use Rattle.std.proofs.lemmas.List.{drop_at}
-use Rattle.std.proofs.lemmas.Str.{chars-nil, chars-encodes, encodes-append, encodes-chars, scalars-chars, chars_past_char, IsUtf8-past_char, IsCharBoundary-at_seam}
-use Rattle.std.proofs.Math.Utf8.{scalar, scalars, encodes}
+use Rattle.std.proofs.Common.{◌≡◌, ◌+◌, ◌-◌, ◌<◌, ◌≤◌, ℕ, Option, Some, None, List, [], ◌∷◌, ◌++◌, length, length-append, drop, true, refl, sym, ap, ◌∙◌, subst, arith}
+use Rattle.std.proofs.lemmas.List.{drop_at, drop-drop, length-drop, nil_from_length}
+use Rattle.std.proofs.lemmas.Str.{chars-nil, chars-encodes, encode_ascii, encodes-append, encodes-chars, length-encode, scalars-chars, chars_past_char, drop_past_char, IsUtf8-drop, IsUtf8-past_char, IsCharBoundary-at_seam}
+use Rattle.std.proofs.Math.ListN.{get_or}
+use Rattle.std.proofs.Math.Utf8.{scalar, scalars, encode, encodes}
+use Rattle.std.specs.Char.{len_utf8}
+use Rattle.daachorse_model.proofs.SlowLemmas.{drop-next}
 use Rattle.std.specs.Iterator.{YieldsFirst}
 use Rattle.std.specs.Str.{chars, IsUtf8, IsCharBoundary}
 use Rattle.std.specs.Str.Iter.{chars_rest, chars_steps}
@@ -35,15 +38,55 @@ seam bs front back n u parts sized =
       rest = ap chars rest ∙ chars-encodes back scalar;
     }
 
-empty : (bs : List ℕ) → length bs ≡ 0 → chars bs ≡ []
-empty [] e = chars-nil
-empty (b ∷ bs) e = absurd (omega (arith, e))
+-- a text from a place on, and behind so many bytes more
+pub record IsFrom (bs : List ℕ) (later : ℕ) (back : List ℕ) : Type 0 where
+  pub inside : later ≤ length bs
+  pub utf8 : IsUtf8 (drop later bs)
+  pub rest : chars (drop later bs) ≡ back
 
--- a call takes the first character off the text, whatever the characters that it is seen as
-pub steps_first : (s t : Chars) (r : Option ℕ) (seen : List ℕ) → chars (chars_rest s) ≡ seen → IsUtf8 (chars_rest s) → chars_steps s r t → YieldsFirst (λ (w : List ℕ). w) seen r (chars (chars_rest t))
-steps_first s t None seen is u h = let none = empty (chars_rest s) h.0.0 in (sym is ∙ none, ap (λ (x : Chars). chars (chars_rest x)) h.0.1 ∙ none)
-steps_first s t (Some c) seen is u h = sym is ∙ chars_past_char (chars_rest s) (chars_rest t) c u h.0
+pub past_front : (bs front back : List ℕ) (given n : ℕ) → given ≤ length bs → IsUtf8 (drop given bs) → chars (drop given bs) ≡ front ++ back → n ≡ size char_width front → IsFrom bs (given + n) back
+past_front bs front back given n h u parts sized =
+    let cut = seam (drop given bs) front back n u parts sized in
+    record {
+      inside = omega (arith, h, cut.boundary.0, length-drop given bs);
+      utf8 = subst IsUtf8 (drop-drop n given bs) (IsUtf8-drop (drop given bs) n u cut.boundary);
+      rest = ap chars (sym (drop-drop n given bs)) ∙ cut.rest;
+    }
 
-pub steps_utf8 : (s t : Chars) (r : Option ℕ) → IsUtf8 (chars_rest s) → chars_steps s r t → IsUtf8 (chars_rest t)
-steps_utf8 s t None u h = let P : Chars → Type 0 = λ x. IsUtf8 (chars_rest x) in subst P (sym h.0.1) u
-steps_utf8 s t (Some c) u h = IsUtf8-past_char (chars_rest s) (chars_rest t) c u h.0
+-- a text from a place on, and behind its first character
+pub record IsPast (bs : List ℕ) (given c later : ℕ) : Type 0 where
+  pub inside : later ≤ length bs
+  pub utf8 : IsUtf8 (drop later bs)
+  pub first : chars (drop given bs) ≡ c ∷ chars (drop later bs)
+
+pub past_char : (bs rest : List ℕ) (given c later : ℕ) → given ≤ length bs → IsUtf8 (drop given bs) → drop given bs ≡ encode c ++ rest → later + length rest ≡ length bs → IsPast bs given c later
+past_char bs rest given c later h u parts sized =
+    let at : later ≡ given + len_utf8 c = omega (arith, h, sized, length-drop given bs, ap length parts, length-append (encode c) rest, length-encode c) in
+    let same : drop later bs ≡ rest = ap (λ n. drop n bs) at ∙ drop_past_char bs rest given c parts in
+    record {
+      inside = omega (arith, sized);
+      utf8 = subst IsUtf8 (sym same) (IsUtf8-past_char (drop given bs) rest c u parts);
+      first = chars_past_char (drop given bs) rest c u parts ∙ ap (λ w. c ∷ chars w) (sym same);
+    }
+
+-- an ASCII character is its byte
+pub past_ascii : (bs : List ℕ) (given first : ℕ) → given < length bs → IsUtf8 (drop given bs) → first ≡ get_or bs given 0 → first < 128 → IsPast bs given first (given + 1)
+past_ascii bs given first h u is low =
+    past_char bs (drop (given + 1) bs) given first (given + 1) (omega (arith, h)) u
+    (drop-next bs given h ∙ ap (λ b. b ∷ drop (given + 1) bs) (sym is) ∙ ap (λ w. w ++ drop (given + 1) bs) (sym (encode_ascii first low)))
+    (omega (arith, h, length-drop (given + 1) bs))
+
+-- a call of the string's characters takes the first one off, and what they leave is behind it
+pub past_steps : (bs seen : List ℕ) (given : ℕ) (s t : Chars) (r : Option ℕ) (left : List ℕ) → given ≤ length bs → IsUtf8 (drop given bs) → chars (drop given bs) ≡ seen → chars_rest s ≡ drop given bs → chars_steps s r t → left ≡ chars_rest t
+    → let later = length bs - length left in (later ≤ length bs) × IsUtf8 (drop later bs) × YieldsFirst (λ (w : List ℕ). w) seen r (chars (drop later bs))
+past_steps bs seen given s t None left h u shown is steps rests =
+    let none : drop given bs ≡ [] = nil_from_length (drop given bs) (omega (arith, steps.0.0, ap length is)) in
+    let same : given ≡ length bs - length left = omega (arith, h, length-drop given bs, ap length is, ap length rests, ap (λ (x : Chars). length (chars_rest x)) steps.0.1) in
+    let P : ℕ → Type 0 = λ n. (n ≤ length bs) × IsUtf8 (drop n bs) × YieldsFirst (λ (w : List ℕ). w) seen None (chars (drop n bs)) in
+    let empty : chars (drop given bs) ≡ [] = ap chars none ∙ chars-nil in
+    subst P same (h, u, (sym shown ∙ empty, empty))
+past_steps bs seen given s t (Some c) left h u shown is steps rests =
+    let parts : drop given bs ≡ encode c ++ left = sym is ∙ steps.0 ∙ ap (λ w. encode c ++ w) (sym rests) in
+    let sized : length bs - length left + length left ≡ length bs = omega (arith, h, length-drop given bs, ap length parts, length-append (encode c) left) in
+    let past = past_char bs left given c (length bs - length left) h u parts sized in
+    (past.inside, past.utf8, sym shown ∙ past.first)

@@ -9,24 +9,24 @@ ghost use Rattle.daachorse_model.specs.Units.{size, char_width};
 
 use daachorse_search::haystack::{Haystack, Reread};
 use std::marker::Model;
-use std::str::Chars;
 
 /// The characters of a string.
 #[derive(Drop)]
 pub struct Text<'a> {
-    rest: Chars<'a>,
+    text: &'a str,
+    // How many of its bytes were given, as whole characters.
+    given: usize,
 }
 
 impl<'a> Model for Text<'a> {
-    ghost use Rattle.std.specs.Prelude.{List, ℕ};
+    ghost use Rattle.std.specs.Prelude.{List, ℕ, ◌≤◌, drop, length};
     ghost use Rattle.std.specs.Str.{IsUtf8, chars};
-    ghost use Rattle.std.specs.Str.Iter.{chars_rest};
 
     ghost Value = { List ℕ };
 
-    ghost view = { λ s. chars (chars_rest s.rest) };
+    ghost view = { λ s. chars (drop s.given s.text.now) };
 
-    ghost invariant = { λ s. IsUtf8 (chars_rest s.rest) };
+    ghost invariant = { λ s. (s.given ≤ length s.text.now) × IsUtf8 (drop s.given s.text.now) };
 }
 
 impl<'a> Text<'a> {
@@ -38,7 +38,8 @@ impl<'a> Text<'a> {
     {
         let _len = haystack.len();
         Text {
-            rest: haystack.chars(),
+            text: haystack,
+            given: 0,
         }
     }
 
@@ -47,7 +48,7 @@ impl<'a> Text<'a> {
     pub fn text(&self) -> &'a str
         ensures { chars result.now ≡ self.now }
     {
-        self.rest.as_str()
+        &self.text[self.given..]
     }
 }
 
@@ -62,7 +63,19 @@ impl<'a> Iterator for Text<'a> {
 
     #[inline(always)]
     fn next(&mut self) -> Option<char> {
-        self.rest.next()
+        if self.given == self.text.len() {
+            return None;
+        }
+        let first = self.text.as_bytes()[self.given];
+        // An ASCII character is its byte, and takes no more work.
+        if first < 0x80 {
+            self.given += 1;
+            return Some(char::from(first));
+        }
+        let mut rest = self.text[self.given..].chars();
+        let character = rest.next();
+        self.given = self.text.len() - rest.as_str().len();
+        character
     }
 }
 
@@ -79,12 +92,14 @@ impl<'a> Haystack<char> for Text<'a> {
 impl<'a> Reread<char> for Text<'a> {
     #[inline(always)]
     fn after(&self, bytes: usize) -> Self {
-        let rest = &self.rest.as_str()[bytes..];
-        Text { rest: rest.chars() }
+        Text {
+            text: self.text,
+            given: self.given + bytes,
+        }
     }
 
     #[inline(always)]
     fn left(&self) -> usize {
-        self.rest.as_str().len()
+        self.text.len() - self.given
     }
 }

@@ -1,13 +1,17 @@
-use Rattle.std.proofs.Common.{◌∙◌, ap}
-use Rattle.std.specs.Str.{chars}
-use Rattle.daachorse_text.proofs.TextLemmas.{seam}
+use Rattle.std.proofs.Common.{◌∙◌, arith}
+use Rattle.daachorse_text.proofs.TextLemmas.{past_front}
 use Rattle.daachorse_text.proofs.text.TextRereadChar.after.Goals as goal
 
-pub range_from-rest-requires : goal.range_from-rest-requires
-range_from-rest-requires c = λ some.
-    (seam c.as_str.result.now c.requires.0 c.requires.1 c.args.bytes c.as_str.utf8 (ap chars c.as_str.ensures ∙ c.self.view_is ∙ c.requires.2) c.requires.3).boundary
+pub overflow_add-result : goal.overflow_add-result
+overflow_add-result c =
+    let past = past_front c.self.inside.text.now c.requires.0 c.requires.1 c.self.inside.given c.args.bytes c.self.invariant.0 c.self.invariant.1 (c.self.view_is ∙ c.requires.2) c.requires.3 in
+    omega (arith, past.inside, c.self.told)
+
+pub invariant_of-result : goal.invariant_of-result
+invariant_of-result c =
+    let past = past_front c.self.inside.text.now c.requires.0 c.requires.1 c.self.inside.given c.args.bytes c.self.invariant.0 c.self.invariant.1 (c.self.view_is ∙ c.requires.2) c.requires.3 in
+    (past.inside, past.utf8)
 
 pub returns : goal.returns
 returns c = λ front back parts sized.
-    ap chars (c.chars.ensures.rest ∙ c.range_from-rest.ensures.value)
-    ∙ (seam c.as_str.result.now front back c.args.bytes c.as_str.utf8 (ap chars c.as_str.ensures ∙ c.self.view_is ∙ parts) sized).rest
+    (past_front c.self.inside.text.now front back c.self.inside.given c.args.bytes c.self.invariant.0 c.self.invariant.1 (c.self.view_is ∙ parts) sized).rest

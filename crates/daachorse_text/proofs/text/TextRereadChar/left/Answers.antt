@@ -1,8 +1,11 @@
-use Rattle.std.proofs.Common.{sym, ap, ◌∙◌}
-use Rattle.std.specs.Str.{chars}
+use Rattle.std.proofs.Common.{drop, sym, ap, ◌∙◌}
+use Rattle.std.proofs.lemmas.List.{length-drop}
 use Rattle.daachorse_model.specs.Units.{size, char_width}
 use Rattle.daachorse_text.proofs.TextLemmas.{size-chars}
 use Rattle.daachorse_text.proofs.text.TextRereadChar.left.Goals as goal
 
 pub returns : goal.returns
-returns c = sym (size-chars c.as_str.result.now c.as_str.utf8) ∙ ap (size char_width) (ap chars c.as_str.ensures ∙ c.self.view_is)
+returns c =
+    sym (length-drop c.self.inside.given c.self.inside.text.now)
+    ∙ sym (size-chars (drop c.self.inside.given c.self.inside.text.now) c.self.invariant.1)
+    ∙ ap (size char_width) c.self.view_is

@@ -44,7 +44,7 @@ use crate::bytewise::iter::{
 use crate::bytewise::states::States;
 use daachorse_core::MatchKind;
 use daachorse_core::errors::Result;
-use daachorse_folding::leftmost::LeftmostMatchesAsRead;
+use daachorse_folding::leftmost::leftmost_as_read;
 use daachorse_folding::matches::{
     find_as_read, find_overlapping_as_read, find_overlapping_no_suffix_as_read,
 };
@@ -566,7 +566,7 @@ impl<V: Copy, A: Allocator> DoubleArrayAhoCorasick<V, A> {
             (leftmost byte_width (dictionary_of self.entry.now) (as_read self.entry.now.folds haystack.entry.now)) result }
         ensures asks { BeginsAsking self.entry.now.filter result.filter }
     {
-        LeftmostMatchesAsRead::new(
+        leftmost_as_read(
             self.states.leftmost(),
             Bytes::new(haystack),
             self.skipping(),

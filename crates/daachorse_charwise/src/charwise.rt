@@ -47,7 +47,7 @@ use crate::charwise::iter::{
 use crate::charwise::states::States;
 use daachorse_core::MatchKind;
 use daachorse_core::errors::Result;
-use daachorse_folding::leftmost::LeftmostMatchesAsRead;
+use daachorse_folding::leftmost::leftmost_as_read;
 use daachorse_folding::matches::{
     find_as_read, find_overlapping_as_read, find_overlapping_no_suffix_as_read,
 };
@@ -582,7 +582,7 @@ impl<V: Copy, A: Allocator> CharwiseDoubleArrayAhoCorasick<V, A> {
             (leftmost char_width (dictionary_of self.entry.now) (as_read self.entry.now.folds (chars haystack.entry.now))) result }
         ensures asks { BeginsAsking self.entry.now.filter result.filter }
     {
-        LeftmostMatchesAsRead::new(
+        leftmost_as_read(
             self.states.leftmost(),
             Text::new(haystack),
             self.skipping(),

@@ -12,8 +12,8 @@ pub record ReadUnits (H : Type 0) : Type 0 where
 
 -- what an item is read as
 abbrev pub item_as_read : {U : Type 0} → Bool → (U → U) → U → U
-item_as_read true fold u = fold u
-item_as_read false fold u = u
+item_as_read true fold = fold
+item_as_read false fold = λ u. u
 
 -- a call gave an item of the haystack as it is read
 abbrev pub GivesAsRead : {H U : Type 0} → (U → U) → (H → Option U → H → Type 0) → ReadUnits H → Option U → ReadUnits H → Type 0

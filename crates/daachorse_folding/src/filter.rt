@@ -1,7 +1,7 @@
-//! Filters that can be asked over a folded haystack.
+//! Filters that can be asked over a haystack as it is read.
 //!
-//! The layers above may rely on a folded filter passing where its filter does, over the units of its
-//! haystack folded, and on the filter over pairs of bytes being such a one for slices and texts.
+//! The layers above may rely on such a filter passing where its filter does, over the units of its
+//! haystack as they are read, and on the filter over pairs of bytes being such a one for slices and texts.
 
 ghost use Rattle.std.specs.Prelude.{◌≡◌, ℕ, List, encode_utf8_all};
 ghost use Rattle.daachorse_search.specs.Filters.{IsNextPassing};
@@ -14,7 +14,7 @@ use crate::reading::AsRead;
 use daachorse_core::ascii_fold::AsciiFold;
 use daachorse_prefilter::prefilter::Prefilter;
 use daachorse_search::filter::{Filter, NoFilter};
-use daachorse_search::folded::Folded;
+use daachorse_search::folded::{FoldHaystack, Folded};
 use daachorse_search::haystack::{Bytes, Reread};
 use daachorse_skipping::skipping::Skipping;
 use daachorse_text::text::Text;
@@ -65,46 +65,6 @@ impl<'a, 'h, A: Allocator> FoldingFilter<char, Text<'h>> for Skipping<'a, A> {
     }
 }
 
-/// A filter that is asked over the folded haystack.
-#[derive(Drop)]
-pub struct FoldedFilter<F> {
-    filter: F,
-}
-
-impl<F> Model for FoldedFilter<F> {
-    ghost Value = { F };
-
-    ghost view = { λ s. s.filter };
-}
-
-impl<F> FoldedFilter<F> {
-    /// The filter, to be asked over the folded haystack.
-    #[inline(always)]
-    pub fn new(filter: F) -> Self
-        ensures { result ≡ filter }
-    {
-        Self { filter }
-    }
-}
-
-impl<U: AsciiFold, H: Reread<U>, F: FoldingFilter<U, H>> Filter<U, Folded<H>> for FoldedFilter<F> {
-    ghost passes = { F.passes };
-
-    ghost opened = { F.opened };
-
-    ghost may_ask = { F.may_ask };
-
-    #[inline(always)]
-    fn is_open(&self) -> bool {
-        self.filter.is_open()
-    }
-
-    #[inline(always)]
-    fn skip(&mut self, rest: &mut Folded<H>) {
-        self.filter.skip_folded(rest);
-    }
-}
-
 /// A filter that is asked over the haystack as it is read.
 #[derive(Drop)]
 pub struct FilterAsRead<F> {
@@ -127,7 +87,8 @@ impl<F> FilterAsRead<F> {
     }
 }
 
-impl<U: AsciiFold, H: Reread<U>, F: FoldingFilter<U, H>> Filter<U, AsRead<H>> for FilterAsRead<F> {
+impl<U: AsciiFold, H: FoldHaystack<U>, F: FoldingFilter<U, H>> Filter<U, AsRead<H>>
+    for FilterAsRead<F> {
     ghost passes = { F.passes };
 
     ghost opened = { F.opened };

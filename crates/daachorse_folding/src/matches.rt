@@ -15,7 +15,7 @@ use crate::reading::AsRead;
 use daachorse_core::ascii_fold::AsciiFold;
 use daachorse_search::automaton::Automaton;
 use daachorse_search::find::FindWalk;
-use daachorse_search::haystack::Reread;
+use daachorse_search::folded::FoldHaystack;
 use daachorse_search::matches::Matches;
 use daachorse_search::overlapping::{NoSuffixWalk, OverlappingWalk};
 use daachorse_search::stepwise::Stepwise;
@@ -28,7 +28,7 @@ pub type MatchesAsRead<V, W, H, F> = Matches<V, W, AsRead<H>, FilterAsRead<F>>;
 /// A search from the beginning of the haystack, which is folded where `folds` says so. It asks a
 /// filter at the root.
 #[inline(always)]
-fn search_as_read<V: Copy, W: Stepwise<V>, H: Reread<W::Unit>, F: FoldingFilter<W::Unit, H>>(
+fn search_as_read<V: Copy, W: Stepwise<V>, H: FoldHaystack<W::Unit>, F: FoldingFilter<W::Unit, H>>(
     walk: W,
     haystack: H,
     filter: F,
@@ -53,12 +53,12 @@ where
 
 /// The matches of the standard search in a haystack as it is read. It asks the filter at the root.
 #[inline(always)]
-pub fn find_as_read<V: Copy, A: Automaton<V>, H: Reread<A::Unit>, F: FoldingFilter<A::Unit, H>>(
-    automaton: A,
-    haystack: H,
-    filter: F,
-    folds: bool,
-) -> MatchesAsRead<V, FindWalk<V, A>, H, F>
+pub fn find_as_read<
+    V: Copy,
+    A: Automaton<V>,
+    H: FoldHaystack<A::Unit>,
+    F: FoldingFilter<A::Unit, H>,
+>(automaton: A, haystack: H, filter: F, folds: bool) -> MatchesAsRead<V, FindWalk<V, A>, H, F>
 where
     A::Unit: AsciiFold,
     requires alive { (w : List ℕ) → ¬ A.dead automaton w }
@@ -81,7 +81,7 @@ where
 pub fn find_overlapping_as_read<
     V: Copy,
     A: Automaton<V>,
-    H: Reread<A::Unit>,
+    H: FoldHaystack<A::Unit>,
     F: FoldingFilter<A::Unit, H>,
 >(
     automaton: A,
@@ -111,7 +111,7 @@ where
 pub fn find_overlapping_no_suffix_as_read<
     V: Copy,
     A: Automaton<V>,
-    H: Reread<A::Unit>,
+    H: FoldHaystack<A::Unit>,
     F: FoldingFilter<A::Unit, H>,
 >(automaton: A, haystack: H, filter: F, folds: bool) -> MatchesAsRead<V, NoSuffixWalk<V, A>, H, F>
 where

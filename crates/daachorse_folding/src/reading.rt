@@ -7,6 +7,7 @@
 ghost use Rattle.std.specs.Prelude.{◌≡◌};
 
 use daachorse_core::ascii_fold::AsciiFold;
+use daachorse_search::folded::FoldHaystack;
 use daachorse_search::haystack::{Haystack, Reread};
 use std::marker::Model;
 
@@ -37,7 +38,7 @@ impl<H> AsRead<H> {
     }
 }
 
-impl<U: AsciiFold, H: Iterator<Item = U>> Iterator for AsRead<H> {
+impl<U: AsciiFold, H: Iterator<Item = U> + FoldHaystack<U>> Iterator for AsRead<H> {
     ghost use Rattle.daachorse_folding.specs.Haystacks.{GivesAsRead};
 
     type Item = U;
@@ -50,15 +51,14 @@ impl<U: AsciiFold, H: Iterator<Item = U>> Iterator for AsRead<H> {
 
     #[inline(always)]
     fn next(&mut self) -> Option<U> {
-        let unit = self.units.next()?;
         if self.folds {
-            return Some(unit.folded());
+            return self.units.next_folded();
         }
-        Some(unit)
+        self.units.next()
     }
 }
 
-impl<U: AsciiFold, H: Haystack<U>> Haystack<U> for AsRead<H> {
+impl<U: AsciiFold, H: FoldHaystack<U>> Haystack<U> for AsRead<H> {
     ghost use Rattle.daachorse_model.specs.Folding.{as_read};
     ghost use Rattle.daachorse_folding.specs.Haystacks.{gives_first_as_read};
 
@@ -76,7 +76,7 @@ impl<U: AsciiFold, H: Haystack<U>> Haystack<U> for AsRead<H> {
     ghost ends = { λ s. H.ends s.units };
 }
 
-impl<U: AsciiFold, H: Reread<U>> Reread<U> for AsRead<H> {
+impl<U: AsciiFold, H: FoldHaystack<U>> Reread<U> for AsRead<H> {
     #[inline(always)]
     fn after(&self, bytes: usize) -> Self {
         AsRead {

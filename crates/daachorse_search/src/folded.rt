@@ -4,8 +4,10 @@
 //! same places, and on a folded source taking just the units that it gives.
 
 ghost use Rattle.std.specs.Prelude.{◌≡◌};
+ghost use Rattle.std.specs.Iterator.{MakesProgress};
+ghost use Rattle.daachorse_search.specs.FoldedSources.{GivesFolded};
 
-use crate::haystack::{Haystack, Reread};
+use crate::haystack::{Bytes, Haystack, Reread};
 use crate::source::Source;
 use daachorse_core::ascii_fold::AsciiFold;
 use std::marker::Model;
@@ -84,6 +86,21 @@ impl<U: AsciiFold, H: Reread<U>> Reread<U> for Folded<H> {
         self.units.left()
     }
 }
+
+/// A haystack that can give its units folded.
+pub trait FoldHaystack<U: AsciiFold>: Reread<U> {
+    /// Takes the next unit as `next` does, and gives it folded.
+    #[inline(always)]
+    fn next_folded(&mut self) -> Option<U>
+        ensures steps { GivesFolded U.fold Self.next_gives self.old result self.new }
+        ensures goes { MakesProgress Self.can_next Self.remaining self.old result self.new }
+    {
+        let unit = self.next()?;
+        Some(unit.folded())
+    }
+}
+
+impl<'a> FoldHaystack<u8> for Bytes<'a> {}
 
 impl<U: AsciiFold, S: Source<U>> Source<U> for Folded<S> {
     ghost use Rattle.daachorse_search.specs.FoldedSources.{MayReadFolded, MayReadFolded-ready, MayReadFolded-kept};

@@ -14,7 +14,7 @@ use daachorse_folding::leftmost::LeftmostMatchesAsRead;
 use daachorse_folding::matches::MatchesAsRead;
 use daachorse_folding::overlapping_stepper::FindOverlappingStepperAsRead;
 use daachorse_search::automaton::Automaton;
-use daachorse_search::haystack::Reread;
+use daachorse_search::folded::FoldHaystack;
 use daachorse_search::stepwise::Stepwise;
 use std::slice::Iter;
 
@@ -85,7 +85,7 @@ pub fn are<I: Iterator<Item = Match<u32>> + Drop>(matches: I, expected: &[Found]
 
 /// Whether a search in a haystack gives the expected matches, in this order. It is dropped behind the
 /// first match that is not expected.
-pub fn gives<W: Stepwise<u32>, H: Reread<W::Unit>, F: FoldingFilter<W::Unit, H>>(
+pub fn gives<W: Stepwise<u32>, H: FoldHaystack<W::Unit>, F: FoldingFilter<W::Unit, H>>(
     mut search: MatchesAsRead<u32, W, H, F>,
     expected: &[Found],
 ) -> bool
@@ -100,7 +100,7 @@ where
 
 /// Whether a leftmost search in a haystack gives the expected matches, in this order. It is dropped behind
 /// the first match that is not expected.
-pub fn gives_leftmost<A: Automaton<u32>, H: Reread<A::Unit>, F: FoldingFilter<A::Unit, H>>(
+pub fn gives_leftmost<A: Automaton<u32>, H: FoldHaystack<A::Unit>, F: FoldingFilter<A::Unit, H>>(
     mut search: LeftmostMatchesAsRead<u32, A, H, F>,
     expected: &[Found],
 ) -> bool

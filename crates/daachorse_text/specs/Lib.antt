@@ -1,3 +1,4 @@
 pub mod TextSources
 pub mod DecodedSources
 pub mod Midway
+pub mod Texts

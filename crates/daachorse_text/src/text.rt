@@ -3,10 +3,14 @@
 //! The layers above may rely on a text being the list of its characters that are still to come,
 //! and on what follows whole characters being found in constant time.
 
-ghost use Rattle.std.specs.Prelude.{◌≡◌, ◌<◌, ◌^◌};
+ghost use Rattle.std.specs.Prelude.{◌≡◌, ◌<◌, ◌^◌, ◌∷◌, IfSome, IfNone};
+ghost use Rattle.std.specs.Iterator.{YieldsFirst};
 ghost use Rattle.std.specs.Str.{chars};
 ghost use Rattle.daachorse_model.specs.Units.{size, char_width};
+ghost use Rattle.daachorse_text.specs.Texts.{BeginsPastAscii};
 
+use daachorse_core::ascii_fold::AsciiFold;
+use daachorse_search::folded::FoldHaystack;
 use daachorse_search::haystack::{Haystack, Reread};
 use std::marker::Model;
 
@@ -50,6 +54,34 @@ impl<'a> Text<'a> {
     {
         &self.text[self.given..]
     }
+
+    /// Takes the next character if it is ASCII, and gives its byte.
+    #[inline(always)]
+    fn take_ascii(&mut self) -> Option<u8>
+        ensures some { IfSome result (λ byte. (byte < 128) × (self.old ≡ byte ∷ self.new)) }
+        ensures none { IfNone result ((self.new ≡ self.old) × BeginsPastAscii self.old) }
+    {
+        if self.given == self.text.len() {
+            return None;
+        }
+        let first = self.text.as_bytes()[self.given];
+        if first >= 0x80 {
+            return None;
+        }
+        self.given += 1;
+        Some(first)
+    }
+
+    /// Takes the next character, however many bytes it has.
+    #[inline(always)]
+    fn take_character(&mut self) -> Option<char>
+        ensures { YieldsFirst (λ w. w) self.old result self.new }
+    {
+        let mut rest = self.text[self.given..].chars();
+        let character = rest.next();
+        self.given = self.text.len() - rest.as_str().len();
+        character
+    }
 }
 
 impl<'a> Iterator for Text<'a> {
@@ -63,19 +95,11 @@ impl<'a> Iterator for Text<'a> {
 
     #[inline(always)]
     fn next(&mut self) -> Option<char> {
-        if self.given == self.text.len() {
-            return None;
+        // ASCII is asked for first, since its characters take no more work.
+        if let Some(byte) = self.take_ascii() {
+            return Some(char::from(byte));
         }
-        let first = self.text.as_bytes()[self.given];
-        // An ASCII character is its byte, and takes no more work.
-        if first < 0x80 {
-            self.given += 1;
-            return Some(char::from(first));
-        }
-        let mut rest = self.text[self.given..].chars();
-        let character = rest.next();
-        self.given = self.text.len() - rest.as_str().len();
-        character
+        self.take_character()
     }
 }
 
@@ -101,5 +125,16 @@ impl<'a> Reread<char> for Text<'a> {
     #[inline(always)]
     fn left(&self) -> usize {
         self.text.len() - self.given
+    }
+}
+
+impl<'a> FoldHaystack<char> for Text<'a> {
+    // Of the characters past ASCII each is folded to itself.
+    #[inline(always)]
+    fn next_folded(&mut self) -> Option<char> {
+        if let Some(byte) = self.take_ascii() {
+            return Some(char::from(byte.folded()));
+        }
+        self.take_character()
     }
 }

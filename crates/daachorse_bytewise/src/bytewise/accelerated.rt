@@ -29,7 +29,7 @@ use crate::bytewise::iter::accelerated::{
 };
 use crate::bytewise::{DoubleArrayAhoCorasick, states};
 use daachorse_core::errors::Result;
-use daachorse_folding::leftmost::LeftmostMatchesAsRead;
+use daachorse_folding::leftmost::leftmost_as_read;
 use daachorse_folding::matches::{
     find_as_read, find_overlapping_as_read, find_overlapping_no_suffix_as_read,
 };
@@ -384,7 +384,7 @@ impl<'a, V: Copy, A: Allocator> Accelerated<'a, V, A> {
             (leftmost byte_width (dictionary_of self.entry.now.automaton) (as_read self.entry.now.automaton.folds haystack.entry.now)) result }
         ensures asks { BeginsAsking self.entry.now.automaton.filter result.filter }
     {
-        LeftmostMatchesAsRead::new(
+        leftmost_as_read(
             self.leftmost(),
             Bytes::new(haystack),
             self.automaton().skipping(),

@@ -28,7 +28,7 @@ use crate::charwise::iter::accelerated::{
 };
 use crate::charwise::{CharwiseDoubleArrayAhoCorasick, states};
 use daachorse_core::errors::Result;
-use daachorse_folding::leftmost::LeftmostMatchesAsRead;
+use daachorse_folding::leftmost::leftmost_as_read;
 use daachorse_folding::matches::{
     find_as_read, find_overlapping_as_read, find_overlapping_no_suffix_as_read,
 };
@@ -382,7 +382,7 @@ impl<'a, V: Copy, A: Allocator> Accelerated<'a, V, A> {
             (leftmost char_width (dictionary_of self.entry.now.automaton) (as_read self.entry.now.automaton.folds (chars haystack.entry.now))) result }
         ensures asks { BeginsAsking self.entry.now.automaton.filter result.filter }
     {
-        LeftmostMatchesAsRead::new(
+        leftmost_as_read(
             self.leftmost(),
             Text::new(haystack),
             self.automaton().skipping(),

@@ -8,12 +8,12 @@ use Rattle.daachorse_charwise.specs.Accelerated.{rowed_states}
 use Rattle.daachorse_charwise.proofs.RowedLaws.{sound_rowed}
 use Rattle.daachorse_charwise.proofs.charwise.accelerated.Accelerated.leftmost_find_iter.Goals as goal
 
-pub new-requires-2-clause-sound : goal.new-requires-2-clause-sound
-new-requires-2-clause-sound g c = sound_rowed c.args.self.now c.leftmost.result c.automaton.result.now c.skipping.result c.leftmost.ensures c.automaton.ensures c.skipping.ensures.sound
+pub leftmost_as_read-requires-clause-sound : goal.leftmost_as_read-requires-clause-sound
+leftmost_as_read-requires-clause-sound g c = sound_rowed c.args.self.now c.leftmost.result c.automaton.result.now c.skipping.result c.leftmost.ensures c.automaton.ensures c.skipping.ensures.sound
 
 pub returns-clause-begins : goal.returns-clause-begins
 returns-clause-begins g c =
-    let e = c.new-2.ensures in
-    begins_rowed content (leftmost char_width) (rowed_states c.args.self.now) c.leftmost.result c.is_ascii_case_insensitive.result c.args.self.now.automaton.folds _ _ c.new-2.result c.leftmost.ensures
+    let e = c.leftmost_as_read.ensures in
+    begins_rowed content (leftmost char_width) (rowed_states c.args.self.now) c.leftmost.result c.is_ascii_case_insensitive.result c.args.self.now.automaton.folds _ _ c.leftmost_as_read.result c.leftmost.ensures
     (c.is_ascii_case_insensitive.ensures ∙ ap (λ x. x.folds) c.automaton-2.ensures) c.new.ensures.characters
     (record { automaton = e.automaton; haystack = e.haystack; left = e.left; passed = e.passed; turns = e.turns; given = e.given })

@@ -9,9 +9,8 @@ ghost use Rattle.std.specs.Prelude.{◌≡◌, ◌+◌, ◌*◌, ℕ, [], length
 use crate::reading::Reading;
 use daachorse_core::Match;
 use daachorse_core::ascii_fold::AsciiFold;
-use daachorse_search::folded::Folded;
+use daachorse_search::folded::{FoldSource, Folded};
 use daachorse_search::matches_from::MatchesFrom;
-use daachorse_search::source::Source;
 use daachorse_search::stepwise::Stepwise;
 use std::marker::Model;
 
@@ -21,14 +20,14 @@ use std::marker::Model;
 /// Each call of `next` takes units up to the end of the next match and none behind it, and no call takes
 /// memory.
 #[derive(Drop)]
-pub struct MatchesFromAsRead<V: Copy, W: Stepwise<V>, S: Source<W::Unit>>
+pub struct MatchesFromAsRead<V: Copy, W: Stepwise<V>, S: FoldSource<W::Unit>>
 where
     W::Unit: AsciiFold,
 {
     matches: Reading<MatchesFrom<V, W, S>, MatchesFrom<V, W, Folded<S>>>,
 }
 
-impl<V: Copy, W: Stepwise<V>, S: Source<W::Unit>> Model for MatchesFromAsRead<V, W, S>
+impl<V: Copy, W: Stepwise<V>, S: FoldSource<W::Unit>> Model for MatchesFromAsRead<V, W, S>
 where
     W::Unit: AsciiFold,
 {
@@ -44,7 +43,7 @@ where
     ] };
 }
 
-impl<V: Copy, W: Stepwise<V>, S: Source<W::Unit>> MatchesFromAsRead<V, W, S>
+impl<V: Copy, W: Stepwise<V>, S: FoldSource<W::Unit>> MatchesFromAsRead<V, W, S>
 where
     W::Unit: AsciiFold,
 {
@@ -80,7 +79,7 @@ where
     }
 }
 
-impl<V: Copy, W: Stepwise<V>, S: Source<W::Unit>> Iterator for MatchesFromAsRead<V, W, S>
+impl<V: Copy, W: Stepwise<V>, S: FoldSource<W::Unit>> Iterator for MatchesFromAsRead<V, W, S>
 where
     W::Unit: AsciiFold,
 {

@@ -1,14 +1,17 @@
 //! Haystacks and sources without regard to the case of ASCII letters.
 //!
 //! The layers above may rely on a folded haystack showing the folded units of its haystack, at the
-//! same places, and on a folded source taking just the units that it gives.
+//! same places, and on a folded source taking just the units that it gives, whether they are folded
+//! behind the source or by it.
 
-ghost use Rattle.std.specs.Prelude.{◌≡◌};
+ghost use Rattle.std.specs.Prelude.{◌≡◌, ◌+◌, MatchOption};
 ghost use Rattle.std.specs.Iterator.{MakesProgress};
 ghost use Rattle.daachorse_search.specs.FoldedSources.{GivesFolded};
+ghost use Rattle.daachorse_search.specs.Sources.{IsReady};
 
-use crate::haystack::{Bytes, Haystack, Reread};
+use crate::haystack::{Haystack, Reread};
 use crate::source::Source;
+use crate::{haystack, source};
 use daachorse_core::ascii_fold::AsciiFold;
 use std::marker::Model;
 
@@ -100,17 +103,33 @@ pub trait FoldHaystack<U: AsciiFold>: Reread<U> {
     }
 }
 
-impl<'a> FoldHaystack<u8> for Bytes<'a> {}
+impl<'a> FoldHaystack<u8> for haystack::Bytes<'a> {}
 
-impl<U: AsciiFold, S: Source<U>> Source<U> for Folded<S> {
+/// A source that can give its units folded.
+pub trait FoldSource<U: AsciiFold>: Source<U> {
+    /// Takes the next unit as `next_at` does, and gives it folded.
+    #[inline(always)]
+    fn next_folded_at(&mut self, place: &mut usize) -> Option<U>
+        requires ready { IsReady Self.can_next Self.next_gives Self.remaining U.EdgeLabel.unit U.EdgeLabel.width self.old place.old }
+        ensures steps { GivesFolded U.fold Self.next_gives self.old result self.new }
+        ensures goes { MakesProgress Self.can_next Self.remaining self.old result self.new }
+        ensures place { MatchOption result (place.new ≡ place.old) (λ unit. place.new ≡ place.old + U.EdgeLabel.width (U.EdgeLabel.unit unit)) }
+    {
+        let unit = self.next_at(place)?;
+        Some(unit.folded())
+    }
+}
+
+impl<P: Iterator<Item = u8>> FoldSource<u8> for source::Bytes<P> {}
+
+impl<U: AsciiFold, S: FoldSource<U>> Source<U> for Folded<S> {
     ghost use Rattle.daachorse_search.specs.FoldedSources.{MayReadFolded, MayReadFolded-ready, MayReadFolded-kept};
 
     ghost may_read = { MayReadFolded S.may_read };
 
     #[inline(always)]
     fn next_at(&mut self, place: &mut usize) -> Option<U> {
-        let next = self.units.next_at(place)?;
-        Some(next.folded())
+        self.units.next_folded_at(place)
     }
 
     ghost ready = { MayReadFolded-ready U.EdgeLabel.unit U.fold U.folds S.can_next S.next_gives S.remaining U.EdgeLabel.width U.as_wide S.may_read S.ready };

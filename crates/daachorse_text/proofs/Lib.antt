@@ -2,3 +2,4 @@ pub mod TextLemmas
 pub mod FirstCharacters
 pub mod DecodingLemmas
 pub mod DecodedRuns
+pub mod Places

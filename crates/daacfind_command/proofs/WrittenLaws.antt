@@ -1,8 +1,10 @@
 -- What a run wrote is read as the automaton that was written: so it is refused for want of memory alone, it is of the kind that it was written for, and what it finds is what the pattern file asks for.
-use Rattle.std.proofs.Common.{◌≡◌, ◌⊎◌, ◌^◌, ◌<◌, ℕ, false, List, ◌++◌, ap, subst, ◌∙◌}
+use Rattle.std.proofs.Common.{◌≡◌, ◌⊎◌, ◌^◌, ◌<◌, ℕ, false, List, ◌++◌, ap, subst, ◌∙◌, [], Option, append-nil, sym}
 use Rattle.std.specs.Int.{w32}
+use Rattle.std.specs.Io.KnownBytes.{Appends}
 use Rattle.daachorse_core.specs.declared.errors.DaachorseError.{DaachorseError}
 use Rattle.daachorse_core.specs.Refusals.{IsOutOfMemory}
+use Rattle.daachorse_replacing.specs.Replaced.{AppendsBeginning}
 use Rattle.daachorse_model.specs.declared.MatchKind.{MatchKind}
 use Rattle.daachorse_model.specs.Folding.{as_read}
 use Rattle.daachorse_model.specs.Program.{match_text, pattern_lines}
@@ -18,6 +20,10 @@ use Rattle.daacfind_command.specs.Modes.{found_by, kind_of_mode, text_of_mode}
 use Rattle.daacfind_command.specs.Runs.{value_gives}
 use Rattle.daacfind_command.specs.Written.{IsFormOf, IsOfAnotherKind, IsTextBy}
 use Rattle.daacfind_command.proofs.Built.{text_of_built}
+
+-- what was written whole has a beginning written
+pub all_begun : (old new : Option (List ℕ)) (bytes : List ℕ) → Appends old new bytes → AppendsBeginning old new bytes
+all_begun old new bytes whole = (bytes, [], sym (append-nil bytes), whole)
 
 -- the bytes of an automaton that was built of the lines
 pub form_of_built : (mode : Mode) (patterns : List ℕ) (kind : MatchKind) (a : Searches ℕ) (bytes : List ℕ) → kind ≡ kind_of_mode mode → IsBuiltOf value_gives kind (pattern_lines patterns) a → kind_of a ≡ kind → a.folds ≡ false

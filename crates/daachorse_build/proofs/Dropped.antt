@@ -3,7 +3,7 @@ use Rattle.std.proofs.Common.{◌≡◌, ◌≢◌, ℕ, ◌⊎◌, Bool, true, 
 use Rattle.std.specs.Prelude.{◌==◌}
 use Rattle.std.specs.List.{list_any}
 use Rattle.std.proofs.lemmas.List.{map-append}
-use Rattle.std.proofs.lemmas.Bool.{and_parts, and_from, false≢true, cond-true}
+use Rattle.std.proofs.lemmas.Bool.{and_parts, and_from, false≢true, cond-true, or_left, or_right}
 use Rattle.daachorse_model.specs.declared.MatchKind.{MatchKind}
 use Rattle.daachorse_model.specs.declared.MatchKind.TheVariants.{Standard, LeftmostLongest, LeftmostFirst}
 use Rattle.daachorse_model.specs.Kinds.{is_leftmost_first}
@@ -42,14 +42,6 @@ proper_rest (a ∷ v) (u ∷ w) h =
     let same : a ∷ [] ≡ u ∷ [] = text_same (a ∷ []) (u ∷ []) (and_from (a == u) true x.0 refl) in
     let head : u ≡ a = cc in
     (r.0, r.1, ap (λ y. u ∷ y) r.2 ∙ ap (λ y. y ∷ (v ++ r.0 ∷ r.1)) head)
-
-or_left : (a b : Bool) → a ≡ true → (a || b) ≡ true
-or_left true b e = refl
-or_left false b e = absurd (false≢true e)
-
-or_right : (a b : Bool) → b ≡ true → (a || b) ≡ true
-or_right true b e = refl
-or_right false b e = e
 
 any_through : (before : List (List ℕ)) (q w : List ℕ) → is_proper_prefix q w ≡ true → list_any (λ p. is_proper_prefix p q) before ≡ true → list_any (λ p. is_proper_prefix p w) before ≡ true
 any_through [] q w h k = k

@@ -17,7 +17,7 @@ use Rattle.daachorse_placement.specs.Placement.{children_of, parent_of, label_of
 use Rattle.daachorse_build.specs.declared.nfa_builder.NfaBuilderState.{NfaBuilderState}
 use Rattle.daachorse_build.specs.Tables.{edges_of, child_in, HoldTrie}
 use Rattle.daachorse_build.specs.Orders.{IsIn, StandOnce, children}
-use Rattle.daachorse_build.specs.Groups.{edges_at, coded, GivesCodes, AreCodes, AreTrieGroups, is_some_edge, has_edges, IsWalk, AreGiven, AreFamilies, parents_of}
+use Rattle.daachorse_build.specs.Groups.{edges_at, coded, GivesCodes, AreCodes, AreTrieGroups, is_some_edge, has_edges, IsWalk, AreGiven, AreFamilies, parents_of, if_counted}
 use Rattle.daachorse_build.proofs.Queue.{in_equal, in_at, place_of, distinct_once, child_at_place, listed_of_child, value_at, children_once}
 use Rattle.daachorse_build.proofs.StackWalk.{once_tail, once_head, length-walk}
 use Rattle.daachorse_build.proofs.Walks.{text_of, walk-bounds}
@@ -31,6 +31,11 @@ all_zip_push R (u ∷ xs) (v ∷ ys) x y h k = (h.0, all_zip_push R xs ys x y h.
 
 pub given_push : {L : Type 0} (gives : L → ℕ → Type 0) (es : List (L × ℕ)) (cs : List (ℕ × ℕ)) (c : L) (t r : ℕ) → AreGiven gives es cs → gives c r → AreGiven gives (es ++ (c, t) ∷ []) (cs ++ (r, t) ∷ [])
 given_push gives es cs c t r h k = all_zip_push (λ e d. gives e.0 d.0 × (d.1 ≡ e.1)) es cs (c, t) (r, t) h (k, refl)
+
+-- ---- weights
+-- without a profile nothing is counted
+pub if_counted-none : (xs : List ℕ) (n : ℕ) → xs ≡ [] → if_counted xs n ≡ 0
+if_counted-none xs n e = ap (λ ys. if_counted ys n) e
 
 -- ---- one group more
 pub has_edges_if : {L : Type 0} (es : List (L × ℕ)) (r : Bool) → (IsTrue r → es ≡ []) × (es ≡ [] → IsTrue r) → is_some_edge es ≡ not r

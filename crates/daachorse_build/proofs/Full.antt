@@ -10,13 +10,14 @@ use Rattle.daachorse_model.specs.Units.{same_text}
 use Rattle.daachorse_model.specs.Dictionary.{dictionary, kept}
 use Rattle.daachorse_model.specs.Prefixes.{IsPrefix}
 use Rattle.daachorse_model.specs.Paths.{walk, Leads}
+use Rattle.daachorse_model.proofs.Paths.{walk-push}
 use Rattle.daachorse_build.specs.declared.nfa_builder.NfaBuilderState.{NfaBuilderState}
 use Rattle.daachorse_build.specs.Trie.{IsTrie}
 use Rattle.daachorse_build.specs.Tables.{child_of, edges_of}
 use Rattle.daachorse_build.specs.Growth.{Overflows}
 use Rattle.daachorse_build.specs.Holds.{in_units, Holds, HasMorePrefixes}
 use Rattle.daachorse_build.proofs.Labels.{text_exact}
-use Rattle.daachorse_build.proofs.Walks.{walk-push, text_of}
+use Rattle.daachorse_build.proofs.Walks.{text_of}
 use Rattle.daachorse_build.proofs.Registrations.{text_same, after, prefix_stays, prefix_now}
 
 -- no two texts are the same

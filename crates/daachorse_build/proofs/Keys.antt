@@ -1,8 +1,7 @@
 -- What the states of a trie say of the keys: links stop just at the keys, so a walk meets a state that stops where a key begins its text.
 use Rattle.std.proofs.Common.{◌≡◌, ◌≢◌, ℕ, Bool, true, false, cond, ◌||◌, List, [], ◌∷◌, ◌++◌, length, map, Option, Some, None, refl, sym, ap, ◌∙◌, subst, inr, arith, append-nil, unwrap_or}
 use Rattle.std.specs.Prelude.{option_map, not, ◌==◌, option_and_then}
-use Rattle.std.proofs.lemmas.Bool.{eqb-true}
-use Rattle.std.proofs.lemmas.Bool.{false≢true, or_parts, false_from_ne_true, not_from_false}
+use Rattle.std.proofs.lemmas.Bool.{eqb-true, false≢true, or_parts, false_from_ne_true, not_from_false}
 use Rattle.std.proofs.lemmas.Option.{none-some, same_Some}
 use Rattle.std.proofs.lemmas.List.{map-append}
 use Rattle.std.specs.declared.cmp.Ordering.{Ordering}
@@ -13,11 +12,11 @@ use Rattle.daachorse_model.specs.Outputs.{own_outputs}
 use Rattle.daachorse_model.specs.Prefixes.{IsPrefix, is_key, key_begins}
 use Rattle.daachorse_model.specs.Paths.{walk, Leads}
 use Rattle.daachorse_model.proofs.Links.{begins_true}
+use Rattle.daachorse_model.proofs.Paths.{walk-push}
 use Rattle.daachorse_build.specs.declared.nfa_builder.NfaBuilderState.{NfaBuilderState}
 use Rattle.daachorse_build.specs.Tables.{child_of, own_of, own_at, stops_of}
 use Rattle.daachorse_build.specs.Holds.{in_units, Holds}
 use Rattle.daachorse_build.specs.Left.{meets, meets_early}
-use Rattle.daachorse_build.proofs.Walks.{walk-push}
 use Rattle.daachorse_build.proofs.Dropped.{proper_from, proper_rest}
 
 -- the labels of a beginning of a text of units

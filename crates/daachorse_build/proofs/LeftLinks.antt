@@ -5,9 +5,10 @@ use Rattle.std.proofs.lemmas.Option.{none-some, same_Some}
 use Rattle.std.proofs.lemmas.Bool.{cases_Bool, cond-true, cond-false, false≢true, or_parts}
 use Rattle.daachorse_model.specs.Paths.{walk, is_reached}
 use Rattle.daachorse_model.specs.Prefixes.{long}
+use Rattle.daachorse_model.proofs.Paths.{walk-push, is_reached-push}
 use Rattle.daachorse_build.specs.Trie.{IsTrie, IsFailOf}
 use Rattle.daachorse_build.specs.Left.{meets, long_unless_stop, left_link, IsStateOf, IsLeftFailOf}
-use Rattle.daachorse_build.proofs.Walks.{walk-push, is_reached-push, walk-same, text_of, walk-bounds}
+use Rattle.daachorse_build.proofs.Walks.{walk-same, text_of, walk-bounds}
 
 module _ {A : Type 0} (child : ℕ → A → Option ℕ) (stops : ℕ → Bool) where
   -- a label that leads nowhere meets nothing more
@@ -208,9 +209,6 @@ module _ {A : Type 0} (child : ℕ → A → Option ℕ) (stops : ℕ → Bool) 
 
     state_along : (o q : Option (List A)) (t : ℕ) → o ≡ q → IsStateOf child o t → IsStateOf child q t
     state_along o q t e h = let P : Option (List A) → Type 0 = λ x. IsStateOf child x t in subst P e h
-
-    pub leads_start : (start : ℕ) (c : A) → LeadsAs start c start
-    leads_start start c w h = (w, h, refl)
 
     pub leads_hit : (start : ℕ) (c : A) (id t : ℕ) → LeadsAs start c id → child id c ≡ Some t → LeadsTo start c t
     leads_hit start c id t same e w h =

@@ -2,7 +2,7 @@
 use Rattle.std.proofs.Common.{◌≡◌, ◌≢◌, ℕ, Bool, true, false, cond, ◌||◌, List, [], ◌∷◌, ◌++◌, length, map, get_or, Option, Some, None, is_some, refl, sym, ap, ◌∙◌, subst, inl, inr, arith}
 use Rattle.std.specs.Prelude.{option_map, not, ◌==◌}
 use Rattle.std.specs.List.{list_any}
-use Rattle.std.proofs.lemmas.Bool.{false≢true, and_parts, and_from, cond-true, or_left, or_right}
+use Rattle.std.proofs.lemmas.Bool.{false≢true, cond-true, or_left, or_right}
 use Rattle.std.specs.declared.cmp.Ordering.{Ordering}
 use Rattle.daachorse_model.specs.declared.MatchKind.{MatchKind}
 use Rattle.daachorse_model.specs.Units.{same_text}
@@ -10,6 +10,8 @@ use Rattle.daachorse_model.specs.Dictionary.{Dictionary, dictionary, kept, value
 use Rattle.daachorse_model.specs.Prefixes.{IsPrefix, IsLeftFail, key_begins, long_unless_key, left_fail}
 use Rattle.daachorse_model.specs.Paths.{walk, is_reached, Leads}
 use Rattle.daachorse_model.proofs.Links.{left_fail-is, IsDead-not}
+use Rattle.daachorse_model.proofs.Earliest.{is_prefix-splits, is_prefix-append}
+use Rattle.daachorse_model.proofs.Listings.{value_later}
 use Rattle.daachorse_build.specs.declared.nfa_builder.NfaBuilderState.{NfaBuilderState}
 use Rattle.daachorse_build.specs.Tables.{child_in, child_of, edges_of, own_at, fails_of, stops_of, HoldTrie}
 use Rattle.daachorse_build.specs.Growth.{HasTrieOf}
@@ -23,19 +25,6 @@ use Rattle.daachorse_build.proofs.Registrations.{text_same, text_refl}
 use Rattle.daachorse_build.proofs.Keys.{meets-key}
 
 -- ---- a test for the prefixes of keys
-prefix_rest : (v w : List ℕ) → is_prefix v w ≡ true → (x : List ℕ) × (w ≡ v ++ x)
-prefix_rest [] w h = (w, refl)
-prefix_rest (a ∷ v) [] h = absurd (false≢true h)
-prefix_rest (a ∷ v) (u ∷ w) h =
-    let e = and_parts (a == u) (is_prefix v w) h in
-    let r = prefix_rest v w e.1 in
-    let same : a ∷ [] ≡ u ∷ [] = text_same (a ∷ []) (u ∷ []) (and_from (a == u) true e.0 refl) in
-    let head : u ≡ a = cc in
-    (r.0, ap (λ y. u ∷ y) r.1 ∙ ap (λ y. y ∷ (v ++ r.0)) head)
-
-prefix_from : (v x : List ℕ) → is_prefix v (v ++ x) ≡ true
-prefix_from [] x = refl
-prefix_from (a ∷ v) x = and_from (a == a) _ (and_parts (a == a) true (text_refl (a ∷ []))).0 (prefix_from v x)
 
 module _ {V : Type 0} where
   -- the text begins a registered one, or is empty
@@ -49,19 +38,12 @@ module _ {V : Type 0} where
       let value : r.1 ∷ values_of rs w ≡ [] = sym (cond-true (same_text r.0 w) (r.1 ∷ values_of rs w) (values_of rs w) yes') ∙ none in
       cc
 
-  value_later : (r : List ℕ × V) (rs : List (List ℕ × V)) (w : List ℕ) → values_of rs w ≢ [] → values_of (r ∷ rs) w ≢ []
-  value_later r rs w h = at (same_text r.0 w)
-    where
-      at : (c : Bool) → cond c (r.1 ∷ values_of rs w) (values_of rs w) ≢ []
-      at true none = cc
-      at false none = h none
-
   any_key : (rs : List (List ℕ × V)) (v : List ℕ) → list_any (λ r. is_prefix v r.0) rs ≡ true → (x : List ℕ) × (values_of rs (v ++ x) ≢ [])
   any_key [] v h = absurd (false≢true h)
   any_key (r ∷ rs) v h = at (is_prefix v r.0) refl h (any_key rs v)
     where
       at : (b : Bool) → is_prefix v r.0 ≡ b → (b || list_any (λ q. is_prefix v q.0) rs) ≡ true → (list_any (λ q. is_prefix v q.0) rs ≡ true → (x : List ℕ) × (values_of rs (v ++ x) ≢ [])) → (x : List ℕ) × (values_of (r ∷ rs) (v ++ x) ≢ [])
-      at true e k ih = let p = prefix_rest v r.0 e in (p.0, value_first r rs (v ++ p.0) p.1)
+      at true e k ih = let p = is_prefix-splits v r.0 e in (p.0, value_first r rs (v ++ p.0) p.1)
       at false e k ih = let p = ih k in (p.0, value_later r rs (v ++ p.0) p.1)
 
   key_any : (rs : List (List ℕ × V)) (v x : List ℕ) → values_of rs (v ++ x) ≢ [] → list_any (λ r. is_prefix v r.0) rs ≡ true
@@ -69,7 +51,7 @@ module _ {V : Type 0} where
   key_any (r ∷ rs) v x h = at (same_text r.0 (v ++ x)) refl h (key_any rs v x)
     where
       at : (b : Bool) → same_text r.0 (v ++ x) ≡ b → cond b (r.1 ∷ values_of rs (v ++ x)) (values_of rs (v ++ x)) ≢ [] → (values_of rs (v ++ x) ≢ [] → list_any (λ q. is_prefix v q.0) rs ≡ true) → (is_prefix v r.0 || list_any (λ q. is_prefix v q.0) rs) ≡ true
-      at true e k ih = or_left (is_prefix v r.0) _ (ap (is_prefix v) (text_same r.0 (v ++ x) e) ∙ prefix_from v x)
+      at true e k ih = or_left (is_prefix v r.0) _ (ap (is_prefix v) (text_same r.0 (v ++ x) e) ∙ is_prefix-append v x)
       at false e k ih = or_right (is_prefix v r.0) _ (ih k)
 
   pub known-fore : (rs : List (List ℕ × V)) (w : List ℕ) → known rs w ≡ true → IsPrefix (values_of rs) w

@@ -3,18 +3,16 @@ use Rattle.std.proofs.Common.{◌≡◌, ◌≢◌, ℕ, zero, suc, ◌+◌, ◌
 use Rattle.std.proofs.lemmas.Option.{none-some, same_Some}
 use Rattle.std.proofs.lemmas.List.{append-nil, take-append-le, get_or_append_left, get_or_push, length_push, length-set, length-replicate, get_or-replicate, take_more, take_all, length-take-le, get_or-take, take_at, flat_map_more, get_or_default}
 use Rattle.std.proofs.lemmas.Map.Entries.{place_from_lookup, lookup_from_place}
-use Rattle.std.proofs.lemmas.Map.Keys.{IsDistinct-from_sorted, IsDistinct-from_apart}
+use Rattle.std.proofs.lemmas.Map.Keys.{IsDistinct-from_sorted, IsDistinct-from_apart, Less-from_sorted}
 use Rattle.std.proofs.lemmas.Map.Steps.{length-le_from_distinct_below}
 use Rattle.std.specs.Cmp.{eq_by_cmp_equiv, IsTotalOrder}
 use Rattle.std.specs.declared.cmp.Ordering.{Ordering}
 use Rattle.std.specs.declared.cmp.Ordering.TheVariants.{Less}
-use Rattle.std.proofs.lemmas.Map.Keys.{Less-from_sorted}
-use Rattle.std.specs.List.{list_any, IsDistinct}
+use Rattle.std.specs.List.{list_any, IsDistinct, flat_map, slice_get}
 use Rattle.std.proofs.lemmas.Bool.{cases_lt, cases_eq, cond-true, cond-false, eqb-true, or_cases, false_from_ne_true, false≢true}
 use Rattle.std.proofs.lemmas.Bool.Decides.{eqb_tells}
 use Rattle.std.specs.Ordering.{is_eq}
 use Rattle.std.specs.BTreeMap.{is_at}
-use Rattle.std.specs.List.{flat_map, slice_get}
 use Rattle.std.specs.Map.{keys_of, values_of}
 use Rattle.daachorse_build.specs.Left.{IsLeftFailOf}
 use Rattle.daachorse_build.specs.Tables.{child_in, IsTable}
@@ -302,10 +300,6 @@ module _ {L : Type 0} (cmp : L → L → Ordering) (total : IsTotalOrder cmp) (e
       earlier = λ i l. absurd (omega arith);
       once = λ i l h. absurd (omega arith);
     }
-
-    -- the state that is left next is known, and so is its link
-    pub link_is_known : (fails order pending : List ℕ) (next : ℕ) → IsTraversal cmp stops edges (children edges 0) fails order next pending → next < length order → IsLinkAmong (take next order) (get_or fails (get_or order next 0) 0)
-    link_is_known fails order pending next traversal l = traversal.earlier next l
 
     -- the link of a known state is known
     pub known_link : (fails order pending : List ℕ) (next t : ℕ) → IsTraversal cmp stops edges (children edges 0) fails order next pending → IsIn (take next order) t → IsLinkAmong (take next order) (get_or fails t 0)

@@ -10,19 +10,12 @@ use Rattle.daachorse_model.specs.Units.{same_text, size}
 use Rattle.daachorse_model.specs.Dictionary.{Dictionary, dictionary, kept, values_of}
 use Rattle.daachorse_model.specs.Prefixes.{IsKey, IsPrefix}
 use Rattle.daachorse_model.specs.Paths.{walk, Leads}
+use Rattle.daachorse_model.proofs.Lists.{no_front, no_back}
 use Rattle.daachorse_build.specs.declared.nfa_builder.NfaBuilderState.{NfaBuilderState}
 use Rattle.daachorse_build.specs.Tables.{child_in, child_of, own_of, own_at, held_at, output_count}
 use Rattle.daachorse_build.specs.Growth.{IsPrefixOf, IsAdded, HasTrieOf}
 use Rattle.daachorse_build.specs.Holds.{in_units, Holds}
 use Rattle.daachorse_build.proofs.Labels.{text_exact}
-
-nil_left : {X : Type 0} (xs ys : List X) → xs ++ ys ≡ [] → xs ≡ []
-nil_left [] ys h = refl
-nil_left (x ∷ xs) ys h = cc
-
-nil_right : {X : Type 0} (xs ys : List X) → xs ++ ys ≡ [] → ys ≡ []
-nil_right [] ys h = h
-nil_right (x ∷ xs) ys h = cc
 
 pub nil_of_units : {L : Type 0} (unit : L → ℕ) (w : List L) → map unit w ≡ [] → w ≡ []
 nil_of_units unit [] h = refl
@@ -56,11 +49,11 @@ module _ {L V : Type 0} (unit : L → ℕ) (exact : (a b : L) → unit a ≡ uni
   -- a prefix of a key stays one
   pub prefix_stays : (w : List ℕ) → IsPrefix before w → IsPrefix after w
   prefix_stays w (inl e) = inl e
-  prefix_stays w (inr (x, key)) = inr (x, λ none. key (nil_left (before (w ++ x)) _ (sym (after_is (w ++ x)) ∙ none)))
+  prefix_stays w (inr (x, key)) = inr (x, λ none. key (no_front (before (w ++ x)) _ (sym (after_is (w ++ x)) ∙ none)))
 
   key_now : IsKey after (map unit p)
   key_now none =
-      let last : cond (same_text (map unit p) (map unit p)) (v ∷ []) [] ≡ [] = nil_right (before (map unit p)) _ (sym (after_is (map unit p)) ∙ none) in
+      let last : cond (same_text (map unit p) (map unit p)) (v ∷ []) [] ≡ [] = no_back (before (map unit p)) _ (sym (after_is (map unit p)) ∙ none) in
       let value : v ∷ [] ≡ [] = sym (cond-true (same_text (map unit p) (map unit p)) (v ∷ []) [] (text_refl (map unit p))) ∙ last in
       cc
 

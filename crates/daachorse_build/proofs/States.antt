@@ -10,11 +10,12 @@ use Rattle.std.specs.BTreeMap.{is_at}
 use Rattle.std.specs.Map.{lookup}
 use Rattle.daachorse_build.specs.declared.nfa_builder.NfaBuilderState.{NfaBuilderState}
 use Rattle.daachorse_model.specs.Paths.{walk}
+use Rattle.daachorse_model.proofs.Paths.{walk-push, walk-append}
 use Rattle.daachorse_build.specs.EdgeMaps.{IsOrdered, Updates}
 use Rattle.daachorse_build.specs.Tables.{child_in, child_of, edges_of, fails_of, own_of, own_at, positions_of, held_at, output_count, HoldTrie}
 use Rattle.daachorse_build.specs.Growth.{IsPrefixOf, AddsEdge, Extends, IsAdding, IsAdded, HasTrieOf}
 use Rattle.std.proofs.lemmas.List.Sums.{sum_by-set, sum_by-append}
-use Rattle.daachorse_build.proofs.Walks.{walk-push, walk-same, walk-bounds, walk-append}
+use Rattle.daachorse_build.proofs.Walks.{walk-same, walk-bounds}
 use Rattle.daachorse_build.specs.Few.{items_of}
 use Rattle.daachorse_build.proofs.Growing.{adds_edge, table_grows, walk_stays, walk_came, is_here}
 

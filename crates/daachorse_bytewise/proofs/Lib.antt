@@ -1,4 +1,3 @@
-pub mod TurnLaws
 pub use Rattle.daachorse_search.proofs.MatchesLemmas
 pub mod WrittenLaws
 pub mod RowedLaws

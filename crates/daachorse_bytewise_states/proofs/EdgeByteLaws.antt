@@ -12,13 +12,13 @@ use Rattle.daachorse_model.specs.Units.{byte_width}
 use Rattle.daachorse_machine.proofs.ChildLaws.{child_at-from, child_at-inside}
 use Rattle.daachorse_machine.proofs.MachineLaws.{foreign}
 use Rattle.daachorse_rows.specs.Rows.{AreLabels, AreListed}
-use Rattle.daachorse_rows.proofs.MakingLaws.{below_or_at}
 use Rattle.daachorse_bytewise_states.specs.declared.state.State.{State}
 use Rattle.daachorse_bytewise_states.specs.Elements.{base_in, vacant, vacant_left}
 use Rattle.daachorse_bytewise_states.specs.EdgeBytes.{IsMarked, MarksBases, MarksEdges}
 use Rattle.daachorse_bytewise_states.specs.Parts.{Parts, base_of, check_of, child, child_by, content, count, machine}
 use Rattle.daachorse_bytewise_states.specs.Valid.{IsValid}
 use Rattle.daachorse_model.proofs.Suffixes.{le_or_lt}
+use Rattle.daachorse_model.proofs.Lists.{below_or_at}
 use Rattle.daachorse_bytewise_states.proofs.ByteLaws.{valid_machine}
 
 -- past the last element there is no base
@@ -34,23 +34,6 @@ still_marked marks i j inside marked = elim (cases_eq j i) [
 ]
 
 module _ {V : Type 0} (p : Parts V) where
-  module _ (n : ℕ) (marks : List Bool) (h : MarksBases p n marks) where
-    pub MarksBases-skip : base_of p n ≡ 0 → MarksBases p (n + 1) marks
-    MarksBases-skip none = record {
-      size = h.size;
-      marked = λ i below some. elim (below_or_at i n below) [ inl less ↦ h.marked i less some | inr same ↦ absurd (some (ap (base_of p) same ∙ none)) ];
-    }
-
-    pub MarksBases-more : (base : ℕ) → base_of p n ≡ base → base < length marks → MarksBases p (n + 1) (slice_set marks base true)
-    MarksBases-more base is inside = record {
-      size = length-set marks base true ∙ h.size;
-      marked = λ i below some.
-          elim (below_or_at i n below) [
-            | inl less ↦ still_marked marks base (base_of p i) inside (h.marked i less some)
-            | inr same ↦ ap (λ k. slice_index_or (slice_set marks base true) k false) (ap (base_of p) same ∙ is) ∙ get_or-set_same marks base true false inside
-          ];
-    }
-
   module _ (bases : List Bool) (n : ℕ) (marks : List Bool) (h : MarksEdges p bases n marks) where
     pub MarksEdges-skip : (check : ℕ) → check_of p n ≡ check → slice_index_or bases (bit_xor n check) false ≡ false → MarksEdges p bases (n + 1) marks
     MarksEdges-skip check is none = record {

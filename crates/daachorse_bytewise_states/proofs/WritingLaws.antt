@@ -1,29 +1,26 @@
 -- Labels and elements are written one after another: each write keeps those before it.
-use Rattle.std.proofs.Common.{◌≡◌, ◌≢◌, ℕ, ◌<◌, ◌⊎◌, inl, inr, Bool, true, false, ◌==◌, List, [], ◌∷◌, length, set, Some, refl, sym, ap, ◌∙◌, subst, arith, cond}
-use Rattle.std.specs.Prelude.{slice_index, nat_lt}
+use Rattle.std.proofs.Common.{◌≡◌, ◌≢◌, ℕ, ◌<◌, ◌⊎◌, inl, inr, Bool, true, false, ◌==◌, List, [], ◌∷◌, length, set, Some, refl, sym, ap, ◌∙◌, subst, arith, cond, ◌+◌, ◌-◌, ◌*◌, ◌/◌, ◌%◌, ◌≤◌, bit_xor, Option, None}
+use Rattle.std.specs.Prelude.{slice_index, nat_lt, slice_index_or, unwrap_or, IfNone, IfSome}
 use Rattle.std.specs.declared.cmp.Ordering.TheVariants.{Less, Equal, Greater}
-use Rattle.std.proofs.lemmas.List.{length-set}
+use Rattle.std.proofs.lemmas.List.{length-set, get_or-set_same, get_or-set_other, get_or-map}
 use Rattle.std.proofs.lemmas.Bool.{cond-true, cond-false}
-use Rattle.std.proofs.lemmas.List.{get_or-set_same, get_or-set_other}
 use Rattle.std.proofs.lemmas.Map.Keys.{sorted_head, sorted_tail}
 use Rattle.std.specs.List.{AllByRecursion}
 use Rattle.std.proofs.lemmas.Option.{same_Some}
 use Rattle.std.specs.Ordering.{nat_cmp, is_eq}
 use Rattle.std.specs.Map.{keys_of}
-use Rattle.std.specs.Prelude.{slice_index_or}
 use Rattle.daachorse_bytewise_states.specs.declared.state.State.{State}
 use Rattle.daachorse_bytewise_states.specs.Elements.{base_in, check_in, fail_in, output_in, vacant}
 use Rattle.daachorse_bytewise_states.specs.Packing.{IsVacant, element}
 use Rattle.daachorse_bytewise_states.specs.Writing.{HasPlaced, HasVacants}
 use Rattle.daachorse_packing.specs.Settled.{ArePlaces}
-use Rattle.std.proofs.lemmas.List.{get_or-map}
-use Rattle.std.proofs.Common.{◌+◌, ◌-◌, ◌*◌, ◌/◌, ◌%◌, ◌≤◌, bit_xor, Option, None}
-use Rattle.std.specs.Prelude.{unwrap_or, IfNone, IfSome}
+use Rattle.daachorse_packing.proofs.Written.{written_at}
 use Rattle.std.proofs.lemmas.Nat.{xor_shr}
 use Rattle.std.specs.Int.Bits.{xor_self}
+use Rattle.daachorse_model.proofs.Lists.{below_or_at}
 use Rattle.daachorse_placement.specs.Layout.{AreAllSet, IsLeastUnused, Layout}
 use Rattle.daachorse_build.specs.declared.nfa_builder.NfaBuilderState.{NfaBuilderState}
-use Rattle.daachorse_build.specs.Tables.{IsTable, child_in, edge_map, edges_of, fails_of, link_of, position_of, positions_of}
+use Rattle.daachorse_build.specs.Tables.{IsTable, child_in, edge_map, edges_of}
 use Rattle.daachorse_build.specs.EdgeMaps.{id_at, IsOrdered}
 
 -- the labels of the edges that are passed are set; `rest` are the edges to come
@@ -33,15 +30,6 @@ pub record IsLabelling (edges rest : List (ℕ × ℕ)) (old new : List ℕ) : T
   pub still : (c t : ℕ) → id_at nat_cmp rest c ≡ Some t → id_at nat_cmp edges c ≡ Some t
   pub done : (c t : ℕ) → id_at nat_cmp edges c ≡ Some t → (id_at nat_cmp rest c ≡ Some t) ⊎ (slice_index new t ≡ c)
   pub kept : (t : ℕ) → ((c : ℕ) → id_at nat_cmp edges c ≢ Some t) → slice_index new t ≡ slice_index old t
-
-pub labelling_none : (edges : List (ℕ × ℕ)) (old : List ℕ) → IsOrdered nat_cmp edges → IsLabelling edges edges old old
-labelling_none edges old ordered = record {
-  size = refl;
-  ordered = ordered;
-  still = λ c t e. e;
-  done = λ c t e. inl e;
-  kept = λ t none. refl;
-}
 
 same-label : (c d : ℕ) → is_eq (nat_cmp c d) ≡ true → c ≡ d
 same-label c d = go (nat_lt c d) (c == d) refl
@@ -129,12 +117,6 @@ module _ {V A : Type 0} (states : List (NfaBuilderState ℕ V A)) (i : ℕ) (s :
   pub edges_at : slice_index_or (edges_of states) i [] ≡ edge_map s
   edges_at = get_or-map edge_map states i s [] inside ∙ ap edge_map (sym is)
 
-  pub link_at : slice_index (fails_of states) i ≡ link_of s
-  link_at = get_or-map link_of states i s 0 inside ∙ ap link_of (sym is)
-
-  pub position_at : slice_index (positions_of states) i ≡ position_of s
-  position_at = get_or-map position_of states i s 0 inside ∙ ap position_of (sym is)
-
 -- ---- the labels of the children of one state more
 
 module _ (edges : List (List (ℕ × ℕ))) (table : IsTable nat_cmp edges) (m : ℕ) where
@@ -152,11 +134,8 @@ module _ (edges : List (List (ℕ × ℕ))) (table : IsTable nat_cmp edges) (m :
 
   pub children-more : ((s c t : ℕ) → s < m → child_in nat_cmp edges s c ≡ Some t → slice_index old t ≡ c)
       → (s c t : ℕ) → s < m + 1 → child_in nat_cmp edges s c ≡ Some t → slice_index new t ≡ c
-  children-more was s c t less e = here (before_or_at s m less)
+  children-more was s c t less e = here (below_or_at s m less)
     where
-      before_or_at : (s m : ℕ) → s < m + 1 → (s < m) ⊎ (s ≡ m)
-      before_or_at s m less = grind arith
-
       here : (s < m) ⊎ (s ≡ m) → slice_index new t ≡ c
       here (inl before) = kept t (λ d f. let one : s ≡ m = (table.trie.one_parent s c m d t e f).0 in omega (arith, before, one)) ∙ was s c t before e
       here (inr same) = set_to c t (ap (λ k. child_in nat_cmp edges k c) (sym same) ∙ e)
@@ -165,9 +144,6 @@ module _ (edges : List (List (ℕ × ℕ))) (table : IsTable nat_cmp edges) (m :
 
 module _ (m n elements : ℕ) (idx bases labels fails positions : List ℕ) (old new : List (State ℕ)) (places : ArePlaces idx n elements)
     (was : HasPlaced m idx bases labels fails positions old new) where
-  before_or_at : (t : ℕ) → t < m + 1 → (t < m) ⊎ (t ≡ m)
-  before_or_at t less = grind arith
-
   -- the dead state is passed over
   pub placed_dead : m ≡ 1 → HasPlaced (m + 1) idx bases labels fails positions old new
   placed_dead dead = record {
@@ -183,41 +159,18 @@ module _ (m n elements : ℕ) (idx bases labels fails positions : List ℕ) (old
       before t less alive = omega (arith, less, alive, dead)
 
   module _ (e : State ℕ) (inside : m < n) (fits : slice_index idx m < length new) (here : m ≢ 1) where
-    -- what f tells of the element of a state so far, it tells of it now
-    at_place : (f : State ℕ → ℕ) (x : ℕ → ℕ) → ((t : ℕ) → t < m → t ≢ 1 → f (element new (slice_index idx t)) ≡ x t) → f e ≡ x m
-        → (t : ℕ) → t < m + 1 → t ≢ 1 → f (element (set new (slice_index idx m) e) (slice_index idx t)) ≡ x t
-    at_place f x so_far is t less alive = elim (before_or_at t less) [
-      | inl before ↦
-          let other : slice_index idx t ≢ slice_index idx m = λ same. (let one : t ≡ m = places.apart t m (omega (arith, before, inside)) inside alive here same in omega (arith, before, one)) in
-          ap f (get_or-set_other new (slice_index idx m) (slice_index idx t) e vacant other) ∙ so_far t before alive
-      | inr same ↦
-          let P : ℕ → Type 0 = λ k. f (element (set new (slice_index idx m) e) (slice_index idx k)) ≡ x k in
-          subst P (sym same) (ap f (get_or-set_same new (slice_index idx m) e vacant fits) ∙ is)
-    ]
-
     pub placed_more : base_in e ≡ slice_index bases m → check_in e ≡ slice_index labels m → fail_in e ≡ slice_index idx (slice_index fails m) → output_in e ≡ slice_index positions m
         → HasPlaced (m + 1) idx bases labels fails positions old (set new (slice_index idx m) e)
     placed_more base check fail output = record {
       size = length-set new (slice_index idx m) e ∙ was.size;
-      base = at_place base_in (slice_index bases) was.base base;
-      check = at_place check_in (slice_index labels) was.check check;
-      fail = at_place fail_in (λ t. slice_index idx (slice_index fails t)) was.fail fail;
-      output = at_place output_in (slice_index positions) was.output output;
+      base = written_at vacant m n elements idx new places e inside fits here base_in (slice_index bases) was.base base;
+      check = written_at vacant m n elements idx new places e inside fits here check_in (slice_index labels) was.check check;
+      fail = written_at vacant m n elements idx new places e inside fits here fail_in (λ t. slice_index idx (slice_index fails t)) was.fail fail;
+      output = written_at vacant m n elements idx new places e inside fits here output_in (slice_index positions) was.output output;
       others = λ i none.
           get_or-set_other new (slice_index idx m) i e vacant (λ same. none m (omega arith) here (sym same))
           ∙ was.others i (λ t less alive. none t (omega (arith, less)) alive);
     }
-
--- before the first state nothing is written
-pub placed_none : (idx bases labels fails positions : List ℕ) (es : List (State ℕ)) → HasPlaced 0 idx bases labels fails positions es es
-placed_none idx bases labels fails positions es = record {
-  size = refl;
-  base = λ t less. absurd (omega (arith, less));
-  check = λ t less. absurd (omega (arith, less));
-  fail = λ t less. absurd (omega (arith, less));
-  output = λ t less. absurd (omega (arith, less));
-  others = λ i none. refl;
-}
 
 -- ---- one block more is vacant
 

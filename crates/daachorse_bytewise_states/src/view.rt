@@ -3,7 +3,7 @@
 //! The layers above may rely on a [`View`] being the automaton of its parts, on `turn` looking at
 //! one element and its child alone and counting one turn, and on no call taking memory.
 
-ghost use Rattle.std.specs.Prelude.{◌≡◌, ◌<◌, ℕ, Bool, true, false, List, [], length, slice_index, IfSome};
+ghost use Rattle.std.specs.Prelude.{◌≡◌, ◌<◌, ℕ, true, false, List, [], length, slice_index, IfSome};
 ghost use Rattle.daachorse_bytewise_states.specs.declared.state.State.{State};
 ghost use Rattle.daachorse_bytewise_states.specs.Elements.{fail_in};
 ghost use Rattle.daachorse_bytewise_states.specs.Views.{IsEntry, IsSeen, Lists, seen_parts};
@@ -12,19 +12,17 @@ use crate::state::State;
 use daachorse_core::turns::{Look, Turns};
 use daachorse_core::{DEAD_STATE_IDX, Empty, MatchKind, Output, ROOT_STATE_IDX};
 use daachorse_search::automaton::Automaton;
+use daachorse_search::view::{ForLeftmost, ForStandard, Searches};
 use std::marker::{Model, PhantomData};
 use std::num::NonZeroU32;
 
-/// The searches that a view is for, and what they read.
-pub trait Searches {
+/// What the standard searches and the leftmost ones read in different ways.
+pub trait Reads: Searches {
     /// What an element has as its link.
     type Link: Copy;
 
     /// What stands beside the elements.
     type Beside: Copy;
-
-    /// Whether they are leftmost.
-    ghost leftmost: { Bool };
 
     /// The lists of the parts, of which some are empty.
     ghost lists: { List (State Self.Link) → List Self.Beside → Lists };
@@ -35,42 +33,28 @@ pub trait Searches {
     /// The link of an element at an index.
     ghost link: { State Self.Link → List Self.Beside → ℕ → ℕ };
 
-    /// Whether they are leftmost, so that a link may be dead.
-    fn are_leftmost() -> bool
-        ensures { result ≡ leftmost };
-
     /// Where a byte leads from the root, and the position of the first output there, if that stands in a table.
     fn from_root(beside: &[Self::Beside], label: u8) -> Option<(u32, Option<NonZeroU32>)>
-        requires { leftmost ≡ false → length beside.now ≡ 256 }
-        ensures { IfSome result (λ to. (leftmost ≡ false) × IsEntry (root beside.now) label to) };
+        requires { Self.leftmost ≡ false → length beside.now ≡ 256 }
+        ensures { IfSome result (λ to. (Self.leftmost ≡ false) × IsEntry (root beside.now) label to) };
 
     /// The link of the element of a state.
     fn link(element: State<Self::Link>, beside: &[Self::Beside], state: u32) -> u32
-        requires { leftmost ≡ true → state < length beside.now }
+        requires { Self.leftmost ≡ true → state < length beside.now }
         ensures { result ≡ link element beside.now state };
 }
 
-/// The standard searches: an element has its link, and a table tells where each byte leads from the root.
-#[derive(Clone, Copy, Debug)]
-pub struct ForStandard;
-
-impl Searches for ForStandard {
+/// An element has its link, and a table tells where each byte leads from the root.
+impl Reads for ForStandard {
     type Link = u32;
 
     type Beside = (u32, u32);
-
-    ghost leftmost = { false };
 
     ghost lists = { λ elements table. (elements, [], []) };
 
     ghost root = { λ table. table };
 
     ghost link = { λ element table state. fail_in element };
-
-    #[inline(always)]
-    fn are_leftmost() -> bool {
-        false
-    }
 
     #[inline(always)]
     fn from_root(beside: &[(u32, u32)], label: u8) -> Option<(u32, Option<NonZeroU32>)> {
@@ -87,27 +71,17 @@ impl Searches for ForStandard {
     }
 }
 
-/// The leftmost searches: the links stand beside the elements, and the root is looked at as any state is.
-#[derive(Clone, Copy, Debug)]
-pub struct ForLeftmost;
-
-impl Searches for ForLeftmost {
+/// The links stand beside the elements, and the root is looked at as any state is.
+impl Reads for ForLeftmost {
     type Link = Empty;
 
     type Beside = u32;
-
-    ghost leftmost = { true };
 
     ghost lists = { λ elements links. ([], elements, links) };
 
     ghost root = { λ links. [] };
 
     ghost link = { λ element links state. slice_index links state };
-
-    #[inline(always)]
-    fn are_leftmost() -> bool {
-        true
-    }
 
     #[inline(always)]
     fn from_root(_beside: &[u32], _label: u8) -> Option<(u32, Option<NonZeroU32>)> {
@@ -131,7 +105,7 @@ pub type Leftmost<'a, V> = View<'a, V, ForLeftmost>;
 
 /// The states as the searches `S` see them.
 #[derive(Drop)]
-pub struct View<'a, V: Copy, S: Searches> {
+pub struct View<'a, V: Copy, S: Reads> {
     states: &'a [State<S::Link>],
     beside: &'a [S::Beside],
     outputs: &'a [Output<V>],
@@ -141,7 +115,7 @@ pub struct View<'a, V: Copy, S: Searches> {
     searches: PhantomData<S>,
 }
 
-impl<'a, V: Copy, S: Searches> Model for View<'a, V, S> {
+impl<'a, V: Copy, S: Reads> Model for View<'a, V, S> {
     ghost use Rattle.daachorse_bytewise_states.specs.Parts.{Parts};
     ghost use Rattle.daachorse_bytewise_states.specs.Views.{IsSeen, seen_parts};
 
@@ -153,7 +127,7 @@ impl<'a, V: Copy, S: Searches> Model for View<'a, V, S> {
         (seen_parts s.kind (S.lists s.states.now s.beside.now) s.outputs.now s.num_states) };
 }
 
-impl<'a, V: Copy, S: Searches> View<'a, V, S> {
+impl<'a, V: Copy, S: Reads> View<'a, V, S> {
     /// The automaton of these elements, with what stands beside them.
     #[inline(always)]
     pub(crate) fn new(
@@ -177,7 +151,7 @@ impl<'a, V: Copy, S: Searches> View<'a, V, S> {
     }
 }
 
-impl<'a, V: Copy, S: Searches> Automaton<V> for View<'a, V, S> {
+impl<'a, V: Copy, S: Reads> Automaton<V> for View<'a, V, S> {
     ghost use Rattle.std.specs.Prelude.{◌≡◌, ◌≤◌, length, Bool, true};
     ghost use Rattle.daachorse_core.specs.Outputs.{outputs_at};
     ghost use Rattle.daachorse_bytewise_states.specs.Parts.{content};

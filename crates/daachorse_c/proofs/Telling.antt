@@ -23,11 +23,6 @@ one_as_read : (folds : Bool) (u : ℕ) → as_read folds (u ∷ []) ≡ unit_as_
 one_as_read true u = refl
 one_as_read false u = refl
 
--- what is read of two texts is read of both
-pub as_read-append : (folds : Bool) (v w : List ℕ) → as_read folds (v ++ w) ≡ as_read folds v ++ as_read folds w
-as_read-append true v w = map-append folded_unit v w
-as_read-append false v w = refl
-
 module _ (K : Dictionary ℕ) where
   found-each : (all : Bool) (h : List ℕ) → found_in all K h ≡ at_each_end (ending_with all K) [] h
   found-each true h = refl

@@ -1,8 +1,8 @@
 -- Going over a mapper's table one gets the character of each code, since no two characters have the same.
-use Rattle.std.proofs.Common.{◌≡◌, ◌≢◌, ℕ, zero, suc, ◌<◌, ◌==◌, Bool, true, false, List, cond, length, get_or, set, replicate, Option, Some, None, refl, sym, ap, ◌∙◌, subst, arith}
+use Rattle.std.proofs.Common.{◌≡◌, ◌≢◌, ℕ, suc, ◌<◌, ◌==◌, Bool, true, false, List, cond, length, get_or, set, Option, Some, None, refl, sym, ap, ◌∙◌, subst, arith}
 use Rattle.std.proofs.Math.Utf8.{scalar}
 use Rattle.std.proofs.lemmas.Option.{same_Some}
-use Rattle.std.proofs.lemmas.List.{get_or-set_same, get_or-set_other, length-set, length-replicate}
+use Rattle.std.proofs.lemmas.List.{get_or-set_same, get_or-set_other, length-set}
 use Rattle.daachorse_mapper.specs.Codings.{Coding, IsCoding, code_of}
 use Rattle.daachorse_charwise_states.specs.Edges.{AreCharacters, character_at}
 use Rattle.daachorse_charwise_states.specs.Parts.{char_code}
@@ -74,16 +74,3 @@ module _ (coding : Coding) (is : IsCoding coding) where
 
   pub character_left : (u n : ℕ) (old : List (Option ℕ)) → n ≡ suc u → code_of coding u ≡ None → AreCharacters coding u old → AreCharacters coding n old
   character_left u n old next none so = let P : ℕ → Type 0 = λ m. AreCharacters coding m old in subst P (sym next) (character_none u old none so)
-
--- before the first code point
-all_none : (n k : ℕ) → get_or {A = Option ℕ} (replicate n None) k None ≡ None
-all_none zero k = refl
-all_none (suc n) zero = refl
-all_none (suc n) (suc k) = all_none n k
-
-pub characters_none : (coding : Coding) → AreCharacters coding 0 (replicate coding.alphabet_size None)
-characters_none coding = record {
-  size = length-replicate coding.alphabet_size None;
-  from_code = λ u k less e. absurd (omega (arith, less));
-  to_code = λ u k e. absurd (let none : get_or {A = Option ℕ} (replicate coding.alphabet_size None) k None ≡ None = all_none coding.alphabet_size k in cc);
-}

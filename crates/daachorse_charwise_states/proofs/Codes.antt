@@ -7,13 +7,10 @@ use Rattle.std.proofs.Math.Utf8.{scalar}
 use Rattle.std.proofs.lemmas.Option.{same_Some, slice_get_within}
 use Rattle.std.specs.Ordering.{nat_cmp}
 use Rattle.daachorse_build.specs.Tables.{child_in}
-use Rattle.daachorse_mapper.specs.Codings.{Coding, IsCoding, code_of, entry_code}
+use Rattle.daachorse_mapper.specs.Codings.{Coding, IsCoding, code_of}
+use Rattle.daachorse_mapper.proofs.Taken.{entry_some}
 use Rattle.daachorse_charwise_states.specs.Packing.{AreEdgesCoded, code_in}
 use Rattle.daachorse_charwise_states.specs.Parts.{char_code}
-
-entry_some : (o : Option ℕ) (k : ℕ) → entry_code o ≡ Some k → (n : ℕ) × (o ≡ Some n)
-entry_some None k e = absurd (cc)
-entry_some (Some n) k e = (n, refl)
 
 module _ (coding : Coding) (u : ℕ) where
   -- what has a character's code is a character, and the table has the code

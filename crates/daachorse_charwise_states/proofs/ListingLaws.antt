@@ -1,5 +1,5 @@
 -- What a walk over the patterns of valid parts gives is the listing of their dictionary, whose keys are texts.
-use Rattle.std.proofs.Common.{◌≡◌, ◌≢◌, ℕ, ◌<◌, Bool, true, false, cond, List, [], ◌∷◌, length, refl, sym, ap, ◌∙◌, Some}
+use Rattle.std.proofs.Common.{◌≡◌, ◌≢◌, ℕ, ◌<◌, true, cond, List, [], ◌∷◌, length, refl, sym, ap, ◌∙◌, Some}
 use Rattle.std.specs.Prelude.{IsTrue}
 use Rattle.std.specs.List.{AllByRecursion}
 use Rattle.std.specs.Str.{all_scalars}
@@ -8,6 +8,7 @@ use Rattle.daachorse_model.specs.Dictionary.{values_of}
 use Rattle.daachorse_model.specs.Kinds.{is_leftmost}
 use Rattle.daachorse_model.specs.Prefixes.{IsListing}
 use Rattle.daachorse_model.specs.Units.{char_width, same_text}
+use Rattle.daachorse_model.proofs.Listings.{value_later}
 use Rattle.daachorse_listing.specs.Listing.{HasPatterns, IsPatterns, own_end}
 use Rattle.daachorse_listing.proofs.MachineListings.{machine_listing, machine_patterns}
 use Rattle.daachorse_charwise_states.specs.Edges.{AreCharacters, Lettered, edge_of}
@@ -23,17 +24,10 @@ module _ {V : Type 0} where
       let test : same_text e.0 e.0 ≡ true = (bytes_eq-Decides e.0 e.0).1 refl in
       let bad : e.1 ∷ values_of es e.0 ≡ [] = sym (ap (λ b. cond b (e.1 ∷ values_of es e.0) (values_of es e.0)) test) ∙ none in cc
 
-  later_key : (e : List ℕ × V) (es : List (List ℕ × V)) (w : List ℕ) → values_of es w ≢ [] → values_of (e ∷ es) w ≢ []
-  later_key e es w key none = go (same_text e.0 w) none
-    where
-      go : (b : Bool) → cond b (e.1 ∷ values_of es w) (values_of es w) ≡ [] → ⊥
-      go true none = cc
-      go false none = key none
-
   -- what holds of each text that has a value holds of each entry
   entries_all : (P : List ℕ → Type 0) (entries : List (List ℕ × V)) → ((w : List ℕ) → values_of entries w ≢ [] → P w) → AllByRecursion (λ e. P e.0) entries
   entries_all P [] each = tt
-  entries_all P (e ∷ es) each = (each e.0 (first_key e es), entries_all P es (λ w key. each w (later_key e es w key)))
+  entries_all P (e ∷ es) each = (each e.0 (first_key e es), entries_all P es (λ w key. each w (value_later e es w key)))
 
   pub listing_texts : (p : Parts V) (entries : List (List ℕ × V)) → IsListing (content p) entries → AreTexts entries
   listing_texts p entries listing = entries_all (λ w. IsTrue (all_scalars w)) entries (λ w key. text_key p w (λ none. key (listing.same w ∙ none)))

@@ -11,10 +11,10 @@ use Rattle.daachorse_model.specs.Kinds.{is_leftmost}
 use Rattle.daachorse_model.specs.Paths.{is_reached}
 use Rattle.daachorse_model.specs.Prefixes.{IsPrefix, PassesAt}
 use Rattle.daachorse_model.specs.Units.{char_width}
+use Rattle.daachorse_model.proofs.Paths.{walk-push}
 use Rattle.daachorse_build.specs.declared.nfa_builder.NfaBuilder.{NfaBuilder}
 use Rattle.daachorse_build.specs.Builders.{outputs_of, states_of}
 use Rattle.daachorse_build.specs.Tables.{child_in, edges_of, fails_of, positions_of}
-use Rattle.daachorse_build.proofs.Walks.{walk-push}
 use Rattle.daachorse_machine.specs.Copies.{IsCopy}
 use Rattle.daachorse_machine.proofs.CopyLaws.{content-same, copy-counted, copy-right}
 use Rattle.daachorse_mapper.specs.Codings.{Coding, IsCoding}

@@ -1,35 +1,17 @@
 -- Elements are written one after another: each write keeps those before it.
-use Rattle.std.proofs.Common.{◌≡◌, ◌≢◌, ℕ, ◌+◌, ◌<◌, ◌⊎◌, inl, inr, List, [], length, set, refl, sym, ap, ◌∙◌, subst, arith}
-use Rattle.std.specs.Prelude.{slice_index, slice_index_or}
+use Rattle.std.proofs.Common.{◌≡◌, ◌≢◌, ℕ, ◌+◌, ◌<◌, ◌⊎◌, inl, inr, List, length, set, sym, ap, ◌∙◌, subst, arith}
+use Rattle.std.specs.Prelude.{slice_index}
 use Rattle.std.proofs.lemmas.Bool.{cases_eq}
-use Rattle.std.proofs.lemmas.List.{get_or-map, get_or-set_other, get_or-set_same, length-set}
+use Rattle.std.proofs.lemmas.List.{get_or-set_other, get_or-set_same, length-set}
+use Rattle.daachorse_model.proofs.Lists.{below_or_at}
 use Rattle.daachorse_placement.specs.declared.build_helper.SiblingGroup.{SiblingGroup}
 use Rattle.daachorse_placement.specs.Placement.{children_of, parent_of}
-use Rattle.daachorse_build.specs.declared.nfa_builder.NfaBuilderState.{NfaBuilderState}
-use Rattle.daachorse_build.specs.Tables.{fails_of, link_of, position_of, positions_of}
 use Rattle.daachorse_packing.specs.Settled.{ArePlaces}
+use Rattle.daachorse_packing.proofs.Written.{written_at}
 use Rattle.daachorse_charwise_states.specs.declared.state.State.{State}
 use Rattle.daachorse_charwise_states.specs.Elements.{base_in, check_in, fail_in, output_in, vacant}
 use Rattle.daachorse_charwise_states.specs.Packing.{element}
 use Rattle.daachorse_charwise_states.specs.Writing.{AreGroupsApart, DifferInChecks, HasPlaced, HaveCheck, HaveChecks, place_of}
-
--- ---- what is read of the states of a builder, and of groups
-module _ {L V A : Type 0} (states : List (NfaBuilderState L V A)) (i : ℕ) (s : NfaBuilderState L V A) (inside : i < length states) (is : s ≡ slice_index_or states i s) where
-  pub link_at : slice_index (fails_of states) i ≡ link_of s
-  link_at = get_or-map link_of states i s 0 inside ∙ ap link_of (sym is)
-
-  pub position_at : slice_index (positions_of states) i ≡ position_of s
-  position_at = get_or-map position_of states i s 0 inside ∙ ap position_of (sym is)
-
-module _ {A : Type 0} (gs : List (SiblingGroup A)) (k : ℕ) (g : SiblingGroup A) (inside : k < length gs) (is : g ≡ slice_index_or gs k g) where
-  pub parent_at : parent_of gs k ≡ g.parent
-  parent_at = get_or-map (λ (x : SiblingGroup A). x.parent) gs k g 0 inside ∙ ap (λ (x : SiblingGroup A). x.parent) (sym is)
-
-  pub children_at : children_of gs k ≡ g.children.items
-  children_at = get_or-map (λ (x : SiblingGroup A). x.children.items) gs k g [] inside ∙ ap (λ (x : SiblingGroup A). x.children.items) (sym is)
-
-below_or_at : (j n : ℕ) → j < n + 1 → (j < n) ⊎ (j ≡ n)
-below_or_at j n less = grind arith
 
 -- ---- one state more is written
 module _ (m n elements : ℕ) (idx bases fails positions : List ℕ) (old new : List State) (places : ArePlaces idx n elements) (was : HasPlaced m idx bases fails positions old new) where
@@ -48,34 +30,20 @@ module _ (m n elements : ℕ) (idx bases fails positions : List ℕ) (old new : 
       before t less alive = omega (arith, less, alive, dead)
 
   module _ (e : State) (inside : m < n) (fits : slice_index idx m < length new) (here : m ≢ 1) where
-    -- what f tells of the element of a state so far, it tells of it now
-    at_place : (f : State → ℕ) (x : ℕ → ℕ) → ((t : ℕ) → t < m → t ≢ 1 → f (element new (slice_index idx t)) ≡ x t) → f e ≡ x m
-        → (t : ℕ) → t < m + 1 → t ≢ 1 → f (element (set new (slice_index idx m) e) (slice_index idx t)) ≡ x t
-    at_place f x so_far is t less alive = elim (below_or_at t m less) [
-      | inl before ↦
-          let other : slice_index idx t ≢ slice_index idx m = λ same. (let one : t ≡ m = places.apart t m (omega (arith, before, inside)) inside alive here same in omega (arith, before, one)) in
-          ap f (get_or-set_other new (slice_index idx m) (slice_index idx t) e vacant other) ∙ so_far t before alive
-      | inr same ↦
-          let P : ℕ → Type 0 = λ k. f (element (set new (slice_index idx m) e) (slice_index idx k)) ≡ x k in
-          subst P (sym same) (ap f (get_or-set_same new (slice_index idx m) e vacant fits) ∙ is)
-    ]
-
     pub placed_more : base_in e ≡ slice_index bases m → check_in e ≡ 1 → fail_in e ≡ slice_index idx (slice_index fails m) → output_in e ≡ slice_index positions m
         → HasPlaced (m + 1) idx bases fails positions old (set new (slice_index idx m) e)
     placed_more base check fail output = record {
       size = length-set new (slice_index idx m) e ∙ was.size;
-      base = at_place base_in (slice_index bases) was.base base;
-      check = at_place check_in (λ t. 1) was.check check;
-      fail = at_place fail_in (λ t. slice_index idx (slice_index fails t)) was.fail fail;
-      output = at_place output_in (slice_index positions) was.output output;
+      base = written_at vacant m n elements idx new places e inside fits here base_in (slice_index bases) was.base base;
+      check = written_at vacant m n elements idx new places e inside fits here check_in (λ t. 1) was.check check;
+      fail = written_at vacant m n elements idx new places e inside fits here fail_in (λ t. slice_index idx (slice_index fails t)) was.fail fail;
+      output = written_at vacant m n elements idx new places e inside fits here output_in (slice_index positions) was.output output;
       others = λ i none.
           get_or-set_other new (slice_index idx m) i e vacant (λ same. none m (omega arith) here (sym same))
           ∙ was.others i (λ t less alive. none t (omega (arith, less)) alive);
     }
 
 -- ---- one child more has the check
-differ-none : (es : List State) → DifferInChecks es es
-differ-none es = record { size = refl; base = λ i. refl; fail = λ i. refl; output = λ i. refl }
 
 differ-more : (old mid new : List State) → DifferInChecks old mid → DifferInChecks mid new → DifferInChecks old new
 differ-more old mid new first then = record {
@@ -93,9 +61,6 @@ set-same f es p e inside same i = elim (cases_eq i p) [
       subst P (sym here) (ap f (get_or-set_same es p e vacant inside) ∙ same)
   | inr other ↦ ap f (get_or-set_other es p i e vacant other)
 ]
-
-pub check_none : (cs : List (ℕ × ℕ)) (check : ℕ) (idx : List ℕ) (es : List State) → HaveCheck cs 0 check idx es es
-check_none cs check idx es = record { parts = differ-none es; set = λ j less. absurd (omega (arith, less)); kept = λ i none. refl }
 
 module _ (cs : List (ℕ × ℕ)) (n check : ℕ) (idx : List ℕ) (old new : List State) (was : HaveCheck cs n check idx old new) (p : ℕ) (at : p ≡ place_of idx cs n) (e : State) (inside : p < length new) where
   pub check_more : check_in e ≡ check → base_in e ≡ base_in (element new p) → fail_in e ≡ fail_in (element new p) → output_in e ≡ output_in (element new p) → HaveCheck cs (n + 1) check idx old (set new p e)
@@ -127,8 +92,6 @@ module _ (cs : List (ℕ × ℕ)) (n check : ℕ) (idx : List ℕ) (old new : Li
       ]
 
 -- ---- one group more has its checks
-pub checks_none : {A : Type 0} (gs : List (SiblingGroup A)) (idx : List ℕ) (es : List State) → HaveChecks gs 0 idx es es
-checks_none gs idx es = record { parts = differ-none es; set = λ k j less. absurd (omega (arith, less)); kept = λ i none. refl }
 
 module _ {A : Type 0} (gs : List (SiblingGroup A)) (m : ℕ) (idx : List ℕ) (old mid new : List State) (was : HaveChecks gs m idx old mid) (inside : m < length gs) (apart : AreGroupsApart gs idx) where
   pub checks_more : HaveCheck (children_of gs m) (length (children_of gs m)) (slice_index idx (parent_of gs m)) idx mid new → HaveChecks gs (m + 1) idx old new

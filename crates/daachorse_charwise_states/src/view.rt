@@ -3,7 +3,7 @@
 //! The layers above may rely on a [`View`] being the automaton of its parts, on `turn` looking at
 //! one element and its child alone and counting one turn, and on no call taking memory.
 
-ghost use Rattle.std.specs.Prelude.{◌≡◌, Bool, true, false};
+ghost use Rattle.std.specs.Prelude.{◌≡◌};
 ghost use Rattle.daachorse_charwise_states.specs.Views.{IsFor, parts_of};
 
 use crate::state::State;
@@ -11,45 +11,10 @@ use daachorse_core::turns::{Look, Turns};
 use daachorse_core::{DEAD_STATE_IDX, MatchKind, Output, ROOT_STATE_IDX};
 use daachorse_mapper::mapper::{CodeMapper, code_in};
 use daachorse_search::automaton::Automaton;
+use daachorse_search::view::{ForLeftmost, ForStandard, Searches};
 use std::alloc::Allocator;
 use std::marker::{Model, PhantomData};
 use std::num::NonZeroU32;
-
-/// The searches that a view is for.
-pub trait Searches {
-    /// Whether they are leftmost.
-    ghost leftmost: { Bool };
-
-    /// Whether they are leftmost, so that a link may be dead.
-    fn are_leftmost() -> bool
-        ensures { result ≡ leftmost };
-}
-
-/// The standard searches.
-#[derive(Clone, Copy, Debug)]
-pub struct ForStandard;
-
-impl Searches for ForStandard {
-    ghost leftmost = { false };
-
-    #[inline(always)]
-    fn are_leftmost() -> bool {
-        false
-    }
-}
-
-/// The leftmost searches.
-#[derive(Clone, Copy, Debug)]
-pub struct ForLeftmost;
-
-impl Searches for ForLeftmost {
-    ghost leftmost = { true };
-
-    #[inline(always)]
-    fn are_leftmost() -> bool {
-        true
-    }
-}
 
 /// The states as the standard searches see them.
 pub type Standard<'a, V> = View<'a, V, ForStandard>;

@@ -96,7 +96,3 @@ module _ {V : Type 0} (width : ℕ → ℕ) (a : Machine V) (label : ℕ → ℕ
               let values : has_values (content width a (u ∷ w)) ≡ true = some_values (content width a (u ∷ w)) (owns u (at m) w e (λ c. leaf_none m c lt h)) in
               ap (λ (r : List V × ℕ). has_values r.0) (own_at (u ∷ w) m lt e) ∙ (sym (ap (λ o. has_values (values_at width a (u ∷ w) o)) e) ∙ values);
         }
-
-    -- the root's chain ends behind its own outputs
-    pub root_own : own_from a.outputs (a.output 0) 0 (a.output 0) ≡ own width a [] 0
-    root_own = refl

@@ -1,5 +1,5 @@
 -- How the walk goes over the children of the element at one place.
-use Rattle.std.proofs.Common.{◌≡◌, ℕ, ◌+◌, ◌<◌, ◌≤◌, List, [], ◌∷◌, ◌++◌, length, Option, Some, None, sym, ap, ◌∙◌, subst, inl, inr, refl, arith, get_or, set, ◌⊎◌}
+use Rattle.std.proofs.Common.{◌≡◌, ℕ, ◌+◌, ◌<◌, ◌≤◌, List, [], ◌∷◌, ◌++◌, length, Option, Some, None, sym, ap, ◌∙◌, subst, inl, inr, arith, get_or, set, ◌⊎◌}
 use Rattle.std.proofs.lemmas.List.{length-set, length_push, get_or_push}
 use Rattle.std.proofs.lemmas.Option.{none-some}
 use Rattle.std.proofs.lemmas.Bool.{cases_lt, cases_eq}
@@ -27,26 +27,10 @@ module _ (child : ℕ → ℕ → Option ℕ) (edge : ℕ → Option (ℕ × ℕ
     pub is : left ≡ members edge g bound
     pub walk : IsExpanding order parents labels marks k bound
 
-module _ (child : ℕ → ℕ → Option ℕ) (group : ℕ → Option ℕ) (edge : ℕ → Option (ℕ × ℕ)) (n : ℕ) (tell : TellChildren child group edge n) (inside : (i c j : ℕ) → child i c ≡ Some j → j < n) where
-  module _ (order parents labels marks : List ℕ) where
+module _ {child : ℕ → ℕ → Option ℕ} {group : ℕ → Option ℕ} {edge : ℕ → Option (ℕ × ℕ)} {n : ℕ} (tell : TellChildren child group edge n) where
+  module _ {order parents labels marks : List ℕ} where
     at_place : HasPlaces child (label edge) order parents labels marks → length marks ≡ n → (k : ℕ) → k < length order → get_or order k 0 < n
     at_place places each k here = omega (arith, places.inside k here, each)
-
-    pub expand_start : (g k : ℕ) → IsWalk child (label edge) n order parents labels marks k → k < length order → IsLeft child edge n (members edge g n) order parents labels marks g k
-    expand_start g k walk here = record {
-      bound = n;
-      most = omega arith;
-      is = refl;
-      walk = record {
-        places = walk.places;
-        closed = walk.closed;
-        marks_each = walk.marks_each;
-        here = here;
-        recent = λ m pos lt. omega (arith, walk.recent m pos lt);
-        latest = λ m pos lt e. absurd (omega (arith, walk.recent m pos lt, e));
-        seen = λ c t e less. absurd (omega (arith, inside (get_or order k 0) c t e, less));
-      };
-    }
 
     -- an element with no group has no child
     pub expand_none : (k : ℕ) → IsWalk child (label edge) n order parents labels marks k → k < length order → group (get_or order k 0) ≡ None → IsWalk child (label edge) n order parents labels marks (k + 1)
@@ -63,10 +47,10 @@ module _ (child : ℕ → ℕ → Option ℕ) (group : ℕ → Option ℕ) (edge
       within = omega (arith, here);
     }
 
-    module _ (g k : ℕ) (is : group (get_or order k 0) ≡ Some g) where
-      module _ (x : ℕ) (rest : List ℕ) (left : IsLeft child edge n (x ∷ rest) order parents labels marks g k) where
+    module _ {g k : ℕ} (is : group (get_or order k 0) ≡ Some g) where
+      module _ {xs : List ℕ} {x : ℕ} {rest : List ℕ} (begins : xs ≡ x ∷ rest) (left : IsLeft child edge n xs order parents labels marks g k) where
         last : IsLast (λ j. is_in g (edge j)) left.bound x rest
-        last = below-cons (λ j. is_in g (edge j)) left.bound x rest (sym left.is)
+        last = below-cons (λ j. is_in g (edge j)) left.bound x rest (sym left.is ∙ begins)
 
         pub next_in : x < n
         next_in = omega (arith, last.less, left.most)
@@ -129,8 +113,8 @@ module _ (child : ℕ → ℕ → Option ℕ) (group : ℕ → Option ℕ) (edge
             (λ same. omega (arith, left.walk.latest m pos at.0 (sym same), at.1, last.less))
             edge_at e tree
 
-      pub expand_done : IsLeft child edge n [] order parents labels marks g k → IsWalk child (label edge) n order parents labels marks (k + 1)
-      expand_done left = record {
+      pub expand_done : {xs : List ℕ} → xs ≡ [] → IsLeft child edge n xs order parents labels marks g k → IsWalk child (label edge) n order parents labels marks (k + 1)
+      expand_done none left = record {
         places = walk.places;
         closed = λ l less c t e. elim (cases_lt l k) [
           | inl a ↦ walk.closed l a c t e
@@ -148,7 +132,7 @@ module _ (child : ℕ → ℕ → Option ℕ) (group : ℕ → Option ℕ) (edge
           walk = left.walk
 
           at : (c t : ℕ) → child (get_or order k 0) c ≡ Some t → (t < left.bound) ⊎ (left.bound ≤ t) → HasEntry order parents k t
-          at c t e (inl a) = absurd (below-none (λ j. is_in g (edge j)) left.bound t (sym left.is) a (child_member child group edge n tell (get_or order k 0) g (at_place walk.places walk.marks_each k walk.here) is c t e))
+          at c t e (inl a) = absurd (below-none (λ j. is_in g (edge j)) left.bound t (sym left.is ∙ none) a (child_member child group edge n tell (get_or order k 0) g (at_place walk.places walk.marks_each k walk.here) is c t e))
           at c t e (inr b) = walk.seen c t e b
 
     pub few_places : HasPlaces child (label edge) order parents labels marks → length marks ≡ n → length order ≤ n

@@ -8,8 +8,9 @@ use Rattle.std.proofs.lemmas.List.Elements.{All-append, All-contains, All-nil, A
 use Rattle.std.proofs.lemmas.Option.{none-some, same_Some}
 use Rattle.daachorse_listing.specs.Edges.{TellChildren, is_in, members}
 use Rattle.daachorse_model.specs.Paths.{Leads, walk}
+use Rattle.daachorse_model.proofs.Paths.{push-parts, walk-push}
+use Rattle.daachorse_model.proofs.Lists.{last_of}
 use Rattle.daachorse_machine.proofs.PathLaws.{Leads-inside, Leads-length, walk-split}
-use Rattle.daachorse_links.proofs.Walks.{last_of, push-parts, walk-push}
 use Rattle.daachorse_prefilter.specs.Filters.{Filter, admits}
 use Rattle.daachorse_prefilter.specs.Windows.{HasRead}
 use Rattle.daachorse_prefilter.specs.declared.prefilter.window.Window.{Window}
@@ -102,13 +103,6 @@ module _ (child : ℕ → ℕ → Option ℕ) (bytes : ℕ → List ℕ) (f : Fi
   more_done : (next kids : List Entry) (e : Entry) → IsDone next e → IsDone (next ++ kids) e
   more_done next kids e (inl h) = inl h
   more_done next kids e (inr h) = inr (h.0, λ c j to. in_left next kids j (h.1 c j to))
-
-  -- no entry is done yet
-  pub next_start : (level next : List Entry) → next ≡ [] → IsNextOf child bytes f is_key level 0 next
-  next_start level next e = record {
-    each = subst (λ (xs : List Entry). All (λ k. (e : Entry) × Contains level e × IsChildOf child bytes f e k) xs) (sym e) (All-nil (λ k. (e : Entry) × Contains level e × IsChildOf child bytes f e k));
-    all = λ k default lt. absurd (omega (arith, lt));
-  }
 
   module _ (level next : List Entry) (n : ℕ) (e : Entry) (so_far : IsNextOf child bytes f is_key level n next) (here : (default : Entry) → e ≡ get_or level n default) where
     -- an entry at whose text the filter passes

@@ -3,9 +3,10 @@ use Rattle.std.proofs.Common.{◌≡◌, ◌≢◌, ℕ, Bool, List, [], ◌∷�
 use Rattle.daachorse_model.specs.Folding.{folded, folded_unit}
 use Rattle.daachorse_model.specs.Paths.{walk, Leads}
 use Rattle.daachorse_model.specs.Prefixes.{IsPrefix}
+use Rattle.daachorse_model.proofs.Paths.{walk-push}
 use Rattle.daachorse_machine.specs.Machines.{Machine, IsMachine, content, values_at}
 use Rattle.daachorse_machine.proofs.MachineLaws.{fore}
-use Rattle.daachorse_machine.proofs.PathLaws.{and_then_inv, reached_element, walk-push}
+use Rattle.daachorse_machine.proofs.PathLaws.{and_then_inv, reached_element}
 use Rattle.daachorse_checker.specs.Folded.{HasFoldedKeys, HasFoldedUnits}
 
 -- a unit in a text that is folded
@@ -19,7 +20,7 @@ path-folded child units v [] i j leads e = refl
 path-folded child units v (c ∷ w) i j leads e =
     let next = and_then_inv (λ k. walk child k w) (child i c) j e in
     let unit = units v i c next.0 leads next.1 in
-    let rest = path-folded child units (v ++ c ∷ []) w next.0 j (walk-push child 0 i v c leads ∙ next.1) next.2 in
+    let rest = path-folded child units (v ++ c ∷ []) w next.0 j (walk-push child 0 v c i leads ∙ next.1) next.2 in
     cc
 
 module _ {V : Type 0} (width : ℕ → ℕ) (a : Machine V) (leftmost : Bool) (n m : ℕ) (machine : IsMachine width a leftmost n m) where
@@ -31,7 +32,7 @@ module _ {V : Type 0} (width : ℕ → ℕ) (a : Machine V) (leftmost : Bool) (n
       at (Some i) e = path-folded a.child units [] k 0 i refl e
 
   pub units-from-keys : HasFoldedKeys (content width a) → HasFoldedUnits a.child
-  units-from-keys keys w i c j leads to = begun (fore width a leftmost n m machine (w ++ c ∷ []) (reached_element a.child (w ++ c ∷ []) j (walk-push a.child 0 i w c leads ∙ to)))
+  units-from-keys keys w i c j leads to = begun (fore width a leftmost n m machine (w ++ c ∷ []) (reached_element a.child (w ++ c ∷ []) j (walk-push a.child 0 w c i leads ∙ to)))
     where
       not_empty : (v : List ℕ) → v ++ c ∷ [] ≢ []
       not_empty [] e = cc

@@ -3,14 +3,11 @@ use Rattle.std.proofs.Common.{◌≡◌, ℕ, ◌<◌, List, [], ◌∷◌, leng
 use Rattle.std.specs.Prelude.{is_some, option_map, option_and_then}
 use Rattle.std.proofs.lemmas.Option.{none-some, same_Some}
 use Rattle.daachorse_model.specs.Paths.{walk, is_reached, Leads}
+use Rattle.daachorse_model.proofs.Lists.{some_of_map}
 use Rattle.daachorse_links.specs.Places.{IsTrie, child as kid}
 use Rattle.daachorse_links.proofs.ChildLaws.{edge, back}
 use Rattle.daachorse_checker.specs.Places.{HasPlaces, ArePlaces}
 use Rattle.daachorse_checker.proofs.PlaceLaws.{same_place}
-
-some_of_map : {A B : Type 0} (f : A → B) (o : Option A) → is_some (option_map f o) ≡ is_some o
-some_of_map f (Some x) = refl
-some_of_map f None = refl
 
 map_inv : {A B : Type 0} (f : A → B) (o : Option A) (y : B) → option_map f o ≡ Some y → (x : A) × (o ≡ Some x) × (f x ≡ y)
 map_inv f (Some x) y e = (x, refl, same_Some (f x) y e)

@@ -8,7 +8,6 @@ pub mod RightLinks
 pub mod SizeLaws
 pub mod CountLaws
 pub mod LeafLaws
-pub mod LinkPlaces
 pub mod ChainedLaws
 pub mod CheckedLaws
 pub mod FilterLaws

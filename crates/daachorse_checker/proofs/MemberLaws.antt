@@ -4,6 +4,7 @@ use Rattle.std.proofs.lemmas.Option.{none-some}
 use Rattle.std.proofs.lemmas.Bool.{cases_eq, false≢true}
 use Rattle.daachorse_listing.specs.Edges.{TellChildren, below, is_in}
 use Rattle.daachorse_listing.specs.Listing.{unit_of}
+use Rattle.daachorse_listing.proofs.SortLaws.{in-edge}
 
 module _ (test : ℕ → Bool) where
   -- none below n passes
@@ -51,11 +52,6 @@ module _ (test : ℕ → Bool) where
             ];
           }
 
--- an edge of a group, with its unit
-pub in_group : (g : ℕ) (e : Option (ℕ × ℕ)) → is_in g e ≡ true → e ≡ Some (g, unit_of e)
-in_group g None h = absurd (false≢true h)
-in_group g (Some p) h = let same : p.0 ≡ g = grind (arith, h) in ap (λ x. Some (x, p.1)) same
-
 pub of_group : (g c : ℕ) (e : Option (ℕ × ℕ)) → e ≡ Some (g, c) → is_in g e ≡ true
 of_group g c e h = ap (is_in g) h ∙ (let same : (g == g) ≡ true = grind arith in same)
 
@@ -75,7 +71,7 @@ module _ (child : ℕ → ℕ → Option ℕ) (group : ℕ → Option ℕ) (edge
   module _ (i g : ℕ) (lt : i < n) (is : group i ≡ Some g) where
     -- a member is a child
     pub member_child : (j : ℕ) → j < n → is_in g (edge j) ≡ true → child i (label edge j) ≡ Some j
-    member_child j less h = tell.to_child i g (label edge j) j lt is less (in_group g (edge j) h)
+    member_child j less h = tell.to_child i g (label edge j) j lt is less (in-edge g (edge j) h)
 
     -- a child is a member
     pub child_member : (c j : ℕ) → child i c ≡ Some j → is_in g (edge j) ≡ true

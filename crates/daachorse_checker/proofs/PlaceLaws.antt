@@ -1,15 +1,12 @@
 -- How places grow by one child.
-use Rattle.std.proofs.Common.{◌≡◌, ℕ, ◌+◌, ◌<◌, ◌≤◌, ◌⊎◌, List, [], ◌∷◌, ◌++◌, length, Option, Some, refl, sym, ap, zero, suc, ◌∙◌, inl, inr, arith, get_or, set, replicate, get_or-set_other, get_or-set_same}
-use Rattle.std.proofs.lemmas.List.{length-set, length-replicate, get_or-replicate, length_push, get_or_push, get_or_append_left, get_or_past}
+use Rattle.std.proofs.Common.{◌≡◌, ℕ, ◌+◌, ◌<◌, ◌≤◌, ◌⊎◌, List, [], ◌∷◌, ◌++◌, length, Option, Some, refl, sym, ap, zero, suc, ◌∙◌, inl, inr, arith, get_or, set, get_or-set_other, get_or-set_same}
+use Rattle.std.proofs.lemmas.List.{length-set, length_push, get_or_push, get_or_append_left}
 use Rattle.std.proofs.lemmas.Bool.{cases_lt, cases_eq}
 use Rattle.daachorse_machine.proofs.PathLaws.{pigeon}
 use Rattle.daachorse_checker.specs.Places.{HasPlaces, HasEntry, IsClosed}
 
 pub old_at : (xs : List ℕ) (y i : ℕ) → i < length xs → get_or (xs ++ y ∷ []) i 0 ≡ get_or xs i 0
 old_at xs y i lt = get_or_append_left xs (y ∷ []) 0 i lt
-
-zeros : (n i : ℕ) → get_or {A = ℕ} (replicate n 0) i 0 ≡ 0
-zeros n i = elim (cases_lt i n) [ inl h ↦ get_or-replicate n i 0 0 h | inr h ↦ get_or_past (replicate n 0) i 0 (omega (arith, h, length-replicate {A = ℕ} n 0)) ]
 
 module _ (child : ℕ → ℕ → Option ℕ) (label : ℕ → ℕ) where
   module _ (order parents labels marks : List ℕ) (h : HasPlaces child label order parents labels marks) where
@@ -119,26 +116,3 @@ module _ (child : ℕ → ℕ → Option ℕ) (label : ℕ → ℕ) where
 
       pub parents_push : (m : ℕ) → 0 < m → m < length (order ++ j ∷ []) → get_or (parents ++ k ∷ []) m 0 ≤ k
       parents_push m pos lt = elim (old_or_new m lt) [ inl a ↦ omega (arith, old_parents m a, last m pos a) | inr b ↦ omega (arith, new_parents m b) ]
-
-  -- the root alone
-  pub places_root : (order parents labels marks : List ℕ) (n : ℕ) → 0 < n → order ≡ 0 ∷ [] → parents ≡ 0 ∷ [] → labels ≡ 0 ∷ [] → marks ≡ replicate n 0 → HasPlaces child label order parents labels marks
-  places_root order parents labels marks n pos o p l d =
-      let flat : (i : ℕ) → get_or marks i 0 ≡ 0 = λ i. ap (λ xs. get_or xs i 0) d ∙ zeros n i in
-      let len : length order ≡ 1 = ap length o in
-      let lenp : length parents ≡ 1 = ap length p in
-      record {
-        some = omega (arith, len);
-        first = ap (λ xs. get_or xs 0 0) o;
-        one_each = lenp ∙ sym len;
-        label_each = ap length l ∙ sym len;
-        earlier = λ m low high. absurd (omega (arith, len, low, high));
-        edge = λ m low high. absurd (omega (arith, len, low, high));
-        labelled = λ m low high. absurd (omega (arith, len, low, high));
-        alive = λ m low high. absurd (omega (arith, len, low, high));
-        inside = λ m high.
-            let is : m ≡ 0 = omega (arith, len, high) in
-            omega (arith, ap (λ k. get_or order k 0) is, ap (λ xs. get_or xs 0 0) o, ap length d, length-replicate {A = ℕ} n 0, pos);
-        placed = λ m high. flat (get_or order m 0) ∙ (let is : 0 ≡ m = omega (arith, len, high) in is);
-        marked = λ j low. absurd (omega (arith, flat j, low));
-        rising = λ i m low less high. absurd (omega (arith, lenp, low, less, high));
-      }

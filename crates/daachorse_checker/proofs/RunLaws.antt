@@ -1,5 +1,5 @@
 -- The chain of an output goes on behind those of its length where that of the next one does, if that has its length too.
-use Rattle.std.proofs.Common.{◌≡◌, ℕ, zero, suc, ◌<◌, ◌≤◌, ◌==◌, Bool, true, false, List, [], ◌∷◌, ◌++◌, length, Option, Some, None, refl, sym, ap, ◌∙◌, inl, inr, arith, get_or}
+use Rattle.std.proofs.Common.{◌≡◌, ℕ, zero, suc, ◌≤◌, ◌==◌, Bool, true, false, List, [], ◌∷◌, ◌++◌, length, Option, Some, None, refl, sym, ap, ◌∙◌, inl, inr, arith}
 use Rattle.std.specs.Prelude.{slice_get}
 use Rattle.std.proofs.lemmas.Bool.{cases_lt}
 use Rattle.std.proofs.lemmas.List.{length_push, get_or_push, get_or_append_left}
@@ -11,9 +11,6 @@ use Rattle.daachorse_checker.specs.Runs.{AreRuns, has_values}
 
 eq_true : (a b : ℕ) → a ≡ b → (a == b) ≡ true
 eq_true a b e = grind (arith, e)
-
-eq_false : (a b : ℕ) → (a ≡ b → ⊥) → (a == b) ≡ false
-eq_false a b e = grind (arith, e)
 
 module _ {V : Type 0} (outputs : List (Output V)) where
   -- what the output at position q + 1 gives
@@ -35,19 +32,9 @@ module _ {V : Type 0} (outputs : List (Output V)) where
       go None is more = refl
       go (Some o) is more = ap (λ later. own_next outputs (length_of o == n) o q later) (more (parent_of o) (fall q o is))
 
-  pub rest_none : (n p : ℕ) → p ≡ 0 → 0 ≡ (own_from outputs p n p).1
-  rest_none n zero e = refl
-  rest_none n (suc q) e = absurd (omega (arith, e))
-
   module _ (n p q : ℕ) (o : Output V) (e : p ≡ suc q) (is : slice_get outputs q ≡ Some o) where
     here : own_from outputs p n p ≡ own_next outputs (length_of o == n) o q (own_from outputs q n (parent_of o))
     here = ap (λ x. own_from outputs x n x) e ∙ at_output q n q o is
-
-    pub rest_other : (length_of o ≡ n → ⊥) → p ≡ (own_from outputs p n p).1
-    rest_other ne = e ∙ sym (ap (λ (r : List V × ℕ). r.1) (here ∙ ap (λ b. own_next outputs b o q (own_from outputs q n (parent_of o))) (eq_false (length_of o) n ne)))
-
-    pub rest_same : (runs : List ℕ) → AreRuns outputs runs → q < length runs → length_of o ≡ n → get_or runs q 0 ≡ (own_from outputs p n p).1
-    rest_same runs are lt same = are q o lt is ∙ ap (λ k. (own_from outputs (suc q) k (suc q)).1) same ∙ ap (λ x. (own_from outputs x n x).1) (sym e)
 
     pub own_is : (length_of o == n) ≡ has_values (own_from outputs p n p).0
     own_is = by (length_of o == n) ∙ sym (ap (λ (r : List V × ℕ). has_values r.0) here)

@@ -5,7 +5,7 @@ use Rattle.std.proofs.lemmas.List.{get_or_push, length_push}
 use Rattle.daachorse_model.specs.Paths.{Leads}
 use Rattle.daachorse_model.specs.Units.{size}
 use Rattle.daachorse_model.proofs.Suffixes.{size-append}
-use Rattle.daachorse_links.proofs.Walks.{walk-push}
+use Rattle.daachorse_model.proofs.Paths.{walk-push}
 use Rattle.daachorse_checker.specs.Places.{HasOnePath, ArePlaces}
 use Rattle.daachorse_checker.specs.Sizes.{AreSizes}
 use Rattle.daachorse_checker.proofs.PlaceLaws.{old_at}

@@ -3,8 +3,9 @@ use Rattle.std.proofs.Common.{◌≡◌, ℕ, ◌<◌, ◌≤◌, List, [], ◌�
 use Rattle.std.proofs.lemmas.Option.{same_Some}
 use Rattle.std.proofs.lemmas.List.{length_push, same_from_push}
 use Rattle.daachorse_model.specs.Paths.{walk}
+use Rattle.daachorse_model.proofs.Paths.{walk-push, push-parts}
+use Rattle.daachorse_model.proofs.Lists.{last_of}
 use Rattle.daachorse_checker.specs.Places.{HasOnePath, HasPlaces, IsClosed}
-use Rattle.daachorse_links.proofs.Walks.{last_of, walk-push, push-parts}
 use Rattle.daachorse_checker.proofs.PlaceLaws.{same_place}
 
 module _ (child : ℕ → ℕ → Option ℕ) (label : ℕ → ℕ) (order parents labels marks : List ℕ) (list : HasPlaces child label order parents labels marks) where

@@ -9,7 +9,14 @@ use Rattle.daachorse_links.proofs.NearLaws.{near_child, near_other, near_top, up
 use Rattle.daachorse_links.proofs.StartLaws.{not_after, not_before}
 use Rattle.daachorse_links.proofs.TopLaws.{or_top_some, top_end, top_next}
 
-module _ (parents labels : List ℕ) (alphabet : ℕ) (trie : IsTrie parents labels alphabet) where
+module _ (fails : List ℕ) (falls : LinksFall fails) where
+  fall_to : (b q : ℕ) → 0 < q → q ≤ b → q < length fails → (get_or fails q 0 < q) ⊎ (get_or fails q 0 ≡ length fails)
+  fall_to b q pos _ lt = falls q pos lt
+
+  ups : (b q : ℕ) → q ≤ b → q < length fails → (up fails q < q) ⊎ (up fails q ≡ length fails)
+  ups b q le lt = ups_fall fails b (fall_to b) q le lt
+
+module _ {parents labels : List ℕ} {alphabet : ℕ} (trie : IsTrie parents labels alphabet) where
   -- a place is the child of its parent by its label
   pub is_picked : (m p c : ℕ) → 0 < m → m < length parents → get_or parents m 0 ≡ p → get_or labels m 0 ≡ c → m ≡ pick (child parents labels p c) 0
   is_picked m p c pos lt e g =
@@ -42,38 +49,32 @@ module _ (parents labels : List ℕ) (alphabet : ℕ) (trie : IsTrie parents lab
   pub picked_none : (p c x : ℕ) → x ≡ pick (child parents labels p c) 0 → x ≡ 0 → child parents labels p c ≡ None
   picked_none p c x e z = zero_by p c x (child parents labels p c) refl e z
 
-  module _ (stops : List Bool) (fails : List ℕ) (each : length fails ≡ length parents) (falls : LinksFall fails) where
-    fall_to : (b q : ℕ) → 0 < q → q ≤ b → q < length fails → (get_or fails q 0 < q) ⊎ (get_or fails q 0 ≡ length fails)
-    fall_to b q pos _ lt = falls q pos lt
-
-    ups : (b q : ℕ) → q ≤ b → q < length fails → (up fails q < q) ⊎ (up fails q ≡ length fails)
-    ups b q le lt = ups_fall fails b (fall_to b) q le lt
-
+  module _ {stops : List Bool} {fails : List ℕ} (each : length fails ≡ length parents) (falls : LinksFall fails) where
     -- the way begins at the link of p
     pub following_start : (p c : ℕ) → p < length fails → IsFollowing parents labels stops fails p c p (up fails p)
     following_start p c lt = record { low = lt; above = refl; same_near = refl; same_top = refl }
 
-    module _ (p c below here : ℕ) (is : IsFollowing parents labels stops fails p c below here) where
+    module _ {p c below here : ℕ} (is : IsFollowing parents labels stops fails p c below here) where
       -- it is at a place, or at the top
       pub following_low : here ≤ length fails
-      following_low = elim (ups below below (omega arith) is.low) [ inl h ↦ omega (arith, h, is.above, is.low) | inr h ↦ omega (arith, h, is.above) ]
+      following_low = elim (ups fails falls below below (omega arith) is.low) [ inl h ↦ omega (arith, h, is.above, is.low) | inr h ↦ omega (arith, h, is.above) ]
 
       -- it goes on from a place without a child by the label
       pub following_next : here < length fails → child parents labels here c ≡ None → IsFollowing parents labels stops fails p c here (up fails here)
       following_next lt none =
-          let fall : up fails below < below = elim (ups below below (omega arith) is.low) [ inl h ↦ h | inr h ↦ absurd (omega (arith, h, is.above, lt)) ] in
+          let fall : up fails below < below = elim (ups fails falls below below (omega arith) is.low) [ inl h ↦ h | inr h ↦ absurd (omega (arith, h, is.above, lt)) ] in
           record {
             low = lt;
             above = refl;
-            same_near = is.same_near ∙ near_other parents labels fails alphabet trie each here (fall_to here) here c (omega arith) lt none;
-            same_top = is.same_top ∙ top_next (up fails) stops (length fails) below (ups below) below is.low (omega arith) fall ∙ ap (λ x. top stops fails x) (sym is.above);
+            same_near = is.same_near ∙ near_other parents labels fails alphabet trie each here (fall_to fails falls here) here c (omega arith) lt none;
+            same_top = is.same_top ∙ top_next (up fails) stops (length fails) below (ups fails falls below) below is.low (omega arith) fall ∙ ap (λ x. top stops fails x) (sym is.above);
           }
 
       -- at a place with one, that is the link
       pub following_found : (m j t : ℕ) → here < length fails → child parents labels here c ≡ Some j → cond (stop stops m) (length fails) (or_top j t) ≡ right parents labels stops fails p m c
       following_found m j t lt some =
           let pos = (back parents labels alphabet trie here c j some).0 in
-          let e : near parents labels fails (up fails p) c ≡ j = is.same_near ∙ near_child parents labels fails alphabet trie each here (fall_to here) here c j (omega arith) lt some in
+          let e : near parents labels fails (up fails p) c ≡ j = is.same_near ∙ near_child parents labels fails alphabet trie each here (fall_to fails falls here) here c j (omega arith) lt some in
           let same : or_top j t ≡ or_top (near parents labels fails (up fails p) c) (top stops fails p) =
           or_top_some j t pos ∙ sym (or_top_some j (top stops fails p) pos) ∙ ap (λ x. or_top x (top stops fails p)) (sym e) in
           ap (λ x. cond (stop stops m) (length fails) x) same

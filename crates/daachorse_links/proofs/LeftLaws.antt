@@ -2,13 +2,13 @@
 use Rattle.std.proofs.Common.{◌≡◌, ◌≢◌, ℕ, ◌⊎◌, Bool, true, false, cond, List, [], ◌∷◌, ◌++◌, Option, Some, None, is_some, refl, sym, ap, ◌∙◌, subst, inl, inr, append_assoc}
 use Rattle.std.specs.Prelude.{◌||◌}
 use Rattle.std.proofs.lemmas.Option.{none-some, same_Some}
-use Rattle.std.proofs.lemmas.Bool.{cases_Bool, cond-true, cond-false}
+use Rattle.std.proofs.lemmas.Bool.{cases_Bool, cond-true, cond-false, or_right}
 use Rattle.daachorse_model.specs.Dictionary.{Dictionary}
 use Rattle.daachorse_model.specs.Paths.{walk, is_reached}
 use Rattle.daachorse_model.specs.Prefixes.{is_key, key_begins}
-use Rattle.daachorse_model.proofs.Booleans.{or-none, or-true}
+use Rattle.daachorse_model.proofs.Booleans.{or-none}
+use Rattle.daachorse_model.proofs.Paths.{walk-push, is_reached-push}
 use Rattle.daachorse_links.specs.Links.{value_at, keys, met, left_long, left_link, IsPlaceOf, IsLinkOf}
-use Rattle.daachorse_links.proofs.Walks.{walk-push, is_reached-push}
 
 -- a key that begins w and a unit begins w, or is both
 pub key_begins-push : {V : Type 0} (K : Dictionary V) (t w : List ℕ) (c : ℕ) → key_begins K t (w ++ c ∷ []) ≡ (key_begins K t w || is_key K (t ++ (w ++ c ∷ [])))
@@ -138,7 +138,7 @@ module _ (child : ℕ → ℕ → Option ℕ) (stops : ℕ → Bool) (dead : ℕ
     -- a child that stops is dead
     pub dead_by_stop : (s : ℕ) (c : ℕ) (t : ℕ) (d : ℕ) (ds : List ℕ) → walk child 0 (d ∷ ds) ≡ Some s → child s c ≡ Some t → stops t ≡ true → IsLinkOf child stops dead t dead
     dead_by_stop s c t d ds at edge stop =
-        let met' : met child stops ((d ∷ ds) ++ c ∷ []) ≡ true = meets_push (d ∷ ds) c s t at edge ∙ ap (λ b. met child stops (d ∷ ds) || b) stop ∙ or-true (met child stops (d ∷ ds)) true refl in
+        let met' : met child stops ((d ∷ ds) ++ c ∷ []) ≡ true = meets_push (d ∷ ds) c s t at edge ∙ ap (λ b. met child stops (d ∷ ds) || b) stop ∙ or_right (met child stops (d ∷ ds)) true refl in
         let P : Option (List ℕ) → Type 0 = λ o. IsPlaceOf child dead o dead in
         link_at s c t dead d ds at edge (subst P (sym (cond-true _ _ _ met')) refl)
 

@@ -3,11 +3,11 @@ use Rattle.std.proofs.Common.{◌≡◌, ◌≢◌, ℕ, ◌+◌, ◌<◌, ◌�
 use Rattle.std.proofs.lemmas.List.{length-set}
 use Rattle.std.proofs.lemmas.Bool.{cases_eq, cases_lt}
 use Rattle.daachorse_links.specs.Places.{child, IsTrie, LinksFall, AreStarts}
-use Rattle.daachorse_links.specs.Near.{up, near, right, AreNear, IsChecked, IsSaved}
+use Rattle.daachorse_links.specs.Near.{up, near, right, AreNear}
 use Rattle.daachorse_links.specs.Tours.{IsEntering, IsLeaving}
 use Rattle.daachorse_links.proofs.ChildLaws.{edge, back}
 use Rattle.daachorse_links.proofs.NearLaws.{near_child, near_other}
-use Rattle.daachorse_links.proofs.StartLaws.{not_after, not_before}
+use Rattle.daachorse_links.proofs.StartLaws.{not_after}
 
 module _ (parents labels : List ℕ) (stops : List Bool) (fails : List ℕ) (alphabet : ℕ) (trie : IsTrie parents labels alphabet) (each : length fails ≡ length parents) (falls : LinksFall fails)
     (starts : List ℕ) (are : AreStarts parents starts) (p : ℕ) (within : p < length parents) where
@@ -22,16 +22,17 @@ module _ (parents labels : List ℕ) (stops : List Bool) (fails : List ℕ) (alp
         | inr h ↦ elim (cases_lt m j) [ inl k ↦ absurd (trie.apart m j hm k lj (g ∙ sym e) (sym same)) | inr k ↦ omega (arith, h, k) ]
       ]
 
-  -- ---- coming
-  pub entering_start : (array saved : List ℕ) → AreNear parents labels fails array (up fails p) → IsEntering parents labels stops fails array saved saved p (get_or starts p 0)
-  entering_start array saved near' = record {
-    checked = λ j pos lt low e. absurd (not_before parents starts are p within j pos low e);
-    mine = λ j pos lt low e. absurd (not_before parents starts are p within j pos low e);
-    other = λ c lt _. near' c lt;
-    kept = λ j pos lt low e. absurd (not_before parents starts are p within j pos low e);
-    frame = λ j _. refl;
-  }
+  -- a child of p has its place before the places of the state behind p
+  in_range : (m : ℕ) → get_or starts (p + 1) 0 ≤ m → (j : ℕ) → j < length parents → get_or parents j 0 ≡ p → j < m
+  in_range m done j lj ej = elim (cases_lt j m) [ inl h ↦ h | inr h ↦ absurd (not_after parents starts are p within j (omega (arith, done, h)) lj ej) ]
 
+  no_child : (c : ℕ) → child parents labels p c ≡ None → (j : ℕ) → 0 < j → j < length parents → get_or parents j 0 ≡ p → get_or labels j 0 ≡ c → ⊥
+  no_child c e j pos hj ej g =
+      let is' : child parents labels p c ≡ Some j = ap (λ q. child parents labels q c) (sym ej) ∙ (ap (λ d. child parents labels (get_or parents j 0) d) (sym g) ∙ edge parents labels alphabet trie j pos hj) in
+      let bad : None ≡ Some j = sym e ∙ is' in
+      cc
+
+  -- ---- coming
   -- what the array has of the label of the next child
   pub entering_reads : (array saved old : List ℕ) (m : ℕ) → length array ≡ alphabet → IsEntering parents labels stops fails array saved old p m → (0 < m) × (m < length parents) × (get_or parents m 0 ≡ p) →
       get_or array (get_or labels m 0) 0 ≡ near parents labels fails (up fails p) (get_or labels m 0)
@@ -66,81 +67,27 @@ module _ (parents labels : List ℕ) (stops : List Bool) (fails : List ℕ) (alp
       get_or array c 0 ≡ near parents labels fails p c
   entered_at array saved old m done is c lt (Some j) e =
       let r = back parents labels alphabet trie p c j e in
-      let low : j < m = in_range j r.1 r.2 in
+      let low : j < m = in_range m done j r.1 r.2 in
       ap (λ x. get_or array x 0) (sym r.3) ∙ is.mine j r.0 r.1 low r.2
       ∙ sym (near_child parents labels fails alphabet trie each p fall_to p c j (omega arith) (omega (arith, within, each)) e)
-    where
-      in_range : (j : ℕ) → j < length parents → get_or parents j 0 ≡ p → j < m
-      in_range j lj ej = elim (cases_lt j m) [ inl h ↦ h | inr h ↦ absurd (not_after parents starts are p within j (omega (arith, done, h)) lj ej) ]
   entered_at array saved old m done is c lt None e =
-      is.other c lt (λ j pos hj low ej g. no_child j pos hj ej g)
+      is.other c lt (λ j pos hj low ej g. no_child c e j pos hj ej g)
       ∙ sym (near_other parents labels fails alphabet trie each p fall_to p c (omega arith) (omega (arith, within, each)) e)
-    where
-      no_child : (j : ℕ) → 0 < j → j < length parents → get_or parents j 0 ≡ p → get_or labels j 0 ≡ c → ⊥
-      no_child j pos hj ej g =
-          let is' : child parents labels p c ≡ Some j = ap (λ q. child parents labels q c) (sym ej) ∙ (ap (λ d. child parents labels (get_or parents j 0) d) (sym g) ∙ edge parents labels alphabet trie j pos hj) in
-          let bad : None ≡ Some j = sym e ∙ is' in
-          cc
 
   -- p is reached
   pub entered : (array saved old : List ℕ) (m : ℕ) → get_or starts (p + 1) 0 ≤ m → IsEntering parents labels stops fails array saved old p m → AreNear parents labels fails array p
   entered array saved old m done is c lt = entered_at array saved old m done is c lt (child parents labels p c) refl
 
-  pub entered_checked : (array saved old : List ℕ) (m : ℕ) → get_or starts (p + 1) 0 ≤ m → IsEntering parents labels stops fails array saved old p m → IsChecked parents labels stops fails p
-  entered_checked array saved old m done is j pos lt e =
-      elim (cases_lt j m) [ inl h ↦ is.checked j pos lt h e | inr h ↦ absurd (not_after parents starts are p within j (omega (arith, done, h)) lt e) ]
-
-  pub entered_saved : (array saved old : List ℕ) (m : ℕ) → get_or starts (p + 1) 0 ≤ m → IsEntering parents labels stops fails array saved old p m → IsSaved parents labels fails saved p
-  entered_saved array saved old m done is j pos lt e =
-      elim (cases_lt j m) [ inl h ↦ is.kept j pos lt h e | inr h ↦ absurd (not_after parents starts are p within j (omega (arith, done, h)) lt e) ]
-
-  pub entered_kept : (array saved old : List ℕ) (m : ℕ) → get_or starts (p + 1) 0 ≤ m → IsEntering parents labels stops fails array saved old p m → (q : ℕ) → IsSaved parents labels fails old q → IsSaved parents labels fails saved q
-  entered_kept array saved old m done is q was j pos lt e =
-      elim (cases_eq q p) [
-        | inl h ↦ subst (λ x. get_or saved j 0 ≡ near parents labels fails (up fails x) (get_or labels j 0)) (sym h) (entered_saved array saved old m done is j pos lt (e ∙ h))
-        | inr h ↦ is.frame j (λ g. h (sym e ∙ g)) ∙ was j pos lt e
-      ]
-
   -- ---- going back
-  pub leaving_start : (array : List ℕ) → AreNear parents labels fails array p → IsLeaving parents labels fails array p (get_or starts p 0)
-  leaving_start array near' = record {
-    back = λ j pos lt low e. absurd (not_before parents starts are p within j pos low e);
-    other = λ c lt _. near' c lt;
-  }
-
-  pub leaving_next : (array saved : List ℕ) (m : ℕ) → length array ≡ alphabet → IsLeaving parents labels fails array p m → (0 < m) × (m < length parents) × (get_or parents m 0 ≡ p) →
-      IsSaved parents labels fails saved p → IsLeaving parents labels fails (set array (get_or labels m 0) (get_or saved m 0)) p (m + 1)
-  leaving_next array saved m wide is at checked =
-      let l = get_or labels m 0 in
-      let f = get_or saved m 0 in
-      let lt : l < length array = omega (arith, trie.inside m at.0 at.1, wide) in
-      record {
-        back = λ j pos high low e. to_next j m low _
-            (λ h. get_or-set_other array l (get_or labels j 0) f 0 (λ g. omega (arith, one_label j m pos high at.0 at.1 e at.2 g, h)) ∙ is.back j pos high h e)
-            (λ h. subst (λ x. get_or (set array l f) (get_or labels x 0) 0 ≡ near parents labels fails (up fails p) (get_or labels x 0)) (sym h) (get_or-set_same array l f 0 lt ∙ checked m at.0 at.1 at.2));
-        other = λ c high no'.
-            let ne : c ≢ l = λ g. no' m at.0 at.1 (omega arith) at.2 (sym g) in
-            get_or-set_other array l c f 0 ne ∙ is.other c (omega (arith, high, length-set array l f)) (λ j pos hj low e g. no' j pos hj (omega (arith, low)) e g);
-      }
-
   left_at : (array : List ℕ) (m : ℕ) → get_or starts (p + 1) 0 ≤ m → IsLeaving parents labels fails array p m → (c : ℕ) → c < length array → (o : Option ℕ) → child parents labels p c ≡ o →
       get_or array c 0 ≡ near parents labels fails (up fails p) c
   left_at array m done is c lt (Some j) e =
       let r = back parents labels alphabet trie p c j e in
-      let low : j < m = in_range j r.1 r.2 in
+      let low : j < m = in_range m done j r.1 r.2 in
       subst (λ x. get_or array x 0 ≡ near parents labels fails (up fails p) x) r.3 (is.back j r.0 r.1 low r.2)
-    where
-      in_range : (j : ℕ) → j < length parents → get_or parents j 0 ≡ p → j < m
-      in_range j lj ej = elim (cases_lt j m) [ inl h ↦ h | inr h ↦ absurd (not_after parents starts are p within j (omega (arith, done, h)) lj ej) ]
   left_at array m done is c lt None e =
-      is.other c lt (λ j pos hj low ej g. no_child j pos hj ej g)
+      is.other c lt (λ j pos hj low ej g. no_child c e j pos hj ej g)
       ∙ near_other parents labels fails alphabet trie each p fall_to p c (omega arith) (omega (arith, within, each)) e
-    where
-      no_child : (j : ℕ) → 0 < j → j < length parents → get_or parents j 0 ≡ p → get_or labels j 0 ≡ c → ⊥
-      no_child j pos hj ej g =
-          let is' : child parents labels p c ≡ Some j = ap (λ q. child parents labels q c) (sym ej) ∙ (ap (λ d. child parents labels (get_or parents j 0) d) (sym g) ∙ edge parents labels alphabet trie j pos hj) in
-          let bad : None ≡ Some j = sym e ∙ is' in
-          cc
 
   -- p is left
   pub left : (array : List ℕ) (m : ℕ) → get_or starts (p + 1) 0 ≤ m → IsLeaving parents labels fails array p m → AreNear parents labels fails array (up fails p)

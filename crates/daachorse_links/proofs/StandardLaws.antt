@@ -1,9 +1,8 @@
 -- Two dictionaries with the same keys have the same links, and where there is no key no link is dead: it is the longest end.
 use Rattle.std.proofs.Common.{◌≡◌, ℕ, Bool, true, false, cond, List, [], ◌∷◌, ◌++◌, Option, Some, None, refl, ap, ◌∙◌}
 use Rattle.daachorse_model.specs.Dictionary.{Dictionary}
-use Rattle.daachorse_model.specs.Paths.{walk}
 use Rattle.daachorse_model.specs.Prefixes.{is_key, key_begins, left_fail, long, long_unless_key}
-use Rattle.daachorse_links.specs.Links.{value_at, keys}
+use Rattle.daachorse_links.specs.Links.{value_at}
 use Rattle.daachorse_links.proofs.LeftLaws.{some_value, value_at-stops}
 
 module _ {V W : Type 0} (K : Dictionary V) (L : Dictionary W) (same : (w : List ℕ) → is_key K w ≡ is_key L w) where
@@ -49,7 +48,3 @@ module _ (child : ℕ → ℕ → Option ℕ) (stops : ℕ → Bool) (go : (i : 
   none_at : (o : Option ℕ) → some_value child stops 0 (value_at child stops o) ≡ false
   none_at None = refl
   none_at (Some i) = value_at-stops child stops 0 (stops i) ∙ go i
-
-  -- where no place stops there is no key
-  pub none_stops : (w : List ℕ) → is_key (keys child stops) w ≡ false
-  none_stops w = none_at (walk child 0 w)

@@ -3,9 +3,10 @@ use Rattle.std.proofs.Common.{◌≡◌, ℕ, zero, suc, ◌<◌, ◌≤◌, Lis
 use Rattle.std.proofs.lemmas.List.{length_push}
 use Rattle.std.proofs.lemmas.Option.{same_Some}
 use Rattle.daachorse_model.specs.Paths.{walk}
+use Rattle.daachorse_model.proofs.Paths.{walk-push, push-parts}
+use Rattle.daachorse_model.proofs.Lists.{last_of}
 use Rattle.daachorse_links.specs.Places.{child, IsTrie}
 use Rattle.daachorse_links.proofs.ChildLaws.{edge, back}
-use Rattle.daachorse_links.proofs.Walks.{last_of, walk-push, push-parts}
 
 module _ (parents labels : List ℕ) (alphabet : ℕ) (trie : IsTrie parents labels alphabet) where
   pub walk_later : (c : ℕ) (cs : List ℕ) (t : ℕ) → walk (child parents labels) 0 (c ∷ cs) ≡ Some t → (0 < t) × (t < length parents)

@@ -1,6 +1,6 @@
 -- How a tour is made: each place is put right after its link.
-use Rattle.std.proofs.Common.{◌≡◌, ◌≢◌, ℕ, suc, ◌<◌, ◌≤◌, ◌⊎◌, ◌==◌, true, false, cond, List, [], ◌∷◌, length, refl, sym, ap, ◌∙◌, subst, inl, inr, arith, get_or, set, replicate, get_or-set_other, get_or-set_same}
-use Rattle.std.proofs.lemmas.List.{length-set, length-replicate, get_or-replicate}
+use Rattle.std.proofs.Common.{◌≡◌, ◌≢◌, ℕ, suc, ◌<◌, ◌≤◌, ◌⊎◌, ◌==◌, true, false, cond, List, [], ◌∷◌, length, refl, sym, ap, ◌∙◌, subst, inl, inr, arith, get_or, set, get_or-set_other, get_or-set_same}
+use Rattle.std.proofs.lemmas.List.{length-set}
 use Rattle.std.proofs.lemmas.Bool.{cases_eq, cond_both}
 use Rattle.daachorse_links.specs.Near.{up, IsAbove}
 use Rattle.daachorse_links.specs.Tours.{In, IsApart, IsLinked, IsTour}
@@ -86,20 +86,6 @@ module _ (next put : List ℕ) (n : ℕ) where
   linked_insert f m a (x ∷ xs) at_f at_m same h apart l =
       by_test x f (x ∷ m ∷ xs) (x ∷ insert f m xs) (λ ys. IsLinked put n a ys) (λ e. after_it f m a x xs at_f at_m same apart l e)
       (λ ne. (l.0, linked_insert f m (get_or put x 0) xs at_f at_m (λ y k. same y (inr k)) (in_later f x xs h ne) apart.1 (subst (λ b. IsLinked next n b xs) (sym (same x (inl refl) ne)) l.1)))
-
-pub tour_start : (up : ℕ → ℕ) (n : ℕ) (next : List ℕ) → next ≡ replicate (suc n) n → IsTour up n next 0
-tour_start up n next e =
-    let at : (a : ℕ) → a ≤ n → get_or next a 0 ≡ n = λ a le. ap (λ xs. get_or xs a 0) e ∙ get_or-replicate (suc n) a n 0 (omega (arith, le)) in
-    record {
-      size = ap length e ∙ length-replicate (suc n) n;
-      list = [];
-      linked = at n (omega arith);
-      count = refl;
-      apart = refl;
-      below = λ x h. absurd h;
-      all = λ x h. absurd (omega (arith, h));
-      steps = λ a le. inl (at a le);
-    }
 
 module _ (up : ℕ → ℕ) (n : ℕ) (next : List ℕ) (m : ℕ) (tour : IsTour up n next m) (lt : m < n) where
   abbrev put : List ℕ

@@ -1,23 +1,16 @@
 -- The texts of elements that are put aside begin as that of the element that was taken last, in all units but their own last: this one is written when the element is taken, and its text stands there for its children.
-use Rattle.std.proofs.Common.{◌≡◌, ◌≢◌, ℕ, zero, suc, ◌<◌, ◌≤◌, ◌-◌, ◌⊎◌, inl, inr, List, [], ◌∷◌, ◌++◌, length, take, map, Option, Some, refl, sym, ap, ◌∙◌, arith, length-append}
+use Rattle.std.proofs.Common.{◌≡◌, ◌≢◌, ℕ, zero, suc, ◌<◌, ◌≤◌, ◌-◌, inl, inr, List, [], ◌∷◌, ◌++◌, length, take, map, Option, Some, refl, sym, ap, ◌∙◌, arith, length-append}
 use Rattle.std.proofs.lemmas.List.{nil_from_length, take-append-le, take_all}
 use Rattle.std.proofs.lemmas.Option.{same_Some}
 use Rattle.std.specs.List.{AllByRecursion}
 use Rattle.daachorse_model.specs.Paths.{walk}
+use Rattle.daachorse_model.proofs.Lists.{ends_in}
 use Rattle.daachorse_machine.specs.Texts.{IsReached}
 use Rattle.daachorse_machine.proofs.PathLaws.{and_then_inv, walk-split}
 use Rattle.daachorse_listing.specs.Edges.{IsTree, TellChildren, put_before}
 use Rattle.daachorse_listing.specs.Listing.{AreEntries, IsEntry, unit_of}
 use Rattle.daachorse_listing.specs.Trees.{text}
 use Rattle.daachorse_listing.proofs.WalkLaws.{root-text, reached-is, reached-inside, child-text, unit-is}
-
-last-unit : (w : List ℕ) → (w ≡ []) ⊎ ((v : List ℕ) × (c : ℕ) × (w ≡ v ++ c ∷ []))
-last-unit [] = inl refl
-last-unit (a ∷ w) = inr (at (last-unit w))
-  where
-    at : (w ≡ []) ⊎ ((v : List ℕ) × (c : ℕ) × (w ≡ v ++ c ∷ [])) → (v : List ℕ) × (c : ℕ) × (a ∷ w ≡ v ++ c ∷ [])
-    at (inl e) = ([], a, ap (λ l. a ∷ l) e)
-    at (inr h) = (a ∷ h.0, h.1, ap (λ l. a ∷ l) h.2)
 
 take-within : (k j : ℕ) (l : List ℕ) → k ≤ j → take k (take j l) ≡ take k l
 take-within zero j l h = refl
@@ -53,7 +46,7 @@ module _ (child : ℕ → ℕ → Option ℕ) (n m : ℕ) where
 module _ {child : ℕ → ℕ → Option ℕ} {n m : ℕ} (tree : IsTree child n m) where
   -- a reached element that is not the root has a parent
   pub parent-of : (i : ℕ) → IsReached child m n i → i ≢ 0 → (p : ℕ) × (c : ℕ) × IsReached child m n p × (child p c ≡ Some i)
-  parent-of i r other = elim (last-unit (text child n m i)) [
+  parent-of i r other = elim (ends_in (text child n m i)) [
     | inl none ↦ absurd (other (sym (same_Some 0 i (ap (walk child 0) (sym none) ∙ r))))
     | inr ends ↦ (
         let halves = walk-split child 0 i ends.0 (ends.1 ∷ []) (ap (walk child 0) (sym ends.2) ∙ r) in

@@ -47,15 +47,6 @@ put-left [] l k h = absurd h
 put-left (x ∷ xs) l k (inl e) = put-right xs (x ∷ l) k (inl e)
 put-left (x ∷ xs) l k (inr h) = put-left xs (x ∷ l) k h
 
-pub among-either : (xs : List ℕ) (k : ℕ) → IsAmong xs k ⊎ (¬ IsAmong xs k)
-among-either [] k = inr (λ h. h)
-among-either (x ∷ xs) k = at (either (k == x)) (among-either xs k)
-  where
-    at : ((k == x) ≡ true) ⊎ ((k == x) ≡ false) → IsAmong xs k ⊎ (¬ IsAmong xs k) → IsAmong (x ∷ xs) k ⊎ (¬ IsAmong (x ∷ xs) k)
-    at (inl e) rest = inl (inl (grind (arith, e)))
-    at (inr e) (inl h) = inl (inr h)
-    at (inr e) (inr out) = inr (λ h. elim h [ inl same ↦ (let bad : k ≢ x = grind (arith, e) in bad same) | inr more ↦ out more ])
-
 pub All-among : (P : ℕ → Type 0) (xs : List ℕ) → ((k : ℕ) → IsAmong xs k → P k) → AllByRecursion P xs
 All-among P [] h = tt
 All-among P (x ∷ xs) h = (h x (inl refl), All-among P xs (λ k a. h k (inr a)))
@@ -130,17 +121,12 @@ module _ (R : ℕ → ℕ → Type 0) where
 
   -- numbers below n, where none stands in R to itself: there are at most n
   pub Pairs-few : (xs : List ℕ) (n : ℕ) → Pairs R xs → ((k : ℕ) → ¬ R k k) → ((k : ℕ) → IsAmong xs k → k < n) → length xs ≤ n
-  Pairs-few xs n pairs other less = pigeon n (length xs) (λ k. get_or xs k 0) (λ k h. less (get_or xs k 0) (read xs k h)) (λ j k up h same. other (get_or xs k 0) (let P : ℕ → Type 0 = λ x. R x (get_or xs k 0) in subst P same (pair xs pairs j k up h)))
+  Pairs-few xs n pairs other less = pigeon n (length xs) (λ k. get_or xs k 0) (λ k h. less (get_or xs k 0) (among-read xs k h)) (λ j k up h same. other (get_or xs k 0) (let P : ℕ → Type 0 = λ x. R x (get_or xs k 0) in subst P same (pair xs pairs j k up h)))
     where
-      read : (ys : List ℕ) (k : ℕ) → k < length ys → IsAmong ys (get_or ys k 0)
-      read [] k h = absurd (omega arith)
-      read (y ∷ ys) zero h = inl refl
-      read (y ∷ ys) (suc k) h = inr (read ys k (omega arith))
-
       pair : (ys : List ℕ) → Pairs R ys → (j k : ℕ) → j < k → k < length ys → R (get_or ys j 0) (get_or ys k 0)
       pair [] p j k up h = absurd (omega arith)
       pair (y ∷ ys) p zero zero up h = absurd (omega arith)
-      pair (y ∷ ys) p zero (suc k) up h = among-All (R y) ys (get_or ys k 0) p.0 (read ys k (omega arith))
+      pair (y ∷ ys) p zero (suc k) up h = among-All (R y) ys (get_or ys k 0) p.0 (among-read ys k (omega arith))
       pair (y ∷ ys) p (suc j) zero up h = absurd (omega arith)
       pair (y ∷ ys) p (suc j) (suc k) up h = pair ys p.1 j k (omega arith) (omega arith)
 

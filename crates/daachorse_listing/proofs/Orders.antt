@@ -29,13 +29,6 @@ Diverges-on (a ∷ v) [] x d = absurd d
 Diverges-on (a ∷ v) (b ∷ w) x (inl h) = inl h
 Diverges-on (a ∷ v) (b ∷ w) x (inr d) = inr (d.0, Diverges-on v w x d.1)
 
--- nor does what goes on behind the second
-pub Diverges-ahead : (v w x : List ℕ) → Diverges v w → Diverges v (w ++ x)
-Diverges-ahead [] w x d = absurd d
-Diverges-ahead (a ∷ v) [] x d = absurd d
-Diverges-ahead (a ∷ v) (b ∷ w) x (inl h) = inl h
-Diverges-ahead (a ∷ v) (b ∷ w) x (inr d) = inr (d.0, Diverges-ahead v w x d.1)
-
 pub Diverges-last : (v : List ℕ) (a b : ℕ) → a < b → Diverges (v ++ a ∷ []) (v ++ b ∷ [])
 Diverges-last [] a b h = inl h
 Diverges-last (u ∷ v) a b h = inr (refl, Diverges-last v a b h)

@@ -5,8 +5,9 @@ use Rattle.std.proofs.lemmas.Option.{same_Some}
 use Rattle.std.proofs.lemmas.Bool.Decides.{nat_tests}
 use Rattle.daachorse_model.specs.Paths.{walk, Leads}
 use Rattle.daachorse_model.proofs.Booleans.{either}
+use Rattle.daachorse_model.proofs.Paths.{walk-push}
 use Rattle.daachorse_machine.specs.Texts.{IsReached}
-use Rattle.daachorse_machine.proofs.PathLaws.{pigeon, and_then_inv, walk-split, walk-push}
+use Rattle.daachorse_machine.proofs.PathLaws.{pigeon, and_then_inv, walk-split}
 use Rattle.daachorse_listing.specs.Edges.{is_in, below, members, IsTree, TellChildren}
 use Rattle.daachorse_listing.specs.Linked.{list_from, IsPut}
 use Rattle.daachorse_listing.specs.Listing.{unit_of}
@@ -317,7 +318,7 @@ module _ {child : ℕ → ℕ → Option ℕ} {group : ℕ → Option ℕ} {edge
         passes d less = let k = is d less in (k.real, ap (λ b. cond b false true) k.least_one)
 
         long : (d : ℕ) (less : d < length w) → Leads child (take d w ++ (let k = is d less in k.own.0) ∷ []) (kid (node w d))
-        long d less = let k = is d less in walk-push child 0 (node w d) (take d w) k.own.0 (at-node d).0 ∙ k.own.1
+        long d less = let k = is d less in walk-push child 0 (take d w) k.own.0 (node w d) (at-node d).0 ∙ k.own.1
 
         apart : (j k : ℕ) → j < k → k < length w → kid (node w j) ≢ kid (node w k)
         apart j k up less same =

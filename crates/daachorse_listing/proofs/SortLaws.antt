@@ -205,14 +205,6 @@ sorted-units l up j (suc k) less h =
 
 -- ---- the elements of a group
 
-pub below-few : (test : ℕ → Bool) (n : ℕ) → length (below test n) ≤ n
-below-few test zero = omega arith
-below-few test (suc j) = at (test j) (below-few test j)
-  where
-    at : (b : Bool) → length (below test j) ≤ j → length (cond b (j ∷ below test j) (below test j)) ≤ suc j
-    at true h = omega (arith, h)
-    at false h = omega (arith, h)
-
 pub below-All : (test : ℕ → Bool) (n : ℕ) → AllByRecursion (λ j. (j < n) × (test j ≡ true)) (below test n)
 below-All test n = go n (omega arith)
   where

@@ -4,8 +4,9 @@ use Rattle.std.specs.Cmp.Lexicographic.{nat_list_cmp_total}
 use Rattle.std.specs.declared.cmp.Ordering.{Ordering}
 use Rattle.std.specs.declared.cmp.Ordering.TheVariants.{Less, Equal}
 use Rattle.daachorse_model.specs.Paths.{walk, Leads}
+use Rattle.daachorse_model.proofs.Paths.{walk-push}
 use Rattle.daachorse_machine.specs.Texts.{IsReached}
-use Rattle.daachorse_machine.proofs.PathLaws.{walk-push, and_then_inv, text_of-Leads, Leads-inside, Leads-length}
+use Rattle.daachorse_machine.proofs.PathLaws.{and_then_inv, text_of-Leads, Leads-inside}
 use Rattle.std.proofs.lemmas.Option.{same_Some}
 use Rattle.daachorse_listing.specs.Edges.{put_before, children, IsTree, TellChildren}
 use Rattle.daachorse_listing.specs.Listing.{unit_of}
@@ -35,15 +36,12 @@ module _ {child : ℕ → ℕ → Option ℕ} {n m : ℕ} (tree : IsTree child n
   pub reached-inside : (i : ℕ) → IsReached child m n i → i < n
   reached-inside i r = Leads-inside child n m tree.some tree.inside tree.one_path (text child n m i) i r
 
-  pub text-short : (i : ℕ) → IsReached child m n i → length (text child n m i) < n
-  text-short i r = Leads-length child n m tree.some tree.inside tree.one_path (text child n m i) i r
-
   -- the text of a child
   pub child-text : (x c j : ℕ) → IsReached child m n x → child x c ≡ Some j → text child n m j ≡ text child n m x ++ c ∷ []
-  child-text x c j r e = text-is (text child n m x ++ c ∷ []) j (walk-push child 0 x (text child n m x) c r ∙ e)
+  child-text x c j r e = text-is (text child n m x ++ c ∷ []) j (walk-push child 0 (text child n m x) c x r ∙ e)
 
   pub child-reached : (x c j : ℕ) → IsReached child m n x → child x c ≡ Some j → IsReached child m n j
-  child-reached x c j r e = reached-is (text child n m x ++ c ∷ []) j (walk-push child 0 x (text child n m x) c r ∙ e)
+  child-reached x c j r e = reached-is (text child n m x ++ c ∷ []) j (walk-push child 0 (text child n m x) c x r ∙ e)
 
   pub child-not-root : (x c : ℕ) → IsReached child m n x → child x c ≡ Some 0 → ⊥
   child-not-root x c r e = let same : [] ≡ text child n m x ++ c ∷ [] = sym root-text ∙ child-text x c 0 r e in let long = ap length same in omega (arith, long, length-append (text child n m x) (c ∷ []))

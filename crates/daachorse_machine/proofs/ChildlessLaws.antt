@@ -1,12 +1,11 @@
 -- A machine that leads nowhere holds the empty text alone, and is right.
-use Rattle.std.proofs.Common.{◌≡◌, ℕ, zero, suc, Bool, true, false, List, [], ◌∷◌, Option, Some, None, refl, sym, ap, ◌∙◌, subst, arith, is_some, slice_index_or}
+use Rattle.std.proofs.Common.{◌≡◌, ℕ, zero, suc, true, false, List, [], ◌∷◌, Option, Some, None, refl, sym, ◌∙◌, subst, arith, is_some}
 use Rattle.std.specs.Prelude.{IsTrue, Contains, option_and_then}
 use Rattle.std.specs.List.{IsDistinct}
-use Rattle.std.proofs.Math.ListN.{replicate}
 use Rattle.std.proofs.lemmas.Option.{same_Some}
 use Rattle.daachorse_model.specs.Paths.{walk, is_reached, Leads}
 use Rattle.daachorse_model.specs.Units.{same_text}
-use Rattle.daachorse_machine.specs.Machines.{Machine, IsCounted, IsRight, own_from}
+use Rattle.daachorse_machine.specs.Machines.{Machine}
 use Rattle.daachorse_machine.proofs.PathLaws.{and_then_inv}
 
 module _ {V : Type 0} (width : ℕ → ℕ) (a : Machine V) (leaf : (i c : ℕ) → a.child i c ≡ None) where
@@ -25,16 +24,6 @@ module _ {V : Type 0} (width : ℕ → ℕ) (a : Machine V) (leaf : (i c : ℕ) 
   paths i (u ∷ v) w d e = absurd (only_empty u i v d)
   paths i [] (u ∷ w) d e = absurd (only_empty u i w e)
 
-  pub childless-right : a.output 0 ≡ 0 → (leftmost : Bool) → IsRight width a leftmost
-  childless-right none leftmost = record {
-    dead_no_child = dead;
-    one_path = paths;
-    leaf_has_own = λ u i w e l. absurd (only_empty u i w e);
-    links = λ u i w e. absurd (only_empty u i w e);
-    chains = λ u i w e. absurd (only_empty u i w e);
-    root_chain = ap (λ q. (own_from a.outputs q 0 q).1) none;
-  }
-
   stays : (w : List ℕ) → IsTrue (is_reached a.child w) → Contains ([] ∷ []) w
   stays [] h = (0, omega arith, refl)
   stays (u ∷ w) h =
@@ -51,12 +40,4 @@ module _ {V : Type 0} (width : ℕ → ℕ) (a : Machine V) (leaf : (i c : ℕ) 
   unfolding IsDistinct
   alone = (tt, tt)
 
-  pub childless-counted : IsCounted a 1
-  childless-counted = record { texts = [] ∷ []; distinct = alone; exactly = λ w. (stays w, leads w); count = refl }
-
 -- ---- elements all alike
-
-pub replicate-at : {X : Type 0} (n i : ℕ) (d : X) → slice_index_or (replicate n d) i d ≡ d
-replicate-at zero i d = refl
-replicate-at (suc n) zero d = refl
-replicate-at (suc n) (suc i) d = replicate-at n i d

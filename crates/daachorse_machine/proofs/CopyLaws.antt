@@ -1,12 +1,11 @@
 -- A machine into which a trie was copied that holds a dictionary is right, and holds the same dictionary.
-use Rattle.std.proofs.Common.{◌≡◌, ◌≢◌, ℕ, ◌-◌, ◌<◌, ◌≤◌, Bool, ◌==◌, cond, List, [], ◌∷◌, ◌++◌, length, Some, None, refl, sym, ap, ◌∙◌, subst, inl, inr, append-nil}
+use Rattle.std.proofs.Common.{◌≡◌, ◌≢◌, ℕ, ◌-◌, ◌≤◌, Bool, ◌==◌, cond, List, [], ◌∷◌, ◌++◌, Some, None, refl, sym, ap, ◌∙◌, subst, inl, inr, append-nil}
 use Rattle.std.proofs.lemmas.Option.{none-some, same_Some}
 use Rattle.daachorse_core.specs.declared.outputs.Output.{Output}
-use Rattle.daachorse_core.specs.Outputs.{ParentsFall}
 use Rattle.daachorse_model.specs.Dictionary.{Dictionary}
 use Rattle.daachorse_model.specs.Paths.{walk, Leads}
 use Rattle.daachorse_model.specs.Prefixes.{IsPrefix, PassesAt}
-use Rattle.daachorse_machine.specs.Machines.{Machine, own, content, right_fail, IsRight, IsMachine, IsCounted}
+use Rattle.daachorse_machine.specs.Machines.{Machine, own, content, right_fail, IsRight, IsCounted}
 use Rattle.daachorse_machine.specs.Copies.{LinkedTrie, HoldsDictionary, IsCopy, HasStates}
 use Rattle.daachorse_machine.proofs.PathLaws.{and_then_inv, walk-split, element_reached}
 use Rattle.daachorse_machine.proofs.CopyPaths.{reached-copy, copy-dead, copy-one_path, Leads-origin}
@@ -60,16 +59,6 @@ module _ {V : Type 0} (width : ℕ → ℕ) (wide : (u : ℕ) → 1 ≤ width u)
     links = link;
     chains = chain;
     root_chain = root_chain;
-  }
-
-  -- of n elements, if that many are there, and all that it holds is in range
-  pub copy-machine : (n m : ℕ) → 0 < n → ((i c j : ℕ) → a.child i c ≡ Some j → (j < n) × (c < m)) → ((i : ℕ) → i < n → a.output i ≤ length a.outputs) → IsMachine width a leftmost n m
-  copy-machine n m some inside fits = record {
-    some = some;
-    inside = inside;
-    outputs_inside = fits;
-    parents_fall = let P : List (Output V) → Type 0 = λ os. ParentsFall os in subst P (sym copy.same_outputs) holds.parents_fall;
-    right = copy-right;
   }
 
   -- so many texts lead to an element as there are states but the dead one

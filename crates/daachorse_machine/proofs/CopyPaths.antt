@@ -4,13 +4,10 @@ use Rattle.std.proofs.lemmas.Option.{same_Some}
 use Rattle.std.specs.Prelude.{is_some, option_map, option_and_then}
 use Rattle.daachorse_core.specs.declared.outputs.Output.{Output}
 use Rattle.daachorse_model.specs.Paths.{walk, is_reached, Leads}
+use Rattle.daachorse_model.proofs.Paths.{walk-push}
+use Rattle.daachorse_model.proofs.Lists.{some_of_map}
 use Rattle.daachorse_machine.specs.Machines.{Machine}
 use Rattle.daachorse_machine.specs.Copies.{LinkedTrie, IsCopy}
-use Rattle.daachorse_machine.proofs.PathLaws.{walk-push}
-
-some_of_map : {A B : Type 0} (f : A → B) (o : Option A) → is_some (option_map f o) ≡ is_some o
-some_of_map f (Some x) = refl
-some_of_map f None = refl
 
 map_inv : {A B : Type 0} (f : A → B) (o : Option A) (y : B) → option_map f o ≡ Some y → (x : A) × (o ≡ Some x) × (y ≡ f x)
 map_inv f (Some x) y e = (x, refl, sym (same_Some (f x) y e))
@@ -26,7 +23,7 @@ module _ {V : Type 0} (t : LinkedTrie) (outputs : List (Output V)) (a : Machine 
       on : (o : Option ℕ) → t.child s c ≡ o → ((r : ℕ) → Leads t.child (v ++ c ∷ []) r → walk a.child (idx r) w ≡ option_map idx (walk t.child r w))
           → option_and_then (λ j. walk a.child j w) (option_map idx o) ≡ option_map idx (option_and_then (λ j. walk t.child j w) o)
       on None is more = refl
-      on (Some r) is more = more r (walk-push t.child 0 s v c e ∙ is)
+      on (Some r) is more = more r (walk-push t.child 0 v c s e ∙ is)
 
   -- where a text leads
   pub walk-copy : (w : List ℕ) → walk a.child 0 w ≡ option_map idx (walk t.child 0 w)

@@ -10,10 +10,11 @@ use Rattle.daachorse_model.specs.Paths.{walk, is_reached, Leads}
 use Rattle.daachorse_model.specs.Prefixes.{IsPrefix, IsLink, IsLeftFail, long, left_fail}
 use Rattle.daachorse_model.specs.Outputs.{own_outputs, IsChain, at_root, at_dead, before_link}
 use Rattle.daachorse_model.proofs.Links.{IsDead-not, link-is, left_fail-is}
+use Rattle.daachorse_model.proofs.Paths.{walk-push}
 use Rattle.daachorse_core.specs.Looks.{IsFirstOutput, IsForeign, LookGives}
 use Rattle.daachorse_machine.specs.Texts.{text_of, IsReached}
 use Rattle.daachorse_machine.specs.Machines.{Machine, own, values_at, content, element_of, right_fail, dead_in, IsMachine}
-use Rattle.daachorse_machine.proofs.PathLaws.{walk-split, walk-push, element_reached, reached_element, any_child, Leads-inside, Leads-length, text_of-Leads}
+use Rattle.daachorse_machine.proofs.PathLaws.{walk-split, element_reached, reached_element, any_child, Leads-inside, Leads-length, text_of-Leads}
 use Rattle.daachorse_machine.proofs.ChainLaws.{outputs_at-own}
 use Rattle.daachorse_machine.proofs.OutputLaws.{outputs_few, outputs_some}
 
@@ -63,7 +64,7 @@ module _ {V : Type 0} (width : ℕ → ℕ) (a : Machine V) (leftmost : Bool) (n
   descend (suc steps) u w i e more =
       elim (any_child a.child m i) [
         | inl next ↦
-            let on : Leads a.child (u ∷ (w ++ next.0 ∷ [])) next.1 = walk-push a.child 0 i (u ∷ w) next.0 e ∙ next.2 in
+            let on : Leads a.child (u ∷ (w ++ next.0 ∷ [])) next.1 = walk-push a.child 0 (u ∷ w) next.0 i e ∙ next.2 in
             let rest = descend steps u (w ++ next.0 ∷ []) next.1 on (omega (arith, more, length-append w (next.0 ∷ []))) in
             (next.0 ∷ rest.0, λ none. rest.1 (ap (content width a) (append_assoc (u ∷ w) (next.0 ∷ []) rest.0) ∙ none))
         | inr none ↦ ([], λ empty. h.right.leaf_has_own u i w e (λ c. no_child i c (a.child i c) refl none) (sym (ap (content width a) (append-nil (u ∷ w))) ∙ empty))
@@ -170,7 +171,7 @@ module _ {V : Type 0} (width : ℕ → ℕ) (a : Machine V) (leftmost : Bool) (n
 
   not_prefix : (i c : ℕ) → IsReached a.child m n i → a.child i c ≡ None → ¬ IsPrefix (content width a) (text_of a.child m n i ++ c ∷ [])
   not_prefix i c r none begins =
-      let bad : is_reached a.child (text_of a.child m n i ++ c ∷ []) ≡ false = ap is_some (walk-push a.child 0 i (text_of a.child m n i) c r ∙ none) in
+      let bad : is_reached a.child (text_of a.child m n i ++ c ∷ []) ≡ false = ap is_some (walk-push a.child 0 (text_of a.child m n i) c i r ∙ none) in
       let clash : true ≡ false = sym (back (text_of a.child m n i ++ c ∷ []) begins) ∙ bad in
       cc
 
@@ -178,7 +179,7 @@ module _ {V : Type 0} (width : ℕ → ℕ) (a : Machine V) (leftmost : Bool) (n
   pub turn-next : (i c j : ℕ) → IsReached a.child m n i → a.child i c ≡ Some j → (o : Option NonZeroU32)
       → LookGives (content width a) (IsReached a.child m n) (text_of a.child m n) (dead_in width a leftmost) (text_of a.child m n i) c (Next j o)
   turn-next i c j r e o =
-      let leads : Leads a.child (text_of a.child m n i ++ c ∷ []) j = walk-push a.child 0 i (text_of a.child m n i) c r ∙ e in
+      let leads : Leads a.child (text_of a.child m n i ++ c ∷ []) j = walk-push a.child 0 (text_of a.child m n i) c i r ∙ e in
       (Reached-Leads _ j leads, inr (0, inl (fore _ (reached_element a.child _ j leads), text-Leads _ j leads)))
 
   -- the root stays where it has no child

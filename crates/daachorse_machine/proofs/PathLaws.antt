@@ -5,19 +5,12 @@ use Rattle.std.proofs.lemmas.Option.{same_Some}
 use Rattle.std.specs.Prelude.{option_and_then, is_some}
 use Rattle.daachorse_model.specs.Paths.{walk, is_reached, Leads}
 use Rattle.daachorse_model.proofs.Booleans.{either}
+use Rattle.daachorse_model.proofs.Paths.{walk-append}
 use Rattle.daachorse_machine.specs.Texts.{by_unit, any_unit, or_empty, find_text, text_of}
 
 pub and_then_inv : {A B : Type 0} (f : A → Option B) (o : Option A) (y : B) → option_and_then f o ≡ Some y → (x : A) × (o ≡ Some x) × (f x ≡ Some y)
 and_then_inv f (Some x) y e = (x, refl, e)
 and_then_inv f None y e = absurd (cc)
-
-and_then_same : {A B : Type 0} (f g : A → Option B) (o : Option A) → ((x : A) → f x ≡ g x) → option_and_then f o ≡ option_and_then g o
-and_then_same f g (Some x) h = h x
-and_then_same f g None h = refl
-
-and_then_twice : {A B C : Type 0} (f : A → Option B) (g : B → Option C) (o : Option A) → option_and_then (λ x. option_and_then g (f x)) o ≡ option_and_then g (option_and_then f o)
-and_then_twice f g (Some x) = refl
-and_then_twice f g None = refl
 
 eq_true : (a b : ℕ) → (a == b) ≡ true → a ≡ b
 eq_true a b e = grind arith
@@ -62,24 +55,9 @@ pigeon (suc n) (suc m) f below apart =
         apart j k less (omega arith) (sym (ap (λ b. cond b (f m) (f j)) a) ∙ (same ∙ ap (λ b. cond b (f m) (f k)) b))
 
 module _ (child : ℕ → ℕ → Option ℕ) where
-  -- a walk goes on where its first part ends
-  pub walk-append : (i : ℕ) (v w : List ℕ) → walk child i (v ++ w) ≡ option_and_then (λ j. walk child j w) (walk child i v)
-  walk-append i [] w = refl
-  walk-append i (c ∷ v) w =
-      and_then_same (λ j. walk child j (v ++ w)) (λ j. option_and_then (λ k. walk child k w) (walk child j v)) (child i c) (λ j. walk-append j v w)
-      ∙ and_then_twice (λ j. walk child j v) (λ k. walk child k w) (child i c)
-
   -- a text that leads somewhere, split: its beginning leads somewhere
   pub walk-split : (i k : ℕ) (v w : List ℕ) → walk child i (v ++ w) ≡ Some k → (j : ℕ) × (walk child i v ≡ Some j) × (walk child j w ≡ Some k)
-  walk-split i k v w e = and_then_inv (λ j. walk child j w) (walk child i v) k (sym (walk-append i v w) ∙ e)
-
-  -- one unit more
-  pub walk-push : (i j : ℕ) (v : List ℕ) (c : ℕ) → walk child i v ≡ Some j → walk child i (v ++ c ∷ []) ≡ child j c
-  walk-push i j v c a = walk-append i v (c ∷ []) ∙ (ap (λ o. option_and_then (λ j. walk child j (c ∷ [])) o) a ∙ one_more (child j c))
-    where
-      one_more : (o : Option ℕ) → option_and_then (λ k. Some k) o ≡ o
-      one_more (Some x) = refl
-      one_more None = refl
+  walk-split i k v w e = and_then_inv (λ j. walk child j w) (walk child i v) k (sym (walk-append child i v w) ∙ e)
 
   reached_some : (w : List ℕ) (o : Option ℕ) → walk child 0 w ≡ o → is_some o ≡ true → (i : ℕ) × Leads child w i
   reached_some w (Some i) e h = (i, e)

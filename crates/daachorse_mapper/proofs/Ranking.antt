@@ -13,7 +13,7 @@ use Rattle.std.proofs.lemmas.List.Sorted.{All-permutation, Contains-permutation,
 use Rattle.std.proofs.lemmas.List.Sums.{length-filter}
 use Rattle.std.proofs.lemmas.Map.Keys.{IsDistinct-from_apart, IsDistinct-IsPermutation, apart_from_distinct, ge_from_not_lt}
 use borrow.Author.Tests.{lt-ltb, le-ltb, ltb-true, ltb-false, eqb-false}
-use Rattle.daachorse_mapper.specs.Ranks.{AreRanked, AreApart, used_in, freq_at}
+use Rattle.daachorse_mapper.specs.Ranks.{AreRanked, used_in}
 
 -- ---- before the sort
 
@@ -165,11 +165,3 @@ module _ (freqs : List ℕ) (ranked : List (ℕ × ℕ)) (moved : IsPermutation 
 
       passing : All (λ p. nat_lt 0 p.1 ≡ true) ranked
       passing = All-permutation (λ p. nat_lt 0 p.1 ≡ true) (used_in freqs) ranked moved (filter_passes (λ p. nat_lt 0 p.1) (enumerate_from 0 freqs))
-
--- no index has two ranks
-pub ranks_apart : (freqs : List ℕ) (ranked : List (ℕ × ℕ)) → AreRanked freqs ranked → AreApart ranked
-ranks_apart freqs ranked r j k h l same_index =
-    let same_freq : freq_at ranked j ≡ freq_at ranked k =
-    sym (r.freq j (omega arith)) ∙ (ap (λ i. slice_index freqs i) same_index ∙ r.freq k l) in
-    let up = r.ties j k h l same_freq in
-    omega (arith, up, same_index)

@@ -2,7 +2,7 @@
 use Rattle.std.proofs.Common.{◌≡◌, ◌≢◌, ℕ, zero, suc, ◌+◌, ◌<◌, ◌≤◌, ◌==◌, Bool, true, false, List, length, get_or, set, replicate, Option, Some, None, refl, sym, ap, ◌∙◌, ◌⊎◌, inl, inr, arith}
 use Rattle.std.proofs.lemmas.Bool.{cases_lt}
 use Rattle.std.proofs.lemmas.Option.{same_Some, slice_get_within}
-use Rattle.std.proofs.lemmas.List.{get_or-set_same, get_or-set_other, length-set, length-replicate}
+use Rattle.std.proofs.lemmas.List.{get_or-set_same, get_or-set_other, length-set}
 use Rattle.std.specs.Prelude.{slice_get}
 use Rattle.daachorse_mapper.specs.Codings.{Coding, IsCoding, code_of, entry_code}
 
@@ -19,15 +19,6 @@ none_marked : (n k : ℕ) → get_or (replicate n false) k false ≡ false
 none_marked zero k = refl
 none_marked (suc n) zero = refl
 none_marked (suc n) (suc k) = none_marked n k
-
-pub taken_none : (coding : Coding) → AreTaken coding 0 (replicate coding.alphabet_size false)
-taken_none coding = record {
-  size = length-replicate coding.alphabet_size false;
-  below = λ c k less e. absurd (omega (arith, less));
-  apart = λ c d k less low e f. absurd (omega (arith, less));
-  marked = λ c k less e. absurd (omega (arith, less));
-  from = λ k e. absurd (let none : get_or (replicate coding.alphabet_size false) k false ≡ false = none_marked coding.alphabet_size k in cc);
-}
 
 -- a code point up to n is before it, or is it
 before_or : (n c : ℕ) → c < n + 1 → (c < n) ⊎ (c ≡ n)
@@ -118,7 +109,7 @@ taken_left coding n old none so = record {
         go (inr here) = absurd (let both : None ≡ Some k = sym none ∙ (ap (code_of coding) (sym here) ∙ e) in cc)
 
 -- behind the last code point
-entry_some : (o : Option ℕ) (k : ℕ) → entry_code o ≡ Some k → (n : ℕ) × (o ≡ Some n)
+pub entry_some : (o : Option ℕ) (k : ℕ) → entry_code o ≡ Some k → (n : ℕ) × (o ≡ Some n)
 entry_some None k e = absurd (cc)
 entry_some (Some n) k e = (n, refl)
 

@@ -7,10 +7,7 @@ use Rattle.daachorse_model.specs.Leftmost.{longest_key, given, units_to_skip, is
 use Rattle.daachorse_model.specs.Best.{IsBest, NoneStarts}
 use Rattle.daachorse_model.proofs.Searches.{keyed-none, leftmost_from-skip}
 use Rattle.daachorse_model.proofs.Earliest.{longest_key-none, longest_key-is}
-
-nil_of : {A : Type 0} (xs : List A) → ¬ (xs ≢ []) → xs ≡ []
-nil_of [] h = refl
-nil_of (x ∷ xs) h = absurd (h (λ e. cc))
+use Rattle.daachorse_model.proofs.Lists.{nil_of}
 
 module _ {V : Type 0} (width : ℕ → ℕ) (K : Dictionary V) where
   -- what a search gives at a place and after it

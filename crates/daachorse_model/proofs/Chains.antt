@@ -1,23 +1,19 @@
 -- The matches that end where the units read end are the outputs of the ends of the text, and those are the output chain of its state.
-use Rattle.std.proofs.Common.{◌≡◌, ◌≢◌, ℕ, ◌+◌, ◌-◌, ◌≤◌, Bool, true, false, cond, List, [], ◌∷◌, ◌++◌, map, length, refl, sym, ap, ◌∙◌, subst, length-append, le_trans, arith}
+use Rattle.std.proofs.Common.{◌≡◌, ◌≢◌, ℕ, ◌+◌, ◌-◌, ◌≤◌, List, [], ◌∷◌, ◌++◌, map, length, refl, sym, ap, ◌∙◌, subst, length-append, le_trans, arith}
 use Rattle.std.proofs.lemmas.List.{map-append}
 use Rattle.std.proofs.lemmas.Simd.{map-map}
 use Rattle.daachorse_model.specs.Units.{size}
 use Rattle.daachorse_model.specs.Dictionary.{Dictionary}
-use Rattle.daachorse_model.specs.Matches.{matches_of, ending_at, matches_after}
-use Rattle.daachorse_model.specs.Prefixes.{IsSuffix, IsKey, IsPrefix, IsLong, IsLink, long}
+use Rattle.daachorse_model.specs.Matches.{matches_of, ending_at}
+use Rattle.daachorse_model.specs.Prefixes.{IsSuffix, IsKey, IsLong, IsLink}
 use Rattle.daachorse_model.specs.Outputs.{AllWithin, matches_of_outputs, own_outputs, outputs_of_ends, IsChain, at_root, at_dead, before_link}
 use Rattle.daachorse_model.proofs.Suffixes.{size-append, IsSuffix-same, IsSuffix-cons, IsSuffix-size}
 use Rattle.daachorse_model.proofs.Steps.{IsPrefix-key}
-use Rattle.daachorse_model.proofs.Links.{link_of_rest, long-is, link-is}
+use Rattle.daachorse_model.proofs.Links.{link_of_rest}
 
 pub AllWithin-append : {V : Type 0} (place : ℕ) (a b : List (V × ℕ)) → AllWithin place a → AllWithin place b → AllWithin place (a ++ b)
 AllWithin-append place [] b p q = q
 AllWithin-append place (x ∷ a) b p q = (p.0, AllWithin-append place a b p.1 q)
-
-pub AllWithin-later : {V : Type 0} (place later : ℕ) (l : List (V × ℕ)) → place ≤ later → AllWithin place l → AllWithin later l
-AllWithin-later place later [] h p = tt
-AllWithin-later place later (x ∷ l) h p = (le_trans p.0 h, AllWithin-later place later l h p.1)
 
 AllWithin-map : {V : Type 0} (place n : ℕ) (vs : List V) → n ≤ place → AllWithin place (map (λ v. (v, n)) vs)
 AllWithin-map place n [] h = tt
@@ -69,9 +65,6 @@ module _ {V : Type 0} (width : ℕ → ℕ) (K : Dictionary V) where
       ∙ ap (λ l. matches_of_outputs e (own_outputs width K (u ∷ w)) ++ l) (ending_at-outputs (s + width u) e w (omega (arith, sum)))
       ∙ sym (map-append _ (own_outputs width K (u ∷ w)) (outputs_of_ends width K w))
 
-  pub matches_after-outputs : (all : List ℕ) → matches_after width K all ≡ matches_of_outputs (size width all) (outputs_of_ends width K all)
-  matches_after-outputs all = ending_at-outputs 0 (size width all) all (omega arith)
-
   AllWithin-ends : (place : ℕ) (w : List ℕ) → size width w ≤ place → AllWithin place (outputs_of_ends width K w)
   AllWithin-ends place [] h = AllWithin-map place 0 (K []) h
   AllWithin-ends place (u ∷ w) h =
@@ -80,11 +73,6 @@ module _ {V : Type 0} (width : ℕ → ℕ) (K : Dictionary V) where
 
   -- The chain of the state of what was read, of an automaton with no dead link.
   module _ (dead : List ℕ → Type 0) (alive : (x : List ℕ) → ¬ dead x) where
-    -- The matches that end where the units read end are the outputs of the state of all that was read.
-    pub matches_after-IsChain : (all w : List ℕ) (l : List (V × ℕ)) → IsLong K all w → IsChain width K dead w l → matches_after width K all ≡ matches_of_outputs (size width all) l
-    matches_after-IsChain all w l is chain =
-        matches_after-outputs all ∙ ap (matches_of_outputs (size width all)) (outputs-IsLong all w is ∙ sym (outputs-IsChain alive chain))
-
     -- Of a search that began anew after `before`: the matches that start there or later.
     pub ending_at-IsChain : (before since w : List ℕ) (l : List (V × ℕ)) → IsLong K since w → IsChain width K dead w l
         → ending_at width K (size width before) (size width (before ++ since)) since ≡ matches_of_outputs (size width (before ++ since)) l
@@ -92,38 +80,8 @@ module _ {V : Type 0} (width : ℕ → ℕ) (K : Dictionary V) where
         let place : ℕ = size width (before ++ since) in
         ending_at-outputs (size width before) place since (sym (size-append width before since)) ∙ ap (matches_of_outputs place) (outputs-IsLong since w is ∙ sym (outputs-IsChain alive chain))
 
-    -- The same where no key that ends here starts earlier: these are all matches that end here.
-    pub matches_after-since : (before since w : List ℕ) (l : List (V × ℕ)) → IsLong K since w → IsChain width K dead w l
-        → ((t : List ℕ) → IsSuffix t (before ++ since) → IsKey K t → length t ≤ length since)
-        → matches_after width K (before ++ since) ≡ matches_of_outputs (size width (before ++ since)) l
-    matches_after-since before since w l is chain keys =
-        let all : List ℕ = before ++ since in
-        matches_after-outputs all ∙ ap (matches_of_outputs (size width all)) (outputs_of_keys all since (before, refl) keys ∙ outputs-IsLong since w is ∙ sym (outputs-IsChain alive chain))
-
     -- No output is longer than all that was read.
     pub AllWithin-IsChain : (all w : List ℕ) (l : List (V × ℕ)) → IsSuffix w all → IsChain width K dead w l → AllWithin (size width all) l
     AllWithin-IsChain all w l ends chain =
         let P : List (V × ℕ) → Type 0 = λ x. AllWithin (size width all) x in
         subst P (sym (outputs-IsChain alive chain)) (AllWithin-ends (size width all) w (IsSuffix-size width w all ends))
-
-    -- Where a test says which texts are prefixes of keys, the outputs of the ends are the chain of each text.
-    module _ (known : List ℕ → Bool) (fore : (w : List ℕ) → known w ≡ true → IsPrefix K w) (back : (w : List ℕ) → IsPrefix K w → known w ≡ true) where
-      one_more : (u : ℕ) (w : List ℕ) → IsChain width K dead (long known w) (outputs_of_ends width K (long known w)) → IsChain width K dead (u ∷ w) (outputs_of_ends width K (u ∷ w))
-      one_more u w rest =
-          let P : List (V × ℕ) → Type 0 = λ l. IsChain width K dead (u ∷ w) (own_outputs width K (u ∷ w) ++ l) in
-          subst P (sym (outputs-IsLong w (long known w) (long-is K known fore back w))) (before_link (link-is K known fore back u w) (alive (u ∷ w)) rest)
-
-      of_long : (w : List ℕ) → IsChain width K dead (long known w) (outputs_of_ends width K (long known w))
-      of_long [] = at_root
-      of_long (u ∷ w) = go (known (u ∷ w)) (of_long w)
-        where
-          Chain : List ℕ → Type 0
-          Chain x = IsChain width K dead x (outputs_of_ends width K x)
-
-          go : (b : Bool) → Chain (long known w) → Chain (cond b (u ∷ w) (long known w))
-          go true rest = one_more u w rest
-          go false rest = rest
-
-      pub IsChain-of_ends : (w : List ℕ) → IsChain width K dead w (outputs_of_ends width K w)
-      IsChain-of_ends [] = at_root
-      IsChain-of_ends (u ∷ w) = one_more u w (of_long w)

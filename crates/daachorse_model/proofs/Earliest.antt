@@ -1,20 +1,21 @@
 -- Under `LeftmostFirst` the longest key at a start is the earliest registered pattern that occurs there.
-use Rattle.std.proofs.Common.{◌≡◌, ◌≢◌, ℕ, Bool, true, false, ◌||◌, nat_eq, List, [], ◌∷◌, ◌++◌, refl, ap, sym, ◌∙◌, subst, Option, Some, None, inl, inr}
+use Rattle.std.proofs.Common.{◌≡◌, ◌≢◌, ℕ, true, false, nat_eq, List, [], ◌∷◌, ◌++◌, refl, ap, sym, ◌∙◌, subst, Option, Some, None, inl, inr}
 use Rattle.std.specs.Prelude.{find}
 use Rattle.std.specs.List.{list_any}
-use Rattle.std.proofs.lemmas.Bool.{eqb-true, eq-eqb}
+use Rattle.std.proofs.lemmas.Bool.{eqb-true, eq-eqb, or_left, or_right, or_parts}
 use Rattle.std.proofs.lemmas.Slice.Eq.{bytes_eq-Decides}
 use Rattle.std.proofs.lemmas.List.{append_assoc, append-nil}
+use Rattle.std.proofs.lemmas.Option.{same_Some}
 use Rattle.daachorse_model.specs.declared.MatchKind.TheVariants.{LeftmostFirst}
 use Rattle.daachorse_model.specs.Units.{same_text}
 use Rattle.daachorse_model.specs.Dictionary.{Dictionary, is_prefix, is_proper_prefix, without_extensions, values_of, dictionary}
 use Rattle.daachorse_model.specs.Leftmost.{keyed, longest_key}
-use Rattle.daachorse_model.proofs.Booleans.{either, both-true, or-false, or-true}
+use Rattle.daachorse_model.proofs.Booleans.{either, both-true}
 use Rattle.daachorse_model.proofs.Searches.{keyed-none}
 
 -- ---- prefixes
 
-is_prefix-splits : (p w : List ℕ) → is_prefix p w ≡ true → (y : List ℕ) × (w ≡ p ++ y)
+pub is_prefix-splits : (p w : List ℕ) → is_prefix p w ≡ true → (y : List ℕ) × (w ≡ p ++ y)
 is_prefix-splits [] w e = (w, refl)
 is_prefix-splits (a ∷ p) [] e = cc
 is_prefix-splits (a ∷ p) (u ∷ w) e =
@@ -23,11 +24,11 @@ is_prefix-splits (a ∷ p) (u ∷ w) e =
     let same : a ≡ u = eqb-true a u parts.0 in
     (rest.0, ap (λ r. r ∷ w) (sym same) ∙ ap (λ r. a ∷ r) rest.1)
 
-is_prefix-append : (p z : List ℕ) → is_prefix p (p ++ z) ≡ true
+pub is_prefix-append : (p z : List ℕ) → is_prefix p (p ++ z) ≡ true
 is_prefix-append [] z = refl
 is_prefix-append (a ∷ p) z = rw (eq-eqb a a refl) (is_prefix-append p z)
 
-is_proper_prefix-append : (p z : List ℕ) → z ≢ [] → is_proper_prefix p (p ++ z) ≡ true
+pub is_proper_prefix-append : (p z : List ℕ) → z ≢ [] → is_proper_prefix p (p ++ z) ≡ true
 is_proper_prefix-append [] [] ne = absurd (ne refl)
 is_proper_prefix-append [] (u ∷ z) ne = refl
 is_proper_prefix-append (a ∷ p) z ne = rw (eq-eqb a a refl) (is_proper_prefix-append p z ne)
@@ -60,7 +61,7 @@ differs p q w begins_not begins = elim (either (same_text p q)) [
 none_proper : (before : List (List ℕ)) (q w : List ℕ) → list_any (λ p. is_prefix p w) before ≡ false → is_prefix q w ≡ true → list_any (λ p. is_proper_prefix p q) before ≡ false
 none_proper [] q w none is = refl
 none_proper (p ∷ before) q w none is =
-    let parts = or-false (is_prefix p w) (list_any (λ r. is_prefix r w) before) none in
+    let parts = or_parts (is_prefix p w) (list_any (λ r. is_prefix r w) before) none in
     elim (either (is_proper_prefix p q)) [
       | inl e ↦ let begins = proper-is_prefix p q w e is in cc
       | inr e ↦ rw e (none_proper before q w parts.1 is)
@@ -103,7 +104,7 @@ values_of-dropped : {V : Type 0} (before : List (List ℕ)) (rs : List (List ℕ
     → values_of (without_extensions before rs) q ≡ []
 values_of-dropped before [] q drops = refl
 values_of-dropped before (r ∷ rs) q drops =
-    let rest = values_of-dropped (r.0 ∷ before) rs q (or-true (is_proper_prefix r.0 q) (list_any (λ p. is_proper_prefix p q) before) drops) in
+    let rest = values_of-dropped (r.0 ∷ before) rs q (or_right (is_proper_prefix r.0 q) (list_any (λ p. is_proper_prefix p q) before) drops) in
     elim (either (list_any (λ p. is_proper_prefix p r.0) before)) [
       | inl out ↦ rw out rest
       | inr stays ↦ elim (either (same_text r.0 q)) [
@@ -143,14 +144,14 @@ values_of-first before [] w found none is = cc
 values_of-first before (r ∷ rs) w found none is =
     elim (either (is_prefix r.0 w)) [
       | inl begins ↦
-          let first : r ≡ found = some_same r found (rw begins at is) in
+          let first : r ≡ found = same_Some r found (rw begins at is) in
           let stays = none_proper before r.0 w none begins in
           subst (λ f. IsFirst (values_of (without_extensions before (r ∷ rs))) w f) first (record {
             is = begins;
             others = values_of (without_extensions (r.0 ∷ before) rs) r.0;
             has = rw (stays, same_text-refl r.0);
             longer = λ q within proper. rw (stays, proper-differs r.0 q proper)
-                (values_of-dropped (r.0 ∷ before) rs q (or-left (is_proper_prefix r.0 q) (list_any (λ p. is_proper_prefix p q) before) proper));
+                (values_of-dropped (r.0 ∷ before) rs q (or_left (is_proper_prefix r.0 q) (list_any (λ p. is_proper_prefix p q) before) proper));
           })
       | inr begins_not ↦
           let rest = values_of-first (r.0 ∷ before) rs w found (rw begins_not none) (rw begins_not at is) in
@@ -164,13 +165,6 @@ values_of-first before (r ∷ rs) w found none is =
             }
           ]
     ]
-  where
-    some_same : {A : Type 0} (x y : A) → Some x ≡ Some y → x ≡ y
-    some_same x y e = cc
-
-    or-left : (a b : Bool) → a ≡ true → (a || b) ≡ true
-    or-left true b e = refl
-    or-left false b e = cc
 
 -- the answer at a start is the earliest registered pattern that occurs there
 pub earliest : {V : Type 0} (rs : List (List ℕ × V)) (w : List ℕ) → longest_key (dictionary LeftmostFirst rs) [] w ≡ find (λ r. is_prefix r.0 w) rs

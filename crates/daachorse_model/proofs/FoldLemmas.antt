@@ -133,10 +133,10 @@ pub length-as_read : (folds : Bool) (w : List ℕ) → length (as_read folds w) 
 length-as_read true w = length-map w folded_unit
 length-as_read false w = refl
 
--- its bytes are those of the text as they are read
-pub encodes-as_read : (folds : Bool) (w : List ℕ) → encodes (as_read folds w) ≡ as_read folds (encodes w)
-encodes-as_read true w = encodes-folded w
-encodes-as_read false w = refl
+-- what is read of two texts is read of both
+pub as_read-append : (folds : Bool) (v w : List ℕ) → as_read folds (v ++ w) ≡ as_read folds v ++ as_read folds w
+as_read-append true v w = map-append folded_unit v w
+as_read-append false v w = refl
 
 -- it has as many bytes
 pub size-as_read : (width : ℕ → ℕ) → ((u : ℕ) → width (folded_unit u) ≡ width u) → (folds : Bool) (w : List ℕ) → size width (as_read folds w) ≡ size width w

@@ -2,14 +2,8 @@
 use Rattle.std.proofs.Common.{◌≡◌, ℕ, true, false, List, [], refl}
 use Rattle.daachorse_model.specs.declared.MatchKind.{MatchKind}
 use Rattle.daachorse_model.specs.declared.MatchKind.TheVariants.{Standard, LeftmostLongest, LeftmostFirst}
-use Rattle.daachorse_model.specs.Kinds.{is_leftmost_first, byte_of_kind, kind_of_byte}
+use Rattle.daachorse_model.specs.Kinds.{is_leftmost_first}
 use Rattle.daachorse_model.specs.Dictionary.{kept, without_extensions}
-
--- a kind comes back from its byte
-pub kind_of_byte-same : (kind : MatchKind) → kind_of_byte (byte_of_kind kind) ≡ kind
-kind_of_byte-same Standard = refl
-kind_of_byte-same LeftmostLongest = refl
-kind_of_byte-same LeftmostFirst = refl
 
 -- only `LeftmostFirst` drops registrations
 pub kept-first : {V : Type 0} (kind : MatchKind) (rs : List (List ℕ × V)) → is_leftmost_first kind ≡ true → kept kind rs ≡ without_extensions [] rs

@@ -1,6 +1,8 @@
 pub mod Booleans
 pub mod KindLemmas
+pub mod Lists
 pub mod Suffixes
+pub mod Paths
 pub mod Steps
 pub mod Links
 pub mod Occurrences

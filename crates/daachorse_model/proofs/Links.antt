@@ -1,9 +1,9 @@
 -- The links that are computed are the links that the relations speak of: the longest end of u ∷ w that is not u ∷ w itself is the longest end of w.
 use Rattle.std.proofs.Common.{◌≡◌, ◌≢◌, ℕ, ◌+◌, ◌<◌, ◌≤◌, Bool, true, false, cond, List, [], ◌∷◌, ◌++◌, length, Option, Some, None, refl, sym, ap, ◌∙◌, subst, inl, inr, arith, append_assoc, append-nil}
 use Rattle.daachorse_model.specs.Dictionary.{Dictionary}
-use Rattle.daachorse_model.specs.Prefixes.{IsSuffix, IsKey, IsPrefix, IsLong, IsLink, Occurs, StartsBefore, IsDead, IsLeftFail, IsCut, long, link, is_key, key_begins, long_unless_key, left_fail, cut}
+use Rattle.daachorse_model.specs.Prefixes.{IsSuffix, IsKey, IsPrefix, IsLong, IsLink, Occurs, StartsBefore, IsDead, IsLeftFail, long, link, is_key, key_begins, long_unless_key, left_fail}
 use Rattle.daachorse_model.proofs.Suffixes.{le_or_lt, IsSuffix-same, IsSuffix-cons, IsSuffix-tail, IsSuffix-length, IsSuffix-of_longer, IsSuffix-as_long}
-use Rattle.daachorse_model.proofs.Steps.{IsLong-nil, IsLong-same}
+use Rattle.daachorse_model.proofs.Steps.{IsLong-nil}
 
 module _ {V : Type 0} (K : Dictionary V) where
   -- the longest end of what follows the first unit is the link
@@ -149,10 +149,3 @@ module _ {V : Type 0} (K : Dictionary V) where
         go false (Some l) key rest =
             let P : List ℕ → Type 0 = λ x. IsLink K (u ∷ w) x in
             (subst P (sym rest.0) (link-is u w), none_longer u w l key rest.1)
-
-    pub cut-is : (w : List ℕ) → IsCut K w (cut K known w)
-    cut-is w = go (long_unless_key K known w) (long_tells w)
-      where
-        go : (o : Option (List ℕ)) → Tells w o → IsCut K w (elim o [ Some l ↦ l | None ↦ [] ])
-        go None early = inr (refl, λ s h. let P : List ℕ → Type 0 = λ x. StartsBefore K w x in subst P (IsLong-same K w (long known w) s (long-is w) h) early)
-        go (Some l) rest = let P : List ℕ → Type 0 = λ x. IsLong K w x in inl (subst P (sym rest.0) (long-is w), rest.1)

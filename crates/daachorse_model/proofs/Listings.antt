@@ -1,5 +1,5 @@
 -- `listing` is what the relation `IsListing` asks: in byte order, with the same values of each text.
-use Rattle.std.proofs.Common.{◌≡◌, ℕ, zero, suc, ◌+◌, ◌<◌, ◌≤◌, false, cond, List, [], ◌∷◌, length, get_or, refl, ap, sym, ◌∙◌, arith, add-one, inl, inr}
+use Rattle.std.proofs.Common.{◌≡◌, ℕ, zero, suc, ◌+◌, ◌<◌, ◌≤◌, false, cond, List, [], ◌∷◌, length, get_or, refl, ap, sym, ◌∙◌, arith, add-one, inl, inr, ◌≢◌, Bool, true}
 use Rattle.std.specs.Prelude.{IsSortedByKey}
 use Rattle.std.specs.declared.cmp.Ordering.{Ordering}
 use Rattle.std.specs.declared.cmp.Ordering.TheVariants.{Less, Equal, Greater}
@@ -23,6 +23,14 @@ order-same w = itself (order w w) (nat_list_cmp_total.antisymm w w)
     itself Greater e = cc
 
 module _ {V : Type 0} where
+  -- a text with a value has one beside another entry
+  pub value_later : (r : List ℕ × V) (rs : List (List ℕ × V)) (w : List ℕ) → values_of rs w ≢ [] → values_of (r ∷ rs) w ≢ []
+  value_later r rs w h = at (same_text r.0 w)
+    where
+      at : (c : Bool) → cond c (r.1 ∷ values_of rs w) (values_of rs w) ≢ []
+      at true none = cc
+      at false none = h none
+
   -- entries of two texts may change places
   swaps : (r q : List ℕ × V) (w : List ℕ) (vs : List V) → order r.0 q.0 ≡ Greater
       → cond (same_text q.0 w) (q.1 ∷ cond (same_text r.0 w) (r.1 ∷ vs) vs) (cond (same_text r.0 w) (r.1 ∷ vs) vs) ≡ cond (same_text r.0 w) (r.1 ∷ cond (same_text q.0 w) (q.1 ∷ vs) vs) (cond (same_text q.0 w) (q.1 ∷ vs) vs)

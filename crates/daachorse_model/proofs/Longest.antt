@@ -13,6 +13,7 @@ use Rattle.daachorse_model.specs.Laws.{IsLongestAtStart, IsEarliestAtStart}
 use Rattle.daachorse_model.proofs.Suffixes.{size-append}
 use Rattle.daachorse_model.proofs.Overlap.{longest_key-begins}
 use Rattle.daachorse_model.proofs.Earliest.{earliest}
+use Rattle.daachorse_model.proofs.Lists.{none_either}
 
 -- the match is what `longest_key` finds at its start
 pub record IsFoundAtStart {V : Type 0} (width : ℕ → ℕ) (K : Dictionary V) (h : List ℕ) (m : Match V) : Type 0 where
@@ -28,19 +29,15 @@ keyed-nothing : {V : Type 0} (K : Dictionary V) (t : List ℕ) (vs : List V) →
 keyed-nothing K t [] is e = is
 keyed-nothing K t (v ∷ vs) is e = cc
 
-option_or-nothing : {A : Type 0} (a b : Option A) → option_or a b ≡ None → (a ≡ None) × (b ≡ None)
-option_or-nothing None b e = (refl, e)
-option_or-nothing (Some x) b e = cc
-
 module _ {V : Type 0} (K : Dictionary V) where
   -- where nothing is found, no key begins
   longest_key-nothing : (t w k rest : List ℕ) → w ≡ k ++ rest → longest_key K t w ≡ None → K (t ++ k) ≡ []
   longest_key-nothing t [] [] rest cut e = rw append-nil (keyed-nothing K t (K t) refl e)
-  longest_key-nothing t (u ∷ w) [] rest cut e = rw append-nil (keyed-nothing K t (K t) refl (option_or-nothing (longest_key K (t ++ u ∷ []) w) (keyed K t) e).1)
+  longest_key-nothing t (u ∷ w) [] rest cut e = rw append-nil (keyed-nothing K t (K t) refl (none_either (longest_key K (t ++ u ∷ []) w) (keyed K t) e).1)
   longest_key-nothing t [] (c ∷ k) rest cut e = cc
   longest_key-nothing t (u ∷ w) (c ∷ k) rest cut e =
       let same : u ≡ c = cc in
-      let later = longest_key-nothing (t ++ u ∷ []) w k rest (cc) (option_or-nothing (longest_key K (t ++ u ∷ []) w) (keyed K t) e).0 in
+      let later = longest_key-nothing (t ++ u ∷ []) w k rest (cc) (none_either (longest_key K (t ++ u ∷ []) w) (keyed K t) e).0 in
       ap (λ x. K (t ++ x ∷ k)) (sym same) ∙ ap K (sym (append_assoc t (u ∷ []) k)) ∙ later
 
   -- where a key begins in the rest, it is the rest that is found

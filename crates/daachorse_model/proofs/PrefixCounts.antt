@@ -7,10 +7,11 @@ use Rattle.std.proofs.lemmas.List.Elements.{Contains-append_left, Contains-appen
 use Rattle.std.proofs.lemmas.Map.Keys.{IsDistinct-cons}
 use Rattle.std.proofs.lemmas.Map.Views.{Contains-from_any}
 use Rattle.std.proofs.lemmas.Slice.Eq.{bytes_eq-Decides}
+use Rattle.std.proofs.lemmas.Bool.{or_parts}
 use Rattle.daachorse_model.specs.Units.{same_text}
 use Rattle.daachorse_model.specs.Dictionary.{values_of}
 use Rattle.daachorse_model.specs.Prefixes.{IsPrefix, HasPrefixes, fronts, each_once, prefixes}
-use Rattle.daachorse_model.proofs.Booleans.{either, or-false}
+use Rattle.daachorse_model.proofs.Booleans.{either}
 
 same : (v w : List ℕ) → same_text v w ≡ true → v ≡ w
 same v w e = (bytes_eq-Decides v w).0 e
@@ -35,7 +36,7 @@ none w has = absurd (let lt : has.0 < 0 = has.1 in omega arith)
 
 apart : (w : List ℕ) (ws : List (List ℕ)) → list_any (same_text w) ws ≡ false → AllByRecursion (λ v. same_text w v ≡ false) ws
 apart w [] e = tt
-apart w (v ∷ vs) e = let p = or-false (same_text w v) (list_any (same_text w) vs) e in (p.0, apart w vs p.1)
+apart w (v ∷ vs) e = let p = or_parts (same_text w v) (list_any (same_text w) vs) e in (p.0, apart w vs p.1)
 
 each_once-distinct : (ws : List (List ℕ)) → IsDistinct same_text (each_once ws)
 unfolding IsDistinct

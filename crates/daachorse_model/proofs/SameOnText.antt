@@ -2,20 +2,23 @@
 use Rattle.std.proofs.Common.{◌≡◌, ◌≢◌, ℕ, ◌+◌, ◌/◌, ◌%◌, ◌<◌, ◌≤◌, Bool, true, false, cond, List, [], ◌∷◌, ◌++◌, length, map, refl, ap, sym, ◌∙◌, subst, arith, inl, inr, nat_lt, nat_eq, add-zero}
 use Rattle.std.specs.Prelude.{take}
 use Rattle.std.specs.Char.{len_utf8}
-use Rattle.std.proofs.Math.Utf8.{encode, encodes}
-use Rattle.std.proofs.lemmas.Str.{encodes-append, encodes_same, cons_from_encodes, length-encode}
-use Rattle.std.proofs.lemmas.Bool.{ltb-true, eqb-true, eq-eqb}
+use Rattle.std.proofs.Math.Utf8.{encode, encodes, scalars}
+use Rattle.std.proofs.lemmas.Str.{encodes-append, encodes_same, cons_from_encodes, length-encode, encodes-chars, scalars-chars, IsCharBoundary-at_seam}
+use Rattle.std.proofs.lemmas.Bool.{ltb-true, eqb-true}
 use Rattle.std.proofs.lemmas.Slice.Eq.{bytes_eq-Decides}
 use Rattle.std.specs.Bool.{one_answer}
 use Rattle.std.proofs.lemmas.List.{append_assoc, append-nil}
 use Rattle.daachorse_model.specs.Units.{size, byte_width, char_width, same_text}
 use Rattle.daachorse_model.specs.Dictionary.{Dictionary, values_of, in_bytes, is_proper_prefix, without_extensions, kept, dictionary}
 use Rattle.std.specs.List.{list_any}
+use Rattle.std.specs.Str.{IsUtf8, IsCharBoundary, chars}
 use Rattle.daachorse_model.specs.declared.MatchKind.{MatchKind}
 use Rattle.daachorse_model.specs.declared.MatchKind.TheVariants.{Standard, LeftmostLongest, LeftmostFirst}
 use Rattle.daachorse_model.specs.Matches.{matches_of, ending_at, matches_after, at_each_end, overlapping, no_suffix}
 use Rattle.daachorse_model.proofs.Suffixes.{size-append, size-bytes}
 use Rattle.daachorse_model.proofs.Booleans.{either, both-true}
+use Rattle.daachorse_model.proofs.Lists.{no_back}
+use Rattle.daachorse_model.proofs.Earliest.{is_proper_prefix-append}
 
 -- a byte inside a character
 abbrev pub IsInner : ℕ → Type 0
@@ -52,9 +55,6 @@ spelled c = elim (either (nat_lt c 128)) [
     ]
   ]
 ]
-
-encode-nonempty : (c : ℕ) → encode c ≢ []
-encode-nonempty c e = let s = spelled c in (let bad : s.first ∷ s.inner ≡ [] = sym s.is ∙ e in cc)
 
 -- no text begins with a byte inside a character
 pub starts_inner : (p : List ℕ) (b : ℕ) (r : List ℕ) → IsInner b → encodes p ≢ b ∷ r
@@ -157,11 +157,7 @@ module _ {A : Type 0} (f : List ℕ → List A) where
   inner_ends x y front [] c cut some quiet = ap (λ r. at_each_end f (x ++ r) y) (sym (append-nil front) ∙ sym cut)
   inner_ends x y front (b ∷ back) c cut some quiet =
       rw (quiet front (b ∷ back) cut some (λ e. cc), append_assoc)
-      (inner_ends x y (front ++ b ∷ []) back c (cut ∙ sym (append_assoc front (b ∷ []) back)) (λ e. longer front b e) quiet)
-    where
-      longer : (x : List ℕ) (b : ℕ) → x ++ b ∷ [] ≡ [] → ⊥
-      longer [] b e = cc
-      longer (a ∷ x) b e = cc
+      (inner_ends x y (front ++ b ∷ []) back c (cut ∙ sym (append_assoc front (b ∷ []) back)) (λ e. let none = no_back front (b ∷ []) e in cc) quiet)
 
   at_each_end-char : (x y : List ℕ) (c : ℕ) → IsQuiet x c → at_each_end f x (encode c ++ y) ≡ f x ++ at_each_end f (x ++ encode c) y
   at_each_end-char x y c quiet =
@@ -210,11 +206,6 @@ proper-splits (a ∷ p) (u ∷ q) e =
     let same : a ≡ u = eqb-true a u parts.0 in
     (rest.0, ap (λ r. r ∷ q) (sym same) ∙ ap (λ r. a ∷ r) rest.1, rest.2)
 
-splits-proper : (p z : List ℕ) → z ≢ [] → is_proper_prefix p (p ++ z) ≡ true
-splits-proper [] [] ne = absurd (ne refl)
-splits-proper [] (u ∷ z) ne = refl
-splits-proper (a ∷ p) z ne = rw (eq-eqb a a refl) (splits-proper p z ne)
-
 encodes-nonempty : (z : List ℕ) → z ≢ [] → encodes z ≢ []
 encodes-nonempty [] ne e = ne refl
 encodes-nonempty (c ∷ z) ne e = let s = spelled c in let bad : s.first ∷ (s.inner ++ encodes z) ≡ [] = ap (λ x. x ++ encodes z) (sym s.is) ∙ e in cc
@@ -232,13 +223,13 @@ is_proper_prefix-encodes p q = elim (either (is_proper_prefix p q)) [
   | inl proper ↦
       let k = proper-splits p q proper in
       let whole : encodes q ≡ encodes p ++ encodes k.0 = ap encodes k.1 ∙ encodes-append p k.0 in
-      rw whole (splits-proper (encodes p) (encodes k.0) (encodes-nonempty k.0 k.2)) ∙ sym proper
+      rw whole (is_proper_prefix-append (encodes p) (encodes k.0) (encodes-nonempty k.0 k.2)) ∙ sym proper
   | inr other ↦ elim (either (is_proper_prefix (encodes p) (encodes q))) [
     | inl proper ↦
         let k = proper-splits (encodes p) (encodes q) proper in
         let y = text-splits p q k.0 k.1 in
         let some : y.0 ≢ [] = (λ e. k.2 (sym y.2 ∙ ap encodes e)) in
-        absurd (let bad : true ≡ false = sym (splits-proper p y.0 some) ∙ ap (is_proper_prefix p) (sym y.1) ∙ other in cc)
+        absurd (let bad : true ≡ false = sym (is_proper_prefix-append p y.0 some) ∙ ap (is_proper_prefix p) (sym y.1) ∙ other in cc)
     | inr same ↦ same ∙ sym other
   ]
 ]
@@ -271,3 +262,16 @@ pub no_suffix_texts : {V : Type 0} (kind : MatchKind) (rs : List (List ℕ × V)
     → no_suffix byte_width (dictionary kind (in_bytes rs)) (encodes h) ≡ no_suffix char_width (dictionary kind rs) h
 no_suffix_texts kind rs h no_empty =
     ap (λ r. no_suffix byte_width (values_of r) (encodes h)) (kept-in_bytes kind rs) ∙ no_suffix_same (kept kind rs) no_empty h
+
+-- the last characters of some are some
+pub scalars-back : (xs ys : List ℕ) → scalars (xs ++ ys) ≡ true → scalars ys ≡ true
+scalars-back [] ys e = e
+scalars-back (x ∷ xs) ys e = scalars-back xs ys (both-true _ (scalars (xs ++ ys)) e).1
+
+-- a text may be cut behind any of its characters
+pub cut_at : (text front back : List ℕ) → IsUtf8 text → chars text ≡ front ++ back → IsCharBoundary text (size char_width front)
+cut_at text front back u parts =
+    let at : length (encodes front) ≡ size char_width front = sym (size-bytes (encodes front)) ∙ size-encodes front in
+    let whole : text ≡ encodes front ++ encodes back = sym (encodes-chars text u) ∙ ap encodes parts ∙ encodes-append front back in
+    let later : scalars back ≡ true = scalars-back front back (ap scalars (sym parts) ∙ scalars-chars text u) in
+    subst (IsCharBoundary text) at (IsCharBoundary-at_seam text (encodes front) (encodes back) whole (back, (later, refl)))

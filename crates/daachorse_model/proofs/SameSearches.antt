@@ -17,6 +17,7 @@ use Rattle.daachorse_model.proofs.Overlap.{longest_key-begins, Begins, take-appe
 use Rattle.daachorse_model.proofs.SameOnText.{spelled, AllInner, IsInner, starts_inner, ends_inner, values_of-in_bytes, values_of-no_text, ending_at-inner, ending_at-encodes, size-encodes, kept-in_bytes}
 use Rattle.daachorse_model.proofs.Suffixes.{size-bytes}
 use Rattle.daachorse_model.proofs.Searches.{first_or, keyed-none, leftmost_from-skip}
+use Rattle.daachorse_model.proofs.Lists.{no_back}
 
 -- ---- standard searches
 
@@ -37,11 +38,7 @@ module _ {V : Type 0} (rs : List (List ℕ × V)) (no_empty : values_of rs [] �
   looks_inner r t w front (b ∷ back) c cut some =
       rw (ending_at-inner rs no_empty t front (b ∷ back) c r (r + size byte_width (encodes t ++ front)) cut some (λ e. cc))
       (ap (λ x. looks_at byte_width by_bytes r x (back ++ w)) (append_assoc (encodes t) front (b ∷ []))
-      ∙ looks_inner r t w (front ++ b ∷ []) back c (cut ∙ sym (append_assoc front (b ∷ []) back)) (λ e. longer front b e))
-    where
-      longer : (x : List ℕ) (b : ℕ) → x ++ b ∷ [] ≡ [] → ⊥
-      longer [] b e = cc
-      longer (a ∷ x) b e = cc
+      ∙ looks_inner r t w (front ++ b ∷ []) back c (cut ∙ sym (append_assoc front (b ∷ []) back)) (λ e. let none = no_back front (b ∷ []) e in cc))
 
   standard_char : (r : ℕ) (t w : List ℕ) (c : ℕ) → standard_from byte_width by_bytes r (encodes t) (encode c ++ w) ≡ looks_at byte_width by_bytes r (encodes t ++ encode c) w
   standard_char r t w c =
@@ -103,11 +100,7 @@ module _ {V : Type 0} (rs : List (List ℕ × V)) (no_empty : values_of rs [] �
       ap (λ o. option_or (longest_key bytes_of ((encodes t ++ front) ++ b ∷ []) (back ++ w)) o) none
       ∙ option_or-none (longest_key bytes_of ((encodes t ++ front) ++ b ∷ []) (back ++ w))
       ∙ ap (λ x. longest_key bytes_of x (back ++ w)) (append_assoc (encodes t) front (b ∷ []))
-      ∙ longest_inner t w (front ++ b ∷ []) back c (cut ∙ sym (append_assoc front (b ∷ []) back)) (λ e. longer front b e)
-    where
-      longer : (x : List ℕ) (b : ℕ) → x ++ b ∷ [] ≡ [] → ⊥
-      longer [] b e = cc
-      longer (a ∷ x) b e = cc
+      ∙ longest_inner t w (front ++ b ∷ []) back c (cut ∙ sym (append_assoc front (b ∷ []) back)) (λ e. let none = no_back front (b ∷ []) e in cc)
 
   longest_char : (t w : List ℕ) (c : ℕ) → longest_key bytes_of (encodes t) (encode c ++ w) ≡ option_or (longest_key bytes_of (encodes t ++ encode c) w) (keyed bytes_of (encodes t))
   longest_char t w c =

@@ -105,13 +105,6 @@ longest_key-next K text i best more lt is =
     ap (key_found text) is ∙ key_found-longer text t (ap (λ n. take n text) (length-take-le i text (omega arith))) (slice_get (K t) 0) best in
     ap (option_or later) found ∙ (sym (option_or-assoc later (keyed K t) (key_found text best)) ∙ ap (λ o. option_or o (key_found text best)) (sym here))
 
--- no more beginnings
-pub longest_key-last : {V : Type 0} (K : Dictionary V) (text : List ℕ) (i : ℕ) (best more : Option (Longest V)) → length text ≤ i
-    → more ≡ option_or (option_map (λ v. record { units = length text; value = v }) (slice_get (K text) 0)) best
-    → key_found text more ≡ option_or (longest_key K (take i text) (drop i text)) (key_found text best)
-longest_key-last K text i best more all is =
-    rw (take-all text i all, drop-all text i all) (ap (key_found text) is ∙ key_found-longer text text (take-all text (length text) (omega arith)) (slice_get (K text) 0) best)
-
 -- ---- what is given at a place
 
 key_length : (text : List ℕ) (n : ℕ) → n ≤ length text → length (take n text) ≡ n

@@ -73,21 +73,7 @@ matches_of-step ps i p s e w found more false h is t f =
 pub drop-item : {X : Type 0} (xs : List X) (i : ℕ) (x : X) → i < length xs → x ≡ get_or xs i x → drop i xs ≡ x ∷ drop (i + 1) xs
 drop-item xs i x h is = rw add-one (drop-cons xs i x h ∙ ap (λ y. y ∷ drop (suc i) xs) (sym is))
 
--- the values of the patterns that are left, where the first of them is p
-pub values_of-next : {V : Type 0} (ps : List (Bor (List ℕ) × V)) (i : ℕ) (p : Bor (List ℕ) × V) (w : List ℕ) (b : Bool) → i < length ps → p ≡ get_or ps i p → b ≡ same_text p.0.now w
-    → values_of (registered (drop i ps)) w ≡ cond b (p.1 ∷ values_of (registered (drop (i + 1) ps)) w) (values_of (registered (drop (i + 1) ps)) w)
-values_of-next ps i p w b h is t = rw (drop-item ps i p h is, t) refl
-
 -- ---- starts and ends
-
--- one more start adds the matches of the part that begins there
-pub ending_at-step : {V : Type 0} (width : ℕ → ℕ) (K : Dictionary V) (w : List ℕ) (i s e : ℕ) (found more : List (Match V)) → i < length w
-    → more ≡ found ++ matches_of K s e (drop i w)
-    → more ++ ending_at width K (s + width (get_or w i 0)) e (drop (i + 1) w) ≡ found ++ ending_at width K s e (drop i w)
-ending_at-step width K w i s e found more h f = one_start (get_or w i 0) (drop i w) (drop (i + 1) w) (drop-next w i h) f
-  where
-    one_start : (u : ℕ) (r rest : List ℕ) → r ≡ u ∷ rest → more ≡ found ++ matches_of K s e r → more ++ ending_at width K (s + width u) e rest ≡ found ++ ending_at width K s e r
-    one_start u r rest cut here = rw (here, cut, append_assoc)
 
 -- one more end adds what is found there
 pub at_each_end-step : {A : Type 0} (f : List ℕ → List A) (h : List ℕ) (i : ℕ) (found more : List A) → i < length h

@@ -141,9 +141,6 @@ module _ {V : Type 0} (width : ℕ → ℕ) (K : Dictionary V) (wide : (u : ℕ)
             ∙ find-here (size width all) m [] end,
       )
 
-  pub IsSinceMatch-resumed : (before since : List ℕ) → IsResumed width K before since → IsSinceMatch width K (before ++ since) since
-  IsSinceMatch-resumed before since r = (before, refl, sym r.place)
-
   pub IsResumed-since : (before since : List ℕ) → IsResumed width K before since → (s : List ℕ) → IsSinceMatch width K (before ++ since) s → s ≡ since
   IsResumed-since before since r s (front, cut, at) = same_split width wide front before s since (sym cut) (at ∙ r.place)
 

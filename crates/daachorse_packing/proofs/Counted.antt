@@ -13,11 +13,12 @@ use Rattle.daachorse_model.specs.Units.{same_text}
 use Rattle.daachorse_model.specs.Dictionary.{Dictionary}
 use Rattle.daachorse_model.specs.Paths.{walk, Leads}
 use Rattle.daachorse_model.specs.Prefixes.{IsPrefix}
+use Rattle.daachorse_model.proofs.Paths.{walk-push}
 use Rattle.daachorse_placement.specs.declared.build_helper.SiblingGroup.{SiblingGroup}
 use Rattle.daachorse_placement.specs.Placement.{children_of, parent_of}
 use Rattle.daachorse_build.specs.EdgeMaps.{id_at}
 use Rattle.daachorse_build.specs.Tables.{child_in}
-use Rattle.daachorse_build.proofs.Walks.{text_of, walk-push}
+use Rattle.daachorse_build.proofs.Walks.{text_of}
 use Rattle.daachorse_packing.specs.Settled.{AreGroupsOf}
 use Rattle.daachorse_patterns.specs.Prefixes.{HasMoreProperPrefixes, IsProperPrefix}
 

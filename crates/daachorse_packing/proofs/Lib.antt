@@ -5,3 +5,4 @@ pub mod BuiltLaws
 pub mod Groups
 pub mod Looks
 pub mod Keys
+pub mod Written

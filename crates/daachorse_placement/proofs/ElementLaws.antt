@@ -1,15 +1,18 @@
 -- What a group of children finds, step by step: tries, a block more, the group placed, and bases counted.
-use Rattle.std.proofs.Common.{◌⊎◌, ◌≡◌, ℕ, ◌+◌, ◌-◌, ◌*◌, ◌<◌, ◌≤◌, Bool, true, false, List, length, set, get_or, arith, ap, sym, ◌∙◌, subst, bit_xor, get_or-set_other, length-set, vec_len, cond, inl, inr}
+use Rattle.std.proofs.Common.{◌⊎◌, ◌≡◌, ℕ, ◌+◌, ◌-◌, ◌*◌, ◌<◌, ◌≤◌, Bool, true, false, List, length, set, get_or, arith, ap, sym, ◌∙◌, subst, bit_xor, get_or-set_other, length-set, cond, inl, inr}
 use Rattle.std.proofs.lemmas.Bool.{cases_order, cases_lt, cases_eq, true≢false}
 use Rattle.std.proofs.lemmas.Grind.{get_or-set_at}
 use Rattle.std.proofs.lemmas.List.{get_or_past}
-use Rattle.daachorse_placement.proofs.PlaceLinks.{used_set}
 use Rattle.daachorse_placement.specs.declared.build_helper.elements.Elements.{Elements}
 use Rattle.daachorse_placement.specs.Elements.{Fits, HasBase, HasBlockMore, HasFlagsOf, HasMarked, HasMore, HasPlaced, HasTaken, IsFirstFit, IsFull, IsMapOf, IsPlaceFor, IsWhole, NoneFits, boundary_of, count_in, count_of, is_base, is_used}
 use Rattle.daachorse_placement.specs.Placement.{AreApart, AreLabels, child_of, label_of}
 use Rattle.std.specs.Int.{IsPowerOfTwo}
 use Rattle.daachorse_placement.proofs.FlagCounts.{count-mono, count-more, count-one}
 use Rattle.daachorse_core.proofs.Xor.{xor_inside, xor_back, xor_range}
+
+-- what is used stays used
+used_set : (used : List Bool) (i k : ℕ) → i < length used → get_or used k false ≡ true → get_or (set used i true) k false ≡ true
+used_set used i k h u = elim (cases_eq k i) [ inl e ↦ get_or-set_at used i k true false e h | inr ne ↦ get_or-set_other used i k true false ne ∙ u ]
 
 -- a label leads from an element to an element
 pub child_inside : {A : Type 0} (e : Elements A) (b c : ℕ) → IsWhole e → b < count_of e → c < e.block_len → bit_xor b c < count_of e
@@ -19,18 +22,6 @@ child_inside e b c w inside label =
 
 pub base_inside : {A : Type 0} (e : Elements A) (b c : ℕ) → IsWhole e → b < count_of e → c < e.block_len → bit_xor b c < length e.used_base.items
 base_inside e b c w inside label = subst (λ (m : ℕ). bit_xor b c < m) (sym w.bases) (child_inside e b c w inside label)
-
-pub used_len : {A : Type 0} (e : Elements A) → vec_len e.used_index ≡ count_of e
-used_len e = e.used_index.ok.0
-
-pub base_len : {A : Type 0} (e : Elements A) → vec_len e.used_base ≡ length e.used_base.items
-base_len e = e.used_base.ok.0
-
-pub child_index : {A : Type 0} (e : Elements A) (b c : ℕ) → IsWhole e → b < count_of e → c < e.block_len → bit_xor b c < vec_len e.used_index
-child_index e b c w inside label = subst (λ (m : ℕ). bit_xor b c < m) (sym (used_len e)) (child_inside e b c w inside label)
-
-pub base_index : {A : Type 0} (e : Elements A) (b c : ℕ) → IsWhole e → b < count_of e → c < e.block_len → bit_xor b c < vec_len e.used_base
-base_index e b c w inside label = subst (λ (m : ℕ). bit_xor b c < m) (sym (base_len e)) (base_inside e b c w inside label)
 
 -- what depends on the flags alone
 pub used_kept : {A : Type 0} (a b : Elements A) (k : ℕ) → HasFlagsOf a b → is_used b k ≡ is_used a k

@@ -1,5 +1,4 @@
 pub mod FlagCounts
-pub mod PlaceLinks
 pub mod ElementLaws
 pub mod PlaceStart
 pub mod PlaceSteps

@@ -2,9 +2,9 @@
 use Rattle.std.specs.List.{list_any}
 use Rattle.std.proofs.lemmas.List.Folds.{list_any_more}
 use Rattle.std.proofs.Common.{take, ◌≡◌, ◌≢◌, ℕ, ◌+◌, ◌*◌, ◌^◌, ◌<◌, ◌≤◌, inl, inr, Bool, true, false, List, [], length, set, get_or, replicate, ◌||◌, arith, refl, ap, sym, ◌∙◌, subst, get_or-set_other, length-set}
-use Rattle.std.proofs.lemmas.Bool.{cases_eq, cases_lt, true≢false}
+use Rattle.std.proofs.lemmas.Bool.{cases_eq, true≢false, cases_lt}
 use Rattle.std.proofs.lemmas.Grind.{get_or-set_at}
-use Rattle.std.proofs.lemmas.List.{get_or-map, get_or-replicate, get_or_past, length-replicate}
+use Rattle.std.proofs.lemmas.List.{get_or-map, get_or-replicate, length-replicate, get_or_past}
 use Rattle.std.proofs.Math.Nat.{mul-le-mul_right}
 use Rattle.daachorse_placement.specs.declared.build_helper.SiblingGroup.{SiblingGroup}
 use Rattle.daachorse_placement.specs.declared.build_helper.elements.Elements.{Elements}
@@ -22,11 +22,8 @@ children_at {A = A} gs k g lt e = get_or-map (λ (v : SiblingGroup A). v.childre
 pub parent_at : {A : Type 0} (gs : List (SiblingGroup A)) (k : ℕ) (g : SiblingGroup A) → k < length gs → g ≡ get_or gs k g → parent_of gs k ≡ g.parent
 parent_at {A = A} gs k g lt e = get_or-map (λ (v : SiblingGroup A). v.parent) gs k g 0 lt ∙ ap (λ (v : SiblingGroup A). v.parent) (sym e)
 
-pub zeros : (n k : ℕ) → get_or {A = ℕ} (replicate n 0) k 0 ≡ 0
-zeros n k = elim (cases_lt k n) [
-  | inl lt ↦ get_or-replicate n k 0 0 lt
-  | inr ge ↦ let len : length (replicate {A = ℕ} n 0) ≡ n = length-replicate n 0 in get_or_past (replicate n 0) k 0 (omega (arith, len, ge))
-]
+pub zeros : (n i : ℕ) → get_or {A = ℕ} (replicate n 0) i 0 ≡ 0
+zeros n i = elim (cases_lt i n) [ inl h ↦ get_or-replicate n i 0 0 h | inr h ↦ get_or_past (replicate n 0) i 0 (omega (arith, h, length-replicate {A = ℕ} n 0)) ]
 
 pub placed_start : {A : Type 0} (gs : List (SiblingGroup A)) (tracked : Bool) (e : Elements A) (n block : ℕ) → 2 ≤ n → IsFresh e block →
     IsPlaced gs 0 tracked (layout_of e (set (replicate n 1) 0 0) (replicate n 0))

@@ -1,22 +1,15 @@
 -- Clearing a bit that was set adds its pair to the count of the place, and to no other.
-use Rattle.std.proofs.Common.{◌≡◌, ◌≢◌, ℕ, ◌+◌, ◌/◌, ◌%◌, ◌^◌, ◌<◌, ◌≤◌, ◌⊎◌, cond, List, [], ◌∷◌, length, get_or, set, refl, sym, ap, ◌∙◌, inl, inr, arith, get_or-set_same, get_or-set_other}
+use Rattle.std.proofs.Common.{◌≡◌, ◌≢◌, ℕ, ◌+◌, ◌/◌, ◌%◌, ◌^◌, ◌<◌, ◌⊎◌, cond, List, [], ◌∷◌, length, get_or, set, refl, sym, ap, ◌∙◌, inl, inr, arith, get_or-set_same, get_or-set_other}
 use Rattle.std.specs.Prelude.{◌==◌, replicate}
 use Rattle.std.specs.List.{AllClonesOf, sum_by}
 use Rattle.std.proofs.lemmas.List.{get_or-replicate}
 use Rattle.std.proofs.lemmas.Bool.{cases_eq}
 use Rattle.std.proofs.lemmas.Bool.Decides.{nat_tests}
-use Rattle.std.proofs.lemmas.List.Sums.{sum_by-set, sum_by-cons, count_by-le-length}
+use Rattle.std.proofs.lemmas.List.Sums.{sum_by-set, sum_by-cons}
 use Rattle.daachorse_model.specs.Filter.{is_clear}
 use Rattle.daachorse_prefilter.specs.Building.{count_clear, AreCounted}
 use Rattle.daachorse_prefilter.proofs.ClearBits.{is_clear_ones, is_clear_cleared_same, is_clear_cleared_other}
 use Rattle.daachorse_prefilter.proofs.Marking.{cleared}
-
--- no place has more pairs than there are entries
-pub count_small : (entries counts : List ℕ) (k : ℕ) → k < 8 → AreCounted entries counts → get_or counts k 0 ≤ length entries
-count_small entries counts k h counted =
-    let e = counted k h in
-    let most = count_by-le-length (λ b. is_clear b k) entries in
-    omega arith
 
 -- a bit is 1 where it isn't clear
 bit_value : (n : ℕ) → cond (n % 2 == 0) 1 0 + n % 2 ≡ 1

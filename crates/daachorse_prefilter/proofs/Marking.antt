@@ -2,9 +2,8 @@
 use Rattle.std.proofs.Common.{◌≡◌, ◌≢◌, ℕ, zero, suc, ◌+◌, ◌-◌, ◌*◌, ◌%◌, ◌^◌, ◌<◌, ◌≤◌, ◌⊎◌, Bool, true, false, ◌&&◌, ◌||◌, List, [], ◌∷◌, length, get_or, set, refl, sym, ap, ◌∙◌, subst, inl, inr, arith, get_or-set_same, get_or-set_other}
 use Rattle.std.specs.Prelude.{nat_lt, ◌==◌, bit_and}
 use Rattle.std.specs.Int.{bit_not, w8}
-use Rattle.std.proofs.lemmas.Bool.{cases_eq, cases_lt, lt-ltb, le-ltb, eq-eqb, ne_eqb}
+use Rattle.std.proofs.lemmas.Bool.{cases_eq, cases_lt, lt-ltb, le-ltb, eq-eqb, ne_eqb, or_right}
 use Rattle.daachorse_model.specs.Filter.{is_clear, has_pair}
-use Rattle.daachorse_model.proofs.Booleans.{or-none, or-true}
 use Rattle.daachorse_prefilter.proofs.ClearBits.{is_clear_cleared_same, is_clear_cleared_other}
 
 -- the number of the pair at place j
@@ -37,11 +36,6 @@ abbrev pub AreMarkedBelow : List ℕ → List ℕ → List ℕ → ℕ → Type 
 AreMarkedBelow before now w i =
     (pair j : ℕ) → pair < 65536 → j < 8 → is_clear (get_or now pair 0) j ≡ (is_clear (get_or before pair 0) j || stands w i pair j)
 
-pub marked_start : (before w : List ℕ) → AreMarkedBelow before before w 1
-marked_start before w pair j h hj =
-    let short : nat_lt (suc j) 1 ≡ false = le-ltb (suc j) 1 (omega arith) in
-    rw short (sym (or-none (is_clear (get_or before pair 0) j)))
-
 pub marked_end : (before now w : List ℕ) (i : ℕ) → length w ≤ i → i ≤ length w ⊎ i ≡ 1 → AreMarkedBelow before now w i → (pair j : ℕ) → pair < 65536 → j < 8 → is_clear (get_or now pair 0) j ≡ (is_clear (get_or before pair 0) j || has_pair pair j w)
 marked_end before now w i most which marked pair j h hj =
     marked pair j h hj ∙ ap (λ t. is_clear (get_or before pair 0) j || t) (ap (λ t. t && (pair_at w j == pair)) (same which) ∙ sym (has_pair_at pair j w))
@@ -54,6 +48,11 @@ marked_end before now w i most which marked pair j h hj =
 abbrev pub cleared : ℕ → ℕ → ℕ
 cleared e k = bit_and e (bit_not w8 (1 * 2 ^ k % 2 ^ 8))
 
+-- the test of any other place is the same one place on
+same_test : (i j : ℕ) → 1 ≤ i → j ≢ i - 1 → (suc j < i) ⊎ (i ≤ suc j) → nat_lt (suc j) i ≡ nat_lt (suc j) (i + 1)
+same_test i j low other (inl less) = lt-ltb (suc j) i less ∙ sym (lt-ltb (suc j) (i + 1) (omega arith))
+same_test i j low other (inr most) = le-ltb (suc j) i most ∙ sym (le-ltb (suc j) (i + 1) (omega arith))
+
 marked_at : (before now w : List ℕ) (i e : ℕ) → 1 ≤ i → i ≤ 8 → pair_at w (i - 1) < length now → e ≡ get_or now (pair_at w (i - 1)) 0 → AreMarkedBelow before now w i →
     (pair j : ℕ) → pair < 65536 → j < 8 → (pair ≡ pair_at w (i - 1)) ⊎ (pair ≢ pair_at w (i - 1)) → (j ≡ i - 1) ⊎ (j ≢ i - 1) →
     is_clear (get_or (set now (pair_at w (i - 1)) (cleared e (i - 1))) pair 0) j ≡ (is_clear (get_or before pair 0) j || stands w (i + 1) pair j)
@@ -64,18 +63,14 @@ marked_at before now w i e low high inside is marked pair j h hj (inl here) (inl
     ∙ ap (λ n. is_clear n j) (get_or-set_same now (pair_at w (i - 1)) (cleared e (i - 1)) 0 inside)
     ∙ ap (λ n. is_clear (cleared e (i - 1)) n) last
     ∙ is_clear_cleared_same e (i - 1) (omega arith)
-    ∙ sym (or-true (is_clear (get_or before pair 0) j) _ (rw (long, same) refl))
+    ∙ sym (or_right (is_clear (get_or before pair 0) j) _ (rw (long, same) refl))
 marked_at before now w i e low high inside is marked pair j h hj (inl here) (inr other) =
     ap (λ n. is_clear (get_or (set now (pair_at w (i - 1)) (cleared e (i - 1))) n 0) j) here
     ∙ ap (λ n. is_clear n j) (get_or-set_same now (pair_at w (i - 1)) (cleared e (i - 1)) 0 inside)
     ∙ is_clear_cleared_other e (i - 1) j (omega arith) hj other
     ∙ ap (λ n. is_clear n j) (is ∙ ap (λ n. get_or now n 0) (sym here))
     ∙ marked pair j h hj
-    ∙ ap (λ t. is_clear (get_or before pair 0) j || (t && (pair_at w j == pair))) (same_test (cases_lt (suc j) i))
-  where
-    same_test : (suc j < i) ⊎ (i ≤ suc j) → nat_lt (suc j) i ≡ nat_lt (suc j) (i + 1)
-    same_test (inl less) = lt-ltb (suc j) i less ∙ sym (lt-ltb (suc j) (i + 1) (omega arith))
-    same_test (inr most) = le-ltb (suc j) i most ∙ sym (le-ltb (suc j) (i + 1) (omega arith))
+    ∙ ap (λ t. is_clear (get_or before pair 0) j || (t && (pair_at w j == pair))) (same_test i j low other (cases_lt (suc j) i))
 marked_at before now w i e low high inside is marked pair j h hj (inr other) (inl last) =
     let short : nat_lt (suc j) i ≡ false = le-ltb (suc j) i (omega arith) in
     let apart : (pair_at w j == pair) ≡ false = ne_eqb _ _ (λ q. other (sym q ∙ ap (λ n. pair_at w n) last)) in
@@ -86,11 +81,7 @@ marked_at before now w i e low high inside is marked pair j h hj (inr other) (in
 marked_at before now w i e low high inside is marked pair j h hj (inr other) (inr later) =
     ap (λ n. is_clear n j) (get_or-set_other now (pair_at w (i - 1)) pair (cleared e (i - 1)) 0 other)
     ∙ marked pair j h hj
-    ∙ ap (λ t. is_clear (get_or before pair 0) j || (t && (pair_at w j == pair))) (same_test (cases_lt (suc j) i))
-  where
-    same_test : (suc j < i) ⊎ (i ≤ suc j) → nat_lt (suc j) i ≡ nat_lt (suc j) (i + 1)
-    same_test (inl less) = lt-ltb (suc j) i less ∙ sym (lt-ltb (suc j) (i + 1) (omega arith))
-    same_test (inr most) = le-ltb (suc j) i most ∙ sym (le-ltb (suc j) (i + 1) (omega arith))
+    ∙ ap (λ t. is_clear (get_or before pair 0) j || (t && (pair_at w j == pair))) (same_test i j low later (cases_lt (suc j) i))
 
 pub marked_more : (before now w : List ℕ) (i e : ℕ) → 1 ≤ i → i ≤ 8 → pair_at w (i - 1) < length now → e ≡ get_or now (pair_at w (i - 1)) 0 → AreMarkedBelow before now w i → AreMarkedBelow before (set now (pair_at w (i - 1)) (cleared e (i - 1))) w (i + 1)
 marked_more before now w i e low high inside is marked pair j h hj =

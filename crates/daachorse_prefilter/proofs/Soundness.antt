@@ -1,7 +1,7 @@
 -- A pattern is at least as long as the window, and each of its pairs stands at its place: so its filter passes at its beginning.
 use Rattle.std.proofs.Common.{◌≡◌, ℕ, zero, suc, ◌-◌, ◌^◌, ◌<◌, ◌≤◌, ◌⊎◌, true, false, List, [], ◌∷◌, length, get_or, take, All, Some, None, refl, ap, ◌∙◌, inl, inr, arith}
 use Rattle.std.specs.Prelude.{nat_le}
-use Rattle.std.proofs.lemmas.Bool.{cases_lt, le-leb, lt-ltb, eq-eqb, lt-leb, and_from, and_right}
+use Rattle.std.proofs.lemmas.Bool.{cases_lt, le-leb, lt-ltb, eq-eqb, and_from, and_right}
 use Rattle.std.proofs.lemmas.List.{length-take, get_or-take, get_or_past}
 use Rattle.std.proofs.lemmas.List.Elements.{All-from_get_or}
 use Rattle.std.proofs.lemmas.List.Folds.{list_any_at}
@@ -70,11 +70,6 @@ none_made (p ∷ patterns) worth = rw worth refl
 pub none_empty : (patterns : List (List ℕ)) → is_nil patterns ≡ true → None ≡ made_of patterns
 none_empty [] e = refl
 none_empty (p ∷ patterns) e = cc
-
-pub none_short : (patterns : List (List ℕ)) (m : ℕ) → m ≡ window_len patterns → m < 2 → None ≡ made_of patterns
-none_short patterns m is short =
-    let low : nat_le 2 (window_len patterns) ≡ false = lt-leb 2 (window_len patterns) (omega arith) in
-    none_made patterns (rw low refl)
 
 -- the filter of a table whose bits are those of the patterns
 same_filter : (entries : List ℕ) (patterns : List (List ℕ)) (m : ℕ) → m ≡ window_len patterns → entries ≡ first_entries patterns 65536 → let f : Filter = record { window = m; entries = entries } in f ≡ filter_of patterns

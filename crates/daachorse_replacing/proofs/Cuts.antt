@@ -1,7 +1,6 @@
 -- The matches of a search by kind follow one another, where the haystack may be cut: bytes anywhere, a text behind any of its characters. So they do in a haystack that is read folded, whose cuts are those of the haystack.
-use Rattle.std.proofs.Common.{◌≡◌, ℕ, Bool, suc, ◌+◌, ◌≤◌, true, false, List, [], ◌∷◌, ◌++◌, length, refl, sym, ap, ◌∙◌, subst, append_assoc, length-append, arith}
-use Rattle.std.proofs.Math.Utf8.{scalars, encodes}
-use Rattle.std.proofs.lemmas.Str.{encodes-append, encodes-chars, scalars-chars, IsCharBoundary-at_seam, IsCharBoundary-start}
+use Rattle.std.proofs.Common.{◌≡◌, ℕ, Bool, suc, ◌+◌, ◌≤◌, true, false, List, [], ◌∷◌, ◌++◌, length, sym, ap, ◌∙◌, subst, append_assoc, length-append, arith}
+use Rattle.std.proofs.lemmas.Str.{IsCharBoundary-start}
 use Rattle.std.specs.Iterator.{AlwaysYields}
 use Rattle.std.specs.List.{All}
 use Rattle.std.specs.Str.{chars, IsUtf8, IsCharBoundary}
@@ -11,30 +10,17 @@ use Rattle.daachorse_model.specs.declared.MatchKind.TheVariants.{Standard, Leftm
 use Rattle.daachorse_model.specs.Dictionary.{Dictionary}
 use Rattle.daachorse_model.specs.Folding.{as_read, folded}
 use Rattle.daachorse_model.specs.Laws.{Follows, IsOccurrence}
-use Rattle.daachorse_model.specs.Units.{size, byte_width, char_width}
-use Rattle.daachorse_model.proofs.Booleans.{both-true}
+use Rattle.daachorse_model.specs.Units.{byte_width, char_width}
 use Rattle.daachorse_model.proofs.Find.{standard_apart}
 use Rattle.daachorse_model.proofs.FoldLemmas.{chars-folded, IsCharBoundary-folded, IsUtf8-folded, length-as_read}
 use Rattle.daachorse_model.proofs.Overlap.{leftmost_apart}
-use Rattle.daachorse_model.proofs.SameOnText.{size-encodes}
+use Rattle.daachorse_model.proofs.SameOnText.{cut_at}
 use Rattle.daachorse_model.proofs.Suffixes.{size-append, size-bytes}
 use Rattle.daachorse_search.specs.Matches.{GivesFirst, Progress}
 use Rattle.daachorse_search.proofs.MatchesLemmas.{YieldsList-from_progress}
 use Rattle.daachorse_replacing.specs.ByKind.{non_overlapping}
 use Rattle.daachorse_replacing.specs.Replaced.{AreParts}
 use Rattle.daachorse_replacing.proofs.FirstMatches.{by_kind_occur}
-
-scalars-back : (xs ys : List ℕ) → scalars (xs ++ ys) ≡ true → scalars ys ≡ true
-scalars-back [] ys e = e
-scalars-back (x ∷ xs) ys e = scalars-back xs ys (both-true _ (scalars (xs ++ ys)) e).1
-
--- a text may be cut behind any of its characters
-pub cut_at : (text front back : List ℕ) → IsUtf8 text → chars text ≡ front ++ back → IsCharBoundary text (size char_width front)
-cut_at text front back u parts =
-    let at : length (encodes front) ≡ size char_width front = sym (size-bytes (encodes front)) ∙ size-encodes front in
-    let whole : text ≡ encodes front ++ encodes back = sym (encodes-chars text u) ∙ ap encodes parts ∙ encodes-append front back in
-    let later : scalars back ≡ true = scalars-back front back (ap scalars (sym parts) ∙ scalars-chars text u) in
-    subst (IsCharBoundary text) at (IsCharBoundary-at_seam text (encodes front) (encodes back) whole (back, (later, refl)))
 
 module _ {V : Type 0} where
   -- a match starts and ends where the haystack may be cut

@@ -1,6 +1,6 @@
 -- A list of matches by kind is empty exactly where the overlapping search has none: it gives the first of what it passes, and each of its matches is an occurrence.
 use Rattle.std.proofs.Common.{◌≡◌, ◌≢◌, ◌↔◌, ◌⊎◌, inl, inr, ℕ, zero, ◌+◌, false, List, [], ◌∷◌, ◌++◌, length, map, take, Option, Some, None, IsTrue, slice_get, option_map, refl, sym, ap, ◌∙◌, subst, append-nil, append_assoc, arith}
-use Rattle.std.specs.Option.{option_or, is_some}
+use Rattle.std.specs.Option.{is_some}
 use Rattle.std.specs.Prelude.{All, Contains}
 use Rattle.std.proofs.lemmas.Bool.{false≢true}
 use Rattle.std.proofs.lemmas.List.Elements.{All-head}
@@ -16,16 +16,9 @@ use Rattle.daachorse_model.proofs.Complete.{overlapping_complete}
 use Rattle.daachorse_model.proofs.Find.{leftmost_occur, standard_occur}
 use Rattle.daachorse_model.proofs.Occur.{overlapping_occur}
 use Rattle.daachorse_model.proofs.Searches.{first_or}
+use Rattle.daachorse_model.proofs.Lists.{no_front, no_back, none_either}
 use Rattle.daachorse_search.specs.Matches.{GivesFirst, Progress}
 use Rattle.daachorse_replacing.specs.ByKind.{non_overlapping}
-
-no-front : {A : Type 0} (xs ys : List A) → xs ++ ys ≡ [] → xs ≡ []
-no-front [] ys e = refl
-no-front (x ∷ xs) ys e = cc
-
-no-back : {A : Type 0} (xs ys : List A) → xs ++ ys ≡ [] → ys ≡ []
-no-back [] ys e = e
-no-back (x ∷ xs) ys e = cc
 
 not-contained : {A : Type 0} (xs : List A) (x : A) → xs ≡ [] → Contains xs x → ⊥
 not-contained xs x e has = omega (arith, has.1, ap length e)
@@ -48,7 +41,7 @@ module _ {V : Type 0} (width : ℕ → ℕ) (K : Dictionary V) where
 
   none_empty : (h : List ℕ) (v : V) (vs : List V) → K [] ≡ v ∷ vs → empty_matches width K h ≢ []
   none_empty [] v vs some e = cc
-  none_empty (u ∷ w) v vs some e = (let none = no-front (take 1 (matches_of K 0 0 [])) _ e in cc)
+  none_empty (u ∷ w) v vs some e = (let none = no_front (take 1 (matches_of K 0 0 [])) _ e in cc)
 
   standard_none : (h : List ℕ) → standard width K h ≡ [] → overlapping width K h ≡ []
   standard_none h = from (K []) refl
@@ -58,10 +51,6 @@ module _ {V : Type 0} (width : ℕ → ℕ) (K : Dictionary V) where
       from (v ∷ vs) is e = absurd (none_empty h v vs is e)
 
   -- ---- leftmost
-
-  none_either : {A : Type 0} (a b : Option A) → option_or a b ≡ None → (a ≡ None) × (b ≡ None)
-  none_either None b e = (refl, e)
-  none_either (Some x) b e = cc
 
   none_keyed : (t : List ℕ) → keyed K t ≡ None → K t ≡ []
   none_keyed t e = from (K t) refl e
@@ -87,7 +76,7 @@ module _ {V : Type 0} (width : ℕ → ℕ) (K : Dictionary V) where
 
   none_best : (s : ℕ) (w : List ℕ) → leftmost_from width K s zero false w ≡ [] → longest_key K [] w ≡ None
   none_best s [] e = none_given s (longest_key K [] []) e
-  none_best s (u ∷ w) e = none_given s (longest_key K [] (u ∷ w)) (no-front (given width s false (longest_key K [] (u ∷ w))) _ e)
+  none_best s (u ∷ w) e = none_given s (longest_key K [] (u ∷ w)) (no_front (given width s false (longest_key K [] (u ∷ w))) _ e)
 
   none_leftmost : (s : ℕ) (before key after : List ℕ) (v : V) → Contains (K key) v → leftmost_from width K s zero false (before ++ (key ++ after)) ≢ []
   none_leftmost s [] key after v has e = some_key [] key after v has (none_best s (key ++ after) e)
@@ -95,7 +84,7 @@ module _ {V : Type 0} (width : ℕ → ℕ) (K : Dictionary V) where
       let w = before ++ (key ++ after) in
       let best = longest_key K [] (u ∷ w) in
       let none : best ≡ None = none_best s (u ∷ w) e in
-      let later = no-back (given width s false best) _ e in
+      let later = no_back (given width s false best) _ e in
       none_leftmost (s + width u) before key after v has (subst (λ b. leftmost_from width K (s + width u) (units_to_skip b) (is_after false b) w ≡ []) none later)
 
   leftmost_none : (h : List ℕ) → leftmost width K h ≡ [] → overlapping width K h ≡ []

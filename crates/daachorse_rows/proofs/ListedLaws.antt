@@ -1,10 +1,11 @@
 -- Labels are listed one after the other, and each is its own number.
-use Rattle.std.proofs.Common.{◌≡◌, inl, inr, ℕ, ◌+◌, List, [], ◌∷◌, ◌++◌, length, map, refl, sym, ap, ◌∙◌, subst, arith, length-append}
+use Rattle.std.proofs.Common.{◌≡◌, inl, inr, ℕ, ◌+◌, List, [], ◌∷◌, ◌++◌, length, map, refl, sym, ap, ◌∙◌, subst, arith, length-append, Vec}
 use Rattle.std.specs.Prelude.{slice_index}
 use Rattle.std.proofs.lemmas.List.{map-id}
 use Rattle.daachorse_model.specs.Dictionary.{Dictionary}
+use Rattle.daachorse_model.proofs.Lists.{below_or_at}
 use Rattle.daachorse_rows.specs.Rows.{AreLabels, AreListed, stands_by}
-use Rattle.daachorse_rows.proofs.MakingLaws.{below_or_at, read-new, read-old}
+use Rattle.daachorse_rows.proofs.MakingLaws.{read-new, read-old}
 
 module _ (holds : ℕ → Type 0) (n : ℕ) (xs : List ℕ) (h : AreListed holds n xs) where
   -- nothing holds of n
@@ -33,6 +34,19 @@ module _ (holds : ℕ → Type 0) (n : ℕ) (xs : List ℕ) (h : AreListed holds
     where
       size : length ys ≡ length xs + 1
       size = ap length is ∙ length-append xs (n ∷ [])
+
+pub AreListed-none : (holds : ℕ → Type 0) → AreListed holds 0 []
+AreListed-none holds = record { few = omega arith; all = λ x below held. absurd (omega (arith, below)); only = λ k below. absurd (omega (arith, below)) }
+
+-- a label that is held is listed last
+pub AreListed-push : {A : Type 0} (holds : ℕ → Type 0) (n : ℕ) (xs : List ℕ) (v pushed : Vec ℕ A) → AreListed holds n xs → v ≡ pushed → pushed.items ≡ xs ++ n ∷ [] → holds n → AreListed holds (n + 1) v.items
+AreListed-push holds n xs v pushed h is more held = AreListed-more holds n xs h v.items (ap (λ u. u.items) is ∙ more) held
+
+-- and no other
+pub AreListed-kept : {A : Type 0} (holds : ℕ → Type 0) (n : ℕ) (v old : Vec ℕ A) → AreListed holds n old.items → v ≡ old → ¬ holds n → AreListed holds (n + 1) v.items
+AreListed-kept holds n v old h is not =
+    let P : List ℕ → Type 0 = λ xs. AreListed holds (n + 1) xs in
+    subst P (sym (ap (λ u. u.items) is)) (AreListed-skip holds n old.items h not)
 
 -- labels that are their own numbers
 pub AreLabels-own : {V : Type 0} (K : Dictionary V) (stands : ℕ → ℕ → Type 0) (labels : List ℕ) → AreLabels K stands labels → AreLabels K (stands_by (λ (x : ℕ). x) stands) (map (λ (x : ℕ). x) labels)

@@ -1,5 +1,5 @@
 -- Rows as they are made: one slot after the other, and one state after the other.
-use Rattle.std.proofs.Common.{◌≡◌, ◌≢◌, ℕ, zero, suc, ◌+◌, ◌*◌, ◌/◌, ◌%◌, ◌<◌, ◌≤◌, ◌^◌, ◌⊎◌, inl, inr, List, [], ◌∷◌, ◌++◌, length, refl, sym, ap, ◌∙◌, subst, arith, length-append, map, get_or}
+use Rattle.std.proofs.Common.{◌≡◌, ◌≢◌, ℕ, suc, ◌+◌, ◌*◌, ◌/◌, ◌%◌, ◌<◌, ◌≤◌, ◌^◌, ◌⊎◌, inl, inr, List, [], ◌∷◌, ◌++◌, length, sym, ap, ◌∙◌, subst, arith, length-append, map, get_or}
 use Rattle.std.specs.Prelude.{slice_index, slice_set, Option, None}
 use Rattle.std.specs.declared.num.NonZeroU32.{NonZeroU32}
 use Rattle.std.proofs.Math.Seq.{get_or-append_seam}
@@ -10,15 +10,10 @@ use Rattle.std.proofs.lemmas.List.{get_or_append_left, get_or-map, get_or-set_sa
 use Rattle.daachorse_core.specs.Looks.{IsForeign, StepEnds}
 use Rattle.daachorse_model.specs.Dictionary.{Dictionary}
 use Rattle.daachorse_model.proofs.Steps.{IsLong-same}
+use Rattle.daachorse_model.proofs.Lists.{below_or_at}
 use Rattle.daachorse_search.proofs.LookLemmas.{StepEnds-long}
 use Rattle.daachorse_rows.specs.Rows.{state_at, RowTable, IsEntry, StandsFor, IsSlotOf, AreSlots, Leads, AreLabels, AreRows, Stands, AreChosen, AreClosed, AreCovered, AreStepped, Covers, IsSlot, AreWritten, MayClose, stands_by}
 use Rattle.daachorse_rows.proofs.RowLaws.{place_behind, state_at-slot}
-
-pub below_or_at : (c n : ℕ) → c < n + 1 → (c < n) ⊎ (c ≡ n)
-below_or_at zero zero h = inr refl
-below_or_at zero (suc n) h = inl (omega arith)
-below_or_at (suc c) zero h = absurd (omega arith)
-below_or_at (suc c) (suc n) h = elim (below_or_at c n (omega arith)) [ inl less ↦ inl (omega arith) | inr same ↦ inr (ap (λ k. suc k) same) ]
 
 -- what is read of a list to which one item was added
 pub read-old : (xs ys : List ℕ) (v i : ℕ) → ys ≡ xs ++ v ∷ [] → i < length xs → slice_index ys i ≡ slice_index xs i

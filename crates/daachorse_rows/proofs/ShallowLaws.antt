@@ -8,8 +8,9 @@ use Rattle.daachorse_core.specs.Looks.{EndsAfter, StepEnds}
 use Rattle.daachorse_model.specs.Dictionary.{Dictionary}
 use Rattle.daachorse_model.specs.Prefixes.{IsPrefix, IsSuffix}
 use Rattle.daachorse_model.proofs.Steps.{IsPrefix-less}
+use Rattle.daachorse_model.proofs.Lists.{below_or_at, ends_in}
 use Rattle.daachorse_rows.specs.Rows.{AreChosen, AreCovered, AreLabels, AreShallow, AreStepped, AreTooMany, EndsInRow, GoesOn, HasEnd, HasSlot, IsShallow}
-use Rattle.daachorse_rows.proofs.MakingLaws.{below_or_at, read-new, read-old}
+use Rattle.daachorse_rows.proofs.MakingLaws.{read-new, read-old}
 
 All-behind : {X : Type 0} (P : X → Type 0) (front back : List X) → All P (front ++ back) → All P back
 All-behind P [] back h = h
@@ -18,14 +19,6 @@ All-behind P (x ∷ front) back h = All-behind P front back (All-tail P x (front
 All-before : {X : Type 0} (P : X → Type 0) (front back : List X) → All P (front ++ back) → All P front
 All-before P [] back h = All-nil P
 All-before P (x ∷ front) back h = All-cons P x front (All-head P x (front ++ back) h) (All-before P front back (All-tail P x (front ++ back) h))
-
--- a text is empty, or a unit behind another text
-ends_in : (w : List ℕ) → (w ≡ []) ⊎ ((v : List ℕ) × (u : ℕ) × (w ≡ v ++ u ∷ []))
-ends_in [] = inl refl
-ends_in (x ∷ w) = inr (elim (ends_in w) [
-  | inl none ↦ ([], x, ap (λ l. x ∷ l) none)
-  | inr more ↦ (x ∷ more.0, more.1, ap (λ l. x ∷ l) more.2)
-])
 
 module _ (stands : ℕ → ℕ → Type 0) where
   pub IsShallow-none : (n : ℕ) (w : List ℕ) → w ≡ [] → IsShallow stands n w

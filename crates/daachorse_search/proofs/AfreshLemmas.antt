@@ -1,5 +1,5 @@
 -- Where no key that began before goes on, a search goes on as one that begins there: each end has the same matches, further on.
-use Rattle.std.proofs.Common.{◌≡◌, ◌≢◌, ℕ, suc, ◌+◌, ◌<◌, ◌≤◌, List, [], ◌∷◌, ◌++◌, map, take, length, inl, inr, refl, sym, ap, ◌∙◌, subst, append_assoc, append-nil, add_assoc, length-append, arith}
+use Rattle.std.proofs.Common.{◌≡◌, ℕ, suc, ◌+◌, ◌<◌, ◌≤◌, List, [], ◌∷◌, ◌++◌, map, take, length, inl, inr, refl, sym, ap, ◌∙◌, subst, append_assoc, append-nil, add_assoc, length-append, arith}
 use Rattle.std.specs.Prelude.{option_to_list}
 use Rattle.std.proofs.lemmas.List.{map-append, append_cancel_left}
 use Rattle.daachorse_model.specs.declared.Match.{Match}
@@ -12,15 +12,12 @@ use Rattle.daachorse_model.specs.Resumed.{IsResumed}
 use Rattle.daachorse_model.proofs.Searches.{first_or}
 use Rattle.daachorse_model.proofs.StandardEnds.{IsResumed-begin, joined-from, standard_after-empty}
 use Rattle.daachorse_model.proofs.Suffixes.{size-append, IsSuffix-same, IsSuffix-cons, IsSuffix-of_push}
+use Rattle.daachorse_model.proofs.Lists.{nil_of}
 use Rattle.daachorse_search.specs.Sources.{past_each_end}
 use Rattle.daachorse_search.specs.Afresh.{shifted, GoesOnAfresh}
 use Rattle.daachorse_search.proofs.SourceLemmas.{at_each_end-split}
 
 -- ---- matches further on
-
-nil_of : {X : Type 0} (xs : List X) → (xs ≢ [] → ⊥) → xs ≡ []
-nil_of [] some = refl
-nil_of (x ∷ xs) some = absurd (some (λ e. omega (arith, ap length e)))
 
 -- a match no further on is the same
 pub shifted-none : {V : Type 0} (ms : List (Match V)) → map (shifted 0) ms ≡ ms

@@ -11,12 +11,9 @@ use Rattle.daachorse_model.proofs.Suffixes.{size-append, le_or_lt}
 use Rattle.daachorse_model.proofs.Links.{none_before}
 use Rattle.daachorse_model.proofs.Occurrences.{split_after}
 use Rattle.daachorse_model.proofs.BestLemmas.{IsSteady-nil, Told, Told-IsSteady, IsBestSoFar-keeps, IsBest-new}
+use Rattle.daachorse_model.proofs.Lists.{nil_of}
 use Rattle.daachorse_search.specs.declared.best.Found.{Found}
 use Rattle.daachorse_search.specs.BestScans.{HasNoLongerKey, IsOutputOf, IsTheBest, IsClear, IsFound, IsFoundSoFar, IsScanning}
-
-nil_of : {A : Type 0} (xs : List A) → ¬ (xs ≢ []) → xs ≡ []
-nil_of [] h = refl
-nil_of (x ∷ xs) h = absurd (h (λ e. cc))
 
 module _ {V : Type 0} (K : Dictionary V) where
   IsPrefix-short : (t : List ℕ) (m : ℕ) → HasNoLongerKey K m → IsPrefix K t → length t ≤ m

@@ -2,8 +2,6 @@
 use Rattle.std.proofs.Common.{◌≡◌, ℕ, ◌+◌, List, [], ◌∷◌, ◌++◌, length, Option, Some, None, refl, sym, ap, ◌∙◌, append_assoc, arith}
 use Rattle.std.specs.Iterator.{MakesProgress, YieldsFirst, item_count}
 use Rattle.daachorse_model.specs.declared.Match.{Match}
-use Rattle.daachorse_model.specs.Units.{size}
-use Rattle.daachorse_model.proofs.Suffixes.{size-append}
 use Rattle.daachorse_search.specs.Sources.{past_each_end}
 use Rattle.daachorse_search.specs.Matches.{matches_left}
 use Rattle.daachorse_search.proofs.SourceLemmas.{at_each_end-split}
@@ -39,7 +37,3 @@ module _ {V A W : Type 0} (automaton : W → A) (text : W → List ℕ) (found :
             ∙ ap (λ (a : A). found a (text next) ++ past_each_end (found a) (text next) more) (sym same)
             ∙ ap (λ l. l ++ past_each_end (found (automaton next)) (text next) more) here;
       }
-
--- what was read and what is left take as many bytes together as before
-pub spans-on : (width : ℕ → ℕ) (read rest now later : List ℕ) (whole : ℕ) → now ++ later ≡ read ++ rest → whole ≡ size width read + size width rest → whole ≡ size width now + size width later
-spans-on width read rest now later whole same is = omega (arith, is, ap (size width) same, size-append width read rest, size-append width now later)

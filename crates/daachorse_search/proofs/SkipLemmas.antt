@@ -25,14 +25,6 @@ pub nil_from_size : (width : ℕ → ℕ) → ((u : ℕ) → 1 ≤ width u) → 
 nil_from_size width wide [] none = refl
 nil_from_size width wide (u ∷ w) none = absurd (omega (arith, none, wide u))
 
--- a filter that passes nowhere moves on to the end
-pub nowhere_end : (passes : List ℕ → Bool) (units later : List ℕ) → IsNextPassing passes units later → PassesNowhere passes units → later ≡ []
-nowhere_end passes units [] next none = refl
-nowhere_end passes units (u ∷ later) next none = elim next.here [
-  | inl end ↦ end
-  | inr here ↦ let not_here : passes (u ∷ later) ≡ false = none next.front (u ∷ later) next.parts (omega arith) in let bad : true ≡ false = sym here ∙ not_here in cc
-]
-
 -- a filter with the same places is sound for the same dictionary
 pub sound_on : {V : Type 0} (K L : Dictionary V) (p q : List ℕ → Bool) → L ≡ K → ((w : List ℕ) → q w ≡ p w) → IsSoundFor p K → IsSoundFor q L
 sound_on {V} K L p q same places sound =
@@ -197,22 +189,6 @@ module _ {V A W : Type 0} (width : ℕ → ℕ) (automaton : W → A) (text : W 
     -- the units passed
     pub passed_is : (opened : Type 0) (walk : W) (rest : List ℕ) (position before : ℕ) (was : reading opened walk rest position before) → before_rest whole rest ≡ was.base ++ text walk
     passed_is opened walk rest position before was = before_rest-is whole (was.base ++ text walk) rest (was.parts ∙ sym (append_assoc was.base (text walk) rest))
-
-    -- a walk that has read nothing
-    pub reading-first : (opened : Type 0) (walk : W) (rest : List ℕ) (position : ℕ) (before : ℕ) → (asked → opened) → IsSoundFor passes (content (automaton walk)) → whole ≡ rest → bytes ≡ size width rest → has_output walk position → text walk ≡ [] → before ≡ 0 → turns_of walk ≡ 0
-        → reading opened walk rest position before
-    reading-first opened walk rest position before opens sound same sized output none zero idle = record {
-      output = output;
-      base = [];
-      parts = same ∙ ap (λ t. t ++ rest) (sym none);
-      spans = sized ∙ ap (size width) (sym same);
-      sound = sound;
-      most = omega (arith, zero);
-      single = λ _. omega (arith, zero);
-      least = omega arith;
-      plain = λ everywhere. (refl, zero);
-      idle = λ ask nowhere. (omega (arith, zero, idle), inr (opens ask, none, (let P : List ℕ → Type 0 = λ x. PassesNowhere passes x in subst P same nowhere)));
-    }
 
     -- the walk read on to the next output, or to the end
     pub reading-on : (opened later_open : Type 0) (was : W) (rest : List ℕ) (before : ℕ) (to : W) (later : List ℕ) (taken position : ℕ) → reading opened was rest 0 before → given_from was 0 ≡ []

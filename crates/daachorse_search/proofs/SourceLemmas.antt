@@ -30,9 +30,6 @@ module _ {A : Type 0} (f : List ℕ → List A) where
       ∙ ap (λ l. l ++ past_each_end f (t' ++ x) y) (sym (at_each_end-split t' x))
       ∙ ap (λ r. at_each_end f t' x ++ past_each_end f r y) (append_assoc t (u ∷ []) x)
 
-  pub past_each_end-one : (t : List ℕ) (u : ℕ) → past_each_end f t (u ∷ []) ≡ f (t ++ u ∷ [])
-  past_each_end-one t u = refl
-
 -- where there is no output, nothing is found
 pub none_found : {X : Type 0} (l : List X) (given : ℕ → List X) (o : Option NonZeroU32) → l ≡ given (number o) → o ≡ None → given 0 ≡ [] → l ≡ []
 none_found l given o is none empty = is ∙ ap (λ p. given (number p)) none ∙ empty
@@ -51,9 +48,6 @@ module _ {S U : Type 0} (can : S → Type 0) (steps : S → Option U → S → T
   IsReady-next s u t place ready step goes = omega (arith, ready.fits (u ∷ []) t (t, (step, goes), refl))
 
 module _ {V A W S U : Type 0} (automaton : W → A) (text : W → List ℕ) (found : A → List ℕ → List (Match V)) (steps : S → Option U → S → Type 0) (left : S → Count) (unit : U → ℕ) where
-  pub ScansOver-first : (from : W) (source : S) → ScansOver automaton text found steps left unit from source [] from source
-  ScansOver-first from source = record { took = refl; fewer = omega arith; same = refl; read = sym (append-nil (text from)); none = refl }
-
   -- one more unit at which nothing is found
   pub ScansOver-more : (from : W) (source : S) (xs : List U) (before : W) (last : S) (x : U) (to : W) (rest : S) → ScansOver automaton text found steps left unit from source xs before last
       → steps last (Some x) rest → items_left left rest < items_left left last → automaton to ≡ automaton before → text to ≡ text before ++ unit x ∷ [] → found (automaton to) (text to) ≡ []

@@ -1,5 +1,6 @@
 -- A scan for the leftmost match from one place of a haystack: what it answers.
-use Rattle.std.specs.Prelude.{◌≡◌, ℕ, ◌+◌, ◌*◌, ◌≤◌, ◌<◌, Bool, false, List, [], ◌∷◌, ◌++◌, length, take, count_by, Option, None, Some}
+use Rattle.std.specs.Prelude.{◌≡◌, ℕ, ◌+◌, ◌*◌, ◌≤◌, ◌<◌, Bool, false, List, [], ◌∷◌, ◌++◌, length, take, count_by, Option, None, Some, IfSome}
+use Rattle.std.specs.declared.num.NonZeroU32.{NonZeroU32}
 use Rattle.daachorse_model.specs.Units.{size}
 use Rattle.daachorse_model.specs.Dictionary.{Dictionary}
 use Rattle.daachorse_model.specs.Prefixes.{IsKey}
@@ -72,3 +73,9 @@ module _ {V : Type 0} (width : ℕ → ℕ) (K : Dictionary V) (has_output : ℕ
     pub found : IsFoundSoFar text seen best
     pub counted : turns + length t ≤ before + 2 * length seen
     pub least : before + count_by has_label seen ≤ turns
+
+  -- The scan of `text` read all but `left`: to the end of the match that ends first, at a state with the text t, or as far as nothing starts.
+  pub record ScansToMatch (text left t : List ℕ) (may_stop : Bool) (position : Option NonZeroU32) (before turns : ℕ) : Type 0 where
+    pub fewer : size width left ≤ size width text
+    pub some : IfSome position (λ p. IsScanning text left t (Some (p.value, size width left)) before turns)
+    pub none : position ≡ None → (end : ℕ) → end + size width left ≡ size width text → IsClear text may_stop end before turns

@@ -59,6 +59,8 @@ module _ {V A W : Type 0} (automaton : W → A) (text : W → List ℕ) (found :
     pub left : past_each_end (found (automaton from)) (text from) rest ≡ matches_left (found (automaton to)) (given_from to (number position)) (text to) later
     pub output : has_output to (number position)
     pub ended : IfNone position (later ≡ [])
+    pub fewer : length later ≤ length rest
+    pub over : rest ≡ [] → to ≡ from
 
 -- The units passed end with those read since a walk last began at the root. For these the turns that it took since keep the walk's bounds, and before it took at most two a unit.
 module _ {A : Type 0} (bounds : A → List ℕ → ℕ → Type 0) where

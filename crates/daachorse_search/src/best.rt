@@ -5,10 +5,10 @@
 //! turns: at most twice the units to come, and no more than lead one unit further past the start of
 //! the match than the longest pattern has units.
 
-ghost use Rattle.std.specs.Prelude.{◌≡◌, ◌+◌, ◌<◌, ◌≤◌, ◌^◌, ℕ, [], IfSome, None, Some};
+ghost use Rattle.std.specs.Prelude.{◌≡◌, ◌+◌, ◌<◌, ◌≤◌, ◌^◌, ℕ, [], Some};
 ghost use Rattle.daachorse_model.specs.Units.{size};
 ghost use Rattle.daachorse_model.specs.Best.{IsLeftmost};
-ghost use Rattle.daachorse_search.specs.BestScans.{IsBestScan, IsClear, IsScanning, IsTheBest};
+ghost use Rattle.daachorse_search.specs.BestScans.{IsBestScan, IsScanning, IsTheBest, ScansToMatch};
 
 use crate::automaton::Automaton;
 use crate::haystack::Reread;
@@ -82,12 +82,8 @@ fn scan_to_match<V: Copy, A: Automaton<V>, H: Reread<A::Unit>>(
     requires reached { A.reached automaton.now state.old }
     requires root { A.text automaton.now state.old ≡ [] }
     ensures reached { A.reached automaton.now state.new }
-    ensures left { size A.Unit.width (H.rest source.new) ≤ size A.Unit.width (H.rest source.old) }
-    ensures some { IfSome result (λ position. IsScanning A.Unit.width (A.content automaton.now) (A.has_output automaton.now) (A.outputs automaton.now) (A.has_label automaton.now)
-        (H.rest source.old) (H.rest source.new) (A.text automaton.now state.new) (Some (position.value, size A.Unit.width (H.rest source.new))) turns.old turns.new) }
-    ensures none { result ≡ None → (end : ℕ) → end + size A.Unit.width (H.rest source.new) ≡ size A.Unit.width (H.rest source.old)
-        → IsClear A.Unit.width (A.content automaton.now) (A.has_output automaton.now) (A.outputs automaton.now) (A.has_label automaton.now)
-        (H.rest source.old) may_stop end turns.old turns.new }
+    ensures scans { ScansToMatch A.Unit.width (A.content automaton.now) (A.has_output automaton.now) (A.outputs automaton.now) (A.has_label automaton.now)
+        (H.rest source.old) (H.rest source.new) (A.text automaton.now state.new) may_stop result turns.old turns.new }
 {
     // Both are asked ahead of the loop, so that the loop is compiled for each answer and asks no more.
     if source.is_folded() {
@@ -115,12 +111,8 @@ fn scan_units<V: Copy, A: Automaton<V>, H: Reread<A::Unit>>(
     requires reached { A.reached automaton.now state.old }
     requires root { A.text automaton.now state.old ≡ [] }
     ensures reached { A.reached automaton.now state.new }
-    ensures left { size A.Unit.width (H.rest source.new) ≤ size A.Unit.width (H.rest source.old) }
-    ensures some { IfSome result (λ position. IsScanning A.Unit.width (A.content automaton.now) (A.has_output automaton.now) (A.outputs automaton.now) (A.has_label automaton.now)
-        (H.rest source.old) (H.rest source.new) (A.text automaton.now state.new) (Some (position.value, size A.Unit.width (H.rest source.new))) turns.old turns.new) }
-    ensures none { result ≡ None → (end : ℕ) → end + size A.Unit.width (H.rest source.new) ≡ size A.Unit.width (H.rest source.old)
-        → IsClear A.Unit.width (A.content automaton.now) (A.has_output automaton.now) (A.outputs automaton.now) (A.has_label automaton.now)
-        (H.rest source.old) may_stop end turns.old turns.new }
+    ensures scans { ScansToMatch A.Unit.width (A.content automaton.now) (A.has_output automaton.now) (A.outputs automaton.now) (A.has_label automaton.now)
+        (H.rest source.old) (H.rest source.new) (A.text automaton.now state.new) may_stop result turns.old turns.new }
 {
     if let Some(position) = automaton.output_pos(*state) {
         return Some(position);

@@ -25,4 +25,5 @@ pub mod scan;
 pub mod search;
 pub mod source;
 pub mod stepwise;
+pub mod view;
 pub mod walk;

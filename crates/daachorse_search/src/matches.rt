@@ -266,9 +266,7 @@ fn read_on<V: Copy, W: Stepwise<V>, H: Haystack<W::Unit>>(
     walk: &mut W,
     rest: &mut H,
 ) -> Option<NonZeroU32>
-    ensures on { ReadsOn W.automaton W.read W.found W.has_output W.given_from walk.old (H.rest rest.old) result walk.new (H.rest rest.new) }
-    ensures fewer { length (H.rest rest.new) ≤ length (H.rest rest.old) }
-    ensures over { H.rest rest.old ≡ [] → walk.new ≡ walk.old }
+    ensures { ReadsOn W.automaton W.read W.found W.has_output W.given_from walk.old (H.rest rest.old) result walk.new (H.rest rest.new) }
 {
     // Both are asked ahead of the loop, so that the loop is compiled for each answer and asks no more.
     if rest.is_folded() {
@@ -289,9 +287,7 @@ fn read_units<V: Copy, W: Stepwise<V>, H: Haystack<W::Unit>>(
     walk: &mut W,
     rest: &mut H,
 ) -> Option<NonZeroU32>
-    ensures on { ReadsOn W.automaton W.read W.found W.has_output W.given_from walk.old (H.rest rest.old) result walk.new (H.rest rest.new) }
-    ensures fewer { length (H.rest rest.new) ≤ length (H.rest rest.old) }
-    ensures over { H.rest rest.old ≡ [] → walk.new ≡ walk.old }
+    ensures { ReadsOn W.automaton W.read W.found W.has_output W.given_from walk.old (H.rest rest.old) result walk.new (H.rest rest.new) }
 {
     'units: loop {
         let Some(unit) = rest.next() else {

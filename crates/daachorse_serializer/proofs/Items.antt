@@ -4,10 +4,6 @@ use Rattle.daachorse_core.specs.declared.errors.DaachorseError.{DaachorseError}
 use Rattle.daachorse_core.specs.declared.errors.DaachorseError.TheVariants.{InvalidArgument, AutomatonScale, InvalidConversion, InvalidAutomaton, OutOfMemory}
 use Rattle.daachorse_serializer.specs.Forms.{Taken, Refuses, over, take_items}
 
-pub front_none : {X : Type 0} (r : Taken (List X)) → over (λ ys. [] ++ ys) r ≡ r
-front_none None = refl
-front_none (Some p) = refl
-
 pub front_more : {X : Type 0} (xs : List X) (x : X) (r : Taken (List X))
     → over (λ ys. xs ++ ys) (over (λ ys. x ∷ ys) r) ≡ over (λ ys. (xs ++ x ∷ []) ++ ys) r
 front_more xs x None = refl

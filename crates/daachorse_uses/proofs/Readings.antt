@@ -2,10 +2,7 @@
 use Rattle.std.proofs.Common.{◌≡◌, ℕ, Bool, true, false, List, [], ◌∷◌, ◌++◌, refl, sym, ap, ◌∙◌}
 use Rattle.std.proofs.lemmas.List.{map-append}
 use Rattle.daachorse_model.specs.Folding.{as_read, folded_unit}
-
-as_read-append : (folds : Bool) (w t : List ℕ) → as_read folds (w ++ t) ≡ as_read folds w ++ as_read folds t
-as_read-append true w t = map-append folded_unit w t
-as_read-append false w t = refl
+use Rattle.daachorse_model.proofs.FoldLemmas.{as_read-append}
 
 pub as_read-nil : (folds : Bool) → as_read folds [] ≡ []
 as_read-nil true = refl

@@ -7,8 +7,7 @@ use Rattle.std.proofs.lemmas.List.Elements.{All-head, All-pop, All-tail}
 use Rattle.std.proofs.lemmas.Option.{same_Some}
 use Rattle.std.proofs.KnownBytes.{Appends-trans}
 use Rattle.std.specs.Io.KnownBytes.{Appends}
-use Rattle.std.specs.Prelude.{All}
-use Rattle.std.specs.Prelude.{Err, Ok, OnErr, Result}
+use Rattle.std.specs.Prelude.{All, Err, Ok, OnErr, Result}
 use Rattle.daachorse_model.specs.declared.Match.{Match}
 use Rattle.daachorse_model.specs.Dictionary.{Dictionary}
 use Rattle.daachorse_model.specs.Laws.{Follows, IsOccurrence}
@@ -293,9 +292,6 @@ module _ {V : Type 0} (K : Dictionary V) where
           by (Some m) is none some = ap (λ l. written ++ l) some ∙ redacted-some (as_read folds bytes) (as_read-push folds bytes b).0 bytes b long mask written held before m is reach
 
   -- ---- nothing was read
-
-  pub reaches-nil : (held : List ℕ) → ReachesBack K [] held
-  reaches-nil held since t is ends begins = omega (arith, since_long [] since is, IsSuffix-length t since ends)
 
   at_begin : standard byte_width K [] ≡ option_to_list (standard_after byte_width K [])
   at_begin = sym (standard-joined byte_width K (λ v. omega arith) [])

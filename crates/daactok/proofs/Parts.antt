@@ -1,10 +1,9 @@
 -- Leftmost matches are parts of the text, one after another, also where it is read folded: so the tokens are the text, cut where a match starts or ends.
 use Rattle.std.proofs.Common.{◌≡◌, ℕ, Bool, zero, suc, ◌+◌, ◌-◌, ◌<◌, ◌≤◌, ◌≢◌, inl, inr, true, false, IsSome, Option, Some, None, List, [], ◌∷◌, ◌++◌, length, drop, refl, sym, ap, ◌∙◌, subst, append_assoc, append-nil, length-append, take-append-drop, arith}
-use Rattle.std.proofs.Math.Utf8.{scalar, scalars, encodes}
 use Rattle.std.proofs.lemmas.Bool.{cond_above, cond_below}
 use Rattle.std.proofs.lemmas.List.{drop-drop, length-take-le, length-drop}
 use Rattle.std.proofs.lemmas.List.Elements.{All-cons}
-use Rattle.std.proofs.lemmas.Str.{encodes-append, encodes-chars, scalars-chars, len_utf8_bounds, IsCharBoundary-at_seam, IsCharBoundary-start}
+use Rattle.std.proofs.lemmas.Str.{len_utf8_bounds, IsCharBoundary-start}
 use Rattle.std.specs.List.{All, AllAdjacentBelow, Contains, flat_map, slice_index_or}
 use Rattle.std.specs.Prelude.{slice_range}
 use Rattle.std.specs.Str.{chars, IsUtf8, IsCharBoundary}
@@ -14,26 +13,13 @@ use Rattle.daachorse_model.specs.Folding.{as_read, folded}
 use Rattle.daachorse_model.specs.Laws.{Follows, IsOccurrence}
 use Rattle.daachorse_model.specs.Leftmost.{leftmost}
 use Rattle.daachorse_model.specs.Units.{size, char_width}
-use Rattle.daachorse_model.proofs.Booleans.{both-true}
 use Rattle.daachorse_model.proofs.Find.{leftmost_occur}
 use Rattle.daachorse_model.proofs.FoldLemmas.{chars-folded, IsCharBoundary-folded, IsUtf8-folded}
 use Rattle.daachorse_model.proofs.Overlap.{leftmost_apart}
 use Rattle.daachorse_model.proofs.SlowLemmas.{drop-all}
-use Rattle.daachorse_model.proofs.SameOnText.{size-encodes}
-use Rattle.daachorse_model.proofs.Suffixes.{le_or_lt, size-append, size-bytes}
+use Rattle.daachorse_model.proofs.SameOnText.{cut_at}
+use Rattle.daachorse_model.proofs.Suffixes.{le_or_lt, size-append}
 use Rattle.daactok.specs.Tokens.{AreParts, IsKnownOne, IsPart, Piece, piece, stretch, tokens_from}
-
-scalars-back : (xs ys : List ℕ) → scalars (xs ++ ys) ≡ true → scalars ys ≡ true
-scalars-back [] ys e = e
-scalars-back (x ∷ xs) ys e = scalars-back xs ys (both-true (scalar x) (scalars (xs ++ ys)) e).1
-
--- a text may be cut behind any of its characters
-cut_at : (text front back : List ℕ) → IsUtf8 text → chars text ≡ front ++ back → IsCharBoundary text (size char_width front)
-cut_at text front back u parts =
-    let at : length (encodes front) ≡ size char_width front = sym (size-bytes (encodes front)) ∙ size-encodes front in
-    let whole : text ≡ encodes front ++ encodes back = sym (encodes-chars text u) ∙ ap encodes parts ∙ encodes-append front back in
-    let later : scalars back ≡ true = scalars-back front back (ap scalars (sym parts) ∙ scalars-chars text u) in
-    subst (IsCharBoundary text) at (IsCharBoundary-at_seam text (encodes front) (encodes back) whole (back, (later, refl)))
 
 module _ {V : Type 0} (text : List ℕ) where
   parts_from : (s : ℕ) (ms : List (Match V)) → IsCharBoundary text s → All (IsPart text) ms → Follows s ms → AreParts text s ms

@@ -4,6 +4,7 @@ use Rattle.std.specs.Prelude.{Result}
 use Rattle.std.specs.Result.{IsErrAnd}
 use Rattle.std.specs.Int.{w32}
 use Rattle.std.proofs.KnownBytes.{Appends-kept}
+use Rattle.daachorse_core.proofs.Refusals.{at_error}
 use mathlib.Core.Bool.{not}
 use denote.Enum.Bare.{sameb}
 use Rattle.daachorse_model.specs.contracts.MatchKind.{the_type}
@@ -19,7 +20,7 @@ use Rattle.daacfind_command.specs.declared.written.WrittenError.{WrittenError}
 use Rattle.daacfind_command.specs.declared.written.WrittenError.TheVariants.{Write}
 use Rattle.daacfind_command.specs.Modes.{found_by, kind_of_mode}
 use Rattle.daacfind_command.specs.Written.{IsTextBy, OnFailure}
-use Rattle.daacfind_command.proofs.Refused.{all_begun, at_error}
+use Rattle.daacfind_command.proofs.WrittenLaws.{all_begun}
 use Rattle.daacfind_command.proofs.written.run_written.Goals as goal
 
 -- kinds that do not differ

@@ -4,6 +4,7 @@ use Rattle.std.specs.Prelude.{Result}
 use Rattle.std.specs.Result.{IsErrAnd}
 use Rattle.std.specs.Io.KnownBytes.{Keeps}
 use Rattle.std.proofs.KnownBytes.{Appends-kept, Keeps-refl}
+use Rattle.daachorse_core.proofs.Refusals.{at_error}
 use Rattle.daachorse_model.specs.declared.MatchKind.{MatchKind}
 use Rattle.daachorse_model.specs.Program.{pattern_lines}
 use Rattle.daachorse_bytewise.specs.Building.{IsBuildRefusal}
@@ -14,8 +15,7 @@ use Rattle.daacfind_command.specs.declared.run.RunError.TheVariants.{Build, Writ
 use Rattle.daacfind_command.specs.Modes.{kind_of_mode}
 use Rattle.daacfind_command.specs.Runs.{IfBuild, OnWrite, value_gives}
 use Rattle.daacfind_command.specs.Written.{IsFormOf}
-use Rattle.daacfind_command.proofs.Refused.{all_begun, at_error}
-use Rattle.daacfind_command.proofs.WrittenLaws.{form_of_built}
+use Rattle.daacfind_command.proofs.WrittenLaws.{form_of_built, all_begun}
 use Rattle.daacfind_command.proofs.written.write.Goals as goal
 
 -- where writing failed, a beginning of the form was written

@@ -8,19 +8,18 @@ use Rattle.daachorse_build.specs.Tables.{child_in, edge_map, edges_of}
 use Rattle.daachorse_bytewise_states.proofs.WritingLaws.{apart-all, children-more, edges_at, inside-all, root-kept}
 use Rattle.daachorse_bytewise_states.proofs.packing.label_states.Goals as goal
 
-pub label_children-requires-clause-inside : goal.label_children-requires-clause-inside
-label_children-requires-clause-inside g c =
+pub label_children-requires : goal.label_children-requires
+label_children-requires g c =
     let states = c.args.states.now in let m = c.loop-state.state-index in
     let same = edges_at states m c.state-item.result c.loop-state-test.true c.state-item.is ∙ sym c.edges.ensures in
-    let P : List (ℕ × ℕ) → Type 0 = λ es. (d t : ℕ) → id_at nat_cmp es d ≡ Some t → t < length c.loop-state.labels in
-    subst P same (λ d t e. let high : t < length (edges_of states) = inside-all (edges_of states) c.requires.trie m d t e in omega (arith, high, length-map states edge_map, c.loop-state.invariant.size))
-
-pub label_children-requires-clause-apart : goal.label_children-requires-clause-apart
-label_children-requires-clause-apart g c =
-    let states = c.args.states.now in let m = c.loop-state.state-index in
-    let same = edges_at states m c.state-item.result c.loop-state-test.true c.state-item.is ∙ sym c.edges.ensures in
-    let P : List (ℕ × ℕ) → Type 0 = λ es. (c d t : ℕ) → id_at nat_cmp es c ≡ Some t → id_at nat_cmp es d ≡ Some t → c ≡ d in
-    subst P same (apart-all (edges_of states) c.requires.trie m)
+    record {
+      inside =
+          let P : List (ℕ × ℕ) → Type 0 = λ es. (d t : ℕ) → id_at nat_cmp es d ≡ Some t → t < length c.loop-state.labels in
+          subst P same (λ d t e. let high : t < length (edges_of states) = inside-all (edges_of states) c.requires.trie m d t e in omega (arith, high, length-map states edge_map, c.loop-state.invariant.size));
+      apart =
+          let P : List (ℕ × ℕ) → Type 0 = λ es. (c d t : ℕ) → id_at nat_cmp es c ≡ Some t → id_at nat_cmp es d ≡ Some t → c ≡ d in
+          subst P same (apart-all (edges_of states) c.requires.trie m);
+    }
 
 pub loop-state-preserved : goal.loop-state-preserved
 loop-state-preserved g c =

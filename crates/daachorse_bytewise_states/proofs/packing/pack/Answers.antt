@@ -3,7 +3,7 @@ use Rattle.std.proofs.Common.{true, ◌≡◌, ◌≢◌, ◌<◌, ◌≤◌, �
 use Rattle.std.specs.Prelude.{slice_index}
 use Rattle.std.specs.Ordering.{nat_cmp}
 use Rattle.std.proofs.lemmas.List.{length-map}
-use Rattle.std.proofs.lemmas.Result.{IfOk-weaker, IfErr-weaker, err_from_is_err_and}
+use Rattle.std.proofs.lemmas.Result.{IfOk-from_err, IfOk-weaker, IfErr-weaker, err_from_is_err_and}
 use Rattle.daachorse_core.specs.declared.errors.DaachorseError.{DaachorseError}
 use Rattle.daachorse_core.specs.declared.errors.Limit.TheVariants.{NumElements}
 use Rattle.daachorse_core.specs.Refusals.{IsRefusal}
@@ -51,55 +51,45 @@ settled states given gs lent l same loan groups placed sizes =
     let S : ℕ → Type 0 = λ n. HasSizes l 256 n in
     settled-of (λ b. b) 256 true states gs lent l (8, refl) groups loan placed (subst S (ap length same) sizes)
 
-pub returns-in_err-helper-clause-ok : goal.returns-in_err-helper-clause-ok
-returns-in_err-helper-clause-ok g c = let p = err_from_is_err_and c.from_residual-in_err-helper.result c.from_residual-in_err-helper.ensures.1 in rw p.1 tt
+pub returns-in_err-helper : goal.returns-in_err-helper
+returns-in_err-helper g c = record {
+  ok = IfOk-from_err c.from_residual-in_err-helper.result _ c.from_residual-in_err-helper.ensures.0;
+  few = IfOk-from_err c.from_residual-in_err-helper.result _ c.from_residual-in_err-helper.ensures.0;
+  err =
+      let p = err_from_is_err_and c.from_residual-in_err-helper.result c.from_residual-in_err-helper.ensures.1 in
+      let many : 2 ^ 32 ≤ (length c.deref.result.now + 1) * 256 → HasManyGroups (λ b. b) 256 (states_of c.args.nfa.now) = λ passed. (c.in_ok-groups.groups.items, c.in_ok-groups.ensures.ok, (omega (arith, passed, ap length c.deref.ensures.value))) in
+      rw (p.1, p.2) (IsRefusal-weaker ⊥ ⊥ NumElements (2 ^ 32 ≤ (length c.deref.result.now + 1) * 256) (HasManyGroups (λ b. b) 256 (states_of c.args.nfa.now)) (λ x. x) many c.in_err-helper.field-0.0 c.in_err-helper.ensures.refused);
+}
 
-pub returns-in_err-helper-clause-few : goal.returns-in_err-helper-clause-few
-returns-in_err-helper-clause-few g c = let p = err_from_is_err_and c.from_residual-in_err-helper.result c.from_residual-in_err-helper.ensures.1 in rw p.1 tt
+pub write_states-requires : goal.write_states-requires
+write_states-requires g c = record {
+  trie =
+      let P : List (NfaBuilderState ℕ g.row.V.Denot g.row.A.Denot) → Type 0 = λ ss. HoldTrie nat_cmp ss in
+      subst P (sym c.states-2.ensures) c.requires.trie;
+  sizes =
+      let P : ℕ → Type 0 = λ n. HasSizes c.in_ok-helper.helper 256 n in
+      subst P (ap length (c.states.ensures ∙ sym c.states-2.ensures)) c.in_ok-helper.ensures.sizes;
+  places =
+      let P : ℕ → Type 0 = λ n. ArePlaces c.in_ok-helper.helper.idx n (length c.in_ok-helper.helper.used) in
+      subst P (length-map (states_of c.args.nfa.now) edge_map ∙ sym (ap length c.states-2.ensures)) (settled-places (settled (states_of c.args.nfa.now) c.states.result.now c.in_ok-groups.groups.items c.deref.result.now c.in_ok-helper.helper c.states.ensures c.deref.ensures.value c.in_ok-groups.ensures.ok c.in_ok-helper.ensures.placed c.in_ok-helper.ensures.sizes));
+  links =
+      let P : List (NfaBuilderState ℕ g.row.V.Denot g.row.A.Denot) → Type 0 = λ ss. (t : ℕ) → t < length ss → t ≢ 1 → slice_index (fails_of ss) t < length ss in
+      subst P (sym c.states-2.ensures) c.requires.links;
+  outputs =
+      let P : List (NfaBuilderState ℕ g.row.V.Denot g.row.A.Denot) → Type 0 = λ ss. (t : ℕ) → t < length ss → t ≢ 1 → slice_index (positions_of ss) t < 2 ^ 24 in
+      subst P (sym c.states-2.ensures) c.requires.outputs;
+}
 
-pub returns-in_err-helper-clause-err : goal.returns-in_err-helper-clause-err
-returns-in_err-helper-clause-err g c =
-    let p = err_from_is_err_and c.from_residual-in_err-helper.result c.from_residual-in_err-helper.ensures.1 in
-    let many : 2 ^ 32 ≤ (length c.deref.result.now + 1) * 256 → HasManyGroups (λ b. b) 256 (states_of c.args.nfa.now) = λ passed. (c.in_ok-groups.groups.items, c.in_ok-groups.ensures.ok, (omega (arith, passed, ap length c.deref.ensures.value))) in
-    rw (p.1, p.2) (IsRefusal-weaker ⊥ ⊥ NumElements (2 ^ 32 ≤ (length c.deref.result.now + 1) * 256) (HasManyGroups (λ b. b) 256 (states_of c.args.nfa.now)) (λ x. x) many c.in_err-helper.field-0.0 c.in_err-helper.ensures.refused)
-
-pub write_states-requires-clause-trie : goal.write_states-requires-clause-trie
-write_states-requires-clause-trie g c =
-    let P : List (NfaBuilderState ℕ g.row.V.Denot g.row.A.Denot) → Type 0 = λ ss. HoldTrie nat_cmp ss in
-    subst P (sym c.states-2.ensures) c.requires.trie
-
-pub write_states-requires-clause-sizes : goal.write_states-requires-clause-sizes
-write_states-requires-clause-sizes g c =
-    let P : ℕ → Type 0 = λ n. HasSizes c.in_ok-helper.helper 256 n in
-    subst P (ap length (c.states.ensures ∙ sym c.states-2.ensures)) c.in_ok-helper.ensures.sizes
-
-pub write_states-requires-clause-places : goal.write_states-requires-clause-places
-write_states-requires-clause-places g c =
-    let P : ℕ → Type 0 = λ n. ArePlaces c.in_ok-helper.helper.idx n (length c.in_ok-helper.helper.used) in
-    subst P (length-map (states_of c.args.nfa.now) edge_map ∙ sym (ap length c.states-2.ensures)) (settled-places (settled (states_of c.args.nfa.now) c.states.result.now c.in_ok-groups.groups.items c.deref.result.now c.in_ok-helper.helper c.states.ensures c.deref.ensures.value c.in_ok-groups.ensures.ok c.in_ok-helper.ensures.placed c.in_ok-helper.ensures.sizes))
-
-pub write_states-requires-clause-links : goal.write_states-requires-clause-links
-write_states-requires-clause-links g c =
-    let P : List (NfaBuilderState ℕ g.row.V.Denot g.row.A.Denot) → Type 0 = λ ss. (t : ℕ) → t < length ss → t ≢ 1 → slice_index (fails_of ss) t < length ss in
-    subst P (sym c.states-2.ensures) c.requires.links
-
-pub write_states-requires-clause-outputs : goal.write_states-requires-clause-outputs
-write_states-requires-clause-outputs g c =
-    let P : List (NfaBuilderState ℕ g.row.V.Denot g.row.A.Denot) → Type 0 = λ ss. (t : ℕ) → t < length ss → t ≢ 1 → slice_index (positions_of ss) t < 2 ^ 24 in
-    subst P (sym c.states-2.ensures) c.requires.outputs
-
-pub returns-clause-ok : goal.returns-clause-ok
-returns-clause-ok g c =
-    let P : List (NfaBuilderState ℕ g.row.V.Denot g.row.A.Denot) → List (State ℕ) → Type 0 = λ ss es. HoldStates c.in_ok-helper.helper (edges_of ss) (fails_of ss) (positions_of ss) es in
-    IfOk-weaker c.write_states.result _ _
-    (λ elements held. record { groups = c.in_ok-groups.groups.items; layout = c.in_ok-helper.helper; packed = record { settled = settled (states_of c.args.nfa.now) c.states.result.now c.in_ok-groups.groups.items c.deref.result.now c.in_ok-helper.helper c.states.ensures c.deref.ensures.value c.in_ok-groups.ensures.ok c.in_ok-helper.ensures.placed c.in_ok-helper.ensures.sizes; full = c.in_ok-helper.ensures.full; held = (let Q : List (NfaBuilderState ℕ g.row.V.Denot g.row.A.Denot) → Type 0 = λ ss. P ss elements.items in subst Q c.states-2.ensures held) } })
-    c.write_states.ensures.ok
-
-pub returns-clause-err : goal.returns-clause-err
-returns-clause-err g c =
-    IfErr-weaker c.write_states.result _ _
-    (λ e out. let P : DaachorseError → Type 0 = λ x. IsRefusal ⊥ NumElements (HasManyGroups (λ b. b) 256 (states_of c.args.nfa.now)) x in subst P (sym out) tt)
-    c.write_states.ensures.err
-
-pub returns-clause-few : goal.returns-clause-few
-returns-clause-few g c = c.write_states.ensures.few
+pub returns : goal.returns
+returns g c = record {
+  ok =
+      let P : List (NfaBuilderState ℕ g.row.V.Denot g.row.A.Denot) → List (State ℕ) → Type 0 = λ ss es. HoldStates c.in_ok-helper.helper (edges_of ss) (fails_of ss) (positions_of ss) es in
+      IfOk-weaker c.write_states.result _ _
+      (λ elements held. record { groups = c.in_ok-groups.groups.items; layout = c.in_ok-helper.helper; packed = record { settled = settled (states_of c.args.nfa.now) c.states.result.now c.in_ok-groups.groups.items c.deref.result.now c.in_ok-helper.helper c.states.ensures c.deref.ensures.value c.in_ok-groups.ensures.ok c.in_ok-helper.ensures.placed c.in_ok-helper.ensures.sizes; full = c.in_ok-helper.ensures.full; held = (let Q : List (NfaBuilderState ℕ g.row.V.Denot g.row.A.Denot) → Type 0 = λ ss. P ss elements.items in subst Q c.states-2.ensures held) } })
+      c.write_states.ensures.ok;
+  err =
+      IfErr-weaker c.write_states.result _ _
+      (λ e out. let P : DaachorseError → Type 0 = λ x. IsRefusal ⊥ NumElements (HasManyGroups (λ b. b) 256 (states_of c.args.nfa.now)) x in subst P (sym out) tt)
+      c.write_states.ensures.err;
+  few = c.write_states.ensures.few;
+}

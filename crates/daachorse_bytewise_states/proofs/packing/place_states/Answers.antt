@@ -1,9 +1,10 @@
 -- Each state is written where no other stands.
 use Rattle.std.proofs.Common.{◌≡◌, ◌<◌, ◌^◌, ℕ, length, ◌∙◌, ap, subst, sym, arith}
 use Rattle.std.specs.Prelude.{slice_index}
+use Rattle.daachorse_packing.proofs.Written.{link_at, position_at}
 use Rattle.daachorse_build.specs.Tables.{fails_of, positions_of}
 use Rattle.daachorse_bytewise_states.specs.Writing.{HasPlaced}
-use Rattle.daachorse_bytewise_states.proofs.WritingLaws.{link_at, placed_dead, placed_more, position_at}
+use Rattle.daachorse_bytewise_states.proofs.WritingLaws.{placed_dead, placed_more}
 use Rattle.daachorse_bytewise_states.proofs.packing.place_states.Goals as goal
 
 pub loop-id-preserved-then-id : goal.loop-id-preserved-then-id

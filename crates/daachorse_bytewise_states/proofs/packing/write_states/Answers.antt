@@ -39,33 +39,31 @@ returns-in_err-elements g c =
     let p = err_from_is_err_and c.from_residual-in_err-elements.result c.from_residual-in_err-elements.ensures.1 in
     rw (p.1, p.2) (record { ok = tt; few = tt; err = c.in_err-elements.ensures.err })
 
-pub returns-clause-ok : goal.returns-clause-ok
-returns-clause-ok g c =
-    let states = c.args.states.now in let l = c.args.helper.now in
+pub returns : goal.returns
+returns g c =
     let old = c.in_ok-elements.elements.items in let new = c.place_states.new.elements in
-    let count : length states ≡ length (edges_of states) = sym (length-map states edge_map) in
-    let two : 1 < length (edges_of states) = c.requires.trie.trie.two in
-    let vacant = c.in_ok-elements.ensures.ok in
-    let labelled = c.in_ok-labels.ensures.ok in
-    let L : List ℕ → Type 0 = λ ls. HasPlaced (length states) c.idx_map.result.now c.bases.result.now ls (fails_of states) (positions_of states) c.deref_mut.result.now new in
-    let I : List ℕ → Type 0 = λ is. HasPlaced (length states) is c.bases.result.now c.in_ok-labels.labels.items (fails_of states) (positions_of states) c.deref_mut.result.now new in
-    let B : List ℕ → Type 0 = λ bs. HasPlaced (length states) l.idx bs c.in_ok-labels.labels.items (fails_of states) (positions_of states) c.deref_mut.result.now new in
-    let O : List (State ℕ) → Type 0 = λ es. HasPlaced (length states) l.idx l.bases c.in_ok-labels.labels.items (fails_of states) (positions_of states) es new in
-    let N : ℕ → Type 0 = λ n. HasPlaced n l.idx l.bases c.in_ok-labels.labels.items (fails_of states) (positions_of states) old new in
-    let placed = subst N count (subst O c.deref_mut.ensures.value (subst B c.bases.ensures (subst I c.idx_map.ensures (subst L c.deref.ensures.value c.place_states.ensures)))) in
-    let held = written-held l (edges_of states) c.in_ok-labels.labels.items (fails_of states) (positions_of states) old new (omega (arith, two)) labelled vacant placed in
-    let H : List (State ℕ) → Type 0 = λ es. HoldStates l (edges_of states) (fails_of states) (positions_of states) es in
-    let len : c.in_ok-elements.elements.len ≡ length new = omega (arith, placed.size, c.in_ok-elements.elements.ok.0) in
-    subst H (sym (written_back new old c.in_ok-elements.elements.len len)) held
-
-pub returns-clause-few : goal.returns-clause-few
-returns-clause-few g c =
-    let old = c.in_ok-elements.elements.items in let new = c.place_states.new.elements in
-    let P : List (State ℕ) → Type 0 = λ es. length es < 4294967296 in
-    let same : length new ≡ length old = c.place_states.ensures.size ∙ ap length c.deref_mut.ensures.value in
-    let small : length old < 4294967296 = c.in_ok-elements.ensures.few in
-    let len : c.in_ok-elements.elements.len ≡ length new = omega (arith, same, c.in_ok-elements.elements.ok.0) in
-    subst P (sym (written_back new old c.in_ok-elements.elements.len len)) (omega (arith, same, small))
-
-pub returns-clause-err : goal.returns-clause-err
-returns-clause-err g c = tt
+    record {
+      ok =
+          let states = c.args.states.now in let l = c.args.helper.now in
+          let count : length states ≡ length (edges_of states) = sym (length-map states edge_map) in
+          let two : 1 < length (edges_of states) = c.requires.trie.trie.two in
+          let vacant = c.in_ok-elements.ensures.ok in
+          let labelled = c.in_ok-labels.ensures.ok in
+          let L : List ℕ → Type 0 = λ ls. HasPlaced (length states) c.idx_map.result.now c.bases.result.now ls (fails_of states) (positions_of states) c.deref_mut.result.now new in
+          let I : List ℕ → Type 0 = λ is. HasPlaced (length states) is c.bases.result.now c.in_ok-labels.labels.items (fails_of states) (positions_of states) c.deref_mut.result.now new in
+          let B : List ℕ → Type 0 = λ bs. HasPlaced (length states) l.idx bs c.in_ok-labels.labels.items (fails_of states) (positions_of states) c.deref_mut.result.now new in
+          let O : List (State ℕ) → Type 0 = λ es. HasPlaced (length states) l.idx l.bases c.in_ok-labels.labels.items (fails_of states) (positions_of states) es new in
+          let N : ℕ → Type 0 = λ n. HasPlaced n l.idx l.bases c.in_ok-labels.labels.items (fails_of states) (positions_of states) old new in
+          let placed = subst N count (subst O c.deref_mut.ensures.value (subst B c.bases.ensures (subst I c.idx_map.ensures (subst L c.deref.ensures.value c.place_states.ensures)))) in
+          let held = written-held l (edges_of states) c.in_ok-labels.labels.items (fails_of states) (positions_of states) old new (omega (arith, two)) labelled vacant placed in
+          let H : List (State ℕ) → Type 0 = λ es. HoldStates l (edges_of states) (fails_of states) (positions_of states) es in
+          let len : c.in_ok-elements.elements.len ≡ length new = omega (arith, placed.size, c.in_ok-elements.elements.ok.0) in
+          subst H (sym (written_back new old c.in_ok-elements.elements.len len)) held;
+      few =
+          let P : List (State ℕ) → Type 0 = λ es. length es < 4294967296 in
+          let same : length new ≡ length old = c.place_states.ensures.size ∙ ap length c.deref_mut.ensures.value in
+          let small : length old < 4294967296 = c.in_ok-elements.ensures.few in
+          let len : c.in_ok-elements.elements.len ≡ length new = omega (arith, same, c.in_ok-elements.elements.ok.0) in
+          subst P (sym (written_back new old c.in_ok-elements.elements.len len)) (omega (arith, same, small));
+      err = tt;
+    }

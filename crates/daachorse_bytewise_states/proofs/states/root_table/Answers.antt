@@ -1,7 +1,8 @@
-use Rattle.std.proofs.Common.{◌≡◌, ◌<◌, ◌+◌, ◌⊎◌, inl, inr, ℕ, zero, suc, List, [], ◌∷◌, ◌++◌, Option, Some, None, get_or, length, refl, sym, ap, ◌∙◌, arith, length-append}
+use Rattle.std.proofs.Common.{◌≡◌, ◌<◌, ◌+◌, ◌⊎◌, inl, inr, ℕ, List, [], ◌∷◌, ◌++◌, Option, Some, None, get_or, length, refl, sym, ap, ◌∙◌, arith, length-append}
 use Rattle.std.specs.Prelude.{unwrap_or}
 use Rattle.std.proofs.Math.Seq.{get_or-append_seam}
 use Rattle.std.proofs.lemmas.List.{get_or_append_left, get_or_default}
+use Rattle.daachorse_model.proofs.Lists.{below_or_at}
 use Rattle.daachorse_machine.proofs.ChildLaws.{child_at-inside}
 use Rattle.daachorse_bytewise_states.specs.declared.state.State.{State}
 use Rattle.daachorse_bytewise_states.specs.Elements.{base_in, check_in, vacant, word_in}
@@ -9,12 +10,6 @@ use Rattle.daachorse_bytewise_states.specs.Parts.{child_among, child_by}
 use Rattle.daachorse_bytewise_states.specs.Valid.{IsRootTable}
 use Rattle.daachorse_bytewise_states.proofs.ChildLaws.{child_read}
 use Rattle.daachorse_bytewise_states.proofs.states.root_table.Goals as goal
-
-below_or_at : (c n : ℕ) → c < n + 1 → (c < n) ⊎ (c ≡ n)
-below_or_at zero zero h = inr refl
-below_or_at zero (suc n) h = inl (omega arith)
-below_or_at (suc c) zero h = absurd (omega arith)
-below_or_at (suc c) (suc n) h = elim (below_or_at c n (omega arith)) [ inl less ↦ inl (omega arith) | inr same ↦ inr (ap (λ k. suc k) same) ]
 
 -- one more entry
 IsRootTable-more : (child : ℕ → Option ℕ) (word : ℕ → ℕ) (n : ℕ) (xs ys : List (ℕ × ℕ)) (y : ℕ × ℕ) → IsRootTable child word n xs → ys ≡ xs ++ y ∷ [] → y ≡ (unwrap_or (child n) 0, word (unwrap_or (child n) 0)) → IsRootTable child word (n + 1) ys

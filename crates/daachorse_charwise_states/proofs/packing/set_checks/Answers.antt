@@ -2,8 +2,9 @@
 use Rattle.std.proofs.Common.{◌≡◌, ◌<◌, ℕ, List, length, ◌∙◌, subst, sym, arith}
 use Rattle.std.specs.Prelude.{slice_index}
 use Rattle.daachorse_placement.specs.Placement.{AreIds, children_of, parent_of}
+use Rattle.daachorse_placement.proofs.PlaceStart.{children_at, parent_at}
 use Rattle.daachorse_charwise_states.specs.Writing.{HaveCheck, HaveChecks}
-use Rattle.daachorse_charwise_states.proofs.WritingLaws.{checks_more, children_at, parent_at}
+use Rattle.daachorse_charwise_states.proofs.WritingLaws.{checks_more}
 use Rattle.daachorse_charwise_states.proofs.packing.set_checks.Goals as goal
 
 pub bounds-idx_map-group : goal.bounds-idx_map-group

@@ -24,14 +24,12 @@ loop-place-preserved g c =
       ];
     }
 
-pub rest_at-requires-clause-runs : goal.rest_at-requires-clause-runs
-rest_at-requires-clause-runs g c = c.requires.runs
-
-pub rest_at-requires-clause-inside : goal.rest_at-requires-clause-inside
-rest_at-requires-clause-inside g c = omega (arith, c.first-first.ensures, c.requires.positions 0 c.requires.some, c.requires.each)
-
-pub rest_at-requires-clause-each : goal.rest_at-requires-clause-each
-rest_at-requires-clause-each g c = omega (arith, c.requires.each)
+pub rest_at-requires : goal.rest_at-requires
+rest_at-requires g c = record {
+  runs = c.requires.runs;
+  inside = omega (arith, c.first-first.ensures, c.requires.positions 0 c.requires.some, c.requires.each);
+  each = omega (arith, c.requires.each);
+}
 
 pub returns-then-rest_at-ne0-clause-yes : goal.returns-then-rest_at-ne0-clause-yes
 returns-then-rest_at-ne0-clause-yes g c e = absurd (false≢true e)
@@ -51,18 +49,6 @@ bounds-sizes-place g c = omega (arith, c.loop-place-test.true, c.len.ensures, c.
 pub bounds-leaves-place : goal.bounds-leaves-place
 bounds-leaves-place g c = omega (arith, c.loop-place-test.true, c.len.ensures, c.args.places.now.order.ok.0, c.requires.leaves)
 
-pub chain_holds-requires-clause-links : goal.chain_holds-requires-clause-links
-chain_holds-requires-clause-links g c = c.requires.links
-
-pub chain_holds-requires-clause-positions : goal.chain_holds-requires-clause-positions
-chain_holds-requires-clause-positions g c = c.requires.positions
-
-pub chain_holds-requires-clause-runs : goal.chain_holds-requires-clause-runs
-chain_holds-requires-clause-runs g c = c.requires.runs
-
-pub chain_holds-requires-clause-each : goal.chain_holds-requires-clause-each
-chain_holds-requires-clause-each g c = c.requires.each
-
 pub returns-then-not-chain_holds-clause-yes : goal.returns-then-not-chain_holds-clause-yes
 returns-then-not-chain_holds-clause-yes g c e = absurd (false≢true e)
 
@@ -72,22 +58,28 @@ overflow_add-place g c = omega (arith, c.loop-place-test.true, c.len.type_inv)
 pub loop-place-smaller : goal.loop-place-smaller
 loop-place-smaller g c = omega (arith, c.loop-place-test.true, c.len.ensures, c.args.places.now.order.ok.0)
 
-pub returns-clause-yes : goal.returns-clause-yes
-returns-clause-yes g c e = record {
-  root = sym (c.rest_at.ensures ∙ ap (λ p. (own_from c.args.outputs.now p 0 p).1) c.first-first.ensures) ∙ c.if-rest_at-ne0.false;
-  others = λ k pos lt. c.loop-place.invariant.each k pos (omega (arith, lt, c.loop-place-test.false, c.len.ensures, c.args.places.now.order.ok.0));
+pub returns : goal.returns
+returns g c = record {
+  yes = λ e. record {
+    root = sym (c.rest_at.ensures ∙ ap (λ p. (own_from c.args.outputs.now p 0 p).1) c.first-first.ensures) ∙ c.if-rest_at-ne0.false;
+    others = λ k pos lt. c.loop-place.invariant.each k pos (omega (arith, lt, c.loop-place-test.false, c.len.ensures, c.args.places.now.order.ok.0));
+  };
+  no = λ e. absurd (false≢true (sym e));
 }
 
-pub returns-clause-no : goal.returns-clause-no
-returns-clause-no g c e = absurd (false≢true (sym e))
-
-pub chain_holds-requires-clause-element : goal.chain_holds-requires-clause-element
-chain_holds-requires-clause-element g c =
-    let order = c.args.places.now.order.items in
-    let m = c.loop-place.place in
-    let lt : m < length order = omega (arith, c.loop-place-test.true, c.len.ensures, c.args.places.now.order.ok.0) in
-    let at = get_or_read order m c.index-element.result.now lt c.index-element.ensures 0 in
-    omega (arith, at, c.requires.places.places.inside m lt, c.requires.places.marks_each)
+pub chain_holds-requires : goal.chain_holds-requires
+chain_holds-requires g c = record {
+  links = c.requires.links;
+  positions = c.requires.positions;
+  runs = c.requires.runs;
+  each = c.requires.each;
+  element =
+      let order = c.args.places.now.order.items in
+      let m = c.loop-place.place in
+      let lt : m < length order = omega (arith, c.loop-place-test.true, c.len.ensures, c.args.places.now.order.ok.0) in
+      let at = get_or_read order m c.index-element.result.now lt c.index-element.ensures 0 in
+      omega (arith, at, c.requires.places.places.inside m lt, c.requires.places.marks_each);
+}
 
 pub returns-then-not-chain_holds-clause-no : goal.returns-then-not-chain_holds-clause-no
 returns-then-not-chain_holds-clause-no g c e chained =

@@ -12,37 +12,22 @@ use Rattle.daachorse_placement.proofs.build_helper.place_all.Goals as goal
 pub weigh-requires : goal.weigh-requires
 weigh-requires g c = c.loop-group.invariant.whole
 
-pub place-requires-clause-whole : goal.place-requires-clause-whole
-place-requires-clause-whole g c = c.weigh.ensures.whole
-
-pub place-requires-clause-full : goal.place-requires-clause-full
-place-requires-clause-full g c = subst (λ v. IsFull v) (sym c.weigh.ensures.windowed) c.loop-group.invariant.full
-
-pub place-requires-clause-some : goal.place-requires-clause-some
-place-requires-clause-some g c =
+pub place-requires : goal.place-requires
+place-requires g c =
     let i = c.loop-group.group-index in
     let e : children_of c.args.groups.now i ≡ c.as_slice.result.now = children_at c.args.groups.now i c.group-item.result (omega arith) c.group-item.is ∙ sym c.as_slice.ensures.value in
-    subst (λ (cs : List (ℕ × ℕ)). 0 < length cs) e (c.requires.groups.some i (omega arith))
-
-pub place-requires-clause-labels : goal.place-requires-clause-labels
-place-requires-clause-labels g c =
-    let i = c.loop-group.group-index in
-    let e : children_of c.args.groups.now i ≡ c.as_slice.result.now = children_at c.args.groups.now i c.group-item.result (omega arith) c.group-item.is ∙ sym c.as_slice.ensures.value in
-    let block = block_kept c.loop-group.elements c.weigh.new.self (c.loop-group.elements.windowed || is_light c.group-item.result) c.weigh.ensures.windowed ∙ c.loop-group.invariant.block in
-    subst (λ (cs : List (ℕ × ℕ)). AreLabels c.weigh.new.self.block_len cs) e (subst (λ (n : ℕ). AreLabels n (children_of c.args.groups.now i)) (sym block) (c.requires.groups.labels i (omega arith)))
-
-pub place-requires-clause-ids : goal.place-requires-clause-ids
-place-requires-clause-ids g c =
-    let i = c.loop-group.group-index in
-    let e : children_of c.args.groups.now i ≡ c.as_slice.result.now = children_at c.args.groups.now i c.group-item.result (omega arith) c.group-item.is ∙ sym c.as_slice.ensures.value in
-    let len : length c.args.idx_map.now ≡ length c.loop-group.idx_map = omega arith in
-    subst (λ (cs : List (ℕ × ℕ)). AreIds (length c.loop-group.idx_map) cs) e (subst (λ (n : ℕ). AreIds n (children_of c.args.groups.now i)) len (c.requires.groups.ids i (omega arith)))
-
-pub place-requires-clause-apart : goal.place-requires-clause-apart
-place-requires-clause-apart g c =
-    let i = c.loop-group.group-index in
-    let e : children_of c.args.groups.now i ≡ c.as_slice.result.now = children_at c.args.groups.now i c.group-item.result (omega arith) c.group-item.is ∙ sym c.as_slice.ensures.value in
-    subst (λ (cs : List (ℕ × ℕ)). AreApart cs) e (c.requires.groups.one_child i (omega arith))
+    record {
+      whole = c.weigh.ensures.whole;
+      full = subst (λ v. IsFull v) (sym c.weigh.ensures.windowed) c.loop-group.invariant.full;
+      some = subst (λ (cs : List (ℕ × ℕ)). 0 < length cs) e (c.requires.groups.some i (omega arith));
+      labels =
+          let block = block_kept c.loop-group.elements c.weigh.new.self (c.loop-group.elements.windowed || is_light c.group-item.result) c.weigh.ensures.windowed ∙ c.loop-group.invariant.block in
+          subst (λ (cs : List (ℕ × ℕ)). AreLabels c.weigh.new.self.block_len cs) e (subst (λ (n : ℕ). AreLabels n (children_of c.args.groups.now i)) (sym block) (c.requires.groups.labels i (omega arith)));
+      ids =
+          let len : length c.args.idx_map.now ≡ length c.loop-group.idx_map = omega arith in
+          subst (λ (cs : List (ℕ × ℕ)). AreIds (length c.loop-group.idx_map) cs) e (subst (λ (n : ℕ). AreIds n (children_of c.args.groups.now i)) len (c.requires.groups.ids i (omega arith)));
+      apart = subst (λ (cs : List (ℕ × ℕ)). AreApart cs) e (c.requires.groups.one_child i (omega arith));
+    }
 
 pub bounds-bases-group : goal.bounds-bases-group
 bounds-bases-group g c =
@@ -80,23 +65,6 @@ loop-group-preserved g c =
           (placed_more gs i c.args.tracked w b idx c.place.new.idx_map bases base (length c.args.idx_map.now) gr (omega arith) (omega arith) (omega arith) c.in_ok-base.ensures.whole old h mp);
     }
 
-pub returns-in_err-base-clause-refused : goal.returns-in_err-base-clause-refused
-returns-in_err-base-clause-refused g c =
-    let i = c.loop-group.group-index in
-    let a = c.loop-group.elements in
-    let w = c.weigh.new.self in
-    let n = c.args.elements.now.block_len in
-    let m = length c.args.groups.now in
-    let inv = c.loop-group.invariant in
-    let is_weighed = c.weigh.ensures.windowed in
-    let block : w.block_len ≡ n = block_kept a w (a.windowed || is_light c.group-item.result) is_weighed ∙ inv.block in
-    let count : count_of w ≡ a.num_blocks * n = ap (λ v. count_of v) is_weighed ∙ (inv.whole.blocks ∙ ap (λ k. a.num_blocks * k) inv.block) in
-    let few : a.num_blocks ≤ m = let f = inv.placed.few in omega arith in
-    let passed : 2 ^ 32 ≤ count_of w + w.block_len → 2 ^ 32 ≤ (m + 1) * n = λ h. refusal a.num_blocks m n few (omega (arith, h, block, count)) in
-    let is_err : c.from_residual.result ≡ Err c.in_err-base.field-0.0 = search rules in
-    subst (λ r. IfErr r (IsPlaceRefusal (2 ^ 32 ≤ (m + 1) * n))) (sym is_err)
-    (refusal_under (2 ^ 32 ≤ count_of w + w.block_len) (2 ^ 32 ≤ (m + 1) * n) c.in_err-base.field-0.0 passed c.in_err-base.ensures.refused)
-
 pub returns-clause-whole : goal.returns-clause-whole
 returns-clause-whole g c = c.loop-group.invariant.whole
 
@@ -106,20 +74,28 @@ returns-clause-full g c = c.loop-group.invariant.full
 pub returns-clause-block : goal.returns-clause-block
 returns-clause-block g c = c.loop-group.invariant.block
 
-pub returns-in_err-base-clause-whole : goal.returns-in_err-base-clause-whole
-returns-in_err-base-clause-whole g c = IfOk-from_err c.from_residual.result _ c.from_residual.ensures.0
-
-pub returns-in_err-base-clause-full : goal.returns-in_err-base-clause-full
-returns-in_err-base-clause-full g c = IfOk-from_err c.from_residual.result _ c.from_residual.ensures.0
-
-pub returns-in_err-base-clause-block : goal.returns-in_err-base-clause-block
-returns-in_err-base-clause-block g c = IfOk-from_err c.from_residual.result _ c.from_residual.ensures.0
-
-pub returns-in_err-base-clause-placed : goal.returns-in_err-base-clause-placed
-returns-in_err-base-clause-placed g c = IfOk-from_err c.from_residual.result _ c.from_residual.ensures.0
-
-pub returns-in_err-base-clause-windowed : goal.returns-in_err-base-clause-windowed
-returns-in_err-base-clause-windowed g c = IfOk-from_err c.from_residual.result _ c.from_residual.ensures.0
+pub returns-in_err-base : goal.returns-in_err-base
+returns-in_err-base g c = record {
+  refused =
+      let a = c.loop-group.elements in
+      let w = c.weigh.new.self in
+      let n = c.args.elements.now.block_len in
+      let m = length c.args.groups.now in
+      let inv = c.loop-group.invariant in
+      let is_weighed = c.weigh.ensures.windowed in
+      let block : w.block_len ≡ n = block_kept a w (a.windowed || is_light c.group-item.result) is_weighed ∙ inv.block in
+      let count : count_of w ≡ a.num_blocks * n = ap (λ v. count_of v) is_weighed ∙ (inv.whole.blocks ∙ ap (λ k. a.num_blocks * k) inv.block) in
+      let few : a.num_blocks ≤ m = let f = inv.placed.few in omega arith in
+      let passed : 2 ^ 32 ≤ count_of w + w.block_len → 2 ^ 32 ≤ (m + 1) * n = λ h. refusal a.num_blocks m n few (omega (arith, h, block, count)) in
+      let is_err : c.from_residual.result ≡ Err c.in_err-base.field-0.0 = search rules in
+      subst (λ r. IfErr r (IsPlaceRefusal (2 ^ 32 ≤ (m + 1) * n))) (sym is_err)
+      (refusal_under (2 ^ 32 ≤ count_of w + w.block_len) (2 ^ 32 ≤ (m + 1) * n) c.in_err-base.field-0.0 passed c.in_err-base.ensures.refused);
+  whole = IfOk-from_err c.from_residual.result _ c.from_residual.ensures.0;
+  full = IfOk-from_err c.from_residual.result _ c.from_residual.ensures.0;
+  block = IfOk-from_err c.from_residual.result _ c.from_residual.ensures.0;
+  placed = IfOk-from_err c.from_residual.result _ c.from_residual.ensures.0;
+  windowed = IfOk-from_err c.from_residual.result _ c.from_residual.ensures.0;
+}
 
 pub returns-clause-placed : goal.returns-clause-placed
 returns-clause-placed g c = grind (arith, common_steps)

@@ -8,41 +8,25 @@ use Rattle.daachorse_replacing.proofs.Parts.{gave_all, gave_next, parts_next, pa
 use Rattle.daachorse_replacing.proofs.Sending.{AppendsBeginning-more}
 use Rattle.daachorse_replacing.proofs.replacing.replace.Goals as goal
 
-pub part-requires-clause-ordered : goal.part-requires-clause-ordered
-part-requires-clause-ordered g c =
+pub part-requires : goal.part-requires
+part-requires g c =
     let parts = c.requires.parts in
     let more = gave_next g.I.Iterator.next_gives _ _ _ _ c.loop-found.yielded parts.0 c.loop-found.yielded_by c.in-Some.ensures.steps (rw c.into_iter-found-iterator.ensures.into_iter_gives parts.1) in
-    rw c.loop-found.invariant.place (parts_next (g.P.Piece.may_cut c.args.haystack) 0 c.loop-found.yielded _ more.0 parts.0 more.1 parts.2).ordered
+    record {
+      ordered = rw c.loop-found.invariant.place (parts_next (g.P.Piece.may_cut c.args.haystack) 0 c.loop-found.yielded _ more.0 parts.0 more.1 parts.2).ordered;
+      starts = rw c.loop-found.invariant.place (parts_next (g.P.Piece.may_cut c.args.haystack) 0 c.loop-found.yielded _ more.0 parts.0 more.1 parts.2).here;
+      ends = (parts_next (g.P.Piece.may_cut c.args.haystack) 0 c.loop-found.yielded _ more.0 parts.0 more.1 parts.2).starts;
+    }
 
-pub part-requires-clause-starts : goal.part-requires-clause-starts
-part-requires-clause-starts g c =
+pub part-matched-requires : goal.part-matched-requires
+part-matched-requires g c =
     let parts = c.requires.parts in
     let more = gave_next g.I.Iterator.next_gives _ _ _ _ c.loop-found.yielded parts.0 c.loop-found.yielded_by c.in-Some.ensures.steps (rw c.into_iter-found-iterator.ensures.into_iter_gives parts.1) in
-    rw c.loop-found.invariant.place (parts_next (g.P.Piece.may_cut c.args.haystack) 0 c.loop-found.yielded _ more.0 parts.0 more.1 parts.2).here
-
-pub part-requires-clause-ends : goal.part-requires-clause-ends
-part-requires-clause-ends g c =
-    let parts = c.requires.parts in
-    let more = gave_next g.I.Iterator.next_gives _ _ _ _ c.loop-found.yielded parts.0 c.loop-found.yielded_by c.in-Some.ensures.steps (rw c.into_iter-found-iterator.ensures.into_iter_gives parts.1) in
-    (parts_next (g.P.Piece.may_cut c.args.haystack) 0 c.loop-found.yielded _ more.0 parts.0 more.1 parts.2).starts
-
-pub part-matched-requires-clause-ordered : goal.part-matched-requires-clause-ordered
-part-matched-requires-clause-ordered g c =
-    let parts = c.requires.parts in
-    let more = gave_next g.I.Iterator.next_gives _ _ _ _ c.loop-found.yielded parts.0 c.loop-found.yielded_by c.in-Some.ensures.steps (rw c.into_iter-found-iterator.ensures.into_iter_gives parts.1) in
-    (parts_next (g.P.Piece.may_cut c.args.haystack) 0 c.loop-found.yielded _ more.0 parts.0 more.1 parts.2).within
-
-pub part-matched-requires-clause-starts : goal.part-matched-requires-clause-starts
-part-matched-requires-clause-starts g c =
-    let parts = c.requires.parts in
-    let more = gave_next g.I.Iterator.next_gives _ _ _ _ c.loop-found.yielded parts.0 c.loop-found.yielded_by c.in-Some.ensures.steps (rw c.into_iter-found-iterator.ensures.into_iter_gives parts.1) in
-    (parts_next (g.P.Piece.may_cut c.args.haystack) 0 c.loop-found.yielded _ more.0 parts.0 more.1 parts.2).starts
-
-pub part-matched-requires-clause-ends : goal.part-matched-requires-clause-ends
-part-matched-requires-clause-ends g c =
-    let parts = c.requires.parts in
-    let more = gave_next g.I.Iterator.next_gives _ _ _ _ c.loop-found.yielded parts.0 c.loop-found.yielded_by c.in-Some.ensures.steps (rw c.into_iter-found-iterator.ensures.into_iter_gives parts.1) in
-    (parts_next (g.P.Piece.may_cut c.args.haystack) 0 c.loop-found.yielded _ more.0 parts.0 more.1 parts.2).ends
+    record {
+      ordered = (parts_next (g.P.Piece.may_cut c.args.haystack) 0 c.loop-found.yielded _ more.0 parts.0 more.1 parts.2).within;
+      starts = (parts_next (g.P.Piece.may_cut c.args.haystack) 0 c.loop-found.yielded _ more.0 parts.0 more.1 parts.2).starts;
+      ends = (parts_next (g.P.Piece.may_cut c.args.haystack) 0 c.loop-found.yielded _ more.0 parts.0 more.1 parts.2).ends;
+    }
 
 pub returns-in_err-append-clause-beginning : goal.returns-in_err-append-clause-beginning
 returns-in_err-append-clause-beginning g c =
@@ -84,16 +68,16 @@ part-requires-2-clause-starts g c =
     let whole = gave_all g.I.Iterator.next_gives _ _ _ c.loop-found.yielded parts.0 c.loop-found.yielded_by c.in-None.ensures.steps (rw c.into_iter-found-iterator.ensures.into_iter_gives parts.1) in
     rw c.loop-found.invariant.place (parts_end (g.P.Piece.may_cut c.args.haystack) 0 c.loop-found.yielded (subst (AreParts (g.P.Piece.may_cut c.args.haystack) 0) whole parts.2))
 
-pub returns-clause-whole : goal.returns-clause-whole
-returns-clause-whole g c =
-    on_ok_weaker c.append-2.result (λ piece all y with gives.
-    let whole = gave_all g.I.Iterator.next_gives _ _ _ c.loop-found.yielded all c.loop-found.yielded_by c.in-None.ensures.steps (rw c.into_iter-found-iterator.ensures.into_iter_gives y) in
-    let text = replaced_whole with (g.P.Piece.bytes c.args.haystack) c.loop-found.yielded all c.loop-found.place c.end.result whole c.loop-found.invariant.place c.end.ensures.end in
-    rw text (Appends-trans _ _ _ _ _ (c.loop-found.invariant.taken with gives) (subst (Appends _ _) c.part-2.ensures piece))) c.append-2.ensures.whole
-
-pub returns-clause-beginning : goal.returns-clause-beginning
-returns-clause-beginning g c =
-    on_err_weaker c.append-2.result (λ piece all y with gives.
-    let whole = gave_all g.I.Iterator.next_gives _ _ _ c.loop-found.yielded all c.loop-found.yielded_by c.in-None.ensures.steps (rw c.into_iter-found-iterator.ensures.into_iter_gives y) in
-    let text = replaced_whole with (g.P.Piece.bytes c.args.haystack) c.loop-found.yielded all c.loop-found.place c.end.result whole c.loop-found.invariant.place c.end.ensures.end in
-    AppendsBeginning-more _ _ _ _ _ _ [] (text ∙ ap (λ l. replaced_before with (g.P.Piece.bytes c.args.haystack) 0 c.loop-found.yielded ++ l) (sym (append-nil _))) (c.loop-found.invariant.taken with gives) (subst (AppendsBeginning _ _) c.part-2.ensures piece)) c.append-2.ensures.beginning
+pub returns : goal.returns
+returns g c = record {
+  whole =
+      on_ok_weaker c.append-2.result (λ piece all y with gives.
+      let whole = gave_all g.I.Iterator.next_gives _ _ _ c.loop-found.yielded all c.loop-found.yielded_by c.in-None.ensures.steps (rw c.into_iter-found-iterator.ensures.into_iter_gives y) in
+      let text = replaced_whole with (g.P.Piece.bytes c.args.haystack) c.loop-found.yielded all c.loop-found.place c.end.result whole c.loop-found.invariant.place c.end.ensures.end in
+      rw text (Appends-trans _ _ _ _ _ (c.loop-found.invariant.taken with gives) (subst (Appends _ _) c.part-2.ensures piece))) c.append-2.ensures.whole;
+  beginning =
+      on_err_weaker c.append-2.result (λ piece all y with gives.
+      let whole = gave_all g.I.Iterator.next_gives _ _ _ c.loop-found.yielded all c.loop-found.yielded_by c.in-None.ensures.steps (rw c.into_iter-found-iterator.ensures.into_iter_gives y) in
+      let text = replaced_whole with (g.P.Piece.bytes c.args.haystack) c.loop-found.yielded all c.loop-found.place c.end.result whole c.loop-found.invariant.place c.end.ensures.end in
+      AppendsBeginning-more _ _ _ _ _ _ [] (text ∙ ap (λ l. replaced_before with (g.P.Piece.bytes c.args.haystack) 0 c.loop-found.yielded ++ l) (sym (append-nil _))) (c.loop-found.invariant.taken with gives) (subst (AppendsBeginning _ _) c.part-2.ensures piece)) c.append-2.ensures.beginning;
+}

@@ -1,4 +1,4 @@
-use Rattle.std.proofs.Common.{inl, inr, length, map, arith}
+use Rattle.std.proofs.Common.{inl, map, arith}
 use Rattle.std.proofs.lemmas.Result.{IfOk-from_err}
 use Rattle.daachorse_rows.specs.Rows.{stands_by}
 use Rattle.daachorse_rows.proofs.ShallowLaws.{AreCovered-on, AreStepped-fewer, AreTooMany-weaker}
@@ -36,47 +36,35 @@ choose_root-requires-clause-some g c = c.requires.some
 pub returns-in_err-chosen : goal.returns-in_err-chosen
 returns-in_err-chosen g c = IfOk-from_err c.from_residual.result _ c.from_residual.ensures.0
 
-pub choose_next-requires-clause-labels : goal.choose_next-requires-clause-labels
-choose_next-requires-clause-labels g c = c.requires.labels
-
-pub choose_next-requires-clause-chosen : goal.choose_next-requires-clause-chosen
-choose_next-requires-clause-chosen g c = c.in_ok-chosen.ensures.chosen
-
-pub choose_next-requires-clause-count : goal.choose_next-requires-clause-count
-choose_next-requires-clause-count g c = λ s there. omega (arith, c.requires.count s there, c.in_ok-chosen.ensures.size)
-
-pub choose_next-requires-clause-few : goal.choose_next-requires-clause-few
-choose_next-requires-clause-few g c = c.requires.few
+pub choose_next-requires : goal.choose_next-requires
+choose_next-requires g c = record {
+  labels = c.requires.labels;
+  chosen = c.in_ok-chosen.ensures.chosen;
+  count = λ s there. omega (arith, c.requires.count s there, c.in_ok-chosen.ensures.size);
+  few = c.requires.few;
+}
 
 pub returns-in_err-choose_next : goal.returns-in_err-choose_next
 returns-in_err-choose_next g c = IfOk-from_err c.from_residual-in_err-choose_next.result _ c.from_residual-in_err-choose_next.ensures.0
 
-pub choose_next-requires-2-clause-labels : goal.choose_next-requires-2-clause-labels
-choose_next-requires-2-clause-labels g c = c.requires.labels
-
-pub choose_next-requires-2-clause-chosen : goal.choose_next-requires-2-clause-chosen
-choose_next-requires-2-clause-chosen g c = c.in_ok-choose_next.ensures.chosen
-
-pub choose_next-requires-2-clause-count : goal.choose_next-requires-2-clause-count
-choose_next-requires-2-clause-count g c = λ s there. omega (arith, c.requires.count s there, c.in_ok-chosen.ensures.size, c.in_ok-choose_next.ensures.same)
-
-pub choose_next-requires-2-clause-few : goal.choose_next-requires-2-clause-few
-choose_next-requires-2-clause-few g c = c.requires.few
+pub choose_next-requires-2 : goal.choose_next-requires-2
+choose_next-requires-2 g c = record {
+  labels = c.requires.labels;
+  chosen = c.in_ok-choose_next.ensures.chosen;
+  count = λ s there. omega (arith, c.requires.count s there, c.in_ok-chosen.ensures.size, c.in_ok-choose_next.ensures.same);
+  few = c.requires.few;
+}
 
 pub returns-in_err-choose_next-2 : goal.returns-in_err-choose_next-2
 returns-in_err-choose_next-2 g c = IfOk-from_err c.from_residual-in_err-choose_next-2.result _ c.from_residual-in_err-choose_next-2.ensures.0
 
-pub choose_rest-requires-clause-labels : goal.choose_rest-requires-clause-labels
-choose_rest-requires-clause-labels g c = c.requires.labels
-
-pub choose_rest-requires-clause-chosen : goal.choose_rest-requires-clause-chosen
-choose_rest-requires-clause-chosen g c = c.in_ok-choose_next-2.ensures.chosen
-
-pub choose_rest-requires-clause-count : goal.choose_rest-requires-clause-count
-choose_rest-requires-clause-count g c = λ s there. omega (arith, c.requires.count s there, c.in_ok-chosen.ensures.size, c.in_ok-choose_next.ensures.same, c.in_ok-choose_next-2.ensures.same)
-
-pub choose_rest-requires-clause-few : goal.choose_rest-requires-clause-few
-choose_rest-requires-clause-few g c = c.requires.few
+pub choose_rest-requires : goal.choose_rest-requires
+choose_rest-requires g c = record {
+  labels = c.requires.labels;
+  chosen = c.in_ok-choose_next-2.ensures.chosen;
+  count = λ s there. omega (arith, c.requires.count s there, c.in_ok-chosen.ensures.size, c.in_ok-choose_next.ensures.same, c.in_ok-choose_next-2.ensures.same);
+  few = c.requires.few;
+}
 
 pub returns-in_err-choose_rest : goal.returns-in_err-choose_rest
 returns-in_err-choose_rest g c = IfOk-from_err c.from_residual-in_err-choose_rest.result _ c.from_residual-in_err-choose_rest.ensures.0

@@ -4,16 +4,12 @@ use Rattle.std.proofs.lemmas.Bool.{false≢true}
 use Rattle.std.proofs.lemmas.Result.{IfOk-from_err}
 use Rattle.std.proofs.lemmas.List.{get_or_read, length-map, length-set}
 use Rattle.daachorse_core.specs.Looks.{StepEnds}
+use Rattle.daachorse_model.proofs.Lists.{below_or_at}
 use Rattle.daachorse_rows.specs.Rows.{EndsInRow, HasEnd, stands_by}
-use Rattle.daachorse_rows.proofs.MakingLaws.{AreChosen-more, below_or_at, ends_read, unit_read}
+use Rattle.daachorse_rows.proofs.MakingLaws.{AreChosen-more, ends_read, unit_read}
 use Rattle.daachorse_rows.proofs.ShallowLaws.{AreShallow-push, AreTooMany-full, EndsInRow-on, EndsInRow-row, GoesOn-push, GoesOn-same, GoesOn-through, HasEnd-all, HasEnd-on, HasEnd-row, end_shallow, row_last}
 use Rattle.daachorse_rows.proofs.making.choose_ends.Goals.{then-index+else-len-most+in_ok-push, else-index}
 use Rattle.daachorse_rows.proofs.making.choose_ends.Goals as goal
-
-pub follow-next-requires-clause-unit : goal.follow-next-requires-clause-unit
-follow-next-requires-clause-unit g c =
-    let A = g.A.Automaton in let a = c.args.automaton.now in
-    unit_read g.A.Label.RowLabel.number (A.content a) g.met.A.Label.RowLabel.exact (A.labels a) c.args.labels.now c.loop-k.k c.index-labels-k.result c.requires.labels c.loop-k-test.true c.index-labels-k.is
 
 pub loop-k-preserved : goal.loop-k-preserved
 loop-k-preserved g c =
@@ -65,32 +61,6 @@ loop-k-preserved g c =
           })
     ]
 
-pub returns-then-len-most-clause-full : goal.returns-then-len-most-clause-full
-returns-then-len-most-clause-full g c = λ _ n shallow all.
-    let A = g.A.Automaton in let a = c.args.automaton.now in let number = g.A.Label.RowLabel.number in let K = A.content a in
-    let stands = stands_by number (A.labels a) in let labels = map number c.args.labels.now in let named = c.requires.labels in
-    let old = c.args.chosen.now.order.items in let order = c.loop-k.chosen.order.items in let homes = c.loop-k.chosen.homes.items in
-    let s = slice_index old c.args.at in let next = c.follow-next.result.0 in let k = c.loop-k.k in let kept = c.loop-k.invariant in
-    let within : next < length homes = omega (arith, kept.same, c.requires.count next c.follow-next.ensures.reached) in
-    let home = get_or_read homes next c.index.result.now within c.index.ensures 0 in
-    let ends : (unit : ℕ) → stands (slice_index labels k) unit → StepEnds K (A.dead a) (A.text a s) unit (A.text a next) =
-    ends_read number K (A.dead a) (A.text a) g.met.A.Label.RowLabel.exact (A.labels a) c.args.labels.now k c.index-labels-k.result s c.index-state.result.now next c.loop-k-test.true c.index-labels-k.is
-    (get_or_read old c.args.at c.index-state.result.now c.requires.at c.index-state.ensures 0) c.follow-next.ensures.ends in
-    let listed : k < length labels = omega (arith, c.loop-k-test.true, length-map c.args.labels.now number) in
-    let full : length order ≡ c.args.most = omega (arith, c.if-len-most.true, c.len.ensures, c.loop-k.chosen.order.ok.0) in
-    AreTooMany-full (A.reached a) (A.text a) stands (n + 1) order homes c.args.most kept.chosen (kept.shallow n shallow all) full c.requires.few next c.follow-next.ensures.reached
-    (end_shallow K (A.text a) stands (A.dead a) s (slice_index labels k) next ends n (named.below k listed) (named.none_idle k listed) shallow) (sym home ∙ c.if-index.true)
-
-pub returns-clause-all : goal.returns-clause-all
-returns-clause-all g c = λ _.
-    let A = g.A.Automaton in let a = c.args.automaton.now in let number = g.A.Label.RowLabel.number in
-    let labels = map number c.args.labels.now in
-    HasEnd-all (A.content a) (A.text a) (stands_by number (A.labels a)) labels c.requires.labels (slice_index c.args.chosen.now.order.items c.args.at) c.loop-k.chosen.order.items
-    (λ k below. c.loop-k.invariant.ends k (omega (arith, below, c.loop-k-test.false, c.loop-k.auto.k-end, length-map c.args.labels.now number)))
-
-pub returns-clause-ends : goal.returns-clause-ends
-returns-clause-ends g c = λ _ j below. c.loop-k.invariant.steps j (omega (arith, below, c.loop-k-test.false, c.loop-k.auto.k-end))
-
 pub index-state-requires : goal.index-state-requires
 index-state-requires g c = omega (arith, c.requires.at, c.args.chosen.now.order.ok.0)
 
@@ -104,68 +74,68 @@ loop-k-init g c = record {
   ends = λ j below unit coded begins. absurd (omega (arith, below));
 }
 
-pub follow-next-requires-clause-reached : goal.follow-next-requires-clause-reached
-follow-next-requires-clause-reached g c =
+pub follow-next-requires : goal.follow-next-requires
+follow-next-requires g c =
     let A = g.A.Automaton in let a = c.args.automaton.now in
-    let P : ℕ → Type 0 = λ s. A.reached a s in
-    subst P (sym (get_or_read c.args.chosen.now.order.items c.args.at c.index-state.result.now c.requires.at c.index-state.ensures 0)) (c.requires.chosen.states c.args.at c.requires.at)
+    record {
+      unit = unit_read g.A.Label.RowLabel.number (A.content a) g.met.A.Label.RowLabel.exact (A.labels a) c.args.labels.now c.loop-k.k c.index-labels-k.result c.requires.labels c.loop-k-test.true c.index-labels-k.is;
+      reached =
+          let P : ℕ → Type 0 = λ s. A.reached a s in
+          subst P (sym (get_or_read c.args.chosen.now.order.items c.args.at c.index-state.result.now c.requires.at c.index-state.ensures 0)) (c.requires.chosen.states c.args.at c.requires.at);
+    }
 
 pub index-requires : goal.index-requires
 index-requires g c = omega (arith, c.requires.count c.follow-next.result.0 c.follow-next.ensures.reached, c.loop-k.invariant.same, c.loop-k.chosen.homes.ok.0)
 
-pub returns-then-len-most-clause-chosen : goal.returns-then-len-most-clause-chosen
-returns-then-len-most-clause-chosen g c = c.loop-k.invariant.chosen
+pub returns-then-len-most : goal.returns-then-len-most
+returns-then-len-most g c = record {
+  full = λ _ n shallow all.
+      let A = g.A.Automaton in let a = c.args.automaton.now in let number = g.A.Label.RowLabel.number in let K = A.content a in
+      let stands = stands_by number (A.labels a) in let labels = map number c.args.labels.now in let named = c.requires.labels in
+      let old = c.args.chosen.now.order.items in let order = c.loop-k.chosen.order.items in let homes = c.loop-k.chosen.homes.items in
+      let s = slice_index old c.args.at in let next = c.follow-next.result.0 in let k = c.loop-k.k in let kept = c.loop-k.invariant in
+      let within : next < length homes = omega (arith, kept.same, c.requires.count next c.follow-next.ensures.reached) in
+      let home = get_or_read homes next c.index.result.now within c.index.ensures 0 in
+      let ends : (unit : ℕ) → stands (slice_index labels k) unit → StepEnds K (A.dead a) (A.text a s) unit (A.text a next) =
+      ends_read number K (A.dead a) (A.text a) g.met.A.Label.RowLabel.exact (A.labels a) c.args.labels.now k c.index-labels-k.result s c.index-state.result.now next c.loop-k-test.true c.index-labels-k.is
+      (get_or_read old c.args.at c.index-state.result.now c.requires.at c.index-state.ensures 0) c.follow-next.ensures.ends in
+      let listed : k < length labels = omega (arith, c.loop-k-test.true, length-map c.args.labels.now number) in
+      let full : length order ≡ c.args.most = omega (arith, c.if-len-most.true, c.len.ensures, c.loop-k.chosen.order.ok.0) in
+      AreTooMany-full (A.reached a) (A.text a) stands (n + 1) order homes c.args.most kept.chosen (kept.shallow n shallow all) full c.requires.few next c.follow-next.ensures.reached
+      (end_shallow K (A.text a) stands (A.dead a) s (slice_index labels k) next ends n (named.below k listed) (named.none_idle k listed) shallow) (sym home ∙ c.if-index.true);
+  chosen = c.loop-k.invariant.chosen;
+  same = c.loop-k.invariant.same;
+  on = c.loop-k.invariant.on;
+  shallow = c.loop-k.invariant.shallow;
+  all = λ e. absurd (false≢true e);
+  ends = λ e. absurd (false≢true e);
+}
 
-pub returns-then-len-most-clause-same : goal.returns-then-len-most-clause-same
-returns-then-len-most-clause-same g c = c.loop-k.invariant.same
+pub returns-in_err-push : goal.returns-in_err-push
+returns-in_err-push g c = record {
+  chosen = IfOk-from_err c.from_residual.result _ c.from_residual.ensures.0;
+  same = IfOk-from_err c.from_residual.result _ c.from_residual.ensures.0;
+  on = IfOk-from_err c.from_residual.result _ c.from_residual.ensures.0;
+  shallow = IfOk-from_err c.from_residual.result _ c.from_residual.ensures.0;
+  all = IfOk-from_err c.from_residual.result _ c.from_residual.ensures.0;
+  ends = IfOk-from_err c.from_residual.result _ c.from_residual.ensures.0;
+  full = IfOk-from_err c.from_residual.result _ c.from_residual.ensures.0;
+}
 
-pub returns-then-len-most-clause-on : goal.returns-then-len-most-clause-on
-returns-then-len-most-clause-on g c = c.loop-k.invariant.on
-
-pub returns-then-len-most-clause-shallow : goal.returns-then-len-most-clause-shallow
-returns-then-len-most-clause-shallow g c = c.loop-k.invariant.shallow
-
-pub returns-then-len-most-clause-all : goal.returns-then-len-most-clause-all
-returns-then-len-most-clause-all g c = λ e. absurd (false≢true e)
-
-pub returns-then-len-most-clause-ends : goal.returns-then-len-most-clause-ends
-returns-then-len-most-clause-ends g c = λ e. absurd (false≢true e)
-
-pub returns-in_err-push-clause-chosen : goal.returns-in_err-push-clause-chosen
-returns-in_err-push-clause-chosen g c = IfOk-from_err c.from_residual.result _ c.from_residual.ensures.0
-
-pub returns-in_err-push-clause-same : goal.returns-in_err-push-clause-same
-returns-in_err-push-clause-same g c = IfOk-from_err c.from_residual.result _ c.from_residual.ensures.0
-
-pub returns-in_err-push-clause-on : goal.returns-in_err-push-clause-on
-returns-in_err-push-clause-on g c = IfOk-from_err c.from_residual.result _ c.from_residual.ensures.0
-
-pub returns-in_err-push-clause-shallow : goal.returns-in_err-push-clause-shallow
-returns-in_err-push-clause-shallow g c = IfOk-from_err c.from_residual.result _ c.from_residual.ensures.0
-
-pub returns-in_err-push-clause-all : goal.returns-in_err-push-clause-all
-returns-in_err-push-clause-all g c = IfOk-from_err c.from_residual.result _ c.from_residual.ensures.0
-
-pub returns-in_err-push-clause-ends : goal.returns-in_err-push-clause-ends
-returns-in_err-push-clause-ends g c = IfOk-from_err c.from_residual.result _ c.from_residual.ensures.0
-
-pub returns-in_err-push-clause-full : goal.returns-in_err-push-clause-full
-returns-in_err-push-clause-full g c = IfOk-from_err c.from_residual.result _ c.from_residual.ensures.0
-
-pub returns-clause-chosen : goal.returns-clause-chosen
-returns-clause-chosen g c = c.loop-k.invariant.chosen
-
-pub returns-clause-same : goal.returns-clause-same
-returns-clause-same g c = c.loop-k.invariant.same
-
-pub returns-clause-on : goal.returns-clause-on
-returns-clause-on g c = c.loop-k.invariant.on
-
-pub returns-clause-shallow : goal.returns-clause-shallow
-returns-clause-shallow g c = c.loop-k.invariant.shallow
-
-pub returns-clause-full : goal.returns-clause-full
-returns-clause-full g c = λ e. absurd (false≢true (sym e))
+pub returns : goal.returns
+returns g c = record {
+  all = λ _.
+      let A = g.A.Automaton in let a = c.args.automaton.now in let number = g.A.Label.RowLabel.number in
+      let labels = map number c.args.labels.now in
+      HasEnd-all (A.content a) (A.text a) (stands_by number (A.labels a)) labels c.requires.labels (slice_index c.args.chosen.now.order.items c.args.at) c.loop-k.chosen.order.items
+      (λ k below. c.loop-k.invariant.ends k (omega (arith, below, c.loop-k-test.false, c.loop-k.auto.k-end, length-map c.args.labels.now number)));
+  ends = λ _ j below. c.loop-k.invariant.steps j (omega (arith, below, c.loop-k-test.false, c.loop-k.auto.k-end));
+  chosen = c.loop-k.invariant.chosen;
+  same = c.loop-k.invariant.same;
+  on = c.loop-k.invariant.on;
+  shallow = c.loop-k.invariant.shallow;
+  full = λ e. absurd (false≢true (sym e));
+}
 
 pub index_mut-requires : goal.index_mut-requires
 index_mut-requires g c = omega (arith, c.requires.count c.follow-next.result.0 c.follow-next.ensures.reached, c.loop-k.invariant.same, c.loop-k.chosen.homes.ok.0)

@@ -3,22 +3,10 @@ use Rattle.std.specs.Prelude.{slice_index}
 use Rattle.std.proofs.lemmas.Bool.{false≢true}
 use Rattle.std.proofs.lemmas.Result.{IfOk-from_err}
 use Rattle.std.proofs.lemmas.List.{length-map}
+use Rattle.daachorse_model.proofs.Lists.{below_or_at}
 use Rattle.daachorse_rows.specs.Rows.{HasEnd, stands_by}
-use Rattle.daachorse_rows.proofs.MakingLaws.{below_or_at}
 use Rattle.daachorse_rows.proofs.ShallowLaws.{AreCovered-next, AreStepped-fewer, AreStepped-more, AreStepped-none, GoesOn-same, GoesOn-through, HasEnd-on, IsShallow-weaker, state_shallow}
 use Rattle.daachorse_rows.proofs.making.choose_next.Goals as goal
-
-pub returns-then-not-branch-clause-shallow : goal.returns-then-not-branch-clause-shallow
-returns-then-not-branch-clause-shallow g c = λ n shallow.
-    let A = g.A.Automaton in let a = c.args.automaton.now in let stands = stands_by g.A.Label.RowLabel.number (A.labels a) in
-    let inside : c.loop-at.at < length c.args.chosen.now.order.items = omega (arith, c.loop-at-test.true, c.loop-at.auto.at-end, c.len-at-end.ensures, c.args.chosen.now.order.ok.0) in
-    c.in_ok-choose_ends.ensures.shallow n (state_shallow (A.text a) stands n c.args.chosen.now.order.items c.loop-at.chosen.order.items c.loop-at.at c.loop-at.invariant.on inside shallow) (c.loop-at.invariant.shallow n shallow)
-
-pub returns-then-not-branch-clause-full : goal.returns-then-not-branch-clause-full
-returns-then-not-branch-clause-full g c = λ _ n shallow.
-    let A = g.A.Automaton in let a = c.args.automaton.now in let stands = stands_by g.A.Label.RowLabel.number (A.labels a) in
-    let inside : c.loop-at.at < length c.args.chosen.now.order.items = omega (arith, c.loop-at-test.true, c.loop-at.auto.at-end, c.len-at-end.ensures, c.args.chosen.now.order.ok.0) in
-    c.in_ok-choose_ends.ensures.full (c.if-not-branch.true) n (state_shallow (A.text a) stands n c.args.chosen.now.order.items c.loop-at.chosen.order.items c.loop-at.at c.loop-at.invariant.on inside shallow) (c.loop-at.invariant.shallow n shallow)
 
 pub loop-at-preserved : goal.loop-at-preserved
 loop-at-preserved g c =
@@ -40,19 +28,6 @@ loop-at-preserved g c =
       ];
     }
 
-pub returns-clause-all : goal.returns-clause-all
-returns-clause-all g c = λ _ n covered.
-    let A = g.A.Automaton in let a = c.args.automaton.now in let stands = stands_by g.A.Label.RowLabel.number (A.labels a) in
-    let kept = c.loop-at.invariant in
-    AreCovered-next (A.content a) (A.text a) stands n c.args.chosen.now.order.items c.loop-at.chosen.order.items kept.on
-    (λ k below. kept.ends k (omega (arith, below, c.loop-at-test.false, c.loop-at.auto.at-end, c.len-at-end.ensures, c.args.chosen.now.order.ok.0))) covered
-
-pub returns-clause-stepped : goal.returns-clause-stepped
-returns-clause-stepped g c = λ _ root.
-    let A = g.A.Automaton in let a = c.args.automaton.now in
-    AreStepped-fewer (A.content a) (A.text a) (stands_by g.A.Label.RowLabel.number (A.labels a)) (A.dead a) (map g.A.Label.RowLabel.number c.args.labels.now) (length c.args.chosen.now.order.items) c.loop-at.at c.loop-at.chosen.order.items
-    (omega (arith, c.loop-at-test.false, c.loop-at.auto.at-end, c.len-at-end.ensures, c.args.chosen.now.order.ok.0)) (c.loop-at.invariant.steps root)
-
 pub loop-at-init : goal.loop-at-init
 loop-at-init g c =
     let A = g.A.Automaton in let a = c.args.automaton.now in let stands = stands_by g.A.Label.RowLabel.number (A.labels a) in
@@ -66,68 +41,57 @@ loop-at-init g c =
       ends = λ k below label low unit coded begins. absurd (omega (arith, below));
     }
 
-pub choose_ends-requires-clause-labels : goal.choose_ends-requires-clause-labels
-choose_ends-requires-clause-labels g c = c.requires.labels
+pub choose_ends-requires : goal.choose_ends-requires
+choose_ends-requires g c = record {
+  labels = c.requires.labels;
+  chosen = c.loop-at.invariant.chosen;
+  count = λ s there. omega (arith, c.requires.count s there, c.loop-at.invariant.same);
+  at = omega (arith, c.loop-at-test.true, c.loop-at.auto.at-end, c.len-at-end.ensures, c.args.chosen.now.order.ok.0, c.loop-at.invariant.on.more);
+  few = c.requires.few;
+}
 
-pub choose_ends-requires-clause-chosen : goal.choose_ends-requires-clause-chosen
-choose_ends-requires-clause-chosen g c = c.loop-at.invariant.chosen
+pub returns-in_err-choose_ends : goal.returns-in_err-choose_ends
+returns-in_err-choose_ends g c = record {
+  chosen = IfOk-from_err c.from_residual.result _ c.from_residual.ensures.0;
+  same = IfOk-from_err c.from_residual.result _ c.from_residual.ensures.0;
+  on = IfOk-from_err c.from_residual.result _ c.from_residual.ensures.0;
+  stepped = IfOk-from_err c.from_residual.result _ c.from_residual.ensures.0;
+  shallow = IfOk-from_err c.from_residual.result _ c.from_residual.ensures.0;
+  all = IfOk-from_err c.from_residual.result _ c.from_residual.ensures.0;
+  full = IfOk-from_err c.from_residual.result _ c.from_residual.ensures.0;
+}
 
-pub choose_ends-requires-clause-count : goal.choose_ends-requires-clause-count
-choose_ends-requires-clause-count g c = λ s there. omega (arith, c.requires.count s there, c.loop-at.invariant.same)
+pub returns-then-not-branch : goal.returns-then-not-branch
+returns-then-not-branch g c = record {
+  shallow = λ n shallow.
+      let A = g.A.Automaton in let a = c.args.automaton.now in let stands = stands_by g.A.Label.RowLabel.number (A.labels a) in
+      let inside : c.loop-at.at < length c.args.chosen.now.order.items = omega (arith, c.loop-at-test.true, c.loop-at.auto.at-end, c.len-at-end.ensures, c.args.chosen.now.order.ok.0) in
+      c.in_ok-choose_ends.ensures.shallow n (state_shallow (A.text a) stands n c.args.chosen.now.order.items c.loop-at.chosen.order.items c.loop-at.at c.loop-at.invariant.on inside shallow) (c.loop-at.invariant.shallow n shallow);
+  full = λ _ n shallow.
+      let A = g.A.Automaton in let a = c.args.automaton.now in let stands = stands_by g.A.Label.RowLabel.number (A.labels a) in
+      let inside : c.loop-at.at < length c.args.chosen.now.order.items = omega (arith, c.loop-at-test.true, c.loop-at.auto.at-end, c.len-at-end.ensures, c.args.chosen.now.order.ok.0) in
+      c.in_ok-choose_ends.ensures.full (c.if-not-branch.true) n (state_shallow (A.text a) stands n c.args.chosen.now.order.items c.loop-at.chosen.order.items c.loop-at.at c.loop-at.invariant.on inside shallow) (c.loop-at.invariant.shallow n shallow);
+  chosen = c.in_ok-choose_ends.ensures.chosen;
+  same = c.in_ok-choose_ends.ensures.same ∙ c.loop-at.invariant.same;
+  on = GoesOn-through c.args.chosen.now.order.items c.loop-at.chosen.order.items c.choose_ends.new.chosen.order.items c.loop-at.invariant.on c.in_ok-choose_ends.ensures.on;
+  stepped = λ e. absurd (false≢true e);
+  all = λ e. absurd (false≢true e);
+}
 
-pub choose_ends-requires-clause-at : goal.choose_ends-requires-clause-at
-choose_ends-requires-clause-at g c = omega (arith, c.loop-at-test.true, c.loop-at.auto.at-end, c.len-at-end.ensures, c.args.chosen.now.order.ok.0, c.loop-at.invariant.on.more)
-
-pub choose_ends-requires-clause-few : goal.choose_ends-requires-clause-few
-choose_ends-requires-clause-few g c = c.requires.few
-
-pub returns-in_err-choose_ends-clause-chosen : goal.returns-in_err-choose_ends-clause-chosen
-returns-in_err-choose_ends-clause-chosen g c = IfOk-from_err c.from_residual.result _ c.from_residual.ensures.0
-
-pub returns-in_err-choose_ends-clause-same : goal.returns-in_err-choose_ends-clause-same
-returns-in_err-choose_ends-clause-same g c = IfOk-from_err c.from_residual.result _ c.from_residual.ensures.0
-
-pub returns-in_err-choose_ends-clause-on : goal.returns-in_err-choose_ends-clause-on
-returns-in_err-choose_ends-clause-on g c = IfOk-from_err c.from_residual.result _ c.from_residual.ensures.0
-
-pub returns-in_err-choose_ends-clause-stepped : goal.returns-in_err-choose_ends-clause-stepped
-returns-in_err-choose_ends-clause-stepped g c = IfOk-from_err c.from_residual.result _ c.from_residual.ensures.0
-
-pub returns-in_err-choose_ends-clause-shallow : goal.returns-in_err-choose_ends-clause-shallow
-returns-in_err-choose_ends-clause-shallow g c = IfOk-from_err c.from_residual.result _ c.from_residual.ensures.0
-
-pub returns-in_err-choose_ends-clause-all : goal.returns-in_err-choose_ends-clause-all
-returns-in_err-choose_ends-clause-all g c = IfOk-from_err c.from_residual.result _ c.from_residual.ensures.0
-
-pub returns-in_err-choose_ends-clause-full : goal.returns-in_err-choose_ends-clause-full
-returns-in_err-choose_ends-clause-full g c = IfOk-from_err c.from_residual.result _ c.from_residual.ensures.0
-
-pub returns-then-not-branch-clause-chosen : goal.returns-then-not-branch-clause-chosen
-returns-then-not-branch-clause-chosen g c = c.in_ok-choose_ends.ensures.chosen
-
-pub returns-then-not-branch-clause-same : goal.returns-then-not-branch-clause-same
-returns-then-not-branch-clause-same g c = c.in_ok-choose_ends.ensures.same ∙ c.loop-at.invariant.same
-
-pub returns-then-not-branch-clause-on : goal.returns-then-not-branch-clause-on
-returns-then-not-branch-clause-on g c = GoesOn-through c.args.chosen.now.order.items c.loop-at.chosen.order.items c.choose_ends.new.chosen.order.items c.loop-at.invariant.on c.in_ok-choose_ends.ensures.on
-
-pub returns-then-not-branch-clause-stepped : goal.returns-then-not-branch-clause-stepped
-returns-then-not-branch-clause-stepped g c = λ e. absurd (false≢true e)
-
-pub returns-then-not-branch-clause-all : goal.returns-then-not-branch-clause-all
-returns-then-not-branch-clause-all g c = λ e. absurd (false≢true e)
-
-pub returns-clause-chosen : goal.returns-clause-chosen
-returns-clause-chosen g c = c.loop-at.invariant.chosen
-
-pub returns-clause-same : goal.returns-clause-same
-returns-clause-same g c = c.loop-at.invariant.same
-
-pub returns-clause-on : goal.returns-clause-on
-returns-clause-on g c = c.loop-at.invariant.on
-
-pub returns-clause-shallow : goal.returns-clause-shallow
-returns-clause-shallow g c = c.loop-at.invariant.shallow
-
-pub returns-clause-full : goal.returns-clause-full
-returns-clause-full g c = λ e. absurd (false≢true (sym e))
+pub returns : goal.returns
+returns g c = record {
+  all = λ _ n covered.
+      let A = g.A.Automaton in let a = c.args.automaton.now in let stands = stands_by g.A.Label.RowLabel.number (A.labels a) in
+      let kept = c.loop-at.invariant in
+      AreCovered-next (A.content a) (A.text a) stands n c.args.chosen.now.order.items c.loop-at.chosen.order.items kept.on
+      (λ k below. kept.ends k (omega (arith, below, c.loop-at-test.false, c.loop-at.auto.at-end, c.len-at-end.ensures, c.args.chosen.now.order.ok.0))) covered;
+  stepped = λ _ root.
+      let A = g.A.Automaton in let a = c.args.automaton.now in
+      AreStepped-fewer (A.content a) (A.text a) (stands_by g.A.Label.RowLabel.number (A.labels a)) (A.dead a) (map g.A.Label.RowLabel.number c.args.labels.now) (length c.args.chosen.now.order.items) c.loop-at.at c.loop-at.chosen.order.items
+      (omega (arith, c.loop-at-test.false, c.loop-at.auto.at-end, c.len-at-end.ensures, c.args.chosen.now.order.ok.0)) (c.loop-at.invariant.steps root);
+  chosen = c.loop-at.invariant.chosen;
+  same = c.loop-at.invariant.same;
+  on = c.loop-at.invariant.on;
+  shallow = c.loop-at.invariant.shallow;
+  full = λ e. absurd (false≢true (sym e));
+}

@@ -1,5 +1,5 @@
 -- Each row's steps end in rows, one row after the other, or there are too many states.
-use Rattle.std.proofs.Common.{◌+◌, ◌<◌, ℕ, inl, inr, length, map, refl, arith}
+use Rattle.std.proofs.Common.{◌+◌, ◌<◌, inl, inr, length, map, refl, arith}
 use Rattle.std.specs.Prelude.{slice_index}
 use Rattle.std.proofs.lemmas.Result.{IfOk-from_err}
 use Rattle.std.proofs.lemmas.List.{length-map}
@@ -24,52 +24,40 @@ loop-at-preserved g c =
       steps = λ stepped. AreStepped-more (A.content a) (A.text a) stands (A.dead a) (map g.A.Label.RowLabel.number c.args.labels.now) at now later made.on inside (kept.steps stepped) (λ j below. made.ends (c.if-not-branch.false) j (omega (arith, below, length-map c.args.labels.now g.A.Label.RowLabel.number)));
     }
 
-pub returns-then-not-branch-clause-stepped : goal.returns-then-not-branch-clause-stepped
-returns-then-not-branch-clause-stepped g c = λ n shallow stepped.
-    let A = g.A.Automaton in let a = c.args.automaton.now in let stands = stands_by g.A.Label.RowLabel.number (A.labels a) in
-    let now = c.loop-at.chosen.order.items in let at = c.loop-at.at in
-    let inside : at < length now = omega (arith, c.loop-at-test.true, c.len.ensures, c.loop-at.chosen.order.ok.0) in
-    let all = c.loop-at.invariant.shallow n shallow in
-    inr (all.0 + 1, c.in_ok-choose_ends.ensures.full (c.if-not-branch.true) all.0 (all.1 at inside) (λ k below. IsShallow-weaker stands all.0 (all.0 + 1) (A.text a (slice_index now k)) (omega arith) (all.1 k below)))
+pub choose_ends-requires : goal.choose_ends-requires
+choose_ends-requires g c = record {
+  labels = c.requires.labels;
+  chosen = c.loop-at.invariant.chosen;
+  count = λ s there. omega (arith, c.requires.count s there, c.loop-at.invariant.count);
+  at = omega (arith, c.loop-at-test.true, c.len.ensures, c.loop-at.chosen.order.ok.0);
+  few = c.requires.few;
+}
 
-pub returns-clause-stepped : goal.returns-clause-stepped
-returns-clause-stepped g c = λ n shallow stepped.
-    let A = g.A.Automaton in let a = c.args.automaton.now in
-    inl (AreStepped-fewer (A.content a) (A.text a) (stands_by g.A.Label.RowLabel.number (A.labels a)) (A.dead a) (map g.A.Label.RowLabel.number c.args.labels.now) (length c.loop-at.chosen.order.items) c.loop-at.at c.loop-at.chosen.order.items
-    (omega (arith, c.loop-at-test.false, c.len.ensures, c.loop-at.chosen.order.ok.0)) (c.loop-at.invariant.steps stepped))
+pub returns-in_err-choose_ends : goal.returns-in_err-choose_ends
+returns-in_err-choose_ends g c = record {
+  chosen = IfOk-from_err c.from_residual.result _ c.from_residual.ensures.0;
+  on = IfOk-from_err c.from_residual.result _ c.from_residual.ensures.0;
+  stepped = IfOk-from_err c.from_residual.result _ c.from_residual.ensures.0;
+}
 
-pub choose_ends-requires-clause-labels : goal.choose_ends-requires-clause-labels
-choose_ends-requires-clause-labels g c = c.requires.labels
+pub returns-then-not-branch : goal.returns-then-not-branch
+returns-then-not-branch g c = record {
+  stepped = λ n shallow stepped.
+      let A = g.A.Automaton in let a = c.args.automaton.now in let stands = stands_by g.A.Label.RowLabel.number (A.labels a) in
+      let now = c.loop-at.chosen.order.items in let at = c.loop-at.at in
+      let inside : at < length now = omega (arith, c.loop-at-test.true, c.len.ensures, c.loop-at.chosen.order.ok.0) in
+      let all = c.loop-at.invariant.shallow n shallow in
+      inr (all.0 + 1, c.in_ok-choose_ends.ensures.full (c.if-not-branch.true) all.0 (all.1 at inside) (λ k below. IsShallow-weaker stands all.0 (all.0 + 1) (A.text a (slice_index now k)) (omega arith) (all.1 k below)));
+  chosen = c.in_ok-choose_ends.ensures.chosen;
+  on = GoesOn-through c.args.chosen.now.order.items c.loop-at.chosen.order.items c.choose_ends.new.chosen.order.items c.loop-at.invariant.on c.in_ok-choose_ends.ensures.on;
+}
 
-pub choose_ends-requires-clause-chosen : goal.choose_ends-requires-clause-chosen
-choose_ends-requires-clause-chosen g c = c.loop-at.invariant.chosen
-
-pub choose_ends-requires-clause-count : goal.choose_ends-requires-clause-count
-choose_ends-requires-clause-count g c = λ s there. omega (arith, c.requires.count s there, c.loop-at.invariant.count)
-
-pub choose_ends-requires-clause-at : goal.choose_ends-requires-clause-at
-choose_ends-requires-clause-at g c = omega (arith, c.loop-at-test.true, c.len.ensures, c.loop-at.chosen.order.ok.0)
-
-pub choose_ends-requires-clause-few : goal.choose_ends-requires-clause-few
-choose_ends-requires-clause-few g c = c.requires.few
-
-pub returns-in_err-choose_ends-clause-chosen : goal.returns-in_err-choose_ends-clause-chosen
-returns-in_err-choose_ends-clause-chosen g c = IfOk-from_err c.from_residual.result _ c.from_residual.ensures.0
-
-pub returns-in_err-choose_ends-clause-on : goal.returns-in_err-choose_ends-clause-on
-returns-in_err-choose_ends-clause-on g c = IfOk-from_err c.from_residual.result _ c.from_residual.ensures.0
-
-pub returns-in_err-choose_ends-clause-stepped : goal.returns-in_err-choose_ends-clause-stepped
-returns-in_err-choose_ends-clause-stepped g c = IfOk-from_err c.from_residual.result _ c.from_residual.ensures.0
-
-pub returns-then-not-branch-clause-chosen : goal.returns-then-not-branch-clause-chosen
-returns-then-not-branch-clause-chosen g c = c.in_ok-choose_ends.ensures.chosen
-
-pub returns-then-not-branch-clause-on : goal.returns-then-not-branch-clause-on
-returns-then-not-branch-clause-on g c = GoesOn-through c.args.chosen.now.order.items c.loop-at.chosen.order.items c.choose_ends.new.chosen.order.items c.loop-at.invariant.on c.in_ok-choose_ends.ensures.on
-
-pub returns-clause-chosen : goal.returns-clause-chosen
-returns-clause-chosen g c = c.loop-at.invariant.chosen
-
-pub returns-clause-on : goal.returns-clause-on
-returns-clause-on g c = c.loop-at.invariant.on
+pub returns : goal.returns
+returns g c = record {
+  stepped = λ n shallow stepped.
+      let A = g.A.Automaton in let a = c.args.automaton.now in
+      inl (AreStepped-fewer (A.content a) (A.text a) (stands_by g.A.Label.RowLabel.number (A.labels a)) (A.dead a) (map g.A.Label.RowLabel.number c.args.labels.now) (length c.loop-at.chosen.order.items) c.loop-at.at c.loop-at.chosen.order.items
+      (omega (arith, c.loop-at-test.false, c.len.ensures, c.loop-at.chosen.order.ok.0)) (c.loop-at.invariant.steps stepped));
+  chosen = c.loop-at.invariant.chosen;
+  on = c.loop-at.invariant.on;
+}

@@ -28,53 +28,35 @@ no_units : (w : List ℕ) → length w ≤ 0 → w ≡ []
 no_units [] h = refl
 no_units (u ∷ w) h = absurd (omega (arith, h))
 
-pub returns-in_err-homes-clause-chosen : goal.returns-in_err-homes-clause-chosen
-returns-in_err-homes-clause-chosen g c = IfOk-from_err c.from_residual.result _ c.from_residual.ensures.0
+pub returns-in_err-homes : goal.returns-in_err-homes
+returns-in_err-homes g c = record {
+  chosen = IfOk-from_err c.from_residual.result _ c.from_residual.ensures.0;
+  size = IfOk-from_err c.from_residual.result _ c.from_residual.ensures.0;
+  shallow = IfOk-from_err c.from_residual.result _ c.from_residual.ensures.0;
+  covered = IfOk-from_err c.from_residual.result _ c.from_residual.ensures.0;
+  root = IfOk-from_err c.from_residual.result _ c.from_residual.ensures.0;
+}
 
-pub returns-in_err-homes-clause-size : goal.returns-in_err-homes-clause-size
-returns-in_err-homes-clause-size g c = IfOk-from_err c.from_residual.result _ c.from_residual.ensures.0
+pub returns-in_err-push : goal.returns-in_err-push
+returns-in_err-push g c = record {
+  chosen = IfOk-from_err c.from_residual-in_err-push.result _ c.from_residual-in_err-push.ensures.0;
+  size = IfOk-from_err c.from_residual-in_err-push.result _ c.from_residual-in_err-push.ensures.0;
+  shallow = IfOk-from_err c.from_residual-in_err-push.result _ c.from_residual-in_err-push.ensures.0;
+  covered = IfOk-from_err c.from_residual-in_err-push.result _ c.from_residual-in_err-push.ensures.0;
+  root = IfOk-from_err c.from_residual-in_err-push.result _ c.from_residual-in_err-push.ensures.0;
+}
 
-pub returns-in_err-homes-clause-shallow : goal.returns-in_err-homes-clause-shallow
-returns-in_err-homes-clause-shallow g c = IfOk-from_err c.from_residual.result _ c.from_residual.ensures.0
-
-pub returns-in_err-homes-clause-covered : goal.returns-in_err-homes-clause-covered
-returns-in_err-homes-clause-covered g c = IfOk-from_err c.from_residual.result _ c.from_residual.ensures.0
-
-pub returns-in_err-homes-clause-root : goal.returns-in_err-homes-clause-root
-returns-in_err-homes-clause-root g c = IfOk-from_err c.from_residual.result _ c.from_residual.ensures.0
-
-pub returns-in_err-push-clause-chosen : goal.returns-in_err-push-clause-chosen
-returns-in_err-push-clause-chosen g c = IfOk-from_err c.from_residual-in_err-push.result _ c.from_residual-in_err-push.ensures.0
-
-pub returns-in_err-push-clause-size : goal.returns-in_err-push-clause-size
-returns-in_err-push-clause-size g c = IfOk-from_err c.from_residual-in_err-push.result _ c.from_residual-in_err-push.ensures.0
-
-pub returns-in_err-push-clause-shallow : goal.returns-in_err-push-clause-shallow
-returns-in_err-push-clause-shallow g c = IfOk-from_err c.from_residual-in_err-push.result _ c.from_residual-in_err-push.ensures.0
-
-pub returns-in_err-push-clause-covered : goal.returns-in_err-push-clause-covered
-returns-in_err-push-clause-covered g c = IfOk-from_err c.from_residual-in_err-push.result _ c.from_residual-in_err-push.ensures.0
-
-pub returns-in_err-push-clause-root : goal.returns-in_err-push-clause-root
-returns-in_err-push-clause-root g c = IfOk-from_err c.from_residual-in_err-push.result _ c.from_residual-in_err-push.ensures.0
-
-pub returns-clause-chosen : goal.returns-clause-chosen
-returns-clause-chosen g c = AreChosen-one (g.A.Automaton.reached c.args.automaton.now) c.new-order.result.items c.push.new.self.items c.in_ok-homes.homes.items c.args.count c.args.most c.root-root.result c.new-order.ensures.items c.in_ok-push.ensures.items (c.in_ok-homes.ensures.items_if_clones_equal (λ y same. same)) c.requires.count c.requires.fits c.requires.some c.root-root.ensures.reached
-
-pub returns-clause-size : goal.returns-clause-size
-returns-clause-size g c = length-set c.in_ok-homes.homes.items c.root-root.result 0 ∙ (ap length (c.in_ok-homes.ensures.items_if_clones_equal (λ y same. same)) ∙ length-replicate c.args.count 65535)
-
-pub returns-clause-shallow : goal.returns-clause-shallow
-returns-clause-shallow g c =
-    let A = g.A.Automaton in let a = c.args.automaton.now in
-    let stands = stands_by g.A.Label.RowLabel.number (A.labels a) in let none : length c.new-order.result.items ≡ 0 = ap length c.new-order.ensures.items in
-    AreShallow-push c.new-order.result.items c.push.new.self.items c.root-root.result c.in_ok-push.ensures.items (A.text a) stands 0 (λ k below. absurd (omega (arith, below, none))) (IsShallow-none stands 0 (A.text a c.root-root.result) c.root-root.ensures.text)
-
-pub returns-clause-covered : goal.returns-clause-covered
-returns-clause-covered g c = λ w begins shallow. (0, omega (arith, length_one c.new-order.result.items c.push.new.self.items c.root-root.result c.new-order.ensures.items c.in_ok-push.ensures.items), ap (g.A.Automaton.text c.args.automaton.now) (first_one c.new-order.result.items c.push.new.self.items c.root-root.result c.new-order.ensures.items c.in_ok-push.ensures.items) ∙ (c.root-root.ensures.text ∙ sym (no_units w shallow.short)))
-
-pub returns-clause-root : goal.returns-clause-root
-returns-clause-root g c = (omega (arith, length_one c.new-order.result.items c.push.new.self.items c.root-root.result c.new-order.ensures.items c.in_ok-push.ensures.items), ap (g.A.Automaton.text c.args.automaton.now) (first_one c.new-order.result.items c.push.new.self.items c.root-root.result c.new-order.ensures.items c.in_ok-push.ensures.items) ∙ c.root-root.ensures.text)
+pub returns : goal.returns
+returns g c = record {
+  chosen = AreChosen-one (g.A.Automaton.reached c.args.automaton.now) c.new-order.result.items c.push.new.self.items c.in_ok-homes.homes.items c.args.count c.args.most c.root-root.result c.new-order.ensures.items c.in_ok-push.ensures.items (c.in_ok-homes.ensures.items_if_clones_equal (λ y same. same)) c.requires.count c.requires.fits c.requires.some c.root-root.ensures.reached;
+  size = length-set c.in_ok-homes.homes.items c.root-root.result 0 ∙ (ap length (c.in_ok-homes.ensures.items_if_clones_equal (λ y same. same)) ∙ length-replicate c.args.count 65535);
+  shallow =
+      let A = g.A.Automaton in let a = c.args.automaton.now in
+      let stands = stands_by g.A.Label.RowLabel.number (A.labels a) in let none : length c.new-order.result.items ≡ 0 = ap length c.new-order.ensures.items in
+      AreShallow-push c.new-order.result.items c.push.new.self.items c.root-root.result c.in_ok-push.ensures.items (A.text a) stands 0 (λ k below. absurd (omega (arith, below, none))) (IsShallow-none stands 0 (A.text a c.root-root.result) c.root-root.ensures.text);
+  covered = λ w begins shallow. (0, omega (arith, length_one c.new-order.result.items c.push.new.self.items c.root-root.result c.new-order.ensures.items c.in_ok-push.ensures.items), ap (g.A.Automaton.text c.args.automaton.now) (first_one c.new-order.result.items c.push.new.self.items c.root-root.result c.new-order.ensures.items c.in_ok-push.ensures.items) ∙ (c.root-root.ensures.text ∙ sym (no_units w shallow.short)));
+  root = (omega (arith, length_one c.new-order.result.items c.push.new.self.items c.root-root.result c.new-order.ensures.items c.in_ok-push.ensures.items), ap (g.A.Automaton.text c.args.automaton.now) (first_one c.new-order.result.items c.push.new.self.items c.root-root.result c.new-order.ensures.items c.in_ok-push.ensures.items) ∙ c.root-root.ensures.text);
+}
 
 pub index_mut-requires : goal.index_mut-requires
 index_mut-requires g c = omega (arith, c.requires.count c.root-root.result c.root-root.ensures.reached, c.in_ok-homes.ensures.len)

@@ -1,6 +1,7 @@
 use Rattle.std.proofs.Common.{inl, inr, sym, ap, ◌∙◌, map}
 use Rattle.std.specs.Prelude.{slice_index}
-use Rattle.daachorse_rows.proofs.MakingLaws.{below_or_at, number_read}
+use Rattle.daachorse_model.proofs.Lists.{below_or_at}
+use Rattle.daachorse_rows.proofs.MakingLaws.{number_read}
 use Rattle.daachorse_rows.proofs.making.slot_of.Goals as goal
 
 pub loop-k-preserved : goal.loop-k-preserved

@@ -17,20 +17,14 @@ loop-row-init g c =
 pub returns-in_err-top : goal.returns-in_err-top
 returns-in_err-top g c = IfOk-from_err c.from_residual.result _ c.from_residual.ensures.0
 
-pub write_row-requires-clause-labels : goal.write_row-requires-clause-labels
-write_row-requires-clause-labels g c = c.requires.labels
-
-pub write_row-requires-clause-chosen : goal.write_row-requires-clause-chosen
-write_row-requires-clause-chosen g c = c.requires.chosen
-
-pub write_row-requires-clause-width : goal.write_row-requires-clause-width
-write_row-requires-clause-width g c = c.requires.width
-
-pub write_row-requires-clause-row : goal.write_row-requires-clause-row
-write_row-requires-clause-row g c = omega (arith, c.loop-row-test.true, c.loop-row.auto.row-end, c.len-row-end.ensures, c.args.chosen.now.order.ok.0)
-
-pub write_row-requires-clause-written : goal.write_row-requires-clause-written
-write_row-requires-clause-written g c = c.loop-row.invariant
+pub write_row-requires : goal.write_row-requires
+write_row-requires g c = record {
+  labels = c.requires.labels;
+  chosen = c.requires.chosen;
+  width = c.requires.width;
+  row = omega (arith, c.loop-row-test.true, c.loop-row.auto.row-end, c.len-row-end.ensures, c.args.chosen.now.order.ok.0);
+  written = c.loop-row.invariant;
+}
 
 pub returns-in_err-write_row : goal.returns-in_err-write_row
 returns-in_err-write_row g c = IfOk-from_err c.from_residual-in_err-write_row.result _ c.from_residual-in_err-write_row.ensures.0

@@ -23,24 +23,16 @@ loop-k-init g c =
     AreWritten-push K (A.reached a) (A.text a) (A.dead a) (stands_by g.A.Label.RowLabel.number (A.labels a)) F labels order width base c.args.row 1 2 c.entry.result c.push.new.self.items c.push-2.new.self.items one c.in_ok-push-2.ensures.items
     (slot_foreign K (A.reached a) (A.text a) (A.dead a) (stands_by g.A.Label.RowLabel.number (A.labels a)) F labels order width base c.requires.labels c.args.row c.entry.result c.root-root.result c.output_pos.result (subst S e c.entry.ensures) c.output_pos.ensures c.root-root.ensures.reached c.root-root.ensures.text) refl
 
-pub follow-next-requires-clause-reached : goal.follow-next-requires-clause-reached
-follow-next-requires-clause-reached g c =
-    let order = c.args.chosen.now.order.items in
-    let P : ℕ → Type 0 = λ s. g.A.Automaton.reached c.args.automaton.now s in
-    subst P (sym (row_state order c.args.row c.index-state.result.now c.requires.row c.index-state.ensures)) (c.requires.chosen.states c.args.row c.requires.row)
-
-pub follow-next-requires-clause-unit : goal.follow-next-requires-clause-unit
-follow-next-requires-clause-unit g c =
-    let A = g.A.Automaton in let a = c.args.automaton.now in
-    unit_read g.A.Label.RowLabel.number (A.content a) g.met.A.Label.RowLabel.exact (A.labels a) c.args.labels.now c.loop-k.k c.index-labels-k.result c.requires.labels c.loop-k-test.true c.index-labels-k.is
-
-pub entry-requires-in-loop-k-clause-fits : goal.entry-requires-in-loop-k-clause-fits
-entry-requires-in-loop-k-clause-fits g c =
-    let order = c.args.chosen.now.order.items in
-    let e : c.len.result ≡ length order = omega (arith, c.len.ensures, c.args.chosen.now.order.ok.0) in
-    let few = fits_rows (length order) c.args.width c.requires.chosen.few in
-    let fits = c.requires.chosen.fits c.follow-next.result.0 c.follow-next.ensures.reached in
-    omega (arith, few, fits, ap (λ (n : ℕ). n * c.args.width) e)
+pub follow-next-requires : goal.follow-next-requires
+follow-next-requires g c = record {
+  reached =
+      let order = c.args.chosen.now.order.items in
+      let P : ℕ → Type 0 = λ s. g.A.Automaton.reached c.args.automaton.now s in
+      subst P (sym (row_state order c.args.row c.index-state.result.now c.requires.row c.index-state.ensures)) (c.requires.chosen.states c.args.row c.requires.row);
+  unit =
+      let A = g.A.Automaton in let a = c.args.automaton.now in
+      unit_read g.A.Label.RowLabel.number (A.content a) g.met.A.Label.RowLabel.exact (A.labels a) c.args.labels.now c.loop-k.k c.index-labels-k.result c.requires.labels c.loop-k-test.true c.index-labels-k.is;
+}
 
 pub loop-k-preserved : goal.loop-k-preserved
 loop-k-preserved g c =
@@ -76,37 +68,33 @@ returns-in_err-push-2 g c = IfOk-from_err c.from_residual-in_err-push-2.result _
 pub returns-in_err-push-3 : goal.returns-in_err-push-3
 returns-in_err-push-3 g c = IfOk-from_err c.from_residual-in_err-push-3.result _ c.from_residual-in_err-push-3.ensures.0
 
-pub entry-requires-clause-homes : goal.entry-requires-clause-homes
-entry-requires-clause-homes g c = c.requires.chosen.homes
+pub entry-requires-in-loop-k : goal.entry-requires-in-loop-k
+entry-requires-in-loop-k g c = record {
+  fits =
+      let order = c.args.chosen.now.order.items in
+      let e : c.len.result ≡ length order = omega (arith, c.len.ensures, c.args.chosen.now.order.ok.0) in
+      let few = fits_rows (length order) c.args.width c.requires.chosen.few in
+      let fits = c.requires.chosen.fits c.follow-next.result.0 c.follow-next.ensures.reached in
+      omega (arith, few, fits, ap (λ (n : ℕ). n * c.args.width) e);
+  homes = c.requires.chosen.homes;
+  own = c.requires.chosen.own;
+  few = fits_rows (length c.args.chosen.now.order.items) c.args.width c.requires.chosen.few;
+  wide = omega (arith, c.requires.width);
+}
 
-pub entry-requires-clause-own : goal.entry-requires-clause-own
-entry-requires-clause-own g c = c.requires.chosen.own
-
-pub entry-requires-clause-few : goal.entry-requires-clause-few
-entry-requires-clause-few g c = fits_rows (length c.args.chosen.now.order.items) c.args.width c.requires.chosen.few
-
-pub entry-requires-clause-wide : goal.entry-requires-clause-wide
-entry-requires-clause-wide g c = omega (arith, c.requires.width)
-
-pub entry-requires-in-loop-k-clause-homes : goal.entry-requires-in-loop-k-clause-homes
-entry-requires-in-loop-k-clause-homes g c = c.requires.chosen.homes
-
-pub entry-requires-in-loop-k-clause-own : goal.entry-requires-in-loop-k-clause-own
-entry-requires-in-loop-k-clause-own g c = c.requires.chosen.own
-
-pub entry-requires-in-loop-k-clause-few : goal.entry-requires-in-loop-k-clause-few
-entry-requires-in-loop-k-clause-few g c = fits_rows (length c.args.chosen.now.order.items) c.args.width c.requires.chosen.few
-
-pub entry-requires-in-loop-k-clause-wide : goal.entry-requires-in-loop-k-clause-wide
-entry-requires-in-loop-k-clause-wide g c = omega (arith, c.requires.width)
-
-pub entry-requires-clause-fits : goal.entry-requires-clause-fits
-entry-requires-clause-fits g c =
-    let order = c.args.chosen.now.order.items in
-    let e : c.len.result ≡ length order = omega (arith, c.len.ensures, c.args.chosen.now.order.ok.0) in
-    let few = fits_rows (length order) c.args.width c.requires.chosen.few in
-    let fits = c.requires.chosen.fits c.root-root.result c.root-root.ensures.reached in
-    omega (arith, few, fits, ap (λ (n : ℕ). n * c.args.width) e)
+pub entry-requires : goal.entry-requires
+entry-requires g c = record {
+  homes = c.requires.chosen.homes;
+  own = c.requires.chosen.own;
+  few = fits_rows (length c.args.chosen.now.order.items) c.args.width c.requires.chosen.few;
+  wide = omega (arith, c.requires.width);
+  fits =
+      let order = c.args.chosen.now.order.items in
+      let e : c.len.result ≡ length order = omega (arith, c.len.ensures, c.args.chosen.now.order.ok.0) in
+      let few = fits_rows (length order) c.args.width c.requires.chosen.few in
+      let fits = c.requires.chosen.fits c.root-root.result c.root-root.ensures.reached in
+      omega (arith, few, fits, ap (λ (n : ℕ). n * c.args.width) e);
+}
 
 pub overflow_mul-base : goal.overflow_mul-base
 overflow_mul-base g c =

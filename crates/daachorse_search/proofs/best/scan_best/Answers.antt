@@ -9,12 +9,12 @@ use Rattle.daachorse_search.proofs.best.scan_best.Goals as goal
 pub scan_on-requires-clause-left : goal.scan_on-requires-clause-left
 scan_on-requires-clause-left g c =
     let width = g.A.Unit.EdgeLabel.width in let rest = g.H.Haystack.rest in let text = rest c.args.haystack.now in
-    omega (arith, c.scan_to_match.ensures.left, ap (size width) (c.after-source.ensures [] text refl refl))
+    omega (arith, c.scan_to_match.ensures.scans.fewer, ap (size width) (c.after-source.ensures [] text refl refl))
 
 pub overflow_sub-result : goal.overflow_sub-result
 overflow_sub-result g c =
     let width = g.A.Unit.EdgeLabel.width in let rest = g.H.Haystack.rest in let text = rest c.args.haystack.now in
-    omega (arith, c.left.ensures, c.left-in-None.ensures, c.scan_to_match.ensures.left, ap (size width) (c.after-source.ensures [] text refl refl))
+    omega (arith, c.left.ensures, c.left-in-None.ensures, c.scan_to_match.ensures.scans.fewer, ap (size width) (c.after-source.ensures [] text refl refl))
 
 -- a match was found
 pub returns-in-Some : goal.returns-in-Some
@@ -24,7 +24,7 @@ returns-in-Some g c =
     let Scanning : List ℕ → NonZeroU32 → Type 0 = λ x p. IsScanning width (A.content a) (A.has_output a) (A.outputs a) (A.has_label a) x left t (Some (p.value, size width left)) c.args.turns.now first.new.turns in
     let S : Option NonZeroU32 → Type 0 = λ o. IfSome o (λ p. Scanning (rest c.after-source.result) p) in
     let T : List ℕ → Type 0 = λ x. Scanning x c.in-Some.position in
-    c.scan_on.ensures c.args.turns.now (subst T (c.after-source.ensures [] text refl refl) (subst S c.in-Some.is first.ensures.some))
+    c.scan_on.ensures c.args.turns.now (subst T (c.after-source.ensures [] text refl refl) (subst S c.in-Some.is first.ensures.scans.some))
 
 -- nothing was
 pub returns-in-None : goal.returns-in-None
@@ -33,4 +33,4 @@ returns-in-None g c =
     let text = rest c.args.haystack.now in let first = c.scan_to_match in let end : ℕ = c.left.result - c.left-in-None.result in
     let same : rest c.after-source.result ≡ text = c.after-source.ensures [] text refl refl in
     let B : List ℕ → Type 0 = λ x. IsClear width (A.content a) (A.has_output a) (A.outputs a) (A.has_label a) x c.args.may_stop end c.args.turns.now first.new.turns in
-    subst B same (first.ensures.none c.in-None.is end (omega (arith, c.left.ensures, c.left-in-None.ensures, first.ensures.left, ap (size width) same)))
+    subst B same (first.ensures.scans.none c.in-None.is end (omega (arith, c.left.ensures, c.left-in-None.ensures, first.ensures.scans.fewer, ap (size width) same)))

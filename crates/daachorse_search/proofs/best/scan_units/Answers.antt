@@ -13,19 +13,21 @@ use Rattle.daachorse_search.proofs.BestScanLemmas.{IsScanning-first, IsScanning-
 use Rattle.daachorse_search.proofs.best.scan_units.Goals as goal
 
 -- the empty key is found at once
-pub returns-in-Some-clause-some : goal.returns-in-Some-clause-some
-returns-in-Some-clause-some g c =
+pub returns-in-Some-clause-scans : goal.returns-in-Some-clause-scans
+returns-in-Some-clause-scans g c =
     let A = g.A.Automaton in let a = c.args.automaton.now in let width = g.A.Unit.EdgeLabel.width in let rest = g.H.Haystack.rest in
     let text = rest c.args.source.now in let t = A.text a c.args.state.now in let p : ℕ = c.in-Some.position.value in
     let F : Option NonZeroU32 → Type 0 = λ p. IsFirstOutput width (A.content a) (A.dead a) (A.has_output a) (A.outputs a) (A.most_outputs a) t p in
     let o = subst F c.in-Some.is c.output_pos.ensures in
     let Q : List ℕ → Type 0 = λ w. IsSteady (A.content a) [] w in
-    IsScanning-first width (A.content a) (A.has_output a) (A.outputs a) (A.has_label a) text text t (Some (p, size width text)) c.args.turns.now refl c.requires.root
-    (IsFound-new width (A.content a) (A.has_output a) (A.outputs a) (A.has_label a) text (A.dead a) c.requires.kind [] t p (size width text) (subst Q (sym c.requires.root) (IsSteady-nil (A.content a))) o.chain o.some o.place
-    (IsBehind-now width (A.content a) (A.has_output a) (A.outputs a) (A.has_label a) text [] text refl))
-
-pub returns-in-Some-clause-none : goal.returns-in-Some-clause-none
-returns-in-Some-clause-none g c = λ e. absurd (let is : Some c.in-Some.position ≡ None = e in cc)
+    record {
+      fewer = omega arith;
+      some =
+          IsScanning-first width (A.content a) (A.has_output a) (A.outputs a) (A.has_label a) text text t (Some (p, size width text)) c.args.turns.now refl c.requires.root
+          (IsFound-new width (A.content a) (A.has_output a) (A.outputs a) (A.has_label a) text (A.dead a) c.requires.kind [] t p (size width text) (subst Q (sym c.requires.root) (IsSteady-nil (A.content a))) o.chain o.some o.place
+          (IsBehind-now width (A.content a) (A.has_output a) (A.outputs a) (A.has_label a) text [] text refl));
+      none = λ e. absurd (let is : Some c.in-Some.position ≡ None = e in cc);
+    }
 
 -- nothing occurs at the root
 pub units-init : goal.units-init
@@ -41,25 +43,23 @@ units-init g c =
     }
 
 -- the haystack ends
-pub returns-in_default-next-clause-none : goal.returns-in_default-next-clause-none
-returns-in_default-next-clause-none g c =
+pub returns-in_default-next-clause-scans : goal.returns-in_default-next-clause-scans
+returns-in_default-next-clause-scans g c =
     let A = g.A.Automaton in let a = c.args.automaton.now in let width = g.A.Unit.EdgeLabel.width in let rest = g.H.Haystack.rest in
     let text = rest c.args.source.now in
     let S = λ (r : Option g.row.A-Unit.Denot). YieldsFirstBy g.A.Unit.EdgeLabel.unit rest c.units.source r c.next.new.self in
     let over = subst S c.in_default-next.is (g.met.H.Haystack.gives c.units.source c.next.result c.next.new.self c.next.ensures.steps) in
-    λ _ end ended. IsClear-ends width (A.content a) (A.has_output a) (A.outputs a) (A.has_label a) text (rest c.units.source) (A.text a c.units.state) c.args.may_stop end c.args.turns.now c.units.turns c.units.invariant.scanning
-    (omega (arith, ended, ap (size width) over.1)) over.0
+    record {
+      fewer = omega (arith, ap (size width) over.1);
+      some = tt;
+      none = λ _ end ended.
+          IsClear-ends width (A.content a) (A.has_output a) (A.outputs a) (A.has_label a) text (rest c.units.source) (A.text a c.units.state) c.args.may_stop end c.args.turns.now c.units.turns c.units.invariant.scanning
+          (omega (arith, ended, ap (size width) over.1)) over.0;
+    }
 
 -- a match ends
-pub returns-in-Some-position-clause-left : goal.returns-in-Some-position-clause-left
-returns-in-Some-position-clause-left g c =
-    let width = g.A.Unit.EdgeLabel.width in let rest = g.H.Haystack.rest in let u : ℕ = g.A.Unit.EdgeLabel.unit c.in-Some-next.unit in
-    let was = c.units.invariant.scanning in
-    let next : rest c.units.source ≡ u ∷ rest c.next.new.self = g.met.H.Haystack.gives _ _ _ c.in-Some-next.ensures.steps in
-    omega (arith, ap (size width) was.parts, size-append width was.seen (rest c.units.source), ap (size width) next)
-
-pub returns-in-Some-position-clause-some : goal.returns-in-Some-position-clause-some
-returns-in-Some-position-clause-some g c =
+pub returns-in-Some-position-clause-scans : goal.returns-in-Some-position-clause-scans
+returns-in-Some-position-clause-scans g c =
     let A = g.A.Automaton in let a = c.args.automaton.now in let width = g.A.Unit.EdgeLabel.width in let rest = g.H.Haystack.rest in
     let text = rest c.args.source.now in let u : ℕ = g.A.Unit.EdgeLabel.unit c.in-Some-next.unit in let t = A.text a c.step-next.result.0 in
     let was = c.units.invariant.scanning in let left = rest c.next.new.self in let p : ℕ = c.in-Some-position.position.value in
@@ -68,32 +68,31 @@ returns-in-Some-position-clause-some g c =
     let next : rest c.units.source ≡ u ∷ left = g.met.H.Haystack.gives _ _ _ c.in-Some-next.ensures.steps in
     let steady = steady_so_far (A.content a) was.seen t u (c.step-next.ensures.leftmost c.requires.kind was.seen was.steady) was.found in
     let parts : text ≡ (was.seen ++ u ∷ []) ++ left = was.parts ∙ (ap (λ x. was.seen ++ x) next ∙ sym (append_assoc was.seen (u ∷ []) left)) in
-    IsScanning-more width (A.content a) (A.has_output a) (A.outputs a) (A.has_label a) text (rest c.units.source) (A.text a c.units.state) None c.args.turns.now c.units.turns u left t (Some (p, size width left)) c.step-next.new.turns
-    was next c.step-next.ensures.most c.step-next.ensures.least steady
-    (IsFound-new width (A.content a) (A.has_output a) (A.outputs a) (A.has_label a) text (A.dead a) c.requires.kind (was.seen ++ u ∷ []) t p (size width left) steady o.chain o.some o.place
-    (IsBehind-now width (A.content a) (A.has_output a) (A.outputs a) (A.has_label a) text (was.seen ++ u ∷ []) left parts))
-
-pub returns-in-Some-position-clause-none : goal.returns-in-Some-position-clause-none
-returns-in-Some-position-clause-none g c = λ e. absurd (let is : Some c.in-Some-position.position ≡ None = e in cc)
+    record {
+      fewer = omega (arith, ap (size width) was.parts, size-append width was.seen (rest c.units.source), ap (size width) next);
+      some =
+          IsScanning-more width (A.content a) (A.has_output a) (A.outputs a) (A.has_label a) text (rest c.units.source) (A.text a c.units.state) None c.args.turns.now c.units.turns u left t (Some (p, size width left)) c.step-next.new.turns
+          was next c.step-next.ensures.most c.step-next.ensures.least steady
+          (IsFound-new width (A.content a) (A.has_output a) (A.outputs a) (A.has_label a) text (A.dead a) c.requires.kind (was.seen ++ u ∷ []) t p (size width left) steady o.chain o.some o.place
+          (IsBehind-now width (A.content a) (A.has_output a) (A.outputs a) (A.has_label a) text (was.seen ++ u ∷ []) left parts));
+      none = λ e. absurd (let is : Some c.in-Some-position.position ≡ None = e in cc);
+    }
 
 -- the root was come to
-pub returns-then-is_root-clause-left : goal.returns-then-is_root-clause-left
-returns-then-is_root-clause-left g c =
-    let width = g.A.Unit.EdgeLabel.width in let rest = g.H.Haystack.rest in let u : ℕ = g.A.Unit.EdgeLabel.unit c.in-Some-next.unit in
-    let was = c.units.invariant.scanning in
-    let next : rest c.units.source ≡ u ∷ rest c.next.new.self = g.met.H.Haystack.gives _ _ _ c.in-Some-next.ensures.steps in
-    omega (arith, ap (size width) was.parts, size-append width was.seen (rest c.units.source), ap (size width) next)
-
-pub returns-then-is_root-clause-none : goal.returns-then-is_root-clause-none
-returns-then-is_root-clause-none g c =
+pub returns-then-is_root-clause-scans : goal.returns-then-is_root-clause-scans
+returns-then-is_root-clause-scans g c =
     let A = g.A.Automaton in let a = c.args.automaton.now in let width = g.A.Unit.EdgeLabel.width in let rest = g.H.Haystack.rest in
     let text = rest c.args.source.now in let u : ℕ = g.A.Unit.EdgeLabel.unit c.in-Some-next.unit in
     let was = c.units.invariant.scanning in
     let next : rest c.units.source ≡ u ∷ rest c.next.new.self = g.met.H.Haystack.gives _ _ _ c.in-Some-next.ensures.steps in
-    λ _ end ended.
-    let B : Bool → Type 0 = λ b. IsClear width (A.content a) (A.has_output a) (A.outputs a) (A.has_label a) text b end c.args.turns.now c.step-next.new.turns in
-    subst B (sym c.if-may_stop.true) (IsClear-stops width (A.content a) (A.has_output a) (A.outputs a) (A.has_label a) text (rest c.units.source) (A.text a c.units.state) end c.args.turns.now c.units.turns u (rest c.next.new.self) (A.text a c.step-next.result.0) c.step-next.new.turns
-    was ended next (c.step-next.ensures.leftmost c.requires.kind was.seen was.steady) (c.if-is_root.ensures.0 refl) c.step-next.ensures.most c.step-next.ensures.least)
+    record {
+      fewer = omega (arith, ap (size width) was.parts, size-append width was.seen (rest c.units.source), ap (size width) next);
+      some = tt;
+      none = λ _ end ended.
+          let B : Bool → Type 0 = λ b. IsClear width (A.content a) (A.has_output a) (A.outputs a) (A.has_label a) text b end c.args.turns.now c.step-next.new.turns in
+          subst B (sym c.if-may_stop.true) (IsClear-stops width (A.content a) (A.has_output a) (A.outputs a) (A.has_label a) text (rest c.units.source) (A.text a c.units.state) end c.args.turns.now c.units.turns u (rest c.next.new.self) (A.text a c.step-next.result.0) c.step-next.new.turns
+          was ended next (c.step-next.ensures.leftmost c.requires.kind was.seen was.steady) (c.if-is_root.ensures.0 refl) c.step-next.ensures.most c.step-next.ensures.least);
+    }
 
 -- one more unit, and nothing occurs so far
 pub units-preserved : goal.units-preserved

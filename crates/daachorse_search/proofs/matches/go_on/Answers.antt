@@ -8,5 +8,5 @@ returns-then-not-is_open-clause-reads g c =
     let from = c.args.walk.now in let to = c.read_on.new in let read = c.read_on.ensures in
     SkipsTo-reads g.W.Unit.EdgeLabel.width W.automaton W.read W.turns W.found W.content W.looks_at W.ends_at_once passes from (rest c.args.rest.now) c.args.taken.now from (rest c.args.rest.now) c.args.taken.now _ to.walk (rest to.rest)
     (SkipsTo-first g.W.Unit.EdgeLabel.width W.automaton W.read W.turns W.found W.content W.looks_at W.ends_at_once passes from (rest c.args.rest.now) c.args.taken.now)
-    (record { same = read.on.same; haystack = read.on.haystack; left = read.on.left })
+    (record { same = read.same; haystack = read.haystack; left = read.left })
     read.fewer

@@ -4,13 +4,21 @@ use Rattle.daachorse_search.proofs.HaystackLemmas.{ReadsTo-one}
 use Rattle.daachorse_search.proofs.SourceLemmas.{none_found}
 use Rattle.daachorse_search.proofs.matches.read_units.Goals as goal
 
-pub returns-in-Some-advance-clause-on : goal.returns-in-Some-advance-clause-on
-returns-in-Some-advance-clause-on g c =
+pub returns-in-Some-advance : goal.returns-in-Some-advance
+returns-in-Some-advance g c =
     let W = g.W.Stepwise in let rest = g.H.Haystack.rest in let l = c.units in let now = c.advance.new.self in
     let one = g.met.H.Haystack.gives l.rest _ c.next.new.self c.in-Some.ensures.steps in
     let step = c.in-Some-advance.ensures in
     let read = ReadsTo-one W.automaton W.read W.found c.args.walk.now (rest c.args.rest.now) l.walk (rest l.rest) (g.W.Unit.EdgeLabel.unit c.in-Some.unit) (rest c.next.new.self) now (W.given_from now c.in-Some-advance.position.value) l.invariant.reads one step.automaton step.read step.stops.matches in
-    record { same = read.same; haystack = read.haystack; left = read.left; output = step.stops.place; ended = tt }
+    record {
+      same = read.same;
+      haystack = read.haystack;
+      left = read.left;
+      output = step.stops.place;
+      ended = tt;
+      fewer = omega (arith, l.invariant.fewer, ap length one);
+      over = λ none. absurd (omega (arith, l.invariant.fewer, ap length one, ap length none));
+    }
 
 pub units-preserved : goal.units-preserved
 units-preserved g c =

@@ -30,14 +30,14 @@ pub returns-then-not-is_open-clause-reads : goal.returns-then-not-is_open-clause
 returns-then-not-is_open-clause-reads g c =
     let W = g.W.Stepwise in let rest = g.H.Haystack.rest in let l = c.units in let to = c.read_on.new in let read = c.read_on.ensures in
     SkipsTo-reads g.W.Unit.EdgeLabel.width W.automaton W.read W.turns W.found W.content W.looks_at W.ends_at_once (g.F.Filter.passes c.args.filter.now) c.args.walk.now (rest c.args.rest.now) c.args.taken.now l.walk (rest l.rest) l.taken _ to.walk (rest to.rest) l.invariant.skips
-    (record { same = read.on.same; haystack = read.on.haystack; left = read.on.left })
+    (record { same = read.same; haystack = read.haystack; left = read.left })
     read.fewer
 
 pub returns-then-not-is_open-clause-output : goal.returns-then-not-is_open-clause-output
-returns-then-not-is_open-clause-output g c = c.read_on.ensures.on.output
+returns-then-not-is_open-clause-output g c = c.read_on.ensures.output
 
 pub returns-then-not-is_open-clause-ended : goal.returns-then-not-is_open-clause-ended
-returns-then-not-is_open-clause-ended g c = c.read_on.ensures.on.ended
+returns-then-not-is_open-clause-ended g c = c.read_on.ensures.ended
 
 -- a filter that is closed has no place to skip to, so there is nothing left
 pub returns-then-not-is_open-clause-idle : goal.returns-then-not-is_open-clause-idle

@@ -90,25 +90,22 @@ returns-in_err-send-clause-beginning g c =
     (some_run g.S.Iterator.next_gives _ c.next.new.self text (λ xs. AppendsBeginning old now (all xs)) (Yields-more g.S.Iterator.next_gives _ c.loop-byte.yielded c.loop-byte.byte-iterator c.in-Some.byte c.next.new.self c.loop-byte.yielded_by c.in-Some.ensures.steps)
     (written_begins old now (all text) c.send.new.self.held (written_more old (g.W.Write.contents c.loop-byte.out) now (all text) c.push.new.self.held c.send.new.self.held (kept.written.0, pushed, kept.written.2) c.send.ensures.sent))))
 
-pub returns-clause-whole : goal.returns-clause-whole
-returns-clause-whole g c =
+pub returns : goal.returns
+returns g c =
     let all = redacted c.args.words.now.folds (dictionary_of c.args.words.now) c.args.mask.now in
     let written = c.loop-byte.invariant.written in
     let old = g.W.Write.contents c.args.out.now in
     let end = g.W.Write.contents c.finish.new.out in
-    let P : g.row.S.Denot → Type 0 = λ s. WholeRun g.S.Iterator.next_gives s (λ p. Appends old end (all p.items)) in
-    on_ok_weaker c.finish.result (λ last. subst P c.into_iter-byte-iterator.ensures.into_iter_gives
-    (whole_run g.S.Iterator.next_gives _ _ _ c.loop-byte.yielded (λ xs. Appends old end (all xs)) c.loop-byte.yielded_by c.in-None.ensures.steps
-    (subst (Appends old end) written.1 (Appends-trans old (g.W.Write.contents c.loop-byte.out) end written.0 c.loop-byte.redactor.held written.2 last)))) c.finish.ensures.whole
-
-pub returns-clause-beginning : goal.returns-clause-beginning
-returns-clause-beginning g c =
-    let all = redacted c.args.words.now.folds (dictionary_of c.args.words.now) c.args.mask.now in
-    let written = c.loop-byte.invariant.written in
-    let old = g.W.Write.contents c.args.out.now in
-    let end = g.W.Write.contents c.finish.new.out in
-    let P : g.row.S.Denot → Type 0 = λ s. SomeRun g.S.Iterator.next_gives s (λ p. AppendsBeginning old end (all p.items)) in
-    let held = c.loop-byte.redactor.held in
-    on_err_weaker c.finish.result (λ last. subst P c.into_iter-byte-iterator.ensures.into_iter_gives
-    (some_run g.S.Iterator.next_gives _ _ c.loop-byte.yielded (λ xs. AppendsBeginning old end (all xs)) c.loop-byte.yielded_by
-    (AppendsBeginning-more old (g.W.Write.contents c.loop-byte.out) end (all c.loop-byte.yielded) written.0 held [] (sym written.1 ∙ ap (λ l. written.0 ++ l) (sym (append-nil held))) written.2 last))) c.finish.ensures.beginning
+    record {
+      whole =
+          let P : g.row.S.Denot → Type 0 = λ s. WholeRun g.S.Iterator.next_gives s (λ p. Appends old end (all p.items)) in
+          on_ok_weaker c.finish.result (λ last. subst P c.into_iter-byte-iterator.ensures.into_iter_gives
+          (whole_run g.S.Iterator.next_gives _ _ _ c.loop-byte.yielded (λ xs. Appends old end (all xs)) c.loop-byte.yielded_by c.in-None.ensures.steps
+          (subst (Appends old end) written.1 (Appends-trans old (g.W.Write.contents c.loop-byte.out) end written.0 c.loop-byte.redactor.held written.2 last)))) c.finish.ensures.whole;
+      beginning =
+          let P : g.row.S.Denot → Type 0 = λ s. SomeRun g.S.Iterator.next_gives s (λ p. AppendsBeginning old end (all p.items)) in
+          let held = c.loop-byte.redactor.held in
+          on_err_weaker c.finish.result (λ last. subst P c.into_iter-byte-iterator.ensures.into_iter_gives
+          (some_run g.S.Iterator.next_gives _ _ c.loop-byte.yielded (λ xs. AppendsBeginning old end (all xs)) c.loop-byte.yielded_by
+          (AppendsBeginning-more old (g.W.Write.contents c.loop-byte.out) end (all c.loop-byte.yielded) written.0 held [] (sym written.1 ∙ ap (λ l. written.0 ++ l) (sym (append-nil held))) written.2 last))) c.finish.ensures.beginning;
+    }

@@ -12,18 +12,11 @@ use Rattle.daactok.proofs.Tokenizer.tokens.Goals as goal
 pub invariant_of-result : goal.invariant_of-result
 invariant_of-result g c = parts_of_search c.args.text.now c.self.inside.words.now.folds (dictionary_of c.self.inside.words.now) _ c.leftmost_find_iter.ensures.begins.left c.self.invariant.1 c.utf8.text
 
-pub returns-clause-list : goal.returns-clause-list
-returns-clause-list g c =
-    ap (tokens_from c.args.text.now 0) (c.leftmost_find_iter.ensures.begins.left ∙ ap (λ a. leftmost char_width (dictionary_of a) (as_read a.folds (chars c.args.text.now))) c.self.view_is)
-
-pub returns-clause-joined : goal.returns-clause-joined
-returns-clause-joined g c = (tokens_of_search c.args.text.now c.self.inside.words.now.folds (dictionary_of c.self.inside.words.now) _ c.leftmost_find_iter.ensures.begins.left c.self.invariant.1 c.utf8.text).joined
-
-pub returns-clause-few : goal.returns-clause-few
-returns-clause-few g c = (tokens_of_search c.args.text.now c.self.inside.words.now.folds (dictionary_of c.self.inside.words.now) _ c.leftmost_find_iter.ensures.begins.left c.self.invariant.1 c.utf8.text).few
-
-pub returns-clause-nonempty : goal.returns-clause-nonempty
-returns-clause-nonempty g c = (tokens_of_search c.args.text.now c.self.inside.words.now.folds (dictionary_of c.self.inside.words.now) _ c.leftmost_find_iter.ensures.begins.left c.self.invariant.1 c.utf8.text).nonempty
-
-pub returns-clause-apart : goal.returns-clause-apart
-returns-clause-apart g c = (tokens_of_search c.args.text.now c.self.inside.words.now.folds (dictionary_of c.self.inside.words.now) _ c.leftmost_find_iter.ensures.begins.left c.self.invariant.1 c.utf8.text).apart
+pub returns : goal.returns
+returns g c = record {
+  list = ap (tokens_from c.args.text.now 0) (c.leftmost_find_iter.ensures.begins.left ∙ ap (λ a. leftmost char_width (dictionary_of a) (as_read a.folds (chars c.args.text.now))) c.self.view_is);
+  joined = (tokens_of_search c.args.text.now c.self.inside.words.now.folds (dictionary_of c.self.inside.words.now) _ c.leftmost_find_iter.ensures.begins.left c.self.invariant.1 c.utf8.text).joined;
+  few = (tokens_of_search c.args.text.now c.self.inside.words.now.folds (dictionary_of c.self.inside.words.now) _ c.leftmost_find_iter.ensures.begins.left c.self.invariant.1 c.utf8.text).few;
+  nonempty = (tokens_of_search c.args.text.now c.self.inside.words.now.folds (dictionary_of c.self.inside.words.now) _ c.leftmost_find_iter.ensures.begins.left c.self.invariant.1 c.utf8.text).nonempty;
+  apart = (tokens_of_search c.args.text.now c.self.inside.words.now.folds (dictionary_of c.self.inside.words.now) _ c.leftmost_find_iter.ensures.begins.left c.self.invariant.1 c.utf8.text).apart;
+}

@@ -1,5 +1,5 @@
 -- The groups of the walk over the stack, in another order where there is a profile.
-use Rattle.std.proofs.Common.{◌≡◌, ◌+◌, ◌⊎◌, ℕ, List, [], ◌∷◌, refl, sym, ap, ◌∙◌, subst, inl, inr, arith, rules}
+use Rattle.std.proofs.Common.{◌≡◌, ◌+◌, ◌⊎◌, ℕ, List, [], sym, ap, ◌∙◌, subst, inl, inr, arith, rules}
 use Rattle.std.specs.List.{filter}
 use Rattle.std.specs.List.Sorted.{IsPermutation}
 use Rattle.std.proofs.lemmas.List.Sorted.{IsPermutation-refl, All-permutation}
@@ -15,14 +15,10 @@ use Rattle.daachorse_placement.specs.declared.build_helper.profile.Profile.{Prof
 use Rattle.daachorse_placement.specs.declared.build_helper.SiblingGroup.{SiblingGroup}
 use Rattle.daachorse_build.specs.declared.nfa_builder.NfaBuilderState.{NfaBuilderState}
 use Rattle.daachorse_build.specs.Tables.{edges_of, HoldTrie}
-use Rattle.daachorse_build.specs.Groups.{AreGiven, edges_at, has_edges, if_counted, parents_of, weight_at, IsWalk, GivesCodes, AreTrieGroups, AreFamilies, AreWeighed, AreFalling, AreLight, AreSiblingGroups}
-use Rattle.daachorse_build.proofs.Families.{few_groups, labels_below, trie_groups, placed_groups}
+use Rattle.daachorse_build.specs.Groups.{AreGiven, edges_at, has_edges, parents_of, weight_at, IsWalk, GivesCodes, AreTrieGroups, AreFamilies, AreWeighed, AreFalling, AreLight, AreSiblingGroups}
+use Rattle.daachorse_build.proofs.Families.{few_groups, labels_below, trie_groups, placed_groups, if_counted-none}
 use Rattle.daachorse_build.proofs.nfa_builder.NfaBuilder.sibling_groups.Goals as goal
 use Rattle.daachorse_build.proofs.nfa_builder.NfaBuilder.sibling_groups.Goals.{then-not-is_empty+in_ok-sort_by_key, else-not-is_empty}
-
-if_none : (xs : List ℕ) (n : ℕ) → xs ≡ [] → if_counted xs n ≡ 0
-if_none [] n h = refl
-if_none (x ∷ xs) n h = cc
 
 -- groups of a walk, in another order
 module _ {L V A : Type 0} (cmp : L → L → Ordering) (total : IsTotalOrder cmp) (states : List (NfaBuilderState L V A)) (table : HoldTrie cmp states) (gives : L → ℕ → Type 0) (profile : Profile A) (first gs : List (SiblingGroup A)) (order : List ℕ)
@@ -37,7 +33,7 @@ module _ {L V A : Type 0} (cmp : L → L → Ordering) (total : IsTotalOrder cmp
   weights = All-permutation (λ x. x.weight ≡ weight_at (edges_of states) profile x.parent) first gs moved weighed
 
   light : profile.visits.items ≡ [] → AreLight gs
-  light none = All-weaker (λ x. x.weight ≡ weight_at (edges_of states) profile x.parent) (λ x. x.weight ≡ 0) (λ x h. h ∙ if_none profile.visits.items _ none) gs weights
+  light none = All-weaker (λ x. x.weight ≡ weight_at (edges_of states) profile x.parent) (λ x. x.weight ≡ 0) (λ x h. h ∙ if_counted-none profile.visits.items _ none) gs weights
 
   falling : (profile.visits.items ≡ []) ⊎ AreFalling gs → AreFalling gs
   falling (inl none) = λ k d l. omega (arith, light none k d (omega arith), light none (k + 1) d l)

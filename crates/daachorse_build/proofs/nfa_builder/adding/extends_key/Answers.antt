@@ -3,9 +3,10 @@ use Rattle.std.proofs.Common.{rules, ◌≡◌, ◌+◌, ◌<◌, ◌∷◌, [],
 use Rattle.std.specs.Prelude.{option_map}
 use Rattle.std.proofs.lemmas.Bool.{or_left}
 use Rattle.std.proofs.lemmas.List.{length-map, take_more, drop_more, at_drop_all}
+use Rattle.daachorse_model.proofs.Paths.{walk-push}
 use Rattle.daachorse_build.specs.Tables.{child_of, edges_of, stops_of}
 use Rattle.daachorse_build.specs.Left.{meets_early}
-use Rattle.daachorse_build.proofs.Walks.{walk-bounds, walk-push}
+use Rattle.daachorse_build.proofs.Walks.{walk-bounds}
 use Rattle.daachorse_build.proofs.nfa_builder.adding.extends_key.Goals as goal
 
 pub stops-requires : goal.stops-requires

@@ -13,37 +13,27 @@ use Rattle.daachorse_build.proofs.nfa_builder.outputs.put_list.Goals as goal
 own_here : {L V A : Type 0} (states : List (NfaBuilderState L V A)) (i : ℕ) (x : NfaBuilderState L V A) (own : List (V × ℕ)) → i < length states → own ≡ items_of (get_or states i x).output → own_at (own_of states) i ≡ own
 own_here states i x own l e = get_or-map (λ s. items_of s.output) states i x [] l ∙ sym e
 
-pub push_chain-requires-clause-parents : goal.push_chain-requires-clause-parents
-push_chain-requires-clause-parents g c = c.requires.parents
+pub push_chain-requires : goal.push_chain-requires
+push_chain-requires g c = record {
+  parents = c.requires.parents;
+  parent = c.requires.parent;
+}
 
-pub push_chain-requires-clause-parent : goal.push_chain-requires-clause-parent
-push_chain-requires-clause-parent g c = c.requires.parent
-
-pub returns-in_err-state-clause-kept : goal.returns-in_err-state-clause-kept
-returns-in_err-state-clause-kept g c =
-    let same = set-get_or c.args.states.now c.args.id c.index-states-id.result in
-    record { edges = ap edges_of same; outputs = ap own_of same }
-
-pub returns-in_err-state-clause-fails : goal.returns-in_err-state-clause-fails
-returns-in_err-state-clause-fails g c = ap fails_of (set-get_or c.args.states.now c.args.id c.index-states-id.result)
-
-pub returns-in_err-state-clause-longer : goal.returns-in_err-state-clause-longer
-returns-in_err-state-clause-longer g c = c.push_chain.ensures.longer
-
-pub returns-in_err-state-clause-parents : goal.returns-in_err-state-clause-parents
-returns-in_err-state-clause-parents g c = c.push_chain.ensures.parents
-
-pub returns-in_err-state-clause-chain : goal.returns-in_err-state-clause-chain
-returns-in_err-state-clause-chain g c = IfOk-from_err c.from_residual.result _ c.from_residual.ensures.0
-
-pub returns-in_err-state-clause-others : goal.returns-in_err-state-clause-others
-returns-in_err-state-clause-others g c = IfOk-from_err c.from_residual.result _ c.from_residual.ensures.0
-
-pub returns-in_err-state-clause-refused : goal.returns-in_err-state-clause-refused
-returns-in_err-state-clause-refused g c =
-    let p = err_from_is_err_and c.from_residual.result c.from_residual.ensures.1 in
-    let own = own_here c.args.states.now c.args.id c.index-states-id.result _ c.requires.id refl in
-    rw (p.1, p.2) (rw own c.in_err-state.ensures.refused)
+pub returns-in_err-state : goal.returns-in_err-state
+returns-in_err-state g c = record {
+  kept =
+      let same = set-get_or c.args.states.now c.args.id c.index-states-id.result in
+      record { edges = ap edges_of same; outputs = ap own_of same };
+  fails = ap fails_of (set-get_or c.args.states.now c.args.id c.index-states-id.result);
+  longer = c.push_chain.ensures.longer;
+  parents = c.push_chain.ensures.parents;
+  chain = IfOk-from_err c.from_residual.result _ c.from_residual.ensures.0;
+  others = IfOk-from_err c.from_residual.result _ c.from_residual.ensures.0;
+  refused =
+      let p = err_from_is_err_and c.from_residual.result c.from_residual.ensures.1 in
+      let own = own_here c.args.states.now c.args.id c.index-states-id.result _ c.requires.id refl in
+      rw (p.1, p.2) (rw own c.in_err-state.ensures.refused);
+}
 
 pub returns-clause-kept : goal.returns-clause-kept
 returns-clause-kept g c =

@@ -60,25 +60,6 @@ module _ {L V A : Type 0} (cmp : L → L → Ordering) (total : IsTotalOrder cmp
 first_cleared : {V : Type 0} (own : List (List (V × ℕ))) → 0 < length own → output_count (cleared own (0 ∷ [])) + length (own_at own 0) ≡ output_count own
 first_cleared own l = count-cleared own [] 0 l (λ h. h)
 
-pub returns-in_err-put_list-clause-kept : goal.returns-in_err-put_list-clause-kept
-returns-in_err-put_list-clause-kept g c = c.put_list.ensures.kept
-
-pub returns-in_err-put_list-clause-fails : goal.returns-in_err-put_list-clause-fails
-returns-in_err-put_list-clause-fails g c = c.put_list.ensures.fails
-
-pub returns-in_err-put_list-clause-parents : goal.returns-in_err-put_list-clause-parents
-returns-in_err-put_list-clause-parents g c = c.put_list.ensures.parents
-
-pub returns-in_err-put_list-clause-refused : goal.returns-in_err-put_list-clause-refused
-returns-in_err-put_list-clause-refused g c =
-    let p = err_from_is_err_and c.from_residual.result c.from_residual.ensures.1 in
-    let states = c.args.states.now in
-    let two : 0 < length (own_of states) = omega (arith, c.requires.trie.trie.two, length-map states (λ s. s.edges), length-map states (λ s. items_of s.output)) in
-    let count = first_cleared (own_of states) two in
-    let none = ap length c.requires.unbuilt in
-    let fewer : 4294967295 < vec_len c.args.outputs.now + length (own_at (own_of states) 0) → 4294967295 < output_count (own_of states) = λ h. omega (arith, h, count, none) in
-    rw (p.1, p.2) (IsRefusal-weaker ⊥ ⊥ Outputs _ (4294967295 < output_count (own_of states)) (λ x. x) fewer _ c.in_err-put_list.ensures.refused)
-
 pub loop-id-init : goal.loop-id-init
 loop-id-init g c =
     let e = c.in_ok-put_list.ensures in
@@ -95,20 +76,11 @@ loop-id-init g c =
       count = omega (arith, e.chain.count, first_cleared (own_of states) two, ap length c.requires.unbuilt);
     }
 
-pub fail_position-parent-requires-clause-id : goal.fail_position-parent-requires-clause-id
-fail_position-parent-requires-clause-id g c =
-    (state_bounds g.L.Ord.cmp g.met.L.Ord.total (label_exact g.L.EdgeLabel.unit g.L.Ord.cmp g.met.L.EdgeLabel.exact g.met.L.EdgeLabel.by_unit) c.args.states.now c.loop-id.states c.args.order.now c.requires.trie (stops_of c.requires.links.0 c.args.states.now) c.requires.links.1 c.loop-id.invariant.kept c.loop-id.id-index c.loop-id-test.true).0
-
-pub fail_position-parent-requires-clause-fail : goal.fail_position-parent-requires-clause-fail
-fail_position-parent-requires-clause-fail g c =
-    rw c.loop-id.invariant.fails (state_bounds g.L.Ord.cmp g.met.L.Ord.total (label_exact g.L.EdgeLabel.unit g.L.Ord.cmp g.met.L.EdgeLabel.exact g.met.L.EdgeLabel.by_unit) c.args.states.now c.loop-id.states c.args.order.now c.requires.trie (stops_of c.requires.links.0 c.args.states.now) c.requires.links.1 c.loop-id.invariant.kept c.loop-id.id-index c.loop-id-test.true).1
-
-pub put_list-requires-in-loop-id-clause-id : goal.put_list-requires-in-loop-id-clause-id
-put_list-requires-in-loop-id-clause-id g c =
-    (state_bounds g.L.Ord.cmp g.met.L.Ord.total (label_exact g.L.EdgeLabel.unit g.L.Ord.cmp g.met.L.EdgeLabel.exact g.met.L.EdgeLabel.by_unit) c.args.states.now c.loop-id.states c.args.order.now c.requires.trie (stops_of c.requires.links.0 c.args.states.now) c.requires.links.1 c.loop-id.invariant.kept c.loop-id.id-index c.loop-id-test.true).0
-
-pub put_list-requires-in-loop-id-clause-parents : goal.put_list-requires-in-loop-id-clause-parents
-put_list-requires-in-loop-id-clause-parents g c = c.loop-id.invariant.parents
+pub fail_position-parent-requires : goal.fail_position-parent-requires
+fail_position-parent-requires g c = record {
+  id = (state_bounds g.L.Ord.cmp g.met.L.Ord.total (label_exact g.L.EdgeLabel.unit g.L.Ord.cmp g.met.L.EdgeLabel.exact g.met.L.EdgeLabel.by_unit) c.args.states.now c.loop-id.states c.args.order.now c.requires.trie (stops_of c.requires.links.0 c.args.states.now) c.requires.links.1 c.loop-id.invariant.kept c.loop-id.id-index c.loop-id-test.true).0;
+  fail = rw c.loop-id.invariant.fails (state_bounds g.L.Ord.cmp g.met.L.Ord.total (label_exact g.L.EdgeLabel.unit g.L.Ord.cmp g.met.L.EdgeLabel.exact g.met.L.EdgeLabel.by_unit) c.args.states.now c.loop-id.states c.args.order.now c.requires.trie (stops_of c.requires.links.0 c.args.states.now) c.requires.links.1 c.loop-id.invariant.kept c.loop-id.id-index c.loop-id-test.true).1;
+}
 
 -- where the list of the link begins
 parent_is : (fails fails' positions : List ℕ) (t p : ℕ) → fails' ≡ fails → IsParent positions (get_or fails' t 0) p → IsParent positions (get_or fails t 0) p
@@ -120,32 +92,24 @@ parent_fits done outputs positions f p fits among (inl dead) = omega (arith, dea
 parent_fits done outputs positions f p fits (inl dead) (inr alive) = absurd (alive.0 dead)
 parent_fits done outputs positions f p fits (inr known) (inr alive) = omega (arith, alive.1, fits f known)
 
-pub put_list-requires-in-loop-id-clause-parent : goal.put_list-requires-in-loop-id-clause-parent
-put_list-requires-in-loop-id-clause-parent g c =
-    let i = c.loop-id.invariant in
-    let t = get_or c.args.order.now c.loop-id.id-index 0 in
-    let known = fail_known g.L.Ord.cmp g.met.L.Ord.total (label_exact g.L.EdgeLabel.unit g.L.Ord.cmp g.met.L.EdgeLabel.exact g.met.L.EdgeLabel.by_unit) (stops_of c.requires.links.0 c.args.states.now) c.args.states.now c.requires.trie c.args.order.now (fails_of c.args.states.now) c.requires.links.1 c.loop-id.id-index (get_or c.args.order.now c.loop-id.id-index 0) (get_or (fails_of c.args.states.now) (get_or c.args.order.now c.loop-id.id-index 0) 0) c.loop-id-test.true refl refl in
-    let at = parent_is (fails_of c.args.states.now) (fails_of c.loop-id.states) (positions_of c.loop-id.states) t c.fail_position-parent.result i.fails c.fail_position-parent.ensures in
-    let fits = parent_fits (take c.loop-id.id-index c.args.order.now) c.loop-id.outputs.items (positions_of c.loop-id.states) (get_or (fails_of c.args.states.now) t 0) c.fail_position-parent.result i.fits known at in
-    omega (arith, fits)
-
-pub returns-in_err-put_list-2-clause-refused : goal.returns-in_err-put_list-2-clause-refused
-returns-in_err-put_list-2-clause-refused g c =
-    let p = err_from_is_err_and c.from_residual-in_err-put_list-2.result c.from_residual-in_err-put_list-2.ensures.1 in
-    let states = c.args.states.now in
-    let i = c.loop-id.invariant in
-    let t = get_or c.args.order.now c.loop-id.id-index 0 in
-    let own : length (own_at (own_of c.loop-id.states) t) ≡ length (own_at (own_of states) t) = ap (λ os. length (own_at os t)) i.kept.outputs in
-    let next = count_next g.L.Ord.cmp g.met.L.Ord.total (label_exact g.L.EdgeLabel.unit g.L.Ord.cmp g.met.L.EdgeLabel.exact g.met.L.EdgeLabel.by_unit) c.args.states.now c.loop-id.states c.args.order.now c.requires.trie (stops_of c.requires.links.0 c.args.states.now) c.requires.links.1 c.loop-id.invariant.kept c.loop-id.id-index c.loop-id-test.true in
-    let fewer : 4294967295 < vec_len c.loop-id.outputs + length (own_at (own_of c.loop-id.states) t) → 4294967295 < output_count (own_of states) = λ h. omega (arith, h, own, next, i.count) in
-    rw (p.1, p.2) (IsRefusal-weaker ⊥ ⊥ Outputs _ (4294967295 < output_count (own_of states)) (λ x. x) fewer _ c.in_err-put_list-2.ensures.refused)
+pub put_list-requires-in-loop-id : goal.put_list-requires-in-loop-id
+put_list-requires-in-loop-id g c = record {
+  id = (state_bounds g.L.Ord.cmp g.met.L.Ord.total (label_exact g.L.EdgeLabel.unit g.L.Ord.cmp g.met.L.EdgeLabel.exact g.met.L.EdgeLabel.by_unit) c.args.states.now c.loop-id.states c.args.order.now c.requires.trie (stops_of c.requires.links.0 c.args.states.now) c.requires.links.1 c.loop-id.invariant.kept c.loop-id.id-index c.loop-id-test.true).0;
+  parents = c.loop-id.invariant.parents;
+  parent =
+      let i = c.loop-id.invariant in
+      let t = get_or c.args.order.now c.loop-id.id-index 0 in
+      let known = fail_known g.L.Ord.cmp g.met.L.Ord.total (label_exact g.L.EdgeLabel.unit g.L.Ord.cmp g.met.L.EdgeLabel.exact g.met.L.EdgeLabel.by_unit) (stops_of c.requires.links.0 c.args.states.now) c.args.states.now c.requires.trie c.args.order.now (fails_of c.args.states.now) c.requires.links.1 c.loop-id.id-index (get_or c.args.order.now c.loop-id.id-index 0) (get_or (fails_of c.args.states.now) (get_or c.args.order.now c.loop-id.id-index 0) 0) c.loop-id-test.true refl refl in
+      let at = parent_is (fails_of c.args.states.now) (fails_of c.loop-id.states) (positions_of c.loop-id.states) t c.fail_position-parent.result i.fails c.fail_position-parent.ensures in
+      let fits = parent_fits (take c.loop-id.id-index c.args.order.now) c.loop-id.outputs.items (positions_of c.loop-id.states) (get_or (fails_of c.args.states.now) t 0) c.fail_position-parent.result i.fits known at in
+      omega (arith, fits);
+}
 
 pub loop-id-preserved : goal.loop-id-preserved
 loop-id-preserved g c =
     let i = c.loop-id.invariant in
     let states = c.args.states.now in
     let t = get_or c.args.order.now c.loop-id.id-index 0 in
-    let f = get_or (fails_of states) t 0 in
     let e = c.in_ok-put_list-2.ensures in
     let now = c.put_list-in-loop-id.new in
     let known = fail_known g.L.Ord.cmp g.met.L.Ord.total (label_exact g.L.EdgeLabel.unit g.L.Ord.cmp g.met.L.EdgeLabel.exact g.met.L.EdgeLabel.by_unit) (stops_of c.requires.links.0 c.args.states.now) c.args.states.now c.requires.trie c.args.order.now (fails_of c.args.states.now) c.requires.links.1 c.loop-id.id-index (get_or c.args.order.now c.loop-id.id-index 0) (get_or (fails_of c.args.states.now) (get_or c.args.order.now c.loop-id.id-index 0) 0) c.loop-id-test.true refl refl in
@@ -166,25 +130,12 @@ loop-id-preserved g c =
       count = omega (arith, e.chain.count, own, i.count, count_next g.L.Ord.cmp g.met.L.Ord.total (label_exact g.L.EdgeLabel.unit g.L.Ord.cmp g.met.L.EdgeLabel.exact g.met.L.EdgeLabel.by_unit) c.args.states.now c.loop-id.states c.args.order.now c.requires.trie (stops_of c.requires.links.0 c.args.states.now) c.requires.links.1 c.loop-id.invariant.kept c.loop-id.id-index c.loop-id-test.true);
     }
 
-pub put_list-requires-clause-parents : goal.put_list-requires-clause-parents
-put_list-requires-clause-parents g c = rw c.requires.unbuilt ParentsFall-nil
-
-pub put_list-requires-clause-parent : goal.put_list-requires-clause-parent
-put_list-requires-clause-parent g c = omega arith
-
-pub put_list-requires-clause-id : goal.put_list-requires-clause-id
-put_list-requires-clause-id g c = omega (arith, c.requires.trie.trie.two, length-map c.args.states.now (λ s. s.edges))
-
-pub returns-in_err-put_list-2-clause-kept : goal.returns-in_err-put_list-2-clause-kept
-returns-in_err-put_list-2-clause-kept g c =
-    let e = c.in_err-put_list-2.ensures in
-    record { edges = e.kept.edges ∙ c.loop-id.invariant.kept.edges; outputs = e.kept.outputs ∙ c.loop-id.invariant.kept.outputs }
-
-pub returns-in_err-put_list-2-clause-fails : goal.returns-in_err-put_list-2-clause-fails
-returns-in_err-put_list-2-clause-fails g c = c.in_err-put_list-2.ensures.fails ∙ c.loop-id.invariant.fails
-
-pub returns-in_err-put_list-2-clause-parents : goal.returns-in_err-put_list-2-clause-parents
-returns-in_err-put_list-2-clause-parents g c = c.put_list-in-loop-id.ensures.parents
+pub put_list-requires : goal.put_list-requires
+put_list-requires g c = record {
+  parents = rw c.requires.unbuilt ParentsFall-nil;
+  parent = omega arith;
+  id = omega (arith, c.requires.trie.trie.two, length-map c.args.states.now (λ s. s.edges));
+}
 
 pub returns-clause-kept : goal.returns-clause-kept
 returns-clause-kept g c = c.loop-id.invariant.kept
@@ -212,8 +163,37 @@ returns-clause-lists g c =
       few = i.few;
     }
 
-pub returns-in_err-put_list-clause-lists : goal.returns-in_err-put_list-clause-lists
-returns-in_err-put_list-clause-lists g c = IfOk-from_err c.from_residual.result _ c.from_residual.ensures.0
+pub returns-in_err-put_list : goal.returns-in_err-put_list
+returns-in_err-put_list g c = record {
+  kept = c.put_list.ensures.kept;
+  fails = c.put_list.ensures.fails;
+  parents = c.put_list.ensures.parents;
+  refused =
+      let p = err_from_is_err_and c.from_residual.result c.from_residual.ensures.1 in
+      let states = c.args.states.now in
+      let two : 0 < length (own_of states) = omega (arith, c.requires.trie.trie.two, length-map states (λ s. s.edges), length-map states (λ s. items_of s.output)) in
+      let count = first_cleared (own_of states) two in
+      let none = ap length c.requires.unbuilt in
+      let fewer : 4294967295 < vec_len c.args.outputs.now + length (own_at (own_of states) 0) → 4294967295 < output_count (own_of states) = λ h. omega (arith, h, count, none) in
+      rw (p.1, p.2) (IsRefusal-weaker ⊥ ⊥ Outputs _ (4294967295 < output_count (own_of states)) (λ x. x) fewer _ c.in_err-put_list.ensures.refused);
+  lists = IfOk-from_err c.from_residual.result _ c.from_residual.ensures.0;
+}
 
-pub returns-in_err-put_list-2-clause-lists : goal.returns-in_err-put_list-2-clause-lists
-returns-in_err-put_list-2-clause-lists g c = IfOk-from_err c.from_residual-in_err-put_list-2.result _ c.from_residual-in_err-put_list-2.ensures.0
+pub returns-in_err-put_list-2 : goal.returns-in_err-put_list-2
+returns-in_err-put_list-2 g c = record {
+  refused =
+      let p = err_from_is_err_and c.from_residual-in_err-put_list-2.result c.from_residual-in_err-put_list-2.ensures.1 in
+      let states = c.args.states.now in
+      let i = c.loop-id.invariant in
+      let t = get_or c.args.order.now c.loop-id.id-index 0 in
+      let own : length (own_at (own_of c.loop-id.states) t) ≡ length (own_at (own_of states) t) = ap (λ os. length (own_at os t)) i.kept.outputs in
+      let next = count_next g.L.Ord.cmp g.met.L.Ord.total (label_exact g.L.EdgeLabel.unit g.L.Ord.cmp g.met.L.EdgeLabel.exact g.met.L.EdgeLabel.by_unit) c.args.states.now c.loop-id.states c.args.order.now c.requires.trie (stops_of c.requires.links.0 c.args.states.now) c.requires.links.1 c.loop-id.invariant.kept c.loop-id.id-index c.loop-id-test.true in
+      let fewer : 4294967295 < vec_len c.loop-id.outputs + length (own_at (own_of c.loop-id.states) t) → 4294967295 < output_count (own_of states) = λ h. omega (arith, h, own, next, i.count) in
+      rw (p.1, p.2) (IsRefusal-weaker ⊥ ⊥ Outputs _ (4294967295 < output_count (own_of states)) (λ x. x) fewer _ c.in_err-put_list-2.ensures.refused);
+  kept =
+      let e = c.in_err-put_list-2.ensures in
+      record { edges = e.kept.edges ∙ c.loop-id.invariant.kept.edges; outputs = e.kept.outputs ∙ c.loop-id.invariant.kept.outputs };
+  fails = c.in_err-put_list-2.ensures.fails ∙ c.loop-id.invariant.fails;
+  parents = c.put_list-in-loop-id.ensures.parents;
+  lists = IfOk-from_err c.from_residual-in_err-put_list-2.result _ c.from_residual-in_err-put_list-2.ensures.0;
+}

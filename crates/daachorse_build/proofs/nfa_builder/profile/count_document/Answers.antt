@@ -19,11 +19,10 @@ loop-taken-preserved g c = record {
   empty = λ e. absurd (omega (arith, c.in-Some.ensures.on, ap length (c.loop-taken.invariant.empty e).0));
 }
 
-pub returns-clause-counted : goal.returns-clause-counted
-returns-clause-counted g c =
-    counted_twice c.args.profile.now c.loop-taken.profile c.count_run.new.profile c.loop-taken.invariant.counted c.count_run.ensures.counted
-
-pub returns-clause-empty : goal.returns-clause-empty
-returns-clause-empty g c = λ e.
-    let before = c.loop-taken.invariant.empty e in
-    same_twice c.args.profile.now c.loop-taken.profile c.count_run.new.profile before.1 (c.count_run.ensures.empty before.0)
+pub returns : goal.returns
+returns g c = record {
+  counted = counted_twice c.args.profile.now c.loop-taken.profile c.count_run.new.profile c.loop-taken.invariant.counted c.count_run.ensures.counted;
+  empty = λ e.
+      let before = c.loop-taken.invariant.empty e in
+      same_twice c.args.profile.now c.loop-taken.profile c.count_run.new.profile before.1 (c.count_run.ensures.empty before.0);
+}

@@ -22,36 +22,23 @@ loop-place-init g c = record {
   match = tt;
 }
 
-pub count_label-id-requires-clause-trie : goal.count_label-id-requires-clause-trie
-count_label-id-requires-clause-trie g c = c.requires.trie
+pub count_label-id-requires : goal.count_label-id-requires
+count_label-id-requires g c = record {
+  trie = c.requires.trie;
+  links = c.requires.links;
+  counts = counts_stay (length c.args.states.now) c.args.profile.now c.loop-place.profile c.requires.counts c.loop-place.invariant.counted;
+  callable = c.requires.callable;
+  start = c.loop-place.invariant.state;
+  alive = c.loop-place.invariant.alive;
+}
 
-pub count_label-id-requires-clause-links : goal.count_label-id-requires-clause-links
-count_label-id-requires-clause-links g c = c.requires.links
-
-pub count_label-id-requires-clause-counts : goal.count_label-id-requires-clause-counts
-count_label-id-requires-clause-counts g c =
-    counts_stay (length c.args.states.now) c.args.profile.now c.loop-place.profile c.requires.counts c.loop-place.invariant.counted
-
-pub count_label-id-requires-clause-callable : goal.count_label-id-requires-clause-callable
-count_label-id-requires-clause-callable g c = c.requires.callable
-
-pub count_label-id-requires-clause-start : goal.count_label-id-requires-clause-start
-count_label-id-requires-clause-start g c = c.loop-place.invariant.state
-
-pub count_label-id-requires-clause-alive : goal.count_label-id-requires-clause-alive
-count_label-id-requires-clause-alive g c = c.loop-place.invariant.alive
-
-pub returns-then-is_some-clause-counted : goal.returns-then-is_some-clause-counted
-returns-then-is_some-clause-counted g c =
-    counted_twice c.args.profile.now c.loop-place.profile c.count_label-id.new.profile c.loop-place.invariant.counted c.count_label-id.ensures.counted
-
--- a document with a label is not empty
-pub returns-then-is_some-clause-empty : goal.returns-then-is_some-clause-empty
-returns-then-is_some-clause-empty g c = λ none. absurd (omega (arith, ap length none))
-
-pub returns-then-is_some-clause-on : goal.returns-then-is_some-clause-on
-returns-then-is_some-clause-on g c =
-    behind_more c.loop-place.place (length c.args.haystack.now) c.loop-place.match_end (omega arith) c.loop-place.invariant.match
+pub returns-then-is_some : goal.returns-then-is_some
+returns-then-is_some g c = record {
+  counted = counted_twice c.args.profile.now c.loop-place.profile c.count_label-id.new.profile c.loop-place.invariant.counted c.count_label-id.ensures.counted;
+  -- a document with a label is not empty
+  empty = λ none. absurd (omega (arith, ap length none));
+  on = behind_more c.loop-place.place (length c.args.haystack.now) c.loop-place.match_end (omega arith) c.loop-place.invariant.match;
+}
 
 pub loop-place-preserved : goal.loop-place-preserved
 loop-place-preserved g c =

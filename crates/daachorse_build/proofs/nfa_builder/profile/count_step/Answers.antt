@@ -41,17 +41,12 @@ pub count_reads-requires-clause-next : goal.count_reads-requires-clause-next
 count_reads-requires-clause-next g c =
     children_are_states g.L.Ord.cmp c.args.states.now c.requires.trie c.loop-next.id c.args.label c.child-next.result (sym c.child-next.ensures)
 
-pub returns-in-Some-clause-counted : goal.returns-in-Some-clause-counted
-returns-in-Some-clause-counted g c =
-    counted_twice c.args.profile.now c.loop-next.profile c.count_reads.new.profile c.loop-next.invariant.counted c.count_reads.ensures
-
-pub returns-in-Some-clause-state : goal.returns-in-Some-clause-state
-returns-in-Some-clause-state g c =
-    (child_is_state g.L.Ord.cmp c.args.states.now c.requires.trie c.loop-next.id c.args.label c.in-Some.next (sym c.child-next.ensures ∙ c.in-Some.is)).0
-
-pub returns-in-Some-clause-alive : goal.returns-in-Some-clause-alive
-returns-in-Some-clause-alive g c =
-    (child_is_state g.L.Ord.cmp c.args.states.now c.requires.trie c.loop-next.id c.args.label c.in-Some.next (sym c.child-next.ensures ∙ c.in-Some.is)).1
+pub returns-in-Some : goal.returns-in-Some
+returns-in-Some g c = record {
+  counted = counted_twice c.args.profile.now c.loop-next.profile c.count_reads.new.profile c.loop-next.invariant.counted c.count_reads.ensures;
+  state = (child_is_state g.L.Ord.cmp c.args.states.now c.requires.trie c.loop-next.id c.args.label c.in-Some.next (sym c.child-next.ensures ∙ c.in-Some.is)).0;
+  alive = (child_is_state g.L.Ord.cmp c.args.states.now c.requires.trie c.loop-next.id c.args.label c.in-Some.next (sym c.child-next.ensures ∙ c.in-Some.is)).1;
+}
 
 pub returns-then-id-eq-ROOT_STATE_ID-clause-counted :
     goal.returns-then-id-eq-ROOT_STATE_ID-clause-counted

@@ -16,6 +16,7 @@ use Rattle.daachorse_build.specs.Tables.{edges_of, HoldTrie}
 use Rattle.daachorse_build.specs.Orders.{IsIn, children}
 use Rattle.daachorse_build.specs.Groups.{if_counted}
 use Rattle.daachorse_build.proofs.Queue.{bounds_of_listed}
+use Rattle.daachorse_build.proofs.Families.{if_counted-none}
 use Rattle.daachorse_build.proofs.nfa_builder.siblings.weight_of.Goals as goal
 
 -- what stands at a place is in the list
@@ -41,9 +42,6 @@ weight_start p w e fits = omega arith
 
 weight_step : (p s v w r : ℕ) → w ≡ min (p + s) (2 ^ 64 - 1) → r ≡ min (w + v) (2 ^ 64 - 1) → r ≡ min (p + (s + v)) (2 ^ 64 - 1)
 weight_step p s v w r e f = omega arith
-
-if_counted-none : (xs : List ℕ) (n : ℕ) → xs ≡ [] → if_counted xs n ≡ 0
-if_counted-none xs n e = ap (λ ys. if_counted ys n) e
 
 if_counted-some : (xs : List ℕ) (n : ℕ) → (xs ≡ [] → ⊥) → if_counted xs n ≡ n
 if_counted-some [] n ne = absurd (ne refl)

@@ -3,17 +3,14 @@ use Rattle.std.proofs.Common.{◌∙◌}
 use Rattle.daachorse_checker.proofs.ReadLaws.{by_parts, fits_read}
 use Rattle.daachorse_bytewise.proofs.bytewise.DoubleArrayAhoCorasick.deserialize_unchecked.Goals as goal
 
-pub of_states-requires-clause-folded : goal.of_states-requires-clause-folded
-of_states-requires-clause-folded g c =
+pub of_states-requires : goal.of_states-requires
+of_states-requires g c =
     let a = c.requires.automaton in let r = c.in_ok-read in
     let same = r.ensures.ok a.parts a.folds a.filter c.requires.begins.0 c.requires.is_one.parts c.requires.begins.1 in
-    (fits_read a r.read.0 r.read.1 r.read.2 same.0 same.1 same.2 c.requires.is_one).0
-
-pub of_states-requires-clause-filter : goal.of_states-requires-clause-filter
-of_states-requires-clause-filter g c =
-    let a = c.requires.automaton in let r = c.in_ok-read in
-    let same = r.ensures.ok a.parts a.folds a.filter c.requires.begins.0 c.requires.is_one.parts c.requires.begins.1 in
-    (fits_read a r.read.0 r.read.1 r.read.2 same.0 same.1 same.2 c.requires.is_one).1
+    record {
+      folded = (fits_read a r.read.0 r.read.1 r.read.2 same.0 same.1 same.2 c.requires.is_one).0;
+      filter = (fits_read a r.read.0 r.read.1 r.read.2 same.0 same.1 same.2 c.requires.is_one).1;
+    }
 
 pub returns-clause-ok : goal.returns-clause-ok
 returns-clause-ok g c a rest is begins =

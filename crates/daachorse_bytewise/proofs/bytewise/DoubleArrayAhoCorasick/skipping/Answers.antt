@@ -8,14 +8,14 @@ use Rattle.daachorse_bytewise_states.specs.Parts.{content}
 use Rattle.daachorse_bytewise.specs.Automata.{Automaton}
 use Rattle.daachorse_bytewise.proofs.bytewise.DoubleArrayAhoCorasick.skipping.Goals as goal
 
-pub returns-clause-asks : goal.returns-clause-asks
-returns-clause-asks g c =
-    let P : Automaton g.row.V.Denot → Type 0 = λ a. BeginsAsking a.filter c.new.result in
-    subst P c.self.view_is (record { filter = c.new.ensures.filter ∙ c.as_ref.ensures.value; gate = c.new.ensures.gate })
-
-pub returns-clause-sound : goal.returns-clause-sound
-returns-clause-sound g c =
-    let i = c.self.inside in
-    let P : Automaton g.row.V.Denot → Type 0 = λ a. IsSoundFor (λ w. lets_pass c.new.result.filter w) (content a.parts) in
-    let Q : Option Filter → Type 0 = λ f. IsSoundFor (λ w. lets_pass f w) (content i.states) in
-    subst P c.self.view_is (subst Q (sym (c.new.ensures.filter ∙ c.as_ref.ensures.value)) (sound_bytes (content i.states) i.filter c.self.invariant.filter))
+pub returns : goal.returns
+returns g c = record {
+  asks =
+      let P : Automaton g.row.V.Denot → Type 0 = λ a. BeginsAsking a.filter c.new.result in
+      subst P c.self.view_is (record { filter = c.new.ensures.filter ∙ c.as_ref.ensures.value; gate = c.new.ensures.gate });
+  sound =
+      let i = c.self.inside in
+      let P : Automaton g.row.V.Denot → Type 0 = λ a. IsSoundFor (λ w. lets_pass c.new.result.filter w) (content a.parts) in
+      let Q : Option Filter → Type 0 = λ f. IsSoundFor (λ w. lets_pass f w) (content i.states) in
+      subst P c.self.view_is (subst Q (sym (c.new.ensures.filter ∙ c.as_ref.ensures.value)) (sound_bytes (content i.states) i.filter c.self.invariant.filter));
+}

@@ -67,21 +67,17 @@ new-requires-clause-count g c =
     let valid : IsValid c.args.self.now = rw (← c.self.view_is) c.self.invariant.valid in
     states_along c.args.self.now _ c.standard-view.ensures c.num_elements-count.result valid c.num_elements-count.ensures.all
 
-pub returns-in-Standard-clause-right : goal.returns-in-Standard-clause-right
-returns-in-Standard-clause-right g c =
-    let P : Parts g.row.V.Denot → Type 0 = λ p. IfOk c.new.result (λ rows. IfSome rows (HasRows p)) in
-    subst P c.standard-view.ensures c.new.ensures.right
-
-pub returns-in-Standard-clause-covered : goal.returns-in-Standard-clause-covered
-returns-in-Standard-clause-covered g c =
-    let P : Parts g.row.V.Denot → Type 0 = λ p. IfOk c.new.result (λ rows. IfSome rows (CoversNear p)) in
-    subst P c.standard-view.ensures c.new.ensures.covered
-
-pub returns-in-Standard-clause-stays : goal.returns-in-Standard-clause-stays
-returns-in-Standard-clause-stays g c = stays c.args.self.now _ c.standard-view.ensures c.new.result _ _ c.as_slice.ensures.value c.in_ok-bytes.ensures.few c.new.ensures.closed
-
-pub returns-in-Standard-clause-none : goal.returns-in-Standard-clause-none
-returns-in-Standard-clause-none g c = no_room c.args.self.now _ c.standard-view.ensures c.new.result _ _ c.in_ok-bytes.bytes.items c.as_slice.ensures.value c.in_ok-bytes.ensures.few c.num_elements-count.ensures.all c.new.ensures.none
+pub returns-in-Standard : goal.returns-in-Standard
+returns-in-Standard g c = record {
+  right =
+      let P : Parts g.row.V.Denot → Type 0 = λ p. IfOk c.new.result (λ rows. IfSome rows (HasRows p)) in
+      subst P c.standard-view.ensures c.new.ensures.right;
+  covered =
+      let P : Parts g.row.V.Denot → Type 0 = λ p. IfOk c.new.result (λ rows. IfSome rows (CoversNear p)) in
+      subst P c.standard-view.ensures c.new.ensures.covered;
+  stays = stays c.args.self.now _ c.standard-view.ensures c.new.result _ _ c.as_slice.ensures.value c.in_ok-bytes.ensures.few c.new.ensures.closed;
+  none = no_room c.args.self.now _ c.standard-view.ensures c.new.result _ _ c.in_ok-bytes.bytes.items c.as_slice.ensures.value c.in_ok-bytes.ensures.few c.num_elements-count.ensures.all c.new.ensures.none;
+}
 
 pub new-requires-in-LeftmostLongest-clause-labels : goal.new-requires-in-LeftmostLongest-clause-labels
 new-requires-in-LeftmostLongest-clause-labels g c = labels_along c.args.self.now _ c.leftmost-view.ensures _ _ c.as_slice-in-LeftmostLongest.ensures.value c.in_ok-bytes.ensures.all
@@ -91,18 +87,14 @@ new-requires-in-LeftmostLongest-clause-count g c =
     let valid : IsValid c.args.self.now = rw (← c.self.view_is) c.self.invariant.valid in
     states_along c.args.self.now _ c.leftmost-view.ensures c.num_elements-count.result valid c.num_elements-count.ensures.all
 
-pub returns-clause-right : goal.returns-clause-right
-returns-clause-right g c =
-    let P : Parts g.row.V.Denot → Type 0 = λ p. IfOk c.new-in-LeftmostLongest.result (λ rows. IfSome rows (HasRows p)) in
-    subst P c.leftmost-view.ensures c.new-in-LeftmostLongest.ensures.right
-
-pub returns-clause-covered : goal.returns-clause-covered
-returns-clause-covered g c =
-    let P : Parts g.row.V.Denot → Type 0 = λ p. IfOk c.new-in-LeftmostLongest.result (λ rows. IfSome rows (CoversNear p)) in
-    subst P c.leftmost-view.ensures c.new-in-LeftmostLongest.ensures.covered
-
-pub returns-clause-stays : goal.returns-clause-stays
-returns-clause-stays g c = stays c.args.self.now _ c.leftmost-view.ensures c.new-in-LeftmostLongest.result _ _ c.as_slice-in-LeftmostLongest.ensures.value c.in_ok-bytes.ensures.few c.new-in-LeftmostLongest.ensures.closed
-
-pub returns-clause-none : goal.returns-clause-none
-returns-clause-none g c = no_room c.args.self.now _ c.leftmost-view.ensures c.new-in-LeftmostLongest.result _ _ c.in_ok-bytes.bytes.items c.as_slice-in-LeftmostLongest.ensures.value c.in_ok-bytes.ensures.few c.num_elements-count.ensures.all c.new-in-LeftmostLongest.ensures.none
+pub returns : goal.returns
+returns g c = record {
+  right =
+      let P : Parts g.row.V.Denot → Type 0 = λ p. IfOk c.new-in-LeftmostLongest.result (λ rows. IfSome rows (HasRows p)) in
+      subst P c.leftmost-view.ensures c.new-in-LeftmostLongest.ensures.right;
+  covered =
+      let P : Parts g.row.V.Denot → Type 0 = λ p. IfOk c.new-in-LeftmostLongest.result (λ rows. IfSome rows (CoversNear p)) in
+      subst P c.leftmost-view.ensures c.new-in-LeftmostLongest.ensures.covered;
+  stays = stays c.args.self.now _ c.leftmost-view.ensures c.new-in-LeftmostLongest.result _ _ c.as_slice-in-LeftmostLongest.ensures.value c.in_ok-bytes.ensures.few c.new-in-LeftmostLongest.ensures.closed;
+  none = no_room c.args.self.now _ c.leftmost-view.ensures c.new-in-LeftmostLongest.result _ _ c.in_ok-bytes.bytes.items c.as_slice-in-LeftmostLongest.ensures.value c.in_ok-bytes.ensures.few c.num_elements-count.ensures.all c.new-in-LeftmostLongest.ensures.none;
+}

@@ -3,11 +3,12 @@ use borrow.Rule.Slice.PartMut.{mid_of, same_len_mid}
 use Rattle.std.proofs.Common.{◌≡◌, ◌-◌, ◌++◌, [], ◌∷◌, drop, get_or, length, take, refl, arith, sym, ap, ◌∙◌, subst, append_assoc}
 use Rattle.std.proofs.lemmas.List.{take_more}
 use Rattle.daachorse_model.specs.Folding.{as_read}
+use Rattle.daachorse_model.proofs.FoldLemmas.{as_read-append}
 use Rattle.daachorse_bytewise.specs.Automata.{dictionary_of}
 use Rattle.daachorse_bytewise_states.specs.Parts.{content}
 use Rattle.daachorse_c.specs.Streams.{ending_with, found_in, overlaps, overlaps_in, read_by, read_in, states_in}
 use Rattle.daachorse_c.specs.Writes.{Writes}
-use Rattle.daachorse_c.proofs.Telling.{Told, Writes-from_told, as_read-append, still_before, told-next, told_whole}
+use Rattle.daachorse_c.proofs.Telling.{Told, Writes-from_told, still_before, told-next, told_whole}
 use Rattle.daachorse_c.proofs.stream.Stream.consume.Goals as goal
 use Rattle.daachorse_c.proofs.stream.Stream.consume.Goals.{then-loop-written-test+else-taken-bytes, else-loop-written-test}
 

@@ -1,6 +1,7 @@
 -- Bytes that give no states give no automaton, nor do those whose patterns are not folded where haystacks are, nor those with a filter that does not pass; what was written gives it.
 use Rattle.std.proofs.Common.{inr}
 use Rattle.std.proofs.lemmas.Result.{err_from_is_err_and}
+use Rattle.daachorse_core.proofs.Refusals.{at_error}
 use Rattle.daachorse_checker.proofs.ReadLaws.{given, gives_back, refused_filter, refused_fold, refused_parts, refuses_written}
 use Rattle.daachorse_charwise_states.specs.PartForms.{take_parts}
 use Rattle.daachorse_charwise_states.specs.Valid.{IsValid}
@@ -9,9 +10,7 @@ use Rattle.daachorse_charwise.specs.Automata.{MayFold, MayHaveFilter}
 use Rattle.daachorse_charwise.proofs.charwise.CharwiseDoubleArrayAhoCorasick.deserialize.Goals as goal
 
 pub returns-in_err-read-clause-refused : goal.returns-in_err-read-clause-refused
-returns-in_err-read-clause-refused g c =
-    let p = err_from_is_err_and c.from_residual.result c.from_residual.ensures.1 in
-    rw (p.1, p.2) (refused_parts IsValid MayFold MayHaveFilter (take_parts g.V.Serializable.taken c.args.source.now) c.in_err-read.field-0.0 c.in_err-read.ensures.refused)
+returns-in_err-read-clause-refused g c = at_error c.from_residual.result _ _ c.from_residual.ensures.1 (refused_parts IsValid MayFold MayHaveFilter (take_parts g.V.Serializable.taken c.args.source.now) c.in_err-read.field-0.0 c.in_err-read.ensures.refused)
 
 pub returns-in_err-read-clause-memory : goal.returns-in_err-read-clause-memory
 returns-in_err-read-clause-memory g c =

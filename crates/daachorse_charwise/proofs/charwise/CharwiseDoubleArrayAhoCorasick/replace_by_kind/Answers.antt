@@ -18,19 +18,15 @@ replace-requires-clause-parts g c =
     let all = search.ensures.begins.left ∙ standard_named char_width K c.match_kind.result (kind_of c.args.self.now) (as_read c.args.self.now.folds (chars c.args.haystack.now)) c.in-Standard.is c.match_kind.ensures in
     gives_parts _ (StandsAtEnd char_width) search.result _ all (parts_of_text K c.args.self.now.folds (kind_of c.args.self.now) c.args.haystack.now c.utf8.haystack)
 
-pub returns-in-Standard-clause-whole : goal.returns-in-Standard-clause-whole
-returns-in-Standard-clause-whole g c =
+pub returns-in-Standard : goal.returns-in-Standard
+returns-in-Standard g c =
     let K = dictionary_of c.args.self.now in
     let search = c.find_iter-matches in
     let all = search.ensures.begins.left ∙ standard_named char_width K c.match_kind.result (kind_of c.args.self.now) (as_read c.args.self.now.folds (chars c.args.haystack.now)) c.in-Standard.is c.match_kind.ensures in
-    on_ok_weaker c.replace.result (λ f. f _ (gives_left (StandsAtEnd char_width) search.result _ all)) c.replace.ensures.whole
-
-pub returns-in-Standard-clause-beginning : goal.returns-in-Standard-clause-beginning
-returns-in-Standard-clause-beginning g c =
-    let K = dictionary_of c.args.self.now in
-    let search = c.find_iter-matches in
-    let all = search.ensures.begins.left ∙ standard_named char_width K c.match_kind.result (kind_of c.args.self.now) (as_read c.args.self.now.folds (chars c.args.haystack.now)) c.in-Standard.is c.match_kind.ensures in
-    on_err_weaker c.replace.result (λ f. f _ (gives_left (StandsAtEnd char_width) search.result _ all)) c.replace.ensures.beginning
+    record {
+      whole = on_ok_weaker c.replace.result (λ f. f _ (gives_left (StandsAtEnd char_width) search.result _ all)) c.replace.ensures.whole;
+      beginning = on_err_weaker c.replace.result (λ f. f _ (gives_left (StandsAtEnd char_width) search.result _ all)) c.replace.ensures.beginning;
+    }
 
 pub replace-requires-in-LeftmostLongest : goal.replace-requires-in-LeftmostLongest
 replace-requires-in-LeftmostLongest g c =

@@ -1,7 +1,7 @@
 -- The codes are those of all patterns, so each character of a key has one; a refusal of the elements comes last. Patterns that stand as they are read have folded keys where they are folded, and the filter passes at each key.
 use Rattle.std.specs.Prelude.{encode_utf8_all}
 use Rattle.std.proofs.Common.{◌≡◌, ◌∙◌, ℕ, List, length, map, ap, sym, subst, arith, None}
-use Rattle.std.proofs.lemmas.Result.{err_from_is_err_and}
+use Rattle.daachorse_core.proofs.Refusals.{at_error}
 use Rattle.daachorse_model.specs.Dictionary.{Dictionary, dictionary}
 use Rattle.daachorse_model.specs.Units.{char_width}
 use Rattle.daachorse_prefilter.proofs.KeyLaws.{passes_along}
@@ -35,19 +35,18 @@ returns-in_err-states-clause-err g c =
     let K : Dictionary g.row.V.Denot = dictionary c.args.settings.now.match_kind rs in
     let P : List ℕ → Type 0 = λ freqs. IsCodingOf freqs c.in_ok-mapper.mapper in
     let codes = codes_of c.args.patterns.now c.in_ok-freqs.freqs.items c.in_ok-mapper.mapper c.in_ok-freqs.ensures.ok (subst P c.deref.ensures.value c.in_ok-mapper.ensures.ok) in
-    let p = err_from_is_err_and c.from_residual-in_err-states.result c.from_residual-in_err-states.ensures.1 in
-    rw (p.1, p.2) (elements_refused c.args.settings.now.match_kind rs c.in_ok-mapper.mapper c.in_ok-nfa.ensures.ok.fit c.in_ok-nfa.ensures.ok.outputs codes c.in_err-states.field-0.0 _ (λ many. many K c.in_ok-nfa.ensures.ok.built) c.in_err-states.ensures.err)
+    at_error c.from_residual-in_err-states.result _ _ c.from_residual-in_err-states.ensures.1 (elements_refused c.args.settings.now.match_kind rs c.in_ok-mapper.mapper c.in_ok-nfa.ensures.ok.fit c.in_ok-nfa.ensures.ok.outputs codes c.in_err-states.field-0.0 _ (λ many. many K c.in_ok-nfa.ensures.ok.built) c.in_err-states.ensures.err)
 
-pub of_states-requires-clause-folded : goal.of_states-requires-clause-folded
-of_states-requires-clause-folded g c = λ on k key.
-    let kind = c.args.settings.now.match_kind in
-    let rs : List (List ℕ × g.row.V.Denot) = registered_texts c.args.patterns.now in
-    keys-as_read c.args.settings.now.ascii_case_insensitive kind rs c.requires on k (λ none. key (c.in_ok-states.ensures.ok (dictionary kind rs) c.in_ok-nfa.ensures.ok.built k ∙ none))
-
-pub of_states-requires-clause-filter : goal.of_states-requires-clause-filter
-of_states-requires-clause-filter g c =
-    let K : Dictionary g.row.V.Denot = dictionary c.args.settings.now.match_kind (registered_texts c.args.patterns.now) in
-    passes_along encode_utf8_all K (content c.in_ok-states.states) (c.in_ok-states.ensures.ok K c.in_ok-nfa.ensures.ok.built) c.in_ok-filter.filter (c.in_ok-filter.ensures.passes c.args.settings.now.match_kind)
+pub of_states-requires : goal.of_states-requires
+of_states-requires g c = record {
+  folded = λ on k key.
+      let kind = c.args.settings.now.match_kind in
+      let rs : List (List ℕ × g.row.V.Denot) = registered_texts c.args.patterns.now in
+      keys-as_read c.args.settings.now.ascii_case_insensitive kind rs c.requires on k (λ none. key (c.in_ok-states.ensures.ok (dictionary kind rs) c.in_ok-nfa.ensures.ok.built k ∙ none));
+  filter =
+      let K : Dictionary g.row.V.Denot = dictionary c.args.settings.now.match_kind (registered_texts c.args.patterns.now) in
+      passes_along encode_utf8_all K (content c.in_ok-states.states) (c.in_ok-states.ensures.ok K c.in_ok-nfa.ensures.ok.built) c.in_ok-filter.filter (c.in_ok-filter.ensures.passes c.args.settings.now.match_kind);
+}
 
 pub returns-clause-filter : goal.returns-clause-filter
 returns-clause-filter g c = c.of_states.ensures.filter ∙ c.in_ok-filter.ensures.ok

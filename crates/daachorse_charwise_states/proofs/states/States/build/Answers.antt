@@ -1,6 +1,6 @@
 -- What is built is packed, and the parts hold the builder's dictionary.
 use Rattle.std.proofs.Common.{◌≡◌, ◌-◌, ◌<◌, ◌≤◌, ◌^◌, ℕ, List, length, None, refl, ap, subst, sym, arith}
-use Rattle.std.proofs.lemmas.Result.{err_from_is_err_and}
+use Rattle.std.proofs.lemmas.Result.{IfOk-from_err, err_from_is_err_and}
 use Rattle.daachorse_core.specs.declared.errors.Limit.TheVariants.{NumElements}
 use Rattle.daachorse_core.specs.declared.outputs.Output.{Output}
 use Rattle.daachorse_core.proofs.Refusals.{IsRefusal-weaker}
@@ -42,29 +42,25 @@ pack-requires-clause-links g c = built-links char_width None c.args.kind c.args.
 pub pack-requires-clause-coded : goal.pack-requires-clause-coded
 pack-requires-clause-coded g c = edges-coded c.args.kind c.args.nfa c.requires.built.0 c.requires.built.1 c.args.mapper c.requires.built.2
 
-pub returns-in_err-states-clause-ok : goal.returns-in_err-states-clause-ok
-returns-in_err-states-clause-ok g c = let p = err_from_is_err_and c.from_residual.result c.from_residual.ensures.1 in rw p.1 tt
-
-pub returns-in_err-states-clause-kind : goal.returns-in_err-states-clause-kind
-returns-in_err-states-clause-kind g c = let p = err_from_is_err_and c.from_residual.result c.from_residual.ensures.1 in rw p.1 tt
-
-pub returns-in_err-states-clause-mapper : goal.returns-in_err-states-clause-mapper
-returns-in_err-states-clause-mapper g c = let p = err_from_is_err_and c.from_residual.result c.from_residual.ensures.1 in rw p.1 tt
-
-pub returns-in_err-states-clause-err : goal.returns-in_err-states-clause-err
-returns-in_err-states-clause-err g c =
-    let p = err_from_is_err_and c.from_residual.result c.from_residual.ensures.1 in
-    let block : ℕ = c.unwrap-block_len.result in
-    let least = block_least c.args.mapper.alphabet_size c.block_len.result block c.block_len.ensures c.unwrap-block_len.ensures in
-    let some : 0 < block = (let two : 2 ≤ block = (block_holds c.args.mapper.alphabet_size block least).0 in omega (arith, two)) in
-    let fits : block < 2 ^ 32 = omega arith in
-    let Passed : Type 0 = (K : Dictionary g.row.V.Denot) → IsBuiltFor c.args.kind c.args.nfa K → NeedsManyBlocks c.args.mapper K in
-    let many : HasManyGroups {A = g.row.A.Denot} (code_in c.args.mapper) block (states_of c.args.nfa) → Passed = λ passed K built. record {
-      block = block;
-      least = least;
-      prefixes = built-many char_width None c.args.kind c.args.nfa K built (code_in c.args.mapper) block some fits passed;
-    } in
-    rw (p.1, p.2) (IsRefusal-weaker ⊥ ⊥ NumElements (HasManyGroups {A = g.row.A.Denot} (code_in c.args.mapper) block (states_of c.args.nfa)) Passed (λ x. x) many c.in_err-states.field-0.0 c.in_err-states.ensures.err)
+pub returns-in_err-states : goal.returns-in_err-states
+returns-in_err-states g c = record {
+  ok = IfOk-from_err c.from_residual.result _ c.from_residual.ensures.0;
+  kind = IfOk-from_err c.from_residual.result _ c.from_residual.ensures.0;
+  mapper = IfOk-from_err c.from_residual.result _ c.from_residual.ensures.0;
+  err =
+      let p = err_from_is_err_and c.from_residual.result c.from_residual.ensures.1 in
+      let block : ℕ = c.unwrap-block_len.result in
+      let least = block_least c.args.mapper.alphabet_size c.block_len.result block c.block_len.ensures c.unwrap-block_len.ensures in
+      let some : 0 < block = (let two : 2 ≤ block = (block_holds c.args.mapper.alphabet_size block least).0 in omega (arith, two)) in
+      let fits : block < 2 ^ 32 = omega arith in
+      let Passed : Type 0 = (K : Dictionary g.row.V.Denot) → IsBuiltFor c.args.kind c.args.nfa K → NeedsManyBlocks c.args.mapper K in
+      let many : HasManyGroups {A = g.row.A.Denot} (code_in c.args.mapper) block (states_of c.args.nfa) → Passed = λ passed K built. record {
+        block = block;
+        least = least;
+        prefixes = built-many char_width None c.args.kind c.args.nfa K built (code_in c.args.mapper) block some fits passed;
+      } in
+      rw (p.1, p.2) (IsRefusal-weaker ⊥ ⊥ NumElements (HasManyGroups {A = g.row.A.Denot} (code_in c.args.mapper) block (states_of c.args.nfa)) Passed (λ x. x) many c.in_err-states.field-0.0 c.in_err-states.ensures.err);
+}
 
 pub invariant_of-result : goal.invariant_of-result
 invariant_of-result g c =

@@ -15,18 +15,13 @@ spells : (w : List ℕ) → flat_map encode_utf8 w ≡ encode_utf8_all w
 spells [] = refl
 spells (character ∷ w) = ap (λ v. encode_utf8 character ++ v) (spells w)
 
-pub passes_all-requires-clause-inside : goal.passes_all-requires-clause-inside
-passes_all-requires-clause-inside g c = (valid_machine c.in_ok-elements.elements.parts c.in_ok-elements.ensures.valid).inside
-
-pub passes_all-requires-clause-tell : goal.passes_all-requires-clause-tell
-passes_all-requires-clause-tell g c = valid_tells c.in_ok-elements.elements c.in_ok-elements.ensures.lettered.letters
-
-pub passes_all-requires-clause-some : goal.passes_all-requires-clause-some
-passes_all-requires-clause-some g c = (valid_machine c.in_ok-elements.elements.parts c.in_ok-elements.ensures.valid).some
-
-pub passes_all-requires-clause-tree : goal.passes_all-requires-clause-tree
-passes_all-requires-clause-tree g c =
-    let right = c.in_ok-elements.ensures.valid.sound.right in record { dead_no_child = right.dead_no_child; one_path = right.one_path }
+pub passes_all-requires : goal.passes_all-requires
+passes_all-requires g c = record {
+  inside = (valid_machine c.in_ok-elements.elements.parts c.in_ok-elements.ensures.valid).inside;
+  tell = valid_tells c.in_ok-elements.elements c.in_ok-elements.ensures.lettered.letters;
+  some = (valid_machine c.in_ok-elements.elements.parts c.in_ok-elements.ensures.valid).some;
+  tree = let right = c.in_ok-elements.ensures.valid.sound.right in record { dead_no_child = right.dead_no_child; one_path = right.one_path };
+}
 
 pub returns-clause-yes : goal.returns-clause-yes
 returns-clause-yes g c e =

@@ -8,19 +8,13 @@ use Rattle.daachorse_checker.proofs.places.Places.new.Goals as goal
 
 pub overflow_add-next : goal.overflow_add-next
 overflow_add-next g c =
-    let t = c.loop-next.places in
-    let a = c.args.array.now in
     let walk = c.loop-next.invariant.walk in
-    let most = few_places (g.E.Edges.child a) (g.E.Edges.group a) (g.E.Edges.edge a) (g.E.Edges.count a) c.requires.tell (λ i u j h. (c.requires.inside i u j h).0) t.order.items t.parents.items t.labels.items t.marks.items walk.places walk.marks_each in
-    omega (arith, most, c.num_elements-count.ensures.all, c.num_elements-count.ensures.few, c.loop-next-test.true, c.len.ensures)
+    omega (arith, few_places c.requires.tell walk.places walk.marks_each, c.num_elements-count.ensures.all, c.num_elements-count.ensures.few, c.loop-next-test.true, c.len.ensures)
 
 pub loop-next-smaller : goal.loop-next-smaller
 loop-next-smaller g c =
-    let t = c.loop-next.places in
-    let a = c.args.array.now in
     let walk = c.loop-next.invariant.walk in
-    let most = few_places (g.E.Edges.child a) (g.E.Edges.group a) (g.E.Edges.edge a) (g.E.Edges.count a) c.requires.tell (λ i u j h. (c.requires.inside i u j h).0) t.order.items t.parents.items t.labels.items t.marks.items walk.places walk.marks_each in
-    omega (arith, most, c.loop-next-test.true, c.len.ensures)
+    omega (arith, few_places c.requires.tell walk.places walk.marks_each, c.loop-next-test.true, c.len.ensures)
 
 pub returns-clause-yes : goal.returns-clause-yes
 returns-clause-yes g c =
@@ -30,7 +24,7 @@ returns-clause-yes g c =
     let done : c.loop-next.next ≡ length t.order.items = omega (arith, walk.within, c.loop-next-test.false, c.len.ensures) in
     let all : IsWalk (g.E.Edges.child a) (λ j. unit_of (g.E.Edges.edge a j)) (g.E.Edges.count a) t.order.items t.parents.items t.labels.items t.marks.items (length t.order.items) =
     subst (λ k. IsWalk (g.E.Edges.child a) (λ j. unit_of (g.E.Edges.edge a j)) (g.E.Edges.count a) t.order.items t.parents.items t.labels.items t.marks.items k) done walk in (
-      all_placed (g.E.Edges.child a) (g.E.Edges.group a) (g.E.Edges.edge a) (g.E.Edges.count a) c.requires.tell (λ i u j h. (c.requires.inside i u j h).0) t.order.items t.parents.items t.labels.items t.marks.items all,
+      all_placed c.requires.tell all,
       record { places = all.places; closed = all.closed; marks_each = all.marks_each },
     )
 

@@ -13,12 +13,11 @@ returns-then-index-label g c =
     let inv = c.loop-m.invariant in
     let at = is_child t.parents.items c.args.starts.now r.starts c.args.p r.within m inv.low (omega (arith, c.loop-m-test.true, inv.end)) in
     let label : c.index.result.now ≡ get_or t.labels.items m 0 = get_or_read t.labels.items m c.index.result.now (omega (arith, at.1, r.trie.1.each)) c.index.ensures 0 in
-    is_picked t.parents.items t.labels.items r.trie.0 r.trie.1 m c.args.p c.args.label at.0 at.1 at.2 (sym label ∙ c.if-index-label.true)
+    is_picked r.trie.1 m c.args.p c.args.label at.0 at.1 at.2 (sym label ∙ c.if-index-label.true)
 
 pub returns : goal.returns
 returns g c =
-    let t = c.args.self.now in
     let r = c.requires in
     let inv = c.loop-m.invariant in
-    none_picked t.parents.items t.labels.items r.trie.0 r.trie.1 c.args.starts.now c.args.p c.args.label r.starts r.within
+    none_picked r.trie.1 c.args.starts.now c.args.p c.args.label r.starts r.within
     (λ k low high. inv.none k low (omega (arith, high, inv.end, c.loop-m-test.false)))

@@ -12,7 +12,6 @@ returns-then-is_child g c =
     let t = c.args.self.now in
     let r = c.requires in
     let m = c.args.m in
-    let p = get_or t.parents.items m 0 in
     let l = get_or t.labels.items m 0 in
     let here = c.loop-here.here in
     let given = c.index-given.result.now in
@@ -20,10 +19,10 @@ returns-then-is_child g c =
     let label : c.index-label.result.now ≡ l = get_or_read t.labels.items m c.index-label.result.now (omega (arith, r.within, r.trie.1.each)) c.index-label.ensures 0 in
     let at = c.is_child.ensures c.if-is_child.true in
     let some : child t.parents.items t.labels.items here l ≡ Some given =
-    picked_some t.parents.items t.labels.items r.trie.0 r.trie.1 here l given (is_picked t.parents.items t.labels.items r.trie.0 r.trie.1 given here l at.0 at.1 at.2 (at.3 ∙ label)) at.0 in
-    let low = following_low t.parents.items t.labels.items r.trie.0 r.trie.1 t.stops.items t.fails.items r.each r.fall p l c.loop-here.below here is in
+    picked_some r.trie.1 here l given (is_picked r.trie.1 given here l at.0 at.1 at.2 (at.3 ∙ label)) at.0 in
+    let low = following_low r.trie.1 r.each r.fall is in
     let lt : here < length t.fails.items = omega (arith, low, c.len-count.ensures, c.loop-here-test.true) in
-    c.right_link.ensures ∙ following_found t.parents.items t.labels.items r.trie.0 r.trie.1 t.stops.items t.fails.items r.each r.fall p l c.loop-here.below here is m given 0 lt some
+    c.right_link.ensures ∙ following_found r.trie.1 r.each r.fall is m given 0 lt some
 
 pub loop-here-preserved : goal.loop-here-preserved
 loop-here-preserved g c =
@@ -36,10 +35,10 @@ loop-here-preserved g c =
     let found = c.child-found.result in
     let is = c.loop-here.invariant.is in
     let label : c.index-label.result.now ≡ l = get_or_read t.labels.items m c.index-label.result.now (omega (arith, r.within, r.trie.1.each)) c.index-label.ensures 0 in
-    let none = picked_none t.parents.items t.labels.items r.trie.0 r.trie.1 here c.index-label.result.now found c.child-found.ensures (omega (arith, c.if-found-gt0.false)) in
-    let low = following_low t.parents.items t.labels.items r.trie.0 r.trie.1 t.stops.items t.fails.items r.each r.fall p l c.loop-here.below here is in
+    let none = picked_none r.trie.1 here c.index-label.result.now found c.child-found.ensures (omega (arith, c.if-found-gt0.false)) in
+    let low = following_low r.trie.1 r.each r.fall is in
     let lt : here < length t.fails.items = omega (arith, low, c.len-count.ensures, c.loop-here-test.true) in
-    let next = following_next t.parents.items t.labels.items r.trie.0 r.trie.1 t.stops.items t.fails.items r.each r.fall p l c.loop-here.below here is lt (ap (λ x. child t.parents.items t.labels.items here x) (sym label) ∙ none) in
+    let next = following_next r.trie.1 r.each r.fall is lt (ap (λ x. child t.parents.items t.labels.items here x) (sym label) ∙ none) in
     record { is = subst (λ x. IsFollowing t.parents.items t.labels.items t.stops.items t.fails.items p l here x) (sym c.above-here-in-loop-here.ensures) next }
 
 pub returns : goal.returns
@@ -47,13 +46,10 @@ returns g c =
     let t = c.args.self.now in
     let r = c.requires in
     let m = c.args.m in
-    let p = get_or t.parents.items m 0 in
-    let l = get_or t.labels.items m 0 in
     let here = c.loop-here.here in
-    let below = c.loop-here.below in
     let top : here ≡ length t.fails.items = omega (arith, c.loop-here-test.false, c.len-count.ensures) in
     c.right_link-2.ensures ∙ ap (λ x. cond (stop t.stops.items m) (length t.fails.items) (or_top 0 x)) c.root_value.ensures
-    ∙ following_end t.parents.items t.labels.items r.trie.0 r.trie.1 t.stops.items t.fails.items r.each r.fall p l below here c.loop-here.invariant.is m top
+    ∙ following_end r.trie.1 r.each r.fall c.loop-here.invariant.is m top
 
 pub overflow_cast-count : goal.overflow_cast-count
 overflow_cast-count g c = omega (arith, c.len-count.ensures, c.requires.each, c.requires.few)
@@ -67,13 +63,6 @@ index-given-requires g c = subst (λ n. c.args.m < n) (sym (c.args.self.now.fail
 pub index-below-requires : goal.index-below-requires
 index-below-requires g c = subst (λ n. c.args.m < n) (sym c.args.self.now.parents.ok.0) c.requires.within
 
-pub above-here-requires-clause-within : goal.above-here-requires-clause-within
-above-here-requires-clause-within g c =
-    let t = c.args.self.now in
-    let r = c.requires in
-    let at : c.index-below.result.now ≡ get_or t.parents.items c.args.m 0 = get_or_read t.parents.items c.args.m c.index-below.result.now r.within c.index-below.ensures 0 in
-    omega (arith, at, r.trie.1.order.earlier c.args.m r.some r.within, r.within, r.each)
-
 pub is_child-requires : goal.is_child-requires
 is_child-requires g c = record { each = c.requires.trie.1.each }
 
@@ -85,7 +74,7 @@ loop-here-init g c =
     let p = get_or t.parents.items c.args.m 0 in
     let l = get_or t.labels.items c.args.m 0 in
     let lt : p < length t.fails.items = omega (arith, r.trie.1.order.earlier c.args.m r.some r.within, r.within, r.each) in
-    let start = following_start t.parents.items t.labels.items r.trie.0 r.trie.1 t.stops.items t.fails.items r.each r.fall p l lt in
+    let start : IsFollowing t.parents.items t.labels.items t.stops.items t.fails.items p l p (up t.fails.items p) = following_start r.trie.1 r.each r.fall p l lt in
     record {
       is = subst (λ x. IsFollowing t.parents.items t.labels.items t.stops.items t.fails.items p l x c.above-here.result) (sym at)
           (subst (λ x. IsFollowing t.parents.items t.labels.items t.stops.items t.fails.items p l p x) (sym (c.above-here.ensures ∙ ap (up t.fails.items) at)) start);
@@ -102,10 +91,8 @@ offset_bounds-starts-here g c = omega (arith, c.loop-here.auto.here-fits)
 
 pub bounds-starts-here : goal.bounds-starts-here
 bounds-starts-here g c =
-    let t = c.args.self.now in
     let r = c.requires in
-    let here = c.loop-here.here in
-    let low = following_low t.parents.items t.labels.items r.trie.0 r.trie.1 t.stops.items t.fails.items r.each r.fall (get_or t.parents.items c.args.m 0) (get_or t.labels.items c.args.m 0) c.loop-here.below here c.loop-here.invariant.is in
+    let low = following_low r.trie.1 r.each r.fall c.loop-here.invariant.is in
     omega (arith, low, c.len-count.ensures, c.loop-here-test.true, r.each, r.starts.each)
 
 pub overflow_cast-here-in-loop-here : goal.overflow_cast-here-in-loop-here
@@ -116,10 +103,8 @@ offset_bounds-starts-here-in-loop-here g c = omega (arith, c.loop-here.auto.here
 
 pub bounds-starts-here-in-loop-here : goal.bounds-starts-here-in-loop-here
 bounds-starts-here-in-loop-here g c =
-    let t = c.args.self.now in
     let r = c.requires in
-    let here = c.loop-here.here in
-    let low = following_low t.parents.items t.labels.items r.trie.0 r.trie.1 t.stops.items t.fails.items r.each r.fall (get_or t.parents.items c.args.m 0) (get_or t.labels.items c.args.m 0) c.loop-here.below here c.loop-here.invariant.is in
+    let low = following_low r.trie.1 r.each r.fall c.loop-here.invariant.is in
     omega (arith, low, r.each, r.starts.each)
 
 pub overflow_cast-children : goal.overflow_cast-children
@@ -131,77 +116,75 @@ overflow_add-left g c = omega (arith, c.saturating_sub-children.type_inv)
 pub overflow_sub-left : goal.overflow_sub-left
 overflow_sub-left g c = omega (arith, c.if-left-children.false)
 
-pub child-found-requires-clause-within : goal.child-found-requires-clause-within
-child-found-requires-clause-within g c =
-    let t = c.args.self.now in
-    let r = c.requires in
-    let here = c.loop-here.here in
-    let low = following_low t.parents.items t.labels.items r.trie.0 r.trie.1 t.stops.items t.fails.items r.each r.fall (get_or t.parents.items c.args.m 0) (get_or t.labels.items c.args.m 0) c.loop-here.below here c.loop-here.invariant.is in
-    omega (arith, low, c.len-count.ensures, c.loop-here-test.true, r.each)
-
 pub returns-then-found-gt0 : goal.returns-then-found-gt0
 returns-then-found-gt0 g c =
     let t = c.args.self.now in
     let r = c.requires in
     let m = c.args.m in
-    let p = get_or t.parents.items m 0 in
     let l = get_or t.labels.items m 0 in
     let here = c.loop-here.here in
     let found = c.child-found.result in
     let is = c.loop-here.invariant.is in
     let label : c.index-label.result.now ≡ l = get_or_read t.labels.items m c.index-label.result.now (omega (arith, r.within, r.trie.1.each)) c.index-label.ensures 0 in
-    let some = picked_some t.parents.items t.labels.items r.trie.0 r.trie.1 here c.index-label.result.now found c.child-found.ensures c.if-found-gt0.true in
-    let low = following_low t.parents.items t.labels.items r.trie.0 r.trie.1 t.stops.items t.fails.items r.each r.fall p l c.loop-here.below here is in
+    let some = picked_some r.trie.1 here c.index-label.result.now found c.child-found.ensures c.if-found-gt0.true in
+    let low = following_low r.trie.1 r.each r.fall is in
     let lt : here < length t.fails.items = omega (arith, low, c.len-count.ensures, c.loop-here-test.true) in
     c.right_link-then-found-gt0.ensures
-    ∙ following_found t.parents.items t.labels.items r.trie.0 r.trie.1 t.stops.items t.fails.items r.each r.fall p l c.loop-here.below here is m found 0 lt (ap (λ x. child t.parents.items t.labels.items here x) (sym label) ∙ some)
-
-pub above-here-requires-in-loop-here-clause-within : goal.above-here-requires-in-loop-here-clause-within
-above-here-requires-in-loop-here-clause-within g c =
-    let t = c.args.self.now in
-    let r = c.requires in
-    let here = c.loop-here.here in
-    let low = following_low t.parents.items t.labels.items r.trie.0 r.trie.1 t.stops.items t.fails.items r.each r.fall (get_or t.parents.items c.args.m 0) (get_or t.labels.items c.args.m 0) c.loop-here.below here c.loop-here.invariant.is in
-    omega (arith, low, c.len-count.ensures, c.loop-here-test.true)
+    ∙ following_found r.trie.1 r.each r.fall is m found 0 lt (ap (λ x. child t.parents.items t.labels.items here x) (sym label) ∙ some)
 
 pub loop-here-smaller : goal.loop-here-smaller
 loop-here-smaller g c = omega (arith, c.if-left-children.false)
 
-pub above-here-requires-clause-few : goal.above-here-requires-clause-few
-above-here-requires-clause-few g c = subst (λ n. n < 2 ^ 32) (sym c.requires.each) c.requires.few
+pub above-here-requires : goal.above-here-requires
+above-here-requires g c = record {
+  within =
+      let t = c.args.self.now in
+      let r = c.requires in
+      let at : c.index-below.result.now ≡ get_or t.parents.items c.args.m 0 = get_or_read t.parents.items c.args.m c.index-below.result.now r.within c.index-below.ensures 0 in
+      omega (arith, at, r.trie.1.order.earlier c.args.m r.some r.within, r.within, r.each);
+  few = subst (λ n. n < 2 ^ 32) (sym c.requires.each) c.requires.few;
+}
 
-pub right_link-requires-clause-few : goal.right_link-requires-clause-few
-right_link-requires-clause-few g c = subst (λ n. n < 2 ^ 32) (sym c.requires.each) c.requires.few
+pub right_link-requires : goal.right_link-requires
+right_link-requires g c = record {
+  few = subst (λ n. n < 2 ^ 32) (sym c.requires.each) c.requires.few;
+  within = subst (λ n. c.args.m < n) (sym c.requires.stops) c.requires.within;
+}
 
-pub right_link-requires-clause-within : goal.right_link-requires-clause-within
-right_link-requires-clause-within g c = subst (λ n. c.args.m < n) (sym c.requires.stops) c.requires.within
+pub child-found-requires : goal.child-found-requires
+child-found-requires g c = record {
+  within =
+      let r = c.requires in
+      let low = following_low r.trie.1 r.each r.fall c.loop-here.invariant.is in
+      omega (arith, low, c.len-count.ensures, c.loop-here-test.true, r.each);
+  trie = c.requires.trie;
+  few = c.requires.few;
+  starts = c.requires.starts;
+}
 
-pub child-found-requires-clause-trie : goal.child-found-requires-clause-trie
-child-found-requires-clause-trie g c = c.requires.trie
+pub right_link-requires-then-found-gt0 : goal.right_link-requires-then-found-gt0
+right_link-requires-then-found-gt0 g c = record {
+  few = subst (λ n. n < 2 ^ 32) (sym c.requires.each) c.requires.few;
+  within = subst (λ n. c.args.m < n) (sym c.requires.stops) c.requires.within;
+}
 
-pub child-found-requires-clause-few : goal.child-found-requires-clause-few
-child-found-requires-clause-few g c = c.requires.few
+pub above-here-requires-in-loop-here : goal.above-here-requires-in-loop-here
+above-here-requires-in-loop-here g c = record {
+  within =
+      let r = c.requires in
+      let low = following_low r.trie.1 r.each r.fall c.loop-here.invariant.is in
+      omega (arith, low, c.len-count.ensures, c.loop-here-test.true);
+  few = subst (λ n. n < 2 ^ 32) (sym c.requires.each) c.requires.few;
+}
 
-pub child-found-requires-clause-starts : goal.child-found-requires-clause-starts
-child-found-requires-clause-starts g c = c.requires.starts
+pub root_value-requires : goal.root_value-requires
+root_value-requires g c = record {
+  few = subst (λ n. n < 2 ^ 32) (sym c.requires.each) c.requires.few;
+  some = subst (λ n. 0 < n) (sym c.requires.stops) c.requires.trie.1.order.some;
+}
 
-pub right_link-requires-then-found-gt0-clause-few : goal.right_link-requires-then-found-gt0-clause-few
-right_link-requires-then-found-gt0-clause-few g c = subst (λ n. n < 2 ^ 32) (sym c.requires.each) c.requires.few
-
-pub right_link-requires-then-found-gt0-clause-within : goal.right_link-requires-then-found-gt0-clause-within
-right_link-requires-then-found-gt0-clause-within g c = subst (λ n. c.args.m < n) (sym c.requires.stops) c.requires.within
-
-pub above-here-requires-in-loop-here-clause-few : goal.above-here-requires-in-loop-here-clause-few
-above-here-requires-in-loop-here-clause-few g c = subst (λ n. n < 2 ^ 32) (sym c.requires.each) c.requires.few
-
-pub root_value-requires-clause-few : goal.root_value-requires-clause-few
-root_value-requires-clause-few g c = subst (λ n. n < 2 ^ 32) (sym c.requires.each) c.requires.few
-
-pub root_value-requires-clause-some : goal.root_value-requires-clause-some
-root_value-requires-clause-some g c = subst (λ n. 0 < n) (sym c.requires.stops) c.requires.trie.1.order.some
-
-pub right_link-requires-2-clause-few : goal.right_link-requires-2-clause-few
-right_link-requires-2-clause-few g c = subst (λ n. n < 2 ^ 32) (sym c.requires.each) c.requires.few
-
-pub right_link-requires-2-clause-within : goal.right_link-requires-2-clause-within
-right_link-requires-2-clause-within g c = subst (λ n. c.args.m < n) (sym c.requires.stops) c.requires.within
+pub right_link-requires-2 : goal.right_link-requires-2
+right_link-requires-2 g c = record {
+  few = subst (λ n. n < 2 ^ 32) (sym c.requires.each) c.requires.few;
+  within = subst (λ n. c.args.m < n) (sym c.requires.stops) c.requires.within;
+}

@@ -19,7 +19,6 @@ returns-then-link-index-clause-no g c e links =
 pub loop-m-preserved : goal.loop-m-preserved
 loop-m-preserved g c =
     let t = c.args.self.now in
-    let r = c.requires in
     let m = c.loop-m.m in
     let inv = c.loop-m.invariant in
     let lt : m < length t.fails.items = omega (arith, c.loop-m-test.true, c.len-count.ensures) in

@@ -1,7 +1,8 @@
 use Rattle.std.proofs.Common.{rules, ◌≡◌, ℕ, ◌+◌, ◌^◌, ◌<◌, ◌≤◌, length, sym, ap, ◌∙◌, refl, subst, get_or, replicate, arith}
 use Rattle.std.proofs.lemmas.List.{get_or_read, get_or-replicate, length-replicate}
-use Rattle.std.proofs.lemmas.Result.{IfOk-from_err, err_from_is_err_and}
+use Rattle.std.proofs.lemmas.Result.{IfOk-from_err}
 use Rattle.std.proofs.lemmas.Bool.{false≢true}
+use Rattle.daachorse_core.proofs.Refusals.{at_error, at_any_error}
 use Rattle.daachorse_links.specs.Places.{AreStarts, IsTrie}
 use Rattle.daachorse_links.specs.Near.{up, top, above, AreNear, IsAbove, IsSaved}
 use Rattle.daachorse_links.specs.Tours.{IsTouring}
@@ -40,21 +41,6 @@ loop-k-init g c =
           (subst (λ p. IsTouring t.parents.items t.labels.items t.stops.items t.fails.items next near' saved 0 n p n) (sym first) start);
     }
 
-pub above-above-requires-clause-within : goal.above-above-requires-clause-within
-above-above-requires-clause-within g c =
-    let t = c.args.self.now in
-    let k = c.loop-k in
-    let count : c.len-count.result ≡ length t.fails.items = c.len-count.ensures ∙ t.fails.ok.0 in
-    next_in t.parents.items t.labels.items t.stops.items t.fails.items c.args.alphabet c.requires.trie c.requires.each c.in_ok-tour.tour.items k.near.items k.saved.items k.k k.here k.next k.other k.invariant.touring (omega (arith, c.loop-k-test.true, count))
-
-pub retreat-requires-clause-above : goal.retreat-requires-clause-above
-retreat-requires-clause-above g c =
-    let t = c.args.self.now in
-    let k = c.loop-k in
-    let count : c.len-count.result ≡ length t.fails.items = c.len-count.ensures ∙ t.fails.ok.0 in
-    subst (λ q. IsAbove (up t.fails.items) q k.here) (sym c.above-above.ensures)
-    (next_above t.parents.items t.labels.items t.stops.items t.fails.items c.args.alphabet c.requires.trie c.requires.each c.in_ok-tour.tour.items k.near.items k.saved.items k.k k.here k.next k.other k.invariant.touring (omega (arith, c.loop-k-test.true, count)))
-
 pub returns-then-not-enter-clause-no : goal.returns-then-not-enter-clause-no
 returns-then-not-enter-clause-no g c e links =
     let t = c.args.self.now in
@@ -67,33 +53,6 @@ returns-clause-yes g c e =
     let count : c.len-count.result ≡ length t.fails.items = c.len-count.ensures ∙ t.fails.ok.0 in
     sound t.parents.items t.labels.items t.stops.items t.fails.items c.args.alphabet c.requires.trie c.requires.each (c.if-not-links_fall.ensures.yes refl)
     (touring_end t.parents.items t.labels.items t.stops.items t.fails.items c.args.alphabet c.requires.trie c.requires.each c.in_ok-tour.tour.items k.near.items k.saved.items k.k k.here k.next k.other k.invariant.touring (omega (arith, c.loop-k-test.false, count)))
-
-pub retreat-requires-clause-saved : goal.retreat-requires-clause-saved
-retreat-requires-clause-saved g c j =
-    let t = c.args.self.now in
-    let k = c.loop-k in
-    subst (λ xs. IsSaved t.parents.items t.labels.items t.fails.items xs (above (up t.fails.items) j k.here)) (sym c.deref-in-loop-k-2.ensures.value) (k.invariant.touring.path j)
-
-pub enter-requires-clause-within : goal.enter-requires-clause-within
-enter-requires-clause-within g c =
-    let t = c.args.self.now in
-    let k = c.loop-k in
-    let count : c.len-count.result ≡ length t.fails.items = c.len-count.ensures ∙ t.fails.ok.0 in
-    let lt = next_in t.parents.items t.labels.items t.stops.items t.fails.items c.args.alphabet c.requires.trie c.requires.each c.in_ok-tour.tour.items k.near.items k.saved.items k.k k.here k.next k.other k.invariant.touring (omega (arith, c.loop-k-test.true, count)) in
-    omega (arith, lt, c.requires.each)
-
-pub enter-requires-clause-other : goal.enter-requires-clause-other
-enter-requires-clause-other g c =
-    let t = c.args.self.now in
-    let k = c.loop-k in
-    let fs = t.fails.items in
-    let count : c.len-count.result ≡ length fs = c.len-count.ensures ∙ t.fails.ok.0 in
-    elim c.if-above-count.branch [
-      | then-above-count w ↦ w.other-is ∙ w.root_value-other.ensures ∙ sym (top_end (up fs) t.stops.items (length fs) (length fs) k.next (sym c.above-above.ensures ∙ w.if-above-count.true ∙ count))
-      | else-above-count w ↦
-          w.other-is ∙ same_other t.parents.items t.labels.items t.stops.items fs c.args.alphabet c.requires.trie c.requires.each c.in_ok-tour.tour.items k.near.items k.saved.items k.k k.here k.next k.other k.invariant.touring
-          (c.if-not-links_fall.ensures.yes refl) (omega (arith, c.loop-k-test.true, count)) (λ z. w.if-above-count.false (c.above-above.ensures ∙ z ∙ sym count))
-    ]
 
 pub index-next-requires-in-loop-k : goal.index-next-requires-in-loop-k
 index-next-requires-in-loop-k g c =
@@ -131,30 +90,6 @@ loop-k-preserved g c =
       touring = subst (λ p. IsTouring t.parents.items t.labels.items t.stops.items fs next c.enter.new.near.items c.enter.new.saved.items (k.k + 1) k.next p c.if-above-count.other) (sym read) step;
     }
 
-pub returns-in_err-starts-clause-yes : goal.returns-in_err-starts-clause-yes
-returns-in_err-starts-clause-yes g c = IfOk-from_err c.from_residual.result _ c.from_residual.ensures.0
-
-pub returns-in_err-starts-clause-no : goal.returns-in_err-starts-clause-no
-returns-in_err-starts-clause-no g c = IfOk-from_err c.from_residual.result _ c.from_residual.ensures.0
-
-pub returns-in_err-tour-clause-yes : goal.returns-in_err-tour-clause-yes
-returns-in_err-tour-clause-yes g c = IfOk-from_err c.from_residual-in_err-tour.result _ c.from_residual-in_err-tour.ensures.0
-
-pub returns-in_err-tour-clause-no : goal.returns-in_err-tour-clause-no
-returns-in_err-tour-clause-no g c = IfOk-from_err c.from_residual-in_err-tour.result _ c.from_residual-in_err-tour.ensures.0
-
-pub returns-in_err-near-clause-yes : goal.returns-in_err-near-clause-yes
-returns-in_err-near-clause-yes g c = IfOk-from_err c.from_residual-in_err-near.result _ c.from_residual-in_err-near.ensures.0
-
-pub returns-in_err-near-clause-no : goal.returns-in_err-near-clause-no
-returns-in_err-near-clause-no g c = IfOk-from_err c.from_residual-in_err-near.result _ c.from_residual-in_err-near.ensures.0
-
-pub returns-in_err-saved-clause-yes : goal.returns-in_err-saved-clause-yes
-returns-in_err-saved-clause-yes g c = IfOk-from_err c.from_residual-in_err-saved.result _ c.from_residual-in_err-saved.ensures.0
-
-pub returns-in_err-saved-clause-no : goal.returns-in_err-saved-clause-no
-returns-in_err-saved-clause-no g c = IfOk-from_err c.from_residual-in_err-saved.result _ c.from_residual-in_err-saved.ensures.0
-
 pub links_fall-requires : goal.links_fall-requires
 links_fall-requires g c = record { few = subst (λ n. n < 2 ^ 32) (sym c.requires.each) c.requires.few }
 
@@ -164,44 +99,42 @@ returns-then-not-links_fall-clause-yes g c e = absurd (false≢true e)
 pub overflow_cast-count : goal.overflow_cast-count
 overflow_cast-count g c = omega (arith, c.len-count.ensures, c.requires.each, c.requires.few)
 
-pub starts-requires-clause-order : goal.starts-requires-clause-order
-starts-requires-clause-order g c = c.requires.trie.order
+pub starts-requires : goal.starts-requires
+starts-requires g c = record {
+  order = c.requires.trie.order;
+  few = c.requires.few;
+}
 
-pub starts-requires-clause-few : goal.starts-requires-clause-few
-starts-requires-clause-few g c = c.requires.few
+pub returns-in_err-starts : goal.returns-in_err-starts
+returns-in_err-starts g c = record {
+  yes = IfOk-from_err c.from_residual.result _ c.from_residual.ensures.0;
+  no = IfOk-from_err c.from_residual.result _ c.from_residual.ensures.0;
+  err = at_error c.from_residual.result _ _ c.from_residual.ensures.1 c.in_err-starts.ensures.err;
+}
 
-pub returns-in_err-starts-clause-err : goal.returns-in_err-starts-clause-err
-returns-in_err-starts-clause-err g c =
-    let p = err_from_is_err_and c.from_residual.result c.from_residual.ensures.1 in
-    rw (p.1, p.2) c.in_err-starts.ensures.err
+pub returns-in_err-tour : goal.returns-in_err-tour
+returns-in_err-tour g c = record {
+  yes = IfOk-from_err c.from_residual-in_err-tour.result _ c.from_residual-in_err-tour.ensures.0;
+  no = IfOk-from_err c.from_residual-in_err-tour.result _ c.from_residual-in_err-tour.ensures.0;
+  err = at_error c.from_residual-in_err-tour.result _ _ c.from_residual-in_err-tour.ensures.1 c.in_err-tour.ensures.err;
+}
 
-pub returns-in_err-tour-clause-err : goal.returns-in_err-tour-clause-err
-returns-in_err-tour-clause-err g c =
-    let p = err_from_is_err_and c.from_residual-in_err-tour.result c.from_residual-in_err-tour.ensures.1 in
-    rw (p.1, p.2) c.in_err-tour.ensures.err
+pub returns-in_err-near : goal.returns-in_err-near
+returns-in_err-near g c = record {
+  yes = IfOk-from_err c.from_residual-in_err-near.result _ c.from_residual-in_err-near.ensures.0;
+  no = IfOk-from_err c.from_residual-in_err-near.result _ c.from_residual-in_err-near.ensures.0;
+  err = at_any_error c.from_residual-in_err-near.result _ c.from_residual-in_err-near.ensures.1;
+}
 
-pub returns-in_err-near-clause-err : goal.returns-in_err-near-clause-err
-returns-in_err-near-clause-err g c =
-    let p = err_from_is_err_and c.from_residual-in_err-near.result c.from_residual-in_err-near.ensures.1 in
-    rw p.1 p.2
-
-pub follows-requires-clause-trie : goal.follows-requires-clause-trie
-follows-requires-clause-trie g c = (c.args.alphabet, c.requires.trie)
-
-pub follows-requires-clause-each : goal.follows-requires-clause-each
-follows-requires-clause-each g c = c.requires.each
-
-pub follows-requires-clause-stops : goal.follows-requires-clause-stops
-follows-requires-clause-stops g c = c.requires.stops
-
-pub follows-requires-clause-few : goal.follows-requires-clause-few
-follows-requires-clause-few g c = c.requires.few
-
-pub follows-requires-clause-fall : goal.follows-requires-clause-fall
-follows-requires-clause-fall g c = c.if-not-links_fall.ensures.yes refl
-
-pub follows-requires-clause-starts : goal.follows-requires-clause-starts
-follows-requires-clause-starts g c = subst (AreStarts c.args.self.now.parents.items) (sym c.deref.ensures.value) c.in_ok-starts.ensures.ok
+pub follows-requires : goal.follows-requires
+follows-requires g c = record {
+  trie = (c.args.alphabet, c.requires.trie);
+  each = c.requires.each;
+  stops = c.requires.stops;
+  few = c.requires.few;
+  fall = c.if-not-links_fall.ensures.yes refl;
+  starts = subst (AreStarts c.args.self.now.parents.items) (sym c.deref.ensures.value) c.in_ok-starts.ensures.ok;
+}
 
 pub returns-in-Some-clause-yes : goal.returns-in-Some-clause-yes
 returns-in-Some-clause-yes g c = c.in-Some.ensures.yes
@@ -209,11 +142,11 @@ returns-in-Some-clause-yes g c = c.in-Some.ensures.yes
 pub returns-in-Some-clause-no : goal.returns-in-Some-clause-no
 returns-in-Some-clause-no g c = c.in-Some.ensures.no
 
-pub tour-requires-clause-few : goal.tour-requires-clause-few
-tour-requires-clause-few g c = subst (λ n. n < 2 ^ 32) (sym c.requires.each) c.requires.few
-
-pub tour-requires-clause-fall : goal.tour-requires-clause-fall
-tour-requires-clause-fall g c = c.if-not-links_fall.ensures.yes refl
+pub tour-requires : goal.tour-requires
+tour-requires g c = record {
+  few = subst (λ n. n < 2 ^ 32) (sym c.requires.each) c.requires.few;
+  fall = c.if-not-links_fall.ensures.yes refl;
+}
 
 pub overflow_cast-count-2 : goal.overflow_cast-count-2
 overflow_cast-count-2 g c = omega (arith, c.len-count.type_inv)
@@ -221,62 +154,69 @@ overflow_cast-count-2 g c = omega (arith, c.len-count.type_inv)
 pub index-next-requires : goal.index-next-requires
 index-next-requires g c = omega (arith, c.in_ok-tour.ensures.ok.size, c.len-count.ensures)
 
-pub above-above-requires-clause-few : goal.above-above-requires-clause-few
-above-above-requires-clause-few g c = subst (λ n. n < 2 ^ 32) (sym c.requires.each) c.requires.few
+pub above-above-requires : goal.above-above-requires
+above-above-requires g c = record {
+  within =
+      let t = c.args.self.now in
+      let k = c.loop-k in
+      let count : c.len-count.result ≡ length t.fails.items = c.len-count.ensures ∙ t.fails.ok.0 in
+      next_in t.parents.items t.labels.items t.stops.items t.fails.items c.args.alphabet c.requires.trie c.requires.each c.in_ok-tour.tour.items k.near.items k.saved.items k.k k.here k.next k.other k.invariant.touring (omega (arith, c.loop-k-test.true, count));
+  few = subst (λ n. n < 2 ^ 32) (sym c.requires.each) c.requires.few;
+}
 
-pub retreat-requires-clause-trie : goal.retreat-requires-clause-trie
-retreat-requires-clause-trie g c = subst (IsTrie c.args.self.now.parents.items c.args.self.now.labels.items) (sym c.loop-k.invariant.wide) c.requires.trie
+pub retreat-requires : goal.retreat-requires
+retreat-requires g c =
+    let t = c.args.self.now in
+    let k = c.loop-k in
+    record {
+      above =
+          let count : c.len-count.result ≡ length t.fails.items = c.len-count.ensures ∙ t.fails.ok.0 in
+          subst (λ q. IsAbove (up t.fails.items) q k.here) (sym c.above-above.ensures)
+          (next_above t.parents.items t.labels.items t.stops.items t.fails.items c.args.alphabet c.requires.trie c.requires.each c.in_ok-tour.tour.items k.near.items k.saved.items k.k k.here k.next k.other k.invariant.touring (omega (arith, c.loop-k-test.true, count)));
+      saved = λ j. subst (λ xs. IsSaved t.parents.items t.labels.items t.fails.items xs (above (up t.fails.items) j k.here)) (sym c.deref-in-loop-k-2.ensures.value) (k.invariant.touring.path j);
+      trie = subst (IsTrie c.args.self.now.parents.items c.args.self.now.labels.items) (sym c.loop-k.invariant.wide) c.requires.trie;
+      each = c.requires.each;
+      few = c.requires.few;
+      fall = c.if-not-links_fall.ensures.yes refl;
+      starts = subst (AreStarts c.args.self.now.parents.items) (sym c.deref-in-loop-k.ensures.value) c.in_ok-starts.ensures.ok;
+      within = subst (λ n. c.loop-k.here ≤ n) c.requires.each c.loop-k.invariant.touring.low;
+      size = ap length c.deref-in-loop-k-2.ensures.value ∙ c.loop-k.invariant.size;
+      near = c.loop-k.invariant.touring.near;
+    }
 
-pub retreat-requires-clause-each : goal.retreat-requires-clause-each
-retreat-requires-clause-each g c = c.requires.each
+pub root_value-other-requires : goal.root_value-other-requires
+root_value-other-requires g c = record {
+  few = subst (λ n. n < 2 ^ 32) (sym c.requires.each) c.requires.few;
+  some = subst (λ n. 0 < n) (sym c.requires.stops) c.requires.trie.order.some;
+}
 
-pub retreat-requires-clause-few : goal.retreat-requires-clause-few
-retreat-requires-clause-few g c = c.requires.few
-
-pub retreat-requires-clause-fall : goal.retreat-requires-clause-fall
-retreat-requires-clause-fall g c = c.if-not-links_fall.ensures.yes refl
-
-pub retreat-requires-clause-starts : goal.retreat-requires-clause-starts
-retreat-requires-clause-starts g c = subst (AreStarts c.args.self.now.parents.items) (sym c.deref-in-loop-k.ensures.value) c.in_ok-starts.ensures.ok
-
-pub retreat-requires-clause-within : goal.retreat-requires-clause-within
-retreat-requires-clause-within g c = subst (λ n. c.loop-k.here ≤ n) c.requires.each c.loop-k.invariant.touring.low
-
-pub retreat-requires-clause-size : goal.retreat-requires-clause-size
-retreat-requires-clause-size g c = ap length c.deref-in-loop-k-2.ensures.value ∙ c.loop-k.invariant.size
-
-pub retreat-requires-clause-near : goal.retreat-requires-clause-near
-retreat-requires-clause-near g c = c.loop-k.invariant.touring.near
-
-pub root_value-other-requires-clause-few : goal.root_value-other-requires-clause-few
-root_value-other-requires-clause-few g c = subst (λ n. n < 2 ^ 32) (sym c.requires.each) c.requires.few
-
-pub root_value-other-requires-clause-some : goal.root_value-other-requires-clause-some
-root_value-other-requires-clause-some g c = subst (λ n. 0 < n) (sym c.requires.stops) c.requires.trie.order.some
-
-pub enter-requires-clause-trie : goal.enter-requires-clause-trie
-enter-requires-clause-trie g c = subst (IsTrie c.args.self.now.parents.items c.args.self.now.labels.items) (sym (c.retreat.ensures.same ∙ c.loop-k.invariant.wide)) c.requires.trie
-
-pub enter-requires-clause-each : goal.enter-requires-clause-each
-enter-requires-clause-each g c = c.requires.each
-
-pub enter-requires-clause-stops : goal.enter-requires-clause-stops
-enter-requires-clause-stops g c = c.requires.stops
-
-pub enter-requires-clause-few : goal.enter-requires-clause-few
-enter-requires-clause-few g c = c.requires.few
-
-pub enter-requires-clause-fall : goal.enter-requires-clause-fall
-enter-requires-clause-fall g c = c.if-not-links_fall.ensures.yes refl
-
-pub enter-requires-clause-starts : goal.enter-requires-clause-starts
-enter-requires-clause-starts g c = subst (AreStarts c.args.self.now.parents.items) (sym c.deref-in-loop-k-3.ensures.value) c.in_ok-starts.ensures.ok
-
-pub enter-requires-clause-near : goal.enter-requires-clause-near
-enter-requires-clause-near g c = subst (AreNear c.args.self.now.parents.items c.args.self.now.labels.items c.args.self.now.fails.items c.retreat.new.near.items) c.above-above.ensures c.retreat.ensures.near
-
-pub enter-requires-clause-size : goal.enter-requires-clause-size
-enter-requires-clause-size g c = c.loop-k.invariant.size
+pub enter-requires : goal.enter-requires
+enter-requires g c =
+    let t = c.args.self.now in
+    let k = c.loop-k in
+    record {
+      within =
+          let count : c.len-count.result ≡ length t.fails.items = c.len-count.ensures ∙ t.fails.ok.0 in
+          let lt = next_in t.parents.items t.labels.items t.stops.items t.fails.items c.args.alphabet c.requires.trie c.requires.each c.in_ok-tour.tour.items k.near.items k.saved.items k.k k.here k.next k.other k.invariant.touring (omega (arith, c.loop-k-test.true, count)) in
+          omega (arith, lt, c.requires.each);
+      other =
+          let fs = t.fails.items in
+          let count : c.len-count.result ≡ length fs = c.len-count.ensures ∙ t.fails.ok.0 in
+          elim c.if-above-count.branch [
+            | then-above-count w ↦ w.other-is ∙ w.root_value-other.ensures ∙ sym (top_end (up fs) t.stops.items (length fs) (length fs) k.next (sym c.above-above.ensures ∙ w.if-above-count.true ∙ count))
+            | else-above-count w ↦
+                w.other-is ∙ same_other t.parents.items t.labels.items t.stops.items fs c.args.alphabet c.requires.trie c.requires.each c.in_ok-tour.tour.items k.near.items k.saved.items k.k k.here k.next k.other k.invariant.touring
+                (c.if-not-links_fall.ensures.yes refl) (omega (arith, c.loop-k-test.true, count)) (λ z. w.if-above-count.false (c.above-above.ensures ∙ z ∙ sym count))
+          ];
+      trie = subst (IsTrie c.args.self.now.parents.items c.args.self.now.labels.items) (sym (c.retreat.ensures.same ∙ c.loop-k.invariant.wide)) c.requires.trie;
+      each = c.requires.each;
+      stops = c.requires.stops;
+      few = c.requires.few;
+      fall = c.if-not-links_fall.ensures.yes refl;
+      starts = subst (AreStarts c.args.self.now.parents.items) (sym c.deref-in-loop-k-3.ensures.value) c.in_ok-starts.ensures.ok;
+      near = subst (AreNear c.args.self.now.parents.items c.args.self.now.labels.items c.args.self.now.fails.items c.retreat.new.near.items) c.above-above.ensures c.retreat.ensures.near;
+      size = c.loop-k.invariant.size;
+    }
 
 pub returns-then-not-enter-clause-yes : goal.returns-then-not-enter-clause-yes
 returns-then-not-enter-clause-yes g c e = absurd (false≢true e)
@@ -290,7 +230,9 @@ loop-k-smaller g c = omega (arith, c.loop-k-test.true)
 pub returns-clause-no : goal.returns-clause-no
 returns-clause-no g c e = absurd (false≢true (sym e))
 
-pub returns-in_err-saved-clause-err : goal.returns-in_err-saved-clause-err
-returns-in_err-saved-clause-err g c =
-    let p = err_from_is_err_and c.from_residual-in_err-saved.result c.from_residual-in_err-saved.ensures.1 in
-    rw p.1 p.2
+pub returns-in_err-saved : goal.returns-in_err-saved
+returns-in_err-saved g c = record {
+  yes = IfOk-from_err c.from_residual-in_err-saved.result _ c.from_residual-in_err-saved.ensures.0;
+  no = IfOk-from_err c.from_residual-in_err-saved.result _ c.from_residual-in_err-saved.ensures.0;
+  err = at_any_error c.from_residual-in_err-saved.result _ c.from_residual-in_err-saved.ensures.1;
+}

@@ -1,5 +1,5 @@
 -- Each place found is a boundary, or is passed over.
-use Rattle.std.proofs.Common.{◌≡◌, ℕ, ◌<◌, List, map, length, rules, refl, ap, arith}
+use Rattle.std.proofs.Common.{ℕ, ◌<◌, List, map, length, rules, refl, ap, arith}
 use Rattle.std.proofs.lemmas.List.{length-map}
 use Rattle.daachorse_prefilter.proofs.Boundaries.{step_found, step_past}
 use Rattle.daachorse_prefilter.proofs.prefilter.Prefilter.first_boundary.Goals as goal

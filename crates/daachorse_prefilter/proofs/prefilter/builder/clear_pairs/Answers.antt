@@ -19,7 +19,6 @@ loop-i-preserved c =
 
 pub returns-clause-marked : goal.returns-clause-marked
 returns-clause-marked c =
-    let near = c.loop-i.invariant.near in
     let which : (c.loop-i.i ≤ length c.args.window.now) ⊎ (c.loop-i.i ≡ 1) =
     elim (cases_lt (length c.args.window.now) 1) as (λ _. (c.loop-i.i ≤ length c.args.window.now) ⊎ (c.loop-i.i ≡ 1)) [ inl h ↦ inr (omega arith) | inr h ↦ inl (omega arith) ] in
     marked_end c.args.table.now c.loop-i.table c.args.window.now c.loop-i.i (omega arith) which c.loop-i.invariant.marked

@@ -33,7 +33,6 @@ returns-in_default c entries size counted =
 pub returns : goal.returns
 returns c entries size counted =
     let n = c.args.num_pairs in
-    let high = c.requires.high in
     let all : c.loop-place.place ≡ n = (let h = c.loop-place-test.false in let e = c.loop-place.auto.place-end in omega arith) in
     ap (λ bound. nat_le c.loop-place.ways bound) (one_shl (16 * n - 4) 128 (omega arith))
     ∙ ap (λ ways. nat_le ways (2 ^ (16 * n - 4))) (c.loop-place.invariant.product entries size counted ∙ ap (λ k. count_ways entries k) all)

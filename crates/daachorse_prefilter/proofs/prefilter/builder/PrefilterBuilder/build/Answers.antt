@@ -15,15 +15,14 @@ returns-then-not-is_sparse-clause-made g c patterns added =
 pub invariant_of-result : goal.invariant_of-result
 invariant_of-result g c = record { low = omega arith; high = c.args.self.short; sized = c.args.self.sized }
 
-pub returns-clause-made : goal.returns-clause-made
-returns-clause-made g c patterns added =
+pub returns : goal.returns
+returns g c =
     let b = c.args.self in
-    let P : List ℕ → Type 0 = λ xs. (k : ℕ) → get_or xs k 0 < 2 ^ 8 in
-    let bytes : P b.table.items = subst P c.deref.ensures.value c.in_range.ensures in
-    let sparse : is_sparse b.table.items (b.window_len - 1) ≡ true = sym (c.is_sparse.ensures b.table.items b.sized b.counted) ∙ c.if-not-is_sparse.false in
-    some_sparse b.table.items patterns b.window_len b.sized bytes (sym added.none ∙ c.if-self.false) added.shortest (omega arith) added.marked sparse
-
-pub returns-clause-sound : goal.returns-clause-sound
-returns-clause-sound g c patterns added =
-    let b = c.args.self in
-    sound b.table.items patterns b.window_len b.sized added.shortest (omega arith) added.marked
+    record {
+      made = λ patterns added.
+          let P : List ℕ → Type 0 = λ xs. (k : ℕ) → get_or xs k 0 < 2 ^ 8 in
+          let bytes : P b.table.items = subst P c.deref.ensures.value c.in_range.ensures in
+          let sparse : is_sparse b.table.items (b.window_len - 1) ≡ true = sym (c.is_sparse.ensures b.table.items b.sized b.counted) ∙ c.if-not-is_sparse.false in
+          some_sparse b.table.items patterns b.window_len b.sized bytes (sym added.none ∙ c.if-self.false) added.shortest (omega arith) added.marked sparse;
+      sound = λ patterns added. sound b.table.items patterns b.window_len b.sized added.shortest (omega arith) added.marked;
+    }

@@ -2,8 +2,8 @@
 use Rattle.daachorse_charwise_states.proofs.EdgeLaws.{valid_tree, valid_tells}
 use Rattle.daachorse_charwise_states.proofs.states.States.depths.Goals as goal
 
-pub depths-requires-clause-tree : goal.depths-requires-clause-tree
-depths-requires-clause-tree g c = valid_tree c.in_ok-elements.elements.parts c.in_ok-elements.ensures.valid c.in_ok-elements.ensures.few
+pub depths_by_parents-requires-clause-tree : goal.depths_by_parents-requires-clause-tree
+depths_by_parents-requires-clause-tree g c = valid_tree c.in_ok-elements.elements.parts c.in_ok-elements.ensures.valid c.in_ok-elements.ensures.few
 
-pub depths-requires-clause-tell : goal.depths-requires-clause-tell
-depths-requires-clause-tell g c = valid_tells c.in_ok-elements.elements c.in_ok-elements.ensures.lettered.letters
+pub depths_by_parents-requires-clause-tell : goal.depths_by_parents-requires-clause-tell
+depths_by_parents-requires-clause-tell g c = valid_tells c.in_ok-elements.elements c.in_ok-elements.ensures.lettered.letters

@@ -22,7 +22,7 @@ use crate::strings::text_of;
 use daachorse_checker::array::Array;
 use daachorse_core::errors::Result;
 use daachorse_core::{MatchKind, Output};
-use daachorse_listing::depths::depths;
+use daachorse_listing::climbs::depths_by_parents;
 use daachorse_listing::edges::Edges;
 use daachorse_listing::links::Links;
 use daachorse_listing::patterns::{Keys, Outputs, PatternWalk};
@@ -252,7 +252,7 @@ impl<V: Copy, A: Allocator + Copy> States<V, A> {
         ensures err { IfErr result IsOutOfMemory }
     {
         let elements = self.elements(alloc)?;
-        depths(alloc, &elements)
+        depths_by_parents(alloc, &elements)
     }
 
     /// All patterns with their values, as characters: in the order of these, which is the order of

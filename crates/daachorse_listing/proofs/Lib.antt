@@ -9,5 +9,6 @@ pub mod EntryLaws
 pub mod RoomLaws
 pub mod PatternLaws
 pub mod ReachLaws
+pub mod ClimbLaws
 pub mod MachineTrees
 pub mod MachineListings

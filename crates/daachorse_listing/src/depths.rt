@@ -15,7 +15,7 @@ use daachorse_core::errors::Result;
 use std::alloc::Allocator;
 
 /// The depth of an element that is not reached.
-const NOT_REACHED: u32 = u32::MAX;
+pub(crate) const NOT_REACHED: u32 = u32::MAX;
 
 /// Of each element how many units its text has; 4,294,967,295 of one that no text leads to.
 ///

@@ -47,6 +47,15 @@ put-left [] l k h = absurd h
 put-left (x ∷ xs) l k (inl e) = put-right xs (x ∷ l) k (inl e)
 put-left (x ∷ xs) l k (inr h) = put-left xs (x ∷ l) k h
 
+pub among-either : (xs : List ℕ) (k : ℕ) → IsAmong xs k ⊎ (¬ IsAmong xs k)
+among-either [] k = inr (λ h. h)
+among-either (x ∷ xs) k = at (either (k == x)) (among-either xs k)
+  where
+    at : ((k == x) ≡ true) ⊎ ((k == x) ≡ false) → IsAmong xs k ⊎ (¬ IsAmong xs k) → IsAmong (x ∷ xs) k ⊎ (¬ IsAmong (x ∷ xs) k)
+    at (inl e) rest = inl (inl (grind (arith, e)))
+    at (inr e) (inl h) = inl (inr h)
+    at (inr e) (inr out) = inr (λ h. elim h [ inl same ↦ (let bad : k ≢ x = grind (arith, e) in bad same) | inr more ↦ out more ])
+
 pub All-among : (P : ℕ → Type 0) (xs : List ℕ) → ((k : ℕ) → IsAmong xs k → P k) → AllByRecursion P xs
 All-among P [] h = tt
 All-among P (x ∷ xs) h = (h x (inl refl), All-among P xs (λ k a. h k (inr a)))

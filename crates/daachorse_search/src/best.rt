@@ -85,13 +85,7 @@ fn scan_to_match<V: Copy, A: Automaton<V>, H: Reread<A::Unit>>(
     ensures scans { ScansToMatch A.Unit.width (A.content automaton.now) (A.has_output automaton.now) (A.outputs automaton.now) (A.has_label automaton.now)
         (H.rest source.old) (H.rest source.new) (A.text automaton.now state.new) may_stop result turns.old turns.new }
 {
-    // Both are asked ahead of the loop, so that the loop is compiled for each answer and asks no more.
-    if source.is_folded() {
-        if may_stop {
-            return scan_units(automaton, source, state, may_stop, turns);
-        }
-        return scan_units(automaton, source, state, may_stop, turns);
-    }
+    // It is asked ahead of the loop, so that the loop is compiled for each answer and asks no more.
     if may_stop {
         return scan_units(automaton, source, state, may_stop, turns);
     }
@@ -135,31 +129,6 @@ fn scan_units<V: Copy, A: Automaton<V>, H: Reread<A::Unit>>(
 /// Reads on from the end of a match, and answers the best of all that is still to come.
 #[inline(always)]
 fn scan_on<V: Copy, A: Automaton<V>, H: Reread<A::Unit>>(
-    automaton: &A,
-    haystack: &H,
-    source: H,
-    state: u32,
-    position: NonZeroU32,
-    turns: &mut Turns,
-) -> Found
-    requires kind { IsLeftmost (A.content automaton.now) (A.dead automaton.now) }
-    requires reached { A.reached automaton.now state }
-    requires left { size A.Unit.width (H.rest source) ≤ size A.Unit.width (H.rest haystack.now) }
-    ensures { (before : ℕ) → IsScanning A.Unit.width (A.content automaton.now) (A.has_output automaton.now) (A.outputs automaton.now) (A.has_label automaton.now)
-        (H.rest haystack.now) (H.rest source) (A.text automaton.now state) (Some (position.value, size A.Unit.width (H.rest source))) before turns.old
-        → IsTheBest A.Unit.width (A.content automaton.now) (A.has_output automaton.now) (A.outputs automaton.now) (A.has_label automaton.now)
-        (H.rest haystack.now) result.position.value result.end before turns.new }
-{
-    // It is asked ahead of the loop, so that the loop is compiled for each answer and asks no more.
-    if source.is_folded() {
-        return scan_behind(automaton, haystack, source, state, position, turns);
-    }
-    scan_behind(automaton, haystack, source, state, position, turns)
-}
-
-/// Does the work of [`scan_on`], one unit at a time.
-#[inline(always)]
-fn scan_behind<V: Copy, A: Automaton<V>, H: Reread<A::Unit>>(
     automaton: &A,
     haystack: &H,
     source: H,

@@ -15,7 +15,8 @@ ghost use Rattle.daachorse_model.specs.Best.{IsLeftmost};
 ghost use Rattle.daachorse_model.specs.Leftmost.{leftmost};
 ghost use Rattle.daachorse_search.specs.BestScans.{HasNoLongerKey};
 ghost use Rattle.daachorse_search.specs.Filters.{IsSoundFor, PassesNowhere, count_passing};
-ghost use Rattle.daachorse_search.specs.LeftmostSearches.{SkipsUnit, IsSkipped};
+ghost use Rattle.daachorse_search.specs.LeftmostSearches.{SkipsUnit, StandsBehind, IsSkipped};
+ghost use Rattle.daachorse_search.specs.Matches.{GivesFirst};
 
 use crate::automaton::Automaton;
 use crate::best::{Scanned, scan_best};
@@ -148,22 +149,12 @@ impl<V: Copy, A: Automaton<V>, H: Reread<A::Unit>, F: Filter<A::Unit, H>> Leftmo
     {
         let _ = &self.place;
     }
-}
 
-impl<V: Copy, A: Automaton<V>, H: Reread<A::Unit>, F: Filter<A::Unit, H>> Iterator
-    for LeftmostMatches<V, A, H, F> {
-    ghost use Rattle.std.specs.Iterator.{item_count};
-    ghost use Rattle.daachorse_search.specs.Matches.{GivesFirst};
-    ghost use Rattle.daachorse_search.specs.LeftmostSearches.{StandsBehind};
-
-    type Item = Match<V>;
-
-    ghost next_gives = { GivesFirst (StandsBehind A.Unit.width) };
-
-    ghost remaining = { item_count (λ s. s.left) };
-
+    /// Does the work of `next`.
     #[inline(always)]
-    fn next(&mut self) -> Option<Match<V>> {
+    fn next_match(&mut self) -> Option<Match<V>>
+        ensures { GivesFirst (StandsBehind A.Unit.width) self.old result self.new }
+    {
         'scans: loop {
             if self.done {
                 return None;
@@ -197,6 +188,26 @@ impl<V: Copy, A: Automaton<V>, H: Reread<A::Unit>, F: Filter<A::Unit, H>> Iterat
                 }
             }
         }
+    }
+}
+
+impl<V: Copy, A: Automaton<V>, H: Reread<A::Unit>, F: Filter<A::Unit, H>> Iterator
+    for LeftmostMatches<V, A, H, F> {
+    ghost use Rattle.std.specs.Iterator.{item_count};
+
+    type Item = Match<V>;
+
+    ghost next_gives = { GivesFirst (StandsBehind A.Unit.width) };
+
+    ghost remaining = { item_count (λ s. s.left) };
+
+    #[inline(always)]
+    fn next(&mut self) -> Option<Match<V>> {
+        // It is asked ahead of all loops, so that they are compiled for each answer and ask no more.
+        if self.rest.is_folded() {
+            return self.next_match();
+        }
+        self.next_match()
     }
 }
 

@@ -1,7 +1,7 @@
 use Rattle.std.proofs.Common.{ℕ, ◌≤◌, length, Some}
 use Rattle.daachorse_model.specs.Units.{size}
 use Rattle.daachorse_search.specs.BestScans.{IsScanning}
-use Rattle.daachorse_search.proofs.best.scan_behind.Given as goal
+use Rattle.daachorse_search.proofs.best.scan_on.Given as goal
 
 abbrev pub invariant-units : goal.invariant-units
 invariant-units g l =

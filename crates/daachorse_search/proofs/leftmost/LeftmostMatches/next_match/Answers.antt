@@ -7,7 +7,7 @@ use Rattle.daachorse_model.specs.Units.{size}
 use Rattle.daachorse_model.proofs.Suffixes.{size-append}
 use Rattle.daachorse_search.specs.LeftmostSearches.{StandsBehind, IsResting, before_rest, leftmost_left}
 use Rattle.daachorse_search.proofs.LeftmostLemmas.{skipped, cleared, over_at, fewer_left, best_ends, best_fits, ends_at_once, ends_behind, output_fits, gives_key, gives_empty, stands_key, stands_empty}
-use Rattle.daachorse_search.proofs.leftmost.LeftmostMatchesIterator.next.Goals as goal
+use Rattle.daachorse_search.proofs.leftmost.LeftmostMatches.next_match.Goals as goal
 
 pub skip_places-may_stop-requires : goal.skip_places-may_stop-requires
 skip_places-may_stop-requires g c =
@@ -92,8 +92,8 @@ invariant_of-self-then-found-gt0 g c =
     let P : Bool → ℕ → Type 0 = λ d k. IsResting width K dead has p asked opened whole later (at + n) true d c.scan_best.new.turns k in
     (λ w. skip.ensures.passes w ∙ was.same w, subst (P s.done) (sym (ap (λ (x : SeenUnits). x.given) c.give.ensures)) (subst (λ d. P d (s.seen.given + 1)) (sym c.if-self.false) next.0))
 
-pub returns-then-found-gt0-clause-steps : goal.returns-then-found-gt0-clause-steps
-returns-then-found-gt0-clause-steps g c =
+pub returns-then-found-gt0 : goal.returns-then-found-gt0
+returns-then-found-gt0 g c =
     let A = g.A.Automaton in let F = g.F.Filter in let width = g.A.Unit.EdgeLabel.width in let rest = g.H.Haystack.rest in let s = c.scans.self-inside in let a = s.automaton in let was = c.scans.invariant in
     let K = A.content a in let dead = A.dead a in let has = A.has_label a in let whole = rest s.whole.value in let first = s.first_filter.value in let p = F.passes first in let asked = F.opened first in
     let skip = c.skip_places-may_stop in let text = rest skip.new.rest in let at : ℕ = skip.new.place in let opened = F.opened skip.new.filter in
@@ -115,26 +115,6 @@ returns-then-found-gt0-clause-steps g c =
     (output_fits width K dead has p asked (A.has_output a) (A.outputs a) text at c.in-Best.found.position.value n s.turns c.scan_best.new.turns _ _ _ c.in-Best.ensures c.output-output.ensures.value) in
     let B : Match g.row.V.Denot → Type 0 = λ x. StandsBehind width x whole (before_rest whole later) in
     record { automaton = was.automaton; filter = was.filter; haystack = was.haystack; first = fewer; counted = ap (λ (x : SeenUnits). x.given) c.give.ensures ∙ ap (λ k. k + 1) was.given; behind = subst B (sym is) stands }
-
-pub returns-then-found-gt0-clause-goes : goal.returns-then-found-gt0-clause-goes
-returns-then-found-gt0-clause-goes g c =
-    let A = g.A.Automaton in let F = g.F.Filter in let width = g.A.Unit.EdgeLabel.width in let rest = g.H.Haystack.rest in let s = c.scans.self-inside in let a = s.automaton in let was = c.scans.invariant in
-    let K = A.content a in let dead = A.dead a in let has = A.has_label a in let whole = rest s.whole.value in let first = s.first_filter.value in let p = F.passes first in let asked = F.opened first in
-    let skip = c.skip_places-may_stop in let text = rest skip.new.rest in let at : ℕ = skip.new.place in let opened = F.opened skip.new.filter in
-    let R : Bool → Type 0 = λ d. IsResting width K dead has p asked (F.opened s.filter) whole (rest s.rest) s.place s.after d s.turns s.seen.given in
-    let begun = skipped width K dead has p asked (F.passes s.filter) (F.opened s.filter) whole (rest s.rest) text s.place at s.after s.turns s.seen.given was.same (subst R c.if-self.false was.resting) skip.ensures.skipped in
-    let resting = begun.0 in
-    let L : Bool → Type 0 = λ d. leftmost_left width K s.place (rest s.rest) s.after d ≡ c.args.self.now.left in
-    let left : leftmost_left width K at text s.after false ≡ c.args.self.now.left = sym begun.1 ∙ subst L c.if-self.false was.left in
-    let o = c.output-output.result in let n : ℕ = c.in-Best.found.end in
-    let later = rest c.after-then-found-gt0.result in
-    let m : Match g.row.V.Denot = record { start = at + n - length_of o; end = at + n; value = value_of o } in
-    let is : c.to_match-best.result ≡ m = c.to_match-best.ensures in
-    let next = gives_key width K dead has p asked (A.has_output a) (A.outputs a) opened whole text later at c.in-Best.found.position.value n s.after s.turns c.scan_best.new.turns s.seen.given (value_of o) (length_of o) _ resting c.in-Best.ensures c.output-output.ensures.value
-    (ends_behind width K dead has p asked (A.has_output a) (A.outputs a) g.met.A.Unit.EdgeLabel.wide text c.in-Best.found.position.value c.in-Best.found.end s.turns c.scan_best.new.turns _ _ _ c.in-Best.ensures c.output-output.ensures.value (omega (arith, c.if-found-gt0.true))) c.after-then-found-gt0.ensures in
-    let fewer : c.args.self.now.left ≡ c.to_match-best.result ∷ leftmost_left width K (at + n) later true s.done =
-    sym left ∙ next.1 ∙ ap (λ x. x ∷ leftmost_left width K (at + n) later true false) (sym is) ∙ ap (λ d. c.to_match-best.result ∷ leftmost_left width K (at + n) later true d) (sym c.if-self.false) in
-    record { on = λ _. (tt, tt, omega (arith, ap length fewer)); keeps = tt; rests = λ _. tt }
 
 pub scans-preserved-in-Clear : goal.scans-preserved-in-Clear
 scans-preserved-in-Clear g c =
@@ -177,8 +157,8 @@ invariant_of-self-then-not-passed_over g c =
     let P : ℕ → Type 0 = λ k. IsResting width K dead has p asked opened whole later to false over c.scan_best.new.turns k in
     (λ w. skip.ensures.passes w ∙ was.same w, subst P (ap (λ b. cond b s.seen.given (s.seen.given + 1)) c.if-not-passed_over.true ∙ sym (ap (λ (x : SeenUnits). x.given) c.give-then-not-passed_over.ensures)) next.0)
 
-pub returns-then-not-passed_over-clause-steps : goal.returns-then-not-passed_over-clause-steps
-returns-then-not-passed_over-clause-steps g c =
+pub returns-then-not-passed_over : goal.returns-then-not-passed_over
+returns-then-not-passed_over g c =
     let A = g.A.Automaton in let F = g.F.Filter in let width = g.A.Unit.EdgeLabel.width in let rest = g.H.Haystack.rest in let s = c.scans.self-inside in let a = s.automaton in let was = c.scans.invariant in
     let K = A.content a in let dead = A.dead a in let has = A.has_label a in let whole = rest s.whole.value in let first = s.first_filter.value in let p = F.passes first in let asked = F.opened first in
     let skip = c.skip_places-may_stop in let text = rest skip.new.rest in let at : ℕ = skip.new.place in let opened = F.opened skip.new.filter in
@@ -200,26 +180,6 @@ returns-then-not-passed_over-clause-steps g c =
     (ends_at_once width K dead has p asked (A.has_output a) (A.outputs a) text c.in-Best.found.position.value c.in-Best.found.end s.turns c.scan_best.new.turns _ _ _ c.in-Best.ensures c.output-output.ensures.value (omega (arith, c.if-found-gt0.false))) c.skip_unit-self-inside.ensures in
     let B : Match g.row.V.Denot → Type 0 = λ x. StandsBehind width x whole (before_rest whole later) in
     record { automaton = was.automaton; filter = was.filter; haystack = was.haystack; first = fewer; counted = ap (λ (x : SeenUnits). x.given) c.give-then-not-passed_over.ensures ∙ ap (λ k. k + 1) was.given; behind = subst B (sym is) stands }
-
-pub returns-then-not-passed_over-clause-goes : goal.returns-then-not-passed_over-clause-goes
-returns-then-not-passed_over-clause-goes g c =
-    let A = g.A.Automaton in let F = g.F.Filter in let width = g.A.Unit.EdgeLabel.width in let rest = g.H.Haystack.rest in let s = c.scans.self-inside in let a = s.automaton in let was = c.scans.invariant in
-    let K = A.content a in let dead = A.dead a in let has = A.has_label a in let whole = rest s.whole.value in let first = s.first_filter.value in let p = F.passes first in let asked = F.opened first in
-    let skip = c.skip_places-may_stop in let text = rest skip.new.rest in let at : ℕ = skip.new.place in let opened = F.opened skip.new.filter in
-    let R : Bool → Type 0 = λ d. IsResting width K dead has p asked (F.opened s.filter) whole (rest s.rest) s.place s.after d s.turns s.seen.given in
-    let begun = skipped width K dead has p asked (F.passes s.filter) (F.opened s.filter) whole (rest s.rest) text s.place at s.after s.turns s.seen.given was.same (subst R c.if-self.false was.resting) skip.ensures.skipped in
-    let resting = begun.0 in
-    let L : Bool → Type 0 = λ d. leftmost_left width K s.place (rest s.rest) s.after d ≡ c.args.self.now.left in
-    let left : leftmost_left width K at text s.after false ≡ c.args.self.now.left = sym begun.1 ∙ subst L c.if-self.false was.left in
-    let o = c.output-output.result in let n : ℕ = c.in-Best.found.end in
-    let later = rest c.skip_unit-self-inside.new.rest in let to = c.skip_unit-self-inside.new.place in let over : Bool = c.skip_unit-self-inside.result in
-    let m : Match g.row.V.Denot = record { start = at + n - length_of o; end = at + n; value = value_of o } in
-    let is : c.to_match-best.result ≡ m = c.to_match-best.ensures in
-    let next = gives_empty width K dead has p asked (A.has_output a) (A.outputs a) g.met.A.Unit.EdgeLabel.wide opened whole text later at to c.in-Best.found.position.value n s.after over s.turns c.scan_best.new.turns s.seen.given (value_of o) (length_of o) _ resting c.in-Best.ensures c.output-output.ensures.value
-    (ends_at_once width K dead has p asked (A.has_output a) (A.outputs a) text c.in-Best.found.position.value c.in-Best.found.end s.turns c.scan_best.new.turns _ _ _ c.in-Best.ensures c.output-output.ensures.value (omega (arith, c.if-found-gt0.false))) c.skip_unit-self-inside.ensures in
-    let fewer : c.args.self.now.left ≡ c.to_match-best.result ∷ leftmost_left width K to later false over =
-    sym left ∙ next.1 ∙ ap (λ b. cond b [] (m ∷ []) ++ leftmost_left width K to later false over) c.if-not-passed_over.true ∙ ap (λ x. x ∷ leftmost_left width K to later false over) (sym is) in
-    record { on = λ _. (tt, tt, omega (arith, ap length fewer)); keeps = tt; rests = λ _. tt }
 
 pub scans-preserved : goal.scans-preserved
 scans-preserved g c =
@@ -262,8 +222,8 @@ scans-smaller-in-Clear g c =
       ap {B = ℕ} (λ d. cond d 0 1) c.if-self.false,
     )
 
-pub returns-then-self-clause-steps : goal.returns-then-self-clause-steps
-returns-then-self-clause-steps g c = grind (arith, common_steps)
+pub returns-then-self : goal.returns-then-self
+returns-then-self g c = grind (arith, common_steps)
 
 pub scans-smaller : goal.scans-smaller
 scans-smaller g c = grind (arith, common_steps)

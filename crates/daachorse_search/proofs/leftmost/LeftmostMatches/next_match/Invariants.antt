@@ -1,6 +1,6 @@
 use Rattle.std.proofs.Common.{◌≡◌, ℕ, ◌+◌, cond, List, length}
 use Rattle.daachorse_search.specs.LeftmostSearches.{IsResting, leftmost_left}
-use Rattle.daachorse_search.proofs.leftmost.LeftmostMatchesIterator.next.Given as goal
+use Rattle.daachorse_search.proofs.leftmost.LeftmostMatches.next_match.Given as goal
 
 abbrev pub invariant-scans : goal.invariant-scans
 invariant-scans g l =

@@ -1,7 +1,7 @@
 -- A text's bytes are those of its characters in a row, so the first characters and the others stand apart in it.
-use Rattle.std.proofs.Common.{◌≡◌, ◌+◌, ◌-◌, ◌<◌, ◌≤◌, ◌⊎◌, inl, inr, ℕ, Option, Some, None, List, [], ◌∷◌, ◌++◌, length, length-append, drop, true, refl, sym, ap, ◌∙◌, subst, arith}
-use Rattle.std.proofs.lemmas.Bool.{cases_lt}
-use Rattle.std.proofs.lemmas.List.{drop_all, drop_at, drop-drop, length-drop, nil_from_length}
+use Rattle.std.proofs.Common.{Bool, false, ◌≡◌, ◌+◌, ◌-◌, ◌<◌, ◌≤◌, ◌⊎◌, inl, inr, ℕ, Option, Some, None, List, [], ◌∷◌, ◌++◌, length, length-append, drop, true, refl, sym, ap, ◌∙◌, subst, arith}
+use Rattle.std.proofs.lemmas.Bool.{cases_lt, false≢true}
+use Rattle.std.proofs.lemmas.List.{drop_at, drop-drop, length-drop, nil_from_length}
 use Rattle.std.proofs.lemmas.Str.{chars-nil, chars-encodes, encode_ascii, encodes-append, encodes-chars, length-encode, scalars-chars, chars_past_char, drop_past_char, IsUtf8-drop, IsUtf8-past_char, IsCharBoundary-at_seam}
 use Rattle.std.proofs.Math.ListN.{get_or}
 use Rattle.std.proofs.Math.Utf8.{scalar, scalars, encode, encodes}
@@ -15,9 +15,8 @@ use Rattle.std.specs.declared.str.Chars.{Chars}
 use Rattle.daachorse_model.specs.Folding.{folded_unit}
 use Rattle.daachorse_model.specs.Units.{size, char_width}
 use Rattle.daachorse_model.proofs.Booleans.{both-true}
-use Rattle.daachorse_model.proofs.FoldLemmas.{folded_unit-past_ascii}
+use Rattle.daachorse_model.proofs.FoldLemmas.{folded_unit-ascii, folded_unit-past_ascii}
 use Rattle.daachorse_text.specs.DecodedSources.{size-encodes}
-use Rattle.daachorse_text.specs.Texts.{BeginsPastAscii}
 
 pub size-chars : (bs : List ℕ) → IsUtf8 bs → size char_width (chars bs) ≡ length bs
 size-chars bs u = size-encodes (chars bs) ∙ ap length (encodes-chars bs u)
@@ -81,6 +80,11 @@ past_ascii bs given first h u is low =
     (drop-next bs given h ∙ ap (λ b. b ∷ drop (given + 1) bs) (sym is) ∙ ap (λ w. w ++ drop (given + 1) bs) (sym (encode_ascii first low)))
     (omega (arith, h, length-drop (given + 1) bs))
 
+-- a text's first character, if it has one, is not ASCII
+abbrev pub BeginsPastAscii : List ℕ → Type 0
+BeginsPastAscii [] = Unit {0}
+BeginsPastAscii (c ∷ w) = 128 ≤ c
+
 -- where a text begins with a byte past ASCII, so does it with a character past ASCII
 first_past : (bs cs : List ℕ) (b : ℕ) (rest : List ℕ) → encodes cs ≡ bs → bs ≡ b ∷ rest → 128 ≤ b → BeginsPastAscii cs
 first_past bs [] b rest are is high = tt
@@ -95,15 +99,41 @@ first_past bs (c ∷ cs) b rest are is high = by (cases_lt c 128)
 pub begins_past : (bs : List ℕ) (given first : ℕ) → given < length bs → IsUtf8 (drop given bs) → first ≡ get_or bs given 0 → 128 ≤ first → BeginsPastAscii (chars (drop given bs))
 begins_past bs given first h u is high = first_past (drop given bs) (chars (drop given bs)) first (drop (given + 1) bs) (encodes-chars (drop given bs) u) (drop-next bs given h ∙ ap (λ b. b ∷ drop (given + 1) bs) (sym is)) high
 
-pub begins_nowhere : (bs : List ℕ) (given : ℕ) → length bs ≤ given → BeginsPastAscii (chars (drop given bs))
-begins_nowhere bs given h = subst BeginsPastAscii (sym (ap chars (drop_all given bs h) ∙ chars-nil)) tt
-
 -- a character past ASCII is folded to itself
 pub past_folded : (w : List ℕ) (r : Option ℕ) (t : List ℕ) → BeginsPastAscii w → YieldsFirst (λ (x : List ℕ). x) w r t → r ≡ option_map folded_unit r
 past_folded w None t past first = refl
 past_folded w (Some c) t past first =
     let high : 128 ≤ c = subst BeginsPastAscii first past in
     ap Some (sym (folded_unit-past_ascii c high))
+
+-- `first` is what the byte is read as, folded or not
+abbrev pub IsByteAsRead : Bool → ℕ → ℕ → Type 0
+IsByteAsRead folds byte first = ((folds ≡ true) × (first ≡ folded_unit byte)) ⊎ ((folds ≡ false) × (first ≡ byte))
+
+-- it is ASCII where the byte is
+pub ascii-byte : (folds : Bool) (byte first : ℕ) → IsByteAsRead folds byte first → first < 128 → byte < 128
+ascii-byte folds byte first (inl is) low = by (cases_lt byte 128)
+  where
+    by : (byte < 128) ⊎ (128 ≤ byte) → byte < 128
+    by (inl h) = h
+    by (inr high) = omega (arith, low, is.1, folded_unit-past_ascii byte high)
+ascii-byte folds byte first (inr is) low = omega (arith, low, is.1)
+
+pub past_ascii-byte : (folds : Bool) (byte first : ℕ) → IsByteAsRead folds byte first → 128 ≤ first → 128 ≤ byte
+past_ascii-byte folds byte first (inl is) high = by (cases_lt byte 128)
+  where
+    by : (byte < 128) ⊎ (128 ≤ byte) → 128 ≤ byte
+    by (inl low) = omega (arith, high, is.1, folded_unit-ascii byte low)
+    by (inr h) = h
+past_ascii-byte folds byte first (inr is) high = omega (arith, high, is.1)
+
+pub byte-as_it_is : (folds : Bool) (byte first : ℕ) → IsByteAsRead folds byte first → folds ≡ false → first ≡ byte
+byte-as_it_is folds byte first (inl is) not = absurd (false≢true (sym not ∙ is.0))
+byte-as_it_is folds byte first (inr is) not = is.1
+
+pub byte-folded : (folds : Bool) (byte first : ℕ) → IsByteAsRead folds byte first → folds ≡ true → first ≡ folded_unit byte
+byte-folded folds byte first (inl is) so = is.1
+byte-folded folds byte first (inr is) so = absurd (false≢true (sym is.0 ∙ so))
 
 -- a call of the string's characters takes the first one off, and what they leave is behind it
 pub past_steps : (bs seen : List ℕ) (given : ℕ) (s t : Chars) (r : Option ℕ) (left : List ℕ) → given ≤ length bs → IsUtf8 (drop given bs) → chars (drop given bs) ≡ seen → chars_rest s ≡ drop given bs → chars_steps s r t → left ≡ chars_rest t

@@ -1,4 +1,3 @@
 pub mod TextSources
 pub mod DecodedSources
 pub mod Midway
-pub mod Texts

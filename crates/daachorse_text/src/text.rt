@@ -3,11 +3,12 @@
 //! The layers above may rely on a text being the list of its characters that are still to come,
 //! and on what follows whole characters being found in constant time.
 
-ghost use Rattle.std.specs.Prelude.{◌≡◌, ◌<◌, ◌^◌, ◌∷◌, IfSome, IfNone};
+ghost use Rattle.std.specs.Prelude.{◌≡◌, ◌<◌, ◌^◌, true, false};
 ghost use Rattle.std.specs.Iterator.{YieldsFirst};
 ghost use Rattle.std.specs.Str.{chars};
+ghost use Rattle.daachorse_model.specs.Folding.{folded_unit};
 ghost use Rattle.daachorse_model.specs.Units.{size, char_width};
-ghost use Rattle.daachorse_text.specs.Texts.{BeginsPastAscii};
+ghost use Rattle.daachorse_search.specs.FoldedSources.{GivesFolded};
 
 use daachorse_core::ascii_fold::AsciiFold;
 use daachorse_search::folded::FoldHaystack;
@@ -55,21 +56,24 @@ impl<'a> Text<'a> {
         &self.text[self.given..]
     }
 
-    /// Takes the next character if it is ASCII, and gives its byte.
+    /// Takes the next character, folded where `folds` says so.
     #[inline(always)]
-    fn take_ascii(&mut self) -> Option<u8>
-        ensures some { IfSome result (λ byte. (byte < 128) × (self.old ≡ byte ∷ self.new)) }
-        ensures none { IfNone result ((self.new ≡ self.old) × BeginsPastAscii self.old) }
+    fn take(&mut self, folds: bool) -> Option<char>
+        ensures as_it_is { folds ≡ false → YieldsFirst (λ w. w) self.old result self.new }
+        ensures folded { folds ≡ true → GivesFolded folded_unit (YieldsFirst (λ w. w)) self.old result self.new }
     {
         if self.given == self.text.len() {
             return None;
         }
-        let first = self.text.as_bytes()[self.given];
-        if first >= 0x80 {
-            return None;
+        let byte = self.text.as_bytes()[self.given];
+        // A byte past ASCII is folded to itself, as a character past ASCII is.
+        let first = if folds { byte.folded() } else { byte };
+        // An ASCII character is its byte, and takes no more work.
+        if first < 0x80 {
+            self.given += 1;
+            return Some(char::from(first));
         }
-        self.given += 1;
-        Some(first)
+        self.take_character()
     }
 
     /// Takes the next character, however many bytes it has.
@@ -95,11 +99,7 @@ impl<'a> Iterator for Text<'a> {
 
     #[inline(always)]
     fn next(&mut self) -> Option<char> {
-        // ASCII is asked for first, since its characters take no more work.
-        if let Some(byte) = self.take_ascii() {
-            return Some(char::from(byte));
-        }
-        self.take_character()
+        self.take(false)
     }
 }
 
@@ -129,12 +129,8 @@ impl<'a> Reread<char> for Text<'a> {
 }
 
 impl<'a> FoldHaystack<char> for Text<'a> {
-    // Of the characters past ASCII each is folded to itself.
     #[inline(always)]
     fn next_folded(&mut self) -> Option<char> {
-        if let Some(byte) = self.take_ascii() {
-            return Some(char::from(byte.folded()));
-        }
-        self.take_character()
+        self.take(true)
     }
 }

@@ -24,7 +24,8 @@ rounds=${ROUNDS:-15}
 seeds=${SEEDS:-5}
 units=${UNITS:-bytes chars}
 searches="find overlapping no_suffix longest first tokens find_source overlapping_source no_suffix_source find_stepper overlapping_stepper"
-others="list depths write read_unchecked read"
+rows="rows_find rows_overlapping rows_no_suffix rows_longest rows_first"
+others="list depths write read_unchecked read accelerate"
 
 # The static library, over a copy of the repository's crates, and the driver, linked SEEDS times
 # with its sections in another order.
@@ -85,7 +86,7 @@ count_all() {
     part=$(wc -c < "$3")
     [ "$part" -lt "$bytes" ] || part=$bytes
     printf 'what\tours instructions a byte\ttheirs\tratio\n'
-    for mode in ${MODES-$searches $others}; do
+    for mode in ${MODES-$searches $rows $others}; do
         case "$1 $mode" in "bytes tokens") continue ;; esac
         case " $others " in *" $mode "*) size=$(wc -c < "$2") ;; *) size=$part ;; esac
         count "$mode" "$size" rounds "$1" "$mode" "$2" "$3" "$bytes"

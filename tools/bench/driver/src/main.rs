@@ -64,6 +64,10 @@ fn least_and_median(mut times: Vec<Duration>) -> (f64, f64) {
 
 /// One line: both sides' least and median in milliseconds, the least in MB/s, and the ratios.
 fn print_line(name: &str, bytes: usize, ours: Vec<Duration>, theirs: Vec<Duration>) {
+    if ours.is_empty() {
+        println!("{name}\tno room for rows");
+        return;
+    }
     let (our_least, our_median) = least_and_median(ours);
     let (their_least, their_median) = least_and_median(theirs);
     let speed = |ms: f64| bytes as f64 / 1e3 / ms;

@@ -43,9 +43,17 @@ pub enum Mode {
     Write,
     ReadUnchecked,
     Read,
+    /// Ours makes rows of the states; the Rust crate's does nothing.
+    Accelerate,
+    /// Ours searches with rows of the states; the Rust crate's searches as it does without.
+    RowsFind,
+    RowsOverlapping,
+    RowsNoSuffix,
+    RowsLongest,
+    RowsFirst,
 }
 
-const MODES: [(Mode, &str); 16] = [
+const MODES: [(Mode, &str); 22] = [
     (Mode::Find, "find"),
     (Mode::Overlapping, "overlapping"),
     (Mode::NoSuffix, "no_suffix"),
@@ -62,6 +70,12 @@ const MODES: [(Mode, &str); 16] = [
     (Mode::Write, "write"),
     (Mode::ReadUnchecked, "read_unchecked"),
     (Mode::Read, "read"),
+    (Mode::Accelerate, "accelerate"),
+    (Mode::RowsFind, "rows_find"),
+    (Mode::RowsOverlapping, "rows_overlapping"),
+    (Mode::RowsNoSuffix, "rows_no_suffix"),
+    (Mode::RowsLongest, "rows_longest"),
+    (Mode::RowsFirst, "rows_first"),
 ];
 
 impl Mode {
@@ -92,13 +106,13 @@ impl Mode {
 
     /// Whether a round goes over the text, and not over the automaton.
     pub fn is_search(self) -> bool {
-        (self as u32) < Mode::List as u32
+        (self as u32) < Mode::List as u32 || (self as u32) > Mode::Accelerate as u32
     }
 
     fn kind(self) -> MatchKind {
         match self {
-            Mode::Longest | Mode::Tokens => MatchKind::LeftmostLongest,
-            Mode::First => MatchKind::LeftmostFirst,
+            Mode::Longest | Mode::Tokens | Mode::RowsLongest => MatchKind::LeftmostLongest,
+            Mode::First | Mode::RowsFirst => MatchKind::LeftmostFirst,
             _ => MatchKind::Standard,
         }
     }
@@ -196,10 +210,10 @@ macro_rules! rounds {
 
             pub fn round(automaton: &mut Automaton, written: &[u8], text: &$text, units: &[$unit], mode: Mode) -> Tally {
                 match mode {
-                    Mode::Find => find(automaton, text),
-                    Mode::Overlapping => overlapping(automaton, text),
-                    Mode::NoSuffix => no_suffix(automaton, text),
-                    Mode::Longest | Mode::First | Mode::Tokens => leftmost(automaton, text),
+                    Mode::Find | Mode::RowsFind => find(automaton, text),
+                    Mode::Overlapping | Mode::RowsOverlapping => overlapping(automaton, text),
+                    Mode::NoSuffix | Mode::RowsNoSuffix => no_suffix(automaton, text),
+                    Mode::Longest | Mode::First | Mode::Tokens | Mode::RowsLongest | Mode::RowsFirst => leftmost(automaton, text),
                     Mode::FindSource => find_source(automaton, text),
                     Mode::OverlappingSource => overlapping_source(automaton, text),
                     Mode::NoSuffixSource => no_suffix_source(automaton, text),
@@ -210,6 +224,7 @@ macro_rules! rounds {
                     Mode::Write => write(automaton),
                     Mode::ReadUnchecked => read_unchecked(written),
                     Mode::Read => read(written),
+                    Mode::Accelerate => Tally::default(),
                 }
             }
 

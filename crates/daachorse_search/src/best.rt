@@ -85,8 +85,9 @@ fn scan_to_match<V: Copy, A: Automaton<V>, H: Reread<A::Unit>>(
     ensures scans { ScansToMatch A.Unit.width (A.content automaton.now) (A.has_output automaton.now) (A.outputs automaton.now) (A.has_label automaton.now)
         (H.rest source.old) (H.rest source.new) (A.text automaton.now state.new) may_stop result turns.old turns.new }
 {
-    // It is asked ahead of the loop, so that the loop is compiled for each answer and asks no more.
-    if may_stop {
+    // Both are asked ahead of the loop, so that it is compiled once more for a search that reads its haystack as it is
+    // past a closed filter, and asks neither there.
+    if may_stop || source.is_folded() {
         return scan_units(automaton, source, state, may_stop, turns);
     }
     scan_units(automaton, source, state, may_stop, turns)

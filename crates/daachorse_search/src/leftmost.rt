@@ -203,10 +203,6 @@ impl<V: Copy, A: Automaton<V>, H: Reread<A::Unit>, F: Filter<A::Unit, H>> Iterat
 
     #[inline(always)]
     fn next(&mut self) -> Option<Match<V>> {
-        // It is asked ahead of all loops, so that they are compiled for each answer and ask no more.
-        if self.rest.is_folded() {
-            return self.next_match();
-        }
         self.next_match()
     }
 }

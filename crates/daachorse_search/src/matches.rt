@@ -268,14 +268,9 @@ fn read_on<V: Copy, W: Stepwise<V>, H: Haystack<W::Unit>>(
 ) -> Option<NonZeroU32>
     ensures { ReadsOn W.automaton W.read W.found W.has_output W.given_from walk.old (H.rest rest.old) result walk.new (H.rest rest.new) }
 {
-    // Both are asked ahead of the loop, so that the loop is compiled for each answer and asks no more.
-    if rest.is_folded() {
-        if walk.finds_everywhere() {
-            return read_units(walk, rest);
-        }
-        return read_units(walk, rest);
-    }
-    if walk.finds_everywhere() {
+    // Both are asked ahead of the loop, so that it is compiled once more for a search that reads its haystack as it is
+    // and gives nothing without a look, and asks neither there.
+    if rest.is_folded() || walk.finds_everywhere() {
         return read_units(walk, rest);
     }
     read_units(walk, rest)

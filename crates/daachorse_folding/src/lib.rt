@@ -1,7 +1,7 @@
 //! Searches that read what they are given as it is, or without regard to the case of ASCII letters.
 //!
-//! Each asks once a call whether it folds, and a stepper at each unit. The layers above may rely on each
-//! giving what the search of its name gives over its haystack as it is read.
+//! Each asks once a call whether it folds; a stepper and a folded haystack ask at each unit. The layers above
+//! may rely on each giving what the search of its name gives over its haystack as it is read.
 #![tactic(auto)]
 
 pub mod filter;

@@ -45,9 +45,9 @@ struct Mark<H> {
 }
 
 /// The match with the least start of all in the haystack, and of those the longest. A scan that
-/// may stop does so at the root, where no match is pending.
+/// may stop does so at the root, where no match is pending. `FOLDED` is that of the search that it is compiled for.
 #[inline(always)]
-pub fn scan_best<V: Copy, A: Automaton<V>, H: Reread<A::Unit>>(
+pub fn scan_best<V: Copy, A: Automaton<V>, H: Reread<A::Unit>, const FOLDED: bool>(
     automaton: &A,
     haystack: &H,
     may_stop: bool,
@@ -60,7 +60,7 @@ pub fn scan_best<V: Copy, A: Automaton<V>, H: Reread<A::Unit>>(
 {
     let mut source = haystack.after(0);
     let mut state = automaton.root();
-    match scan_to_match(automaton, &mut source, &mut state, may_stop, turns) {
+    match scan_to_match::<V, A, H, FOLDED>(automaton, &mut source, &mut state, may_stop, turns) {
         Some(position) => {
             Scanned::Best(scan_on(automaton, haystack, source, state, position, turns))
         }
@@ -71,7 +71,7 @@ pub fn scan_best<V: Copy, A: Automaton<V>, H: Reread<A::Unit>>(
 /// Reads on from the root while nothing occurs, and answers the position of the first output of the
 /// match that ends first; `None` where the haystack ends, or at the root where the scan may stop.
 #[inline(always)]
-fn scan_to_match<V: Copy, A: Automaton<V>, H: Reread<A::Unit>>(
+fn scan_to_match<V: Copy, A: Automaton<V>, H: Reread<A::Unit>, const FOLDED: bool>(
     automaton: &A,
     source: &mut H,
     state: &mut u32,
@@ -85,9 +85,8 @@ fn scan_to_match<V: Copy, A: Automaton<V>, H: Reread<A::Unit>>(
     ensures scans { ScansToMatch A.Unit.width (A.content automaton.now) (A.has_output automaton.now) (A.outputs automaton.now) (A.has_label automaton.now)
         (H.rest source.old) (H.rest source.new) (A.text automaton.now state.new) may_stop result turns.old turns.new }
 {
-    // Both are asked ahead of the loop, so that it is compiled once more for a search that reads its haystack as it is
-    // past a closed filter, and asks neither there.
-    if may_stop || source.is_folded() {
+    // It is asked ahead of the loop, which is compiled for each answer and asks no more.
+    if may_stop {
         return scan_units(automaton, source, state, may_stop, turns);
     }
     scan_units(automaton, source, state, may_stop, turns)

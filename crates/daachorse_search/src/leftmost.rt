@@ -150,9 +150,10 @@ impl<V: Copy, A: Automaton<V>, H: Reread<A::Unit>, F: Filter<A::Unit, H>> Leftmo
         let _ = &self.place;
     }
 
-    /// Does the work of `next`.
+    /// Does the work of `next`. It is compiled by itself for a folded haystack, which `FOLDED` names and changes
+    /// nothing else by.
     #[inline(always)]
-    fn next_match(&mut self) -> Option<Match<V>>
+    fn next_match<const FOLDED: bool>(&mut self) -> Option<Match<V>>
         ensures { GivesFirst (StandsBehind A.Unit.width) self.old result self.new }
     {
         'scans: loop {
@@ -160,7 +161,8 @@ impl<V: Copy, A: Automaton<V>, H: Reread<A::Unit>, F: Filter<A::Unit, H>> Leftmo
                 return None;
             }
             let may_stop = skip_places(&mut self.filter, &mut self.rest, &mut self.place);
-            match scan_best(&self.automaton, &self.rest, may_stop, &mut self.turns) {
+            let turns = &mut self.turns;
+            match scan_best::<V, A, H, FOLDED>(&self.automaton, &self.rest, may_stop, turns) {
                 Scanned::Clear(end) => {
                     self.rest = self.rest.after(end);
                     self.place += end;
@@ -203,7 +205,11 @@ impl<V: Copy, A: Automaton<V>, H: Reread<A::Unit>, F: Filter<A::Unit, H>> Iterat
 
     #[inline(always)]
     fn next(&mut self) -> Option<Match<V>> {
-        self.next_match()
+        // It is asked ahead of all loops, which are compiled for each answer and ask no more.
+        if self.rest.is_folded() {
+            return self.next_match::<true>();
+        }
+        self.next_match::<false>()
     }
 }
 

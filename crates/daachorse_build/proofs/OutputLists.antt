@@ -1,7 +1,7 @@
 -- The lists of outputs, state by state: a state's own outputs and then the list of its link, which has those of the longest proper suffix that is a state's text.
 use Rattle.std.proofs.Common.{◌≡◌, ◌≢◌, ℕ, ◌+◌, ◌<◌, ◌≤◌, ◌⊎◌, Bool, true, false, cond, List, [], ◌∷◌, ◌++◌, length, map, get_or, take, Option, Some, None, is_some, zero, suc, refl, sym, ap, ◌∙◌, subst, inl, inr, length-append, arith}
 use Rattle.std.proofs.lemmas.Option.{same_Some}
-use Rattle.std.proofs.lemmas.Bool.{cases_Bool}
+use Rattle.std.proofs.lemmas.Bool.{cases_Bool, cond-true, cond-false}
 use Rattle.std.proofs.lemmas.List.{append-nil, length-map, take_more}
 use Rattle.std.specs.declared.cmp.Ordering.{Ordering}
 use Rattle.std.specs.declared.cmp.Ordering.TheVariants.{Equal}
@@ -20,7 +20,7 @@ use Rattle.daachorse_build.specs.Orders.{IsIn, IsKnown, IsLinkAmong, children, I
 use Rattle.daachorse_build.specs.Holds.{in_units, Holds}
 use Rattle.daachorse_build.specs.Lists.{suffix_outputs, left_outputs, AreListed, PositionsFit, IsParent}
 use Rattle.daachorse_build.proofs.Walks.{walk-same, walk-bounds}
-use Rattle.daachorse_build.proofs.LeftLinks.{left_state, left_met, left_rest, meets_never}
+use Rattle.daachorse_build.proofs.LeftLinks.{meets_never}
 use Rattle.daachorse_build.proofs.Queue.{in_cases, in_same, in_equal, in_at, in_flat_map, bounds_of_listed, all_in_order}
 use Rattle.daachorse_build.proofs.Cleared.{all_cleared, cleared}
 use Rattle.daachorse_build.proofs.States.{outputs_missing, outputs_found}
@@ -39,20 +39,20 @@ module _ {L V A : Type 0} (cmp : L → L → Ordering) (total : IsTotalOrder cmp
     link_outputs None = []
     link_outputs (Some w) = left_outputs cmp stops states w
 
-    link_step : (c : L) (cs : List L) → link_outputs (long_unless_stop (child_of cmp states) stops cs) ≡ left_outputs cmp stops states cs → (is_reached (child_of cmp states) (c ∷ cs) ≡ true) ⊎ (is_reached (child_of cmp states) (c ∷ cs) ≡ false) → link_outputs (long_unless_stop (child_of cmp states) stops (c ∷ cs)) ≡ left_outputs cmp stops states (c ∷ cs)
-    link_step c cs ih (inl h) = ap link_outputs (left_state (child_of cmp states) stops (c ∷ cs) h)
-    link_step c cs ih (inr h) =
-        let none = no_outputs states (c ∷ cs) (walk (child_of cmp states) 0 (c ∷ cs)) refl h in
-        let rest = λ (b : Bool). cond b [] (left_outputs cmp stops states cs) in
-        elim (cases_Bool (meets (child_of cmp states) stops 0 (c ∷ cs))) [
-          | inl yes' ↦ ap link_outputs (left_met (child_of cmp states) stops c cs h yes') ∙ sym (ap (λ os. os ++ rest (meets (child_of cmp states) stops 0 (c ∷ cs))) none ∙ ap rest yes')
-          | inr no' ↦ ap link_outputs (left_rest (child_of cmp states) stops c cs h no') ∙ ih ∙ sym (ap (λ os. os ++ rest (meets (child_of cmp states) stops 0 (c ∷ cs))) none ∙ ap rest no')
-        ]
+    link_by : (c : L) (cs : List L) → link_outputs (long_unless_stop (child_of cmp states) stops cs) ≡ left_outputs cmp stops states cs → link_outputs (left_link (child_of cmp states) stops c cs) ≡ cond (meets (child_of cmp states) stops 0 (c ∷ cs)) [] (left_outputs cmp stops states cs)
+    link_by c cs rest =
+        elim (meets (child_of cmp states) stops 0 (c ∷ cs)) as (λ b. link_outputs (cond b None (long_unless_stop (child_of cmp states) stops cs)) ≡ cond b [] (left_outputs cmp stops states cs))
+        [ true ↦ refl | false ↦ rest ]
 
     -- a text has the outputs of its longest suffix that is a state's text, if no state stops before that
     pub link_outputs-long : (w : List L) → link_outputs (long_unless_stop (child_of cmp states) stops w) ≡ left_outputs cmp stops states w
     link_outputs-long [] = refl
-    link_outputs-long (c ∷ cs) = link_step c cs (link_outputs-long cs) (cases_Bool (is_reached (child_of cmp states) (c ∷ cs)))
+    link_outputs-long (c ∷ cs) =
+        let rest = cond (meets (child_of cmp states) stops 0 (c ∷ cs)) [] (left_outputs cmp stops states cs) in
+        elim (cases_Bool (is_reached (child_of cmp states) (c ∷ cs))) [
+          | inl h ↦ ap link_outputs (cond-true _ _ _ h)
+          | inr h ↦ ap link_outputs (cond-false _ _ _ h) ∙ link_by c cs (link_outputs-long cs) ∙ sym (ap (λ os. os ++ rest) (no_outputs states (c ∷ cs) (walk (child_of cmp states) 0 (c ∷ cs)) refl h))
+        ]
 
   -- the list of the root
   pub listed_start : (stops : ℕ → Bool) (states : List (NfaBuilderState L V A)) (outputs : List (Output V)) (positions : List ℕ) → HoldTrie cmp states → outputs_at outputs (get_or positions 0 0) ≡ own_at (own_of states) 0 ++ [] → AreListed cmp stops states [] outputs positions
@@ -103,19 +103,12 @@ module _ {L V A : Type 0} (cmp : L → L → Ordering) (total : IsTotalOrder cmp
               ]
         ]
 
-    link_is : (c : L) (cs : List L) → link_outputs stops states (left_link (child_of cmp states) stops c cs) ≡ cond (meets (child_of cmp states) stops 0 (c ∷ cs)) [] (left_outputs cmp stops states cs)
-    link_is c cs = at (meets (child_of cmp states) stops 0 (c ∷ cs))
-      where
-        at : (b : Bool) → link_outputs stops states (cond b None (long_unless_stop (child_of cmp states) stops cs)) ≡ cond b [] (left_outputs cmp stops states cs)
-        at true = refl
-        at false = link_outputs-long stops states cs
-
     -- the list of a text of t, where that of its link is known
     list_at : (outputs outputs' : List (Output V)) (positions : List ℕ) (position : ℕ) (done : List ℕ) (t f p : ℕ) → 1 < t → AreListed cmp stops states done outputs positions → IsLinkAmong done f → IsParent positions f p → IsLeftFailOf (child_of cmp states) stops t f → outputs_at outputs' position ≡ own_at (own_of states) t ++ outputs_at outputs p → (w : List L) → Leads (child_of cmp states) w t → outputs_at outputs' position ≡ left_outputs cmp stops states w
     list_at outputs outputs' positions position done t f p low listed among parent link list [] at =
         let e : 0 ≡ t = same_Some 0 t at in absurd (omega (arith, e, low))
     list_at outputs outputs' positions position done t f p low listed among parent link list (c ∷ cs) at =
-        let rest = list_of_link outputs positions done f p listed among parent (left_link (child_of cmp states) stops c cs) (link c cs at) ∙ link_is c cs in
+        let rest = list_of_link outputs positions done f p listed among parent (left_link (child_of cmp states) stops c cs) (link c cs at) ∙ link_by stops states c cs (link_outputs-long stops states cs) in
         list
         ∙ ap (λ os. own_at (own_of states) t ++ os) rest
         ∙ ap (λ os. os ++ cond (meets (child_of cmp states) stops 0 (c ∷ cs)) [] (left_outputs cmp stops states cs)) (sym (outputs_found cmp total exact states (c ∷ cs) t at))

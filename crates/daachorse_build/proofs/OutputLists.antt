@@ -21,7 +21,7 @@ use Rattle.daachorse_build.specs.Holds.{in_units, Holds}
 use Rattle.daachorse_build.specs.Lists.{suffix_outputs, left_outputs, AreListed, PositionsFit, IsParent}
 use Rattle.daachorse_build.proofs.Walks.{walk-same, walk-bounds}
 use Rattle.daachorse_build.proofs.LeftLinks.{meets_never}
-use Rattle.daachorse_build.proofs.Queue.{in_cases, in_same, in_equal, in_at, in_flat_map, bounds_of_listed, all_in_order}
+use Rattle.daachorse_build.proofs.Queue.{in_push, in_same, in_equal, in_at, child_of_known, bounds_of_listed, all_in_order}
 use Rattle.daachorse_build.proofs.Cleared.{all_cleared, cleared}
 use Rattle.daachorse_build.proofs.States.{outputs_missing, outputs_found}
 use Rattle.daachorse_build.specs.Few.{items_of}
@@ -65,10 +65,8 @@ module _ {L V A : Type 0} (cmp : L → L → Ordering) (total : IsTotalOrder cmp
     -- the states of the order
     pub order-bounds : (t : ℕ) → IsIn order t → (1 < t) × (t < length (edges_of states))
     order-bounds t h =
-        elim (in_cases (children (edges_of states) 0) (flat_map (children (edges_of states)) order) t (in_same _ _ t links.first h)) [
-          | inl a ↦ bounds_of_listed cmp total (edges_of states) table 0 t a
-          | inr b ↦ let p = in_flat_map (children (edges_of states)) order t b in bounds_of_listed cmp total (edges_of states) table p.0 t p.2
-        ]
+        let p = child_of_known cmp total (edges_of states) table order t (in_same _ _ t links.first h) in
+        bounds_of_listed cmp total (edges_of states) table p.0 t p.2
 
     -- each state but the dead one is known, so only it can have outputs that are left
     pub none_left : own_at (own_of states) 1 ≡ [] → output_count (cleared (own_of states) (0 ∷ order)) ≡ 0
@@ -130,8 +128,7 @@ module _ {L V A : Type 0} (cmp : L → L → Ordering) (total : IsTotalOrder cmp
       pub known_cases : (u : ℕ) → IsKnown (take (i + 1) order) u → IsKnown (take i order) u ⊎ (t ≡ u)
       known_cases u (inl e) = inl (inl e)
       known_cases u (inr h) =
-          elim (in_cases (take i order) (t ∷ []) u (in_same _ _ u (take_more order i 0 l ∙ ap (λ v. take i order ++ v ∷ []) is) h))
-          [ inl a ↦ inl (inr a) | inr b ↦ elim b [ inl e ↦ inr e | inr none ↦ absurd none ] ]
+          elim (in_push (take i order) t u (in_same _ _ u (take_more order i 0 l ∙ ap (λ v. take i order ++ v ∷ []) is) h)) [ inl a ↦ inl (inr a) | inr e ↦ inr e ]
 
       -- the state is not yet done
       pub known_apart : (u : ℕ) → IsKnown (take i order) u → u ≢ t

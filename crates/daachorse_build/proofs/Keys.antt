@@ -17,17 +17,8 @@ use Rattle.daachorse_build.specs.declared.nfa_builder.NfaBuilderState.{NfaBuilde
 use Rattle.daachorse_build.specs.Tables.{child_of, own_of, own_at, stops_of}
 use Rattle.daachorse_build.specs.Holds.{in_units, Holds}
 use Rattle.daachorse_build.specs.Left.{meets, meets_early}
+use Rattle.daachorse_build.proofs.Labels.{labels_of_front}
 use Rattle.daachorse_build.proofs.Dropped.{proper_from, proper_rest}
-
--- the labels of a beginning of a text of units
-pub labels_of_front : {L : Type 0} (unit : L → ℕ) (p : List L) (x y : List ℕ) → map unit p ≡ x ++ y → (v : List L) × (w : List L) × (p ≡ v ++ w) × (map unit v ≡ x) × (map unit w ≡ y)
-labels_of_front unit p [] y h = ([], p, refl, refl, h)
-labels_of_front unit [] (u ∷ x) y h = absurd (cc)
-labels_of_front unit (c ∷ p) (u ∷ x) y h =
-    let first : unit c ≡ u = cc in
-    let rest : map unit p ≡ x ++ y = cc in
-    let r = labels_of_front unit p x y rest in
-    (c ∷ r.0, r.1, ap (λ z. c ∷ z) r.2, ap (λ z. unit c ∷ z) r.3 ∙ ap (λ z. z ∷ x) first, r.4)
 
 -- a state of whom as many own outputs are held as the text has values
 stops_values : {V : Type 0} (vs : List V) (n : ℕ) → not (length (map {B = V × ℕ} (λ v. (v, n)) vs) == 0) ≡ elim vs [ [] ↦ false | _ ∷ _ ↦ true ]

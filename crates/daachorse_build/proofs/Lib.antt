@@ -6,6 +6,7 @@ pub mod Growing
 pub mod Labels
 pub mod States
 pub mod Registrations
+pub mod KeyTexts
 pub mod Dropped
 pub mod Keys
 pub mod Empty

@@ -1,5 +1,5 @@
 -- Groups as families: the parents are the states with an edge, each once, and that outlasts a sort.
-use Rattle.std.proofs.Common.{◌≡◌, ◌≢◌, ℕ, zero, suc, ◌<◌, ◌≤◌, ◌⊎◌, Bool, true, false, not, cond, eqb, List, [], ◌∷◌, ◌++◌, length, get_or, Some, refl, sym, ap, ◌∙◌, subst, inl, inr, arith}
+use Rattle.std.proofs.Common.{◌≡◌, ◌≢◌, ℕ, zero, suc, ◌<◌, Bool, true, false, not, cond, eqb, List, [], ◌∷◌, ◌++◌, length, get_or, Some, refl, sym, ap, ◌∙◌, subst, inl, inr, arith}
 use Rattle.std.proofs.lemmas.Bool.{cases_order, cond_both, false≢true}
 use Rattle.std.proofs.lemmas.Bool.Decides.{Decides-eqb}
 use Rattle.std.proofs.lemmas.Option.{same_Some}
@@ -13,7 +13,7 @@ use Rattle.std.proofs.lemmas.Cmp.{nat_eq_equiv}
 use Rattle.std.proofs.lemmas.Map.Made.{AllPairs-from_IsDistinct, IsDistinct-from_AllPairs}
 use Rattle.std.proofs.lemmas.Map.Keys.{IsDistinct-IsPermutation}
 use Rattle.std.specs.Bool.{IsTrue}
-use Rattle.std.specs.List.{All, AllZip, Contains, IsDistinct, filter, slice_get}
+use Rattle.std.specs.List.{All, Contains, IsDistinct, filter, slice_get}
 use Rattle.std.specs.List.Sorted.{IsPermutation}
 use Rattle.std.specs.Map.{values_of}
 use Rattle.std.specs.declared.cmp.Ordering.{Ordering}
@@ -22,10 +22,10 @@ use Rattle.daachorse_placement.specs.declared.build_helper.SiblingGroup.{Sibling
 use Rattle.daachorse_placement.specs.Placement.{children_of, parent_of, label_of, child_of, AreGroups}
 use Rattle.daachorse_build.specs.declared.nfa_builder.NfaBuilderState.{NfaBuilderState}
 use Rattle.daachorse_build.specs.Tables.{edges_of, child_in, HoldTrie}
-use Rattle.daachorse_build.specs.Orders.{IsIn, StandOnce, children}
+use Rattle.daachorse_build.specs.Orders.{IsIn, children}
 use Rattle.daachorse_build.specs.Groups.{edges_at, coded, GivesCodes, AreCodes, AreTrieGroups, is_some_edge, has_edges, IsWalk, AreGiven, AreFamilies, parents_of, if_counted}
 use Rattle.daachorse_build.proofs.Queue.{in_equal, in_at, place_of, distinct_once, child_at_place, listed_of_child, value_at, children_once}
-use Rattle.daachorse_build.proofs.StackWalk.{once_tail, once_head, length-walk}
+use Rattle.daachorse_build.proofs.StackWalk.{length-walk}
 use Rattle.daachorse_build.proofs.Walks.{text_of, walk-bounds}
 
 -- ---- one child more
@@ -143,8 +143,8 @@ module _ {L V A : Type 0} (cmp : L → L → Ordering) (total : IsTotalOrder cmp
       let P : List ℕ → Type 0 = λ ps. All Q ps in
       let start = subst P (sym parents)
       (λ k d l. (
-          let at = All-filter (has_edges edges) (λ p. (p < length edges) × (p ≢ 1)) order (λ i e h. walk.states _ (in_equal order _ _ (get_or_default order i 0 e h) (in_at order i h))) k d l in
-          (at.0, at.1, filter_passes (has_edges edges) order k d l))) in
+      let at = All-filter (has_edges edges) (λ p. (p < length edges) × (p ≢ 1)) order (λ i e h. walk.states _ (in_equal order _ _ (get_or_default order i 0 e h) (in_at order i h))) k d l in
+      (at.0, at.1, filter_passes (has_edges edges) order k d l))) in
       All-permutation Q (parents_of first) (parents_of gs) moved_parents start
 
   -- each state with an edge is a parent

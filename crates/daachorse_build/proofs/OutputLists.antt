@@ -6,7 +6,6 @@ use Rattle.std.proofs.lemmas.List.{append-nil, length-map, take_more}
 use Rattle.std.specs.declared.cmp.Ordering.{Ordering}
 use Rattle.std.specs.declared.cmp.Ordering.TheVariants.{Equal}
 use Rattle.std.specs.Cmp.{IsTotalOrder}
-use Rattle.std.specs.List.{flat_map}
 use Rattle.daachorse_core.specs.declared.outputs.Output.{Output}
 use Rattle.daachorse_core.specs.Outputs.{outputs_at, ParentsFall}
 use Rattle.daachorse_model.specs.declared.MatchKind.{MatchKind}
@@ -16,7 +15,7 @@ use Rattle.daachorse_model.specs.Paths.{walk, is_reached, Leads}
 use Rattle.daachorse_build.specs.declared.nfa_builder.NfaBuilderState.{NfaBuilderState}
 use Rattle.daachorse_build.specs.Left.{meets, long_unless_stop, left_link, IsStateOf, IsLeftFailOf}
 use Rattle.daachorse_build.specs.Tables.{child_of, edges_of, own_of, own_at, held_at, output_count, HoldTrie}
-use Rattle.daachorse_build.specs.Orders.{IsIn, IsKnown, IsLinkAmong, children, IsLeftLinked}
+use Rattle.daachorse_build.specs.Orders.{IsIn, IsKnown, IsLinkAmong, IsLeftLinked}
 use Rattle.daachorse_build.specs.Holds.{in_units, Holds}
 use Rattle.daachorse_build.specs.Lists.{suffix_outputs, left_outputs, AreListed, PositionsFit, IsParent}
 use Rattle.daachorse_build.proofs.Walks.{walk-same, walk-bounds}

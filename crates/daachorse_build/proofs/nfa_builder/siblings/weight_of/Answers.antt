@@ -1,10 +1,10 @@
 -- A child is a state, and so it has a count.
-use Rattle.std.proofs.Common.{◌≡◌, ◌+◌, ◌-◌, ◌^◌, ◌<◌, min, ℕ, zero, suc, List, [], ◌∷◌, ◌++◌, length, map, get_or, sum_by, Some, refl, sym, ap, ◌∙◌, subst, inl, inr, arith}
+use Rattle.std.proofs.Common.{◌≡◌, ◌+◌, ◌-◌, ◌^◌, ◌<◌, min, ℕ, List, [], ◌∷◌, ◌++◌, length, map, get_or, sum_by, Some, refl, sym, ap, ◌∙◌, subst, inl, inr, arith}
 use Rattle.std.proofs.lemmas.List.{length-map, get_or-map, map-append, get_or_default}
 use Rattle.std.proofs.lemmas.List.Sums.{sum_by_push}
 use Rattle.std.proofs.lemmas.Bool.{false≢true}
 use Rattle.std.proofs.lemmas.Map.Iter.{iter_turn, iter_end}
-use Rattle.std.proofs.lemmas.Option.{none-some, same_Some}
+use Rattle.std.proofs.lemmas.Option.{get_or_from_slice_get, slice_get_within}
 use Rattle.std.proofs.lemmas.Grind.{common_steps}
 use Rattle.std.specs.List.{slice_get}
 use Rattle.std.specs.Map.{values_of}
@@ -15,15 +15,9 @@ use Rattle.daachorse_build.specs.declared.nfa_builder.NfaBuilderState.{NfaBuilde
 use Rattle.daachorse_build.specs.Tables.{edges_of, HoldTrie}
 use Rattle.daachorse_build.specs.Orders.{IsIn, children}
 use Rattle.daachorse_build.specs.Groups.{if_counted}
-use Rattle.daachorse_build.proofs.Queue.{bounds_of_listed}
+use Rattle.daachorse_build.proofs.Queue.{bounds_of_listed, in_at, in_equal}
 use Rattle.daachorse_build.proofs.Families.{if_counted-none}
 use Rattle.daachorse_build.proofs.nfa_builder.siblings.weight_of.Goals as goal
-
--- what stands at a place is in the list
-in_found : (xs : List ℕ) (i x : ℕ) → slice_get xs i ≡ Some x → IsIn xs x
-in_found [] i x h = absurd (none-some x h)
-in_found (y ∷ xs) zero x h = inl (same_Some y x h)
-in_found (y ∷ xs) (suc i) x h = inr (in_found xs i x h)
 
 -- the children of the state at an index
 children_here : {L V A : Type 0} (states : List (NfaBuilderState L V A)) (i : ℕ) (x : NfaBuilderState L V A) (edges : List (L × ℕ)) → i < length states → x ≡ get_or states i x → edges ≡ x.edges → children (edges_of states) i ≡ values_of edges
@@ -34,7 +28,7 @@ children_here states i x edges l is e =
 child_is_state : {L V A : Type 0} (cmp : L → L → Ordering) → IsTotalOrder cmp → (states : List (NfaBuilderState L V A)) → HoldTrie cmp states → (s : ℕ) (all : List ℕ) (i t : ℕ) → children (edges_of states) s ≡ all → slice_get all i ≡ Some t → t < length states
 child_is_state cmp total states table s all i t same at =
     let P : List ℕ → Type 0 = λ xs. IsIn xs t in
-    let b = bounds_of_listed cmp total (edges_of states) table s t (subst P (sym same) (in_found all i t at)) in
+    let b = bounds_of_listed cmp total (edges_of states) table s t (subst P (sym same) (in_equal all _ _ (get_or_from_slice_get all i t 0 at) (in_at all i (slice_get_within all i t at)))) in
     omega (arith, b.1, length-map states (λ s. s.edges))
 
 weight_start : (p w : ℕ) → w ≡ p → w < 2 ^ 64 → w ≡ min (p + 0) (2 ^ 64 - 1)

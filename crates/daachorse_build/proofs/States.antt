@@ -17,7 +17,7 @@ use Rattle.daachorse_build.specs.Growth.{IsPrefixOf, AddsEdge, Extends, IsAdding
 use Rattle.std.proofs.lemmas.List.Sums.{sum_by-set, sum_by-append}
 use Rattle.daachorse_build.proofs.Walks.{walk-same, walk-bounds}
 use Rattle.daachorse_build.specs.Few.{items_of}
-use Rattle.daachorse_build.proofs.Growing.{adds_edge, table_grows, walk_stays, walk_came, is_here}
+use Rattle.daachorse_build.proofs.Growing.{nil_more, adds_edge, table_grows, walk_stays, walk_came, is_here}
 
 -- one element changed, and one more
 map_edit : {X Y : Type 0} (f : X → Y) (xs : List X) (i : ℕ) (y z : X) → map f (set xs i y ++ z ∷ []) ≡ set (map f xs) i (f y) ++ f z ∷ []
@@ -37,12 +37,6 @@ pub output_pushed : {L V A : Type 0} (states : List (NfaBuilderState L V A)) (id
 output_pushed states id x y out l is pushed =
     let here : own_at (own_of states) id ≡ items_of x.output = get_or-map (λ s. items_of s.output) states id x [] l ∙ ap (λ s. items_of s.output) (sym is) in
     map-set (λ s. items_of s.output) states id y ∙ ap (set (own_of states) id) (pushed ∙ ap (λ os. os ++ out ∷ []) (sym here))
-
-own_push : {V : Type 0} (xss : List (List (V × ℕ))) (v : ℕ) → get_or (xss ++ [] ∷ []) v [] ≡ get_or xss v []
-own_push [] zero = refl
-own_push [] (suc v) = refl
-own_push (xs ∷ xss) zero = refl
-own_push (xs ∷ xss) (suc v) = own_push xss v
 
 prefix_more : {L : Type 0} (w p : List L) (c : L) → IsPrefixOf w p → IsPrefixOf w (p ++ c ∷ [])
 prefix_more w p c h = (h.0 ++ c ∷ [], sym (append_assoc w h.0 (c ∷ [])) ∙ ap (λ x. x ++ c ∷ []) h.1)
@@ -67,7 +61,7 @@ module _ {L V A : Type 0} (cmp : L → L → Ordering) (total : IsTotalOrder cmp
       record {
         trie = rw made grown;
         leads = ap (λ es. child_in cmp es id label) made ∙ hit ∙ ap Some count;
-        outputs = λ v. ap (λ os. get_or os v []) outputs ∙ own_push (own_of old) v;
+        outputs = λ v. ap (λ os. get_or os v []) outputs ∙ nil_more (own_of old) v;
         count = ap output_count outputs ∙ (omega (arith, sum_by-append length (own_of old) ([] ∷ [])));
         longer = omega (arith, ap length e, length_push (set old id (record parent { edges = m })) state, length-set old id (record parent { edges = m }));
         grows =
@@ -89,44 +83,30 @@ module _ {L V A : Type 0} (cmp : L → L → Ordering) (total : IsTotalOrder cmp
 
   pub adding_more : (old mid new : List (NfaBuilderState L V A)) (p : List L) (id : ℕ) (c : L) (t : ℕ) → IsAdding cmp old mid p id → Extends cmp mid new id c t → IsAdding cmp old new (p ++ c ∷ []) t
   adding_more old mid new p id c t adding extends =
-      let mid_trie = adding.trie.trie in
-      elim extends.grows as (λ _. IsAdding cmp old new (p ++ c ∷ []) t) [
-        | inl same ↦
-            let P : List (List (L × ℕ)) → Type 0 = λ es. walk (child_in cmp es) 0 p ≡ Some id in
-            let there : walk (child_of cmp new) 0 p ≡ Some id = subst P (sym same) adding.here in
-            record {
-              trie = extends.trie;
-              here = walk-push (child_of cmp new) 0 p c id there ∙ extends.leads;
-              outputs = λ v. extends.outputs v ∙ adding.outputs v;
-              count = extends.count ∙ adding.count;
-              longer = omega (arith, adding.longer, extends.longer);
-              grows = record {
-                keeps = λ w v h. let Q : List (List (L × ℕ)) → Type 0 = λ es. walk (child_in cmp es) 0 w ≡ Some v in subst Q (sym same) (adding.grows.keeps w v h);
-                news = λ w v h.
-                    let Q : List (List (L × ℕ)) → Type 0 = λ es. walk (child_in cmp es) 0 w ≡ Some v in
-                    elim (adding.grows.news w v (subst Q same h)) [ inl a ↦ inl a | inr b ↦ inr (b.0, prefix_more w p c b.1) ];
-              };
-            }
-        | inr adds ↦
-            let there : walk (child_of cmp new) 0 p ≡ Some id = walk_stays (child_of cmp mid) (child_of cmp new) id c t adds.0 0 p id adding.here in
-            record {
-              trie = extends.trie;
-              here = walk-push (child_of cmp new) 0 p c id there ∙ extends.leads;
-              outputs = λ v. extends.outputs v ∙ adding.outputs v;
-              count = extends.count ∙ adding.count;
-              longer = omega (arith, adding.longer, extends.longer);
-              grows = record {
-                keeps = λ w v h. walk_stays (child_of cmp mid) (child_of cmp new) id c t adds.0 0 w v (adding.grows.keeps w v h);
-                news = λ w v h.
-                    elim (walk_came (child_of cmp mid) (child_of cmp new) id c t adds.0 0 w v h) [
-                      | inl came ↦ elim (adding.grows.news w v came) [ inl a ↦ inl a | inr b ↦ inr (b.0, prefix_more w p c b.1) ]
-                      | inr came ↦
-                          let front : came.0 ≡ p = walk-same (child_of cmp mid) (length (edges_of mid)) mid_trie came.0 p id came.2 adding.here in
-                          inr (omega (arith, came.3, adds.1, adding.longer), ([], append-nil w ∙ came.1 ∙ ap (λ x. x ++ c ∷ []) front))
-                    ];
-              };
-            }
-      ]
+      let W : List L → ℕ → List (List (L × ℕ)) → Type 0 = λ w v es. walk (child_in cmp es) 0 w ≡ Some v in
+      let stays : (w : List L) (v : ℕ) → walk (child_of cmp mid) 0 w ≡ Some v → walk (child_of cmp new) 0 w ≡ Some v = λ w v h. elim extends.grows [
+        | inl same ↦ subst (W w v) (sym same) h
+        | inr adds ↦ walk_stays (child_of cmp mid) (child_of cmp new) id c t adds.0 0 w v h
+      ] in
+      record {
+        trie = extends.trie;
+        here = walk-push (child_of cmp new) 0 p c id (stays p id adding.here) ∙ extends.leads;
+        outputs = λ v. extends.outputs v ∙ adding.outputs v;
+        count = extends.count ∙ adding.count;
+        longer = omega (arith, adding.longer, extends.longer);
+        grows = record {
+          keeps = λ w v h. stays w v (adding.grows.keeps w v h);
+          news = λ w v h. elim extends.grows [
+            | inl same ↦ elim (adding.grows.news w v (subst (W w v) same h)) [ inl a ↦ inl a | inr b ↦ inr (b.0, prefix_more w p c b.1) ]
+            | inr adds ↦ elim (walk_came (child_of cmp mid) (child_of cmp new) id c t adds.0 0 w v h) [
+              | inl came ↦ elim (adding.grows.news w v came) [ inl a ↦ inl a | inr b ↦ inr (b.0, prefix_more w p c b.1) ]
+              | inr came ↦
+                  let front : came.0 ≡ p = walk-same (child_of cmp mid) (length (edges_of mid)) adding.trie.trie came.0 p id came.2 adding.here in
+                  inr (omega (arith, came.3, adds.1, adding.longer), ([], append-nil w ∙ came.1 ∙ ap (λ x. x ++ c ∷ []) front))
+            ]
+          ];
+        };
+      }
 
   -- ---- the output at the end
   -- what a text has where its state is known

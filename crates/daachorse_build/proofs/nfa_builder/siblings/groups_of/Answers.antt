@@ -6,6 +6,7 @@ use Rattle.std.proofs.lemmas.Result.{IfOk-from_err}
 use Rattle.std.specs.List.{filter}
 use Rattle.std.specs.Map.{values_of}
 use Rattle.daachorse_placement.specs.declared.build_helper.SiblingGroup.{SiblingGroup}
+use Rattle.daachorse_core.proofs.Refusals.{at_error}
 use Rattle.daachorse_build.specs.declared.nfa_builder.NfaBuilderState.{NfaBuilderState}
 use Rattle.std.specs.declared.cmp.Ordering.{Ordering}
 use Rattle.std.specs.Cmp.{IsTotalOrder}
@@ -136,38 +137,22 @@ returns-clause-parents g c =
     let none = nothing c.loop-id.stack.items zero' in
     (walk.0, walk_end g.L.Ord.cmp g.met.L.Ord.total edges c.requires.trie walk.0 (subst P none walk.1), walk.2)
 
-pub returns-in_err-push-clause-parents : goal.returns-in_err-push-clause-parents
-returns-in_err-push-clause-parents g c = IfOk-from_err c.from_residual.result _ c.from_residual.ensures.0
+pub returns-in_err-push : goal.returns-in_err-push
+returns-in_err-push g c =
+    let e = c.from_residual.ensures in
+    record { parents = IfOk-from_err _ _ e.0; families = IfOk-from_err _ _ e.0; weights = IfOk-from_err _ _ e.0; refused = at_error _ _ _ e.1 refl }
 
-pub returns-in_err-push-clause-families : goal.returns-in_err-push-clause-families
-returns-in_err-push-clause-families g c = IfOk-from_err c.from_residual.result _ c.from_residual.ensures.0
+pub returns-in_err-put_children : goal.returns-in_err-put_children
+returns-in_err-put_children g c =
+    let e = c.from_residual-in_err-put_children.ensures in
+    record { parents = IfOk-from_err _ _ e.0; families = IfOk-from_err _ _ e.0; weights = IfOk-from_err _ _ e.0; refused = at_error _ _ _ e.1 c.in_err-put_children.ensures.refused }
 
-pub returns-in_err-push-clause-weights : goal.returns-in_err-push-clause-weights
-returns-in_err-push-clause-weights g c = IfOk-from_err c.from_residual.result _ c.from_residual.ensures.0
+pub returns-in_err-group_of : goal.returns-in_err-group_of
+returns-in_err-group_of g c =
+    let e = c.from_residual-in_err-group_of.ensures in
+    record { parents = IfOk-from_err _ _ e.0; families = IfOk-from_err _ _ e.0; weights = IfOk-from_err _ _ e.0; refused = at_error _ _ _ e.1 c.in_err-group_of.ensures.refused }
 
-pub returns-in_err-put_children-clause-parents : goal.returns-in_err-put_children-clause-parents
-returns-in_err-put_children-clause-parents g c = IfOk-from_err c.from_residual-in_err-put_children.result _ c.from_residual-in_err-put_children.ensures.0
-
-pub returns-in_err-put_children-clause-families : goal.returns-in_err-put_children-clause-families
-returns-in_err-put_children-clause-families g c = IfOk-from_err c.from_residual-in_err-put_children.result _ c.from_residual-in_err-put_children.ensures.0
-
-pub returns-in_err-put_children-clause-weights : goal.returns-in_err-put_children-clause-weights
-returns-in_err-put_children-clause-weights g c = IfOk-from_err c.from_residual-in_err-put_children.result _ c.from_residual-in_err-put_children.ensures.0
-
-pub returns-in_err-group_of-clause-parents : goal.returns-in_err-group_of-clause-parents
-returns-in_err-group_of-clause-parents g c = IfOk-from_err c.from_residual-in_err-group_of.result _ c.from_residual-in_err-group_of.ensures.0
-
-pub returns-in_err-group_of-clause-families : goal.returns-in_err-group_of-clause-families
-returns-in_err-group_of-clause-families g c = IfOk-from_err c.from_residual-in_err-group_of.result _ c.from_residual-in_err-group_of.ensures.0
-
-pub returns-in_err-group_of-clause-weights : goal.returns-in_err-group_of-clause-weights
-returns-in_err-group_of-clause-weights g c = IfOk-from_err c.from_residual-in_err-group_of.result _ c.from_residual-in_err-group_of.ensures.0
-
-pub returns-in_err-push-2-clause-parents : goal.returns-in_err-push-2-clause-parents
-returns-in_err-push-2-clause-parents g c = IfOk-from_err c.from_residual-in_err-push-2.result _ c.from_residual-in_err-push-2.ensures.0
-
-pub returns-in_err-push-2-clause-families : goal.returns-in_err-push-2-clause-families
-returns-in_err-push-2-clause-families g c = IfOk-from_err c.from_residual-in_err-push-2.result _ c.from_residual-in_err-push-2.ensures.0
-
-pub returns-in_err-push-2-clause-weights : goal.returns-in_err-push-2-clause-weights
-returns-in_err-push-2-clause-weights g c = IfOk-from_err c.from_residual-in_err-push-2.result _ c.from_residual-in_err-push-2.ensures.0
+pub returns-in_err-push-2 : goal.returns-in_err-push-2
+returns-in_err-push-2 g c =
+    let e = c.from_residual-in_err-push-2.ensures in
+    record { parents = IfOk-from_err _ _ e.0; families = IfOk-from_err _ _ e.0; weights = IfOk-from_err _ _ e.0; refused = at_error _ _ _ e.1 refl }

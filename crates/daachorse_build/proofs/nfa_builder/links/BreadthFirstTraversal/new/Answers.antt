@@ -1,10 +1,11 @@
 -- One child of the root more is in the queue, with its link.
-use Rattle.std.proofs.Common.{◌≡◌, ◌<◌, [], length, get_or, take, replicate, sym, ap, ◌∙◌, inl, inr, arith}
+use Rattle.std.proofs.Common.{refl, ◌≡◌, ◌<◌, [], length, get_or, take, replicate, sym, ap, ◌∙◌, inl, inr, arith}
 use Rattle.std.specs.Map.Iter.{deref_pair}
 use Rattle.std.proofs.lemmas.Map.Iter.{iter_turn, iter_end}
 use Rattle.std.proofs.lemmas.Map.Entries.{length-values_of}
 use Rattle.std.proofs.lemmas.List.{length-map, get_or-map, length_push, take_all}
 use Rattle.std.proofs.lemmas.Result.{err_from_is_err_and, IfOk-from_err}
+use Rattle.daachorse_core.proofs.Refusals.{at_error}
 use Rattle.daachorse_build.specs.Tables.{edges_of, stops_of}
 use Rattle.daachorse_build.specs.Orders.{children}
 use Rattle.daachorse_build.proofs.Queue.{traversal_start, traversal_first, child_at_place}
@@ -63,33 +64,20 @@ returns-clause-traversal g c =
     take_all (length c.loop-child.yielded) (children (edges_of states) 0) (omega (arith, end.1, length-values_of (get_or (edges_of states) 0 []), ap length at)) in
     rw whole at c.loop-child.invariant
 
-pub returns-in_err-links-clause-traversal : goal.returns-in_err-links-clause-traversal
-returns-in_err-links-clause-traversal g c = IfOk-from_err c.from_residual.result _ c.from_residual.ensures.0
-
-pub returns-in_err-links-clause-kind : goal.returns-in_err-links-clause-kind
-returns-in_err-links-clause-kind g c = IfOk-from_err c.from_residual.result _ c.from_residual.ensures.0
-
-pub returns-in_err-links-clause-refused : goal.returns-in_err-links-clause-refused
-returns-in_err-links-clause-refused g c =
-    let p = err_from_is_err_and c.from_residual.result c.from_residual.ensures.1 in
-    rw p.1 p.2
-
-pub returns-in_err-order-clause-refused : goal.returns-in_err-order-clause-refused
-returns-in_err-order-clause-refused g c =
-    let p = err_from_is_err_and c.from_residual-in_err-order.result c.from_residual-in_err-order.ensures.1 in
-    rw p.1 p.2
-
 pub bounds-states-root : goal.bounds-states-root
 bounds-states-root g c = omega (arith, c.requires.trie.two, length-map c.args.states.now (λ s. s.edges))
 
-pub returns-in_err-order-clause-traversal : goal.returns-in_err-order-clause-traversal
-returns-in_err-order-clause-traversal g c = IfOk-from_err c.from_residual-in_err-order.result _ c.from_residual-in_err-order.ensures.0
+pub returns-in_err-links : goal.returns-in_err-links
+returns-in_err-links g c =
+    let e = c.from_residual.ensures in
+    record { traversal = IfOk-from_err _ _ e.0; kind = IfOk-from_err _ _ e.0; refused = at_error _ _ _ e.1 refl }
 
-pub returns-in_err-order-clause-kind : goal.returns-in_err-order-clause-kind
-returns-in_err-order-clause-kind g c = IfOk-from_err c.from_residual-in_err-order.result _ c.from_residual-in_err-order.ensures.0
+pub returns-in_err-order : goal.returns-in_err-order
+returns-in_err-order g c =
+    let e = c.from_residual-in_err-order.ensures in
+    record { traversal = IfOk-from_err _ _ e.0; kind = IfOk-from_err _ _ e.0; refused = at_error _ _ _ e.1 refl }
 
-pub returns-in_err-push-clause-traversal : goal.returns-in_err-push-clause-traversal
-returns-in_err-push-clause-traversal g c = IfOk-from_err c.from_residual-in_err-push.result _ c.from_residual-in_err-push.ensures.0
-
-pub returns-in_err-push-clause-kind : goal.returns-in_err-push-clause-kind
-returns-in_err-push-clause-kind g c = IfOk-from_err c.from_residual-in_err-push.result _ c.from_residual-in_err-push.ensures.0
+pub returns-in_err-push : goal.returns-in_err-push
+returns-in_err-push g c =
+    let e = c.from_residual-in_err-push.ensures in
+    record { traversal = IfOk-from_err _ _ e.0; kind = IfOk-from_err _ _ e.0; refused = at_error _ _ _ e.1 refl }

@@ -2,6 +2,7 @@ pub mod EdgeLists
 pub mod Walks
 pub mod LeftLinks
 pub mod Queue
+pub mod EdgeTurns
 pub mod Growing
 pub mod Labels
 pub mod States

@@ -17,6 +17,7 @@ use Rattle.daachorse_build.specs.Growth.{IsPrefixOf, AddsEdge, Extends, IsAdding
 use Rattle.std.proofs.lemmas.List.Sums.{sum_by-set, sum_by-append}
 use Rattle.daachorse_build.proofs.Walks.{walk-same, walk-bounds}
 use Rattle.daachorse_build.specs.Few.{items_of}
+use Rattle.daachorse_build.proofs.EdgeTurns.{edges_read}
 use Rattle.daachorse_build.proofs.Growing.{nil_more, adds_edge, table_grows, walk_stays, walk_came, is_here}
 
 -- one element changed, and one more
@@ -47,7 +48,7 @@ module _ {L V A : Type 0} (cmp : L → L → Ordering) (total : IsTotalOrder cmp
   extends_new old new id label parent m state table l ne none is ordered updates no_edges no_output e =
       let edges = edges_of old in
       let count : length edges ≡ length old = length-map old (λ s. s.edges) in
-      let at : get_or edges id [] ≡ parent.edges = get_or-map (λ s. s.edges) old id parent [] l ∙ ap (λ s. s.edges) (sym is) in
+      let at : get_or edges id [] ≡ parent.edges = edges_read old id parent l is in
       let low : id < length edges = omega (arith, count, l) in
       let found : (q : L) → lookup (is_at (cmp q)) m ≡ cond (is_at (cmp label) q) (Some (length edges)) (lookup (is_at (cmp q)) (get_or edges id [])) =
       λ q. updates q ∙ ap (λ es. cond (is_at (cmp label) q) (Some (length old)) (lookup (is_at (cmp q)) es)) (sym at) ∙ ap (λ n. cond (is_at (cmp label) q) (Some n) (lookup (is_at (cmp q)) (get_or edges id []))) (sym count) in

@@ -14,9 +14,6 @@ use Rattle.daachorse_build.proofs.nfa_builder.adding.add_pattern.Goals as goal
 pub loop-label-init : goal.loop-label-init
 loop-label-init g c = (adding_start g.L.Ord.cmp g.met.L.Ord.total (label_exact g.L.EdgeLabel.unit g.L.Ord.cmp g.met.L.EdgeLabel.exact g.met.L.EdgeLabel.by_unit) c.args.states.now.items c.requires, λ fits. fits)
 
-pub child_or_new-requires-clause-trie : goal.child_or_new-requires-clause-trie
-child_or_new-requires-clause-trie g c = c.loop-label.invariant.0.trie
-
 pub child_or_new-requires-clause-in_range : goal.child_or_new-requires-clause-in_range
 child_or_new-requires-clause-in_range g c =
     let states = c.loop-label.states.items in

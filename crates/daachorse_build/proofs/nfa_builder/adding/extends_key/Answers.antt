@@ -31,9 +31,6 @@ module _ {A : Type 0} (child : ℕ → A → Option ℕ) (stops : ℕ → Bool) 
   at_none : (s : ℕ) (x : A) (w : List A) → stops s ≡ false → child s x ≡ None → meets_early child stops s (x ∷ w) ≡ false
   at_none s x w h e = ap (λ b. b || unwrap_or (option_map (λ u. meets_early child stops u w) (child s x)) false) h ∙ ap (λ o. unwrap_or (option_map (λ u. meets_early child stops u w) o) false) e
 
-pub loop-label-init : goal.loop-label-init
-loop-label-init g c = record { here = refl; same = refl }
-
 pub returns-then-stops : goal.returns-then-stops
 returns-then-stops g c =
     let states = c.args.states.now in

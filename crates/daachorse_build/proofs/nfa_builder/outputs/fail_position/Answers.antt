@@ -31,8 +31,5 @@ returns g c =
     let position = position_here states fail c.index-states-fail.result inside in
     subst (λ (f : ℕ). IsParent (positions_of states) f (get_or states fail c.index-states-fail.result).output_pos) (sym here) (inr (c.if-fail-eq-DEAD_STATE_ID.false, sym position))
 
-pub offset_bounds-states-id : goal.offset_bounds-states-id
-offset_bounds-states-id g c = omega (arith, c.requires.id)
-
 pub offset_bounds-states-fail : goal.offset_bounds-states-fail
 offset_bounds-states-fail g c = omega (arith, bounds-states-fail g c)

@@ -137,15 +137,6 @@ put_list-requires g c = record {
   id = omega (arith, c.requires.trie.trie.two, length-map c.args.states.now (λ s. s.edges));
 }
 
-pub returns-clause-kept : goal.returns-clause-kept
-returns-clause-kept g c = c.loop-id.invariant.kept
-
-pub returns-clause-fails : goal.returns-clause-fails
-returns-clause-fails g c = c.loop-id.invariant.fails
-
-pub returns-clause-parents : goal.returns-clause-parents
-returns-clause-parents g c = c.loop-id.invariant.parents
-
 pub returns-clause-lists : goal.returns-clause-lists
 returns-clause-lists g c =
     let i = c.loop-id.invariant in

@@ -13,6 +13,7 @@ use Rattle.std.specs.Cmp.{IsTotalOrder}
 use Rattle.daachorse_build.specs.Orders.{children}
 use Rattle.daachorse_build.specs.Tables.{edges_of, HoldTrie}
 use Rattle.daachorse_build.specs.Groups.{edges_at, is_some_edge, has_edges, IsWalking, AreGiven, AreFamilies, AreWeighed, weight_at, parents_of}
+use Rattle.daachorse_build.proofs.EdgeTurns.{edges_read}
 use Rattle.daachorse_build.proofs.Families.{has_edges_if, parents_more, parents_same}
 use Rattle.daachorse_build.proofs.StackWalk.{work, walk_start, walk_step, walk_end, top_bounds, less_work}
 use Rattle.daachorse_build.proofs.nfa_builder.siblings.groups_of.Goals as goal
@@ -31,7 +32,7 @@ module _ {L V A : Type 0} (cmp : L → L → Ordering) (total : IsTotalOrder cmp
   -- its edges are read, and its children put on the stack
   module _ (x : NfaBuilderState L V A) (es : List (L × ℕ)) (is : x ≡ get_or states t x) (read : es ≡ x.edges) where
     edges_here : edges_at edges t ≡ es
-    edges_here = get_or-map (λ s. s.edges) states t x [] top_low ∙ ap (λ s. s.edges) (sym is) ∙ sym read
+    edges_here = edges_read states t x top_low is ∙ sym read
 
     module _ (next : List ℕ) (put : next ≡ rest ++ values_of es) where
       next_is : rest ++ children edges t ≡ next

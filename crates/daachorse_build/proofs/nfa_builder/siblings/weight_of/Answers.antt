@@ -16,13 +16,9 @@ use Rattle.daachorse_build.specs.Tables.{edges_of, HoldTrie}
 use Rattle.daachorse_build.specs.Orders.{IsIn, children}
 use Rattle.daachorse_build.specs.Groups.{if_counted}
 use Rattle.daachorse_build.proofs.Queue.{bounds_of_listed, in_at, in_equal}
+use Rattle.daachorse_build.proofs.EdgeTurns.{edges_read}
 use Rattle.daachorse_build.proofs.Families.{if_counted-none}
 use Rattle.daachorse_build.proofs.nfa_builder.siblings.weight_of.Goals as goal
-
--- the children of the state at an index
-children_here : {L V A : Type 0} (states : List (NfaBuilderState L V A)) (i : ℕ) (x : NfaBuilderState L V A) (edges : List (L × ℕ)) → i < length states → x ≡ get_or states i x → edges ≡ x.edges → children (edges_of states) i ≡ values_of edges
-children_here states i x edges l is e =
-    ap values_of (get_or-map (λ s. s.edges) states i x [] l ∙ ap (λ s. s.edges) (sym is) ∙ sym e)
 
 -- a child is a state
 child_is_state : {L V A : Type 0} (cmp : L → L → Ordering) → IsTotalOrder cmp → (states : List (NfaBuilderState L V A)) → HoldTrie cmp states → (s : ℕ) (all : List ℕ) (i t : ℕ) → children (edges_of states) s ≡ all → slice_get all i ≡ Some t → t < length states
@@ -47,7 +43,7 @@ index-requires g c =
     let all = values_of c.edges.result.now in
     let begun : c.into_iter-id-iterator.result ≡ all = cc in
     let turn = iter_turn deref all c.loop-id.yielded c.into_iter-id-iterator.result c.loop-id.id-iterator c.next.new.self c.next.result begun c.loop-id.yielded_by c.in-Some.id c.in-Some.is c.next.ensures.steps in
-    let here = children_here states c.args.parent c.index-states-parent.result c.edges.result.now c.requires.parent c.index-states-parent.is c.edges.ensures in
+    let here = ap values_of (edges_read states c.args.parent c.index-states-parent.result c.requires.parent c.index-states-parent.is ∙ sym c.edges.ensures) in
     let low = child_is_state g.L.Ord.cmp g.met.L.Ord.total states c.requires.trie c.args.parent all (length c.loop-id.yielded) c.in-Some.id.now here turn.1 in
     elim c.requires.profile [
       | inl none ↦ absurd (false≢true (c.if-is_empty.ensures.1 none))
@@ -73,7 +69,7 @@ loop-id-preserved g c =
     let all = values_of c.edges.result.now in
     let begun : c.into_iter-id-iterator.result ≡ all = cc in
     let turn = iter_turn deref all c.loop-id.yielded c.into_iter-id-iterator.result c.loop-id.id-iterator c.next.new.self c.next.result begun c.loop-id.yielded_by c.in-Some.id c.in-Some.is c.next.ensures.steps in
-    let here = children_here states c.args.parent c.index-states-parent.result c.edges.result.now c.requires.parent c.index-states-parent.is c.edges.ensures in
+    let here = ap values_of (edges_read states c.args.parent c.index-states-parent.result c.requires.parent c.index-states-parent.is ∙ sym c.edges.ensures) in
     let low = child_is_state g.L.Ord.cmp g.met.L.Ord.total states c.requires.trie c.args.parent all (length c.loop-id.yielded) c.in-Some.id.now here turn.1 in
     let f : ℕ → ℕ = λ t. get_or visits t 0 in
     let done = map deref c.loop-id.yielded in
@@ -97,14 +93,11 @@ returns g c =
     let all = values_of c.edges.result.now in
     let begun : c.into_iter-id-iterator.result ≡ all = cc in
     let end = iter_end deref all c.loop-id.yielded c.into_iter-id-iterator.result c.loop-id.id-iterator c.next.new.self c.next.result begun c.loop-id.yielded_by c.in-None.is c.next.ensures.steps in
-    let here = children_here states c.args.parent c.index-states-parent.result c.edges.result.now c.requires.parent c.index-states-parent.is c.edges.ensures in
+    let here = ap values_of (edges_read states c.args.parent c.index-states-parent.result c.requires.parent c.index-states-parent.is ∙ sym c.edges.ensures) in
     let weight : ℕ → ℕ = λ n. min (get_or probes c.args.parent 0 + n) (2 ^ 64 - 1) in
     c.loop-id.invariant
     ∙ ap (λ xs. weight (sum_by f xs)) (end.0 ∙ sym here)
     ∙ sym (if_counted-some visits (weight (sum_by f (children (edges_of states) c.args.parent))) (λ none. false≢true (c.if-is_empty.ensures.1 none)))
-
-pub offset_bounds-states-parent : goal.offset_bounds-states-parent
-offset_bounds-states-parent g c = omega (arith, c.requires.parent)
 
 pub returns-then-is_empty : goal.returns-then-is_empty
 returns-then-is_empty g c = sym (if_counted-none c.args.profile.now.visits.items _ (c.if-is_empty.ensures.0 refl))

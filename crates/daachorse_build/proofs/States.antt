@@ -1,5 +1,5 @@
 -- How the states of a trie change.
-use Rattle.std.proofs.Common.{◌≡◌, ◌≢◌, ℕ, zero, suc, ◌+◌, ◌<◌, ◌≤◌, cond, option_and_then, List, [], ◌∷◌, ◌++◌, length, get_or, take, set, map, Option, Some, None, refl, sym, ap, ◌∙◌, subst, inl, inr, arith, append_assoc, get_or-set_same, get_or-set_other, unwrap_or}
+use Rattle.std.proofs.Common.{◌≡◌, ◌≢◌, ℕ, ◌+◌, ◌<◌, ◌≤◌, cond, option_and_then, List, [], ◌∷◌, ◌++◌, length, get_or, take, set, map, Option, Some, None, refl, sym, ap, ◌∙◌, subst, inl, inr, arith, append_assoc, get_or-set_same, get_or-set_other, unwrap_or}
 use Rattle.std.specs.Prelude.{option_map}
 use Rattle.std.proofs.lemmas.Option.{none-some, same_Some}
 use Rattle.std.proofs.lemmas.List.{append-nil, length_push, length-set, get_or_past, map_push, map-set, set-get_or, length-map, get_or-map, take_more, take_more_set}
@@ -19,6 +19,12 @@ use Rattle.daachorse_build.proofs.Walks.{walk-same, walk-bounds}
 use Rattle.daachorse_build.specs.Few.{items_of}
 use Rattle.daachorse_build.proofs.EdgeTurns.{edges_read}
 use Rattle.daachorse_build.proofs.Growing.{nil_more, adds_edge, table_grows, walk_stays, walk_came, is_here}
+
+-- a text leads to a state, and not to the dead one
+pub leads_low : {L V A : Type 0} (cmp : L → L → Ordering) (states : List (NfaBuilderState L V A)) → HoldTrie cmp states → (w : List L) (t : ℕ) → walk (child_of cmp states) 0 w ≡ Some t → (t < length states) × (t ≢ 1)
+leads_low cmp states table w t at =
+    let b = walk-bounds (child_of cmp states) (length (edges_of states)) table.trie w t at in
+    (omega (arith, b.0, length-map states (λ s. s.edges)), b.1)
 
 -- one element changed, and one more
 map_edit : {X Y : Type 0} (f : X → Y) (xs : List X) (i : ℕ) (y z : X) → map f (set xs i y ++ z ∷ []) ≡ set (map f xs) i (f y) ++ f z ∷ []

@@ -1,18 +1,16 @@
 -- A state comes off the stack, and it has its group, if it has an edge.
 use Rattle.std.proofs.Common.{◌≡◌, ◌<◌, ℕ, not, List, [], ◌∷◌, ◌++◌, length, get_or, refl, sym, ap, ◌∙◌, subst, arith}
-use Rattle.std.proofs.lemmas.List.{length-map, get_or-map, append-nil}
+use Rattle.std.proofs.lemmas.List.{length-map, append-nil}
 use Rattle.std.proofs.lemmas.List.Elements.{All-push}
 use Rattle.std.proofs.lemmas.Result.{IfOk-from_err}
-use Rattle.std.specs.List.{filter}
 use Rattle.std.specs.Map.{values_of}
-use Rattle.daachorse_placement.specs.declared.build_helper.SiblingGroup.{SiblingGroup}
 use Rattle.daachorse_core.proofs.Refusals.{at_error}
 use Rattle.daachorse_build.specs.declared.nfa_builder.NfaBuilderState.{NfaBuilderState}
 use Rattle.std.specs.declared.cmp.Ordering.{Ordering}
 use Rattle.std.specs.Cmp.{IsTotalOrder}
 use Rattle.daachorse_build.specs.Orders.{children}
 use Rattle.daachorse_build.specs.Tables.{edges_of, HoldTrie}
-use Rattle.daachorse_build.specs.Groups.{edges_at, is_some_edge, has_edges, IsWalking, AreGiven, AreFamilies, AreWeighed, weight_at, parents_of}
+use Rattle.daachorse_build.specs.Groups.{edges_at, is_some_edge, IsWalking, AreGiven, weight_at}
 use Rattle.daachorse_build.proofs.EdgeTurns.{edges_read}
 use Rattle.daachorse_build.proofs.Families.{has_edges_if, parents_more, parents_same}
 use Rattle.daachorse_build.proofs.StackWalk.{work, walk_start, walk_step, walk_end, top_bounds, less_work}

@@ -1,12 +1,11 @@
 -- A child is a state, and so it has a count.
-use Rattle.std.proofs.Common.{Bor, Option, ◌≡◌, ◌+◌, ◌-◌, ◌^◌, ◌<◌, min, ℕ, List, [], ◌∷◌, ◌++◌, length, map, get_or, sum_by, Some, refl, sym, ap, ◌∙◌, subst, inl, inr, arith}
-use Rattle.std.proofs.lemmas.List.{length-map, get_or-map, map-append, get_or_default}
+use Rattle.std.proofs.Common.{Bor, Option, ◌≡◌, ◌+◌, ◌-◌, ◌^◌, ◌<◌, min, ℕ, List, [], ◌∷◌, ◌++◌, length, map, get_or, sum_by, Some, refl, sym, ap, ◌∙◌, inl, inr, arith}
+use Rattle.std.proofs.lemmas.List.{length-map, map-append, get_or_default}
 use Rattle.std.proofs.lemmas.List.Sums.{sum_by_push}
 use Rattle.std.proofs.lemmas.Bool.{false≢true}
 use Rattle.std.proofs.lemmas.Map.Iter.{iter_turn, iter_end}
 use Rattle.std.proofs.lemmas.Option.{get_or_from_slice_get, slice_get_within}
 use Rattle.std.proofs.lemmas.Grind.{common_steps}
-use Rattle.std.specs.List.{slice_get}
 use Rattle.std.specs.Map.{values_of}
 use Rattle.std.specs.Iterator.{Yields}
 use Rattle.std.specs.Map.Iter.{TakesFirst, deref}
@@ -14,7 +13,7 @@ use Rattle.std.specs.declared.cmp.Ordering.{Ordering}
 use Rattle.std.specs.Cmp.{IsTotalOrder}
 use Rattle.daachorse_build.specs.declared.nfa_builder.NfaBuilderState.{NfaBuilderState}
 use Rattle.daachorse_build.specs.Tables.{edges_of, HoldTrie}
-use Rattle.daachorse_build.specs.Orders.{IsIn, children}
+use Rattle.daachorse_build.specs.Orders.{children}
 use Rattle.daachorse_build.specs.Groups.{if_counted}
 use Rattle.daachorse_build.proofs.Queue.{bounds_of_listed, in_at, in_equal, in_same}
 use Rattle.daachorse_build.proofs.EdgeTurns.{edges_read}

@@ -1,13 +1,10 @@
 -- One child more goes into the queue, with the link that following the links found.
-use Rattle.std.proofs.Common.{◌≡◌, ℕ, Bool, ◌<◌, List, [], ◌∷◌, ◌++◌, length, take, get_or, refl, sym, ap, ◌∙◌, subst, arith}
-use Rattle.std.proofs.lemmas.List.{length-map, get_or-map, get_or_read, length_push, take_all, get_or_append_left, take-append-le}
-use Rattle.std.proofs.lemmas.Map.Iter.{iter_turn, iter_end}
-use Rattle.std.specs.Map.Iter.{deref_pair}
-use Rattle.std.proofs.lemmas.Map.Entries.{length-values_of}
+use Rattle.std.proofs.Common.{◌≡◌, ℕ, ◌<◌, List, [], ◌∷◌, ◌++◌, length, take, get_or, refl, sym, ◌∙◌, subst, arith}
+use Rattle.std.proofs.lemmas.List.{length-map, get_or_read, length_push, get_or_append_left, take-append-le}
 use Rattle.std.proofs.lemmas.Result.{IfOk-from_err}
 use Rattle.std.specs.declared.cmp.Ordering.{Ordering}
 use Rattle.daachorse_build.specs.Tables.{edges_of, stops_of}
-use Rattle.daachorse_build.specs.Orders.{IsLinkAmong, IsIn, IsTraversal, children}
+use Rattle.daachorse_build.specs.Orders.{IsLinkAmong, IsIn}
 use Rattle.daachorse_build.specs.declared.nfa_builder.NfaBuilderState.{NfaBuilderState}
 use Rattle.daachorse_build.specs.declared.nfa_builder.links.BreadthFirstTraversal.{BreadthFirstTraversal}
 use Rattle.daachorse_build.specs.Traversals.{Traverses}

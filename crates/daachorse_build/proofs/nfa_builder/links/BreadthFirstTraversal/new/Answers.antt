@@ -1,13 +1,9 @@
 -- One child of the root more is in the queue, with its link.
-use Rattle.std.proofs.Common.{refl, ◌≡◌, ◌<◌, [], length, get_or, take, replicate, sym, ap, ◌∙◌, inl, inr, arith}
-use Rattle.std.specs.Map.Iter.{deref_pair}
-use Rattle.std.proofs.lemmas.Map.Iter.{iter_turn, iter_end}
-use Rattle.std.proofs.lemmas.Map.Entries.{length-values_of}
-use Rattle.std.proofs.lemmas.List.{length-map, get_or-map, length_push, take_all}
-use Rattle.std.proofs.lemmas.Result.{err_from_is_err_and, IfOk-from_err}
+use Rattle.std.proofs.Common.{refl, ◌≡◌, ◌<◌, length, replicate, sym, inl, inr, arith}
+use Rattle.std.proofs.lemmas.List.{length-map, length_push}
+use Rattle.std.proofs.lemmas.Result.{IfOk-from_err}
 use Rattle.daachorse_core.proofs.Refusals.{at_error}
 use Rattle.daachorse_build.specs.Tables.{edges_of, stops_of}
-use Rattle.daachorse_build.specs.Orders.{children}
 use Rattle.daachorse_build.proofs.EdgeTurns.{edge_read, all_read}
 use Rattle.daachorse_build.proofs.Queue.{traversal_start, traversal_first, child_at_place}
 use Rattle.daachorse_build.proofs.nfa_builder.links.BreadthFirstTraversal.new.Goals as goal

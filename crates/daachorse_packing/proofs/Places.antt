@@ -17,7 +17,7 @@ use Rattle.daachorse_placement.specs.Placement.{IsGroupAt, children_of, parent_o
 use Rattle.daachorse_build.specs.EdgeMaps.{id_at}
 use Rattle.daachorse_build.specs.Groups.{coded}
 use Rattle.daachorse_build.specs.Tables.{child_in}
-use Rattle.daachorse_machine.proofs.PathLaws.{and_then_inv}
+use Rattle.daachorse_machine.proofs.PathLaws.{and_then_inv, search_below}
 use Rattle.daachorse_packing.specs.Settled.{ArePlaces, AreSettled, IsVacantAt}
 
 -- ---- an edge stands in the list of its state's edges
@@ -37,16 +37,6 @@ coded-at : (code : ℕ → ℕ) (es : List (ℕ × ℕ)) (i c t : ℕ) → i < l
 coded-at code es i c t inside is =
     let f : ℕ × ℕ → ℕ × ℕ = λ e. (code e.0, e.1) in
     get_or-map f es i (0, 0) (0, 0) inside ∙ ap f is
-
--- ---- a search among the numbers below n
-pub search_below : (P Q : ℕ → Type 0) (n : ℕ) → ((k : ℕ) → k < n → P k ⊎ Q k) → ((k : ℕ) × (k < n) × P k) ⊎ ((k : ℕ) → k < n → Q k)
-search_below P Q zero h = inr (λ k less. absurd (omega arith))
-search_below P Q (suc n) h = go (search_below P Q n (λ k less. h k (omega arith))) (h n (omega arith))
-  where
-    go : ((k : ℕ) × (k < n) × P k) ⊎ ((k : ℕ) → k < n → Q k) → P n ⊎ Q n → ((k : ℕ) × (k < suc n) × P k) ⊎ ((k : ℕ) → k < suc n → Q k)
-    go (inl (k, less, p)) last = inl (k, omega arith, p)
-    go (inr none) (inl p) = inl (n, omega arith, p)
-    go (inr none) (inr q) = inr (λ k less. elim (cases_eq k n) [ inl e ↦ subst Q (sym e) q | inr other ↦ none k (omega arith) ])
 
 -- ---- a trie whose groups were placed
 module _ {A : Type 0} {code : ℕ → ℕ} {block : ℕ} {tracked : Bool} {gs : List (SiblingGroup A)} {l : Layout} {edges : List (List (ℕ × ℕ))} (q : AreSettled code block tracked gs l edges) where

@@ -1,7 +1,7 @@
 -- How many own outputs the states have that are not yet done: those of the states that are done are cleared away.
 use Rattle.std.proofs.Common.{◌≡◌, ℕ, zero, suc, ◌+◌, ◌<◌, ◌⊎◌, List, [], ◌∷◌, ◌++◌, length, set, refl, sym, ap, ◌∙◌, inl, inr, get_or-set_other, arith}
-use Rattle.std.proofs.lemmas.List.{length-set}
-use Rattle.std.proofs.lemmas.List.Sums.{sum_by-append, sum_by-set}
+use Rattle.std.proofs.lemmas.List.{get_or_default, length-set}
+use Rattle.std.proofs.lemmas.List.Sums.{sum_by-append, sum_by-le, sum_by-set}
 use Rattle.daachorse_build.specs.Tables.{own_at, output_count}
 use Rattle.daachorse_build.specs.Orders.{IsIn}
 
@@ -48,13 +48,7 @@ module _ {V : Type 0} where
   cleared_none own (u ∷ ts) t (inr none) = cleared_none (set own u []) ts t (inr (set_none own u t (inr none)))
 
   count_none : (own : List (List (V × ℕ))) → ((t : ℕ) → t < length own → own_at own t ≡ []) → output_count own ≡ 0
-  count_none [] none = refl
-  count_none (x ∷ own) none =
-      let first : length x ≡ 0 = ap length (none 0 (omega arith)) in
-      let rest : output_count own ≡ 0 = count_none own (λ t low. none (suc t) (omega (arith, low))) in
-      let split : output_count (x ∷ own) ≡ output_count (x ∷ []) + output_count own = sum_by-append length (x ∷ []) own in
-      let one : output_count (x ∷ []) ≡ 0 + length x = refl in
-      omega (arith, split, one, first, rest)
+  count_none own none = omega (arith, sum_by-le length 0 own (λ k d l. omega (arith, ap length (get_or_default own k d [] l ∙ none k l))))
 
   pub all_cleared : (own : List (List (V × ℕ))) (ts : List ℕ) → ((t : ℕ) → t < length own → IsIn ts t ⊎ (own_at own t ≡ [])) → output_count (cleared own ts) ≡ 0
   all_cleared own ts each = count_none (cleared own ts) (λ t low. cleared_none own ts t (each t (omega (arith, low, length-cleared own ts))))

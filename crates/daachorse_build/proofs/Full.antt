@@ -1,5 +1,5 @@
 -- Where no id is free: the text of each id but that of the dead state, and the text that needs one more, are prefixes of keys, no two the same.
-use Rattle.std.proofs.Common.{◌≡◌, ◌≢◌, ℕ, zero, suc, ◌+◌, ◌<◌, ◌≤◌, false, List, [], ◌∷◌, ◌++◌, length, map, Option, None, refl, sym, ap, ◌∙◌, subst, inl, inr, append_assoc, arith}
+use Rattle.std.proofs.Common.{◌≡◌, ◌≢◌, ◌-◌, ℕ, zero, suc, ◌+◌, ◌<◌, ◌≤◌, false, List, [], ◌∷◌, ◌++◌, length, map, Option, None, refl, sym, ap, ◌∙◌, subst, inl, inr, append_assoc, arith}
 use Rattle.std.proofs.lemmas.Option.{none-some, same_Some}
 use Rattle.std.proofs.lemmas.Bool.{false_from_ne_true}
 use Rattle.std.proofs.lemmas.List.{length-map}
@@ -64,14 +64,9 @@ module _ {A : Type 0} (child : ℕ → A → Option ℕ) where
 
   -- as many texts as ids, less the dead state's
   pub all_texts : (n : ℕ) → IsTrie child n → TextsBelow child n
-  all_texts n trie = below n trie.two (texts_below n trie)
-    where
-      below : (n : ℕ) → 1 < n → ((k : ℕ) → k + 2 ≤ n → TextsBelow child (k + 2)) → TextsBelow child n
-      below zero h f = absurd (omega arith)
-      below (suc zero) h f = absurd (omega arith)
-      below (suc (suc k)) h f =
-          let e : k + 2 ≡ suc (suc k) = omega arith in
-          subst (λ (m : ℕ). TextsBelow child m) e (f k (omega arith))
+  all_texts n trie =
+      let e : n - 2 + 2 ≡ n = omega (arith, trie.two) in
+      subst (λ (m : ℕ). TextsBelow child m) e (texts_below n trie (n - 2) (omega (arith, trie.two)))
 
 -- texts that differ have units that differ
 distinct_units : {L : Type 0} (unit : L → ℕ) → ((a b : L) → unit a ≡ unit b → a ≡ b) → (ws : List (List L)) → Apart ws → IsDistinct same_text (map (map unit) ws)

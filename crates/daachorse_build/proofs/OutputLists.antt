@@ -1,7 +1,7 @@
 -- The lists of outputs, state by state: a state's own outputs and then the list of its link, which has those of the longest proper suffix that is a state's text.
 use Rattle.std.proofs.Common.{◌≡◌, ◌≢◌, ℕ, ◌+◌, ◌<◌, ◌≤◌, ◌⊎◌, Bool, true, false, cond, List, [], ◌∷◌, ◌++◌, length, map, get_or, take, Option, Some, None, is_some, zero, suc, refl, sym, ap, ◌∙◌, subst, inl, inr, length-append, arith}
 use Rattle.std.proofs.lemmas.Option.{same_Some}
-use Rattle.std.proofs.lemmas.Bool.{cases_Bool, cond-true, cond-false}
+use Rattle.std.proofs.lemmas.Bool.{cases_Bool, cases_eq, cond-true, cond-false}
 use Rattle.std.proofs.lemmas.List.{append-nil, length-map, take_more}
 use Rattle.std.specs.declared.cmp.Ordering.{Ordering}
 use Rattle.std.specs.declared.cmp.Ordering.TheVariants.{Equal}
@@ -78,12 +78,12 @@ module _ {L V A : Type 0} (cmp : L → L → Ordering) (total : IsTotalOrder cmp
 
     -- each state that a text leads to is known
     pub known_of_leads : (w : List L) (t : ℕ) → Leads (child_of cmp states) w t → IsKnown order t
-    known_of_leads w t h = known_below t (walk-bounds (child_of cmp states) (length (edges_of states)) table.trie w t h)
-      where
-        known_below : (t : ℕ) → (t < length (edges_of states)) × (t ≢ 1) → IsKnown order t
-        known_below zero b = inl refl
-        known_below (suc zero) b = absurd (b.1 refl)
-        known_below (suc (suc t)) b = inr (all_in_order cmp total (edges_of states) table order links.first (suc (suc t)) (omega arith) b.0)
+    known_of_leads w t h =
+        let b = walk-bounds (child_of cmp states) (length (edges_of states)) table.trie w t h in
+        elim (cases_eq t 0) [
+          | inl e ↦ inl e
+          | inr ne ↦ inr (all_in_order cmp total (edges_of states) table order links.first t (omega (arith, ne, b.1)) b.0)
+        ]
 
     -- the list of the link of c ∷ cs
     list_of_link : (outputs : List (Output V)) (positions : List ℕ) (done : List ℕ) (f p : ℕ) → AreListed cmp stops states done outputs positions → IsLinkAmong done f → IsParent positions f p → (o : Option (List L)) → IsStateOf (child_of cmp states) o f → outputs_at outputs p ≡ link_outputs stops states o

@@ -1,7 +1,7 @@
 -- How the states of a trie change.
 use Rattle.std.proofs.Common.{◌≡◌, ◌≢◌, ℕ, ◌+◌, ◌<◌, ◌≤◌, cond, option_and_then, List, [], ◌∷◌, ◌++◌, length, get_or, take, set, map, Option, Some, None, refl, sym, ap, ◌∙◌, subst, inl, inr, arith, append_assoc, get_or-set_same, get_or-set_other, unwrap_or}
 use Rattle.std.specs.Prelude.{option_map}
-use Rattle.std.proofs.lemmas.Option.{none-some, same_Some}
+use Rattle.std.proofs.lemmas.Option.{none-some, option_and_then_some, same_Some}
 use Rattle.std.proofs.lemmas.List.{append-nil, length_push, length-set, get_or_past, map_push, map-set, set-get_or, length-map, get_or-map, take_more, take_more_set}
 use Rattle.std.specs.declared.cmp.Ordering.{Ordering}
 use Rattle.std.specs.declared.cmp.Ordering.TheVariants.{Equal}
@@ -177,15 +177,11 @@ module _ {L V A : Type 0} (cmp : L → L → Ordering) (total : IsTotalOrder cmp
           ∙ get_or-set_other (own_of mid) id v (own_at (own_of mid) id ++ out ∷ []) [] ne
           ∙ sym (outputs_found mid w v e)
 
-      front_at : (w rest : List L) → walk (child_of cmp mid) 0 (w ++ rest) ≡ Some id → (m : Option ℕ) → walk (child_of cmp mid) 0 w ≡ m → (v : ℕ) × (walk (child_of cmp mid) 0 w ≡ Some v)
-      front_at w rest h (Some v) e = (v, e)
-      front_at w rest h None e = absurd (none-some id (ap (option_and_then (λ t. walk (child_of cmp mid) t rest)) (sym e) ∙ sym (walk-append (child_of cmp mid) 0 w rest) ∙ h))
-
       begins : (w : List L) → IsPrefixOf w p → (v : ℕ) × (walk (child_of cmp new) 0 w ≡ Some v)
       begins w h =
-          let r = front_at w h.0 (ap (walk (child_of cmp mid) 0) h.1 ∙ adding.here) (walk (child_of cmp mid) 0 w) refl in
-          let W : List (List (L × ℕ)) → Type 0 = λ es. walk (child_in cmp es) 0 w ≡ Some r.0 in
-          (r.0, subst W (sym edges) r.1)
+          let W : ℕ → List (List (L × ℕ)) → Type 0 = λ v es. walk (child_in cmp es) 0 w ≡ Some v in
+          option_and_then_some (λ t. walk (child_of cmp mid) t h.0) (walk (child_of cmp mid) 0 w) id
+          (sym (walk-append (child_of cmp mid) 0 w h.0) ∙ ap (walk (child_of cmp mid) 0) h.1 ∙ adding.here) (λ v at _. (v, subst (W v) (sym edges) at))
 
 -- one link more is set
 pub link_set : {L V A : Type 0} (old states : List (NfaBuilderState L V A)) (fails : List ℕ) (i : ℕ) (x y : NfaBuilderState L V A) → i < length states → i < length fails → x ≡ get_or states i x → y ≡ record x { fail = get_or fails i 0 } → HasTrieOf old states → take i (fails_of states) ≡ take i fails → HasTrieOf old (set states i y) × (take (i + 1) (fails_of (set states i y)) ≡ take (i + 1) fails)

@@ -19,7 +19,7 @@ module _ {A : Type 0} (child : ℕ → A → Option ℕ) where
         (b.3, λ k. omega (arith, b.2, k))
 
     -- the root has no text but the empty one
-    walk-above : (c : A) (cs : List A) (t : ℕ) → walk child 0 (c ∷ cs) ≡ Some t → 1 < t
+    pub walk-above : (c : A) (cs : List A) (t : ℕ) → walk child 0 (c ∷ cs) ≡ Some t → 1 < t
     walk-above c cs t h =
         let last = last_of c cs in
         let parts = push-parts child 0 last.0 last.1 t (sym (ap (walk child 0) last.2) ∙ h) in

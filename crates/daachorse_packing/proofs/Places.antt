@@ -17,7 +17,8 @@ use Rattle.daachorse_placement.specs.Placement.{IsGroupAt, children_of, parent_o
 use Rattle.daachorse_build.specs.EdgeMaps.{id_at}
 use Rattle.daachorse_build.specs.Groups.{coded}
 use Rattle.daachorse_build.specs.Tables.{child_in}
-use Rattle.daachorse_machine.proofs.PathLaws.{and_then_inv, search_below}
+use Rattle.daachorse_build.proofs.Walks.{walk-above, walk-bounds}
+use Rattle.daachorse_machine.proofs.PathLaws.{search_below}
 use Rattle.daachorse_packing.specs.Settled.{ArePlaces, AreSettled, IsVacantAt}
 
 -- ---- an edge stands in the list of its state's edges
@@ -130,28 +131,13 @@ module _ {A : Type 0} {code : ℕ → ℕ} {block : ℕ} {tracked : Bool} {gs : 
   xor_below b c unit below = subst (λ (x : ℕ). bit_xor b c < x) (sym q.sizes.elements) (xor_inside block l.blocks b c q.power unit (subst (λ (x : ℕ). b < x) q.sizes.elements below))
 
   -- the states that texts lead to
-  walk-rises : (s t : ℕ) (w : List ℕ) → s < length edges → walk (child_in nat_cmp edges) s w ≡ Some t → (s ≤ t) × (t < length edges)
-  walk-rises s t [] less e = let same : s ≡ t = same_Some s t e in (omega arith, omega arith)
-  walk-rises s t (c ∷ w) less e =
-      let step = and_then_inv (λ r. walk (child_in nat_cmp edges) r w) (to s c) t e in
-      let bounds = q.of_trie.table.trie.bounds s c step.0 step.1 in
-      let low : s < step.0 = bounds.0 in
-      let rest = walk-rises step.0 t w bounds.3 step.2 in
-      let more : step.0 ≤ t = rest.0 in
-      (omega (arith, low, more), rest.1)
-
-  pub Leads-above : (u s : ℕ) (w : List ℕ) → Leads (child_in nat_cmp edges) (u ∷ w) s → (1 < s) × (s < length edges)
+  pub Leads-above : (u s : ℕ) (w : List ℕ) → Leads to (u ∷ w) s → (1 < s) × (s < length edges)
   Leads-above u s w e =
-      let step = and_then_inv (λ r. walk (child_in nat_cmp edges) r w) (to 0 u) s e in
-      let bounds = q.of_trie.table.trie.bounds 0 u step.0 step.1 in
-      let high : 1 < step.0 = bounds.2 in
-      let rest = walk-rises step.0 s w bounds.3 step.2 in
-      let more : step.0 ≤ s = rest.0 in
-      (omega (arith, high, more), rest.1)
+      let trie = q.of_trie.table.trie in
+      (walk-above to (length edges) trie u w s e, (walk-bounds to (length edges) trie (u ∷ w) s e).0)
 
-  pub Leads-state : (s : ℕ) (w : List ℕ) → Leads (child_in nat_cmp edges) w s → (s < length edges) × (s ≢ 1)
-  Leads-state s [] e = let same : 0 ≡ s = same_Some 0 s e in let two : 1 < length edges = q.of_trie.table.trie.two in (omega (arith, same, two), λ one. (let bad : 0 ≡ 1 = same ∙ one in omega (arith, bad)))
-  Leads-state s (u ∷ w) e = let above = Leads-above u s w e in let high : 1 < s = above.0 in (above.1, λ one. omega (arith, high, one))
+  pub Leads-state : (s : ℕ) (w : List ℕ) → Leads to w s → (s < length edges) × (s ≢ 1)
+  Leads-state s w e = walk-bounds to (length edges) q.of_trie.table.trie w s e
 
   -- ---- the places
   pub place-above : (t : ℕ) → 1 < t → t < length edges → 1 < place t

@@ -104,8 +104,7 @@ module _ {L V A : Type 0} (cmp : L → L → Ordering) (unit : L → ℕ) (width
   -- the leftmost link of a text is that of its units
   pub left_link-is : (c : L) (w : List L) → IsLeftFail keys (map unit (c ∷ w)) (option_map (map unit) (left_link (child_of cmp states) (stops_of true states) c w))
   left_link-is c w =
-      let P : Option (List ℕ) → Type 0 = λ o. IsLeftFail keys (map unit (c ∷ w)) o in
-      subst P (sym (link-units c w)) (left_fail-is keys test (known-fore (kept kind (in_units unit rs))) (known-back (kept kind (in_units unit rs))) (unit c) (map unit w))
+      rw (link-units c w) (left_fail-is keys test (known-fore (kept kind (in_units unit rs))) (known-back (kept kind (in_units unit rs))) (unit c) (map unit w))
 
   -- the state of the leftmost link, in the words of the dictionary
   pub links_left : (c : L) (w : List L) (f : ℕ) → IsStateOf (child_of cmp states) (left_link (child_of cmp states) (stops_of true states) c w) f → LinksLeft keys unit (child_of cmp states) (c ∷ w) f

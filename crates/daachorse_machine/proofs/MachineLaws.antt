@@ -191,8 +191,7 @@ module _ {V : Type 0} (width : ℕ → ℕ) (a : Machine V) (leftmost : Bool) (n
   link_at i r other = elim (root_or i (text_of a.child m n i) r) [
     | inl root ↦ absurd (other root)
     | inr parts ↦
-        let P : List ℕ → Type 0 = λ w. LinkOf w (a.fail i) in
-        subst P (sym parts.2) (Leads-link parts.0 parts.1 i (sym (ap (λ w. walk a.child 0 w) parts.2) ∙ r))
+        rw parts.2 (Leads-link parts.0 parts.1 i (sym (ap (λ w. walk a.child 0 w) parts.2) ∙ r))
   ]
 
   -- a dead link leads to the root

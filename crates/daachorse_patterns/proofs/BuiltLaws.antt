@@ -55,8 +55,7 @@ module _ {L V A : Type 0} (cmp : L → L → Ordering) (unit : L → ℕ) (width
   AreLeft-kept o b rs keeps left =
       let E : List (List (L × ℕ)) → Type 0 = λ es. (w : List L) (t : ℕ) → w ≢ [] → Leads (child_in cmp es) w t
       → LinksLeft (dictionary (kind_of o) (in_units unit rs)) unit (child_in cmp es) w (slice_index (fails_of (states_of b)) t) in
-      let K : MatchKind → Type 0 = λ k. AreLeft cmp unit k (states_of b) (states_of b) rs in
-      subst K (sym keeps.kind) (subst E (sym keeps.kept.edges) left)
+      rw keeps.kind (subst E (sym keeps.kept.edges) left)
 
 -- The trie of a builder with patterns, read by units.
 module _ {L V A : Type 0} (cmp : L → L → Ordering) (unit : L → ℕ) (width : ℕ → ℕ) (total : IsTotalOrder cmp) (d : NfaBuilder L V A) (rs : List (List L × V)) (was : Registered cmp unit width d rs)

@@ -17,8 +17,7 @@ use Rattle.daachorse_patterns.proofs.trie.build_trie.Goals as goal
 
 pub build_outputs-requires : goal.build_outputs-requires
 build_outputs-requires g c =
-    let P : List ℕ → Type 0 = λ order. HoldEitherLinks g.L.Ord.cmp (states_of c.build_links.new.nfa) order in
-    subst P (sym c.deref.ensures.value) (either_linked g.L.Ord.cmp g.L.EdgeLabel.unit g.L.EdgeLabel.width (is_leftmost c.args.kind) c.add_all.new.nfa c.build_links.new.nfa c.in_ok-order.order.items c.in_ok-order.ensures.links)
+    rw c.deref.ensures.value (either_linked g.L.Ord.cmp g.L.EdgeLabel.unit g.L.EdgeLabel.width (is_leftmost c.args.kind) c.add_all.new.nfa c.build_links.new.nfa c.in_ok-order.order.items c.in_ok-order.ensures.links)
 
 pub returns-clause-ok : goal.returns-clause-ok
 returns-clause-ok g c =

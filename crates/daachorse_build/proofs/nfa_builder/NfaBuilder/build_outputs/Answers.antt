@@ -50,8 +50,7 @@ outputs-built {L} {V} cmp total exact unit width b new outputs order table linke
           ∙ suffix_outputs-held cmp unit width b.kind b.states rs reg.holds w;
       chains = λ left rs reg w t h.
           let K = dictionary b.kind (in_units unit rs) in
-          let C : List (V × ℕ) → Type 0 = λ l. IsChain width K (IsDead K) (map unit w) l in
-          subst C (sym (made.lists true left t (known true left w t h) w h)) (chain-left cmp total exact unit width b.kind b.states rs reg.holds w);
+          rw (made.lists true left t (known true left w t h) w h) (chain-left cmp total exact unit width b.kind b.states rs reg.holds w);
       follows = λ w t h. made.chained links.0 links.1 t (known links.0 links.1 w t h);
       bound = made.bound;
       few = made.few;
@@ -60,8 +59,7 @@ outputs-built {L} {V} cmp total exact unit width b new outputs order table linke
 
 pub put_lists-requires-clause-links : goal.put_lists-requires-clause-links
 put_lists-requires-clause-links g c =
-    let P : List (NfaBuilderState g.row.L.Denot g.row.V.Denot g.row.A.Denot) → Type 0 = λ ss. (leftmost : Bool) × HoldLeftLinks g.L.Ord.cmp leftmost ss c.args.order.now in
-    subst P (sym c.deref_mut.ensures.value) (either g.L.Ord.cmp g.met.L.Ord.total c.self.inside.states.items c.self.invariant c.args.order.now (rw (← c.self.view_is) at c.requires))
+    rw c.deref_mut.ensures.value (either g.L.Ord.cmp g.met.L.Ord.total c.self.inside.states.items c.self.invariant c.args.order.now (rw (← c.self.view_is) at c.requires))
 
 pub returns-clause-outputs : goal.returns-clause-outputs
 returns-clause-outputs g c =

@@ -20,8 +20,7 @@ pub invariant_of-result : goal.invariant_of-result
 invariant_of-result g c =
     let states = c.push-2.new.self.items in
     let edges : edges_of states ≡ [] ∷ [] ∷ [] = rw (c.in_ok-push-2.ensures.items, c.in_ok-push.ensures.items, c.new-states.ensures.items, c.new.ensures.edges, c.new-2.ensures.edges) refl in
-    let E : List (List (g.row.L.Denot × ℕ)) → Type 0 = λ es. IsTable g.L.Ord.cmp es in
-    subst E (sym edges) (empty_table g.L.Ord.cmp)
+    rw edges (empty_table g.L.Ord.cmp)
 
 pub returns-in_err-push : goal.returns-in_err-push
 returns-in_err-push g c =

@@ -67,8 +67,7 @@ returns-in_err-id-clause-refused g c =
 
 pub returns-in_err-id-clause-trie : goal.returns-in_err-id-clause-trie
 returns-in_err-id-clause-trie g c =
-    let E : List (List (g.row.L.Denot × ℕ)) → Type 0 = λ es. IsTable g.L.Ord.cmp es in
-    subst E (sym c.in_err-id.ensures.kept) c.loop-label.invariant.0.trie
+    rw c.in_err-id.ensures.kept c.loop-label.invariant.0.trie
 
 pub returns-clause-trie : goal.returns-clause-trie
 returns-clause-trie g c =

@@ -1,7 +1,7 @@
 -- How many own outputs the states have that are not yet done: those of the states that are done are cleared away.
 use Rattle.std.proofs.Common.{◌≡◌, ℕ, zero, suc, ◌+◌, ◌<◌, ◌⊎◌, List, [], ◌∷◌, ◌++◌, length, set, refl, sym, ap, ◌∙◌, inl, inr, get_or-set_other, arith}
 use Rattle.std.proofs.lemmas.List.{get_or_default, length-set}
-use Rattle.std.proofs.lemmas.List.Sums.{sum_by-append, sum_by-le, sum_by-set}
+use Rattle.std.proofs.lemmas.List.Sums.{sum_by-le, sum_by-set}
 use Rattle.daachorse_build.specs.Tables.{own_at, output_count}
 use Rattle.daachorse_build.specs.Orders.{IsIn}
 

@@ -1,7 +1,7 @@
 -- A text that leads to an element is shorter than the number of texts that do, since its beginnings are such texts.
-use Rattle.std.proofs.Common.{◌≡◌, ◌≢◌, ℕ, suc, ◌<◌, ◌≤◌, Bool, List, length, take, drop, get_or, Option, sym, ap, ◌∙◌, arith}
+use Rattle.std.proofs.Common.{◌≡◌, ℕ, suc, ◌<◌, Bool, List, length, take, drop, get_or, Option, sym, ap, ◌∙◌, arith}
 use Rattle.std.specs.Prelude.{Contains}
-use Rattle.std.proofs.lemmas.List.{take-append-drop, length-take-le, get_or_default}
+use Rattle.std.proofs.lemmas.List.{take-append-drop, get_or_default}
 use Rattle.daachorse_model.specs.Paths.{walk, is_reached, Leads}
 use Rattle.daachorse_model.specs.Prefixes.{PassesAt, HasPrefixes}
 use Rattle.daachorse_machine.specs.Machines.{Machine, IsMachine, IsCounted, content}

@@ -10,7 +10,6 @@ use Rattle.std.specs.List.{AllPairs, list_any, range_with_len}
 use Rattle.std.proofs.lemmas.Option.{same_Some}
 use Rattle.std.specs.Prelude.{option_and_then, is_some}
 use Rattle.daachorse_model.specs.Paths.{walk, is_reached, Leads}
-use Rattle.daachorse_model.proofs.Booleans.{either}
 use Rattle.daachorse_model.proofs.Paths.{walk-append}
 use Rattle.daachorse_machine.specs.Texts.{by_unit, any_unit, or_empty, find_text, text_of}
 
@@ -33,9 +32,9 @@ pigeon n m f below apart =
     let once : AllPairs (λ x y. x ≢ y) xs = λ i j d less inside same.
     apart i j less (omega (arith, inside, len)) (sym (at i d (omega (arith, less, inside, len))) ∙ same ∙ at j d (omega (arith, inside, len))) in
     let fits : (q : ℕ) → list_any (eqb q) xs ≡ true → q < n = λ q h. (
-        let r = (Decides-by_or (eqb q) (λ x. q ≡ x) (list_any (eqb q)) (Decides-eqb q) refl (λ _ _. refl) xs).0 h in
-        let low : r.0 < m = omega (arith, r.1, len) in
-        omega (arith, r.2 0, at r.0 0 low, below r.0 low)) in
+    let r = (Decides-by_or (eqb q) (λ x. q ≡ x) (list_any (eqb q)) (Decides-eqb q) refl (λ _ _. refl) xs).0 h in
+    let low : r.0 < m = omega (arith, r.1, len) in
+    omega (arith, r.2 0, at r.0 0 low, below r.0 low)) in
     omega (arith, len, length-le_from_distinct_below xs n (IsDistinct-from_AllPairs Decides-eqb xs once) fits)
 
 -- a text is shorter than n, where its beginnings have numbers below n that tell them apart
@@ -43,8 +42,8 @@ pub takes_fit : {X : Type 0} (n : ℕ) (w : List X) (f : ℕ → ℕ) → ((k : 
 takes_fit n w f below same =
     pigeon n (suc (length w)) f below
     (λ j k less h e. (
-        let long : length (take j w) ≡ length (take k w) = ap length (same j k e) in
-        omega (arith, long, length-take-le j w (omega arith), length-take-le k w (omega arith), less)))
+    let long : length (take j w) ≡ length (take k w) = ap length (same j k e) in
+    omega (arith, long, length-take-le j w (omega arith), length-take-le k w (omega arith), less)))
 
 -- a search among the numbers below n
 pub search_below : (P Q : ℕ → Type 0) (n : ℕ) → ((k : ℕ) → k < n → P k ⊎ Q k) → ((k : ℕ) × (k < n) × P k) ⊎ ((k : ℕ) → k < n → Q k)

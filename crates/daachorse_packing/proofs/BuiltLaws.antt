@@ -1,16 +1,15 @@
 -- A builder whose links and outputs are built has what packing asks for: its links are those of states, and its positions those of outputs.
-use Rattle.std.proofs.Common.{◌≡◌, ◌≢◌, ℕ, ◌<◌, ◌≤◌, ◌-◌, ◌/◌, ◌^◌, List, [], ◌∷◌, length, Option, inl, inr, ◌∙◌, ap, sym, arith}
+use Rattle.std.proofs.Common.{◌≡◌, ◌≢◌, ℕ, ◌<◌, ◌≤◌, ◌-◌, ◌/◌, ◌^◌, List, length, Option, sym, arith}
 use Rattle.std.specs.Prelude.{slice_index}
 use Rattle.std.specs.Ordering.{nat_cmp}
 use Rattle.std.proofs.lemmas.List.{length-map}
-use Rattle.std.proofs.lemmas.Option.{same_Some}
 use Rattle.daachorse_model.specs.declared.MatchKind.{MatchKind}
 use Rattle.daachorse_model.specs.Dictionary.{Dictionary}
 use Rattle.daachorse_model.specs.Paths.{Leads}
 use Rattle.daachorse_build.specs.declared.nfa_builder.NfaBuilder.{NfaBuilder}
 use Rattle.daachorse_build.specs.Builders.{outputs_of, states_of}
 use Rattle.daachorse_build.specs.Tables.{child_in, edge_map, edges_of, fails_of, positions_of}
-use Rattle.daachorse_build.proofs.Walks.{text_of, walk-bounds}
+use Rattle.daachorse_build.proofs.Walks.{text_of}
 use Rattle.daachorse_model.specs.Kinds.{is_leftmost}
 use Rattle.daachorse_machine.specs.Copies.{HoldsDictionary}
 use Rattle.daachorse_patterns.specs.Prefixes.{HasMoreProperPrefixes}

@@ -13,7 +13,7 @@ use Rattle.daachorse_build.specs.Tables.{child_in}
 use Rattle.daachorse_build.specs.Trie.{IsTrie}
 use Rattle.daachorse_build.proofs.Walks.{text_of, walk-bounds}
 use Rattle.daachorse_machine.specs.Machines.{Machine}
-use Rattle.daachorse_machine.specs.Copies.{HasStates, HoldsDictionary, IsCopy, IsLinkedTo}
+use Rattle.daachorse_machine.specs.Copies.{HasStates, HoldsDictionary, IsCopy}
 use Rattle.daachorse_packing.specs.Settled.{AreSettled, HoldStates, trie_of}
 use Rattle.daachorse_packing.proofs.Places.{Leads-above, Leads-state, base_inside, place-above, place-apart, place-dead, place-inside, place_from, some-elements}
 

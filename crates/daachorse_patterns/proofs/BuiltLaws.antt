@@ -21,7 +21,7 @@ use Rattle.daachorse_build.specs.Growth.{HasTrieOf}
 use Rattle.daachorse_build.specs.Holds.{Holds, in_units}
 use Rattle.daachorse_build.specs.Left.{LinksLeft}
 use Rattle.daachorse_build.specs.Lists.{IsChainedAt, IsRest}
-use Rattle.daachorse_build.specs.Orders.{HoldLinks, IsLinked}
+use Rattle.daachorse_build.specs.Orders.{HoldLinks}
 use Rattle.daachorse_build.specs.Steps.{AreLeft, HoldEitherLinks, HasLinksOf, HasOutputsOf, KeepsPatterns}
 use Rattle.daachorse_build.specs.Tables.{child_in, child_of, edge_map, edges_of, fails_of, held_at, own_at, own_of, positions_of}
 use Rattle.daachorse_build.proofs.Fitting.{state_of}

@@ -1,13 +1,9 @@
 -- A filter that passes at each text that was shown to it passes at each key, since each key is the text of a registration.
-use Rattle.std.proofs.Common.{◌≡◌, ◌≢◌, ℕ, Bool, true, false, cond, List, [], ◌∷◌, ◌++◌, map, Option, Some, None, refl, ap, ◌∙◌, subst}
+use Rattle.std.proofs.Common.{◌≡◌, ◌≢◌, ℕ, true, List, [], ◌∷◌, ◌++◌, map, Option, Some, None, refl, ap}
 use Rattle.std.specs.Prelude.{All, IfSome}
-use Rattle.std.specs.List.{list_any}
 use Rattle.std.proofs.lemmas.List.Elements.{All-cons, All-head, All-nil, All-tail, recursion_from_All}
-use Rattle.std.proofs.lemmas.Slice.Eq.{bytes_eq-Decides}
 use Rattle.daachorse_model.specs.declared.MatchKind.{MatchKind}
-use Rattle.daachorse_model.specs.declared.MatchKind.TheVariants.{Standard, LeftmostLongest, LeftmostFirst}
-use Rattle.daachorse_model.specs.Dictionary.{dictionary, is_proper_prefix, values_of, without_extensions}
-use Rattle.daachorse_model.specs.Units.{same_text}
+use Rattle.daachorse_model.specs.Dictionary.{dictionary}
 use Rattle.daachorse_build.proofs.KeyTexts.{of_key}
 use Rattle.daachorse_patterns.specs.Patterns.{texts_of}
 use Rattle.daachorse_prefilter.specs.Filters.{Filter, IsSoundFor, PassesKeys, admits}

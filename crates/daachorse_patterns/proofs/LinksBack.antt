@@ -1,5 +1,5 @@
 -- The links of a builder that is built lead back, where labels are their own units.
-use Rattle.std.proofs.Common.{◌<◌, ℕ, ◌∷◌, length, Option, refl, inl, inr, arith}
+use Rattle.std.proofs.Common.{◌<◌, ℕ, ◌∷◌, length, Option, inl, inr, arith}
 use Rattle.std.specs.Ordering.{nat_cmp}
 use Rattle.daachorse_model.specs.declared.MatchKind.{MatchKind}
 use Rattle.daachorse_model.specs.Dictionary.{Dictionary}

@@ -1,5 +1,5 @@
 -- A trie over labels, read by units: the units of a text lead where the text does, and nothing else leads anywhere.
-use Rattle.std.proofs.Common.{◌≡◌, ℕ, Bool, true, false, cond, List, [], ◌∷◌, map, Option, Some, None, refl, sym, ap, ◌∙◌}
+use Rattle.std.proofs.Common.{◌≡◌, ℕ, true, false, cond, List, [], ◌∷◌, map, Option, Some, None, refl, sym, ap, ◌∙◌}
 use Rattle.std.specs.Prelude.{is_some, option_and_then}
 use Rattle.std.proofs.lemmas.Option.{option_and_then_some}
 use Rattle.std.specs.declared.cmp.Ordering.{Ordering}
@@ -24,10 +24,10 @@ module _ {L : Type 0} (cmp : L → L → Ordering) (unit : L → ℕ) (edges : L
   text_of_units s (u ∷ w) t e =
       option_and_then_some (λ j. walk child j w) (child s u) t e
       (λ j is h. (
-          let c = by.only s u j is in
-          let r = text_of_units j w t h in
-          let at : to s c.0 ≡ Some j = sym (by.same s c.0) ∙ ap (child s) c.1 ∙ is in
-          (c.0 ∷ r.0, ap (λ y. y ∷ map unit r.0) c.1 ∙ ap (λ y. u ∷ y) r.1, ap (option_and_then (λ k. walk to k r.0)) at ∙ r.2)))
+      let c = by.only s u j is in
+      let r = text_of_units j w t h in
+      let at : to s c.0 ≡ Some j = sym (by.same s c.0) ∙ ap (child s) c.1 ∙ is in
+      (c.0 ∷ r.0, ap (λ y. y ∷ map unit r.0) c.1 ∙ ap (λ y. u ∷ y) r.1, ap (option_and_then (λ k. walk to k r.0)) at ∙ r.2)))
 
   -- the longest end that leads somewhere is the same
   pub long-units : (w : List L) → long (is_reached child) (map unit w) ≡ map unit (long (is_reached to) w)

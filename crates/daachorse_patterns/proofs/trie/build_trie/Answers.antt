@@ -1,5 +1,5 @@
 -- The trie of all patterns has its links and outputs, and the first step that refuses refuses the build.
-use Rattle.std.proofs.Common.{◌≡◌, ◌≤◌, ℕ, List, length, None, ◌∙◌, ap, subst, sym, arith}
+use Rattle.std.proofs.Common.{◌≡◌, ◌≤◌, ℕ, List, length, None, ◌∙◌, ap, subst, arith}
 use Rattle.std.specs.Prelude.{IfSome}
 use Rattle.std.proofs.lemmas.Option.{IfSome_then}
 use Rattle.std.proofs.lemmas.Result.{err_from_is_err_and, IfOk-from_err}
@@ -7,8 +7,8 @@ use Rattle.daachorse_core.proofs.Refusals.{at_error}
 use Rattle.daachorse_model.specs.declared.MatchKind.{MatchKind}
 use Rattle.daachorse_model.specs.Dictionary.{kept}
 use Rattle.daachorse_model.specs.Kinds.{is_leftmost}
-use Rattle.daachorse_build.specs.Builders.{kind_of, outputs_of, states_of}
-use Rattle.daachorse_build.specs.Steps.{HoldEitherLinks, HasOutputsOf}
+use Rattle.daachorse_build.specs.Builders.{kind_of, outputs_of}
+use Rattle.daachorse_build.specs.Steps.{HasOutputsOf}
 use Rattle.daachorse_patterns.specs.Building.{Fit, IsRefusalWithin, Limits}
 use Rattle.daachorse_patterns.specs.Patterns.{texts_of}
 use Rattle.daachorse_patterns.proofs.BuiltLaws.{HasTexts-kept, either_linked, few_for, finished_for}

@@ -1,8 +1,8 @@
 -- A root and a dead state hold no pattern.
-use Rattle.std.proofs.Common.{◌≡◌, ℕ, List, ◌∷◌, [], length, refl, sym, ap, subst}
+use Rattle.std.proofs.Common.{◌≡◌, ◌∷◌, [], length, refl, sym, ap}
 use Rattle.std.proofs.lemmas.Result.{IfOk-from_err}
 use Rattle.daachorse_core.proofs.Refusals.{at_error}
-use Rattle.daachorse_build.specs.Tables.{edges_of, own_of, IsTable}
+use Rattle.daachorse_build.specs.Tables.{edges_of, own_of}
 use Rattle.daachorse_build.proofs.Empty.{empty_table, holds_none, kept_none}
 use Rattle.daachorse_build.proofs.nfa_builder.NfaBuilder.new.Goals as goal
 

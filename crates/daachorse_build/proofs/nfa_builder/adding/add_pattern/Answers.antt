@@ -1,7 +1,7 @@
 -- One label more is one state more on the way; the output goes to the last.
-use Rattle.std.proofs.Common.{get_or, ◌≡◌, ◌+◌, ◌<◌, ℕ, List, [], ◌∷◌, ◌++◌, length, take, drop, set, vec_len, None, refl, sym, ap, ◌∙◌, subst, arith}
+use Rattle.std.proofs.Common.{get_or, ◌≡◌, ◌+◌, ◌<◌, ℕ, List, [], ◌∷◌, ◌++◌, length, take, drop, set, vec_len, None, refl, sym, ap, ◌∙◌, arith}
 use Rattle.std.proofs.lemmas.List.{take_more, take_all, drop_more, take-append-drop}
-use Rattle.daachorse_build.specs.Tables.{child_of, edges_of, IsTable}
+use Rattle.daachorse_build.specs.Tables.{child_of, edges_of}
 use Rattle.daachorse_build.proofs.States.{adding_start, adding_more, added, leads_low, output_pushed, map_stays}
 use Rattle.daachorse_build.proofs.Labels.{label_exact}
 use Rattle.std.proofs.lemmas.Result.{err_from_is_err_and, IfOk-from_err}

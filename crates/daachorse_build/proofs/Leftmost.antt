@@ -108,11 +108,9 @@ module _ {L V A : Type 0} (cmp : L → L → Ordering) (unit : L → ℕ) (width
 
   -- the state of the leftmost link, in the words of the dictionary
   pub links_left : (c : L) (w : List L) (f : ℕ) → IsStateOf (child_of cmp states) (left_link (child_of cmp states) (stops_of true states) c w) f → LinksLeft keys unit (child_of cmp states) (c ∷ w) f
-  links_left c w f h = at (left_link (child_of cmp states) (stops_of true states) c w) h (left_link-is c w)
-    where
-      at : (o : Option (List L)) → IsStateOf (child_of cmp states) o f → IsLeftFail keys (map unit (c ∷ w)) (option_map (map unit) o) → LinksLeft keys unit (child_of cmp states) (c ∷ w) f
-      at None is dead = inl (is, dead)
-      at (Some x) is l = inr (x, is, l.0, IsDead-not keys (map unit (c ∷ w)) (map unit x) l.0 l.1)
+  links_left c w f h =
+      (elim (left_link (child_of cmp states) (stops_of true states) c w) as (λ o. IsStateOf (child_of cmp states) o f → IsLeftFail keys (map unit (c ∷ w)) (option_map (map unit) o) → LinksLeft keys unit (child_of cmp states) (c ∷ w) f)
+      [ None ↦ λ is dead. inl (is, dead) | Some x ↦ λ is l. inr (x, is, l.0, IsDead-not keys (map unit (c ∷ w)) (map unit x) l.0 l.1) ]) h (left_link-is c w)
 
 -- ---- where the links are built
 module _ {L V A : Type 0} (cmp : L → L → Ordering) (total : IsTotalOrder cmp) (old new : List (NfaBuilderState L V A)) (table : HoldTrie cmp old) (kept' : HasTrieOf old new) (order : List ℕ) (links : HoldLeftLinks cmp true new order) where

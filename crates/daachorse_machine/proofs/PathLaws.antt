@@ -75,11 +75,9 @@ module _ (child : ℕ → ℕ → Option ℕ) where
 
   any_found : (f : ℕ → Option (List ℕ)) (m : ℕ) (w : List ℕ) → any_unit f m ≡ Some w → (c : ℕ) × (v : List ℕ) × (f c ≡ Some v) × (w ≡ c ∷ v)
   any_found f zero w e = absurd (cc)
-  any_found f (suc c) w e = here (f c) refl e (any_found f c w)
-    where
-      here : (o : Option (List ℕ)) → f c ≡ o → by_unit c o (any_unit f c) ≡ Some w → (any_unit f c ≡ Some w → (d : ℕ) × (v : List ℕ) × (f d ≡ Some v) × (w ≡ d ∷ v)) → (d : ℕ) × (v : List ℕ) × (f d ≡ Some v) × (w ≡ d ∷ v)
-      here (Some v) is e more = (c, v, is, sym (same_Some (c ∷ v) w e))
-      here None is e more = more e
+  any_found f (suc c) w e =
+      (elim (f c) as (λ o. f c ≡ o → by_unit c o (any_unit f c) ≡ Some w → (d : ℕ) × (v : List ℕ) × (f d ≡ Some v) × (w ≡ d ∷ v))
+      [ Some v ↦ λ is e. (c, v, is, sym (same_Some (c ∷ v) w e)) | None ↦ λ _ e. any_found f c w e ]) refl e
 
   any_finds : (f : ℕ → Option (List ℕ)) (m c : ℕ) → c < m → is_some (f c) ≡ true → is_some (any_unit f m) ≡ true
   any_finds f zero c h s = absurd (omega arith)

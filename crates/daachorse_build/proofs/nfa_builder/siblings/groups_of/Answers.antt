@@ -96,6 +96,7 @@ loop-id-preserved-in_ok-push-2 g c =
     let items = c.in_ok-push-2.ensures.items in
     let Given : List (g.row.L.Denot × ℕ) → Type 0 = λ es. AreGiven gives es group.children.items in
     let children = subst Given (sym (ap (edges_at edges) e.parent ∙ here)) e.children in
+    let weight = e.weight ∙ c.weight_of-weight.ensures ∙ ap (weight_at edges c.args.profile.now) (sym e.parent) in
     record {
       walk = (
         walk.0 ++ t ∷ [],
@@ -104,7 +105,7 @@ loop-id-preserved-in_ok-push-2 g c =
         rw items (parents_more edges walk.0 t c.loop-id.groups.items group walk.2 e.parent some),
       );
       families = rw items (All-push (λ x. AreGiven gives (edges_at edges x.parent) x.children.items) c.loop-id.groups.items group i.families children);
-      weights = rw items (All-push (λ x. x.weight ≡ weight_at edges c.args.profile.now x.parent) c.loop-id.groups.items group i.weights (e.weight ∙ c.weight_of-weight.ensures ∙ ap (weight_at edges c.args.profile.now) (sym e.parent)));
+      weights = rw items (All-push (λ x. x.weight ≡ weight_at edges c.args.profile.now x.parent) c.loop-id.groups.items group i.weights weight);
     }
 
 pub loop-id-preserved : goal.loop-id-preserved

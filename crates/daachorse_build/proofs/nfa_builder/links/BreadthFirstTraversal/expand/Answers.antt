@@ -51,14 +51,17 @@ loop-label-init g c =
 pub link-fail-requires-clause-parent : goal.link-fail-requires-clause-parent
 link-fail-requires-clause-parent g c =
     let left = left_is g.L.Ord.cmp c.args.states.now c.args.self.now [] c.index-id.result.now c.requires.traversal (omega arith) c.index-id.ensures in
-    let at = edge_read c.args.states.now c.index-id.result.now c.index-states-id.result left.3 c.index-states-id.is c.loop-label.yielded c.into_iter-label-iterator.result c.loop-label.label-iterator c.next.new.self c.next.result (cc) c.loop-label.yielded_by c.next.ensures.steps
+    let at = edge_read c.args.states.now c.index-id.result.now c.index-states-id.result left.3 c.index-states-id.is
+    c.loop-label.yielded c.into_iter-label-iterator.result c.loop-label.label-iterator c.next.new.self c.next.result (cc) c.loop-label.yielded_by c.next.ensures.steps
     (c.in-Some.label, c.in-Some.child) c.in-Some.is in
-    (c.index-id.result.now, left.2, child_at_place g.L.Ord.cmp g.met.L.Ord.total (edges_of c.args.states.now) c.requires.table c.index-id.result.now (length c.loop-label.yielded) c.in-Some.label.now c.in-Some.child.now at, c.loop-label.invariant.link)
+    let edge = child_at_place g.L.Ord.cmp g.met.L.Ord.total (edges_of c.args.states.now) c.requires.table c.index-id.result.now (length c.loop-label.yielded) c.in-Some.label.now c.in-Some.child.now at in
+    (c.index-id.result.now, left.2, edge, c.loop-label.invariant.link)
 
 pub index_mut-requires : goal.index_mut-requires
 index_mut-requires g c =
     let left = left_is g.L.Ord.cmp c.args.states.now c.args.self.now [] c.index-id.result.now c.requires.traversal (omega arith) c.index-id.ensures in
-    let at = edge_read c.args.states.now c.index-id.result.now c.index-states-id.result left.3 c.index-states-id.is c.loop-label.yielded c.into_iter-label-iterator.result c.loop-label.label-iterator c.next.new.self c.next.result (cc) c.loop-label.yielded_by c.next.ensures.steps
+    let at = edge_read c.args.states.now c.index-id.result.now c.index-states-id.result left.3 c.index-states-id.is
+    c.loop-label.yielded c.into_iter-label-iterator.result c.loop-label.label-iterator c.next.new.self c.next.result (cc) c.loop-label.yielded_by c.next.ensures.steps
     (c.in-Some.label, c.in-Some.child) c.in-Some.is in
     let edge = child_at_place g.L.Ord.cmp g.met.L.Ord.total (edges_of c.args.states.now) c.requires.table c.index-id.result.now (length c.loop-label.yielded) c.in-Some.label.now c.in-Some.child.now at in
     let b = c.requires.table.trie.bounds c.index-id.result.now c.in-Some.label.now c.in-Some.child.now edge in
@@ -71,7 +74,8 @@ loop-label-preserved g c =
     let t = c.in-Some.child.now in
     let i = c.loop-label.invariant in
     let left = left_is g.L.Ord.cmp c.args.states.now c.args.self.now [] c.index-id.result.now c.requires.traversal (omega arith) c.index-id.ensures in
-    let at = edge_read c.args.states.now c.index-id.result.now c.index-states-id.result left.3 c.index-states-id.is c.loop-label.yielded c.into_iter-label-iterator.result c.loop-label.label-iterator c.next.new.self c.next.result (cc) c.loop-label.yielded_by c.next.ensures.steps
+    let at = edge_read c.args.states.now c.index-id.result.now c.index-states-id.result left.3 c.index-states-id.is
+    c.loop-label.yielded c.into_iter-label-iterator.result c.loop-label.label-iterator c.next.new.self c.next.result (cc) c.loop-label.yielded_by c.next.ensures.steps
     (c.in-Some.label, c.in-Some.child) c.in-Some.is in
     let pushed = c.in_ok-push.ensures.items in
     let more = traversal_push g.L.Ord.cmp g.met.L.Ord.total (edges_of states) c.requires.table (stops_of c.loop-label.self.leftmost states) s.links.items s.order.items s.next (length c.loop-label.yielded) c.in-Some.label.now t c.index-id.result.now c.link-fail.result i.traversal i.more i.here at c.link-fail.ensures.link c.link-fail.ensures.from in
@@ -93,7 +97,8 @@ returns-clause-traversal g c =
     let states = c.args.states.now in
     let i = c.loop-label.invariant in
     let left = left_is g.L.Ord.cmp c.args.states.now c.args.self.now [] c.index-id.result.now c.requires.traversal (omega arith) c.index-id.ensures in
-    let whole = all_read states c.index-id.result.now c.index-states-id.result left.3 c.index-states-id.is c.loop-label.yielded c.into_iter-label-iterator.result c.loop-label.label-iterator c.next.new.self c.next.result (cc) c.loop-label.yielded_by c.next.ensures.steps
+    let whole = all_read states c.index-id.result.now c.index-states-id.result left.3 c.index-states-id.is
+    c.loop-label.yielded c.into_iter-label-iterator.result c.loop-label.label-iterator c.next.new.self c.next.result (cc) c.loop-label.yielded_by c.next.ensures.steps
     c.in-None.is in
     traversal_next g.L.Ord.cmp g.met.L.Ord.total (edges_of states) c.requires.table (stops_of c.loop-label.self.leftmost states) s.links.items s.order.items s.next c.index-id.result.now (rw whole at i.traversal) i.more i.here
 

@@ -1,7 +1,7 @@
 -- How many own outputs the states have that are not yet done: those of the states that are done are cleared away.
-use Rattle.std.proofs.Common.{◌≡◌, ℕ, zero, suc, ◌+◌, ◌<◌, ◌⊎◌, List, [], ◌∷◌, ◌++◌, length, set, refl, sym, ap, ◌∙◌, subst, inl, inr, get_or-set_other, arith}
-use Rattle.std.proofs.lemmas.List.{length-set}
-use Rattle.std.proofs.lemmas.List.Sums.{sum_by-append, sum_by-set}
+use Rattle.std.proofs.Common.{◌≡◌, ℕ, zero, suc, ◌+◌, ◌<◌, ◌⊎◌, List, [], ◌∷◌, ◌++◌, length, set, refl, sym, ap, ◌∙◌, inl, inr, get_or-set_other, arith}
+use Rattle.std.proofs.lemmas.List.{get_or_default, length-set}
+use Rattle.std.proofs.lemmas.List.Sums.{sum_by-le, sum_by-set}
 use Rattle.daachorse_build.specs.Tables.{own_at, output_count}
 use Rattle.daachorse_build.specs.Orders.{IsIn}
 
@@ -32,42 +32,23 @@ module _ {V : Type 0} where
 
   -- ---- where all that have some are done, none are left
 
-  -- a state without outputs stays so
-  set_none : (own : List (List (V × ℕ))) (u t : ℕ) → own_at own t ≡ [] → own_at (set own u []) t ≡ []
-  set_none [] u t none = none
-  set_none (x ∷ own) zero zero none = refl
-  set_none (x ∷ own) zero (suc t) none = none
-  set_none (x ∷ own) (suc u) zero none = none
-  set_none (x ∷ own) (suc u) (suc t) none = set_none own u t none
+  -- a state without outputs stays so, and one that is cleared has none
+  set_none : (own : List (List (V × ℕ))) (u t : ℕ) → (u ≡ t) ⊎ (own_at own t ≡ []) → own_at (set own u []) t ≡ []
+  set_none [] u t h = refl
+  set_none (x ∷ own) zero zero h = refl
+  set_none (x ∷ own) zero (suc t) h = elim h [ inl e ↦ absurd (omega (arith, e)) | inr none ↦ none ]
+  set_none (x ∷ own) (suc u) zero h = elim h [ inl e ↦ absurd (omega (arith, e)) | inr none ↦ none ]
+  set_none (x ∷ own) (suc u) (suc t) h = set_none own u t (elim h [ inl e ↦ inl (omega (arith, e)) | inr none ↦ inr none ])
 
-  set_here : (own : List (List (V × ℕ))) (t : ℕ) → own_at (set own t []) t ≡ []
-  set_here [] t = refl
-  set_here (x ∷ own) zero = refl
-  set_here (x ∷ own) (suc t) = set_here own t
-
-  cleared_none : (own : List (List (V × ℕ))) (ts : List ℕ) (t : ℕ) → own_at own t ≡ [] → own_at (cleared own ts) t ≡ []
-  cleared_none own [] t none = none
-  cleared_none own (u ∷ ts) t none = cleared_none (set own u []) ts t (set_none own u t none)
-
-  cleared_in : (own : List (List (V × ℕ))) (ts : List ℕ) (t : ℕ) → IsIn ts t → own_at (cleared own ts) t ≡ []
-  cleared_in own [] t done = absurd done
-  cleared_in own (u ∷ ts) t (inl same) =
-      let P : ℕ → Type 0 = λ v. own_at (set own v []) t ≡ [] in
-      cleared_none (set own u []) ts t (subst P (sym same) (set_here own t))
-  cleared_in own (u ∷ ts) t (inr done) = cleared_in (set own u []) ts t done
+  cleared_none : (own : List (List (V × ℕ))) (ts : List ℕ) (t : ℕ) → IsIn ts t ⊎ (own_at own t ≡ []) → own_at (cleared own ts) t ≡ []
+  cleared_none own [] t (inl none) = absurd none
+  cleared_none own [] t (inr none) = none
+  cleared_none own (u ∷ ts) t (inl (inl same)) = cleared_none (set own u []) ts t (inr (set_none own u t (inl same)))
+  cleared_none own (u ∷ ts) t (inl (inr done)) = cleared_none (set own u []) ts t (inl done)
+  cleared_none own (u ∷ ts) t (inr none) = cleared_none (set own u []) ts t (inr (set_none own u t (inr none)))
 
   count_none : (own : List (List (V × ℕ))) → ((t : ℕ) → t < length own → own_at own t ≡ []) → output_count own ≡ 0
-  count_none [] none = refl
-  count_none (x ∷ own) none =
-      let first : length x ≡ 0 = ap length (none 0 (omega arith)) in
-      let rest : output_count own ≡ 0 = count_none own (λ t low. none (suc t) (omega (arith, low))) in
-      let split : output_count (x ∷ own) ≡ output_count (x ∷ []) + output_count own = sum_by-append length (x ∷ []) own in
-      let one : output_count (x ∷ []) ≡ 0 + length x = refl in
-      omega (arith, split, one, first, rest)
+  count_none own none = omega (arith, sum_by-le length 0 own (λ k d l. omega (arith, ap length (get_or_default own k d [] l ∙ none k l))))
 
   pub all_cleared : (own : List (List (V × ℕ))) (ts : List ℕ) → ((t : ℕ) → t < length own → IsIn ts t ⊎ (own_at own t ≡ [])) → output_count (cleared own ts) ≡ 0
-  all_cleared own ts each = count_none (cleared own ts) (λ t low. left t (each t (omega (arith, low, length-cleared own ts))))
-    where
-      left : (t : ℕ) → IsIn ts t ⊎ (own_at own t ≡ []) → own_at (cleared own ts) t ≡ []
-      left t (inl done) = cleared_in own ts t done
-      left t (inr none) = cleared_none own ts t none
+  all_cleared own ts each = count_none (cleared own ts) (λ t low. cleared_none own ts t (each t (omega (arith, low, length-cleared own ts))))

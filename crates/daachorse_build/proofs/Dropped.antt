@@ -1,37 +1,23 @@
 -- Under `LeftmostFirst` a registration is left out where a proper prefix of its text was registered before, which is so just where a proper prefix is a key.
-use Rattle.std.proofs.Common.{◌≡◌, ◌≢◌, ℕ, ◌⊎◌, Bool, true, false, cond, ◌||◌, List, [], ◌∷◌, ◌++◌, map, refl, sym, ap, ◌∙◌, subst, inl, inr, append-nil}
+use Rattle.std.proofs.Common.{◌≡◌, ◌≢◌, ℕ, ◌⊎◌, Bool, true, false, cond, List, [], ◌∷◌, ◌++◌, map, refl, sym, ap, ◌∙◌, subst, inl, inr, append-nil, append_assoc}
 use Rattle.std.specs.Prelude.{◌==◌}
 use Rattle.std.specs.List.{list_any}
 use Rattle.std.proofs.lemmas.List.{map-append}
-use Rattle.std.proofs.lemmas.Bool.{and_parts, and_from, false≢true, cond-true, or_left, or_right}
+use Rattle.std.proofs.lemmas.Bool.{and_parts, and_from, cases_Bool, cond_both, cond-true, eq-eqb, eqb-true, false_from_ne_true, false≢true, or_cases, or_left, or_right}
 use Rattle.daachorse_model.specs.declared.MatchKind.{MatchKind}
 use Rattle.daachorse_model.specs.declared.MatchKind.TheVariants.{Standard, LeftmostLongest, LeftmostFirst}
 use Rattle.daachorse_model.specs.Kinds.{is_leftmost_first}
 use Rattle.daachorse_model.specs.Units.{same_text}
 use Rattle.daachorse_model.specs.Dictionary.{is_proper_prefix, without_extensions, values_of, dictionary, kept}
+use Rattle.daachorse_model.proofs.Listings.{value_later}
 use Rattle.daachorse_build.specs.Holds.{in_units}
 use Rattle.daachorse_build.proofs.Registrations.{text_same, text_refl}
 
 -- ---- proper prefixes
-eq_through : (a b u : ℕ) → (a == b) ≡ true → (b == u) ≡ true → (a == u) ≡ true
-eq_through a b u h k =
-    let p = text_same (a ∷ []) (b ∷ []) (and_from (a == b) true h refl) in
-    let q = text_same (b ∷ []) (u ∷ []) (and_from (b == u) true k refl) in
-    (and_parts (a == u) true (let e : a ∷ [] ≡ u ∷ [] = p ∙ q in subst (λ w. same_text (a ∷ []) w ≡ true) e (text_refl (a ∷ [])))).0
-
-proper_through : (p q w : List ℕ) → is_proper_prefix p q ≡ true → is_proper_prefix q w ≡ true → is_proper_prefix p w ≡ true
-proper_through p q [] h k = k
-proper_through [] q (u ∷ w) h k = refl
-proper_through (a ∷ p) [] (u ∷ w) h k = absurd (false≢true h)
-proper_through (a ∷ p) (b ∷ q) (u ∷ w) h k =
-    let x = and_parts (a == b) (is_proper_prefix p q) h in
-    let y = and_parts (b == u) (is_proper_prefix q w) k in
-    and_from (a == u) (is_proper_prefix p w) (eq_through a b u x.0 y.0) (proper_through p q w x.1 y.1)
-
 -- a beginning that is shorter
 pub proper_from : (v : List ℕ) (u : ℕ) (rest : List ℕ) → is_proper_prefix v (v ++ u ∷ rest) ≡ true
 proper_from [] u rest = refl
-proper_from (a ∷ v) u rest = and_from (a == a) _ (and_parts (a == a) true (text_refl (a ∷ []))).0 (proper_from v u rest)
+proper_from (a ∷ v) u rest = and_from (a == a) _ (eq-eqb a a refl) (proper_from v u rest)
 
 pub proper_rest : (v w : List ℕ) → is_proper_prefix v w ≡ true → (u : ℕ) × (rest : List ℕ) × (w ≡ v ++ u ∷ rest)
 proper_rest v [] h = absurd (false≢true h)
@@ -39,17 +25,20 @@ proper_rest [] (u ∷ w) h = (u, w, refl)
 proper_rest (a ∷ v) (u ∷ w) h =
     let x = and_parts (a == u) (is_proper_prefix v w) h in
     let r = proper_rest v w x.1 in
-    let same : a ∷ [] ≡ u ∷ [] = text_same (a ∷ []) (u ∷ []) (and_from (a == u) true x.0 refl) in
-    let head : u ≡ a = cc in
-    (r.0, r.1, ap (λ y. u ∷ y) r.2 ∙ ap (λ y. y ∷ (v ++ r.0 ∷ r.1)) head)
+    (r.0, r.1, ap (λ y. u ∷ y) r.2 ∙ ap (λ y. y ∷ (v ++ r.0 ∷ r.1)) (sym (eqb-true a u x.0)))
+
+proper_through : (p q w : List ℕ) → is_proper_prefix p q ≡ true → is_proper_prefix q w ≡ true → is_proper_prefix p w ≡ true
+proper_through p q w h k =
+    let x = proper_rest p q h in
+    let y = proper_rest q w k in
+    let e = y.2 ∙ ap (λ v. v ++ y.0 ∷ y.1) x.2 ∙ append_assoc p (x.0 ∷ x.1) (y.0 ∷ y.1) in
+    ap (is_proper_prefix p) e ∙ proper_from p x.0 (x.1 ++ y.0 ∷ y.1)
 
 any_through : (before : List (List ℕ)) (q w : List ℕ) → is_proper_prefix q w ≡ true → list_any (λ p. is_proper_prefix p q) before ≡ true → list_any (λ p. is_proper_prefix p w) before ≡ true
 any_through [] q w h k = k
-any_through (p ∷ before) q w h k = at (is_proper_prefix p q) refl k (any_through before q w h)
-  where
-    at : (c : Bool) → is_proper_prefix p q ≡ c → (c || list_any (λ p. is_proper_prefix p q) before) ≡ true → (list_any (λ p. is_proper_prefix p q) before ≡ true → list_any (λ p. is_proper_prefix p w) before ≡ true) → (is_proper_prefix p w || list_any (λ p. is_proper_prefix p w) before) ≡ true
-    at true e k ih = or_left (is_proper_prefix p w) _ (proper_through p q w e h)
-    at false e k ih = or_right (is_proper_prefix p w) _ (ih k)
+any_through (p ∷ before) q w h k =
+    elim (or_cases (is_proper_prefix p q) _ k)
+    [ inl e ↦ or_left (is_proper_prefix p w) _ (proper_through p q w e h) | inr later ↦ or_right (is_proper_prefix p w) _ (any_through before q w h later) ]
 
 module _ {V : Type 0} where
   -- whether a text before it is a proper prefix of w
@@ -74,12 +63,9 @@ module _ {V : Type 0} where
   drops_before before (r ∷ rs) w h = drops_before (r.0 ∷ before) rs w (or_right (is_proper_prefix r.0 w) _ h)
 
   values_there : (b : Bool) (r : List ℕ × V) (rest : List (List ℕ × V)) (x : List ℕ) → values_of (cond b rest (r ∷ rest)) x ≢ [] → (same_text r.0 x ≡ true) ⊎ (values_of rest x ≢ [])
-  values_there true r rest x h = inr h
-  values_there false r rest x h = at (same_text r.0 x) refl h
-    where
-      at : (c : Bool) → same_text r.0 x ≡ c → cond c (r.1 ∷ values_of rest x) (values_of rest x) ≢ [] → (same_text r.0 x ≡ true) ⊎ (values_of rest x ≢ [])
-      at true e k = inl e
-      at false e k = inr k
+  values_there true r rest x = λ h. inr h
+  values_there false r rest x =
+      cond_both (same_text r.0 x) _ _ (λ vs. vs ≢ [] → (same_text r.0 x ≡ true) ⊎ (values_of rest x ≢ [])) (λ e _. inl e) (λ _ k. inr k)
 
   -- a key that is a proper prefix was registered before
   pub drops_by_key : (before : List (List ℕ)) (rs : List (List ℕ × V)) (x w : List ℕ) → is_proper_prefix x w ≡ true → values_of (without_extensions before rs) x ≢ [] → drops before rs w ≡ true
@@ -96,39 +82,32 @@ module _ {V : Type 0} where
   abbrev pub HasKey : List (List ℕ) → List (List ℕ × V) → List ℕ → Type 0
   HasKey before rs w = (x : List ℕ) × (is_proper_prefix x w ≡ true) × (values_of (without_extensions before rs) x ≢ [])
 
-  key_first : (before : List (List ℕ)) (r : List ℕ × V) (rs : List (List ℕ × V)) (w : List ℕ) → is_proper_prefix r.0 w ≡ true → (b : Bool) → list_any (λ p. is_proper_prefix p r.0) before ≡ b → (list_any (λ p. is_proper_prefix p w) before ≡ true) ⊎ HasKey before (r ∷ rs) w
-  key_first before r rs w h true e = inl (any_through before r.0 w h e)
-  key_first before r rs w h false e =
-      let rest = without_extensions (r.0 ∷ before) rs in
-      inr (
-        r.0,
-        h,
-        λ none.
-            let is : cond (same_text r.0 r.0) (r.1 ∷ values_of rest r.0) (values_of rest r.0) ≡ [] = sym (ap (λ b. values_of (cond b rest (r ∷ rest)) r.0) e) ∙ none in
-            let value : r.1 ∷ values_of rest r.0 ≡ [] = sym (cond-true (same_text r.0 r.0) (r.1 ∷ values_of rest r.0) (values_of rest r.0) (text_refl r.0)) ∙ is in
-            cc,
-      )
+  pub value_first : (r : List ℕ × V) (rs : List (List ℕ × V)) (w : List ℕ) → r.0 ≡ w → values_of (r ∷ rs) w ≢ []
+  value_first r rs w e none =
+      let value : r.1 ∷ values_of rs w ≡ [] = sym (cond-true (same_text r.0 w) _ _ (ap (same_text r.0) (sym e) ∙ text_refl r.0)) ∙ none in
+      cc
 
-  values_stay : (b : Bool) (r : List ℕ × V) (rest : List (List ℕ × V)) (x : List ℕ) → values_of rest x ≢ [] → values_of (cond b rest (r ∷ rest)) x ≢ []
-  values_stay true r rest x h = h
-  values_stay false r rest x h = at (same_text r.0 x)
-    where
-      at : (c : Bool) → cond c (r.1 ∷ values_of rest x) (values_of rest x) ≢ []
-      at true none = cc
-      at false none = h none
+  key_first : (before : List (List ℕ)) (r : List ℕ × V) (rs : List (List ℕ × V)) (w : List ℕ) → is_proper_prefix r.0 w ≡ true → (list_any (λ p. is_proper_prefix p w) before ≡ true) ⊎ HasKey before (r ∷ rs) w
+  key_first before r rs w h =
+      let rest = without_extensions (r.0 ∷ before) rs in
+      elim (cases_Bool (list_any (λ p. is_proper_prefix p r.0) before)) [
+        | inl e ↦ inl (any_through before r.0 w h e)
+        | inr e ↦ inr (r.0, h, λ none. value_first r rest r.0 refl (sym (ap (λ b. values_of (cond b rest (r ∷ rest)) r.0) e) ∙ none))
+      ]
 
   -- a proper prefix that was registered before, or one of its own, is a key
   pub key_of_drops : (before : List (List ℕ)) (rs : List (List ℕ × V)) (w : List ℕ) → drops before rs w ≡ true → (list_any (λ p. is_proper_prefix p w) before ≡ true) ⊎ HasKey before rs w
   key_of_drops before [] w h = inl h
   key_of_drops before (r ∷ rs) w h =
       elim (key_of_drops (r.0 ∷ before) rs w h) [
-        | inr key ↦ inr (key.0, key.1, values_stay (list_any (λ p. is_proper_prefix p r.0) before) r (without_extensions (r.0 ∷ before) rs) key.0 key.2)
-        | inl any ↦ at (is_proper_prefix r.0 w) refl any
+        | inr key ↦ inr (
+          key.0,
+          key.1,
+          cond_both (list_any (λ p. is_proper_prefix p r.0) before) _ _ (λ l. values_of l key.0 ≢ []) (λ _. key.2)
+              (λ _. value_later r (without_extensions (r.0 ∷ before) rs) key.0 key.2),
+        )
+        | inl any ↦ elim (or_cases (is_proper_prefix r.0 w) _ any) [ inl e ↦ key_first before r rs w e | inr e ↦ inl e ]
       ]
-    where
-      at : (c : Bool) → is_proper_prefix r.0 w ≡ c → (c || list_any (λ p. is_proper_prefix p w) before) ≡ true → (list_any (λ p. is_proper_prefix p w) before ≡ true) ⊎ HasKey before (r ∷ rs) w
-      at true e k = key_first before r rs w e (list_any (λ p. is_proper_prefix p r.0) before) refl
-      at false e k = inl k
 
 -- ---- by the kind
 units_push : {L V : Type 0} (unit : L → ℕ) (rs : List (List L × V)) (p : List L) (v : V) → in_units unit (rs ++ (p, v) ∷ []) ≡ in_units unit rs ++ (map unit p, v) ∷ []
@@ -142,15 +121,13 @@ pub kept_one : {L V : Type 0} (unit : L → ℕ) (kind : MatchKind) (rs : List (
 kept_one unit Standard rs p v why = units_push unit rs p v
 kept_one unit LeftmostLongest rs p v why = units_push unit rs p v
 kept_one unit LeftmostFirst rs p v (inl no') = absurd (false≢true (sym no'))
-kept_one unit LeftmostFirst rs p v (inr none) = first_drops unit rs p v ∙ ap (λ b. without_extensions [] (in_units unit rs) ++ cond b [] ((map unit p, v) ∷ [])) (at (drops [] (in_units unit rs) (map unit p)) refl)
-  where
-    at : (b : Bool) → drops [] (in_units unit rs) (map unit p) ≡ b → drops [] (in_units unit rs) (map unit p) ≡ false
-    at false e = e
-    at true e =
-        elim (key_of_drops [] (in_units unit rs) (map unit p) e) [
-          | inl none' ↦ absurd (false≢true none')
-          | inr key ↦ absurd (key.2 (none key.0 key.1))
-        ]
+kept_one unit LeftmostFirst rs p v (inr none) =
+    let stays = false_from_ne_true (drops [] (in_units unit rs) (map unit p)) (λ e.
+    elim (key_of_drops [] (in_units unit rs) (map unit p) e) [
+      | inl none' ↦ false≢true none'
+      | inr key ↦ key.2 (none key.0 key.1)
+    ]) in
+    first_drops unit rs p v ∙ ap (λ b. without_extensions [] (in_units unit rs) ++ cond b [] ((map unit p, v) ∷ [])) stays
 
 -- a pattern that extends a key is left out
 pub kept_same : {L V : Type 0} (unit : L → ℕ) (kind : MatchKind) (rs : List (List L × V)) (p : List L) (v : V) → is_leftmost_first kind ≡ true → (x : List ℕ) → is_proper_prefix x (map unit p) ≡ true → dictionary kind (in_units unit rs) x ≢ [] → kept kind (in_units unit (rs ++ (p, v) ∷ [])) ≡ kept kind (in_units unit rs)

@@ -28,11 +28,8 @@ cond_again false v w x = refl
 
 module _ {L : Type 0} (cmp : L → L → Ordering) (total : IsTotalOrder cmp) where
   -- an order from the other side
-  above : (x y : L) → cmp x y ≡ Less → cmp y x ≡ Greater
-  above x y h = total.antisymm y x ∙ ap ordering_reverse h
-
-  below : (x y : L) → cmp x y ≡ Greater → cmp y x ≡ Less
-  below x y h = total.antisymm y x ∙ ap ordering_reverse h
+  flipped : {r : Ordering} (x y : L) → cmp x y ≡ r → cmp y x ≡ ordering_reverse r
+  flipped x y h = total.antisymm y x ∙ ap ordering_reverse h
 
   -- the first edge is below each other
   first_below : (e : L × ℕ) (es : List (L × ℕ)) (i : ℕ) (d : L × ℕ) → IsOrdered cmp (e ∷ es) → i < length es → cmp e.0 (get_or es i d).0 ≡ Less
@@ -56,32 +53,32 @@ module _ {L : Type 0} (cmp : L → L → Ordering) (total : IsTotalOrder cmp) wh
   found_at (e ∷ es) zero k d s l h = here e es k (tied_back total e.0 k h)
   found_at (e ∷ es) (suc i) k d s l h =
       let less : cmp e.0 k ≡ Less = sym (alike_right total (get_or es i d).0 k e.0 h) ∙ first_below e es i d s (omega arith) in
-      past e es k (ap is_eq (above e.0 k less)) ∙ found_at es i k d (sorted_tail cmp e.0 (keys_of es) s) (omega arith) h
+      past e es k (ap is_eq (flipped e.0 k less)) ∙ found_at es i k d (sorted_tail cmp e.0 (keys_of es) s) (omega arith) h
 
   pub put_at : (es : List (L × ℕ)) (i : ℕ) (k : L) (v : ℕ) (d : L × ℕ) → IsOrdered cmp es → i < length es → cmp (get_or es i d).0 k ≡ Equal → set es i ((get_or es i d).0, v) ≡ insert_entry cmp es k v
   put_at [] i k v d s l h = absurd (omega arith)
   put_at (e ∷ es) zero k v d s l h = sym (put_step e es k v Equal (tied_back total e.0 k h))
   put_at (e ∷ es) (suc i) k v d s l h =
       let less : cmp e.0 k ≡ Less = sym (alike_right total (get_or es i d).0 k e.0 h) ∙ first_below e es i d s (omega arith) in
-      ap (λ x. e ∷ x) (put_at es i k v d (sorted_tail cmp e.0 (keys_of es) s) (omega arith) h) ∙ sym (put_step e es k v Greater (above e.0 k less))
+      ap (λ x. e ∷ x) (put_at es i k v d (sorted_tail cmp e.0 (keys_of es) s) (omega arith) h) ∙ sym (put_step e es k v Greater (flipped e.0 k less))
 
   -- ---- a search that misses
   pub none_at : (es : List (L × ℕ)) (i : ℕ) (k : L) → i ≤ length es → IsPartitionPoint (λ e. cmp e.0 k ≡ Less) (λ e. cmp e.0 k ≡ Greater) es i → id_at cmp es k ≡ None
   none_at [] i k l h = refl
   none_at (e ∷ es) zero k l h =
-      past e es k (ap is_eq (below e.0 k (h.1 0 e (omega arith) (omega arith))))
+      past e es k (ap is_eq (flipped e.0 k (h.1 0 e (omega arith) (omega arith))))
       ∙ none_at es zero k (omega arith) (λ j d a b. absurd (omega arith), λ j d a b. h.1 (suc j) d (omega arith) (omega arith))
   none_at (e ∷ es) (suc i) k l h =
-      past e es k (ap is_eq (above e.0 k (h.0 0 e (omega arith) (omega arith))))
+      past e es k (ap is_eq (flipped e.0 k (h.0 0 e (omega arith) (omega arith))))
       ∙ none_at es i k (omega arith) (λ j d a b. h.0 (suc j) d (omega arith) (omega arith), λ j d a b. h.1 (suc j) d (omega arith) (omega arith))
 
   pub put_between : (es : List (L × ℕ)) (i : ℕ) (k : L) (v : ℕ) → i ≤ length es → IsPartitionPoint (λ e. cmp e.0 k ≡ Less) (λ e. cmp e.0 k ≡ Greater) es i → insert es i (k, v) ≡ insert_entry cmp es k v
   put_between [] zero k v l h = refl
   put_between [] (suc i) k v l h = absurd (omega arith)
-  put_between (e ∷ es) zero k v l h = sym (put_step e es k v Less (below e.0 k (h.1 0 e (omega arith) (omega arith))))
+  put_between (e ∷ es) zero k v l h = sym (put_step e es k v Less (flipped e.0 k (h.1 0 e (omega arith) (omega arith))))
   put_between (e ∷ es) (suc i) k v l h =
       ap (λ x. e ∷ x) (put_between es i k v (omega arith) (λ j d a b. h.0 (suc j) d (omega arith) (omega arith), λ j d a b. h.1 (suc j) d (omega arith) (omega arith)))
-      ∙ sym (put_step e es k v Greater (above e.0 k (h.0 0 e (omega arith) (omega arith))))
+      ∙ sym (put_step e es k v Greater (flipped e.0 k (h.0 0 e (omega arith) (omega arith))))
 
   -- ---- what a binary search asks
   sorted_pairs : (es : List (L × ℕ)) → IsOrdered cmp es → IsSortedBy (λ a b. is_lt (cmp a.0 b.0)) es
@@ -91,7 +88,7 @@ module _ {L : Type 0} (cmp : L → L → Ordering) (total : IsTotalOrder cmp) wh
       ap (λ x. cmp x (get_or es (k + 1) d).0) (sym (get_or-map (λ x. x.0) es k d d.0 (omega arith)))
       ∙ ap (cmp (get_or (keys_of es) k d.0)) (sym (get_or-map (λ x. x.0) es (k + 1) d d.0 high))
       ∙ Less-from_sorted cmp (keys_of es) k (k + 1) d.0 s (omega arith) (omega (arith, n)) in
-      ap is_lt (above _ _ less)
+      ap is_lt (flipped _ _ less)
 
   pub searchable : (es : List (L × ℕ)) (k : L) → IsOrdered cmp es → IsNonDecreasingBy (λ e. ordering_index (cmp e.0 k)) es
   searchable es k s = searchable_from_sorted total (λ e. e.0) es k (sorted_pairs es s)
@@ -118,7 +115,7 @@ module _ {L : Type 0} (cmp : L → L → Ordering) (total : IsTotalOrder cmp) wh
       by_ordering (cmp k e.0)
       (λ h. subst Q (sym (put_step e es k v Less h)) ((h, all_less k e.0 (keys_of es) h s.0), s))
       (λ h. subst Q (sym (put_step e es k v Equal h)) s)
-      (λ h. subst Q (sym (put_step e es k v Greater h)) (all_put (λ y. cmp e.0 y ≡ Less) es k v (below k e.0 h) s.0, ordered_put es k v s.1))
+      (λ h. subst Q (sym (put_step e es k v Greater h)) (all_put (λ y. cmp e.0 y ≡ Less) es k v (flipped k e.0 h) s.0, ordered_put es k v s.1))
 
   -- two labels that are equal are equal to the same labels
   at_equal : (k x q : L) → cmp k x ≡ Equal → is_at (cmp q) x ≡ is_at (cmp k) q

@@ -1,13 +1,19 @@
 -- Groups as families: the parents are the states with an edge, each once, and that outlasts a sort.
-use Rattle.std.proofs.Common.{◌≡◌, ◌≢◌, ℕ, zero, suc, ◌<◌, ◌≤◌, ◌⊎◌, Bool, true, false, not, cond, eqb, List, [], ◌∷◌, ◌++◌, length, get_or, Some, refl, sym, ap, ◌∙◌, subst, inl, inr, arith}
-use Rattle.std.proofs.lemmas.Bool.{cases_lt, cases_eq, false≢true, eq-eqb, ne_eqb}
+use Rattle.std.proofs.Common.{◌≡◌, ◌≢◌, ℕ, zero, suc, ◌<◌, Bool, true, false, not, cond, eqb, List, [], ◌∷◌, ◌++◌, length, get_or, Some, refl, sym, ap, ◌∙◌, subst, inl, inr, arith}
+use Rattle.std.proofs.lemmas.Bool.{cases_order, cond_both, false≢true}
+use Rattle.std.proofs.lemmas.Bool.Decides.{Decides-eqb}
 use Rattle.std.proofs.lemmas.Option.{same_Some}
 use Rattle.std.proofs.lemmas.List.{append-nil, map-append, length-map, get_or_default}
-use Rattle.std.proofs.lemmas.List.Elements.{All-head, All-tail, All-weaker, filter-append}
+use Rattle.std.proofs.lemmas.List.Elements.{All-filter, All-head, All-tail, filter-append, filter_passes}
 use Rattle.std.proofs.lemmas.List.Sorted.{All-permutation, Contains-permutation, IsPermutation-map, length_permutation}
-use Rattle.std.proofs.lemmas.Map.Keys.{IsDistinct-IsPermutation, apart_from_distinct}
+use Rattle.std.proofs.lemmas.List.Sums.{count_by-le-length, length-filter}
+use Rattle.std.proofs.lemmas.List.Kept.{AllPairs-filter}
+use Rattle.std.proofs.lemmas.Slice.Zip.{all_zipped_more}
+use Rattle.std.proofs.lemmas.Cmp.{nat_eq_equiv}
+use Rattle.std.proofs.lemmas.Map.Made.{AllPairs-from_IsDistinct, IsDistinct-from_AllPairs}
+use Rattle.std.proofs.lemmas.Map.Keys.{IsDistinct-IsPermutation}
 use Rattle.std.specs.Bool.{IsTrue}
-use Rattle.std.specs.List.{All, AllZip, Contains, IsDistinct, filter, slice_get}
+use Rattle.std.specs.List.{All, Contains, IsDistinct, filter, slice_get}
 use Rattle.std.specs.List.Sorted.{IsPermutation}
 use Rattle.std.specs.Map.{values_of}
 use Rattle.std.specs.declared.cmp.Ordering.{Ordering}
@@ -16,21 +22,15 @@ use Rattle.daachorse_placement.specs.declared.build_helper.SiblingGroup.{Sibling
 use Rattle.daachorse_placement.specs.Placement.{children_of, parent_of, label_of, child_of, AreGroups}
 use Rattle.daachorse_build.specs.declared.nfa_builder.NfaBuilderState.{NfaBuilderState}
 use Rattle.daachorse_build.specs.Tables.{edges_of, child_in, HoldTrie}
-use Rattle.daachorse_build.specs.Orders.{IsIn, StandOnce, children}
+use Rattle.daachorse_build.specs.Orders.{IsIn, children}
 use Rattle.daachorse_build.specs.Groups.{edges_at, coded, GivesCodes, AreCodes, AreTrieGroups, is_some_edge, has_edges, IsWalk, AreGiven, AreFamilies, parents_of, if_counted}
 use Rattle.daachorse_build.proofs.Queue.{in_equal, in_at, place_of, distinct_once, child_at_place, listed_of_child, value_at, children_once}
-use Rattle.daachorse_build.proofs.StackWalk.{once_tail, once_head, length-walk}
+use Rattle.daachorse_build.proofs.StackWalk.{length-walk}
 use Rattle.daachorse_build.proofs.Walks.{text_of, walk-bounds}
 
 -- ---- one child more
-all_zip_push : {X Y : Type 0} (R : X → Y → Type 0) (xs : List X) (ys : List Y) (x : X) (y : Y) → AllZip R xs ys → R x y → AllZip R (xs ++ x ∷ []) (ys ++ y ∷ [])
-all_zip_push R [] [] x y h k = (k, tt)
-all_zip_push R [] (v ∷ ys) x y h k = absurd h
-all_zip_push R (u ∷ xs) [] x y h k = absurd h
-all_zip_push R (u ∷ xs) (v ∷ ys) x y h k = (h.0, all_zip_push R xs ys x y h.1 k)
-
 pub given_push : {L : Type 0} (gives : L → ℕ → Type 0) (es : List (L × ℕ)) (cs : List (ℕ × ℕ)) (c : L) (t r : ℕ) → AreGiven gives es cs → gives c r → AreGiven gives (es ++ (c, t) ∷ []) (cs ++ (r, t) ∷ [])
-given_push gives es cs c t r h k = all_zip_push (λ e d. gives e.0 d.0 × (d.1 ≡ e.1)) es cs (c, t) (r, t) h (k, refl)
+given_push gives es cs c t r h k = all_zipped_more (λ e d. gives e.0 d.0 × (d.1 ≡ e.1)) es cs (c, t) (r, t) h (k, refl)
 
 -- ---- weights
 -- without a profile nothing is counted
@@ -57,61 +57,15 @@ parents_same edges order t gs before none =
     ∙ sym (append-nil _)
     ∙ sym (filter-append (has_edges edges) order (t ∷ []) ∙ ap (λ b. filter (has_edges edges) order ++ cond b (t ∷ []) []) none)
 
--- ---- a filter of numbers that each stand once
-once_cons : (x : ℕ) (xs : List ℕ) → (IsIn xs x → ⊥) → StandOnce xs → StandOnce (x ∷ xs)
-once_cons x xs fresh once zero l h = h
-once_cons x xs fresh once (suc i) l (inl e) = fresh (in_equal xs (get_or xs i 0) x (sym e) (in_at xs i (omega arith)))
-once_cons x xs fresh once (suc i) l (inr h) = once i (omega arith) h
-
-module _ (p : ℕ → Bool) where
-  in_filter : (xs : List ℕ) (t : ℕ) → IsIn xs t → p t ≡ true → IsIn (filter p xs) t
-  in_filter [] t h e = absurd h
-  in_filter (x ∷ xs) t h e = at (p x) refl h (λ later. in_filter xs t later e)
-    where
-      at : (b : Bool) → p x ≡ b → (x ≡ t) ⊎ IsIn xs t → (IsIn xs t → IsIn (filter p xs) t) → IsIn (cond b (x ∷ filter p xs) (filter p xs)) t
-      at true k (inl same) more = inl same
-      at true k (inr later) more = inr (more later)
-      at false k (inl same) more = absurd (false≢true (sym k ∙ ap p same ∙ e))
-      at false k (inr later) more = more later
-
-  in_filtered : (xs : List ℕ) (t : ℕ) → IsIn (filter p xs) t → IsIn xs t × (p t ≡ true)
-  in_filtered [] t h = absurd h
-  in_filtered (x ∷ xs) t h = at (p x) refl h (λ later. in_filtered xs t later)
-    where
-      at : (b : Bool) → p x ≡ b → IsIn (cond b (x ∷ filter p xs) (filter p xs)) t → (IsIn (filter p xs) t → IsIn xs t × (p t ≡ true)) → ((x ≡ t) ⊎ IsIn xs t) × (p t ≡ true)
-      at true k (inl same) more = (inl same, sym (ap p same) ∙ k)
-      at true k (inr later) more = let r = more later in (inr r.0, r.1)
-      at false k later more = let r = more later in (inr r.0, r.1)
-
-  once_filter : (xs : List ℕ) → StandOnce xs → StandOnce (filter p xs)
-  once_filter [] once = once
-  once_filter (x ∷ xs) once = at (p x) (once_filter xs (once_tail x xs once))
-    where
-      at : (b : Bool) → StandOnce (filter p xs) → StandOnce (cond b (x ∷ filter p xs) (filter p xs))
-      at true rest = once_cons x (filter p xs) (λ h. once_head x xs once (in_filtered xs x h).0) rest
-      at false rest = rest
-
--- each element of a list is in it
-all_in : (xs : List ℕ) → All (λ x. IsIn xs x) xs
-all_in xs k d l = in_equal xs _ _ (get_or_default xs k 0 d l) (in_at xs k l)
+in_filter : (p : ℕ → Bool) (xs : List ℕ) (t : ℕ) → IsIn xs t → p t ≡ true → IsIn (filter p xs) t
+in_filter p [] t h e = absurd h
+in_filter p (x ∷ xs) t h e =
+    cond_both (p x) _ _ (λ ys. IsIn ys t)
+    (λ k. elim h [ inl same ↦ inl same | inr later ↦ inr (in_filter p xs t later e) ])
+    (λ k. elim h [ inl same ↦ absurd (false≢true (sym k ∙ ap p same ∙ e)) | inr later ↦ in_filter p xs t later e ])
 
 contains_in : (xs : List ℕ) (t : ℕ) → IsIn xs t → Contains xs t
 contains_in xs t h = let p = place_of xs t h in (p.0, p.1, get_or_default xs p.0 t 0 p.1 ∙ p.2)
-
-eqb-flips : (x y : ℕ) → eqb x y ≡ eqb y x
-eqb-flips x y =
-    elim (cases_eq x y) [
-      | inl e ↦ eq-eqb x y e ∙ sym (eq-eqb y x (sym e))
-      | inr ne ↦ ne_eqb x y ne ∙ sym (ne_eqb y x (λ e. ne (sym e)))
-    ]
-
-filter_short : (p : ℕ → Bool) (xs : List ℕ) → length (filter p xs) ≤ length xs
-filter_short p [] = omega arith
-filter_short p (x ∷ xs) = at (p x) (filter_short p xs)
-  where
-    at : (b : Bool) → length (filter p xs) ≤ length xs → length (cond b (x ∷ filter p xs) (filter p xs)) ≤ length (x ∷ xs)
-    at true h = omega arith
-    at false h = omega arith
 
 -- ---- groups by their places
 -- the group at a place
@@ -157,13 +111,10 @@ edge_of_child (e ∷ es) t h = refl
 -- two places of the same number
 one_place : (xs : List ℕ) (k l : ℕ) → IsDistinct eqb xs → k < length xs → l < length xs → get_or xs k 0 ≡ get_or xs l 0 → k ≡ l
 one_place xs k l distinct hk hl same =
-    elim (cases_lt k l) [
-      | inl less ↦ absurd (false≢true (sym (apart_from_distinct eqb xs k l 0 distinct less hl) ∙ eq-eqb _ _ same))
-      | inr ge ↦
-          elim (cases_lt l k) [
-            | inl less ↦ absurd (false≢true (sym (apart_from_distinct eqb xs l k 0 distinct less hk) ∙ eq-eqb _ _ (sym same)))
-            | inr le ↦ omega arith
-          ]
+    let apart = λ (i j : ℕ). AllPairs-from_IsDistinct Decides-eqb xs distinct i j 0 in
+    elim (cases_order k l) [
+      | inl e ↦ e
+      | inr other ↦ elim other [ inl less ↦ absurd (apart k l less hl same) | inr less ↦ absurd (apart l k less hk (sym same)) ]
     ]
 
 module _ {L V A : Type 0} (cmp : L → L → Ordering) (total : IsTotalOrder cmp) (states : List (NfaBuilderState L V A)) (table : HoldTrie cmp states) (order : List ℕ) (walk : IsWalk (edges_of states) order) (gives : L → ℕ → Type 0) (first gs : List (SiblingGroup A)) (parents : parents_of first ≡ filter (has_edges (edges_of states)) order) (families : AreFamilies gives (edges_of states) first) (moved : IsPermutation first gs) where
@@ -181,8 +132,9 @@ module _ {L V A : Type 0} (cmp : L → L → Ordering) (total : IsTotalOrder cmp
   distinct : IsDistinct eqb (parents_of gs)
   distinct =
       let P : List ℕ → Type 0 = λ ps. IsDistinct eqb ps in
-      let start = subst P (sym parents) (distinct_once _ (once_filter (has_edges edges) order walk.once)) in
-      IsDistinct-IsPermutation eqb eqb-flips (parents_of first) (parents_of gs) moved_parents start
+      let once = AllPairs-filter (λ x y. x ≢ y) (has_edges edges) order (AllPairs-from_IsDistinct Decides-eqb order (distinct_once order walk.once)) in
+      let start = subst P (sym parents) (IsDistinct-from_AllPairs Decides-eqb (filter (has_edges edges) order) once) in
+      IsDistinct-IsPermutation eqb nat_eq_equiv.symm (parents_of first) (parents_of gs) moved_parents start
 
   -- each parent is a state with an edge
   parent_is : All (λ p. (p < length edges) × (p ≢ 1) × (has_edges edges p ≡ true)) (parents_of gs)
@@ -190,9 +142,9 @@ module _ {L V A : Type 0} (cmp : L → L → Ordering) (total : IsTotalOrder cmp
       let Q : ℕ → Type 0 = λ p. (p < length edges) × (p ≢ 1) × (has_edges edges p ≡ true) in
       let P : List ℕ → Type 0 = λ ps. All Q ps in
       let start = subst P (sym parents)
-      (All-weaker (λ p. IsIn (filter (has_edges edges) order) p) Q
-      (λ p h. let r = in_filtered (has_edges edges) order p h in let b = walk.states p r.0 in (b.0, b.1, r.1))
-      (filter (has_edges edges) order) (all_in (filter (has_edges edges) order))) in
+      (λ k d l. (
+      let at = All-filter (has_edges edges) (λ p. (p < length edges) × (p ≢ 1)) order (λ i e h. walk.states _ (in_equal order _ _ (get_or_default order i 0 e h) (in_at order i h))) k d l in
+      (at.0, at.1, filter_passes (has_edges edges) order k d l))) in
       All-permutation Q (parents_of first) (parents_of gs) moved_parents start
 
   -- each state with an edge is a parent
@@ -208,7 +160,7 @@ module _ {L V A : Type 0} (cmp : L → L → Ordering) (total : IsTotalOrder cmp
   -- there are fewer than states
   pub few_groups : length gs < length states
   few_groups =
-      omega (arith, length-walk cmp total edges table order walk, filter_short (has_edges edges) order, ap length parents, length-map first (λ g. g.parent), length_permutation first gs moved, length-map states (λ s. s.edges))
+      omega (arith, length-walk cmp total edges table order walk, length-filter (has_edges edges) order, count_by-le-length (has_edges edges) order, ap length parents, length-map first (λ g. g.parent), length_permutation first gs moved, length-map states (λ s. s.edges))
 
   -- the groups are those of the trie
   pub trie_groups : (code : L → ℕ) → GivesCodes cmp edges gives code → AreTrieGroups cmp code states gs
@@ -238,9 +190,6 @@ module _ {L : Type 0} (code : L → ℕ) where
   coded_at (e ∷ es) zero l = (e, refl, refl)
   coded_at (e ∷ es) (suc j) l = coded_at es j (omega arith)
 
-once_place : (xs : List ℕ) (i j : ℕ) → StandOnce xs → i < length xs → j < length xs → get_or xs i 0 ≡ get_or xs j 0 → i ≡ j
-once_place xs i j once hi hj same = one_place xs i j (distinct_once xs once) hi hj same
-
 module _ {L V A : Type 0} (cmp : L → L → Ordering) (total : IsTotalOrder cmp) (states : List (NfaBuilderState L V A)) (table : HoldTrie cmp states) (gives : L → ℕ → Type 0) (code : L → ℕ) (block : ℕ) (codes : AreCodes cmp (edges_of states) gives code block) (gs : List (SiblingGroup A)) (trie : AreTrieGroups cmp code states gs) (below : (k j : ℕ) → k < length gs → j < length (children_of gs k) → label_of (children_of gs k) j < block) where
   -- the edge to child j of group k
   edge_at : (k j : ℕ) → k < length gs → j < length (children_of gs k) → (c : L) × (child_in cmp (edges_of states) (parent_of gs k) c ≡ Some (child_of (children_of gs k) j)) × (label_of (children_of gs k) j ≡ code c) × (j < length (children (edges_of states) (parent_of gs k))) × (get_or (children (edges_of states) (parent_of gs k)) j 0 ≡ child_of (children_of gs k) j)
@@ -260,7 +209,8 @@ module _ {L V A : Type 0} (cmp : L → L → Ordering) (total : IsTotalOrder cmp
   child_places k i j hk hi hj same =
       let a = edge_at k i hk hi in
       let b = edge_at k j hk hj in
-      once_place (children (edges_of states) (parent_of gs k)) i j (children_once cmp total (edges_of states) table (parent_of gs k)) a.3 b.3 (a.4 ∙ same ∙ sym b.4)
+      let cs = children (edges_of states) (parent_of gs k) in
+      one_place cs i j (distinct_once cs (children_once cmp total (edges_of states) table (parent_of gs k))) a.3 b.3 (a.4 ∙ same ∙ sym b.4)
 
   pub placed_groups : AreGroups gs (length states) block
   placed_groups = record {

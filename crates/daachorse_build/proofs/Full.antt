@@ -1,5 +1,5 @@
 -- Where no id is free: the text of each id but that of the dead state, and the text that needs one more, are prefixes of keys, no two the same.
-use Rattle.std.proofs.Common.{◌≡◌, ◌≢◌, ℕ, zero, suc, ◌+◌, ◌<◌, ◌≤◌, false, List, [], ◌∷◌, ◌++◌, length, map, Option, None, refl, sym, ap, ◌∙◌, subst, inl, inr, append_assoc, arith}
+use Rattle.std.proofs.Common.{◌≡◌, ◌≢◌, ◌-◌, ℕ, zero, suc, ◌+◌, ◌<◌, ◌≤◌, false, List, [], ◌∷◌, ◌++◌, length, map, Option, None, refl, sym, ap, ◌∙◌, subst, inl, inr, append_assoc, arith}
 use Rattle.std.proofs.lemmas.Option.{none-some, same_Some}
 use Rattle.std.proofs.lemmas.Bool.{false_from_ne_true}
 use Rattle.std.proofs.lemmas.List.{length-map}
@@ -32,23 +32,23 @@ pub record TextsBelow {A : Type 0} (child : ℕ → A → Option ℕ) (n : ℕ) 
   pub lead : AllByRecursion (λ w. (t : ℕ) × (t < n) × Leads child w t) texts
   pub apart : Apart texts
 
+-- what holds of each, by what follows from it
+pub all_mapped : {X : Type 0} (P Q : X → Type 0) → ((x : X) → P x → Q x) → (xs : List X) → AllByRecursion P xs → AllByRecursion Q xs
+all_mapped P Q f [] h = tt
+all_mapped P Q f (x ∷ xs) h = (f x h.0, all_mapped P Q f xs h.1)
+
 module _ {A : Type 0} (child : ℕ → A → Option ℕ) where
-  higher : (n m : ℕ) → n ≤ m → (ws : List (List A)) → AllByRecursion (λ w. (t : ℕ) × (t < n) × Leads child w t) ws → AllByRecursion (λ w. (t : ℕ) × (t < m) × Leads child w t) ws
-  higher n m l [] h = tt
-  higher n m l (w ∷ ws) h = ((h.0.0, omega (arith, h.0.1), h.0.2), higher n m l ws h.1)
+  -- a text leads to a state below n
+  abbrev LeadsBelow : ℕ → List A → Type 0
+  LeadsBelow n w = (t : ℕ) × (t < n) × Leads child w t
 
   -- the text of n is none of those below it
-  new_text : (n : ℕ) (w : List A) → Leads child w n → (ws : List (List A)) → AllByRecursion (λ w. (t : ℕ) × (t < n) × Leads child w t) ws → AllByRecursion (λ v. w ≢ v) ws
-  new_text n w at [] h = tt
-  new_text n w at (v ∷ ws) h =
-      let ne : w ≢ v = λ e. (let same : n ≡ h.0.0 = same_Some n h.0.0 (sym at ∙ ap (walk child 0) e ∙ h.0.2) in omega (arith, same, h.0.1)) in
-      (ne, new_text n w at ws h.1)
+  new_text : (n : ℕ) (w : List A) → Leads child w n → (v : List A) → LeadsBelow n v → w ≢ v
+  new_text n w at v h e = let same : n ≡ h.0 = same_Some n h.0 (sym at ∙ ap (walk child 0) e ∙ h.2) in omega (arith, same, h.1)
 
   -- a text that leads nowhere is none that leads somewhere
-  lost_text : (n : ℕ) (w : List A) → walk child 0 w ≡ None → (ws : List (List A)) → AllByRecursion (λ w. (t : ℕ) × (t < n) × Leads child w t) ws → AllByRecursion (λ v. w ≢ v) ws
-  lost_text n w none [] h = tt
-  lost_text n w none (v ∷ ws) h =
-      (λ e. none-some h.0.0 (sym none ∙ ap (walk child 0) e ∙ h.0.2), lost_text n w none ws h.1)
+  lost_text : (n : ℕ) (w : List A) → walk child 0 w ≡ None → (v : List A) → LeadsBelow n v → w ≢ v
+  lost_text n w none v h e = none-some h.0 (sym none ∙ ap (walk child 0) e ∙ h.2)
 
   texts_below : (n : ℕ) → IsTrie child n → (k : ℕ) → k + 2 ≤ n → TextsBelow child (k + 2)
   texts_below n trie zero h = record { texts = [] ∷ []; count = omega arith; lead = ((0, omega arith, refl), tt); apart = (tt, tt) }
@@ -58,20 +58,15 @@ module _ {A : Type 0} (child : ℕ → A → Option ℕ) where
       record {
         texts = text.0 ∷ rest.texts;
         count = omega (arith, rest.count);
-        lead = ((k + 2, omega arith, text.1), higher (k + 2) (suc k + 2) (omega arith) rest.texts rest.lead);
-        apart = (new_text (k + 2) text.0 text.1 rest.texts rest.lead, rest.apart);
+        lead = ((k + 2, omega arith, text.1), all_mapped (LeadsBelow (k + 2)) (LeadsBelow (suc k + 2)) (λ w h. (h.0, omega (arith, h.1), h.2)) rest.texts rest.lead);
+        apart = (all_mapped (LeadsBelow (k + 2)) (λ v. text.0 ≢ v) (new_text (k + 2) text.0 text.1) rest.texts rest.lead, rest.apart);
       }
 
   -- as many texts as ids, less the dead state's
   pub all_texts : (n : ℕ) → IsTrie child n → TextsBelow child n
-  all_texts n trie = below n trie.two (texts_below n trie)
-    where
-      below : (n : ℕ) → 1 < n → ((k : ℕ) → k + 2 ≤ n → TextsBelow child (k + 2)) → TextsBelow child n
-      below zero h f = absurd (omega arith)
-      below (suc zero) h f = absurd (omega arith)
-      below (suc (suc k)) h f =
-          let e : k + 2 ≡ suc (suc k) = omega arith in
-          subst (λ (m : ℕ). TextsBelow child m) e (f k (omega arith))
+  all_texts n trie =
+      let e : n - 2 + 2 ≡ n = omega (arith, trie.two) in
+      subst (λ (m : ℕ). TextsBelow child m) e (texts_below n trie (n - 2) (omega (arith, trie.two)))
 
 -- texts that differ have units that differ
 distinct_units : {L : Type 0} (unit : L → ℕ) → ((a b : L) → unit a ≡ unit b → a ≡ b) → (ws : List (List L)) → Apart ws → IsDistinct same_text (map (map unit) ws)
@@ -95,7 +90,7 @@ module _ {L V A : Type 0} (cmp : L → L → Ordering) (unit : L → ℕ) (exact
       let none : walk child 0 lost ≡ None = walk-push child 0 over.front over.label over.id over.adding.here ∙ over.none in
       record {
         texts = map (map unit) (lost ∷ below.texts);
-        distinct = distinct_units unit exact (lost ∷ below.texts) (lost_text child (length (edges_of mid)) lost none below.texts below.lead, below.apart);
+        distinct = distinct_units unit exact (lost ∷ below.texts) (all_mapped _ (λ v. lost ≢ v) (lost_text child (length (edges_of mid)) lost none) below.texts below.lead, below.apart);
         prefixes = (prefix_now unit exact kind rs p v adds lost (over.rest, append_assoc over.front (over.label ∷ []) over.rest ∙ over.splits), all_prefixes below.texts below.lead);
         more = omega (arith, over.full, below.count, length-map (lost ∷ below.texts) (map unit), length-map mid (λ s. s.edges));
       }

@@ -1,7 +1,7 @@
 -- How walks change where a trie grows.
-use Rattle.std.proofs.Common.{◌≡◌, ◌≢◌, ℕ, ◌+◌, ◌<◌, ◌≤◌, ◌⊎◌, true, cond, List, [], ◌∷◌, ◌++◌, length, get_or, set, Option, Some, None, option_and_then, refl, sym, ap, ◌∙◌, subst, inl, inr, arith, get_or-set_same, get_or-set_other}
+use Rattle.std.proofs.Common.{◌≡◌, ◌≢◌, ℕ, zero, suc, ◌+◌, ◌<◌, ◌≤◌, ◌⊎◌, true, cond, List, [], ◌∷◌, ◌++◌, length, get_or, set, Option, Some, None, option_and_then, refl, sym, ap, ◌∙◌, subst, inl, inr, arith, get_or-set_same, get_or-set_other}
 use Rattle.std.proofs.lemmas.Option.{option_and_then_some, none-some, same_Some}
-use Rattle.std.proofs.lemmas.List.{length_push, length-set, get_or_append_left, get_or_push, get_or_past}
+use Rattle.std.proofs.lemmas.List.{length_push, length-set, get_or_past}
 use Rattle.std.proofs.lemmas.Bool.{cases_Bool, cases_lt, cases_eq, cond-true, cond-false}
 use Rattle.std.specs.List.Sorted.{IsStrictlySortedBy}
 use Rattle.std.specs.declared.cmp.Ordering.{Ordering}
@@ -86,6 +86,13 @@ module _ {A : Type 0} (old new : ℕ → A → Option ℕ) (s : ℕ) (c : A) (t 
   }
 
 -- ---- in a table of edges
+-- an empty list more is what stands past the end
+pub nil_more : {X : Type 0} (xss : List (List X)) (i : ℕ) → get_or (xss ++ [] ∷ []) i [] ≡ get_or xss i []
+nil_more [] zero = refl
+nil_more [] (suc i) = refl
+nil_more (xs ∷ xss) zero = refl
+nil_more (xs ∷ xss) (suc i) = nil_more xss i
+
 is_at_same : {L : Type 0} (cmp : L → L → Ordering) → ((x y : L) → cmp x y ≡ Equal → x ≡ y) → (q k : L) → is_at (cmp q) k ≡ true → q ≡ k
 is_at_same cmp exact q k h = exact q k ((Equal-is (cmp q k)).0 h)
 
@@ -94,23 +101,10 @@ module _ {L : Type 0} (cmp : L → L → Ordering) (total : IsTotalOrder cmp) (e
   grown = set edges s es ++ [] ∷ []
 
   at_parent : get_or grown s [] ≡ es
-  at_parent =
-      let low : s < length (set edges s es) = omega (arith, length-set edges s es, l) in
-      get_or_append_left (set edges s es) ([] ∷ []) [] s low ∙ get_or-set_same edges s es [] l
+  at_parent = nil_more (set edges s es) s ∙ get_or-set_same edges s es [] l
 
   at_other : (u : ℕ) → u ≢ s → get_or grown u [] ≡ get_or edges u []
-  at_other u apart =
-      elim (cases_lt u (length edges)) [
-        | inl below ↦
-            let low : u < length (set edges s es) = omega (arith, length-set edges s es) in
-            get_or_append_left (set edges s es) ([] ∷ []) [] u low ∙ get_or-set_other edges s u es [] apart
-        | inr above ↦
-            past u above (cases_eq (length (set edges s es)) u) ∙ sym (get_or_past edges u [] above)
-      ]
-    where
-      past : (u : ℕ) → length edges ≤ u → (length (set edges s es) ≡ u) ⊎ (length (set edges s es) ≡ u → ⊥) → get_or grown u [] ≡ []
-      past u above (inl e) = get_or_push (set edges s es) [] [] u e
-      past u above (inr apart) = get_or_past grown u [] (omega (arith, apart, length_push (set edges s es) [], length-set edges s es))
+  at_other u apart = nil_more (set edges s es) u ∙ get_or-set_other edges s u es [] apart
 
   cases_of : (u : ℕ) (a : L) → ((u ≡ s) × (a ≡ c) × (child_in cmp grown u a ≡ Some (length edges))) ⊎ (child_in cmp grown u a ≡ child_in cmp edges u a)
   cases_of u a =
@@ -140,21 +134,17 @@ module _ {L : Type 0} (cmp : L → L → Ordering) (total : IsTotalOrder cmp) (e
   pub is_here : child_in cmp grown s c ≡ Some (length edges)
   is_here = ap (lookup (is_at (cmp c))) at_parent ∙ found c ∙ cond-true (is_at (cmp c) c) _ _ ((eq_by_cmp_equiv total).refl c)
 
-  ordered_grown : (u : ℕ) → (u ≡ s) ⊎ (u ≡ s → ⊥) → IsStrictlySortedBy cmp (keys_of (get_or grown u []))
-  ordered_grown u (inl e) =
-      let P : List (L × ℕ) → Type 0 = λ fs. IsStrictlySortedBy cmp (keys_of fs) in
-      subst P (sym (ap (λ x. get_or grown x []) e ∙ at_parent)) sorted
-  ordered_grown u (inr apart) =
-      let P : List (L × ℕ) → Type 0 = λ fs. IsStrictlySortedBy cmp (keys_of fs) in
-      subst P (sym (at_other u apart)) (table.ordered u)
-
   -- the table with the new edge
   pub table_grows : IsTable cmp grown
   table_grows =
       let count : length grown ≡ length edges + 1 = length_push (set edges s es) [] ∙ ap (λ x. x + 1) (length-set edges s es) in
       let trie = trie_grows (child_in cmp edges) (child_in cmp grown) s c (length edges) adds_edge table.trie l ne (λ a. none_past (length edges) a (omega arith)) is_here in
       let P : ℕ → Type 0 = λ n. IsTrie (child_in cmp grown) n in
+      let O : List (L × ℕ) → Type 0 = λ fs. IsStrictlySortedBy cmp (keys_of fs) in
       record {
-        ordered = λ u. ordered_grown u (cases_eq u s);
+        ordered = λ u. elim (cases_eq u s) [
+          | inl e ↦ subst O (sym (ap (λ x. get_or grown x []) e ∙ at_parent)) sorted
+          | inr apart ↦ subst O (sym (at_other u apart)) (table.ordered u)
+        ];
         trie = subst P (sym count) trie;
       }

@@ -1,7 +1,7 @@
 -- What the states of a trie say of the keys: links stop just at the keys, so a walk meets a state that stops where a key begins its text.
-use Rattle.std.proofs.Common.{◌≡◌, ◌≢◌, ℕ, Bool, true, false, cond, ◌||◌, List, [], ◌∷◌, ◌++◌, length, map, Option, Some, None, refl, sym, ap, ◌∙◌, subst, inr, arith, append-nil, unwrap_or}
+use Rattle.std.proofs.Common.{◌≡◌, ◌≢◌, ℕ, Bool, true, false, cond, ◌||◌, List, [], ◌∷◌, ◌++◌, length, map, Option, Some, None, refl, sym, ap, ◌∙◌, subst, inl, inr, arith, append-nil, unwrap_or}
 use Rattle.std.specs.Prelude.{option_map, not, ◌==◌, option_and_then}
-use Rattle.std.proofs.lemmas.Bool.{eqb-true, false≢true, or_parts, false_from_ne_true, not_from_false}
+use Rattle.std.proofs.lemmas.Bool.{eqb-true, false≢true, or_cases, or_parts, false_from_ne_true, not_from_false}
 use Rattle.std.proofs.lemmas.Option.{none-some, same_Some}
 use Rattle.std.proofs.lemmas.List.{map-append}
 use Rattle.std.specs.declared.cmp.Ordering.{Ordering}
@@ -17,17 +17,8 @@ use Rattle.daachorse_build.specs.declared.nfa_builder.NfaBuilderState.{NfaBuilde
 use Rattle.daachorse_build.specs.Tables.{child_of, own_of, own_at, stops_of}
 use Rattle.daachorse_build.specs.Holds.{in_units, Holds}
 use Rattle.daachorse_build.specs.Left.{meets, meets_early}
+use Rattle.daachorse_build.proofs.Labels.{labels_of_front}
 use Rattle.daachorse_build.proofs.Dropped.{proper_from, proper_rest}
-
--- the labels of a beginning of a text of units
-pub labels_of_front : {L : Type 0} (unit : L → ℕ) (p : List L) (x y : List ℕ) → map unit p ≡ x ++ y → (v : List L) × (w : List L) × (p ≡ v ++ w) × (map unit v ≡ x) × (map unit w ≡ y)
-labels_of_front unit p [] y h = ([], p, refl, refl, h)
-labels_of_front unit [] (u ∷ x) y h = absurd (cc)
-labels_of_front unit (c ∷ p) (u ∷ x) y h =
-    let first : unit c ≡ u = cc in
-    let rest : map unit p ≡ x ++ y = cc in
-    let r = labels_of_front unit p x y rest in
-    (c ∷ r.0, r.1, ap (λ z. c ∷ z) r.2, ap (λ z. unit c ∷ z) r.3 ∙ ap (λ z. z ∷ x) first, r.4)
 
 -- a state of whom as many own outputs are held as the text has values
 stops_values : {V : Type 0} (vs : List V) (n : ℕ) → not (length (map {B = V × ℕ} (λ v. (v, n)) vs) == 0) ≡ elim vs [ [] ↦ false | _ ∷ _ ↦ true ]
@@ -88,33 +79,31 @@ module _ {A : Type 0} (child : ℕ → A → Option ℕ) (stops : ℕ → Bool) 
 
   pub meets_early-true : (s : ℕ) (w : List A) → meets_early child stops s w ≡ true → StopsAt s w
   meets_early-true s [] h = absurd (false≢true h)
-  meets_early-true s (c ∷ w) h = here (stops s) refl h (λ t k. meets_early-true t w k)
-    where
-      further : (o : Option ℕ) → child s c ≡ o → unwrap_or (option_map (λ t. meets_early child stops t w) o) false ≡ true → ((t : ℕ) → meets_early child stops t w ≡ true → StopsAt t w) → StopsAt s (c ∷ w)
-      further None e k ih = absurd (false≢true k)
-      further (Some t) e k ih =
-          let r = ih t k in
-          record {
-            front = c ∷ r.front;
-            label = r.label;
-            rest = r.rest;
-            splits = ap (λ z. c ∷ z) r.splits;
-            state = r.state;
-            there = ap (option_and_then (λ x. walk child x r.front)) e ∙ r.there;
-            stop = r.stop;
-          }
-
-      here : (b : Bool) → stops s ≡ b → (b || unwrap_or (option_map (λ t. meets_early child stops t w) (child s c)) false) ≡ true → ((t : ℕ) → meets_early child stops t w ≡ true → StopsAt t w) → StopsAt s (c ∷ w)
-      here true e k ih = record { front = []; label = c; rest = w; splits = refl; state = s; there = refl; stop = e }
-      here false e k ih = further (child s c) refl k ih
+  meets_early-true s (c ∷ w) h =
+      elim (or_cases (stops s) _ h) [
+        | inl stop ↦ record { front = []; label = c; rest = w; splits = refl; state = s; there = refl; stop = stop }
+        | inr more ↦
+            (elim (child s c) as (λ o. child s c ≡ o → unwrap_or (option_map (λ t. meets_early child stops t w) o) false ≡ true → StopsAt s (c ∷ w)) [
+              | None ↦ λ e k. absurd (false≢true k)
+              | Some t ↦ λ e k. (
+                  let r = meets_early-true t w k in
+                  record {
+                    front = c ∷ r.front;
+                    label = r.label;
+                    rest = r.rest;
+                    splits = ap (λ z. c ∷ z) r.splits;
+                    state = r.state;
+                    there = ap (option_and_then (λ x. walk child x r.front)) e ∙ r.there;
+                    stop = r.stop;
+                  })
+            ]) refl more
+      ]
 
   pub meets_early-false : (s : ℕ) (v : List A) (c : A) (w : List A) (t : ℕ) → meets_early child stops s (v ++ c ∷ w) ≡ false → walk child s v ≡ Some t → stops t ≡ false
   meets_early-false s [] c w t h at = ap stops (sym (same_Some s t at)) ∙ (or_parts (stops s) _ h).0
-  meets_early-false s (a ∷ v) c w t h at = further (child s a) (or_parts (stops s) _ h).1 at (λ x k e. meets_early-false x v c w t k e)
-    where
-      further : (o : Option ℕ) → unwrap_or (option_map (λ x. meets_early child stops x (v ++ c ∷ w)) o) false ≡ false → option_and_then (λ x. walk child x v) o ≡ Some t → ((x : ℕ) → meets_early child stops x (v ++ c ∷ w) ≡ false → walk child x v ≡ Some t → stops t ≡ false) → stops t ≡ false
-      further None k e ih = absurd (none-some t e)
-      further (Some x) k e ih = ih x k e
+  meets_early-false s (a ∷ v) c w t h at =
+      (elim (child s a) as (λ o. unwrap_or (option_map (λ x. meets_early child stops x (v ++ c ∷ w)) o) false ≡ false → option_and_then (λ x. walk child x v) o ≡ Some t → stops t ≡ false)
+      [ None ↦ λ k e. absurd (none-some t e) | Some x ↦ λ k e. meets_early-false x v c w t k e ]) (or_parts (stops s) _ h).1 at
 
 -- ---- a key that is a proper prefix of a pattern
 module _ {L V A : Type 0} (cmp : L → L → Ordering) (unit : L → ℕ) (width : ℕ → ℕ) (kind : MatchKind) (states : List (NfaBuilderState L V A)) (rs : List (List L × V)) (holds : Holds cmp unit width kind states rs) (p : List L) where

@@ -30,8 +30,7 @@ module _ {L V A : Type 0} (cmp : L → L → Ordering) (total : IsTotalOrder cmp
       → ((x : List L) → length x ≤ length cs → Chain x (left_outputs cmp (stops_of true states) states x))
       → Chain (c ∷ cs) (own_outputs width keys (map unit (c ∷ cs)) ++ cond b [] (left_outputs cmp (stops_of true states) states cs))
   chain_step c cs true o link rest ih =
-      let P : List (V × ℕ) → Type 0 = λ l. Chain (c ∷ cs) l in
-      subst P (sym (append-nil _)) (at_dead link)
+      rw (append-nil _) (at_dead link)
   chain_step c cs false None link rest ih =
       let P : List (V × ℕ) → Type 0 = λ l. Chain (c ∷ cs) (own_outputs width keys (map unit (c ∷ cs)) ++ l) in
       let Q : List (V × ℕ) → Type 0 = λ l. Chain (c ∷ cs) l in

@@ -1,8 +1,8 @@
 -- The leftmost links of a trie are the leftmost failure links of the dictionary that it holds.
-use Rattle.std.proofs.Common.{◌≡◌, ◌≢◌, ℕ, Bool, true, false, cond, ◌||◌, List, [], ◌∷◌, ◌++◌, length, map, get_or, Option, Some, None, is_some, refl, sym, ap, ◌∙◌, subst, inl, inr, arith}
+use Rattle.std.proofs.Common.{◌≡◌, ◌≢◌, ℕ, Bool, true, false, cond, List, [], ◌∷◌, ◌++◌, length, map, get_or, Option, Some, None, is_some, refl, sym, ap, ◌∙◌, subst, inl, inr, arith}
 use Rattle.std.specs.Prelude.{option_map, not, ◌==◌}
 use Rattle.std.specs.List.{list_any}
-use Rattle.std.proofs.lemmas.Bool.{false≢true, cond-true, or_left, or_right}
+use Rattle.std.proofs.lemmas.Bool.{cond_both, false≢true, or_cases, or_left, or_right}
 use Rattle.std.specs.declared.cmp.Ordering.{Ordering}
 use Rattle.daachorse_model.specs.declared.MatchKind.{MatchKind}
 use Rattle.daachorse_model.specs.Units.{same_text}
@@ -21,7 +21,8 @@ use Rattle.daachorse_build.proofs.Walks.{walk-same, walk-bounds}
 use Rattle.daachorse_build.proofs.Queue.{all_in_order}
 use Rattle.daachorse_build.specs.Holds.{in_units, Holds}
 use Rattle.daachorse_build.specs.Left.{meets, long_unless_stop, left_link, IsStateOf, IsLeftFailOf, LinksLeft}
-use Rattle.daachorse_build.proofs.Registrations.{text_same, text_refl}
+use Rattle.daachorse_build.proofs.Registrations.{text_same}
+use Rattle.daachorse_build.proofs.Dropped.{value_first}
 use Rattle.daachorse_build.proofs.Keys.{meets-key}
 
 -- ---- a test for the prefixes of keys
@@ -32,27 +33,20 @@ module _ {V : Type 0} where
   known rs [] = true
   known rs (u ∷ w) = list_any (λ r. is_prefix (u ∷ w) r.0) rs
 
-  value_first : (r : List ℕ × V) (rs : List (List ℕ × V)) (w : List ℕ) → r.0 ≡ w → values_of (r ∷ rs) w ≢ []
-  value_first r rs w e none =
-      let yes' : same_text r.0 w ≡ true = ap (same_text r.0) (sym e) ∙ text_refl r.0 in
-      let value : r.1 ∷ values_of rs w ≡ [] = sym (cond-true (same_text r.0 w) (r.1 ∷ values_of rs w) (values_of rs w) yes') ∙ none in
-      cc
-
   any_key : (rs : List (List ℕ × V)) (v : List ℕ) → list_any (λ r. is_prefix v r.0) rs ≡ true → (x : List ℕ) × (values_of rs (v ++ x) ≢ [])
   any_key [] v h = absurd (false≢true h)
-  any_key (r ∷ rs) v h = at (is_prefix v r.0) refl h (any_key rs v)
-    where
-      at : (b : Bool) → is_prefix v r.0 ≡ b → (b || list_any (λ q. is_prefix v q.0) rs) ≡ true → (list_any (λ q. is_prefix v q.0) rs ≡ true → (x : List ℕ) × (values_of rs (v ++ x) ≢ [])) → (x : List ℕ) × (values_of (r ∷ rs) (v ++ x) ≢ [])
-      at true e k ih = let p = is_prefix-splits v r.0 e in (p.0, value_first r rs (v ++ p.0) p.1)
-      at false e k ih = let p = ih k in (p.0, value_later r rs (v ++ p.0) p.1)
+  any_key (r ∷ rs) v h =
+      elim (or_cases (is_prefix v r.0) _ h) [
+        | inl e ↦ let p = is_prefix-splits v r.0 e in (p.0, value_first r rs (v ++ p.0) p.1)
+        | inr later ↦ let p = any_key rs v later in (p.0, value_later r rs (v ++ p.0) p.1)
+      ]
 
   key_any : (rs : List (List ℕ × V)) (v x : List ℕ) → values_of rs (v ++ x) ≢ [] → list_any (λ r. is_prefix v r.0) rs ≡ true
-  key_any [] v x h = absurd (h refl)
-  key_any (r ∷ rs) v x h = at (same_text r.0 (v ++ x)) refl h (key_any rs v x)
-    where
-      at : (b : Bool) → same_text r.0 (v ++ x) ≡ b → cond b (r.1 ∷ values_of rs (v ++ x)) (values_of rs (v ++ x)) ≢ [] → (values_of rs (v ++ x) ≢ [] → list_any (λ q. is_prefix v q.0) rs ≡ true) → (is_prefix v r.0 || list_any (λ q. is_prefix v q.0) rs) ≡ true
-      at true e k ih = or_left (is_prefix v r.0) _ (ap (is_prefix v) (text_same r.0 (v ++ x) e) ∙ is_prefix-append v x)
-      at false e k ih = or_right (is_prefix v r.0) _ (ih k)
+  key_any [] v x = λ h. absurd (h refl)
+  key_any (r ∷ rs) v x =
+      cond_both (same_text r.0 (v ++ x)) _ _ (λ vs. vs ≢ [] → list_any (λ q. is_prefix v q.0) (r ∷ rs) ≡ true)
+      (λ e _. or_left (is_prefix v r.0) _ (ap (is_prefix v) (text_same r.0 (v ++ x) e) ∙ is_prefix-append v x))
+      (λ _ k. or_right (is_prefix v r.0) _ (key_any rs v x k))
 
   pub known-fore : (rs : List (List ℕ × V)) (w : List ℕ) → known rs w ≡ true → IsPrefix (values_of rs) w
   known-fore rs [] h = inl refl
@@ -110,16 +104,13 @@ module _ {L V A : Type 0} (cmp : L → L → Ordering) (unit : L → ℕ) (width
   -- the leftmost link of a text is that of its units
   pub left_link-is : (c : L) (w : List L) → IsLeftFail keys (map unit (c ∷ w)) (option_map (map unit) (left_link (child_of cmp states) (stops_of true states) c w))
   left_link-is c w =
-      let P : Option (List ℕ) → Type 0 = λ o. IsLeftFail keys (map unit (c ∷ w)) o in
-      subst P (sym (link-units c w)) (left_fail-is keys test (known-fore (kept kind (in_units unit rs))) (known-back (kept kind (in_units unit rs))) (unit c) (map unit w))
+      rw (link-units c w) (left_fail-is keys test (known-fore (kept kind (in_units unit rs))) (known-back (kept kind (in_units unit rs))) (unit c) (map unit w))
 
   -- the state of the leftmost link, in the words of the dictionary
   pub links_left : (c : L) (w : List L) (f : ℕ) → IsStateOf (child_of cmp states) (left_link (child_of cmp states) (stops_of true states) c w) f → LinksLeft keys unit (child_of cmp states) (c ∷ w) f
-  links_left c w f h = at (left_link (child_of cmp states) (stops_of true states) c w) h (left_link-is c w)
-    where
-      at : (o : Option (List L)) → IsStateOf (child_of cmp states) o f → IsLeftFail keys (map unit (c ∷ w)) (option_map (map unit) o) → LinksLeft keys unit (child_of cmp states) (c ∷ w) f
-      at None is dead = inl (is, dead)
-      at (Some x) is l = inr (x, is, l.0, IsDead-not keys (map unit (c ∷ w)) (map unit x) l.0 l.1)
+  links_left c w f h =
+      (elim (left_link (child_of cmp states) (stops_of true states) c w) as (λ o. IsStateOf (child_of cmp states) o f → IsLeftFail keys (map unit (c ∷ w)) (option_map (map unit) o) → LinksLeft keys unit (child_of cmp states) (c ∷ w) f)
+      [ None ↦ λ is dead. inl (is, dead) | Some x ↦ λ is l. inr (x, is, l.0, IsDead-not keys (map unit (c ∷ w)) (map unit x) l.0 l.1) ]) h (left_link-is c w)
 
 -- ---- where the links are built
 module _ {L V A : Type 0} (cmp : L → L → Ordering) (total : IsTotalOrder cmp) (old new : List (NfaBuilderState L V A)) (table : HoldTrie cmp old) (kept' : HasTrieOf old new) (order : List ℕ) (links : HoldLeftLinks cmp true new order) where
@@ -127,12 +118,9 @@ module _ {L V A : Type 0} (cmp : L → L → Ordering) (total : IsTotalOrder cmp
   in_order : (c : L) (w : List L) (t : ℕ) → Leads (child_of cmp old) (c ∷ w) t → IsIn order t
   in_order c w t h =
       let b = walk-bounds (child_of cmp old) (length (edges_of old)) table.trie (c ∷ w) t h in
-      let apart : t ≢ 0 = λ e. nil (walk-same (child_of cmp old) (length (edges_of old)) table.trie (c ∷ w) [] 0 (h ∙ ap Some e) refl) in
+      let apart : t ≢ 0 = λ e. (let nil : c ∷ w ≡ [] = walk-same (child_of cmp old) (length (edges_of old)) table.trie (c ∷ w) [] 0 (h ∙ ap Some e) refl in cc) in
       let P : List (List (L × ℕ)) → Type 0 = λ es. IsBreadthFirst es order in
       all_in_order cmp total (edges_of old) table order (subst P kept'.edges links.first) t (omega (arith, b.1, apart)) b.0
-    where
-      nil : c ∷ w ≡ [] → ⊥
-      nil e = cc
 
   left_fail_of : (c : L) (w : List L) (t : ℕ) → Leads (child_of cmp old) (c ∷ w) t → IsLeftFailOf (child_of cmp old) (stops_of true old) t (get_or (fails_of new) t 0)
   left_fail_of c w t h =

@@ -2,10 +2,12 @@ pub mod EdgeLists
 pub mod Walks
 pub mod LeftLinks
 pub mod Queue
+pub mod EdgeTurns
 pub mod Growing
 pub mod Labels
 pub mod States
 pub mod Registrations
+pub mod KeyTexts
 pub mod Dropped
 pub mod Keys
 pub mod Empty

@@ -6,7 +6,7 @@ use Rattle.daachorse_core.specs.declared.outputs.Output.{Output}
 use Rattle.daachorse_core.proofs.OutputLists.{list_from-steps}
 use Rattle.daachorse_core.specs.Outputs.{value_of, length_of, parent_of, list_step, list_from, outputs_at, ParentsFall}
 
-slice_get_left : {X : Type 0} (xs ys : List X) (i : ℕ) → i < length xs → slice_get (xs ++ ys) i ≡ slice_get xs i
+pub slice_get_left : {X : Type 0} (xs ys : List X) (i : ℕ) → i < length xs → slice_get (xs ++ ys) i ≡ slice_get xs i
 slice_get_left [] ys i h = absurd (omega arith)
 slice_get_left (x ∷ xs) ys zero h = refl
 slice_get_left (x ∷ xs) ys (suc i) h = slice_get_left xs ys i (omega arith)

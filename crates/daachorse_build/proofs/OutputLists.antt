@@ -1,12 +1,11 @@
 -- The lists of outputs, state by state: a state's own outputs and then the list of its link, which has those of the longest proper suffix that is a state's text.
 use Rattle.std.proofs.Common.{◌≡◌, ◌≢◌, ℕ, ◌+◌, ◌<◌, ◌≤◌, ◌⊎◌, Bool, true, false, cond, List, [], ◌∷◌, ◌++◌, length, map, get_or, take, Option, Some, None, is_some, zero, suc, refl, sym, ap, ◌∙◌, subst, inl, inr, length-append, arith}
 use Rattle.std.proofs.lemmas.Option.{same_Some}
-use Rattle.std.proofs.lemmas.Bool.{cases_Bool}
+use Rattle.std.proofs.lemmas.Bool.{cases_Bool, cases_eq, cond-true, cond-false}
 use Rattle.std.proofs.lemmas.List.{append-nil, length-map, take_more}
 use Rattle.std.specs.declared.cmp.Ordering.{Ordering}
 use Rattle.std.specs.declared.cmp.Ordering.TheVariants.{Equal}
 use Rattle.std.specs.Cmp.{IsTotalOrder}
-use Rattle.std.specs.List.{flat_map}
 use Rattle.daachorse_core.specs.declared.outputs.Output.{Output}
 use Rattle.daachorse_core.specs.Outputs.{outputs_at, ParentsFall}
 use Rattle.daachorse_model.specs.declared.MatchKind.{MatchKind}
@@ -16,12 +15,12 @@ use Rattle.daachorse_model.specs.Paths.{walk, is_reached, Leads}
 use Rattle.daachorse_build.specs.declared.nfa_builder.NfaBuilderState.{NfaBuilderState}
 use Rattle.daachorse_build.specs.Left.{meets, long_unless_stop, left_link, IsStateOf, IsLeftFailOf}
 use Rattle.daachorse_build.specs.Tables.{child_of, edges_of, own_of, own_at, held_at, output_count, HoldTrie}
-use Rattle.daachorse_build.specs.Orders.{IsIn, IsKnown, IsLinkAmong, children, IsLeftLinked}
+use Rattle.daachorse_build.specs.Orders.{IsIn, IsKnown, IsLinkAmong, IsLeftLinked}
 use Rattle.daachorse_build.specs.Holds.{in_units, Holds}
 use Rattle.daachorse_build.specs.Lists.{suffix_outputs, left_outputs, AreListed, PositionsFit, IsParent}
 use Rattle.daachorse_build.proofs.Walks.{walk-same, walk-bounds}
-use Rattle.daachorse_build.proofs.LeftLinks.{left_state, left_met, left_rest, meets_never}
-use Rattle.daachorse_build.proofs.Queue.{in_cases, in_same, in_equal, in_at, in_flat_map, bounds_of_listed, all_in_order}
+use Rattle.daachorse_build.proofs.LeftLinks.{meets_never}
+use Rattle.daachorse_build.proofs.Queue.{in_push, in_same, in_equal, in_at, child_of_known, bounds_of_listed, all_in_order}
 use Rattle.daachorse_build.proofs.Cleared.{all_cleared, cleared}
 use Rattle.daachorse_build.proofs.States.{outputs_missing, outputs_found}
 use Rattle.daachorse_build.specs.Few.{items_of}
@@ -39,20 +38,20 @@ module _ {L V A : Type 0} (cmp : L → L → Ordering) (total : IsTotalOrder cmp
     link_outputs None = []
     link_outputs (Some w) = left_outputs cmp stops states w
 
-    link_step : (c : L) (cs : List L) → link_outputs (long_unless_stop (child_of cmp states) stops cs) ≡ left_outputs cmp stops states cs → (is_reached (child_of cmp states) (c ∷ cs) ≡ true) ⊎ (is_reached (child_of cmp states) (c ∷ cs) ≡ false) → link_outputs (long_unless_stop (child_of cmp states) stops (c ∷ cs)) ≡ left_outputs cmp stops states (c ∷ cs)
-    link_step c cs ih (inl h) = ap link_outputs (left_state (child_of cmp states) stops (c ∷ cs) h)
-    link_step c cs ih (inr h) =
-        let none = no_outputs states (c ∷ cs) (walk (child_of cmp states) 0 (c ∷ cs)) refl h in
-        let rest = λ (b : Bool). cond b [] (left_outputs cmp stops states cs) in
-        elim (cases_Bool (meets (child_of cmp states) stops 0 (c ∷ cs))) [
-          | inl yes' ↦ ap link_outputs (left_met (child_of cmp states) stops c cs h yes') ∙ sym (ap (λ os. os ++ rest (meets (child_of cmp states) stops 0 (c ∷ cs))) none ∙ ap rest yes')
-          | inr no' ↦ ap link_outputs (left_rest (child_of cmp states) stops c cs h no') ∙ ih ∙ sym (ap (λ os. os ++ rest (meets (child_of cmp states) stops 0 (c ∷ cs))) none ∙ ap rest no')
-        ]
+    link_by : (c : L) (cs : List L) → link_outputs (long_unless_stop (child_of cmp states) stops cs) ≡ left_outputs cmp stops states cs → link_outputs (left_link (child_of cmp states) stops c cs) ≡ cond (meets (child_of cmp states) stops 0 (c ∷ cs)) [] (left_outputs cmp stops states cs)
+    link_by c cs rest =
+        elim (meets (child_of cmp states) stops 0 (c ∷ cs)) as (λ b. link_outputs (cond b None (long_unless_stop (child_of cmp states) stops cs)) ≡ cond b [] (left_outputs cmp stops states cs))
+        [ true ↦ refl | false ↦ rest ]
 
     -- a text has the outputs of its longest suffix that is a state's text, if no state stops before that
     pub link_outputs-long : (w : List L) → link_outputs (long_unless_stop (child_of cmp states) stops w) ≡ left_outputs cmp stops states w
     link_outputs-long [] = refl
-    link_outputs-long (c ∷ cs) = link_step c cs (link_outputs-long cs) (cases_Bool (is_reached (child_of cmp states) (c ∷ cs)))
+    link_outputs-long (c ∷ cs) =
+        let rest = cond (meets (child_of cmp states) stops 0 (c ∷ cs)) [] (left_outputs cmp stops states cs) in
+        elim (cases_Bool (is_reached (child_of cmp states) (c ∷ cs))) [
+          | inl h ↦ ap link_outputs (cond-true _ _ _ h)
+          | inr h ↦ ap link_outputs (cond-false _ _ _ h) ∙ link_by c cs (link_outputs-long cs) ∙ sym (ap (λ os. os ++ rest) (no_outputs states (c ∷ cs) (walk (child_of cmp states) 0 (c ∷ cs)) refl h))
+        ]
 
   -- the list of the root
   pub listed_start : (stops : ℕ → Bool) (states : List (NfaBuilderState L V A)) (outputs : List (Output V)) (positions : List ℕ) → HoldTrie cmp states → outputs_at outputs (get_or positions 0 0) ≡ own_at (own_of states) 0 ++ [] → AreListed cmp stops states [] outputs positions
@@ -65,10 +64,8 @@ module _ {L V A : Type 0} (cmp : L → L → Ordering) (total : IsTotalOrder cmp
     -- the states of the order
     pub order-bounds : (t : ℕ) → IsIn order t → (1 < t) × (t < length (edges_of states))
     order-bounds t h =
-        elim (in_cases (children (edges_of states) 0) (flat_map (children (edges_of states)) order) t (in_same _ _ t links.first h)) [
-          | inl a ↦ bounds_of_listed cmp total (edges_of states) table 0 t a
-          | inr b ↦ let p = in_flat_map (children (edges_of states)) order t b in bounds_of_listed cmp total (edges_of states) table p.0 t p.2
-        ]
+        let p = child_of_known cmp total (edges_of states) table order t (in_same _ _ t links.first h) in
+        bounds_of_listed cmp total (edges_of states) table p.0 t p.2
 
     -- each state but the dead one is known, so only it can have outputs that are left
     pub none_left : own_at (own_of states) 1 ≡ [] → output_count (cleared (own_of states) (0 ∷ order)) ≡ 0
@@ -81,12 +78,12 @@ module _ {L V A : Type 0} (cmp : L → L → Ordering) (total : IsTotalOrder cmp
 
     -- each state that a text leads to is known
     pub known_of_leads : (w : List L) (t : ℕ) → Leads (child_of cmp states) w t → IsKnown order t
-    known_of_leads w t h = known_below t (walk-bounds (child_of cmp states) (length (edges_of states)) table.trie w t h)
-      where
-        known_below : (t : ℕ) → (t < length (edges_of states)) × (t ≢ 1) → IsKnown order t
-        known_below zero b = inl refl
-        known_below (suc zero) b = absurd (b.1 refl)
-        known_below (suc (suc t)) b = inr (all_in_order cmp total (edges_of states) table order links.first (suc (suc t)) (omega arith) b.0)
+    known_of_leads w t h =
+        let b = walk-bounds (child_of cmp states) (length (edges_of states)) table.trie w t h in
+        elim (cases_eq t 0) [
+          | inl e ↦ inl e
+          | inr ne ↦ inr (all_in_order cmp total (edges_of states) table order links.first t (omega (arith, ne, b.1)) b.0)
+        ]
 
     -- the list of the link of c ∷ cs
     list_of_link : (outputs : List (Output V)) (positions : List ℕ) (done : List ℕ) (f p : ℕ) → AreListed cmp stops states done outputs positions → IsLinkAmong done f → IsParent positions f p → (o : Option (List L)) → IsStateOf (child_of cmp states) o f → outputs_at outputs p ≡ link_outputs stops states o
@@ -103,19 +100,12 @@ module _ {L V A : Type 0} (cmp : L → L → Ordering) (total : IsTotalOrder cmp
               ]
         ]
 
-    link_is : (c : L) (cs : List L) → link_outputs stops states (left_link (child_of cmp states) stops c cs) ≡ cond (meets (child_of cmp states) stops 0 (c ∷ cs)) [] (left_outputs cmp stops states cs)
-    link_is c cs = at (meets (child_of cmp states) stops 0 (c ∷ cs))
-      where
-        at : (b : Bool) → link_outputs stops states (cond b None (long_unless_stop (child_of cmp states) stops cs)) ≡ cond b [] (left_outputs cmp stops states cs)
-        at true = refl
-        at false = link_outputs-long stops states cs
-
     -- the list of a text of t, where that of its link is known
     list_at : (outputs outputs' : List (Output V)) (positions : List ℕ) (position : ℕ) (done : List ℕ) (t f p : ℕ) → 1 < t → AreListed cmp stops states done outputs positions → IsLinkAmong done f → IsParent positions f p → IsLeftFailOf (child_of cmp states) stops t f → outputs_at outputs' position ≡ own_at (own_of states) t ++ outputs_at outputs p → (w : List L) → Leads (child_of cmp states) w t → outputs_at outputs' position ≡ left_outputs cmp stops states w
     list_at outputs outputs' positions position done t f p low listed among parent link list [] at =
         let e : 0 ≡ t = same_Some 0 t at in absurd (omega (arith, e, low))
     list_at outputs outputs' positions position done t f p low listed among parent link list (c ∷ cs) at =
-        let rest = list_of_link outputs positions done f p listed among parent (left_link (child_of cmp states) stops c cs) (link c cs at) ∙ link_is c cs in
+        let rest = list_of_link outputs positions done f p listed among parent (left_link (child_of cmp states) stops c cs) (link c cs at) ∙ link_by stops states c cs (link_outputs-long stops states cs) in
         list
         ∙ ap (λ os. own_at (own_of states) t ++ os) rest
         ∙ ap (λ os. os ++ cond (meets (child_of cmp states) stops 0 (c ∷ cs)) [] (left_outputs cmp stops states cs)) (sym (outputs_found cmp total exact states (c ∷ cs) t at))
@@ -137,8 +127,7 @@ module _ {L V A : Type 0} (cmp : L → L → Ordering) (total : IsTotalOrder cmp
       pub known_cases : (u : ℕ) → IsKnown (take (i + 1) order) u → IsKnown (take i order) u ⊎ (t ≡ u)
       known_cases u (inl e) = inl (inl e)
       known_cases u (inr h) =
-          elim (in_cases (take i order) (t ∷ []) u (in_same _ _ u (take_more order i 0 l ∙ ap (λ v. take i order ++ v ∷ []) is) h))
-          [ inl a ↦ inl (inr a) | inr b ↦ elim b [ inl e ↦ inr e | inr none ↦ absurd none ] ]
+          elim (in_push (take i order) t u (in_same _ _ u (take_more order i 0 l ∙ ap (λ v. take i order ++ v ∷ []) is) h)) [ inl a ↦ inl (inr a) | inr e ↦ inr e ]
 
       -- the state is not yet done
       pub known_apart : (u : ℕ) → IsKnown (take i order) u → u ≢ t

@@ -1,6 +1,6 @@
 -- From position to position along the outputs: a walk stays where outputs are added, and an output in front of it makes it one longer.
 use Rattle.std.proofs.Common.{◌≡◌, ◌≢◌, ℕ, zero, suc, ◌+◌, ◌<◌, Bool, List, [], ◌∷◌, ◌++◌, length, get_or, take, Some, refl, sym, ap, ◌∙◌, subst, inl, inr, arith}
-use Rattle.std.proofs.lemmas.Option.{none-some}
+use Rattle.std.proofs.lemmas.Option.{slice_get_within}
 use Rattle.std.specs.List.{slice_get}
 use Rattle.daachorse_core.specs.declared.outputs.Output.{Output}
 use Rattle.daachorse_core.specs.Outputs.{value_of, length_of, parent_of}
@@ -14,12 +14,10 @@ use Rattle.daachorse_build.specs.Orders.{IsKnown, IsLinkAmong, IsLeftLinked}
 use Rattle.daachorse_build.specs.Lists.{IsParent, IsRest, IsChainedAt, AreChained}
 use Rattle.daachorse_build.proofs.Queue.{in_at, link_among, known_but_root}
 use Rattle.daachorse_build.proofs.OutputLists.{order-bounds, fail_known, known_apart, known_cases}
-use Rattle.daachorse_build.proofs.OutputChains.{slice_get_last}
+use Rattle.daachorse_build.proofs.OutputChains.{slice_get_last, slice_get_left}
 
 found_left : {X : Type 0} (xs ys : List X) (i : ℕ) (x : X) → slice_get xs i ≡ Some x → slice_get (xs ++ ys) i ≡ Some x
-found_left [] ys i x h = absurd (none-some x h)
-found_left (y ∷ xs) ys zero x h = h
-found_left (y ∷ xs) ys (suc i) x h = found_left xs ys i x h
+found_left xs ys i x h = slice_get_left xs ys i (slice_get_within xs i x h) ∙ h
 
 module _ {V : Type 0} where
   -- outputs that come later change nothing

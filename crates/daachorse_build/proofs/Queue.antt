@@ -2,18 +2,18 @@
 use Rattle.std.proofs.Common.{◌≡◌, ◌≢◌, ℕ, zero, suc, ◌+◌, ◌<◌, ◌≤◌, ◌⊎◌, Bool, true, false, cond, eqb, List, [], ◌∷◌, ◌++◌, length, get_or, take, set, replicate, Some, refl, sym, ap, ◌∙◌, subst, inl, inr, arith, append_assoc, get_or-set_same, get_or-set_other}
 use Rattle.std.proofs.lemmas.Option.{none-some, same_Some}
 use Rattle.std.proofs.lemmas.List.{append-nil, take-append-le, get_or_append_left, get_or_push, length_push, length-set, length-replicate, get_or-replicate, take_more, take_all, length-take-le, get_or-take, take_at, flat_map_more, get_or_default}
-use Rattle.std.proofs.lemmas.Map.Entries.{place_from_lookup, lookup_from_place}
+use Rattle.std.proofs.lemmas.Map.Entries.{length-keys_of, length-values_of, place_from_lookup, lookup_from_place}
 use Rattle.std.proofs.lemmas.Map.Keys.{IsDistinct-from_sorted, IsDistinct-from_apart, Less-from_sorted}
 use Rattle.std.proofs.lemmas.Map.Steps.{length-le_from_distinct_below}
 use Rattle.std.specs.Cmp.{eq_by_cmp_equiv, IsTotalOrder}
 use Rattle.std.specs.declared.cmp.Ordering.{Ordering}
 use Rattle.std.specs.declared.cmp.Ordering.TheVariants.{Less}
 use Rattle.std.specs.List.{list_any, IsDistinct, flat_map, slice_get}
-use Rattle.std.proofs.lemmas.Bool.{cases_lt, cases_eq, cond-true, cond-false, eqb-true, or_cases, false_from_ne_true, false≢true}
-use Rattle.std.proofs.lemmas.Bool.Decides.{eqb_tells}
+use Rattle.std.proofs.lemmas.Bool.{cases_lt, cases_eq, cond-true, cond-false, eq-eqb, eqb-true, ne_eqb, or_cases, false_from_ne_true, false≢true}
 use Rattle.std.specs.Ordering.{is_eq}
 use Rattle.std.specs.BTreeMap.{is_at}
 use Rattle.std.specs.Map.{keys_of, values_of}
+use Rattle.daachorse_build.specs.Traversals.{ComesFrom}
 use Rattle.daachorse_build.specs.Left.{IsLeftFailOf}
 use Rattle.daachorse_build.specs.Tables.{child_in, IsTable}
 use Rattle.daachorse_build.proofs.LeftLinks.{fail_of_left, left_of_fail, alive}
@@ -33,6 +33,10 @@ pub in_cases : (xs ys : List ℕ) (t : ℕ) → IsIn (xs ++ ys) t → IsIn xs t 
 in_cases [] ys t h = inr h
 in_cases (x ∷ xs) ys t (inl h) = inl (inl h)
 in_cases (x ∷ xs) ys t (inr h) = elim (in_cases xs ys t h) [ inl a ↦ inl (inr a) | inr b ↦ inr b ]
+
+-- one element more
+pub in_push : (xs : List ℕ) (t u : ℕ) → IsIn (xs ++ t ∷ []) u → IsIn xs u ⊎ (t ≡ u)
+in_push xs t u h = elim (in_cases xs (t ∷ []) u h) [ inl old ↦ inl old | inr new ↦ elim new [ inl e ↦ inr e | inr none ↦ absurd none ] ]
 
 pub in_same : (xs ys : List ℕ) (t : ℕ) → xs ≡ ys → IsIn xs t → IsIn ys t
 in_same xs ys t e h = let P : List ℕ → Type 0 = λ zs. IsIn zs t in subst P e h
@@ -70,13 +74,10 @@ in_take_more (suc m) (suc n) [] t l h = absurd h
 in_take_more (suc m) (suc n) (x ∷ xs) t l (inl h) = inl h
 in_take_more (suc m) (suc n) (x ∷ xs) t l (inr h) = inr (in_take_more m n xs t (omega arith) h)
 
-known_more : (m n : ℕ) (xs : List ℕ) (t : ℕ) → m ≤ n → IsKnown (take m xs) t → IsKnown (take n xs) t
-known_more m n xs t l (inl h) = inl h
-known_more m n xs t l (inr h) = inr (in_take_more m n xs t l h)
-
 among_more : (m n : ℕ) (xs : List ℕ) (t : ℕ) → m ≤ n → IsLinkAmong (take m xs) t → IsLinkAmong (take n xs) t
-among_more m n xs t l (inl h) = inl h
-among_more m n xs t l (inr h) = inr (known_more m n xs t l h)
+among_more m n xs t l (inl dead) = inl dead
+among_more m n xs t l (inr (inl root)) = inr (inl root)
+among_more m n xs t l (inr (inr h)) = inr (inr (in_take_more m n xs t l h))
 
 -- the link of a state among the first n is among them
 pub link_among : (fails order : List ℕ) (n t : ℕ) → n ≤ length order → LeftLinksComeFirst fails order → IsIn (take n order) t → IsLinkAmong (take n order) (get_or fails t 0)
@@ -95,10 +96,10 @@ first_place [] t = 0
 first_place (x ∷ xs) t = cond (eqb x t) 0 (first_place xs t + 1)
 
 first_place_here : (x : ℕ) (xs : List ℕ) (t : ℕ) → x ≡ t → first_place (x ∷ xs) t ≡ 0
-first_place_here x xs t e = elim (eqb_tells x t) [ inl same ↦ cond-true _ _ _ same.0 | inr apart ↦ absurd (apart.1 e) ]
+first_place_here x xs t e = cond-true _ _ _ (eq-eqb x t e)
 
 first_place_after : (x : ℕ) (xs : List ℕ) (t : ℕ) → x ≢ t → first_place (x ∷ xs) t ≡ first_place xs t + 1
-first_place_after x xs t ne = cond-false _ _ _ (false_from_ne_true (eqb x t) (λ e. ne (eqb-true x t e)))
+first_place_after x xs t ne = cond-false _ _ _ (ne_eqb x t ne)
 
 -- what stands there
 at_first_place : (xs : List ℕ) (t : ℕ) → IsIn xs t → (first_place xs t < length xs) × (get_or xs (first_place xs t) 0 ≡ t)
@@ -160,9 +161,6 @@ flat_map_in f (x ∷ xs) s t (inl h) k =
 flat_map_in f (x ∷ xs) s t (inr h) k = in_right (f x) (flat_map f xs) t (flat_map_in f xs s t h k)
 
 -- ---- an element more at the end
-get_or_last : (xs : List ℕ) (t i : ℕ) → length xs ≡ i → get_or (xs ++ t ∷ []) i 0 ≡ t
-get_or_last xs t i e = get_or_push xs t 0 i e
-
 pub once_push : (xs : List ℕ) (t : ℕ) → StandOnce xs → (IsIn xs t → ⊥) → StandOnce (xs ++ t ∷ [])
 once_push xs t once fresh = λ i l h.
     elim (cases_lt i (length xs)) [
@@ -170,7 +168,7 @@ once_push xs t once fresh = λ i l h.
       | inr above ↦
           let len = length_push xs t in
           let e : length xs ≡ i = omega arith in
-          fresh (in_same _ _ _ (take_at xs (t ∷ []) i e) (in_equal _ _ _ (get_or_last xs t i e) h))
+          fresh (in_same _ _ _ (take_at xs (t ∷ []) i e) (in_equal _ _ _ (get_or_push xs t 0 i e) h))
     ]
 
 -- ---- edges and children
@@ -179,10 +177,6 @@ entry_at : {L : Type 0} (es : List (L × ℕ)) (i : ℕ) → i < length (values_
 entry_at [] i h = absurd (omega arith)
 entry_at (e ∷ es) zero h = (e.0, refl, λ d. refl)
 entry_at (e ∷ es) (suc i) h = entry_at es i (omega arith)
-
-length_keys : {L : Type 0} (es : List (L × ℕ)) → length (keys_of es) ≡ length (values_of es)
-length_keys [] = refl
-length_keys (e ∷ es) = ap suc (length_keys es)
 
 pub value_at : {L : Type 0} (es : List (L × ℕ)) (i : ℕ) (c : L) (t : ℕ) → slice_get es i ≡ Some (c, t) → (i < length (values_of es)) × (get_or (values_of es) i 0 ≡ t)
 value_at [] i c t h = absurd (none-some _ h)
@@ -210,16 +204,6 @@ pub length-once : (xs : List ℕ) (n : ℕ) → StandOnce xs → ((t : ℕ) → 
 length-once xs n once below =
     length-le_from_distinct_below xs n (distinct_once xs once) (λ q h. below q (any_in xs q h))
 
-value_in : {L : Type 0} (es : List (L × ℕ)) (i : ℕ) (k : L) (t : ℕ) → slice_get es i ≡ Some (k, t) → IsIn (values_of es) t
-value_in [] i k t h = absurd (none-some _ h)
-value_in (e ∷ es) zero k t h = inl (ap (λ p. p.1) (same_Some e (k, t) h))
-value_in (e ∷ es) (suc i) k t h = inr (value_in es i k t h)
-
-value_place : {L : Type 0} (es : List (L × ℕ)) (t : ℕ) → IsIn (values_of es) t → (i : ℕ) × (c : L) × (slice_get es i ≡ Some (c, t))
-value_place [] t h = absurd h
-value_place (e ∷ es) t (inl h) = (0, e.0, ap (λ v. Some (e.0, v)) h)
-value_place (e ∷ es) t (inr h) = let p = value_place es t h in (suc p.0, p.1, p.2)
-
 module _ {L : Type 0} (cmp : L → L → Ordering) (total : IsTotalOrder cmp) (edges : List (List (L × ℕ))) (table : IsTable cmp edges) where
   -- what stands in the list of edges
   pub child_at_place : (s i : ℕ) (c : L) (t : ℕ) → slice_get (get_or edges s []) i ≡ Some (c, t) → child_in cmp edges s c ≡ Some t
@@ -229,12 +213,14 @@ module _ {L : Type 0} (cmp : L → L → Ordering) (total : IsTotalOrder cmp) (e
   pub listed_of_child : (s : ℕ) (c : L) (t : ℕ) → child_in cmp edges s c ≡ Some t → IsIn (children edges s) t
   listed_of_child s c t h =
       let p = place_from_lookup (is_at (cmp c)) (get_or edges s []) t h in
-      value_in (get_or edges s []) p.0 p.1 t p.2
+      let v = value_at (get_or edges s []) p.0 p.1 t p.2 in
+      in_equal _ _ _ v.1 (in_at (children edges s) p.0 v.0)
 
   pub child_of_listed : (s t : ℕ) → IsIn (children edges s) t → (c : L) × (child_in cmp edges s c ≡ Some t)
   child_of_listed s t h =
-      let p = value_place (get_or edges s []) t h in
-      (p.1, child_at_place s p.0 p.1 t p.2)
+      let p = place_of (children edges s) t h in
+      let x = entry_at (get_or edges s []) p.0 p.1 in
+      (x.0, child_at_place s p.0 x.0 t (x.1 ∙ ap (λ v. Some (x.0, v)) p.2))
 
   -- no state is twice a child of one state
   pub children_once : (s : ℕ) → StandOnce (children edges s)
@@ -249,7 +235,7 @@ module _ {L : Type 0} (cmp : L → L → Ordering) (total : IsTotalOrder cmp) (e
       let there = child_at_place s p.0 _ _ y.1 in
       let same : get_or (values_of es) p.0 0 ≡ get_or (values_of es) i 0 = sym (get_or-take i (values_of es) p.0 0 short) ∙ p.2 in
       let one = table.trie.one_parent s _ s _ _ (there ∙ ap Some same) here in
-      let rises : cmp (get_or (keys_of es) p.0 y.0) (get_or (keys_of es) i y.0) ≡ Less = Less-from_sorted cmp (keys_of es) p.0 i y.0 (table.ordered s) short (omega (arith, l, length_keys es)) in
+      let rises : cmp (get_or (keys_of es) p.0 y.0) (get_or (keys_of es) i y.0) ≡ Less = Less-from_sorted cmp (keys_of es) p.0 i y.0 (table.ordered s) short (omega (arith, l, length-keys_of es, length-values_of es)) in
       let equal = (eq_by_cmp_equiv total).refl y.0 in
       let less : cmp y.0 y.0 ≡ Less = ap (λ k. cmp k y.0) (sym (y.2 y.0)) ∙ ap (cmp (get_or (keys_of es) p.0 y.0)) (one.1 ∙ sym (x.2 y.0)) ∙ rises in
       absurd (false≢true (sym (ap is_eq less) ∙ equal))
@@ -260,27 +246,26 @@ module _ {L : Type 0} (cmp : L → L → Ordering) (total : IsTotalOrder cmp) (e
       let b = table.trie.bounds s c.0 t c.1 in
       (b.2, b.3)
 
-  complete_step : (order : List ℕ) → IsBreadthFirst edges order → (s t : ℕ) → IsKnown order s → IsIn (children edges s) t → IsIn order t
-  complete_step order first s t (inl e) h =
-      let P : ℕ → Type 0 = λ u. IsIn (children edges u) t in
-      in_same _ _ t (sym first) (in_left (children edges 0) (flat_map (children edges) order) t (subst P e h))
-  complete_step order first s t (inr known) h =
-      in_same _ _ t (sym first) (in_right (children edges 0) (flat_map (children edges) order) t (flat_map_in (children edges) order s t known h))
+  -- a child of a known state is reached
+  in_reached : (done : List ℕ) (s t : ℕ) → IsKnown done s → IsIn (children edges s) t → IsIn (children edges 0 ++ flat_map (children edges) done) t
+  in_reached done s t (inl e) h = let P : ℕ → Type 0 = λ u. IsIn (children edges u) t in in_left (children edges 0) _ t (subst P e h)
+  in_reached done s t (inr known) h = in_right (children edges 0) _ t (flat_map_in (children edges) done s t known h)
+
+  -- what is reached is a child of a known state
+  pub child_of_known : (done : List ℕ) (t : ℕ) → IsIn (children edges 0 ++ flat_map (children edges) done) t → (s : ℕ) × IsKnown done s × IsIn (children edges s) t
+  child_of_known done t h =
+      elim (in_cases (children edges 0) _ t h) [ inl a ↦ (0, inl refl, a) | inr b ↦ let p = in_flat_map (children edges) done t b in (p.0, inr p.1, p.2) ]
 
   complete_by : (order : List ℕ) → IsBreadthFirst edges order → (k t : ℕ) → t ≤ k → 1 < t → t < length edges → IsIn order t
   complete_by order first zero t e low high = absurd (omega (arith, e, low))
   complete_by order first (suc k) t e low high =
       let r = table.trie.reached t low high in
       let b = table.trie.bounds r.0 r.1 t r.2 in
-      let child' = listed_of_child r.0 r.1 t r.2 in
-      elim (cases_eq r.0 0) [
-        | inl root ↦ complete_step order first r.0 t (inl root) child'
-        | inr ne ↦
-            let less : r.0 ≤ k = omega (arith, b.0, e) in
-            let above : 1 < r.0 = omega (arith, ne, b.1) in
-            let below : r.0 < length edges = omega (arith, b.0, high) in
-            complete_step order first r.0 t (inr (complete_by order first k r.0 less above below)) child'
-      ]
+      let known : IsKnown order r.0 = elim (cases_eq r.0 0) [
+        | inl root ↦ inl root
+        | inr ne ↦ inr (complete_by order first k r.0 (omega (arith, b.0, e)) (omega (arith, ne, b.1)) (omega (arith, b.0, high)))
+      ] in
+      in_same _ _ t (sym first) (in_reached order r.0 t known (listed_of_child r.0 r.1 t r.2))
 
   -- each state stands in the order
   pub all_in_order : (order : List ℕ) → IsBreadthFirst edges order → (t : ℕ) → 1 < t → t < length edges → IsIn order t
@@ -312,50 +297,32 @@ module _ {L : Type 0} (cmp : L → L → Ordering) (total : IsTotalOrder cmp) (e
         let low : 1 < s = omega (arith, traversal.states (get_or order next 0) (in_at order next l), is) in
         elim (in_cases (children edges 0 ++ flat_map (children edges) (take next order)) (take k (children edges s)) t (in_same _ _ t traversal.queue h)) [
           | inl before ↦
-              elim (in_cases (children edges 0) (flat_map (children edges) (take next order)) t before) [
-                | inl first ↦
-                    let r = child_of_listed 0 t first in
-                    let one = table.trie.one_parent 0 r.0 s c t r.1 here in
-                    omega (arith, one.0, low)
-                | inr later ↦
-                    let p = in_flat_map (children edges) (take next order) t later in
-                    let r = child_of_listed p.0 t p.2 in
-                    let one = table.trie.one_parent p.0 r.0 s c t r.1 here in
-                    traversal.once next l (in_equal _ _ _ (one.0 ∙ sym is) p.1)
-              ]
+              let p = child_of_known (take next order) t before in
+              let r = child_of_listed p.0 t p.2 in
+              let one = table.trie.one_parent p.0 r.0 s c t r.1 here in
+              elim p.1 [ inl root ↦ omega (arith, one.0, root, low) | inr known ↦ traversal.once next l (in_equal _ _ _ (one.0 ∙ sym is) known) ]
           | inr pending ↦
               let v = value_at (get_or edges s []) k c t at in
               children_once s k v.0 (in_equal _ _ _ (sym v.1) pending)
         ]
 
-    -- where the link of a child comes from
-    abbrev pub ComesFrom : List ℕ → L → ℕ → Type 0
-    ComesFrom done c r = (r ≡ 1) ⊎ ((r ≡ 0) ⊎ ((f : ℕ) × IsKnown done f × (child_in cmp edges f c ≡ Some r)))
-
-    among_reached : (order pending : List ℕ) (next : ℕ) (c : L) (r : ℕ) → order ≡ (children edges 0 ++ flat_map (children edges) (take next order)) ++ pending → ComesFrom (take next order) c r → IsLinkAmong order r
+    among_reached : (order pending : List ℕ) (next : ℕ) (c : L) (r : ℕ) → order ≡ (children edges 0 ++ flat_map (children edges) (take next order)) ++ pending → ComesFrom cmp edges (take next order) c r → IsLinkAmong order r
     among_reached order pending next c r queue (inl e) = inl e
     among_reached order pending next c r queue (inr (inl e)) = inr (inl e)
-    among_reached order pending next c r queue (inr (inr (f, inl e, h))) =
-        let P : ℕ → Type 0 = λ s. IsIn (children edges s) r in
-        inr (inr (in_same _ _ r (sym queue) (in_left _ pending r (in_left (children edges 0) _ r (subst P e (listed_of_child f c r h))))))
-    among_reached order pending next c r queue (inr (inr (f, inr known, h))) =
-        inr (inr (in_same _ _ r (sym queue) (in_left _ pending r (in_right (children edges 0) _ r (flat_map_in (children edges) (take next order) f r known (listed_of_child f c r h))))))
+    among_reached order pending next c r queue (inr (inr (f, known, h))) =
+        inr (inr (in_same _ _ r (sym queue) (in_left _ pending r (in_reached (take next order) f r known (listed_of_child f c r h)))))
 
     linked_push : (fails order : List ℕ) (t r : ℕ) → t < length fails → AllLeftLinked cmp stops edges fails order → (IsIn order t → ⊥) → IsLeftFailOf (child_in cmp edges) stops t r → AllLeftLinked cmp stops edges (set fails t r) (order ++ t ∷ [])
     linked_push fails order t r l linked fresh link = λ u h.
         let P : ℕ → Type 0 = λ f. IsLeftFailOf (child_in cmp edges) stops u f in
-        elim (in_cases order (t ∷ []) u h) [
+        elim (in_push order t u h) [
           | inl old ↦
               let ne : u ≢ t = λ e. fresh (in_equal order u t e old) in
               subst P (sym (get_or-set_other fails t u r 0 ne)) (linked u old)
-          | inr new ↦
-              elim new [
-                | inl e ↦
-                    let Q : ℕ → Type 0 = λ v. IsLeftFailOf (child_in cmp edges) stops v (get_or (set fails t r) v 0) in
-                    let R : ℕ → Type 0 = λ f. IsLeftFailOf (child_in cmp edges) stops t f in
-                    subst Q e (subst R (sym (get_or-set_same fails t r 0 l)) link)
-                | inr none ↦ absurd none
-              ]
+          | inr e ↦
+              let Q : ℕ → Type 0 = λ v. IsLeftFailOf (child_in cmp edges) stops v (get_or (set fails t r) v 0) in
+              let R : ℕ → Type 0 = λ f. IsLeftFailOf (child_in cmp edges) stops t f in
+              subst Q e (subst R (sym (get_or-set_same fails t r 0 l)) link)
         ]
 
     earlier_push : (fails order : List ℕ) (t r : ℕ) → t < length fails → LeftLinksComeFirst fails order → (IsIn order t → ⊥) → IsLinkAmong order r → LeftLinksComeFirst (set fails t r) (order ++ t ∷ [])
@@ -370,17 +337,14 @@ module _ {L : Type 0} (cmp : L → L → Ordering) (total : IsTotalOrder cmp) (e
           | inr above ↦
               let len = length_push order t in
               let e : length order ≡ i = omega arith in
-              let fail : get_or (set fails t r) (get_or (order ++ t ∷ []) i 0) 0 ≡ r = ap (λ u. get_or (set fails t r) u 0) (get_or_last order t i e) ∙ get_or-set_same fails t r 0 l in
+              let fail : get_or (set fails t r) (get_or (order ++ t ∷ []) i 0) 0 ≡ r = ap (λ u. get_or (set fails t r) u 0) (get_or_push order t 0 i e) ∙ get_or-set_same fails t r 0 l in
               let front : take i (order ++ t ∷ []) ≡ order = take_at order (t ∷ []) i e in
               rw (front, fail) known
         ]
 
     states_push : (order : List ℕ) (t : ℕ) → ((u : ℕ) → IsIn order u → (1 < u) × (u < length edges)) → (1 < t) × (t < length edges) → (u : ℕ) → IsIn (order ++ t ∷ []) u → (1 < u) × (u < length edges)
     states_push order t old b u h =
-        elim (in_cases order (t ∷ []) u h) [
-          | inl in' ↦ old u in'
-          | inr new ↦ elim new [ inl e ↦ (omega (arith, e, b.0), omega (arith, e, b.1)) | inr none ↦ absurd none ]
-        ]
+        elim (in_push order t u h) [ inl in' ↦ old u in' | inr e ↦ (omega (arith, e, b.0), omega (arith, e, b.1)) ]
 
     -- the root's link stays where that of another state is set
     root_push : (fails : List ℕ) (t r : ℕ) → 1 < t → get_or fails 0 0 ≡ 0 → get_or (set fails t r) 0 0 ≡ 0
@@ -388,30 +352,35 @@ module _ {L : Type 0} (cmp : L → L → Ordering) (total : IsTotalOrder cmp) (e
         let ne : 0 ≢ t = omega (arith, low) in
         get_or-set_other fails t 0 r 0 ne ∙ root
 
-    -- one child more
-    pub traversal_push : (fails order : List ℕ) (next k : ℕ) (c : L) (t s r : ℕ) → IsTraversal cmp stops edges (children edges 0) fails order next (take k (children edges s)) → next < length order → get_or order next 0 ≡ s → slice_get (get_or edges s []) k ≡ Some (c, t) → IsLeftFailOf (child_in cmp edges) stops t r → ComesFrom (take next order) c r → IsTraversal cmp stops edges (children edges 0) (set fails t r) (order ++ t ∷ []) next (take (k + 1) (children edges s))
-    traversal_push fails order next k c t s r traversal l is at link from =
-        let here = child_at_place s k c t at in
-        let b = table.trie.bounds s c t here in
-        let v = value_at (get_or edges s []) k c t at in
-        let low : 1 < s = omega (arith, traversal.states (get_or order next 0) (in_at order next l), is) in
-        let fresh : IsIn order t → ⊥ = child_is_new fails order next k c t s traversal l is at in
-        let in' : t < length fails = omega (arith, b.3, traversal.one_each) in
-        let front : take next (order ++ t ∷ []) ≡ take next order = take-append-le next order (t ∷ []) (omega arith) in
+    -- one state more in the queue, with its link
+    longer : (start start' fails order pending pending' : List ℕ) (next t r : ℕ) → IsTraversal cmp stops edges start fails order next pending → (1 < t) × (t < length edges) → (IsIn order t → ⊥) → IsLeftFailOf (child_in cmp edges) stops t r → IsLinkAmong order r → order ++ t ∷ [] ≡ (start' ++ flat_map (children edges) (take next order)) ++ pending' → IsTraversal cmp stops edges start' (set fails t r) (order ++ t ∷ []) next pending'
+    longer start start' fails order pending pending' next t r traversal b fresh link among queue =
+        let in' : t < length fails = omega (arith, b.1, traversal.one_each) in
         record {
-          queue =
-              ap (λ xs. xs ++ t ∷ []) traversal.queue
-              ∙ append_assoc (children edges 0 ++ flat_map (children edges) (take next order)) (take k (children edges s)) (t ∷ [])
-              ∙ ap (λ xs. (children edges 0 ++ flat_map (children edges) (take next order)) ++ xs) (ap (λ u. take k (children edges s) ++ u ∷ []) (sym v.1) ∙ sym (take_more (children edges s) k 0 v.0))
-              ∙ ap (λ xs. (children edges 0 ++ flat_map (children edges) xs) ++ take (k + 1) (children edges s)) (sym front);
-          within = omega (arith, length_push order t);
-          states = states_push order t traversal.states (b.2, b.3);
+          queue = queue ∙ ap (λ xs. (start' ++ flat_map (children edges) xs) ++ pending') (sym (take-append-le next order (t ∷ []) traversal.within));
+          within = omega (arith, traversal.within, length_push order t);
+          states = states_push order t traversal.states b;
           one_each = length-set fails t r ∙ traversal.one_each;
-          root = root_push fails t r b.2 traversal.root;
+          root = root_push fails t r b.0 traversal.root;
           linked = linked_push fails order t r in' traversal.linked fresh link;
-          earlier = earlier_push fails order t r in' traversal.earlier fresh (among_reached order _ next c r traversal.queue from);
+          earlier = earlier_push fails order t r in' traversal.earlier fresh among;
           once = once_push order t traversal.once fresh;
         }
+
+    -- one child more of those that are pending
+    pending_more : (s k : ℕ) (c : L) (t : ℕ) → slice_get (get_or edges s []) k ≡ Some (c, t) → take k (children edges s) ++ t ∷ [] ≡ take (k + 1) (children edges s)
+    pending_more s k c t at =
+        let v = value_at (get_or edges s []) k c t at in
+        ap (λ u. take k (children edges s) ++ u ∷ []) (sym v.1) ∙ sym (take_more (children edges s) k 0 v.0)
+
+    -- one child more
+    pub traversal_push : (fails order : List ℕ) (next k : ℕ) (c : L) (t s r : ℕ) → IsTraversal cmp stops edges (children edges 0) fails order next (take k (children edges s)) → next < length order → get_or order next 0 ≡ s → slice_get (get_or edges s []) k ≡ Some (c, t) → IsLeftFailOf (child_in cmp edges) stops t r → ComesFrom cmp edges (take next order) c r → IsTraversal cmp stops edges (children edges 0) (set fails t r) (order ++ t ∷ []) next (take (k + 1) (children edges s))
+    traversal_push fails order next k c t s r traversal l is at link from =
+        let b = table.trie.bounds s c t (child_at_place s k c t at) in
+        let before = children edges 0 ++ flat_map (children edges) (take next order) in
+        longer (children edges 0) _ fails order (take k (children edges s)) _ next t r traversal (b.2, b.3) (child_is_new fails order next k c t s traversal l is at) link
+        (among_reached order _ next c r traversal.queue from)
+        (ap (λ xs. xs ++ t ∷ []) traversal.queue ∙ append_assoc before (take k (children edges s)) (t ∷ []) ∙ ap (λ xs. before ++ xs) (pending_more s k c t at))
 
     -- on to the state after the one that is left
     pub traversal_next : (fails order : List ℕ) (next s : ℕ) → IsTraversal cmp stops edges (children edges 0) fails order next (children edges s) → next < length order → get_or order next 0 ≡ s → IsTraversal cmp stops edges (children edges 0) fails order (next + 1) []
@@ -450,23 +419,12 @@ module _ {L : Type 0} (cmp : L → L → Ordering) (total : IsTotalOrder cmp) (e
     -- a child of the root more
     pub traversal_first : (fails order : List ℕ) (k : ℕ) (c : L) (t r : ℕ) → IsTraversal cmp stops edges (take k (children edges 0)) fails order 0 [] → slice_get (get_or edges 0 []) k ≡ Some (c, t) → IsLeftFailOf (child_in cmp edges) stops t r → IsLinkAmong order r → IsTraversal cmp stops edges (take (k + 1) (children edges 0)) (set fails t r) (order ++ t ∷ []) 0 []
     traversal_first fails order k c t r traversal at link among =
-        let here = child_at_place 0 k c t at in
-        let b = table.trie.bounds 0 c t here in
+        let b = table.trie.bounds 0 c t (child_at_place 0 k c t at) in
         let v = value_at (get_or edges 0 []) k c t at in
         let queue : order ≡ take k (children edges 0) = traversal.queue ∙ append-nil _ ∙ append-nil _ in
         let fresh : IsIn order t → ⊥ = λ h. children_once 0 k v.0 (in_equal _ _ _ (sym v.1) (in_same _ _ t queue h)) in
-        let in' : t < length fails = omega (arith, b.3, traversal.one_each) in
-        let more : order ++ t ∷ [] ≡ take (k + 1) (children edges 0) = ap (λ xs. xs ++ t ∷ []) queue ∙ ap (λ u. take k (children edges 0) ++ u ∷ []) (sym v.1) ∙ sym (take_more (children edges 0) k 0 v.0) in
-        record {
-          queue = more ∙ sym (append-nil _) ∙ sym (append-nil _);
-          within = omega arith;
-          states = states_push order t traversal.states (b.2, b.3);
-          one_each = length-set fails t r ∙ traversal.one_each;
-          root = root_push fails t r b.2 traversal.root;
-          linked = linked_push fails order t r in' traversal.linked fresh link;
-          earlier = earlier_push fails order t r in' traversal.earlier fresh among;
-          once = once_push order t traversal.once fresh;
-        }
+        longer (take k (children edges 0)) (take (k + 1) (children edges 0)) fails order [] [] 0 t r traversal (b.2, b.3) fresh link among
+        (ap (λ xs. xs ++ t ∷ []) queue ∙ pending_more 0 k c t at ∙ sym (append-nil _) ∙ sym (append-nil _))
 
   -- where no state stops, the links are the standard ones
   pub linked_of_left : (stops : ℕ → Bool) → ((s : ℕ) → stops s ≡ false) → (fails order : List ℕ) → ((t : ℕ) → IsIn order t → (1 < t) × (t < length edges)) → IsLeftLinked cmp stops edges fails order → IsLinked cmp edges fails order

@@ -15,7 +15,7 @@ use Rattle.daachorse_build.specs.declared.nfa_builder.NfaBuilderState.{NfaBuilde
 use Rattle.daachorse_build.specs.Tables.{child_in, child_of, own_of, own_at, held_at, output_count}
 use Rattle.daachorse_build.specs.Growth.{IsPrefixOf, IsAdded, HasTrieOf}
 use Rattle.daachorse_build.specs.Holds.{in_units, Holds}
-use Rattle.daachorse_build.proofs.Labels.{text_exact}
+use Rattle.daachorse_build.proofs.Labels.{labels_of_front, text_exact}
 
 pub nil_of_units : {L : Type 0} (unit : L → ℕ) (w : List L) → map unit w ≡ [] → w ≡ []
 nil_of_units unit [] h = refl
@@ -64,13 +64,9 @@ module _ {L V : Type 0} (unit : L → ℕ) (exact : (a b : L) → unit a ≡ uni
       inr (map unit rest, λ none. key_now (sym (ap after whole) ∙ none))
 
   prefix_of_units : (w p : List L) (x : List ℕ) → map unit w ++ x ≡ map unit p → IsPrefixOf w p
-  prefix_of_units [] p x e = (p, refl)
-  prefix_of_units (c ∷ w) [] x e = cc
-  prefix_of_units (c ∷ w) (d ∷ p) x e =
-      let first : unit c ≡ unit d = cc in
-      let rest : map unit w ++ x ≡ map unit p = cc in
-      let r = prefix_of_units w p x rest in
-      (r.0, ap (λ y. y ∷ (w ++ r.0)) (exact c d first) ∙ ap (λ y. d ∷ y) r.1)
+  prefix_of_units w p x e =
+      let parts = labels_of_front unit p (map unit w) x (sym e) in
+      (parts.1, ap (λ v. v ++ parts.1) (text_exact unit exact w parts.0 (sym parts.3)) ∙ sym parts.2)
 
   -- a prefix of a key began one before, or begins the pattern
   prefix_came : (w : List L) (x : List ℕ) → IsKey after (map unit w ++ x) → (IsPrefix before (map unit w)) ⊎ IsPrefixOf w p

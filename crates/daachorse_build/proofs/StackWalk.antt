@@ -10,7 +10,7 @@ use Rattle.std.specs.Cmp.{IsTotalOrder}
 use Rattle.daachorse_build.specs.Tables.{IsTable}
 use Rattle.daachorse_build.specs.Orders.{IsIn, StandOnce, children}
 use Rattle.daachorse_build.specs.Groups.{IsWalk, IsWalking}
-use Rattle.daachorse_build.proofs.Queue.{in_left, in_right, in_cases, in_same, in_equal, in_at, place_of, once_push, length-once, children_once, child_of_listed, listed_of_child, bounds_of_listed}
+use Rattle.daachorse_build.proofs.Queue.{in_left, in_right, in_cases, in_push, in_same, in_equal, in_at, place_of, once_push, length-once, children_once, child_of_listed, listed_of_child, bounds_of_listed}
 
 -- ---- lists of numbers that each stand once
 once_none : StandOnce []
@@ -42,10 +42,7 @@ once_append xs (y ∷ ys) one two apart =
     let P : List ℕ → Type 0 = λ zs. StandOnce zs in
     let push = once_push xs y one (λ h. apart y h (inl refl)) in
     let rest = once_append (xs ++ y ∷ []) ys push (once_tail y ys two)
-    (λ t h k. elim (in_cases xs (y ∷ []) t h) [
-      | inl a ↦ apart t a (inr k)
-      | inr b ↦ elim b [ inl e ↦ once_head y ys two (in_equal ys t y (sym e) k) | inr none ↦ absurd none ]
-    ]) in
+    (λ t h k. elim (in_push xs y t h) [ inl a ↦ apart t a (inr k) | inr e ↦ once_head y ys two (in_equal ys t y (sym e) k) ]) in
     subst P (append_assoc xs (y ∷ []) ys) rest
 
 -- ---- how long a walk may take
@@ -99,17 +96,14 @@ module _ {L : Type 0} (cmp : L → L → Ordering) (total : IsTotalOrder cmp) (e
     -- where a state was before
     old_place : (t : ℕ) → IsIn (order ++ s ∷ []) t ⊎ IsIn rest t → IsIn order t ⊎ IsIn (rest ++ s ∷ []) t
     old_place t (inl h) =
-        elim (in_cases order (s ∷ []) t h) [ inl a ↦ inl a | inr b ↦ inr (in_right rest (s ∷ []) t b) ]
+        elim (in_push order s t h) [ inl a ↦ inl a | inr e ↦ inr (in_right rest (s ∷ []) t (inl e)) ]
     old_place t (inr h) = inr (in_left rest (s ∷ []) t h)
 
     -- where it is now
     new_place : (t : ℕ) → IsIn order t ⊎ IsIn (rest ++ s ∷ []) t → IsIn (order ++ s ∷ []) t ⊎ IsIn (rest ++ children edges s) t
     new_place t (inl h) = inl (in_left order (s ∷ []) t h)
     new_place t (inr h) =
-        elim (in_cases rest (s ∷ []) t h) [
-          | inl a ↦ inr (in_left rest (children edges s) t a)
-          | inr b ↦ inl (in_right order (s ∷ []) t b)
-        ]
+        elim (in_push rest s t h) [ inl a ↦ inr (in_left rest (children edges s) t a) | inr e ↦ inl (in_right order (s ∷ []) t (inl e)) ]
 
     -- a child of the state that comes off is new
     child_fresh : (t : ℕ) → IsIn (children edges s) t → IsIn order t ⊎ IsIn (rest ++ s ∷ []) t → ⊥
@@ -129,9 +123,9 @@ module _ {L : Type 0} (cmp : L → L → Ordering) (total : IsTotalOrder cmp) (e
     next_apart t h k =
         elim (in_cases rest (children edges s) t k) [
           | inl a ↦
-              elim (in_cases order (s ∷ []) t h) [
+              elim (in_push order s t h) [
                 | inl b ↦ walking.apart t b (in_left rest (s ∷ []) t a)
-                | inr b ↦ elim b [ inl e ↦ once_last rest s walking.once_stack (in_equal rest t s (sym e) a) | inr none ↦ absurd none ]
+                | inr e ↦ once_last rest s walking.once_stack (in_equal rest t s (sym e) a)
               ]
           | inr c ↦ child_fresh t c (old_place t (inl h))
         ]
@@ -148,12 +142,9 @@ module _ {L : Type 0} (cmp : L → L → Ordering) (total : IsTotalOrder cmp) (e
         | inr c ↦ let b = bounds_of_listed cmp total edges table s t c in (b.1, omega (arith, b.0))
       ];
       root = new_place 0 walking.root;
-      covers = λ u t h k. elim (in_cases order (s ∷ []) u h) [
+      covers = λ u t h k. elim (in_push order s u h) [
         | inl a ↦ new_place t (walking.covers u t a k)
-        | inr b ↦ elim b [
-          | inl e ↦ let P : ℕ → Type 0 = λ v. IsIn (children edges v) t in inr (in_right rest (children edges s) t (subst P (sym e) k))
-          | inr none ↦ absurd none
-        ]
+        | inr e ↦ let P : ℕ → Type 0 = λ v. IsIn (children edges v) t in inr (in_right rest (children edges s) t (subst P (sym e) k))
       ];
       from = λ t h. elim (comes_from t h) [
         | inl old ↦ elim (walking.from t old) [ inl e ↦ inl e | inr p ↦ inr (p.0, in_left order (s ∷ []) p.0 p.1, p.2) ]
@@ -210,8 +201,5 @@ module _ {L : Type 0} (cmp : L → L → Ordering) (total : IsTotalOrder cmp) (e
       let len = length_push order 1 in
       let push = once_push order 1 walk.once (λ h. (walk.states 1 h).1 refl) in
       let fits = length-once (order ++ 1 ∷ []) (length edges) push
-      (λ t h. elim (in_cases order (1 ∷ []) t h) [
-        | inl a ↦ (walk.states t a).0
-        | inr b ↦ elim b [ inl e ↦ omega (arith, e, table.trie.two) | inr none ↦ absurd none ]
-      ]) in
+      (λ t h. elim (in_push order 1 t h) [ inl a ↦ (walk.states t a).0 | inr e ↦ omega (arith, e, table.trie.two) ]) in
       omega (arith, len, fits)

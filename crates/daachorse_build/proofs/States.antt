@@ -1,7 +1,7 @@
 -- How the states of a trie change.
-use Rattle.std.proofs.Common.{◌≡◌, ◌≢◌, ℕ, zero, suc, ◌+◌, ◌<◌, ◌≤◌, cond, option_and_then, List, [], ◌∷◌, ◌++◌, length, get_or, take, set, map, Option, Some, None, refl, sym, ap, ◌∙◌, subst, inl, inr, arith, append_assoc, get_or-set_same, get_or-set_other, unwrap_or}
+use Rattle.std.proofs.Common.{◌≡◌, ◌≢◌, ℕ, ◌+◌, ◌<◌, ◌≤◌, cond, List, [], ◌∷◌, ◌++◌, length, get_or, take, set, map, Option, Some, None, refl, sym, ap, ◌∙◌, subst, inl, inr, arith, append_assoc, get_or-set_same, get_or-set_other, unwrap_or}
 use Rattle.std.specs.Prelude.{option_map}
-use Rattle.std.proofs.lemmas.Option.{none-some, same_Some}
+use Rattle.std.proofs.lemmas.Option.{none-some, option_and_then_some, same_Some}
 use Rattle.std.proofs.lemmas.List.{append-nil, length_push, length-set, get_or_past, map_push, map-set, set-get_or, length-map, get_or-map, take_more, take_more_set}
 use Rattle.std.specs.declared.cmp.Ordering.{Ordering}
 use Rattle.std.specs.declared.cmp.Ordering.TheVariants.{Equal}
@@ -17,7 +17,14 @@ use Rattle.daachorse_build.specs.Growth.{IsPrefixOf, AddsEdge, Extends, IsAdding
 use Rattle.std.proofs.lemmas.List.Sums.{sum_by-set, sum_by-append}
 use Rattle.daachorse_build.proofs.Walks.{walk-same, walk-bounds}
 use Rattle.daachorse_build.specs.Few.{items_of}
-use Rattle.daachorse_build.proofs.Growing.{adds_edge, table_grows, walk_stays, walk_came, is_here}
+use Rattle.daachorse_build.proofs.EdgeTurns.{edges_read}
+use Rattle.daachorse_build.proofs.Growing.{nil_more, adds_edge, table_grows, walk_stays, walk_came, is_here}
+
+-- a text leads to a state, and not to the dead one
+pub leads_low : {L V A : Type 0} (cmp : L → L → Ordering) (states : List (NfaBuilderState L V A)) → HoldTrie cmp states → (w : List L) (t : ℕ) → walk (child_of cmp states) 0 w ≡ Some t → (t < length states) × (t ≢ 1)
+leads_low cmp states table w t at =
+    let b = walk-bounds (child_of cmp states) (length (edges_of states)) table.trie w t at in
+    (omega (arith, b.0, length-map states (λ s. s.edges)), b.1)
 
 -- one element changed, and one more
 map_edit : {X Y : Type 0} (f : X → Y) (xs : List X) (i : ℕ) (y z : X) → map f (set xs i y ++ z ∷ []) ≡ set (map f xs) i (f y) ++ f z ∷ []
@@ -38,12 +45,6 @@ output_pushed states id x y out l is pushed =
     let here : own_at (own_of states) id ≡ items_of x.output = get_or-map (λ s. items_of s.output) states id x [] l ∙ ap (λ s. items_of s.output) (sym is) in
     map-set (λ s. items_of s.output) states id y ∙ ap (set (own_of states) id) (pushed ∙ ap (λ os. os ++ out ∷ []) (sym here))
 
-own_push : {V : Type 0} (xss : List (List (V × ℕ))) (v : ℕ) → get_or (xss ++ [] ∷ []) v [] ≡ get_or xss v []
-own_push [] zero = refl
-own_push [] (suc v) = refl
-own_push (xs ∷ xss) zero = refl
-own_push (xs ∷ xss) (suc v) = own_push xss v
-
 prefix_more : {L : Type 0} (w p : List L) (c : L) → IsPrefixOf w p → IsPrefixOf w (p ++ c ∷ [])
 prefix_more w p c h = (h.0 ++ c ∷ [], sym (append_assoc w h.0 (c ∷ [])) ∙ ap (λ x. x ++ c ∷ []) h.1)
 
@@ -53,7 +54,7 @@ module _ {L V A : Type 0} (cmp : L → L → Ordering) (total : IsTotalOrder cmp
   extends_new old new id label parent m state table l ne none is ordered updates no_edges no_output e =
       let edges = edges_of old in
       let count : length edges ≡ length old = length-map old (λ s. s.edges) in
-      let at : get_or edges id [] ≡ parent.edges = get_or-map (λ s. s.edges) old id parent [] l ∙ ap (λ s. s.edges) (sym is) in
+      let at : get_or edges id [] ≡ parent.edges = edges_read old id parent l is in
       let low : id < length edges = omega (arith, count, l) in
       let found : (q : L) → lookup (is_at (cmp q)) m ≡ cond (is_at (cmp label) q) (Some (length edges)) (lookup (is_at (cmp q)) (get_or edges id [])) =
       λ q. updates q ∙ ap (λ es. cond (is_at (cmp label) q) (Some (length old)) (lookup (is_at (cmp q)) es)) (sym at) ∙ ap (λ n. cond (is_at (cmp label) q) (Some n) (lookup (is_at (cmp q)) (get_or edges id []))) (sym count) in
@@ -67,7 +68,7 @@ module _ {L V A : Type 0} (cmp : L → L → Ordering) (total : IsTotalOrder cmp
       record {
         trie = rw made grown;
         leads = ap (λ es. child_in cmp es id label) made ∙ hit ∙ ap Some count;
-        outputs = λ v. ap (λ os. get_or os v []) outputs ∙ own_push (own_of old) v;
+        outputs = λ v. ap (λ os. get_or os v []) outputs ∙ nil_more (own_of old) v;
         count = ap output_count outputs ∙ (omega (arith, sum_by-append length (own_of old) ([] ∷ [])));
         longer = omega (arith, ap length e, length_push (set old id (record parent { edges = m })) state, length-set old id (record parent { edges = m }));
         grows =
@@ -89,44 +90,30 @@ module _ {L V A : Type 0} (cmp : L → L → Ordering) (total : IsTotalOrder cmp
 
   pub adding_more : (old mid new : List (NfaBuilderState L V A)) (p : List L) (id : ℕ) (c : L) (t : ℕ) → IsAdding cmp old mid p id → Extends cmp mid new id c t → IsAdding cmp old new (p ++ c ∷ []) t
   adding_more old mid new p id c t adding extends =
-      let mid_trie = adding.trie.trie in
-      elim extends.grows as (λ _. IsAdding cmp old new (p ++ c ∷ []) t) [
-        | inl same ↦
-            let P : List (List (L × ℕ)) → Type 0 = λ es. walk (child_in cmp es) 0 p ≡ Some id in
-            let there : walk (child_of cmp new) 0 p ≡ Some id = subst P (sym same) adding.here in
-            record {
-              trie = extends.trie;
-              here = walk-push (child_of cmp new) 0 p c id there ∙ extends.leads;
-              outputs = λ v. extends.outputs v ∙ adding.outputs v;
-              count = extends.count ∙ adding.count;
-              longer = omega (arith, adding.longer, extends.longer);
-              grows = record {
-                keeps = λ w v h. let Q : List (List (L × ℕ)) → Type 0 = λ es. walk (child_in cmp es) 0 w ≡ Some v in subst Q (sym same) (adding.grows.keeps w v h);
-                news = λ w v h.
-                    let Q : List (List (L × ℕ)) → Type 0 = λ es. walk (child_in cmp es) 0 w ≡ Some v in
-                    elim (adding.grows.news w v (subst Q same h)) [ inl a ↦ inl a | inr b ↦ inr (b.0, prefix_more w p c b.1) ];
-              };
-            }
-        | inr adds ↦
-            let there : walk (child_of cmp new) 0 p ≡ Some id = walk_stays (child_of cmp mid) (child_of cmp new) id c t adds.0 0 p id adding.here in
-            record {
-              trie = extends.trie;
-              here = walk-push (child_of cmp new) 0 p c id there ∙ extends.leads;
-              outputs = λ v. extends.outputs v ∙ adding.outputs v;
-              count = extends.count ∙ adding.count;
-              longer = omega (arith, adding.longer, extends.longer);
-              grows = record {
-                keeps = λ w v h. walk_stays (child_of cmp mid) (child_of cmp new) id c t adds.0 0 w v (adding.grows.keeps w v h);
-                news = λ w v h.
-                    elim (walk_came (child_of cmp mid) (child_of cmp new) id c t adds.0 0 w v h) [
-                      | inl came ↦ elim (adding.grows.news w v came) [ inl a ↦ inl a | inr b ↦ inr (b.0, prefix_more w p c b.1) ]
-                      | inr came ↦
-                          let front : came.0 ≡ p = walk-same (child_of cmp mid) (length (edges_of mid)) mid_trie came.0 p id came.2 adding.here in
-                          inr (omega (arith, came.3, adds.1, adding.longer), ([], append-nil w ∙ came.1 ∙ ap (λ x. x ++ c ∷ []) front))
-                    ];
-              };
-            }
-      ]
+      let W : List L → ℕ → List (List (L × ℕ)) → Type 0 = λ w v es. walk (child_in cmp es) 0 w ≡ Some v in
+      let stays : (w : List L) (v : ℕ) → walk (child_of cmp mid) 0 w ≡ Some v → walk (child_of cmp new) 0 w ≡ Some v = λ w v h. elim extends.grows [
+        | inl same ↦ subst (W w v) (sym same) h
+        | inr adds ↦ walk_stays (child_of cmp mid) (child_of cmp new) id c t adds.0 0 w v h
+      ] in
+      record {
+        trie = extends.trie;
+        here = walk-push (child_of cmp new) 0 p c id (stays p id adding.here) ∙ extends.leads;
+        outputs = λ v. extends.outputs v ∙ adding.outputs v;
+        count = extends.count ∙ adding.count;
+        longer = omega (arith, adding.longer, extends.longer);
+        grows = record {
+          keeps = λ w v h. stays w v (adding.grows.keeps w v h);
+          news = λ w v h. elim extends.grows [
+            | inl same ↦ elim (adding.grows.news w v (subst (W w v) same h)) [ inl a ↦ inl a | inr b ↦ inr (b.0, prefix_more w p c b.1) ]
+            | inr adds ↦ elim (walk_came (child_of cmp mid) (child_of cmp new) id c t adds.0 0 w v h) [
+              | inl came ↦ elim (adding.grows.news w v came) [ inl a ↦ inl a | inr b ↦ inr (b.0, prefix_more w p c b.1) ]
+              | inr came ↦
+                  let front : came.0 ≡ p = walk-same (child_of cmp mid) (length (edges_of mid)) adding.trie.trie came.0 p id came.2 adding.here in
+                  inr (omega (arith, came.3, adds.1, adding.longer), ([], append-nil w ∙ came.1 ∙ ap (λ x. x ++ c ∷ []) front))
+            ]
+          ];
+        };
+      }
 
   -- ---- the output at the end
   -- what a text has where its state is known
@@ -190,15 +177,11 @@ module _ {L V A : Type 0} (cmp : L → L → Ordering) (total : IsTotalOrder cmp
           ∙ get_or-set_other (own_of mid) id v (own_at (own_of mid) id ++ out ∷ []) [] ne
           ∙ sym (outputs_found mid w v e)
 
-      front_at : (w rest : List L) → walk (child_of cmp mid) 0 (w ++ rest) ≡ Some id → (m : Option ℕ) → walk (child_of cmp mid) 0 w ≡ m → (v : ℕ) × (walk (child_of cmp mid) 0 w ≡ Some v)
-      front_at w rest h (Some v) e = (v, e)
-      front_at w rest h None e = absurd (none-some id (ap (option_and_then (λ t. walk (child_of cmp mid) t rest)) (sym e) ∙ sym (walk-append (child_of cmp mid) 0 w rest) ∙ h))
-
       begins : (w : List L) → IsPrefixOf w p → (v : ℕ) × (walk (child_of cmp new) 0 w ≡ Some v)
       begins w h =
-          let r = front_at w h.0 (ap (walk (child_of cmp mid) 0) h.1 ∙ adding.here) (walk (child_of cmp mid) 0 w) refl in
-          let W : List (List (L × ℕ)) → Type 0 = λ es. walk (child_in cmp es) 0 w ≡ Some r.0 in
-          (r.0, subst W (sym edges) r.1)
+          let W : ℕ → List (List (L × ℕ)) → Type 0 = λ v es. walk (child_in cmp es) 0 w ≡ Some v in
+          option_and_then_some (λ t. walk (child_of cmp mid) t h.0) (walk (child_of cmp mid) 0 w) id
+          (sym (walk-append (child_of cmp mid) 0 w h.0) ∙ ap (walk (child_of cmp mid) 0) h.1 ∙ adding.here) (λ v at _. (v, subst (W v) (sym edges) at))
 
 -- one link more is set
 pub link_set : {L V A : Type 0} (old states : List (NfaBuilderState L V A)) (fails : List ℕ) (i : ℕ) (x y : NfaBuilderState L V A) → i < length states → i < length fails → x ≡ get_or states i x → y ≡ record x { fail = get_or fails i 0 } → HasTrieOf old states → take i (fails_of states) ≡ take i fails → HasTrieOf old (set states i y) × (take (i + 1) (fails_of (set states i y)) ≡ take (i + 1) fails)

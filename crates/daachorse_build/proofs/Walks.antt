@@ -1,31 +1,13 @@
--- The longest suffixes that lead somewhere, and walks in a trie.
-use Rattle.std.proofs.Common.{◌≡◌, ◌≢◌, ℕ, ◌<◌, ◌≤◌, ◌⊎◌, true, false, List, [], ◌∷◌, ◌++◌, length, Option, Some, refl, sym, ap, zero, suc, ◌∙◌, inl, inr, arith}
+-- Walks in a trie.
+use Rattle.std.proofs.Common.{◌≡◌, ◌≢◌, ℕ, ◌<◌, ◌≤◌, List, [], ◌∷◌, ◌++◌, length, Option, Some, refl, sym, ap, zero, suc, ◌∙◌, arith}
 use Rattle.std.proofs.lemmas.Option.{same_Some}
 use Rattle.std.proofs.lemmas.List.{length_push}
-use Rattle.std.proofs.lemmas.Bool.{cases_Bool, cond-true, cond-false}
-use Rattle.daachorse_model.specs.Paths.{walk, is_reached}
-use Rattle.daachorse_model.specs.Prefixes.{long}
+use Rattle.daachorse_model.specs.Paths.{walk}
 use Rattle.daachorse_model.proofs.Paths.{walk-push, push-parts}
 use Rattle.daachorse_model.proofs.Lists.{last_of}
 use Rattle.daachorse_build.specs.Trie.{IsTrie}
 
 module _ {A : Type 0} (child : ℕ → A → Option ℕ) where
-  -- ---- longest suffixes
-  pub long_of_reached : (w : List A) → is_reached child w ≡ true → long (is_reached child) w ≡ w
-  long_of_reached [] h = refl
-  long_of_reached (c ∷ cs) h = cond-true _ _ _ h
-
-  pub long_of_other : (c : A) (cs : List A) → is_reached child (c ∷ cs) ≡ false → long (is_reached child) (c ∷ cs) ≡ long (is_reached child) cs
-  long_of_other c cs h = cond-false _ _ _ h
-
-  length_step : (c : A) (cs : List A) → length (long (is_reached child) cs) ≤ length cs → (is_reached child (c ∷ cs) ≡ true) ⊎ (is_reached child (c ∷ cs) ≡ false) → length (long (is_reached child) (c ∷ cs)) ≤ length (c ∷ cs)
-  length_step c cs ih (inl h) = omega (arith, ap length (long_of_reached (c ∷ cs) h))
-  length_step c cs ih (inr h) = omega (arith, ap length (long_of_other c cs h))
-
-  pub length-long : (w : List A) → length (long (is_reached child) w) ≤ length w
-  length-long [] = omega arith
-  length-long (c ∷ cs) = length_step c cs (length-long cs) (cases_Bool (is_reached child (c ∷ cs)))
-
   -- ---- walks in a trie
   module _ (n : ℕ) (trie : IsTrie child n) where
     pub walk-bounds : (w : List A) (t : ℕ) → walk child 0 w ≡ Some t → (t < n) × (t ≢ 1)
@@ -37,7 +19,7 @@ module _ {A : Type 0} (child : ℕ → A → Option ℕ) where
         (b.3, λ k. omega (arith, b.2, k))
 
     -- the root has no text but the empty one
-    walk-above : (c : A) (cs : List A) (t : ℕ) → walk child 0 (c ∷ cs) ≡ Some t → 1 < t
+    pub walk-above : (c : A) (cs : List A) (t : ℕ) → walk child 0 (c ∷ cs) ≡ Some t → 1 < t
     walk-above c cs t h =
         let last = last_of c cs in
         let parts = push-parts child 0 last.0 last.1 t (sym (ap (walk child 0) last.2) ∙ h) in
@@ -79,3 +61,11 @@ module _ {A : Type 0} (child : ℕ → A → Option ℕ) where
     -- the text of a state
     pub text_of : (t : ℕ) → t < n → t ≢ 1 → (w : List A) × (walk child 0 w ≡ Some t)
     text_of t l ne = text_by t t (omega arith) l ne
+
+    -- that of a state but the root begins with a label
+    pub label_of : (t : ℕ) → 1 < t → t < n → (c : A) × (w : List A) × (walk child 0 (c ∷ w) ≡ Some t)
+    label_of t low high = let text = text_of t high (omega arith) in first text.0 text.1
+      where
+        first : (w : List A) → walk child 0 w ≡ Some t → (c : A) × (w : List A) × (walk child 0 (c ∷ w) ≡ Some t)
+        first [] h = absurd (omega (arith, same_Some 0 t h, low))
+        first (c ∷ w) h = (c, w, h)

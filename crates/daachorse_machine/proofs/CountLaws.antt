@@ -1,12 +1,12 @@
 -- A text that leads to an element is shorter than the number of texts that do, since its beginnings are such texts.
-use Rattle.std.proofs.Common.{◌≡◌, ◌≢◌, ℕ, suc, ◌<◌, ◌≤◌, Bool, List, length, take, drop, get_or, Option, sym, ap, ◌∙◌, arith}
+use Rattle.std.proofs.Common.{◌≡◌, ℕ, suc, ◌<◌, Bool, List, length, take, drop, get_or, Option, sym, ap, ◌∙◌, arith}
 use Rattle.std.specs.Prelude.{Contains}
-use Rattle.std.proofs.lemmas.List.{take-append-drop, length-take-le, get_or_default}
+use Rattle.std.proofs.lemmas.List.{take-append-drop, get_or_default}
 use Rattle.daachorse_model.specs.Paths.{walk, is_reached, Leads}
 use Rattle.daachorse_model.specs.Prefixes.{PassesAt, HasPrefixes}
 use Rattle.daachorse_machine.specs.Machines.{Machine, IsMachine, IsCounted, content}
 use Rattle.daachorse_machine.proofs.MachineLaws.{fore, back}
-use Rattle.daachorse_machine.proofs.PathLaws.{pigeon, walk-split, reached_element}
+use Rattle.daachorse_machine.proofs.PathLaws.{takes_fit, walk-split, reached_element}
 
 -- the texts that lead to an element of a right machine are the prefixes of its keys
 pub counted-prefixes : {V : Type 0} (width : ℕ → ℕ) (a : Machine V) (leftmost : Bool) (n m k : ℕ) → IsMachine width a leftmost n m → IsCounted a k → HasPrefixes (content width a) k
@@ -19,9 +19,7 @@ counted-prefixes width a leftmost n m k h counted = record {
 
 module _ (child : ℕ → ℕ → Option ℕ) (n : ℕ) (counted : PassesAt (is_reached child) n) where
   pub shorter-counted : (w : List ℕ) (i : ℕ) → Leads child w i → length w < n
-  shorter-counted w i e =
-      let fits : suc (length w) ≤ n = pigeon n (suc (length w)) (λ k. (place k).0) below apart in
-      omega (arith, fits)
+  shorter-counted w i e = takes_fit n w (λ k. (place k).0) below same
     where
       place : (k : ℕ) → Contains counted.texts (take k w)
       place k =
@@ -31,13 +29,8 @@ module _ (child : ℕ → ℕ → Option ℕ) (n : ℕ) (counted : PassesAt (is_
       below : (k : ℕ) → k < suc (length w) → (place k).0 < n
       below k h = omega (arith, (place k).1, counted.count)
 
-      apart : (j k : ℕ) → j < k → k < suc (length w) → (place j).0 ≢ (place k).0
-      apart j k less h same =
+      same : (j k : ℕ) → (place j).0 ≡ (place k).0 → take j w ≡ take k w
+      same j k e =
           let left : get_or counted.texts (place j).0 (take j w) ≡ take j w = (place j).2 in
           let right : get_or counted.texts (place k).0 (take k w) ≡ take k w = (place k).2 in
-          let one : take j w ≡ take k w =
-          sym left ∙ (get_or_default counted.texts (place j).0 (take j w) (take k w) (place j).1 ∙ (ap (λ q. get_or counted.texts q (take k w)) same ∙ right)) in
-          let long : length (take j w) ≡ length (take k w) = ap length one in
-          let a : length (take j w) ≡ j = length-take-le j w (omega arith) in
-          let b : length (take k w) ≡ k = length-take-le k w (omega arith) in
-          omega (arith, long, a, b)
+          sym left ∙ (get_or_default counted.texts (place j).0 (take j w) (take k w) (place j).1 ∙ (ap (λ q. get_or counted.texts q (take k w)) e ∙ right))

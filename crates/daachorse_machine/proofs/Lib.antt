@@ -4,7 +4,6 @@ pub mod MachineLaws
 pub mod DeadLaws
 pub mod ChildLaws
 pub mod OutputLaws
-pub mod ChildlessLaws
 pub mod CopyPaths
 pub mod CopyChains
 pub mod CopyLinks

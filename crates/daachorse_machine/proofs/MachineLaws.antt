@@ -4,6 +4,7 @@ use Rattle.std.proofs.lemmas.Option.{same_Some}
 use Rattle.std.specs.Prelude.{is_some, option_and_then}
 use Rattle.std.specs.declared.num.NonZeroU32.{NonZeroU32}
 use Rattle.daachorse_core.specs.Outputs.{number, outputs_at}
+use Rattle.daachorse_core.specs.declared.turns.Look.{Look}
 use Rattle.daachorse_core.specs.declared.turns.Look.TheVariants.{Next, Fail}
 use Rattle.daachorse_model.specs.Units.{size}
 use Rattle.daachorse_model.specs.Paths.{walk, is_reached, Leads}
@@ -175,57 +176,50 @@ module _ {V : Type 0} (width : ℕ → ℕ) (a : Machine V) (leftmost : Bool) (n
       let clash : true ≡ false = sym (back (text_of a.child m n i ++ c ∷ []) begins) ∙ bad in
       cc
 
+  -- what a look at an element for a unit gives
+  abbrev Gives : ℕ → ℕ → Look → Type 0
+  Gives i c look = LookGives (content width a) (IsReached a.child m n) (text_of a.child m n) (dead_in width a leftmost) (text_of a.child m n i) c look
+
   -- a child is the next element
-  pub turn-next : (i c j : ℕ) → IsReached a.child m n i → a.child i c ≡ Some j → (o : Option NonZeroU32)
-      → LookGives (content width a) (IsReached a.child m n) (text_of a.child m n) (dead_in width a leftmost) (text_of a.child m n i) c (Next j o)
+  pub turn-next : (i c j : ℕ) → IsReached a.child m n i → a.child i c ≡ Some j → (o : Option NonZeroU32) → Gives i c (Next j o)
   turn-next i c j r e o =
       let leads : Leads a.child (text_of a.child m n i ++ c ∷ []) j = walk-push a.child 0 (text_of a.child m n i) c i r ∙ e in
       (Reached-Leads _ j leads, inr (0, inl (fore _ (reached_element a.child _ j leads), text-Leads _ j leads)))
 
   -- the root stays where it has no child
-  pub turn-root : (i c : ℕ) → IsReached a.child m n i → a.child i c ≡ None → i ≡ 0 → (o : Option NonZeroU32)
-      → LookGives (content width a) (IsReached a.child m n) (text_of a.child m n) (dead_in width a leftmost) (text_of a.child m n i) c (Next 0 o)
+  pub turn-root : (i c : ℕ) → IsReached a.child m n i → a.child i c ≡ None → i ≡ 0 → (o : Option NonZeroU32) → Gives i c (Next 0 o)
   turn-root i c r none root o = (Reached-root, inr (0, inr (not_prefix i c r none, inl (text-root i root), text-root 0 refl)))
 
   link_at : (i : ℕ) → IsReached a.child m n i → i ≢ 0 → LinkOf (text_of a.child m n i) (a.fail i)
   link_at i r other = elim (root_or i (text_of a.child m n i) r) [
     | inl root ↦ absurd (other root)
     | inr parts ↦
-        let P : List ℕ → Type 0 = λ w. LinkOf w (a.fail i) in
-        subst P (sym parts.2) (Leads-link parts.0 parts.1 i (sym (ap (λ w. walk a.child 0 w) parts.2) ∙ r))
+        rw parts.2 (Leads-link parts.0 parts.1 i (sym (ap (λ w. walk a.child 0 w) parts.2) ∙ r))
   ]
 
   -- a dead link leads to the root
-  pub turn-dead : (i c : ℕ) → IsReached a.child m n i → a.child i c ≡ None → i ≢ 0 → a.fail i ≡ 1 → (o : Option NonZeroU32)
-      → LookGives (content width a) (IsReached a.child m n) (text_of a.child m n) (dead_in width a leftmost) (text_of a.child m n i) c (Next 0 o)
-  turn-dead i c r none other one o = go (link_at i r other)
-    where
-      go : LinkOf (text_of a.child m n i) (a.fail i) → LookGives (content width a) (IsReached a.child m n) (text_of a.child m n) (dead_in width a leftmost) (text_of a.child m n i) c (Next 0 o)
-      go (to_dead dead is) = (Reached-root, inr (0, inr (not_prefix i c r none, inr dead, text-root 0 refl)))
-      go (to_element {s} link alive leads not_one) = absurd (not_one one)
+  pub turn-dead : (i c : ℕ) → IsReached a.child m n i → a.child i c ≡ None → i ≢ 0 → a.fail i ≡ 1 → (o : Option NonZeroU32) → Gives i c (Next 0 o)
+  turn-dead i c r none other one o = elim (link_at i r other) [
+    | to_dead dead is ↦ (Reached-root, inr (0, inr (not_prefix i c r none, inr dead, text-root 0 refl)))
+    | to_element link alive leads not_one ↦ absurd (not_one one)
+  ]
 
   -- any other link is followed
-  pub turn-fail : (i c : ℕ) → IsReached a.child m n i → a.child i c ≡ None → i ≢ 0 → a.fail i ≢ 1
-      → LookGives (content width a) (IsReached a.child m n) (text_of a.child m n) (dead_in width a leftmost) (text_of a.child m n i) c (Fail (a.fail i))
-  turn-fail i c r none other not_one = go (link_at i r other)
-    where
-      go : LinkOf (text_of a.child m n i) (a.fail i) → LookGives (content width a) (IsReached a.child m n) (text_of a.child m n) (dead_in width a leftmost) (text_of a.child m n i) c (Fail (a.fail i))
-      go (to_dead dead is) = absurd (not_one is)
-      go (to_element {s} link alive leads not) =
-          let P : List ℕ → Type 0 = λ x. IsLink (content width a) (text_of a.child m n i) x in
-          (Reached-Leads s (a.fail i) leads, not_prefix i c r none, alive, subst P (sym (text-Leads s (a.fail i) leads)) link)
+  pub turn-fail : (i c : ℕ) → IsReached a.child m n i → a.child i c ≡ None → i ≢ 0 → a.fail i ≢ 1 → Gives i c (Fail (a.fail i))
+  turn-fail i c r none other not_one = elim (link_at i r other) [
+    | to_dead dead is ↦ absurd (not_one is)
+    | to_element {s} link alive leads not ↦ (Reached-Leads s (a.fail i) leads, not_prefix i c r none, alive, rw (text-Leads s (a.fail i) leads) link)
+  ]
 
   -- a link that was read, and isn't dead
-  pub turn-link : (i c f : ℕ) → IsReached a.child m n i → a.child i c ≡ None → i ≢ 0 → a.fail i ≡ f → f ≢ 1
-      → LookGives (content width a) (IsReached a.child m n) (text_of a.child m n) (dead_in width a leftmost) (text_of a.child m n i) c (Fail f)
+  pub turn-link : (i c f : ℕ) → IsReached a.child m n i → a.child i c ≡ None → i ≢ 0 → a.fail i ≡ f → f ≢ 1 → Gives i c (Fail f)
   turn-link i c f r none other at live =
-      let P : ℕ → Type 0 = λ x. LookGives (content width a) (IsReached a.child m n) (text_of a.child m n) (dead_in width a leftmost) (text_of a.child m n i) c (Fail x) in
+      let P : ℕ → Type 0 = λ x. Gives i c (Fail x) in
       subst P at (turn-fail i c r none other (λ one. live (sym at ∙ one)))
 
   -- where no text has a dead link, as in a standard machine, no element's link is dead
   pub standard-alive : (i : ℕ) → IsReached a.child m n i → i ≢ 0 → ((w : List ℕ) → ¬ dead_in width a leftmost w) → a.fail i ≢ 1
-  standard-alive i r other alive one = go (link_at i r other)
-    where
-      go : LinkOf (text_of a.child m n i) (a.fail i) → ⊥
-      go (to_dead dead is) = alive (text_of a.child m n i) dead
-      go (to_element {s} link _ leads not_one) = not_one one
+  standard-alive i r other alive one = elim (link_at i r other) [
+    | to_dead dead is ↦ alive (text_of a.child m n i) dead
+    | to_element link _ leads not_one ↦ not_one one
+  ]

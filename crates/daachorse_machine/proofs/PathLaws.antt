@@ -1,10 +1,15 @@
 -- Paths: each element has one text, which is shorter than the number of elements, so that the search for it finds it.
-use Rattle.std.proofs.Common.{◌≡◌, ◌≢◌, ℕ, zero, suc, ◌<◌, ◌≤◌, ◌⊎◌, inl, inr, Bool, true, false, ◌==◌, cond, List, [], ◌∷◌, ◌++◌, length, take, drop, Option, Some, None, refl, sym, ap, ◌∙◌, arith}
+use Rattle.std.proofs.Common.{map, get_or, eqb, subst, ◌≡◌, ◌≢◌, ℕ, zero, suc, ◌<◌, ◌≤◌, ◌⊎◌, inl, inr, Bool, true, false, ◌==◌, cond, List, [], ◌∷◌, ◌++◌, length, take, drop, Option, Some, None, refl, sym, ap, ◌∙◌, arith}
 use Rattle.std.proofs.lemmas.List.{take-append-drop, length-take-le}
+use Rattle.std.proofs.lemmas.List.FromFn.{length-map-range_with_len, get_or-map-range_with_len}
+use Rattle.std.proofs.lemmas.Map.Made.{IsDistinct-from_AllPairs}
+use Rattle.std.proofs.lemmas.Map.Steps.{length-le_from_distinct_below}
+use Rattle.std.proofs.lemmas.Bool.{cases_eq}
+use Rattle.std.proofs.lemmas.Bool.Decides.{Decides-by_or, Decides-eqb}
+use Rattle.std.specs.List.{AllPairs, list_any, range_with_len}
 use Rattle.std.proofs.lemmas.Option.{same_Some}
 use Rattle.std.specs.Prelude.{option_and_then, is_some}
 use Rattle.daachorse_model.specs.Paths.{walk, is_reached, Leads}
-use Rattle.daachorse_model.proofs.Booleans.{either}
 use Rattle.daachorse_model.proofs.Paths.{walk-append}
 use Rattle.daachorse_machine.specs.Texts.{by_unit, any_unit, or_empty, find_text, text_of}
 
@@ -20,39 +25,35 @@ eq_same a = grind arith
 
 -- m numbers below n, no two of them equal: m is at most n
 pub pigeon : (n m : ℕ) (f : ℕ → ℕ) → ((k : ℕ) → k < m → f k < n) → ((j k : ℕ) → j < k → k < m → f j ≢ f k) → m ≤ n
-pigeon n zero f below apart = omega arith
-pigeon zero (suc m) f below apart = absurd (let bad : f 0 < 0 = below 0 (omega arith) in omega arith)
-pigeon (suc n) (suc m) f below apart =
-    let fewer : m ≤ n = pigeon n m moved
-    (λ k less. moved_below k less (either (f k == n)))
-    (λ j k less inside same. moved_apart j k less inside (either (f j == n)) (either (f k == n)) same) in
-    omega (arith, fewer)
+pigeon n m f below apart =
+    let xs = map f (range_with_len 0 m) in
+    let len : length xs ≡ m = length-map-range_with_len f 0 m in
+    let at : (k d : ℕ) → k < m → get_or xs k d ≡ f k = λ k d less. get_or-map-range_with_len f 0 m k k d less (omega arith) in
+    let once : AllPairs (λ x y. x ≢ y) xs = λ i j d less inside same.
+    apart i j less (omega (arith, inside, len)) (sym (at i d (omega (arith, less, inside, len))) ∙ same ∙ at j d (omega (arith, inside, len))) in
+    let fits : (q : ℕ) → list_any (eqb q) xs ≡ true → q < n = λ q h. (
+    let r = (Decides-by_or (eqb q) (λ x. q ≡ x) (list_any (eqb q)) (Decides-eqb q) refl (λ _ _. refl) xs).0 h in
+    let low : r.0 < m = omega (arith, r.1, len) in
+    omega (arith, r.2 0, at r.0 0 low, below r.0 low)) in
+    omega (arith, len, length-le_from_distinct_below xs n (IsDistinct-from_AllPairs Decides-eqb xs once) fits)
+
+-- a text is shorter than n, where its beginnings have numbers below n that tell them apart
+pub takes_fit : {X : Type 0} (n : ℕ) (w : List X) (f : ℕ → ℕ) → ((k : ℕ) → k < suc (length w) → f k < n) → ((j k : ℕ) → f j ≡ f k → take j w ≡ take k w) → length w < n
+takes_fit n w f below same =
+    pigeon n (suc (length w)) f below
+    (λ j k less h e. (
+    let long : length (take j w) ≡ length (take k w) = ap length (same j k e) in
+    omega (arith, long, length-take-le j w (omega arith), length-take-le k w (omega arith), less)))
+
+-- a search among the numbers below n
+pub search_below : (P Q : ℕ → Type 0) (n : ℕ) → ((k : ℕ) → k < n → P k ⊎ Q k) → ((k : ℕ) × (k < n) × P k) ⊎ ((k : ℕ) → k < n → Q k)
+search_below P Q zero h = inr (λ k less. absurd (omega arith))
+search_below P Q (suc n) h = go (search_below P Q n (λ k less. h k (omega arith))) (h n (omega arith))
   where
-    -- the last of them in place of n
-    moved : ℕ → ℕ
-    moved k = cond (f k == n) (f m) (f k)
-
-    moved_below : (k : ℕ) → k < m → ((f k == n) ≡ true) ⊎ ((f k == n) ≡ false) → moved k < n
-    moved_below k less (inl e) =
-        let is : moved k ≡ f m = ap (λ b. cond b (f m) (f k)) e in
-        let apart_m : f k ≢ f m = apart k m less (omega arith) in
-        let top : f k ≡ n = eq_true (f k) n e in
-        let fits : f m < suc n = below m (omega arith) in
-        omega (arith, is, apart_m, top, fits)
-    moved_below k less (inr e) =
-        let is : moved k ≡ f k = ap (λ b. cond b (f m) (f k)) e in
-        let other : f k ≢ n = λ same. (let bad : true ≡ false = sym (eq_same n) ∙ (sym (ap (λ x. x == n) same) ∙ e) in cc) in
-        let fits : f k < suc n = below k (omega arith) in
-        omega (arith, is, other, fits)
-
-    moved_apart : (j k : ℕ) → j < k → k < m → ((f j == n) ≡ true) ⊎ ((f j == n) ≡ false) → ((f k == n) ≡ true) ⊎ ((f k == n) ≡ false) → moved j ≢ moved k
-    moved_apart j k less inside (inl a) (inl b) same = apart j k less (omega arith) (eq_true (f j) n a ∙ sym (eq_true (f k) n b))
-    moved_apart j k less inside (inl a) (inr b) same =
-        apart k m inside (omega arith) (sym (ap (λ b. cond b (f m) (f k)) b) ∙ (sym same ∙ ap (λ b. cond b (f m) (f j)) a))
-    moved_apart j k less inside (inr a) (inl b) same =
-        apart j m (omega arith) (omega arith) (sym (ap (λ b. cond b (f m) (f j)) a) ∙ (same ∙ ap (λ b. cond b (f m) (f k)) b))
-    moved_apart j k less inside (inr a) (inr b) same =
-        apart j k less (omega arith) (sym (ap (λ b. cond b (f m) (f j)) a) ∙ (same ∙ ap (λ b. cond b (f m) (f k)) b))
+    go : ((k : ℕ) × (k < n) × P k) ⊎ ((k : ℕ) → k < n → Q k) → P n ⊎ Q n → ((k : ℕ) × (k < suc n) × P k) ⊎ ((k : ℕ) → k < suc n → Q k)
+    go (inl (k, less, p)) last = inl (k, omega arith, p)
+    go (inr none) (inl p) = inl (n, omega arith, p)
+    go (inr none) (inr q) = inr (λ k less. elim (cases_eq k n) [ inl e ↦ subst Q (sym e) q | inr other ↦ none k (omega arith) ])
 
 module _ (child : ℕ → ℕ → Option ℕ) where
   -- a text that leads somewhere, split: its beginning leads somewhere
@@ -74,11 +75,9 @@ module _ (child : ℕ → ℕ → Option ℕ) where
 
   any_found : (f : ℕ → Option (List ℕ)) (m : ℕ) (w : List ℕ) → any_unit f m ≡ Some w → (c : ℕ) × (v : List ℕ) × (f c ≡ Some v) × (w ≡ c ∷ v)
   any_found f zero w e = absurd (cc)
-  any_found f (suc c) w e = here (f c) refl e (any_found f c w)
-    where
-      here : (o : Option (List ℕ)) → f c ≡ o → by_unit c o (any_unit f c) ≡ Some w → (any_unit f c ≡ Some w → (d : ℕ) × (v : List ℕ) × (f d ≡ Some v) × (w ≡ d ∷ v)) → (d : ℕ) × (v : List ℕ) × (f d ≡ Some v) × (w ≡ d ∷ v)
-      here (Some v) is e more = (c, v, is, sym (same_Some (c ∷ v) w e))
-      here None is e more = more e
+  any_found f (suc c) w e =
+      (elim (f c) as (λ o. f c ≡ o → by_unit c o (any_unit f c) ≡ Some w → (d : ℕ) × (v : List ℕ) × (f d ≡ Some v) × (w ≡ d ∷ v))
+      [ Some v ↦ λ is e. (c, v, is, sym (same_Some (c ∷ v) w e)) | None ↦ λ _ e. any_found f c w e ]) refl e
 
   any_finds : (f : ℕ → Option (List ℕ)) (m c : ℕ) → c < m → is_some (f c) ≡ true → is_some (any_unit f m) ≡ true
   any_finds f zero c h s = absurd (omega arith)
@@ -119,22 +118,13 @@ module _ (child : ℕ → ℕ → Option ℕ) where
 
     -- some unit leads on, or none does
     pub any_child : (i : ℕ) → ((c : ℕ) × (j : ℕ) × (child i c ≡ Some j)) ⊎ ((c : ℕ) → c < m → child i c ≡ None)
-    any_child i = below m
+    any_child i =
+        elim (search_below (λ c. (j : ℕ) × (child i c ≡ Some j)) (λ c. child i c ≡ None) m (λ c _. case_of (child i c)))
+        [ inl found ↦ inl (found.0, found.2.0, found.2.1) | inr none ↦ inr none ]
       where
-        case_of : (d : ℕ) (o : Option ℕ) → child i d ≡ o → ((c : ℕ) × (j : ℕ) × (child i c ≡ Some j)) ⊎ ((c : ℕ) → c < d → child i c ≡ None) → ((c : ℕ) × (j : ℕ) × (child i c ≡ Some j)) ⊎ ((c : ℕ) → c < suc d → child i c ≡ None)
-        case_of d (Some j) is rest = inl (d, j, is)
-        case_of d None is (inl found) = inl found
-        case_of d None is (inr none) = inr (λ c h. elim (nat_cases c d h) [ inl same ↦ ap (λ x. child i x) same ∙ is | inr less ↦ none c less ])
-          where
-            nat_cases : (c d : ℕ) → c < suc d → (c ≡ d) ⊎ (c < d)
-            nat_cases zero zero h = inl refl
-            nat_cases zero (suc d) h = inr (omega arith)
-            nat_cases (suc c) zero h = absurd (omega arith)
-            nat_cases (suc c) (suc d) h = elim (nat_cases c d (omega arith)) [ inl p ↦ inl (ap (λ x. suc x) p) | inr q ↦ inr (omega arith) ]
-
-        below : (d : ℕ) → ((c : ℕ) × (j : ℕ) × (child i c ≡ Some j)) ⊎ ((c : ℕ) → c < d → child i c ≡ None)
-        below zero = inr (λ c h. absurd (omega arith))
-        below (suc d) = case_of d (child i d) refl (below d)
+        case_of : (o : Option ℕ) → ((j : ℕ) × (o ≡ Some j)) ⊎ (o ≡ None)
+        case_of (Some j) = inl (j, refl)
+        case_of None = inr refl
 
 -- where each element has one path, and children are among n elements and by units below m
 module _ (child : ℕ → ℕ → Option ℕ) (n m : ℕ) (some : 0 < n) (inside : (i c j : ℕ) → child i c ≡ Some j → (j < n) × (c < m)) (one_path : (i : ℕ) (v w : List ℕ) → Leads child v i → Leads child w i → v ≡ w) where
@@ -154,7 +144,7 @@ module _ (child : ℕ → ℕ → Option ℕ) (n m : ℕ) (some : 0 < n) (inside
 
   -- no text that leads somewhere has as many units as there are elements
   pub Leads-length : (w : List ℕ) (i : ℕ) → Leads child w i → length w < n
-  Leads-length w i e = pigeon n (suc (length w)) (λ k. or_zero (walk child 0 (take k w))) below apart
+  Leads-length w i e = takes_fit n w (λ k. or_zero (walk child 0 (take k w))) below same
     where
       leads_take : (k : ℕ) → (j : ℕ) × Leads child (take k w) j
       leads_take k = let halves = walk-split child 0 i (take k w) (drop k w) (ap (λ v. walk child 0 v) (take-append-drop k w) ∙ e) in (halves.0, halves.1)
@@ -166,16 +156,12 @@ module _ (child : ℕ → ℕ → Option ℕ) (n m : ℕ) (some : 0 < n) (inside
           let fits : at.0 < n = Leads-inside (take k w) at.0 at.1 in
           omega (arith, is, fits)
 
-      apart : (j k : ℕ) → j < k → k < suc (length w) → or_zero (walk child 0 (take j w)) ≢ or_zero (walk child 0 (take k w))
-      apart j k less h same =
+      same : (j k : ℕ) → or_zero (walk child 0 (take j w)) ≡ or_zero (walk child 0 (take k w)) → take j w ≡ take k w
+      same j k e =
           let a = leads_take j in
           let b = leads_take k in
-          let one : a.0 ≡ b.0 = sym (ap or_zero a.1) ∙ (same ∙ ap or_zero b.1) in
-          let texts : take j w ≡ take k w = one_path a.0 (take j w) (take k w) a.1 (b.1 ∙ ap (λ x. Some x) (sym one)) in
-          let lengths : length (take j w) ≡ length (take k w) = ap length texts in
-          let left : length (take j w) ≡ j = length-take-le j w (omega arith) in
-          let right : length (take k w) ≡ k = length-take-le k w (omega arith) in
-          omega (arith, lengths, left, right)
+          let one : a.0 ≡ b.0 = sym (ap or_zero a.1) ∙ (e ∙ ap or_zero b.1) in
+          one_path a.0 (take j w) (take k w) a.1 (b.1 ∙ ap (λ x. Some x) (sym one))
 
   -- the text that is found for an element is the one that leads to it
   pub text_of-Leads : (w : List ℕ) (i : ℕ) → Leads child w i → text_of child m n i ≡ w

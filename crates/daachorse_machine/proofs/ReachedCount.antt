@@ -1,28 +1,19 @@
 -- As many texts lead somewhere as elements are listed, where each that a text leads to is listed once: one text leads to each.
 use Rattle.std.proofs.Common.{◌≡◌, ℕ, zero, suc, ◌<◌, ◌≤◌, ◌⊎◌, false, List, [], ◌∷◌, length, Option, Some, refl, sym, ap, ◌∙◌, subst, inl, inr, arith}
 use Rattle.std.proofs.lemmas.Bool.{cases_eq, false_from_ne_true}
+use Rattle.std.proofs.lemmas.List.Elements.{All-contains_itself, All-weaker, Contains-append_right, recursion_from_All}
 use Rattle.std.proofs.lemmas.Option.{same_Some}
 use Rattle.std.proofs.lemmas.Slice.Eq.{bytes_eq-Decides}
 use Rattle.std.specs.Prelude.{Contains}
-use Rattle.std.specs.List.{AllByRecursion, IsDistinct}
+use Rattle.std.specs.List.{IsDistinct}
 use Rattle.daachorse_model.specs.Units.{same_text}
 use Rattle.daachorse_model.specs.Paths.{walk, is_reached, Leads}
 use Rattle.daachorse_model.specs.Prefixes.{PassesAt}
 use Rattle.daachorse_machine.proofs.PathLaws.{element_reached, reached_element}
 
-Contains-first : {X : Type 0} (x : X) (xs : List X) → Contains (x ∷ xs) x
-Contains-first x xs = (0, omega arith, refl)
-
-Contains-later : {X : Type 0} (x y : X) (xs : List X) → Contains xs y → Contains (x ∷ xs) y
-Contains-later x y xs (k, less, is) = (suc k, omega arith, is)
-
 Contains-cases : {X : Type 0} (x y : X) (xs : List X) → Contains (x ∷ xs) y → (x ≡ y) ⊎ Contains xs y
 Contains-cases x y xs (zero, less, is) = inl is
 Contains-cases x y xs (suc k, less, is) = inr (k, omega arith, is)
-
-all_contained : {X : Type 0} (P : X → Type 0) (xs : List X) → ((x : X) → Contains xs x → P x) → AllByRecursion P xs
-all_contained P [] h = tt
-all_contained P (x ∷ xs) h = (h x (Contains-first x xs), all_contained P xs (λ y at. h y (Contains-later x y xs at)))
 
 module _ (child : ℕ → ℕ → Option ℕ) (one_path : (i : ℕ) (v w : List ℕ) → Leads child v i → Leads child w i → v ≡ w) (n : ℕ) (element : ℕ → ℕ) (apart : (k m : ℕ) → k < m → m < n → element m ≡ element k → ⊥)
     (text : (m : ℕ) → m < n → (w : List ℕ) × Leads child w (element m)) (found : (w : List ℕ) (i : ℕ) → Leads child w i → (m : ℕ) × (m < n) × (element m ≡ i)) where
@@ -35,14 +26,14 @@ module _ (child : ℕ → ℕ → Option ℕ) (one_path : (i : ℕ) (v w : List 
   listed_more : (m : ℕ) (texts : List (List ℕ)) (v : List ℕ) → m < n → Leads child v (element m) → IsListed m texts → IsListed (suc m) (v ∷ texts)
   unfolding IsDistinct
   listed_more m texts v lt here rest = record {
-    distinct = (all_contained (λ y. same_text v y ≡ false) texts other, rest.distinct);
+    distinct = (recursion_from_All _ texts (All-weaker (Contains texts) (λ y. same_text v y ≡ false) other texts (All-contains_itself texts)), rest.distinct);
     leads = λ w has. elim (Contains-cases v w texts has) [
       | inl is ↦ (m, omega arith, ap (λ x. walk child 0 x) (sym is) ∙ here)
       | inr later ↦ let r = rest.leads w later in (r.0, omega (arith, r.1), r.2)
     ];
     all = λ k w low e. elim (cases_eq k m) [
-      | inl is ↦ let P : List ℕ → Type 0 = λ x. Contains (v ∷ texts) x in subst P (one_path (element k) v w (here ∙ ap (λ r. Some (element r)) (sym is)) e) (Contains-first v texts)
-      | inr less ↦ Contains-later v w texts (rest.all k w (omega (arith, low, less)) e)
+      | inl is ↦ let P : List ℕ → Type 0 = λ x. Contains (v ∷ texts) x in subst P (one_path (element k) v w (here ∙ ap (λ r. Some (element r)) (sym is)) e) (0, omega arith, refl)
+      | inr less ↦ Contains-append_right (v ∷ []) texts w (rest.all k w (omega (arith, low, less)) e)
     ];
   }
     where

@@ -18,6 +18,7 @@ use Rattle.daachorse_placement.specs.declared.build_helper.SiblingGroup.{Sibling
 use Rattle.daachorse_placement.specs.Placement.{children_of, parent_of}
 use Rattle.daachorse_build.specs.EdgeMaps.{id_at}
 use Rattle.daachorse_build.specs.Tables.{child_in}
+use Rattle.daachorse_build.proofs.Full.{all_mapped}
 use Rattle.daachorse_build.proofs.Walks.{text_of}
 use Rattle.daachorse_packing.specs.Settled.{AreGroupsOf}
 use Rattle.daachorse_patterns.specs.Prefixes.{HasMoreProperPrefixes, IsProperPrefix}
@@ -26,10 +27,6 @@ use Rattle.daachorse_patterns.specs.Prefixes.{HasMoreProperPrefixes, IsProperPre
 first_edge : (es : List (ℕ × ℕ)) → 0 < length es → (c : ℕ) × (t : ℕ) × (id_at nat_cmp es c ≡ Some t)
 first_edge [] some = absurd (omega arith)
 first_edge (e ∷ es) some = (e.0, e.1, cond-true (is_eq (nat_cmp e.0 e.0)) _ _ (ap is_eq (sym (nat_cmp_is e.0 e.0 Equal refl))))
-
-all_mapped : {X : Type 0} (P Q : X → Type 0) → ((x : X) → P x → Q x) → (xs : List X) → AllByRecursion P xs → AllByRecursion Q xs
-all_mapped P Q f [] h = tt
-all_mapped P Q f (x ∷ xs) h = (f x h.0, all_mapped P Q f xs h.1)
 
 -- what goes on to a prefix of a key begins a longer key
 goes_on : {V : Type 0} (K : Dictionary V) (w : List ℕ) (c : ℕ) → IsPrefix K (w ++ c ∷ []) → IsProperPrefix K w

@@ -10,11 +10,23 @@ use Rattle.daachorse_model.specs.Paths.{Leads}
 use Rattle.daachorse_placement.specs.declared.build_helper.SiblingGroup.{SiblingGroup}
 use Rattle.daachorse_placement.specs.Layout.{Layout}
 use Rattle.daachorse_build.specs.Tables.{child_in}
-use Rattle.daachorse_build.proofs.Walks.{text_of}
+use Rattle.daachorse_build.specs.Trie.{IsTrie}
+use Rattle.daachorse_build.proofs.Walks.{text_of, walk-bounds}
 use Rattle.daachorse_machine.specs.Machines.{Machine}
-use Rattle.daachorse_machine.specs.Copies.{HasStates, HoldsDictionary, IsCopy, IsLinkedTo}
+use Rattle.daachorse_machine.specs.Copies.{HasStates, HoldsDictionary, IsCopy}
 use Rattle.daachorse_packing.specs.Settled.{AreSettled, HoldStates, trie_of}
 use Rattle.daachorse_packing.proofs.Places.{Leads-above, Leads-state, base_inside, place-above, place-apart, place-dead, place-inside, place_from, some-elements}
+
+-- a link leads to a state, or to the dead one
+pub link-inside : {V : Type 0} (width : ℕ → ℕ) (leftmost : Bool) (K : Dictionary V) (edges : List (List (ℕ × ℕ))) (fails positions : List ℕ) (outputs : List (Output V)) → IsTrie (child_in nat_cmp edges) (length edges)
+    → HoldsDictionary width K leftmost (trie_of edges fails positions) outputs → get_or fails 0 0 ≡ 0 → (s : ℕ) (w : List ℕ) → Leads (child_in nat_cmp edges) w s → get_or fails s 0 < length edges
+link-inside width leftmost K edges fails positions outputs trie holds root_link s [] e =
+    let link : get_or fails s 0 ≡ 0 = ap (λ x. get_or fails x 0) (sym (same_Some 0 s e)) ∙ root_link in
+    omega (arith, trie.two, link)
+link-inside width leftmost K edges fails positions outputs trie holds root_link s (u ∷ w) e = elim (holds.links u s w e) [
+  | inl dead ↦ (let is : get_or fails s 0 ≡ 1 = dead.0 in omega (arith, is, trie.two))
+  | inr alive ↦ (walk-bounds (child_in nat_cmp edges) (length edges) trie alive.2.0 (get_or fails s 0) alive.2.1).0
+]
 
 module _ {A : Type 0} {code : ℕ → ℕ} {block : ℕ} {tracked : Bool} {gs : List (SiblingGroup A)} {l : Layout} {edges : List (List (ℕ × ℕ))} (q : AreSettled code block tracked gs l edges) (fails positions : List ℕ) where
   -- a text leads to each state
@@ -53,22 +65,6 @@ module _ {A : Type 0} {code : ℕ → ℕ} {block : ℕ} {tracked : Bool} {gs : 
     -- ---- what the elements hold
     module _ {V : Type 0} (width : ℕ → ℕ) (leftmost : Bool) (K : Dictionary V) (outputs : List (Output V)) (holds : HoldsDictionary width K leftmost (trie_of edges fails positions) outputs)
         (root_link : get_or fails 0 0 ≡ 0) (fits : (w : List ℕ) (t : ℕ) → Leads (child_in nat_cmp edges) w t → get_or positions t 0 ≤ length outputs) where
-      -- a link leads to a state, or to the dead one
-      link-inside : (s : ℕ) (w : List ℕ) → Leads (child_in nat_cmp edges) w s → get_or fails s 0 < length edges
-      link-inside s [] e =
-          let two : 1 < length edges = q.of_trie.table.trie.two in
-          let same : 0 ≡ s = same_Some 0 s e in
-          let link : get_or fails s 0 ≡ 0 = ap (λ x. get_or fails x 0) (sym same) ∙ root_link in
-          omega (arith, two, link)
-      link-inside s (u ∷ w) e = go (holds.links u s w e)
-        where
-          two : 1 < length edges
-          two = q.of_trie.table.trie.two
-
-          go : IsLinkedTo K leftmost (trie_of edges fails positions) (u ∷ w) (get_or fails s 0) → get_or fails s 0 < length edges
-          go (inl dead) = let is : get_or fails s 0 ≡ 1 = dead.0 in omega (arith, is, two)
-          go (inr alive) = (Leads-state q (get_or fails s 0) alive.2.0 alive.2.1).0
-
       pub record IsInRange (i : ℕ) : Type 0 where
         pub base : base_of i < length l.used
         pub fail : fail_of i < length l.used
@@ -82,7 +78,7 @@ module _ {A : Type 0} {code : ℕ → ℕ} {block : ℕ} {tracked : Bool} {gs : 
               | inl zero ↦ subst (λ (x : ℕ). x < length l.used) (sym zero) (some-elements q)
               | inr some ↦ base_inside q t less some
             ]);
-            fail = subst (λ (x : ℕ). x < length l.used) (sym (held.fail t less alive)) (place-inside q (get_or fails t 0) (link-inside t text.0 text.1));
+            fail = subst (λ (x : ℕ). x < length l.used) (sym (held.fail t less alive)) (place-inside q (get_or fails t 0) (link-inside width leftmost K edges fails positions outputs q.of_trie.table.trie holds root_link t text.0 text.1));
             output = subst (λ (x : ℕ). x ≤ length outputs) (sym (held.output t less alive)) (fits text.0 t text.1);
           }
 

@@ -1,23 +1,24 @@
 -- The states of a trie whose groups were placed have elements of their own: a child's is led to from its parent's base, by the code of its unit.
-use Rattle.std.proofs.Common.{◌≡◌, ◌≢◌, ℕ, zero, suc, ◌<◌, ◌≤◌, ◌⊎◌, inl, inr, Bool, true, false, List, [], ◌∷◌, length, get_or, Option, Some, sym, ap, ◌∙◌, subst, arith}
+use Rattle.std.proofs.Common.{◌≡◌, ◌≢◌, ℕ, ◌<◌, ◌≤◌, ◌⊎◌, inl, inr, Bool, true, false, List, [], ◌∷◌, length, get_or, Option, Some, sym, ap, ◌∙◌, subst, arith}
 use Rattle.std.specs.Prelude.{bit_xor}
 use Rattle.std.specs.Ordering.{nat_cmp}
 use Rattle.std.specs.Cmp.{Equal-is}
 use Rattle.std.specs.BTreeMap.{is_at}
 use Rattle.std.proofs.lemmas.Bool.{cases_eq, cases_lt, false≢true}
-use Rattle.std.proofs.lemmas.Option.{get_or_from_slice_get, slice_get_within, same_Some}
+use Rattle.std.proofs.lemmas.Option.{get_or_from_slice_get, slice_get_within}
 use Rattle.std.proofs.lemmas.Map.Entries.{place_from_lookup}
 use Rattle.std.proofs.lemmas.List.{get_or_past, get_or-map, length-map}
 use Rattle.std.proofs.lemmas.Map.Lookups.{exact_unsigned}
 use Rattle.daachorse_core.proofs.Xor.{xor_inside}
-use Rattle.daachorse_model.specs.Paths.{walk, Leads}
+use Rattle.daachorse_model.specs.Paths.{Leads}
 use Rattle.daachorse_placement.specs.declared.build_helper.SiblingGroup.{SiblingGroup}
 use Rattle.daachorse_placement.specs.Layout.{Layout}
 use Rattle.daachorse_placement.specs.Placement.{IsGroupAt, children_of, parent_of, label_of, child_of}
 use Rattle.daachorse_build.specs.EdgeMaps.{id_at}
 use Rattle.daachorse_build.specs.Groups.{coded}
 use Rattle.daachorse_build.specs.Tables.{child_in}
-use Rattle.daachorse_machine.proofs.PathLaws.{and_then_inv}
+use Rattle.daachorse_build.proofs.Walks.{walk-above, walk-bounds}
+use Rattle.daachorse_machine.proofs.PathLaws.{search_below}
 use Rattle.daachorse_packing.specs.Settled.{ArePlaces, AreSettled, IsVacantAt}
 
 -- ---- an edge stands in the list of its state's edges
@@ -37,16 +38,6 @@ coded-at : (code : ℕ → ℕ) (es : List (ℕ × ℕ)) (i c t : ℕ) → i < l
 coded-at code es i c t inside is =
     let f : ℕ × ℕ → ℕ × ℕ = λ e. (code e.0, e.1) in
     get_or-map f es i (0, 0) (0, 0) inside ∙ ap f is
-
--- ---- a search among the numbers below n
-pub search_below : (P Q : ℕ → Type 0) (n : ℕ) → ((k : ℕ) → k < n → P k ⊎ Q k) → ((k : ℕ) × (k < n) × P k) ⊎ ((k : ℕ) → k < n → Q k)
-search_below P Q zero h = inr (λ k less. absurd (omega arith))
-search_below P Q (suc n) h = go (search_below P Q n (λ k less. h k (omega arith))) (h n (omega arith))
-  where
-    go : ((k : ℕ) × (k < n) × P k) ⊎ ((k : ℕ) → k < n → Q k) → P n ⊎ Q n → ((k : ℕ) × (k < suc n) × P k) ⊎ ((k : ℕ) → k < suc n → Q k)
-    go (inl (k, less, p)) last = inl (k, omega arith, p)
-    go (inr none) (inl p) = inl (n, omega arith, p)
-    go (inr none) (inr q) = inr (λ k less. elim (cases_eq k n) [ inl e ↦ subst Q (sym e) q | inr other ↦ none k (omega arith) ])
 
 -- ---- a trie whose groups were placed
 module _ {A : Type 0} {code : ℕ → ℕ} {block : ℕ} {tracked : Bool} {gs : List (SiblingGroup A)} {l : Layout} {edges : List (List (ℕ × ℕ))} (q : AreSettled code block tracked gs l edges) where
@@ -140,28 +131,13 @@ module _ {A : Type 0} {code : ℕ → ℕ} {block : ℕ} {tracked : Bool} {gs : 
   xor_below b c unit below = subst (λ (x : ℕ). bit_xor b c < x) (sym q.sizes.elements) (xor_inside block l.blocks b c q.power unit (subst (λ (x : ℕ). b < x) q.sizes.elements below))
 
   -- the states that texts lead to
-  walk-rises : (s t : ℕ) (w : List ℕ) → s < length edges → walk (child_in nat_cmp edges) s w ≡ Some t → (s ≤ t) × (t < length edges)
-  walk-rises s t [] less e = let same : s ≡ t = same_Some s t e in (omega arith, omega arith)
-  walk-rises s t (c ∷ w) less e =
-      let step = and_then_inv (λ r. walk (child_in nat_cmp edges) r w) (to s c) t e in
-      let bounds = q.of_trie.table.trie.bounds s c step.0 step.1 in
-      let low : s < step.0 = bounds.0 in
-      let rest = walk-rises step.0 t w bounds.3 step.2 in
-      let more : step.0 ≤ t = rest.0 in
-      (omega (arith, low, more), rest.1)
-
-  pub Leads-above : (u s : ℕ) (w : List ℕ) → Leads (child_in nat_cmp edges) (u ∷ w) s → (1 < s) × (s < length edges)
+  pub Leads-above : (u s : ℕ) (w : List ℕ) → Leads to (u ∷ w) s → (1 < s) × (s < length edges)
   Leads-above u s w e =
-      let step = and_then_inv (λ r. walk (child_in nat_cmp edges) r w) (to 0 u) s e in
-      let bounds = q.of_trie.table.trie.bounds 0 u step.0 step.1 in
-      let high : 1 < step.0 = bounds.2 in
-      let rest = walk-rises step.0 s w bounds.3 step.2 in
-      let more : step.0 ≤ s = rest.0 in
-      (omega (arith, high, more), rest.1)
+      let trie = q.of_trie.table.trie in
+      (walk-above to (length edges) trie u w s e, (walk-bounds to (length edges) trie (u ∷ w) s e).0)
 
-  pub Leads-state : (s : ℕ) (w : List ℕ) → Leads (child_in nat_cmp edges) w s → (s < length edges) × (s ≢ 1)
-  Leads-state s [] e = let same : 0 ≡ s = same_Some 0 s e in let two : 1 < length edges = q.of_trie.table.trie.two in (omega (arith, same, two), λ one. (let bad : 0 ≡ 1 = same ∙ one in omega (arith, bad)))
-  Leads-state s (u ∷ w) e = let above = Leads-above u s w e in let high : 1 < s = above.0 in (above.1, λ one. omega (arith, high, one))
+  pub Leads-state : (s : ℕ) (w : List ℕ) → Leads to w s → (s < length edges) × (s ≢ 1)
+  Leads-state s w e = walk-bounds to (length edges) q.of_trie.table.trie w s e
 
   -- ---- the places
   pub place-above : (t : ℕ) → 1 < t → t < length edges → 1 < place t

@@ -1,5 +1,5 @@
 -- Elements are written one after another, each in a place of its own: a write keeps what was told of those before it.
-use Rattle.std.proofs.Common.{◌≡◌, ◌≢◌, ℕ, ◌+◌, ◌<◌, inl, inr, List, length, set, sym, ap, ◌∙◌, subst, arith}
+use Rattle.std.proofs.Common.{◌≡◌, ◌≢◌, ℕ, ◌+◌, ◌<◌, inl, inr, List, length, set, sym, ap, ◌∙◌, arith}
 use Rattle.std.specs.Prelude.{slice_index, slice_index_or}
 use Rattle.std.proofs.lemmas.List.{get_or-map, get_or-set_other, get_or-set_same}
 use Rattle.daachorse_model.proofs.Lists.{below_or_at}
@@ -24,6 +24,5 @@ module _ {E : Type 0} (vacant : E) (m n elements : ℕ) (idx : List ℕ) (new : 
         let other : slice_index idx t ≢ slice_index idx m = λ same. (let one : t ≡ m = places.apart t m (omega (arith, before, inside)) inside alive here same in omega (arith, before, one)) in
         ap f (get_or-set_other new (slice_index idx m) (slice_index idx t) e vacant other) ∙ so_far t before alive
     | inr same ↦
-        let P : ℕ → Type 0 = λ k. f (slice_index_or (set new (slice_index idx m) e) (slice_index idx k) vacant) ≡ x k in
-        subst P (sym same) (ap f (get_or-set_same new (slice_index idx m) e vacant fits) ∙ is)
+        rw same (ap f (get_or-set_same new (slice_index idx m) e vacant fits) ∙ is)
   ]

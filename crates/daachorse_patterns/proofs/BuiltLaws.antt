@@ -21,7 +21,7 @@ use Rattle.daachorse_build.specs.Growth.{HasTrieOf}
 use Rattle.daachorse_build.specs.Holds.{Holds, in_units}
 use Rattle.daachorse_build.specs.Left.{LinksLeft}
 use Rattle.daachorse_build.specs.Lists.{IsChainedAt, IsRest}
-use Rattle.daachorse_build.specs.Orders.{HoldLinks, IsLinked}
+use Rattle.daachorse_build.specs.Orders.{HoldLinks}
 use Rattle.daachorse_build.specs.Steps.{AreLeft, HoldEitherLinks, HasLinksOf, HasOutputsOf, KeepsPatterns}
 use Rattle.daachorse_build.specs.Tables.{child_in, child_of, edge_map, edges_of, fails_of, held_at, own_at, own_of, positions_of}
 use Rattle.daachorse_build.proofs.Fitting.{state_of}
@@ -55,8 +55,7 @@ module _ {L V A : Type 0} (cmp : L → L → Ordering) (unit : L → ℕ) (width
   AreLeft-kept o b rs keeps left =
       let E : List (List (L × ℕ)) → Type 0 = λ es. (w : List L) (t : ℕ) → w ≢ [] → Leads (child_in cmp es) w t
       → LinksLeft (dictionary (kind_of o) (in_units unit rs)) unit (child_in cmp es) w (slice_index (fails_of (states_of b)) t) in
-      let K : MatchKind → Type 0 = λ k. AreLeft cmp unit k (states_of b) (states_of b) rs in
-      subst K (sym keeps.kind) (subst E (sym keeps.kept.edges) left)
+      rw keeps.kind (subst E (sym keeps.kept.edges) left)
 
 -- The trie of a builder with patterns, read by units.
 module _ {L V A : Type 0} (cmp : L → L → Ordering) (unit : L → ℕ) (width : ℕ → ℕ) (total : IsTotalOrder cmp) (d : NfaBuilder L V A) (rs : List (List L × V)) (was : Registered cmp unit width d rs)
@@ -199,7 +198,7 @@ module _ {L V A : Type 0} (cmp : L → L → Ordering) (unit : L → ℕ) (width
     trie = held.holds.trie;
     holds = all;
     root = ap (λ fs. slice_index fs 0) fails ∙ linked.root;
-    positions = positions_d;
+    positions = rw put.edges made.positions;
     few_outputs = few;
     few_states = omega (arith, fits, ap length (put.edges ∙ keeps.kept.edges), length-map (states_of d) edge_map, length-map (states_of o) edge_map);
   }
@@ -210,44 +209,11 @@ module _ {L V A : Type 0} (cmp : L → L → Ordering) (unit : L → ℕ) (width
       held : Registered cmp unit width d rs
       held = Registered-kept cmp unit width b d rs keeps-d (Registered-kept cmp unit width o b rs keeps was)
 
-      R : List (List (L × ℕ)) → Type 0
-      R es = (w : List L) (t : ℕ) → Leads (child_in cmp es) w t → slice_index (positions_of (states_of d)) t ≤ length (outputs_of d)
-
-      positions_d : R (edges_of (states_of d))
-      positions_d = subst R (sym put.edges) made.positions
-
-      C : List (List (L × ℕ)) → List (List (V × ℕ)) → List ℕ → Type 0
-      C es own fs = (w : List L) (t : ℕ) → Leads (child_in cmp es) w t → IsChainedAt own fs (outputs_of d) (positions_of (states_of d)) t
-
-      CE : List (List (L × ℕ)) → Type 0
-      CE es = C es (own_of (states_of b)) (fails_of (states_of b))
-
-      CO : List (List (V × ℕ)) → Type 0
-      CO own = C (edges_of (states_of d)) own (fails_of (states_of b))
-
-      CF : List ℕ → Type 0
-      CF fs = C (edges_of (states_of d)) (own_of (states_of d)) fs
-
-      follows_d : CF (fails_of (states_of d))
-      follows_d = subst CF (sym fails) (subst CO (sym put.outputs) (subst CE (sym put.edges) made.follows))
-
-      P : List (List (L × ℕ)) → Type 0
-      P es = IsLinked cmp es (fails_of (states_of b)) order
-
-      Q : List ℕ → Type 0
-      Q fs = IsLinked cmp (edges_of (states_of d)) fs order
-
-      E : List (List (L × ℕ)) → Type 0
-      E es = (w : List L) (t : ℕ) → w ≢ [] → Leads (child_in cmp es) w t → LinksLeft (dictionary (kind_of b) (in_units unit rs)) unit (child_in cmp es) w (slice_index (fails_of (states_of b)) t)
-
-      F : List ℕ → Type 0
-      F fs = (w : List L) (t : ℕ) → w ≢ [] → Leads (child_of cmp (states_of d)) w t → LinksLeft (dictionary (kind_of b) (in_units unit rs)) unit (child_of cmp (states_of d)) w (slice_index fs t)
-
       all : (child : ℕ → ℕ → Option ℕ) → LeadsByUnit cmp unit (edges_of (states_of d)) child → HoldsDictionary width (dictionary (kind_of d) (in_units unit rs)) (is_leftmost kind) (trie_by child (fails_of (states_of d)) (positions_of (states_of d))) (outputs_of d)
       all child by =
           let K : MatchKind → Type 0 = λ k. AreLeft cmp unit k (states_of d) (states_of d) rs in
-          holds_linked cmp unit width total d rs held child by kind order (λ is. subst Q (sym fails) (subst P (sym put.edges) (linked.standard is)))
-          (λ is. subst K (sym keeps-d.kind) (subst F (sym fails) (subst E (sym put.edges) (AreLeft-kept cmp unit width o b rs keeps (linked.left is rs was))))) follows_d parents
+          holds_linked cmp unit width total d rs held child by kind order (λ is. rw (fails, put.edges) (linked.standard is))
+          (λ is. subst K (sym keeps-d.kind) (rw (fails, child_of, put.edges) (AreLeft-kept cmp unit width o b rs keeps (linked.left is rs was)))) (rw (fails, put.outputs, put.edges) made.follows) parents
 
   -- the builder holds the dictionary of its patterns
   pub finished_for : (rs : List (List ℕ × V)) → HasTexts cmp unit width o rs → IsBuilt cmp unit width most kind d (dictionary kind rs)

@@ -36,8 +36,7 @@ module _ {V E : Type 0} (gives : ℕ → Result V E → Type 0) where
   values_refused units width limits kind ts e (inl memory) =
       let P : DaachorseError → Type 0 = λ x. IsBuildRefusalWithin gives width limits kind (map units ts) x in subst P (sym memory) tt
   values_refused units width limits kind ts e (inr (is, none)) =
-      let P : DaachorseError → Type 0 = λ x. IsBuildRefusalWithin gives width limits kind (map units ts) x in
-      subst P (sym is) (none.0, none.1, omega (arith, none.2, length-map ts units), none.3)
+      rw is (none.0, none.1, omega (arith, none.2, length-map ts units), none.3)
 
   -- a refusal of patterns with the values of their indexes is one of the build
   pub refused_build : (width : ℕ → ℕ) (limits : Limits) (kind : MatchKind) (texts : List (List ℕ)) (rs : List (List ℕ × V)) → AreIndexed gives 0 texts rs → (e : DaachorseError) → IsRefusalWithin width limits kind rs e → IsBuildRefusalWithin gives width limits kind texts e

@@ -113,8 +113,7 @@ module _ {V : Type 0} (width : ℕ → ℕ) (limits : Limits) (kind : MatchKind)
   pub elements_refused : Fit width kind all → IfSome limits.patterns (λ n. length (kept kind all) ≤ n) → (e : DaachorseError) (passed : Type 0) → (passed → IsSomeAnd limits.parents (λ n. HasMoreProperPrefixes (dictionary kind all) n)) → IsRefusal ⊥ NumElements passed e → IsRefusalWithin width limits kind all e
   elements_refused fit few (InvalidArgument _) passed tells refused = absurd refused
   elements_refused fit few (AutomatonScale s) passed tells refused =
-      let P : Limit → Type 0 = λ limit. IsPassed width limits kind all limit in
-      subst P (sym refused.0) (fit, few, tells refused.1)
+      rw refused.0 (fit, few, tells refused.1)
   elements_refused fit few (InvalidConversion _) passed tells refused = absurd refused
   elements_refused fit few (InvalidAutomaton _) passed tells refused = absurd refused
   elements_refused fit few (OutOfMemory _) passed tells refused = tt
@@ -124,8 +123,7 @@ pub outputs_refused : {V : Type 0} (width : ℕ → ℕ) (patterns parents : Opt
     → (e : DaachorseError) (passed : Type 0) → (passed → 4294967295 < length (kept kind all)) → IsRefusal ⊥ Outputs passed e → IsRefusalWithin width (record { patterns = patterns; parents = parents }) kind all e
 outputs_refused width patterns parents kind all low few fit (InvalidArgument _) passed tells refused = absurd refused
 outputs_refused width None parents kind all low few fit (AutomatonScale s) passed tells refused =
-    let P : Limit → Type 0 = λ limit. IsPassed width (record { patterns = None; parents = parents }) kind all limit in
-    subst P (sym refused.0) (fit, refl, tells refused.1)
+    rw refused.0 (fit, refl, tells refused.1)
 outputs_refused width (Some n) parents kind all low few fit (AutomatonScale s) passed tells refused =
     let many = tells refused.1 in absurd (omega (arith, low, few, many))
 outputs_refused width patterns parents kind all low few fit (InvalidConversion _) passed tells refused = absurd refused

@@ -59,6 +59,5 @@ module _ {V E : Type 0} (gives : ℕ → Result V E → Type 0) where
   pub values_refused-as_read : {P : Type 0} (folds : Bool) (units : P → List ℕ) (width : ℕ → ℕ) (limits : Limits) (kind : MatchKind) (ts : List P) (e : DaachorseError)
       → IsOutOfMemory e ⊎ ((e ≡ InvalidConversion (record {})) × HasNoValue gives ts) → IsBuildRefusalWithin gives width limits kind (all_as_read folds (map units ts)) e
   values_refused-as_read true units width limits kind ts e why =
-      let P : List (List ℕ) → Type 0 = λ texts. IsBuildRefusalWithin gives width limits kind texts e in
-      subst P (sym (map-map folded units ts)) (values_refused gives (λ t. folded (units t)) width limits kind ts e why)
+      rw (map-map folded units ts) (values_refused gives (λ t. folded (units t)) width limits kind ts e why)
   values_refused-as_read false units width limits kind ts e why = values_refused gives units width limits kind ts e why

@@ -1,5 +1,5 @@
 -- The trie of all patterns has its links and outputs, and the first step that refuses refuses the build.
-use Rattle.std.proofs.Common.{◌≡◌, ◌≤◌, ℕ, List, length, None, ◌∙◌, ap, subst, sym, arith}
+use Rattle.std.proofs.Common.{◌≡◌, ◌≤◌, ℕ, List, length, None, ◌∙◌, ap, subst, arith}
 use Rattle.std.specs.Prelude.{IfSome}
 use Rattle.std.proofs.lemmas.Option.{IfSome_then}
 use Rattle.std.proofs.lemmas.Result.{err_from_is_err_and, IfOk-from_err}
@@ -7,8 +7,8 @@ use Rattle.daachorse_core.proofs.Refusals.{at_error}
 use Rattle.daachorse_model.specs.declared.MatchKind.{MatchKind}
 use Rattle.daachorse_model.specs.Dictionary.{kept}
 use Rattle.daachorse_model.specs.Kinds.{is_leftmost}
-use Rattle.daachorse_build.specs.Builders.{kind_of, outputs_of, states_of}
-use Rattle.daachorse_build.specs.Steps.{HoldEitherLinks, HasOutputsOf}
+use Rattle.daachorse_build.specs.Builders.{kind_of, outputs_of}
+use Rattle.daachorse_build.specs.Steps.{HasOutputsOf}
 use Rattle.daachorse_patterns.specs.Building.{Fit, IsRefusalWithin, Limits}
 use Rattle.daachorse_patterns.specs.Patterns.{texts_of}
 use Rattle.daachorse_patterns.proofs.BuiltLaws.{HasTexts-kept, either_linked, few_for, finished_for}
@@ -17,8 +17,7 @@ use Rattle.daachorse_patterns.proofs.trie.build_trie.Goals as goal
 
 pub build_outputs-requires : goal.build_outputs-requires
 build_outputs-requires g c =
-    let P : List ℕ → Type 0 = λ order. HoldEitherLinks g.L.Ord.cmp (states_of c.build_links.new.nfa) order in
-    subst P (sym c.deref.ensures.value) (either_linked g.L.Ord.cmp g.L.EdgeLabel.unit g.L.EdgeLabel.width (is_leftmost c.args.kind) c.add_all.new.nfa c.build_links.new.nfa c.in_ok-order.order.items c.in_ok-order.ensures.links)
+    rw c.deref.ensures.value (either_linked g.L.Ord.cmp g.L.EdgeLabel.unit g.L.EdgeLabel.width (is_leftmost c.args.kind) c.add_all.new.nfa c.build_links.new.nfa c.in_ok-order.order.items c.in_ok-order.ensures.links)
 
 pub returns-clause-ok : goal.returns-clause-ok
 returns-clause-ok g c =

@@ -1,5 +1,5 @@
 -- Each state that a text leads to stands in the order, so its list has the outputs of the text and its suffixes, as far as the links go.
-use Rattle.std.proofs.Common.{◌≡◌, ℕ, Bool, true, false, List, length, map, drop, refl, sym, ap, ◌∙◌, subst, inl, inr, arith}
+use Rattle.std.proofs.Common.{◌≡◌, ℕ, Bool, true, false, List, length, drop, refl, sym, ap, ◌∙◌, subst, inl, inr, arith}
 use Rattle.std.proofs.lemmas.List.{take_at}
 use Rattle.std.proofs.lemmas.Result.{on_ok_weaker}
 use Rattle.std.proofs.lemmas.Grind.{common_steps, elements}
@@ -7,9 +7,7 @@ use Rattle.std.specs.declared.cmp.Ordering.{Ordering}
 use Rattle.std.specs.declared.cmp.Ordering.TheVariants.{Equal}
 use Rattle.std.specs.Cmp.{IsTotalOrder}
 use Rattle.daachorse_core.specs.declared.outputs.Output.{Output}
-use Rattle.daachorse_model.specs.Outputs.{IsChain}
 use Rattle.daachorse_model.specs.Paths.{Leads}
-use Rattle.daachorse_model.specs.Prefixes.{IsDead}
 use Rattle.daachorse_model.specs.Dictionary.{dictionary}
 use Rattle.daachorse_build.specs.declared.nfa_builder.NfaBuilderState.{NfaBuilderState}
 use Rattle.daachorse_build.specs.Builders.{Builder}
@@ -50,8 +48,7 @@ outputs-built {L} {V} cmp total exact unit width b new outputs order table linke
           ∙ suffix_outputs-held cmp unit width b.kind b.states rs reg.holds w;
       chains = λ left rs reg w t h.
           let K = dictionary b.kind (in_units unit rs) in
-          let C : List (V × ℕ) → Type 0 = λ l. IsChain width K (IsDead K) (map unit w) l in
-          subst C (sym (made.lists true left t (known true left w t h) w h)) (chain-left cmp total exact unit width b.kind b.states rs reg.holds w);
+          rw (made.lists true left t (known true left w t h) w h) (chain-left cmp total exact unit width b.kind b.states rs reg.holds w);
       follows = λ w t h. made.chained links.0 links.1 t (known links.0 links.1 w t h);
       bound = made.bound;
       few = made.few;
@@ -60,8 +57,7 @@ outputs-built {L} {V} cmp total exact unit width b new outputs order table linke
 
 pub put_lists-requires-clause-links : goal.put_lists-requires-clause-links
 put_lists-requires-clause-links g c =
-    let P : List (NfaBuilderState g.row.L.Denot g.row.V.Denot g.row.A.Denot) → Type 0 = λ ss. (leftmost : Bool) × HoldLeftLinks g.L.Ord.cmp leftmost ss c.args.order.now in
-    subst P (sym c.deref_mut.ensures.value) (either g.L.Ord.cmp g.met.L.Ord.total c.self.inside.states.items c.self.invariant c.args.order.now (rw (← c.self.view_is) at c.requires))
+    rw c.deref_mut.ensures.value (either g.L.Ord.cmp g.met.L.Ord.total c.self.inside.states.items c.self.invariant c.args.order.now (rw (← c.self.view_is) at c.requires))
 
 pub returns-clause-outputs : goal.returns-clause-outputs
 returns-clause-outputs g c =

@@ -1,25 +1,19 @@
 -- A state that stops is met; else what is met is met after the next label.
-use Rattle.std.proofs.Common.{rules, ◌≡◌, ◌+◌, ◌<◌, ◌∷◌, [], ◌++◌, ◌||◌, ℕ, Bool, true, false, List, Option, Some, None, length, take, drop, refl, sym, ap, ◌∙◌, arith, unwrap_or}
+use Rattle.std.proofs.Common.{rules, ◌≡◌, ◌+◌, ◌<◌, ◌∷◌, [], ◌++◌, ◌||◌, ℕ, Bool, true, false, List, Option, Some, None, length, take, drop, sym, ap, ◌∙◌, unwrap_or}
 use Rattle.std.specs.Prelude.{option_map}
 use Rattle.std.proofs.lemmas.Bool.{or_left}
-use Rattle.std.proofs.lemmas.List.{length-map, take_more, drop_more, at_drop_all}
+use Rattle.std.proofs.lemmas.List.{take_more, drop_more, at_drop_all}
 use Rattle.daachorse_model.proofs.Paths.{walk-push}
-use Rattle.daachorse_build.specs.Tables.{child_of, edges_of, stops_of}
+use Rattle.daachorse_build.specs.Tables.{child_of, stops_of}
 use Rattle.daachorse_build.specs.Left.{meets_early}
-use Rattle.daachorse_build.proofs.Walks.{walk-bounds}
+use Rattle.daachorse_build.proofs.States.{leads_low}
 use Rattle.daachorse_build.proofs.nfa_builder.adding.extends_key.Goals as goal
 
 pub stops-requires : goal.stops-requires
-stops-requires g c =
-    let states = c.args.states.now in
-    let b = walk-bounds (child_of g.L.Ord.cmp states) (length (edges_of states)) c.requires.trie _ c.loop-label.id c.loop-label.invariant.here in
-    omega (arith, b.0, length-map states (λ s. s.edges))
+stops-requires g c = (leads_low g.L.Ord.cmp c.args.states.now c.requires _ c.loop-label.id c.loop-label.invariant.here).0
 
 pub child-requires : goal.child-requires
-child-requires g c =
-    let states = c.args.states.now in
-    let b = walk-bounds (child_of g.L.Ord.cmp states) (length (edges_of states)) c.requires.trie _ c.loop-label.id c.loop-label.invariant.here in
-    omega (arith, b.0, length-map states (λ s. s.edges))
+child-requires g c = (leads_low g.L.Ord.cmp c.args.states.now c.requires _ c.loop-label.id c.loop-label.invariant.here).0
 
 module _ {A : Type 0} (child : ℕ → A → Option ℕ) (stops : ℕ → Bool) where
   at_stop : (s : ℕ) (x : A) (w : List A) → stops s ≡ true → meets_early child stops s (x ∷ w) ≡ true
@@ -30,9 +24,6 @@ module _ {A : Type 0} (child : ℕ → A → Option ℕ) (stops : ℕ → Bool) 
 
   at_none : (s : ℕ) (x : A) (w : List A) → stops s ≡ false → child s x ≡ None → meets_early child stops s (x ∷ w) ≡ false
   at_none s x w h e = ap (λ b. b || unwrap_or (option_map (λ u. meets_early child stops u w) (child s x)) false) h ∙ ap (λ o. unwrap_or (option_map (λ u. meets_early child stops u w) o) false) e
-
-pub loop-label-init : goal.loop-label-init
-loop-label-init g c = record { here = refl; same = refl }
 
 pub returns-then-stops : goal.returns-then-stops
 returns-then-stops g c =

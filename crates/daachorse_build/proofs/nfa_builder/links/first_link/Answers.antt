@@ -1,24 +1,12 @@
 -- A child of the root is dead where the root or the child stops, and else its link is the root.
-use Rattle.std.proofs.Common.{◌≡◌, Bool, true, false, length, refl, sym, ◌∙◌, arith}
+use Rattle.std.proofs.Common.{◌≡◌, true, false, length, refl, sym, ◌∙◌, arith}
 use Rattle.std.specs.Prelude.{◌||◌}
 use Rattle.std.proofs.lemmas.List.{length-map}
-use Rattle.std.proofs.lemmas.Bool.{false≢true}
+use Rattle.std.proofs.lemmas.Bool.{false≢true, or_from, or_left, or_right}
 use Rattle.daachorse_build.specs.Tables.{child_in, edges_of, stops_of}
 use Rattle.daachorse_build.proofs.LeftLinks.{link_of_first}
 use Rattle.daachorse_build.proofs.nfa_builder.links.first_link.Goals.{then-stops-via-then-stops, then-stops-via-else-stops+then-stops-2}
 use Rattle.daachorse_build.proofs.nfa_builder.links.first_link.Goals as goal
-
-or_left : (a b : Bool) → a ≡ true → (a || b) ≡ true
-or_left true b h = refl
-or_left false b h = absurd (false≢true h)
-
-or_right : (a b : Bool) → b ≡ true → (a || b) ≡ true
-or_right true b h = refl
-or_right false b h = h
-
-or_none : (a b : Bool) → a ≡ false → b ≡ false → (a || b) ≡ false
-or_none true b h k = h
-or_none false b h k = k
 
 pub stops-requires-else-stops : goal.stops-requires-else-stops
 stops-requires-else-stops g c =
@@ -46,6 +34,6 @@ returns-clause-link g c =
     let stops = stops_of c.args.leftmost states in
     let t = c.args.child in
     let e = c.requires.edge in
-    let none : (stops 0 || stops t) ≡ false = or_none (stops 0) (stops t) (sym c.stops.ensures ∙ c.if-stops.false) (sym c.stops-else-stops.ensures ∙ c.if-stops-2.false) in
+    let none : (stops 0 || stops t) ≡ false = or_from (stops 0) (stops t) (sym c.stops.ensures ∙ c.if-stops.false) (sym c.stops-else-stops.ensures ∙ c.if-stops-2.false) in
     link_of_first (child_in g.L.Ord.cmp (edges_of states)) stops (length (edges_of states)) c.requires.table.trie e.0 t 0 e.1
     (λ h. absurd (false≢true (sym none ∙ h))) (λ h. refl)

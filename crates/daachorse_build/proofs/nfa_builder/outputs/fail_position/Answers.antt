@@ -10,10 +10,6 @@ use Rattle.daachorse_build.proofs.nfa_builder.outputs.fail_position.Goals as goa
 link_here : {L V A : Type 0} (states : List (NfaBuilderState L V A)) (i : ℕ) (x : NfaBuilderState L V A) → i < length states → get_or (fails_of states) i 0 ≡ (get_or states i x).fail
 link_here states i x l = get_or-map (λ s. s.fail) states i x 0 l
 
--- a state's position by its index
-position_here : {L V A : Type 0} (states : List (NfaBuilderState L V A)) (i : ℕ) (x : NfaBuilderState L V A) → i < length states → get_or (positions_of states) i 0 ≡ (get_or states i x).output_pos
-position_here states i x l = get_or-map (λ s. s.output_pos) states i x 0 l
-
 pub bounds-states-fail : goal.bounds-states-fail
 bounds-states-fail g c =
     subst (λ (f : ℕ). f < length c.args.states.now) (link_here c.args.states.now c.args.id c.index-states-id.result c.requires.id) c.requires.fail
@@ -28,11 +24,8 @@ returns g c =
     let fail : ℕ = (get_or states c.args.id c.index-states-id.result).fail in
     let here : get_or (fails_of states) c.args.id 0 ≡ fail = link_here states c.args.id c.index-states-id.result c.requires.id in
     let inside : fail < length states = subst (λ (f : ℕ). f < length states) here c.requires.fail in
-    let position = position_here states fail c.index-states-fail.result inside in
+    let position = get_or-map (λ s. s.output_pos) states fail c.index-states-fail.result 0 inside in
     subst (λ (f : ℕ). IsParent (positions_of states) f (get_or states fail c.index-states-fail.result).output_pos) (sym here) (inr (c.if-fail-eq-DEAD_STATE_ID.false, sym position))
-
-pub offset_bounds-states-id : goal.offset_bounds-states-id
-offset_bounds-states-id g c = omega (arith, c.requires.id)
 
 pub offset_bounds-states-fail : goal.offset_bounds-states-fail
 offset_bounds-states-fail g c = omega (arith, bounds-states-fail g c)

@@ -43,12 +43,6 @@ pub returns-clause-fails : goal.returns-clause-fails
 returns-clause-fails g c =
     (position_set c.args.states.now c.args.id c.index-states-id.result _ c.in_ok-state.field-0 (omega arith) c.index-states-id.is (ap (λ (s : NfaBuilderState g.row.L.Denot g.row.V.Denot g.row.A.Denot). record s { output_pos = c.in_ok-state.field-0 }) (sym c.index-states-id.is))).1
 
-pub returns-clause-longer : goal.returns-clause-longer
-returns-clause-longer g c = c.push_chain.ensures.longer
-
-pub returns-clause-parents : goal.returns-clause-parents
-returns-clause-parents g c = c.push_chain.ensures.parents
-
 pub returns-clause-chain : goal.returns-clause-chain
 returns-clause-chain g c =
     let states = c.args.states.now in

@@ -24,15 +24,11 @@ use Rattle.daachorse_core.specs.Chains.{Passes}
 use Rattle.daachorse_build.specs.Few.{items_of}
 use Rattle.daachorse_build.proofs.nfa_builder.outputs.put_lists.Goals as goal
 
--- as many states, at a trie's twin
-same_length : {L V A : Type 0} (old new : List (NfaBuilderState L V A)) → HasTrieOf old new → length new ≡ length old
-same_length old new kept = sym (length-map new (λ s. s.edges)) ∙ ap length kept.edges ∙ length-map old (λ s. s.edges)
-
 module _ {L V A : Type 0} (cmp : L → L → Ordering) (total : IsTotalOrder cmp) (exact : (x y : L) → cmp x y ≡ Equal → x ≡ y) (old new : List (NfaBuilderState L V A)) (order : List ℕ) (table : HoldTrie cmp old) (stops : ℕ → Bool) (links : IsLeftLinked cmp stops (edges_of old) (fails_of old) order) (kept : HasTrieOf old new) (i : ℕ) (l : i < length order) where
   -- a state of the order, and its link, are within the states
   state_bounds : (get_or order i 0 < length new) × (get_or (fails_of old) (get_or order i 0) 0 < length new)
   state_bounds =
-      let count = same_length old new kept in
+      let count : length new ≡ length old = sym (length-map new (λ s. s.edges)) ∙ ap length kept.edges ∙ length-map old (λ s. s.edges) in
       let edges = length-map old (λ s. s.edges) in
       let within = order-bounds cmp total exact stops old table order (fails_of old) links in
       let at = within (get_or order i 0) (in_at order i l) in
@@ -56,10 +52,6 @@ module _ {L V A : Type 0} (cmp : L → L → Ordering) (total : IsTotalOrder cmp
       ap (λ ts. output_count (cleared (own_of old) (0 ∷ ts)) + length (own_at (own_of old) t)) (take_more order i 0 l)
       ∙ count-cleared (own_of old) (0 ∷ take i order) t low apart
 
--- a count that was cleared before is part of the whole
-first_cleared : {V : Type 0} (own : List (List (V × ℕ))) → 0 < length own → output_count (cleared own (0 ∷ [])) + length (own_at own 0) ≡ output_count own
-first_cleared own l = count-cleared own [] 0 l (λ h. h)
-
 pub loop-id-init : goal.loop-id-init
 loop-id-init g c =
     let e = c.in_ok-put_list.ensures in
@@ -73,7 +65,7 @@ loop-id-init g c =
       lists = λ leftmost links. listed_start g.L.Ord.cmp g.met.L.Ord.total (label_exact g.L.EdgeLabel.unit g.L.Ord.cmp g.met.L.EdgeLabel.exact g.met.L.EdgeLabel.by_unit) (stops_of leftmost states) states c.put_list.new.outputs.items (positions_of c.put_list.new.states) c.requires.trie e.chain.list;
       chained = λ leftmost links. chained_start (own_of states) (fails_of states) c.put_list.new.outputs.items (positions_of c.put_list.new.states) e.chain.passes;
       few = omega (arith, e.chain.few (omega (arith, ap length c.requires.unbuilt)));
-      count = omega (arith, e.chain.count, first_cleared (own_of states) two, ap length c.requires.unbuilt);
+      count = omega (arith, e.chain.count, count-cleared (own_of states) [] 0 two (λ h. h), ap length c.requires.unbuilt);
     }
 
 pub fail_position-parent-requires : goal.fail_position-parent-requires
@@ -137,15 +129,6 @@ put_list-requires g c = record {
   id = omega (arith, c.requires.trie.trie.two, length-map c.args.states.now (λ s. s.edges));
 }
 
-pub returns-clause-kept : goal.returns-clause-kept
-returns-clause-kept g c = c.loop-id.invariant.kept
-
-pub returns-clause-fails : goal.returns-clause-fails
-returns-clause-fails g c = c.loop-id.invariant.fails
-
-pub returns-clause-parents : goal.returns-clause-parents
-returns-clause-parents g c = c.loop-id.invariant.parents
-
 pub returns-clause-lists : goal.returns-clause-lists
 returns-clause-lists g c =
     let i = c.loop-id.invariant in
@@ -172,7 +155,7 @@ returns-in_err-put_list g c = record {
       let p = err_from_is_err_and c.from_residual.result c.from_residual.ensures.1 in
       let states = c.args.states.now in
       let two : 0 < length (own_of states) = omega (arith, c.requires.trie.trie.two, length-map states (λ s. s.edges), length-map states (λ s. items_of s.output)) in
-      let count = first_cleared (own_of states) two in
+      let count = count-cleared (own_of states) [] 0 two (λ h. h) in
       let none = ap length c.requires.unbuilt in
       let fewer : 4294967295 < vec_len c.args.outputs.now + length (own_at (own_of states) 0) → 4294967295 < output_count (own_of states) = λ h. omega (arith, h, count, none) in
       rw (p.1, p.2) (IsRefusal-weaker ⊥ ⊥ Outputs _ (4294967295 < output_count (own_of states)) (λ x. x) fewer _ c.in_err-put_list.ensures.refused);

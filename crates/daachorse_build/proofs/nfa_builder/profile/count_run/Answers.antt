@@ -57,8 +57,5 @@ loop-place-preserved g c =
           ];
     }
 
-pub returns-clause-counted : goal.returns-clause-counted
-returns-clause-counted g c = c.loop-place.invariant.counted
-
 pub returns-clause-empty : goal.returns-clause-empty
 returns-clause-empty g c = λ none. c.loop-place.invariant.begun (omega (arith, ap length none))

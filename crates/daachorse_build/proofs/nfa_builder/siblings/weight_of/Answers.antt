@@ -1,41 +1,36 @@
 -- A child is a state, and so it has a count.
-use Rattle.std.proofs.Common.{◌≡◌, ◌+◌, ◌-◌, ◌^◌, ◌<◌, min, ℕ, zero, suc, List, [], ◌∷◌, ◌++◌, length, map, get_or, sum_by, Some, refl, sym, ap, ◌∙◌, subst, inl, inr, arith}
-use Rattle.std.proofs.lemmas.List.{length-map, get_or-map, map-append, get_or_default}
+use Rattle.std.proofs.Common.{Bor, Option, ◌≡◌, ◌+◌, ◌-◌, ◌^◌, ◌<◌, min, ℕ, List, [], ◌∷◌, ◌++◌, length, map, get_or, sum_by, Some, refl, sym, ap, ◌∙◌, inl, inr, arith}
+use Rattle.std.proofs.lemmas.List.{length-map, map-append, get_or_default}
 use Rattle.std.proofs.lemmas.List.Sums.{sum_by_push}
 use Rattle.std.proofs.lemmas.Bool.{false≢true}
 use Rattle.std.proofs.lemmas.Map.Iter.{iter_turn, iter_end}
-use Rattle.std.proofs.lemmas.Option.{none-some, same_Some}
+use Rattle.std.proofs.lemmas.Option.{get_or_from_slice_get, slice_get_within}
 use Rattle.std.proofs.lemmas.Grind.{common_steps}
-use Rattle.std.specs.List.{slice_get}
 use Rattle.std.specs.Map.{values_of}
-use Rattle.std.specs.Map.Iter.{deref}
+use Rattle.std.specs.Iterator.{Yields}
+use Rattle.std.specs.Map.Iter.{TakesFirst, deref}
 use Rattle.std.specs.declared.cmp.Ordering.{Ordering}
 use Rattle.std.specs.Cmp.{IsTotalOrder}
 use Rattle.daachorse_build.specs.declared.nfa_builder.NfaBuilderState.{NfaBuilderState}
 use Rattle.daachorse_build.specs.Tables.{edges_of, HoldTrie}
-use Rattle.daachorse_build.specs.Orders.{IsIn, children}
+use Rattle.daachorse_build.specs.Orders.{children}
 use Rattle.daachorse_build.specs.Groups.{if_counted}
-use Rattle.daachorse_build.proofs.Queue.{bounds_of_listed}
+use Rattle.daachorse_build.proofs.Queue.{bounds_of_listed, in_at, in_equal, in_same}
+use Rattle.daachorse_build.proofs.EdgeTurns.{edges_read}
 use Rattle.daachorse_build.proofs.Families.{if_counted-none}
 use Rattle.daachorse_build.proofs.nfa_builder.siblings.weight_of.Goals as goal
 
--- what stands at a place is in the list
-in_found : (xs : List ℕ) (i x : ℕ) → slice_get xs i ≡ Some x → IsIn xs x
-in_found [] i x h = absurd (none-some x h)
-in_found (y ∷ xs) zero x h = inl (same_Some y x h)
-in_found (y ∷ xs) (suc i) x h = inr (in_found xs i x h)
+module _ {L V A : Type 0} (cmp : L → L → Ordering) (total : IsTotalOrder cmp) (states : List (NfaBuilderState L V A)) (table : HoldTrie cmp states) (s : ℕ) (x : NfaBuilderState L V A) (es : List (L × ℕ)) (low : s < length states) (is : x ≡ get_or states s x) (read : es ≡ x.edges) where
+  children_here : children (edges_of states) s ≡ values_of es
+  children_here = ap values_of (edges_read states s x low is ∙ sym read)
 
--- the children of the state at an index
-children_here : {L V A : Type 0} (states : List (NfaBuilderState L V A)) (i : ℕ) (x : NfaBuilderState L V A) (edges : List (L × ℕ)) → i < length states → x ≡ get_or states i x → edges ≡ x.edges → children (edges_of states) i ≡ values_of edges
-children_here states i x edges l is e =
-    ap values_of (get_or-map (λ s. s.edges) states i x [] l ∙ ap (λ s. s.edges) (sym is) ∙ sym e)
-
--- a child is a state
-child_is_state : {L V A : Type 0} (cmp : L → L → Ordering) → IsTotalOrder cmp → (states : List (NfaBuilderState L V A)) → HoldTrie cmp states → (s : ℕ) (all : List ℕ) (i t : ℕ) → children (edges_of states) s ≡ all → slice_get all i ≡ Some t → t < length states
-child_is_state cmp total states table s all i t same at =
-    let P : List ℕ → Type 0 = λ xs. IsIn xs t in
-    let b = bounds_of_listed cmp total (edges_of states) table s t (subst P (sym same) (in_found all i t at)) in
-    omega (arith, b.1, length-map states (λ s. s.edges))
+  -- a child that is read is a state
+  child_low : (yielded : List (Bor ℕ)) (start now next : List ℕ) (r : Option (Bor ℕ)) → start ≡ values_of es → Yields (TakesFirst deref) start yielded now → (id : Bor ℕ) → r ≡ Some id → TakesFirst deref now r next → id.now < length states
+  child_low yielded start now next r begun calls id given steps =
+      let at = (iter_turn deref (values_of es) yielded start now next r begun calls id given steps).1 in
+      let in' = in_equal (values_of es) _ _ (get_or_from_slice_get (values_of es) _ id.now 0 at) (in_at (values_of es) (length yielded) (slice_get_within (values_of es) _ id.now at)) in
+      let b = bounds_of_listed cmp total (edges_of states) table s id.now (in_same _ _ id.now (sym children_here) in') in
+      omega (arith, b.1, length-map states (λ y. y.edges))
 
 weight_start : (p w : ℕ) → w ≡ p → w < 2 ^ 64 → w ≡ min (p + 0) (2 ^ 64 - 1)
 weight_start p w e fits = omega arith
@@ -49,12 +44,8 @@ if_counted-some (x ∷ xs) n ne = refl
 
 pub index-requires : goal.index-requires
 index-requires g c =
-    let states = c.args.states.now in
-    let all = values_of c.edges.result.now in
-    let begun : c.into_iter-id-iterator.result ≡ all = cc in
-    let turn = iter_turn deref all c.loop-id.yielded c.into_iter-id-iterator.result c.loop-id.id-iterator c.next.new.self c.next.result begun c.loop-id.yielded_by c.in-Some.id c.in-Some.is c.next.ensures.steps in
-    let here = children_here states c.args.parent c.index-states-parent.result c.edges.result.now c.requires.parent c.index-states-parent.is c.edges.ensures in
-    let low = child_is_state g.L.Ord.cmp g.met.L.Ord.total states c.requires.trie c.args.parent all (length c.loop-id.yielded) c.in-Some.id.now here turn.1 in
+    let low = child_low g.L.Ord.cmp g.met.L.Ord.total c.args.states.now c.requires.trie c.args.parent c.index-states-parent.result c.edges.result.now c.requires.parent c.index-states-parent.is c.edges.ensures
+    c.loop-id.yielded c.into_iter-id-iterator.result c.loop-id.id-iterator c.next.new.self c.next.result (cc) c.loop-id.yielded_by c.in-Some.id c.in-Some.is c.next.ensures.steps in
     elim c.requires.profile [
       | inl none ↦ absurd (false≢true (c.if-is_empty.ensures.1 none))
       | inr both ↦ omega (arith, low, both.0)
@@ -73,14 +64,10 @@ loop-id-init g c =
 
 pub loop-id-preserved : goal.loop-id-preserved
 loop-id-preserved g c =
-    let states = c.args.states.now in
     let probes = c.args.profile.now.probes.items in
     let visits = c.args.profile.now.visits.items in
-    let all = values_of c.edges.result.now in
-    let begun : c.into_iter-id-iterator.result ≡ all = cc in
-    let turn = iter_turn deref all c.loop-id.yielded c.into_iter-id-iterator.result c.loop-id.id-iterator c.next.new.self c.next.result begun c.loop-id.yielded_by c.in-Some.id c.in-Some.is c.next.ensures.steps in
-    let here = children_here states c.args.parent c.index-states-parent.result c.edges.result.now c.requires.parent c.index-states-parent.is c.edges.ensures in
-    let low = child_is_state g.L.Ord.cmp g.met.L.Ord.total states c.requires.trie c.args.parent all (length c.loop-id.yielded) c.in-Some.id.now here turn.1 in
+    let low = child_low g.L.Ord.cmp g.met.L.Ord.total c.args.states.now c.requires.trie c.args.parent c.index-states-parent.result c.edges.result.now c.requires.parent c.index-states-parent.is c.edges.ensures
+    c.loop-id.yielded c.into_iter-id-iterator.result c.loop-id.id-iterator c.next.new.self c.next.result (cc) c.loop-id.yielded_by c.in-Some.id c.in-Some.is c.next.ensures.steps in
     let f : ℕ → ℕ = λ t. get_or visits t 0 in
     let done = map deref c.loop-id.yielded in
     let v = c.index.result.now in
@@ -103,14 +90,11 @@ returns g c =
     let all = values_of c.edges.result.now in
     let begun : c.into_iter-id-iterator.result ≡ all = cc in
     let end = iter_end deref all c.loop-id.yielded c.into_iter-id-iterator.result c.loop-id.id-iterator c.next.new.self c.next.result begun c.loop-id.yielded_by c.in-None.is c.next.ensures.steps in
-    let here = children_here states c.args.parent c.index-states-parent.result c.edges.result.now c.requires.parent c.index-states-parent.is c.edges.ensures in
+    let here = children_here g.L.Ord.cmp g.met.L.Ord.total c.args.states.now c.requires.trie c.args.parent c.index-states-parent.result c.edges.result.now c.requires.parent c.index-states-parent.is c.edges.ensures in
     let weight : ℕ → ℕ = λ n. min (get_or probes c.args.parent 0 + n) (2 ^ 64 - 1) in
     c.loop-id.invariant
     ∙ ap (λ xs. weight (sum_by f xs)) (end.0 ∙ sym here)
     ∙ sym (if_counted-some visits (weight (sum_by f (children (edges_of states) c.args.parent))) (λ none. false≢true (c.if-is_empty.ensures.1 none)))
-
-pub offset_bounds-states-parent : goal.offset_bounds-states-parent
-offset_bounds-states-parent g c = omega (arith, c.requires.parent)
 
 pub returns-then-is_empty : goal.returns-then-is_empty
 returns-then-is_empty g c = sym (if_counted-none c.args.profile.now.visits.items _ (c.if-is_empty.ensures.0 refl))

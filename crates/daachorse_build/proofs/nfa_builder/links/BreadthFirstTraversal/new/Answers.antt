@@ -1,12 +1,10 @@
 -- One child of the root more is in the queue, with its link.
-use Rattle.std.proofs.Common.{◌≡◌, ◌<◌, [], length, get_or, take, replicate, sym, ap, ◌∙◌, inl, inr, arith}
-use Rattle.std.specs.Map.Iter.{deref_pair}
-use Rattle.std.proofs.lemmas.Map.Iter.{iter_turn, iter_end}
-use Rattle.std.proofs.lemmas.Map.Entries.{length-values_of}
-use Rattle.std.proofs.lemmas.List.{length-map, get_or-map, length_push, take_all}
-use Rattle.std.proofs.lemmas.Result.{err_from_is_err_and, IfOk-from_err}
+use Rattle.std.proofs.Common.{refl, ◌≡◌, ◌<◌, length, replicate, sym, inl, inr, arith}
+use Rattle.std.proofs.lemmas.List.{length-map, length_push}
+use Rattle.std.proofs.lemmas.Result.{IfOk-from_err}
+use Rattle.daachorse_core.proofs.Refusals.{at_error}
 use Rattle.daachorse_build.specs.Tables.{edges_of, stops_of}
-use Rattle.daachorse_build.specs.Orders.{children}
+use Rattle.daachorse_build.proofs.EdgeTurns.{edge_read, all_read}
 use Rattle.daachorse_build.proofs.Queue.{traversal_start, traversal_first, child_at_place}
 use Rattle.daachorse_build.proofs.nfa_builder.links.BreadthFirstTraversal.new.Goals as goal
 
@@ -21,21 +19,19 @@ pub first_link-requires-clause-edge : goal.first_link-requires-clause-edge
 first_link-requires-clause-edge g c =
     let states = c.args.states.now in
     let two : 0 < length states = omega (arith, c.requires.trie.two, length-map states (λ s. s.edges)) in
-    let all = c.index-states-root.result.edges in
-    let begun : c.into_iter-child-iterator.result ≡ all = cc in
-    let turn = iter_turn deref_pair all c.loop-child.yielded c.into_iter-child-iterator.result c.loop-child.child-iterator c.next.new.self c.next.result begun c.loop-child.yielded_by (c.in-Some.field-0-0, c.in-Some.child) c.in-Some.is c.next.ensures.steps in
-    let at : get_or (edges_of states) 0 [] ≡ all = get_or-map (λ s. s.edges) states 0 c.index-states-root.result [] two ∙ ap (λ s. s.edges) (sym c.index-states-root.is) in
-    (c.in-Some.field-0-0.now, child_at_place g.L.Ord.cmp g.met.L.Ord.total (edges_of states) c.requires 0 (length c.loop-child.yielded) c.in-Some.field-0-0.now c.in-Some.child.now (rw at turn.1))
+    let at = edge_read states 0 c.index-states-root.result two c.index-states-root.is
+    c.loop-child.yielded c.into_iter-child-iterator.result c.loop-child.child-iterator c.next.new.self c.next.result (cc) c.loop-child.yielded_by c.next.ensures.steps
+    (c.in-Some.field-0-0, c.in-Some.child) c.in-Some.is in
+    (c.in-Some.field-0-0.now, child_at_place g.L.Ord.cmp g.met.L.Ord.total (edges_of states) c.requires 0 (length c.loop-child.yielded) c.in-Some.field-0-0.now c.in-Some.child.now at)
 
 pub index_mut-requires : goal.index_mut-requires
 index_mut-requires g c =
     let states = c.args.states.now in
     let two : 0 < length states = omega (arith, c.requires.trie.two, length-map states (λ s. s.edges)) in
-    let all = c.index-states-root.result.edges in
-    let begun : c.into_iter-child-iterator.result ≡ all = cc in
-    let turn = iter_turn deref_pair all c.loop-child.yielded c.into_iter-child-iterator.result c.loop-child.child-iterator c.next.new.self c.next.result begun c.loop-child.yielded_by (c.in-Some.field-0-0, c.in-Some.child) c.in-Some.is c.next.ensures.steps in
-    let at : get_or (edges_of states) 0 [] ≡ all = get_or-map (λ s. s.edges) states 0 c.index-states-root.result [] two ∙ ap (λ s. s.edges) (sym c.index-states-root.is) in
-    let edge = child_at_place g.L.Ord.cmp g.met.L.Ord.total (edges_of states) c.requires 0 (length c.loop-child.yielded) c.in-Some.field-0-0.now c.in-Some.child.now (rw at turn.1) in
+    let at = edge_read states 0 c.index-states-root.result two c.index-states-root.is
+    c.loop-child.yielded c.into_iter-child-iterator.result c.loop-child.child-iterator c.next.new.self c.next.result (cc) c.loop-child.yielded_by c.next.ensures.steps
+    (c.in-Some.field-0-0, c.in-Some.child) c.in-Some.is in
+    let edge = child_at_place g.L.Ord.cmp g.met.L.Ord.total (edges_of states) c.requires 0 (length c.loop-child.yielded) c.in-Some.field-0-0.now c.in-Some.child.now at in
     let b = c.requires.trie.bounds 0 c.in-Some.field-0-0.now c.in-Some.child.now edge in
     omega (arith, b.3, c.loop-child.invariant.one_each)
 
@@ -43,11 +39,10 @@ pub loop-child-preserved : goal.loop-child-preserved
 loop-child-preserved g c =
     let states = c.args.states.now in
     let two : 0 < length states = omega (arith, c.requires.trie.two, length-map states (λ s. s.edges)) in
-    let all = c.index-states-root.result.edges in
-    let begun : c.into_iter-child-iterator.result ≡ all = cc in
-    let turn = iter_turn deref_pair all c.loop-child.yielded c.into_iter-child-iterator.result c.loop-child.child-iterator c.next.new.self c.next.result begun c.loop-child.yielded_by (c.in-Some.field-0-0, c.in-Some.child) c.in-Some.is c.next.ensures.steps in
-    let at : get_or (edges_of states) 0 [] ≡ all = get_or-map (λ s. s.edges) states 0 c.index-states-root.result [] two ∙ ap (λ s. s.edges) (sym c.index-states-root.is) in
-    let more = traversal_first g.L.Ord.cmp g.met.L.Ord.total (edges_of states) c.requires (stops_of c.args.leftmost states) c.loop-child.links.items c.loop-child.order.items (length c.loop-child.yielded) c.in-Some.field-0-0.now c.in-Some.child.now c.first_link.result c.loop-child.invariant (rw at turn.1) c.first_link.ensures.link
+    let at = edge_read states 0 c.index-states-root.result two c.index-states-root.is
+    c.loop-child.yielded c.into_iter-child-iterator.result c.loop-child.child-iterator c.next.new.self c.next.result (cc) c.loop-child.yielded_by c.next.ensures.steps
+    (c.in-Some.field-0-0, c.in-Some.child) c.in-Some.is in
+    let more = traversal_first g.L.Ord.cmp g.met.L.Ord.total (edges_of states) c.requires (stops_of c.args.leftmost states) c.loop-child.links.items c.loop-child.order.items (length c.loop-child.yielded) c.in-Some.field-0-0.now c.in-Some.child.now c.first_link.result c.loop-child.invariant at c.first_link.ensures.link
     (elim c.first_link.ensures.among [ inl dead ↦ inl dead | inr known ↦ inr (elim known [ inl root ↦ inl root | inr none ↦ absurd none ]) ]) in
     rw (c.in_ok-push.ensures.items, length_push c.loop-child.yielded (c.in-Some.field-0-0, c.in-Some.child)) more
 
@@ -55,41 +50,25 @@ pub returns-clause-traversal : goal.returns-clause-traversal
 returns-clause-traversal g c =
     let states = c.args.states.now in
     let two : 0 < length states = omega (arith, c.requires.trie.two, length-map states (λ s. s.edges)) in
-    let all = c.index-states-root.result.edges in
-    let begun : c.into_iter-child-iterator.result ≡ all = cc in
-    let end = iter_end deref_pair all c.loop-child.yielded c.into_iter-child-iterator.result c.loop-child.child-iterator c.next.new.self c.next.result begun c.loop-child.yielded_by c.in-None.is c.next.ensures.steps in
-    let at : get_or (edges_of states) 0 [] ≡ all = get_or-map (λ s. s.edges) states 0 c.index-states-root.result [] two ∙ ap (λ s. s.edges) (sym c.index-states-root.is) in
-    let whole : take (length c.loop-child.yielded) (children (edges_of states) 0) ≡ children (edges_of states) 0 =
-    take_all (length c.loop-child.yielded) (children (edges_of states) 0) (omega (arith, end.1, length-values_of (get_or (edges_of states) 0 []), ap length at)) in
+    let whole = all_read states 0 c.index-states-root.result two c.index-states-root.is
+    c.loop-child.yielded c.into_iter-child-iterator.result c.loop-child.child-iterator c.next.new.self c.next.result (cc) c.loop-child.yielded_by c.next.ensures.steps
+    c.in-None.is in
     rw whole at c.loop-child.invariant
-
-pub returns-in_err-links-clause-traversal : goal.returns-in_err-links-clause-traversal
-returns-in_err-links-clause-traversal g c = IfOk-from_err c.from_residual.result _ c.from_residual.ensures.0
-
-pub returns-in_err-links-clause-kind : goal.returns-in_err-links-clause-kind
-returns-in_err-links-clause-kind g c = IfOk-from_err c.from_residual.result _ c.from_residual.ensures.0
-
-pub returns-in_err-links-clause-refused : goal.returns-in_err-links-clause-refused
-returns-in_err-links-clause-refused g c =
-    let p = err_from_is_err_and c.from_residual.result c.from_residual.ensures.1 in
-    rw p.1 p.2
-
-pub returns-in_err-order-clause-refused : goal.returns-in_err-order-clause-refused
-returns-in_err-order-clause-refused g c =
-    let p = err_from_is_err_and c.from_residual-in_err-order.result c.from_residual-in_err-order.ensures.1 in
-    rw p.1 p.2
 
 pub bounds-states-root : goal.bounds-states-root
 bounds-states-root g c = omega (arith, c.requires.trie.two, length-map c.args.states.now (λ s. s.edges))
 
-pub returns-in_err-order-clause-traversal : goal.returns-in_err-order-clause-traversal
-returns-in_err-order-clause-traversal g c = IfOk-from_err c.from_residual-in_err-order.result _ c.from_residual-in_err-order.ensures.0
+pub returns-in_err-links : goal.returns-in_err-links
+returns-in_err-links g c =
+    let e = c.from_residual.ensures in
+    record { traversal = IfOk-from_err _ _ e.0; kind = IfOk-from_err _ _ e.0; refused = at_error _ _ _ e.1 refl }
 
-pub returns-in_err-order-clause-kind : goal.returns-in_err-order-clause-kind
-returns-in_err-order-clause-kind g c = IfOk-from_err c.from_residual-in_err-order.result _ c.from_residual-in_err-order.ensures.0
+pub returns-in_err-order : goal.returns-in_err-order
+returns-in_err-order g c =
+    let e = c.from_residual-in_err-order.ensures in
+    record { traversal = IfOk-from_err _ _ e.0; kind = IfOk-from_err _ _ e.0; refused = at_error _ _ _ e.1 refl }
 
-pub returns-in_err-push-clause-traversal : goal.returns-in_err-push-clause-traversal
-returns-in_err-push-clause-traversal g c = IfOk-from_err c.from_residual-in_err-push.result _ c.from_residual-in_err-push.ensures.0
-
-pub returns-in_err-push-clause-kind : goal.returns-in_err-push-clause-kind
-returns-in_err-push-clause-kind g c = IfOk-from_err c.from_residual-in_err-push.result _ c.from_residual-in_err-push.ensures.0
+pub returns-in_err-push : goal.returns-in_err-push
+returns-in_err-push g c =
+    let e = c.from_residual-in_err-push.ensures in
+    record { traversal = IfOk-from_err _ _ e.0; kind = IfOk-from_err _ _ e.0; refused = at_error _ _ _ e.1 refl }

@@ -34,20 +34,12 @@ module _ {parents labels : List ℕ} {alphabet : ℕ} (trie : IsTrie parents lab
   pub none_picked : (starts : List ℕ) (p c : ℕ) → AreStarts parents starts → p < length parents → ((m : ℕ) → get_or starts p 0 ≤ m → m < get_or starts (p + 1) 0 → get_or labels m 0 ≢ c) → 0 ≡ pick (child parents labels p c) 0
   none_picked starts p c are within none = none_by starts p c are within none (child parents labels p c) refl
 
-  some_by : (p c x : ℕ) (o : Option ℕ) → x ≡ pick o 0 → 0 < x → o ≡ Some x
-  some_by p c x None e pos = absurd (omega (arith, e, pos))
-  some_by p c x (Some m) e pos = ap Some (sym e)
-
-  zero_by : (p c x : ℕ) (o : Option ℕ) → child parents labels p c ≡ o → x ≡ pick o 0 → x ≡ 0 → o ≡ None
-  zero_by p c x None f e z = refl
-  zero_by p c x (Some m) f e z = absurd (omega (arith, e, z, (back parents labels alphabet trie p c m f).0))
-
   -- what was found is the child, and none where nothing was
   pub picked_some : (p c x : ℕ) → x ≡ pick (child parents labels p c) 0 → 0 < x → child parents labels p c ≡ Some x
-  picked_some p c x e pos = some_by p c x (child parents labels p c) e pos
+  picked_some p c x e pos = grind arith
 
   pub picked_none : (p c x : ℕ) → x ≡ pick (child parents labels p c) 0 → x ≡ 0 → child parents labels p c ≡ None
-  picked_none p c x e z = zero_by p c x (child parents labels p c) refl e z
+  picked_none p c x e z = grind (arith, back parents labels alphabet trie p c)
 
   module _ {stops : List Bool} {fails : List ℕ} (each : length fails ≡ length parents) (falls : LinksFall fails) where
     -- the way begins at the link of p

@@ -16,21 +16,14 @@ module _ (parents labels : List ℕ) (stops : List Bool) (fails : List ℕ) (alp
 
   -- no child of p but m has m's label
   one_label : (j m : ℕ) → 0 < j → j < length parents → 0 < m → m < length parents → get_or parents j 0 ≡ p → get_or parents m 0 ≡ p → get_or labels j 0 ≡ get_or labels m 0 → j ≡ m
-  one_label j m hj lj hm lm e g same =
-      elim (cases_lt j m) [
-        | inl h ↦ absurd (trie.apart j m hj h lm (e ∙ sym g) same)
-        | inr h ↦ elim (cases_lt m j) [ inl k ↦ absurd (trie.apart m j hm k lj (g ∙ sym e) (sym same)) | inr k ↦ omega (arith, h, k) ]
-      ]
+  one_label j m hj lj hm lm e g same = grind (arith, trie.apart j m hj, trie.apart m j hm)
 
   -- a child of p has its place before the places of the state behind p
   in_range : (m : ℕ) → get_or starts (p + 1) 0 ≤ m → (j : ℕ) → j < length parents → get_or parents j 0 ≡ p → j < m
   in_range m done j lj ej = elim (cases_lt j m) [ inl h ↦ h | inr h ↦ absurd (not_after parents starts are p within j (omega (arith, done, h)) lj ej) ]
 
   no_child : (c : ℕ) → child parents labels p c ≡ None → (j : ℕ) → 0 < j → j < length parents → get_or parents j 0 ≡ p → get_or labels j 0 ≡ c → ⊥
-  no_child c e j pos hj ej g =
-      let is' : child parents labels p c ≡ Some j = ap (λ q. child parents labels q c) (sym ej) ∙ (ap (λ d. child parents labels (get_or parents j 0) d) (sym g) ∙ edge parents labels alphabet trie j pos hj) in
-      let bad : None ≡ Some j = sym e ∙ is' in
-      cc
+  no_child c e j pos hj ej g = let some = edge parents labels alphabet trie j pos hj in cc
 
   -- ---- coming
   -- what the array has of the label of the next child

@@ -1,15 +1,9 @@
 -- How a tour is made: each place is put right after its link.
-use Rattle.std.proofs.Common.{◌≡◌, ◌≢◌, ℕ, suc, ◌<◌, ◌≤◌, ◌⊎◌, ◌==◌, true, false, cond, List, [], ◌∷◌, length, refl, sym, ap, ◌∙◌, subst, inl, inr, arith, get_or, set, get_or-set_other, get_or-set_same}
+use Rattle.std.proofs.Common.{◌≡◌, ◌≢◌, ℕ, suc, ◌<◌, ◌≤◌, ◌⊎◌, ◌==◌, cond, List, [], ◌∷◌, length, refl, sym, ap, ◌∙◌, subst, inl, inr, arith, get_or, set, get_or-set_other, get_or-set_same}
 use Rattle.std.proofs.lemmas.List.{length-set}
-use Rattle.std.proofs.lemmas.Bool.{cases_eq, cond_both}
-use Rattle.daachorse_links.specs.Near.{up, IsAbove}
+use Rattle.std.proofs.lemmas.Bool.{cases_eq, cond_both, eqb-false, eqb-true}
+use Rattle.daachorse_links.specs.Near.{IsAbove}
 use Rattle.daachorse_links.specs.Tours.{In, IsApart, IsLinked, IsTour}
-
-eq_from : (a b : ℕ) → (a == b) ≡ true → a ≡ b
-eq_from a b e = grind (arith, e)
-
-ne_from : (a b : ℕ) → (a == b) ≡ false → a ≢ b
-ne_from a b e g = grind (arith, e, g)
 
 -- the list with m after f
 abbrev insert : ℕ → ℕ → List ℕ → List ℕ
@@ -17,7 +11,7 @@ insert f m [] = []
 insert f m (x ∷ xs) = cond (x == f) (x ∷ m ∷ xs) (x ∷ insert f m xs)
 
 by_test : (x f : ℕ) (a b : List ℕ) (P : List ℕ → Type 0) → (x ≡ f → P a) → (x ≢ f → P b) → P (cond (x == f) a b)
-by_test x f a b P p q = cond_both (x == f) a b P (λ e. p (eq_from x f e)) (λ e. q (ne_from x f e))
+by_test x f a b P p q = cond_both (x == f) a b P (λ e. p (eqb-true x f e)) (λ e. q (eqb-false x f e))
 
 module _ (f m : ℕ) where
   in_old : (x : ℕ) (xs : List ℕ) → In x xs → In x (insert f m xs)

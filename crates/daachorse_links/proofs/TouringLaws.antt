@@ -1,6 +1,6 @@
 -- The steps of a tour.
-use Rattle.std.proofs.Common.{◌≡◌, ◌≢◌, ℕ, zero, suc, ◌+◌, ◌<◌, ◌≤◌, ◌⊎◌, ◌==◌, Bool, cond, true, false, List, [], ◌∷◌, length, refl, sym, ap, ◌∙◌, subst, inl, inr, arith, get_or}
-use Rattle.std.proofs.lemmas.Bool.{cond-true, cond-false}
+use Rattle.std.proofs.Common.{◌≡◌, ◌≢◌, ℕ, zero, suc, ◌+◌, ◌<◌, ◌≤◌, ◌⊎◌, ◌==◌, Bool, cond, List, [], ◌∷◌, length, refl, sym, ap, ◌∙◌, subst, inl, inr, arith, get_or}
+use Rattle.std.proofs.lemmas.Bool.Decides.{nat_tests}
 use Rattle.daachorse_links.specs.Places.{IsTrie, LinksFall}
 use Rattle.daachorse_links.specs.Near.{up, top, above, IsAbove, AreNear, IsChecked, IsSaved}
 use Rattle.daachorse_links.specs.Tours.{In, IsLinked, IsTour, IsTouring}
@@ -121,19 +121,6 @@ module _ (parents labels : List ℕ) (stops : List Bool) (fails : List ℕ) (alp
     pub touring_end : length fails ≤ k → (x : ℕ) → x < length fails → IsChecked parents labels stops fails x
     touring_end le x lt = end_by touring.rest touring.count touring.each le x lt
 
-not_eq : (a b : ℕ) → a < b → (a == b) ≡ false
-not_eq a b lt = grind (arith, lt)
-
-is_eq' : (a b : ℕ) → a ≡ b → (a == b) ≡ true
-is_eq' a b e = grind (arith, e)
-
 -- the way back gets shorter
 pub shorter : (n here next : ℕ) → here < n → (next < here) ⊎ (next ≡ n) → cond (next == n) 0 (suc next) < cond (here == n) 0 (suc here)
-shorter n here next lt (inl h) =
-    let a : cond (next == n) 0 (suc next) ≡ suc next = cond-false (next == n) 0 (suc next) (not_eq next n (omega (arith, h, lt))) in
-    let b : cond (here == n) 0 (suc here) ≡ suc here = cond-false (here == n) 0 (suc here) (not_eq here n lt) in
-    omega (arith, a, b, h)
-shorter n here next lt (inr e) =
-    let a : cond (next == n) 0 (suc next) ≡ 0 = cond-true (next == n) 0 (suc next) (is_eq' next n e) in
-    let b : cond (here == n) 0 (suc here) ≡ suc here = cond-false (here == n) 0 (suc here) (not_eq here n lt) in
-    omega (arith, a, b)
+shorter n here next lt fall = grind (arith, nat_tests)

@@ -4,9 +4,6 @@ use Rattle.std.proofs.lemmas.Option.{none-some}
 use Rattle.daachorse_links.specs.Places.{child_to, child, IsTrie}
 
 module _ (parents labels : List ℕ) where
-  abbrev fits : ℕ → ℕ → ℕ → Bool
-  fits j p c = (get_or parents j 0 == p) && (get_or labels j 0 == c)
-
   to_parts : (m p c j : ℕ) → child_to parents labels m p c ≡ Some j → (0 < j) × (j ≤ m) × (get_or parents j 0 ≡ p) × (get_or labels j 0 ≡ c)
   to_parts zero p c j h = absurd (none-some j h)
   to_parts (suc m) p c j h = grind (arith, to_parts m p c j)

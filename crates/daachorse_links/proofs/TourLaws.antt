@@ -16,47 +16,26 @@ by_test x f a b P p q = cond_both (x == f) a b P (λ e. p (eqb-true x f e)) (λ 
 module _ (f m : ℕ) where
   in_old : (x : ℕ) (xs : List ℕ) → In x xs → In x (insert f m xs)
   in_old x [] h = h
-  in_old x (y ∷ ys) (inl e) = by_test y f (y ∷ m ∷ ys) (y ∷ insert f m ys) (λ l. In x l) (λ _. inl e) (λ _. inl e)
-  in_old x (y ∷ ys) (inr h) = by_test y f (y ∷ m ∷ ys) (y ∷ insert f m ys) (λ l. In x l) (λ _. inr (inr h)) (λ _. inr (in_old x ys h))
+  in_old x (y ∷ ys) h = grind (arith, in_old x ys)
 
   in_new : (xs : List ℕ) → In f xs → In m (insert f m xs)
   in_new [] h = absurd h
-  in_new (y ∷ ys) (inl e) = by_test y f (y ∷ m ∷ ys) (y ∷ insert f m ys) (λ l. In m l) (λ _. inr (inl refl)) (λ b. absurd (b (sym e)))
-  in_new (y ∷ ys) (inr h) = by_test y f (y ∷ m ∷ ys) (y ∷ insert f m ys) (λ l. In m l) (λ _. inr (inl refl)) (λ _. inr (in_new ys h))
-
-  first_parts : (x y : ℕ) (ys : List ℕ) → In x (y ∷ m ∷ ys) → (x ≡ m) ⊎ In x (y ∷ ys)
-  first_parts x y ys (inl e) = inr (inl e)
-  first_parts x y ys (inr (inl e)) = inl e
-  first_parts x y ys (inr (inr g)) = inr (inr g)
-
-  later_parts : (x y : ℕ) (ys : List ℕ) → (In x (insert f m ys) → (x ≡ m) ⊎ In x ys) → In x (y ∷ insert f m ys) → (x ≡ m) ⊎ In x (y ∷ ys)
-  later_parts x y ys ih (inl e) = inr (inl e)
-  later_parts x y ys ih (inr g) = elim (ih g) [ inl e ↦ inl e | inr h ↦ inr (inr h) ]
+  in_new (y ∷ ys) h = grind (arith, in_new ys)
 
   in_parts : (x : ℕ) (xs : List ℕ) → In x (insert f m xs) → (x ≡ m) ⊎ In x xs
   in_parts x [] h = absurd h
-  in_parts x (y ∷ ys) h =
-      by_test y f (y ∷ m ∷ ys) (y ∷ insert f m ys) (λ l. In x l → (x ≡ m) ⊎ In x (y ∷ ys)) (λ _ g. first_parts x y ys g) (λ _ g. later_parts x y ys (in_parts x ys) g) h
+  in_parts x (y ∷ ys) h = grind (arith, in_parts x ys)
 
   length_insert : (xs : List ℕ) → In f xs → length (insert f m xs) ≡ suc (length xs)
   length_insert [] h = absurd h
-  length_insert (y ∷ ys) (inl e) = by_test y f (y ∷ m ∷ ys) (y ∷ insert f m ys) (λ l. length l ≡ suc (length (y ∷ ys))) (λ _. refl) (λ b. absurd (b (sym e)))
-  length_insert (y ∷ ys) (inr h) = by_test y f (y ∷ m ∷ ys) (y ∷ insert f m ys) (λ l. length l ≡ suc (length (y ∷ ys))) (λ _. refl) (λ _. ap suc (length_insert ys h))
-
-  apart_first : (y : ℕ) (ys : List ℕ) → (In y ys → ⊥) → (In m (y ∷ ys) → ⊥) → In y (m ∷ ys) → ⊥
-  apart_first y ys a b (inl e) = b (inl (sym e))
-  apart_first y ys a b (inr g) = a g
-
-  apart_later : (y : ℕ) (ys : List ℕ) → (In y ys → ⊥) → (In m (y ∷ ys) → ⊥) → (y ≡ m) ⊎ In y ys → ⊥
-  apart_later y ys a b (inl e) = b (inl (sym e))
-  apart_later y ys a b (inr g) = a g
+  length_insert (y ∷ ys) h = grind (arith, length_insert ys)
 
   apart_insert : (xs : List ℕ) → IsApart xs → (In m xs → ⊥) → IsApart (insert f m xs)
   apart_insert [] h no' = h
   apart_insert (y ∷ ys) h no' =
-      let here : IsApart (y ∷ m ∷ ys) = (apart_first y ys h.0 no', ((λ g. no' (inr g)), h.1)) in
-      let there : IsApart (y ∷ insert f m ys) = ((λ g. apart_later y ys h.0 no' (in_parts y ys g)), apart_insert ys h.1 (λ g. no' (inr g))) in
-      by_test y f (y ∷ m ∷ ys) (y ∷ insert f m ys) (λ l. IsApart l) (λ _. here) (λ _. there)
+      by_test y f (y ∷ m ∷ ys) (y ∷ insert f m ys) (λ l. IsApart l)
+      (λ _. ((λ g. grind (arith, h.0, no')), ((λ g. no' (inr g)), h.1)))
+      (λ _. ((λ g. grind (arith, h.0, no', in_parts y ys g)), apart_insert ys h.1 (λ g. no' (inr g))))
 
 module _ (next put : List ℕ) (n : ℕ) where
   agree : (a : ℕ) (xs : List ℕ) → ((x : ℕ) → In x xs → get_or put x 0 ≡ get_or next x 0) → IsLinked next n a xs → IsLinked put n a xs

@@ -104,11 +104,11 @@ module _ (child : ℕ → ℕ → Option ℕ) (stops : ℕ → Bool) (dead : ℕ
         | inr no' ↦ at_option d ds c f (left_long child stops ds) refl (subst P (cond-false _ _ _ no') (link d ds at)) (left_rest d (ds ++ c ∷ []) missing (met' ∙ no'))
       ]
 
-  -- at the root, which doesn't stop
-  pub left_root : (c : ℕ) → child 0 c ≡ None → stops 0 ≡ false → left_long child stops (c ∷ []) ≡ Some []
-  left_root c none go =
+  -- at the root
+  pub left_root : (c : ℕ) → child 0 c ≡ None → left_long child stops (c ∷ []) ≡ cond (stops 0) None (Some [])
+  left_root c none =
       let missing : is_reached child (c ∷ []) ≡ false = ap is_some (walk-push child 0 [] c 0 refl ∙ none) in
-      left_rest c [] missing (meets_other [] c missing ∙ met_empty ∙ go)
+      cond-false _ _ _ missing ∙ ap (λ b. cond b None (Some [])) (meets_other [] c missing ∙ met_empty)
 
   -- ---- the link of a child of s, whose link is f
   module _ (one : (t : ℕ) (v w : List ℕ) → walk child 0 v ≡ Some t → walk child 0 w ≡ Some t → v ≡ w) (no_dead : (w : List ℕ) → walk child 0 w ≡ Some dead → ⊥) where

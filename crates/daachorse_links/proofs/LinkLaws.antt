@@ -220,8 +220,8 @@ module _ (parents labels : List ℕ) (stops : List Bool) (fails : List ℕ) (alp
         let p = get_or parents m 0 in
         let c = get_or labels m 0 in
         subst (λ f. (f < m) ⊎ (f ≡ length fails)) (sym (exact b falls m pos lt le)) (
-          cond_both (stop stops m) n (or_top (near parents labels fails (up fails p) c) (top stops fails p)) (λ f. (f < m) ⊎ (f ≡ length fails))
-          (λ _. inr refl) (λ _. fall_at b m p c falls pos lt refl le (omega (arith, trie.order.earlier m pos lt, lt, each))))
+        cond_both (stop stops m) n (or_top (near parents labels fails (up fails p) c) (top stops fails p)) (λ f. (f < m) ⊎ (f ≡ length fails))
+        (λ _. inr refl) (λ _. fall_at b m p c falls pos lt refl le (omega (arith, trie.order.earlier m pos lt, lt, each))))
 
     falls_to : (b : ℕ) → Falls b
     falls_to zero q pos le lt = absurd (omega arith)

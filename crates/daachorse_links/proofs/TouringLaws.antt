@@ -29,10 +29,7 @@ module _ (up : ℕ → ℕ) where
   above_next here to (zero, e) ne = absurd (ne e)
   above_next here to (suc k, e) ne = (k, e)
 
-module _ (parents labels : List ℕ) (stops : List Bool) (fails : List ℕ) (alphabet : ℕ) (trie : IsTrie parents labels alphabet) (each : length fails ≡ length parents) where
-  saved_top : (saved : List ℕ) (p : ℕ) → p ≡ length fails → IsSaved parents labels fails saved p
-  saved_top saved p e m pos lt is = absurd (omega (arith, trie.order.earlier m pos lt, lt, is, e, each))
-
+module _ {parents labels : List ℕ} {stops : List Bool} {fails : List ℕ} {alphabet : ℕ} (trie : IsTrie parents labels alphabet) (each : length fails ≡ length parents) where
   pub touring_start : (next array saved : List ℕ) → IsTour (up fails) (length fails) next (length fails) → ((c : ℕ) → c < length array → get_or array c 0 ≡ 0) → IsTouring parents labels stops fails next array saved 0 (length fails) (get_or next (length fails) 0) (length fails)
   touring_start next array saved tour zeros = record {
     rest = tour.list;
@@ -41,13 +38,13 @@ module _ (parents labels : List ℕ) (stops : List Bool) (fails : List ℕ) (alp
     below = tour.below;
     each = λ x lt. inl (tour.all x lt);
     near = λ c lt. zeros c lt ∙ sym (near_top parents labels fails alphabet trie each (length fails) c refl);
-    path = λ j. saved_top saved (above (up fails) j (length fails)) (above_top (up fails) (length fails) (up_past fails (length fails) (omega arith)) j);
+    path = λ j m pos lt is. absurd (omega (arith, trie.order.earlier m pos lt, lt, is, above_top (up fails) (length fails) (up_past fails (length fails) (omega arith)) j, each));
     low = omega arith;
     comes = tour.steps (length fails) (omega arith);
     other = λ lt. absurd (omega (arith, lt));
   }
 
-  module _ (next array saved : List ℕ) (k here p t : ℕ) (touring : IsTouring parents labels stops fails next array saved k here p t) where
+  module _ {next array saved : List ℕ} {k here p t : ℕ} (touring : IsTouring parents labels stops fails next array saved k here p t) where
     next_in_by : (xs : List ℕ) → IsLinked next (length fails) p xs → length xs + k ≡ length fails → ((x : ℕ) → In x xs → x < length fails) → k < length fails → p < length fails
     next_in_by [] l e b lt = absurd (omega (arith, e, lt))
     next_in_by (x ∷ xs) l e b lt = omega (arith, l.0, b x (inl refl))

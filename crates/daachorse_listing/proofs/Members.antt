@@ -128,16 +128,16 @@ module _ (R : ℕ → ℕ → Type 0) where
   pub Pairs-push : (xs : List ℕ) (x : ℕ) → Pairs R xs → ((k : ℕ) → IsAmong xs k → R k x) → Pairs R (xs ++ x ∷ [])
   Pairs-push xs x pairs h = Pairs-append xs (x ∷ []) pairs (tt, tt) (λ k j a new. elim new [ inl same ↦ subst (R k) (sym same) (h k a) | inr none ↦ absurd none ])
 
+  -- two of a list
+  pub Pairs-read : (xs : List ℕ) (j k : ℕ) → j < k → k < length xs → Pairs R xs → R (get_or xs j 0) (get_or xs k 0)
+  Pairs-read [] j k up h p = absurd (omega arith)
+  Pairs-read (x ∷ xs) j zero up h p = absurd (omega arith)
+  Pairs-read (x ∷ xs) zero (suc k) up h p = among-All (R x) xs (get_or xs k 0) p.0 (among-read xs k (omega arith))
+  Pairs-read (x ∷ xs) (suc j) (suc k) up h p = Pairs-read xs j k (omega arith) (omega arith) p.1
+
   -- numbers below n, where none stands in R to itself: there are at most n
   pub Pairs-few : (xs : List ℕ) (n : ℕ) → Pairs R xs → ((k : ℕ) → ¬ R k k) → ((k : ℕ) → IsAmong xs k → k < n) → length xs ≤ n
-  Pairs-few xs n pairs other less = pigeon n (length xs) (λ k. get_or xs k 0) (λ k h. less (get_or xs k 0) (among-read xs k h)) (λ j k up h same. other (get_or xs k 0) (let P : ℕ → Type 0 = λ x. R x (get_or xs k 0) in subst P same (pair xs pairs j k up h)))
-    where
-      pair : (ys : List ℕ) → Pairs R ys → (j k : ℕ) → j < k → k < length ys → R (get_or ys j 0) (get_or ys k 0)
-      pair [] p j k up h = absurd (omega arith)
-      pair (y ∷ ys) p zero zero up h = absurd (omega arith)
-      pair (y ∷ ys) p zero (suc k) up h = among-All (R y) ys (get_or ys k 0) p.0 (among-read ys k (omega arith))
-      pair (y ∷ ys) p (suc j) zero up h = absurd (omega arith)
-      pair (y ∷ ys) p (suc j) (suc k) up h = pair ys p.1 j k (omega arith) (omega arith)
+  Pairs-few xs n pairs other less = pigeon n (length xs) (λ k. get_or xs k 0) (λ k h. less (get_or xs k 0) (among-read xs k h)) (λ j k up h same. other (get_or xs k 0) (let P : ℕ → Type 0 = λ x. R x (get_or xs k 0) in subst P same (Pairs-read xs j k up h pairs)))
 
 -- ---- tables
 

@@ -14,8 +14,8 @@ use Rattle.daachorse_listing.specs.Listing.{unit_of}
 use Rattle.daachorse_listing.specs.Room.{is_filled, has_before, is_later, num_later}
 use Rattle.daachorse_listing.specs.Trees.{IsAmong, Pairs, Diverges, text, Apart}
 use Rattle.daachorse_listing.proofs.LinkedLaws.{IsGrouped}
-use Rattle.daachorse_listing.proofs.Members.{among-read}
-use Rattle.daachorse_listing.proofs.SortLaws.{below-has, edge-in, in-edge, Pairs-read}
+use Rattle.daachorse_listing.proofs.Members.{Pairs-read, among-read}
+use Rattle.daachorse_listing.proofs.SortLaws.{below-has, edge-in, in-edge}
 use Rattle.daachorse_listing.proofs.WalkLaws.{reached-inside, reached-is}
 
 -- ---- numbers that pass, each once, are no more than there are

@@ -1,11 +1,13 @@
 -- The way up from an element that is put aside, along elements that are the least of their groups, comes to one that is later in its group, or to the root. No two come to the same one, since then one would lead to the other. And a text passes a group at each unit, whose least element is not later.
 use Rattle.std.proofs.Common.{◌≡◌, ◌≢◌, ℕ, zero, suc, ◌+◌, ◌-◌, ◌<◌, ◌≤◌, ◌⊎◌, inl, inr, Bool, true, false, cond, ◌==◌, List, [], ◌∷◌, ◌++◌, length, take, drop, get_or, Option, Some, None, refl, sym, ap, ◌∙◌, arith, subst, length-append, add-one, nat_lt}
 use Rattle.std.proofs.lemmas.List.{take-append-drop, length-take-le, length-drop, take_all}
-use Rattle.std.proofs.lemmas.Option.{same_Some}
+use Rattle.std.proofs.lemmas.Option.{none-some, same_Some}
+use Rattle.std.proofs.lemmas.Bool.{cases_eq}
+use Rattle.std.proofs.Math.Seq.{take-suc}
 use Rattle.std.proofs.lemmas.Bool.Decides.{nat_tests}
 use Rattle.daachorse_model.specs.Paths.{walk, Leads}
 use Rattle.daachorse_model.proofs.Booleans.{either}
-use Rattle.daachorse_model.proofs.Paths.{walk-push}
+use Rattle.daachorse_model.proofs.Paths.{push-parts, walk-push}
 use Rattle.daachorse_machine.specs.Texts.{IsReached}
 use Rattle.daachorse_machine.proofs.PathLaws.{pigeon, and_then_inv, walk-split}
 use Rattle.daachorse_listing.specs.Edges.{is_in, below, members, IsTree, TellChildren}
@@ -30,33 +32,17 @@ module _ (test : ℕ → Bool) where
 
   rank-up : (i : ℕ) → rank i ≤ rank (suc i)
   unfolding rank
-  rank-up i = at (test i)
-    where
-      at : (b : Bool) → length (below test i) ≤ length (cond b (i ∷ below test i) (below test i))
-      at true = omega arith
-      at false = omega arith
-
-  rank-most : (i d : ℕ) → rank i ≤ rank (d + i)
-  rank-most i zero = let is : i ≡ 0 + i = omega arith in subst (λ k. rank i ≤ rank k) is (omega arith)
-  rank-most i (suc d) =
-      let most = rank-most i d in
-      let up = rank-up (d + i) in
-      let there : rank i ≤ rank (suc (d + i)) = omega (arith, most, up) in
-      let is : suc (d + i) ≡ suc d + i = omega arith in
-      subst (λ k. rank i ≤ rank k) is there
+  rank-up i = grind arith
 
   rank-less : (i j : ℕ) → i < j → test i ≡ true → rank i < rank j
-  rank-less i j less e =
-      let most = rank-most (suc i) (j - suc i) in
-      let is : (j - suc i) + suc i ≡ j = omega (arith, less) in
-      let there : rank (suc i) ≤ rank j = subst (λ k. rank (suc i) ≤ rank k) is most in
-      omega (arith, there, rank-step i e)
+  rank-less i zero less e = absurd (omega arith)
+  rank-less i (suc j) less e = elim (cases_eq i j) [
+    | inl same ↦ omega (arith, rank-step j (ap test (sym same) ∙ e), ap rank same)
+    | inr other ↦ omega (arith, rank-less i j (omega (arith, other)) e, rank-up j)
+  ]
 
   rank-apart : (i j : ℕ) → i ≢ j → test i ≡ true → test j ≡ true → rank i ≢ rank j
-  rank-apart i j other a b same = elim (either (nat_lt i j)) [
-    | inl t ↦ (let up : i < j = grind (arith, nat_tests, t) in let less = rank-less i j up a in omega (arith, less, same))
-    | inr t ↦ (let down : j < i = (let no : ¬ (i < j) = grind (arith, nat_tests, t) in omega (arith, no, other)) in let less = rank-less j i down b in omega (arith, less, same))
-  ]
+  rank-apart i j other a b same = grind (arith, rank-less i j, rank-less j i)
 
   ranked : (n count : ℕ) (f : ℕ → ℕ) → ((k : ℕ) → k < count → (f k < n) × (test (f k) ≡ true)) → ((j k : ℕ) → j < k → k < count → f j ≢ f k) → count ≤ length (below test n)
   unfolding rank
@@ -71,12 +57,7 @@ module _ (test : ℕ → Bool) where
   both : (n : ℕ) → rank n + length (below others n) ≡ n
   unfolding rank others
   both zero = omega arith
-  both (suc n) = at (test n) (both n)
-    where
-      at : (b : Bool) → length (below test n) + length (below others n) ≡ n
-          → length (cond b (n ∷ below test n) (below test n)) + length (cond (cond b false true) (n ∷ below others n) (below others n)) ≡ suc n
-      at true e = omega (arith, e)
-      at false e = omega (arith, e)
+  both (suc n) = grind (arith, both n)
 
   -- 0 may pass beside
   or_first : ℕ → Bool
@@ -85,20 +66,8 @@ module _ (test : ℕ → Bool) where
   one-beside : (n : ℕ) → length (below or_first n) ≤ suc (rank n)
   unfolding rank or_first
   one-beside zero = omega arith
-  one-beside (suc n) = at n refl (either (n == 0)) (one-beside n)
-    where
-      at : (k : ℕ) → k ≡ n → ((n == 0) ≡ true) ⊎ ((n == 0) ≡ false) → length (below or_first n) ≤ suc (length (below test n))
-          → length (cond (cond (n == 0) true (test n)) (n ∷ below or_first n) (below or_first n)) ≤ suc (length (cond (test n) (n ∷ below test n) (below test n)))
-      at k e (inl t) h = (let none : n ≡ 0 = grind (arith, t) in none-yet n none)
-        where
-          none-yet : (n : ℕ) → n ≡ 0 → length (cond (cond (n == 0) true (test n)) (n ∷ below or_first n) (below or_first n)) ≤ suc (length (cond (test n) (n ∷ below test n) (below test n)))
-          none-yet zero e = omega arith
-          none-yet (suc n) e = absurd (omega arith)
-      at k e (inr t) h = rw t (step (test n) h)
-        where
-          step : (b : Bool) → length (below or_first n) ≤ suc (length (below test n)) → length (cond b (n ∷ below or_first n) (below or_first n)) ≤ suc (length (cond b (n ∷ below test n) (below test n)))
-          step true h = omega (arith, h)
-          step false h = omega (arith, h)
+  one-beside (suc zero) = omega arith
+  one-beside (suc (suc n)) = grind (arith, one-beside (suc n))
 
   filled-read : (n j : ℕ) → j < n → test j ≡ true → is_filled (below test n) ≡ true
   filled-read n j less e = let k = below-has test n j less e in at (below test n) k.0 k.1
@@ -120,54 +89,28 @@ module _ (test : ℕ → Bool) where
   least-is : (n : ℕ) → is_filled (below test n) ≡ true → IsLeast n (least n)
   unfolding least
   least-is zero e = absurd (cc)
-  least-is (suc n) e = at (either (is_filled (below test n))) (either (test n)) (least-is n)
-    where
-      at : (is_filled (below test n) ≡ true) ⊎ (is_filled (below test n) ≡ false) → (test n ≡ true) ⊎ (test n ≡ false) → (is_filled (below test n) ≡ true → IsLeast n (least n))
-          → IsLeast (suc n) (cond (is_filled (below test n)) (least n) n)
-      at (inl t) own more = let h = more t in rw t (record { inside = (let less = h.inside in omega (arith, less)); passes = h.passes; alone = h.alone })
-      at (inr t) (inl own) more = rw t (record { inside = omega arith; passes = own; alone = t })
-      at (inr t) (inr own) more = absurd (let same : is_filled (below test (suc n)) ≡ is_filled (below test n) = ap (λ b. is_filled (cond b (n ∷ below test n) (below test n))) own in let bad : true ≡ false = sym e ∙ (same ∙ t) in cc)
-
-  least-one : (i j : ℕ) → test i ≡ true → test j ≡ true → is_filled (below test i) ≡ false → is_filled (below test j) ≡ false → i ≡ j
-  least-one i j a b c d = elim (either (nat_lt i j)) [
-    | inl t ↦ absurd (let up : i < j = grind (arith, nat_tests, t) in let bad : true ≡ false = sym (filled-read j i up a) ∙ d in cc)
-    | inr t ↦ elim (either (nat_lt j i)) [
-      | inl s ↦ absurd (let down : j < i = grind (arith, nat_tests, s) in let bad : true ≡ false = sym (filled-read i j down b) ∙ c in cc)
-      | inr s ↦ (let no : ¬ (i < j) = grind (arith, nat_tests, t) in let not : ¬ (j < i) = grind (arith, nat_tests, s) in omega (arith, no, not))
+  least-is (suc n) e = elim (either (is_filled (below test n))) [
+    | inl t ↦ (let h = least-is n t in rw t (record { inside = omega (arith, h.inside); passes = h.passes; alone = h.alone }))
+    | inr t ↦ elim (either (test n)) [
+      | inl own ↦ rw t (record { inside = omega arith; passes = own; alone = t })
+      | inr own ↦ absurd (let bad : is_filled (below test n) ≡ true = rw own at e in cc)
     ]
   ]
 
--- ---- groups
+  least-one : (i j : ℕ) → test i ≡ true → test j ≡ true → is_filled (below test i) ≡ false → is_filled (below test j) ≡ false → i ≡ j
+  least-one i j a b c d = grind (arith, filled-read j i, filled-read i j)
 
-up-one : (test : ℕ → Bool) (n : ℕ) → length (below test n) ≤ length (below test (suc n))
-unfolding rank
-up-one test n = rank-up test n
+-- ---- groups
 
 -- a group has at most one element more than are later
 pub members-few : (edge : ℕ → Option (ℕ × ℕ)) (g n : ℕ) → length (members edge g n) ≤ suc (num_later edge n)
 members-few edge g zero = omega arith
-members-few edge g (suc n) = at (edge n) refl (either (is_in g (edge n))) (members-few edge g n)
-  where
-    in-group : (o : Option (ℕ × ℕ)) → edge n ≡ o → is_in g o ≡ true → (length (members edge g n) ≡ 0) ⊎ (is_later edge n ≡ true)
-    in-group None is e = absurd (cc)
-    in-group (Some x) is e = let same : x.0 ≡ g = grind (arith, e) in filled (members edge g n) refl (ap (has_before edge n) is ∙ ap (λ q. is_filled (members edge q n)) same)
-      where
-        filled : (l : List ℕ) → members edge g n ≡ l → is_later edge n ≡ is_filled (members edge g n) → (length (members edge g n) ≡ 0) ⊎ (is_later edge n ≡ true)
-        filled [] none e = inl (ap length none)
-        filled (y ∷ l) some e = inr (e ∙ ap is_filled some)
-
-    at : (o : Option (ℕ × ℕ)) → edge n ≡ o → (is_in g (edge n) ≡ true) ⊎ (is_in g (edge n) ≡ false) → length (members edge g n) ≤ suc (num_later edge n)
-        → length (members edge g (suc n)) ≤ suc (num_later edge (suc n))
-    at o is (inr out) few =
-        let same : length (members edge g (suc n)) ≡ length (members edge g n) = ap (λ b. length (cond b (n ∷ members edge g n) (members edge g n))) out in
-        let up : num_later edge n ≤ num_later edge (suc n) = up-one (is_later edge) n in
-        omega (arith, same, up, few)
-    at o is (inl t) few =
-        let more : length (members edge g (suc n)) ≡ suc (length (members edge g n)) = ap (λ b. length (cond b (n ∷ members edge g n) (members edge g n))) t in
-        elim (in-group o is (ap (is_in g) (sym is) ∙ t)) [
-          | inl none ↦ omega (arith, more, none)
-          | inr later ↦ (let step : num_later edge (suc n) ≡ suc (num_later edge n) = ap (λ b. length (cond b (n ∷ below (is_later edge) n) (below (is_later edge) n))) later in omega (arith, more, few, step))
-        ]
+members-few edge g (suc n) =
+    let few = members-few edge g n in
+    elim (either (is_in g (edge n))) [
+      | inl t ↦ (let later : is_later edge n ≡ is_filled (members edge g n) = ap (has_before edge n) (in-edge g (edge n) t) in grind arith)
+      | inr out ↦ grind arith
+    ]
 
 linked : ℕ → Bool
 linked zero = false
@@ -193,11 +136,7 @@ later-linked edge n k first new next link h put = at (edge k) refl put
 pub later-next : (edge : ℕ → Option (ℕ × ℕ)) (n k : ℕ) (first new next : List ℕ) (link one : ℕ) → IsGrouped edge n k first next → IsPut (edge k) k first new link
     → (link ≡ 0 → one ≡ 0) → (0 < link → one ≡ 1) → num_later edge k + one ≡ num_later edge (k + 1)
 unfolding linked
-later-next edge n k first new next link one h put none some = rw (add-one k) (at link (later-linked edge n k first new next link h put) none some)
-  where
-    at : (q : ℕ) → is_later edge k ≡ linked q → (q ≡ 0 → one ≡ 0) → (0 < q → one ≡ 1) → num_later edge k + one ≡ num_later edge (suc k)
-    at zero e none some = let same = ap (λ b. length (cond b (k ∷ below (is_later edge) k) (below (is_later edge) k))) e in omega (arith, none refl, same)
-    at (suc q) e none some = let more = ap (λ b. length (cond b (k ∷ below (is_later edge) k) (below (is_later edge) k))) e in omega (arith, some (omega arith), more)
+later-next edge n k first new next link one h put none some = let is = later-linked edge n k first new next link h put in grind (arith, none, some)
 
 -- ---- texts do not go apart from their beginnings
 
@@ -241,37 +180,35 @@ module _ {child : ℕ → ℕ → Option ℕ} {group : ℕ → Option ℕ} {edge
   later-in : (g u k : ℕ) → edge k ≡ Some (g, u) → is_later edge k ≡ is_filled (members edge g k)
   later-in g u k e = ap (has_before edge k) e
 
+  group-of : (i c j : ℕ) → i < n → child i c ≡ Some j → (g : ℕ) × (group i ≡ Some g)
+  group-of i c j real e = at (group i) refl
+    where
+      at : (o : Option ℕ) → group i ≡ o → (g : ℕ) × (group i ≡ Some g)
+      at None own = absurd (none-some j (sym (tell.alone i c real own) ∙ e))
+      at (Some g) own = (g, own)
+
   kid-is : (i c j : ℕ) → i < n → child i c ≡ Some j → IsKid i (kid i)
   unfolding kid kid_of_group
-  kid-is i c j real e = at (group i) refl
-    where
-      at : (o : Option ℕ) → group i ≡ o → IsKid i (kid_of_group o)
-      at None own = absurd (let bad : ◌≡◌ {A = Option ℕ} None (Some j) = sym (tell.alone i c real own) ∙ e in cc)
-      at (Some g) own =
-          let test = λ (j : ℕ). is_in g (edge j) in
-          let there : is_in g (edge j) ≡ true = (edge-in g c (edge j) (tell.from_child i g c j real own e)).0 in
-          let h = least-is test n (filled-read test n j (tree.inside i c j e).0 there) in
-          let k = least test n in
-          let is : edge k ≡ Some (g, unit_of (edge k)) = in-edge g (edge k) h.passes in
-          record {
-            real = h.inside;
-            own = (unit_of (edge k), tell.to_child i g (unit_of (edge k)) k real own h.inside is);
-            least_one = later-in g (unit_of (edge k)) k is ∙ h.alone;
-          }
+  kid-is i c j real e =
+      let (g, own) = group-of i c j real e in
+      let h = least-is (λ q. is_in g (edge q)) n (filled-read (λ q. is_in g (edge q)) n j (tree.inside i c j e).0 (edge-in g c (edge j) (tell.from_child i g c j real own e)).0) in
+      let k = least (λ q. is_in g (edge q)) n in
+      let is : edge k ≡ Some (g, unit_of (edge k)) = in-edge g (edge k) h.passes in
+      rw own (record {
+        real = h.inside;
+        own = (unit_of (edge k), tell.to_child i g (unit_of (edge k)) k real own h.inside is);
+        least_one = later-in g (unit_of (edge k)) k is ∙ h.alone;
+      })
 
   -- a child that is not later is that one
   kid-one : (i c j : ℕ) → i < n → child i c ≡ Some j → is_later edge j ≡ false → j ≡ kid i
   unfolding kid kid_of_group
-  kid-one i c j real e first = at (group i) refl
-    where
-      at : (o : Option ℕ) → group i ≡ o → j ≡ kid_of_group o
-      at None own = absurd (let bad : ◌≡◌ {A = Option ℕ} None (Some j) = sym (tell.alone i c real own) ∙ e in cc)
-      at (Some g) own =
-          let test = λ (j : ℕ). is_in g (edge j) in
-          let is : edge j ≡ Some (g, c) = tell.from_child i g c j real own e in
-          let there : is_in g (edge j) ≡ true = (edge-in g c (edge j) is).0 in
-          let h = least-is test n (filled-read test n j (tree.inside i c j e).0 there) in
-          least-one test j (least test n) there h.passes (sym (later-in g c j is) ∙ first) h.alone
+  kid-one i c j real e first =
+      let (g, own) = group-of i c j real e in
+      let is : edge j ≡ Some (g, c) = tell.from_child i g c j real own e in
+      let there : is_in g (edge j) ≡ true = (edge-in g c (edge j) is).0 in
+      let h = least-is (λ q. is_in g (edge q)) n (filled-read (λ q. is_in g (edge q)) n j (tree.inside i c j e).0 there) in
+      rw own (least-one (λ q. is_in g (edge q)) j (least (λ q. is_in g (edge q)) n) there h.passes (sym (later-in g c j is) ∙ first) h.alone)
 
   module _ (w : List ℕ) (x : ℕ) (leads : Leads child w x) where
     at-node : (d : ℕ) → Leads child (take d w) (node w d) × (walk child (node w d) (drop d w) ≡ Some x)
@@ -286,21 +223,11 @@ module _ {child : ℕ → ℕ → Option ℕ} {group : ℕ → Option ℕ} {edge
 
     -- the next unit leads to a child
     node-child : (d : ℕ) → d < length w → (c : ℕ) × (child (node w d) c ≡ Some (node w (suc d)))
-    unfolding node or_zero
-    node-child d less = go (drop d w) (omega (arith, less, length-drop d w)) (take-more d w less)
-      where
-        take-more : (d : ℕ) (w : List ℕ) → d < length w → (c : ℕ) × (take (suc d) w ≡ take d w ++ c ∷ [])
-        take-more d [] h = absurd (omega arith)
-        take-more zero (a ∷ w) h = (a, refl)
-        take-more (suc d) (a ∷ w) h = let more = take-more d w (omega arith) in (more.0, ap (λ l. a ∷ l) more.1)
-
-        go : (v : List ℕ) → 0 < length v → ((c : ℕ) × (take (suc d) w ≡ take d w ++ c ∷ [])) → (c : ℕ) × (child (node w d) c ≡ Some (node w (suc d)))
-        go v some more =
-            let to : Leads child (take d w ++ more.0 ∷ []) (node w (suc d)) = ap (walk child 0) (sym more.1) ∙ (at-node (suc d)).0 in
-            let halves = walk-split child 0 (node w (suc d)) (take d w) (more.0 ∷ []) to in
-            let same : halves.0 ≡ node w d = same_Some halves.0 (node w d) (sym halves.1 ∙ (at-node d).0) in
-            let step = and_then_inv (λ j. walk child j []) (child halves.0 more.0) (node w (suc d)) halves.2 in
-            (more.0, ap (λ q. child q more.0) (sym same) ∙ (step.1 ∙ step.2))
+    node-child d less =
+        let c = get_or w d 0 in
+        let to : Leads child (take d w ++ c ∷ []) (node w (suc d)) = ap (walk child 0) (sym (take-suc w d 0 less)) ∙ (at-node (suc d)).0 in
+        let parts = push-parts child 0 (take d w) c (node w (suc d)) to in
+        (c, ap (λ q. child q c) (same_Some (node w d) parts.0 (sym (at-node d).0 ∙ parts.1)) ∙ parts.2)
 
     -- ---- the length of a text
 

@@ -1,16 +1,11 @@
 -- Lists keep their numbers while the table grows: a link leads to numbers before it alone. So one pass over the elements, each put before the others of its group, makes the list of each group.
 use Rattle.std.proofs.Common.{◌≡◌, ◌≢◌, ℕ, zero, suc, ◌+◌, ◌-◌, ◌<◌, ◌≤◌, ◌⊎◌, inl, inr, true, false, cond, ◌==◌, List, [], ◌∷◌, ◌++◌, length, map, get_or, set, replicate, Option, Some, None, refl, sym, ap, ◌∙◌, arith, length-append, add-one, sub-one}
-use Rattle.std.proofs.lemmas.List.{get_or_append_left, get_or_past, get_or-replicate, get_or-set_same, get_or-set_other, length-set, length-replicate}
+use Rattle.std.proofs.lemmas.List.{get_or-map, get_or_push, get_or_append_left, get_or_past, get_or-replicate, get_or-set_same, get_or-set_other, length-set, length-replicate}
+use Rattle.std.proofs.lemmas.Bool.{cases_order}
 use Rattle.std.proofs.Math.Seq.{get_or-append_seam}
 use Rattle.daachorse_model.proofs.Booleans.{either}
 use Rattle.daachorse_listing.specs.Edges.{is_in, members}
 use Rattle.daachorse_listing.specs.Linked.{numbers_from, list_from, IsPut}
-
-place : (q n : ℕ) → (q < n) ⊎ ((q ≡ n) ⊎ (n < q))
-place zero zero = inr (inl refl)
-place zero (suc n) = inl (omega arith)
-place (suc q) zero = inr (inr (omega arith))
-place (suc q) (suc n) = elim (place q n) [ inl h ↦ inl (omega arith) | inr r ↦ elim r [ inl e ↦ inr (inl (ap (λ k. suc k) e)) | inr h ↦ inr (inr (omega arith)) ] ]
 
 module _ (next : List ℕ) (fall : (q : ℕ) → get_or next q 0 ≤ q) where
   -- any number of steps that is enough gives the same
@@ -38,15 +33,11 @@ module _ (next : List ℕ) (fall : (q : ℕ) → get_or next q 0 ≤ q) where
 
   -- ---- one more number
   module _ (x : ℕ) (back : x ≤ length next) where
-    fall-push : (q : ℕ) → (q < length next) ⊎ ((q ≡ length next) ⊎ (length next < q)) → get_or (next ++ x ∷ []) q 0 ≤ q
-    fall-push q (inl h) = let e : get_or (next ++ x ∷ []) q 0 ≡ get_or next q 0 = get_or_append_left next (x ∷ []) 0 q h in rw e (fall q)
-    fall-push q (inr (inl h)) = let e : get_or (next ++ x ∷ []) (length next) 0 ≡ x = get_or-append_seam next x [] 0 in rw (h, e) back
-    fall-push q (inr (inr h)) =
-        let none : get_or (next ++ x ∷ []) q 0 ≡ 0 = get_or_past (next ++ x ∷ []) q 0 (omega (arith, length-append next (x ∷ []))) in
-        rw none (omega arith)
-
     pub falls-push : (q : ℕ) → get_or (next ++ x ∷ []) q 0 ≤ q
-    falls-push q = fall-push q (place q (length next))
+    falls-push q = elim (cases_order q (length next)) [
+      | inl same ↦ omega (arith, back, same, get_or_push next x 0 q (sym same))
+      | inr other ↦ elim other [ inl less ↦ omega (arith, get_or_append_left next (x ∷ []) 0 q less, fall q) | inr more ↦ omega (arith, get_or_past (next ++ x ∷ []) q 0 (omega (arith, length-append next (x ∷ [])))) ]
+    ]
 
     steps-push : (s link : ℕ) → link ≤ length next → numbers_from (next ++ x ∷ []) s link ≡ numbers_from next s link
     steps-push zero link h = refl
@@ -159,9 +150,4 @@ grouped-next edge n k first new next then link h put e = rw (e, add-one k) (at (
 
 -- the lists of all groups, read as one table
 pub grouped-list : (edge : ℕ → Option (ℕ × ℕ)) (n k : ℕ) (first next : List ℕ) → IsGrouped edge n k first next → (g : ℕ) → g < n → get_or (map (list_from next) first) g [] ≡ members edge g k
-grouped-list edge n k first next h g less = get_or-mapped first g (let size = h.size in omega (arith, size, less)) ∙ h.lists g less
-  where
-    get_or-mapped : (l : List ℕ) (i : ℕ) → i < length l → get_or (map (list_from next) l) i [] ≡ list_from next (get_or l i 0)
-    get_or-mapped [] i less = absurd (omega arith)
-    get_or-mapped (x ∷ l) zero less = refl
-    get_or-mapped (x ∷ l) (suc i) less = get_or-mapped l i (omega arith)
+grouped-list edge n k first next h g less = get_or-map (list_from next) first g 0 [] (omega (arith, h.size, less)) ∙ h.lists g less

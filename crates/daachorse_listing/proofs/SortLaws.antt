@@ -1,6 +1,6 @@
 -- The children of an element, sorted by their units, are the list of them by falling units, read backwards.
 use Rattle.std.proofs.Common.{◌≡◌, ◌≢◌, ℕ, zero, suc, ◌+◌, ◌-◌, ◌<◌, ◌≤◌, ◌⊎◌, inl, inr, Bool, true, false, cond, ◌==◌, List, [], ◌∷◌, ◌++◌, length, map, get_or, reverse, Option, Some, None, refl, sym, ap, ◌∙◌, arith, subst, add-one, nat_lt}
-use Rattle.std.proofs.lemmas.List.{get_or-reverse, length-map, length-reverse}
+use Rattle.std.proofs.lemmas.List.{get_or-map, get_or-reverse, length-map, length-reverse}
 use Rattle.std.proofs.lemmas.List.Elements.{All-from_get_or, All-from_recursion, recursion_from_All}
 use Rattle.std.proofs.lemmas.Bool.{cases_eq}
 use Rattle.std.proofs.lemmas.List.Edits.{swapped_from_swap, length-swap}
@@ -175,11 +175,6 @@ below-has test (suc n) j h e = elim (cases_eq j n) [
 abbrev pub kid_of : (ℕ → Option (ℕ × ℕ)) → ℕ → ℕ × ℕ
 kid_of edge j = (unit_of (edge j), j)
 
-map-read : (edge : ℕ → Option (ℕ × ℕ)) (l : List ℕ) (k : ℕ) → k < length l → get_or (map (kid_of edge) l) k nobody ≡ kid_of edge (get_or l k 0)
-map-read edge [] k h = absurd (omega arith)
-map-read edge (x ∷ l) zero h = refl
-map-read edge (x ∷ l) (suc k) h = map-read edge l k (omega arith)
-
 pub in-edge : (g : ℕ) (o : Option (ℕ × ℕ)) → is_in g o ≡ true → o ≡ Some (g, unit_of o)
 in-edge g None e = absurd (cc)
 in-edge g (Some x) e = let same : x.0 ≡ g = grind (arith, e) in ap (λ a. Some (a, x.1)) same
@@ -201,12 +196,12 @@ module _ {child : ℕ → ℕ → Option ℕ} {group : ℕ → Option ℕ} {edge
   members-kids = record {
     sound = λ k h. (
         let less : k < length ms = omega (arith, h, length-map ms (kid_of edge)) in
-        let e = map-read edge ms k less in
+        let e = get_or-map (kid_of edge) ms k 0 nobody less in
         ap (λ p. child i p.0) e ∙ (member-child k less ∙ ap (λ p. Some p.1) (sym e)));
     apart = λ j k h_j h_k other same. (
         let less_j : j < length ms = omega (arith, h_j, length-map ms (kid_of edge)) in
         let less_k : k < length ms = omega (arith, h_k, length-map ms (kid_of edge)) in
-        let units : unit_of (edge (get_or ms j 0)) ≡ unit_of (edge (get_or ms k 0)) = sym (ap (λ p. p.0) (map-read edge ms j less_j)) ∙ (same ∙ ap (λ p. p.0) (map-read edge ms k less_k)) in
+        let units : unit_of (edge (get_or ms j 0)) ≡ unit_of (edge (get_or ms k 0)) = sym (ap (λ p. p.0) (get_or-map (kid_of edge) ms j 0 nobody less_j)) ∙ (same ∙ ap (λ p. p.0) (get_or-map (kid_of edge) ms k 0 nobody less_k)) in
         let one : get_or ms j 0 ≡ get_or ms k 0 = same_Some _ _ (sym (member-child j less_j) ∙ (ap (child i) units ∙ member-child k less_k)) in
         apart-members j k less_j less_k other one);
     complete = λ u j e. (
@@ -215,7 +210,7 @@ module _ {child : ℕ → ℕ → Option ℕ} {group : ℕ → Option ℕ} {edge
         let k = below-has (λ q. is_in g (edge q)) n j (inside i u j e).0 both.0 in (
           k.0,
           subst (λ z. k.0 < z) (sym (length-map ms (kid_of edge))) k.1,
-          ap (λ p. p.0) (map-read edge ms k.0 k.1) ∙ (ap (λ q. unit_of (edge q)) k.2 ∙ both.1),
+          ap (λ p. p.0) (get_or-map (kid_of edge) ms k.0 0 nobody k.1) ∙ (ap (λ q. unit_of (edge q)) k.2 ∙ both.1),
         ));
   }
     where

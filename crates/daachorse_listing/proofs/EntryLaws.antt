@@ -5,8 +5,8 @@ use Rattle.std.proofs.lemmas.Option.{same_Some}
 use Rattle.std.specs.List.{AllByRecursion}
 use Rattle.daachorse_model.specs.Paths.{walk}
 use Rattle.daachorse_model.proofs.Lists.{ends_in}
+use Rattle.daachorse_model.proofs.Paths.{push-parts}
 use Rattle.daachorse_machine.specs.Texts.{IsReached}
-use Rattle.daachorse_machine.proofs.PathLaws.{and_then_inv, walk-split}
 use Rattle.daachorse_listing.specs.Edges.{IsTree, TellChildren, put_before}
 use Rattle.daachorse_listing.specs.Listing.{AreEntries, IsEntry, unit_of}
 use Rattle.daachorse_listing.specs.Trees.{text}
@@ -43,9 +43,8 @@ module _ {child : ℕ → ℕ → Option ℕ} {n m : ℕ} (tree : IsTree child n
   parent-of i r other = elim (ends_in (text child n m i)) [
     | inl none ↦ absurd (other (sym (same_Some 0 i (ap (walk child 0) (sym none) ∙ r))))
     | inr ends ↦ (
-        let halves = walk-split child 0 i ends.0 (ends.1 ∷ []) (ap (walk child 0) (sym ends.2) ∙ r) in
-        let step = and_then_inv (λ j. walk child j []) (child halves.0 ends.1) i halves.2 in
-        (halves.0, ends.1, reached-is tree ends.0 halves.0 halves.1, step.1 ∙ step.2))
+        let parts = push-parts child 0 ends.0 ends.1 i (ap (walk child 0) (sym ends.2) ∙ r) in
+        (parts.0, ends.1, reached-is tree ends.0 parts.0 parts.1, parts.2))
   ]
 
   -- its last unit is written behind the others

@@ -1,7 +1,8 @@
 -- Members of lists, pairs of them, and tables in which the entries of some are written.
 use Rattle.std.proofs.Common.{◌≡◌, ◌≢◌, ℕ, zero, suc, ◌+◌, ◌<◌, ◌≤◌, ◌⊎◌, inl, inr, true, false, ◌==◌, List, [], ◌∷◌, ◌++◌, length, map, reverse, get_or, set, Option, Some, None, refl, sym, ap, ◌∙◌, arith, subst}
 use Rattle.std.proofs.lemmas.List.{get_or-set_same, get_or-set_other, length-set, length-map, length-reverse, reverse-append}
-use Rattle.std.proofs.lemmas.Option.{same_Some}
+use Rattle.std.proofs.lemmas.Bool.{cases_eq}
+use Rattle.std.proofs.lemmas.Option.{none-some, same_Some}
 use Rattle.std.specs.List.{AllByRecursion}
 use Rattle.daachorse_model.proofs.Booleans.{either}
 use Rattle.daachorse_machine.proofs.PathLaws.{pigeon}
@@ -31,12 +32,7 @@ among-right (x ∷ xs) ys k h = inr (among-right xs ys k h)
 
 pub among-put : (xs l : List ℕ) (k : ℕ) → IsAmong (put_before xs l) k → IsAmong xs k ⊎ IsAmong l k
 among-put [] l k h = inr h
-among-put (x ∷ xs) l k h = at (among-put xs (x ∷ l) k h)
-  where
-    at : IsAmong xs k ⊎ IsAmong (x ∷ l) k → IsAmong (x ∷ xs) k ⊎ IsAmong l k
-    at (inl a) = inl (inr a)
-    at (inr (inl e)) = inl (inl e)
-    at (inr (inr b)) = inr b
+among-put (x ∷ xs) l k h = elim (among-put xs (x ∷ l) k h) [ inl a ↦ inl (inr a) | inr b ↦ elim b [ inl e ↦ inl (inl e) | inr c ↦ inr c ] ]
 
 pub put-right : (xs l : List ℕ) (k : ℕ) → IsAmong l k → IsAmong (put_before xs l) k
 put-right [] l k h = h
@@ -49,12 +45,10 @@ put-left (x ∷ xs) l k (inr h) = put-left xs (x ∷ l) k h
 
 pub among-either : (xs : List ℕ) (k : ℕ) → IsAmong xs k ⊎ (¬ IsAmong xs k)
 among-either [] k = inr (λ h. h)
-among-either (x ∷ xs) k = at (either (k == x)) (among-either xs k)
-  where
-    at : ((k == x) ≡ true) ⊎ ((k == x) ≡ false) → IsAmong xs k ⊎ (¬ IsAmong xs k) → IsAmong (x ∷ xs) k ⊎ (¬ IsAmong (x ∷ xs) k)
-    at (inl e) rest = inl (inl (grind (arith, e)))
-    at (inr e) (inl h) = inl (inr h)
-    at (inr e) (inr out) = inr (λ h. elim h [ inl same ↦ (let bad : k ≢ x = grind (arith, e) in bad same) | inr more ↦ out more ])
+among-either (x ∷ xs) k = elim (cases_eq k x) [
+  | inl same ↦ inl (inl same)
+  | inr other ↦ elim (among-either xs k) [ inl more ↦ inl (inr more) | inr out ↦ inr (λ h. elim h [ inl same ↦ other same | inr more ↦ out more ]) ]
+]
 
 pub All-among : (P : ℕ → Type 0) (xs : List ℕ) → ((k : ℕ) → IsAmong xs k → P k) → AllByRecursion P xs
 All-among P [] h = tt
@@ -83,14 +77,10 @@ module _ (child : ℕ → ℕ → Option ℕ) (i : ℕ) where
 
   pub children-among : (m c k : ℕ) → c < m → child i c ≡ Some k → IsAmong (children child i m) k
   children-among zero c k h e = absurd (omega arith)
-  children-among (suc u) c k h e = at (child i u) refl (λ other. children-among u c k (omega (arith, other)) e)
-    where
-      at : (o : Option ℕ) → child i u ≡ o → (c ≢ u → IsAmong (children child i u) k) → IsAmong (child_before o (children child i u)) k
-      at None is more = more (λ same. let bad : ◌≡◌ {A = Option ℕ} None (Some k) = sym is ∙ (ap (child i) (sym same) ∙ e) in cc)
-      at (Some j) is more = elim (either (c == u)) [
-        | inl same ↦ (let one : c ≡ u = grind (arith, same) in inl (same_Some k j (sym e ∙ (ap (child i) one ∙ is))))
-        | inr other ↦ inr (more (grind (arith, other)))
-      ]
+  children-among (suc u) c k h e = elim (cases_eq c u) [
+    | inl same ↦ rw (ap (child i) (sym same) ∙ e) (inl refl)
+    | inr other ↦ elim (child i u) as (λ o. IsAmong (child_before o (children child i u)) k) [ None ↦ children-among u c k (omega (arith, h, other)) e | Some j ↦ inr (children-among u c k (omega (arith, h, other)) e) ]
+  ]
 
   pub no-children : (m : ℕ) → ((c : ℕ) → child i c ≡ None) → children child i m ≡ []
   no-children zero none = refl
@@ -148,15 +138,15 @@ pub marking-next : (kids left : List ℕ) (j x : ℕ) (old new : List ℕ) → j
 marking-next kids left j x old new inside m = record {
   size = length-set new j x ∙ m.size;
   within = λ k h. m.within k (inr h);
-  written = λ k h. at k (either (k == j)) (m.written k h);
+  written = λ k h. elim (cases_eq k j) [
+    | inl same ↦ inr (rw same (get_or-set_same new j x 0 inside))
+    | inr other ↦ elim (m.written k h) [
+      | inl more ↦ elim more [ inl same ↦ absurd (other same) | inr kid ↦ inl kid ]
+      | inr done ↦ inr (get_or-set_other new j k x 0 other ∙ done)
+    ]
+  ];
   other = λ k no. get_or-set_other new j k x 0 (λ same. no (m.within k (inl same))) ∙ m.other k no;
 }
-  where
-    at : (k : ℕ) → ((k == j) ≡ true) ⊎ ((k == j) ≡ false) → IsAmong (j ∷ left) k ⊎ (get_or new k 0 ≡ x) → IsAmong left k ⊎ (get_or (set new j x) k 0 ≡ x)
-    at k (inl e) h = let same : k ≡ j = grind (arith, e) in inr (rw same (get_or-set_same new j x 0 inside))
-    at k (inr e) (inl (inl same)) = absurd (let bad : k ≢ j = grind (arith, e) in bad same)
-    at k (inr e) (inl (inr h)) = inl h
-    at k (inr e) (inr h) = let other : k ≢ j = grind (arith, e) in inr (get_or-set_other new j k x 0 other ∙ h)
 
 -- the last pair of a list is the first of its elements, read backwards
 pub elements-pop : (stack rest : List (ℕ × ℕ)) (x : ℕ × ℕ) → stack ≡ rest ++ x ∷ [] → elements_of stack ≡ x.1 ∷ elements_of rest

@@ -1,8 +1,8 @@
 -- Where all children have the links that what is near above their parents says, the links are right, and the other way round.
 use Rattle.std.proofs.Common.{◌≡◌, ℕ, zero, suc, ◌<◌, ◌≤◌, ◌⊎◌, Bool, true, false, cond, List, [], ◌∷◌, ◌++◌, length, Option, Some, None, is_some, refl, sym, ap, ◌∙◌, subst, inl, inr, arith, get_or}
 use Rattle.std.proofs.lemmas.Option.{same_Some}
-use Rattle.std.proofs.lemmas.Bool.{cases_lt, cases_eq, cases_Bool, cond_both, cond-true, cond-false, or_parts, or_from, false≢true}
-use Rattle.daachorse_model.specs.Paths.{walk, is_reached}
+use Rattle.std.proofs.lemmas.Bool.{cases_eq, cases_Bool, cond_both, cond-true, cond-false, or_parts, or_from, false≢true}
+use Rattle.daachorse_model.specs.Paths.{walk}
 use Rattle.daachorse_model.proofs.Paths.{walk-push}
 use Rattle.daachorse_links.specs.Links.{left_long, left_link, IsPlaceOf, IsLinkOf}
 use Rattle.daachorse_links.specs.Places.{child, IsTrie, HasLinks, LinksFall, stop}
@@ -11,7 +11,7 @@ use Rattle.daachorse_links.proofs.ChildLaws.{edge, back}
 use Rattle.daachorse_links.proofs.NearLaws.{up_link, ups_fall, near_top, near_child, near_other}
 use Rattle.daachorse_links.proofs.TopLaws.{or_top_some, top_end, top_next, top_low}
 use Rattle.daachorse_links.proofs.TextLaws.{walk_later, root_text, one_text, text_of}
-use Rattle.daachorse_links.proofs.LeftLaws.{meets_other, met_empty, left_state, left_met, left_next, left_root, dead_by_stop, dead_by_parent, link_by_walk, link_of_first}
+use Rattle.daachorse_links.proofs.LeftLaws.{left_state, left_next, left_root, dead_by_stop, dead_by_parent, link_by_walk, link_of_first}
 
 module _ (parents labels : List ℕ) (stops : List Bool) (fails : List ℕ) (alphabet : ℕ) (trie : IsTrie parents labels alphabet) (each : length fails ≡ length parents) where
   abbrev kid : ℕ → ℕ → Option ℕ

@@ -1,9 +1,7 @@
 -- Two dictionaries with the same keys have the same links, and where there is no key no link is dead: it is the longest end.
-use Rattle.std.proofs.Common.{◌≡◌, ℕ, Bool, true, false, cond, List, [], ◌∷◌, ◌++◌, Option, Some, None, refl, ap, ◌∙◌, arith}
+use Rattle.std.proofs.Common.{◌≡◌, ℕ, Bool, true, false, cond, List, [], ◌∷◌, ◌++◌, Some, None, refl, ap, ◌∙◌, arith}
 use Rattle.daachorse_model.specs.Dictionary.{Dictionary}
 use Rattle.daachorse_model.specs.Prefixes.{is_key, key_begins, left_fail, long, long_unless_key}
-use Rattle.daachorse_links.specs.Links.{value_at}
-use Rattle.daachorse_links.proofs.LeftLaws.{some_value, value_at-stops}
 
 module _ {V W : Type 0} (K : Dictionary V) (L : Dictionary W) (same : (w : List ℕ) → is_key K w ≡ is_key L w) where
   begins_same : (t w : List ℕ) → key_begins K t w ≡ key_begins L t w

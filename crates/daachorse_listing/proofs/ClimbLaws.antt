@@ -1,12 +1,9 @@
 -- A climb to the first element whose depth is known gives each element that it passed its own, since a text leads to an element by way of its parent.
-use Rattle.std.proofs.Common.{◌≡◌, ◌≢◌, ℕ, zero, suc, ◌+◌, ◌<◌, ◌≤◌, ◌⊎◌, inl, inr, List, [], ◌∷◌, length, get_or, set, replicate, Option, Some, None, refl, sym, ap, ◌∙◌, arith, subst, length-append}
-use Rattle.std.specs.Prelude.{option_and_then}
+use Rattle.std.proofs.Common.{◌≡◌, ◌≢◌, ℕ, zero, suc, ◌+◌, ◌<◌, ◌≤◌, inl, inr, List, [], ◌∷◌, length, get_or, set, replicate, Option, Some, None, refl, sym, ap, ◌∙◌, arith, subst, length-append}
 use Rattle.std.proofs.lemmas.List.{get_or-replicate, get_or-set_same, get_or-set_other, length-set, length-replicate}
 use Rattle.std.proofs.lemmas.Bool.{cases_eq}
 use Rattle.std.proofs.lemmas.Option.{none-some, same_Some, slice_get-get_or}
-use Rattle.daachorse_model.specs.Paths.{walk}
 use Rattle.daachorse_machine.specs.Texts.{IsReached}
-use Rattle.daachorse_machine.proofs.PathLaws.{and_then_inv}
 use Rattle.std.specs.List.{AllByRecursion}
 use Rattle.daachorse_listing.specs.Climbs.{AreKnown, IsDepthOf, IsPathBelow, deepened}
 use Rattle.daachorse_listing.specs.Depths.{IsDepthTable}
@@ -14,7 +11,7 @@ use Rattle.daachorse_listing.specs.Edges.{IsTree, TellChildren}
 use Rattle.daachorse_listing.specs.Trees.{IsAmong, text}
 use Rattle.daachorse_listing.proofs.EntryLaws.{parent-of}
 use Rattle.daachorse_listing.proofs.Members.{All-among, among-either}
-use Rattle.daachorse_listing.proofs.WalkLaws.{root-text, root-reached, reached-inside, reached-is, child-text, child-reached}
+use Rattle.daachorse_listing.proofs.WalkLaws.{root-text, root-reached, reached-inside, child-text, child-reached}
 
 -- ---- entries that are 0
 

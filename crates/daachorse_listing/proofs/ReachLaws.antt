@@ -3,9 +3,8 @@ use Rattle.std.proofs.Common.{◌≡◌, ◌≢◌, ℕ, zero, suc, ◌+◌, ◌
 use Rattle.std.proofs.Math.Seq.{take-suc}
 use Rattle.std.proofs.lemmas.List.{get_or-replicate, get_or-set_same, get_or-set_other, get_or_read, length-set, length-replicate, same_from_push, take-append-drop, take-append-le, take_all}
 use Rattle.std.proofs.lemmas.Option.{same_Some, slice_get-get_or}
-use Rattle.daachorse_model.specs.Paths.{walk, Leads}
+use Rattle.daachorse_model.specs.Paths.{walk}
 use Rattle.daachorse_machine.specs.Texts.{IsReached}
-use Rattle.daachorse_machine.proofs.PathLaws.{and_then_inv}
 use Rattle.daachorse_listing.specs.Depths.{IsDepthTable}
 use Rattle.daachorse_listing.specs.Edges.{is_in, members, IsTree, TellChildren}
 use Rattle.daachorse_listing.specs.Listing.{unit_of}

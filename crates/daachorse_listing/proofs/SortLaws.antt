@@ -1,5 +1,5 @@
 -- The children of an element, sorted by their units, are the list of them by falling units, read backwards.
-use Rattle.std.proofs.Common.{◌≡◌, ◌≢◌, ℕ, zero, suc, ◌+◌, ◌-◌, ◌<◌, ◌≤◌, ◌⊎◌, inl, inr, Bool, true, false, cond, ◌==◌, List, [], ◌∷◌, ◌++◌, length, map, get_or, reverse, Option, Some, None, refl, sym, ap, ◌∙◌, arith, subst, add-one, nat_lt}
+use Rattle.std.proofs.Common.{◌≡◌, ◌≢◌, ℕ, zero, suc, ◌+◌, ◌-◌, ◌<◌, ◌≤◌, ◌⊎◌, inl, inr, Bool, true, false, cond, ◌==◌, List, [], ◌∷◌, length, map, get_or, reverse, Option, Some, None, refl, sym, ap, ◌∙◌, arith, subst, nat_lt}
 use Rattle.std.proofs.lemmas.List.{get_or-map, get_or-reverse, length-map, length-reverse}
 use Rattle.std.proofs.lemmas.List.Elements.{All-from_get_or, All-from_recursion, recursion_from_All}
 use Rattle.std.proofs.lemmas.Bool.{cases_eq}
@@ -10,10 +10,9 @@ use Rattle.std.specs.List.{AllByRecursion, swap}
 use Rattle.std.specs.Prelude.{IsPermutation, IsSorted}
 use Rattle.std.specs.Ordering.{nat_cmp, ordering_then, is_lt}
 use Rattle.std.specs.declared.cmp.Ordering.{Ordering}
-use Rattle.std.specs.declared.cmp.Ordering.TheVariants.{Less}
 use Rattle.std.proofs.lemmas.Bool.Decides.{nat_tests}
 use Rattle.daachorse_model.proofs.Booleans.{either}
-use Rattle.daachorse_listing.specs.Edges.{is_in, below, members, child_before, children, TellChildren}
+use Rattle.daachorse_listing.specs.Edges.{is_in, below, members, children, TellChildren}
 use Rattle.daachorse_listing.specs.Listing.{unit_of}
 use Rattle.daachorse_listing.specs.Trees.{Pairs, elements_of}
 use Rattle.daachorse_listing.proofs.Members.{Pairs-read}

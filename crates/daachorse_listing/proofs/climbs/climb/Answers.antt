@@ -1,10 +1,7 @@
 -- The element above is put on the path until its depth is known, or it is no child.
-use Rattle.std.proofs.Common.{◌≡◌, ◌<◌, ◌∷◌, [], ℕ, List, length, reverse, get_or, set, inl, inr, refl, sym, ap, ◌∙◌, subst, arith, length-append}
+use Rattle.std.proofs.Common.{◌≡◌, ◌<◌, ◌∷◌, [], length, reverse, get_or, set, inl, inr, refl, sym, ap, ◌∙◌, arith, length-append}
 use Rattle.std.proofs.lemmas.List.{get_or-set_same, get_or_read, length-reverse, reverse-append}
-use Rattle.daachorse_machine.specs.Texts.{IsReached}
-use Rattle.daachorse_listing.specs.Climbs.{AreKnown}
-use Rattle.daachorse_listing.specs.Trees.{IsAmong}
-use Rattle.daachorse_listing.proofs.ClimbLaws.{IsClimb, below-few, climb-found, climb-lost, climb-orphan, climb-root, edge-below, known-push, set-kept, unknown-few, unknown-set}
+use Rattle.daachorse_listing.proofs.ClimbLaws.{below-few, climb-found, climb-lost, climb-orphan, climb-root, edge-below, known-push, set-kept, unknown-few, unknown-set}
 use Rattle.daachorse_listing.proofs.climbs.climb.Goals as goal
 
 pub up-init : goal.up-init

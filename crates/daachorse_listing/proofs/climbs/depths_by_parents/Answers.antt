@@ -1,8 +1,8 @@
 -- What a climb passed is given its depth, or known not to be reached.
-use Rattle.std.proofs.Common.{◌≡◌, ◌≢◌, ◌+◌, ◌<◌, [], ℕ, List, reverse, replicate, sym, ap, ◌∙◌, subst, arith}
+use Rattle.std.proofs.Common.{◌≡◌, ◌≢◌, ◌+◌, ◌<◌, ℕ, reverse, replicate, ap, ◌∙◌, arith}
 use Rattle.std.specs.Prelude.{slice_index, vec_capacity}
 use borrow.Author.Count.{below_more}
-use Rattle.daachorse_listing.specs.Climbs.{AreKnown, deepened}
+use Rattle.daachorse_listing.specs.Climbs.{deepened}
 use Rattle.daachorse_listing.proofs.ClimbLaws.{deepened-kept, known-deepened, known-end, known-lost, known-start, waiting-inside}
 use Rattle.daachorse_listing.proofs.climbs.depths_by_parents.Goals.{in-Some, in-None}
 use Rattle.daachorse_listing.proofs.climbs.depths_by_parents.Goals as goal

@@ -1,6 +1,5 @@
 -- The walk starts at the root, and is over where all that were reached were entered.
-use Rattle.std.proofs.Common.{◌≡◌, ◌<◌, [], ◌∷◌, ◌++◌, length, replicate, ap, ◌∙◌, arith, add-one}
-use Rattle.std.proofs.lemmas.List.{get_or_read}
+use Rattle.std.proofs.Common.{◌≡◌, ◌<◌, [], ◌∷◌, ◌++◌, replicate, ap, ◌∙◌, arith, add-one}
 use Rattle.daachorse_listing.proofs.ReachLaws.{reaching-start, entered-inside, entered-shallow, entered-few, entered-room, reaching-next, reaching-end}
 use Rattle.daachorse_listing.proofs.depths.depths.Goals as goal
 

@@ -1,5 +1,5 @@
 -- The link is the child of the first place on the way up with a child by the label.
-use Rattle.std.proofs.Common.{◌≡◌, ◌^◌, ◌<◌, ◌∙◌, Some, cond, sym, ap, length, get_or, subst, arith}
+use Rattle.std.proofs.Common.{◌≡◌, ◌<◌, ◌∙◌, Some, cond, sym, ap, length, get_or, subst, arith}
 use Rattle.std.proofs.lemmas.List.{get_or_read}
 use Rattle.daachorse_links.specs.Following.{IsFollowing}
 use Rattle.daachorse_links.specs.Places.{child, stop}

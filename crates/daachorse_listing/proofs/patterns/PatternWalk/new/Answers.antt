@@ -1,8 +1,8 @@
 -- A walk starts with the root put aside.
-use Rattle.std.proofs.Common.{◌≡◌, ℕ, List, [], ◌∷◌, ◌++◌, refl, sym, ap, ◌∙◌, length, map, reverse, subst, suc, arith}
+use Rattle.std.proofs.Common.{◌≡◌, [], ◌∷◌, ◌++◌, refl, sym, ap, ◌∙◌, length, map, arith}
 use Rattle.daachorse_machine.specs.Texts.{text_of}
-use Rattle.daachorse_listing.specs.Listing.{AreEntries, own_end, patterns_of}
-use Rattle.daachorse_listing.specs.Trees.{IsWalk, elements_of, taken_from}
+use Rattle.daachorse_listing.specs.Listing.{own_end, patterns_of}
+use Rattle.daachorse_listing.specs.Trees.{elements_of, taken_from}
 use Rattle.daachorse_listing.proofs.RoomLaws.{members-few}
 use Rattle.daachorse_listing.proofs.WalkLaws.{root-text, walk-start, walked}
 use Rattle.daachorse_listing.proofs.patterns.PatternWalk.new.Goals as goal

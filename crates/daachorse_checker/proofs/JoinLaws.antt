@@ -1,19 +1,20 @@
 -- What leads to an element of the array leads to its place, and the other way round.
-use Rattle.std.proofs.Common.{◌≡◌, ℕ, ◌<◌, List, [], ◌∷◌, length, Option, Some, None, refl, sym, ap, ◌∙◌, arith, get_or}
+use Rattle.std.proofs.Common.{◌≡◌, ℕ, zero, suc, ◌<◌, List, [], ◌∷◌, length, Option, Some, None, refl, sym, ap, ◌∙◌, arith, get_or}
 use Rattle.std.specs.Prelude.{is_some, option_map, option_and_then}
 use Rattle.std.proofs.lemmas.Option.{none-some, same_Some}
 use Rattle.daachorse_model.specs.Paths.{walk, is_reached, Leads}
 use Rattle.daachorse_model.proofs.Lists.{some_of_map}
 use Rattle.daachorse_links.specs.Places.{IsTrie, child as kid}
 use Rattle.daachorse_links.proofs.ChildLaws.{edge, back}
-use Rattle.daachorse_checker.specs.Places.{HasPlaces, ArePlaces}
+use Rattle.daachorse_links.proofs.TextLaws.{one_text}
+use Rattle.daachorse_checker.specs.Places.{HasOnePath, HasPlaces, ArePlaces}
 use Rattle.daachorse_checker.proofs.PlaceLaws.{same_place}
 
 map_inv : {A B : Type 0} (f : A → B) (o : Option A) (y : B) → option_map f o ≡ Some y → (x : A) × (o ≡ Some x) × (f x ≡ y)
 map_inv f (Some x) y e = (x, refl, same_Some (f x) y e)
 map_inv f None y e = absurd (cc)
 
-module _ (child : ℕ → ℕ → Option ℕ) (label : ℕ → ℕ) (n units : ℕ) (order parents labels marks : List ℕ) (are : ArePlaces child label n order parents labels marks)
+module _ {child : ℕ → ℕ → Option ℕ} {label : ℕ → ℕ} {n units : ℕ} {order parents labels marks : List ℕ} (are : ArePlaces child label n order parents labels marks)
     (inside : (i c j : ℕ) → child i c ≡ Some j → c < units) (one_unit : (i c j : ℕ) → i < n → child i c ≡ Some j → c ≡ label j) where
   abbrev places : HasPlaces child label order parents labels marks
   places = are.places
@@ -40,7 +41,7 @@ module _ (child : ℕ → ℕ → Option ℕ) (label : ℕ → ℕ) (n units : �
         let a = edge_to l pos (omega (arith, less, lt')) in
         let b = edge_to m (omega (arith, less)) lt' in
         let one : at l ≡ at m = same_Some (at l) (at m) (sym a ∙ (ap (λ p. child (at p) (get_or labels l 0)) same_parent ∙ ap (child (at (get_or parents m 0))) same_label) ∙ b) in
-        let bad : l ≡ m = same_place child label order parents labels marks places l m (omega (arith, less, lt')) lt' one in
+        let bad : l ≡ m = same_place places l m (omega (arith, less, lt')) lt' one in
         omega (arith, less, bad);
   }
 
@@ -98,3 +99,17 @@ module _ (child : ℕ → ℕ → Option ℕ) (label : ℕ → ℕ) (n units : �
   -- what a text leads to is one of the places
   pub place_in : (w : List ℕ) (m : ℕ) → Leads (kid parents labels) w m → m < length order
   place_in w m e = walk_in 0 w m places.some e
+
+  -- so each element has one path
+  pub one_path_from : HasOnePath child
+  one_path_from = record {
+    dead_no_child = λ w h. (let a = to_place w 1 h in dead_at a.0 (place_in w a.0 a.1) a.2);
+    one_path = λ i v w h g. (
+        let a = to_place v i h in
+        let b = to_place w i g in
+        one_text parents labels units places_trie v w a.0 a.1 (b.1 ∙ ap Some (same_place places b.0 a.0 (place_in w b.0 b.1) (place_in v a.0 a.1) (b.2 ∙ sym a.2))));
+  }
+    where
+      dead_at : (m : ℕ) → m < length order → at m ≡ 1 → ⊥
+      dead_at zero lt e = omega (arith, places.first, e)
+      dead_at (suc m) lt e = omega (arith, places.alive (suc m) (omega arith) lt, e)

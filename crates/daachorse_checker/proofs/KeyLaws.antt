@@ -8,14 +8,7 @@ use Rattle.daachorse_listing.specs.Listing.{has_own}
 use Rattle.daachorse_listing.proofs.MachineListings.{key_at}
 use Rattle.daachorse_prefilter.specs.Filters.{Filter, admits}
 use Rattle.daachorse_checker.specs.Filters.{PassesAll}
-
-some_values : {V : Type 0} (vs : List V) → vs ≢ [] → is_key (λ (_ : List ℕ). vs) [] ≡ true
-some_values [] some = absurd (some refl)
-some_values (v ∷ vs) some = refl
-
-values_some : {V : Type 0} (vs : List V) → is_key (λ (_ : List ℕ). vs) [] ≡ true → vs ≢ []
-values_some [] e none = cc
-values_some (v ∷ vs) e none = cc
+use Rattle.daachorse_checker.proofs.ChainedLaws.{some_values, values_some}
 
 module _ {V : Type 0} (width : ℕ → ℕ) (a : Machine V) (leftmost : Bool) (n m : ℕ) (machine : IsMachine width a leftmost n m) (bytes : ℕ → List ℕ) (spell : List ℕ → List ℕ) (spells : (w : List ℕ) → flat_map bytes w ≡ spell w) (f : Filter) where
   abbrev PassesEach : Type 0

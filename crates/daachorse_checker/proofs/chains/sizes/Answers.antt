@@ -2,7 +2,6 @@ use Rattle.std.proofs.Common.{rules, ◌≡◌, ℕ, ◌+◌, ◌*◌, ◌<◌, 
 use Rattle.std.proofs.lemmas.List.{get_or_read, length_push}
 use Rattle.std.proofs.lemmas.Result.{IfOk-from_err}
 use Rattle.std.proofs.lemmas.Grind.{elements}
-use Rattle.daachorse_listing.specs.Listing.{unit_of}
 use Rattle.daachorse_checker.specs.Sizes.{AreSizes}
 use Rattle.daachorse_checker.proofs.PlaceLaws.{few}
 use Rattle.daachorse_checker.proofs.SizeLaws.{size_root, size_push, short_push}

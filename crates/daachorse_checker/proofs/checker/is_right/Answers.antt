@@ -1,9 +1,9 @@
-use Rattle.std.proofs.Common.{rules, ◌≡◌, ℕ, ◌<◌, Bool, List, length, sym, ap, ◌∙◌, subst, refl, arith, get_or}
+use Rattle.std.proofs.Common.{rules, ◌≡◌, length, sym, ap, ◌∙◌, subst, refl, arith}
 use Rattle.std.proofs.lemmas.Result.{IfOk-from_err}
 use Rattle.std.proofs.lemmas.Bool.{false≢true}
 use Rattle.daachorse_core.proofs.Refusals.{at_error}
 use Rattle.daachorse_machine.specs.Machines.{IsCounted}
-use Rattle.daachorse_checker.specs.Chains.{AreChained, AreLeavesOf, machine_of}
+use Rattle.daachorse_checker.specs.Chains.{AreLeavesOf, machine_of}
 use Rattle.daachorse_checker.specs.Runs.{AreRuns}
 use Rattle.daachorse_checker.specs.Sizes.{AreSizes}
 use Rattle.daachorse_checker.proofs.CheckedLaws.{right_from, chained_from, counted_places, path_of, same_count}

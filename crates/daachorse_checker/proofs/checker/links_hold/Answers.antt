@@ -1,5 +1,4 @@
 use Rattle.std.proofs.Common.{rules, ◌≡◌, length, sym, subst, arith}
-use Rattle.daachorse_listing.specs.Listing.{unit_of}
 use Rattle.daachorse_links.specs.Places.{IsTrie}
 use Rattle.daachorse_checker.specs.Chains.{machine_of}
 use Rattle.daachorse_checker.specs.Links.{AreLinkPlaces, HasNoPlace}

@@ -1,9 +1,7 @@
 -- One entry more is done.
-use Rattle.std.proofs.Common.{◌≡◌, ℕ, ◌+◌, ◌<◌, false, List, length, get_or, sym, ap, ◌∙◌, subst, arith}
+use Rattle.std.proofs.Common.{◌≡◌, ℕ, ◌<◌, false, length, get_or, sym, ap, ◌∙◌, arith}
 use Rattle.std.proofs.lemmas.List.{get_or_default}
 use Rattle.daachorse_prefilter.specs.declared.prefilter.window.Window.{Window}
-use Rattle.daachorse_listing.specs.Listing.{has_own}
-use Rattle.daachorse_checker.specs.Filters.{IsAdmitted, IsNextOf}
 use Rattle.daachorse_checker.proofs.FilterLaws.{next_admitted, next_pushed}
 use Rattle.daachorse_checker.proofs.filters.next_level.Goals as goal
 use Rattle.daachorse_checker.proofs.filters.next_level.Goals.{then-not-admits+else-has_own+in_ok-push_children, else-not-admits}

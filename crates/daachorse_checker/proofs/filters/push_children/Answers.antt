@@ -1,8 +1,7 @@
 -- Each member of the group is a child, and its entry is put behind the others.
-use Rattle.std.proofs.Common.{◌≡◌, ℕ, ◌∷◌, List, sym, ◌∙◌, subst}
+use Rattle.std.proofs.Common.{◌≡◌, sym, ◌∙◌}
 use Rattle.daachorse_listing.specs.Edges.{members}
-use Rattle.daachorse_prefilter.specs.declared.prefilter.window.Window.{Window}
-use Rattle.daachorse_checker.proofs.FilterLaws.{IsPushing, pushed_none, pushing_done, pushing_in, pushing_next, pushing_start}
+use Rattle.daachorse_checker.proofs.FilterLaws.{pushed_none, pushing_done, pushing_in, pushing_next, pushing_start}
 use Rattle.daachorse_checker.proofs.filters.push_children.Goals as goal
 
 pub returns-in_default-clause-ok : goal.returns-in_default-clause-ok

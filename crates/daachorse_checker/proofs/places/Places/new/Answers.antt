@@ -1,8 +1,6 @@
-use Rattle.std.proofs.Common.{◌≡◌, length, subst, arith}
+use Rattle.std.proofs.Common.{◌≡◌, length, arith}
 use Rattle.std.proofs.lemmas.Result.{IfOk-from_err}
 use Rattle.std.proofs.lemmas.Grind.{common_steps}
-use Rattle.daachorse_listing.specs.Listing.{unit_of}
-use Rattle.daachorse_checker.specs.Places.{IsWalk}
 use Rattle.daachorse_checker.proofs.ExpandLaws.{few_places, all_placed}
 use Rattle.daachorse_checker.proofs.places.Places.new.Goals as goal
 

@@ -6,7 +6,7 @@ use Rattle.daachorse_model.specs.Paths.{walk, is_reached, Leads}
 use Rattle.daachorse_model.proofs.Lists.{some_of_map}
 use Rattle.daachorse_links.specs.Places.{IsTrie, child as kid}
 use Rattle.daachorse_links.proofs.ChildLaws.{edge, back}
-use Rattle.daachorse_links.proofs.TextLaws.{one_text}
+use Rattle.daachorse_links.proofs.TextLaws.{one_text, walk_later}
 use Rattle.daachorse_checker.specs.Places.{HasOnePath, HasPlaces, ArePlaces}
 use Rattle.daachorse_checker.proofs.PlaceLaws.{same_place}
 
@@ -88,17 +88,10 @@ module _ {child : ℕ → ℕ → Option ℕ} {label : ℕ → ℕ} {n units : �
   pub to_place : (w : List ℕ) (i : ℕ) → Leads child w i → (m : ℕ) × Leads (kid parents labels) w m × (at m ≡ i)
   to_place w i e = map_inv at (walk (kid parents labels) 0 w) i (sym (walk_places w) ∙ e)
 
-  walk_in : (k : ℕ) (w : List ℕ) (m : ℕ) → k < length order → walk (kid parents labels) k w ≡ Some m → m < length order
-  walk_in k [] m here e = omega (arith, same_Some k m e, here)
-  walk_in k (c ∷ w) m here e = go (kid parents labels k c) refl e (λ j lt. walk_in j w m lt)
-    where
-      go : (o : Option ℕ) → kid parents labels k c ≡ o → option_and_then (λ j. walk (kid parents labels) j w) o ≡ Some m → ((j : ℕ) → j < length order → walk (kid parents labels) j w ≡ Some m → m < length order) → m < length order
-      go None is h more = absurd (none-some m h)
-      go (Some j) is h more = more j (omega (arith, (back parents labels units places_trie k c j is).1, places.one_each)) h
-
   -- what a text leads to is one of the places
   pub place_in : (w : List ℕ) (m : ℕ) → Leads (kid parents labels) w m → m < length order
-  place_in w m e = walk_in 0 w m places.some e
+  place_in [] m e = omega (arith, same_Some 0 m e, places.some)
+  place_in (c ∷ w) m e = omega (arith, (walk_later parents labels units places_trie c w m e).1, places.one_each)
 
   -- so each element has one path
   pub one_path_from : HasOnePath child

@@ -29,27 +29,18 @@ module _ {V : Type 0} (width : ℕ → ℕ) (a : Machine V) {label : ℕ → ℕ
   AreStops leftmost = (m : ℕ) (w : List ℕ) → m < length order → Leads a.child w (at m) → stop stops m ≡ cond leftmost (has_values (own width a w (at m)).0) false
 
   key_same : AreStops true → (w : List ℕ) → is_key (keys place (stop stops)) w ≡ is_key (content width a) w
-  key_same are_stops w = go (walk place 0 w) refl
+  key_same are_stops w = by (walk place 0 w) refl ∙ sym (ap (λ o. has_values (values_at width a w o)) (walk_places are inside one_unit w))
     where
-      go : (o : Option ℕ) → walk place 0 w ≡ o → is_key (keys place (stop stops)) w ≡ is_key (content width a) w
-      go None e =
-          ap (λ o. has_values (value_at place (stop stops) o)) e
-          ∙ sym (ap (λ o. has_values (values_at width a w o)) (walk_places are inside one_unit w ∙ ap (option_map at) e))
-      go (Some m) e =
-          ap (λ o. has_values (value_at place (stop stops) o)) e
-          ∙ value_at-stops place (stop stops) 0 (stop stops m)
-          ∙ are_stops m w (place_in are inside one_unit w m e) (to_element are inside one_unit w m e)
-          ∙ sym (ap (λ o. has_values (values_at width a w o)) (walk_places are inside one_unit w ∙ ap (option_map at) e))
+      by : (o : Option ℕ) → walk place 0 w ≡ o → has_values (value_at place (stop stops) o) ≡ has_values (values_at width a w (option_map at o))
+      by None e = refl
+      by (Some m) e = value_at-stops place (stop stops) 0 (stop stops m) ∙ are_stops m w (place_in are inside one_unit w m e) (to_element are inside one_unit w m e)
 
   key_none : AreStops false → (w : List ℕ) → is_key (keys place (stop stops)) w ≡ false
-  key_none are_stops w = go (walk place 0 w) refl
+  key_none are_stops w = by (walk place 0 w) refl
     where
-      go : (o : Option ℕ) → walk place 0 w ≡ o → is_key (keys place (stop stops)) w ≡ false
-      go None e = ap (λ o. has_values (value_at place (stop stops) o)) e
-      go (Some m) e =
-          ap (λ o. has_values (value_at place (stop stops) o)) e
-          ∙ value_at-stops place (stop stops) 0 (stop stops m)
-          ∙ are_stops m w (place_in are inside one_unit w m e) (to_element are inside one_unit w m e)
+      by : (o : Option ℕ) → walk place 0 w ≡ o → has_values (value_at place (stop stops) o) ≡ false
+      by None e = refl
+      by (Some m) e = value_at-stops place (stop stops) 0 (stop stops m) ∙ are_stops m w (place_in are inside one_unit w m e) (to_element are inside one_unit w m e)
 
   known_same : is_reached a.child ≡ is_reached place
   known_same = λ i. λ w. reached_places are inside one_unit w i

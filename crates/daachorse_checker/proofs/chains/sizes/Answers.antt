@@ -2,6 +2,7 @@ use Rattle.std.proofs.Common.{rules, ◌≡◌, ℕ, ◌+◌, ◌*◌, ◌<◌, 
 use Rattle.std.proofs.lemmas.List.{get_or_read, length_push}
 use Rattle.std.proofs.lemmas.Result.{IfOk-from_err}
 use Rattle.std.proofs.lemmas.Grind.{elements}
+use Rattle.daachorse_core.proofs.Refusals.{at_any_error}
 use Rattle.daachorse_checker.specs.Sizes.{AreSizes}
 use Rattle.daachorse_checker.proofs.PlaceLaws.{few}
 use Rattle.daachorse_checker.proofs.SizeLaws.{size_root, size_push, short_push}
@@ -34,8 +35,7 @@ overflow_add-size g c =
     let up = places.earlier m inv.low lt in
     let in' : c.index.result.now < length sizes = omega (arith, parent, up, inv.each) in
     let size : c.index-in-loop-place.result.now ≡ get_or sizes c.index.result.now 0 = get_or_read sizes c.index.result.now c.index-in-loop-place.result.now in' c.index-in-loop-place.ensures 0 in
-    let most = few places in
-    omega (arith, size, inv.short c.index.result.now in', c.width.ensures.short, parent, up, lt, most, c.requires.places.marks_each, c.requires.few)
+    omega (arith, size, inv.short c.index.result.now in', c.width.ensures.short, parent, up, lt, few places, c.requires.places.marks_each, c.requires.few)
 
 pub loop-place-preserved : goal.loop-place-preserved
 loop-place-preserved g c =
@@ -67,11 +67,8 @@ loop-place-preserved g c =
       are = subst (λ (xs : List ℕ). AreSizes (g.E.Edges.child a) (g.E.Array.width a) p.order.items xs) (sym items) are;
     }
 
-pub returns-in_err-sizes-clause-ok : goal.returns-in_err-sizes-clause-ok
-returns-in_err-sizes-clause-ok g c = IfOk-from_err c.from_residual.result _ c.from_residual.ensures.0
-
-pub returns-in_err-sizes-clause-each : goal.returns-in_err-sizes-clause-each
-returns-in_err-sizes-clause-each g c = IfOk-from_err c.from_residual.result _ c.from_residual.ensures.0
+pub returns-in_err-sizes : goal.returns-in_err-sizes
+returns-in_err-sizes g c = search (rules, IfOk-from_err, at_any_error)
 
 pub width-requires : goal.width-requires
 width-requires g c = grind (arith, elements)

@@ -68,18 +68,11 @@ returns g c = record {
 }
 
 pub chain_holds-requires : goal.chain_holds-requires
-chain_holds-requires g c = record {
-  links = c.requires.links;
-  positions = c.requires.positions;
-  runs = c.requires.runs;
-  each = c.requires.each;
-  element =
-      let order = c.args.places.now.order.items in
-      let m = c.loop-place.place in
-      let lt : m < length order = omega (arith, c.loop-place-test.true, c.len.ensures, c.args.places.now.order.ok.0) in
-      let at = get_or_read order m c.index-element.result.now lt c.index-element.ensures 0 in
-      omega (arith, at, c.requires.places.places.inside m lt, c.requires.places.marks_each);
-}
+chain_holds-requires g c =
+    let lt : c.loop-place.place < length c.args.places.now.order.items = omega (arith, c.loop-place-test.true, c.len.ensures, c.args.places.now.order.ok.0) in
+    let at = get_or_read c.args.places.now.order.items c.loop-place.place c.index-element.result.now lt c.index-element.ensures 0 in
+    let element : c.index-element.result.now < g.E.Edges.count c.args.array.now = omega (arith, at, c.requires.places.places.inside c.loop-place.place lt, c.requires.places.marks_each) in
+    assumption (element, c.requires)
 
 pub returns-then-not-chain_holds-clause-no : goal.returns-then-not-chain_holds-clause-no
 returns-then-not-chain_holds-clause-no g c e chained =

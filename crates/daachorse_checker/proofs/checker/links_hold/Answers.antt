@@ -7,11 +7,7 @@ use Rattle.daachorse_checker.proofs.CheckedLaws.{trie_of_places, no_place, links
 use Rattle.daachorse_checker.proofs.checker.links_hold.Goals as goal
 
 pub link_places-requires-clause-few : goal.link_places-requires-clause-few
-link_places-requires-clause-few g c =
-    let arr = c.args.array.now in
-    let p = c.args.places in
-    let most = few c.requires.places.places in
-    omega (arith, most, c.requires.places.marks_each, c.requires.few)
+link_places-requires-clause-few g c = omega (arith, few c.requires.places.places, c.requires.places.marks_each, c.requires.few)
 
 pub returns-in_default-clause-no : goal.returns-in_default-clause-no
 returns-in_default-clause-no g c e links =
@@ -30,11 +26,7 @@ has_links-requires-clause-trie g c =
     (trie_of_places (g.E.Array.width arr) a c.requires.tell c.requires.places (λ i u j h. (c.requires.inside i u j h).1))
 
 pub has_links-requires-clause-few : goal.has_links-requires-clause-few
-has_links-requires-clause-few g c =
-    let arr = c.args.array.now in
-    let p = c.args.places in
-    let most = few c.requires.places.places in
-    omega (arith, most, c.requires.places.marks_each, c.requires.places.places.one_each, c.requires.few)
+has_links-requires-clause-few g c = omega (arith, few c.requires.places.places, c.requires.places.marks_each, c.requires.places.places.one_each, c.requires.few)
 
 pub returns-clause-yes : goal.returns-clause-yes
 returns-clause-yes g c e =

@@ -1,6 +1,7 @@
-use Rattle.std.proofs.Common.{◌≡◌, length, arith}
+use Rattle.std.proofs.Common.{rules, ◌≡◌, length, arith}
 use Rattle.std.proofs.lemmas.Result.{IfOk-from_err}
 use Rattle.std.proofs.lemmas.Grind.{common_steps}
+use Rattle.daachorse_core.proofs.Refusals.{at_error}
 use Rattle.daachorse_checker.proofs.ExpandLaws.{few_places, all_placed}
 use Rattle.daachorse_checker.proofs.places.Places.new.Goals as goal
 
@@ -21,11 +22,8 @@ returns-clause-yes g c =
     let both = all_placed c.requires.tell (λ i u j e. (c.requires.inside i u j e).1) (rw done at walk) in
     (both.1, both.0)
 
-pub returns-in_err-groups-clause-yes : goal.returns-in_err-groups-clause-yes
-returns-in_err-groups-clause-yes g c = IfOk-from_err c.from_residual.result _ c.from_residual.ensures.0
-
-pub returns-in_err-groups-clause-no : goal.returns-in_err-groups-clause-no
-returns-in_err-groups-clause-no g c = IfOk-from_err c.from_residual.result _ c.from_residual.ensures.0
+pub returns-in_err-groups : goal.returns-in_err-groups
+returns-in_err-groups g c = search (rules, IfOk-from_err, at_error)
 
 pub loop-next-init : goal.loop-next-init
 loop-next-init g c = grind (arith, common_steps)

@@ -3,6 +3,7 @@ use Rattle.std.proofs.Common.{◌≡◌, ℕ, ◌+◌, ◌<◌, ◌≤◌, List,
 use Rattle.std.proofs.lemmas.List.{length-set, length_push, get_or_push}
 use Rattle.std.proofs.lemmas.Option.{none-some}
 use Rattle.std.proofs.lemmas.Bool.{cases_lt, cases_eq}
+use borrow.Author.Count.{below_more}
 use Rattle.daachorse_listing.specs.Edges.{TellChildren, is_in, members}
 use Rattle.daachorse_checker.specs.Places.{ArePlaces, HasOnePath, HasPlaces, HasEntry, IsClosed, IsWalk}
 use Rattle.daachorse_checker.proofs.MemberLaws.{IsLast, below-none, below-cons, label, one_unit, member_child, child_member}
@@ -37,12 +38,8 @@ module _ {child : ℕ → ℕ → Option ℕ} {group : ℕ → Option ℕ} {edge
     pub expand_none : (k : ℕ) → IsWalk child (label edge) n order parents labels marks k → k < length order → group (get_or order k 0) ≡ None → IsWalk child (label edge) n order parents labels marks (k + 1)
     expand_none k walk here none = record {
       places = walk.places;
-      closed = λ l less c t e. elim (cases_lt l k) [
-        | inl a ↦ walk.closed l a c t e
-        | inr b ↦
-            let same : l ≡ k = omega (arith, less, b) in
-            absurd (none-some t (sym (tell.alone (get_or order k 0) c (at_place walk.places walk.marks_each k here) none) ∙ (ap (λ i. child (get_or order i 0) c) (sym same) ∙ e)))
-      ];
+      closed = below_more (λ l. (c t : ℕ) → child (get_or order l 0) c ≡ Some t → HasEntry order parents l t) k walk.closed
+          (λ c t e. absurd (none-some t (sym (tell.alone (get_or order k 0) c (at_place walk.places walk.marks_each k here) none) ∙ e)));
       recent = λ m pos lt. omega (arith, walk.recent m pos lt);
       marks_each = walk.marks_each;
       within = omega (arith, here);
@@ -80,7 +77,7 @@ module _ {child : ℕ → ℕ → Option ℕ} {group : ℕ → Option ℕ} {edge
                 recent = parents_push walk.places walk.here edge_at same low none high walk.recent;
                 latest = λ m pos less e. elim (cases_lt m (length order)) [
                   | inl a ↦ omega (arith, old_at order x m a, walk.latest m pos a (sym (old_at parents k m (omega (arith, a, walk.places.one_each))) ∙ e), last.less)
-                  | inr b ↦ newest m b less
+                  | inr b ↦ omega (arith, get_or_push order x 0 m (omega (arith, b, less, length_push order x)))
                 ];
                 seen = λ c t e less. elim (cases_eq t x) [
                   | inl one ↦ subst (λ i. HasEntry (order ++ x ∷ []) (parents ++ k ∷ []) k i) (sym one) (entry_new walk.places walk.here edge_at same low none high walk.recent)
@@ -93,11 +90,6 @@ module _ {child : ℕ → ℕ → Option ℕ} {group : ℕ → Option ℕ} {edge
                 ];
               };
             }
-          where
-            newest : (m : ℕ) → length order ≤ m → m < length (order ++ x ∷ []) → x ≤ get_or (order ++ x ∷ []) m 0
-            newest m b less =
-                let top : length order ≡ m = omega (arith, b, less, length_push order x) in
-                omega (arith, get_or_push order x 0 m top)
 
         pub refuse_low : x ≤ 1 → HasOnePath child → ⊥
         refuse_low low = no_root left.walk.places k (label edge x) x left.walk.here edge_at low
@@ -117,13 +109,7 @@ module _ {child : ℕ → ℕ → Option ℕ} {group : ℕ → Option ℕ} {edge
       pub expand_done : {xs : List ℕ} → xs ≡ [] → IsLeft child edge n xs order parents labels marks g k → IsWalk child (label edge) n order parents labels marks (k + 1)
       expand_done none left = record {
         places = walk.places;
-        closed = λ l less c t e. elim (cases_lt l k) [
-          | inl a ↦ walk.closed l a c t e
-          | inr b ↦
-              let same : l ≡ k = omega (arith, less, b) in
-              let e' : child (get_or order k 0) c ≡ Some t = ap (λ i. child (get_or order i 0) c) (sym same) ∙ e in
-              subst (λ i. HasEntry order parents i t) (sym same) (at c t e' (cases_lt t left.bound))
-        ];
+        closed = below_more (λ l. (c t : ℕ) → child (get_or order l 0) c ≡ Some t → HasEntry order parents l t) k walk.closed (λ c t e. at c t e (cases_lt t left.bound));
         recent = λ m pos lt. omega (arith, walk.recent m pos lt);
         marks_each = walk.marks_each;
         within = omega (arith, walk.here);

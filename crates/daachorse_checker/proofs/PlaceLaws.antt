@@ -53,39 +53,17 @@ module _ {child : ℕ → ℕ → Option ℕ} {label : ℕ → ℕ} where
         one_each = length_push parents k ∙ ap (λ n. n + 1) h.one_each ∙ sym (length_push order j);
         label_each = length_push labels u ∙ ap (λ n. n + 1) h.label_each ∙ sym (length_push order j);
         earlier = λ m pos lt. grind (arith, old_or_new m lt, old_parents m, new_parents m, h.earlier m pos);
-        edge = λ m pos lt. elim (old_or_new m lt) [
-          | inl a ↦
-              let up = h.earlier m pos a in
-              let p : get_or (order ++ j ∷ []) (get_or (parents ++ k ∷ []) m 0) 0 ≡ get_or order (get_or parents m 0) 0 =
-              ap (λ i. get_or (order ++ j ∷ []) i 0) (old_parents m a) ∙ old_at order j (get_or parents m 0) (omega (arith, up, a)) in
-              ap (λ s. child s (label (get_or (order ++ j ∷ []) m 0))) p
-              ∙ ap (λ t. child (get_or order (get_or parents m 0) 0) (label t)) (old_at order j m a)
-              ∙ h.edge m pos a ∙ ap Some (sym (old_at order j m a))
-          | inr b ↦
-              let p : get_or (order ++ j ∷ []) (get_or (parents ++ k ∷ []) m 0) 0 ≡ get_or order k 0 =
-              ap (λ i. get_or (order ++ j ∷ []) i 0) (new_parents m b) ∙ old_at order j k here in
-              ap (λ s. child s (label (get_or (order ++ j ∷ []) m 0))) p
-              ∙ ap (λ t. child (get_or order k 0) (label t)) (new_order m b)
-              ∙ edge ∙ ap Some (sym (new_order m b))
-        ];
-        labelled = λ m pos lt. elim (old_or_new m lt) [
-          | inl a ↦ old_at labels u m (omega (arith, a, h.label_each)) ∙ h.labelled m pos a ∙ ap label (sym (old_at order j m a))
-          | inr b ↦ get_or_push labels u 0 m (h.label_each ∙ sym b) ∙ is ∙ ap label (sym (new_order m b))
-        ];
+        edge = λ m pos lt. grind (arith, old_or_new m lt, old_parents m, old_at order j m, old_at order j (get_or parents m 0), h.edge m pos, h.earlier m pos, new_parents m, old_at order j k here, new_order m, edge);
+        labelled = λ m pos lt. grind (arith, old_or_new m lt, old_at labels u m, old_at order j m, h.labelled m pos, h.label_each, get_or_push labels u 0 m, new_order m, is);
         alive = λ m pos lt. grind (arith, old_or_new m lt, old_at order j m, new_order m, h.alive m pos);
         inside = λ m lt. grind (arith, old_or_new m lt, old_at order j m, new_order m, h.inside m, length-set marks j (length order));
-        placed = λ m lt. elim (old_or_new m lt) [
-          | inl a ↦ kept m a ∙ h.placed m a
-          | inr b ↦ ap (λ i. get_or new i 0) (new_order m b) ∙ get_or-set_same marks j (length order) 0 high ∙ sym b
-        ];
+        placed = λ m lt. grind (arith, old_or_new m lt, kept m, h.placed m, new_order m, get_or-set_same marks j (length order) 0 high);
         marked = λ i pos. elim (cases_eq i j) [
-          | inl g ↦
-              let at : get_or new i 0 ≡ length order = ap (λ q. get_or new q 0) g ∙ get_or-set_same marks j (length order) 0 high in
-              (omega (arith, at, length_push order j), new_order (get_or new i 0) at ∙ sym g)
+          | inl g ↦ rw (g, get_or-set_same marks j (length order) 0 high) (omega (arith, length_push order j), new_order (length order) refl)
           | inr g ↦
               let at : get_or new i 0 ≡ get_or marks i 0 = get_or-set_other marks j i (length order) 0 g in
               let old = h.marked i (omega (arith, pos, at)) in
-              (omega (arith, at, old.0, length_push order j), ap (λ q. get_or (order ++ j ∷ []) q 0) at ∙ old_at order j (get_or marks i 0) old.0 ∙ old.1)
+              rw at (omega (arith, old.0, length_push order j), old_at order j (get_or marks i 0) old.0 ∙ old.1)
         ];
         rising = λ l m pos less lt.
             let where_m = old_or_new m (omega (arith, lt, length_push parents k, h.one_each, length_push order j)) in

@@ -1,6 +1,7 @@
 -- A label is folded where it is below A or above Z.
 use Rattle.std.proofs.Common.{◌≡◌, ℕ, ◌<◌, ◌≤◌, ◌⊎◌, get_or, subst, inl, inr, arith}
 use Rattle.std.proofs.lemmas.Bool.{cases_lt}
+use borrow.Author.Count.{below_more}
 use Rattle.daachorse_model.specs.Folding.{folded_unit}
 use Rattle.daachorse_model.proofs.FoldLemmas.{folded_unit-is}
 use Rattle.daachorse_checker.proofs.folded.are_folded.Goals as goal
@@ -26,8 +27,5 @@ loop-place-preserved c =
     ]) in
     record {
       low = omega arith;
-      each = λ m pos less. elim (cases_lt m at) [
-        | inl before ↦ c.loop-place.invariant.each m pos before
-        | inr last ↦ (let P : ℕ → Type 0 = λ k. folded_unit (get_or labels k 0) ≡ get_or labels k 0 in let same : at ≡ m = omega arith in subst P same here)
-      ];
+      each = λ m pos less. below_more (λ k. 0 < k → folded_unit (get_or labels k 0) ≡ get_or labels k 0) at (λ k below pos. c.loop-place.invariant.each k pos below) (λ pos. here) m less pos;
     }

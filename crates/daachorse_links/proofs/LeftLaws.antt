@@ -1,5 +1,5 @@
 -- How the link of a child is found: a text that grows by a unit meets one key more, or leads on from its longest end.
-use Rattle.std.proofs.Common.{◌≡◌, ◌≢◌, ℕ, ◌⊎◌, Bool, true, false, cond, List, [], ◌∷◌, ◌++◌, Option, Some, None, is_some, refl, sym, ap, ◌∙◌, subst, inl, inr, append_assoc}
+use Rattle.std.proofs.Common.{◌≡◌, ◌≢◌, ℕ, ◌⊎◌, Bool, true, false, cond, List, [], ◌∷◌, ◌++◌, Option, Some, None, is_some, refl, sym, ap, ◌∙◌, subst, inl, inr, append_assoc, arith}
 use Rattle.std.specs.Prelude.{◌||◌}
 use Rattle.std.proofs.lemmas.Bool.{cases_Bool, cond-true, cond-false}
 use Rattle.daachorse_model.specs.Dictionary.{Dictionary}
@@ -11,17 +11,10 @@ use Rattle.daachorse_links.specs.Links.{value_at, keys, met, left_long, left_lin
 
 -- a key that begins w and a unit begins w, or is both
 pub key_begins-push : {V : Type 0} (K : Dictionary V) (t w : List ℕ) (c : ℕ) → key_begins K t (w ++ c ∷ []) ≡ (key_begins K t w || is_key K (t ++ (w ++ c ∷ [])))
-key_begins-push K t [] c = first (is_key K t)
-  where
-    first : (b : Bool) → cond b true (is_key K (t ++ c ∷ [])) ≡ (b || is_key K (t ++ c ∷ []))
-    first true = refl
-    first false = refl
-key_begins-push K t (a ∷ w) c = later (is_key K t) (key_begins-push K (t ++ a ∷ []) w c ∙ ap (λ v. key_begins K (t ++ a ∷ []) w || is_key K v) (append_assoc t (a ∷ []) (w ++ c ∷ [])))
-  where
-    later : (b : Bool) → key_begins K (t ++ a ∷ []) (w ++ c ∷ []) ≡ (key_begins K (t ++ a ∷ []) w || is_key K (t ++ (a ∷ (w ++ c ∷ []))))
-        → cond b true (key_begins K (t ++ a ∷ []) (w ++ c ∷ [])) ≡ (cond b true (key_begins K (t ++ a ∷ []) w) || is_key K (t ++ (a ∷ (w ++ c ∷ []))))
-    later true e = refl
-    later false e = e
+key_begins-push K t [] c = grind arith
+key_begins-push K t (a ∷ w) c =
+    let rest = key_begins-push K (t ++ a ∷ []) w c ∙ ap (λ v. key_begins K (t ++ a ∷ []) w || is_key K v) (append_assoc t (a ∷ []) (w ++ c ∷ [])) in
+    grind arith
 
 module _ (child : ℕ → ℕ → Option ℕ) (stops : ℕ → Bool) (dead : ℕ) where
   -- whether there is a value

@@ -47,8 +47,7 @@ module _ (parents labels : List ℕ) (stops : List Bool) (fails : List ℕ) (alp
   module _ (b : ℕ) (falls : Falls b) where
     value_child : (q c j : ℕ) → q ≤ b → q < n → kid q c ≡ Some j → value q c ≡ j
     value_child q c j le lt e =
-        let is = near_child parents labels fails alphabet trie each b falls q c j le lt e in
-        or_top_some (near parents labels fails q c) (top stops fails q) (omega (arith, is, (back parents labels alphabet trie q c j e).0)) ∙ is
+        grind (arith, or_top_some, near_child parents labels fails alphabet trie each b falls q c j le lt e, back parents labels alphabet trie q c j e)
 
     value_end : (q c : ℕ) → q ≤ b → q < n → kid q c ≡ None → up fails q ≡ n → value q c ≡ root_value stops n q
     value_end q c le lt e u =
@@ -148,14 +147,9 @@ module _ (parents labels : List ℕ) (stops : List Bool) (fails : List ℕ) (alp
     right_to : (b : ℕ) → Right b
     right_to zero q pos le lt = absurd (omega arith)
     right_to (suc b) q pos le lt =
-        elim (cases_eq q (suc b)) [
-          | inr ne ↦ right_to b q pos (omega (arith, le, ne)) lt
-          | inl e ↦
-              let early = trie.order.earlier q pos (omega (arith, lt, each)) in
-              let is = checked (get_or parents q 0) (omega (arith, early, lt)) q pos (omega (arith, lt, each)) refl in
-              subst (λ f. IsLinkOf kid (stop stops) n q f) (sym is)
-              (right_link b (λ r low _ high. falls r low high) (right_to b) q pos (omega (arith, lt, each)) (omega (arith, early, e)))
-        ]
+        let early = trie.order.earlier q pos (omega (arith, lt, each)) in
+        subst (λ f. IsLinkOf kid (stop stops) n q f) (sym (checked (get_or parents q 0) (omega (arith, early, lt)) q pos (omega (arith, lt, each)) refl))
+        (right_link b (λ r low _ high. falls r low high) (right_to b) q pos (omega (arith, lt, each)) (omega (arith, early, le)))
 
     pub sound : HasLinks parents labels stops fails
     sound t u w h =
@@ -226,10 +220,8 @@ module _ (parents labels : List ℕ) (stops : List Bool) (fails : List ℕ) (alp
     falls_to : (b : ℕ) → Falls b
     falls_to zero q pos le lt = absurd (omega arith)
     falls_to (suc b) q pos le lt =
-        elim (cases_eq q (suc b)) [
-          | inr ne ↦ falls_to b q pos (omega (arith, le, ne)) lt
-          | inl e ↦ right_falls_at b q (falls_to b) pos (omega (arith, lt, each)) (omega (arith, trie.order.earlier q pos (omega (arith, lt, each)), e))
-        ]
+        let lt' : q < length parents = omega (arith, lt, each) in
+        right_falls_at b q (falls_to b) pos lt' (omega (arith, trie.order.earlier q pos lt', le))
 
     -- right links lead to earlier places, or are dead
     pub right_falls : LinksFall fails

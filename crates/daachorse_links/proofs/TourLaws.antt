@@ -49,16 +49,12 @@ module _ (next put : List ℕ) (n : ℕ) where
       let tail : IsLinked put n (get_or next x 0) xs = agree (get_or next x 0) xs (λ y g. same y (inr g) (λ k. apart.0 (subst (λ z. In z xs) (k ∙ sym e) g))) l.1 in
       (l.0, (ap (λ z. get_or put z 0) e ∙ at_f, subst (λ b. IsLinked put n b xs) (ap (λ z. get_or next z 0) e ∙ sym at_m) tail))
 
-  in_later : (f x : ℕ) (xs : List ℕ) → In f (x ∷ xs) → x ≢ f → In f xs
-  in_later f x xs (inl e) ne = absurd (ne (sym e))
-  in_later f x xs (inr g) ne = g
-
   linked_insert : (f m a : ℕ) (xs : List ℕ) → get_or put f 0 ≡ m → get_or put m 0 ≡ get_or next f 0 → ((x : ℕ) → In x xs → x ≢ f → get_or put x 0 ≡ get_or next x 0) → In f xs → IsApart xs →
       IsLinked next n a xs → IsLinked put n a (insert f m xs)
   linked_insert f m a [] at_f at_m same h apart l = absurd h
   linked_insert f m a (x ∷ xs) at_f at_m same h apart l =
       by_test x f (x ∷ m ∷ xs) (x ∷ insert f m xs) (λ ys. IsLinked put n a ys) (λ e. after_it f m a x xs at_f at_m same apart l e)
-      (λ ne. (l.0, linked_insert f m (get_or put x 0) xs at_f at_m (λ y k. same y (inr k)) (in_later f x xs h ne) apart.1 (subst (λ b. IsLinked next n b xs) (sym (same x (inl refl) ne)) l.1)))
+      (λ ne. (l.0, linked_insert f m (get_or put x 0) xs at_f at_m (λ y k. same y (inr k)) (elim h [ inl e ↦ absurd (ne (sym e)) | inr g ↦ g ]) apart.1 (subst (λ b. IsLinked next n b xs) (sym (same x (inl refl) ne)) l.1)))
 
 module _ (up : ℕ → ℕ) (n : ℕ) (next : List ℕ) (m : ℕ) (tour : IsTour up n next m) (lt : m < n) where
   abbrev put : List ℕ
@@ -83,18 +79,14 @@ module _ (up : ℕ → ℕ) (n : ℕ) (next : List ℕ) (m : ℕ) (tour : IsTour
     steps_m : Steps m
     steps_m = elim (tour.steps (up m) le) [ inl z ↦ inl (read_m ∙ z) | inr s ↦ inr (suc s.0, s.1 ∙ ap up (sym read_m)) ]
 
-    steps_up : Steps (up m)
-    steps_up = inr (0, ap up (sym read_up))
-
     steps_other : (a : ℕ) → a ≤ n → a ≢ up m → a ≢ m → Steps a
     steps_other a la x y = elim (tour.steps a la) [ inl z ↦ inl (read_other a x y ∙ z) | inr s ↦ inr (s.0, s.1 ∙ ap up (sym (read_other a x y))) ]
 
     steps_put : (a : ℕ) → a ≤ n → Steps a
-    steps_put a la =
-        elim (cases_eq a (up m)) [
-          | inl e ↦ subst Steps (sym e) steps_up
-          | inr x ↦ elim (cases_eq a m) [ inl e ↦ subst Steps (sym e) steps_m | inr y ↦ steps_other a la x y ]
-        ]
+    steps_put a la = elim (cases_eq a (up m)) [
+      | inl e ↦ subst Steps (sym e) (inr (0, ap up (sym read_up)))
+      | inr x ↦ elim (cases_eq a m) [ inl e ↦ subst Steps (sym e) steps_m | inr y ↦ steps_other a la x y ]
+    ]
 
     fresh : In m tour.list → ⊥
     fresh h = omega (arith, tour.below m h)
@@ -116,14 +108,10 @@ module _ (up : ℕ → ℕ) (n : ℕ) (next : List ℕ) (m : ℕ) (tour : IsTour
         );
         count = ap suc tour.count;
         apart = (fresh le ne, tour.apart);
-        below = below_top;
+        below = λ x h. grind (arith, tour.below x);
         all = λ x h. among le ne x h (λ y. In y (m ∷ tour.list)) (inl refl) (λ l. inr (tour.all x l));
         steps = steps_put le ne;
       }
-    where
-      below_top : (x : ℕ) → In x (m ∷ tour.list) → x < suc m
-      below_top x (inl g) = omega (arith, g)
-      below_top x (inr h) = omega (arith, tour.below x h)
 
   tour_under : up m < m → IsTour up n put (suc m)
   tour_under low =
@@ -138,14 +126,10 @@ module _ (up : ℕ → ℕ) (n : ℕ) (next : List ℕ) (m : ℕ) (tour : IsTour
             (subst (λ b. IsLinked next n b tour.list) (sym (read_other le ne n (λ g. omega (arith, g, low, lt)) (λ g. omega (arith, g, lt)))) tour.linked);
         count = length_insert (up m) m tour.list has ∙ ap suc tour.count;
         apart = apart_insert (up m) m tour.list tour.apart (fresh le ne);
-        below = λ x h. below_in x (in_parts (up m) m x tour.list h);
+        below = λ x h. grind (arith, in_parts (up m) m x tour.list h, tour.below x);
         all = λ x h. among le ne x h (λ y. In y (insert (up m) m tour.list)) (in_new (up m) m tour.list has) (λ l. in_old (up m) m x tour.list (tour.all x l));
         steps = steps_put le ne;
       }
-    where
-      below_in : (x : ℕ) → (x ≡ m) ⊎ In x tour.list → x < suc m
-      below_in x (inl g) = omega (arith, g)
-      below_in x (inr h) = omega (arith, tour.below x h)
 
   -- the place m more
   pub tour_add : (up m < m) ⊎ (up m ≡ n) → IsTour up n put (suc m)

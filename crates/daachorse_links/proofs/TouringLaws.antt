@@ -1,5 +1,6 @@
 -- The steps of a tour.
 use Rattle.std.proofs.Common.{◌≡◌, ◌≢◌, ℕ, zero, suc, ◌+◌, ◌<◌, ◌≤◌, ◌⊎◌, ◌==◌, Bool, cond, List, [], ◌∷◌, length, refl, sym, ap, ◌∙◌, subst, inl, inr, arith, get_or}
+use Rattle.std.proofs.lemmas.List.{nil_from_length}
 use Rattle.std.proofs.lemmas.Bool.Decides.{nat_tests}
 use Rattle.daachorse_links.specs.Places.{IsTrie, LinksFall}
 use Rattle.daachorse_links.specs.Near.{up, top, above, IsAbove, AreNear, IsChecked, IsSaved}
@@ -82,41 +83,37 @@ module _ {parents labels : List ℕ} {stops : List Bool} {fails : List ℕ} {alp
         let in' : here < length fails = not_top_of (up fails) (length fails) here (up fails p) (up_past fails (length fails) (omega arith)) touring.low at ne in
         touring.other in' ∙ top_above falls at.0 here (up fails p) in' at.1 (omega (arith, fall, low)) ∙ sym (top_next (up fails) stops (length fails) p (ups_fall fails p (λ r pos _ high. falls r pos high)) p low (omega arith) fall)
 
-    step_by : (xs : List ℕ) → IsLinked next (length fails) p xs → length xs + k ≡ length fails → ((x : ℕ) → In x xs → x < length fails) → ((x : ℕ) → x < length fails → In x xs ⊎ IsChecked parents labels stops fails x) →
-        IsTour (up fails) (length fails) next (length fails) → (array' saved' : List ℕ) (t' : ℕ) → k < length fails → IsChecked parents labels stops fails p → AreNear parents labels fails array' p → IsSaved parents labels fails saved' p →
-        ((q : ℕ) → IsSaved parents labels fails saved q → IsSaved parents labels fails saved' q) → t' ≡ top stops fails p → IsTouring parents labels stops fails next array' saved' (k + 1) p (get_or next p 0) t'
-    step_by [] l e b all tour array' saved' t' lt done near' mine kept other' = absurd (omega (arith, e, lt))
-    step_by (x ∷ xs) l e b all tour array' saved' t' lt done near' mine kept other' = record {
-      rest = xs;
-      linked = subst (λ z. IsLinked next (length fails) (get_or next z 0) xs) (sym l.0) l.1;
-      count = omega (arith, e);
-      below = λ y h. b y (inr h);
-      each = λ y h. which y (all y h);
-      near = near';
-      path = path_next saved' kept lt mine;
-      low = omega (arith, next_in lt);
-      comes = tour.steps p (omega (arith, next_in lt));
-      other = λ _. other';
-    }
-      where
-        which : (y : ℕ) → In y (x ∷ xs) ⊎ IsChecked parents labels stops fails y → In y xs ⊎ IsChecked parents labels stops fails y
-        which y (inl (inl g)) = inr (subst (λ z. IsChecked parents labels stops fails z) (l.0 ∙ sym g) done)
-        which y (inl (inr h)) = inl h
-        which y (inr c) = inr c
-
     -- the next place is entered
     pub touring_step : IsTour (up fails) (length fails) next (length fails) → (array' saved' : List ℕ) (t' : ℕ) → k < length fails → IsChecked parents labels stops fails p → AreNear parents labels fails array' p → IsSaved parents labels fails saved' p →
         ((q : ℕ) → IsSaved parents labels fails saved q → IsSaved parents labels fails saved' q) → t' ≡ top stops fails p → IsTouring parents labels stops fails next array' saved' (k + 1) p (get_or next p 0) t'
-    touring_step tour array' saved' t' lt done near' mine kept other' =
-        step_by touring.rest touring.linked touring.count touring.below touring.each tour array' saved' t' lt done near' mine kept other'
-
-    end_by : (xs : List ℕ) → length xs + k ≡ length fails → ((x : ℕ) → x < length fails → In x xs ⊎ IsChecked parents labels stops fails x) → length fails ≤ k → (x : ℕ) → x < length fails → IsChecked parents labels stops fails x
-    end_by (y ∷ ys) e all le x lt = absurd (omega (arith, e, le))
-    end_by [] e all le x lt = elim (all x lt) [ inl h ↦ absurd h | inr c ↦ c ]
+    touring_step tour array' saved' t' lt done near' mine kept other' = at touring.rest refl
+      where
+        at : (xs : List ℕ) → touring.rest ≡ xs → IsTouring parents labels stops fails next array' saved' (k + 1) p (get_or next p 0) t'
+        at [] is = absurd (omega (arith, touring.count, ap length is, lt))
+        at (x ∷ xs) is =
+            let linked = rw is at touring.linked in
+            record {
+              rest = xs;
+              linked = subst (λ z. IsLinked next (length fails) (get_or next z 0) xs) (sym linked.0) linked.1;
+              count = omega (arith, touring.count, ap length is);
+              below = λ y h. touring.below y (rw is (inr h));
+              each = λ y h. elim (rw is at (touring.each y h)) [
+                | inl a ↦ elim a [ inl g ↦ inr (subst (λ z. IsChecked parents labels stops fails z) (linked.0 ∙ sym g) done) | inr b ↦ inl b ]
+                | inr b ↦ inr b
+              ];
+              near = near';
+              path = path_next saved' kept lt mine;
+              low = omega (arith, next_in lt);
+              comes = tour.steps p (omega (arith, next_in lt));
+              other = λ _. other';
+            }
 
     -- at the end each place was entered
     pub touring_end : length fails ≤ k → (x : ℕ) → x < length fails → IsChecked parents labels stops fails x
-    touring_end le x lt = end_by touring.rest touring.count touring.each le x lt
+    touring_end le x lt = elim (touring.each x lt) [
+      | inl h ↦ absurd (rw (nil_from_length touring.rest (omega (arith, touring.count, le))) at h)
+      | inr checked ↦ checked
+    ]
 
 -- the way back gets shorter
 pub shorter : (n here next : ℕ) → here < n → (next < here) ⊎ (next ≡ n) → cond (next == n) 0 (suc next) < cond (here == n) 0 (suc here)

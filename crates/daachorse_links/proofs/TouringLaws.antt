@@ -17,18 +17,22 @@ module _ (up : ℕ → ℕ) where
   above_top n top zero = refl
   above_top n top (suc k) = ap (λ x. above up k x) top ∙ above_top n top k
 
-  -- a place with another above it is not the top
-  pub not_top : (n here to : ℕ) → up n ≡ n → here ≤ n → IsAbove up to here → here ≢ to → here < n
-  not_top n here to top le s ne = omega (arith, le, λ (e : here ≡ n). ne (e ∙ sym (above_top n top s.0) ∙ ap (λ x. above up s.0 x) (sym e) ∙ s.1))
-
-  -- a place with a place above it is not the top
-  pub not_top_of : (n here to : ℕ) → up n ≡ n → here ≤ n → IsAbove up to here → to ≢ n → here < n
-  not_top_of n here to top le s ne = omega (arith, le, λ (e : here ≡ n). ne (sym s.1 ∙ ap (λ x. above up s.0 x) e ∙ above_top n top s.0))
-
-  -- and the other is above its link
+  -- another place above one is above its link
   pub above_next : (here to : ℕ) → IsAbove up to here → here ≢ to → IsAbove up to (up here)
   above_next here to (zero, e) ne = absurd (ne e)
   above_next here to (suc k, e) ne = (k, e)
+
+module _ (fails : List ℕ) where
+  above_end : (k : ℕ) → above (up fails) k (length fails) ≡ length fails
+  above_end k = above_top (up fails) (length fails) (up_past fails (length fails) (omega arith)) k
+
+  -- a place with another above it is not the top
+  pub not_top : (here to : ℕ) → here ≤ length fails → IsAbove (up fails) to here → here ≢ to → here < length fails
+  not_top here to le s ne = omega (arith, le, λ (e : here ≡ length fails). ne (e ∙ sym (above_end s.0) ∙ ap (λ x. above (up fails) s.0 x) (sym e) ∙ s.1))
+
+  -- a place with a place above it is not the top
+  not_top_of : (here to : ℕ) → here ≤ length fails → IsAbove (up fails) to here → to ≢ length fails → here < length fails
+  not_top_of here to le s ne = omega (arith, le, λ (e : here ≡ length fails). ne (sym s.1 ∙ ap (λ x. above (up fails) s.0 x) e ∙ above_end s.0))
 
 module _ {parents labels : List ℕ} {stops : List Bool} {fails : List ℕ} {alphabet : ℕ} (trie : IsTrie parents labels alphabet) (each : length fails ≡ length parents) where
   pub touring_start : (next array saved : List ℕ) → IsTour (up fails) (length fails) next (length fails) → ((c : ℕ) → c < length array → get_or array c 0 ≡ 0) → IsTouring parents labels stops fails next array saved 0 (length fails) (get_or next (length fails) 0) (length fails)
@@ -39,7 +43,7 @@ module _ {parents labels : List ℕ} {stops : List Bool} {fails : List ℕ} {alp
     below = tour.below;
     each = λ x lt. inl (tour.all x lt);
     near = λ c lt. zeros c lt ∙ sym (near_top parents labels fails alphabet trie each (length fails) c refl);
-    path = λ j m pos lt is. absurd (omega (arith, trie.order.earlier m pos lt, lt, is, above_top (up fails) (length fails) (up_past fails (length fails) (omega arith)) j, each));
+    path = λ j m pos lt is. absurd (omega (arith, trie.order.earlier m pos lt, lt, is, above_end fails j, each));
     low = omega arith;
     comes = tour.steps (length fails) (omega arith);
     other = λ lt. absurd (omega (arith, lt));
@@ -70,7 +74,7 @@ module _ {parents labels : List ℕ} {stops : List Bool} {fails : List ℕ} {alp
     top_above falls zero h q lt e low = ap (top stops fails) e
     top_above falls (suc i) h q lt e low =
         elim (ups_fall fails h (λ r pos _ high. falls r pos high) h (omega arith) lt) [
-          | inr z ↦ absurd (omega (arith, low, sym e ∙ ap (λ x. above (up fails) i x) z ∙ above_top (up fails) (length fails) (up_past fails (length fails) (omega arith)) i))
+          | inr z ↦ absurd (omega (arith, low, sym e ∙ ap (λ x. above (up fails) i x) z ∙ above_end fails i))
           | inl z ↦ top_next (up fails) stops (length fails) h (ups_fall fails h (λ r pos _ high. falls r pos high)) h lt (omega arith) z ∙ top_above falls i (up fails h) q (omega (arith, z, lt)) e low
         ]
 
@@ -80,7 +84,7 @@ module _ {parents labels : List ℕ} {stops : List Bool} {fails : List ℕ} {alp
         let low = next_in lt in
         let at = next_above lt in
         let fall : up fails p < p = elim (ups_fall fails p (λ r pos _ high. falls r pos high) p (omega arith) low) [ inl z ↦ z | inr z ↦ absurd (ne z) ] in
-        let in' : here < length fails = not_top_of (up fails) (length fails) here (up fails p) (up_past fails (length fails) (omega arith)) touring.low at ne in
+        let in' : here < length fails = not_top_of fails here (up fails p) touring.low at ne in
         touring.other in' ∙ top_above falls at.0 here (up fails p) in' at.1 (omega (arith, fall, low)) ∙ sym (top_next (up fails) stops (length fails) p (ups_fall fails p (λ r pos _ high. falls r pos high)) p low (omega arith) fall)
 
     -- the next place is entered

@@ -2,7 +2,7 @@
 use Rattle.std.proofs.Common.{◌≡◌, ◌≢◌, ℕ, zero, suc, ◌+◌, ◌<◌, ◌≤◌, ◌⊎◌, inl, inr, true, List, [], ◌∷◌, ◌++◌, length, get_or, set, take, drop, replicate, Option, Some, None, refl, sym, ap, ◌∙◌, arith, subst, length-append, append-nil, add-one}
 use Rattle.std.proofs.Math.Seq.{take-suc}
 use Rattle.std.proofs.lemmas.List.{get_or-replicate, get_or-set_same, get_or-set_other, get_or_read, length-set, length-replicate, same_from_push, take-append-drop, take-append-le, take_all}
-use Rattle.std.proofs.lemmas.Option.{same_Some, slice_get-get_or}
+use Rattle.std.proofs.lemmas.Option.{none-some, same_Some, slice_get-get_or}
 use Rattle.daachorse_model.specs.Paths.{walk}
 use Rattle.daachorse_machine.specs.Texts.{IsReached}
 use Rattle.daachorse_listing.specs.Depths.{IsDepthTable}
@@ -32,7 +32,7 @@ noting-none from depth reached depths none = record {
   kids = [];
   all = sym (append-nil reached);
   child = λ j bad. absurd bad;
-  complete = λ c j e. (let bad : ◌≡◌ {A = Option ℕ} None (Some j) = sym (none c) ∙ e in cc);
+  complete = λ c j e. absurd (none-some j (sym (none c) ∙ e));
   once = tt;
   marked = marking-start [] depth depths;
 }

@@ -2,7 +2,7 @@
 use Rattle.std.proofs.Common.{◌≡◌, ◌≢◌, ℕ, zero, suc, ◌+◌, ◌-◌, ◌<◌, ◌≤◌, ◌⊎◌, inl, inr, Bool, true, false, cond, ◌==◌, List, [], ◌∷◌, ◌++◌, length, take, drop, get_or, Option, Some, None, refl, sym, ap, ◌∙◌, arith, subst, length-append, nat_lt}
 use Rattle.std.proofs.lemmas.List.{take-append-drop, length-take-le, take_all}
 use Rattle.std.proofs.lemmas.Option.{none-some, same_Some}
-use Rattle.std.proofs.lemmas.Bool.{cases_eq}
+use Rattle.std.proofs.lemmas.Bool.{cases_eq, cases_lt}
 use Rattle.std.proofs.Math.Seq.{take-suc}
 use Rattle.std.proofs.lemmas.Bool.Decides.{nat_tests}
 use Rattle.daachorse_model.specs.Paths.{walk, Leads}
@@ -319,9 +319,9 @@ module _ {child : ℕ → ℕ → Option ℕ} {group : ℕ → Option ℕ} {edge
             level = low.level;
             up = omega (arith, low.up);
             is = low.is;
-            follow = λ e a b. elim (either (e == suc d)) [
-              | inl s ↦ (let same : e ≡ suc d = grind (arith, s) in ap (node w) same ∙ (last ∙ ap (λ k. goes (k - low.level) (top w d)) (sym same)))
-              | inr s ↦ (let other : e ≢ suc d = grind (arith, s) in low.follow e a (omega (arith, b, other)))
+            follow = λ e a b. elim (cases_eq e (suc d)) [
+              | inl same ↦ rw same last
+              | inr other ↦ low.follow e a (omega (arith, b, other))
             ];
             passes = low.passes;
           })
@@ -362,11 +362,11 @@ module _ {child : ℕ → ℕ → Option ℕ} {group : ℕ → Option ℕ} {edge
       apart j k up h same =
           let below-k : j < length aside = omega (arith, up, h) in
           let away : Diverges (way j) (way k) = Pairs-read (Apart child n m) aside j k up h pairs in
-          elim (either (nat_lt (length (way k)) (length (way j)))) [
-            | inl t ↦ (let less : length (way k) < length (way j) = grind (arith, nat_tests, t) in
+          elim (cases_lt (length (way k)) (length (way j))) [
+            | inl less ↦ (
                 let is = one-way (way k) (way j) (get_or aside k 0) (get_or aside j 0) (leads k h) (leads j below-k) (sym same) (omega (arith, less)) in
                 begins-right (length (way k)) (way j) (subst (λ l. Diverges (way j) l) is away))
-            | inr t ↦ (let no : ¬ (length (way k) < length (way j)) = grind (arith, nat_tests, t) in
-                let is = one-way (way j) (way k) (get_or aside j 0) (get_or aside k 0) (leads j below-k) (leads k h) same (omega (arith, no)) in
+            | inr more ↦ (
+                let is = one-way (way j) (way k) (get_or aside j 0) (get_or aside k 0) (leads j below-k) (leads k h) same more in
                 begins-left (length (way j)) (way k) (subst (λ l. Diverges l (way k)) is away))
           ]

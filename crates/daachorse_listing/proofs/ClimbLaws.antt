@@ -149,7 +149,8 @@ module _ {child : ℕ → ℕ → Option ℕ} {n m : ℕ} (tree : IsTree child n
       known : (i : ℕ) → i < n → get_or (set depths x (suc d)) i 0 ≢ 0 → ¬ IsAmong path i → IsDepthOf child n m i (get_or (set depths x (suc d)) i 0)
       known i low is out = elim (cases_eq i x) [
         | inl same ↦ (let P : ℕ → Type 0 = λ q. IsDepthOf child n m q (get_or (set depths x (suc d)) q 0) in subst P (sym same) here)
-        | inr apart ↦ subst (IsDepthOf child n m i) (sym (other i apart)) (k.known i low (λ e. is (other i apart ∙ e)) (λ a. elim a [ inl e ↦ apart e | inr old ↦ out old ]))
+        | inr apart ↦
+            subst (IsDepthOf child n m i) (sym (other i apart)) (k.known i low (λ e. is (other i apart ∙ e)) (λ a. elim a [ inl e ↦ apart e | inr old ↦ out old ]))
       ]
 
       next : AreKnown child n m path (set depths x (suc d))

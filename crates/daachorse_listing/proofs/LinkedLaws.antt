@@ -36,7 +36,10 @@ module _ (next : List ℕ) (fall : (q : ℕ) → get_or next q 0 ≤ q) where
     pub falls-push : (q : ℕ) → get_or (next ++ x ∷ []) q 0 ≤ q
     falls-push q = elim (cases_order q (length next)) [
       | inl same ↦ omega (arith, back, same, get_or_push next x 0 q (sym same))
-      | inr other ↦ elim other [ inl less ↦ omega (arith, get_or_append_left next (x ∷ []) 0 q less, fall q) | inr more ↦ omega (arith, get_or_past (next ++ x ∷ []) q 0 (omega (arith, length-append next (x ∷ [])))) ]
+      | inr other ↦ elim other [
+        | inl less ↦ omega (arith, get_or_append_left next (x ∷ []) 0 q less, fall q)
+        | inr more ↦ omega (arith, get_or_past (next ++ x ∷ []) q 0 (omega (arith, length-append next (x ∷ []))))
+      ]
     ]
 
     steps-push : (s link : ℕ) → link ≤ length next → numbers_from (next ++ x ∷ []) s link ≡ numbers_from next s link

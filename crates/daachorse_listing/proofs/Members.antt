@@ -77,7 +77,9 @@ module _ (child : ℕ → ℕ → Option ℕ) (i : ℕ) where
   children-among zero c k h e = absurd (omega arith)
   children-among (suc u) c k h e = elim (cases_eq c u) [
     | inl same ↦ rw (ap (child i) (sym same) ∙ e) (inl refl)
-    | inr other ↦ elim (child i u) as (λ o. IsAmong (child_before o (children child i u)) k) [ None ↦ children-among u c k (omega (arith, h, other)) e | Some j ↦ inr (children-among u c k (omega (arith, h, other)) e) ]
+    | inr other ↦ (
+        let more = children-among u c k (omega (arith, h, other)) e in
+        elim (child i u) as (λ o. IsAmong (child_before o (children child i u)) k) [ None ↦ more | Some j ↦ inr more ])
   ]
 
   pub no-children : (m : ℕ) → ((c : ℕ) → child i c ≡ None) → children child i m ≡ []
@@ -125,7 +127,9 @@ module _ (R : ℕ → ℕ → Type 0) where
 
   -- numbers below n, where none stands in R to itself: there are at most n
   pub Pairs-few : (xs : List ℕ) (n : ℕ) → Pairs R xs → ((k : ℕ) → ¬ R k k) → ((k : ℕ) → IsAmong xs k → k < n) → length xs ≤ n
-  Pairs-few xs n pairs other less = pigeon n (length xs) (λ k. get_or xs k 0) (λ k h. less (get_or xs k 0) (among-read xs k h)) (λ j k up h same. other (get_or xs k 0) (let P : ℕ → Type 0 = λ x. R x (get_or xs k 0) in subst P same (Pairs-read xs j k up h pairs)))
+  Pairs-few xs n pairs other less =
+      pigeon n (length xs) (λ k. get_or xs k 0) (λ k h. less (get_or xs k 0) (among-read xs k h))
+      (λ j k up h same. other (get_or xs k 0) (let P : ℕ → Type 0 = λ x. R x (get_or xs k 0) in subst P same (Pairs-read xs j k up h pairs)))
 
 -- ---- tables
 

@@ -7,7 +7,7 @@ use Rattle.daachorse_core.specs.Outputs.{value_of, parent_of}
 use Rattle.daachorse_machine.specs.Texts.{IsReached, text_of}
 use Rattle.daachorse_listing.specs.Edges.{children, put_before}
 use Rattle.daachorse_listing.specs.Listing.{AreEntries, HasPatterns, IsEntry, values_until, with_values, patterns_of, left_of, unit_of, IsWalking}
-use Rattle.daachorse_listing.specs.Trees.{IsWalk, elements_of, taken_from}
+use Rattle.daachorse_listing.specs.Trees.{IsAmong, IsWalk, elements_of, taken_from}
 use Rattle.daachorse_listing.proofs.EntryLaws.{entries-elements, entries-longer, entries-put, entries-written, text-written, child-entry}
 use Rattle.daachorse_listing.proofs.ListingLaws.{values_until-step, values_until-end}
 use Rattle.daachorse_listing.proofs.Members.{All-among, among-children, elements-pop, length-elements, length-put}
@@ -17,22 +17,26 @@ use Rattle.daachorse_listing.proofs.WalkLaws.{reached-inside, walk-next, walk-po
 -- ---- the values of a text
 
 module _ {V : Type 0} {child : ℕ → ℕ → Option ℕ} {group : ℕ → Option ℕ} {edge : ℕ → Option (ℕ × ℕ)} {n m : ℕ} {outputs : List (Output V)} {first : ℕ → ℕ} (patterns : HasPatterns child group edge n m outputs first) (stop : ℕ → ℕ) (text : List ℕ) where
+  -- the patterns of the elements that are taken from these on
+  abbrev taken-patterns : List ℕ → List (List ℕ × V)
+  taken-patterns aside = patterns_of (text_of child m n) outputs first stop (taken_from child n m n aside)
+
   -- nothing is left of the text
-  pub left-of-rest : (aside : List ℕ) (end position : ℕ) → (position ≡ end) ⊎ (position ≡ 0) → left_of child n m outputs first stop text aside end position ≡ patterns_of (text_of child m n) outputs first stop (taken_from child n m n aside)
-  left-of-rest aside end position h = ap (λ vs. with_values text vs ++ patterns_of (text_of child m n) outputs first stop (taken_from child n m n aside)) (values_until-end outputs patterns.falls end position h)
+  pub left-of-rest : (aside : List ℕ) (end position : ℕ) → (position ≡ end) ⊎ (position ≡ 0) → left_of child n m outputs first stop text aside end position ≡ taken-patterns aside
+  left-of-rest aside end position h = ap (λ vs. with_values text vs ++ taken-patterns aside) (values_until-end outputs patterns.falls end position h)
 
   -- nor is anything put aside
   pub left-of-none : (aside : List (ℕ × ℕ)) (end position : ℕ) → (position ≡ end) ⊎ (position ≡ 0) → length aside ≡ 0 → left_of child n m outputs first stop text (elements_of aside) end position ≡ []
   left-of-none aside end position h none =
       left-of-rest (elements_of aside) end position h
-      ∙ ap (λ l. patterns_of (text_of child m n) outputs first stop l) (ap (λ l. taken_from child n m n (elements_of l)) (nil_from_length aside none) ∙ taken-none child n m n)
+      ∙ (ap (λ l. taken-patterns (elements_of l)) (nil_from_length aside none) ∙ ap (λ l. patterns_of (text_of child m n) outputs first stop l) (taken-none child n m n))
 
   -- a value is given
   pub left-of-value : (aside : List ℕ) (end position : ℕ) (o : Output V) → position ≢ end → position ≢ 0 → slice_get outputs (position - 1) ≡ Some o
       → left_of child n m outputs first stop text aside end position ≡ (text, value_of o) ∷ left_of child n m outputs first stop text aside end (parent_of o)
   left-of-value aside end zero o other some e = absurd (some refl)
   left-of-value aside end (suc q) o other some e =
-      ap (λ vs. with_values text vs ++ patterns_of (text_of child m n) outputs first stop (taken_from child n m n aside)) (values_until-step outputs patterns.falls end q o other (rw sub-one at e))
+      ap (λ vs. with_values text vs ++ taken-patterns aside) (values_until-step outputs patterns.falls end q o other (rw sub-one at e))
 
 -- ---- the next element
 
@@ -100,12 +104,14 @@ module _ {V : Type 0} {child : ℕ → ℕ → Option ℕ} {group : ℕ → Opti
           patterns = w.patterns;
           groups_are = w.groups_are;
           each = w.each;
-          walk = λ some. (taken ++ x ∷ [], (let P : List ℕ → Type 0 = λ l. IsWalk child n m (taken ++ x ∷ []) l in subst P (sym next-aside) (walk-next w.patterns.tree taken (elements_of rest) x under)));
-          entries = let P : List (ℕ × ℕ) → Type 0 = AreEntries child n m new (suc (length new)) in
+          walk = λ some. (taken ++ x ∷ [], rw next-aside (walk-next w.patterns.tree taken (elements_of rest) x under));
+          entries =
               let long : length new ≡ d = ap length next-text ∙ sym next-deep in
-              subst P (sym put) (entries-longer child n m new (d + 1) (suc (length new)) (put_before (map (λ j. (d + 1, j)) kids) (reverse rest)) (omega (arith, long)) (entries-put child n m new (d + 1) kids (reverse rest)
-              (All-among (λ j. IsEntry child n m new (d + 1, j)) kids (λ j a. (let kid = among-children child x m j a in rw (add-one d) (child-entry w.patterns.tree new x d kid.0 j next-reached next-deep next-begun kid.1))))
-              (entries-longer child n m new d (d + 1) (reverse rest) (omega arith) (entries-written child n m last_text new d d (reverse rest) (ap (take (d - 1)) next-text ∙ sym entries.1.1) (omega arith) entries.2))));
+              let begun : (j : ℕ) → IsAmong kids j → IsEntry child n m new (d + 1, j) =
+              λ j a. (let kid = among-children child x m j a in rw (add-one d) (child-entry w.patterns.tree new x d kid.0 j next-reached next-deep next-begun kid.1)) in
+              let kept = entries-written child n m last_text new d d (reverse rest) (ap (take (d - 1)) next-text ∙ sym entries.1.1) (omega arith) entries.2 in
+              let all = entries-put child n m new (d + 1) kids (reverse rest) (All-among (λ j. IsEntry child n m new (d + 1, j)) kids begun) (entries-longer child n m new d (d + 1) (reverse rest) (omega arith) kept) in
+              rw put (entries-longer child n m new (d + 1) (suc (length new)) (put_before (map (λ j. (d + 1, j)) kids) (reverse rest)) (omega (arith, long)) all);
           inside = omega (arith, w.patterns.inside x next-inside, is);
           wide = omega (arith, wide, w.wide);
           wide_for_children = λ g less. omega (arith, w.wide_for_children g less, wide_for_children);

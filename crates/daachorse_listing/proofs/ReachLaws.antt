@@ -123,8 +123,8 @@ module _ {child : ℕ → ℕ → Option ℕ} {n m : ℕ} (tree : IsTree child n
           | inr other ↦ (
               let p = other.0 in
               let at : IsReached child m n p = w.reached p (among-take all k p other.2) in
-              let texts : text child n m p ≡ text child n m x =
-              (same_from_push (text child n m p) (text child n m x) other.1 c (sym (child-text tree p other.1 i at other.3) ∙ child-text tree x c i (w.reached x here) leads)).0 in
+              let longer = sym (child-text tree p other.1 i at other.3) ∙ child-text tree x c i (w.reached x here) leads in
+              let texts : text child n m p ≡ text child n m x = (same_from_push (text child n m p) (text child n m x) other.1 c longer).0 in
               let one : p ≡ x = same_Some p x (sym at ∙ (ap (walk child 0) texts ∙ w.reached x here)) in
               not-entered (subst (IsAmong (take k all)) one other.2))
         ]
@@ -182,6 +182,8 @@ module _ {child : ℕ → ℕ → Option ℕ} {n m : ℕ} (tree : IsTree child n
   pub reaching-end : (all depths : List ℕ) (k : ℕ) → IsReaching child n m all k depths → length all ≤ k → IsDepthTable child m n depths
   reaching-end all depths k w over = record {
     size = w.size;
-    reached = λ i r. slice_get-get_or depths i 0 (let less : i < n = reached-inside tree i r in omega (arith, less, w.size)) ∙ ap (λ d. Some d) (w.depth i (along (IsAmong all) (λ q c j a e. w.closed q c j (subst (λ l. IsAmong l q) (sym (take_all k all over)) a) e) (text child n m i) 0 i w.root r));
+    reached = λ i r.
+        slice_get-get_or depths i 0 (omega (arith, reached-inside tree i r, w.size))
+        ∙ ap (λ d. Some d) (w.depth i (along (IsAmong all) (λ q c j a e. w.closed q c j (rw (take_all k all over) a) e) (text child n m i) 0 i w.root r));
     others = λ i less out. slice_get-get_or depths i 0 (omega (arith, less, w.size)) ∙ ap (λ d. Some d) (w.others i less (λ a. out (w.reached i a)));
   }

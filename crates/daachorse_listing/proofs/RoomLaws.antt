@@ -191,7 +191,8 @@ module _ {child : ℕ → ℕ → Option ℕ} {group : ℕ → Option ℕ} {edge
   unfolding kid kid_of_group
   kid-is i c j real e =
       let (g, own) = group-of i c j real e in
-      let h = least-is (λ q. is_in g (edge q)) n (filled-read (λ q. is_in g (edge q)) n j (tree.inside i c j e).0 (edge-in g c (edge j) (tell.from_child i g c j real own e)).0) in
+      let there : is_in g (edge j) ≡ true = (edge-in g c (edge j) (tell.from_child i g c j real own e)).0 in
+      let h = least-is (λ q. is_in g (edge q)) n (filled-read (λ q. is_in g (edge q)) n j (tree.inside i c j e).0 there) in
       let k = least (λ q. is_in g (edge q)) n in
       let is : edge k ≡ Some (g, unit_of (edge k)) = in-edge g (edge k) h.passes in
       rw own (record {

@@ -108,7 +108,9 @@ pub sorted-few : (l : List Kid) → length l < 2 → IsSorted kid_cmp l
 sorted-few l h = λ k d low more. absurd (omega (arith, h, more))
 
 sorted-units : (l : List Kid) → IsSorted kid_cmp l → (j k : ℕ) → j < k → k < length l → (get_or l j nobody).0 ≤ (get_or l k nobody).0
-sorted-units l up j k less h = IsNonDecreasingBy-from_all_adjacent (λ (p : Kid). p.0) l (λ i d h. not-less (get_or l i d) (get_or l (i + 1) d) (up i d (omega arith) h)) j k nobody (omega (arith, less)) h
+sorted-units l up j k less h =
+    let adjacent = λ (i : ℕ) (d : Kid) (h : i + 1 < length l). not-less (get_or l i d) (get_or l (i + 1) d) (up i d (omega arith) h) in
+    IsNonDecreasingBy-from_all_adjacent (λ (p : Kid). p.0) l adjacent j k nobody (omega (arith, less)) h
 
 -- ---- the elements of a group
 

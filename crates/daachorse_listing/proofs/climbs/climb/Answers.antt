@@ -65,7 +65,9 @@ up-preserved g c =
     let path : reverse c.push_reserved.new.self.items ≡ above ∷ reverse c.up.path.items = ap reverse c.push_reserved.ensures.items ∙ reverse-append c.up.path.items (above ∷ []) in
     record {
       known = rw path (known-push c.requires.tree (reverse c.up.path.items) c.up.depths.items above inv.known some inv.inside none);
-      climb = rw path (edge-below c.requires.tree c.requires.tell above c.in-Some.parent c.in-Some._unit some inv.inside c.in-Some.ensures.inside.0 (sym c.in-Some.ensures.edge), inv.climb);
+      climb =
+          let e = sym c.in-Some.ensures.edge in
+          rw path (edge-below c.requires.tree c.requires.tell above c.in-Some.parent c.in-Some._unit some inv.inside c.in-Some.ensures.inside.0 e, inv.climb);
       inside = c.in-Some.ensures.inside.0;
       room = omega (arith, inv.room, unknown-set c.up.depths.items above 4294967294 less none, ap length c.push_reserved.ensures.items, length-append c.up.path.items (above ∷ []));
       same = c.push_reserved.ensures.capacity ∙ inv.same;

@@ -17,10 +17,12 @@ pub returns-clause-ok : goal.returns-clause-ok
 returns-clause-ok g c = reaching-end c.requires.tree c.elements.reached.items c.elements.depths.items c.elements.entered c.elements.invariant.reaching (omega arith)
 
 pub note_children-requires-clause-element : goal.note_children-requires-clause-element
-note_children-requires-clause-element g c = entered-inside c.requires.tree c.elements.invariant.reaching (omega (arith, c.elements-test.true, c.len.ensures)) c.index.ensures
+note_children-requires-clause-element g c =
+    entered-inside c.requires.tree c.elements.invariant.reaching (omega (arith, c.elements-test.true, c.len.ensures)) c.index.ensures
 
 pub note_children-requires-clause-shallow : goal.note_children-requires-clause-shallow
-note_children-requires-clause-shallow g c = entered-shallow c.requires.tree c.elements.invariant.reaching (omega (arith, c.elements-test.true, c.len.ensures)) c.index.ensures
+note_children-requires-clause-shallow g c =
+    entered-shallow c.requires.tree c.elements.invariant.reaching (omega (arith, c.elements-test.true, c.len.ensures)) c.index.ensures
 
 pub note_children-requires-clause-room : goal.note_children-requires-clause-room
 note_children-requires-clause-room g c group own =

@@ -19,7 +19,8 @@ returns-in_default-clause-steps g c =
     let end : (s.position ≡ s.stop) ⊎ (s.position ≡ 0) = elim c.if-self.branch [ then-self v ↦ inl v.if-self.true | else-self+then-self-eq0 v ↦ inr v.if-self-eq0.true ] in
     let none : length s.aside.items ≡ 0 = omega (arith, c.in_default.ensures.cases.0, s.aside.ok) in
     let still : length c.pop.new.self.items ≡ 0 = omega (arith, none, ap length c.in_default.ensures.items, length-append c.pop.new.self.items []) in
-    (sym c.loop-self.invariant.left ∙ left-of-none w.patterns stop text s.aside.items s.stop s.position end none, left-of-none w.patterns stop text c.pop.new.self.items s.stop s.position end still)
+    let empty = left-of-none w.patterns stop text c.pop.new.self.items s.stop s.position end still in
+    (sym c.loop-self.invariant.left ∙ left-of-none w.patterns stop text s.aside.items s.stop s.position end none, empty)
 
 pub unit-requires : goal.unit-requires
 unit-requires g c = next-inside c.loop-self.invariant.walking c.pop.new.self.items c.in-Some.depth c.in-Some.next c.in-Some.ensures.items
@@ -42,7 +43,8 @@ put_aside-requires g c =
 
 pub loop-self-smaller : goal.loop-self-smaller
 loop-self-smaller g c =
-    next-fewer c.loop-self.invariant.walking c.pop.new.self.items c.in-Some.depth c.in-Some.next c.in-Some.ensures.items c.put_aside.new.aside.items c.put_aside.ensures.aside
+    let w = c.loop-self.invariant.walking in
+    next-fewer w c.pop.new.self.items c.in-Some.depth c.in-Some.next c.in-Some.ensures.items c.put_aside.new.aside.items c.put_aside.ensures.aside
 
 pub loop-self-preserved : goal.loop-self-preserved
 loop-self-preserved g c =
@@ -74,11 +76,13 @@ loop-self-preserved g c =
 pub returns-in-Ok-clause-steps : goal.returns-in-Ok-clause-steps
 returns-in-Ok-clause-steps g c =
     let s = c.loop-self.self-inside in
+    let w = c.loop-self.invariant.walking in
+    let stop = own_end (g.E.Links.fail s.elements) (g.E.Links.first s.elements) in
     let text = map g.E.Outputs.number s.text.items in
     let position : c.map_or.result ≡ parent_of c.output-output.result = search rules in
     let key : g.E.Keys.units_of c.in-Ok.key ≡ text = c.in-Ok.ensures.ok ∙ ap (map g.E.Outputs.number) c.deref.ensures.value in
     rw (position, c.value.ensures, key) (sym c.loop-self.invariant.left
-    ∙ left-of-value c.loop-self.invariant.walking.patterns (own_end (g.E.Links.fail s.elements) (g.E.Links.first s.elements)) text (elements_of s.aside.items) s.stop s.position c.output-output.result c.if-self.false c.if-self-eq0.false c.output-output.ensures)
+    ∙ left-of-value w.patterns stop text (elements_of s.aside.items) s.stop s.position c.output-output.result c.if-self.false c.if-self-eq0.false c.output-output.ensures)
 
 pub returns-in-Ok-clause-goes : goal.returns-in-Ok-clause-goes
 returns-in-Ok-clause-goes g c = let e = returns-in-Ok-clause-steps g c in rw e (search rules)
@@ -86,15 +90,19 @@ returns-in-Ok-clause-goes g c = let e = returns-in-Ok-clause-steps g c in rw e (
 pub returns-in-Err-clause-steps : goal.returns-in-Err-clause-steps
 returns-in-Err-clause-steps g c =
     let s = c.loop-self.self-inside in
+    let w = c.loop-self.invariant.walking in
+    let stop = own_end (g.E.Links.fail s.elements) (g.E.Links.first s.elements) in
     let given = sym c.loop-self.invariant.left
-    ∙ left-of-value c.loop-self.invariant.walking.patterns (own_end (g.E.Links.fail s.elements) (g.E.Links.first s.elements)) (map g.E.Outputs.number s.text.items) (elements_of s.aside.items) s.stop s.position c.output-output.result c.if-self.false c.if-self-eq0.false c.output-output.ensures in
+    ∙ left-of-value w.patterns stop (map g.E.Outputs.number s.text.items) (elements_of s.aside.items) s.stop s.position c.output-output.result c.if-self.false c.if-self-eq0.false c.output-output.ensures in
     (search rules, (λ none. let bad = sym none ∙ given in cc), c.end.ensures)
 
 pub returns-in-Err-clause-goes : goal.returns-in-Err-clause-goes
 returns-in-Err-clause-goes g c =
     let s = c.loop-self.self-inside in
+    let w = c.loop-self.invariant.walking in
+    let stop = own_end (g.E.Links.fail s.elements) (g.E.Links.first s.elements) in
     let given = sym c.loop-self.invariant.left
-    ∙ left-of-value c.loop-self.invariant.walking.patterns (own_end (g.E.Links.fail s.elements) (g.E.Links.first s.elements)) (map g.E.Outputs.number s.text.items) (elements_of s.aside.items) s.stop s.position c.output-output.result c.if-self.false c.if-self-eq0.false c.output-output.ensures in
+    ∙ left-of-value w.patterns stop (map g.E.Outputs.number s.text.items) (elements_of s.aside.items) s.stop s.position c.output-output.result c.if-self.false c.if-self-eq0.false c.output-output.ensures in
     rw (given, c.end.ensures) (search rules)
 
 pub loop-self-init : goal.loop-self-init

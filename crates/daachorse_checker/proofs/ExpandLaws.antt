@@ -80,7 +80,8 @@ module _ {child : ℕ → ℕ → Option ℕ} {group : ℕ → Option ℕ} {edge
                   | inr b ↦ omega (arith, get_or_push order x 0 m (omega (arith, b, less, length_push order x)))
                 ];
                 seen = λ c t e less. elim (cases_eq t x) [
-                  | inl one ↦ subst (λ i. HasEntry (order ++ x ∷ []) (parents ++ k ∷ []) k i) (sym one) (entry_new walk.places walk.here edge_at same low none high walk.recent)
+                  | inl one ↦
+                      subst (λ i. HasEntry (order ++ x ∷ []) (parents ++ k ∷ []) k i) (sym one) (entry_new walk.places walk.here edge_at same low none high walk.recent)
                   | inr other ↦
                       let e' : child (get_or order k 0) c ≡ Some t = ap (λ s. child s c) (sym here') ∙ e in
                       elim (cases_lt t left.bound) [
@@ -119,7 +120,9 @@ module _ {child : ℕ → ℕ → Option ℕ} {group : ℕ → Option ℕ} {edge
           walk = left.walk
 
           at : (c t : ℕ) → child (get_or order k 0) c ≡ Some t → (t < left.bound) ⊎ (left.bound ≤ t) → HasEntry order parents k t
-          at c t e (inl a) = absurd (below-none (λ j. is_in g (edge j)) left.bound t (sym left.is ∙ none) a (child_member tell (get_or order k 0) g (at_place walk.places walk.marks_each k walk.here) is c t e))
+          at c t e (inl a) =
+              let passes = child_member tell (get_or order k 0) g (at_place walk.places walk.marks_each k walk.here) is c t e in
+              absurd (below-none (λ j. is_in g (edge j)) left.bound t (sym left.is ∙ none) a passes)
           at c t e (inr b) = walk.seen c t e b
 
     pub few_places : HasPlaces child (label edge) order parents labels marks → length marks ≡ n → length order ≤ n

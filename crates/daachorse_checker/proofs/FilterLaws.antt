@@ -130,7 +130,10 @@ module _ {child : ℕ → ℕ → Option ℕ} {bytes : ℕ → List ℕ} {f : Fi
           each = subst (λ (xs : List Entry). All P xs) (sym pushed.is) (All-append P next pushed.kids so_far.each (λ k default less. (e, in', pushed.each k default less)));
           all = λ k default less. subst (λ (xs : List Entry). IsDone child f is_key xs (get_or level k default)) (sym pushed.is) (elim (cases_eq k n) [
             | inl same ↦ subst (λ (x : Entry). IsDone child f is_key (next ++ pushed.kids) x) (here default ∙ ap (λ m. get_or level m default) (sym same)) (inr (no', λ c j to. behind (pushed.all c j to)))
-            | inr other ↦ elim (so_far.all k default (omega (arith, less, other))) [ inl h ↦ inl h | inr h ↦ inr (h.0, λ c j to. in_left next pushed.kids j (h.1 c j to)) ]
+            | inr other ↦ elim (so_far.all k default (omega (arith, less, other))) [
+              | inl h ↦ inl h
+              | inr h ↦ inr (h.0, λ c j to. in_left next pushed.kids j (h.1 c j to))
+            ]
           ]);
         }
       where

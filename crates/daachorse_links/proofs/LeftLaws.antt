@@ -106,7 +106,8 @@ module _ (child : ℕ → ℕ → Option ℕ) (stops : ℕ → Bool) (dead : ℕ
   -- ---- the link of a child of s, whose link is f
   module _ (one : (t : ℕ) (v w : List ℕ) → walk child 0 v ≡ Some t → walk child 0 w ≡ Some t → v ≡ w) (no_dead : (w : List ℕ) → walk child 0 w ≡ Some dead → ⊥) where
     link_text : (t r d : ℕ) (ds : List ℕ) → walk child 0 (d ∷ ds) ≡ Some t → IsPlaceOf child dead (left_link child stops d ds) r → IsLinkOf child stops dead t r
-    link_text t r d ds at is e es h = subst (λ (w : List ℕ). IsPlaceOf child dead (left_fail (keys child stops) (is_reached child) w) r) (one t (d ∷ ds) (e ∷ es) at h) is
+    link_text t r d ds at is e es h =
+        subst (λ (w : List ℕ). IsPlaceOf child dead (left_fail (keys child stops) (is_reached child) w) r) (one t (d ∷ ds) (e ∷ es) at h) is
 
     link_push : (s c t d : ℕ) (ds : List ℕ) → walk child 0 (d ∷ ds) ≡ Some s → child s c ≡ Some t → left_link child stops d (ds ++ c ∷ []) ≡ cond (stops t) None (after (left_link child stops d ds) c)
     link_push s c t d ds at edge =

@@ -1,7 +1,7 @@
 -- Where all children have the links that what is near above their parents says, the links are right, and the other way round.
 use Rattle.std.proofs.Common.{◌≡◌, ℕ, zero, suc, ◌<◌, ◌≤◌, ◌⊎◌, Bool, true, false, cond, List, [], ◌∷◌, ◌++◌, length, Option, Some, None, is_some, refl, sym, ap, ◌∙◌, subst, inl, inr, arith, get_or}
 use Rattle.std.proofs.lemmas.Option.{same_Some}
-use Rattle.std.proofs.lemmas.Bool.{cases_eq, cases_Bool, cond_both, cond-true, cond-false, or_parts, or_from, false≢true}
+use Rattle.std.proofs.lemmas.Bool.{cases_Bool, cond_both, cond-true, cond-false, or_parts, or_from, false≢true}
 use Rattle.daachorse_model.specs.Paths.{walk}
 use Rattle.daachorse_model.proofs.Paths.{walk-push}
 use Rattle.daachorse_links.specs.Links.{left_long, left_link, IsPlaceOf, IsLinkOf}
@@ -68,7 +68,8 @@ module _ (parents labels : List ℕ) (stops : List Bool) (fails : List ℕ) (alp
 
     root_at : (c : ℕ) (w : List ℕ) → w ≡ [] → 0 < n → kid 0 c ≡ None → LeadsNear 0 c w
     root_at c w e lt none = subst (λ v. LeadsNear 0 c v) (sym e) (
-        subst (λ o. IsPlaceOf kid n o (value 0 c)) (sym (left_root kid (stop stops) n c none)) (subst (IsPlaceOf kid n (cond (stop stops 0) None (Some []))) (sym (value_end 0 c (omega arith) lt none refl)) (by (stop stops 0))))
+        subst (λ o. IsPlaceOf kid n o (value 0 c)) (sym (left_root kid (stop stops) n c none))
+        (subst (IsPlaceOf kid n (cond (stop stops 0) None (Some []))) (sym (value_end 0 c (omega arith) lt none refl)) (by (stop stops 0))))
       where
         by : (b : Bool) → IsPlaceOf kid n (cond b None (Some [])) (cond b n 0)
         by true = refl

@@ -54,7 +54,9 @@ module _ (next put : List ℕ) (n : ℕ) where
   linked_insert f m a [] at_f at_m same h apart l = absurd h
   linked_insert f m a (x ∷ xs) at_f at_m same h apart l =
       by_test x f (x ∷ m ∷ xs) (x ∷ insert f m xs) (λ ys. IsLinked put n a ys) (λ e. after_it f m a x xs at_f at_m same apart l e)
-      (λ ne. (l.0, linked_insert f m (get_or put x 0) xs at_f at_m (λ y k. same y (inr k)) (elim h [ inl e ↦ absurd (ne (sym e)) | inr g ↦ g ]) apart.1 (subst (λ b. IsLinked next n b xs) (sym (same x (inl refl) ne)) l.1)))
+      (λ ne. (
+      let later : In f xs = elim h [ inl e ↦ absurd (ne (sym e)) | inr g ↦ g ] in
+      (l.0, linked_insert f m (get_or put x 0) xs at_f at_m (λ y k. same y (inr k)) later apart.1 (subst (λ b. IsLinked next n b xs) (sym (same x (inl refl) ne)) l.1))))
 
 module _ (up : ℕ → ℕ) (n : ℕ) (next : List ℕ) (m : ℕ) (tour : IsTour up n next m) (lt : m < n) where
   abbrev put : List ℕ

@@ -1,6 +1,5 @@
 -- What a walk over the patterns of a right machine gives is the listing of its dictionary: an element's own outputs end where its chain goes on.
 use Rattle.std.proofs.Common.{◌≡◌, ◌≢◌, ℕ, ◌<◌, ◌==◌, Bool, false, cond, List, [], ◌∷◌, Option, refl, sym, ap, ◌∙◌, arith, subst}
-use Rattle.std.proofs.lemmas.Option.{same_Some}
 use Rattle.daachorse_model.specs.Paths.{walk, Leads}
 use Rattle.daachorse_model.specs.Prefixes.{IsListing, is_key}
 use Rattle.daachorse_model.specs.Units.{size}

@@ -110,7 +110,8 @@ module _ {V : Type 0} {child : ℕ → ℕ → Option ℕ} {group : ℕ → Opti
               let begun : (j : ℕ) → IsAmong kids j → IsEntry child n m new (d + 1, j) =
               λ j a. (let kid = among-children child x m j a in rw (add-one d) (child-entry w.patterns.tree new x d kid.0 j next-reached next-deep next-begun kid.1)) in
               let kept = entries-written child n m last_text new d d (reverse rest) (ap (take (d - 1)) next-text ∙ sym entries.1.1) (omega arith) entries.2 in
-              let all = entries-put child n m new (d + 1) kids (reverse rest) (All-among (λ j. IsEntry child n m new (d + 1, j)) kids begun) (entries-longer child n m new d (d + 1) (reverse rest) (omega arith) kept) in
+              let all = entries-put child n m new (d + 1) kids (reverse rest) (All-among (λ j. IsEntry child n m new (d + 1, j)) kids begun)
+              (entries-longer child n m new d (d + 1) (reverse rest) (omega arith) kept) in
               rw put (entries-longer child n m new (d + 1) (suc (length new)) (put_before (map (λ j. (d + 1, j)) kids) (reverse rest)) (omega (arith, long)) all);
           inside = omega (arith, w.patterns.inside x next-inside, is);
           wide = omega (arith, wide, w.wide);

@@ -1,5 +1,5 @@
 -- The children of an element, sorted by their units, are the list of them by falling units, read backwards.
-use Rattle.std.proofs.Common.{◌≡◌, ◌≢◌, ℕ, zero, suc, ◌+◌, ◌-◌, ◌<◌, ◌≤◌, ◌⊎◌, inl, inr, Bool, true, false, cond, ◌==◌, List, [], ◌∷◌, length, map, get_or, reverse, Option, Some, None, refl, sym, ap, ◌∙◌, arith, subst, nat_lt}
+use Rattle.std.proofs.Common.{◌≡◌, ℕ, zero, suc, ◌+◌, ◌-◌, ◌<◌, ◌≤◌, ◌⊎◌, inl, inr, Bool, true, false, ◌==◌, List, [], ◌∷◌, length, map, get_or, reverse, Option, Some, None, refl, sym, ap, ◌∙◌, arith, subst}
 use Rattle.std.proofs.lemmas.List.{get_or-map, get_or-reverse, length-map, length-reverse}
 use Rattle.std.proofs.lemmas.List.Elements.{All-from_recursion, All-map, recursion_from_All}
 use Rattle.std.proofs.lemmas.Bool.{cases_eq, eqb-false, ne_eqb}
@@ -52,7 +52,8 @@ Above p q = q.0 < p.0
 falling : (l : List Kid) → IsDistinct same_unit l → ((j k : ℕ) → j < k → k < length l → (get_or l k nobody).0 ≤ (get_or l j nobody).0) → Pairs Above l
 unfolding IsDistinct
 falling [] apart h = tt
-falling (x ∷ l) apart h = (first l apart.0 (λ k less. h 0 (suc k) (omega arith) (omega arith)), falling l apart.1 (λ j k up less. h (suc j) (suc k) (omega arith) (omega arith)))
+falling (x ∷ l) apart h =
+    (first l apart.0 (λ k less. h 0 (suc k) (omega arith) (omega arith)), falling l apart.1 (λ j k up less. h (suc j) (suc k) (omega arith) (omega arith)))
   where
     first : (ys : List Kid) → AllByRecursion (λ y. same_unit x y ≡ false) ys → ((k : ℕ) → k < length ys → (get_or ys k nobody).0 ≤ x.0) → AllByRecursion (Above x) ys
     first [] a low = tt
@@ -157,7 +158,8 @@ module _ {child : ℕ → ℕ → Option ℕ} {group : ℕ → Option ℕ} {edge
   IsKid j = child i (unit_of (edge j)) ≡ Some j
 
   are-kids : AllByRecursion IsKid ms
-  are-kids = All-weaken (λ j. (j < n) × (is_in g (edge j) ≡ true)) IsKid ms (λ j both. tell.to_child i g (unit_of (edge j)) j real own both.0 (in-edge g (edge j) both.1)) (below-All (λ j. is_in g (edge j)) n)
+  are-kids = All-weaken (λ j. (j < n) × (is_in g (edge j) ≡ true)) IsKid ms
+      (λ j both. tell.to_child i g (unit_of (edge j)) j real own both.0 (in-edge g (edge j) both.1)) (below-All (λ j. is_in g (edge j)) n)
 
   distinct : (l : List ℕ) → Pairs (λ a b. b < a) l → AllByRecursion IsKid l → IsDistinct same_unit (map (kid_of edge) l)
   unfolding IsDistinct
@@ -197,4 +199,5 @@ module _ {child : ℕ → ℕ → Option ℕ} {group : ℕ → Option ℕ} {edge
       falls : (j k : ℕ) → j < k → k < length (reverse ys) → (get_or (reverse ys) k nobody).0 ≤ (get_or (reverse ys) j nobody).0
       falls j k less h =
           let in_ys : k < length ys = omega (arith, length-reverse ys) in
-          rw (get_or-reverse ys j nobody (omega arith), get_or-reverse ys k nobody in_ys) (sorted-units ys up (length ys - 1 - k) (length ys - 1 - j) (omega arith) (omega arith))
+          rw (get_or-reverse ys j nobody (omega arith), get_or-reverse ys k nobody in_ys)
+          (sorted-units ys up (length ys - 1 - k) (length ys - 1 - j) (omega arith) (omega arith))

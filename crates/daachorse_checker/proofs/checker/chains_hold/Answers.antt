@@ -16,9 +16,10 @@ loop-place-preserved g c =
     let lt : m < length order = omega (arith, c.loop-place-test.true, c.len.ensures) in
     let at : c.index-element.result.now ≡ get_or order m 0 = get_or_read order m c.index-element.result.now lt c.index-element.ensures 0 in
     let here : IsChained a (get_or c.args.leaves.now m false) (get_or c.args.sizes.now m 0) (get_or order m 0) = rw at at (c.if-not-chain_holds.ensures.yes refl) in
+    let P : ℕ → Type 0 = λ q. 0 < q → IsChained a (get_or c.args.leaves.now q false) (get_or c.args.sizes.now q 0) (get_or order q 0) in
     record {
       low = omega (arith, inv.low);
-      each = λ k pos less. below_more (λ q. 0 < q → IsChained a (get_or c.args.leaves.now q false) (get_or c.args.sizes.now q 0) (get_or order q 0)) m (λ q below pos. inv.each q pos below) (λ pos. here) k less pos;
+      each = λ k pos less. below_more P m (λ q below pos. inv.each q pos below) (λ pos. here) k less pos;
     }
 
 pub rest_at-requires : goal.rest_at-requires

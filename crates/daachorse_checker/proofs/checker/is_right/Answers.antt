@@ -23,7 +23,8 @@ returns-then-not-chains_hold-clause-no g c e right counted =
     let a = machine_of (g.E.Edges.child arr) (g.E.Links.fail arr) (g.E.Links.first arr) c.args.outputs.now in
     let both = rw c.in-Some.is at c.in_ok-places.ensures.yes in
     let leafy : AreLeavesOf parents c.in_ok-leaves.leaves.items (length parents) = rw c.deref.ensures.value at c.in_ok-leaves.ensures.ok in
-    let chained = chained_from (g.E.Array.width arr) a c.requires.tell both.1 both.0 c.in_ok-sizes.sizes.items c.in_ok-sizes.ensures.ok c.in_ok-sizes.ensures.each leafy c.args.leftmost right in
+    let chained = chained_from (g.E.Array.width arr) a c.requires.tell both.1 both.0 c.in_ok-sizes.sizes.items
+    c.in_ok-sizes.ensures.ok c.in_ok-sizes.ensures.each leafy c.args.leftmost right in
     c.if-not-chains_hold.ensures.no refl (rw (c.deref-3.ensures.value, c.deref-4.ensures.value) chained)
 
 pub returns-clause-yes : goal.returns-clause-yes
@@ -34,8 +35,9 @@ returns-clause-yes g c e =
     let both = rw c.in-Some.is at c.in_ok-places.ensures.yes in
     let leafy : AreLeavesOf p.parents.items c.in_ok-leaves.leaves.items (length p.parents.items) = rw c.deref.ensures.value at c.in_ok-leaves.ensures.ok in
     let chained = rw (c.deref-3.ensures.value, c.deref-4.ensures.value) at (c.if-not-chains_hold.ensures.yes refl) in
+    let sized = c.in_ok-sizes.ensures in
     let len : length p.order.items ≡ c.args.num_states = omega (arith, c.len.ensures, c.if-len-num_states.false) in (
-      right_from (g.E.Array.width arr) a c.requires.tell both.1 both.0 c.in_ok-sizes.sizes.items c.in_ok-sizes.ensures.ok c.in_ok-sizes.ensures.each leafy c.args.leftmost chained (c.in_ok-right.ensures.yes e),
+      right_from (g.E.Array.width arr) a c.requires.tell both.1 both.0 c.in_ok-sizes.sizes.items sized.ok sized.each leafy c.args.leftmost chained (c.in_ok-right.ensures.yes e),
       subst (λ k. IsCounted a k) len (counted_places (g.E.Array.width arr) a c.requires.tell both.1 both.0),
     )
 

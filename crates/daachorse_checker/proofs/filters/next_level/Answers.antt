@@ -18,7 +18,8 @@ loop-number-preserved g c =
       within = omega (arith, lt);
       is = elim c.if-not-admits.branch [
         | then-not-admits+else-has_own+in_ok-push_children w ↦
-            rw (ap (λ v. v.items) w.next-is) (next_pushed so_far here w.push_children.new.next.items lt (sym w.has_own.ensures ∙ w.if-has_own.false) w.in_ok-push_children.ensures.ok)
+            rw (ap (λ v. v.items) w.next-is)
+            (next_pushed so_far here w.push_children.new.next.items lt (sym w.has_own.ensures ∙ w.if-has_own.false) w.in_ok-push_children.ensures.ok)
         | else-not-admits w ↦ rw (ap (λ v. v.items) w.next-is) (next_admitted so_far here (λ text was. sym (c.admits.ensures text was) ∙ w.if-not-admits.false))
       ];
     }

@@ -27,7 +27,8 @@ returns-in_default-clause-no g c e all =
 pub returns-clause-yes : goal.returns-clause-yes
 returns-clause-yes g c e =
     let a = c.args.array.now in
-    level_last c.requires.tree c.loop-depth.invariant (g.E.Edges.count a) (g.E.Edges.units a) c.requires.some c.requires.inside (omega (arith, c.loop-depth-test.false, c.num_elements-depth-end.ensures.all))
+    level_last c.requires.tree c.loop-depth.invariant (g.E.Edges.count a) (g.E.Edges.units a) c.requires.some c.requires.inside
+    (omega (arith, c.loop-depth-test.false, c.num_elements-depth-end.ensures.all))
 
 pub loop-depth-init : goal.loop-depth-init
 loop-depth-init g c =

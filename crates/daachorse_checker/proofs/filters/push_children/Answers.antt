@@ -12,15 +12,16 @@ loop-member-init g c =
     let a = c.args.array.now in
     let is : c.into_iter-member-iterator.result ≡ members (g.E.Edges.edge a) c.in-Some.group (g.E.Edges.count a) =
     c.into_iter-member-iterator.ensures.into_iter_gives ∙ c.members-member-items.ensures ∙ c.requires.groups c.in-Some.group (c.requires.tell.inside c.args.entry.0 c.in-Some.group c.requires.element (sym c.in-Some.ensures)) in
-    pushing_start c.requires.tell c.requires.element (sym c.in-Some.ensures) c.into_iter-member-iterator.result c.args.next.now.items is (λ u t to. (c.requires.inside c.args.entry.0 u t to).0)
+    pushing_start c.requires.tell c.requires.element (sym c.in-Some.ensures) c.into_iter-member-iterator.result c.args.next.now.items is
+    (λ u t to. (c.requires.inside c.args.entry.0 u t to).0)
 
 pub read-window-requires : goal.read-window-requires
 read-window-requires g c = pushing_in c.requires.tell c.requires.element (sym c.in-Some.ensures) (rw c.in-Some-member.ensures.steps at c.loop-member.invariant)
 
 pub loop-member-preserved : goal.loop-member-preserved
 loop-member-preserved g c =
-    rw c.in_ok-push.ensures.items
-    (pushing_next c.requires.tell c.requires.element (sym c.in-Some.ensures) (rw c.in-Some-member.ensures.steps at c.loop-member.invariant) c.read-window.result c.read-window.ensures)
+    let pushing = rw c.in-Some-member.ensures.steps at c.loop-member.invariant in
+    rw c.in_ok-push.ensures.items (pushing_next c.requires.tell c.requires.element (sym c.in-Some.ensures) pushing c.read-window.result c.read-window.ensures)
 
 pub returns-clause-ok : goal.returns-clause-ok
 returns-clause-ok g c = pushing_done c.requires.tell c.requires.element (sym c.in-Some.ensures) c.in-None.ensures.steps.0 c.loop-member.invariant

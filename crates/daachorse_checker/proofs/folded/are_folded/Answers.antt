@@ -25,7 +25,8 @@ loop-place-preserved c =
       | else-label-from-via-then-label-from+else-label-from-2 w ↦ inr (omega (arith, w.if-label-from-2.false, w.from-then-label-from.ensures))
       | else-label-from-via-else-label-from w ↦ inl (omega (arith, w.if-label-from.false, c.from.ensures))
     ]) in
+    let P : ℕ → Type 0 = λ k. 0 < k → folded_unit (get_or labels k 0) ≡ get_or labels k 0 in
     record {
       low = omega arith;
-      each = λ m pos less. below_more (λ k. 0 < k → folded_unit (get_or labels k 0) ≡ get_or labels k 0) at (λ k below pos. c.loop-place.invariant.each k pos below) (λ pos. here) m less pos;
+      each = λ m pos less. below_more P at (λ k below pos. c.loop-place.invariant.each k pos below) (λ pos. here) m less pos;
     }

@@ -53,7 +53,8 @@ returns-clause-yes g c e =
 
 pub index-next-requires-in-loop-k : goal.index-next-requires-in-loop-k
 index-next-requires-in-loop-k g c =
-    omega (arith, next_in c.requires.trie c.requires.each c.loop-k.invariant.touring (omega (arith, c.loop-k-test.true, c.len-count.ensures)), c.in_ok-tour.ensures.ok.size)
+    let lt = next_in c.requires.trie c.requires.each c.loop-k.invariant.touring (omega (arith, c.loop-k-test.true, c.len-count.ensures)) in
+    omega (arith, lt, c.in_ok-tour.ensures.ok.size)
 
 pub loop-k-preserved : goal.loop-k-preserved
 loop-k-preserved g c =
@@ -126,14 +127,16 @@ index-next-requires g c = omega (arith, c.in_ok-tour.ensures.ok.size, c.len-coun
 
 pub above-above-requires : goal.above-above-requires
 above-above-requires g c =
-    omega (arith, next_in c.requires.trie c.requires.each c.loop-k.invariant.touring (omega (arith, c.loop-k-test.true, c.len-count.ensures)), c.requires.each, c.requires.few)
+    let lt = next_in c.requires.trie c.requires.each c.loop-k.invariant.touring (omega (arith, c.loop-k-test.true, c.len-count.ensures)) in
+    omega (arith, lt, c.requires.each, c.requires.few)
 
 pub retreat-requires : goal.retreat-requires
 retreat-requires g c =
     let t = c.args.self.now in
     let inv = c.loop-k.invariant in
+    let over = next_above c.requires.trie c.requires.each inv.touring (omega (arith, c.loop-k-test.true, c.len-count.ensures)) in
     assumption (
-      subst (λ q. IsAbove (up t.fails.items) q c.loop-k.here) (sym c.above-above.ensures) (next_above c.requires.trie c.requires.each inv.touring (omega (arith, c.loop-k-test.true, c.len-count.ensures))),
+      subst (λ q. IsAbove (up t.fails.items) q c.loop-k.here) (sym c.above-above.ensures) over,
       λ (j : ℕ). subst (λ xs. IsSaved t.parents.items t.labels.items t.fails.items xs (above (up t.fails.items) j c.loop-k.here)) (sym c.deref-in-loop-k-2.ensures.value) (inv.touring.path j),
       subst (IsTrie t.parents.items t.labels.items) (sym inv.wide) c.requires.trie,
       c.if-not-links_fall.ensures.yes refl,
@@ -155,7 +158,8 @@ enter-requires g c =
     let other : c.if-above-count.other ≡ top t.stops.items fs k.next = elim c.if-above-count.branch [
       | then-above-count w ↦ w.other-is ∙ w.root_value-other.ensures ∙ sym (top_end (up fs) t.stops.items (length fs) (length fs) k.next (sym c.above-above.ensures ∙ w.if-above-count.true ∙ count))
       | else-above-count w ↦
-          w.other-is ∙ same_other c.requires.trie c.requires.each k.invariant.touring (c.if-not-links_fall.ensures.yes refl) more (λ z. w.if-above-count.false (c.above-above.ensures ∙ z ∙ sym count))
+          w.other-is
+          ∙ same_other c.requires.trie c.requires.each k.invariant.touring (c.if-not-links_fall.ensures.yes refl) more (λ z. w.if-above-count.false (c.above-above.ensures ∙ z ∙ sym count))
     ] in
     assumption (
       subst (λ n. k.next < n) c.requires.each (next_in c.requires.trie c.requires.each k.invariant.touring more),

@@ -1,13 +1,14 @@
-use Rattle.std.proofs.Common.{◌≡◌, ℕ, suc, ◌<◌, ◌≤◌, ◌⊎◌, length, sym, ◌∙◌, subst, inl, inr, arith}
-use Rattle.daachorse_links.specs.Near.{up, AreNear, IsSaved, IsAbove, above}
-use Rattle.daachorse_links.proofs.NearLaws.{up_past, ups_fall}
+use Rattle.std.proofs.Common.{suc, ◌<◌, ◌≤◌, length, ◌∙◌, inl, inr, arith}
+use Rattle.daachorse_links.specs.Near.{up}
+use Rattle.daachorse_links.proofs.NearLaws.{ups_fall}
 use Rattle.daachorse_links.proofs.TouringLaws.{not_top, above_next, shorter}
 use Rattle.daachorse_links.proofs.trie.Trie.retreat.Goals as goal
 
 pub leave-requires-clause-within : goal.leave-requires-clause-within
 leave-requires-clause-within g c =
     let inv = c.loop-here.invariant in
-    omega (arith, not_top c.args.self.now.fails.items c.loop-here.here c.args.to (omega (arith, inv.within, c.requires.each)) inv.above c.loop-here-test.true, c.requires.each)
+    let lt = not_top c.args.self.now.fails.items c.loop-here.here c.args.to (omega (arith, inv.within, c.requires.each)) inv.above c.loop-here-test.true in
+    omega (arith, lt, c.requires.each)
 
 pub leave-requires-clause-saved : goal.leave-requires-clause-saved
 leave-requires-clause-saved g c = c.loop-here.invariant.kept 0

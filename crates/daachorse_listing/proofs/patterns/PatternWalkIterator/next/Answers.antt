@@ -92,8 +92,9 @@ returns-in-Err-clause-steps g c =
     let s = c.loop-self.self-inside in
     let w = c.loop-self.invariant.walking in
     let stop = own_end (g.E.Links.fail s.elements) (g.E.Links.first s.elements) in
+    let text = map g.E.Outputs.number s.text.items in
     let given = sym c.loop-self.invariant.left
-    ∙ left-of-value w.patterns stop (map g.E.Outputs.number s.text.items) (elements_of s.aside.items) s.stop s.position c.output-output.result c.if-self.false c.if-self-eq0.false c.output-output.ensures in
+    ∙ left-of-value w.patterns stop text (elements_of s.aside.items) s.stop s.position c.output-output.result c.if-self.false c.if-self-eq0.false c.output-output.ensures in
     (search rules, (λ none. let bad = sym none ∙ given in cc), c.end.ensures)
 
 pub returns-in-Err-clause-goes : goal.returns-in-Err-clause-goes
@@ -101,8 +102,9 @@ returns-in-Err-clause-goes g c =
     let s = c.loop-self.self-inside in
     let w = c.loop-self.invariant.walking in
     let stop = own_end (g.E.Links.fail s.elements) (g.E.Links.first s.elements) in
+    let text = map g.E.Outputs.number s.text.items in
     let given = sym c.loop-self.invariant.left
-    ∙ left-of-value w.patterns stop (map g.E.Outputs.number s.text.items) (elements_of s.aside.items) s.stop s.position c.output-output.result c.if-self.false c.if-self-eq0.false c.output-output.ensures in
+    ∙ left-of-value w.patterns stop text (elements_of s.aside.items) s.stop s.position c.output-output.result c.if-self.false c.if-self-eq0.false c.output-output.ensures in
     rw (given, c.end.ensures) (search rules)
 
 pub loop-self-init : goal.loop-self-init

@@ -54,8 +54,8 @@ module _ {child : ℕ → ℕ → Option ℕ} {label : ℕ → ℕ} where
         label_each = length_push labels u ∙ ap (λ n. n + 1) h.label_each ∙ sym (length_push order j);
         earlier = λ m pos lt. grind (arith, old_or_new m lt, old_parents m, new_parents m, h.earlier m pos);
         edge = λ m pos lt.
-            let old = (old_parents m, old_at order j m, old_at order j (get_or parents m 0), h.edge m pos, h.earlier m pos) in
-            grind (arith, old_or_new m lt, old, new_parents m, old_at order j k here, new_order m, edge);
+            let at_k = old_at order j k here in
+            grind (arith, old_or_new m lt, old_parents m, old_at order j m, old_at order j (get_or parents m 0), h.edge m pos, h.earlier m pos, new_parents m, new_order m, edge);
         labelled = λ m pos lt.
             grind (arith, old_or_new m lt, old_at labels u m, old_at order j m, h.labelled m pos, h.label_each, get_or_push labels u 0 m, new_order m, is);
         alive = λ m pos lt. grind (arith, old_or_new m lt, old_at order j m, new_order m, h.alive m pos);

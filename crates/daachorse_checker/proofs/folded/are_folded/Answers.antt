@@ -1,6 +1,5 @@
 -- A label is folded where it is below A or above Z.
-use Rattle.std.proofs.Common.{◌≡◌, ℕ, ◌<◌, ◌≤◌, ◌⊎◌, get_or, subst, inl, inr, arith}
-use Rattle.std.proofs.lemmas.Bool.{cases_lt}
+use Rattle.std.proofs.Common.{◌≡◌, ℕ, ◌<◌, ◌≤◌, ◌⊎◌, get_or, inl, inr, arith}
 use borrow.Author.Count.{below_more}
 use Rattle.daachorse_model.specs.Folding.{folded_unit}
 use Rattle.daachorse_model.proofs.FoldLemmas.{folded_unit-is}

@@ -4,6 +4,7 @@ use Rattle.std.proofs.lemmas.Bool.{cases_Bool, false≢true}
 use Rattle.std.proofs.lemmas.Option.{none-some, same_Some}
 use Rattle.daachorse_model.specs.Paths.{Leads}
 use Rattle.daachorse_machine.specs.Machines.{Machine, content, own, own_from, values_at}
+use Rattle.daachorse_listing.proofs.SortLaws.{no_some}
 use Rattle.daachorse_checker.specs.Places.{HasOnePath, ArePlaces}
 use Rattle.daachorse_checker.specs.Runs.{has_values}
 use Rattle.daachorse_checker.specs.Sizes.{AreSizes}
@@ -28,13 +29,8 @@ module _ {V : Type 0} (width : ℕ → ℕ) (a : Machine V) {label : ℕ → ℕ
   leaf m = get_or leaves m false
 
   leaf_none : (m c : ℕ) → m < length order → leaf m ≡ true → a.child (at m) c ≡ None
-  leaf_none m c lt h = go (a.child (at m) c) refl
-    where
-      go : (o : Option ℕ) → a.child (at m) c ≡ o → a.child (at m) c ≡ None
-      go None e = e
-      go (Some j) e =
-          let entry = are.closed m lt c j e in
-          absurd (leafy.none m entry.0 h entry.1 (omega (arith, entry.2, are.places.one_each)) entry.4)
+  leaf_none m c lt h =
+      no_some (a.child (at m) c) (λ j e. (let entry = are.closed m lt c j e in leafy.none m entry.0 h entry.1 (omega (arith, entry.2, are.places.one_each)) entry.4))
 
   none_leaf : (m : ℕ) → m < length order → ((c : ℕ) → a.child (at m) c ≡ None) → leaf m ≡ true
   none_leaf m lt none = elim (cases_Bool (leaf m)) [

@@ -4,6 +4,7 @@ use Rattle.std.specs.Prelude.{is_some, option_map, option_and_then}
 use Rattle.std.proofs.lemmas.Option.{none-some, same_Some}
 use Rattle.daachorse_model.specs.Paths.{walk, is_reached, Leads}
 use Rattle.daachorse_model.proofs.Lists.{some_of_map}
+use Rattle.daachorse_listing.proofs.SortLaws.{no_some}
 use Rattle.daachorse_links.specs.Places.{IsTrie, child as kid}
 use Rattle.daachorse_links.proofs.ChildLaws.{edge, back}
 use Rattle.daachorse_links.proofs.TextLaws.{one_text, walk_later}
@@ -49,18 +50,14 @@ module _ {child : ℕ → ℕ → Option ℕ} {label : ℕ → ℕ} {n units : �
   kid_child : (k c : ℕ) → k < length order → child (at k) c ≡ option_map at (kid parents labels k c)
   kid_child k c here = go (kid parents labels k c) refl
     where
-      none_at : kid parents labels k c ≡ None → (o : Option ℕ) → child (at k) c ≡ o → o ≡ None
-      none_at e None is = refl
-      none_at e (Some t) is =
+      go : (o : Option ℕ) → kid parents labels k c ≡ o → child (at k) c ≡ option_map at o
+      go None e = no_some (child (at k) c) (λ t is. (
           let entry = are.closed k here c t is in
           let unit : c ≡ get_or labels entry.0 0 =
           one_unit (at k) c t (omega (arith, places.inside k here, are.marks_each)) is ∙ ap label (sym entry.3) ∙ sym (places.labelled entry.0 entry.1 entry.2) in
           let to : kid parents labels k c ≡ Some entry.0 =
           ap (λ p. kid parents labels p c) (sym entry.4) ∙ (ap (kid parents labels (get_or parents entry.0 0)) unit ∙ edge parents labels units places_trie entry.0 entry.1 (omega (arith, entry.2, places.one_each))) in
-          absurd (none-some entry.0 (sym e ∙ to))
-
-      go : (o : Option ℕ) → kid parents labels k c ≡ o → child (at k) c ≡ option_map at o
-      go None e = none_at e (child (at k) c) refl
+          none-some entry.0 (sym e ∙ to)))
       go (Some m) e =
           let b = back parents labels units places_trie k c m e in
           ap (λ p. child (at p) c) (sym b.2) ∙ (ap (child (at (get_or parents m 0))) (sym b.3) ∙ edge_to m b.0 (omega (arith, b.1, places.one_each)))

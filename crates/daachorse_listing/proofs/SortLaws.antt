@@ -71,7 +71,7 @@ Has-above u n [] a h = absurd h
 Has-above u n (p ∷ l) a (inl e) = let less = a.0 in omega (arith, less, e)
 Has-above u n (p ∷ l) a (inr h) = Has-above u n l a.1 h
 
-no_some : (o : Option ℕ) → ((j : ℕ) → o ≡ Some j → ⊥) → o ≡ None
+pub no_some : (o : Option ℕ) → ((j : ℕ) → o ≡ Some j → ⊥) → o ≡ None
 no_some None h = refl
 no_some (Some j) h = absurd (h j refl)
 

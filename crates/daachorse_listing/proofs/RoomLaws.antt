@@ -211,23 +211,22 @@ module _ {child : ℕ → ℕ → Option ℕ} {group : ℕ → Option ℕ} {edge
       rw own (least-one (λ q. is_in g (edge q)) j (least (λ q. is_in g (edge q)) n) there h.passes (sym (later-in g c j is) ∙ first) h.alone)
 
   module _ (w : List ℕ) (x : ℕ) (leads : Leads child w x) where
-    at-node : (d : ℕ) → Leads child (take d w) (node w d) × (walk child (node w d) (drop d w) ≡ Some x)
+    at-node : (d : ℕ) → Leads child (take d w) (node w d)
     unfolding node or_zero
     at-node d =
         let halves = walk-split child 0 x (take d w) (drop d w) (ap (λ v. walk child 0 v) (take-append-drop d w) ∙ leads) in
-        let is : or_zero (walk child 0 (take d w)) ≡ halves.0 = ap or_zero halves.1 in
-        (halves.1 ∙ ap (λ q. Some q) (sym is), ap (λ q. walk child q (drop d w)) is ∙ halves.2)
+        halves.1 ∙ ap (λ q. Some q) (sym (ap or_zero halves.1))
 
     node-real : (d : ℕ) → node w d < n
-    node-real d = reached-inside tree (node w d) (reached-is tree (take d w) (node w d) (at-node d).0)
+    node-real d = reached-inside tree (node w d) (reached-is tree (take d w) (node w d) (at-node d))
 
     -- the next unit leads to a child
     node-child : (d : ℕ) → d < length w → (c : ℕ) × (child (node w d) c ≡ Some (node w (suc d)))
     node-child d less =
         let c = get_or w d 0 in
-        let to : Leads child (take d w ++ c ∷ []) (node w (suc d)) = ap (walk child 0) (sym (take-suc w d 0 less)) ∙ (at-node (suc d)).0 in
+        let to : Leads child (take d w ++ c ∷ []) (node w (suc d)) = ap (walk child 0) (sym (take-suc w d 0 less)) ∙ at-node (suc d) in
         let parts = push-parts child 0 (take d w) c (node w (suc d)) to in
-        (c, ap (λ q. child q c) (same_Some (node w d) parts.0 (sym (at-node d).0 ∙ parts.1)) ∙ parts.2)
+        (c, ap (λ q. child q c) (same_Some (node w d) parts.0 (sym (at-node d) ∙ parts.1)) ∙ parts.2)
 
     -- ---- the length of a text
 
@@ -245,7 +244,7 @@ module _ {child : ℕ → ℕ → Option ℕ} {group : ℕ → Option ℕ} {edge
         passes d less = let k = is d less in (k.real, ap (λ b. cond b false true) k.least_one)
 
         long : (d : ℕ) (less : d < length w) → Leads child (take d w ++ (let k = is d less in k.own.0) ∷ []) (kid (node w d))
-        long d less = let k = is d less in walk-push child 0 (take d w) k.own.0 (node w d) (at-node d).0 ∙ k.own.1
+        long d less = let k = is d less in walk-push child 0 (take d w) k.own.0 (node w d) (at-node d) ∙ k.own.1
 
         apart : (j k : ℕ) → j < k → k < length w → kid (node w j) ≢ kid (node w k)
         apart j k up less same =
@@ -255,7 +254,8 @@ module _ {child : ℕ → ℕ → Option ℕ} {group : ℕ → Option ℕ} {edge
             let left : length (take j w) ≡ j = length-take-le j w (omega (arith, below-k)) in
             let right : length (take k w) ≡ k = length-take-le k w (omega (arith, less)) in
             omega (arith, lengths, left, right, up, length-append (take j w) ((is j below-k).own.0 ∷ []), length-append (take k w) ((is k less).own.0 ∷ []))
-        -- ---- up to one that is later
+
+  -- ---- up to one that is later
 
   top : List ℕ → ℕ → ℕ
   top w zero = 0
@@ -269,75 +269,55 @@ module _ {child : ℕ → ℕ → Option ℕ} {group : ℕ → Option ℕ} {edge
     level : ℕ
     up : level ≤ d
     is : node w level ≡ z
-    follow : (e : ℕ) → level ≤ e → e ≤ d → node w e ≡ goes (e - level) z
+    follow : (k : ℕ) → k + level ≤ d → node w (k + level) ≡ goes k z
     passes : or_first (is_later edge) z ≡ true
 
-  goes-none : (i z : ℕ) → i ≡ 0 → z ≡ goes i z
-  unfolding goes
-  goes-none zero z e = refl
-  goes-none (suc i) z e = absurd (omega arith)
-
-  goes-more : (i j z : ℕ) → i ≡ suc j → kid (goes j z) ≡ goes i z
-  unfolding goes
-  goes-more zero j z e = absurd (omega arith)
-  goes-more (suc i) j z e = let same : j ≡ i = omega (arith, e) in ap (λ k. kid (goes k z)) same
-
-  root-node : (w : List ℕ) → node w 0 ≡ 0
-  unfolding node or_zero
-  root-node w = refl
-
   at-level : (w : List ℕ) (d z : ℕ) → node w d ≡ z → or_first (is_later edge) z ≡ true → IsTop w d z
-  at-level w d z e ok = record {
-    level = d;
-    up = omega arith;
-    is = e;
-    follow = λ f low high. (let same : f ≡ d = omega (arith, low, high) in let none : f - d ≡ 0 = omega (arith, low, high) in ap (node w) same ∙ (e ∙ goes-none (f - d) z none));
-    passes = ok;
-  }
+  unfolding goes
+  at-level w d z e ok = record { level = d; up = omega arith; is = e; follow = here; passes = ok }
+    where
+      here : (k : ℕ) → k + d ≤ d → node w (k + d) ≡ goes k z
+      here zero h = ap (node w) (omega arith) ∙ e
+      here (suc k) h = absurd (omega (arith, h))
+
+  -- the next unit leads to the child that is the least of its group
+  follow-more : {w : List ℕ} {d z : ℕ} (low : IsTop w d z) → node w (suc d) ≡ kid (node w d) → (k : ℕ) → k + low.level ≤ suc d → node w (k + low.level) ≡ goes k z
+  unfolding goes
+  follow-more low one zero h = low.follow zero (omega (arith, low.up))
+  follow-more {w} {d} low one (suc k) h = elim (cases_eq (k + low.level) d) [
+    | inl same ↦ ap (node w) (omega (arith, same)) ∙ (one ∙ ap kid (ap (node w) (sym same) ∙ low.follow k (omega (arith, same))))
+    | inr other ↦ low.follow (suc k) (omega (arith, h, other))
+  ]
 
   later-passes : (j : ℕ) → is_later edge j ≡ true → or_first (is_later edge) j ≡ true
   unfolding or_first
   later-passes j e = elim (either (j == 0)) [ inl t ↦ ap (λ b. cond b true (is_later edge j)) t | inr t ↦ ap (λ b. cond b true (is_later edge j)) t ∙ e ]
 
-  zero-passes : or_first (is_later edge) 0 ≡ true
-  unfolding or_first
-  zero-passes = refl
-
   top-is : (w : List ℕ) (x : ℕ) → Leads child w x → (d : ℕ) → d ≤ length w → IsTop w d (top w d)
-  unfolding top
-  top-is w x leads zero h = at-level w 0 0 (root-node w) zero-passes
-  top-is w x leads (suc d) h = at (either (is_later edge (node w (suc d)))) (top-is w x leads d (omega (arith, h)))
-    where
-      at : (is_later edge (node w (suc d)) ≡ true) ⊎ (is_later edge (node w (suc d)) ≡ false) → IsTop w d (top w d) → IsTop w (suc d) (cond (is_later edge (node w (suc d))) (node w (suc d)) (top w d))
-      at (inl t) low = rw t (at-level w (suc d) (node w (suc d)) refl (later-passes (node w (suc d)) t))
-      at (inr t) low =
-          let step = node-child w x leads d (omega (arith, h)) in
-          let one : node w (suc d) ≡ kid (node w d) = kid-one (node w d) step.0 (node w (suc d)) (node-real w x leads d) step.1 t in
-          let last : node w (suc d) ≡ goes (suc d - low.level) (top w d) =
-          one ∙ (ap kid (low.follow d low.up (omega arith)) ∙ goes-more (suc d - low.level) (d - low.level) (top w d) (omega (arith, low.up))) in
-          rw t (record {
-            level = low.level;
-            up = omega (arith, low.up);
-            is = low.is;
-            follow = λ e a b. elim (cases_eq e (suc d)) [
-              | inl same ↦ rw same last
-              | inr other ↦ low.follow e a (omega (arith, b, other))
-            ];
-            passes = low.passes;
-          })
+  unfolding top node or_zero or_first
+  top-is w x leads zero h = at-level w 0 0 refl refl
+  top-is w x leads (suc d) h =
+      let low = top-is w x leads d (omega (arith, h)) in
+      elim (either (is_later edge (node w (suc d)))) [
+        | inl t ↦ rw t (at-level w (suc d) (node w (suc d)) refl (later-passes (node w (suc d)) t))
+        | inr t ↦ (
+            let step = node-child w x leads d (omega (arith, h)) in
+            let one = kid-one (node w d) step.0 (node w (suc d)) (node-real w x leads d) step.1 t in
+            rw t (record { level = low.level; up = omega (arith, low.up); is = low.is; follow = follow-more low one; passes = low.passes }))
+      ]
 
   -- two that come to the same one are on one way
   one-way : (v w : List ℕ) (x y : ℕ) → Leads child v x → Leads child w y → top v (length v) ≡ top w (length w) → length v ≤ length w → v ≡ take (length v) w
   one-way v w x y a b same short =
       let s = top-is v x a (length v) (omega arith) in
       let t = top-is w y b (length w) (omega arith) in
-      let begin = (at-node v x a s.level).0 ∙ ap (λ q. Some q) (s.is ∙ (same ∙ sym t.is)) in
-      let starts : take s.level v ≡ take t.level w = tree.one_path (node w t.level) (take s.level v) (take t.level w) begin (at-node w y b t.level).0 in
-      let levels : s.level ≡ t.level =
-      (let lengths = ap length starts in let left : length (take s.level v) ≡ s.level = length-take-le s.level v s.up in let right : length (take t.level w) ≡ t.level = length-take-le t.level w t.up in omega (arith, lengths, left, right)) in
+      let begin = at-node v x a s.level ∙ ap (λ q. Some q) (s.is ∙ (same ∙ sym t.is)) in
+      let starts : take s.level v ≡ take t.level w = tree.one_path (node w t.level) (take s.level v) (take t.level w) begin (at-node w y b t.level) in
+      let levels : s.level ≡ t.level = omega (arith, ap length starts, length-take-le s.level v s.up, length-take-le t.level w t.up) in
       let meet : node v (length v) ≡ node w (length v) =
-      s.follow (length v) s.up (omega arith) ∙ (ap (λ k. goes (length v - k) (top v (length v))) levels ∙ (ap (goes (length v - t.level)) same ∙ sym (t.follow (length v) (omega (arith, levels, s.up)) short))) in
-      sym (take_all (length v) v (omega arith)) ∙ tree.one_path (node w (length v)) (take (length v) v) (take (length v) w) ((at-node v x a (length v)).0 ∙ ap (λ q. Some q) meet) (at-node w y b (length v)).0
+      ap (node v) (omega (arith, s.up)) ∙ (s.follow (length v - s.level) (omega (arith, s.up)) ∙ (ap (λ k. goes (length v - k) (top v (length v))) levels
+      ∙ (ap (goes (length v - t.level)) same ∙ (sym (t.follow (length v - t.level) (omega (arith, levels, s.up, short))) ∙ ap (node w) (omega (arith, levels, s.up)))))) in
+      sym (take_all (length v) v (omega arith)) ∙ tree.one_path (node w (length v)) (take (length v) v) (take (length v) w) (at-node v x a (length v) ∙ ap (λ q. Some q) meet) (at-node w y b (length v))
 
   pub aside-few : (aside : List ℕ) → Pairs (Apart child n m) aside → ((i : ℕ) → IsAmong aside i → IsReached child m n i) → length aside ≤ suc (num_later edge n)
   unfolding rank

@@ -66,12 +66,10 @@ length-put (x ∷ xs) l = omega (arith, length-put xs (x ∷ l))
 module _ (child : ℕ → ℕ → Option ℕ) (i : ℕ) where
   pub among-children : (m k : ℕ) → IsAmong (children child i m) k → (c : ℕ) × (child i c ≡ Some k)
   among-children zero k h = absurd h
-  among-children (suc u) k h = at (child i u) refl h (among-children u k)
-    where
-      at : (o : Option ℕ) → child i u ≡ o → IsAmong (child_before o (children child i u)) k → (IsAmong (children child i u) k → (c : ℕ) × (child i c ≡ Some k)) → (c : ℕ) × (child i c ≡ Some k)
-      at None e h more = more h
-      at (Some j) e (inl same) more = (u, e ∙ ap (λ x. Some x) (sym same))
-      at (Some j) e (inr h) more = more h
+  among-children (suc u) k h = (elim (child i u) as (λ o. child i u ≡ o → IsAmong (child_before o (children child i u)) k → (c : ℕ) × (child i c ≡ Some k)) [
+    | None ↦ λ is h. among-children u k h
+    | Some j ↦ λ is h. elim h [ inl same ↦ (u, is ∙ ap (λ x. Some x) (sym same)) | inr more ↦ among-children u k more ]
+  ]) refl h
 
   pub children-among : (m c k : ℕ) → c < m → child i c ≡ Some k → IsAmong (children child i m) k
   children-among zero c k h e = absurd (omega arith)
@@ -90,16 +88,13 @@ module _ (child : ℕ → ℕ → Option ℕ) (i : ℕ) where
   pub Pairs-children : (R : ℕ → ℕ → Type 0) (m : ℕ) (l : List ℕ) → Pairs R l → ((c k : ℕ) → c < m → child i c ≡ Some k → AllByRecursion (R k) l)
       → ((c d j k : ℕ) → c < d → d < m → child i c ≡ Some j → child i d ≡ Some k → R j k) → Pairs R (put_before (children child i m) l)
   Pairs-children R zero l pairs before rise = pairs
-  Pairs-children R (suc u) l pairs before rise = at (child i u) refl (λ l. Pairs-children R u l)
-    where
-      at : (o : Option ℕ) → child i u ≡ o
-          → ((l : List ℕ) → Pairs R l → ((c k : ℕ) → c < u → child i c ≡ Some k → AllByRecursion (R k) l) → ((c d j k : ℕ) → c < d → d < u → child i c ≡ Some j → child i d ≡ Some k → R j k) → Pairs R (put_before (children child i u) l))
-          → Pairs R (put_before (child_before o (children child i u)) l)
-      at None is more = more l pairs (λ c k h e. before c k (omega arith) e) (λ c d j k h less a b. rise c d j k h (omega arith) a b)
-      at (Some t) is more =
-          more (t ∷ l) (before u t (omega arith) is, pairs)
-          (λ c k h e. (rise c u k t h (omega arith) e is, before c k (omega arith) e))
-          (λ c d j k h less a b. rise c d j k h (omega arith) a b)
+  Pairs-children R (suc u) l pairs before rise = (elim (child i u) as (λ o. child i u ≡ o → Pairs R (put_before (child_before o (children child i u)) l)) [
+    | None ↦ λ is. Pairs-children R u l pairs (λ c k h e. before c k (omega arith) e) (λ c d j k h less a b. rise c d j k h (omega arith) a b)
+    | Some t ↦ λ is.
+        Pairs-children R u (t ∷ l) (before u t (omega arith) is, pairs)
+        (λ c k h e. (rise c u k t h (omega arith) e is, before c k (omega arith) e))
+        (λ c d j k h less a b. rise c d j k h (omega arith) a b)
+  ]) refl
 
 -- ---- pairs
 

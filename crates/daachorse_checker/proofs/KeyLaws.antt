@@ -15,11 +15,10 @@ module _ {V : Type 0} (width : ℕ → ℕ) (a : Machine V) (leftmost : Bool) (n
   PassesEach = (k : List ℕ) → IsKey (content width a) k → admits f (spell k) ≡ true
 
   pub each_from_all : PassesAll a.child bytes (has_own a.fail a.output) f → PassesEach
-  each_from_all all k key = at (walk a.child 0 k) refl
-    where
-      at : (o : Option ℕ) → walk a.child 0 k ≡ o → admits f (spell k) ≡ true
-      at None e = absurd (key (ap (values_at width a k) e))
-      at (Some i) e = ap (admits f) (sym (spells k)) ∙ all i k e (key_at width a leftmost n m machine i k e ∙ some_values (content width a k) key)
+  each_from_all all k key = (elim (walk a.child 0 k) as (λ o. walk a.child 0 k ≡ o → admits f (spell k) ≡ true) [
+    | None ↦ λ e. absurd (key (ap (values_at width a k) e))
+    | Some i ↦ λ e. ap (admits f) (sym (spells k)) ∙ all i k e (key_at width a leftmost n m machine i k e ∙ some_values (content width a k) key)
+  ]) refl
 
   pub all_from_each : PassesEach → PassesAll a.child bytes (has_own a.fail a.output) f
   all_from_each each i k leads own =

@@ -23,10 +23,7 @@ module _ (parents labels : List ℕ) where
 
     -- no place beyond the last has a child
     pub none_past : (p c : ℕ) → length parents ≤ p → child parents labels p c ≡ None
-    none_past p c le = at (child parents labels p c) refl
-      where
-        at : (o : Option ℕ) → child parents labels p c ≡ o → child parents labels p c ≡ None
-        at None e = e
-        at (Some j) e =
-            let r = back p c j e in
-            absurd (omega (arith, trie.order.earlier j r.0 r.1, r.1, r.2, le))
+    none_past p c le = (elim (child parents labels p c) as (λ o. child parents labels p c ≡ o → child parents labels p c ≡ None) [
+      | None ↦ λ e. e
+      | Some j ↦ λ e. (let r = back p c j e in absurd (omega (arith, trie.order.earlier j r.0 r.1, r.1, r.2, le)))
+    ]) refl

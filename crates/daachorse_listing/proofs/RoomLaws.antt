@@ -17,7 +17,7 @@ use Rattle.daachorse_listing.specs.Trees.{IsAmong, Pairs, Diverges, text, Apart}
 use Rattle.daachorse_listing.proofs.LinkedLaws.{IsGrouped}
 use Rattle.daachorse_listing.proofs.Members.{Pairs-read, among-read}
 use Rattle.daachorse_listing.proofs.SortLaws.{below-has, edge-in, in-edge}
-use Rattle.daachorse_listing.proofs.WalkLaws.{reached-inside, reached-is}
+use Rattle.daachorse_listing.proofs.WalkLaws.{group-of, reached-inside, reached-is}
 
 -- ---- numbers that pass, each once, are no more than there are
 
@@ -179,17 +179,10 @@ module _ {child : ℕ → ℕ → Option ℕ} {group : ℕ → Option ℕ} {edge
   later-in : (g u k : ℕ) → edge k ≡ Some (g, u) → is_later edge k ≡ is_filled (members edge g k)
   later-in g u k e = ap (has_before edge k) e
 
-  group-of : (i c j : ℕ) → i < n → child i c ≡ Some j → (g : ℕ) × (group i ≡ Some g)
-  group-of i c j real e = at (group i) refl
-    where
-      at : (o : Option ℕ) → group i ≡ o → (g : ℕ) × (group i ≡ Some g)
-      at None own = absurd (none-some j (sym (tell.alone i c real own) ∙ e))
-      at (Some g) own = (g, own)
-
   kid-is : (i c j : ℕ) → i < n → child i c ≡ Some j → IsKid i (kid i)
   unfolding kid kid_of_group
   kid-is i c j real e =
-      let (g, own) = group-of i c j real e in
+      let (g, own) = group-of tell i c j real e in
       let there : is_in g (edge j) ≡ true = (edge-in g c (edge j) (tell.from_child i g c j real own e)).0 in
       let h = least-is (λ q. is_in g (edge q)) n (filled-read (λ q. is_in g (edge q)) n j (tree.inside i c j e).0 there) in
       let k = least (λ q. is_in g (edge q)) n in
@@ -204,7 +197,7 @@ module _ {child : ℕ → ℕ → Option ℕ} {group : ℕ → Option ℕ} {edge
   kid-one : (i c j : ℕ) → i < n → child i c ≡ Some j → is_later edge j ≡ false → j ≡ kid i
   unfolding kid kid_of_group
   kid-one i c j real e first =
-      let (g, own) = group-of i c j real e in
+      let (g, own) = group-of tell i c j real e in
       let is : edge j ≡ Some (g, c) = tell.from_child i g c j real own e in
       let there : is_in g (edge j) ≡ true = (edge-in g c (edge j) is).0 in
       let h = least-is (λ q. is_in g (edge q)) n (filled-read (λ q. is_in g (edge q)) n j (tree.inside i c j e).0 there) in

@@ -7,7 +7,7 @@ use Rattle.daachorse_model.specs.Paths.{walk, Leads}
 use Rattle.daachorse_model.proofs.Paths.{walk-push}
 use Rattle.daachorse_machine.specs.Texts.{IsReached}
 use Rattle.daachorse_machine.proofs.PathLaws.{and_then_inv, text_of-Leads, Leads-inside}
-use Rattle.std.proofs.lemmas.Option.{same_Some}
+use Rattle.std.proofs.lemmas.Option.{none-some, same_Some}
 use Rattle.daachorse_listing.specs.Edges.{put_before, children, IsTree, TellChildren}
 use Rattle.daachorse_listing.specs.Listing.{unit_of}
 use Rattle.daachorse_listing.specs.Trees.{IsAmong, Pairs, Diverges, text, Apart, ComesBefore, IsListed, IsWalk, elements_of, taken_from}
@@ -206,10 +206,14 @@ pub taken-none : (child : ℕ → ℕ → Option ℕ) (n m steps : ℕ) → take
 taken-none child n m zero = refl
 taken-none child n m (suc steps) = refl
 
--- the unit of a child's edge is the one that leads to it
-pub unit-is : {child : ℕ → ℕ → Option ℕ} {group : ℕ → Option ℕ} {edge : ℕ → Option (ℕ × ℕ)} {n : ℕ} → TellChildren child group edge n → (p c j : ℕ) → p < n → child p c ≡ Some j → unit_of (edge j) ≡ c
-unit-is {child} {group} {edge} tell p c j real e = at (group p) refl
-  where
-    at : (o : Option ℕ) → group p ≡ o → unit_of (edge j) ≡ c
-    at None own = absurd (let bad : ◌≡◌ {A = Option ℕ} None (Some j) = sym (tell.alone p c real own) ∙ e in cc)
-    at (Some g) own = ap unit_of (tell.from_child p g c j real own e)
+module _ {child : ℕ → ℕ → Option ℕ} {group : ℕ → Option ℕ} {edge : ℕ → Option (ℕ × ℕ)} {n : ℕ} (tell : TellChildren child group edge n) (i c j : ℕ) (real : i < n) (e : child i c ≡ Some j) where
+  -- an element with a child has a group
+  pub group-of : (g : ℕ) × (group i ≡ Some g)
+  group-of = (elim (group i) as (λ o. group i ≡ o → (g : ℕ) × (group i ≡ Some g)) [
+    | None ↦ λ own. absurd (none-some j (sym (tell.alone i c real own) ∙ e))
+    | Some g ↦ λ own. (g, own)
+  ]) refl
+
+  -- the unit of a child's edge is the one that leads to it
+  pub unit-is : unit_of (edge j) ≡ c
+  unit-is = ap unit_of (tell.from_child i group-of.0 c j real group-of.1 e)

@@ -65,12 +65,11 @@ module _ {child : ℕ → ℕ → Option ℕ} {label : ℕ → ℕ} {n units : �
   walk_from : (k : ℕ) (w : List ℕ) → k < length order → walk child (at k) w ≡ option_map at (walk (kid parents labels) k w)
   walk_from k [] here = refl
   walk_from k (c ∷ w) here =
-      ap (λ o. option_and_then (λ j. walk child j w) o) (kid_child k c here) ∙ go (kid parents labels k c) refl (λ m lt. walk_from m w lt)
-    where
-      go : (o : Option ℕ) → kid parents labels k c ≡ o → ((m : ℕ) → m < length order → walk child (at m) w ≡ option_map at (walk (kid parents labels) m w))
-          → option_and_then (λ j. walk child j w) (option_map at o) ≡ option_map at (option_and_then (λ j. walk (kid parents labels) j w) o)
-      go None e more = refl
-      go (Some m) e more = more m (omega (arith, (back parents labels units places_trie k c m e).1, places.one_each))
+      ap (λ o. option_and_then (λ j. walk child j w) o) (kid_child k c here)
+      ∙ (elim (kid parents labels k c) as (λ o. kid parents labels k c ≡ o → option_and_then (λ j. walk child j w) (option_map at o) ≡ option_map at (option_and_then (λ j. walk (kid parents labels) j w) o)) [
+        | None ↦ λ e. refl
+        | Some m ↦ λ e. walk_from m w (omega (arith, (back parents labels units places_trie k c m e).1, places.one_each))
+      ]) refl
 
   -- a text leads to an element where it leads to its place
   pub walk_places : (w : List ℕ) → walk child 0 w ≡ option_map at (walk (kid parents labels) 0 w)

@@ -22,17 +22,16 @@ module _ {parents labels : List ℕ} {alphabet : ℕ} (trie : IsTrie parents lab
   is_picked m p c pos lt e g =
       sym (ap (λ o. pick o 0) (sym (ap (λ x. child parents labels x (get_or labels m 0)) e ∙ ap (λ x. child parents labels p x) g) ∙ edge parents labels alphabet trie m pos lt))
 
-  none_by : (starts : List ℕ) (p c : ℕ) → AreStarts parents starts → p < length parents → ((m : ℕ) → get_or starts p 0 ≤ m → m < get_or starts (p + 1) 0 → get_or labels m 0 ≢ c) → (o : Option ℕ) → child parents labels p c ≡ o → 0 ≡ pick o 0
-  none_by starts p c are within none None e = refl
-  none_by starts p c are within none (Some m) e =
-      let r = back parents labels alphabet trie p c m e in
-      let low : get_or starts p 0 ≤ m = elim (cases_lt m (get_or starts p 0)) [ inl h ↦ absurd (not_before parents starts are p within m r.0 h r.2) | inr h ↦ h ] in
-      let high : m < get_or starts (p + 1) 0 = elim (cases_lt m (get_or starts (p + 1) 0)) [ inl h ↦ h | inr h ↦ absurd (not_after parents starts are p within m h r.1 r.2) ] in
-      absurd (none m low high r.3)
-
   -- no child is found where none has the label
   pub none_picked : (starts : List ℕ) (p c : ℕ) → AreStarts parents starts → p < length parents → ((m : ℕ) → get_or starts p 0 ≤ m → m < get_or starts (p + 1) 0 → get_or labels m 0 ≢ c) → 0 ≡ pick (child parents labels p c) 0
-  none_picked starts p c are within none = none_by starts p c are within none (child parents labels p c) refl
+  none_picked starts p c are within none = (elim (child parents labels p c) as (λ o. child parents labels p c ≡ o → 0 ≡ pick o 0) [
+    | None ↦ λ e. refl
+    | Some m ↦ λ e.
+        let r = back parents labels alphabet trie p c m e in
+        let low : get_or starts p 0 ≤ m = elim (cases_lt m (get_or starts p 0)) [ inl h ↦ absurd (not_before parents starts are p within m r.0 h r.2) | inr h ↦ h ] in
+        let high : m < get_or starts (p + 1) 0 = elim (cases_lt m (get_or starts (p + 1) 0)) [ inl h ↦ h | inr h ↦ absurd (not_after parents starts are p within m h r.1 r.2) ] in
+        absurd (none m low high r.3)
+  ]) refl
 
   -- what was found is the child, and none where nothing was
   pub picked_some : (p c x : ℕ) → x ≡ pick (child parents labels p c) 0 → 0 < x → child parents labels p c ≡ Some x

@@ -56,32 +56,26 @@ module _ (parents labels : List ℕ) (stops : List Bool) (fails : List ℕ) (alp
         frame = λ j ne. get_or-set_other saved m j v 0 (λ g. ne (ap (λ x. get_or parents x 0) g ∙ at.2)) ∙ is.frame j ne;
       }
 
-  entered_at : (array saved old : List ℕ) (m : ℕ) → get_or starts (p + 1) 0 ≤ m → IsEntering parents labels stops fails array saved old p m → (c : ℕ) → c < length array → (o : Option ℕ) → child parents labels p c ≡ o →
-      get_or array c 0 ≡ near parents labels fails p c
-  entered_at array saved old m done is c lt (Some j) e =
-      let r = back parents labels alphabet trie p c j e in
-      let low : j < m = in_range m done j r.1 r.2 in
-      ap (λ x. get_or array x 0) (sym r.3) ∙ is.mine j r.0 r.1 low r.2
-      ∙ sym (near_child parents labels fails alphabet trie each p fall_to p c j (omega arith) (omega (arith, within, each)) e)
-  entered_at array saved old m done is c lt None e =
-      is.other c lt (λ j pos hj low ej g. no_child c e j pos hj ej g)
-      ∙ sym (near_other parents labels fails alphabet trie each p fall_to p c (omega arith) (omega (arith, within, each)) e)
-
   -- p is reached
   pub entered : (array saved old : List ℕ) (m : ℕ) → get_or starts (p + 1) 0 ≤ m → IsEntering parents labels stops fails array saved old p m → AreNear parents labels fails array p
-  entered array saved old m done is c lt = entered_at array saved old m done is c lt (child parents labels p c) refl
+  entered array saved old m done is c lt = (elim (child parents labels p c) as (λ o. child parents labels p c ≡ o → get_or array c 0 ≡ near parents labels fails p c) [
+    | Some j ↦ λ e.
+        let r = back parents labels alphabet trie p c j e in
+        ap (λ x. get_or array x 0) (sym r.3) ∙ is.mine j r.0 r.1 (in_range m done j r.1 r.2) r.2
+        ∙ sym (near_child parents labels fails alphabet trie each p fall_to p c j (omega arith) (omega (arith, within, each)) e)
+    | None ↦ λ e.
+        is.other c lt (λ j pos hj low ej g. no_child c e j pos hj ej g)
+        ∙ sym (near_other parents labels fails alphabet trie each p fall_to p c (omega arith) (omega (arith, within, each)) e)
+  ]) refl
 
   -- ---- going back
-  left_at : (array : List ℕ) (m : ℕ) → get_or starts (p + 1) 0 ≤ m → IsLeaving parents labels fails array p m → (c : ℕ) → c < length array → (o : Option ℕ) → child parents labels p c ≡ o →
-      get_or array c 0 ≡ near parents labels fails (up fails p) c
-  left_at array m done is c lt (Some j) e =
-      let r = back parents labels alphabet trie p c j e in
-      let low : j < m = in_range m done j r.1 r.2 in
-      subst (λ x. get_or array x 0 ≡ near parents labels fails (up fails p) x) r.3 (is.back j r.0 r.1 low r.2)
-  left_at array m done is c lt None e =
-      is.other c lt (λ j pos hj low ej g. no_child c e j pos hj ej g)
-      ∙ near_other parents labels fails alphabet trie each p fall_to p c (omega arith) (omega (arith, within, each)) e
-
   -- p is left
   pub left : (array : List ℕ) (m : ℕ) → get_or starts (p + 1) 0 ≤ m → IsLeaving parents labels fails array p m → AreNear parents labels fails array (up fails p)
-  left array m done is c lt = left_at array m done is c lt (child parents labels p c) refl
+  left array m done is c lt = (elim (child parents labels p c) as (λ o. child parents labels p c ≡ o → get_or array c 0 ≡ near parents labels fails (up fails p) c) [
+    | Some j ↦ λ e.
+        let r = back parents labels alphabet trie p c j e in
+        subst (λ x. get_or array x 0 ≡ near parents labels fails (up fails p) x) r.3 (is.back j r.0 r.1 (in_range m done j r.1 r.2) r.2)
+    | None ↦ λ e.
+        is.other c lt (λ j pos hj low ej g. no_child c e j pos hj ej g)
+        ∙ near_other parents labels fails alphabet trie each p fall_to p c (omega arith) (omega (arith, within, each)) e
+  ]) refl

@@ -50,13 +50,12 @@ module _ {parents labels : List ℕ} {stops : List Bool} {fails : List ℕ} {alp
   }
 
   module _ {next array saved : List ℕ} {k here p t : ℕ} (touring : IsTouring parents labels stops fails next array saved k here p t) where
-    next_in_by : (xs : List ℕ) → IsLinked next (length fails) p xs → length xs + k ≡ length fails → ((x : ℕ) → In x xs → x < length fails) → k < length fails → p < length fails
-    next_in_by [] l e b lt = absurd (omega (arith, e, lt))
-    next_in_by (x ∷ xs) l e b lt = omega (arith, l.0, b x (inl refl))
-
     -- the next is a place
     pub next_in : k < length fails → p < length fails
-    next_in lt = next_in_by touring.rest touring.linked touring.count touring.below lt
+    next_in lt = (elim touring.rest as (λ xs. touring.rest ≡ xs → p < length fails) [
+      | [] ↦ λ is. absurd (omega (arith, touring.count, ap length is, lt))
+      | x ∷ xs ↦ λ is. omega (arith, (rw is at touring.linked).0, touring.below x (rw is (inl refl)))
+    ]) refl
 
     -- whose link is above the last
     pub next_above : k < length fails → IsAbove (up fails) (up fails p) here

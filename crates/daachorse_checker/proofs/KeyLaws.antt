@@ -1,5 +1,5 @@
 -- The keys of a right machine are the texts of the elements with own outputs, so a filter passes at all of them where it passes at each of these.
-use Rattle.std.proofs.Common.{◌≡◌, ℕ, Bool, true, List, Option, Some, None, refl, sym, ap, ◌∙◌}
+use Rattle.std.proofs.Common.{◌≡◌, ℕ, Bool, true, List, Some, None, refl, sym, ap, ◌∙◌}
 use Rattle.std.specs.Prelude.{flat_map}
 use Rattle.daachorse_model.specs.Paths.{walk}
 use Rattle.daachorse_model.specs.Prefixes.{IsKey}

@@ -1,5 +1,5 @@
 -- The child of a place by a label.
-use Rattle.std.proofs.Common.{◌≡◌, ℕ, zero, suc, pred, ◌<◌, ◌≤◌, List, length, Option, Some, None, refl, arith, get_or}
+use Rattle.std.proofs.Common.{◌≡◌, ℕ, zero, suc, pred, ◌<◌, ◌≤◌, List, length, Some, None, refl, arith, get_or}
 use Rattle.std.proofs.lemmas.Option.{none-some}
 use Rattle.daachorse_links.specs.Places.{child_to, child, IsTrie}
 

@@ -1,5 +1,5 @@
 -- The way up from above a place ends at the first place with a child by the label, or at the top.
-use Rattle.std.proofs.Common.{◌≡◌, ◌≢◌, ℕ, ◌+◌, ◌<◌, ◌≤◌, ◌⊎◌, Bool, cond, List, length, Option, Some, None, refl, sym, ap, ◌∙◌, inl, inr, arith, get_or}
+use Rattle.std.proofs.Common.{◌≡◌, ◌≢◌, ℕ, ◌+◌, ◌<◌, ◌≤◌, ◌⊎◌, Bool, cond, List, length, Some, None, refl, sym, ap, ◌∙◌, inl, inr, arith, get_or}
 use Rattle.std.proofs.lemmas.Bool.{cases_lt}
 use Rattle.daachorse_links.specs.Following.{IsFollowing}
 use Rattle.daachorse_links.specs.Places.{AreStarts, IsTrie, LinksFall, child, stop}

@@ -4,7 +4,7 @@ use Rattle.std.proofs.lemmas.List.{nil_from_length}
 use Rattle.std.proofs.lemmas.Bool.Decides.{nat_tests}
 use Rattle.daachorse_links.specs.Places.{IsTrie, LinksFall}
 use Rattle.daachorse_links.specs.Near.{up, top, above, IsAbove, AreNear, IsChecked, IsSaved}
-use Rattle.daachorse_links.specs.Tours.{In, IsLinked, IsTour, IsTouring}
+use Rattle.daachorse_links.specs.Tours.{IsLinked, IsTour, IsTouring}
 use Rattle.daachorse_links.proofs.NearLaws.{up_past, ups_fall, near_top}
 use Rattle.daachorse_links.proofs.TopLaws.{top_next}
 

@@ -1,26 +1,27 @@
 -- The chains of the elements at places are right where those of the machine are.
-use Rattle.std.proofs.Common.{◌≡◌, ◌≢◌, ℕ, zero, suc, ◌<◌, ◌==◌, Bool, true, false, cond, List, [], ◌∷◌, length, Option, Some, None, refl, sym, ap, ◌∙◌, subst, inl, inr, arith, get_or}
+use Rattle.std.proofs.Common.{◌≡◌, ◌≢◌, ℕ, zero, suc, ◌<◌, ◌==◌, Bool, true, false, cond, List, [], ◌∷◌, length, Some, None, refl, sym, ap, ◌∙◌, subst, inl, inr, arith, get_or}
 use Rattle.std.proofs.lemmas.Bool.{cases_Bool, false≢true}
 use Rattle.std.proofs.lemmas.Option.{none-some, same_Some}
 use Rattle.daachorse_model.specs.Paths.{Leads}
 use Rattle.daachorse_machine.specs.Machines.{Machine, content, own, own_from, values_at}
+use Rattle.daachorse_listing.proofs.SortLaws.{no_some}
 use Rattle.daachorse_checker.specs.Places.{HasOnePath, ArePlaces}
 use Rattle.daachorse_checker.specs.Runs.{has_values}
 use Rattle.daachorse_checker.specs.Sizes.{AreSizes}
 use Rattle.daachorse_checker.specs.Chains.{AreLeavesOf, IsChained}
 use Rattle.daachorse_checker.proofs.TreeLaws.{text_at, found}
 
-some_values : {V : Type 0} (vs : List V) → vs ≢ [] → has_values vs ≡ true
+pub some_values : {V : Type 0} (vs : List V) → vs ≢ [] → has_values vs ≡ true
 some_values [] h = absurd (h refl)
 some_values (v ∷ vs) h = refl
 
-values_some : {V : Type 0} (vs : List V) → has_values vs ≡ true → vs ≢ []
+pub values_some : {V : Type 0} (vs : List V) → has_values vs ≡ true → vs ≢ []
 values_some [] h = absurd (false≢true h)
 values_some (v ∷ vs) h = λ e. cc
 
-module _ {V : Type 0} (width : ℕ → ℕ) (a : Machine V) (label : ℕ → ℕ) (n : ℕ) (order parents labels marks : List ℕ) (are : ArePlaces a.child label n order parents labels marks)
+module _ {V : Type 0} (width : ℕ → ℕ) (a : Machine V) {label : ℕ → ℕ} {n : ℕ} {order parents labels marks : List ℕ} (are : ArePlaces a.child label n order parents labels marks)
     (unit : (s c t : ℕ) → (m : ℕ) × (m < length order) × (get_or order m 0 ≡ s) → a.child s c ≡ Some t → c ≡ label t)
-    (sizes : List ℕ) (sized : AreSizes a.child width order sizes) (size_each : length sizes ≡ length order) (leaves : List Bool) (leafy : AreLeavesOf parents leaves (length parents)) where
+    (sizes : List ℕ) (sized : AreSizes a.child width order sizes) (size_each : length sizes ≡ length order) {leaves : List Bool} (leafy : AreLeavesOf parents leaves (length parents)) where
   abbrev at : ℕ → ℕ
   at m = get_or order m 0
 
@@ -28,13 +29,8 @@ module _ {V : Type 0} (width : ℕ → ℕ) (a : Machine V) (label : ℕ → ℕ
   leaf m = get_or leaves m false
 
   leaf_none : (m c : ℕ) → m < length order → leaf m ≡ true → a.child (at m) c ≡ None
-  leaf_none m c lt h = go (a.child (at m) c) refl
-    where
-      go : (o : Option ℕ) → a.child (at m) c ≡ o → a.child (at m) c ≡ None
-      go None e = e
-      go (Some j) e =
-          let entry = are.closed m lt c j e in
-          absurd (leafy.none m entry.0 h entry.1 (omega (arith, entry.2, are.places.one_each)) entry.4)
+  leaf_none m c lt h =
+      no_some (a.child (at m) c) (λ j e. (let entry = are.closed m lt c j e in leafy.none m entry.0 h entry.1 (omega (arith, entry.2, are.places.one_each)) entry.4))
 
   none_leaf : (m : ℕ) → m < length order → ((c : ℕ) → a.child (at m) c ≡ None) → leaf m ≡ true
   none_leaf m lt none = elim (cases_Bool (leaf m)) [
@@ -51,20 +47,14 @@ module _ {V : Type 0} (width : ℕ → ℕ) (a : Machine V) (label : ℕ → ℕ
 
   -- a nonempty text leads to a place behind the root
   behind : (u i m : ℕ) (w : List ℕ) → HasOnePath a.child → Leads a.child (u ∷ w) i → at m ≡ i → 0 < m
-  behind u i m w tree e is = go m refl
-    where
-      go : (k : ℕ) → m ≡ k → 0 < m
-      go zero same =
-          let root : i ≡ 0 = sym is ∙ (ap at same ∙ are.places.first) in
-          let bad : u ∷ w ≡ [] = tree.one_path 0 (u ∷ w) [] (e ∙ ap Some root) refl in
-          cc
-      go (suc k) same = omega (arith, same)
+  behind u i zero w tree e is = let bad : u ∷ w ≡ [] = tree.one_path 0 (u ∷ w) [] (e ∙ ap Some (sym is ∙ are.places.first)) refl in cc
+  behind u i (suc m) w tree e is = omega arith
 
   module _ (tree : HasOnePath a.child) where
     module _ (chained : (m : ℕ) → 0 < m → m < length order → IsChained a (leaf m) (get_or sizes m 0) (at m)) where
       pub right_chains : (u i : ℕ) (w : List ℕ) → Leads a.child (u ∷ w) i → (own width a (u ∷ w) i).1 ≡ cond (a.fail i == 1) 0 (a.output (a.fail i))
       right_chains u i w e =
-          let f = found a.child label order parents labels marks are.places unit are.closed (u ∷ w) i e in
+          let f = found are.places unit are.closed (u ∷ w) i e in
           let here : Leads a.child (u ∷ w) (at f.0) = e ∙ ap Some (sym f.2) in
           let goes = (chained f.0 (behind u i f.0 w tree e f.2) f.1).goes_on in
           let at_m : (own width a (u ∷ w) (at f.0)).1 ≡ cond (a.fail (at f.0) == 1) 0 (a.output (a.fail (at f.0))) = sym (ap (λ (r : List V × ℕ). r.1) (own_at (u ∷ w) f.0 f.1 here)) ∙ goes in
@@ -72,7 +62,7 @@ module _ {V : Type 0} (width : ℕ → ℕ) (a : Machine V) (label : ℕ → ℕ
 
       pub right_leaves : (u i : ℕ) (w : List ℕ) → Leads a.child (u ∷ w) i → ((c : ℕ) → a.child i c ≡ None) → content width a (u ∷ w) ≢ []
       right_leaves u i w e none =
-          let f = found a.child label order parents labels marks are.places unit are.closed (u ∷ w) i e in
+          let f = found are.places unit are.closed (u ∷ w) i e in
           let here : Leads a.child (u ∷ w) (at f.0) = e ∙ ap Some (sym f.2) in
           let is_leaf : leaf f.0 ≡ true = none_leaf f.0 f.1 (λ c. ap (λ x. a.child x c) f.2 ∙ none c) in
           let has = (chained f.0 (behind u i f.0 w tree e f.2) f.1).has_own is_leaf in
@@ -85,7 +75,7 @@ module _ {V : Type 0} (width : ℕ → ℕ) (a : Machine V) (label : ℕ → ℕ
         → ((u i : ℕ) (w : List ℕ) → Leads a.child (u ∷ w) i → ((c : ℕ) → a.child i c ≡ None) → content width a (u ∷ w) ≢ [])
         → (m : ℕ) → 0 < m → m < length order → IsChained a (leaf m) (get_or sizes m 0) (at m)
     chained_right chains owns m pos lt =
-        let text = text_at a.child label order parents labels marks are.places m lt in
+        let text = text_at are.places m lt in
         by text.0 text.1
       where
         by : (w : List ℕ) → Leads a.child w (at m) → IsChained a (leaf m) (get_or sizes m 0) (at m)

@@ -16,58 +16,58 @@ use Rattle.daachorse_checker.proofs.JoinLaws.{places_trie}
 use Rattle.daachorse_checker.proofs.RightLinks.{AreStops, right_links, links_right, lost_link}
 use Rattle.daachorse_checker.proofs.ChainedLaws.{right_chains, right_leaves, chained_right}
 
-module _ {V : Type 0} (width : ℕ → ℕ) (a : Machine V) (group : ℕ → Option ℕ) (edge : ℕ → Option (ℕ × ℕ)) (n : ℕ) (tell : TellChildren a.child group edge n)
-    (order parents labels marks : List ℕ) (are : ArePlaces a.child (label edge) n order parents labels marks) where
+module _ {V : Type 0} (width : ℕ → ℕ) (a : Machine V) {group : ℕ → Option ℕ} {edge : ℕ → Option (ℕ × ℕ)} {n : ℕ} (tell : TellChildren a.child group edge n)
+    {order parents labels marks : List ℕ} (are : ArePlaces a.child (label edge) n order parents labels marks) where
   pub unit_of_place : (s c t : ℕ) → (m : ℕ) × (m < length order) × (get_or order m 0 ≡ s) → a.child s c ≡ Some t → c ≡ label edge t
-  unit_of_place s c t found e = one_unit a.child group edge n tell s c t (omega (arith, are.places.inside found.0 found.1, are.marks_each, found.2)) e
+  unit_of_place s c t found e = one_unit tell s c t (omega (arith, are.places.inside found.0 found.1, are.marks_each, found.2)) e
 
   -- ---- chains
-  module _ (tree : HasOnePath a.child) (sizes : List ℕ) (sized : AreSizes a.child width order sizes) (each : length sizes ≡ length order) (leaves : List Bool) (leafy : AreLeavesOf parents leaves (length parents)) (leftmost : Bool) where
+  module _ (tree : HasOnePath a.child) (sizes : List ℕ) (sized : AreSizes a.child width order sizes) (each : length sizes ≡ length order) {leaves : List Bool} (leafy : AreLeavesOf parents leaves (length parents)) (leftmost : Bool) where
     pub right_from : AreChained a order sizes leaves (length order) → HasRightLinks width a leftmost → IsRight width a leftmost
     right_from chained links = record {
       dead_no_child = tree.dead_no_child;
       one_path = tree.one_path;
-      leaf_has_own = λ u i w e none. right_leaves width a (label edge) n order parents labels marks are unit_of_place sizes sized each leaves leafy tree chained.others u i w e none;
+      leaf_has_own = λ u i w e none. right_leaves width a are unit_of_place sizes sized each leafy tree chained.others u i w e none;
       links = links;
-      chains = right_chains width a (label edge) n order parents labels marks are unit_of_place sizes sized each leaves leafy tree chained.others;
+      chains = right_chains width a are unit_of_place sizes sized each leafy tree chained.others;
       root_chain = chained.root;
     }
 
     pub chained_from : IsRight width a leftmost → AreChained a order sizes leaves (length order)
     chained_from right = record {
       root = right.root_chain;
-      others = chained_right width a (label edge) n order parents labels marks are unit_of_place sizes sized each leaves leafy tree right.chains right.leaf_has_own;
+      others = chained_right width a are unit_of_place sizes sized each leafy tree right.chains right.leaf_has_own;
     }
 
   -- ---- links
-  module _ (units : ℕ) (inside : (i c j : ℕ) → a.child i c ≡ Some j → c < units) where
+  module _ {units : ℕ} (inside : (i c j : ℕ) → a.child i c ≡ Some j → c < units) where
     pub trie_of_places : IsTrie parents labels units
-    trie_of_places = places_trie a.child (label edge) n units order parents labels marks are inside (one_unit a.child group edge n tell)
+    trie_of_places = places_trie are inside (one_unit tell)
 
     -- a link that leads to no place is not right
     pub no_place : (leftmost : Bool) → HasNoPlace leftmost a.fail order → HasRightLinks width a leftmost → ⊥
     no_place leftmost bad links =
-        let text = text_at a.child (label edge) order parents labels marks are.places bad.0 bad.2 in
-        lost_link width a (label edge) n units order parents labels marks are inside (one_unit a.child group edge n tell) [] leftmost bad.0 text.0 bad.1 bad.2 text.1 bad.3 links
+        let text = text_at are.places bad.0 bad.2 in
+        lost_link width a are inside (one_unit tell) [] leftmost bad.0 text.0 bad.1 bad.2 text.1 bad.3 links
 
     module _ (leftmost : Bool) (sizes : List ℕ) (sized : AreSizes a.child width order sizes) (each : length sizes ≡ length order) (stops : List Bool) (stops_at : AreStopsAt a leftmost order sizes stops) (stops_each : length stops ≡ length order)
         (fails : List ℕ) (fails_each : length fails ≡ length order) (linked : AreLinkPlaces a.fail order fails) where
-      are_stops : AreStops width a (label edge) n units order parents labels marks are inside (one_unit a.child group edge n tell) stops leftmost
+      are_stops : AreStops width a are inside (one_unit tell) stops leftmost
       are_stops m w lt e =
           stops_at m (omega (arith, lt, stops_each))
           ∙ ap (λ k. cond leftmost (has_values (own_from a.outputs (a.output (get_or order m 0)) k (a.output (get_or order m 0))).0) false) (sized m w (omega (arith, lt, each)) e)
 
       pub links_are_right : HasLinks parents labels stops fails → HasRightLinks width a leftmost
       links_are_right links =
-          right_links width a (label edge) n units order parents labels marks are inside (one_unit a.child group edge n tell) stops fails fails_each (λ m pos lt. linked m pos (omega (arith, lt, fails_each))) leftmost are_stops links
+          right_links width a are inside (one_unit tell) stops fails fails_each (λ m pos lt. linked m pos (omega (arith, lt, fails_each))) leftmost are_stops links
 
       pub right_links_are : HasOnePath a.child → HasRightLinks width a leftmost → HasLinks parents labels stops fails
       right_links_are tree links =
-          links_right width a (label edge) n units order parents labels marks are inside (one_unit a.child group edge n tell) stops fails fails_each (λ m pos lt. linked m pos (omega (arith, lt, fails_each))) leftmost are_stops tree links
+          links_right width a are inside (one_unit tell) stops fails fails_each (λ m pos lt. linked m pos (omega (arith, lt, fails_each))) leftmost are_stops tree links
 
   -- ---- the count
   pub counted_places : HasOnePath a.child → IsCounted a (length order)
-  counted_places tree = places_counted a.child (label edge) n order parents labels marks are tree unit_of_place
+  counted_places tree = places_counted are tree unit_of_place
 
   pub same_count : HasOnePath a.child → (m : ℕ) → IsCounted a m → length order ≡ m
   same_count tree m counted = one_count (is_reached a.child) (length order) m (counted_places tree) counted

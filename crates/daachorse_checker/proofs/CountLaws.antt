@@ -1,5 +1,5 @@
 -- As many texts lead to an element as there are places: one to each.
-use Rattle.std.proofs.Common.{◌≡◌, ℕ, ◌<◌, Bool, true, false, List, length, Option, Some, refl, sym, ◌∙◌, arith, get_or}
+use Rattle.std.proofs.Common.{◌≡◌, ℕ, ◌<◌, Bool, true, List, length, Option, Some, sym, ◌∙◌, arith, get_or}
 use Rattle.std.specs.Set.{is_member}
 use Rattle.std.specs.Cmp.{nat_eq_equiv}
 use Rattle.std.specs.Cmp.Lexicographic.{lists_equiv}
@@ -13,21 +13,19 @@ use Rattle.daachorse_checker.specs.Places.{HasOnePath, ArePlaces}
 use Rattle.daachorse_checker.proofs.PlaceLaws.{same_place}
 use Rattle.daachorse_checker.proofs.TreeLaws.{text_at, found}
 
-module _ (child : ℕ → ℕ → Option ℕ) (label : ℕ → ℕ) (n : ℕ) (order parents labels marks : List ℕ) (are : ArePlaces child label n order parents labels marks) (tree : HasOnePath child)
+module _ {child : ℕ → ℕ → Option ℕ} {label : ℕ → ℕ} {n : ℕ} {order parents labels marks : List ℕ} (are : ArePlaces child label n order parents labels marks) (tree : HasOnePath child)
     (unit : (s c t : ℕ) → (m : ℕ) × (m < length order) × (get_or order m 0 ≡ s) → child s c ≡ Some t → c ≡ label t) where
   -- one text leads to each place
   pub places_counted : PassesAt (is_reached child) (length order)
   places_counted =
       reached-counted child tree.one_path (length order) (λ m. get_or order m 0)
-      (λ k m less lt e. let same : m ≡ k = same_place child label order parents labels marks are.places m k lt (omega (arith, less, lt)) e in omega (arith, same, less))
-      (text_at child label order parents labels marks are.places)
-      (found child label order parents labels marks are.places unit are.closed)
+      (λ k m less lt e. let same : m ≡ k = same_place are.places m k lt (omega (arith, less, lt)) e in omega (arith, same, less))
+      (text_at are.places)
+      (found are.places unit are.closed)
 
 -- ---- one count
 same_bool : (p q : Bool) → (p ≡ true → q ≡ true) → (q ≡ true → p ≡ true) → p ≡ q
-same_bool true q h k = sym (h refl)
-same_bool false true h k = k refl
-same_bool false false h k = refl
+same_bool p q h k = grind arith
 
 -- a test passes at one number of texts
 pub one_count : (P : List ℕ → Bool) (m n : ℕ) → PassesAt P m → PassesAt P n → m ≡ n

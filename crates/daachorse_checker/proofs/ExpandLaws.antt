@@ -3,11 +3,13 @@ use Rattle.std.proofs.Common.{◌≡◌, ℕ, ◌+◌, ◌<◌, ◌≤◌, List,
 use Rattle.std.proofs.lemmas.List.{length-set, length_push, get_or_push}
 use Rattle.std.proofs.lemmas.Option.{none-some}
 use Rattle.std.proofs.lemmas.Bool.{cases_lt, cases_eq}
+use borrow.Author.Count.{below_more}
 use Rattle.daachorse_listing.specs.Edges.{TellChildren, is_in, members}
-use Rattle.daachorse_checker.specs.Places.{HasOnePath, HasPlaces, HasEntry, IsClosed, IsWalk}
+use Rattle.daachorse_checker.specs.Places.{ArePlaces, HasOnePath, HasPlaces, HasEntry, IsClosed, IsWalk}
 use Rattle.daachorse_checker.proofs.MemberLaws.{IsLast, below-none, below-cons, label, one_unit, member_child, child_member}
 use Rattle.daachorse_checker.proofs.PlaceLaws.{old_at, few, places_push, entry_push, entry_new, closed_push, parents_push}
-use Rattle.daachorse_checker.proofs.TreeLaws.{one_path_from, no_root, no_second}
+use Rattle.daachorse_checker.proofs.TreeLaws.{no_root, no_second}
+use Rattle.daachorse_checker.proofs.JoinLaws.{one_path_from}
 
 module _ (child : ℕ → ℕ → Option ℕ) (edge : ℕ → Option (ℕ × ℕ)) (n : ℕ) where
   -- At place k, with all before it done: its children from element r on have places, and none of its children before r has one under it.
@@ -36,12 +38,8 @@ module _ {child : ℕ → ℕ → Option ℕ} {group : ℕ → Option ℕ} {edge
     pub expand_none : (k : ℕ) → IsWalk child (label edge) n order parents labels marks k → k < length order → group (get_or order k 0) ≡ None → IsWalk child (label edge) n order parents labels marks (k + 1)
     expand_none k walk here none = record {
       places = walk.places;
-      closed = λ l less c t e. elim (cases_lt l k) [
-        | inl a ↦ walk.closed l a c t e
-        | inr b ↦
-            let same : l ≡ k = omega (arith, less, b) in
-            absurd (none-some t (sym (tell.alone (get_or order k 0) c (at_place walk.places walk.marks_each k here) none) ∙ (ap (λ i. child (get_or order i 0) c) (sym same) ∙ e)))
-      ];
+      closed = below_more (λ l. (c t : ℕ) → child (get_or order l 0) c ≡ Some t → HasEntry order parents l t) k walk.closed
+          (λ c t e. absurd (none-some t (sym (tell.alone (get_or order k 0) c (at_place walk.places walk.marks_each k here) none) ∙ e)));
       recent = λ m pos lt. omega (arith, walk.recent m pos lt);
       marks_each = walk.marks_each;
       within = omega (arith, here);
@@ -60,7 +58,7 @@ module _ {child : ℕ → ℕ → Option ℕ} {group : ℕ → Option ℕ} {edge
 
         -- the walk is at a child
         edge_at : child (get_or order k 0) (label edge x) ≡ Some x
-        edge_at = member_child child group edge n tell (get_or order k 0) g parent_in is x next_in last.passes
+        edge_at = member_child tell (get_or order k 0) g parent_in is x next_in last.passes
 
         pub expand_next : 1 < x → get_or marks x 0 ≡ 0 → (u : ℕ) → u ≡ label edge x → IsLeft child edge n rest (order ++ x ∷ []) (parents ++ k ∷ []) (labels ++ u ∷ []) (set marks x (length order)) g k
         expand_next low none u same =
@@ -72,34 +70,30 @@ module _ {child : ℕ → ℕ → Option ℕ} {group : ℕ → Option ℕ} {edge
               most = omega (arith, next_in);
               is = last.before;
               walk = record {
-                places = places_push child (label edge) order parents labels marks walk.places k x u walk.here edge_at same low none high walk.recent;
-                closed = closed_push child (label edge) order parents labels marks walk.places k x u walk.here edge_at same low none high walk.recent k (omega (arith, walk.here)) walk.closed;
+                places = places_push walk.places walk.here edge_at same low none high walk.recent;
+                closed = closed_push walk.places walk.here edge_at same low none high walk.recent k (omega (arith, walk.here)) walk.closed;
                 marks_each = length-set marks x (length order) ∙ walk.marks_each;
                 here = omega (arith, walk.here, length_push order x);
-                recent = parents_push child (label edge) order parents labels marks walk.places k x u walk.here edge_at same low none high walk.recent;
+                recent = parents_push walk.places walk.here edge_at same low none high walk.recent;
                 latest = λ m pos less e. elim (cases_lt m (length order)) [
                   | inl a ↦ omega (arith, old_at order x m a, walk.latest m pos a (sym (old_at parents k m (omega (arith, a, walk.places.one_each))) ∙ e), last.less)
-                  | inr b ↦ newest m b less
+                  | inr b ↦ omega (arith, get_or_push order x 0 m (omega (arith, b, less, length_push order x)))
                 ];
                 seen = λ c t e less. elim (cases_eq t x) [
-                  | inl one ↦ subst (λ i. HasEntry (order ++ x ∷ []) (parents ++ k ∷ []) k i) (sym one) (entry_new child (label edge) order parents labels marks walk.places k x u walk.here edge_at same low none high walk.recent)
+                  | inl one ↦
+                      subst (λ i. HasEntry (order ++ x ∷ []) (parents ++ k ∷ []) k i) (sym one) (entry_new walk.places walk.here edge_at same low none high walk.recent)
                   | inr other ↦
                       let e' : child (get_or order k 0) c ≡ Some t = ap (λ s. child s c) (sym here') ∙ e in
                       elim (cases_lt t left.bound) [
-                        | inl a ↦ absurd (last.none t (omega (arith, less, other)) a (child_member child group edge n tell (get_or order k 0) g parent_in is c t e'))
-                        | inr b ↦ entry_push child (label edge) order parents labels marks walk.places k x u walk.here edge_at same low none high walk.recent k t (walk.seen c t e' b)
+                        | inl a ↦ absurd (last.none t (omega (arith, less, other)) a (child_member tell (get_or order k 0) g parent_in is c t e'))
+                        | inr b ↦ entry_push walk.places walk.here edge_at same low none high walk.recent k t (walk.seen c t e' b)
                       ]
                 ];
               };
             }
-          where
-            newest : (m : ℕ) → length order ≤ m → m < length (order ++ x ∷ []) → x ≤ get_or (order ++ x ∷ []) m 0
-            newest m b less =
-                let top : length order ≡ m = omega (arith, b, less, length_push order x) in
-                omega (arith, get_or_push order x 0 m top)
 
         pub refuse_low : x ≤ 1 → HasOnePath child → ⊥
-        refuse_low low = no_root child (label edge) order parents labels marks left.walk.places k (label edge x) x left.walk.here edge_at low
+        refuse_low low = no_root left.walk.places k (label edge x) x left.walk.here edge_at low
 
         pub refuse_marked : 0 < get_or marks x 0 → HasOnePath child → ⊥
         refuse_marked pos tree =
@@ -109,20 +103,14 @@ module _ {child : ℕ → ℕ → Option ℕ} {group : ℕ → Option ℕ} {edge
             let p = get_or parents m 0 in
             let up = places.earlier m pos at.0 in
             let e : child (get_or order p 0) (label edge (get_or order m 0)) ≡ Some x = places.edge m pos at.0 ∙ ap Some at.1 in
-            no_second child (label edge) order parents labels marks places k p (label edge x) (label edge (get_or order m 0)) x left.walk.here (omega (arith, up, at.0))
+            no_second places k p (label edge x) (label edge (get_or order m 0)) x left.walk.here (omega (arith, up, at.0))
             (λ same. omega (arith, left.walk.latest m pos at.0 (sym same), at.1, last.less))
             edge_at e tree
 
       pub expand_done : {xs : List ℕ} → xs ≡ [] → IsLeft child edge n xs order parents labels marks g k → IsWalk child (label edge) n order parents labels marks (k + 1)
       expand_done none left = record {
         places = walk.places;
-        closed = λ l less c t e. elim (cases_lt l k) [
-          | inl a ↦ walk.closed l a c t e
-          | inr b ↦
-              let same : l ≡ k = omega (arith, less, b) in
-              let e' : child (get_or order k 0) c ≡ Some t = ap (λ i. child (get_or order i 0) c) (sym same) ∙ e in
-              subst (λ i. HasEntry order parents i t) (sym same) (at c t e' (cases_lt t left.bound))
-        ];
+        closed = below_more (λ l. (c t : ℕ) → child (get_or order l 0) c ≡ Some t → HasEntry order parents l t) k walk.closed (λ c t e. at c t e (cases_lt t left.bound));
         recent = λ m pos lt. omega (arith, walk.recent m pos lt);
         marks_each = walk.marks_each;
         within = omega (arith, walk.here);
@@ -132,14 +120,15 @@ module _ {child : ℕ → ℕ → Option ℕ} {group : ℕ → Option ℕ} {edge
           walk = left.walk
 
           at : (c t : ℕ) → child (get_or order k 0) c ≡ Some t → (t < left.bound) ⊎ (left.bound ≤ t) → HasEntry order parents k t
-          at c t e (inl a) = absurd (below-none (λ j. is_in g (edge j)) left.bound t (sym left.is ∙ none) a (child_member child group edge n tell (get_or order k 0) g (at_place walk.places walk.marks_each k walk.here) is c t e))
+          at c t e (inl a) =
+              let passes = child_member tell (get_or order k 0) g (at_place walk.places walk.marks_each k walk.here) is c t e in
+              absurd (below-none (λ j. is_in g (edge j)) left.bound t (sym left.is ∙ none) a passes)
           at c t e (inr b) = walk.seen c t e b
 
     pub few_places : HasPlaces child (label edge) order parents labels marks → length marks ≡ n → length order ≤ n
-    few_places places each = omega (arith, few child (label edge) order parents labels marks places, each)
+    few_places places each = omega (arith, few places, each)
 
-    pub all_placed : IsWalk child (label edge) n order parents labels marks (length order) → HasOnePath child
-    all_placed walk =
-        one_path_from child (label edge) order parents labels marks walk.places
-        (λ s c t found e. one_unit child group edge n tell s c t (omega (arith, at_place walk.places walk.marks_each found.0 found.1, found.2)) e)
-        walk.closed
+    pub all_placed : {units : ℕ} → ((i c j : ℕ) → child i c ≡ Some j → c < units) → IsWalk child (label edge) n order parents labels marks (length order) → ArePlaces child (label edge) n order parents labels marks × HasOnePath child
+    all_placed inside walk =
+        let are : ArePlaces child (label edge) n order parents labels marks = record { places = walk.places; closed = walk.closed; marks_each = walk.marks_each } in
+        (are, one_path_from are inside (one_unit tell))

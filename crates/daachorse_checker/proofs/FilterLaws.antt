@@ -35,7 +35,7 @@ pub record IsPushing (child : ℕ → ℕ → Option ℕ) (bytes : ℕ → List 
   pub each : All (IsChildOf child bytes f e) kids
   pub seen : (c t : ℕ) → child e.0 c ≡ Some t → bound ≤ t → IsIn kids t
 
-module _ (child : ℕ → ℕ → Option ℕ) (bytes : ℕ → List ℕ) (f : Filter) (group : ℕ → Option ℕ) (edge : ℕ → Option (ℕ × ℕ)) (n : ℕ) (tell : TellChildren child group edge n) (e : Entry) (lt : e.0 < n) where
+module _ {child : ℕ → ℕ → Option ℕ} {bytes : ℕ → List ℕ} {f : Filter} {group : ℕ → Option ℕ} {edge : ℕ → Option (ℕ × ℕ)} {n : ℕ} (tell : TellChildren child group edge n) {e : Entry} (lt : e.0 < n) where
   -- an element without a group has no children
   pub pushed_none : (old : List Entry) → group e.0 ≡ None → IsPushed child bytes f e old old
   pushed_none old none = record {
@@ -45,7 +45,7 @@ module _ (child : ℕ → ℕ → Option ℕ) (bytes : ℕ → List ℕ) (f : Fi
     all = λ c j to. absurd (none-some j (sym (tell.alone e.0 c lt none) ∙ to));
   }
 
-  module _ (g : ℕ) (own : group e.0 ≡ Some g) where
+  module _ {g : ℕ} (own : group e.0 ≡ Some g) where
     -- all members are left
     pub pushing_start : (left : List ℕ) (old : List Entry) → left ≡ members edge g n → ((c t : ℕ) → child e.0 c ≡ Some t → t < n) → IsPushing child bytes f edge n g e left old old
     pushing_start left old is inside = record {
@@ -58,7 +58,7 @@ module _ (child : ℕ → ℕ → Option ℕ) (bytes : ℕ → List ℕ) (f : Fi
       seen = λ c t to le. absurd (omega (arith, inside c t to, le));
     }
 
-    module _ (x : ℕ) (rest : List ℕ) (old new : List Entry) (pushing : IsPushing child bytes f edge n g e (x ∷ rest) old new) where
+    module _ {x : ℕ} {rest : List ℕ} {old new : List Entry} (pushing : IsPushing child bytes f edge n g e (x ∷ rest) old new) where
       last : IsLast (λ j. is_in g (edge j)) pushing.bound x rest
       last = below-cons (λ j. is_in g (edge j)) pushing.bound x rest (sym pushing.left_is)
 
@@ -74,37 +74,43 @@ module _ (child : ℕ → ℕ → Option ℕ) (bytes : ℕ → List ℕ) (f : Fi
         left_is = last.before;
         kids = pushing.kids ++ (x, s) ∷ [];
         is = ap (λ xs. xs ++ (x, s) ∷ []) pushing.is ∙ append_assoc old pushing.kids ((x, s) ∷ []);
-        each = All-push (IsChildOf child bytes f e) pushing.kids (x, s) pushing.each (label edge x, member_child child group edge n tell e.0 g lt own x pushing_in last.passes, read);
+        each = All-push (IsChildOf child bytes f e) pushing.kids (x, s) pushing.each (label edge x, member_child tell e.0 g lt own x pushing_in last.passes, read);
         seen = λ c t to le. elim (cases_eq t x) [
           | inl same ↦ (s, subst (λ (j : ℕ). Contains (pushing.kids ++ (x, s) ∷ []) (j, s)) (sym same) (Contains-append_right pushing.kids ((x, s) ∷ []) (x, s) (0, omega arith, refl)))
           | inr other ↦ elim (cases_lt t pushing.bound) [
-            | inl less ↦ absurd (last.none t (omega (arith, le, other)) less (child_member child group edge n tell e.0 g lt own c t to))
+            | inl less ↦ absurd (last.none t (omega (arith, le, other)) less (child_member tell e.0 g lt own c t to))
             | inr more ↦ in_left pushing.kids ((x, s) ∷ []) t (pushing.seen c t to more)
           ]
         ];
       }
 
     -- none is left
-    pub pushing_done : (left : List ℕ) (old new : List Entry) → left ≡ [] → IsPushing child bytes f edge n g e left old new → IsPushed child bytes f e old new
-    pushing_done left old new none pushing = record {
+    pub pushing_done : {left : List ℕ} {old new : List Entry} → left ≡ [] → IsPushing child bytes f edge n g e left old new → IsPushed child bytes f e old new
+    pushing_done none pushing = record {
       kids = pushing.kids;
       is = pushing.is;
       each = pushing.each;
       all = λ c j to. elim (cases_lt j pushing.bound) [
-        | inl less ↦ absurd (below-none (λ k. is_in g (edge k)) pushing.bound j (sym pushing.left_is ∙ none) less (child_member child group edge n tell e.0 g lt own c j to))
+        | inl less ↦ absurd (below-none (λ k. is_in g (edge k)) pushing.bound j (sym pushing.left_is ∙ none) less (child_member tell e.0 g lt own c j to))
         | inr more ↦ pushing.seen c j to more
       ];
     }
 
-module _ (child : ℕ → ℕ → Option ℕ) (bytes : ℕ → List ℕ) (f : Filter) (is_key : ℕ → Bool) where
-  abbrev IsDone : List Entry → Entry → Type 0
-  IsDone next e = IsAdmitted f e ⊎ ((is_key e.0 ≡ false) × ((c j : ℕ) → child e.0 c ≡ Some j → IsIn next j))
+abbrev IsDone : (ℕ → ℕ → Option ℕ) → Filter → (ℕ → Bool) → List Entry → Entry → Type 0
+IsDone child f is_key next e = IsAdmitted f e ⊎ ((is_key e.0 ≡ false) × ((c j : ℕ) → child e.0 c ≡ Some j → IsIn next j))
 
-  more_done : (next kids : List Entry) (e : Entry) → IsDone next e → IsDone (next ++ kids) e
-  more_done next kids e (inl h) = inl h
-  more_done next kids e (inr h) = inr (h.0, λ c j to. in_left next kids j (h.1 c j to))
+-- the filter passes at the text of an entry
+passes_at : {child : ℕ → ℕ → Option ℕ} {bytes : ℕ → List ℕ} {f : Filter} → HasOnePath child → (d : ℕ) (w : List ℕ) (e : Entry) → IsBeginning child bytes f d e → Leads child w e.0 → IsAdmitted f e → admits f (flat_map bytes w) ≡ true
+passes_at {child} {bytes} {f} tree d w e begun leads passes =
+    let same : begun.text ≡ w = tree.one_path e.0 begun.text w begun.leads leads in
+    ap (λ v. admits f (flat_map bytes v)) (sym same) ∙ passes (flat_map bytes begun.text) begun.read
 
-  module _ (level next : List Entry) (n : ℕ) (e : Entry) (so_far : IsNextOf child bytes f is_key level n next) (here : (default : Entry) → e ≡ get_or level n default) where
+-- and at that of each longer one
+passes_on : (bytes : ℕ → List ℕ) (f : Filter) (v r : List ℕ) → admits f (flat_map bytes v) ≡ true → admits f (flat_map bytes (v ++ r)) ≡ true
+passes_on bytes f v r h = ap (admits f) (flat_map-append bytes v r) ∙ admits-append f (flat_map bytes v) (flat_map bytes r) h
+
+module _ {child : ℕ → ℕ → Option ℕ} {bytes : ℕ → List ℕ} {f : Filter} {is_key : ℕ → Bool} where
+  module _ {level next : List Entry} {n : ℕ} {e : Entry} (so_far : IsNextOf child bytes f is_key level n next) (here : (default : Entry) → e ≡ get_or level n default) where
     -- an entry at whose text the filter passes
     pub next_admitted : IsAdmitted f e → IsNextOf child bytes f is_key level (n + 1) next
     next_admitted passes = record {
@@ -122,9 +128,12 @@ module _ (child : ℕ → ℕ → Option ℕ) (bytes : ℕ → List ℕ) (f : Fi
         let in' : Contains level e = (n, lt, sym (here e)) in
         record {
           each = subst (λ (xs : List Entry). All P xs) (sym pushed.is) (All-append P next pushed.kids so_far.each (λ k default less. (e, in', pushed.each k default less)));
-          all = λ k default less. subst (λ (xs : List Entry). IsDone xs (get_or level k default)) (sym pushed.is) (elim (cases_eq k n) [
-            | inl same ↦ subst (λ (x : Entry). IsDone (next ++ pushed.kids) x) (here default ∙ ap (λ m. get_or level m default) (sym same)) (inr (no', λ c j to. behind (pushed.all c j to)))
-            | inr other ↦ more_done next pushed.kids (get_or level k default) (so_far.all k default (omega (arith, less, other)))
+          all = λ k default less. subst (λ (xs : List Entry). IsDone child f is_key xs (get_or level k default)) (sym pushed.is) (elim (cases_eq k n) [
+            | inl same ↦ subst (λ (x : Entry). IsDone child f is_key (next ++ pushed.kids) x) (here default ∙ ap (λ m. get_or level m default) (sym same)) (inr (no', λ c j to. behind (pushed.all c j to)))
+            | inr other ↦ elim (so_far.all k default (omega (arith, less, other))) [
+              | inl h ↦ inl h
+              | inr h ↦ inr (h.0, λ c j to. in_left next pushed.kids j (h.1 c j to))
+            ]
           ]);
         }
       where
@@ -132,16 +141,6 @@ module _ (child : ℕ → ℕ → Option ℕ) (bytes : ℕ → List ℕ) (f : Fi
         behind h = (h.0, Contains-append_right next pushed.kids _ h.1)
 
   module _ (tree : HasOnePath child) where
-    -- the filter passes at the text of an entry
-    passes_at : (d : ℕ) (w : List ℕ) (e : Entry) → IsBeginning child bytes f d e → Leads child w e.0 → IsAdmitted f e → admits f (flat_map bytes w) ≡ true
-    passes_at d w e begun leads passes =
-        let same : begun.text ≡ w = tree.one_path e.0 begun.text w begun.leads leads in
-        ap (λ v. admits f (flat_map bytes v)) (sym same) ∙ passes (flat_map bytes begun.text) begun.read
-
-    -- and at that of each longer one
-    passes_on : (v r : List ℕ) → admits f (flat_map bytes v) ≡ true → admits f (flat_map bytes (v ++ r)) ≡ true
-    passes_on v r h = ap (admits f) (flat_map-append bytes v r) ∙ admits-append f (flat_map bytes v) (flat_map bytes r) h
-
     -- the root alone
     pub level_start : (level : List Entry) (s : Window) → level ≡ (0, s) ∷ [] → HasRead f [] s → IsLevel child bytes f is_key 0 level
     level_start level s e read = record {
@@ -155,15 +154,15 @@ module _ (child : ℕ → ℕ → Option ℕ) (bytes : ℕ → List ℕ) (f : Fi
         root [] i none leads = same_Some 0 i leads
         root (c ∷ w) i none leads = absurd (omega (arith, none))
 
-    module _ (d : ℕ) (level : List Entry) (is : IsLevel child bytes f is_key d level) where
+    module _ {d : ℕ} {level : List Entry} (is : IsLevel child bytes f is_key d level) where
       -- what a text of d units leads to is done
       done_at : (next : List Entry) → IsNextOf child bytes f is_key level (length level) next → (w : List ℕ) (i : ℕ) → length w ≡ d → Leads child w i → (admits f (flat_map bytes w) ≡ true) ⊎ ((is_key i ≡ false) × ((c j : ℕ) → child i c ≡ Some j → IsIn next j))
       done_at next of w i long leads = elim (is.all w i long leads) [
         | inl h ↦ inl h
         | inr h ↦
             let e : Entry = (i, h.0) in
-            elim (All-contains (IsDone next) level e of.all h.1) [
-              | inl passes ↦ inl (passes_at d w e (All-contains (IsBeginning child bytes f d) level e is.begun h.1) leads passes)
+            elim (All-contains (IsDone child f is_key next) level e of.all h.1) [
+              | inl passes ↦ inl (passes_at tree d w e (All-contains (IsBeginning child bytes f d) level e is.begun h.1) leads passes)
               | inr done ↦ inr done
             ]
       ]
@@ -185,7 +184,7 @@ module _ (child : ℕ → ℕ → Option ℕ) (bytes : ℕ → List ℕ) (f : Fi
           let a = last_of x xs in
           let p = push-parts child 0 a.0 a.1 i (sym (ap (λ v. walk child 0 v) a.2) ∙ leads) in
           elim (done_at next of a.0 p.0 (omega (arith, long, ap length a.2, length_push a.0 a.1)) p.1) [
-            | inl h ↦ inl (ap (λ v. admits f (flat_map bytes v)) a.2 ∙ passes_on a.0 (a.1 ∷ []) h)
+            | inl h ↦ inl (ap (λ v. admits f (flat_map bytes v)) a.2 ∙ passes_on bytes f a.0 (a.1 ∷ []) h)
             | inr h ↦ inr (h.1 a.1 i p.2)
           ]
 
@@ -211,7 +210,7 @@ module _ (child : ℕ → ℕ → Option ℕ) (bytes : ℕ → List ℕ) (f : Fi
             let whole : take d w ++ drop d w ≡ w = take-append-drop d w in
             let at = walk-split child 0 i (take d w) (drop d w) (ap (λ v. walk child 0 v) whole ∙ leads) in
             elim (is.all (take d w) at.0 (length-take-le d w most) at.1) [
-              | inl h ↦ ap (λ v. admits f (flat_map bytes v)) (sym whole) ∙ passes_on (take d w) (drop d w) h
+              | inl h ↦ ap (λ v. admits f (flat_map bytes v)) (sym whole) ∙ passes_on bytes f (take d w) (drop d w) h
               | inr h ↦ absurd (omega (arith, none, h.1.1))
             ]
       ]

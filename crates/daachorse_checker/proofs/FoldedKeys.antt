@@ -25,11 +25,10 @@ path-folded child units v (c ∷ w) i j leads e =
 
 module _ {V : Type 0} (width : ℕ → ℕ) (a : Machine V) (leftmost : Bool) (n m : ℕ) (machine : IsMachine width a leftmost n m) where
   pub keys-from-units : HasFoldedUnits a.child → HasFoldedKeys (content width a)
-  keys-from-units units k key = at (walk a.child 0 k) refl
-    where
-      at : (o : Option ℕ) → walk a.child 0 k ≡ o → folded k ≡ k
-      at None e = absurd (key (ap (values_at width a k) e))
-      at (Some i) e = path-folded a.child units [] k 0 i refl e
+  keys-from-units units k key = (elim (walk a.child 0 k) as (λ o. walk a.child 0 k ≡ o → folded k ≡ k) [
+    | None ↦ λ e. absurd (key (ap (values_at width a k) e))
+    | Some i ↦ λ e. path-folded a.child units [] k 0 i refl e
+  ]) refl
 
   pub units-from-keys : HasFoldedKeys (content width a) → HasFoldedUnits a.child
   units-from-keys keys w i c j leads to = begun (fore width a leftmost n m machine (w ++ c ∷ []) (reached_element a.child (w ++ c ∷ []) j (walk-push a.child 0 w c i leads ∙ to)))

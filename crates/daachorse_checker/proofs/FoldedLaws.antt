@@ -7,12 +7,12 @@ use Rattle.daachorse_checker.specs.Places.{ArePlaces}
 use Rattle.daachorse_checker.proofs.MemberLaws.{label, one_unit}
 use Rattle.daachorse_checker.proofs.TreeLaws.{found, text_at}
 
-module _ (child : ℕ → ℕ → Option ℕ) (edge : ℕ → Option (ℕ × ℕ)) (n : ℕ) (order parents labels marks : List ℕ) (are : ArePlaces child (label edge) n order parents labels marks) where
+module _ {child : ℕ → ℕ → Option ℕ} (edge : ℕ → Option (ℕ × ℕ)) {n : ℕ} {order parents labels marks : List ℕ} (are : ArePlaces child (label edge) n order parents labels marks) where
   pub folded_places : (group : ℕ → Option ℕ) → TellChildren child group edge n → ((m : ℕ) → 0 < m → m < length labels → folded_unit (get_or labels m 0) ≡ get_or labels m 0) → HasFoldedUnits child
   folded_places group tell all w i c j leads to =
       let unit : (s c t : ℕ) → (m : ℕ) × (m < length order) × (get_or order m 0 ≡ s) → child s c ≡ Some t → c ≡ label edge t =
-      λ s c t here to. one_unit child group edge n tell s c t (omega (arith, are.places.inside here.0 here.1, are.marks_each, here.2)) to in
-      let parent = found child (label edge) order parents labels marks are.places unit are.closed w i leads in
+      λ s c t here to. one_unit tell s c t (omega (arith, are.places.inside here.0 here.1, are.marks_each, here.2)) to in
+      let parent = found are.places unit are.closed w i leads in
       let place = are.closed parent.0 parent.1 c j (ap (λ s. child s c) parent.2 ∙ to) in
       let same : get_or labels place.0 0 ≡ c = are.places.labelled place.0 place.1 place.2 ∙ ap (label edge) place.3 ∙ sym (unit i c j parent to) in
       ap folded_unit (sym same) ∙ all place.0 place.1 (omega (arith, place.2, are.places.label_each)) ∙ same
@@ -21,6 +21,6 @@ module _ (child : ℕ → ℕ → Option ℕ) (edge : ℕ → Option (ℕ × ℕ
   unfolded_place at all =
       let lt : at.0 < length order = omega (arith, at.2, are.places.label_each) in
       let up : get_or parents at.0 0 < length order = omega (arith, lt, are.places.earlier at.0 at.1 lt) in
-      let text = text_at child (label edge) order parents labels marks are.places (get_or parents at.0 0) up in
+      let text = text_at are.places (get_or parents at.0 0) up in
       let is = are.places.labelled at.0 at.1 lt in
       at.3 (ap folded_unit is ∙ all text.0 (get_or order (get_or parents at.0 0) 0) (label edge (get_or order at.0 0)) (get_or order at.0 0) text.1 (are.places.edge at.0 at.1 lt) ∙ sym is)

@@ -1,19 +1,21 @@
 -- What leads to an element of the array leads to its place, and the other way round.
-use Rattle.std.proofs.Common.{◌≡◌, ℕ, ◌<◌, List, [], ◌∷◌, length, Option, Some, None, refl, sym, ap, ◌∙◌, arith, get_or}
+use Rattle.std.proofs.Common.{◌≡◌, ℕ, zero, suc, ◌<◌, List, [], ◌∷◌, length, Option, Some, None, refl, sym, ap, ◌∙◌, arith, get_or}
 use Rattle.std.specs.Prelude.{is_some, option_map, option_and_then}
 use Rattle.std.proofs.lemmas.Option.{none-some, same_Some}
 use Rattle.daachorse_model.specs.Paths.{walk, is_reached, Leads}
 use Rattle.daachorse_model.proofs.Lists.{some_of_map}
+use Rattle.daachorse_listing.proofs.SortLaws.{no_some}
 use Rattle.daachorse_links.specs.Places.{IsTrie, child as kid}
 use Rattle.daachorse_links.proofs.ChildLaws.{edge, back}
-use Rattle.daachorse_checker.specs.Places.{HasPlaces, ArePlaces}
+use Rattle.daachorse_links.proofs.TextLaws.{one_text, walk_later}
+use Rattle.daachorse_checker.specs.Places.{HasOnePath, HasPlaces, ArePlaces}
 use Rattle.daachorse_checker.proofs.PlaceLaws.{same_place}
 
 map_inv : {A B : Type 0} (f : A → B) (o : Option A) (y : B) → option_map f o ≡ Some y → (x : A) × (o ≡ Some x) × (f x ≡ y)
 map_inv f (Some x) y e = (x, refl, same_Some (f x) y e)
 map_inv f None y e = absurd (cc)
 
-module _ (child : ℕ → ℕ → Option ℕ) (label : ℕ → ℕ) (n units : ℕ) (order parents labels marks : List ℕ) (are : ArePlaces child label n order parents labels marks)
+module _ {child : ℕ → ℕ → Option ℕ} {label : ℕ → ℕ} {n units : ℕ} {order parents labels marks : List ℕ} (are : ArePlaces child label n order parents labels marks)
     (inside : (i c j : ℕ) → child i c ≡ Some j → c < units) (one_unit : (i c j : ℕ) → i < n → child i c ≡ Some j → c ≡ label j) where
   abbrev places : HasPlaces child label order parents labels marks
   places = are.places
@@ -40,7 +42,7 @@ module _ (child : ℕ → ℕ → Option ℕ) (label : ℕ → ℕ) (n units : �
         let a = edge_to l pos (omega (arith, less, lt')) in
         let b = edge_to m (omega (arith, less)) lt' in
         let one : at l ≡ at m = same_Some (at l) (at m) (sym a ∙ (ap (λ p. child (at p) (get_or labels l 0)) same_parent ∙ ap (child (at (get_or parents m 0))) same_label) ∙ b) in
-        let bad : l ≡ m = same_place child label order parents labels marks places l m (omega (arith, less, lt')) lt' one in
+        let bad : l ≡ m = same_place places l m (omega (arith, less, lt')) lt' one in
         omega (arith, less, bad);
   }
 
@@ -48,18 +50,14 @@ module _ (child : ℕ → ℕ → Option ℕ) (label : ℕ → ℕ) (n units : �
   kid_child : (k c : ℕ) → k < length order → child (at k) c ≡ option_map at (kid parents labels k c)
   kid_child k c here = go (kid parents labels k c) refl
     where
-      none_at : kid parents labels k c ≡ None → (o : Option ℕ) → child (at k) c ≡ o → o ≡ None
-      none_at e None is = refl
-      none_at e (Some t) is =
+      go : (o : Option ℕ) → kid parents labels k c ≡ o → child (at k) c ≡ option_map at o
+      go None e = no_some (child (at k) c) (λ t is. (
           let entry = are.closed k here c t is in
           let unit : c ≡ get_or labels entry.0 0 =
           one_unit (at k) c t (omega (arith, places.inside k here, are.marks_each)) is ∙ ap label (sym entry.3) ∙ sym (places.labelled entry.0 entry.1 entry.2) in
           let to : kid parents labels k c ≡ Some entry.0 =
           ap (λ p. kid parents labels p c) (sym entry.4) ∙ (ap (kid parents labels (get_or parents entry.0 0)) unit ∙ edge parents labels units places_trie entry.0 entry.1 (omega (arith, entry.2, places.one_each))) in
-          absurd (none-some entry.0 (sym e ∙ to))
-
-      go : (o : Option ℕ) → kid parents labels k c ≡ o → child (at k) c ≡ option_map at o
-      go None e = none_at e (child (at k) c) refl
+          none-some entry.0 (sym e ∙ to)))
       go (Some m) e =
           let b = back parents labels units places_trie k c m e in
           ap (λ p. child (at p) c) (sym b.2) ∙ (ap (child (at (get_or parents m 0))) (sym b.3) ∙ edge_to m b.0 (omega (arith, b.1, places.one_each)))
@@ -67,12 +65,11 @@ module _ (child : ℕ → ℕ → Option ℕ) (label : ℕ → ℕ) (n units : �
   walk_from : (k : ℕ) (w : List ℕ) → k < length order → walk child (at k) w ≡ option_map at (walk (kid parents labels) k w)
   walk_from k [] here = refl
   walk_from k (c ∷ w) here =
-      ap (λ o. option_and_then (λ j. walk child j w) o) (kid_child k c here) ∙ go (kid parents labels k c) refl (λ m lt. walk_from m w lt)
-    where
-      go : (o : Option ℕ) → kid parents labels k c ≡ o → ((m : ℕ) → m < length order → walk child (at m) w ≡ option_map at (walk (kid parents labels) m w))
-          → option_and_then (λ j. walk child j w) (option_map at o) ≡ option_map at (option_and_then (λ j. walk (kid parents labels) j w) o)
-      go None e more = refl
-      go (Some m) e more = more m (omega (arith, (back parents labels units places_trie k c m e).1, places.one_each))
+      ap (λ o. option_and_then (λ j. walk child j w) o) (kid_child k c here)
+      ∙ (elim (kid parents labels k c) as (λ o. kid parents labels k c ≡ o → option_and_then (λ j. walk child j w) (option_map at o) ≡ option_map at (option_and_then (λ j. walk (kid parents labels) j w) o)) [
+        | None ↦ λ e. refl
+        | Some m ↦ λ e. walk_from m w (omega (arith, (back parents labels units places_trie k c m e).1, places.one_each))
+      ]) refl
 
   -- a text leads to an element where it leads to its place
   pub walk_places : (w : List ℕ) → walk child 0 w ≡ option_map at (walk (kid parents labels) 0 w)
@@ -87,14 +84,21 @@ module _ (child : ℕ → ℕ → Option ℕ) (label : ℕ → ℕ) (n units : �
   pub to_place : (w : List ℕ) (i : ℕ) → Leads child w i → (m : ℕ) × Leads (kid parents labels) w m × (at m ≡ i)
   to_place w i e = map_inv at (walk (kid parents labels) 0 w) i (sym (walk_places w) ∙ e)
 
-  walk_in : (k : ℕ) (w : List ℕ) (m : ℕ) → k < length order → walk (kid parents labels) k w ≡ Some m → m < length order
-  walk_in k [] m here e = omega (arith, same_Some k m e, here)
-  walk_in k (c ∷ w) m here e = go (kid parents labels k c) refl e (λ j lt. walk_in j w m lt)
-    where
-      go : (o : Option ℕ) → kid parents labels k c ≡ o → option_and_then (λ j. walk (kid parents labels) j w) o ≡ Some m → ((j : ℕ) → j < length order → walk (kid parents labels) j w ≡ Some m → m < length order) → m < length order
-      go None is h more = absurd (none-some m h)
-      go (Some j) is h more = more j (omega (arith, (back parents labels units places_trie k c j is).1, places.one_each)) h
-
   -- what a text leads to is one of the places
   pub place_in : (w : List ℕ) (m : ℕ) → Leads (kid parents labels) w m → m < length order
-  place_in w m e = walk_in 0 w m places.some e
+  place_in [] m e = omega (arith, same_Some 0 m e, places.some)
+  place_in (c ∷ w) m e = omega (arith, (walk_later parents labels units places_trie c w m e).1, places.one_each)
+
+  -- so each element has one path
+  pub one_path_from : HasOnePath child
+  one_path_from = record {
+    dead_no_child = λ w h. (let a = to_place w 1 h in dead_at a.0 (place_in w a.0 a.1) a.2);
+    one_path = λ i v w h g. (
+        let a = to_place v i h in
+        let b = to_place w i g in
+        one_text parents labels units places_trie v w a.0 a.1 (b.1 ∙ ap Some (same_place places b.0 a.0 (place_in w b.0 b.1) (place_in v a.0 a.1) (b.2 ∙ sym a.2))));
+  }
+    where
+      dead_at : (m : ℕ) → m < length order → at m ≡ 1 → ⊥
+      dead_at zero lt e = omega (arith, places.first, e)
+      dead_at (suc m) lt e = omega (arith, places.alive (suc m) (omega arith) lt, e)

@@ -1,23 +1,15 @@
 -- The members of a group are the children of an element, the last first.
-use Rattle.std.proofs.Common.{◌≡◌, ◌≢◌, ℕ, zero, suc, ◌<◌, ◌==◌, Bool, true, false, cond, List, [], ◌∷◌, Option, Some, None, refl, sym, ap, ◌∙◌, inl, inr, arith}
-use Rattle.std.proofs.lemmas.Option.{none-some}
-use Rattle.std.proofs.lemmas.Bool.{cases_eq, false≢true}
+use Rattle.std.proofs.Common.{◌≡◌, ◌≢◌, ℕ, zero, suc, ◌<◌, Bool, true, List, [], ◌∷◌, length, Option, Some, sym, ap, ◌∙◌, inl, inr, arith}
+use Rattle.std.proofs.lemmas.Bool.{cases_Bool}
 use Rattle.daachorse_listing.specs.Edges.{TellChildren, below, is_in}
 use Rattle.daachorse_listing.specs.Listing.{unit_of}
-use Rattle.daachorse_listing.proofs.SortLaws.{in-edge}
+use Rattle.daachorse_listing.proofs.SortLaws.{below-has, edge-in, in-edge}
+use Rattle.daachorse_listing.proofs.WalkLaws.{unit-is}
 
 module _ (test : ℕ → Bool) where
   -- none below n passes
   pub below-none : (n y : ℕ) → below test n ≡ [] → y < n → test y ≢ true
-  below-none zero y e lt yes' = omega (arith, lt)
-  below-none (suc n) y e lt yes' = go (test n) refl e (λ rest less. below-none n y rest less yes')
-    where
-      go : (b : Bool) → test n ≡ b → cond b (n ∷ below test n) (below test n) ≡ [] → (below test n ≡ [] → y < n → ⊥) → ⊥
-      go true is e more = cc
-      go false is e more = elim (cases_eq y n) [
-        | inl same ↦ false≢true (sym is ∙ ap test (sym same) ∙ yes')
-        | inr other ↦ more e (omega (arith, lt, other))
-      ]
+  below-none n y e lt yes' = let k = below-has test n y lt yes' in omega (arith, k.1, ap length e)
 
   -- the last that passes, and those before it
   pub record IsLast (n x : ℕ) (rest : List ℕ) : Type 0 where
@@ -28,45 +20,30 @@ module _ (test : ℕ → Bool) where
 
   pub below-cons : (n x : ℕ) (rest : List ℕ) → below test n ≡ x ∷ rest → IsLast n x rest
   below-cons zero x rest e = cc
-  below-cons (suc n) x rest e = go (test n) refl e (below-cons n x rest)
-    where
-      here : test n ≡ true → n ≡ x → below test n ≡ rest → IsLast (suc n) x rest
-      here is same tail = record {
-        less = omega (arith, same);
-        passes = ap test (sym same) ∙ is;
-        before = sym tail ∙ ap (below test) same;
-        none = λ y low high yes'. omega (arith, low, high, same);
-      }
-
-      go : (b : Bool) → test n ≡ b → cond b (n ∷ below test n) (below test n) ≡ x ∷ rest → (below test n ≡ x ∷ rest → IsLast n x rest) → IsLast (suc n) x rest
-      go true is e more = here is (cc) (cc)
-      go false is e more =
-          let r = more e in
-          record {
-            less = omega (arith, r.less);
-            passes = r.passes;
-            before = r.before;
-            none = λ y low high yes'. elim (cases_eq y n) [
-              | inl same ↦ false≢true (sym is ∙ ap test (sym same) ∙ yes')
-              | inr other ↦ r.none y low (omega (arith, high, other)) yes'
-            ];
-          }
-
-pub of_group : (g c : ℕ) (e : Option (ℕ × ℕ)) → e ≡ Some (g, c) → is_in g e ≡ true
-of_group g c e h = ap (is_in g) h ∙ (let same : (g == g) ≡ true = grind arith in same)
+  below-cons (suc n) x rest e = elim (cases_Bool (test n)) [
+    | inl is ↦
+        let begins : n ∷ below test n ≡ x ∷ rest = rw is at e in
+        let same : n ≡ x = cc in
+        let tail : below test n ≡ rest = cc in
+        record {
+          less = omega (arith, same);
+          passes = ap test (sym same) ∙ is;
+          before = sym tail ∙ ap (below test) same;
+          none = λ y low high yes'. omega (arith, low, high, same);
+        }
+    | inr is ↦
+        let r = below-cons n x rest (rw is at e) in
+        record { less = omega (arith, r.less); passes = r.passes; before = r.before; none = λ y low high yes'. grind (arith, r.none y low) }
+  ]
 
 -- the unit that leads to an element
 abbrev pub label : (ℕ → Option (ℕ × ℕ)) → ℕ → ℕ
 label edge j = unit_of (edge j)
 
-module _ (child : ℕ → ℕ → Option ℕ) (group : ℕ → Option ℕ) (edge : ℕ → Option (ℕ × ℕ)) (n : ℕ) (tell : TellChildren child group edge n) where
+module _ {child : ℕ → ℕ → Option ℕ} {group : ℕ → Option ℕ} {edge : ℕ → Option (ℕ × ℕ)} {n : ℕ} (tell : TellChildren child group edge n) where
   -- a unit that leads to an element is its unit
   pub one_unit : (i c j : ℕ) → i < n → child i c ≡ Some j → c ≡ label edge j
-  one_unit i c j lt e = go (group i) refl
-    where
-      go : (o : Option ℕ) → group i ≡ o → c ≡ label edge j
-      go None is = absurd (none-some j (sym (tell.alone i c lt is) ∙ e))
-      go (Some g) is = sym (ap unit_of (tell.from_child i g c j lt is e))
+  one_unit i c j lt e = sym (unit-is tell i c j lt e)
 
   module _ (i g : ℕ) (lt : i < n) (is : group i ≡ Some g) where
     -- a member is a child
@@ -75,4 +52,4 @@ module _ (child : ℕ → ℕ → Option ℕ) (group : ℕ → Option ℕ) (edge
 
     -- a child is a member
     pub child_member : (c j : ℕ) → child i c ≡ Some j → is_in g (edge j) ≡ true
-    child_member c j e = of_group g c (edge j) (tell.from_child i g c j lt is e)
+    child_member c j e = (edge-in g c (edge j) (tell.from_child i g c j lt is e)).0

@@ -8,8 +8,8 @@ use Rattle.daachorse_checker.specs.Places.{HasPlaces, HasEntry, IsClosed}
 pub old_at : (xs : List ℕ) (y i : ℕ) → i < length xs → get_or (xs ++ y ∷ []) i 0 ≡ get_or xs i 0
 old_at xs y i lt = get_or_append_left xs (y ∷ []) 0 i lt
 
-module _ (child : ℕ → ℕ → Option ℕ) (label : ℕ → ℕ) where
-  module _ (order parents labels marks : List ℕ) (h : HasPlaces child label order parents labels marks) where
+module _ {child : ℕ → ℕ → Option ℕ} {label : ℕ → ℕ} where
+  module _ {order parents labels marks : List ℕ} (h : HasPlaces child label order parents labels marks) where
     -- an element has one place
     pub same_place : (l m : ℕ) → l < length order → m < length order → get_or order l 0 ≡ get_or order m 0 → l ≡ m
     same_place l m hl hm e = sym (h.placed l hl) ∙ ap (λ i. get_or marks i 0) e ∙ h.placed m hm
@@ -25,7 +25,7 @@ module _ (child : ℕ → ℕ → Option ℕ) (label : ℕ → ℕ) where
         let d = ap (λ i. get_or marks i 0) e in
         omega (arith, h.placed (suc m) lt, d, none)
 
-    module _ (k j u : ℕ) (here : k < length order) (edge : child (get_or order k 0) (label j) ≡ Some j) (is : u ≡ label j) (low : 1 < j) (none : get_or marks j 0 ≡ 0) (high : j < length marks) (last : (m : ℕ) → 0 < m → m < length order → get_or parents m 0 ≤ k) where
+    module _ {k j u : ℕ} (here : k < length order) (edge : child (get_or order k 0) (label j) ≡ Some j) (is : u ≡ label j) (low : 1 < j) (none : get_or marks j 0 ≡ 0) (high : j < length marks) (last : (m : ℕ) → 0 < m → m < length order → get_or parents m 0 ≤ k) where
       abbrev new : List ℕ
       new = set marks j (length order)
 
@@ -52,56 +52,25 @@ module _ (child : ℕ → ℕ → Option ℕ) (label : ℕ → ℕ) where
         first = old_at order j 0 h.some ∙ h.first;
         one_each = length_push parents k ∙ ap (λ n. n + 1) h.one_each ∙ sym (length_push order j);
         label_each = length_push labels u ∙ ap (λ n. n + 1) h.label_each ∙ sym (length_push order j);
-        earlier = λ m pos lt. elim (old_or_new m lt) [
-          | inl a ↦ omega (arith, old_parents m a, h.earlier m pos a)
-          | inr b ↦ omega (arith, new_parents m b, here, b)
-        ];
-        edge = λ m pos lt. elim (old_or_new m lt) [
-          | inl a ↦
-              let up = h.earlier m pos a in
-              let p : get_or (order ++ j ∷ []) (get_or (parents ++ k ∷ []) m 0) 0 ≡ get_or order (get_or parents m 0) 0 =
-              ap (λ i. get_or (order ++ j ∷ []) i 0) (old_parents m a) ∙ old_at order j (get_or parents m 0) (omega (arith, up, a)) in
-              ap (λ s. child s (label (get_or (order ++ j ∷ []) m 0))) p
-              ∙ ap (λ t. child (get_or order (get_or parents m 0) 0) (label t)) (old_at order j m a)
-              ∙ h.edge m pos a ∙ ap Some (sym (old_at order j m a))
-          | inr b ↦
-              let p : get_or (order ++ j ∷ []) (get_or (parents ++ k ∷ []) m 0) 0 ≡ get_or order k 0 =
-              ap (λ i. get_or (order ++ j ∷ []) i 0) (new_parents m b) ∙ old_at order j k here in
-              ap (λ s. child s (label (get_or (order ++ j ∷ []) m 0))) p
-              ∙ ap (λ t. child (get_or order k 0) (label t)) (new_order m b)
-              ∙ edge ∙ ap Some (sym (new_order m b))
-        ];
-        labelled = λ m pos lt. elim (old_or_new m lt) [
-          | inl a ↦ old_at labels u m (omega (arith, a, h.label_each)) ∙ h.labelled m pos a ∙ ap label (sym (old_at order j m a))
-          | inr b ↦ get_or_push labels u 0 m (h.label_each ∙ sym b) ∙ is ∙ ap label (sym (new_order m b))
-        ];
-        alive = λ m pos lt. elim (old_or_new m lt) [
-          | inl a ↦ omega (arith, old_at order j m a, h.alive m pos a)
-          | inr b ↦ omega (arith, new_order m b, low)
-        ];
-        inside = λ m lt. elim (old_or_new m lt) [
-          | inl a ↦ omega (arith, old_at order j m a, h.inside m a, length-set marks j (length order))
-          | inr b ↦ omega (arith, new_order m b, high, length-set marks j (length order))
-        ];
-        placed = λ m lt. elim (old_or_new m lt) [
-          | inl a ↦ kept m a ∙ h.placed m a
-          | inr b ↦ ap (λ i. get_or new i 0) (new_order m b) ∙ get_or-set_same marks j (length order) 0 high ∙ sym b
-        ];
+        earlier = λ m pos lt. grind (arith, old_or_new m lt, old_parents m, new_parents m, h.earlier m pos);
+        edge = λ m pos lt.
+            let at_k = old_at order j k here in
+            grind (arith, old_or_new m lt, old_parents m, old_at order j m, old_at order j (get_or parents m 0), h.edge m pos, h.earlier m pos, new_parents m, new_order m, edge);
+        labelled = λ m pos lt.
+            grind (arith, old_or_new m lt, old_at labels u m, old_at order j m, h.labelled m pos, h.label_each, get_or_push labels u 0 m, new_order m, is);
+        alive = λ m pos lt. grind (arith, old_or_new m lt, old_at order j m, new_order m, h.alive m pos);
+        inside = λ m lt. grind (arith, old_or_new m lt, old_at order j m, new_order m, h.inside m, length-set marks j (length order));
+        placed = λ m lt. grind (arith, old_or_new m lt, kept m, h.placed m, new_order m, get_or-set_same marks j (length order) 0 high);
         marked = λ i pos. elim (cases_eq i j) [
-          | inl g ↦
-              let at : get_or new i 0 ≡ length order = ap (λ q. get_or new q 0) g ∙ get_or-set_same marks j (length order) 0 high in
-              (omega (arith, at, length_push order j), new_order (get_or new i 0) at ∙ sym g)
+          | inl g ↦ rw (g, get_or-set_same marks j (length order) 0 high) (omega (arith, length_push order j), new_order (length order) refl)
           | inr g ↦
               let at : get_or new i 0 ≡ get_or marks i 0 = get_or-set_other marks j i (length order) 0 g in
               let old = h.marked i (omega (arith, pos, at)) in
-              (omega (arith, at, old.0, length_push order j), ap (λ q. get_or (order ++ j ∷ []) q 0) at ∙ old_at order j (get_or marks i 0) old.0 ∙ old.1)
+              rw at (omega (arith, old.0, length_push order j), old_at order j (get_or marks i 0) old.0 ∙ old.1)
         ];
-        rising = λ l m pos less lt. elim (old_or_new m (omega (arith, lt, length_push parents k, h.one_each, length_push order j))) [
-          | inl a ↦ omega (arith, old_parents m a, old_parents l (omega (arith, less, a)), h.rising l m pos less (omega (arith, a, h.one_each)))
-          | inr b ↦
-              let l_in : l < length order = omega (arith, less, b) in
-              omega (arith, new_parents m b, old_parents l l_in, last l pos l_in)
-        ];
+        rising = λ l m pos less lt.
+            let where_m = old_or_new m (omega (arith, lt, length_push parents k, h.one_each, length_push order j)) in
+            grind (arith, old_parents m, old_parents l, new_parents m, h.rising l m pos less, last l pos, h.one_each);
       }
 
       pub entry_push : (l i : ℕ) → HasEntry order parents l i → HasEntry (order ++ j ∷ []) (parents ++ k ∷ []) l i
@@ -115,4 +84,4 @@ module _ (child : ℕ → ℕ → Option ℕ) (label : ℕ → ℕ) where
           entry_push l t (closed l less c t (ap (λ s. child s c) (sym (old_at order j l (omega (arith, less, le)))) ∙ e))
 
       pub parents_push : (m : ℕ) → 0 < m → m < length (order ++ j ∷ []) → get_or (parents ++ k ∷ []) m 0 ≤ k
-      parents_push m pos lt = elim (old_or_new m lt) [ inl a ↦ omega (arith, old_parents m a, last m pos a) | inr b ↦ omega (arith, new_parents m b) ]
+      parents_push m pos lt = grind (arith, old_or_new m lt, old_parents m, new_parents m, last m pos)

@@ -16,7 +16,7 @@ use Rattle.daachorse_checker.specs.Runs.{has_values}
 use Rattle.daachorse_checker.proofs.PlaceLaws.{same_place}
 use Rattle.daachorse_checker.proofs.JoinLaws.{places_trie, walk_places, reached_places, to_element, to_place, place_in}
 
-module _ {V : Type 0} (width : ℕ → ℕ) (a : Machine V) (label : ℕ → ℕ) (n units : ℕ) (order parents labels marks : List ℕ) (are : ArePlaces a.child label n order parents labels marks)
+module _ {V : Type 0} (width : ℕ → ℕ) (a : Machine V) {label : ℕ → ℕ} {n units : ℕ} {order parents labels marks : List ℕ} (are : ArePlaces a.child label n order parents labels marks)
     (inside : (i c j : ℕ) → a.child i c ≡ Some j → c < units) (one_unit : (i c j : ℕ) → i < n → a.child i c ≡ Some j → c ≡ label j) (stops : List Bool) where
   abbrev place : ℕ → ℕ → Option ℕ
   place = kid parents labels
@@ -29,30 +29,21 @@ module _ {V : Type 0} (width : ℕ → ℕ) (a : Machine V) (label : ℕ → ℕ
   AreStops leftmost = (m : ℕ) (w : List ℕ) → m < length order → Leads a.child w (at m) → stop stops m ≡ cond leftmost (has_values (own width a w (at m)).0) false
 
   key_same : AreStops true → (w : List ℕ) → is_key (keys place (stop stops)) w ≡ is_key (content width a) w
-  key_same are_stops w = go (walk place 0 w) refl
+  key_same are_stops w = by (walk place 0 w) refl ∙ sym (ap (λ o. has_values (values_at width a w o)) (walk_places are inside one_unit w))
     where
-      go : (o : Option ℕ) → walk place 0 w ≡ o → is_key (keys place (stop stops)) w ≡ is_key (content width a) w
-      go None e =
-          ap (λ o. has_values (value_at place (stop stops) o)) e
-          ∙ sym (ap (λ o. has_values (values_at width a w o)) (walk_places a.child label n units order parents labels marks are inside one_unit w ∙ ap (option_map at) e))
-      go (Some m) e =
-          ap (λ o. has_values (value_at place (stop stops) o)) e
-          ∙ value_at-stops place (stop stops) 0 (stop stops m)
-          ∙ are_stops m w (place_in a.child label n units order parents labels marks are inside one_unit w m e) (to_element a.child label n units order parents labels marks are inside one_unit w m e)
-          ∙ sym (ap (λ o. has_values (values_at width a w o)) (walk_places a.child label n units order parents labels marks are inside one_unit w ∙ ap (option_map at) e))
+      by : (o : Option ℕ) → walk place 0 w ≡ o → has_values (value_at place (stop stops) o) ≡ has_values (values_at width a w (option_map at o))
+      by None e = refl
+      by (Some m) e = value_at-stops place (stop stops) 0 (stop stops m) ∙ are_stops m w (place_in are inside one_unit w m e) (to_element are inside one_unit w m e)
 
   key_none : AreStops false → (w : List ℕ) → is_key (keys place (stop stops)) w ≡ false
-  key_none are_stops w = go (walk place 0 w) refl
+  key_none are_stops w = by (walk place 0 w) refl
     where
-      go : (o : Option ℕ) → walk place 0 w ≡ o → is_key (keys place (stop stops)) w ≡ false
-      go None e = ap (λ o. has_values (value_at place (stop stops) o)) e
-      go (Some m) e =
-          ap (λ o. has_values (value_at place (stop stops) o)) e
-          ∙ value_at-stops place (stop stops) 0 (stop stops m)
-          ∙ are_stops m w (place_in a.child label n units order parents labels marks are inside one_unit w m e) (to_element a.child label n units order parents labels marks are inside one_unit w m e)
+      by : (o : Option ℕ) → walk place 0 w ≡ o → has_values (value_at place (stop stops) o) ≡ false
+      by None e = refl
+      by (Some m) e = value_at-stops place (stop stops) 0 (stop stops m) ∙ are_stops m w (place_in are inside one_unit w m e) (to_element are inside one_unit w m e)
 
   known_same : is_reached a.child ≡ is_reached place
-  known_same = λ i. λ w. reached_places a.child label n units order parents labels marks are inside one_unit w i
+  known_same = λ i. λ w. reached_places are inside one_unit w i
 
   -- the link of a text in the machine is that among the places
   right_is : (leftmost : Bool) → AreStops leftmost → (u : ℕ) (w : List ℕ) → right_fail width a leftmost (u ∷ w) ≡ element_of width a (left_link place (stop stops) u w)
@@ -67,35 +58,35 @@ module _ {V : Type 0} (width : ℕ → ℕ) (a : Machine V) (label : ℕ → ℕ
     goes : (o : Option (List ℕ)) (f r : ℕ) → IsPlaceOf place (length fails) o r → IsLinkPlace order f r → element_of width a o ≡ Some f
     goes None f r h (inl e) = ap Some (sym e.0)
     goes None f r h (inr e) = absurd (omega (arith, e.1, h, each))
-    goes (Some l) f r h (inl e) = absurd (omega (arith, e.1, place_in a.child label n units order parents labels marks are inside one_unit l r h))
-    goes (Some l) f r h (inr e) = to_element a.child label n units order parents labels marks are inside one_unit l r h ∙ ap Some e.2
+    goes (Some l) f r h (inl e) = absurd (omega (arith, e.1, place_in are inside one_unit l r h))
+    goes (Some l) f r h (inr e) = to_element are inside one_unit l r h ∙ ap Some e.2
 
     comes : HasOnePath a.child → (o : Option (List ℕ)) (f r : ℕ) → element_of width a o ≡ Some f → IsLinkPlace order f r → IsPlaceOf place (length fails) o r
     comes tree None f r h (inl e) = e.1 ∙ sym each
     comes tree None f r h (inr e) = absurd (e.0 (sym (same_Some 1 f h)))
     comes tree (Some l) f r h (inl e) = absurd (tree.dead_no_child l (h ∙ ap Some e.0))
     comes tree (Some l) f r h (inr e) =
-        let p = to_place a.child label n units order parents labels marks are inside one_unit l f h in
-        let same : p.0 ≡ r = same_place a.child label order parents labels marks are.places p.0 r (place_in a.child label n units order parents labels marks are inside one_unit l p.0 p.1) e.1 (p.2 ∙ sym e.2) in
+        let p = to_place are inside one_unit l f h in
+        let same : p.0 ≡ r = same_place are.places p.0 r (place_in are inside one_unit l p.0 p.1) e.1 (p.2 ∙ sym e.2) in
         p.1 ∙ ap Some same
 
     module _ (leftmost : Bool) (are_stops : AreStops leftmost) where
       pub right_links : HasLinks parents labels stops fails → (u i : ℕ) (w : List ℕ) → Leads a.child (u ∷ w) i → right_fail width a leftmost (u ∷ w) ≡ Some (a.fail i)
       right_links links u i w e =
-          let p = to_place a.child label n units order parents labels marks are inside one_unit (u ∷ w) i e in
+          let p = to_place are inside one_unit (u ∷ w) i e in
           let m = p.0 in
-          let later = walk_later parents labels units (places_trie a.child label n units order parents labels marks are inside one_unit) u w m p.1 in
-          let lt = place_in a.child label n units order parents labels marks are inside one_unit (u ∷ w) m p.1 in
+          let later = walk_later parents labels units (places_trie are inside one_unit) u w m p.1 in
+          let lt = place_in are inside one_unit (u ∷ w) m p.1 in
           right_is leftmost are_stops u w
           ∙ goes (left_link place (stop stops) u w) (a.fail (at m)) (get_or fails m 0) (links m u w p.1) (linked m later.0 lt)
           ∙ ap (λ x. Some (a.fail x)) p.2
 
       pub links_right : HasOnePath a.child → ((u i : ℕ) (w : List ℕ) → Leads a.child (u ∷ w) i → right_fail width a leftmost (u ∷ w) ≡ Some (a.fail i)) → HasLinks parents labels stops fails
       links_right tree links m u w e =
-          let later = walk_later parents labels units (places_trie a.child label n units order parents labels marks are inside one_unit) u w m e in
-          let lt = place_in a.child label n units order parents labels marks are inside one_unit (u ∷ w) m e in
+          let later = walk_later parents labels units (places_trie are inside one_unit) u w m e in
+          let lt = place_in are inside one_unit (u ∷ w) m e in
           comes tree (left_link place (stop stops) u w) (a.fail (at m)) (get_or fails m 0)
-          (sym (right_is leftmost are_stops u w) ∙ links u (at m) w (to_element a.child label n units order parents labels marks are inside one_unit (u ∷ w) m e))
+          (sym (right_is leftmost are_stops u w) ∙ links u (at m) w (to_element are inside one_unit (u ∷ w) m e))
           (linked m later.0 lt)
 
   -- a link that is no place is not right
@@ -105,11 +96,11 @@ module _ {V : Type 0} (width : ℕ → ℕ) (a : Machine V) (label : ℕ → ℕ
       by : (o : Option (List ℕ)) → element_of width a o ≡ Some f → ⊥
       by None h = none.alive refl (sym (same_Some 1 f h))
       by (Some l) h =
-          let p = to_place a.child label n units order parents labels marks are inside one_unit l f h in
-          none.lost p.0 (place_in a.child label n units order parents labels marks are inside one_unit l p.0 p.1) p.2
+          let p = to_place are inside one_unit l f h in
+          none.lost p.0 (place_in are inside one_unit l p.0 p.1) p.2
   lost false u w f e none =
-      let p = to_place a.child label n units order parents labels marks are inside one_unit (long (is_reached a.child) w) f e in
-      none.lost p.0 (place_in a.child label n units order parents labels marks are inside one_unit (long (is_reached a.child) w) p.0 p.1) p.2
+      let p = to_place are inside one_unit (long (is_reached a.child) w) f e in
+      none.lost p.0 (place_in are inside one_unit (long (is_reached a.child) w) p.0 p.1) p.2
 
   pub lost_link : (leftmost : Bool) (m : ℕ) (v : List ℕ) → 0 < m → m < length order → Leads a.child v (at m) → IsNoPlace leftmost order (a.fail (at m))
       → ((u i : ℕ) (w : List ℕ) → Leads a.child (u ∷ w) i → right_fail width a leftmost (u ∷ w) ≡ Some (a.fail i)) → ⊥

@@ -1,16 +1,13 @@
 -- The chain of an output goes on behind those of its length where that of the next one does, if that has its length too.
-use Rattle.std.proofs.Common.{◌≡◌, ℕ, zero, suc, ◌≤◌, ◌==◌, Bool, true, false, List, [], ◌∷◌, ◌++◌, length, Option, Some, None, refl, sym, ap, ◌∙◌, inl, inr, arith}
+use Rattle.std.proofs.Common.{◌≡◌, ℕ, zero, suc, ◌≤◌, ◌==◌, Bool, true, false, List, [], ◌∷◌, ◌++◌, length, Some, refl, sym, ap, ◌∙◌, inl, inr, arith}
 use Rattle.std.specs.Prelude.{slice_get}
-use Rattle.std.proofs.lemmas.Bool.{cases_lt}
+use Rattle.std.proofs.lemmas.Bool.{cases_lt, eq-eqb}
 use Rattle.std.proofs.lemmas.List.{length_push, get_or_push, get_or_append_left}
 use Rattle.std.proofs.lemmas.Option.{same_Some}
 use Rattle.daachorse_core.specs.declared.outputs.Output.{Output}
 use Rattle.daachorse_core.specs.Outputs.{length_of, parent_of, ParentsFall}
 use Rattle.daachorse_machine.specs.Machines.{own_next, own_step, own_from}
 use Rattle.daachorse_checker.specs.Runs.{AreRuns, has_values}
-
-eq_true : (a b : ℕ) → a ≡ b → (a == b) ≡ true
-eq_true a b e = grind (arith, e)
 
 module _ {V : Type 0} (outputs : List (Output V)) where
   -- what the output at position q + 1 gives
@@ -25,12 +22,7 @@ module _ {V : Type 0} (outputs : List (Output V)) where
   steady fall (suc s) zero n zero a b = refl
   steady fall (suc s) zero n (suc q) a b = absurd (omega (arith, b))
   steady fall (suc s) (suc r) n zero a b = refl
-  steady fall (suc s) (suc r) n (suc q) a b = go (slice_get outputs q) refl (λ x le. steady fall s r n x (omega (arith, le, a)) (omega (arith, le, b)))
-    where
-      go : (o : Option (Output V)) → slice_get outputs q ≡ o → ((x : ℕ) → x ≤ q → own_from outputs s n x ≡ own_from outputs r n x)
-          → own_step outputs o n q (λ x. own_from outputs s n x) ≡ own_step outputs o n q (λ x. own_from outputs r n x)
-      go None is more = refl
-      go (Some o) is more = ap (λ later. own_next outputs (length_of o == n) o q later) (more (parent_of o) (fall q o is))
+  steady fall (suc s) (suc r) n (suc q) a b = grind (arith, fall q, steady fall s r n)
 
   module _ (n p q : ℕ) (o : Output V) (e : p ≡ suc q) (is : slice_get outputs q ≡ Some o) where
     here : own_from outputs p n p ≡ own_next outputs (length_of o == n) o q (own_from outputs q n (parent_of o))
@@ -54,7 +46,7 @@ module _ {V : Type 0} (outputs : List (Output V)) where
         let low : parent_of o ≤ q = fall q o is in
         let goes_on : (own_from outputs (suc q) (length_of o) (suc q)).1 ≡ (own_from outputs (parent_of o) (length_of o) (parent_of o)).1 =
         ap (λ (r : List V × ℕ). r.1) (at_output q (length_of o) q o is)
-        ∙ ap (λ b. (own_next outputs b o q (own_from outputs q (length_of o) (parent_of o))).1) (eq_true (length_of o) (length_of o) refl)
+        ∙ ap (λ b. (own_next outputs b o q (own_from outputs q (length_of o) (parent_of o))).1) (eq-eqb (length_of o) (length_of o) refl)
         ∙ ap (λ (r : List V × ℕ). r.1) (steady fall q (parent_of o) (length_of o) (parent_of o) low (omega arith)) in
         get_or_push runs run 0 k (each ∙ sym same) ∙ e ∙ sym goes_on ∙ ap (λ i. (own_from outputs (suc i) (length_of o) (suc i)).1) (sym same) ∙ ap (λ (y : Output V). (own_from outputs (suc k) (length_of y) (suc k)).1) one
   ]

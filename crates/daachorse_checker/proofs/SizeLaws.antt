@@ -11,7 +11,7 @@ use Rattle.daachorse_checker.specs.Sizes.{AreSizes}
 use Rattle.daachorse_checker.proofs.PlaceLaws.{old_at}
 use Rattle.daachorse_checker.proofs.TreeLaws.{text_at}
 
-module _ (child : ℕ → ℕ → Option ℕ) (label : ℕ → ℕ) (n : ℕ) (order parents labels marks : List ℕ) (are : ArePlaces child label n order parents labels marks) (tree : HasOnePath child) (width : ℕ → ℕ) where
+module _ {child : ℕ → ℕ → Option ℕ} {label : ℕ → ℕ} {n : ℕ} {order parents labels marks : List ℕ} (are : ArePlaces child label n order parents labels marks) (tree : HasOnePath child) (width : ℕ → ℕ) where
   -- the root
   pub size_root : (sizes : List ℕ) → sizes ≡ 0 ∷ [] → AreSizes child width order sizes
   size_root sizes e m w lt leads =
@@ -28,7 +28,7 @@ module _ (child : ℕ → ℕ → Option ℕ) (label : ℕ → ℕ) (n : ℕ) (o
     | inr b ↦
         let same : k ≡ m = omega (arith, b, less, length_push sizes s, each) in
         let up = are.places.earlier m pos lt in
-        let text = text_at child label order parents labels marks are.places (get_or parents m 0) (omega (arith, up, lt)) in
+        let text = text_at are.places (get_or parents m 0) (omega (arith, up, lt)) in
         let c = label (get_or order m 0) in
         let to : Leads child (text.0 ++ c ∷ []) (get_or order m 0) = walk-push child 0 text.0 c (get_or order (get_or parents m 0) 0) text.1 ∙ are.places.edge m pos lt in
         let here : Leads child w (get_or order m 0) = leads ∙ ap (λ q. Some (get_or order q 0)) same in
@@ -42,9 +42,4 @@ module _ (child : ℕ → ℕ → Option ℕ) (label : ℕ → ℕ) (n : ℕ) (o
 
 -- a place more, of a text of at most four bytes a unit
 pub short_push : (sizes : List ℕ) (m s : ℕ) → length sizes ≡ m → ((k : ℕ) → k < length sizes → get_or sizes k 0 ≤ 4 * k) → s ≤ 4 * m → (k : ℕ) → k < length (sizes ++ s ∷ []) → get_or (sizes ++ s ∷ []) k 0 ≤ 4 * k
-short_push sizes m s each short fits k less = elim (cases_lt k (length sizes)) [
-  | inl a ↦ omega (arith, old_at sizes s k a, short k a)
-  | inr b ↦
-      let same : m ≡ k = omega (arith, b, less, length_push sizes s, each) in
-      omega (arith, get_or_push sizes s 0 k (each ∙ same), fits, same)
-]
+short_push sizes m s each short fits k less = grind (arith, old_at sizes s k, get_or_push sizes s 0 k, length_push sizes s, short k)

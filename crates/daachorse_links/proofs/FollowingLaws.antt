@@ -1,5 +1,5 @@
 -- The way up from above a place ends at the first place with a child by the label, or at the top.
-use Rattle.std.proofs.Common.{◌≡◌, ◌≢◌, ℕ, ◌+◌, ◌<◌, ◌≤◌, ◌⊎◌, Bool, cond, List, length, Option, Some, None, refl, sym, ap, ◌∙◌, inl, inr, arith, get_or}
+use Rattle.std.proofs.Common.{◌≡◌, ◌≢◌, ℕ, ◌+◌, ◌<◌, ◌≤◌, ◌⊎◌, Bool, cond, List, length, Some, None, refl, sym, ap, ◌∙◌, inl, inr, arith, get_or}
 use Rattle.std.proofs.lemmas.Bool.{cases_lt}
 use Rattle.daachorse_links.specs.Following.{IsFollowing}
 use Rattle.daachorse_links.specs.Places.{AreStarts, IsTrie, LinksFall, child, stop}
@@ -22,32 +22,23 @@ module _ {parents labels : List ℕ} {alphabet : ℕ} (trie : IsTrie parents lab
   is_picked m p c pos lt e g =
       sym (ap (λ o. pick o 0) (sym (ap (λ x. child parents labels x (get_or labels m 0)) e ∙ ap (λ x. child parents labels p x) g) ∙ edge parents labels alphabet trie m pos lt))
 
-  none_by : (starts : List ℕ) (p c : ℕ) → AreStarts parents starts → p < length parents → ((m : ℕ) → get_or starts p 0 ≤ m → m < get_or starts (p + 1) 0 → get_or labels m 0 ≢ c) → (o : Option ℕ) → child parents labels p c ≡ o → 0 ≡ pick o 0
-  none_by starts p c are within none None e = refl
-  none_by starts p c are within none (Some m) e =
-      let r = back parents labels alphabet trie p c m e in
-      let low : get_or starts p 0 ≤ m = elim (cases_lt m (get_or starts p 0)) [ inl h ↦ absurd (not_before parents starts are p within m r.0 h r.2) | inr h ↦ h ] in
-      let high : m < get_or starts (p + 1) 0 = elim (cases_lt m (get_or starts (p + 1) 0)) [ inl h ↦ h | inr h ↦ absurd (not_after parents starts are p within m h r.1 r.2) ] in
-      absurd (none m low high r.3)
-
   -- no child is found where none has the label
   pub none_picked : (starts : List ℕ) (p c : ℕ) → AreStarts parents starts → p < length parents → ((m : ℕ) → get_or starts p 0 ≤ m → m < get_or starts (p + 1) 0 → get_or labels m 0 ≢ c) → 0 ≡ pick (child parents labels p c) 0
-  none_picked starts p c are within none = none_by starts p c are within none (child parents labels p c) refl
-
-  some_by : (p c x : ℕ) (o : Option ℕ) → x ≡ pick o 0 → 0 < x → o ≡ Some x
-  some_by p c x None e pos = absurd (omega (arith, e, pos))
-  some_by p c x (Some m) e pos = ap Some (sym e)
-
-  zero_by : (p c x : ℕ) (o : Option ℕ) → child parents labels p c ≡ o → x ≡ pick o 0 → x ≡ 0 → o ≡ None
-  zero_by p c x None f e z = refl
-  zero_by p c x (Some m) f e z = absurd (omega (arith, e, z, (back parents labels alphabet trie p c m f).0))
+  none_picked starts p c are within none = (elim (child parents labels p c) as (λ o. child parents labels p c ≡ o → 0 ≡ pick o 0) [
+    | None ↦ λ e. refl
+    | Some m ↦ λ e.
+        let r = back parents labels alphabet trie p c m e in
+        let low : get_or starts p 0 ≤ m = elim (cases_lt m (get_or starts p 0)) [ inl h ↦ absurd (not_before parents starts are p within m r.0 h r.2) | inr h ↦ h ] in
+        let high : m < get_or starts (p + 1) 0 = elim (cases_lt m (get_or starts (p + 1) 0)) [ inl h ↦ h | inr h ↦ absurd (not_after parents starts are p within m h r.1 r.2) ] in
+        absurd (none m low high r.3)
+  ]) refl
 
   -- what was found is the child, and none where nothing was
   pub picked_some : (p c x : ℕ) → x ≡ pick (child parents labels p c) 0 → 0 < x → child parents labels p c ≡ Some x
-  picked_some p c x e pos = some_by p c x (child parents labels p c) e pos
+  picked_some p c x e pos = grind arith
 
   pub picked_none : (p c x : ℕ) → x ≡ pick (child parents labels p c) 0 → x ≡ 0 → child parents labels p c ≡ None
-  picked_none p c x e z = zero_by p c x (child parents labels p c) refl e z
+  picked_none p c x e z = grind (arith, back parents labels alphabet trie p c)
 
   module _ {stops : List Bool} {fails : List ℕ} (each : length fails ≡ length parents) (falls : LinksFall fails) where
     -- the way begins at the link of p

@@ -1,8 +1,8 @@
 -- Where all children have the links that what is near above their parents says, the links are right, and the other way round.
-use Rattle.std.proofs.Common.{◌≡◌, ℕ, zero, suc, ◌<◌, ◌≤◌, ◌⊎◌, Bool, true, false, List, [], ◌∷◌, ◌++◌, length, Option, Some, None, is_some, refl, sym, ap, ◌∙◌, subst, inl, inr, arith, get_or}
+use Rattle.std.proofs.Common.{◌≡◌, ℕ, zero, suc, ◌<◌, ◌≤◌, ◌⊎◌, Bool, true, false, cond, List, [], ◌∷◌, ◌++◌, length, Option, Some, None, is_some, refl, sym, ap, ◌∙◌, subst, inl, inr, arith, get_or}
 use Rattle.std.proofs.lemmas.Option.{same_Some}
-use Rattle.std.proofs.lemmas.Bool.{cases_lt, cases_eq, cases_Bool, cond-true, cond-false, or_parts, or_from, false≢true}
-use Rattle.daachorse_model.specs.Paths.{walk, is_reached}
+use Rattle.std.proofs.lemmas.Bool.{cases_Bool, cond_both, cond-true, cond-false, or_parts, or_from, false≢true}
+use Rattle.daachorse_model.specs.Paths.{walk}
 use Rattle.daachorse_model.proofs.Paths.{walk-push}
 use Rattle.daachorse_links.specs.Links.{left_long, left_link, IsPlaceOf, IsLinkOf}
 use Rattle.daachorse_links.specs.Places.{child, IsTrie, HasLinks, LinksFall, stop}
@@ -11,7 +11,7 @@ use Rattle.daachorse_links.proofs.ChildLaws.{edge, back}
 use Rattle.daachorse_links.proofs.NearLaws.{up_link, ups_fall, near_top, near_child, near_other}
 use Rattle.daachorse_links.proofs.TopLaws.{or_top_some, top_end, top_next, top_low}
 use Rattle.daachorse_links.proofs.TextLaws.{walk_later, root_text, one_text, text_of}
-use Rattle.daachorse_links.proofs.LeftLaws.{meets_other, met_empty, left_state, left_met, left_next, left_root, dead_by_stop, dead_by_parent, link_by_walk, link_of_first}
+use Rattle.daachorse_links.proofs.LeftLaws.{left_state, left_next, left_root, dead_by_stop, dead_by_parent, link_by_walk, link_of_first}
 
 module _ (parents labels : List ℕ) (stops : List Bool) (fails : List ℕ) (alphabet : ℕ) (trie : IsTrie parents labels alphabet) (each : length fails ≡ length parents) where
   abbrev kid : ℕ → ℕ → Option ℕ
@@ -47,8 +47,7 @@ module _ (parents labels : List ℕ) (stops : List Bool) (fails : List ℕ) (alp
   module _ (b : ℕ) (falls : Falls b) where
     value_child : (q c j : ℕ) → q ≤ b → q < n → kid q c ≡ Some j → value q c ≡ j
     value_child q c j le lt e =
-        let is = near_child parents labels fails alphabet trie each b falls q c j le lt e in
-        or_top_some (near parents labels fails q c) (top stops fails q) (omega (arith, is, (back parents labels alphabet trie q c j e).0)) ∙ is
+        grind (arith, or_top_some, near_child parents labels fails alphabet trie each b falls q c j le lt e, back parents labels alphabet trie q c j e)
 
     value_end : (q c : ℕ) → q ≤ b → q < n → kid q c ≡ None → up fails q ≡ n → value q c ≡ root_value stops n q
     value_end q c le lt e u =
@@ -67,24 +66,14 @@ module _ (parents labels : List ℕ) (stops : List Bool) (fails : List ℕ) (alp
         let at : walk kid 0 (w ++ c ∷ []) ≡ Some (value q c) = to ∙ ap Some (sym (value_child q c j le lt e)) in
         subst (λ o. IsPlaceOf kid n o (value q c)) (sym state) at
 
-    root : (c : ℕ) → 0 < n → kid 0 c ≡ None → LeadsNear 0 c []
-    root c lt none =
-        let v : value 0 c ≡ root_value stops n 0 = value_end 0 c (omega arith) lt none refl in
-        let missing : is_reached kid (c ∷ []) ≡ false = ap is_some (walk-push kid 0 [] c 0 refl ∙ none) in
-        elim (cases_Bool (stop stops 0)) [
-          | inl yes' ↦
-              let met = meets_other kid (stop stops) n [] c missing ∙ met_empty kid (stop stops) n in
-              let o : left_long kid (stop stops) (c ∷ []) ≡ None = left_met kid (stop stops) n c [] missing (met ∙ yes') in
-              let r : value 0 c ≡ n = v ∙ cond-true (stop stops 0) n 0 yes' in
-              subst (λ o. IsPlaceOf kid n o (value 0 c)) (sym o) r
-          | inr no' ↦
-              let o : left_long kid (stop stops) (c ∷ []) ≡ Some [] = left_root kid (stop stops) n c none no' in
-              let r : Some 0 ≡ Some (value 0 c) = ap Some (sym (v ∙ cond-false (stop stops 0) n 0 no')) in
-              subst (λ o. IsPlaceOf kid n o (value 0 c)) (sym o) r
-        ]
-
     root_at : (c : ℕ) (w : List ℕ) → w ≡ [] → 0 < n → kid 0 c ≡ None → LeadsNear 0 c w
-    root_at c w e lt none = subst (λ v. LeadsNear 0 c v) (sym e) (root c lt none)
+    root_at c w e lt none = subst (λ v. LeadsNear 0 c v) (sym e) (
+        subst (λ o. IsPlaceOf kid n o (value 0 c)) (sym (left_root kid (stop stops) n c none))
+        (subst (IsPlaceOf kid n (cond (stop stops 0) None (Some []))) (sym (value_end 0 c (omega arith) lt none refl)) (by (stop stops 0))))
+      where
+        by : (b : Bool) → IsPlaceOf kid n (cond b None (Some [])) (cond b n 0)
+        by true = refl
+        by false = refl
 
     module _ (links : Right b) where
       -- where links are right up to b, what is near q says where a text of q with the label leads
@@ -150,24 +139,18 @@ module _ (parents labels : List ℕ) (stops : List Bool) (fails : List ℕ) (alp
           let early = trie.order.earlier m pos lt in
           let text = text_of parents labels alphabet trie p (omega (arith, early, lt)) in
           let edge' = edge parents labels alphabet trie m pos lt in
-          elim (cases_Bool (stop stops m)) [
-            | inl yes' ↦ subst (λ x. IsLinkOf kid (stop stops) n m x) (sym (cond-true (stop stops m) n (or_top (near parents labels fails (up fails p) c) (top stops fails p)) yes')) (stopped p c m text.0 text.1 edge' yes')
-            | inr no' ↦ subst (λ x. IsLinkOf kid (stop stops) n m x) (sym (cond-false (stop stops m) n (or_top (near parents labels fails (up fails p) c) (top stops fails p)) no')) (going p c m text.0 le (omega (arith, early, lt, each)) text.1 edge' no')
-          ]
+          cond_both (stop stops m) n (or_top (near parents labels fails (up fails p) c) (top stops fails p)) (λ x. IsLinkOf kid (stop stops) n m x)
+          (λ yes'. stopped p c m text.0 text.1 edge' yes')
+          (λ no'. going p c m text.0 le (omega (arith, early, lt, each)) text.1 edge' no')
 
   -- ---- sound
   module _ (falls : LinksFall fails) (checked : (p : ℕ) → p < length fails → IsChecked parents labels stops fails p) where
     right_to : (b : ℕ) → Right b
     right_to zero q pos le lt = absurd (omega arith)
     right_to (suc b) q pos le lt =
-        elim (cases_eq q (suc b)) [
-          | inr ne ↦ right_to b q pos (omega (arith, le, ne)) lt
-          | inl e ↦
-              let early = trie.order.earlier q pos (omega (arith, lt, each)) in
-              let is = checked (get_or parents q 0) (omega (arith, early, lt)) q pos (omega (arith, lt, each)) refl in
-              subst (λ f. IsLinkOf kid (stop stops) n q f) (sym is)
-              (right_link b (λ r low _ high. falls r low high) (right_to b) q pos (omega (arith, lt, each)) (omega (arith, early, e)))
-        ]
+        let early = trie.order.earlier q pos (omega (arith, lt, each)) in
+        subst (λ f. IsLinkOf kid (stop stops) n q f) (sym (checked (get_or parents q 0) (omega (arith, early, lt)) q pos (omega (arith, lt, each)) refl))
+        (right_link b (λ r low _ high. falls r low high) (right_to b) q pos (omega (arith, lt, each)) (omega (arith, early, le)))
 
     pub sound : HasLinks parents labels stops fails
     sound t u w h =
@@ -197,7 +180,7 @@ module _ (parents labels : List ℕ) (stops : List Bool) (fails : List ℕ) (alp
     low_by b falls k q c (Some j) e hk le lt =
         let is = near_child parents labels fails alphabet trie each b falls q c j le lt e in
         let r = back parents labels alphabet trie q c j e in
-        inr (omega (arith, is, r.1), omega (arith, is, r.0), omega (arith, ap (λ i. get_or parents i 0) is, r.2))
+        rw is (inr (r.1, r.0, omega (arith, r.2)))
     low_by b falls k zero c None e hk le lt =
         inl (near_other parents labels fails alphabet trie each b falls 0 c le lt e ∙ near_top parents labels fails alphabet trie each (up fails 0) c refl)
     low_by b falls zero (suc q) c None e hk le lt = absurd (omega (arith, hk))
@@ -212,20 +195,10 @@ module _ (parents labels : List ℕ) (stops : List Bool) (fails : List ℕ) (alp
         ]
 
     none_falls : (m p x : ℕ) → 0 < m → x ≡ 0 → (or_top x (top stops fails p) < m) ⊎ (or_top x (top stops fails p) ≡ length fails)
-    none_falls m p x pos z =
-        let e : or_top x (top stops fails p) ≡ top stops fails p = ap (λ y. or_top y (top stops fails p)) z in
-        elim (top_low (up fails) stops n (suc n) p) [ inl a ↦ inl (omega (arith, e, a, pos)) | inr a ↦ inr (e ∙ a) ]
+    none_falls m p x pos z = let low = top_low (up fails) stops n (suc n) p in grind arith
 
     some_falls : (m p x : ℕ) → 0 < m → m < length parents → get_or parents m 0 ≡ p → x < length parents → 0 < x → get_or parents x 0 < p → (or_top x (top stops fails p) < m) ⊎ (or_top x (top stops fails p) ≡ length fails)
-    some_falls m p x pos lt e hx px low =
-        let is = or_top_some x (top stops fails p) px in
-        elim (cases_lt x m) [
-          | inl a ↦ inl (omega (arith, is, a))
-          | inr b ↦ elim (cases_eq x m) [
-            | inl g ↦ absurd (omega (arith, ap (λ i. get_or parents i 0) g, e, low))
-            | inr g ↦ absurd (omega (arith, trie.order.rising m x pos (omega (arith, b, g)) hx, e, low))
-          ]
-        ]
+    some_falls m p x pos lt e hx px low = grind (arith, or_top_some x, trie.order.rising m x pos)
 
     fall_at : (b m p c : ℕ) → Falls b → 0 < m → m < length parents → get_or parents m 0 ≡ p → p ≤ b → p < length fails → (or_top (near parents labels fails (up fails p) c) (top stops fails p) < m) ⊎ (or_top (near parents labels fails (up fails p) c) (top stops fails p) ≡ length fails)
     fall_at b m p c falls pos lt e le hp =
@@ -241,21 +214,15 @@ module _ (parents labels : List ℕ) (stops : List Bool) (fails : List ℕ) (alp
     right_falls_at b m falls pos lt le =
         let p = get_or parents m 0 in
         let c = get_or labels m 0 in
-        let is = exact b falls m pos lt le in
-        elim (cases_Bool (stop stops m)) [
-          | inl a ↦ inr (is ∙ cond-true (stop stops m) n (or_top (near parents labels fails (up fails p) c) (top stops fails p)) a)
-          | inr no' ↦
-              let same = is ∙ cond-false (stop stops m) n (or_top (near parents labels fails (up fails p) c) (top stops fails p)) no' in
-              elim (fall_at b m p c falls pos lt refl le (omega (arith, trie.order.earlier m pos lt, lt, each))) [ inl h ↦ inl (omega (arith, same, h)) | inr h ↦ inr (same ∙ h) ]
-        ]
+        subst (λ f. (f < m) ⊎ (f ≡ length fails)) (sym (exact b falls m pos lt le)) (
+        cond_both (stop stops m) n (or_top (near parents labels fails (up fails p) c) (top stops fails p)) (λ f. (f < m) ⊎ (f ≡ length fails))
+        (λ _. inr refl) (λ _. fall_at b m p c falls pos lt refl le (omega (arith, trie.order.earlier m pos lt, lt, each))))
 
     falls_to : (b : ℕ) → Falls b
     falls_to zero q pos le lt = absurd (omega arith)
     falls_to (suc b) q pos le lt =
-        elim (cases_eq q (suc b)) [
-          | inr ne ↦ falls_to b q pos (omega (arith, le, ne)) lt
-          | inl e ↦ right_falls_at b q (falls_to b) pos (omega (arith, lt, each)) (omega (arith, trie.order.earlier q pos (omega (arith, lt, each)), e))
-        ]
+        let lt' : q < length parents = omega (arith, lt, each) in
+        right_falls_at b q (falls_to b) pos lt' (omega (arith, trie.order.earlier q pos lt', le))
 
     -- right links lead to earlier places, or are dead
     pub right_falls : LinksFall fails

@@ -17,8 +17,8 @@ up_link fails (suc p) pos lt = get_or_default fails (suc p) (length fails) 0 lt
 pub ups_fall : (fails : List ℕ) (b : ℕ) → ((q : ℕ) → 0 < q → q ≤ b → q < length fails → (get_or fails q 0 < q) ⊎ (get_or fails q 0 ≡ length fails)) → (q : ℕ) → q ≤ b → q < length fails → (up fails q < q) ⊎ (up fails q ≡ length fails)
 ups_fall fails b falls zero le lt = inr refl
 ups_fall fails b falls (suc q) le lt =
-    let e = up_link fails (suc q) (omega arith) lt in
-    elim (falls (suc q) (omega arith) le lt) [ inl h ↦ inl (omega (arith, e, h)) | inr h ↦ inr (e ∙ h) ]
+    let fall = falls (suc q) (omega arith) le lt in
+    grind (arith, up_link fails (suc q))
 
 module _ (child : ℕ → ℕ → Option ℕ) (up : ℕ → ℕ) (n : ℕ) (none_at : (c : ℕ) → child n c ≡ None) (top : up n ≡ n) where
   zero_at : (k c : ℕ) → near_by child up k n c ≡ 0
@@ -27,21 +27,17 @@ module _ (child : ℕ → ℕ → Option ℕ) (up : ℕ → ℕ) (n : ℕ) (none
 
   -- places up to b have links that lead to earlier places
   module _ (b : ℕ) (falls : (q : ℕ) → q ≤ b → q < n → (up q < q) ⊎ (up q ≡ n)) where
-    step : (k j q : ℕ) → q ≤ k → q ≤ j → q ≤ b → q < n → (up q < q) ⊎ (up q ≡ n) → ((up q < k) × (up q < j) × (up q < n) × (up q ≤ b)) ⊎ (up q ≡ n)
-    step k j q hk hj hb hn (inr e) = inr e
-    step k j q hk hj hb hn (inl h) = inl (omega (arith, h, hk), omega (arith, h, hj), omega (arith, h, hn), omega (arith, h, hb))
-
     same_fuel : (k j q c : ℕ) → ((q < k) × (q < j) × (q < n) × (q ≤ b)) ⊎ (q ≡ n) → near_by child up k q c ≡ near_by child up j q c
     same_fuel k j q c (inr e) =
         ap (λ x. near_by child up k x c) e ∙ zero_at k c ∙ sym (zero_at j c) ∙ ap (λ x. near_by child up j x c) (sym e)
     same_fuel zero j q c (inl h) = absurd (omega (arith, h.0))
     same_fuel (suc k) zero q c (inl h) = absurd (omega (arith, h.1))
     same_fuel (suc k) (suc j) q c (inl h) =
-        ap (λ r. pick (child q c) r) (same_fuel k j (up q) c (step k j q (omega (arith, h.0)) (omega (arith, h.1)) h.3 h.2 (falls q h.3 h.2)))
+        ap (λ r. pick (child q c) r) (same_fuel k j (up q) c (let fall = falls q h.3 h.2 in grind arith))
 
     near_law : (q c : ℕ) → q ≤ b → q < n → near_by child up (suc n) q c ≡ pick (child q c) (near_by child up (suc n) (up q) c)
     near_law q c le lt =
-        ap (λ r. pick (child q c) r) (same_fuel n (suc n) (up q) c (step n (suc n) q (omega (arith, lt)) (omega (arith, lt)) le lt (falls q le lt)))
+        ap (λ r. pick (child q c) r) (same_fuel n (suc n) (up q) c (let fall = falls q le lt in grind arith))
 
 module _ (parents labels fails : List ℕ) (alphabet : ℕ) (trie : IsTrie parents labels alphabet) (each : length fails ≡ length parents) where
   none_top : (c : ℕ) → child parents labels (length fails) c ≡ None

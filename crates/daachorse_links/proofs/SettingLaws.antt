@@ -1,5 +1,5 @@
 -- Coming to a place from its link, and going back.
-use Rattle.std.proofs.Common.{◌≡◌, ◌≢◌, ℕ, ◌+◌, ◌<◌, ◌≤◌, ◌⊎◌, Bool, List, length, Option, Some, None, refl, sym, ap, ◌∙◌, subst, inl, inr, arith, get_or, set, get_or-set_other, get_or-set_same}
+use Rattle.std.proofs.Common.{◌≡◌, ◌≢◌, ℕ, ◌+◌, ◌<◌, ◌≤◌, ◌⊎◌, Bool, List, length, Some, None, refl, sym, ap, ◌∙◌, subst, inl, inr, arith, get_or, set, get_or-set_other, get_or-set_same}
 use Rattle.std.proofs.lemmas.List.{length-set}
 use Rattle.std.proofs.lemmas.Bool.{cases_eq, cases_lt}
 use Rattle.daachorse_links.specs.Places.{child, IsTrie, LinksFall, AreStarts}
@@ -16,21 +16,14 @@ module _ (parents labels : List ℕ) (stops : List Bool) (fails : List ℕ) (alp
 
   -- no child of p but m has m's label
   one_label : (j m : ℕ) → 0 < j → j < length parents → 0 < m → m < length parents → get_or parents j 0 ≡ p → get_or parents m 0 ≡ p → get_or labels j 0 ≡ get_or labels m 0 → j ≡ m
-  one_label j m hj lj hm lm e g same =
-      elim (cases_lt j m) [
-        | inl h ↦ absurd (trie.apart j m hj h lm (e ∙ sym g) same)
-        | inr h ↦ elim (cases_lt m j) [ inl k ↦ absurd (trie.apart m j hm k lj (g ∙ sym e) (sym same)) | inr k ↦ omega (arith, h, k) ]
-      ]
+  one_label j m hj lj hm lm e g same = grind (arith, trie.apart j m hj, trie.apart m j hm)
 
   -- a child of p has its place before the places of the state behind p
   in_range : (m : ℕ) → get_or starts (p + 1) 0 ≤ m → (j : ℕ) → j < length parents → get_or parents j 0 ≡ p → j < m
   in_range m done j lj ej = elim (cases_lt j m) [ inl h ↦ h | inr h ↦ absurd (not_after parents starts are p within j (omega (arith, done, h)) lj ej) ]
 
   no_child : (c : ℕ) → child parents labels p c ≡ None → (j : ℕ) → 0 < j → j < length parents → get_or parents j 0 ≡ p → get_or labels j 0 ≡ c → ⊥
-  no_child c e j pos hj ej g =
-      let is' : child parents labels p c ≡ Some j = ap (λ q. child parents labels q c) (sym ej) ∙ (ap (λ d. child parents labels (get_or parents j 0) d) (sym g) ∙ edge parents labels alphabet trie j pos hj) in
-      let bad : None ≡ Some j = sym e ∙ is' in
-      cc
+  no_child c e j pos hj ej g = let some = edge parents labels alphabet trie j pos hj in cc
 
   -- ---- coming
   -- what the array has of the label of the next child
@@ -63,32 +56,26 @@ module _ (parents labels : List ℕ) (stops : List Bool) (fails : List ℕ) (alp
         frame = λ j ne. get_or-set_other saved m j v 0 (λ g. ne (ap (λ x. get_or parents x 0) g ∙ at.2)) ∙ is.frame j ne;
       }
 
-  entered_at : (array saved old : List ℕ) (m : ℕ) → get_or starts (p + 1) 0 ≤ m → IsEntering parents labels stops fails array saved old p m → (c : ℕ) → c < length array → (o : Option ℕ) → child parents labels p c ≡ o →
-      get_or array c 0 ≡ near parents labels fails p c
-  entered_at array saved old m done is c lt (Some j) e =
-      let r = back parents labels alphabet trie p c j e in
-      let low : j < m = in_range m done j r.1 r.2 in
-      ap (λ x. get_or array x 0) (sym r.3) ∙ is.mine j r.0 r.1 low r.2
-      ∙ sym (near_child parents labels fails alphabet trie each p fall_to p c j (omega arith) (omega (arith, within, each)) e)
-  entered_at array saved old m done is c lt None e =
-      is.other c lt (λ j pos hj low ej g. no_child c e j pos hj ej g)
-      ∙ sym (near_other parents labels fails alphabet trie each p fall_to p c (omega arith) (omega (arith, within, each)) e)
-
   -- p is reached
   pub entered : (array saved old : List ℕ) (m : ℕ) → get_or starts (p + 1) 0 ≤ m → IsEntering parents labels stops fails array saved old p m → AreNear parents labels fails array p
-  entered array saved old m done is c lt = entered_at array saved old m done is c lt (child parents labels p c) refl
+  entered array saved old m done is c lt = (elim (child parents labels p c) as (λ o. child parents labels p c ≡ o → get_or array c 0 ≡ near parents labels fails p c) [
+    | Some j ↦ λ e.
+        let r = back parents labels alphabet trie p c j e in
+        ap (λ x. get_or array x 0) (sym r.3) ∙ is.mine j r.0 r.1 (in_range m done j r.1 r.2) r.2
+        ∙ sym (near_child parents labels fails alphabet trie each p fall_to p c j (omega arith) (omega (arith, within, each)) e)
+    | None ↦ λ e.
+        is.other c lt (λ j pos hj low ej g. no_child c e j pos hj ej g)
+        ∙ sym (near_other parents labels fails alphabet trie each p fall_to p c (omega arith) (omega (arith, within, each)) e)
+  ]) refl
 
   -- ---- going back
-  left_at : (array : List ℕ) (m : ℕ) → get_or starts (p + 1) 0 ≤ m → IsLeaving parents labels fails array p m → (c : ℕ) → c < length array → (o : Option ℕ) → child parents labels p c ≡ o →
-      get_or array c 0 ≡ near parents labels fails (up fails p) c
-  left_at array m done is c lt (Some j) e =
-      let r = back parents labels alphabet trie p c j e in
-      let low : j < m = in_range m done j r.1 r.2 in
-      subst (λ x. get_or array x 0 ≡ near parents labels fails (up fails p) x) r.3 (is.back j r.0 r.1 low r.2)
-  left_at array m done is c lt None e =
-      is.other c lt (λ j pos hj low ej g. no_child c e j pos hj ej g)
-      ∙ near_other parents labels fails alphabet trie each p fall_to p c (omega arith) (omega (arith, within, each)) e
-
   -- p is left
   pub left : (array : List ℕ) (m : ℕ) → get_or starts (p + 1) 0 ≤ m → IsLeaving parents labels fails array p m → AreNear parents labels fails array (up fails p)
-  left array m done is c lt = left_at array m done is c lt (child parents labels p c) refl
+  left array m done is c lt = (elim (child parents labels p c) as (λ o. child parents labels p c ≡ o → get_or array c 0 ≡ near parents labels fails (up fails p) c) [
+    | Some j ↦ λ e.
+        let r = back parents labels alphabet trie p c j e in
+        subst (λ x. get_or array x 0 ≡ near parents labels fails (up fails p) x) r.3 (is.back j r.0 r.1 (in_range m done j r.1 r.2) r.2)
+    | None ↦ λ e.
+        is.other c lt (λ j pos hj low ej g. no_child c e j pos hj ej g)
+        ∙ near_other parents labels fails alphabet trie each p fall_to p c (omega arith) (omega (arith, within, each)) e
+  ]) refl

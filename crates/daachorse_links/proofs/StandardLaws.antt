@@ -1,9 +1,7 @@
 -- Two dictionaries with the same keys have the same links, and where there is no key no link is dead: it is the longest end.
-use Rattle.std.proofs.Common.{◌≡◌, ℕ, Bool, true, false, cond, List, [], ◌∷◌, ◌++◌, Option, Some, None, refl, ap, ◌∙◌}
+use Rattle.std.proofs.Common.{◌≡◌, ℕ, Bool, true, false, cond, List, [], ◌∷◌, ◌++◌, Some, None, refl, ap, ◌∙◌, arith}
 use Rattle.daachorse_model.specs.Dictionary.{Dictionary}
 use Rattle.daachorse_model.specs.Prefixes.{is_key, key_begins, left_fail, long, long_unless_key}
-use Rattle.daachorse_links.specs.Links.{value_at}
-use Rattle.daachorse_links.proofs.LeftLaws.{some_value, value_at-stops}
 
 module _ {V W : Type 0} (K : Dictionary V) (L : Dictionary W) (same : (w : List ℕ) → is_key K w ≡ is_key L w) where
   begins_same : (t w : List ℕ) → key_begins K t w ≡ key_begins L t w
@@ -13,15 +11,12 @@ module _ {V W : Type 0} (K : Dictionary V) (L : Dictionary W) (same : (w : List 
   module _ (known : List ℕ → Bool) where
     long_same : (w : List ℕ) → long_unless_key K known w ≡ long_unless_key L known w
     long_same [] = refl
-    long_same (u ∷ w) =
-        ap (λ b. cond (known (u ∷ w)) (Some (u ∷ w)) (cond b None (long_unless_key K known w))) (begins_same [] (u ∷ w))
-        ∙ ap (λ o. cond (known (u ∷ w)) (Some (u ∷ w)) (cond (key_begins L [] (u ∷ w)) None o)) (long_same w)
+    long_same (u ∷ w) = grind (arith, begins_same [] (u ∷ w), long_same w)
 
     -- the same keys, the same links
     pub left_fail-same : (w : List ℕ) → left_fail K known w ≡ left_fail L known w
     left_fail-same [] = refl
-    left_fail-same (u ∷ w) =
-        ap (λ b. cond b None (long_unless_key K known w)) (begins_same [] (u ∷ w)) ∙ ap (λ o. cond (key_begins L [] (u ∷ w)) None o) (long_same w)
+    left_fail-same (u ∷ w) = grind (arith, begins_same [] (u ∷ w), long_same w)
 
 module _ {V : Type 0} (K : Dictionary V) (none : (w : List ℕ) → is_key K w ≡ false) where
   begins_none : (t w : List ℕ) → key_begins K t w ≡ false
@@ -29,22 +24,10 @@ module _ {V : Type 0} (K : Dictionary V) (none : (w : List ℕ) → is_key K w �
   begins_none t (u ∷ w) = ap (λ b. cond b true (key_begins K (t ++ u ∷ []) w)) (none t) ∙ begins_none (t ++ u ∷ []) w
 
   module _ (known : List ℕ → Bool) where
-    some_cond : {X : Type 0} (b : Bool) (x y : X) → cond b (Some x) (Some y) ≡ Some (cond b x y)
-    some_cond true x y = refl
-    some_cond false x y = refl
-
     long_none : (w : List ℕ) → long_unless_key K known w ≡ Some (long known w)
     long_none [] = refl
-    long_none (u ∷ w) =
-        ap (λ b. cond (known (u ∷ w)) (Some (u ∷ w)) (cond b None (long_unless_key K known w))) (begins_none [] (u ∷ w))
-        ∙ ap (λ o. cond (known (u ∷ w)) (Some (u ∷ w)) o) (long_none w)
-        ∙ some_cond (known (u ∷ w)) (u ∷ w) (long known w)
+    long_none (u ∷ w) = grind (arith, begins_none [] (u ∷ w), long_none w)
 
     -- with no key a link is the longest end
     pub left_fail-none : (u : ℕ) (w : List ℕ) → left_fail K known (u ∷ w) ≡ Some (long known w)
     left_fail-none u w = ap (λ b. cond b None (long_unless_key K known w)) (begins_none [] (u ∷ w)) ∙ long_none w
-
-module _ (child : ℕ → ℕ → Option ℕ) (stops : ℕ → Bool) (go : (i : ℕ) → stops i ≡ false) where
-  none_at : (o : Option ℕ) → some_value child stops 0 (value_at child stops o) ≡ false
-  none_at None = refl
-  none_at (Some i) = value_at-stops child stops 0 (stops i) ∙ go i

@@ -1,15 +1,9 @@
 -- How a tour is made: each place is put right after its link.
-use Rattle.std.proofs.Common.{◌≡◌, ◌≢◌, ℕ, suc, ◌<◌, ◌≤◌, ◌⊎◌, ◌==◌, true, false, cond, List, [], ◌∷◌, length, refl, sym, ap, ◌∙◌, subst, inl, inr, arith, get_or, set, get_or-set_other, get_or-set_same}
+use Rattle.std.proofs.Common.{◌≡◌, ◌≢◌, ℕ, suc, ◌<◌, ◌≤◌, ◌⊎◌, ◌==◌, cond, List, [], ◌∷◌, length, refl, sym, ap, ◌∙◌, subst, inl, inr, arith, get_or, set, get_or-set_other, get_or-set_same}
 use Rattle.std.proofs.lemmas.List.{length-set}
-use Rattle.std.proofs.lemmas.Bool.{cases_eq, cond_both}
-use Rattle.daachorse_links.specs.Near.{up, IsAbove}
+use Rattle.std.proofs.lemmas.Bool.{cases_eq, cond_both, eqb-false, eqb-true}
+use Rattle.daachorse_links.specs.Near.{IsAbove}
 use Rattle.daachorse_links.specs.Tours.{In, IsApart, IsLinked, IsTour}
-
-eq_from : (a b : ℕ) → (a == b) ≡ true → a ≡ b
-eq_from a b e = grind (arith, e)
-
-ne_from : (a b : ℕ) → (a == b) ≡ false → a ≢ b
-ne_from a b e g = grind (arith, e, g)
 
 -- the list with m after f
 abbrev insert : ℕ → ℕ → List ℕ → List ℕ
@@ -17,52 +11,31 @@ insert f m [] = []
 insert f m (x ∷ xs) = cond (x == f) (x ∷ m ∷ xs) (x ∷ insert f m xs)
 
 by_test : (x f : ℕ) (a b : List ℕ) (P : List ℕ → Type 0) → (x ≡ f → P a) → (x ≢ f → P b) → P (cond (x == f) a b)
-by_test x f a b P p q = cond_both (x == f) a b P (λ e. p (eq_from x f e)) (λ e. q (ne_from x f e))
+by_test x f a b P p q = cond_both (x == f) a b P (λ e. p (eqb-true x f e)) (λ e. q (eqb-false x f e))
 
 module _ (f m : ℕ) where
   in_old : (x : ℕ) (xs : List ℕ) → In x xs → In x (insert f m xs)
   in_old x [] h = h
-  in_old x (y ∷ ys) (inl e) = by_test y f (y ∷ m ∷ ys) (y ∷ insert f m ys) (λ l. In x l) (λ _. inl e) (λ _. inl e)
-  in_old x (y ∷ ys) (inr h) = by_test y f (y ∷ m ∷ ys) (y ∷ insert f m ys) (λ l. In x l) (λ _. inr (inr h)) (λ _. inr (in_old x ys h))
+  in_old x (y ∷ ys) h = grind (arith, in_old x ys)
 
   in_new : (xs : List ℕ) → In f xs → In m (insert f m xs)
   in_new [] h = absurd h
-  in_new (y ∷ ys) (inl e) = by_test y f (y ∷ m ∷ ys) (y ∷ insert f m ys) (λ l. In m l) (λ _. inr (inl refl)) (λ b. absurd (b (sym e)))
-  in_new (y ∷ ys) (inr h) = by_test y f (y ∷ m ∷ ys) (y ∷ insert f m ys) (λ l. In m l) (λ _. inr (inl refl)) (λ _. inr (in_new ys h))
-
-  first_parts : (x y : ℕ) (ys : List ℕ) → In x (y ∷ m ∷ ys) → (x ≡ m) ⊎ In x (y ∷ ys)
-  first_parts x y ys (inl e) = inr (inl e)
-  first_parts x y ys (inr (inl e)) = inl e
-  first_parts x y ys (inr (inr g)) = inr (inr g)
-
-  later_parts : (x y : ℕ) (ys : List ℕ) → (In x (insert f m ys) → (x ≡ m) ⊎ In x ys) → In x (y ∷ insert f m ys) → (x ≡ m) ⊎ In x (y ∷ ys)
-  later_parts x y ys ih (inl e) = inr (inl e)
-  later_parts x y ys ih (inr g) = elim (ih g) [ inl e ↦ inl e | inr h ↦ inr (inr h) ]
+  in_new (y ∷ ys) h = grind (arith, in_new ys)
 
   in_parts : (x : ℕ) (xs : List ℕ) → In x (insert f m xs) → (x ≡ m) ⊎ In x xs
   in_parts x [] h = absurd h
-  in_parts x (y ∷ ys) h =
-      by_test y f (y ∷ m ∷ ys) (y ∷ insert f m ys) (λ l. In x l → (x ≡ m) ⊎ In x (y ∷ ys)) (λ _ g. first_parts x y ys g) (λ _ g. later_parts x y ys (in_parts x ys) g) h
+  in_parts x (y ∷ ys) h = grind (arith, in_parts x ys)
 
   length_insert : (xs : List ℕ) → In f xs → length (insert f m xs) ≡ suc (length xs)
   length_insert [] h = absurd h
-  length_insert (y ∷ ys) (inl e) = by_test y f (y ∷ m ∷ ys) (y ∷ insert f m ys) (λ l. length l ≡ suc (length (y ∷ ys))) (λ _. refl) (λ b. absurd (b (sym e)))
-  length_insert (y ∷ ys) (inr h) = by_test y f (y ∷ m ∷ ys) (y ∷ insert f m ys) (λ l. length l ≡ suc (length (y ∷ ys))) (λ _. refl) (λ _. ap suc (length_insert ys h))
-
-  apart_first : (y : ℕ) (ys : List ℕ) → (In y ys → ⊥) → (In m (y ∷ ys) → ⊥) → In y (m ∷ ys) → ⊥
-  apart_first y ys a b (inl e) = b (inl (sym e))
-  apart_first y ys a b (inr g) = a g
-
-  apart_later : (y : ℕ) (ys : List ℕ) → (In y ys → ⊥) → (In m (y ∷ ys) → ⊥) → (y ≡ m) ⊎ In y ys → ⊥
-  apart_later y ys a b (inl e) = b (inl (sym e))
-  apart_later y ys a b (inr g) = a g
+  length_insert (y ∷ ys) h = grind (arith, length_insert ys)
 
   apart_insert : (xs : List ℕ) → IsApart xs → (In m xs → ⊥) → IsApart (insert f m xs)
   apart_insert [] h no' = h
   apart_insert (y ∷ ys) h no' =
-      let here : IsApart (y ∷ m ∷ ys) = (apart_first y ys h.0 no', ((λ g. no' (inr g)), h.1)) in
-      let there : IsApart (y ∷ insert f m ys) = ((λ g. apart_later y ys h.0 no' (in_parts y ys g)), apart_insert ys h.1 (λ g. no' (inr g))) in
-      by_test y f (y ∷ m ∷ ys) (y ∷ insert f m ys) (λ l. IsApart l) (λ _. here) (λ _. there)
+      by_test y f (y ∷ m ∷ ys) (y ∷ insert f m ys) (λ l. IsApart l)
+      (λ _. ((λ g. grind (arith, h.0, no')), ((λ g. no' (inr g)), h.1)))
+      (λ _. ((λ g. grind (arith, h.0, no', in_parts y ys g)), apart_insert ys h.1 (λ g. no' (inr g))))
 
 module _ (next put : List ℕ) (n : ℕ) where
   agree : (a : ℕ) (xs : List ℕ) → ((x : ℕ) → In x xs → get_or put x 0 ≡ get_or next x 0) → IsLinked next n a xs → IsLinked put n a xs
@@ -76,16 +49,14 @@ module _ (next put : List ℕ) (n : ℕ) where
       let tail : IsLinked put n (get_or next x 0) xs = agree (get_or next x 0) xs (λ y g. same y (inr g) (λ k. apart.0 (subst (λ z. In z xs) (k ∙ sym e) g))) l.1 in
       (l.0, (ap (λ z. get_or put z 0) e ∙ at_f, subst (λ b. IsLinked put n b xs) (ap (λ z. get_or next z 0) e ∙ sym at_m) tail))
 
-  in_later : (f x : ℕ) (xs : List ℕ) → In f (x ∷ xs) → x ≢ f → In f xs
-  in_later f x xs (inl e) ne = absurd (ne (sym e))
-  in_later f x xs (inr g) ne = g
-
   linked_insert : (f m a : ℕ) (xs : List ℕ) → get_or put f 0 ≡ m → get_or put m 0 ≡ get_or next f 0 → ((x : ℕ) → In x xs → x ≢ f → get_or put x 0 ≡ get_or next x 0) → In f xs → IsApart xs →
       IsLinked next n a xs → IsLinked put n a (insert f m xs)
   linked_insert f m a [] at_f at_m same h apart l = absurd h
   linked_insert f m a (x ∷ xs) at_f at_m same h apart l =
       by_test x f (x ∷ m ∷ xs) (x ∷ insert f m xs) (λ ys. IsLinked put n a ys) (λ e. after_it f m a x xs at_f at_m same apart l e)
-      (λ ne. (l.0, linked_insert f m (get_or put x 0) xs at_f at_m (λ y k. same y (inr k)) (in_later f x xs h ne) apart.1 (subst (λ b. IsLinked next n b xs) (sym (same x (inl refl) ne)) l.1)))
+      (λ ne. (
+      let later : In f xs = elim h [ inl e ↦ absurd (ne (sym e)) | inr g ↦ g ] in
+      (l.0, linked_insert f m (get_or put x 0) xs at_f at_m (λ y k. same y (inr k)) later apart.1 (subst (λ b. IsLinked next n b xs) (sym (same x (inl refl) ne)) l.1))))
 
 module _ (up : ℕ → ℕ) (n : ℕ) (next : List ℕ) (m : ℕ) (tour : IsTour up n next m) (lt : m < n) where
   abbrev put : List ℕ
@@ -110,18 +81,14 @@ module _ (up : ℕ → ℕ) (n : ℕ) (next : List ℕ) (m : ℕ) (tour : IsTour
     steps_m : Steps m
     steps_m = elim (tour.steps (up m) le) [ inl z ↦ inl (read_m ∙ z) | inr s ↦ inr (suc s.0, s.1 ∙ ap up (sym read_m)) ]
 
-    steps_up : Steps (up m)
-    steps_up = inr (0, ap up (sym read_up))
-
     steps_other : (a : ℕ) → a ≤ n → a ≢ up m → a ≢ m → Steps a
     steps_other a la x y = elim (tour.steps a la) [ inl z ↦ inl (read_other a x y ∙ z) | inr s ↦ inr (s.0, s.1 ∙ ap up (sym (read_other a x y))) ]
 
     steps_put : (a : ℕ) → a ≤ n → Steps a
-    steps_put a la =
-        elim (cases_eq a (up m)) [
-          | inl e ↦ subst Steps (sym e) steps_up
-          | inr x ↦ elim (cases_eq a m) [ inl e ↦ subst Steps (sym e) steps_m | inr y ↦ steps_other a la x y ]
-        ]
+    steps_put a la = elim (cases_eq a (up m)) [
+      | inl e ↦ subst Steps (sym e) (inr (0, ap up (sym read_up)))
+      | inr x ↦ elim (cases_eq a m) [ inl e ↦ subst Steps (sym e) steps_m | inr y ↦ steps_other a la x y ]
+    ]
 
     fresh : In m tour.list → ⊥
     fresh h = omega (arith, tour.below m h)
@@ -143,14 +110,10 @@ module _ (up : ℕ → ℕ) (n : ℕ) (next : List ℕ) (m : ℕ) (tour : IsTour
         );
         count = ap suc tour.count;
         apart = (fresh le ne, tour.apart);
-        below = below_top;
+        below = λ x h. grind (arith, tour.below x);
         all = λ x h. among le ne x h (λ y. In y (m ∷ tour.list)) (inl refl) (λ l. inr (tour.all x l));
         steps = steps_put le ne;
       }
-    where
-      below_top : (x : ℕ) → In x (m ∷ tour.list) → x < suc m
-      below_top x (inl g) = omega (arith, g)
-      below_top x (inr h) = omega (arith, tour.below x h)
 
   tour_under : up m < m → IsTour up n put (suc m)
   tour_under low =
@@ -165,14 +128,10 @@ module _ (up : ℕ → ℕ) (n : ℕ) (next : List ℕ) (m : ℕ) (tour : IsTour
             (subst (λ b. IsLinked next n b tour.list) (sym (read_other le ne n (λ g. omega (arith, g, low, lt)) (λ g. omega (arith, g, lt)))) tour.linked);
         count = length_insert (up m) m tour.list has ∙ ap suc tour.count;
         apart = apart_insert (up m) m tour.list tour.apart (fresh le ne);
-        below = λ x h. below_in x (in_parts (up m) m x tour.list h);
+        below = λ x h. grind (arith, in_parts (up m) m x tour.list h, tour.below x);
         all = λ x h. among le ne x h (λ y. In y (insert (up m) m tour.list)) (in_new (up m) m tour.list has) (λ l. in_old (up m) m x tour.list (tour.all x l));
         steps = steps_put le ne;
       }
-    where
-      below_in : (x : ℕ) → (x ≡ m) ⊎ In x tour.list → x < suc m
-      below_in x (inl g) = omega (arith, g)
-      below_in x (inr h) = omega (arith, tour.below x h)
 
   -- the place m more
   pub tour_add : (up m < m) ⊎ (up m ≡ n) → IsTour up n put (suc m)

@@ -1,18 +1,17 @@
 -- A climb to the first element whose depth is known gives each element that it passed its own, since a text leads to an element by way of its parent.
-use Rattle.std.proofs.Common.{◌≡◌, ◌≢◌, ℕ, zero, suc, ◌+◌, ◌<◌, ◌≤◌, ◌⊎◌, inl, inr, List, [], ◌∷◌, length, get_or, set, replicate, Option, Some, None, refl, sym, ap, ◌∙◌, arith, subst, length-append}
-use Rattle.std.specs.Prelude.{option_and_then}
+use Rattle.std.proofs.Common.{◌≡◌, ◌≢◌, ℕ, zero, suc, ◌+◌, ◌<◌, ◌≤◌, inl, inr, List, [], ◌∷◌, length, get_or, set, replicate, Option, Some, None, refl, sym, ap, ◌∙◌, arith, subst, length-append}
 use Rattle.std.proofs.lemmas.List.{get_or-replicate, get_or-set_same, get_or-set_other, length-set, length-replicate}
-use Rattle.std.proofs.lemmas.Option.{same_Some, slice_get-get_or}
-use Rattle.daachorse_model.specs.Paths.{walk}
+use Rattle.std.proofs.lemmas.Bool.{cases_eq}
+use Rattle.std.proofs.lemmas.Option.{none-some, same_Some, slice_get-get_or}
 use Rattle.daachorse_machine.specs.Texts.{IsReached}
-use Rattle.daachorse_machine.proofs.PathLaws.{and_then_inv}
 use Rattle.std.specs.List.{AllByRecursion}
 use Rattle.daachorse_listing.specs.Climbs.{AreKnown, IsDepthOf, IsPathBelow, deepened}
 use Rattle.daachorse_listing.specs.Depths.{IsDepthTable}
 use Rattle.daachorse_listing.specs.Edges.{IsTree, TellChildren}
 use Rattle.daachorse_listing.specs.Trees.{IsAmong, text}
+use Rattle.daachorse_listing.proofs.EntryLaws.{parent-of}
 use Rattle.daachorse_listing.proofs.Members.{All-among, among-either}
-use Rattle.daachorse_listing.proofs.WalkLaws.{root-text, root-reached, reached-inside, reached-is, child-text, child-reached}
+use Rattle.daachorse_listing.proofs.WalkLaws.{root-text, root-reached, reached-inside, child-text, child-reached}
 
 -- ---- entries that are 0
 
@@ -48,16 +47,6 @@ deepened-kept [] depths d i some = some
 deepened-kept (x ∷ path) depths d i some = deepened-kept path (set depths x (suc d)) (suc d) i (set-kept depths i x d some)
 
 -- ---- parents
-
--- a text from element i to x is empty, or its last unit leads there
-last-step : (child : ℕ → ℕ → Option ℕ) (w : List ℕ) (i x : ℕ) → walk child i w ≡ Some x → (i ≡ x) ⊎ ((v : List ℕ) × (q : ℕ) × (c : ℕ) × (walk child i v ≡ Some q) × (child q c ≡ Some x))
-last-step child [] i x e = inl (same_Some i x e)
-last-step child (c ∷ w) i x e =
-    let inner = and_then_inv (λ j. walk child j w) (child i c) x e in
-    elim (last-step child w inner.0 x inner.2) [
-      | inl same ↦ inr ([], i, c, refl, inner.1 ∙ ap (λ k. Some k) same)
-      | inr more ↦ inr (c ∷ more.0, more.1, more.2, ap (λ o. option_and_then (λ j. walk child j more.0) o) inner.1 ∙ more.3, more.4)
-    ]
 
 module _ (child : ℕ → ℕ → Option ℕ) (n m : ℕ) where
   -- x is reached where p is, with one unit more
@@ -158,11 +147,10 @@ module _ {child : ℕ → ℕ → Option ℕ} {n m : ℕ} (tree : IsTree child n
       here = inl (below.0.0, written ∙ sym below.0.1)
 
       known : (i : ℕ) → i < n → get_or (set depths x (suc d)) i 0 ≢ 0 → ¬ IsAmong path i → IsDepthOf child n m i (get_or (set depths x (suc d)) i 0)
-      known i low is out = elim (among-either (x ∷ []) i) [
-        | inl a ↦ elim a [ inl same ↦ (let P : ℕ → Type 0 = λ q. IsDepthOf child n m q (get_or (set depths x (suc d)) q 0) in subst P (sym same) here) | inr bad ↦ absurd bad ]
-        | inr apart ↦ (
-            let same = other i (λ e. apart (inl e)) in
-            subst (IsDepthOf child n m i) (sym same) (k.known i low (λ e. is (same ∙ e)) (λ a. elim a [ inl e ↦ apart (inl e) | inr old ↦ out old ])))
+      known i low is out = elim (cases_eq i x) [
+        | inl same ↦ (let P : ℕ → Type 0 = λ q. IsDepthOf child n m q (get_or (set depths x (suc d)) q 0) in subst P (sym same) here)
+        | inr apart ↦
+            subst (IsDepthOf child n m i) (sym (other i apart)) (k.known i low (λ e. is (other i apart ∙ e)) (λ a. elim a [ inl e ↦ apart e | inr old ↦ out old ]))
       ]
 
       next : AreKnown child n m path (set depths x (suc d))
@@ -221,12 +209,9 @@ module _ {child : ℕ → ℕ → Option ℕ} {n m : ℕ} (tree : IsTree child n
   module _ {edge : ℕ → Option (ℕ × ℕ)} (tell : TellChildren child (λ i. Some i) edge n) where
     -- an element that is reached and is not the root has a parent
     parent-reached : (x : ℕ) → 0 < x → IsReached child m n x → (q : ℕ) × (c : ℕ) × IsReached child m n q × (edge x ≡ Some (q, c))
-    parent-reached x some r = elim (last-step child (text child n m x) 0 x r) [
-      | inl same ↦ absurd (omega (arith, some, same))
-      | inr step ↦ (
-          let up = reached-is tree step.0 step.1 step.3 in
-          (step.1, step.2, up, tell.from_child step.1 step.1 step.2 x (reached-inside tree step.1 up) refl step.4))
-    ]
+    parent-reached x some r =
+        let up = parent-of tree x r (λ e. omega (arith, some, e)) in
+        (up.0, up.1, up.2, tell.from_child up.0 up.0 up.1 x (reached-inside tree up.0 up.2) refl up.3)
 
     -- an element is below its parent
     pub edge-below : (x p u : ℕ) → 0 < x → x < n → p < n → edge x ≡ Some (p, u) → IsBelow child n m x p
@@ -244,4 +229,4 @@ module _ {child : ℕ → ℕ → Option ℕ} {n m : ℕ} (tree : IsTree child n
     climb-orphan path p climb some none i a r = elim a [ inl same ↦ alone (subst (IsReached child m n) same r) | inr old ↦ alone (climb-reached path p i climb old r) ]
       where
         alone : ¬ IsReached child m n p
-        alone up = let above = parent-reached p some up in let bad : ◌≡◌ {A = Option (ℕ × ℕ)} None (Some (above.0, above.1)) = sym none ∙ above.3 in cc
+        alone up = let above = parent-reached p some up in none-some (above.0, above.1) (sym none ∙ above.3)

@@ -1,22 +1,16 @@
 -- The texts of elements that are put aside begin as that of the element that was taken last, in all units but their own last: this one is written when the element is taken, and its text stands there for its children.
 use Rattle.std.proofs.Common.{◌≡◌, ◌≢◌, ℕ, zero, suc, ◌<◌, ◌≤◌, ◌-◌, inl, inr, List, [], ◌∷◌, ◌++◌, length, take, map, Option, Some, refl, sym, ap, ◌∙◌, arith, length-append}
-use Rattle.std.proofs.lemmas.List.{nil_from_length, take-append-le, take_all}
+use Rattle.std.proofs.lemmas.List.{nil_from_length, take-append-le, take-take, take_all}
 use Rattle.std.proofs.lemmas.Option.{same_Some}
 use Rattle.std.specs.List.{AllByRecursion}
 use Rattle.daachorse_model.specs.Paths.{walk}
 use Rattle.daachorse_model.proofs.Lists.{ends_in}
+use Rattle.daachorse_model.proofs.Paths.{push-parts}
 use Rattle.daachorse_machine.specs.Texts.{IsReached}
-use Rattle.daachorse_machine.proofs.PathLaws.{and_then_inv, walk-split}
 use Rattle.daachorse_listing.specs.Edges.{IsTree, TellChildren, put_before}
 use Rattle.daachorse_listing.specs.Listing.{AreEntries, IsEntry, unit_of}
 use Rattle.daachorse_listing.specs.Trees.{text}
 use Rattle.daachorse_listing.proofs.WalkLaws.{root-text, reached-is, reached-inside, child-text, unit-is}
-
-take-within : (k j : ℕ) (l : List ℕ) → k ≤ j → take k (take j l) ≡ take k l
-take-within zero j l h = refl
-take-within (suc k) zero l h = absurd (omega arith)
-take-within (suc k) (suc j) [] h = refl
-take-within (suc k) (suc j) (x ∷ l) h = ap (λ w. x ∷ w) (take-within k j l (omega arith))
 
 -- the elements of entries that are put before others
 pub entries-elements : (depth : ℕ) (kids : List ℕ) (l : List (ℕ × ℕ)) → map (λ e. e.1) (put_before (map (λ j. (depth, j)) kids) l) ≡ put_before kids (map (λ e. e.1) l)
@@ -40,7 +34,7 @@ module _ (child : ℕ → ℕ → Option ℕ) (n m : ℕ) where
   entries-written last_text new depth most [] same low h = tt
   entries-written last_text new depth most (e ∷ l) same low h =
       let fewer : e.0 - 1 ≤ depth - 1 = omega (arith, h.0, low) in
-      let begun : take (e.0 - 1) new ≡ take (e.0 - 1) last_text = sym (take-within (e.0 - 1) (depth - 1) new fewer) ∙ (ap (take (e.0 - 1)) same ∙ take-within (e.0 - 1) (depth - 1) last_text fewer) in
+      let begun : take (e.0 - 1) new ≡ take (e.0 - 1) last_text = sym (take-take (e.0 - 1) (depth - 1) new fewer) ∙ (ap (take (e.0 - 1)) same ∙ take-take (e.0 - 1) (depth - 1) last_text fewer) in
       (h.0, (h.1.0, begun ∙ h.1.1), entries-written last_text new depth e.0 l same (omega (arith, h.0, low)) h.2)
 
 module _ {child : ℕ → ℕ → Option ℕ} {n m : ℕ} (tree : IsTree child n m) where
@@ -49,9 +43,8 @@ module _ {child : ℕ → ℕ → Option ℕ} {n m : ℕ} (tree : IsTree child n
   parent-of i r other = elim (ends_in (text child n m i)) [
     | inl none ↦ absurd (other (sym (same_Some 0 i (ap (walk child 0) (sym none) ∙ r))))
     | inr ends ↦ (
-        let halves = walk-split child 0 i ends.0 (ends.1 ∷ []) (ap (walk child 0) (sym ends.2) ∙ r) in
-        let step = and_then_inv (λ j. walk child j []) (child halves.0 ends.1) i halves.2 in
-        (halves.0, ends.1, reached-is tree ends.0 halves.0 halves.1, step.1 ∙ step.2))
+        let parts = push-parts child 0 ends.0 ends.1 i (ap (walk child 0) (sym ends.2) ∙ r) in
+        (parts.0, ends.1, reached-is tree ends.0 parts.0 parts.1, parts.2))
   ]
 
   -- its last unit is written behind the others

@@ -1,16 +1,10 @@
 -- Lists keep their numbers while the table grows: a link leads to numbers before it alone. So one pass over the elements, each put before the others of its group, makes the list of each group.
-use Rattle.std.proofs.Common.{◌≡◌, ◌≢◌, ℕ, zero, suc, ◌+◌, ◌-◌, ◌<◌, ◌≤◌, ◌⊎◌, inl, inr, true, false, cond, ◌==◌, List, [], ◌∷◌, ◌++◌, length, map, get_or, set, replicate, Option, Some, None, refl, sym, ap, ◌∙◌, arith, length-append, add-one, sub-one}
-use Rattle.std.proofs.lemmas.List.{get_or_append_left, get_or_past, get_or-replicate, get_or-set_same, get_or-set_other, length-set, length-replicate}
+use Rattle.std.proofs.Common.{◌≡◌, ℕ, zero, suc, ◌+◌, ◌-◌, ◌<◌, ◌≤◌, inl, inr, List, [], ◌∷◌, ◌++◌, length, map, get_or, set, replicate, Option, Some, None, refl, sym, ap, ◌∙◌, arith, length-append, add-one, sub-one}
+use Rattle.std.proofs.lemmas.List.{get_or-map, get_or_push, get_or_append_left, get_or_past, get_or-replicate, get_or-set_same, get_or-set_other, length-set, length-replicate}
+use Rattle.std.proofs.lemmas.Bool.{cases_eq, cases_order, eq-eqb, ne_eqb}
 use Rattle.std.proofs.Math.Seq.{get_or-append_seam}
-use Rattle.daachorse_model.proofs.Booleans.{either}
 use Rattle.daachorse_listing.specs.Edges.{is_in, members}
 use Rattle.daachorse_listing.specs.Linked.{numbers_from, list_from, IsPut}
-
-place : (q n : ℕ) → (q < n) ⊎ ((q ≡ n) ⊎ (n < q))
-place zero zero = inr (inl refl)
-place zero (suc n) = inl (omega arith)
-place (suc q) zero = inr (inr (omega arith))
-place (suc q) (suc n) = elim (place q n) [ inl h ↦ inl (omega arith) | inr r ↦ elim r [ inl e ↦ inr (inl (ap (λ k. suc k) e)) | inr h ↦ inr (inr (omega arith)) ] ]
 
 module _ (next : List ℕ) (fall : (q : ℕ) → get_or next q 0 ≤ q) where
   -- any number of steps that is enough gives the same
@@ -38,23 +32,20 @@ module _ (next : List ℕ) (fall : (q : ℕ) → get_or next q 0 ≤ q) where
 
   -- ---- one more number
   module _ (x : ℕ) (back : x ≤ length next) where
-    fall-push : (q : ℕ) → (q < length next) ⊎ ((q ≡ length next) ⊎ (length next < q)) → get_or (next ++ x ∷ []) q 0 ≤ q
-    fall-push q (inl h) = let e : get_or (next ++ x ∷ []) q 0 ≡ get_or next q 0 = get_or_append_left next (x ∷ []) 0 q h in rw e (fall q)
-    fall-push q (inr (inl h)) = let e : get_or (next ++ x ∷ []) (length next) 0 ≡ x = get_or-append_seam next x [] 0 in rw (h, e) back
-    fall-push q (inr (inr h)) =
-        let none : get_or (next ++ x ∷ []) q 0 ≡ 0 = get_or_past (next ++ x ∷ []) q 0 (omega (arith, length-append next (x ∷ []))) in
-        rw none (omega arith)
-
     pub falls-push : (q : ℕ) → get_or (next ++ x ∷ []) q 0 ≤ q
-    falls-push q = fall-push q (place q (length next))
+    falls-push q = elim (cases_order q (length next)) [
+      | inl same ↦ omega (arith, back, same, get_or_push next x 0 q (sym same))
+      | inr other ↦ elim other [
+        | inl less ↦ omega (arith, get_or_append_left next (x ∷ []) 0 q less, fall q)
+        | inr more ↦ omega (arith, get_or_past (next ++ x ∷ []) q 0 (omega (arith, length-append next (x ∷ []))))
+      ]
+    ]
 
     steps-push : (s link : ℕ) → link ≤ length next → numbers_from (next ++ x ∷ []) s link ≡ numbers_from next s link
     steps-push zero link h = refl
     steps-push (suc s) zero h = refl
     steps-push (suc s) (suc q) h =
-        let same : get_or (next ++ x ∷ []) q 0 ≡ get_or next q 0 = get_or_append_left next (x ∷ []) 0 q (omega arith) in
-        let back : get_or next q 0 ≤ q = fall q in
-        ap (λ n. q ∷ numbers_from (next ++ x ∷ []) s n) same ∙ ap (λ l. q ∷ l) (steps-push s (get_or next q 0) (omega (arith, back)))
+        rw (get_or_append_left next (x ∷ []) 0 q (omega arith)) (ap (λ l. q ∷ l) (steps-push s (get_or next q 0) (omega (arith, fall q))))
 
     -- the list of another number stays
     pub list-push-other : (link : ℕ) → link ≤ length next → list_from (next ++ x ∷ []) link ≡ list_from next link
@@ -63,9 +54,7 @@ module _ (next : List ℕ) (fall : (q : ℕ) → get_or next q 0 ≤ q) where
     -- the list that the new number begins
     pub list-push-first : list_from (next ++ x ∷ []) (suc (length next)) ≡ length next ∷ list_from next x
     list-push-first =
-        let last : get_or (next ++ x ∷ []) (length next) 0 ≡ x = get_or-append_seam next x [] 0 in
-        ap (λ n. length next ∷ numbers_from (next ++ x ∷ []) (length next) n) last
-        ∙ ap (λ l. length next ∷ l) (steps-push (length next) x back ∙ steps-same (length next) x x back (omega arith))
+        rw (get_or-append_seam next x [] 0) (ap (λ l. length next ∷ l) (steps-push (length next) x back ∙ steps-same (length next) x x back (omega arith)))
 
 -- the lists of n groups, of the first k elements
 pub record IsGrouped (edge : ℕ → Option (ℕ × ℕ)) (n k : ℕ) (first next : List ℕ) : Type 0 where
@@ -104,9 +93,7 @@ module _ (edge : ℕ → Option (ℕ × ℕ)) (n k : ℕ) (first next : List ℕ
     made = one-more 0;
     fall = falls-push next h.fall 0 (omega arith);
     inside = λ g less. (let low = h.inside g less in omega (arith, low));
-    lists = λ g less.
-        list-push-other next h.fall 0 (omega arith) (get_or first g 0) (let low = h.inside g less in let made = h.made in omega (arith, low, made))
-        ∙ (h.lists g less ∙ ap (λ o. cond (is_in g o) (k ∷ members edge g k) (members edge g k)) (sym e));
+    lists = λ g less. rw e (list-push-other next h.fall 0 (omega arith) (get_or first g 0) (omega (arith, h.inside g less, h.made)) ∙ h.lists g less);
   }
 
   -- an element of group g
@@ -115,37 +102,25 @@ module _ (edge : ℕ → Option (ℕ × ℕ)) (n k : ℕ) (first next : List ℕ
     size = length-set first g (suc k) ∙ h.size;
     made = one-more (get_or first g 0);
     fall = falls-push next h.fall (get_or first g 0) back;
-    inside = λ q less. elim (either (q == g)) [
-      | inl t ↦ (let same : q ≡ g = grind (arith, t) in let z : get_or (set first g (suc k)) g 0 ≡ suc k = get_or-set_same first g (suc k) 0 within in rw (same, z) (omega arith))
-      | inr t ↦ (let other : q ≢ g = grind (arith, t) in let z : get_or (set first g (suc k)) q 0 ≡ get_or first q 0 = get_or-set_other first g q (suc k) 0 other in let low = h.inside q less in rw z (omega (arith, low)))
+    inside = λ q less. elim (cases_eq q g) [
+      | inl same ↦ rw (same, get_or-set_same first g (suc k) 0 within) (omega arith)
+      | inr other ↦ rw (get_or-set_other first g q (suc k) 0 other) (omega (arith, h.inside q less))
     ];
-    lists = λ q less. at q less (either (g == q));
+    lists = λ q less. elim (cases_eq q g) [
+      | inl same ↦
+          rw (same, get_or-set_same first g (suc k) 0 within, ap (is_in g) e ∙ eq-eqb g g refl)
+          ((rw h.made at (list-push-first next h.fall (get_or first g 0) back)) ∙ ap (λ l. k ∷ l) (h.lists g real ∙ ap (λ i. members edge i k) (sym same)))
+      | inr other ↦
+          rw (get_or-set_other first g q (suc k) 0 other, ap (is_in q) e ∙ ne_eqb g q (λ same. other (sym same)))
+          (list-push-other next h.fall (get_or first g 0) back (get_or first q 0) (omega (arith, h.inside q less, h.made)) ∙ h.lists q less)
+    ];
   }
     where
       back : get_or first g 0 ≤ length next
-      back = let low = h.inside g real in let made = h.made in omega (arith, low, made)
+      back = omega (arith, h.inside g real, h.made)
 
       within : g < length first
-      within = let size = h.size in omega (arith, size, real)
-
-      at : (q : ℕ) → q < n → ((g == q) ≡ true) ⊎ ((g == q) ≡ false)
-          → list_from (next ++ get_or first g 0 ∷ []) (get_or (set first g (suc k)) q 0) ≡ members edge q (suc k)
-      at q less (inl t) =
-          let same : g ≡ q = grind (arith, t) in
-          let z : get_or (set first g (suc k)) q 0 ≡ suc (length next) = ap (λ i. get_or (set first g (suc k)) i 0) (sym same) ∙ (get_or-set_same first g (suc k) 0 within ∙ ap (λ i. suc i) (sym h.made)) in
-          let test : is_in q (edge k) ≡ true = ap (is_in q) e ∙ t in
-          ap (list_from (next ++ get_or first g 0 ∷ [])) z
-          ∙ (list-push-first next h.fall (get_or first g 0) back
-          ∙ (ap (λ i. i ∷ list_from next (get_or first g 0)) h.made
-          ∙ (ap (λ l. k ∷ l) (h.lists g real ∙ ap (λ i. members edge i k) same) ∙ ap (λ b. cond b (k ∷ members edge q k) (members edge q k)) (sym test))))
-      at q less (inr t) =
-          let other : q ≢ g = grind (arith, t) in
-          let z : get_or (set first g (suc k)) q 0 ≡ get_or first q 0 = get_or-set_other first g q (suc k) 0 other in
-          let test : is_in q (edge k) ≡ false = ap (is_in q) e ∙ t in
-          let low : get_or first q 0 ≤ length next = let l = h.inside q less in let made = h.made in omega (arith, l, made) in
-          ap (list_from (next ++ get_or first g 0 ∷ [])) z
-          ∙ (list-push-other next h.fall (get_or first g 0) back (get_or first q 0) low
-          ∙ (h.lists q less ∙ ap (λ b. cond b (k ∷ members edge q k) (members edge q k)) (sym test)))
+      within = omega (arith, h.size, real)
 
 pub grouped-next : (edge : ℕ → Option (ℕ × ℕ)) (n k : ℕ) (first new next then : List ℕ) (link : ℕ) → IsGrouped edge n k first next → IsPut (edge k) k first new link → then ≡ next ++ link ∷ [] → IsGrouped edge n (k + 1) new then
 grouped-next edge n k first new next then link h put e = rw (e, add-one k) (at (edge k) refl put)
@@ -159,9 +134,4 @@ grouped-next edge n k first new next then link h put e = rw (e, add-one k) (at (
 
 -- the lists of all groups, read as one table
 pub grouped-list : (edge : ℕ → Option (ℕ × ℕ)) (n k : ℕ) (first next : List ℕ) → IsGrouped edge n k first next → (g : ℕ) → g < n → get_or (map (list_from next) first) g [] ≡ members edge g k
-grouped-list edge n k first next h g less = get_or-mapped first g (let size = h.size in omega (arith, size, less)) ∙ h.lists g less
-  where
-    get_or-mapped : (l : List ℕ) (i : ℕ) → i < length l → get_or (map (list_from next) l) i [] ≡ list_from next (get_or l i 0)
-    get_or-mapped [] i less = absurd (omega arith)
-    get_or-mapped (x ∷ l) zero less = refl
-    get_or-mapped (x ∷ l) (suc i) less = get_or-mapped l i (omega arith)
+grouped-list edge n k first next h g less = get_or-map (list_from next) first g 0 [] (omega (arith, h.size, less)) ∙ h.lists g less

@@ -6,6 +6,7 @@ use Rattle.std.specs.declared.cmp.Ordering.{Ordering}
 use Rattle.std.specs.declared.cmp.Ordering.TheVariants.{Less, Equal}
 use Rattle.std.specs.Ordering.{is_lt, ordering_reverse}
 use Rattle.std.specs.Cmp.Lexicographic.{nat_list_cmp_total}
+use Rattle.std.proofs.lemmas.List.{append-nil}
 use Rattle.std.proofs.lemmas.Slice.Eq.{bytes_eq-Decides}
 use Rattle.daachorse_core.specs.declared.outputs.Output.{Output}
 use Rattle.daachorse_core.specs.Outputs.{value_of, length_of, parent_of, ParentsFall}
@@ -33,27 +34,18 @@ module _ {V : Type 0} (outputs : List (Output V)) (falls : ParentsFall outputs) 
   values-steps (suc s) zero stop zero h k = refl
   values-steps (suc s) zero stop (suc q) h k = absurd (omega arith)
   values-steps (suc s) (suc t) stop zero h k = refl
-  values-steps (suc s) (suc t) stop (suc q) h k = ap (cond (suc q == stop) []) (at (slice_get outputs q) refl (λ r. values-steps s t stop r))
-    where
-      at : (o : Option (Output V)) → slice_get outputs q ≡ o → ((r : ℕ) → r ≤ s → r ≤ t → values_from outputs s stop r ≡ values_from outputs t stop r)
-          → value_then outputs o (λ r. values_from outputs s stop r) ≡ value_then outputs o (λ r. values_from outputs t stop r)
-      at None e more = refl
-      at (Some o) e more = let low : parent_of o ≤ q = falls q o e in ap (λ l. value_of o ∷ l) (more (parent_of o) (omega (arith, low, h)) (omega (arith, low, k)))
+  values-steps (suc s) (suc t) stop (suc q) h k = grind (arith, falls q, values-steps s t stop)
 
   -- one value, and then those of the next position
   pub values_until-step : (stop q : ℕ) (o : Output V) → suc q ≢ stop → slice_get outputs q ≡ Some o → values_until outputs stop (suc q) ≡ value_of o ∷ values_until outputs stop (parent_of o)
   values_until-step stop q o other e =
-      let test : (suc q == stop) ≡ false = grind (arith, other) in
       let low : parent_of o ≤ q = falls q o e in
-      ap (λ b. cond b [] (value_then outputs (slice_get outputs q) (λ r. values_from outputs q stop r))) test
-      ∙ (ap (λ x. value_then outputs x (λ r. values_from outputs q stop r)) e ∙ ap (λ l. value_of o ∷ l) (values-steps q (parent_of o) stop (parent_of o) low (omega arith)))
+      grind (arith, values-steps q (parent_of o) stop (parent_of o))
 
   -- nothing is left where the end is reached
   pub values_until-end : (stop p : ℕ) → (p ≡ stop) ⊎ (p ≡ 0) → values_until outputs stop p ≡ []
   values_until-end stop zero h = refl
-  values_until-end stop (suc q) (inl e) =
-      let test : (suc q == stop) ≡ true = grind (arith, e) in
-      ap (λ b. cond b [] (value_then outputs (slice_get outputs q) (λ r. values_from outputs q stop r))) test
+  values_until-end stop (suc q) (inl e) = grind arith
   values_until-end stop (suc q) (inr e) = absurd (omega arith)
 
   -- the own values end where the chain goes on
@@ -65,22 +57,14 @@ module _ {V : Type 0} (outputs : List (Output V)) (falls : ParentsFall outputs) 
       go : (o : Option (Output V)) → slice_get outputs q ≡ o → ((r : ℕ) → r ≤ q → ((own_from outputs s n r).1 ≤ r) × ((stop : ℕ) → (own_from outputs s n r).1 ≡ stop → values_from outputs s stop r ≡ (own_from outputs s n r).0))
           → ((own_step outputs o n q (λ r. own_from outputs s n r)).1 ≤ suc q)
           × ((stop : ℕ) → (own_step outputs o n q (λ r. own_from outputs s n r)).1 ≡ stop → cond (suc q == stop) [] (value_then outputs o (λ r. values_from outputs s stop r)) ≡ (own_step outputs o n q (λ r. own_from outputs s n r)).0)
-      go None is more = (omega arith, λ stop e. (let test : (suc q == stop) ≡ true = grind (arith, e) in ap (λ b. cond b [] []) test))
+      go None is more = (omega arith, λ stop e. grind arith)
       go (Some o) is more = at (length_of o == n) (more (parent_of o) (falls q o is))
         where
           at : (b : Bool) → ((own_from outputs s n (parent_of o)).1 ≤ parent_of o) × ((stop : ℕ) → (own_from outputs s n (parent_of o)).1 ≡ stop → values_from outputs s stop (parent_of o) ≡ (own_from outputs s n (parent_of o)).0)
               → ((own_next outputs b o q (own_from outputs s n (parent_of o))).1 ≤ suc q)
               × ((stop : ℕ) → (own_next outputs b o q (own_from outputs s n (parent_of o))).1 ≡ stop → cond (suc q == stop) [] (value_of o ∷ values_from outputs s stop (parent_of o)) ≡ (own_next outputs b o q (own_from outputs s n (parent_of o))).0)
-          at false rest = (omega arith, λ stop e. (let test : (suc q == stop) ≡ true = grind (arith, e) in ap (λ b. cond b [] (value_of o ∷ values_from outputs s stop (parent_of o))) test))
-          at true rest =
-              let low : parent_of o ≤ q = falls q o is in
-              let below : (own_from outputs s n (parent_of o)).1 ≤ parent_of o = rest.0 in (
-                omega (arith, low, below),
-                λ stop e. (
-                    let other : suc q ≢ stop = omega (arith, low, below, e) in
-                    let test : (suc q == stop) ≡ false = grind (arith, other) in
-                    ap (λ b. cond b [] (value_of o ∷ values_from outputs s stop (parent_of o))) test ∙ ap (λ l. value_of o ∷ l) (rest.1 stop e)),
-              )
+          at false rest = (omega arith, λ stop e. grind arith)
+          at true rest = (omega (arith, falls q o is, rest.0), λ stop e. grind (arith, falls q o is, rest.0, rest.1 stop))
 
   pub own-until : (n p stop : ℕ) → (own_from outputs p n p).1 ≡ stop → values_until outputs stop p ≡ (own_from outputs p n p).0
   own-until n p stop e = (own-values p n p (omega arith)).1 stop e
@@ -92,41 +76,24 @@ module _ {V : Type 0} (outputs : List (Output V)) (falls : ParentsFall outputs) 
     where
       go : (o : Option (Output V)) → slice_get outputs q ≡ o → (own_step outputs o n q (λ r. own_from outputs q n r)).1 ≡ stop
           → cond (suc q == stop) false true ≡ is_key (λ (_ : List ℕ). (own_step outputs o n q (λ r. own_from outputs q n r)).0) []
-      go None is e = let test : (suc q == stop) ≡ true = grind (arith, e) in ap (λ b. cond b false true) test
+      go None is e = grind arith
       go (Some o) is e = at (length_of o == n) e
         where
           at : (b : Bool) → (own_next outputs b o q (own_from outputs q n (parent_of o))).1 ≡ stop
               → cond (suc q == stop) false true ≡ is_key (λ (_ : List ℕ). (own_next outputs b o q (own_from outputs q n (parent_of o))).0) []
-          at false e = let test : (suc q == stop) ≡ true = grind (arith, e) in ap (λ b. cond b false true) test
-          at true e =
-              let low : parent_of o ≤ q = falls q o is in
-              let below = (own-values q n (parent_of o) low).0 in
-              let other : suc q ≢ stop = omega (arith, low, below, e) in
-              let test : (suc q == stop) ≡ false = grind (arith, other) in
-              ap (λ b. cond b false true) test
+          at false e = grind arith
+          at true e = let below = (own-values q n (parent_of o) (falls q o is)).0 in grind (arith, falls q o is)
 
 -- ---- entries
 
 module _ {V : Type 0} where
   values_of-append : (xs ys : List (List ℕ × V)) (w : List ℕ) → values_of (xs ++ ys) w ≡ values_of xs w ++ values_of ys w
   values_of-append [] ys w = refl
-  values_of-append (x ∷ xs) ys w = at (same_text x.0 w) (values_of-append xs ys w)
-    where
-      at : (b : Bool) → values_of (xs ++ ys) w ≡ values_of xs w ++ values_of ys w
-          → cond b (x.1 ∷ values_of (xs ++ ys) w) (values_of (xs ++ ys) w) ≡ cond b (x.1 ∷ values_of xs w) (values_of xs w) ++ values_of ys w
-      at true e = ap (λ l. x.1 ∷ l) e
-      at false e = e
+  values_of-append (x ∷ xs) ys w = grind (arith, values_of-append xs ys w)
 
   values_of-with : (t w : List ℕ) (vs : List V) → values_of (with_values t vs) w ≡ cond (same_text t w) vs []
-  values_of-with t w vs = elim (either (same_text t w)) [ inl e ↦ rw e (all e vs) | inr e ↦ rw e (none e vs) ]
-    where
-      all : same_text t w ≡ true → (l : List V) → values_of (with_values t l) w ≡ l
-      all e [] = refl
-      all e (v ∷ l) = ap (λ b. cond b (v ∷ values_of (with_values t l) w) (values_of (with_values t l) w)) e ∙ ap (λ r. v ∷ r) (all e l)
-
-      none : same_text t w ≡ false → (l : List V) → values_of (with_values t l) w ≡ []
-      none e [] = refl
-      none e (v ∷ l) = ap (λ b. cond b (v ∷ values_of (with_values t l) w) (values_of (with_values t l) w)) e ∙ none e l
+  values_of-with t w [] = grind arith
+  values_of-with t w (v ∷ vs) = grind (arith, values_of-with t w vs)
 
 module _ {V : Type 0} (text : ℕ → List ℕ) (vals : ℕ → List V) where
   abbrev entries : List ℕ → List (List ℕ × V)
@@ -157,11 +124,7 @@ module _ {V : Type 0} (text : ℕ → List ℕ) (vals : ℕ → List V) where
       let bad : ◌≡◌ {A = Ordering} Equal Less = sym (order-same w) ∙ (ap (λ x. order (text x) w) e ∙ (ap (order (text j)) (sym same) ∙ less)) in cc) in
       values_of-append (with_values (text j) (vals j)) (entries l) w
       ∙ (ap (λ a. a ++ values_of (entries l) w) (values_of-with (text j) w (vals j) ∙ ap (λ b. cond b (vals j) []) (ap (λ x. same_text (text x) w) (sym e) ∙ same-itself w))
-      ∙ (ap (λ a. vals j ++ a) (entries-none l w alone) ∙ (nothing (vals j) ∙ ap vals (sym e))))
-    where
-      nothing : (vs : List V) → vs ++ [] ≡ vs
-      nothing [] = refl
-      nothing (v ∷ vs) = ap (λ l. v ∷ l) (nothing vs)
+      ∙ (ap (λ a. vals j ++ a) (entries-none l w alone) ∙ (append-nil (vals j) ∙ ap vals (sym e))))
   entries-at (j ∷ l) i pairs (inr a) =
       let w = text i in
       let less : order (text j) w ≡ Less = among-All (Before j) l i pairs.0 a in

@@ -1,6 +1,5 @@
 -- What a walk over the patterns of a right machine gives is the listing of its dictionary: an element's own outputs end where its chain goes on.
 use Rattle.std.proofs.Common.{◌≡◌, ◌≢◌, ℕ, ◌<◌, ◌==◌, Bool, false, cond, List, [], ◌∷◌, Option, refl, sym, ap, ◌∙◌, arith, subst}
-use Rattle.std.proofs.lemmas.Option.{same_Some}
 use Rattle.daachorse_model.specs.Paths.{walk, Leads}
 use Rattle.daachorse_model.specs.Prefixes.{IsListing, is_key}
 use Rattle.daachorse_model.specs.Units.{size}
@@ -36,17 +35,11 @@ module _ {V : Type 0} (width : ℕ → ℕ) (a : Machine V) (leftmost : Bool) (n
 
   -- whether the text of an element is a key, by its positions
   pub key_at : (i : ℕ) (w : List ℕ) → Leads a.child w i → has_own a.fail a.output i ≡ is_key (content width a) w
-  key_at i [] leads =
-      let root : 0 ≡ i = same_Some 0 i leads in
-      let end : (own width a [] i).1 ≡ own_end a.fail a.output i = ap (λ k. (own width a [] k).1) (sym root) ∙ (machine.right.root_chain ∙ ap (own_end a.fail a.output) root) in
-      own-any a.outputs machine.parents_fall (size width []) (a.output i) (own_end a.fail a.output i) end
-      ∙ sym (ap (λ o. is_key (λ (_ : List ℕ). values_at width a [] o) []) leads)
-  key_at i (u ∷ w) leads =
-      let text : text_of a.child m n i ≡ u ∷ w = text-Leads width a leftmost n m machine (u ∷ w) i leads in
-      let reached : IsReached a.child m n i = Reached-Leads width a leftmost n m machine (u ∷ w) i leads in
-      let end : (own width a (u ∷ w) i).1 ≡ own_end a.fail a.output i = ap (λ v. (own width a v i).1) (sym text) ∙ ends i reached in
-      own-any a.outputs machine.parents_fall (size width (u ∷ w)) (a.output i) (own_end a.fail a.output i) end
-      ∙ sym (ap (λ o. is_key (λ (_ : List ℕ). values_at width a (u ∷ w) o) []) leads)
+  key_at i w leads =
+      let text : text_of a.child m n i ≡ w = text-Leads width a leftmost n m machine w i leads in
+      let end : (own width a w i).1 ≡ own_end a.fail a.output i = ap (λ v. (own width a v i).1) (sym text) ∙ ends i (Reached-Leads width a leftmost n m machine w i leads) in
+      own-any a.outputs machine.parents_fall (size width w) (a.output i) (own_end a.fail a.output i) end
+      ∙ sym (ap (λ o. is_key (λ (_ : List ℕ). values_at width a w o) []) leads)
 
   pub machine_listing : (entries : List (List ℕ × V)) → IsPatterns a.child n m a.outputs a.output (own_end a.fail a.output) entries → IsListing (content width a) entries
   machine_listing entries (taken, listed, is) =

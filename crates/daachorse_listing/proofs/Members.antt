@@ -1,9 +1,8 @@
 -- Members of lists, pairs of them, and tables in which the entries of some are written.
-use Rattle.std.proofs.Common.{◌≡◌, ◌≢◌, ℕ, zero, suc, ◌+◌, ◌<◌, ◌≤◌, ◌⊎◌, inl, inr, true, false, ◌==◌, List, [], ◌∷◌, ◌++◌, length, map, reverse, get_or, set, Option, Some, None, refl, sym, ap, ◌∙◌, arith, subst}
+use Rattle.std.proofs.Common.{◌≡◌, ℕ, zero, suc, ◌+◌, ◌<◌, ◌≤◌, ◌⊎◌, inl, inr, List, [], ◌∷◌, ◌++◌, length, map, reverse, get_or, set, Option, Some, None, refl, sym, ap, ◌∙◌, arith, subst}
 use Rattle.std.proofs.lemmas.List.{get_or-set_same, get_or-set_other, length-set, length-map, length-reverse, reverse-append}
-use Rattle.std.proofs.lemmas.Option.{same_Some}
+use Rattle.std.proofs.lemmas.Bool.{cases_eq}
 use Rattle.std.specs.List.{AllByRecursion}
-use Rattle.daachorse_model.proofs.Booleans.{either}
 use Rattle.daachorse_machine.proofs.PathLaws.{pigeon}
 use Rattle.daachorse_listing.specs.Edges.{put_before, child_before, children}
 use Rattle.daachorse_listing.specs.Trees.{IsAmong, Pairs, IsMarking, elements_of}
@@ -31,12 +30,7 @@ among-right (x ∷ xs) ys k h = inr (among-right xs ys k h)
 
 pub among-put : (xs l : List ℕ) (k : ℕ) → IsAmong (put_before xs l) k → IsAmong xs k ⊎ IsAmong l k
 among-put [] l k h = inr h
-among-put (x ∷ xs) l k h = at (among-put xs (x ∷ l) k h)
-  where
-    at : IsAmong xs k ⊎ IsAmong (x ∷ l) k → IsAmong (x ∷ xs) k ⊎ IsAmong l k
-    at (inl a) = inl (inr a)
-    at (inr (inl e)) = inl (inl e)
-    at (inr (inr b)) = inr b
+among-put (x ∷ xs) l k h = elim (among-put xs (x ∷ l) k h) [ inl a ↦ inl (inr a) | inr b ↦ elim b [ inl e ↦ inl (inl e) | inr c ↦ inr c ] ]
 
 pub put-right : (xs l : List ℕ) (k : ℕ) → IsAmong l k → IsAmong (put_before xs l) k
 put-right [] l k h = h
@@ -49,12 +43,10 @@ put-left (x ∷ xs) l k (inr h) = put-left xs (x ∷ l) k h
 
 pub among-either : (xs : List ℕ) (k : ℕ) → IsAmong xs k ⊎ (¬ IsAmong xs k)
 among-either [] k = inr (λ h. h)
-among-either (x ∷ xs) k = at (either (k == x)) (among-either xs k)
-  where
-    at : ((k == x) ≡ true) ⊎ ((k == x) ≡ false) → IsAmong xs k ⊎ (¬ IsAmong xs k) → IsAmong (x ∷ xs) k ⊎ (¬ IsAmong (x ∷ xs) k)
-    at (inl e) rest = inl (inl (grind (arith, e)))
-    at (inr e) (inl h) = inl (inr h)
-    at (inr e) (inr out) = inr (λ h. elim h [ inl same ↦ (let bad : k ≢ x = grind (arith, e) in bad same) | inr more ↦ out more ])
+among-either (x ∷ xs) k = elim (cases_eq k x) [
+  | inl same ↦ inl (inl same)
+  | inr other ↦ elim (among-either xs k) [ inl more ↦ inl (inr more) | inr out ↦ inr (λ h. elim h [ inl same ↦ other same | inr more ↦ out more ]) ]
+]
 
 pub All-among : (P : ℕ → Type 0) (xs : List ℕ) → ((k : ℕ) → IsAmong xs k → P k) → AllByRecursion P xs
 All-among P [] h = tt
@@ -74,23 +66,19 @@ length-put (x ∷ xs) l = omega (arith, length-put xs (x ∷ l))
 module _ (child : ℕ → ℕ → Option ℕ) (i : ℕ) where
   pub among-children : (m k : ℕ) → IsAmong (children child i m) k → (c : ℕ) × (child i c ≡ Some k)
   among-children zero k h = absurd h
-  among-children (suc u) k h = at (child i u) refl h (among-children u k)
-    where
-      at : (o : Option ℕ) → child i u ≡ o → IsAmong (child_before o (children child i u)) k → (IsAmong (children child i u) k → (c : ℕ) × (child i c ≡ Some k)) → (c : ℕ) × (child i c ≡ Some k)
-      at None e h more = more h
-      at (Some j) e (inl same) more = (u, e ∙ ap (λ x. Some x) (sym same))
-      at (Some j) e (inr h) more = more h
+  among-children (suc u) k h = (elim (child i u) as (λ o. child i u ≡ o → IsAmong (child_before o (children child i u)) k → (c : ℕ) × (child i c ≡ Some k)) [
+    | None ↦ λ is h. among-children u k h
+    | Some j ↦ λ is h. elim h [ inl same ↦ (u, is ∙ ap (λ x. Some x) (sym same)) | inr more ↦ among-children u k more ]
+  ]) refl h
 
   pub children-among : (m c k : ℕ) → c < m → child i c ≡ Some k → IsAmong (children child i m) k
   children-among zero c k h e = absurd (omega arith)
-  children-among (suc u) c k h e = at (child i u) refl (λ other. children-among u c k (omega (arith, other)) e)
-    where
-      at : (o : Option ℕ) → child i u ≡ o → (c ≢ u → IsAmong (children child i u) k) → IsAmong (child_before o (children child i u)) k
-      at None is more = more (λ same. let bad : ◌≡◌ {A = Option ℕ} None (Some k) = sym is ∙ (ap (child i) (sym same) ∙ e) in cc)
-      at (Some j) is more = elim (either (c == u)) [
-        | inl same ↦ (let one : c ≡ u = grind (arith, same) in inl (same_Some k j (sym e ∙ (ap (child i) one ∙ is))))
-        | inr other ↦ inr (more (grind (arith, other)))
-      ]
+  children-among (suc u) c k h e = elim (cases_eq c u) [
+    | inl same ↦ rw (ap (child i) (sym same) ∙ e) (inl refl)
+    | inr other ↦ (
+        let more = children-among u c k (omega (arith, h, other)) e in
+        elim (child i u) as (λ o. IsAmong (child_before o (children child i u)) k) [ None ↦ more | Some j ↦ inr more ])
+  ]
 
   pub no-children : (m : ℕ) → ((c : ℕ) → child i c ≡ None) → children child i m ≡ []
   no-children zero none = refl
@@ -100,16 +88,13 @@ module _ (child : ℕ → ℕ → Option ℕ) (i : ℕ) where
   pub Pairs-children : (R : ℕ → ℕ → Type 0) (m : ℕ) (l : List ℕ) → Pairs R l → ((c k : ℕ) → c < m → child i c ≡ Some k → AllByRecursion (R k) l)
       → ((c d j k : ℕ) → c < d → d < m → child i c ≡ Some j → child i d ≡ Some k → R j k) → Pairs R (put_before (children child i m) l)
   Pairs-children R zero l pairs before rise = pairs
-  Pairs-children R (suc u) l pairs before rise = at (child i u) refl (λ l. Pairs-children R u l)
-    where
-      at : (o : Option ℕ) → child i u ≡ o
-          → ((l : List ℕ) → Pairs R l → ((c k : ℕ) → c < u → child i c ≡ Some k → AllByRecursion (R k) l) → ((c d j k : ℕ) → c < d → d < u → child i c ≡ Some j → child i d ≡ Some k → R j k) → Pairs R (put_before (children child i u) l))
-          → Pairs R (put_before (child_before o (children child i u)) l)
-      at None is more = more l pairs (λ c k h e. before c k (omega arith) e) (λ c d j k h less a b. rise c d j k h (omega arith) a b)
-      at (Some t) is more =
-          more (t ∷ l) (before u t (omega arith) is, pairs)
-          (λ c k h e. (rise c u k t h (omega arith) e is, before c k (omega arith) e))
-          (λ c d j k h less a b. rise c d j k h (omega arith) a b)
+  Pairs-children R (suc u) l pairs before rise = (elim (child i u) as (λ o. child i u ≡ o → Pairs R (put_before (child_before o (children child i u)) l)) [
+    | None ↦ λ is. Pairs-children R u l pairs (λ c k h e. before c k (omega arith) e) (λ c d j k h less a b. rise c d j k h (omega arith) a b)
+    | Some t ↦ λ is.
+        Pairs-children R u (t ∷ l) (before u t (omega arith) is, pairs)
+        (λ c k h e. (rise c u k t h (omega arith) e is, before c k (omega arith) e))
+        (λ c d j k h less a b. rise c d j k h (omega arith) a b)
+  ]) refl
 
 -- ---- pairs
 
@@ -128,16 +113,18 @@ module _ (R : ℕ → ℕ → Type 0) where
   pub Pairs-push : (xs : List ℕ) (x : ℕ) → Pairs R xs → ((k : ℕ) → IsAmong xs k → R k x) → Pairs R (xs ++ x ∷ [])
   Pairs-push xs x pairs h = Pairs-append xs (x ∷ []) pairs (tt, tt) (λ k j a new. elim new [ inl same ↦ subst (R k) (sym same) (h k a) | inr none ↦ absurd none ])
 
+  -- two of a list
+  pub Pairs-read : (xs : List ℕ) (j k : ℕ) → j < k → k < length xs → Pairs R xs → R (get_or xs j 0) (get_or xs k 0)
+  Pairs-read [] j k up h p = absurd (omega arith)
+  Pairs-read (x ∷ xs) j zero up h p = absurd (omega arith)
+  Pairs-read (x ∷ xs) zero (suc k) up h p = among-All (R x) xs (get_or xs k 0) p.0 (among-read xs k (omega arith))
+  Pairs-read (x ∷ xs) (suc j) (suc k) up h p = Pairs-read xs j k (omega arith) (omega arith) p.1
+
   -- numbers below n, where none stands in R to itself: there are at most n
   pub Pairs-few : (xs : List ℕ) (n : ℕ) → Pairs R xs → ((k : ℕ) → ¬ R k k) → ((k : ℕ) → IsAmong xs k → k < n) → length xs ≤ n
-  Pairs-few xs n pairs other less = pigeon n (length xs) (λ k. get_or xs k 0) (λ k h. less (get_or xs k 0) (among-read xs k h)) (λ j k up h same. other (get_or xs k 0) (let P : ℕ → Type 0 = λ x. R x (get_or xs k 0) in subst P same (pair xs pairs j k up h)))
-    where
-      pair : (ys : List ℕ) → Pairs R ys → (j k : ℕ) → j < k → k < length ys → R (get_or ys j 0) (get_or ys k 0)
-      pair [] p j k up h = absurd (omega arith)
-      pair (y ∷ ys) p zero zero up h = absurd (omega arith)
-      pair (y ∷ ys) p zero (suc k) up h = among-All (R y) ys (get_or ys k 0) p.0 (among-read ys k (omega arith))
-      pair (y ∷ ys) p (suc j) zero up h = absurd (omega arith)
-      pair (y ∷ ys) p (suc j) (suc k) up h = pair ys p.1 j k (omega arith) (omega arith)
+  Pairs-few xs n pairs other less =
+      pigeon n (length xs) (λ k. get_or xs k 0) (λ k h. less (get_or xs k 0) (among-read xs k h))
+      (λ j k up h same. other (get_or xs k 0) (let P : ℕ → Type 0 = λ x. R x (get_or xs k 0) in subst P same (Pairs-read xs j k up h pairs)))
 
 -- ---- tables
 
@@ -148,15 +135,15 @@ pub marking-next : (kids left : List ℕ) (j x : ℕ) (old new : List ℕ) → j
 marking-next kids left j x old new inside m = record {
   size = length-set new j x ∙ m.size;
   within = λ k h. m.within k (inr h);
-  written = λ k h. at k (either (k == j)) (m.written k h);
+  written = λ k h. elim (cases_eq k j) [
+    | inl same ↦ inr (rw same (get_or-set_same new j x 0 inside))
+    | inr other ↦ elim (m.written k h) [
+      | inl more ↦ elim more [ inl same ↦ absurd (other same) | inr kid ↦ inl kid ]
+      | inr done ↦ inr (get_or-set_other new j k x 0 other ∙ done)
+    ]
+  ];
   other = λ k no. get_or-set_other new j k x 0 (λ same. no (m.within k (inl same))) ∙ m.other k no;
 }
-  where
-    at : (k : ℕ) → ((k == j) ≡ true) ⊎ ((k == j) ≡ false) → IsAmong (j ∷ left) k ⊎ (get_or new k 0 ≡ x) → IsAmong left k ⊎ (get_or (set new j x) k 0 ≡ x)
-    at k (inl e) h = let same : k ≡ j = grind (arith, e) in inr (rw same (get_or-set_same new j x 0 inside))
-    at k (inr e) (inl (inl same)) = absurd (let bad : k ≢ j = grind (arith, e) in bad same)
-    at k (inr e) (inl (inr h)) = inl h
-    at k (inr e) (inr h) = let other : k ≢ j = grind (arith, e) in inr (get_or-set_other new j k x 0 other ∙ h)
 
 -- the last pair of a list is the first of its elements, read backwards
 pub elements-pop : (stack rest : List (ℕ × ℕ)) (x : ℕ × ℕ) → stack ≡ rest ++ x ∷ [] → elements_of stack ≡ x.1 ∷ elements_of rest

@@ -1,7 +1,7 @@
 -- The order of texts: an end keeps two texts apart that differ at a unit, and a text comes before what goes on with it.
-use Rattle.std.proofs.Common.{◌≡◌, ℕ, ◌<◌, inl, inr, List, [], ◌∷◌, ◌++◌, refl, sym, ap, ◌∙◌, arith}
+use Rattle.std.proofs.Common.{◌≡◌, ℕ, ◌<◌, inl, inr, List, [], ◌∷◌, ◌++◌, refl, arith}
 use Rattle.std.specs.Cmp.Lexicographic.{slice_cmp}
-use Rattle.std.specs.Ordering.{nat_cmp, ordering_then}
+use Rattle.std.specs.Ordering.{nat_cmp}
 use Rattle.std.specs.declared.cmp.Ordering.{Ordering}
 use Rattle.std.specs.declared.cmp.Ordering.TheVariants.{Less, Equal}
 use Rattle.std.proofs.lemmas.Bool.Decides.{nat_tests}
@@ -19,8 +19,8 @@ cmp-same a = grind (arith, nat_tests)
 pub Diverges-order : (v w : List ℕ) → Diverges v w → order v w ≡ Less
 Diverges-order [] w d = absurd d
 Diverges-order (a ∷ v) [] d = absurd d
-Diverges-order (a ∷ v) (b ∷ w) (inl h) = ap (λ o. ordering_then o (order v w)) (cmp-less a b h)
-Diverges-order (a ∷ v) (b ∷ w) (inr d) = ap (λ x. ordering_then (nat_cmp a x) (order v w)) (sym d.0) ∙ (ap (λ o. ordering_then o (order v w)) (cmp-same a) ∙ Diverges-order v w d.1)
+Diverges-order (a ∷ v) (b ∷ w) (inl h) = rw (cmp-less a b h) refl
+Diverges-order (a ∷ v) (b ∷ w) (inr d) = rw (d.0, cmp-same b) (Diverges-order v w d.1)
 
 -- what goes on behind the first text changes nothing
 pub Diverges-on : (v w x : List ℕ) → Diverges v w → Diverges (v ++ x) w
@@ -35,8 +35,8 @@ Diverges-last (u ∷ v) a b h = inr (refl, Diverges-last v a b h)
 
 pub order-longer : (v : List ℕ) (a : ℕ) (x : List ℕ) → order v (v ++ a ∷ x) ≡ Less
 order-longer [] a x = refl
-order-longer (u ∷ v) a x = ap (λ o. ordering_then o (order v (v ++ a ∷ x))) (cmp-same u) ∙ order-longer v a x
+order-longer (u ∷ v) a x = rw (cmp-same u) (order-longer v a x)
 
 pub order-itself : (v : List ℕ) → order v v ≡ Equal
 order-itself [] = refl
-order-itself (u ∷ v) = ap (λ o. ordering_then o (order v v)) (cmp-same u) ∙ order-itself v
+order-itself (u ∷ v) = rw (cmp-same u) (order-itself v)

@@ -1,13 +1,13 @@
 -- What is left of a walk over the patterns: an element's values one by one, and then those of the element that is taken next.
-use Rattle.std.proofs.Common.{◌≡◌, ◌≢◌, ℕ, zero, suc, ◌+◌, ◌-◌, ◌<◌, ◌≤◌, ◌⊎◌, inl, inr, List, [], ◌∷◌, ◌++◌, length, map, reverse, take, Option, Some, refl, sym, ap, ◌∙◌, arith, subst, sub-one, length-append}
+use Rattle.std.proofs.Common.{◌≡◌, ◌≢◌, ℕ, zero, suc, ◌+◌, ◌-◌, ◌<◌, ◌≤◌, ◌⊎◌, inl, inr, List, [], ◌∷◌, ◌++◌, length, map, reverse, take, Option, Some, refl, sym, ap, ◌∙◌, add-one, arith, subst, sub-one, length-append}
 use Rattle.std.specs.Prelude.{slice_get}
 use Rattle.std.proofs.lemmas.List.{nil_from_length, reverse-append, take_all}
 use Rattle.daachorse_core.specs.declared.outputs.Output.{Output}
 use Rattle.daachorse_core.specs.Outputs.{value_of, parent_of}
 use Rattle.daachorse_machine.specs.Texts.{IsReached, text_of}
 use Rattle.daachorse_listing.specs.Edges.{children, put_before}
-use Rattle.daachorse_listing.specs.Listing.{AreEntries, IsEntry, values_until, with_values, patterns_of, left_of, unit_of, IsWalking}
-use Rattle.daachorse_listing.specs.Trees.{IsWalk, elements_of, taken_from}
+use Rattle.daachorse_listing.specs.Listing.{AreEntries, HasPatterns, IsEntry, values_until, with_values, patterns_of, left_of, unit_of, IsWalking}
+use Rattle.daachorse_listing.specs.Trees.{IsAmong, IsWalk, elements_of, taken_from}
 use Rattle.daachorse_listing.proofs.EntryLaws.{entries-elements, entries-longer, entries-put, entries-written, text-written, child-entry}
 use Rattle.daachorse_listing.proofs.ListingLaws.{values_until-step, values_until-end}
 use Rattle.daachorse_listing.proofs.Members.{All-among, among-children, elements-pop, length-elements, length-put}
@@ -16,31 +16,31 @@ use Rattle.daachorse_listing.proofs.WalkLaws.{reached-inside, walk-next, walk-po
 
 -- ---- the values of a text
 
-module _ {V : Type 0} (child : ℕ → ℕ → Option ℕ) (n m : ℕ) (outputs : List (Output V)) (first stop : ℕ → ℕ) (falls : (q : ℕ) (o : Output V) → slice_get outputs q ≡ Some o → parent_of o ≤ q) (text aside : List ℕ) (end position : ℕ) where
+module _ {V : Type 0} {child : ℕ → ℕ → Option ℕ} {group : ℕ → Option ℕ} {edge : ℕ → Option (ℕ × ℕ)} {n m : ℕ} {outputs : List (Output V)} {first : ℕ → ℕ} (patterns : HasPatterns child group edge n m outputs first) (stop : ℕ → ℕ) (text : List ℕ) where
+  -- the patterns of the elements that are taken from these on
+  abbrev taken-patterns : List ℕ → List (List ℕ × V)
+  taken-patterns aside = patterns_of (text_of child m n) outputs first stop (taken_from child n m n aside)
+
   -- nothing is left of the text
-  pub left-of-rest : (position ≡ end) ⊎ (position ≡ 0) → left_of child n m outputs first stop text aside end position ≡ patterns_of (text_of child m n) outputs first stop (taken_from child n m n aside)
-  left-of-rest h = ap (λ vs. with_values text vs ++ patterns_of (text_of child m n) outputs first stop (taken_from child n m n aside)) (values_until-end outputs falls end position h)
+  pub left-of-rest : (aside : List ℕ) (end position : ℕ) → (position ≡ end) ⊎ (position ≡ 0) → left_of child n m outputs first stop text aside end position ≡ taken-patterns aside
+  left-of-rest aside end position h = ap (λ vs. with_values text vs ++ taken-patterns aside) (values_until-end outputs patterns.falls end position h)
+
+  -- nor is anything put aside
+  pub left-of-none : (aside : List (ℕ × ℕ)) (end position : ℕ) → (position ≡ end) ⊎ (position ≡ 0) → length aside ≡ 0 → left_of child n m outputs first stop text (elements_of aside) end position ≡ []
+  left-of-none aside end position h none =
+      left-of-rest (elements_of aside) end position h
+      ∙ (ap (λ l. taken-patterns (elements_of l)) (nil_from_length aside none) ∙ ap (λ l. patterns_of (text_of child m n) outputs first stop l) (taken-none child n m n))
 
   -- a value is given
-  pub left-of-value : (o : Output V) → position ≢ end → position ≢ 0 → slice_get outputs (position - 1) ≡ Some o
+  pub left-of-value : (aside : List ℕ) (end position : ℕ) (o : Output V) → position ≢ end → position ≢ 0 → slice_get outputs (position - 1) ≡ Some o
       → left_of child n m outputs first stop text aside end position ≡ (text, value_of o) ∷ left_of child n m outputs first stop text aside end (parent_of o)
-  left-of-value o other some e = at position other some e
-    where
-      at : (p : ℕ) → p ≢ end → p ≢ 0 → slice_get outputs (p - 1) ≡ Some o
-          → left_of child n m outputs first stop text aside end p ≡ (text, value_of o) ∷ left_of child n m outputs first stop text aside end (parent_of o)
-      at zero other some e = absurd (some refl)
-      at (suc q) other some e =
-          let here : slice_get outputs q ≡ Some o = ap (slice_get outputs) (sym (sub-one (suc q))) ∙ e in
-          ap (λ vs. with_values text vs ++ patterns_of (text_of child m n) outputs first stop (taken_from child n m n aside)) (values_until-step outputs falls end q o other here)
-
--- nothing is put aside
-pub rest-of-none : {V : Type 0} (child : ℕ → ℕ → Option ℕ) (n m : ℕ) (outputs : List (Output V)) (first stop : ℕ → ℕ) (aside : List (ℕ × ℕ)) → length aside ≡ 0 → patterns_of (text_of child m n) outputs first stop (taken_from child n m n (elements_of aside)) ≡ []
-rest-of-none child n m outputs first stop aside e =
-    ap (λ l. patterns_of (text_of child m n) outputs first stop l) (ap (λ l. taken_from child n m n (elements_of l)) (nil_from_length aside e) ∙ taken-none child n m n)
+  left-of-value aside end zero o other some e = absurd (some refl)
+  left-of-value aside end (suc q) o other some e =
+      ap (λ vs. with_values text vs ++ taken-patterns aside) (values_until-step outputs patterns.falls end q o other (rw sub-one at e))
 
 -- ---- the next element
 
-module _ {V : Type 0} {child : ℕ → ℕ → Option ℕ} {group : ℕ → Option ℕ} {edge : ℕ → Option (ℕ × ℕ)} {n m : ℕ} {outputs : List (Output V)} {first : ℕ → ℕ} (stop : ℕ → ℕ) (groups : List (List ℕ)) (aside : List (ℕ × ℕ)) (last_text : List ℕ) (position room room_for_children room_for_text : ℕ)
+module _ {V : Type 0} {child : ℕ → ℕ → Option ℕ} {group : ℕ → Option ℕ} {edge : ℕ → Option (ℕ × ℕ)} {n m : ℕ} {outputs : List (Output V)} {first : ℕ → ℕ} {groups : List (List ℕ)} {aside : List (ℕ × ℕ)} {last_text : List ℕ} {position room room_for_children room_for_text : ℕ}
     (w : IsWalking child group edge n m outputs first groups aside last_text position room room_for_children room_for_text) where
   module _ (rest : List (ℕ × ℕ)) (d x : ℕ) (e : aside ≡ rest ++ (d, x) ∷ []) where
     abbrev kids : List ℕ
@@ -55,14 +55,20 @@ module _ {V : Type 0} {child : ℕ → ℕ → Option ℕ} {group : ℕ → Opti
     under : IsWalk child n m taken (x ∷ elements_of rest)
     under = walk-pop taken aside rest (d, x) e (w.walk some).1
 
-    pub next-reached : IsReached child m n x
+    next-reached : IsReached child m n x
     next-reached = under.reached x (inr (inl refl))
+
+    pub next-inside : x < n
+    next-inside = reached-inside w.patterns.tree x next-reached
 
     entries : AreEntries child n m last_text (suc (length last_text)) ((d, x) ∷ reverse rest)
     entries = let P : List (ℕ × ℕ) → Type 0 = AreEntries child n m last_text (suc (length last_text)) in subst P (ap reverse e ∙ reverse-append rest ((d, x) ∷ [])) w.entries
 
-    pub next-deep : d ≡ length (text_of child m n x)
+    next-deep : d ≡ length (text_of child m n x)
     next-deep = entries.1.0
+
+    pub next-low : d < 4294967295
+    next-low = omega (arith, next-deep, w.patterns.tree.shallow x (text_of child m n x) next-reached)
 
     pub next-room : length rest + length kids ≤ room
     next-room =
@@ -71,59 +77,56 @@ module _ {V : Type 0} {child : ℕ → ℕ → Option ℕ} {group : ℕ → Opti
         omega (arith, few, length-put kids (elements_of rest), length-elements rest, w.wide)
 
     pub next-text-room : d ≤ room_for_text
-    next-text-room = let few = text-others w.patterns.tree w.patterns.tell (text_of child m n x) x next-reached in omega (arith, few, next-deep, w.wide_for_text)
+    next-text-room = omega (arith, text-others w.patterns.tree w.patterns.tell (text_of child m n x) x next-reached, next-deep, w.wide_for_text)
 
-    -- the next element's values come
-    next-left : patterns_of (text_of child m n) outputs first stop (taken_from child n m n (elements_of aside))
-        ≡ with_values (text_of child m n x) (values_until outputs (stop x) (first x)) ++ patterns_of (text_of child m n) outputs first stop (taken_from child n m n (put_before kids (elements_of rest)))
-    next-left =
-        ap (λ l. patterns_of (text_of child m n) outputs first stop l)
-        (ap (λ l. taken_from child n m n l) (elements-pop aside rest (d, x) e) ∙ taken-step w.patterns.tree taken (elements_of rest) x under)
+    -- what is taken from here on is the next element and what its children lead to
+    next-taken : taken_from child n m n (elements_of aside) ≡ x ∷ taken_from child n m n (put_before kids (elements_of rest))
+    next-taken = ap (λ l. taken_from child n m n l) (elements-pop aside rest (d, x) e) ∙ taken-step w.patterns.tree taken (elements_of rest) x under
 
-    -- fewer are left to be taken
-    pub next-fewer : length (taken_from child n m n (elements_of aside)) ≡ suc (length (taken_from child n m n (put_before kids (elements_of rest))))
-    next-fewer = ap length (ap (λ l. taken_from child n m n l) (elements-pop aside rest (d, x) e) ∙ taken-step w.patterns.tree taken (elements_of rest) x under)
+    module _ (more : List (ℕ × ℕ)) (put : reverse more ≡ put_before (map (λ j. (d + 1, j)) kids) (reverse rest)) where
+      next-aside : elements_of more ≡ put_before kids (elements_of rest)
+      next-aside = ap (map (λ p. p.1)) put ∙ entries-elements (d + 1) kids (reverse rest)
 
-    pub next-aside : (more : List (ℕ × ℕ)) → reverse more ≡ put_before (map (λ j. (suc d, j)) kids) (reverse rest) → elements_of more ≡ put_before kids (elements_of rest)
-    next-aside more put = ap (map (λ p. p.1)) put ∙ entries-elements (suc d) kids (reverse rest)
+      -- fewer are left to be taken
+      pub next-fewer : length (taken_from child n m n (elements_of more)) < length (taken_from child n m n (elements_of aside))
+      next-fewer = omega (arith, ap length next-taken, ap (λ l. length (taken_from child n m n l)) next-aside)
 
-    -- where its own outputs end matters only where it has an output
-    values-own : (at end : ℕ) → at ≡ first x → (0 < at → end ≡ stop x) → values_until outputs end at ≡ values_until outputs (stop x) (first x)
-    values-own zero end is ends = ap (values_until outputs (stop x)) is
-    values-own (suc k) end is ends = ap (λ t. values_until outputs t (suc k)) (ends (omega arith)) ∙ ap (values_until outputs (stop x)) is
+      module _ (new : List ℕ) (none : d ≡ 0 → new ≡ []) (last : 0 < d → new ≡ take (d - 1) last_text ++ unit_of (edge x) ∷ []) (at : ℕ) (is : at ≡ first x) where
+        next-text : new ≡ text_of child m n x
+        next-text = text-written w.patterns.tree w.patterns.tell last_text new x d next-reached entries.1 none last
 
-    module _ (new : List ℕ) (none : d ≡ 0 → new ≡ []) (last : 0 < d → new ≡ take (d - 1) last_text ++ unit_of (edge x) ∷ [])
-        (more : List (ℕ × ℕ)) (put : reverse more ≡ put_before (map (λ j. (suc d, j)) kids) (reverse rest)) (at : ℕ) (is : at ≡ first x) where
-      next-text : new ≡ text_of child m n x
-      next-text = text-written w.patterns.tree w.patterns.tell last_text new x d next-reached entries.1 none last
+        next-begun : take d new ≡ text_of child m n x
+        next-begun = ap (take d) next-text ∙ take_all d (text_of child m n x) (omega (arith, next-deep))
 
-      next-begun : take d new ≡ text_of child m n x
-      next-begun = ap (take d) next-text ∙ take_all d (text_of child m n x) (omega (arith, next-deep))
+        pub next-walking : (more_room more_room_for_children more_room_for_text : ℕ) → room ≤ more_room → room_for_children ≤ more_room_for_children → room_for_text ≤ more_room_for_text
+            → IsWalking child group edge n m outputs first groups more new at more_room more_room_for_children more_room_for_text
+        next-walking more_room more_room_for_children more_room_for_text wide wide_for_children wide_for_text = record {
+          patterns = w.patterns;
+          groups_are = w.groups_are;
+          each = w.each;
+          walk = λ some. (taken ++ x ∷ [], rw next-aside (walk-next w.patterns.tree taken (elements_of rest) x under));
+          entries =
+              let long : length new ≡ d = ap length next-text ∙ sym next-deep in
+              let begun : (j : ℕ) → IsAmong kids j → IsEntry child n m new (d + 1, j) =
+              λ j a. (let kid = among-children child x m j a in rw (add-one d) (child-entry w.patterns.tree new x d kid.0 j next-reached next-deep next-begun kid.1)) in
+              let kept = entries-written child n m last_text new d d (reverse rest) (ap (take (d - 1)) next-text ∙ sym entries.1.1) (omega arith) entries.2 in
+              let all = entries-put child n m new (d + 1) kids (reverse rest) (All-among (λ j. IsEntry child n m new (d + 1, j)) kids begun)
+              (entries-longer child n m new d (d + 1) (reverse rest) (omega arith) kept) in
+              rw put (entries-longer child n m new (d + 1) (suc (length new)) (put_before (map (λ j. (d + 1, j)) kids) (reverse rest)) (omega (arith, long)) all);
+          inside = omega (arith, w.patterns.inside x next-inside, is);
+          wide = omega (arith, wide, w.wide);
+          wide_for_children = λ g less. omega (arith, w.wide_for_children g less, wide_for_children);
+          wide_for_text = omega (arith, wide_for_text, w.wide_for_text);
+        }
 
-      next-long : length new ≡ d
-      next-long = ap length next-text ∙ sym next-deep
-
-      pub next-walking : (more_room more_room_for_children more_room_for_text : ℕ) → room ≤ more_room → room_for_children ≤ more_room_for_children → room_for_text ≤ more_room_for_text
-          → IsWalking child group edge n m outputs first groups more new at more_room more_room_for_children more_room_for_text
-      next-walking more_room more_room_for_children more_room_for_text wide wide_for_children wide_for_text = record {
-        patterns = w.patterns;
-        groups_are = w.groups_are;
-        each = w.each;
-        walk = λ some. (taken ++ x ∷ [], (let P : List ℕ → Type 0 = λ l. IsWalk child n m (taken ++ x ∷ []) l in subst P (sym (next-aside more put)) (walk-next w.patterns.tree taken (elements_of rest) x under)));
-        entries = let P : List (ℕ × ℕ) → Type 0 = AreEntries child n m new (suc (length new)) in
-            subst P (sym put) (entries-longer child n m new (suc d) (suc (length new)) (put_before (map (λ j. (suc d, j)) kids) (reverse rest)) (omega (arith, next-long)) (entries-put child n m new (suc d) kids (reverse rest)
-            (All-among (λ j. IsEntry child n m new (suc d, j)) kids (λ j a. (let kid = among-children child x m j a in child-entry w.patterns.tree new x d kid.0 j next-reached next-deep next-begun kid.1)))
-            (entries-longer child n m new d (suc d) (reverse rest) (omega arith) (entries-written child n m last_text new d d (reverse rest) (ap (take (d - 1)) next-text ∙ sym entries.1.1) (omega arith) entries.2))));
-        inside = let inside = w.patterns.inside x (reached-inside w.patterns.tree x next-reached) in omega (arith, inside, is);
-        wide = omega (arith, wide, w.wide);
-        wide_for_children = λ g less. (let few = w.wide_for_children g less in omega (arith, few, wide_for_children));
-        wide_for_text = omega (arith, wide_for_text, w.wide_for_text);
-      }
-
-      -- what was left are its values and what is left behind it
-      pub next-left-of : (end : ℕ) → (0 < at → end ≡ stop x)
-          → left_of child n m outputs first stop new (elements_of more) end at ≡ patterns_of (text_of child m n) outputs first stop (taken_from child n m n (elements_of aside))
-      next-left-of end ends =
-          ap (λ t. with_values t (values_until outputs end at) ++ patterns_of (text_of child m n) outputs first stop (taken_from child n m n (elements_of more))) next-text
-          ∙ (ap (λ vs. with_values (text_of child m n x) vs ++ patterns_of (text_of child m n) outputs first stop (taken_from child n m n (elements_of more))) (values-own at end is ends)
-          ∙ (ap (λ l. with_values (text_of child m n x) (values_until outputs (stop x) (first x)) ++ patterns_of (text_of child m n) outputs first stop (taken_from child n m n l)) (next-aside more put) ∙ sym next-left))
+        -- What was left are its values and what is left behind it. Where its own outputs end matters only where it has an output.
+        pub next-left-of : (stop : ℕ → ℕ) (end : ℕ) → (0 < at → end ≡ stop x)
+            → left_of child n m outputs first stop new (elements_of more) end at ≡ patterns_of (text_of child m n) outputs first stop (taken_from child n m n (elements_of aside))
+        next-left-of stop end ends =
+            ap (λ t. with_values t (values_until outputs end at) ++ patterns_of (text_of child m n) outputs first stop (taken_from child n m n (elements_of more))) next-text
+            ∙ (ap (λ vs. with_values (text_of child m n x) vs ++ patterns_of (text_of child m n) outputs first stop (taken_from child n m n (elements_of more))) (own at is ends)
+            ∙ ap (λ l. patterns_of (text_of child m n) outputs first stop l) (ap (λ l. x ∷ taken_from child n m n l) next-aside ∙ sym next-taken))
+          where
+            own : (p : ℕ) → p ≡ first x → (0 < p → end ≡ stop x) → values_until outputs end p ≡ values_until outputs (stop x) (first x)
+            own zero is ends = ap (values_until outputs (stop x)) is
+            own (suc k) is ends = ap (λ t. values_until outputs t (suc k)) (ends (omega arith)) ∙ ap (values_until outputs (stop x)) is

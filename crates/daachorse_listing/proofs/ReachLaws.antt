@@ -1,18 +1,17 @@
 -- A walk along the list of the elements that were reached, each of which puts its children at the end, comes to each element once.
-use Rattle.std.proofs.Common.{◌≡◌, ◌≢◌, ℕ, zero, suc, ◌+◌, ◌<◌, ◌≤◌, ◌⊎◌, inl, inr, true, List, [], ◌∷◌, ◌++◌, length, get_or, set, take, replicate, Option, Some, None, refl, sym, ap, ◌∙◌, arith, subst, length-append, append-nil, add-one}
+use Rattle.std.proofs.Common.{◌≡◌, ◌≢◌, ℕ, zero, suc, ◌+◌, ◌<◌, ◌≤◌, ◌⊎◌, inl, inr, true, List, [], ◌∷◌, ◌++◌, length, get_or, set, take, drop, replicate, Option, Some, None, refl, sym, ap, ◌∙◌, arith, subst, length-append, append-nil, add-one}
 use Rattle.std.proofs.Math.Seq.{take-suc}
-use Rattle.std.proofs.lemmas.List.{get_or-replicate, get_or-set_same, get_or-set_other, length-set, length-replicate, take-append-le, take_all}
-use Rattle.std.proofs.lemmas.Option.{same_Some, slice_get-get_or}
-use Rattle.daachorse_model.specs.Paths.{walk, Leads}
+use Rattle.std.proofs.lemmas.List.{get_or-replicate, get_or-set_same, get_or-set_other, get_or_read, length-set, length-replicate, same_from_push, take-append-drop, take-append-le, take_all}
+use Rattle.std.proofs.lemmas.Option.{none-some, same_Some, slice_get-get_or}
+use Rattle.daachorse_model.specs.Paths.{walk}
 use Rattle.daachorse_machine.specs.Texts.{IsReached}
-use Rattle.daachorse_machine.proofs.PathLaws.{and_then_inv}
 use Rattle.daachorse_listing.specs.Depths.{IsDepthTable}
 use Rattle.daachorse_listing.specs.Edges.{is_in, members, IsTree, TellChildren}
 use Rattle.daachorse_listing.specs.Listing.{unit_of}
 use Rattle.daachorse_listing.specs.Trees.{IsAmong, Pairs, IsMarking, IsNoting, text}
 use Rattle.daachorse_listing.proofs.Members.{among-read, among-append, among-left, among-right, among-All, Pairs-append, Pairs-map, Pairs-few, marking-start}
 use Rattle.daachorse_listing.proofs.SortLaws.{below-All, below-falls, below-has, in-edge, edge-in}
-use Rattle.daachorse_listing.proofs.WalkLaws.{root-text, root-reached, reached-inside, child-text, child-reached, child-not-root}
+use Rattle.daachorse_listing.proofs.WalkLaws.{along, root-text, root-reached, reached-inside, child-text, child-reached, child-not-root}
 
 -- ---- lists whose entries differ
 
@@ -24,16 +23,7 @@ once-before (x ∷ l) (suc k) p h (inl same) = among-All (λ j. x ≢ j) l (get_
 once-before (x ∷ l) (suc k) p h (inr a) = once-before l k p.1 (omega arith) a
 
 among-take : (l : List ℕ) (k i : ℕ) → IsAmong (take k l) i → IsAmong l i
-among-take l zero i a = absurd a
-among-take [] (suc k) i a = absurd a
-among-take (x ∷ l) (suc k) i (inl same) = inl same
-among-take (x ∷ l) (suc k) i (inr a) = inr (among-take l k i a)
-
-last_same : (v w : List ℕ) (a b : ℕ) → v ++ a ∷ [] ≡ w ++ b ∷ [] → v ≡ w
-last_same [] [] a b e = refl
-last_same [] (y ∷ w) a b e = absurd (omega (arith, ap length e, length-append w (b ∷ [])))
-last_same (x ∷ v) [] a b e = absurd (omega (arith, ap length e, length-append v (a ∷ [])))
-last_same (x ∷ v) (y ∷ w) a b e = let first : x ≡ y = cc in let rest = last_same v w a b cc in ap (λ l. x ∷ l) rest ∙ ap (λ k. k ∷ w) first
+among-take l k i a = subst (λ xs. IsAmong xs i) (take-append-drop k l) (among-left (take k l) (drop k l) i a)
 
 -- ---- the children of one element are the members of its group
 
@@ -42,7 +32,7 @@ noting-none from depth reached depths none = record {
   kids = [];
   all = sym (append-nil reached);
   child = λ j bad. absurd bad;
-  complete = λ c j e. (let bad : ◌≡◌ {A = Option ℕ} None (Some j) = sym (none c) ∙ e in cc);
+  complete = λ c j e. absurd (none-some j (sym (none c) ∙ e));
   once = tt;
   marked = marking-start [] depth depths;
 }
@@ -103,7 +93,10 @@ module _ {child : ℕ → ℕ → Option ℕ} {n m : ℕ} (tree : IsTree child n
       inside : 0 < length depths
       inside = let some : 0 < n = tree.some in omega (arith, long, some)
 
-  module _ (all depths : List ℕ) (k x : ℕ) (w : IsReaching child n m all k depths) (less : k < length all) (is : x ≡ get_or all k 0) where
+  module _ {all depths : List ℕ} {k x : ℕ} (w : IsReaching child n m all k depths) (less : k < length all) (read : x ≡ get_or all k x) where
+    is : x ≡ get_or all k 0
+    is = get_or_read all k x less read 0
+
     here : IsAmong all x
     here = subst (IsAmong all) (sym is) (among-read all k less)
 
@@ -130,8 +123,8 @@ module _ {child : ℕ → ℕ → Option ℕ} {n m : ℕ} (tree : IsTree child n
           | inr other ↦ (
               let p = other.0 in
               let at : IsReached child m n p = w.reached p (among-take all k p other.2) in
-              let texts : text child n m p ≡ text child n m x =
-              last_same (text child n m p) (text child n m x) other.1 c (sym (child-text tree p other.1 i at other.3) ∙ child-text tree x c i (w.reached x here) leads) in
+              let longer = sym (child-text tree p other.1 i at other.3) ∙ child-text tree x c i (w.reached x here) leads in
+              let texts : text child n m p ≡ text child n m x = (same_from_push (text child n m p) (text child n m x) other.1 c longer).0 in
               let one : p ≡ x = same_Some p x (sym at ∙ (ap (walk child 0) texts ∙ w.reached x here)) in
               not-entered (subst (IsAmong (take k all)) one other.2))
         ]
@@ -146,9 +139,6 @@ module _ {child : ℕ → ℕ → Option ℕ} {n m : ℕ} (tree : IsTree child n
         omega (arith, few, length-append all (members edge g n))
 
     module _ (more deeper : List ℕ) (depth : ℕ) (deep : depth ≡ suc (get_or depths x 0)) (noting : IsNoting (child x) depth all depths more deeper) where
-      kids : List ℕ
-      kids = noting.kids
-
       first : take (k + 1) (all ++ noting.kids) ≡ take k all ++ x ∷ []
       first =
           take-append-le (k + 1) all noting.kids (omega (arith, less)) ∙ (ap (λ q. take q all) (add-one k) ∙ (take-suc all k 0 less ∙ ap (λ y. take k all ++ y ∷ []) (sym is)))
@@ -192,18 +182,8 @@ module _ {child : ℕ → ℕ → Option ℕ} {n m : ℕ} (tree : IsTree child n
   pub reaching-end : (all depths : List ℕ) (k : ℕ) → IsReaching child n m all k depths → length all ≤ k → IsDepthTable child m n depths
   reaching-end all depths k w over = record {
     size = w.size;
-    reached = λ i r. slice_get-get_or depths i 0 (let less : i < n = reached-inside tree i r in omega (arith, less, w.size)) ∙ ap (λ d. Some d) (w.depth i (along (text child n m i) i r));
+    reached = λ i r.
+        slice_get-get_or depths i 0 (omega (arith, reached-inside tree i r, w.size))
+        ∙ ap (λ d. Some d) (w.depth i (along (IsAmong all) (λ q c j a e. w.closed q c j (rw (take_all k all over) a) e) (text child n m i) 0 i w.root r));
     others = λ i less out. slice_get-get_or depths i 0 (omega (arith, less, w.size)) ∙ ap (λ d. Some d) (w.others i less (λ a. out (w.reached i a)));
   }
-    where
-      whole : take k all ≡ all
-      whole = take_all k all over
-
-      from : (v : List ℕ) (q i : ℕ) → IsAmong all q → walk child q v ≡ Some i → IsAmong all i
-      from [] q i a e = subst (IsAmong all) (same_Some q i e) a
-      from (c ∷ v) q i a e =
-          let inner = and_then_inv (λ j. walk child j v) (child q c) i e in
-          from v inner.0 i (w.closed q c inner.0 (subst (λ l. IsAmong l q) (sym whole) a) inner.1) inner.2
-
-      along : (v : List ℕ) (i : ℕ) → Leads child v i → IsAmong all i
-      along v i e = from v 0 i w.root e

@@ -7,12 +7,19 @@ use Rattle.daachorse_model.specs.Paths.{walk, Leads}
 use Rattle.daachorse_model.proofs.Paths.{walk-push}
 use Rattle.daachorse_machine.specs.Texts.{IsReached}
 use Rattle.daachorse_machine.proofs.PathLaws.{and_then_inv, text_of-Leads, Leads-inside}
-use Rattle.std.proofs.lemmas.Option.{same_Some}
+use Rattle.std.proofs.lemmas.Option.{none-some, same_Some}
 use Rattle.daachorse_listing.specs.Edges.{put_before, children, IsTree, TellChildren}
 use Rattle.daachorse_listing.specs.Listing.{unit_of}
 use Rattle.daachorse_listing.specs.Trees.{IsAmong, Pairs, Diverges, text, Apart, ComesBefore, IsListed, IsWalk, elements_of, taken_from}
 use Rattle.daachorse_listing.proofs.Members.{among-append, among-left, among-right, among-put, put-left, put-right, All-among, among-All, among-children, children-among, Pairs-children, Pairs-append, Pairs-map, Pairs-push, Pairs-few, length-put, elements-pop}
 use Rattle.daachorse_listing.proofs.Orders.{order, Diverges-order, Diverges-on, Diverges-last, order-longer, order-itself}
+
+-- what holds of the root, and of the children of each of which it holds, holds of what any text leads to
+pub along : {child : ℕ → ℕ → Option ℕ} (P : ℕ → Type 0) → ((i c j : ℕ) → P i → child i c ≡ Some j → P j) → (v : List ℕ) (k i : ℕ) → P k → walk child k v ≡ Some i → P i
+along P closed [] k i h e = subst P (same_Some k i e) h
+along {child} P closed (c ∷ v) k i h e =
+    let inner = and_then_inv (λ j. walk child j v) (child k c) i e in
+    along P closed v inner.0 i (closed k c inner.0 h inner.1) inner.2
 
 -- the last element of a stack is the first that was put aside
 pub walk-pop : {child : ℕ → ℕ → Option ℕ} {n m : ℕ} (taken : List ℕ) (stack rest : List (ℕ × ℕ)) (x : ℕ × ℕ) → stack ≡ rest ++ x ∷ [] → IsWalk child n m taken (elements_of stack) → IsWalk child n m taken (x.1 ∷ elements_of rest)
@@ -154,22 +161,13 @@ module _ {child : ℕ → ℕ → Option ℕ} {n m : ℕ} (tree : IsTree child n
   walk-end : (taken : List ℕ) → IsWalk child n m taken [] → IsListed child n m taken
   walk-end taken w = record {
     reached = λ i a. w.reached i (inl a);
-    complete = λ i r. along (text child n m i) i r;
+    complete = λ i r. along (IsAmong taken) (λ k c j a e. only j (w.closed k c j a e)) (text child n m i) 0 i (only 0 w.root) r;
     rising = w.rising;
   }
     where
       only : (i : ℕ) → IsAmong taken i ⊎ IsAmong [] i → IsAmong taken i
       only i (inl a) = a
       only i (inr bad) = absurd bad
-
-      from : (v : List ℕ) (k i : ℕ) → IsAmong taken k → walk child k v ≡ Some i → IsAmong taken i
-      from [] k i a e = subst (IsAmong taken) (same_Some k i e) a
-      from (c ∷ v) k i a e =
-          let inner = and_then_inv (λ j. walk child j v) (child k c) i e in
-          from v inner.0 i (only inner.0 (w.closed k c inner.0 a inner.1)) inner.2
-
-      along : (v : List ℕ) (i : ℕ) → Leads child v i → IsAmong taken i
-      along v i e = from v 0 i (only 0 w.root) e
 
   -- no more is taken than all elements
   taken-few : (taken aside : List ℕ) (x : ℕ) → IsWalk child n m taken (x ∷ aside) → length taken < n
@@ -208,10 +206,14 @@ pub taken-none : (child : ℕ → ℕ → Option ℕ) (n m steps : ℕ) → take
 taken-none child n m zero = refl
 taken-none child n m (suc steps) = refl
 
--- the unit of a child's edge is the one that leads to it
-pub unit-is : {child : ℕ → ℕ → Option ℕ} {group : ℕ → Option ℕ} {edge : ℕ → Option (ℕ × ℕ)} {n : ℕ} → TellChildren child group edge n → (p c j : ℕ) → p < n → child p c ≡ Some j → unit_of (edge j) ≡ c
-unit-is {child} {group} {edge} tell p c j real e = at (group p) refl
-  where
-    at : (o : Option ℕ) → group p ≡ o → unit_of (edge j) ≡ c
-    at None own = absurd (let bad : ◌≡◌ {A = Option ℕ} None (Some j) = sym (tell.alone p c real own) ∙ e in cc)
-    at (Some g) own = ap unit_of (tell.from_child p g c j real own e)
+module _ {child : ℕ → ℕ → Option ℕ} {group : ℕ → Option ℕ} {edge : ℕ → Option (ℕ × ℕ)} {n : ℕ} (tell : TellChildren child group edge n) (i c j : ℕ) (real : i < n) (e : child i c ≡ Some j) where
+  -- an element with a child has a group
+  pub group-of : (g : ℕ) × (group i ≡ Some g)
+  group-of = (elim (group i) as (λ o. group i ≡ o → (g : ℕ) × (group i ≡ Some g)) [
+    | None ↦ λ own. absurd (none-some j (sym (tell.alone i c real own) ∙ e))
+    | Some g ↦ λ own. (g, own)
+  ]) refl
+
+  -- the unit of a child's edge is the one that leads to it
+  pub unit-is : unit_of (edge j) ≡ c
+  unit-is = ap unit_of (tell.from_child i group-of.0 c j real group-of.1 e)

@@ -2,7 +2,7 @@ use Rattle.std.proofs.Common.{rules, ◌≡◌, ℕ, ◌+◌, ◌*◌, ◌<◌, 
 use Rattle.std.proofs.lemmas.List.{get_or_read, length_push}
 use Rattle.std.proofs.lemmas.Result.{IfOk-from_err}
 use Rattle.std.proofs.lemmas.Grind.{elements}
-use Rattle.daachorse_listing.specs.Listing.{unit_of}
+use Rattle.daachorse_core.proofs.Refusals.{at_any_error}
 use Rattle.daachorse_checker.specs.Sizes.{AreSizes}
 use Rattle.daachorse_checker.proofs.PlaceLaws.{few}
 use Rattle.daachorse_checker.proofs.SizeLaws.{size_root, size_push, short_push}
@@ -19,7 +19,7 @@ loop-place-init g c =
       within = omega (arith, c.requires.places.places.some);
       each = ap length zero;
       short = λ k lt. (let same : k ≡ 0 = omega (arith, lt, ap length zero) in omega (arith, ap (λ i. get_or items i 0) same, ap (λ (xs : List ℕ). get_or xs 0 0) zero));
-      are = size_root (g.E.Edges.child a) (λ j. unit_of (g.E.Edges.edge a j)) (g.E.Edges.count a) p.order.items p.parents.items p.labels.items p.marks.items c.requires.places c.requires.tree (g.E.Array.width a) items zero;
+      are = size_root c.requires.places c.requires.tree (g.E.Array.width a) items zero;
     }
 
 pub overflow_add-size : goal.overflow_add-size
@@ -35,8 +35,7 @@ overflow_add-size g c =
     let up = places.earlier m inv.low lt in
     let in' : c.index.result.now < length sizes = omega (arith, parent, up, inv.each) in
     let size : c.index-in-loop-place.result.now ≡ get_or sizes c.index.result.now 0 = get_or_read sizes c.index.result.now c.index-in-loop-place.result.now in' c.index-in-loop-place.ensures 0 in
-    let most = few (g.E.Edges.child a) (λ j. unit_of (g.E.Edges.edge a j)) p.order.items p.parents.items p.labels.items p.marks.items places in
-    omega (arith, size, inv.short c.index.result.now in', c.width.ensures.short, parent, up, lt, most, c.requires.places.marks_each, c.requires.few)
+    omega (arith, size, inv.short c.index.result.now in', c.width.ensures.short, parent, up, lt, few places, c.requires.places.marks_each, c.requires.few)
 
 pub loop-place-preserved : goal.loop-place-preserved
 loop-place-preserved g c =
@@ -59,7 +58,7 @@ loop-place-preserved g c =
     let items : c.push-in-loop-place.new.self.items ≡ sizes ++ s ∷ [] = search rules in
     let fits : s ≤ 4 * m = omega (arith, size, inv.short c.index.result.now in', c.width.ensures.short, parent, up) in
     let are : AreSizes (g.E.Edges.child a) (g.E.Array.width a) p.order.items (sizes ++ s ∷ []) =
-    size_push (g.E.Edges.child a) (λ j. unit_of (g.E.Edges.edge a j)) (g.E.Edges.count a) p.order.items p.parents.items p.labels.items p.marks.items c.requires.places c.requires.tree (g.E.Array.width a) sizes m s inv.low lt inv.each inv.are value in
+    size_push c.requires.places c.requires.tree (g.E.Array.width a) sizes m s inv.low lt inv.each inv.are value in
     record {
       low = omega (arith, inv.low);
       within = omega (arith, lt);
@@ -68,11 +67,8 @@ loop-place-preserved g c =
       are = subst (λ (xs : List ℕ). AreSizes (g.E.Edges.child a) (g.E.Array.width a) p.order.items xs) (sym items) are;
     }
 
-pub returns-in_err-sizes-clause-ok : goal.returns-in_err-sizes-clause-ok
-returns-in_err-sizes-clause-ok g c = IfOk-from_err c.from_residual.result _ c.from_residual.ensures.0
-
-pub returns-in_err-sizes-clause-each : goal.returns-in_err-sizes-clause-each
-returns-in_err-sizes-clause-each g c = IfOk-from_err c.from_residual.result _ c.from_residual.ensures.0
+pub returns-in_err-sizes : goal.returns-in_err-sizes
+returns-in_err-sizes g c = search (rules, IfOk-from_err, at_any_error)
 
 pub width-requires : goal.width-requires
 width-requires g c = grind (arith, elements)

@@ -1,6 +1,7 @@
-use Rattle.std.proofs.Common.{◌≡◌, ◌<◌, false, length, refl, sym, ap, ◌∙◌, subst, inl, inr, arith, get_or}
+use Rattle.std.proofs.Common.{◌≡◌, ℕ, ◌<◌, false, length, refl, sym, ap, ◌∙◌, subst, arith, get_or}
 use Rattle.std.proofs.lemmas.List.{get_or_read}
-use Rattle.std.proofs.lemmas.Bool.{cases_lt, false≢true}
+use Rattle.std.proofs.lemmas.Bool.{false≢true}
+use borrow.Author.Count.{below_more}
 use Rattle.daachorse_machine.specs.Machines.{own_from}
 use Rattle.daachorse_checker.specs.Chains.{IsChained, machine_of}
 use Rattle.daachorse_checker.proofs.checker.chains_hold.Goals as goal
@@ -14,14 +15,11 @@ loop-place-preserved g c =
     let a = machine_of (g.E.Edges.child arr) (g.E.Links.fail arr) (g.E.Links.first arr) c.args.outputs.now in
     let lt : m < length order = omega (arith, c.loop-place-test.true, c.len.ensures) in
     let at : c.index-element.result.now ≡ get_or order m 0 = get_or_read order m c.index-element.result.now lt c.index-element.ensures 0 in
-    let here : IsChained a (get_or c.args.leaves.now m false) (get_or c.args.sizes.now m 0) (get_or order m 0) =
-    subst (λ i. IsChained a (get_or c.args.leaves.now m false) (get_or c.args.sizes.now m 0) i) at (c.if-not-chain_holds.ensures.yes refl) in
+    let here : IsChained a (get_or c.args.leaves.now m false) (get_or c.args.sizes.now m 0) (get_or order m 0) = rw at at (c.if-not-chain_holds.ensures.yes refl) in
+    let P : ℕ → Type 0 = λ q. 0 < q → IsChained a (get_or c.args.leaves.now q false) (get_or c.args.sizes.now q 0) (get_or order q 0) in
     record {
       low = omega (arith, inv.low);
-      each = λ k pos less. elim (cases_lt k m) [
-        | inl b ↦ inv.each k pos b
-        | inr b ↦ subst (λ q. IsChained a (get_or c.args.leaves.now q false) (get_or c.args.sizes.now q 0) (get_or order q 0)) (let same : m ≡ k = omega (arith, b, less) in same) here
-      ];
+      each = λ k pos less. below_more P m (λ q below pos. inv.each q pos below) (λ pos. here) k less pos;
     }
 
 pub rest_at-requires : goal.rest_at-requires
@@ -68,18 +66,11 @@ returns g c = record {
 }
 
 pub chain_holds-requires : goal.chain_holds-requires
-chain_holds-requires g c = record {
-  links = c.requires.links;
-  positions = c.requires.positions;
-  runs = c.requires.runs;
-  each = c.requires.each;
-  element =
-      let order = c.args.places.now.order.items in
-      let m = c.loop-place.place in
-      let lt : m < length order = omega (arith, c.loop-place-test.true, c.len.ensures, c.args.places.now.order.ok.0) in
-      let at = get_or_read order m c.index-element.result.now lt c.index-element.ensures 0 in
-      omega (arith, at, c.requires.places.places.inside m lt, c.requires.places.marks_each);
-}
+chain_holds-requires g c =
+    let lt : c.loop-place.place < length c.args.places.now.order.items = omega (arith, c.loop-place-test.true, c.len.ensures, c.args.places.now.order.ok.0) in
+    let at = get_or_read c.args.places.now.order.items c.loop-place.place c.index-element.result.now lt c.index-element.ensures 0 in
+    let element : c.index-element.result.now < g.E.Edges.count c.args.array.now = omega (arith, at, c.requires.places.places.inside c.loop-place.place lt, c.requires.places.marks_each) in
+    assumption (element, c.requires)
 
 pub returns-then-not-chain_holds-clause-no : goal.returns-then-not-chain_holds-clause-no
 returns-then-not-chain_holds-clause-no g c e chained =

@@ -1,5 +1,6 @@
-use Rattle.std.proofs.Common.{refl}
+use Rattle.std.proofs.Common.{rules, refl}
 use Rattle.std.proofs.lemmas.Result.{IfOk-from_err}
+use Rattle.daachorse_core.proofs.Refusals.{at_error}
 use Rattle.daachorse_checker.proofs.checker.is_sound.Goals as goal
 
 pub returns-clause-yes : goal.returns-clause-yes
@@ -11,8 +12,5 @@ returns-clause-yes g c e =
 pub returns-clause-no : goal.returns-clause-no
 returns-clause-no g c e sound = c.in_ok-right.ensures.no e sound.right sound.counted
 
-pub returns-in_err-right-clause-yes : goal.returns-in_err-right-clause-yes
-returns-in_err-right-clause-yes g c = IfOk-from_err c.from_residual.result _ c.from_residual.ensures.0
-
-pub returns-in_err-right-clause-no : goal.returns-in_err-right-clause-no
-returns-in_err-right-clause-no g c = IfOk-from_err c.from_residual.result _ c.from_residual.ensures.0
+pub returns-in_err-right : goal.returns-in_err-right
+returns-in_err-right g c = search (rules, IfOk-from_err, at_error)

@@ -1,5 +1,4 @@
 use Rattle.std.proofs.Common.{rules, ◌≡◌, length, sym, subst, arith}
-use Rattle.daachorse_listing.specs.Listing.{unit_of}
 use Rattle.daachorse_links.specs.Places.{IsTrie}
 use Rattle.daachorse_checker.specs.Chains.{machine_of}
 use Rattle.daachorse_checker.specs.Links.{AreLinkPlaces, HasNoPlace}
@@ -8,11 +7,7 @@ use Rattle.daachorse_checker.proofs.CheckedLaws.{trie_of_places, no_place, links
 use Rattle.daachorse_checker.proofs.checker.links_hold.Goals as goal
 
 pub link_places-requires-clause-few : goal.link_places-requires-clause-few
-link_places-requires-clause-few g c =
-    let arr = c.args.array.now in
-    let p = c.args.places in
-    let most = few (g.E.Edges.child arr) (λ j. unit_of (g.E.Edges.edge arr j)) p.order.items p.parents.items p.labels.items p.marks.items c.requires.places.places in
-    omega (arith, most, c.requires.places.marks_each, c.requires.few)
+link_places-requires-clause-few g c = omega (arith, few c.requires.places.places, c.requires.places.marks_each, c.requires.few)
 
 pub returns-in_default-clause-no : goal.returns-in_default-clause-no
 returns-in_default-clause-no g c e links =
@@ -20,7 +15,7 @@ returns-in_default-clause-no g c e links =
     let p = c.args.places in
     let a = machine_of (g.E.Edges.child arr) (g.E.Links.fail arr) (g.E.Links.first arr) c.args.outputs.now in
     let bad : HasNoPlace c.args.leftmost (g.E.Links.fail arr) p.order.items = search rules in
-    no_place (g.E.Array.width arr) a (g.E.Edges.group arr) (g.E.Edges.edge arr) (g.E.Edges.count arr) c.requires.tell p.order.items p.parents.items p.labels.items p.marks.items c.requires.places (g.E.Edges.units arr) (λ i u j h. (c.requires.inside i u j h).1) c.args.leftmost bad links
+    no_place (g.E.Array.width arr) a c.requires.tell c.requires.places (λ i u j h. (c.requires.inside i u j h).1) c.args.leftmost bad links
 
 pub has_links-requires-clause-trie : goal.has_links-requires-clause-trie
 has_links-requires-clause-trie g c =
@@ -28,14 +23,10 @@ has_links-requires-clause-trie g c =
     let p = c.args.places in
     let a = machine_of (g.E.Edges.child arr) (g.E.Links.fail arr) (g.E.Links.first arr) c.args.outputs.now in
     subst (λ u. IsTrie p.parents.items p.labels.items u) (sym c.num_units.ensures.bound)
-    (trie_of_places (g.E.Array.width arr) a (g.E.Edges.group arr) (g.E.Edges.edge arr) (g.E.Edges.count arr) c.requires.tell p.order.items p.parents.items p.labels.items p.marks.items c.requires.places (g.E.Edges.units arr) (λ i u j h. (c.requires.inside i u j h).1))
+    (trie_of_places (g.E.Array.width arr) a c.requires.tell c.requires.places (λ i u j h. (c.requires.inside i u j h).1))
 
 pub has_links-requires-clause-few : goal.has_links-requires-clause-few
-has_links-requires-clause-few g c =
-    let arr = c.args.array.now in
-    let p = c.args.places in
-    let most = few (g.E.Edges.child arr) (λ j. unit_of (g.E.Edges.edge arr j)) p.order.items p.parents.items p.labels.items p.marks.items c.requires.places.places in
-    omega (arith, most, c.requires.places.marks_each, c.requires.places.places.one_each, c.requires.few)
+has_links-requires-clause-few g c = omega (arith, few c.requires.places.places, c.requires.places.marks_each, c.requires.places.places.one_each, c.requires.few)
 
 pub returns-clause-yes : goal.returns-clause-yes
 returns-clause-yes g c e =
@@ -45,7 +36,7 @@ returns-clause-yes g c e =
     let fails = c.in-Some.fails.items in
     let each : length fails ≡ length p.order.items = search rules in
     let linked : AreLinkPlaces (g.E.Links.fail arr) p.order.items fails = search rules in
-    links_are_right (g.E.Array.width arr) a (g.E.Edges.group arr) (g.E.Edges.edge arr) (g.E.Edges.count arr) c.requires.tell p.order.items p.parents.items p.labels.items p.marks.items c.requires.places (g.E.Edges.units arr) (λ i u j h. (c.requires.inside i u j h).1) c.args.leftmost
+    links_are_right (g.E.Array.width arr) a c.requires.tell c.requires.places (λ i u j h. (c.requires.inside i u j h).1) c.args.leftmost
     c.args.sizes.now c.requires.sized c.requires.sizes c.in_ok-stops.stops.items c.in_ok-stops.ensures.ok c.in_ok-stops.ensures.each fails each linked (c.in_ok-right.ensures.yes e)
 
 pub returns-clause-no : goal.returns-clause-no
@@ -57,5 +48,5 @@ returns-clause-no g c e links =
     let each : length fails ≡ length p.order.items = search rules in
     let linked : AreLinkPlaces (g.E.Links.fail arr) p.order.items fails = search rules in
     c.in_ok-right.ensures.no e
-    (right_links_are (g.E.Array.width arr) a (g.E.Edges.group arr) (g.E.Edges.edge arr) (g.E.Edges.count arr) c.requires.tell p.order.items p.parents.items p.labels.items p.marks.items c.requires.places (g.E.Edges.units arr) (λ i u j h. (c.requires.inside i u j h).1) c.args.leftmost
+    (right_links_are (g.E.Array.width arr) a c.requires.tell c.requires.places (λ i u j h. (c.requires.inside i u j h).1) c.args.leftmost
     c.args.sizes.now c.requires.sized c.requires.sizes c.in_ok-stops.stops.items c.in_ok-stops.ensures.ok c.in_ok-stops.ensures.each fails each linked c.requires.tree links)

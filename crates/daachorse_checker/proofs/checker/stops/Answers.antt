@@ -1,9 +1,10 @@
 -- One place more that stops or does not.
-use Rattle.std.proofs.Common.{◌≡◌, ◌+◌, ◌<◌, Bool, List, [], ◌∷◌, ◌++◌, true, false, cond, length, sym, ap, ◌∙◌, subst, arith, get_or}
+use Rattle.std.proofs.Common.{rules, ◌≡◌, ◌+◌, ◌<◌, Bool, List, [], ◌∷◌, ◌++◌, true, false, cond, length, sym, ap, ◌∙◌, subst, arith, get_or}
 use Rattle.std.proofs.lemmas.List.{get_or_read, length_push}
 use Rattle.std.proofs.lemmas.Result.{IfOk-from_err}
 use Rattle.std.proofs.lemmas.Grind.{elements}
 use Rattle.daachorse_machine.specs.Machines.{own_from}
+use Rattle.daachorse_core.proofs.Refusals.{at_any_error}
 use Rattle.daachorse_checker.specs.Chains.{AreStopsAt, machine_of}
 use Rattle.daachorse_checker.specs.Runs.{has_values}
 use Rattle.daachorse_checker.proofs.LeafLaws.{stops_push}
@@ -33,11 +34,8 @@ loop-place-preserved g c =
           (stops_push a c.args.leftmost order sizes stops m stop c.loop-place.invariant.each c.loop-place.invariant.are is);
     }
 
-pub returns-in_err-stops-clause-ok : goal.returns-in_err-stops-clause-ok
-returns-in_err-stops-clause-ok g c = IfOk-from_err c.from_residual-in_err-stops.result _ c.from_residual-in_err-stops.ensures.0
-
-pub returns-in_err-stops-clause-each : goal.returns-in_err-stops-clause-each
-returns-in_err-stops-clause-each g c = IfOk-from_err c.from_residual-in_err-stops.result _ c.from_residual-in_err-stops.ensures.0
+pub returns-in_err-stops : goal.returns-in_err-stops
+returns-in_err-stops g c = search (rules, IfOk-from_err, at_any_error)
 
 pub first-first-requires : goal.first-first-requires
 first-first-requires g c = grind (arith, elements)

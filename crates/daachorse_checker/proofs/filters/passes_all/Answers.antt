@@ -1,5 +1,5 @@
 -- Where no entry is left, and where no text is longer, the filter passes at all keys.
-use Rattle.std.proofs.Common.{rules, ◌≡◌, ◌<◌, ◌≤◌, ℕ, ◌+◌, List, [], ◌∷◌, length, refl, sym, subst, arith}
+use Rattle.std.proofs.Common.{rules, ◌≡◌, ◌<◌, ℕ, ◌+◌, List, [], ◌∷◌, length, refl, sym, subst, arith}
 use Rattle.std.specs.Prelude.{All}
 use Rattle.std.proofs.lemmas.Grind.{common_steps}
 use Rattle.daachorse_prefilter.specs.declared.prefilter.window.Window.{Window}
@@ -10,42 +10,33 @@ use Rattle.daachorse_checker.proofs.filters.passes_all.Goals as goal
 
 pub returns-then-is_empty-clause-yes : goal.returns-then-is_empty-clause-yes
 returns-then-is_empty-clause-yes g c e =
-    let a = c.args.array.now in
-    let level = c.loop-depth.level.items in
-    let none : length level ≡ 0 = grind (arith, common_steps) in
-    level_none (g.E.Edges.child a) g.E.Spelled.bytes c.args.filter.now (has_own (g.E.Links.fail a) (g.E.Links.first a)) c.requires.tree c.loop-depth._depth level c.loop-depth.invariant none
+    let none : length c.loop-depth.level.items ≡ 0 = grind (arith, common_steps) in
+    level_none c.requires.tree c.loop-depth.invariant none
 
 pub next_level-requires-clause-elements : goal.next_level-requires-clause-elements
 next_level-requires-clause-elements g c =
-    let a = c.args.array.now in
-    let level = c.loop-depth.level.items in
-    subst (λ (xs : List (ℕ × Window)). All (λ e. e.0 < g.E.Edges.count a) xs) (sym c.deref.ensures.value)
-    (level_inside (g.E.Edges.child a) g.E.Spelled.bytes c.args.filter.now (has_own (g.E.Links.fail a) (g.E.Links.first a)) c.requires.tree c.loop-depth._depth level c.loop-depth.invariant (g.E.Edges.count a) (g.E.Edges.units a) c.requires.some c.requires.inside)
+    subst (λ (xs : List (ℕ × Window)). All (λ e. e.0 < g.E.Edges.count c.args.array.now) xs) (sym c.deref.ensures.value)
+    (level_inside c.requires.tree c.loop-depth.invariant (g.E.Edges.count c.args.array.now) (g.E.Edges.units c.args.array.now) c.requires.some c.requires.inside)
 
 pub returns-in_default-clause-no : goal.returns-in_default-clause-no
 returns-in_default-clause-no g c e all =
     let a = c.args.array.now in
-    let level = c.loop-depth.level.items in
-    let refused : HasRefused c.args.filter.now (has_own (g.E.Links.fail a) (g.E.Links.first a)) level = search rules in
-    level_refused (g.E.Edges.child a) g.E.Spelled.bytes c.args.filter.now (has_own (g.E.Links.fail a) (g.E.Links.first a)) c.requires.tree c.loop-depth._depth level c.loop-depth.invariant refused all
+    let refused : HasRefused c.args.filter.now (has_own (g.E.Links.fail a) (g.E.Links.first a)) c.loop-depth.level.items = search rules in
+    level_refused c.requires.tree c.loop-depth.invariant refused all
 
 pub returns-clause-yes : goal.returns-clause-yes
 returns-clause-yes g c e =
     let a = c.args.array.now in
-    let most : g.E.Edges.count a ≤ c.loop-depth._depth = omega (arith, c.loop-depth-test.false, c.num_elements-depth-end.ensures.all) in
-    level_last (g.E.Edges.child a) g.E.Spelled.bytes c.args.filter.now (has_own (g.E.Links.fail a) (g.E.Links.first a)) c.requires.tree c.loop-depth._depth c.loop-depth.level.items c.loop-depth.invariant (g.E.Edges.count a) (g.E.Edges.units a) c.requires.some c.requires.inside most
+    level_last c.requires.tree c.loop-depth.invariant (g.E.Edges.count a) (g.E.Edges.units a) c.requires.some c.requires.inside
+    (omega (arith, c.loop-depth-test.false, c.num_elements-depth-end.ensures.all))
 
 pub loop-depth-init : goal.loop-depth-init
 loop-depth-init g c =
-    let a = c.args.array.now in
     let items : c.push.new.self.items ≡ (0, c.new-2.result) ∷ [] = search rules in
-    level_start (g.E.Edges.child a) g.E.Spelled.bytes c.args.filter.now (has_own (g.E.Links.fail a) (g.E.Links.first a)) c.requires.tree c.push.new.self.items c.new-2.result items (c.new-2.ensures c.args.filter.now)
+    level_start c.requires.tree c.push.new.self.items c.new-2.result items (c.new-2.ensures c.args.filter.now)
 
 pub loop-depth-preserved : goal.loop-depth-preserved
 loop-depth-preserved g c =
     let a = c.args.array.now in
-    let level = c.loop-depth.level.items in
     let of : IsNextOf (g.E.Edges.child a) g.E.Spelled.bytes c.args.filter.now (has_own (g.E.Links.fail a) (g.E.Links.first a)) c.deref.result.now (length c.deref.result.now) c.in-Some.next.items = search rules in
-    let of_level : IsNextOf (g.E.Edges.child a) g.E.Spelled.bytes c.args.filter.now (has_own (g.E.Links.fail a) (g.E.Links.first a)) level (length level) c.in-Some.next.items =
-    subst (λ (xs : List (ℕ × Window)). IsNextOf (g.E.Edges.child a) g.E.Spelled.bytes c.args.filter.now (has_own (g.E.Links.fail a) (g.E.Links.first a)) xs (length xs) c.in-Some.next.items) c.deref.ensures.value of in
-    level_next (g.E.Edges.child a) g.E.Spelled.bytes c.args.filter.now (has_own (g.E.Links.fail a) (g.E.Links.first a)) c.requires.tree c.loop-depth._depth level c.loop-depth.invariant c.in-Some.next.items (c.loop-depth._depth + 1) refl of_level
+    level_next c.requires.tree c.loop-depth.invariant c.in-Some.next.items (c.loop-depth._depth + 1) refl (rw c.deref.ensures.value at of)

@@ -1,6 +1,6 @@
 -- A label is folded where it is below A or above Z.
-use Rattle.std.proofs.Common.{◌≡◌, ℕ, ◌<◌, ◌≤◌, ◌⊎◌, get_or, subst, inl, inr, arith}
-use Rattle.std.proofs.lemmas.Bool.{cases_lt}
+use Rattle.std.proofs.Common.{◌≡◌, ℕ, ◌<◌, ◌≤◌, ◌⊎◌, get_or, inl, inr, arith}
+use borrow.Author.Count.{below_more}
 use Rattle.daachorse_model.specs.Folding.{folded_unit}
 use Rattle.daachorse_model.proofs.FoldLemmas.{folded_unit-is}
 use Rattle.daachorse_checker.proofs.folded.are_folded.Goals as goal
@@ -24,10 +24,8 @@ loop-place-preserved c =
       | else-label-from-via-then-label-from+else-label-from-2 w ↦ inr (omega (arith, w.if-label-from-2.false, w.from-then-label-from.ensures))
       | else-label-from-via-else-label-from w ↦ inl (omega (arith, w.if-label-from.false, c.from.ensures))
     ]) in
+    let P : ℕ → Type 0 = λ k. 0 < k → folded_unit (get_or labels k 0) ≡ get_or labels k 0 in
     record {
       low = omega arith;
-      each = λ m pos less. elim (cases_lt m at) [
-        | inl before ↦ c.loop-place.invariant.each m pos before
-        | inr last ↦ (let P : ℕ → Type 0 = λ k. folded_unit (get_or labels k 0) ≡ get_or labels k 0 in let same : at ≡ m = omega arith in subst P same here)
-      ];
+      each = λ m pos less. below_more P at (λ k below pos. c.loop-place.invariant.each k pos below) (λ pos. here) m less pos;
     }

@@ -4,6 +4,7 @@ use Rattle.std.proofs.lemmas.Result.{IfOk-from_err}
 use Rattle.std.proofs.lemmas.Grind.{common_steps}
 use Rattle.daachorse_core.specs.Outputs.{length_of, parent_of}
 use Rattle.daachorse_machine.specs.Machines.{own_from}
+use Rattle.daachorse_core.proofs.Refusals.{at_any_error}
 use Rattle.daachorse_checker.specs.Runs.{AreRuns}
 use Rattle.daachorse_checker.proofs.RunLaws.{runs_push}
 use Rattle.daachorse_checker.proofs.runs.runs.Goals as goal
@@ -25,11 +26,8 @@ loop-number-preserved g c =
       runs = subst (AreRuns outputs) (sym items) (runs_push outputs old run c.loop-number.number o c.loop-number.invariant.runs c.requires.fall c.loop-number.invariant.each c.output_at-output.ensures e);
     }
 
-pub returns-in_err-runs-clause-ok : goal.returns-in_err-runs-clause-ok
-returns-in_err-runs-clause-ok g c = IfOk-from_err c.from_residual.result _ c.from_residual.ensures.0
-
-pub returns-in_err-runs-clause-each : goal.returns-in_err-runs-clause-each
-returns-in_err-runs-clause-each g c = IfOk-from_err c.from_residual.result _ c.from_residual.ensures.0
+pub returns-in_err-runs : goal.returns-in_err-runs
+returns-in_err-runs g c = search (rules, IfOk-from_err, at_any_error)
 
 pub rest_at-run-requires-clause-runs : goal.rest_at-run-requires-clause-runs
 rest_at-run-requires-clause-runs g c = grind (arith, common_steps)

@@ -1,23 +1,15 @@
 -- The element above is put on the path until its depth is known, or it is no child.
-use Rattle.std.proofs.Common.{◌≡◌, ◌<◌, ◌∷◌, [], ℕ, List, length, reverse, get_or, set, inl, inr, refl, sym, ap, ◌∙◌, subst, arith, length-append}
+use Rattle.std.proofs.Common.{◌≡◌, ◌<◌, ◌∷◌, [], length, reverse, get_or, set, inl, inr, refl, sym, ap, ◌∙◌, arith, length-append}
 use Rattle.std.proofs.lemmas.List.{get_or-set_same, get_or_read, length-reverse, reverse-append}
-use Rattle.daachorse_machine.specs.Texts.{IsReached}
-use Rattle.daachorse_listing.specs.Climbs.{AreKnown}
-use Rattle.daachorse_listing.specs.Trees.{IsAmong}
-use Rattle.daachorse_listing.proofs.ClimbLaws.{IsClimb, below-few, climb-found, climb-lost, climb-orphan, climb-root, edge-below, known-push, set-kept, unknown-few, unknown-set}
+use Rattle.daachorse_listing.proofs.ClimbLaws.{below-few, climb-found, climb-lost, climb-orphan, climb-root, edge-below, known-push, set-kept, unknown-few, unknown-set}
 use Rattle.daachorse_listing.proofs.climbs.climb.Goals as goal
 
 pub up-init : goal.up-init
 up-init g c =
-    let child = g.E.Edges.child c.args.edges.now in
-    let n = g.E.Edges.count c.args.edges.now in
-    let m = g.E.Edges.units c.args.edges.now in
     let empty : reverse c.args.path.now.items ≡ [] = ap reverse c.requires.empty in
-    let K : List ℕ → Type 0 = λ l. AreKnown child n m l c.args.depths.now.items in
-    let C : List ℕ → Type 0 = λ l. IsClimb child n m l c.args.element in
     record {
-      known = subst K (sym empty) c.requires.known;
-      climb = subst C (sym empty) tt;
+      known = rw empty c.requires.known;
+      climb = rw empty tt;
       inside = c.requires.element;
       room = omega (arith, ap length c.requires.empty, unknown-few c.args.depths.now.items, c.requires.known.size);
       same = refl;
@@ -40,9 +32,8 @@ returns-then-depth-ne-NOT_KNOWN-clause-above g c =
 pub returns-in_default-clause-above : goal.returns-in_default-clause-above
 returns-in_default-clause-above g c =
     let inv = c.up.invariant in
-    let P : List ℕ → Type 0 = λ l. (i : ℕ) → IsAmong l i → ¬ IsReached (g.E.Edges.child c.args.edges.now) (g.E.Edges.units c.args.edges.now) (g.E.Edges.count c.args.edges.now) i in
     let path = ap reverse c.push_reserved.ensures.items ∙ reverse-append c.up.path.items (c.up.above ∷ []) in
-    subst P (sym path) (climb-orphan c.requires.tree c.requires.tell (reverse c.up.path.items) c.up.above inv.climb (omega (arith, c.up-test.true)) (sym c.in_default.ensures.edge))
+    rw path (climb-orphan c.requires.tree c.requires.tell (reverse c.up.path.items) c.up.above inv.climb (omega (arith, c.up-test.true)) (sym c.in_default.ensures.edge))
 
 pub returns-clause-above : goal.returns-clause-above
 returns-clause-above g c = climb-root c.requires.tree (reverse c.up.path.items) c.up.above c.up-test.false c.up.invariant.climb
@@ -64,9 +55,6 @@ returns-clause-few g c = omega (arith, below-few c.requires.tree (reverse c.up.p
 
 pub up-preserved : goal.up-preserved
 up-preserved g c =
-    let child = g.E.Edges.child c.args.edges.now in
-    let n = g.E.Edges.count c.args.edges.now in
-    let m = g.E.Edges.units c.args.edges.now in
     let inv = c.up.invariant in
     let above = c.up.above in
     let depths = set c.up.depths.items above 4294967295 in
@@ -75,11 +63,11 @@ up-preserved g c =
     let read = get_or_read c.up.depths.items above c.index-depth.result.now less c.index-depth.ensures 0 in
     let none : get_or c.up.depths.items above 0 ≡ 0 = sym read ∙ c.if-depth-ne-NOT_KNOWN.false in
     let path : reverse c.push_reserved.new.self.items ≡ above ∷ reverse c.up.path.items = ap reverse c.push_reserved.ensures.items ∙ reverse-append c.up.path.items (above ∷ []) in
-    let K : List ℕ → Type 0 = λ l. AreKnown child n m l depths in
-    let C : List ℕ → Type 0 = λ l. IsClimb child n m l c.in-Some.parent in
     record {
-      known = subst K (sym path) (known-push c.requires.tree (reverse c.up.path.items) c.up.depths.items above inv.known some inv.inside none);
-      climb = subst C (sym path) (edge-below c.requires.tree c.requires.tell above c.in-Some.parent c.in-Some._unit some inv.inside c.in-Some.ensures.inside.0 (sym c.in-Some.ensures.edge), inv.climb);
+      known = rw path (known-push c.requires.tree (reverse c.up.path.items) c.up.depths.items above inv.known some inv.inside none);
+      climb =
+          let e = sym c.in-Some.ensures.edge in
+          rw path (edge-below c.requires.tree c.requires.tell above c.in-Some.parent c.in-Some._unit some inv.inside c.in-Some.ensures.inside.0 e, inv.climb);
       inside = c.in-Some.ensures.inside.0;
       room = omega (arith, inv.room, unknown-set c.up.depths.items above 4294967294 less none, ap length c.push_reserved.ensures.items, length-append c.up.path.items (above ∷ []));
       same = c.push_reserved.ensures.capacity ∙ inv.same;

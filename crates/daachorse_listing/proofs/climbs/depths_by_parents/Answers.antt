@@ -1,8 +1,8 @@
 -- What a climb passed is given its depth, or known not to be reached.
-use Rattle.std.proofs.Common.{◌≡◌, ◌≢◌, ◌+◌, ◌<◌, [], ℕ, List, reverse, replicate, sym, ap, ◌∙◌, subst, arith}
+use Rattle.std.proofs.Common.{◌≡◌, ◌≢◌, ◌+◌, ◌<◌, ℕ, reverse, replicate, ap, ◌∙◌, arith}
 use Rattle.std.specs.Prelude.{slice_index, vec_capacity}
 use borrow.Author.Count.{below_more}
-use Rattle.daachorse_listing.specs.Climbs.{AreKnown, deepened}
+use Rattle.daachorse_listing.specs.Climbs.{deepened}
 use Rattle.daachorse_listing.proofs.ClimbLaws.{deepened-kept, known-deepened, known-end, known-lost, known-start, waiting-inside}
 use Rattle.daachorse_listing.proofs.climbs.depths_by_parents.Goals.{in-Some, in-None}
 use Rattle.daachorse_listing.proofs.climbs.depths_by_parents.Goals as goal
@@ -23,7 +23,6 @@ descend-requires-clause-inside g c = waiting-inside c.requires.tree (reverse c.c
 
 pub loop-element-preserved : goal.loop-element-preserved
 loop-element-preserved g c =
-    let K : List ℕ → Type 0 = AreKnown (g.E.Edges.child c.args.edges.now) (g.E.Edges.count c.args.edges.now) (g.E.Edges.units c.args.edges.now) [] in
     let passed : (i : ℕ) → i < c.loop-element.element + 1 → 0 < i → slice_index c.climb.new.depths.items i ≢ 0 =
     below_more (λ i. 0 < i → slice_index c.climb.new.depths.items i ≢ 0) c.loop-element.element (λ i less some. c.climb.ensures.kept i (c.loop-element.invariant.passed i some less)) c.climb.ensures.passed in
     elim c.match-climb.branch [
@@ -31,16 +30,16 @@ loop-element-preserved g c =
           let path = reverse c.climb.new.path.items in
           let depths : c.match-climb.depths.items ≡ deepened w.in-Some.depth path c.climb.new.depths.items = ap (λ v. v.items) w.depths-is ∙ w.descend.ensures.depths in
           record {
-            known = subst K (sym depths) (known-deepened c.requires.tree path c.climb.new.depths.items w.in-Some.depth c.climb.ensures.known w.in-Some.ensures.above);
-            passed = λ i some less. subst (λ (l : List ℕ). slice_index l i ≢ 0) (sym depths) (deepened-kept path c.climb.new.depths.items w.in-Some.depth i (passed i less some));
+            known = rw depths (known-deepened c.requires.tree path c.climb.new.depths.items w.in-Some.depth c.climb.ensures.known w.in-Some.ensures.above);
+            passed = λ i some less. rw depths (deepened-kept path c.climb.new.depths.items w.in-Some.depth i (passed i less some));
             empty = ap (λ v. v.items) w.path-is ∙ w.descend.ensures.empty;
             room = omega (arith, c.loop-element.invariant.room, c.climb.ensures.capacity, w.descend.ensures.capacity, ap vec_capacity w.path-is);
           })
       | in-None w ↦ (
           let depths : c.match-climb.depths.items ≡ c.climb.new.depths.items = ap (λ v. v.items) w.depths-is in
           record {
-            known = subst K (sym depths) (known-lost c.requires.tree (reverse c.climb.new.path.items) c.climb.new.depths.items c.climb.ensures.known w.in-None.ensures.above);
-            passed = λ i some less. subst (λ (l : List ℕ). slice_index l i ≢ 0) (sym depths) (passed i less some);
+            known = rw depths (known-lost c.requires.tree (reverse c.climb.new.path.items) c.climb.new.depths.items c.climb.ensures.known w.in-None.ensures.above);
+            passed = λ i some less. rw depths (passed i less some);
             empty = ap (λ v. v.items) w.path-is ∙ w.clear.ensures.items;
             room = omega (arith, c.loop-element.invariant.room, c.climb.ensures.capacity, w.clear.ensures.capacity, ap vec_capacity w.path-is);
           })

@@ -1,6 +1,5 @@
 -- The walk starts at the root, and is over where all that were reached were entered.
-use Rattle.std.proofs.Common.{◌≡◌, ◌<◌, [], ◌∷◌, ◌++◌, length, replicate, ap, ◌∙◌, arith, add-one}
-use Rattle.std.proofs.lemmas.List.{get_or_read}
+use Rattle.std.proofs.Common.{◌≡◌, ◌<◌, [], ◌∷◌, ◌++◌, replicate, ap, ◌∙◌, arith, add-one}
 use Rattle.daachorse_listing.proofs.ReachLaws.{reaching-start, entered-inside, entered-shallow, entered-few, entered-room, reaching-next, reaching-end}
 use Rattle.daachorse_listing.proofs.depths.depths.Goals as goal
 
@@ -19,36 +18,25 @@ returns-clause-ok g c = reaching-end c.requires.tree c.elements.reached.items c.
 
 pub note_children-requires-clause-element : goal.note_children-requires-clause-element
 note_children-requires-clause-element g c =
-    let less : c.elements.entered < length c.elements.reached.items = omega (arith, c.elements-test.true, c.len.ensures) in
-    let read = get_or_read c.elements.reached.items c.elements.entered c.index.result.now less c.index.ensures 0 in
-    entered-inside c.requires.tree c.elements.reached.items c.elements.depths.items c.elements.entered c.index.result.now c.elements.invariant.reaching less read
+    entered-inside c.requires.tree c.elements.invariant.reaching (omega (arith, c.elements-test.true, c.len.ensures)) c.index.ensures
 
 pub note_children-requires-clause-shallow : goal.note_children-requires-clause-shallow
 note_children-requires-clause-shallow g c =
-    let less : c.elements.entered < length c.elements.reached.items = omega (arith, c.elements-test.true, c.len.ensures) in
-    let read = get_or_read c.elements.reached.items c.elements.entered c.index.result.now less c.index.ensures 0 in
-    entered-shallow c.requires.tree c.elements.reached.items c.elements.depths.items c.elements.entered c.index.result.now c.elements.invariant.reaching less read
+    entered-shallow c.requires.tree c.elements.invariant.reaching (omega (arith, c.elements-test.true, c.len.ensures)) c.index.ensures
 
 pub note_children-requires-clause-room : goal.note_children-requires-clause-room
-note_children-requires-clause-room g c =
-    let less : c.elements.entered < length c.elements.reached.items = omega (arith, c.elements-test.true, c.len.ensures) in
-    let read = get_or_read c.elements.reached.items c.elements.entered c.index.result.now less c.index.ensures 0 in
-    λ group own. (let few = entered-room c.requires.tree c.elements.reached.items c.elements.depths.items c.elements.entered c.index.result.now c.elements.invariant.reaching less read c.requires.tell group own in
-    omega (arith, few, c.elements.invariant.room))
+note_children-requires-clause-room g c group own =
+    let few = entered-room c.requires.tree c.elements.invariant.reaching (omega (arith, c.elements-test.true, c.len.ensures)) c.index.ensures c.requires.tell group own in
+    omega (arith, few, c.elements.invariant.room)
 
 pub elements-smaller : goal.elements-smaller
 elements-smaller g c =
-    let less : c.elements.entered < length c.elements.reached.items = omega (arith, c.elements-test.true, c.len.ensures) in
-    let read = get_or_read c.elements.reached.items c.elements.entered c.index.result.now less c.index.ensures 0 in
-    let few : c.elements.entered < g.E.Edges.count c.args.edges.now = entered-few c.requires.tree c.elements.reached.items c.elements.depths.items c.elements.entered c.index.result.now c.elements.invariant.reaching less read in
+    let few : c.elements.entered < g.E.Edges.count c.args.edges.now = entered-few c.requires.tree c.elements.invariant.reaching (omega (arith, c.elements-test.true, c.len.ensures)) c.index.ensures in
     omega (arith, few)
 
 pub elements-preserved : goal.elements-preserved
-elements-preserved g c =
-    let less : c.elements.entered < length c.elements.reached.items = omega (arith, c.elements-test.true, c.len.ensures) in
-    let read = get_or_read c.elements.reached.items c.elements.entered c.index.result.now less c.index.ensures 0 in
-    record {
-      reaching = reaching-next c.requires.tree c.elements.reached.items c.elements.depths.items c.elements.entered c.index.result.now c.elements.invariant.reaching less read
-          c.note_children.new.reached.items c.note_children.new.depths.items _ (add-one _) c.note_children.ensures.noted;
-      room = omega (arith, c.elements.invariant.room, c.note_children.ensures.capacity);
-    }
+elements-preserved g c = record {
+  reaching = reaching-next c.requires.tree c.elements.invariant.reaching (omega (arith, c.elements-test.true, c.len.ensures)) c.index.ensures
+      c.note_children.new.reached.items c.note_children.new.depths.items _ (add-one _) c.note_children.ensures.noted;
+  room = omega (arith, c.elements.invariant.room, c.note_children.ensures.capacity);
+}

@@ -2,6 +2,7 @@ use Rattle.std.proofs.Common.{rules, ◌≡◌, ℕ, ◌<◌, ◌++◌, ◌∷�
 use Rattle.std.proofs.lemmas.List.{get_or_read}
 use Rattle.std.proofs.lemmas.Grind.{elements}
 use Rattle.std.proofs.lemmas.Result.{IfOk-from_err}
+use Rattle.daachorse_core.proofs.Refusals.{at_any_error}
 use Rattle.daachorse_checker.proofs.PlaceLaws.{old_at}
 use Rattle.daachorse_checker.proofs.ExpandLaws.{expand_none, next_in, expand_next, expand_done, refuse_low, refuse_marked, few_places}
 use Rattle.daachorse_checker.proofs.places.Places.expand.Goals as goal
@@ -73,20 +74,11 @@ group-requires g c = grind (arith, elements)
 pub members-member-items-requires : goal.members-member-items-requires
 members-member-items-requires g c = grind (arith, elements)
 
-pub returns-in_err-push-clause-yes : goal.returns-in_err-push-clause-yes
-returns-in_err-push-clause-yes g c = IfOk-from_err c.from_residual.result _ c.from_residual.ensures.0
+pub returns-in_err-push : goal.returns-in_err-push
+returns-in_err-push g c = search (rules, IfOk-from_err, at_any_error)
 
-pub returns-in_err-push-clause-no : goal.returns-in_err-push-clause-no
-returns-in_err-push-clause-no g c = IfOk-from_err c.from_residual.result _ c.from_residual.ensures.0
+pub returns-in_err-push-2 : goal.returns-in_err-push-2
+returns-in_err-push-2 g c = search (rules, IfOk-from_err, at_any_error)
 
-pub returns-in_err-push-2-clause-yes : goal.returns-in_err-push-2-clause-yes
-returns-in_err-push-2-clause-yes g c = IfOk-from_err c.from_residual-in_err-push-2.result _ c.from_residual-in_err-push-2.ensures.0
-
-pub returns-in_err-push-2-clause-no : goal.returns-in_err-push-2-clause-no
-returns-in_err-push-2-clause-no g c = IfOk-from_err c.from_residual-in_err-push-2.result _ c.from_residual-in_err-push-2.ensures.0
-
-pub returns-in_err-push-3-clause-yes : goal.returns-in_err-push-3-clause-yes
-returns-in_err-push-3-clause-yes g c = IfOk-from_err c.from_residual-in_err-push-3.result _ c.from_residual-in_err-push-3.ensures.0
-
-pub returns-in_err-push-3-clause-no : goal.returns-in_err-push-3-clause-no
-returns-in_err-push-3-clause-no g c = IfOk-from_err c.from_residual-in_err-push-3.result _ c.from_residual-in_err-push-3.ensures.0
+pub returns-in_err-push-3 : goal.returns-in_err-push-3
+returns-in_err-push-3 g c = search (rules, IfOk-from_err, at_any_error)

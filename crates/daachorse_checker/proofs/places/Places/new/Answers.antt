@@ -1,8 +1,7 @@
-use Rattle.std.proofs.Common.{◌≡◌, length, subst, arith}
+use Rattle.std.proofs.Common.{rules, ◌≡◌, length, arith}
 use Rattle.std.proofs.lemmas.Result.{IfOk-from_err}
 use Rattle.std.proofs.lemmas.Grind.{common_steps}
-use Rattle.daachorse_listing.specs.Listing.{unit_of}
-use Rattle.daachorse_checker.specs.Places.{IsWalk}
+use Rattle.daachorse_core.proofs.Refusals.{at_error}
 use Rattle.daachorse_checker.proofs.ExpandLaws.{few_places, all_placed}
 use Rattle.daachorse_checker.proofs.places.Places.new.Goals as goal
 
@@ -18,21 +17,13 @@ loop-next-smaller g c =
 
 pub returns-clause-yes : goal.returns-clause-yes
 returns-clause-yes g c =
-    let t = c.loop-next.places in
-    let a = c.args.array.now in
     let walk = c.loop-next.invariant.walk in
-    let done : c.loop-next.next ≡ length t.order.items = omega (arith, walk.within, c.loop-next-test.false, c.len.ensures) in
-    let all : IsWalk (g.E.Edges.child a) (λ j. unit_of (g.E.Edges.edge a j)) (g.E.Edges.count a) t.order.items t.parents.items t.labels.items t.marks.items (length t.order.items) =
-    subst (λ k. IsWalk (g.E.Edges.child a) (λ j. unit_of (g.E.Edges.edge a j)) (g.E.Edges.count a) t.order.items t.parents.items t.labels.items t.marks.items k) done walk in (
-      all_placed c.requires.tell all,
-      record { places = all.places; closed = all.closed; marks_each = all.marks_each },
-    )
+    let done : c.loop-next.next ≡ length c.loop-next.places.order.items = omega (arith, walk.within, c.loop-next-test.false, c.len.ensures) in
+    let both = all_placed c.requires.tell (λ i u j e. (c.requires.inside i u j e).1) (rw done at walk) in
+    (both.1, both.0)
 
-pub returns-in_err-groups-clause-yes : goal.returns-in_err-groups-clause-yes
-returns-in_err-groups-clause-yes g c = IfOk-from_err c.from_residual.result _ c.from_residual.ensures.0
-
-pub returns-in_err-groups-clause-no : goal.returns-in_err-groups-clause-no
-returns-in_err-groups-clause-no g c = IfOk-from_err c.from_residual.result _ c.from_residual.ensures.0
+pub returns-in_err-groups : goal.returns-in_err-groups
+returns-in_err-groups g c = search (rules, IfOk-from_err, at_error)
 
 pub loop-next-init : goal.loop-next-init
 loop-next-init g c = grind (arith, common_steps)

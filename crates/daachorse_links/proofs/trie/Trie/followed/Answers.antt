@@ -1,5 +1,5 @@
 -- The link is the child of the first place on the way up with a child by the label.
-use Rattle.std.proofs.Common.{◌≡◌, ◌^◌, ◌<◌, ◌∙◌, Some, cond, sym, ap, length, get_or, subst, arith}
+use Rattle.std.proofs.Common.{◌≡◌, ◌<◌, ◌∙◌, Some, cond, sym, ap, length, get_or, subst, arith}
 use Rattle.std.proofs.lemmas.List.{get_or_read}
 use Rattle.daachorse_links.specs.Following.{IsFollowing}
 use Rattle.daachorse_links.specs.Places.{child, stop}
@@ -20,8 +20,7 @@ returns-then-is_child g c =
     let at = c.is_child.ensures c.if-is_child.true in
     let some : child t.parents.items t.labels.items here l ≡ Some given =
     picked_some r.trie.1 here l given (is_picked r.trie.1 given here l at.0 at.1 at.2 (at.3 ∙ label)) at.0 in
-    let low = following_low r.trie.1 r.each r.fall is in
-    let lt : here < length t.fails.items = omega (arith, low, c.len-count.ensures, c.loop-here-test.true) in
+    let lt : here < length t.fails.items = omega (arith, following_low r.trie.1 r.each r.fall is, c.len-count.ensures, c.loop-here-test.true) in
     c.right_link.ensures ∙ following_found r.trie.1 r.each r.fall is m given 0 lt some
 
 pub loop-here-preserved : goal.loop-here-preserved
@@ -36,8 +35,7 @@ loop-here-preserved g c =
     let is = c.loop-here.invariant.is in
     let label : c.index-label.result.now ≡ l = get_or_read t.labels.items m c.index-label.result.now (omega (arith, r.within, r.trie.1.each)) c.index-label.ensures 0 in
     let none = picked_none r.trie.1 here c.index-label.result.now found c.child-found.ensures (omega (arith, c.if-found-gt0.false)) in
-    let low = following_low r.trie.1 r.each r.fall is in
-    let lt : here < length t.fails.items = omega (arith, low, c.len-count.ensures, c.loop-here-test.true) in
+    let lt : here < length t.fails.items = omega (arith, following_low r.trie.1 r.each r.fall is, c.len-count.ensures, c.loop-here-test.true) in
     let next = following_next r.trie.1 r.each r.fall is lt (ap (λ x. child t.parents.items t.labels.items here x) (sym label) ∙ none) in
     record { is = subst (λ x. IsFollowing t.parents.items t.labels.items t.stops.items t.fails.items p l here x) (sym c.above-here-in-loop-here.ensures) next }
 
@@ -92,8 +90,7 @@ offset_bounds-starts-here g c = omega (arith, c.loop-here.auto.here-fits)
 pub bounds-starts-here : goal.bounds-starts-here
 bounds-starts-here g c =
     let r = c.requires in
-    let low = following_low r.trie.1 r.each r.fall c.loop-here.invariant.is in
-    omega (arith, low, c.len-count.ensures, c.loop-here-test.true, r.each, r.starts.each)
+    omega (arith, following_low r.trie.1 r.each r.fall c.loop-here.invariant.is, c.len-count.ensures, c.loop-here-test.true, r.each, r.starts.each)
 
 pub overflow_cast-here-in-loop-here : goal.overflow_cast-here-in-loop-here
 overflow_cast-here-in-loop-here g c = omega (arith, c.loop-here.auto.here-fits)
@@ -104,8 +101,7 @@ offset_bounds-starts-here-in-loop-here g c = omega (arith, c.loop-here.auto.here
 pub bounds-starts-here-in-loop-here : goal.bounds-starts-here-in-loop-here
 bounds-starts-here-in-loop-here g c =
     let r = c.requires in
-    let low = following_low r.trie.1 r.each r.fall c.loop-here.invariant.is in
-    omega (arith, low, r.each, r.starts.each)
+    omega (arith, following_low r.trie.1 r.each r.fall c.loop-here.invariant.is, r.each, r.starts.each)
 
 pub overflow_cast-children : goal.overflow_cast-children
 overflow_cast-children g c = omega (arith, c.saturating_sub-children.type_inv)
@@ -127,8 +123,7 @@ returns-then-found-gt0 g c =
     let is = c.loop-here.invariant.is in
     let label : c.index-label.result.now ≡ l = get_or_read t.labels.items m c.index-label.result.now (omega (arith, r.within, r.trie.1.each)) c.index-label.ensures 0 in
     let some = picked_some r.trie.1 here c.index-label.result.now found c.child-found.ensures c.if-found-gt0.true in
-    let low = following_low r.trie.1 r.each r.fall is in
-    let lt : here < length t.fails.items = omega (arith, low, c.len-count.ensures, c.loop-here-test.true) in
+    let lt : here < length t.fails.items = omega (arith, following_low r.trie.1 r.each r.fall is, c.len-count.ensures, c.loop-here-test.true) in
     c.right_link-then-found-gt0.ensures
     ∙ following_found r.trie.1 r.each r.fall is m found 0 lt (ap (λ x. child t.parents.items t.labels.items here x) (sym label) ∙ some)
 
@@ -136,55 +131,31 @@ pub loop-here-smaller : goal.loop-here-smaller
 loop-here-smaller g c = omega (arith, c.if-left-children.false)
 
 pub above-here-requires : goal.above-here-requires
-above-here-requires g c = record {
-  within =
-      let t = c.args.self.now in
-      let r = c.requires in
-      let at : c.index-below.result.now ≡ get_or t.parents.items c.args.m 0 = get_or_read t.parents.items c.args.m c.index-below.result.now r.within c.index-below.ensures 0 in
-      omega (arith, at, r.trie.1.order.earlier c.args.m r.some r.within, r.within, r.each);
-  few = subst (λ n. n < 2 ^ 32) (sym c.requires.each) c.requires.few;
-}
+above-here-requires g c =
+    let t = c.args.self.now in
+    let r = c.requires in
+    let at : c.index-below.result.now ≡ get_or t.parents.items c.args.m 0 = get_or_read t.parents.items c.args.m c.index-below.result.now r.within c.index-below.ensures 0 in
+    omega (arith, at, r.trie.1.order.earlier c.args.m r.some r.within, r.within, r.each, r.few)
 
 pub right_link-requires : goal.right_link-requires
-right_link-requires g c = record {
-  few = subst (λ n. n < 2 ^ 32) (sym c.requires.each) c.requires.few;
-  within = subst (λ n. c.args.m < n) (sym c.requires.stops) c.requires.within;
-}
+right_link-requires g c = omega (arith, c.requires.each, c.requires.few, c.requires.stops, c.requires.within)
 
 pub child-found-requires : goal.child-found-requires
-child-found-requires g c = record {
-  within =
-      let r = c.requires in
-      let low = following_low r.trie.1 r.each r.fall c.loop-here.invariant.is in
-      omega (arith, low, c.len-count.ensures, c.loop-here-test.true, r.each);
-  trie = c.requires.trie;
-  few = c.requires.few;
-  starts = c.requires.starts;
-}
+child-found-requires g c =
+    let r = c.requires in
+    let within : c.loop-here.here < length c.args.self.now.parents.items = omega (arith, following_low r.trie.1 r.each r.fall c.loop-here.invariant.is, c.len-count.ensures, c.loop-here-test.true, r.each) in
+    assumption
 
 pub right_link-requires-then-found-gt0 : goal.right_link-requires-then-found-gt0
-right_link-requires-then-found-gt0 g c = record {
-  few = subst (λ n. n < 2 ^ 32) (sym c.requires.each) c.requires.few;
-  within = subst (λ n. c.args.m < n) (sym c.requires.stops) c.requires.within;
-}
+right_link-requires-then-found-gt0 g c = omega (arith, c.requires.each, c.requires.few, c.requires.stops, c.requires.within)
 
 pub above-here-requires-in-loop-here : goal.above-here-requires-in-loop-here
-above-here-requires-in-loop-here g c = record {
-  within =
-      let r = c.requires in
-      let low = following_low r.trie.1 r.each r.fall c.loop-here.invariant.is in
-      omega (arith, low, c.len-count.ensures, c.loop-here-test.true);
-  few = subst (λ n. n < 2 ^ 32) (sym c.requires.each) c.requires.few;
-}
+above-here-requires-in-loop-here g c =
+    let r = c.requires in
+    omega (arith, following_low r.trie.1 r.each r.fall c.loop-here.invariant.is, c.len-count.ensures, c.loop-here-test.true, r.each, r.few)
 
 pub root_value-requires : goal.root_value-requires
-root_value-requires g c = record {
-  few = subst (λ n. n < 2 ^ 32) (sym c.requires.each) c.requires.few;
-  some = subst (λ n. 0 < n) (sym c.requires.stops) c.requires.trie.1.order.some;
-}
+root_value-requires g c = omega (arith, c.requires.each, c.requires.few, c.requires.stops, c.requires.trie.1.order.some)
 
 pub right_link-requires-2 : goal.right_link-requires-2
-right_link-requires-2 g c = record {
-  few = subst (λ n. n < 2 ^ 32) (sym c.requires.each) c.requires.few;
-  within = subst (λ n. c.args.m < n) (sym c.requires.stops) c.requires.within;
-}
+right_link-requires-2 g c = omega (arith, c.requires.each, c.requires.few, c.requires.stops, c.requires.within)

@@ -1,4 +1,4 @@
-use Rattle.std.proofs.Common.{◌≡◌, ◌<◌, ◌≤◌, suc, length, sym, ap, ◌∙◌, subst, get_or, set, inl, inr, arith}
+use Rattle.std.proofs.Common.{◌≡◌, ◌<◌, ◌≤◌, length, subst, get_or, inl, inr, arith, add-one}
 use Rattle.std.proofs.lemmas.List.{get_or_read}
 use Rattle.std.proofs.lemmas.Result.{IfOk-from_err}
 use Rattle.std.proofs.lemmas.Grind.{common_steps, elements}
@@ -21,13 +21,10 @@ loop-m-preserved g c =
     let at : c.above-above.result ≡ up fs m = c.above-above.ensures in
     let low : c.above-above.result < length next = omega (arith, at, most, inv.tour.size) in
     let read : c.index.result.now ≡ get_or next c.above-above.result 0 = get_or_read next c.above-above.result c.index.result.now low c.index.ensures 0 in
-    let value : c.index.result.now ≡ get_or next (up fs m) 0 = read ∙ ap (λ i. get_or next i 0) at in
-    let more : IsTour (up fs) n (set (set next m (get_or next (up fs m) 0)) (up fs m) m) (suc m) = tour_add (up fs) n next m inv.tour lt ups in
-    let same : set (set next m (get_or next (up fs m) 0)) (up fs m) m ≡ set (set next m c.index.result.now) c.above-above.result m = ap (λ v. set (set next m v) (up fs m) m) (sym value) ∙ ap (λ i. set (set next m c.index.result.now) i m) (sym at) in
     record {
       is = inv.is;
       within = omega (arith, c.loop-m-test.true);
-      tour = subst (λ k. IsTour (up fs) n (set (set next m c.index.result.now) c.above-above.result m) k) (omega arith) (subst (λ xs. IsTour (up fs) n xs (suc m)) same more);
+      tour = rw (add-one m, read, at) (tour_add (up fs) n next m inv.tour lt ups);
     }
 
 pub returns-clause-ok : goal.returns-clause-ok

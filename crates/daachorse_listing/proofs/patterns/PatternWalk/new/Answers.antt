@@ -1,8 +1,8 @@
 -- A walk starts with the root put aside.
-use Rattle.std.proofs.Common.{◌≡◌, ℕ, List, [], ◌∷◌, ◌++◌, refl, sym, ap, ◌∙◌, length, map, reverse, subst, suc, arith}
+use Rattle.std.proofs.Common.{◌≡◌, [], ◌∷◌, ◌++◌, refl, sym, ap, ◌∙◌, length, map, arith}
 use Rattle.daachorse_machine.specs.Texts.{text_of}
-use Rattle.daachorse_listing.specs.Listing.{AreEntries, own_end, patterns_of}
-use Rattle.daachorse_listing.specs.Trees.{IsWalk, elements_of, taken_from}
+use Rattle.daachorse_listing.specs.Listing.{own_end, patterns_of}
+use Rattle.daachorse_listing.specs.Trees.{elements_of, taken_from}
 use Rattle.daachorse_listing.proofs.RoomLaws.{members-few}
 use Rattle.daachorse_listing.proofs.WalkLaws.{root-text, walk-start, walked}
 use Rattle.daachorse_listing.proofs.patterns.PatternWalk.new.Goals as goal
@@ -14,14 +14,12 @@ invariant_of-result g c =
     let m = g.E.Edges.units c.args.elements in
     let text = map g.E.Outputs.number c.in_ok-text.text.items in
     let aside : c.push_reserved.new.self.items ≡ (0, 0) ∷ [] = c.push_reserved.ensures.items ∙ ap (λ l. l ++ (0, 0) ∷ []) c.in_ok-aside.ensures.items in
-    let W : List (ℕ × ℕ) → Type 0 = λ l. IsWalk child n m [] (elements_of l) in
-    let R : List (ℕ × ℕ) → Type 0 = λ l. AreEntries child n m text (suc (length text)) (reverse l) in
     record {
       patterns = c.requires;
       groups_are = c.in_ok-groups.ensures.ok;
       each = c.in_ok-groups.ensures.size;
-      walk = λ some. ([], subst W (sym aside) (walk-start c.requires.tree));
-      entries = subst R (sym aside) (omega arith, (sym (ap length (root-text c.requires.tree)), refl), tt);
+      walk = λ some. ([], rw aside (walk-start c.requires.tree));
+      entries = rw aside (omega arith, (sym (ap length (root-text c.requires.tree)), refl), tt);
       inside = omega arith;
       wide = omega (arith, c.in_ok-aside.ensures.exact, c.push_reserved.ensures.capacity, c.in_ok-groups.ensures.later);
       wide_for_children = λ q less. (let few = members-few (g.E.Edges.edge c.args.elements) q n in omega (arith, few, c.in_ok-children.ensures.exact, c.in_ok-groups.ensures.later));

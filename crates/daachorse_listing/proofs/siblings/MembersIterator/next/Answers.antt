@@ -9,7 +9,4 @@ returns-clause-steps c =
     sym c.self.view_is ∙ list_from-at c.self.inside.next.now c.self.invariant.0 c.self.inside.link more
 
 pub returns-clause-goes : goal.returns-clause-goes
-returns-clause-goes c =
-    let more : 0 < c.self.inside.link = omega arith in
-    let e = sym c.self.view_is ∙ list_from-at c.self.inside.next.now c.self.invariant.0 c.self.inside.link more in
-    rw e (search rules)
+returns-clause-goes c = let e = returns-clause-steps c in rw e (search rules)

@@ -196,7 +196,7 @@ fn go_on<V: Copy, W: Stepwise<V>, H: Reread<W::Unit>, F: Filter<W::Unit, H>>(
         → (taken.new + W.turns walk.new ≡ taken.old + W.turns walk.old) × (H.rest rest.new ≡ []) }
 {
     if !filter.is_open() {
-        return read_on::<V, W, H, false>(walk, rest);
+        return read_on(walk, rest);
     }
     skip_on(walk, taken, rest, filter)
 }
@@ -219,7 +219,7 @@ fn skip_on<V: Copy, W: Stepwise<V>, H: Reread<W::Unit>, F: Filter<W::Unit, H>>(
 {
     'units: loop {
         if !filter.is_open() {
-            return read_on::<V, W, H, true>(walk, rest);
+            return read_on(walk, rest);
         }
         skip_at_root(walk, taken, rest, filter);
         let Some(unit) = rest.next() else {
@@ -261,21 +261,16 @@ fn skip_at_root<V: Copy, W: Stepwise<V>, H: Reread<W::Unit>, F: Filter<W::Unit, 
 
 /// Reads on until there is something to give, and answers the position of its first output;
 /// `None` where the haystack ends first.
-///
-/// It is compiled by itself for where it is called behind an open filter, which `SKIPPED` names and changes nothing else
-/// by: a function with loops is laid in where it has one caller.
 #[inline(always)]
-fn read_on<V: Copy, W: Stepwise<V>, H: Haystack<W::Unit>, const SKIPPED: bool>(
+fn read_on<V: Copy, W: Stepwise<V>, H: Haystack<W::Unit>>(
     walk: &mut W,
     rest: &mut H,
 ) -> Option<NonZeroU32>
     ensures { ReadsOn W.automaton W.read W.found W.has_output W.given_from walk.old (H.rest rest.old) result walk.new (H.rest rest.new) }
 {
-    // Both are asked ahead of the loops, which are compiled for each answer and ask no more.
-    if walk.finds_everywhere() {
-        return read_units(walk, rest);
-    }
-    if rest.is_folded() {
+    // Both are asked ahead of the loop, so that it is compiled once more for a search that reads its haystack as it is
+    // and gives nothing without a look, and asks neither there.
+    if rest.is_folded() || walk.finds_everywhere() {
         return read_units(walk, rest);
     }
     read_units(walk, rest)

@@ -65,8 +65,9 @@ module _ {child : ℕ → ℕ → Option ℕ} {label : ℕ → ℕ} {n units : �
   walk_from : (k : ℕ) (w : List ℕ) → k < length order → walk child (at k) w ≡ option_map at (walk (kid parents labels) k w)
   walk_from k [] here = refl
   walk_from k (c ∷ w) here =
+      let Same : Option ℕ → Type 0 = λ o. option_and_then (λ j. walk child j w) (option_map at o) ≡ option_map at (option_and_then (λ j. walk (kid parents labels) j w) o) in
       ap (λ o. option_and_then (λ j. walk child j w) o) (kid_child k c here)
-      ∙ (elim (kid parents labels k c) as (λ o. kid parents labels k c ≡ o → option_and_then (λ j. walk child j w) (option_map at o) ≡ option_map at (option_and_then (λ j. walk (kid parents labels) j w) o)) [
+      ∙ (elim (kid parents labels k c) as (λ o. kid parents labels k c ≡ o → Same o) [
         | None ↦ λ e. refl
         | Some m ↦ λ e. walk_from m w (omega (arith, (back parents labels units places_trie k c m e).1, places.one_each))
       ]) refl

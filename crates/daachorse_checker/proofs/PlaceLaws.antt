@@ -55,7 +55,8 @@ module _ {child : ℕ → ℕ → Option ℕ} {label : ℕ → ℕ} where
         earlier = λ m pos lt. grind (arith, old_or_new m lt, old_parents m, new_parents m, h.earlier m pos);
         edge = λ m pos lt.
             let at_k = old_at order j k here in
-            grind (arith, old_or_new m lt, old_parents m, old_at order j m, old_at order j (get_or parents m 0), h.edge m pos, h.earlier m pos, new_parents m, new_order m, edge);
+            let up = h.earlier m pos in
+            grind (arith, old_or_new m lt, old_parents m, old_at order j m, old_at order j (get_or parents m 0), h.edge m pos, new_parents m, new_order m, edge);
         labelled = λ m pos lt.
             grind (arith, old_or_new m lt, old_at labels u m, old_at order j m, h.labelled m pos, h.label_each, get_or_push labels u 0 m, new_order m, is);
         alive = λ m pos lt. grind (arith, old_or_new m lt, old_at order j m, new_order m, h.alive m pos);

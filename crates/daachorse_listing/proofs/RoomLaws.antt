@@ -310,7 +310,8 @@ module _ {child : ℕ → ℕ → Option ℕ} {group : ℕ → Option ℕ} {edge
       let meet : node v (length v) ≡ node w (length v) =
       ap (node v) (omega (arith, s.up)) ∙ (s.follow (length v - s.level) (omega (arith, s.up)) ∙ (ap (λ k. goes (length v - k) (top v (length v))) levels
       ∙ (ap (goes (length v - t.level)) same ∙ (sym (t.follow (length v - t.level) (omega (arith, levels, s.up, short))) ∙ ap (node w) (omega (arith, levels, s.up)))))) in
-      sym (take_all (length v) v (omega arith)) ∙ tree.one_path (node w (length v)) (take (length v) v) (take (length v) w) (at-node v x a (length v) ∙ ap (λ q. Some q) meet) (at-node w y b (length v))
+      let there = at-node v x a (length v) ∙ ap (λ q. Some q) meet in
+      sym (take_all (length v) v (omega arith)) ∙ tree.one_path (node w (length v)) (take (length v) v) (take (length v) w) there (at-node w y b (length v))
 
   pub aside-few : (aside : List ℕ) → Pairs (Apart child n m) aside → ((i : ℕ) → IsAmong aside i → IsReached child m n i) → length aside ≤ suc (num_later edge n)
   unfolding rank

@@ -37,7 +37,8 @@ returns-clause-yes g c e =
     let chained = rw (c.deref-3.ensures.value, c.deref-4.ensures.value) at (c.if-not-chains_hold.ensures.yes refl) in
     let sized = c.in_ok-sizes.ensures in
     let len : length p.order.items ≡ c.args.num_states = omega (arith, c.len.ensures, c.if-len-num_states.false) in (
-      right_from (g.E.Array.width arr) a c.requires.tell both.1 both.0 c.in_ok-sizes.sizes.items sized.ok sized.each leafy c.args.leftmost chained (c.in_ok-right.ensures.yes e),
+      right_from (g.E.Array.width arr) a c.requires.tell both.1 both.0 c.in_ok-sizes.sizes.items sized.ok sized.each leafy
+          c.args.leftmost chained (c.in_ok-right.ensures.yes e),
       subst (λ k. IsCounted a k) len (counted_places (g.E.Array.width arr) a c.requires.tell both.1 both.0),
     )
 

@@ -159,7 +159,8 @@ enter-requires g c =
       | then-above-count w ↦ w.other-is ∙ w.root_value-other.ensures ∙ sym (top_end (up fs) t.stops.items (length fs) (length fs) k.next (sym c.above-above.ensures ∙ w.if-above-count.true ∙ count))
       | else-above-count w ↦
           w.other-is
-          ∙ same_other c.requires.trie c.requires.each k.invariant.touring (c.if-not-links_fall.ensures.yes refl) more (λ z. w.if-above-count.false (c.above-above.ensures ∙ z ∙ sym count))
+          ∙ same_other c.requires.trie c.requires.each k.invariant.touring (c.if-not-links_fall.ensures.yes refl) more
+          (λ z. w.if-above-count.false (c.above-above.ensures ∙ z ∙ sym count))
     ] in
     assumption (
       subst (λ n. k.next < n) c.requires.each (next_in c.requires.trie c.requires.each k.invariant.touring more),

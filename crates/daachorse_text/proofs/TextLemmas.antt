@@ -4,7 +4,7 @@ use Rattle.std.proofs.lemmas.Bool.{cases_lt, false≢true}
 use Rattle.std.proofs.lemmas.List.{drop_at, drop-drop, length-drop, nil_from_length}
 use Rattle.std.proofs.lemmas.Str.{chars-nil, chars-encodes, encode_ascii, encodes-append, encodes-chars, length-encode, scalars-chars, chars_past_char, drop_past_char, IsUtf8-drop, IsUtf8-past_char, IsCharBoundary-at_seam}
 use Rattle.std.proofs.Math.ListN.{get_or}
-use Rattle.std.proofs.Math.Utf8.{scalar, scalars, encode, encodes}
+use Rattle.std.proofs.Math.Utf8.{scalars, encode, encodes}
 use Rattle.std.specs.Char.{len_utf8}
 use Rattle.daachorse_model.proofs.SlowLemmas.{drop-next}
 use Rattle.std.specs.Iterator.{YieldsFirst}
@@ -14,16 +14,12 @@ use Rattle.std.specs.Str.Iter.{chars_rest, chars_steps}
 use Rattle.std.specs.declared.str.Chars.{Chars}
 use Rattle.daachorse_model.specs.Folding.{folded_unit}
 use Rattle.daachorse_model.specs.Units.{size, char_width}
-use Rattle.daachorse_model.proofs.Booleans.{both-true}
 use Rattle.daachorse_model.proofs.FoldLemmas.{folded_unit-ascii, folded_unit-past_ascii}
+use Rattle.daachorse_model.proofs.SameOnText.{scalars-back}
 use Rattle.daachorse_text.specs.DecodedSources.{size-encodes}
 
 pub size-chars : (bs : List ℕ) → IsUtf8 bs → size char_width (chars bs) ≡ length bs
 size-chars bs u = size-encodes (chars bs) ∙ ap length (encodes-chars bs u)
-
-scalars-back : (xs ys : List ℕ) → scalars (xs ++ ys) ≡ true → scalars ys ≡ true
-scalars-back [] ys e = e
-scalars-back (x ∷ xs) ys e = scalars-back xs ys (both-true (scalar x) (scalars (xs ++ ys)) e).1
 
 -- what a text is behind its first characters
 pub record IsSeam (bs : List ℕ) (at : ℕ) (back : List ℕ) : Type 0 where

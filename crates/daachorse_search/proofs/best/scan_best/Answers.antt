@@ -1,3 +1,4 @@
+-- The best match is found by reading on from the match that ends first, and where no match ends, nothing starts in the units that were read.
 use Rattle.std.proofs.Common.{◌≡◌, ℕ, ◌-◌, List, [], Option, Some, refl, ap, subst, arith}
 use Rattle.std.specs.Prelude.{IfSome}
 use Rattle.std.specs.declared.num.NonZeroU32.{NonZeroU32}

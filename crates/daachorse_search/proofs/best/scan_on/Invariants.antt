@@ -1,3 +1,4 @@
+-- The match of the mark is the best in all that was read, and none starts before the state's text, the longest end of it that begins a key; each round takes a unit off the source.
 use Rattle.std.proofs.Common.{ℕ, ◌≤◌, length, Some}
 use Rattle.daachorse_model.specs.Units.{size}
 use Rattle.daachorse_search.specs.BestScans.{IsScanning}

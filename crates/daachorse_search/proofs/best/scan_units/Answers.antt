@@ -1,3 +1,4 @@
+-- While no state has an output, nothing occurs in what was read, so the first output is that of the best so far, and at the root, where no key that began goes on, the scan may stop.
 use Rattle.std.proofs.Common.{◌≡◌, ℕ, Bool, List, [], ◌∷◌, ◌++◌, Option, Some, None, refl, sym, ap, ◌∙◌, subst, append_assoc, arith}
 use Rattle.std.specs.Iterator.{YieldsFirstBy}
 use Rattle.std.specs.declared.num.NonZeroU32.{NonZeroU32}

@@ -1,3 +1,4 @@
+-- Nothing occurs in the units read so far, the state's text is the longest end of them that begins a key, and each round takes one unit off the source.
 use Rattle.std.proofs.Common.{length, None}
 use Rattle.daachorse_search.specs.BestScans.{IsScanning}
 use Rattle.daachorse_search.proofs.best.scan_units.Given as goal

@@ -1,3 +1,4 @@
+-- Each round moves the walk, the source and the place on by the same unit, and there is a next round only where the walk finds nothing at the end of that unit.
 use Rattle.std.proofs.Common.{◌≡◌, ◌++◌, ◌∷◌, [], ap, arith}
 use Rattle.daachorse_model.specs.Units.{size}
 use Rattle.daachorse_model.proofs.Suffixes.{size-push}

@@ -1,3 +1,4 @@
+-- The walk read all units taken from the source and found nothing at the end of any, the place is that behind them, and the source is still ready, with ever fewer items left.
 use Rattle.std.proofs.Common.{◌≡◌, List}
 use Rattle.std.specs.Iterator.{items_left}
 use Rattle.daachorse_model.specs.Units.{size}

@@ -1,3 +1,4 @@
+-- A step ends where it ends from the link's state, and the turn for each link is paid for by the text that it shortens, to which the last look adds at most one unit.
 use Rattle.std.proofs.Common.{refl, arith}
 use Rattle.daachorse_search.proofs.LookLemmas.{StepEnds-length, StepEnds-link}
 use Rattle.daachorse_search.proofs.walk.follow.Goals as goal

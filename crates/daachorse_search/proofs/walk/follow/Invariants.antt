@@ -1,3 +1,4 @@
+-- The step ends where it would end from the state that the links led to so far, and each link took one turn and left a shorter text, whose length is also the measure.
 use Rattle.std.proofs.Common.{◌≡◌, ◌+◌, ◌≤◌, List, ℕ, length}
 use Rattle.daachorse_core.specs.Looks.{StepEnds}
 use Rattle.daachorse_search.proofs.walk.follow.Given as goal

@@ -1,3 +1,4 @@
+-- The walk begins again at the root behind each match, so the matches that it finds with the unit are those that start behind the last one, of which the first is the standard search's.
 use Rattle.std.proofs.Common.{sym, ◌∙◌, arith}
 use Rattle.std.proofs.lemmas.Grind.{common_steps}
 use Rattle.daachorse_search.proofs.FindLemmas.{finding-skip, finding-pass, finding-find}

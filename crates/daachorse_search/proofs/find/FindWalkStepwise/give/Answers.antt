@@ -1,3 +1,4 @@
+-- Of the matches that end here the walk gives the first and the search takes it alone, so nothing is given from the next position on.
 use Rattle.std.proofs.Common.{◌≡◌, ◌+◌, ◌∷◌, ℕ, map, take, sym, subst}
 use Rattle.daachorse_core.specs.Seen.{units}
 use Rattle.daachorse_model.specs.Units.{size}
@@ -7,7 +8,6 @@ use Rattle.daachorse_search.specs.Walks.{Walked, matches_from}
 use Rattle.daachorse_search.proofs.AfreshLemmas.{first_shifted}
 use Rattle.daachorse_search.proofs.find.FindWalkStepwise.give.Goals as goal
 
--- the first of the matches that end here, alone
 pub returns-clause-given : goal.returns-clause-given
 returns-clause-given g c before is =
     let A = g.A.Automaton in let width = g.A.Unit.EdgeLabel.width in let s = c.self.inside.walk in

@@ -1,3 +1,4 @@
+-- Where no key that began since the last match goes on, or where some key is empty, the search goes on as one that begins there; and where nothing was read, the walk stands at the root.
 use Rattle.std.proofs.Common.{◌≡◌, [], subst}
 use Rattle.std.specs.Bool.{OnTrue}
 use Rattle.std.specs.Prelude.{IsTrue}

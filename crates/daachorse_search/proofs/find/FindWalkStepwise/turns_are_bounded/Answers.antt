@@ -1,3 +1,4 @@
+-- What was read since the last match is what was read since the root, so the walk's bounds are the search's; where some key is empty, no unit is looked up and no turn is taken.
 use Rattle.std.proofs.Common.{◌≤◌, subst}
 use Rattle.std.specs.Prelude.{count_by}
 use Rattle.daachorse_core.specs.Seen.{units}

@@ -1,3 +1,4 @@
+-- To drop what was given and then a front is to drop both at once, and the front, as a part of what is to come, reaches no further than the slice.
 use Rattle.std.proofs.Common.{◌≡◌, ◌+◌, ◌≤◌, ℕ, List, ◌++◌, length, drop, sym, ap, ◌∙◌, length-append, arith}
 use Rattle.std.proofs.lemmas.List.{length-drop, drop_at, drop-drop}
 use Rattle.daachorse_model.specs.Units.{size, byte_width}

@@ -1,3 +1,4 @@
+-- Each byte counts as one, so the size of the bytes still to come is the length of the slice, less the bytes given.
 use Rattle.std.proofs.Common.{drop, sym, ap, ◌∙◌}
 use Rattle.std.proofs.lemmas.List.{length-drop}
 use Rattle.daachorse_model.specs.Units.{size, byte_width}

@@ -1,3 +1,4 @@
+-- A scan takes off units in which nothing starts, or finds the best match to come: it is the first that is left, unless it is empty and right behind a nonempty one, and the search goes on behind it.
 use Rattle.std.proofs.Common.{◌≡◌, ◌+◌, ◌-◌, ℕ, Bool, true, false, cond, eqb, [], ◌∷◌, ◌++◌, length, sym, ap, ◌∙◌, subst, length-append, arith}
 use Rattle.std.proofs.lemmas.Grind.{common_steps}
 use Rattle.daachorse_core.specs.Outputs.{value_of, length_of}

@@ -1,3 +1,4 @@
+-- A round that gives nothing takes off units in which no match to give starts, so the matches left stay those of the beginning of the call; the rest grows shorter, or the search is over.
 use Rattle.std.proofs.Common.{◌≡◌, ℕ, ◌+◌, cond, List, length}
 use Rattle.daachorse_search.specs.LeftmostSearches.{IsResting, leftmost_left}
 use Rattle.daachorse_search.proofs.leftmost.LeftmostMatches.next_match.Given as goal

@@ -1,3 +1,4 @@
+-- The walk gives one match at each end, so the next position is 0, from which nothing is given.
 use Rattle.std.proofs.Common.{◌≡◌, ◌+◌, ◌∷◌, ℕ, map, take, sym, subst}
 use Rattle.daachorse_core.specs.Seen.{units}
 use Rattle.daachorse_model.specs.Units.{size}

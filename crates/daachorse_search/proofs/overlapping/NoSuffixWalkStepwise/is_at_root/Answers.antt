@@ -1,3 +1,4 @@
+-- Where all matches are found as by a walk that begins there, so is the first of them at each end; and a walk that has read nothing stands at the root.
 use Rattle.std.proofs.Common.{◌≡◌, [], subst}
 use Rattle.std.specs.Bool.{OnTrue}
 use Rattle.std.specs.Prelude.{IsTrue}

@@ -1,3 +1,4 @@
+-- The walk began at the root once, so what it read since it began there is all that it read.
 use Rattle.std.proofs.Common.{[], subst}
 use Rattle.std.specs.Prelude.{◌↔◌, IsTrue}
 use Rattle.daachorse_core.specs.Seen.{units}

@@ -1,3 +1,4 @@
+-- At the root only the empty end of what was read begins a key, so all matches are found as by a walk that begins there; where nothing was read, that end is the only one.
 use Rattle.daachorse_search.proofs.OverlappingLemmas.{all_afresh, read_begins}
 use Rattle.daachorse_search.proofs.overlapping.OverlappingWalkStepwise.is_at_root.Goals as goal
 

@@ -1,3 +1,4 @@
+-- Whether an output was pending or a scan came to one, what is given from its position on begins with the match that the call gives, and the others stay pending.
 use Rattle.std.proofs.Common.{◌≡◌, ◌+◌, ◌∷◌, ℕ, sym, ap, subst, arith}
 use Rattle.std.specs.declared.num.NonZeroU32.{NonZeroU32}
 use Rattle.daachorse_core.specs.Outputs.{number}

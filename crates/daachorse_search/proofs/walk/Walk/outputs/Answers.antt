@@ -1,10 +1,10 @@
+-- The state's text is the longest end of what was read since the root, so its chain of outputs is that of the matches that end here.
 use Rattle.std.proofs.Common.{subst}
 use Rattle.daachorse_core.specs.Outputs.{number}
 use Rattle.daachorse_search.specs.Walks.{Walked, HasOutputs}
 use Rattle.daachorse_search.proofs.WalkLemmas.{HasOutputs-first}
 use Rattle.daachorse_search.proofs.walk.Walk.outputs.Goals as goal
 
--- the state's chain is that of all that was read since the walk last began at the root
 pub returns-clause-outputs : goal.returns-clause-outputs
 returns-clause-outputs g c =
     let A = g.A.Automaton in let width = g.A.Unit.EdgeLabel.width in let s = c.self.inside in let a = s.automaton in let found = c.output_pos in

@@ -1,7 +1,7 @@
+-- A unit that is passed takes no turn and leaves the walk at the root, whose text is empty, so the bounds on the turns stay.
 use Rattle.daachorse_search.proofs.WalkLemmas.{IsWalking-skip}
 use Rattle.daachorse_search.proofs.walk.Walk.skip.Goals as goal
 
--- one more unit was passed
 pub invariant_of-self : goal.invariant_of-self
 invariant_of-self g c =
     let A = g.A.Automaton in let unit = g.A.Unit.EdgeLabel in let s = c.self.inside in let a = s.automaton in let root = c.root-self-inside in

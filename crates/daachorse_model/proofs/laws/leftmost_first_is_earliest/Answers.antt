@@ -1,3 +1,4 @@
+-- A pattern that extends an earlier one is dropped, so of two kept patterns at one start the longer was registered earlier, and what was dropped is never the earliest there.
 use Rattle.daachorse_model.proofs.Longest.{leftmost_earliest}
 use Rattle.daachorse_model.proofs.laws.leftmost_first_is_earliest.Goals as goal
 

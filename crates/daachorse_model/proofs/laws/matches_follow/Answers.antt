@@ -1,3 +1,4 @@
+-- Both searches go on no earlier than where their last match ends, so the next match starts there or later.
 use Rattle.daachorse_model.specs.Dictionary.{dictionary}
 use Rattle.daachorse_model.proofs.Find.{standard_apart}
 use Rattle.daachorse_model.proofs.Overlap.{leftmost_apart}

@@ -1,3 +1,4 @@
+-- Each search makes its matches of parts of the haystack that are keys, with values of these, and the overlapping search looks at every part and takes every value.
 use Rattle.daachorse_model.specs.Dictionary.{dictionary}
 use Rattle.daachorse_model.proofs.Occur.{overlapping_occur}
 use Rattle.daachorse_model.proofs.Complete.{overlapping_complete}

@@ -1,3 +1,4 @@
+-- No text begins with a byte inside a character, and none ends inside one, so the matches of nonempty text patterns start and end at the characters' own boundaries in both forms.
 use Rattle.daachorse_model.proofs.SameOnText.{overlapping_texts, no_suffix_texts}
 use Rattle.daachorse_model.proofs.SameSearches.{standard_texts, leftmost_texts}
 use Rattle.daachorse_model.proofs.laws.same_on_text.Goals as goal

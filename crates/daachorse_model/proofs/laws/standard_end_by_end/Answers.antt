@@ -1,3 +1,4 @@
+-- What the standard search has found after a text is not touched by what comes later, so each end adds the match that ends there; a unit takes at least one byte, so no two ends are at one place.
 use Rattle.std.proofs.Common.{arith}
 use Rattle.std.proofs.lemmas.Str.{len_utf8_bounds}
 use Rattle.daachorse_model.specs.Units.{byte_width, char_width}

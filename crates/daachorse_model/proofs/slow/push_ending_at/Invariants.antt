@@ -1,3 +1,4 @@
+-- What was found, and what the starts from here on give, is what all starts give.
 use Rattle.std.proofs.Common.{◌≡◌, ◌+◌, ◌++◌, drop}
 use Rattle.daachorse_model.specs.Units.{size}
 use Rattle.daachorse_model.specs.Dictionary.{values_of, registered}
@@ -5,7 +6,6 @@ use Rattle.daachorse_model.specs.Matches.{ending_at}
 use Rattle.daachorse_model.specs.Slow.{width_of}
 use Rattle.daachorse_model.proofs.slow.push_ending_at.Given as goal
 
--- what was found, and what the starts from here on give, is what all starts give
 abbrev pub invariant-loop-skipped : goal.invariant-loop-skipped
 invariant-loop-skipped g l =
     (l.from + size (width_of l.width) (drop l.skipped l.text) ≡ l.end)

@@ -1,3 +1,4 @@
+-- The first match is the first element of the list of those that end here, so to push it, if there is one, is to append the list's first element alone.
 use Rattle.std.proofs.Common.{◌∙◌, sym}
 use Rattle.daachorse_model.specs.Dictionary.{values_of, registered}
 use Rattle.daachorse_model.specs.Matches.{ending_at}

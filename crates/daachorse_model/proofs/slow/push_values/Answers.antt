@@ -1,3 +1,4 @@
+-- One more pattern adds its value to those of the part just where its text is the part, and then its match is pushed.
 use Rattle.std.proofs.Common.{true, false}
 use Rattle.std.proofs.lemmas.List.{append-nil}
 use Rattle.daachorse_model.proofs.SlowLemmas.{matches_of-step}

@@ -1,3 +1,4 @@
+-- Each round appends what is looked for at the end of one more beginning, and the call behind the loop appends it for the whole haystack, which is how the definition joins them.
 use Rattle.std.proofs.Common.{◌∙◌}
 use Rattle.daachorse_model.specs.Dictionary.{values_of, registered}
 use Rattle.daachorse_model.specs.Slow.{width_of, matches_at_end}

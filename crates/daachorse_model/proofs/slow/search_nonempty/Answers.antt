@@ -1,3 +1,4 @@
+-- Of the matches that end with one more unit and start behind the last match the definition takes the first and goes on behind it, and where there is none it reads on; the loop does just that.
 use Rattle.std.proofs.Common.{◌≡◌, ◌+◌, ◌-◌, [], arith, ap, ◌∙◌, inl, inr}
 use Rattle.daachorse_model.specs.Dictionary.{values_of, registered}
 use Rattle.daachorse_model.specs.Matches.{standard_from}

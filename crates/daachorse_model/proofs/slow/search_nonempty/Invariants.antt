@@ -1,3 +1,4 @@
+-- What was found, and what the units from here on give where the search goes on behind the last match, is what all units give.
 use Rattle.std.proofs.Common.{◌≡◌, ◌≤◌, ◌++◌, [], take, drop}
 use Rattle.daachorse_model.specs.Units.{size}
 use Rattle.daachorse_model.specs.Dictionary.{values_of, registered}
@@ -5,7 +6,6 @@ use Rattle.daachorse_model.specs.Matches.{standard_from}
 use Rattle.daachorse_model.specs.Slow.{width_of}
 use Rattle.daachorse_model.proofs.slow.search_nonempty.Given as goal
 
--- what was found, and what the units from here on give, is what all give
 abbrev pub invariant-loop-read : goal.invariant-loop-read
 invariant-loop-read g l =
     let width = width_of l.width in

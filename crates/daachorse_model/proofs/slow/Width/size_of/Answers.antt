@@ -1,3 +1,4 @@
+-- Each round moves the width of one unit from the rest to the sum, which fits, since a unit takes at most four bytes, as many as it has in the slice.
 use Rattle.std.proofs.Common.{arith, ap}
 use Rattle.daachorse_model.specs.Units.{size}
 use Rattle.daachorse_model.specs.Slow.{width_of}

@@ -1,3 +1,4 @@
+-- One more pattern stays just where no earlier pattern is a proper prefix of it, and that is what the definition asks.
 use Rattle.std.proofs.Common.{[], ap, ◌∙◌, inl, inr}
 use Rattle.daachorse_model.specs.Dictionary.{without_extensions, registered}
 use Rattle.daachorse_model.proofs.SlowLeftmost.{without_extensions-step}

@@ -1,3 +1,4 @@
+-- A pattern that is shorter than the text is a proper prefix where the text starts with it, and one that is as long or longer is none.
 use Rattle.std.proofs.Common.{length, sym, ◌∙◌}
 use Rattle.std.proofs.lemmas.Bool.{le-ltb}
 use Rattle.daachorse_model.proofs.SlowLeftmost.{is_proper_prefix-starts, is_proper_prefix-long}

@@ -1,3 +1,4 @@
+-- Under `LeftmostFirst` the patterns that are kept are those that extend no earlier one, and under the other kinds they are all patterns.
 use Rattle.std.proofs.Common.{◌≡◌, true, false, ap, sym, ◌∙◌}
 use Rattle.daachorse_model.specs.Kinds.{is_leftmost_first}
 use Rattle.daachorse_model.specs.Dictionary.{kept, registered}

@@ -1,3 +1,4 @@
+-- A longer beginning that is a key takes the place of the best so far, which is how the definition chooses, and no beginning has more units than the text.
 use Rattle.std.proofs.Common.{◌∙◌, length, take, slice_get, arith}
 use Rattle.std.proofs.lemmas.List.{length-take-le}
 use Rattle.daachorse_model.specs.Dictionary.{values_of, registered}

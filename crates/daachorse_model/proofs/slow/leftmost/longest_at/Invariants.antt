@@ -1,3 +1,4 @@
+-- The longest key among the beginnings of the text that are left, or else the longest so far, is the longest of all.
 use Rattle.std.proofs.Common.{◌≡◌, ◌≤◌, [], length, take, drop, IfSome}
 use Rattle.std.specs.Option.{option_or}
 use Rattle.daachorse_model.specs.Dictionary.{values_of, registered}
@@ -5,7 +6,6 @@ use Rattle.daachorse_model.specs.Leftmost.{longest_key}
 use Rattle.daachorse_model.specs.Slow.{key_found}
 use Rattle.daachorse_model.proofs.slow.leftmost.longest_at.Given as goal
 
--- the longest of the beginnings that are left, or else the longest so far, is the longest of all
 abbrev pub invariant-loop-units : goal.invariant-loop-units
 invariant-loop-units g l =
     let K = values_of (registered l.patterns) in

@@ -1,3 +1,4 @@
+-- A match that is pushed is nonempty or does not come right behind a nonempty one, so the definition gives it too, and its places are the sizes of what comes before its start and before its end.
 use Rattle.std.proofs.Common.{◌≡◌, ◌+◌, ◌<◌, ◌≤◌, ◌⊎◌, false, length, inl, inr, arith}
 use Rattle.daachorse_model.specs.Slow.{width_of}
 use Rattle.daachorse_model.proofs.SlowLeftmost.{given-found}

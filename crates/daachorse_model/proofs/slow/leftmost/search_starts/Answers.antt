@@ -1,3 +1,4 @@
+-- A place inside the last match gives nothing, and any other gives the longest key there as the definition does, the end of the haystack too.
 use Rattle.std.proofs.Common.{ap, ◌∙◌, arith, inl, inr}
 use Rattle.daachorse_model.specs.Dictionary.{values_of, registered}
 use Rattle.daachorse_model.specs.Leftmost.{leftmost}

@@ -1,3 +1,4 @@
+-- What was found, and what the places from here on give, is what all places give.
 use Rattle.std.proofs.Common.{◌≡◌, ◌++◌, take, drop}
 use Rattle.daachorse_model.specs.Units.{size}
 use Rattle.daachorse_model.specs.Dictionary.{values_of, registered}
@@ -5,7 +6,6 @@ use Rattle.daachorse_model.specs.Leftmost.{leftmost_from, leftmost}
 use Rattle.daachorse_model.specs.Slow.{width_of}
 use Rattle.daachorse_model.proofs.slow.leftmost.search_starts.Given as goal
 
--- what was found, and what the places from here on give, is what all give
 abbrev pub invariant-loop-read : goal.invariant-loop-read
 invariant-loop-read g l =
     let width = width_of l.width in

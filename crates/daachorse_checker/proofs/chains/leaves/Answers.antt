@@ -1,3 +1,4 @@
+-- At first no place was looked at, so each counts as a leaf, and at the end all were, so the leaves are those of the whole list of parents.
 use Rattle.std.proofs.Common.{◌≡◌, length, subst, arith}
 use Rattle.std.proofs.lemmas.Result.{IfOk-from_err}
 use Rattle.std.proofs.lemmas.Grind.{common_steps}

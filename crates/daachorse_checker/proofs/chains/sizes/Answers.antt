@@ -1,3 +1,4 @@
+-- A text is its parent's text and one unit more, so its size is that of its parent, which comes earlier, and the unit's width; the root's text is empty.
 use Rattle.std.proofs.Common.{rules, ◌≡◌, ℕ, ◌+◌, ◌*◌, ◌<◌, ◌≤◌, List, [], ◌∷◌, ◌++◌, length, sym, ap, ◌∙◌, subst, arith, get_or}
 use Rattle.std.proofs.lemmas.List.{get_or_read, length_push}
 use Rattle.std.proofs.lemmas.Result.{IfOk-from_err}

@@ -1,3 +1,4 @@
+-- The chains are right where the root's ends behind its own outputs and that of each other place is right, and one wrong chain is enough for a no.
 use Rattle.std.proofs.Common.{◌≡◌, ℕ, ◌<◌, false, length, refl, sym, ap, ◌∙◌, subst, arith, get_or}
 use Rattle.std.proofs.lemmas.List.{get_or_read}
 use Rattle.std.proofs.lemmas.Bool.{false≢true}

@@ -1,3 +1,4 @@
+-- The chain of the element at each place before this one, but the root's, is right; each round looks at one place more.
 use Rattle.std.proofs.Common.{ℕ, ◌<◌, ◌-◌, false, get_or, length}
 use Rattle.daachorse_checker.specs.Chains.{IsChained, machine_of}
 use Rattle.daachorse_checker.proofs.checker.chains_hold.Given as goal

@@ -1,3 +1,4 @@
+-- The places stand for the texts that lead to elements, one for one, so the machine is right, with so many texts, just where there are so many places and their chains and links are right.
 use Rattle.std.proofs.Common.{rules, ◌≡◌, length, sym, ap, ◌∙◌, subst, refl, arith}
 use Rattle.std.proofs.lemmas.Result.{IfOk-from_err}
 use Rattle.std.proofs.lemmas.Bool.{false≢true}

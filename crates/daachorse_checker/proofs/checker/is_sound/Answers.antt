@@ -1,3 +1,4 @@
+-- An array is sound just where its ranges hold, the parents of its outputs fall and it is a right machine of so many texts, and these are asked in turn.
 use Rattle.std.proofs.Common.{rules, refl}
 use Rattle.std.proofs.lemmas.Result.{IfOk-from_err}
 use Rattle.daachorse_core.proofs.Refusals.{at_error}

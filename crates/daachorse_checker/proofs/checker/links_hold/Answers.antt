@@ -1,3 +1,4 @@
+-- The places are a trie with the same texts and keys as the array, so the trie's links are right just where those of the array are, and a link that leads to no place never is.
 use Rattle.std.proofs.Common.{rules, ◌≡◌, length, sym, subst, arith}
 use Rattle.daachorse_links.specs.Places.{IsTrie}
 use Rattle.daachorse_checker.specs.Chains.{machine_of}

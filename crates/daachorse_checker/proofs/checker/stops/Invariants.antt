@@ -1,3 +1,4 @@
+-- Of each place so far it is told whether its element has an output of its own, which is where a leftmost machine stops; each round adds one place.
 use Rattle.std.proofs.Common.{◌≡◌, ◌≤◌, ◌-◌, length}
 use Rattle.daachorse_checker.specs.Chains.{AreStopsAt, machine_of}
 use Rattle.daachorse_checker.proofs.checker.stops.Given as goal

@@ -1,3 +1,4 @@
+-- Of each place so far, but the root's, the link is told as the place that it leads to, or as dead; each round adds one place.
 use Rattle.std.proofs.Common.{◌≡◌, ◌<◌, ◌≤◌, ◌-◌, length}
 use Rattle.daachorse_checker.specs.Links.{AreLinkPlaces}
 use Rattle.daachorse_checker.proofs.links.link_places.Given as goal

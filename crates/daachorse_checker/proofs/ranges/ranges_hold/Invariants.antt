@@ -1,3 +1,4 @@
+-- The link of each element so far is an element, and its position is that of an output, or 0; each round looks at one element more.
 use Rattle.std.proofs.Common.{ℕ, ◌<◌, ◌≤◌, ◌-◌}
 use Rattle.daachorse_checker.proofs.ranges.ranges_hold.Given as goal
 

@@ -1,3 +1,4 @@
+-- The next output of each output so far stands before it; each round looks at one output more.
 use Rattle.std.proofs.Common.{◌≡◌, ℕ, ◌<◌, ◌≤◌, ◌-◌, length, Some}
 use Rattle.std.specs.Prelude.{slice_get}
 use Rattle.daachorse_core.specs.declared.outputs.Output.{Output}

@@ -1,3 +1,4 @@
+-- The next output of a chain stands earlier, so its run is known: behind the outputs of one length the chain goes on where it does behind the next one, if that has this length too, and else at it.
 use Rattle.std.proofs.Common.{rules, ◌≡◌, ◌+◌, ◌++◌, ◌∷◌, [], length, sym, ap, ◌∙◌, subst, arith}
 use Rattle.std.proofs.lemmas.List.{length_push}
 use Rattle.std.proofs.lemmas.Result.{IfOk-from_err}

@@ -1,3 +1,4 @@
+-- Of each output so far it is told where its chain goes on behind those of its length; each round adds one output.
 use Rattle.std.proofs.Common.{◌≡◌, ◌≤◌, ◌-◌, length}
 use Rattle.daachorse_checker.specs.Runs.{AreRuns}
 use Rattle.daachorse_checker.proofs.runs.runs.Given as goal

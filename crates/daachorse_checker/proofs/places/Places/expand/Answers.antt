@@ -1,3 +1,4 @@
+-- A child without a place gets the next one; a child that has one already, is the root or is the dead element shows that two texts lead to one element, or one to the dead element.
 use Rattle.std.proofs.Common.{rules, ◌≡◌, ℕ, ◌<◌, ◌++◌, ◌∷◌, [], List, length, sym, ap, ◌∙◌, arith, get_or}
 use Rattle.std.proofs.lemmas.List.{get_or_read}
 use Rattle.std.proofs.lemmas.Grind.{elements}

@@ -1,3 +1,4 @@
+-- The members that are left are the children below some element: from it on all children of this place have their places, and below it none has one under this place.
 use Rattle.std.proofs.Common.{◌≡◌, Some, get_or}
 use Rattle.daachorse_checker.proofs.ExpandLaws.{IsLeft}
 use Rattle.daachorse_checker.proofs.places.Places.expand.Given as goal

@@ -1,3 +1,4 @@
+-- At the end of the walk the children of all elements with places have places too, so just the elements that texts lead to have one, and each is reached by one text.
 use Rattle.std.proofs.Common.{rules, ◌≡◌, length, arith}
 use Rattle.std.proofs.lemmas.Result.{IfOk-from_err}
 use Rattle.std.proofs.lemmas.Grind.{common_steps}

@@ -1,3 +1,4 @@
+-- Each of two rounds from the root gives rows to the ends of all steps from rows, so that rows cover the texts of at most two units; a round that finds no room shows that such states are too many.
 use Rattle.std.proofs.Common.{inl, map, arith}
 use Rattle.std.proofs.lemmas.Result.{IfOk-from_err}
 use Rattle.daachorse_rows.specs.Rows.{stands_by}

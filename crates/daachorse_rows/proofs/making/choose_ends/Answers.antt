@@ -1,3 +1,4 @@
+-- A step ends at a state at most one unit deeper, which has a row or gets the next one; where there is none left, that state and those with rows are too many.
 use Rattle.std.proofs.Common.{◌≡◌, ◌+◌, ◌<◌, ℕ, inl, inr, length, map, refl, sym, subst, ap, ◌∙◌, arith}
 use Rattle.std.specs.Prelude.{slice_index, slice_set}
 use Rattle.std.proofs.lemmas.Bool.{false≢true}

@@ -1,3 +1,4 @@
+-- The ends of the steps by the labels so far have rows, the rows that there were stay, and each that was added is that of a state at most one unit deeper than the one of the steps.
 use Rattle.std.proofs.Common.{◌≡◌, ◌+◌, ◌<◌, ℕ, length, map}
 use Rattle.std.specs.Prelude.{slice_index}
 use Rattle.daachorse_rows.specs.Rows.{AreChosen, AreShallow, EndsInRow, GoesOn, HasEnd, IsShallow, stands_by}

@@ -1,3 +1,4 @@
+-- Once all old rows have the ends of their steps, the rows cover texts of one unit more; and where one end finds no room, the states so near the root are too many.
 use Rattle.std.proofs.Common.{◌+◌, ◌<◌, ◌∙◌, ℕ, inl, inr, length, map, refl, sym, subst, arith}
 use Rattle.std.specs.Prelude.{slice_index}
 use Rattle.std.proofs.lemmas.Bool.{false≢true}

@@ -1,3 +1,4 @@
+-- The steps from the rows so far end in rows, the rows that there were stay, and each that was added is that of a state at most one unit deeper than those.
 use Rattle.std.proofs.Common.{◌≡◌, ◌+◌, ◌<◌, ℕ, [], length, map}
 use Rattle.std.specs.Prelude.{slice_index}
 use Rattle.daachorse_rows.specs.Rows.{AreChosen, AreShallow, AreStepped, GoesOn, HasEnd, stands_by}

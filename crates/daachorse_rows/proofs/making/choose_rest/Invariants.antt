@@ -1,3 +1,4 @@
+-- The steps from the rows before `at` end in rows if at first those from the rows before `from` did, and all rows stay; `at` rises to the number of rows, which is at most `most`.
 use Rattle.std.proofs.Common.{◌≡◌, ◌-◌, ℕ, length, map}
 use Rattle.daachorse_rows.specs.Rows.{AreChosen, AreShallow, AreStepped, GoesOn, stands_by}
 use Rattle.daachorse_rows.proofs.making.choose_rest.Given as goal

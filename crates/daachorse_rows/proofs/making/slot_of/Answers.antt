@@ -1,3 +1,4 @@
+-- The label that was looked at has another number, so none of the labels up to it has the number.
 use Rattle.std.proofs.Common.{inl, inr, sym, ap, ◌∙◌, map}
 use Rattle.std.specs.Prelude.{slice_index}
 use Rattle.daachorse_model.proofs.Lists.{below_or_at}

@@ -1,3 +1,4 @@
+-- None of the listed labels so far has the number.
 use Rattle.std.proofs.Common.{◌≢◌, ◌<◌, ℕ, map}
 use Rattle.std.specs.Prelude.{slice_index}
 use Rattle.daachorse_rows.proofs.making.slot_of.Given as goal

@@ -1,3 +1,4 @@
+-- The slot that is pushed is that of the next number, and those before it stay as they were.
 use Rattle.std.proofs.Common.{map}
 use Rattle.daachorse_rows.proofs.MakingLaws.{AreSlots-more}
 use Rattle.daachorse_rows.proofs.making.slots_of.Goals as goal

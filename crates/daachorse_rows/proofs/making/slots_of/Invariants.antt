@@ -1,3 +1,4 @@
+-- For each number so far the slot of its label is written.
 use Rattle.std.proofs.Common.{map}
 use Rattle.daachorse_rows.specs.Rows.{AreSlots}
 use Rattle.daachorse_rows.proofs.making.slots_of.Given as goal

@@ -1,3 +1,4 @@
+-- The rows of the states so far are written, one behind the other, and nothing behind them.
 use Rattle.std.proofs.Common.{◌*◌, length, map}
 use Rattle.daachorse_core.specs.Looks.{IsFirstOutput}
 use Rattle.daachorse_rows.specs.Rows.{AreWritten, stands_by}

@@ -1,3 +1,4 @@
+-- A step by a listed label ends where `follow` tells, and one by a label that no key has at the root, so each slot holds the place of the state to which its label leads.
 use Rattle.std.proofs.Common.{◌≡◌, ℕ, List, ◌+◌, ◌*◌, ◌<◌, length, map, get_or, ap, subst, refl, sym, arith}
 use Rattle.std.specs.Prelude.{slice_index, Option, None}
 use Rattle.std.specs.declared.num.NonZeroU32.{NonZeroU32}

@@ -1,3 +1,4 @@
+-- All rows before this one are written, and of this one its state, the slot of the labels that are not listed and those of the listed labels so far.
 use Rattle.std.proofs.Common.{◌*◌, ◌+◌, length, map}
 use Rattle.daachorse_core.specs.Looks.{IsFirstOutput}
 use Rattle.daachorse_rows.specs.Rows.{AreWritten, stands_by}

@@ -1,3 +1,4 @@
+-- The rows are those of the chosen states as they were written, so they are right, cover what the choice covers, and are closed where each step from a chosen state ends at one.
 use Rattle.std.proofs.Common.{◌≡◌, ℕ, List, ◌+◌, ◌*◌, inl, inr, length, map, refl, subst, sym, ap, ◌∙◌, arith}
 use Rattle.std.specs.Prelude.{Option}
 use Rattle.std.specs.declared.num.NonZeroU32.{NonZeroU32}

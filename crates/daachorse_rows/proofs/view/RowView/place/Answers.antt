@@ -1,3 +1,4 @@
+-- The table of rows tells the row of each state that has one, and that row begins with the state; any other state stands behind all slots in order.
 use Rattle.std.proofs.Common.{subst, refl, length, ◌+◌, ◌*◌, ◌%◌, ◌^◌}
 use Rattle.std.specs.Prelude.{slice_index}
 use Rattle.daachorse_rows.specs.Rows.{Rowed, StandsFor}

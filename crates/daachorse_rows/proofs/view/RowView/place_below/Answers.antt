@@ -1,3 +1,4 @@
+-- The root's place stands for a state with the empty text, and behind all slots each state stands for itself, whether it has a row or not.
 use Rattle.std.proofs.Common.{subst, refl, length, ap, ◌∙◌, ◌+◌, ◌%◌, ◌^◌}
 use Rattle.daachorse_rows.specs.Rows.{Rowed, SharesText, stands_by}
 use Rattle.daachorse_rows.proofs.RowLaws.{place_past, shares_root, shares_state}

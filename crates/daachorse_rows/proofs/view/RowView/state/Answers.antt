@@ -1,3 +1,4 @@
+-- A row's first slot holds its state, so a place within the slots is read there, and behind them the states stand in order.
 use Rattle.std.proofs.Common.{ap, ◌∙◌}
 use Rattle.daachorse_rows.specs.Rows.{Rowed, state_at}
 use Rattle.daachorse_rows.proofs.RowLaws.{state_at-past, state_at-slot}

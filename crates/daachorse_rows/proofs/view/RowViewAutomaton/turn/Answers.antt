@@ -1,3 +1,4 @@
+-- A slot holds the end of its label's step, so one look at it tells what all looks of the automaton would; elsewhere the automaton looks itself, and its states are told as places.
 use Rattle.std.proofs.Common.{ℕ, ◌+◌, ◌-◌, ◌<◌, List, length, refl, sym, subst, arith}
 use Rattle.std.specs.Prelude.{slice_index, None}
 use Rattle.daachorse_core.specs.Looks.{IsFirstOutput, LookGives, StepEnds}

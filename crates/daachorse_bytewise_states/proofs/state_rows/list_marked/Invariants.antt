@@ -1,3 +1,4 @@
+-- The marked bytes below this one are listed, and no others.
 use Rattle.daachorse_rows.specs.Rows.{AreListed}
 use Rattle.daachorse_bytewise_states.specs.EdgeBytes.{IsMarked}
 use Rattle.daachorse_bytewise_states.proofs.state_rows.list_marked.Given as goal

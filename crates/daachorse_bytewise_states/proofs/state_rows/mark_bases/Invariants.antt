@@ -1,3 +1,4 @@
+-- The bases of the elements so far are marked.
 use Rattle.daachorse_bytewise_states.specs.EdgeBytes.{MarksBases}
 use Rattle.daachorse_bytewise_states.proofs.state_rows.mark_bases.Given as goal
 

@@ -1,3 +1,4 @@
+-- Each byte that leads from a marked base to one of the elements so far is marked.
 use Rattle.daachorse_bytewise_states.specs.EdgeBytes.{MarksEdges}
 use Rattle.daachorse_bytewise_states.proofs.state_rows.mark_edges.Given as goal
 

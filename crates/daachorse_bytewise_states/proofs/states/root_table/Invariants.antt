@@ -1,3 +1,4 @@
+-- The table has an entry for each byte so far: the element of the root's child by that byte, or the root where there is none, with the word of that element.
 use Rattle.std.specs.Prelude.{slice_index_or}
 use Rattle.daachorse_bytewise_states.specs.Elements.{vacant, word_in}
 use Rattle.daachorse_bytewise_states.specs.Parts.{child_among}

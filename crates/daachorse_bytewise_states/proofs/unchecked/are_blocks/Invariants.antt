@@ -1,3 +1,4 @@
+-- The base of each element so far is an element; each round looks at one element more.
 use Rattle.std.proofs.Common.{ℕ, ◌<◌, ◌≤◌, ◌-◌, length}
 use Rattle.std.specs.Prelude.{slice_index_or}
 use Rattle.daachorse_bytewise_states.specs.declared.state.State.{State}

@@ -1,3 +1,4 @@
+-- Lists are those of leftmost searches just where there are no standard elements, as many links as leftmost elements, and these make blocks, and that is what is asked in turn.
 use Rattle.std.proofs.Common.{◌≡◌, length, arith}
 use Rattle.std.proofs.lemmas.Grind.{common_steps}
 use Rattle.daachorse_bytewise_states.specs.Elements.{vacant_left}

@@ -1,3 +1,4 @@
+-- The kind decides which lists are asked for, the leftmost or the standard ones, and the check that is made is the one for that kind.
 use Rattle.std.proofs.Common.{◌≡◌, true, false, sym, ◌∙◌, subst}
 use Rattle.daachorse_model.specs.Kinds.{is_leftmost}
 use Rattle.daachorse_bytewise_states.specs.Grouped.{AreLists}

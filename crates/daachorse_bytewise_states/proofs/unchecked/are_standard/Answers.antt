@@ -1,3 +1,4 @@
+-- Lists are those of standard searches just where there are no leftmost elements and no links beside them, and the standard elements make blocks, and that is what is asked in turn.
 use Rattle.std.proofs.Common.{◌≡◌, length, arith}
 use Rattle.std.proofs.lemmas.Grind.{common_steps}
 use Rattle.daachorse_bytewise_states.specs.Elements.{vacant}

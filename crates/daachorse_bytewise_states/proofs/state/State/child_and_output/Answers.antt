@@ -1,3 +1,4 @@
+-- A base and a byte lead, by exclusive or, to an element of the base's own block, and blocks are whole, so there is one; it is the child just where its check is the byte.
 use Rattle.std.proofs.Common.{◌≡◌, ◌≢◌, ◌<◌, ◌∙◌, ap, bit_xor, length, slice_index_or, sym, arith}
 use Rattle.std.proofs.lemmas.List.{get_or_default}
 use Rattle.daachorse_bytewise_states.specs.Elements.{base_in, check_in, output_in}

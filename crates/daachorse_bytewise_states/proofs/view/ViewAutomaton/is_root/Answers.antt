@@ -1,3 +1,4 @@
+-- The empty text leads to element 0 and to no other, so a state's text is empty just where the state is 0.
 use Rattle.std.proofs.Common.{◌≡◌, rules}
 use Rattle.daachorse_bytewise_states.proofs.ByteLaws.{root_text, text_root}
 use Rattle.daachorse_bytewise_states.proofs.ViewLaws.{seen_by}

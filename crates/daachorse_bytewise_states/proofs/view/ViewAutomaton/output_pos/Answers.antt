@@ -1,3 +1,4 @@
+-- The element that is borrowed has the output position that the parts have there, and valid parts are a right machine, in which a state's chain begins at that position.
 use Rattle.std.proofs.Common.{◌∙◌, arith, sym}
 use Rattle.daachorse_bytewise_states.proofs.ByteLaws.{first_at}
 use Rattle.daachorse_bytewise_states.proofs.ViewLaws.{seen_by, seen_inside, seen_output}

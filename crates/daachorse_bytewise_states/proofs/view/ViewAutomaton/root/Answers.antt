@@ -1,3 +1,4 @@
+-- The empty text leads to element 0, so that is a state, and its text is empty.
 use Rattle.std.proofs.Common.{refl}
 use Rattle.daachorse_bytewise_states.proofs.ByteLaws.{root_state, text_root}
 use Rattle.daachorse_bytewise_states.proofs.ViewLaws.{seen_by}

@@ -1,3 +1,4 @@
+-- The element's child ends the step, and without one the root does if the look is at the root or at a dead link; else the link is told. In valid parts child and link are those of the dictionary.
 use Rattle.std.proofs.Common.{◌≢◌, ◌<◌, ◌∙◌, ap, arith, cond, length, sym}
 use Rattle.daachorse_core.specs.declared.turns.Look.TheVariants.{Next, Fail}
 use Rattle.daachorse_bytewise_states.proofs.ByteLaws.{first_at, gives_label, look_child, look_dead, look_fail, look_root, root_state}

@@ -1,3 +1,4 @@
+-- None of the children of the place that were looked at has the label; each round looks at one child more.
 use Rattle.std.proofs.Common.{◌≡◌, ◌≢◌, ℕ, ◌+◌, ◌<◌, ◌≤◌, ◌-◌, get_or}
 use Rattle.daachorse_links.proofs.trie.Trie.child.Given as goal
 

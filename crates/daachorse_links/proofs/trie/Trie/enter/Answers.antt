@@ -1,3 +1,4 @@
+-- No two children of a place have one label, so by the next child's label the array still has what is near above the place, and that says what the child's link has to be.
 use Rattle.std.proofs.Common.{◌≡◌, ◌+◌, ◌<◌, cond, length, get_or, set, sym, ap, ◌∙◌, subst, arith}
 use Rattle.std.proofs.lemmas.List.{get_or_read, length-set}
 use Rattle.std.proofs.lemmas.Grind.{common_steps}

@@ -1,3 +1,4 @@
+-- The children that were looked at have the right links and are near, what was near by their labels is saved, and by the other labels there still is what is near above the place; each round takes one.
 use Rattle.std.proofs.Common.{◌≡◌, ◌+◌, ◌≤◌, ◌-◌, length, get_or}
 use Rattle.daachorse_links.specs.Tours.{IsEntering}
 use Rattle.daachorse_links.proofs.trie.Trie.enter.Given as goal

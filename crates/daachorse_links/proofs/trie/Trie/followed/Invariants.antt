@@ -1,3 +1,4 @@
+-- No place passed on the way up has a child by the label, so what is near above the parent is near here, and the place below tells what the link is where nothing is; each round leaves fewer steps.
 use Rattle.std.proofs.Common.{get_or}
 use Rattle.daachorse_links.specs.Following.{IsFollowing}
 use Rattle.daachorse_links.proofs.trie.Trie.followed.Given as goal

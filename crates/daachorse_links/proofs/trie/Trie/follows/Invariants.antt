@@ -1,3 +1,4 @@
+-- Each place so far, but the root, has the link that is right by what is near above its parent; each round looks at one place more.
 use Rattle.std.proofs.Common.{◌≡◌, ℕ, ◌<◌, ◌-◌, length, get_or}
 use Rattle.daachorse_links.specs.Near.{right}
 use Rattle.daachorse_links.proofs.trie.Trie.follows.Given as goal

@@ -1,3 +1,4 @@
+-- The tour comes to each place once, by way of its link, so the children of each are checked by what is near above it, and the links are right just where all of these are.
 use Rattle.std.proofs.Common.{rules, ◌≡◌, ℕ, ◌+◌, ◌^◌, ◌<◌, ◌≤◌, length, sym, ap, ◌∙◌, refl, subst, get_or, replicate, arith}
 use Rattle.std.proofs.lemmas.List.{get_or_read, get_or-replicate, length-replicate}
 use Rattle.std.proofs.lemmas.Result.{IfOk-from_err}

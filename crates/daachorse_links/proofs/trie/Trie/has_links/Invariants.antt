@@ -1,3 +1,4 @@
+-- The children of each place that the tour has left have the right links, the array has what is near the last of these places, and what was saved is right on its link path; each round visits one place.
 use Rattle.std.proofs.Common.{◌≡◌, ◌≤◌, ◌-◌, length}
 use Rattle.daachorse_links.specs.Tours.{IsTouring}
 use Rattle.daachorse_links.proofs.trie.Trie.has_links.Given as goal

@@ -1,3 +1,4 @@
+-- What was saved at a child is what is near above the place by the child's label, and by a label of no child the same is near the place and above it.
 use Rattle.std.proofs.Common.{length, arith}
 use Rattle.std.proofs.lemmas.Grind.{elements}
 use Rattle.daachorse_links.proofs.SettingLaws.{left}

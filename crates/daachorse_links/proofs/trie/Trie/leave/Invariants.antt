@@ -1,3 +1,4 @@
+-- By the labels of the children that were looked at the array has again what is near above the place, and by the others still what is near the place; each round takes one child.
 use Rattle.std.proofs.Common.{◌≡◌, ◌+◌, ◌≤◌, ◌-◌, length, get_or}
 use Rattle.daachorse_links.specs.Tours.{IsLeaving}
 use Rattle.daachorse_links.proofs.trie.Trie.leave.Given as goal

@@ -1,3 +1,4 @@
+-- The link of each place so far, but the root, leads to an earlier place or is dead; each round looks at one place more.
 use Rattle.std.proofs.Common.{◌≡◌, ℕ, ◌<◌, ◌-◌, ◌⊎◌, length, get_or}
 use Rattle.daachorse_links.proofs.trie.Trie.links_fall.Given as goal
 

@@ -1,3 +1,4 @@
+-- The place to come to is above this one, so there is a link to go up by, and leaving this place puts into the array what is near its link.
 use Rattle.std.proofs.Common.{suc, ◌<◌, ◌≤◌, length, ◌∙◌, inl, inr, arith}
 use Rattle.daachorse_links.specs.Near.{up}
 use Rattle.daachorse_links.proofs.NearLaws.{ups_fall}

@@ -1,3 +1,4 @@
+-- The array has what is near here, the place to come to is on the way up from here, and what was saved is right all along it; each step leads to an earlier place, or above the root.
 use Rattle.std.proofs.Common.{◌≡◌, ℕ, suc, ◌≤◌, ◌==◌, cond, length}
 use Rattle.daachorse_links.specs.Near.{up, above, IsAbove, AreNear, IsSaved}
 use Rattle.daachorse_links.proofs.trie.Trie.retreat.Given as goal

@@ -1,3 +1,4 @@
+-- Parents rise with the places, so the children of all earlier parents end where a later parent's first child stands, and the last parent's with the last place.
 use Rattle.std.proofs.Common.{rules, ◌≡◌, ◌≤◌, ◌++◌, ◌∷◌, [], suc, length, sym, ap, ◌∙◌, subst, arith}
 use Rattle.std.proofs.lemmas.List.{length_push}
 use Rattle.std.proofs.lemmas.Grind.{elements, common_steps}

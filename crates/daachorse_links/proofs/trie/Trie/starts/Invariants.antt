@@ -1,3 +1,4 @@
+-- The starts so far are right, and those of the parents of all places so far are among them; one loop goes on by a place, and the others add a start until that parent, or every place, has one.
 use Rattle.std.proofs.Common.{◌≡◌, ℕ, suc, ◌<◌, ◌≤◌, ◌-◌, length, get_or}
 use Rattle.daachorse_links.specs.Places.{AreStartsTo}
 use Rattle.daachorse_links.proofs.trie.Trie.starts.Given as goal

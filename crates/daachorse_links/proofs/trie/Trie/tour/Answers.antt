@@ -1,3 +1,4 @@
+-- A place is put in right behind its link, which stands already, since links fall; what came behind that link now comes behind the place, whose link path goes through that link.
 use Rattle.std.proofs.Common.{◌≡◌, ◌<◌, ◌≤◌, length, subst, get_or, inl, inr, arith, add-one}
 use Rattle.std.proofs.lemmas.List.{get_or_read}
 use Rattle.std.proofs.lemmas.Result.{IfOk-from_err}

@@ -1,3 +1,4 @@
+-- The list leads through the places so far, each once, and the link of each is on the link path of the one before it; each round puts in one place more.
 use Rattle.std.proofs.Common.{◌≡◌, ◌≤◌, ◌-◌, length}
 use Rattle.daachorse_links.specs.Near.{up}
 use Rattle.daachorse_links.specs.Tours.{IsTour}

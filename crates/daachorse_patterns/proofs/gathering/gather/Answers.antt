@@ -1,3 +1,4 @@
+-- The list has what the iterator gave, and the loop ends only where there is no more to give, so no item of the whole run is missing.
 use Rattle.std.proofs.Common.{◌≡◌, true, List, length, Option, None, refl, ap, subst}
 use Rattle.std.specs.Option.{option_map}
 use Rattle.std.specs.List.{slice_get}

@@ -1,3 +1,4 @@
+-- The next item is paired with the value that its index is converted to, and at the end the items so far are all of them.
 use Rattle.std.proofs.Common.{◌≡◌, ◌<◌, ◌+◌, ◌∷◌, ◌++◌, [], List, length, take, ◌∙◌, ap, sym, subst, arith, length-take}
 use Rattle.std.proofs.lemmas.List.{take_more}
 use Rattle.std.proofs.lemmas.Result.{IfOk-from_err}

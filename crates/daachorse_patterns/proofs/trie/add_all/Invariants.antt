@@ -1,3 +1,4 @@
+-- The patterns so far are registered, each takes at most 4,294,967,295 bytes, and there are no more states than ids of 32 bits.
 use Rattle.std.proofs.Common.{◌≡◌, ◌≤◌, length, take}
 use Rattle.std.specs.Prelude.{All}
 use Rattle.daachorse_model.specs.Units.{size}
@@ -6,7 +7,6 @@ use Rattle.daachorse_patterns.specs.Patterns.{texts_of}
 use Rattle.daachorse_patterns.specs.Tries.{HasTexts}
 use Rattle.daachorse_patterns.proofs.trie.add_all.Given as goal
 
--- the patterns so far are registered and short, and the states have ids
 abbrev pub invariant-loop-pattern : goal.invariant-loop-pattern
 invariant-loop-pattern g l = record {
   so_far : HasTexts g.L.Ord.cmp g.L.EdgeLabel.unit g.L.EdgeLabel.width l.nfa (texts_of g.P.Pattern.units (take l.pattern-index l.patterns));

@@ -1,3 +1,4 @@
+-- The codes below this one that some character has are listed, and no others.
 use Rattle.daachorse_rows.specs.Rows.{AreListed}
 use Rattle.daachorse_charwise_states.specs.StateRows.{IsUsed}
 use Rattle.daachorse_charwise_states.proofs.state_rows.list_used.Given as goal

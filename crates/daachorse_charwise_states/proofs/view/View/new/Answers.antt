@@ -1,3 +1,4 @@
+-- The parts that are borrowed are valid and for these searches, and the output that the view keeps of the root is read off the element that stands first.
 use Rattle.std.proofs.Common.{ap, ◌∙◌}
 use Rattle.std.proofs.lemmas.List.{get_or_default}
 use Rattle.daachorse_charwise_states.specs.Elements.{output_in, vacant}

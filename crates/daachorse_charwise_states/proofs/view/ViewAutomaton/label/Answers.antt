@@ -1,3 +1,4 @@
+-- The table has a code for each character of a pattern, so a character that has none is in no key.
 use Rattle.daachorse_charwise_states.proofs.ViewLaws.{view_label}
 use Rattle.daachorse_charwise_states.proofs.view.ViewAutomaton.label.Goals as goal
 

@@ -1,3 +1,4 @@
+-- A state's position is that of its element, which for the root was read once when the view was made, and in valid parts a state's chain of outputs begins there.
 use Rattle.std.proofs.Common.{◌≡◌, ◌∙◌, ap, sym}
 use Rattle.daachorse_machine.proofs.MachineLaws.{first-output}
 use Rattle.daachorse_charwise_states.specs.Elements.{element}

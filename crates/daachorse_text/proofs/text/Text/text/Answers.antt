@@ -1,3 +1,4 @@
+-- What is still to come is UTF-8, so it begins at a boundary of the string's characters.
 use Rattle.std.proofs.lemmas.Str.{IsCharBoundary-from_drop}
 use Rattle.daachorse_text.proofs.text.Text.text.Goals as goal
 

@@ -1,3 +1,4 @@
+-- What is still to come is UTF-8, so its characters take just its bytes, which are those of the string, less those given.
 use Rattle.std.proofs.Common.{drop, sym, ap, ◌∙◌}
 use Rattle.std.proofs.lemmas.List.{length-drop}
 use Rattle.daachorse_model.specs.Units.{size, char_width}

@@ -1,3 +1,4 @@
+-- The patterns so far are counted, and they are of characters alone.
 use Rattle.std.proofs.Common.{take, map}
 use Rattle.std.specs.Prelude.{IsTrue}
 use Rattle.std.specs.List.{AllByRecursion}
@@ -5,7 +6,6 @@ use Rattle.std.specs.Str.{all_scalars, chars}
 use Rattle.daachorse_charwise.specs.Frequencies.{AreFrequencies}
 use Rattle.daachorse_charwise.proofs.charwise.frequencies.frequencies.Given as goal
 
--- the patterns so far are counted, and are of characters
 abbrev pub invariant-loop-pattern : goal.invariant-loop-pattern
 invariant-loop-pattern g l = record {
   counted : AreFrequencies (map (λ p. chars p.0.now) (take l.pattern-index l.patterns)) l.freqs.items;

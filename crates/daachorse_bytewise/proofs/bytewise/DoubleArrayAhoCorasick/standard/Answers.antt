@@ -1,3 +1,4 @@
+-- The standard view of the states shows their parts, and these are the parts of the automaton that keeps them.
 use Rattle.std.proofs.Common.{ap, ◌∙◌}
 use Rattle.daachorse_bytewise.specs.Automata.{Automaton}
 use Rattle.daachorse_bytewise.proofs.bytewise.DoubleArrayAhoCorasick.standard.Goals as goal

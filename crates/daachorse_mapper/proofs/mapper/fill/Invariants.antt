@@ -1,3 +1,4 @@
+-- The table has each code so far at the index of that rank, and no other codes.
 use Rattle.std.proofs.Common.{◌≡◌, length}
 use Rattle.daachorse_mapper.specs.Ranks.{IsFilled}
 use Rattle.daachorse_mapper.proofs.mapper.fill.Given as goal

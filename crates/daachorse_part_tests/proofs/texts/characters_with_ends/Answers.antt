@@ -1,3 +1,4 @@
+-- A string's bytes are UTF-8 and their number fits in 64 bits, so that they can be decoded and the ends of their characters counted.
 use Rattle.std.proofs.Common.{◌∙◌, inl, ap, length, subst, sym, arith}
 use Rattle.std.specs.Str.{IsUtf8}
 use Rattle.daachorse_text.proofs.DecodedRuns.{IsText-known}

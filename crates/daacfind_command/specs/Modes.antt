@@ -7,17 +7,17 @@ use Rattle.daachorse_model.specs.Units.{byte_width}
 use Rattle.daachorse_model.specs.Dictionary.{Dictionary, dictionary}
 use Rattle.daachorse_model.specs.Leftmost.{leftmost}
 use Rattle.daachorse_model.specs.Matches.{no_suffix, overlapping, standard}
-use Rattle.daachorse_model.specs.Program.{pattern_lines, numbered, match_text}
+use Rattle.daachorse_model.specs.Program.{pattern_lines, with_numbers, match_text}
 use Rattle.daacfind_command.specs.declared.mode.Mode.{Mode}
 use Rattle.daacfind_command.specs.declared.mode.Mode.TheVariants.{Overlapping, NoSuffix, Find, Longest, First}
 
 -- the word that names a mode
-abbrev pub word_of : Mode → List ℕ
-word_of Overlapping = codes "overlapping"
-word_of NoSuffix = codes "nosuffix"
-word_of Find = codes "find"
-word_of Longest = codes "longest"
-word_of First = codes "first"
+abbrev pub mode_word : Mode → List ℕ
+mode_word Overlapping = codes "overlapping"
+mode_word NoSuffix = codes "nosuffix"
+mode_word Find = codes "find"
+mode_word Longest = codes "longest"
+mode_word First = codes "first"
 
 -- the kind of searches that a mode asks for
 abbrev pub kind_of_mode : Mode → MatchKind
@@ -37,4 +37,4 @@ found_by First K haystack = leftmost byte_width K haystack
 
 -- what is written of it, where the dictionary has the lines of a pattern file, each with its number
 abbrev pub text_of_mode : Mode → List ℕ → List ℕ → List ℕ
-text_of_mode mode patterns haystack = match_text (found_by mode (dictionary (kind_of_mode mode) (numbered 0 (pattern_lines patterns))) haystack)
+text_of_mode mode patterns haystack = match_text (found_by mode (dictionary (kind_of_mode mode) (with_numbers 0 (pattern_lines patterns))) haystack)

@@ -1,7 +1,7 @@
 //! The modes: how the program matches, and the word that asks for it.
 
 ghost use Rattle.std.specs.Prelude.{◌≡◌, ◌↔◌};
-ghost use Rattle.daacfind_command.specs.Modes.{kind_of_mode, word_of};
+ghost use Rattle.daacfind_command.specs.Modes.{kind_of_mode, mode_word};
 
 use daachorse::MatchKind;
 
@@ -23,7 +23,7 @@ pub enum Mode {
 impl Mode {
     /// Returns the mode that the word names, if there is one.
     pub fn from_word(word: &str) -> Option<Mode>
-        ensures { (mode : Mode) → (result ≡ Some mode) ↔ (word.now ≡ word_of mode) }
+        ensures { (mode : Mode) → (result ≡ Some mode) ↔ (word.now ≡ mode_word mode) }
     {
         match word {
             "overlapping" => Some(Mode::Overlapping),

@@ -8,7 +8,7 @@ use Rattle.daachorse_model.specs.declared.MatchKind.{MatchKind}
 use Rattle.daachorse_model.specs.declared.MatchKind.TheVariants.{Standard, LeftmostLongest, LeftmostFirst}
 use Rattle.daachorse_model.specs.Kinds.{is_leftmost_first}
 use Rattle.daachorse_model.specs.Units.{same_text}
-use Rattle.daachorse_model.specs.Dictionary.{is_proper_prefix, without_extensions, values_of, dictionary, kept}
+use Rattle.daachorse_model.specs.Dictionary.{is_proper_prefix, without_extensions, values_of, dictionary, kept_registrations}
 use Rattle.daachorse_model.proofs.Listings.{value_later}
 use Rattle.daachorse_build.specs.Holds.{in_units}
 use Rattle.daachorse_build.proofs.Registrations.{text_same, text_refl}
@@ -113,11 +113,11 @@ module _ {V : Type 0} where
 units_push : {L V : Type 0} (unit : L → ℕ) (rs : List (List L × V)) (p : List L) (v : V) → in_units unit (rs ++ (p, v) ∷ []) ≡ in_units unit rs ++ (map unit p, v) ∷ []
 units_push unit rs p v = map-append (λ r. (map unit r.0, r.1)) rs ((p, v) ∷ [])
 
-first_drops : {L V : Type 0} (unit : L → ℕ) (rs : List (List L × V)) (p : List L) (v : V) → kept LeftmostFirst (in_units unit (rs ++ (p, v) ∷ [])) ≡ kept LeftmostFirst (in_units unit rs) ++ cond (drops [] (in_units unit rs) (map unit p)) [] ((map unit p, v) ∷ [])
+first_drops : {L V : Type 0} (unit : L → ℕ) (rs : List (List L × V)) (p : List L) (v : V) → kept_registrations LeftmostFirst (in_units unit (rs ++ (p, v) ∷ [])) ≡ kept_registrations LeftmostFirst (in_units unit rs) ++ cond (drops [] (in_units unit rs) (map unit p)) [] ((map unit p, v) ∷ [])
 first_drops unit rs p v = ap (without_extensions []) (units_push unit rs p v) ∙ without_extensions-push [] (in_units unit rs) (map unit p, v)
 
 -- under each kind a pattern counts, unless matches are leftmost first and a key is a proper prefix
-pub kept_one : {L V : Type 0} (unit : L → ℕ) (kind : MatchKind) (rs : List (List L × V)) (p : List L) (v : V) → (is_leftmost_first kind ≡ false) ⊎ ((x : List ℕ) → is_proper_prefix x (map unit p) ≡ true → dictionary kind (in_units unit rs) x ≡ []) → kept kind (in_units unit (rs ++ (p, v) ∷ [])) ≡ kept kind (in_units unit rs) ++ (map unit p, v) ∷ []
+pub kept_one : {L V : Type 0} (unit : L → ℕ) (kind : MatchKind) (rs : List (List L × V)) (p : List L) (v : V) → (is_leftmost_first kind ≡ false) ⊎ ((x : List ℕ) → is_proper_prefix x (map unit p) ≡ true → dictionary kind (in_units unit rs) x ≡ []) → kept_registrations kind (in_units unit (rs ++ (p, v) ∷ [])) ≡ kept_registrations kind (in_units unit rs) ++ (map unit p, v) ∷ []
 kept_one unit Standard rs p v why = units_push unit rs p v
 kept_one unit LeftmostLongest rs p v why = units_push unit rs p v
 kept_one unit LeftmostFirst rs p v (inl no') = absurd (false≢true (sym no'))
@@ -130,7 +130,7 @@ kept_one unit LeftmostFirst rs p v (inr none) =
     first_drops unit rs p v ∙ ap (λ b. without_extensions [] (in_units unit rs) ++ cond b [] ((map unit p, v) ∷ [])) stays
 
 -- a pattern that extends a key is left out
-pub kept_same : {L V : Type 0} (unit : L → ℕ) (kind : MatchKind) (rs : List (List L × V)) (p : List L) (v : V) → is_leftmost_first kind ≡ true → (x : List ℕ) → is_proper_prefix x (map unit p) ≡ true → dictionary kind (in_units unit rs) x ≢ [] → kept kind (in_units unit (rs ++ (p, v) ∷ [])) ≡ kept kind (in_units unit rs)
+pub kept_same : {L V : Type 0} (unit : L → ℕ) (kind : MatchKind) (rs : List (List L × V)) (p : List L) (v : V) → is_leftmost_first kind ≡ true → (x : List ℕ) → is_proper_prefix x (map unit p) ≡ true → dictionary kind (in_units unit rs) x ≢ [] → kept_registrations kind (in_units unit (rs ++ (p, v) ∷ [])) ≡ kept_registrations kind (in_units unit rs)
 kept_same unit Standard rs p v is x h key = absurd (false≢true is)
 kept_same unit LeftmostLongest rs p v is x h key = absurd (false≢true is)
 kept_same unit LeftmostFirst rs p v is x h key =

@@ -10,7 +10,7 @@ use Rattle.daachorse_build.specs.declared.nfa_builder.NfaBuilderState.{NfaBuilde
 use Rattle.daachorse_model.specs.declared.MatchKind.{MatchKind}
 use Rattle.daachorse_model.specs.declared.MatchKind.TheVariants.{Standard, LeftmostLongest, LeftmostFirst}
 use Rattle.daachorse_model.specs.Units.{size}
-use Rattle.daachorse_model.specs.Dictionary.{dictionary, kept, values_of}
+use Rattle.daachorse_model.specs.Dictionary.{dictionary, kept_registrations, values_of}
 use Rattle.daachorse_model.specs.Prefixes.{IsPrefix}
 use Rattle.daachorse_model.specs.Paths.{walk, Leads}
 use Rattle.daachorse_build.specs.Tables.{child_in, child_of, edges_of, own_of, own_at, output_count, IsTable}
@@ -46,7 +46,7 @@ no_outputs : {V : Type 0} (o : Option ℕ) → unwrap_or (option_map (λ s. get_
 no_outputs None = refl
 no_outputs (Some s) = none_at s
 
-pub kept_none : {V : Type 0} (kind : MatchKind) → kept {V = V} kind [] ≡ []
+pub kept_none : {V : Type 0} (kind : MatchKind) → kept_registrations {V = V} kind [] ≡ []
 kept_none Standard = refl
 kept_none LeftmostLongest = refl
 kept_none LeftmostFirst = refl

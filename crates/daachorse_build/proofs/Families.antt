@@ -19,11 +19,11 @@ use Rattle.std.specs.Map.{values_of}
 use Rattle.std.specs.declared.cmp.Ordering.{Ordering}
 use Rattle.std.specs.Cmp.{IsTotalOrder}
 use Rattle.daachorse_placement.specs.declared.build_helper.SiblingGroup.{SiblingGroup}
-use Rattle.daachorse_placement.specs.Placement.{children_of, parent_of, label_of, child_of, AreGroups}
+use Rattle.daachorse_placement.specs.Placement.{children_of, group_parent, label_of, child_id, AreGroups}
 use Rattle.daachorse_build.specs.declared.nfa_builder.NfaBuilderState.{NfaBuilderState}
 use Rattle.daachorse_build.specs.Tables.{edges_of, child_in, HoldTrie}
 use Rattle.daachorse_build.specs.Orders.{IsIn, children}
-use Rattle.daachorse_build.specs.Groups.{edges_at, coded, GivesCodes, AreCodes, AreTrieGroups, is_some_edge, has_edges, IsWalk, AreGiven, AreFamilies, parents_of, if_counted}
+use Rattle.daachorse_build.specs.Groups.{edges_at, with_codes, GivesCodes, AreCodes, AreTrieGroups, is_some_edge, has_edges, VisitsEachState, AreGiven, AreFamilies, parents_of, if_counted}
 use Rattle.daachorse_build.proofs.Queue.{in_equal, in_at, place_of, distinct_once, child_at_place, listed_of_child, value_at, children_once}
 use Rattle.daachorse_build.proofs.StackWalk.{length-walk}
 use Rattle.daachorse_build.proofs.Walks.{text_of, walk-bounds}
@@ -69,12 +69,12 @@ contains_in xs t h = let p = place_of xs t h in (p.0, p.1, get_or_default xs p.0
 
 -- ---- groups by their places
 -- the group at a place
-group_at : {A : Type 0} (P : SiblingGroup A → Type 0) (gs : List (SiblingGroup A)) (k : ℕ) → k < length gs → All P gs → (g : SiblingGroup A) × P g × (parent_of gs k ≡ g.parent) × (children_of gs k ≡ g.children.items)
+group_at : {A : Type 0} (P : SiblingGroup A → Type 0) (gs : List (SiblingGroup A)) (k : ℕ) → k < length gs → All P gs → (g : SiblingGroup A) × P g × (group_parent gs k ≡ g.parent) × (children_of gs k ≡ g.children.items)
 group_at P [] k l all = absurd (omega arith)
 group_at P (g ∷ gs) zero l all = (g, All-head P g gs all, refl, refl)
 group_at P (g ∷ gs) (suc k) l all = group_at P gs k (omega arith) (All-tail P g gs all)
 
-coded_given : {L : Type 0} (gives : L → ℕ → Type 0) (code : L → ℕ) (es : List (L × ℕ)) (cs : List (ℕ × ℕ)) → ((i : ℕ) (c : L) (t : ℕ) → slice_get es i ≡ Some (c, t) → (r : ℕ) → gives c r → r ≡ code c) → AreGiven gives es cs → cs ≡ coded code es
+coded_given : {L : Type 0} (gives : L → ℕ → Type 0) (code : L → ℕ) (es : List (L × ℕ)) (cs : List (ℕ × ℕ)) → ((i : ℕ) (c : L) (t : ℕ) → slice_get es i ≡ Some (c, t) → (r : ℕ) → gives c r → r ≡ code c) → AreGiven gives es cs → cs ≡ with_codes code es
 coded_given gives code [] [] says h = refl
 coded_given gives code [] (d ∷ cs) says h = absurd h
 coded_given gives code (e ∷ es) [] says h = absurd h
@@ -117,7 +117,7 @@ one_place xs k l distinct hk hl same =
       | inr other ↦ elim other [ inl less ↦ absurd (apart k l less hl same) | inr less ↦ absurd (apart l k less hk (sym same)) ]
     ]
 
-module _ {L V A : Type 0} (cmp : L → L → Ordering) (total : IsTotalOrder cmp) (states : List (NfaBuilderState L V A)) (table : HoldTrie cmp states) (order : List ℕ) (walk : IsWalk (edges_of states) order) (gives : L → ℕ → Type 0) (first gs : List (SiblingGroup A)) (parents : parents_of first ≡ filter (has_edges (edges_of states)) order) (families : AreFamilies gives (edges_of states) first) (moved : IsPermutation first gs) where
+module _ {L V A : Type 0} (cmp : L → L → Ordering) (total : IsTotalOrder cmp) (states : List (NfaBuilderState L V A)) (table : HoldTrie cmp states) (order : List ℕ) (walk : VisitsEachState (edges_of states) order) (gives : L → ℕ → Type 0) (first gs : List (SiblingGroup A)) (parents : parents_of first ≡ filter (has_edges (edges_of states)) order) (families : AreFamilies gives (edges_of states) first) (moved : IsPermutation first gs) where
   abbrev edges : List (List (L × ℕ))
   edges = edges_of states
 
@@ -154,7 +154,7 @@ module _ {L V A : Type 0} (cmp : L → L → Ordering) (total : IsTotalOrder cmp
       let start = subst P (sym parents) (contains_in _ s (in_filter (has_edges edges) order s (walk.all s l ne) some)) in
       Contains-permutation (parents_of first) (parents_of gs) s moved_parents start
 
-  parent_at : (k : ℕ) → k < length gs → (parent_of gs k < length edges) × (parent_of gs k ≢ 1) × (has_edges edges (parent_of gs k) ≡ true)
+  parent_at : (k : ℕ) → k < length gs → (group_parent gs k < length edges) × (group_parent gs k ≢ 1) × (has_edges edges (group_parent gs k) ≡ true)
   parent_at k l = parent_is k 0 (omega (arith, l, length-map gs (λ g. g.parent)))
 
   -- there are fewer than states
@@ -171,9 +171,9 @@ module _ {L V A : Type 0} (cmp : L → L → Ordering) (total : IsTotalOrder cmp
         ∙ coded_given gives code (edges_at edges at.0.parent) at.0.children.items
         (λ i c t here r h. says at.0.parent c t (child_at_place cmp total edges table at.0.parent i c t here) r h)
         at.1
-        ∙ ap (λ p. coded code (edges_at edges p)) (sym at.2);
-    some = λ k l. some_edge (edges_at edges (parent_of gs k)) (parent_at k l).2;
-    reached = λ k l. let p = parent_at k l in text_of (child_in cmp edges) (length edges) table.trie (parent_of gs k) p.0 p.1;
+        ∙ ap (λ p. with_codes code (edges_at edges p)) (sym at.2);
+    some = λ k l. some_edge (edges_at edges (group_parent gs k)) (parent_at k l).2;
+    reached = λ k l. let p = parent_at k l in text_of (child_in cmp edges) (length edges) table.trie (group_parent gs k) p.0 p.1;
     one_each = λ k l hk hl same. one_place (parents_of gs) k l distinct (omega (arith, hk, length-map gs (λ g. g.parent))) (omega (arith, hl, length-map gs (λ g. g.parent))) same;
     all = λ s c t at.
         let b = table.trie.bounds s c t at in
@@ -185,49 +185,49 @@ module _ {L V A : Type 0} (cmp : L → L → Ordering) (total : IsTotalOrder cmp
 -- ---- codes that tell the children of a state apart
 -- the child at a place: an edge of the parent, by its code
 module _ {L : Type 0} (code : L → ℕ) where
-  coded_at : (es : List (L × ℕ)) (j : ℕ) → j < length (coded code es) → (e : L × ℕ) × (slice_get es j ≡ Some e) × (get_or (coded code es) j (0, 0) ≡ (code e.0, e.1))
+  coded_at : (es : List (L × ℕ)) (j : ℕ) → j < length (with_codes code es) → (e : L × ℕ) × (slice_get es j ≡ Some e) × (get_or (with_codes code es) j (0, 0) ≡ (code e.0, e.1))
   coded_at [] j l = absurd (omega arith)
   coded_at (e ∷ es) zero l = (e, refl, refl)
   coded_at (e ∷ es) (suc j) l = coded_at es j (omega arith)
 
 module _ {L V A : Type 0} (cmp : L → L → Ordering) (total : IsTotalOrder cmp) (states : List (NfaBuilderState L V A)) (table : HoldTrie cmp states) (gives : L → ℕ → Type 0) (code : L → ℕ) (block : ℕ) (codes : AreCodes cmp (edges_of states) gives code block) (gs : List (SiblingGroup A)) (trie : AreTrieGroups cmp code states gs) (below : (k j : ℕ) → k < length gs → j < length (children_of gs k) → label_of (children_of gs k) j < block) where
   -- the edge to child j of group k
-  edge_at : (k j : ℕ) → k < length gs → j < length (children_of gs k) → (c : L) × (child_in cmp (edges_of states) (parent_of gs k) c ≡ Some (child_of (children_of gs k) j)) × (label_of (children_of gs k) j ≡ code c) × (j < length (children (edges_of states) (parent_of gs k))) × (get_or (children (edges_of states) (parent_of gs k)) j 0 ≡ child_of (children_of gs k) j)
+  edge_at : (k j : ℕ) → k < length gs → j < length (children_of gs k) → (c : L) × (child_in cmp (edges_of states) (group_parent gs k) c ≡ Some (child_id (children_of gs k) j)) × (label_of (children_of gs k) j ≡ code c) × (j < length (children (edges_of states) (group_parent gs k))) × (get_or (children (edges_of states) (group_parent gs k)) j 0 ≡ child_id (children_of gs k) j)
   edge_at k j hk hj =
-      let s = parent_of gs k in
+      let s = group_parent gs k in
       let es = edges_at (edges_of states) s in
       let same = trie.children k hk in
       let at = coded_at code es j (omega (arith, hj, ap length same)) in
       let child : get_or (children_of gs k) j (0, 0) ≡ (code at.0.0, at.0.1) = ap (λ cs. get_or cs j (0, 0)) same ∙ at.2 in
-      let id : at.0.1 ≡ child_of (children_of gs k) j = sym (ap (λ (p : ℕ × ℕ). p.1) child) in
+      let id : at.0.1 ≡ child_id (children_of gs k) j = sym (ap (λ (p : ℕ × ℕ). p.1) child) in
       let edge = child_at_place cmp total (edges_of states) table s j at.0.0 at.0.1 at.1 in
       let place = value_at es j at.0.0 at.0.1 at.1 in
       (at.0.0, edge ∙ ap Some id, ap (λ (p : ℕ × ℕ). p.0) child, place.0, place.1 ∙ id)
 
   -- children of one state are apart
-  child_places : (k i j : ℕ) → k < length gs → i < length (children_of gs k) → j < length (children_of gs k) → child_of (children_of gs k) i ≡ child_of (children_of gs k) j → i ≡ j
+  child_places : (k i j : ℕ) → k < length gs → i < length (children_of gs k) → j < length (children_of gs k) → child_id (children_of gs k) i ≡ child_id (children_of gs k) j → i ≡ j
   child_places k i j hk hi hj same =
       let a = edge_at k i hk hi in
       let b = edge_at k j hk hj in
-      let cs = children (edges_of states) (parent_of gs k) in
-      one_place cs i j (distinct_once cs (children_once cmp total (edges_of states) table (parent_of gs k))) a.3 b.3 (a.4 ∙ same ∙ sym b.4)
+      let cs = children (edges_of states) (group_parent gs k) in
+      one_place cs i j (distinct_once cs (children_once cmp total (edges_of states) table (group_parent gs k))) a.3 b.3 (a.4 ∙ same ∙ sym b.4)
 
   pub placed_groups : AreGroups gs (length states) block
   placed_groups = record {
-    some = λ k l. omega (arith, trie.some k l, ap length (trie.children k l), length-map {B = ℕ × ℕ} (edges_at (edges_of states) (parent_of gs k)) (λ e. (code e.0, e.1)));
+    some = λ k l. omega (arith, trie.some k l, ap length (trie.children k l), length-map {B = ℕ × ℕ} (edges_at (edges_of states) (group_parent gs k)) (λ e. (code e.0, e.1)));
     labels = λ k l j h. below k j l h;
     distinct = λ k i j l hi hj same.
         let a = edge_at k i l hi in
         let b = edge_at k j l hj in
-        let c = codes.apart (parent_of gs k) a.0 b.0 (child_of (children_of gs k) i) (child_of (children_of gs k) j) a.1 b.1 (sym a.2 ∙ same ∙ b.2) in
-        child_places k i j l hi hj (same_Some _ _ (sym a.1 ∙ ap (child_in cmp (edges_of states) (parent_of gs k)) c ∙ b.1));
-    parents = λ k l. let r = trie.reached k l in omega (arith, (walk-bounds (child_in cmp (edges_of states)) (length (edges_of states)) table.trie r.0 (parent_of gs k) r.1).0, length-map states (λ s. s.edges));
+        let c = codes.apart (group_parent gs k) a.0 b.0 (child_id (children_of gs k) i) (child_id (children_of gs k) j) a.1 b.1 (sym a.2 ∙ same ∙ b.2) in
+        child_places k i j l hi hj (same_Some _ _ (sym a.1 ∙ ap (child_in cmp (edges_of states) (group_parent gs k)) c ∙ b.1));
+    parents = λ k l. let r = trie.reached k l in omega (arith, (walk-bounds (child_in cmp (edges_of states)) (length (edges_of states)) table.trie r.0 (group_parent gs k) r.1).0, length-map states (λ s. s.edges));
     one_parent = trie.one_each;
-    ids = λ k l j h. let a = edge_at k j l h in let b = table.trie.bounds (parent_of gs k) a.0 (child_of (children_of gs k) j) a.1 in omega (arith, b.3, length-map states (λ s. s.edges));
-    above = λ k j l h. let a = edge_at k j l h in let b = table.trie.bounds (parent_of gs k) a.0 (child_of (children_of gs k) j) a.1 in b.2;
+    ids = λ k l j h. let a = edge_at k j l h in let b = table.trie.bounds (group_parent gs k) a.0 (child_id (children_of gs k) j) a.1 in omega (arith, b.3, length-map states (λ s. s.edges));
+    above = λ k j l h. let a = edge_at k j l h in let b = table.trie.bounds (group_parent gs k) a.0 (child_id (children_of gs k) j) a.1 in b.2;
     one_group = λ k l i j hk hl hi hj same.
         let a = edge_at k i hk hi in
         let b = edge_at l j hl hj in
-        trie.one_each k l hk hl (table.trie.one_parent (parent_of gs k) a.0 (parent_of gs l) b.0 (child_of (children_of gs k) i) a.1 (b.1 ∙ ap Some (sym same))).0;
+        trie.one_each k l hk hl (table.trie.one_parent (group_parent gs k) a.0 (group_parent gs l) b.0 (child_id (children_of gs k) i) a.1 (b.1 ∙ ap Some (sym same))).0;
     one_child = λ k l i j hi hj same. child_places k i j l hi hj same;
   }

@@ -7,7 +7,7 @@ use Rattle.std.specs.List.{AllByRecursion, IsDistinct}
 use Rattle.std.specs.declared.cmp.Ordering.{Ordering}
 use Rattle.daachorse_model.specs.declared.MatchKind.{MatchKind}
 use Rattle.daachorse_model.specs.Units.{same_text}
-use Rattle.daachorse_model.specs.Dictionary.{dictionary, kept}
+use Rattle.daachorse_model.specs.Dictionary.{dictionary, kept_registrations}
 use Rattle.daachorse_model.specs.Prefixes.{IsPrefix}
 use Rattle.daachorse_model.specs.Paths.{walk, Leads}
 use Rattle.daachorse_model.proofs.Paths.{walk-push}
@@ -79,7 +79,7 @@ distinct_units {L} unit exact (w ∷ ws) h = (others ws h.0, distinct_units unit
     others (v ∷ vs) k =
         (false_from_ne_true (same_text (map unit w) (map unit v)) (λ same. k.0 (text_exact unit exact w v (text_same (map unit w) (map unit v) same))), others vs k.1)
 
-module _ {L V A : Type 0} (cmp : L → L → Ordering) (unit : L → ℕ) (exact : (a b : L) → unit a ≡ unit b → a ≡ b) (width : ℕ → ℕ) (kind : MatchKind) (old : List (NfaBuilderState L V A)) (rs : List (List L × V)) (p : List L) (v : V) (adds : kept kind (in_units unit (rs ++ (p, v) ∷ [])) ≡ kept kind (in_units unit rs) ++ (map unit p, v) ∷ []) (holds : Holds cmp unit width kind old rs) where
+module _ {L V A : Type 0} (cmp : L → L → Ordering) (unit : L → ℕ) (exact : (a b : L) → unit a ≡ unit b → a ≡ b) (width : ℕ → ℕ) (kind : MatchKind) (old : List (NfaBuilderState L V A)) (rs : List (List L × V)) (p : List L) (v : V) (adds : kept_registrations kind (in_units unit (rs ++ (p, v) ∷ [])) ≡ kept_registrations kind (in_units unit rs) ++ (map unit p, v) ∷ []) (holds : Holds cmp unit width kind old rs) where
   -- a pattern that needs a state too many makes too many prefixes
   pub too_many : (limit : ℕ) → Overflows cmp old p limit → HasMorePrefixes (dictionary kind (in_units unit (rs ++ (p, v) ∷ []))) limit
   too_many limit over =

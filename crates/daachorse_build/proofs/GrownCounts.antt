@@ -2,9 +2,9 @@
 use Rattle.std.proofs.Common.{◌≡◌, ℕ, zero, suc, ◌<◌, ◌≤◌, List, [], ◌∷◌, length, get_or, set, refl, sym, ap, ◌∙◌, arith, length-append}
 use Rattle.std.proofs.lemmas.List.{length-replicate, length-take}
 use Rattle.std.proofs.lemmas.List.Elements.{length_all_zip}
-use Rattle.daachorse_placement.specs.Profiles.{resized}
+use Rattle.daachorse_placement.specs.Profiles.{first_counts}
 use Rattle.daachorse_placement.specs.declared.build_helper.profile.Profile.{Profile}
-use Rattle.daachorse_build.specs.Counts.{HasCounts, HasSameCounts, HaveGrown, IsCounted}
+use Rattle.daachorse_build.specs.Counts.{HasCounts, HasSameCounts, HaveGrown, HasCountedMore}
 
 pub grown_same : (xs : List ℕ) → HaveGrown xs xs
 grown_same [] = tt
@@ -25,17 +25,17 @@ grown_set (x ∷ xs) zero n l h = (h, grown_same xs)
 grown_set (x ∷ xs) (suc i) n l h = (omega arith, grown_set xs i n (omega arith) h)
 
 module _ {A : Type 0} where
-  pub counted_same : (p : Profile A) → IsCounted p p
+  pub counted_same : (p : Profile A) → HasCountedMore p p
   counted_same p = record { visits = grown_same p.visits.items; probes = grown_same p.probes.items }
 
-  pub counted_twice : (p q r : Profile A) → IsCounted p q → IsCounted q r → IsCounted p r
+  pub counted_twice : (p q r : Profile A) → HasCountedMore p q → HasCountedMore q r → HasCountedMore p r
   counted_twice p q r h k = record {
     visits = grown_twice p.visits.items q.visits.items r.visits.items h.visits k.visits;
     probes = grown_twice p.probes.items q.probes.items r.probes.items h.probes k.probes;
   }
 
   -- there are as many counts as before
-  pub counts_stay : (n : ℕ) (p q : Profile A) → HasCounts n p → IsCounted p q → HasCounts n q
+  pub counts_stay : (n : ℕ) (p q : Profile A) → HasCounts n p → HasCountedMore p q → HasCounts n q
   counts_stay n p q h k = record {
     visits = sym (length_all_zip (λ a b. a ≤ b) p.visits.items q.visits.items k.visits) ∙ h.visits;
     probes = sym (length_all_zip (λ a b. a ≤ b) p.probes.items q.probes.items k.probes) ∙ h.probes;
@@ -48,11 +48,11 @@ module _ {A : Type 0} where
   same_twice p q r h k = record { visits = k.visits ∙ h.visits; probes = k.probes ∙ h.probes }
 
 -- a list whose length changes has that length
-pub length-resized : (xs : List ℕ) (n : ℕ) → length (resized xs n) ≡ n
+pub length-resized : (xs : List ℕ) (n : ℕ) → length (first_counts xs n) ≡ n
 length-resized xs n = simp (length-append, length-take, length-replicate) (omega arith)
 
 -- a profile that was resized has a count of each kind for each state
-pub counts_resized : {A : Type 0} (n : ℕ) (old new : Profile A) → new.visits.items ≡ resized old.visits.items n → new.probes.items ≡ resized old.probes.items n → HasCounts n new
+pub counts_resized : {A : Type 0} (n : ℕ) (old new : Profile A) → new.visits.items ≡ first_counts old.visits.items n → new.probes.items ≡ first_counts old.probes.items n → HasCounts n new
 counts_resized n old new visits probes = record {
   visits = ap length visits ∙ length-resized old.visits.items n;
   probes = ap length probes ∙ length-resized old.probes.items n;

@@ -7,7 +7,7 @@ use Rattle.std.proofs.lemmas.List.{map-append}
 use Rattle.std.specs.declared.cmp.Ordering.{Ordering}
 use Rattle.daachorse_model.specs.declared.MatchKind.{MatchKind}
 use Rattle.daachorse_model.specs.Units.{size}
-use Rattle.daachorse_model.specs.Dictionary.{Dictionary, dictionary, is_proper_prefix, kept, values_of}
+use Rattle.daachorse_model.specs.Dictionary.{Dictionary, dictionary, is_proper_prefix, kept_registrations, values_of}
 use Rattle.daachorse_model.specs.Outputs.{own_outputs}
 use Rattle.daachorse_model.specs.Prefixes.{IsPrefix, is_key, key_begins}
 use Rattle.daachorse_model.specs.Paths.{walk, Leads}
@@ -141,7 +141,7 @@ module _ {L V A : Type 0} (cmp : L → L → Ordering) (unit : L → ℕ) (width
           false≢true (sym no' ∙ stops-key cmp unit width kind states rs holds v s.0 s.1 ∙ ap (is_key (dictionary kind (in_units unit rs))) front ∙ key)
 
 -- a trie holds what it held where a pattern is left out
-pub holds_same : {L V A : Type 0} (cmp : L → L → Ordering) (unit : L → ℕ) (width : ℕ → ℕ) (kind : MatchKind) (states : List (NfaBuilderState L V A)) (rs rs' : List (List L × V)) → Holds cmp unit width kind states rs → ◌≡◌ {A = List (List ℕ × V)} (kept kind (in_units unit rs')) (kept kind (in_units unit rs)) → Holds cmp unit width kind states rs'
+pub holds_same : {L V A : Type 0} (cmp : L → L → Ordering) (unit : L → ℕ) (width : ℕ → ℕ) (kind : MatchKind) (states : List (NfaBuilderState L V A)) (rs rs' : List (List L × V)) → Holds cmp unit width kind states rs → ◌≡◌ {A = List (List ℕ × V)} (kept_registrations kind (in_units unit rs')) (kept_registrations kind (in_units unit rs)) → Holds cmp unit width kind states rs'
 holds_same {L} {V} cmp unit width kind states rs rs' holds e = record {
   trie = holds.trie;
   begins = λ w h. holds.begins w (subst (λ ks. IsPrefix (values_of ks) (map unit w)) e h);

@@ -6,7 +6,7 @@ use Rattle.std.proofs.lemmas.Bool.{cond_both, false≢true, or_cases, or_left, o
 use Rattle.std.specs.declared.cmp.Ordering.{Ordering}
 use Rattle.daachorse_model.specs.declared.MatchKind.{MatchKind}
 use Rattle.daachorse_model.specs.Units.{same_text}
-use Rattle.daachorse_model.specs.Dictionary.{Dictionary, dictionary, kept, values_of, is_prefix}
+use Rattle.daachorse_model.specs.Dictionary.{Dictionary, dictionary, kept_registrations, values_of, is_prefix}
 use Rattle.daachorse_model.specs.Prefixes.{IsPrefix, IsLeftFail, key_begins, long_unless_key, left_fail}
 use Rattle.daachorse_model.specs.Paths.{walk, is_reached, Leads}
 use Rattle.daachorse_model.proofs.Links.{left_fail-is, IsDead-not}
@@ -63,7 +63,7 @@ module _ {L V A : Type 0} (cmp : L → L → Ordering) (unit : L → ℕ) (width
   keys = dictionary kind (in_units unit rs)
 
   abbrev test : List ℕ → Bool
-  test = known (kept kind (in_units unit rs))
+  test = known (kept_registrations kind (in_units unit rs))
 
   same_test : (w : List L) → is_reached (child_of cmp states) w ≡ test (map unit w)
   same_test w = at (is_reached (child_of cmp states) w) (test (map unit w)) refl refl
@@ -75,8 +75,8 @@ module _ {L V A : Type 0} (cmp : L → L → Ordering) (unit : L → ℕ) (width
       at : (a b : Bool) → is_reached (child_of cmp states) w ≡ a → test (map unit w) ≡ b → a ≡ b
       at true true h k = refl
       at false false h k = refl
-      at true false h k = sym (known-back (kept kind (in_units unit rs)) (map unit w) (there (walk (child_of cmp states) 0 w) refl h)) ∙ k
-      at false true h k = let s = holds.begins w (known-fore (kept kind (in_units unit rs)) (map unit w) k) in sym h ∙ ap is_some s.1
+      at true false h k = sym (known-back (kept_registrations kind (in_units unit rs)) (map unit w) (there (walk (child_of cmp states) 0 w) refl h)) ∙ k
+      at false true h k = let s = holds.begins w (known-fore (kept_registrations kind (in_units unit rs)) (map unit w) k) in sym h ∙ ap is_some s.1
 
   map_cond : (a b : Bool) (w : List L) (o : Option (List L)) → option_map (map unit) (cond a (Some w) (cond b None o)) ≡ cond a (Some (map unit w)) (cond b None (option_map (map unit) o))
   map_cond true b w o = refl
@@ -104,7 +104,7 @@ module _ {L V A : Type 0} (cmp : L → L → Ordering) (unit : L → ℕ) (width
   -- the leftmost link of a text is that of its units
   pub left_link-is : (c : L) (w : List L) → IsLeftFail keys (map unit (c ∷ w)) (option_map (map unit) (left_link (child_of cmp states) (stops_of true states) c w))
   left_link-is c w =
-      rw (link-units c w) (left_fail-is keys test (known-fore (kept kind (in_units unit rs))) (known-back (kept kind (in_units unit rs))) (unit c) (map unit w))
+      rw (link-units c w) (left_fail-is keys test (known-fore (kept_registrations kind (in_units unit rs))) (known-back (kept_registrations kind (in_units unit rs))) (unit c) (map unit w))
 
   -- the state of the leftmost link, in the words of the dictionary
   pub links_left : (c : L) (w : List L) (f : ℕ) → IsStateOf (child_of cmp states) (left_link (child_of cmp states) (stops_of true states) c w) f → LinksLeft keys unit (child_of cmp states) (c ∷ w) f
@@ -113,20 +113,20 @@ module _ {L V A : Type 0} (cmp : L → L → Ordering) (unit : L → ℕ) (width
       [ None ↦ λ is dead. inl (is, dead) | Some x ↦ λ is l. inr (x, is, l.0, IsDead-not keys (map unit (c ∷ w)) (map unit x) l.0 l.1) ]) h (left_link-is c w)
 
 -- ---- where the links are built
-module _ {L V A : Type 0} (cmp : L → L → Ordering) (total : IsTotalOrder cmp) (old new : List (NfaBuilderState L V A)) (table : HoldTrie cmp old) (kept' : HasTrieOf old new) (order : List ℕ) (links : HoldLeftLinks cmp true new order) where
+module _ {L V A : Type 0} (cmp : L → L → Ordering) (total : IsTotalOrder cmp) (old new : List (NfaBuilderState L V A)) (table : HoldTrie cmp old) (kept_registrations' : HasTrieOf old new) (order : List ℕ) (links : HoldLeftLinks cmp true new order) where
   -- a state but the root stands in the order
   in_order : (c : L) (w : List L) (t : ℕ) → Leads (child_of cmp old) (c ∷ w) t → IsIn order t
   in_order c w t h =
       let b = walk-bounds (child_of cmp old) (length (edges_of old)) table.trie (c ∷ w) t h in
       let apart : t ≢ 0 = λ e. (let nil : c ∷ w ≡ [] = walk-same (child_of cmp old) (length (edges_of old)) table.trie (c ∷ w) [] 0 (h ∙ ap Some e) refl in cc) in
       let P : List (List (L × ℕ)) → Type 0 = λ es. IsBreadthFirst es order in
-      all_in_order cmp total (edges_of old) table order (subst P kept'.edges links.first) t (omega (arith, b.1, apart)) b.0
+      all_in_order cmp total (edges_of old) table order (subst P kept_registrations'.edges links.first) t (omega (arith, b.1, apart)) b.0
 
   left_fail_of : (c : L) (w : List L) (t : ℕ) → Leads (child_of cmp old) (c ∷ w) t → IsLeftFailOf (child_of cmp old) (stops_of true old) t (get_or (fails_of new) t 0)
   left_fail_of c w t h =
       let E : List (List (L × ℕ)) → Type 0 = λ es. IsLeftFailOf (child_in cmp es) (stops_of true new) t (get_or (fails_of new) t 0) in
       let O : List (List (V × ℕ)) → Type 0 = λ os. IsLeftFailOf (child_of cmp old) (λ s. not (length (own_at os s) == 0)) t (get_or (fails_of new) t 0) in
-      subst O kept'.outputs (subst E kept'.edges (links.linked t (in_order c w t h)))
+      subst O kept_registrations'.outputs (subst E kept_registrations'.edges (links.linked t (in_order c w t h)))
 
   -- the links that were built are those of the dictionary
   pub links_left_built : (unit : L → ℕ) (width : ℕ → ℕ) (kind : MatchKind) (rs : List (List L × V)) → Holds cmp unit width kind old rs → (w : List L) (t : ℕ) → w ≢ [] → Leads (child_of cmp old) w t → LinksLeft (dictionary kind (in_units unit rs)) unit (child_of cmp old) w (get_or (fails_of new) t 0)

@@ -14,7 +14,7 @@ use Rattle.daachorse_model.specs.Outputs.{own_outputs, outputs_of_ends}
 use Rattle.daachorse_model.specs.Paths.{walk, is_reached, Leads}
 use Rattle.daachorse_build.specs.declared.nfa_builder.NfaBuilderState.{NfaBuilderState}
 use Rattle.daachorse_build.specs.Left.{meets, long_unless_stop, left_link, IsStateOf, IsLeftFailOf}
-use Rattle.daachorse_build.specs.Tables.{child_of, edges_of, own_of, own_at, held_at, output_count, HoldTrie}
+use Rattle.daachorse_build.specs.Tables.{child_of, edges_of, own_of, own_at, own_outputs_at, output_count, HoldTrie}
 use Rattle.daachorse_build.specs.Orders.{IsIn, IsKnown, IsLinkAmong, IsLeftLinked}
 use Rattle.daachorse_build.specs.Holds.{in_units, Holds}
 use Rattle.daachorse_build.specs.Lists.{suffix_outputs, left_outputs, AreListed, PositionsFit, IsParent}
@@ -28,7 +28,7 @@ use Rattle.daachorse_build.proofs.OutputChains.{outputs_at-longer}
 
 module _ {L V A : Type 0} (cmp : L → L → Ordering) (total : IsTotalOrder cmp) (exact : (x y : L) → cmp x y ≡ Equal → x ≡ y) where
   -- what is no state's text has no outputs
-  no_outputs : (states : List (NfaBuilderState L V A)) (w : List L) (o : Option ℕ) → walk (child_of cmp states) 0 w ≡ o → is_some o ≡ false → held_at cmp states w ≡ []
+  no_outputs : (states : List (NfaBuilderState L V A)) (w : List L) (o : Option ℕ) → walk (child_of cmp states) 0 w ≡ o → is_some o ≡ false → own_outputs_at cmp states w ≡ []
   no_outputs states w None e h = outputs_missing cmp total exact states w e
   no_outputs states w (Some v) e h = cc
 
@@ -168,5 +168,5 @@ suffix_outputs-held cmp unit width kind states rs holds (c ∷ w) =
 pub left_outputs-never : {L V A : Type 0} (cmp : L → L → Ordering) (stops : ℕ → Bool) → ((s : ℕ) → stops s ≡ false) → (states : List (NfaBuilderState L V A)) (w : List L) → left_outputs cmp stops states w ≡ suffix_outputs cmp states w
 left_outputs-never cmp stops never states [] = refl
 left_outputs-never cmp stops never states (c ∷ w) =
-    ap (λ b. held_at cmp states (c ∷ w) ++ cond b [] (left_outputs cmp stops states w)) (meets_never (child_of cmp states) stops never 0 (c ∷ w))
-    ∙ ap (λ os. held_at cmp states (c ∷ w) ++ os) (left_outputs-never cmp stops never states w)
+    ap (λ b. own_outputs_at cmp states (c ∷ w) ++ cond b [] (left_outputs cmp stops states w)) (meets_never (child_of cmp states) stops never 0 (c ∷ w))
+    ∙ ap (λ os. own_outputs_at cmp states (c ∷ w) ++ os) (left_outputs-never cmp stops never states w)

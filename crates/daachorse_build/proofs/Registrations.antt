@@ -7,12 +7,12 @@ use Rattle.std.proofs.lemmas.Slice.Eq.{bytes_eq-Decides}
 use Rattle.std.specs.declared.cmp.Ordering.{Ordering}
 use Rattle.daachorse_model.specs.declared.MatchKind.{MatchKind}
 use Rattle.daachorse_model.specs.Units.{same_text, size}
-use Rattle.daachorse_model.specs.Dictionary.{Dictionary, dictionary, kept, values_of}
+use Rattle.daachorse_model.specs.Dictionary.{Dictionary, dictionary, kept_registrations, values_of}
 use Rattle.daachorse_model.specs.Prefixes.{IsKey, IsPrefix}
 use Rattle.daachorse_model.specs.Paths.{walk, Leads}
 use Rattle.daachorse_model.proofs.Lists.{no_front, no_back}
 use Rattle.daachorse_build.specs.declared.nfa_builder.NfaBuilderState.{NfaBuilderState}
-use Rattle.daachorse_build.specs.Tables.{child_in, child_of, own_of, own_at, held_at, output_count}
+use Rattle.daachorse_build.specs.Tables.{child_in, child_of, own_of, own_at, own_outputs_at, output_count}
 use Rattle.daachorse_build.specs.Growth.{IsPrefixOf, IsAdded, HasTrieOf}
 use Rattle.daachorse_build.specs.Holds.{in_units, Holds}
 use Rattle.daachorse_build.proofs.Labels.{labels_of_front, text_exact}
@@ -35,7 +35,7 @@ module _ {V : Type 0} where
       elim (same_text r.0 w) as (λ b. cond b (r.1 ∷ values_of (rs ++ (k, v) ∷ []) w) (values_of (rs ++ (k, v) ∷ []) w) ≡ cond b (r.1 ∷ values_of rs w) (values_of rs w) ++ cond (same_text k w) (v ∷ []) [])
       [ true ↦ ap (λ vs. r.1 ∷ vs) (values_of-push rs k v w) | false ↦ values_of-push rs k v w ]
 
-module _ {L V : Type 0} (unit : L → ℕ) (exact : (a b : L) → unit a ≡ unit b → a ≡ b) (kind : MatchKind) (rs : List (List L × V)) (p : List L) (v : V) (adds : kept kind (in_units unit (rs ++ (p, v) ∷ [])) ≡ kept kind (in_units unit rs) ++ (map unit p, v) ∷ []) where
+module _ {L V : Type 0} (unit : L → ℕ) (exact : (a b : L) → unit a ≡ unit b → a ≡ b) (kind : MatchKind) (rs : List (List L × V)) (p : List L) (v : V) (adds : kept_registrations kind (in_units unit (rs ++ (p, v) ∷ [])) ≡ kept_registrations kind (in_units unit rs) ++ (map unit p, v) ∷ []) where
   abbrev pub before : Dictionary V
   before = dictionary kind (in_units unit rs)
 
@@ -44,7 +44,7 @@ module _ {L V : Type 0} (unit : L → ℕ) (exact : (a b : L) → unit a ≡ uni
 
   -- the values after it
   after_is : (k : List ℕ) → after k ≡ before k ++ cond (same_text (map unit p) k) (v ∷ []) []
-  after_is k = ap (λ ks. values_of ks k) adds ∙ values_of-push (kept kind (in_units unit rs)) (map unit p) v k
+  after_is k = ap (λ ks. values_of ks k) adds ∙ values_of-push (kept_registrations kind (in_units unit rs)) (map unit p) v k
 
   -- a prefix of a key stays one
   pub prefix_stays : (w : List ℕ) → IsPrefix before w → IsPrefix after w
@@ -87,10 +87,10 @@ module _ {L V : Type 0} (unit : L → ℕ) (exact : (a b : L) → unit a ≡ uni
           | inr front ↦ added.begins w front
         ]
 
-    outputs : (w : List L) (b : Bool) → same_text (map unit p) (map unit w) ≡ b → held_at cmp new w ≡ map (λ x. (x, size width (map unit w))) (before (map unit w) ++ cond b (v ∷ []) [])
+    outputs : (w : List L) (b : Bool) → same_text (map unit p) (map unit w) ≡ b → own_outputs_at cmp new w ≡ map (λ x. (x, size width (map unit w))) (before (map unit w) ++ cond b (v ∷ []) [])
     outputs w true e =
         let same : p ≡ w = text_exact unit exact p w (text_same (map unit p) (map unit w) e) in
-        let P : List L → Type 0 = λ x. held_at cmp new x ≡ map (λ y. (y, size width (map unit x))) (before (map unit x) ++ v ∷ []) in
+        let P : List L → Type 0 = λ x. own_outputs_at cmp new x ≡ map (λ y. (y, size width (map unit x))) (before (map unit x) ++ v ∷ []) in
         subst P same (added.here ∙ ap (λ os. os ++ (v, size width (map unit p)) ∷ []) (holds.outputs p) ∙ sym (map-append (λ y. (y, size width (map unit p))) (before (map unit p)) (v ∷ [])))
     outputs w false e =
         let ne : w ≢ p = λ k. false≢true (sym e ∙ ap (λ x. same_text (map unit p) (map unit x)) k ∙ text_refl (map unit p)) in
@@ -108,18 +108,18 @@ module _ {L V : Type 0} (unit : L → ℕ) (exact : (a b : L) → unit a ≡ uni
           ];
       outputs = λ w. outputs w (same_text (map unit p) (map unit w)) refl ∙ ap (map (λ x. (x, size width (map unit w)))) (sym (after_is (map unit w)));
       dead = added.dead ∙ holds.dead;
-      count = omega (arith, added.count, holds.count, ap length adds, length_push (kept kind (in_units unit rs)) (map unit p, v));
+      count = omega (arith, added.count, holds.count, ap length adds, length_push (kept_registrations kind (in_units unit rs)) (map unit p, v));
     }
 
 -- the twin of a trie holds what it does
 pub holds_twin : {L V A : Type 0} (cmp : L → L → Ordering) (unit : L → ℕ) (width : ℕ → ℕ) (kind : MatchKind) (old new : List (NfaBuilderState L V A)) (rs : List (List L × V)) → HasTrieOf old new → Holds cmp unit width kind old rs → Holds cmp unit width kind new rs
-holds_twin {L} cmp unit width kind old new rs kept holds = record {
-  trie = rw kept.edges holds.trie;
-  begins = λ w h. let s = holds.begins w h in (s.0, subst (leads w s.0) (sym kept.edges) s.1);
-  only = λ w s h. holds.only w s (subst (leads w s) kept.edges h);
-  outputs = λ w. ap (λ es. unwrap_or (option_map (own_at (own_of new)) (walk (child_in cmp es) 0 w)) []) kept.edges ∙ ap (λ os. unwrap_or (option_map (own_at os) (walk (child_of cmp old) 0 w)) []) kept.outputs ∙ holds.outputs w;
-  dead = ap (λ os. own_at os 1) kept.outputs ∙ holds.dead;
-  count = ap output_count kept.outputs ∙ holds.count;
+holds_twin {L} cmp unit width kind old new rs kept_registrations holds = record {
+  trie = rw kept_registrations.edges holds.trie;
+  begins = λ w h. let s = holds.begins w h in (s.0, subst (leads w s.0) (sym kept_registrations.edges) s.1);
+  only = λ w s h. holds.only w s (subst (leads w s) kept_registrations.edges h);
+  outputs = λ w. ap (λ es. unwrap_or (option_map (own_at (own_of new)) (walk (child_in cmp es) 0 w)) []) kept_registrations.edges ∙ ap (λ os. unwrap_or (option_map (own_at os) (walk (child_of cmp old) 0 w)) []) kept_registrations.outputs ∙ holds.outputs w;
+  dead = ap (λ os. own_at os 1) kept_registrations.outputs ∙ holds.dead;
+  count = ap output_count kept_registrations.outputs ∙ holds.count;
 }
   where
     leads : List L → ℕ → List (List (L × ℕ)) → Type 0

@@ -9,7 +9,7 @@ use Rattle.std.specs.declared.cmp.Ordering.{Ordering}
 use Rattle.std.specs.Cmp.{IsTotalOrder}
 use Rattle.daachorse_build.specs.Tables.{IsTable}
 use Rattle.daachorse_build.specs.Orders.{IsIn, StandOnce, children}
-use Rattle.daachorse_build.specs.Groups.{IsWalk, IsWalking}
+use Rattle.daachorse_build.specs.Groups.{VisitsEachState, IsStackWalk}
 use Rattle.daachorse_build.proofs.Queue.{in_left, in_right, in_cases, in_push, in_same, in_equal, in_at, place_of, once_push, length-once, children_once, child_of_listed, listed_of_child, bounds_of_listed}
 
 -- ---- lists of numbers that each stand once
@@ -66,7 +66,7 @@ module _ {L : Type 0} (cmp : L → L → Ordering) (total : IsTotalOrder cmp) (e
       let f = child_of_listed cmp total edges table u t k in
       (table.trie.one_parent s e.0 u f.0 t e.1 f.1).0
 
-  pub walk_start : IsWalking edges [] (0 ∷ [])
+  pub walk_start : IsStackWalk edges [] (0 ∷ [])
   walk_start = record {
     once = once_none;
     once_stack = once_push [] 0 once_none (λ h. h);
@@ -83,7 +83,7 @@ module _ {L : Type 0} (cmp : L → L → Ordering) (total : IsTotalOrder cmp) (e
     ];
   }
 
-  module _ (order rest : List ℕ) (s : ℕ) (walking : IsWalking edges order (rest ++ s ∷ [])) where
+  module _ (order rest : List ℕ) (s : ℕ) (walking : IsStackWalk edges order (rest ++ s ∷ [])) where
     on_stack : IsIn (rest ++ s ∷ []) s
     on_stack = in_right rest (s ∷ []) s (inl refl)
 
@@ -131,7 +131,7 @@ module _ {L : Type 0} (cmp : L → L → Ordering) (total : IsTotalOrder cmp) (e
         ]
 
     -- a state comes off the stack, and its children are put on
-    pub walk_step : IsWalking edges (order ++ s ∷ []) (rest ++ children edges s)
+    pub walk_step : IsStackWalk edges (order ++ s ∷ []) (rest ++ children edges s)
     walk_step = record {
       once = once_push order s walking.once top_new;
       once_stack = once_append rest (children edges s) (once_front rest s walking.once_stack) (children_once cmp total edges table s)
@@ -174,7 +174,7 @@ module _ {L : Type 0} (cmp : L → L → Ordering) (total : IsTotalOrder cmp) (e
         omega (arith, sum_by-append count rest (children edges s), sum_by_push count rest s, whole, less)
 
   -- where the stack is empty, each state has come off
-  module _ (order : List ℕ) (walking : IsWalking edges order []) where
+  module _ (order : List ℕ) (walking : IsStackWalk edges order []) where
     off : (t : ℕ) → IsIn order t ⊎ IsIn [] t → IsIn order t
     off t (inl h) = h
     off t (inr none) = absurd none
@@ -188,7 +188,7 @@ module _ {L : Type 0} (cmp : L → L → Ordering) (total : IsTotalOrder cmp) (e
         let b = table.trie.bounds p.0 p.1 (suc (suc t)) p.2 in
         off (suc (suc t)) (walking.covers p.0 (suc (suc t)) (all_off k p.0 (omega (arith, b.0, h)) (omega (arith, b.0, l)) b.1) (listed_of_child cmp total edges table p.0 p.1 (suc (suc t)) p.2))
 
-    pub walk_end : IsWalk edges order
+    pub walk_end : VisitsEachState edges order
     walk_end = record {
       states = λ t h. walking.states t (inl h);
       all = λ t l ne. all_off t t (omega arith) l ne;
@@ -196,7 +196,7 @@ module _ {L : Type 0} (cmp : L → L → Ordering) (total : IsTotalOrder cmp) (e
     }
 
   -- the dead state is none of them
-  pub length-walk : (order : List ℕ) → IsWalk edges order → length order < length edges
+  pub length-walk : (order : List ℕ) → VisitsEachState edges order → length order < length edges
   length-walk order walk =
       let len = length_push order 1 in
       let push = once_push order 1 walk.once (λ h. (walk.states 1 h).1 refl) in

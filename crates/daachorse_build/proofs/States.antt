@@ -12,7 +12,7 @@ use Rattle.daachorse_build.specs.declared.nfa_builder.NfaBuilderState.{NfaBuilde
 use Rattle.daachorse_model.specs.Paths.{walk}
 use Rattle.daachorse_model.proofs.Paths.{walk-push, walk-append}
 use Rattle.daachorse_build.specs.EdgeMaps.{IsOrdered, Updates}
-use Rattle.daachorse_build.specs.Tables.{child_in, child_of, edges_of, fails_of, own_of, own_at, positions_of, held_at, output_count, HoldTrie}
+use Rattle.daachorse_build.specs.Tables.{child_in, child_of, edges_of, fails_of, own_of, own_at, positions_of, own_outputs_at, output_count, HoldTrie}
 use Rattle.daachorse_build.specs.Growth.{IsPrefixOf, AddsEdge, Extends, IsAdding, IsAdded, HasTrieOf}
 use Rattle.std.proofs.lemmas.List.Sums.{sum_by-set, sum_by-append}
 use Rattle.daachorse_build.proofs.Walks.{walk-same, walk-bounds}
@@ -117,17 +117,17 @@ module _ {L V A : Type 0} (cmp : L → L → Ordering) (total : IsTotalOrder cmp
 
   -- ---- the output at the end
   -- what a text has where its state is known
-  pub outputs_found : (states : List (NfaBuilderState L V A)) (w : List L) (v : ℕ) → walk (child_of cmp states) 0 w ≡ Some v → held_at cmp states w ≡ own_at (own_of states) v
+  pub outputs_found : (states : List (NfaBuilderState L V A)) (w : List L) (v : ℕ) → walk (child_of cmp states) 0 w ≡ Some v → own_outputs_at cmp states w ≡ own_at (own_of states) v
   outputs_found states w v h = ap (λ o. unwrap_or (option_map (own_at (own_of states)) o) []) h
 
-  pub outputs_missing : (states : List (NfaBuilderState L V A)) (w : List L) → walk (child_of cmp states) 0 w ≡ None → held_at cmp states w ≡ []
+  pub outputs_missing : (states : List (NfaBuilderState L V A)) (w : List L) → walk (child_of cmp states) 0 w ≡ None → own_outputs_at cmp states w ≡ []
   outputs_missing states w h = ap (λ o. unwrap_or (option_map (own_at (own_of states)) o) []) h
 
   -- the outputs of each text are the same before the last step
-  pub outputs_kept : (old mid : List (NfaBuilderState L V A)) (p : List L) (id : ℕ) → HoldTrie cmp old → IsAdding cmp old mid p id → (w : List L) → held_at cmp mid w ≡ held_at cmp old w
+  pub outputs_kept : (old mid : List (NfaBuilderState L V A)) (p : List L) (id : ℕ) → HoldTrie cmp old → IsAdding cmp old mid p id → (w : List L) → own_outputs_at cmp mid w ≡ own_outputs_at cmp old w
   outputs_kept old mid p id table adding w = at (walk (child_of cmp mid) 0 w) (walk (child_of cmp old) 0 w) refl refl
     where
-      at : (m o : Option ℕ) → walk (child_of cmp mid) 0 w ≡ m → walk (child_of cmp old) 0 w ≡ o → held_at cmp mid w ≡ held_at cmp old w
+      at : (m o : Option ℕ) → walk (child_of cmp mid) 0 w ≡ m → walk (child_of cmp old) 0 w ≡ o → own_outputs_at cmp mid w ≡ own_outputs_at cmp old w
       at None None e f = outputs_missing mid w e ∙ sym (outputs_missing old w f)
       at None (Some v) e f = absurd (none-some v (sym e ∙ adding.grows.keeps w v f))
       at (Some v) (Some u) e f =
@@ -149,7 +149,7 @@ module _ {L V A : Type 0} (cmp : L → L → Ordering) (total : IsTotalOrder cmp
       let bound = walk-bounds (child_of cmp mid) (length (edges_of mid)) adding.trie.trie p id adding.here in
       let count : length (edges_of mid) ≡ length (own_of mid) = length-map mid (λ s. s.edges) ∙ sym (length-map mid (λ s. items_of s.output)) in
       let low : id < length (own_of mid) = omega (arith, bound.0, count) in
-      let same : (w : List L) → held_at cmp new w ≡ unwrap_or (option_map (own_at (set (own_of mid) id (own_at (own_of mid) id ++ out ∷ []))) (walk (child_of cmp mid) 0 w)) [] =
+      let same : (w : List L) → own_outputs_at cmp new w ≡ unwrap_or (option_map (own_at (set (own_of mid) id (own_at (own_of mid) id ++ out ∷ []))) (walk (child_of cmp mid) 0 w)) [] =
       λ w. ap (λ es. unwrap_or (option_map (own_at (own_of new)) (walk (child_in cmp es) 0 w)) []) edges ∙ ap (λ os. unwrap_or (option_map (own_at os) (walk (child_of cmp mid) 0 w)) []) outputs in
       record {
         trie = rw edges adding.trie;
@@ -168,7 +168,7 @@ module _ {L V A : Type 0} (cmp : L → L → Ordering) (total : IsTotalOrder cmp
             omega (arith, set', ap output_count outputs, adding.count, length_push (own_at (own_of mid) id) out);
       }
     where
-      other : (w : List L) → w ≢ p → (m : Option ℕ) → walk (child_of cmp mid) 0 w ≡ m → unwrap_or (option_map (own_at (set (own_of mid) id (own_at (own_of mid) id ++ out ∷ []))) (walk (child_of cmp mid) 0 w)) [] ≡ held_at cmp mid w
+      other : (w : List L) → w ≢ p → (m : Option ℕ) → walk (child_of cmp mid) 0 w ≡ m → unwrap_or (option_map (own_at (set (own_of mid) id (own_at (own_of mid) id ++ out ∷ []))) (walk (child_of cmp mid) 0 w)) [] ≡ own_outputs_at cmp mid w
       other w apart None e =
           ap (λ o. unwrap_or (option_map (own_at (set (own_of mid) id (own_at (own_of mid) id ++ out ∷ []))) o) []) e ∙ sym (outputs_missing mid w e)
       other w apart (Some v) e =

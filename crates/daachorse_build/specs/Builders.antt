@@ -2,7 +2,7 @@
 use Rattle.std.specs.Prelude.{◌≡◌, ℕ, List, length}
 use Rattle.std.specs.declared.cmp.Ordering.{Ordering}
 use Rattle.daachorse_model.specs.declared.MatchKind.{MatchKind}
-use Rattle.daachorse_model.specs.Dictionary.{kept}
+use Rattle.daachorse_model.specs.Dictionary.{kept_registrations}
 use Rattle.daachorse_core.specs.declared.outputs.Output.{Output}
 use Rattle.daachorse_build.specs.declared.nfa_builder.NfaBuilderState.{NfaBuilderState}
 use Rattle.daachorse_build.specs.Holds.{Holds, in_units}
@@ -32,4 +32,4 @@ module _ {L V A : Type 0} where
   -- just these patterns were registered, in this order
   pub record Registered (cmp : L → L → Ordering) (unit : L → ℕ) (width : ℕ → ℕ) (b : Builder L V A) (rs : List (List L × V)) : Type 0 where
     pub holds : Holds cmp unit width (kind_of b) (states_of b) rs
-    pub count : count_of b ≡ length (kept (kind_of b) (in_units unit rs))
+    pub count : count_of b ≡ length (kept_registrations (kind_of b) (in_units unit rs))

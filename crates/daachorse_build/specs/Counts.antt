@@ -17,7 +17,7 @@ abbrev pub HaveGrown : List ℕ → List ℕ → Type 0
 HaveGrown old new = AllZip (λ m n. m ≤ n) old new
 
 -- more was counted
-pub record IsCounted {A : Type 0} (old new : Profile A) : Type 0 where
+pub record HasCountedMore {A : Type 0} (old new : Profile A) : Type 0 where
   pub visits : HaveGrown old.visits.items new.visits.items
   pub probes : HaveGrown old.probes.items new.probes.items
 

@@ -5,7 +5,7 @@ use Rattle.std.specs.List.{All, AllZip, AllAdjacentBelow}
 use Rattle.daachorse_model.specs.Paths.{Leads}
 use Rattle.daachorse_placement.specs.declared.build_helper.SiblingGroup.{SiblingGroup}
 use Rattle.daachorse_placement.specs.declared.build_helper.profile.Profile.{Profile}
-use Rattle.daachorse_placement.specs.Placement.{children_of, parent_of, AreGroups}
+use Rattle.daachorse_placement.specs.Placement.{children_of, group_parent, AreGroups}
 use Rattle.daachorse_build.specs.declared.nfa_builder.NfaBuilderState.{NfaBuilderState}
 use Rattle.daachorse_build.specs.Tables.{edges_of, child_in, child_of}
 use Rattle.daachorse_build.specs.Orders.{IsIn, StandOnce, children}
@@ -16,8 +16,8 @@ abbrev pub edges_at : {L : Type 0} → List (List (L × ℕ)) → ℕ → List (
 edges_at edges s = slice_index_or edges s []
 
 -- edges with the code of each label in its place
-abbrev pub coded : {L : Type 0} → (L → ℕ) → List (L × ℕ) → List (ℕ × ℕ)
-coded code es = map (λ e. (code e.0, e.1)) es
+abbrev pub with_codes : {L : Type 0} → (L → ℕ) → List (L × ℕ) → List (ℕ × ℕ)
+with_codes code es = map (λ e. (code e.0, e.1)) es
 
 -- what is given for the label of an edge is its code
 abbrev pub GivesCodes : {L : Type 0} → (L → L → Ordering) → List (List (L × ℕ)) → (L → ℕ → Type 0) → (L → ℕ) → Type 0
@@ -31,11 +31,11 @@ pub record AreCodes {L : Type 0} (cmp : L → L → Ordering) (edges : List (Lis
 
 -- the groups of a trie, one for each state with an edge
 pub record AreTrieGroups {L V A : Type 0} (cmp : L → L → Ordering) (code : L → ℕ) (states : List (NfaBuilderState L V A)) (gs : List (SiblingGroup A)) : Type 0 where
-  pub children : (k : ℕ) → k < length gs → children_of gs k ≡ coded code (edges_at (edges_of states) (parent_of gs k))
-  pub some : (k : ℕ) → k < length gs → 0 < length (edges_at (edges_of states) (parent_of gs k))
-  pub reached : (k : ℕ) → k < length gs → (w : List L) × Leads (child_of cmp states) w (parent_of gs k)
-  pub one_each : (k l : ℕ) → k < length gs → l < length gs → parent_of gs k ≡ parent_of gs l → k ≡ l
-  pub all : (s : ℕ) (c : L) (t : ℕ) → child_of cmp states s c ≡ Some t → (k : ℕ) × (k < length gs) × (parent_of gs k ≡ s)
+  pub children : (k : ℕ) → k < length gs → children_of gs k ≡ with_codes code (edges_at (edges_of states) (group_parent gs k))
+  pub some : (k : ℕ) → k < length gs → 0 < length (edges_at (edges_of states) (group_parent gs k))
+  pub reached : (k : ℕ) → k < length gs → (w : List L) × Leads (child_of cmp states) w (group_parent gs k)
+  pub one_each : (k l : ℕ) → k < length gs → l < length gs → group_parent gs k ≡ group_parent gs l → k ≡ l
+  pub all : (s : ℕ) (c : L) (t : ℕ) → child_of cmp states s c ≡ Some t → (k : ℕ) × (k < length gs) × (group_parent gs k ≡ s)
 
 -- no count, or one of each kind for each of n states
 abbrev pub IsProfileOf : {A : Type 0} → ℕ → Profile A → Type 0
@@ -70,13 +70,13 @@ abbrev pub has_edges : {L : Type 0} → List (List (L × ℕ)) → ℕ → Bool
 has_edges edges s = is_some_edge (edges_at edges s)
 
 -- each state that a text leads to stands once
-pub record IsWalk {L : Type 0} (edges : List (List (L × ℕ))) (order : List ℕ) : Type 0 where
+pub record VisitsEachState {L : Type 0} (edges : List (List (L × ℕ))) (order : List ℕ) : Type 0 where
   pub states : (t : ℕ) → IsIn order t → (t < length edges) × (t ≢ 1)
   pub all : (t : ℕ) → t < length edges → t ≢ 1 → IsIn order t
   pub once : StandOnce order
 
 -- the states of the order have been taken off the stack, and their children put on it
-pub record IsWalking {L : Type 0} (edges : List (List (L × ℕ))) (order stack : List ℕ) : Type 0 where
+pub record IsStackWalk {L : Type 0} (edges : List (List (L × ℕ))) (order stack : List ℕ) : Type 0 where
   pub once : StandOnce order
   pub once_stack : StandOnce stack
   pub apart : (t : ℕ) → IsIn order t → IsIn stack t → ⊥

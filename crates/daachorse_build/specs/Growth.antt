@@ -3,7 +3,7 @@ use Rattle.std.specs.Prelude.{◌≡◌, ◌≢◌, ℕ, ◌+◌, ◌<◌, ◌�
 use Rattle.std.specs.declared.cmp.Ordering.{Ordering}
 use Rattle.daachorse_model.specs.Paths.{Leads}
 use Rattle.daachorse_build.specs.declared.nfa_builder.NfaBuilderState.{NfaBuilderState}
-use Rattle.daachorse_build.specs.Tables.{child_of, edges_of, own_of, own_at, held_at, output_count, HoldTrie}
+use Rattle.daachorse_build.specs.Tables.{child_of, edges_of, own_of, own_at, own_outputs_at, output_count, HoldTrie}
 
 -- w is a beginning of p
 abbrev pub IsPrefixOf : {A : Type 0} → List A → List A → Type 0
@@ -47,8 +47,8 @@ pub record IsAdded {L V A : Type 0} (cmp : L → L → Ordering) (old new : List
   pub begins : (w : List L) → IsPrefixOf w p → (v : ℕ) × Leads (child_of cmp new) w v
   pub only : (w : List L) (v : ℕ) → Leads (child_of cmp new) w v → Leads (child_of cmp old) w v ⊎ IsPrefixOf w p
   -- the pattern has one output more, and each other text keeps its outputs
-  pub here : held_at cmp new p ≡ held_at cmp old p ++ out ∷ []
-  pub others : (w : List L) → w ≢ p → held_at cmp new w ≡ held_at cmp old w
+  pub here : own_outputs_at cmp new p ≡ own_outputs_at cmp old p ++ out ∷ []
+  pub others : (w : List L) → w ≢ p → own_outputs_at cmp new w ≡ own_outputs_at cmp old w
   -- and so does the dead state
   pub dead : own_at (own_of new) 1 ≡ own_at (own_of old) 1
   pub count : output_count (own_of new) ≡ output_count (own_of old) + 1

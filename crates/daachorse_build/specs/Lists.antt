@@ -6,20 +6,20 @@ use Rattle.daachorse_core.specs.Outputs.{outputs_at}
 use Rattle.daachorse_core.specs.Chains.{Passes}
 use Rattle.daachorse_model.specs.Paths.{Leads}
 use Rattle.daachorse_build.specs.declared.nfa_builder.NfaBuilderState.{NfaBuilderState}
-use Rattle.daachorse_build.specs.Tables.{child_of, fails_of, held_at, own_at, own_of, output_count, positions_of, stops_of}
+use Rattle.daachorse_build.specs.Tables.{child_of, fails_of, own_outputs_at, own_at, own_of, output_count, positions_of, stops_of}
 use Rattle.daachorse_build.specs.Left.{meets}
 use Rattle.daachorse_build.specs.Orders.{HoldLeftLinks, IsKnown}
 
 -- the own outputs of a text and of each of its suffixes, the longest first
 abbrev pub suffix_outputs : {L V A : Type 0} → (L → L → Ordering) → List (NfaBuilderState L V A) → List L → List (V × ℕ)
-suffix_outputs cmp states [] = held_at cmp states []
-suffix_outputs cmp states (c ∷ cs) = held_at cmp states (c ∷ cs) ++ suffix_outputs cmp states cs
+suffix_outputs cmp states [] = own_outputs_at cmp states []
+suffix_outputs cmp states (c ∷ cs) = own_outputs_at cmp states (c ∷ cs) ++ suffix_outputs cmp states cs
 
 -- the same up to the first of them, the longest first, whose walk comes to a state that stops; that one counts
 abbrev pub left_outputs : {L V A : Type 0} → (L → L → Ordering) → (ℕ → Bool) → List (NfaBuilderState L V A) → List L → List (V × ℕ)
-left_outputs cmp stops states [] = held_at cmp states []
+left_outputs cmp stops states [] = own_outputs_at cmp states []
 left_outputs cmp stops states (c ∷ cs) =
-    held_at cmp states (c ∷ cs) ++ cond (meets (child_of cmp states) stops 0 (c ∷ cs)) [] (left_outputs cmp stops states cs)
+    own_outputs_at cmp states (c ∷ cs) ++ cond (meets (child_of cmp states) stops 0 (c ∷ cs)) [] (left_outputs cmp stops states cs)
 
 -- the list of each known state has the outputs of its text and of the suffixes, as far as links go
 abbrev pub AreListed : {L V A : Type 0} → (L → L → Ordering) → (ℕ → Bool) → List (NfaBuilderState L V A) → List ℕ → List (Output V) → List ℕ → Type 0

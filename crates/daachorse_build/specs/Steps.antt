@@ -3,7 +3,7 @@ use Rattle.std.specs.Prelude.{◌≡◌, ◌≢◌, ℕ, ◌<◌, ◌≤◌, ◌
 use Rattle.std.specs.declared.cmp.Ordering.{Ordering}
 use Rattle.daachorse_core.specs.Outputs.{outputs_at}
 use Rattle.daachorse_model.specs.declared.MatchKind.{MatchKind}
-use Rattle.daachorse_model.specs.Dictionary.{dictionary, kept}
+use Rattle.daachorse_model.specs.Dictionary.{dictionary, kept_registrations}
 use Rattle.daachorse_model.specs.Outputs.{outputs_of_ends, IsChain}
 use Rattle.daachorse_model.specs.Paths.{Leads}
 use Rattle.daachorse_model.specs.Prefixes.{IsDead}
@@ -72,4 +72,4 @@ module _ {L V A : Type 0} (cmp : L → L → Ordering) (unit : L → ℕ) (width
 
   -- more than n of the patterns that were registered are kept
   abbrev pub KeepsMoreThan : ℕ → Builder L V A → Type 0
-  KeepsMoreThan n b = (rs : List (List L × V)) → Registered cmp unit width b rs → n < length (kept (kind_of b) (in_units unit rs))
+  KeepsMoreThan n b = (rs : List (List L × V)) → Registered cmp unit width b rs → n < length (kept_registrations (kind_of b) (in_units unit rs))

@@ -13,8 +13,8 @@ abbrev pub edge_map : {L V A : Type 0} → NfaBuilderState L V A → List (L × 
 edge_map s = s.edges
 
 -- its own outputs: the values of its text, each with the length of the pattern in bytes
-abbrev pub held_by : {L V A : Type 0} → NfaBuilderState L V A → List (V × ℕ)
-held_by s = items_of s.output
+abbrev pub own_outputs_of : {L V A : Type 0} → NfaBuilderState L V A → List (V × ℕ)
+own_outputs_of s = items_of s.output
 
 -- the failure link
 abbrev pub link_of : {L V A : Type 0} → NfaBuilderState L V A → ℕ
@@ -62,8 +62,8 @@ abbrev pub child_of : {L V A : Type 0} → (L → L → Ordering) → List (NfaB
 child_of cmp states s c = child_in cmp (edges_of states) s c
 
 -- the own outputs of a text; none where it leads nowhere
-abbrev pub held_at : {L V A : Type 0} → (L → L → Ordering) → List (NfaBuilderState L V A) → List L → List (V × ℕ)
-held_at cmp states w = unwrap_or (option_map (own_at (own_of states)) (walk (child_of cmp states) 0 w)) []
+abbrev pub own_outputs_at : {L V A : Type 0} → (L → L → Ordering) → List (NfaBuilderState L V A) → List L → List (V × ℕ)
+own_outputs_at cmp states w = unwrap_or (option_map (own_at (own_of states)) (walk (child_of cmp states) 0 w)) []
 
 -- the edges of each state are in order, and together they make a trie
 pub record IsTable {L : Type 0} (cmp : L → L → Ordering) (edges : List (List (L × ℕ))) : Type 0 where

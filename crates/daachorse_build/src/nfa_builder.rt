@@ -13,8 +13,8 @@ ghost use Rattle.std.specs.Prelude.{◌≡◌, true, false, Some, ◌+◌, ◌<�
 ghost use Rattle.daachorse_model.specs.Units.{size};
 ghost use Rattle.daachorse_core.specs.Outputs.{ParentsFall, number};
 ghost use Rattle.daachorse_core.specs.declared.errors.Limit.TheVariants.{Outputs, StateId};
-ghost use Rattle.daachorse_build.specs.Tables.{fails_of, child_of, stops_of, HoldTrie, edge_map, held_by, link_of, position_of};
-ghost use Rattle.daachorse_build.specs.Counts.{HasCounts, HasSameCounts, IsCounted, LinksLeadBack};
+ghost use Rattle.daachorse_build.specs.Tables.{fails_of, child_of, stops_of, HoldTrie, edge_map, own_outputs_of, link_of, position_of};
+ghost use Rattle.daachorse_build.specs.Counts.{HasCounts, HasSameCounts, HasCountedMore, LinksLeadBack};
 ghost use Rattle.daachorse_build.specs.Groups.{AreSiblingGroups, IsProfileOf};
 ghost use Rattle.daachorse_build.specs.Builders.{states_of, outputs_of, count_of, kind_of, Registered};
 ghost use Rattle.daachorse_build.specs.Steps.{KeepsPatterns, AddsPattern, IsOneTooMany, HasLinksOf, HoldEitherLinks, HasOutputsOf, KeepsMoreThan};
@@ -84,7 +84,7 @@ impl<L: EdgeLabel, V: Copy, A: Allocator + Copy> NfaBuilderState<L, V, A> {
     pub fn new(alloc: A) -> Self
         ensures edges { edge_map result ≡ [] }
         ensures fail { link_of result ≡ 0 }
-        ensures outputs { held_by result ≡ [] }
+        ensures outputs { own_outputs_of result ≡ [] }
         ensures position { position_of result ≡ 0 }
     {
         Self {
@@ -103,7 +103,7 @@ impl<L: EdgeLabel, V: Copy, A: Allocator + Copy> NfaBuilderState<L, V, A> {
     pub fn clone(&self) -> Result<Self>
         ensures edges { IfOk result (λ state. edge_map state ≡ edge_map self.now) }
         ensures fail { IfOk result (λ state. link_of state ≡ link_of self.now) }
-        ensures outputs { IfOk result (λ state. held_by state ≡ held_by self.now) }
+        ensures outputs { IfOk result (λ state. own_outputs_of state ≡ own_outputs_of self.now) }
         ensures position { IfOk result (λ state. position_of state ≡ position_of self.now) }
         ensures refused { IfErr result IsOutOfMemory }
     {
@@ -328,7 +328,7 @@ impl<L: EdgeLabel, V: Copy, A: Allocator + Copy> NfaBuilder<L, V, A> {
         requires links { LinksLeadBack L.cmp (states_of self.now) }
         requires counts { HasCounts (length (states_of self.now)) profile.old }
         requires callable { H.IsAlwaysCallable has_label }
-        ensures counted { IsCounted profile.old profile.new }
+        ensures counted { HasCountedMore profile.old profile.new }
         ensures empty { haystack.now ≡ [] → HasSameCounts profile.old profile.new }
     {
         profile::count_document(

@@ -11,7 +11,7 @@ use Rattle.daachorse_model.specs.Kinds.{is_leftmost}
 use Rattle.daachorse_model.specs.Units.{byte_width}
 use Rattle.daachorse_machine.proofs.ChildLaws.{child_at-from, child_at-inside}
 use Rattle.daachorse_machine.proofs.MachineLaws.{foreign}
-use Rattle.daachorse_rows.specs.Rows.{AreLabels, AreListed}
+use Rattle.daachorse_rows.specs.Rows.{AreLabels, IsListOf}
 use Rattle.daachorse_bytewise_states.specs.declared.state.State.{State}
 use Rattle.daachorse_bytewise_states.specs.Elements.{base_in, vacant, vacant_left}
 use Rattle.daachorse_bytewise_states.specs.EdgeBytes.{IsMarked, MarksBases, MarksEdges}
@@ -59,7 +59,7 @@ module _ {V : Type 0} (p : Parts V) where
     }
 
   -- a byte that is not listed leads nowhere, so no pattern has it
-  pub listed_labels : (bases marks : List Bool) (bytes : List ℕ) → IsValid p → MarksBases p (count p) bases → MarksEdges p bases (count p) marks → AreListed (IsMarked marks) 256 bytes
+  pub listed_labels : (bases marks : List Bool) (bytes : List ℕ) → IsValid p → MarksBases p (count p) bases → MarksEdges p bases (count p) marks → IsListOf (IsMarked marks) 256 bytes
       → AreLabels (content p) (λ label unit. label ≡ unit) bytes
   listed_labels bases marks bytes valid based edged listed = record {
     all = λ label unit low same. by label unit low same (slice_index_or marks label false) refl;

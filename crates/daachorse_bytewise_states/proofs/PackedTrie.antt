@@ -8,15 +8,15 @@ use Rattle.std.specs.Int.Bits.{xor_zero_r}
 use Rattle.daachorse_core.proofs.Xor.{xor_back, xor_same_left}
 use Rattle.daachorse_placement.specs.declared.build_helper.SiblingGroup.{SiblingGroup}
 use Rattle.daachorse_placement.specs.Layout.{AreAllSet, IsLeastUnused, Layout}
-use Rattle.daachorse_placement.specs.Placement.{children_of, parent_of, child_of}
+use Rattle.daachorse_placement.specs.Placement.{children_of, group_parent, child_id}
 use Rattle.daachorse_build.specs.Tables.{child_in as edge_to}
 use Rattle.daachorse_packing.specs.Settled.{AreSettled, HoldStates as HoldPlaced, IsVacantAt}
 use Rattle.daachorse_packing.proofs.Looks.{look, look_none, look_some}
 use Rattle.daachorse_packing.proofs.Places.{base_from, base_inside, edge-at, place_from, state_from, xor_below}
 use Rattle.daachorse_bytewise_states.specs.declared.state.State.{State}
 use Rattle.daachorse_bytewise_states.specs.Elements.{base_in, check_in, fail_in, output_in}
-use Rattle.daachorse_bytewise_states.specs.Parts.{child_in}
-use Rattle.daachorse_bytewise_states.specs.Packing.{element, IsVacant, ArePacked}
+use Rattle.daachorse_bytewise_states.specs.Parts.{child_by_check}
+use Rattle.daachorse_bytewise_states.specs.Packing.{element_at, IsVacant, ArePacked}
 
 -- the least unused base of a block, or none is unused
 unused_or : (marks : List Bool) (start n : ℕ) → ((b : ℕ) × (start ≤ b) × (b < start + n) × (get_or marks b false ≡ false) × ((k : ℕ) → start ≤ k → k < b → get_or marks k false ≡ true)) ⊎ ((k : ℕ) → k < n → get_or marks (start + k) false ≡ true)
@@ -64,9 +64,9 @@ module _ {A : Type 0} {gs : List (SiblingGroup A)} {l : Layout} {edges : List (L
       let owner = q.placed.owned j high used in
       let k = owner.0 in
       let i = owner.1 in
-      let at : get_or l.idx (child_of (children_of gs k) i) 0 ≡ j = (q.placed.groups k owner.2).at i owner.3 ∙ owner.4 in
-      let above : 1 < child_of (children_of gs k) i = q.of_trie.groups.above k i owner.2 owner.3 in
-      none (child_of (children_of gs k) i) (q.of_trie.groups.ids k owner.2 i owner.3) (omega arith) at
+      let at : get_or l.idx (child_id (children_of gs k) i) 0 ≡ j = (q.placed.groups k owner.2).at i owner.3 ∙ owner.4 in
+      let above : 1 < child_id (children_of gs k) i = q.of_trie.groups.above k i owner.2 owner.3 in
+      none (child_id (children_of gs k) i) (q.of_trie.groups.ids k owner.2 i owner.3) (omega arith) at
 
 -- ---- and whose states were written
 module _ {A : Type 0} {gs : List (SiblingGroup A)} {l : Layout} {edges : List (List (ℕ × ℕ))} {fails positions : List ℕ} {es : List (State ℕ)} (p : ArePacked gs l edges fails positions es) where
@@ -90,7 +90,7 @@ module _ {A : Type 0} {gs : List (SiblingGroup A)} {l : Layout} {edges : List (L
   packed_xor b c unit below = within (bit_xor b c) (xor_below p.settled b c unit (subst (λ (x : ℕ). b < x) p.held.size below))
 
   -- an element of no state has not the check of the byte that leads there
-  vacant_apart : (s c : ℕ) → s < length edges → base_by s ≢ 0 → base_by s < length es → c < 256 → bit_xor (base_by s) c < length es → ((t : ℕ) → t < length edges → t ≢ 1 → index_of t ≢ bit_xor (base_by s) c) → check_in (element es (bit_xor (base_by s) c)) ≢ c
+  vacant_apart : (s c : ℕ) → s < length edges → base_by s ≢ 0 → base_by s < length es → c < 256 → bit_xor (base_by s) c < length es → ((t : ℕ) → t < length edges → t ≢ 1 → index_of t ≢ bit_xor (base_by s) c) → check_in (element_at es (bit_xor (base_by s) c)) ≢ c
   vacant_apart s c less some below unit inside none check =
       elim (least_or_full l.marks (bit_xor (base_by s) c / 256)) [
         | inl u ↦ (
@@ -101,7 +101,7 @@ module _ {A : Type 0} {gs : List (SiblingGroup A)} {l : Layout} {edges : List (L
         | inr all ↦ full all (cases_lt 1 (bit_xor (base_by s) c))
       ]
     where
-      is : IsVacant l (bit_xor (base_by s) c) (element es (bit_xor (base_by s) c))
+      is : IsVacant l (bit_xor (base_by s) c) (element_at es (bit_xor (base_by s) c))
       is = p.held.others (bit_xor (base_by s) c) inside none
 
       same_from : (u : ℕ) → bit_xor (bit_xor (base_by s) c) u ≡ c → base_by s ≡ u
@@ -120,11 +120,11 @@ module _ {A : Type 0} {gs : List (SiblingGroup A)} {l : Layout} {edges : List (L
           ap (λ x. get_or l.marks x false) (sym zero_block) ∙ all 0 (omega arith))
 
   -- nor has a state's element, where that byte leads to no child
-  state_apart : (s c t : ℕ) → s < length edges → base_by s ≢ 0 → child_by s c ≡ None → t < length edges → t ≢ 1 → index_of t ≡ bit_xor (base_by s) c → check_in (element es (index_of t)) ≢ c
+  state_apart : (s c t : ℕ) → s < length edges → base_by s ≢ 0 → child_by s c ≡ None → t < length edges → t ≢ 1 → index_of t ≡ bit_xor (base_by s) c → check_in (element_at es (index_of t)) ≢ c
   state_apart s c t less some none inside other at check = elim (state_from p.settled t inside other) [
     | inl root ↦ (
         let zero_at : bit_xor (base_by s) c ≡ 0 = sym at ∙ (ap (λ x. index_of x) root ∙ p.settled.placed.root) in
-        let unit : c ≡ 0 = sym check ∙ (ap (λ x. check_in (element es (index_of x))) root ∙ p.held.root) in
+        let unit : c ≡ 0 = sym check ∙ (ap (λ x. check_in (element_at es (index_of x))) root ∙ p.held.root) in
         some (sym (xor_zero_r (base_by s)) ∙ (ap (λ x. bit_xor (base_by s) x) (sym unit) ∙ zero_at)))
     | inr edge ↦ by_edge edge.0 edge.1 edge.2
   ]
@@ -137,26 +137,26 @@ module _ {A : Type 0} {gs : List (SiblingGroup A)} {l : Layout} {edges : List (L
           let same : bit_xor (base_by r) c ≡ bit_xor (base_by s) c = ap (λ x. bit_xor (base_by r) x) (sym label) ∙ (sym edge.at ∙ at) in
           let bases : base_by r ≡ base_by s = xor_same_left c (base_by r) (base_by s) (xor_comm c (base_by r) ∙ (same ∙ xor_comm (base_by s) c)) in
           let groups : edge.group ≡ from.0 = p.settled.placed.bases_apart refl edge.group from.0 edge.inside from.1 (ap (λ x. base_by x) edge.parent ∙ (bases ∙ ap (λ x. base_by x) (sym from.2))) in
-          let parents : r ≡ s = sym edge.parent ∙ (ap (λ k. parent_of gs k) groups ∙ from.2) in
+          let parents : r ≡ s = sym edge.parent ∙ (ap (λ k. group_parent gs k) groups ∙ from.2) in
           let bad : None ≡ Some t = sym none ∙ (ap (λ x. child_by s x) (sym label) ∙ (ap (λ x. child_by x d) (sym parents) ∙ e)) in
           cc
 
   -- a byte that is no edge's finds another check
-  not_child : (s c : ℕ) → s < length edges → base_by s ≢ 0 → base_by s < length es → child_by s c ≡ None → bit_xor (base_by s) c < length es → check_in (element es (bit_xor (base_by s) c)) ≢ c
+  not_child : (s c : ℕ) → s < length edges → base_by s ≢ 0 → base_by s < length es → child_by s c ≡ None → bit_xor (base_by s) c < length es → check_in (element_at es (bit_xor (base_by s) c)) ≢ c
   not_child s c less some below none inside check =
       let unit : c < 256 = omega (arith, check) in
       elim (place_from p.settled (bit_xor (base_by s) c)) [
-        | inl t ↦ state_apart s c t.0 less some none t.1 t.2 t.3 (ap (λ x. check_in (element es x)) t.3 ∙ check)
+        | inl t ↦ state_apart s c t.0 less some none t.1 t.2 t.3 (ap (λ x. check_in (element_at es x)) t.3 ∙ check)
         | inr vacant ↦ vacant_apart s c less some below unit inside vacant check
       ]
 
   -- ---- the elements as a copy of the trie
   abbrev check_of : ℕ → ℕ
-  check_of i = check_in (element es i)
+  check_of i = check_in (element_at es i)
 
   -- what a byte leads to from a state's element
-  pub element-child : (s c : ℕ) → s < length edges → s ≢ 1 → child_in (length es) (λ i. base_in (element es i)) (λ i. check_in (element es i)) (index_of s) c ≡ option_map (λ t. index_of t) (child_by s c)
-  element-child s c less alive =
+  pub element_at-child : (s c : ℕ) → s < length edges → s ≢ 1 → child_by_check (length es) (λ i. base_in (element_at es i)) (λ i. check_in (element_at es i)) (index_of s) c ≡ option_map (λ t. index_of t) (child_by s c)
+  element_at-child s c less alive =
       ap (λ b. look (length es) b (bit_xor b c) (check_of (bit_xor b c)) c) (p.held.states s less alive).base
       ∙ go (child_by s c) refl
     where
@@ -172,8 +172,8 @@ module _ {A : Type 0} {gs : List (SiblingGroup A)} {l : Layout} {edges : List (L
           look_some (length es) (base_by s) (bit_xor (base_by s) c) (check_of (bit_xor (base_by s) c)) c edge.nonzero inside check ∙ ap (λ x. Some x) (sym edge.at)
 
   -- the elements hold the states at their places
-  pub element-states : HoldPlaced l (length edges) fails positions 0 (λ i. base_in (element es i)) (λ i. fail_in (element es i)) (λ i. output_in (element es i))
-  element-states = record {
+  pub element_at-states : HoldPlaced l (length edges) fails positions 0 (λ i. base_in (element_at es i)) (λ i. fail_in (element_at es i)) (λ i. output_in (element_at es i))
+  element_at-states = record {
     base = λ t less alive. (p.held.states t less alive).base;
     fail = λ t less alive. (p.held.states t less alive).fail;
     output = λ t less alive. (p.held.states t less alive).output;

@@ -19,13 +19,13 @@ use Rattle.daachorse_machine.proofs.CopyLaws.{content-same, copy-counted, copy-r
 use Rattle.daachorse_bytewise_states.specs.declared.state.State.{State}
 use Rattle.daachorse_bytewise_states.specs.Elements.{base_in, fail_in, output_in}
 use Rattle.daachorse_bytewise_states.specs.Parts.{Parts, base_of, content, count, fail_of, machine, output_of, parts_of, without_link}
-use Rattle.daachorse_bytewise_states.specs.Packing.{element, ArePacked}
+use Rattle.daachorse_bytewise_states.specs.Packing.{element_at, ArePacked}
 use Rattle.daachorse_bytewise_states.specs.Grouped.{HasShape}
 use Rattle.daachorse_bytewise_states.specs.Valid.{IsValid}
 use Rattle.daachorse_packing.specs.Settled.{trie_of}
 use Rattle.daachorse_packing.proofs.Held.{held-in_range, settled-states}
 use Rattle.daachorse_packing.proofs.Places.{some-elements}
-use Rattle.daachorse_bytewise_states.proofs.PackedTrie.{element-states}
+use Rattle.daachorse_bytewise_states.proofs.PackedTrie.{element_at-states}
 use Rattle.std.proofs.Math.Nat.{mul-mod_left}
 use Rattle.daachorse_bytewise_states.proofs.PackedParts.{packed-IsCopy, parts-base, parts-count, parts-fail, parts-kind, parts-num_states, parts-output, parts-outputs}
 
@@ -43,12 +43,12 @@ module _ {A V : Type 0} {gs : List (SiblingGroup A)} {l : Layout} {edges : List 
   inside_at : (i : ℕ) → i < count parts → (base_of parts i < count parts) × (fail_of parts i < count parts) × (output_of parts i ≤ length parts.outputs)
   inside_at i low =
       let size : count parts ≡ length es = parts-count es outputs n kind in
-      let range = held-in_range p.settled fails positions (element-states p) byte_width (is_leftmost kind) K outputs holds root_link fits (some-elements p.settled) i (subst (λ (x : ℕ). i < x) (size ∙ p.held.size) low) in
-      let base : base_of parts i ≡ base_in (element es i) = parts-base es outputs n kind i in
-      let fail : fail_of parts i ≡ fail_in (element es i) = parts-fail es outputs n kind i in
-      let output : output_of parts i ≡ output_in (element es i) = parts-output es outputs n kind i in (
-        subst (λ (x : ℕ). base_of parts i < x) (sym size) (subst (λ (x : ℕ). x < length es) (sym base) (subst (λ (x : ℕ). base_in (element es i) < x) (sym p.held.size) range.base)),
-        subst (λ (x : ℕ). fail_of parts i < x) (sym size) (subst (λ (x : ℕ). x < length es) (sym fail) (subst (λ (x : ℕ). fail_in (element es i) < x) (sym p.held.size) range.fail)),
+      let range = held-in_range p.settled fails positions (element_at-states p) byte_width (is_leftmost kind) K outputs holds root_link fits (some-elements p.settled) i (subst (λ (x : ℕ). i < x) (size ∙ p.held.size) low) in
+      let base : base_of parts i ≡ base_in (element_at es i) = parts-base es outputs n kind i in
+      let fail : fail_of parts i ≡ fail_in (element_at es i) = parts-fail es outputs n kind i in
+      let output : output_of parts i ≡ output_in (element_at es i) = parts-output es outputs n kind i in (
+        subst (λ (x : ℕ). base_of parts i < x) (sym size) (subst (λ (x : ℕ). x < length es) (sym base) (subst (λ (x : ℕ). base_in (element_at es i) < x) (sym p.held.size) range.base)),
+        subst (λ (x : ℕ). fail_of parts i < x) (sym size) (subst (λ (x : ℕ). x < length es) (sym fail) (subst (λ (x : ℕ). fail_in (element_at es i) < x) (sym p.held.size) range.fail)),
         subst (λ (os : List (Output V)). output_of parts i ≤ length os) (sym (parts-outputs es outputs n kind)) (subst (λ (x : ℕ). x ≤ length outputs) (sym output) range.output),
       )
 

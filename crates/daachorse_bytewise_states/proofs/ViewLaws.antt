@@ -11,7 +11,7 @@ use Rattle.daachorse_bytewise_states.specs.declared.state.State.{State}
 use Rattle.daachorse_bytewise_states.specs.Elements.{base_in, check_in, output_in}
 use Rattle.daachorse_bytewise_states.specs.Parts.{Parts, base_of, check_of, child, child_by, count, fail_of, output_of}
 use Rattle.daachorse_bytewise_states.specs.Valid.{IsState}
-use Rattle.daachorse_bytewise_states.specs.Views.{IsEntry, IsSeen}
+use Rattle.daachorse_bytewise_states.specs.Views.{IsRootEntry, IsSeen}
 use Rattle.daachorse_bytewise_states.proofs.ByteLaws.{Gives, link_alive, look_table, state_inside, table_output}
 
 -- q is what is borrowed, and p what contracts see of it
@@ -49,7 +49,7 @@ module _ {V F B : Type 0} {leftmost : Bool} {link : State F → List B → ℕ �
   seen_alive standard = link_alive p seen.stored.valid (kind_standard p.kind (seen.kind ∙ standard))
 
   -- what the table of the root has for a byte, with the first output there
-  pub seen_entry : leftmost ≡ false → (i c : ℕ) (to : ℕ × Option NonZeroU32) → IsState p i → c < 256 → i ≡ 0 → IsEntry root c to → Gives p i c (Next to.0 to.1) × (output_of p to.0 ≡ number to.1)
+  pub seen_entry : leftmost ≡ false → (i c : ℕ) (to : ℕ × Option NonZeroU32) → IsState p i → c < 256 → i ≡ 0 → IsRootEntry root c to → Gives p i c (Next to.0 to.1) × (output_of p to.0 ≡ number to.1)
   seen_entry standard i c to r byte top entry =
       let kind : is_leftmost p.kind ≡ false = seen.kind ∙ standard in
       let table = seen.stored.table (kind_standard p.kind kind) in (

@@ -11,9 +11,9 @@ use Rattle.std.specs.Ordering.{nat_cmp, is_eq}
 use Rattle.std.specs.Map.{keys_of}
 use Rattle.daachorse_bytewise_states.specs.declared.state.State.{State}
 use Rattle.daachorse_bytewise_states.specs.Elements.{base_in, check_in, fail_in, output_in, vacant}
-use Rattle.daachorse_bytewise_states.specs.Packing.{IsVacant, element}
-use Rattle.daachorse_bytewise_states.specs.Writing.{HasPlaced, HasVacants}
-use Rattle.daachorse_packing.specs.Settled.{ArePlaces}
+use Rattle.daachorse_bytewise_states.specs.Packing.{IsVacant, element_at}
+use Rattle.daachorse_bytewise_states.specs.Writing.{HasWritten, HasVacants}
+use Rattle.daachorse_packing.specs.Settled.{HavePlaces}
 use Rattle.daachorse_packing.proofs.Written.{written_at}
 use Rattle.std.proofs.lemmas.Nat.{xor_shr}
 use Rattle.std.specs.Int.Bits.{xor_self}
@@ -142,10 +142,10 @@ module _ (edges : List (List (ℕ × ℕ))) (table : IsTable nat_cmp edges) (m :
 
 -- ---- one state more is written
 
-module _ (m n elements : ℕ) (idx bases labels fails positions : List ℕ) (old new : List (State ℕ)) (places : ArePlaces idx n elements)
-    (was : HasPlaced m idx bases labels fails positions old new) where
+module _ (m n elements : ℕ) (idx bases labels fails positions : List ℕ) (old new : List (State ℕ)) (places : HavePlaces idx n elements)
+    (was : HasWritten m idx bases labels fails positions old new) where
   -- the dead state is passed over
-  pub placed_dead : m ≡ 1 → HasPlaced (m + 1) idx bases labels fails positions old new
+  pub placed_dead : m ≡ 1 → HasWritten (m + 1) idx bases labels fails positions old new
   placed_dead dead = record {
     size = was.size;
     base = λ t less alive. was.base t (before t less alive) alive;
@@ -160,7 +160,7 @@ module _ (m n elements : ℕ) (idx bases labels fails positions : List ℕ) (old
 
   module _ (e : State ℕ) (inside : m < n) (fits : slice_index idx m < length new) (here : m ≢ 1) where
     pub placed_more : base_in e ≡ slice_index bases m → check_in e ≡ slice_index labels m → fail_in e ≡ slice_index idx (slice_index fails m) → output_in e ≡ slice_index positions m
-        → HasPlaced (m + 1) idx bases labels fails positions old (set new (slice_index idx m) e)
+        → HasWritten (m + 1) idx bases labels fails positions old (set new (slice_index idx m) e)
     placed_more base check fail output = record {
       size = length-set new (slice_index idx m) e ∙ was.size;
       base = written_at vacant m n elements idx new places e inside fits here base_in (slice_index bases) was.base base;
@@ -216,8 +216,8 @@ found-least marks q v None all least =
     let bad : true ≡ false = sym (ap (λ k. slice_index_or marks k false) (sym back) ∙ all (v - q * 256) inside) ∙ least.free in cc)
 found-least marks q v (Some u) found least = least-one marks q u v found least
 
-pub blocks-more : (l : Layout) (q : ℕ) (unused : Option ℕ) (old new : List (State ℕ)) → Found l.marks 256 q unused → length old ≡ q * 256 → ((i : ℕ) → i < length old → IsVacant l i (element old i)) → HasVacants 256 (unwrap_or unused 0) old new
-    → (i : ℕ) → i < length new → IsVacant l i (element new i)
+pub blocks-more : (l : Layout) (q : ℕ) (unused : Option ℕ) (old new : List (State ℕ)) → Found l.marks 256 q unused → length old ≡ q * 256 → ((i : ℕ) → i < length old → IsVacant l i (element_at old i)) → HasVacants 256 (unwrap_or unused 0) old new
+    → (i : ℕ) → i < length new → IsVacant l i (element_at new i)
 blocks-more l q unused old new found size was more i less = elim before_or_in [
   | inl before ↦ let P : State ℕ → Type 0 = λ e. IsVacant l i e in subst P (sym (more.kept i before)) (was i before)
   | inr here ↦ record {

@@ -3,11 +3,11 @@ use Rattle.std.proofs.Common.{◌≡◌, ℕ, ◌<◌, List, ◌++◌, length, t
 use Rattle.std.proofs.Math.Seq.{take-append_seam}
 use Rattle.daachorse_placement.specs.Layout.{Layout}
 use Rattle.daachorse_bytewise_states.specs.declared.state.State.{State}
-use Rattle.daachorse_bytewise_states.specs.Packing.{HoldStates, IsVacant}
-use Rattle.daachorse_bytewise_states.specs.Writing.{AreLabelled, AreVacant, HasPlaced}
+use Rattle.daachorse_bytewise_states.specs.Packing.{ElementsHoldTrie, IsVacant}
+use Rattle.daachorse_bytewise_states.specs.Writing.{AreLabelled, AreVacant, HasWritten}
 
 pub written-held : (l : Layout) (edges : List (List (ℕ × ℕ))) (labels fails positions : List ℕ) (old new : List (State ℕ)) → 0 < length edges → AreLabelled edges labels → AreVacant l old
-    → HasPlaced (length edges) l.idx l.bases labels fails positions old new → HoldStates l edges fails positions new
+    → HasWritten (length edges) l.idx l.bases labels fails positions old new → ElementsHoldTrie l edges fails positions new
 written-held l edges labels fails positions old new some labelled vacant placed = record {
   size = placed.size ∙ vacant.size;
   states = λ t less alive. record {

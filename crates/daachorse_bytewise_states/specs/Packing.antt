@@ -16,8 +16,8 @@ use Rattle.daachorse_bytewise_states.specs.declared.state.State.{State}
 use Rattle.daachorse_bytewise_states.specs.Elements.{base_in, check_in, fail_in, output_in, vacant}
 
 -- the element at an index
-abbrev pub element : List (State ℕ) → ℕ → State ℕ
-element es i = slice_index_or es i vacant
+abbrev pub element_at : List (State ℕ) → ℕ → State ℕ
+element_at es i = slice_index_or es i vacant
 
 -- A vacant element i: its check is what leads to it from an unused base of its block, if there is one, so that it is nobody's child.
 pub record IsVacant (l : Layout) (i : ℕ) (e : State ℕ) : Type 0 where
@@ -34,12 +34,12 @@ pub record IsElementOf (l : Layout) (edges : List (List (ℕ × ℕ))) (fails po
   pub check : (s c : ℕ) → edge_to nat_cmp edges s c ≡ Some t → check_in e ≡ c
 
 -- The elements hold the trie: each state but the dead one stands at its index, and all other elements are vacant.
-pub record HoldStates (l : Layout) (edges : List (List (ℕ × ℕ))) (fails positions : List ℕ) (es : List (State ℕ)) : Type 0 where
+pub record ElementsHoldTrie (l : Layout) (edges : List (List (ℕ × ℕ))) (fails positions : List ℕ) (es : List (State ℕ)) : Type 0 where
   pub size : length es ≡ length l.used
-  pub states : (t : ℕ) → t < length edges → t ≢ 1 → IsElementOf l edges fails positions t (element es (slice_index l.idx t))
+  pub states : (t : ℕ) → t < length edges → t ≢ 1 → IsElementOf l edges fails positions t (element_at es (slice_index l.idx t))
   -- nothing leads to the root
-  pub root : check_in (element es (slice_index l.idx 0)) ≡ 0
-  pub others : (i : ℕ) → i < length es → ((t : ℕ) → t < length edges → t ≢ 1 → slice_index l.idx t ≢ i) → IsVacant l i (element es i)
+  pub root : check_in (element_at es (slice_index l.idx 0)) ≡ 0
+  pub others : (i : ℕ) → i < length es → ((t : ℕ) → t < length edges → t ≢ 1 → slice_index l.idx t ≢ i) → IsVacant l i (element_at es i)
 
 -- Groups that are the edges of a trie over bytes: a byte is its own code.
 abbrev pub AreByteGroups : {A : Type 0} → List (SiblingGroup A) → List (List (ℕ × ℕ)) → Type 0
@@ -50,7 +50,7 @@ pub record ArePacked {A : Type 0} (gs : List (SiblingGroup A)) (l : Layout) (edg
   pub settled : AreSettled (λ b. b) 256 true gs l edges
   -- a block without an unused base has no vacant element
   pub full : AreBlocksFull l
-  pub held : HoldStates l edges fails positions es
+  pub held : ElementsHoldTrie l edges fails positions es
 
 -- the elements hold the trie of these states, by some groups and some placement of them
 pub record ArePackedOf {V A : Type 0} (states : List (NfaBuilderState ℕ V A)) (es : List (State ℕ)) : Type 0 where

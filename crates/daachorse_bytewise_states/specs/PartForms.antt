@@ -15,7 +15,7 @@ use Rattle.daachorse_serializer.specs.declared.mode.Mode.{Mode}
 use Rattle.daachorse_bytewise_states.specs.declared.state.State.{State}
 use Rattle.daachorse_bytewise_states.specs.declared.states.form.Lists.{Lists}
 use Rattle.daachorse_bytewise_states.specs.Parts.{Parts}
-use Rattle.daachorse_bytewise_states.specs.StateForms.{IsState, state_form, state_law, take_state}
+use Rattle.daachorse_bytewise_states.specs.StateForms.{IsStateValue, state_form, state_law, take_state}
 use Rattle.daachorse_bytewise_states.specs.Valid.{IsValid}
 
 -- the lists one after the other, and what the form ends with
@@ -69,8 +69,8 @@ module _ {V : Type 0} where
 
   -- each number is one of 32 bits, and each value is of its type
   pub record AreNumbers (is_value : V → Type 0) (p : Parts V) : Type 0 where
-    pub standard : All (IsState (λ n. n < 2 ^ 32)) p.standard
-    pub leftmost : All (IsState (λ e. Unit {0})) p.leftmost
+    pub standard : All (IsStateValue (λ n. n < 2 ^ 32)) p.standard
+    pub leftmost : All (IsStateValue (λ e. Unit {0})) p.leftmost
     pub fails : All (λ n. n < 2 ^ 32) p.fails
     pub outputs : All (IsOutput is_value) p.outputs
     pub num_states : p.num_states < 2 ^ 32
@@ -89,7 +89,7 @@ module _ {V : Type 0} where
       (12 * length p.standard + 4) + ((8 * length p.leftmost + 4) + ((4 * length p.fails + 4) + ending_most n (λ _. 65537) p.outputs filter))
 
 -- an element of an automaton for leftmost searches
-left_law : IsForm (IsState (λ e. Unit {0})) (state_form (λ (e : Empty). [])) (take_state take_nothing) (λ _. 8)
+left_law : IsForm (IsStateValue (λ e. Unit {0})) (state_form (λ (e : Empty). [])) (take_state take_nothing) (λ _. 8)
 left_law = state_law (empty_law (record {}) (λ y. refl))
 
 -- Parts, the option and the filter are read back from their form, whatever follows it.

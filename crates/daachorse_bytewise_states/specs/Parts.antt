@@ -29,13 +29,13 @@ child_by n base check c =
     let j = bit_xor base c in cond (base == 0) None (cond (nat_lt j n) (cond (check j == c) (Some j) None) None)
 
 -- what it leads to from element i
-abbrev pub child_in : ℕ → (ℕ → ℕ) → (ℕ → ℕ) → ℕ → ℕ → Option ℕ
-child_in n base check i c = child_by n (base i) check c
+abbrev pub child_by_check : ℕ → (ℕ → ℕ) → (ℕ → ℕ) → ℕ → ℕ → Option ℕ
+child_by_check n base check i c = child_by n (base i) check c
 
 -- the same among these elements, where `default` stands past the last
 abbrev pub child_among : {F : Type 0} → State F → List (State F) → ℕ → ℕ → Option ℕ
 child_among default elements =
-    child_in (length elements) (λ i. base_in (slice_index_or elements i default)) (λ i. check_in (slice_index_or elements i default))
+    child_by_check (length elements) (λ i. base_in (slice_index_or elements i default)) (λ i. check_in (slice_index_or elements i default))
 
 module _ {V : Type 0} (p : Parts V) where
   -- the number of elements
@@ -60,7 +60,7 @@ module _ {V : Type 0} (p : Parts V) where
 
   -- what a byte leads to from an element
   abbrev pub child : ℕ → ℕ → Option ℕ
-  child = child_in count base_of check_of
+  child = child_by_check count base_of check_of
 
   abbrev pub machine : Machine V
   machine = record { child = child; fail = fail_of; output = output_of; outputs = p.outputs }

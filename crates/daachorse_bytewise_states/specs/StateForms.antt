@@ -15,15 +15,15 @@ module _ {F : Type 0} where
   packed_in e = e.packed
 
   -- the base, the link, and the packed word
-  abbrev pub parts_of : State F → ℕ × (F × U24nU8)
-  parts_of e = (base_in e, (fail_in e, packed_in e))
+  abbrev pub fields_of : State F → ℕ × (F × U24nU8)
+  fields_of e = (base_in e, (fail_in e, packed_in e))
 
   -- the element of these parts
   abbrev pub state_of : ℕ × (F × U24nU8) → State F
   state_of p = record { base = p.0; fail = p.1.0; packed = p.1.1 }
 
-  abbrev pub IsState : (F → Type 0) → State F → Type 0
-  IsState P e = (base_in e < 2 ^ 32) × P (fail_in e) × (word_of (packed_in e) < 2 ^ 32)
+  abbrev pub IsStateValue : (F → Type 0) → State F → Type 0
+  IsStateValue P e = (base_in e < 2 ^ 32) × P (fail_in e) × (word_of (packed_in e) < 2 ^ 32)
 
   abbrev pub state_form : (F → List ℕ) → State F → List ℕ
   state_form f e = number_form w32 (base_in e) ++ (f (fail_in e) ++ packed_form (packed_in e))
@@ -33,9 +33,9 @@ module _ {F : Type 0} where
 
 -- the law of an element, from that of its link
 pub state_law : {F : Type 0} {P : F → Type 0} {form : F → List ℕ} {taken : List ℕ → Taken F} {n : ℕ} → IsForm P form taken (λ _. n)
-    → IsForm (IsState P) (state_form form) (take_state taken) (λ _. n + 8)
+    → IsForm (IsStateValue P) (state_form form) (take_state taken) (λ _. n + 8)
 state_law {F} {P} {form} {taken} {n} law =
     let sum : 4 + (n + 4) ≡ n + 8 = omega arith in
-    let Law : ℕ → Type 0 = λ k. IsForm (IsState P) (state_form form) (take_state taken) (λ _. k) in
+    let Law : ℕ → Type 0 = λ k. IsForm (IsStateValue P) (state_form form) (take_state taken) (λ _. k) in
     subst Law sum
-    (law_through state_of parts_of (IsState P) (λ e h. (h.0, (h.1, h.2))) (λ e h. refl) (pair_law (number_law w32) (pair_law law packed_law)))
+    (law_through state_of fields_of (IsStateValue P) (λ e h. (h.0, (h.1, h.2))) (λ e h. refl) (pair_law (number_law w32) (pair_law law packed_law)))

@@ -12,15 +12,15 @@ use Rattle.daachorse_bytewise_states.specs.Parts.{Parts, base_of, check_of, coun
 use Rattle.daachorse_bytewise_states.specs.Valid.{IsStored}
 
 -- the elements with their links; those without, and the links
-abbrev pub Lists : Type 0
-Lists = List (State ℕ) × List (State Empty) × List ℕ
+abbrev pub ElementLists : Type 0
+ElementLists = List (State ℕ) × List (State Empty) × List ℕ
 
-abbrev pub seen_parts : {V : Type 0} → MatchKind → Lists → List (Output V) → ℕ → Parts V
+abbrev pub seen_parts : {V : Type 0} → MatchKind → ElementLists → List (Output V) → ℕ → Parts V
 seen_parts kind lists outputs n = parts_with kind lists.0 lists.1 lists.2 outputs n
 
 -- what the table of the root has for byte c: an element, and the position of its first output, which is the upper part of its word
-abbrev pub IsEntry : List (ℕ × ℕ) → ℕ → ℕ × Option NonZeroU32 → Type 0
-IsEntry root c to = (to.0 ≡ (slice_index_or root c (0, 0)).0) × (number to.1 ≡ (slice_index_or root c (0, 0)).1 / 256)
+abbrev pub IsRootEntry : List (ℕ × ℕ) → ℕ → ℕ × Option NonZeroU32 → Type 0
+IsRootEntry root c to = (to.0 ≡ (slice_index_or root c (0, 0)).0) × (number to.1 ≡ (slice_index_or root c (0, 0)).1 / 256)
 
 -- Valid parts for leftmost searches or for standard ones, whose elements are these, whatever stands past the last.
 pub record IsSeen {V F B : Type 0} (leftmost : Bool) (link : State F → List B → ℕ → ℕ) (elements : List (State F)) (beside : List B) (root : List (ℕ × ℕ)) (p : Parts V) : Type 0 where

@@ -5,7 +5,7 @@ use Rattle.daachorse_placement.specs.Layout.{Layout}
 use Rattle.daachorse_build.specs.Tables.{child_in as edge_to}
 use Rattle.daachorse_bytewise_states.specs.declared.state.State.{State}
 use Rattle.daachorse_bytewise_states.specs.Elements.{base_in, check_in, fail_in, output_in}
-use Rattle.daachorse_bytewise_states.specs.Packing.{IsVacant, element}
+use Rattle.daachorse_bytewise_states.specs.Packing.{IsVacant, element_at}
 
 -- by state the label of the edge to it; nothing leads to the root
 pub record AreLabelled (edges : List (List (ℕ × ℕ))) (labels : List ℕ) : Type 0 where
@@ -16,22 +16,22 @@ pub record AreLabelled (edges : List (List (ℕ × ℕ))) (labels : List ℕ) : 
 -- each element is vacant
 pub record AreVacant (l : Layout) (es : List (State ℕ)) : Type 0 where
   pub size : length es ≡ length l.used
-  pub all : (i : ℕ) → i < length es → IsVacant l i (element es i)
+  pub all : (i : ℕ) → i < length es → IsVacant l i (element_at es i)
 
 -- n elements more, which are vacant, as in a block with the unused base u
 pub record HasVacants (n u : ℕ) (old new : List (State ℕ)) : Type 0 where
   pub size : length new ≡ length old + n
-  pub kept : (i : ℕ) → i < length old → element new i ≡ element old i
-  pub base : (i : ℕ) → length old ≤ i → i < length new → base_in (element new i) ≡ 0
-  pub fail : (i : ℕ) → length old ≤ i → i < length new → fail_in (element new i) ≡ 0
-  pub output : (i : ℕ) → length old ≤ i → i < length new → output_in (element new i) ≡ 0
-  pub check : (i : ℕ) → length old ≤ i → i < length new → check_in (element new i) ≡ bit_xor i u % 256
+  pub kept : (i : ℕ) → i < length old → element_at new i ≡ element_at old i
+  pub base : (i : ℕ) → length old ≤ i → i < length new → base_in (element_at new i) ≡ 0
+  pub fail : (i : ℕ) → length old ≤ i → i < length new → fail_in (element_at new i) ≡ 0
+  pub output : (i : ℕ) → length old ≤ i → i < length new → output_in (element_at new i) ≡ 0
+  pub check : (i : ℕ) → length old ≤ i → i < length new → check_in (element_at new i) ≡ bit_xor i u % 256
 
 -- the first m states but the dead one are written, and nothing else
-pub record HasPlaced (m : ℕ) (idx bases labels fails positions : List ℕ) (old new : List (State ℕ)) : Type 0 where
+pub record HasWritten (m : ℕ) (idx bases labels fails positions : List ℕ) (old new : List (State ℕ)) : Type 0 where
   pub size : length new ≡ length old
-  pub base : (t : ℕ) → t < m → t ≢ 1 → base_in (element new (slice_index idx t)) ≡ slice_index bases t
-  pub check : (t : ℕ) → t < m → t ≢ 1 → check_in (element new (slice_index idx t)) ≡ slice_index labels t
-  pub fail : (t : ℕ) → t < m → t ≢ 1 → fail_in (element new (slice_index idx t)) ≡ slice_index idx (slice_index fails t)
-  pub output : (t : ℕ) → t < m → t ≢ 1 → output_in (element new (slice_index idx t)) ≡ slice_index positions t
-  pub others : (i : ℕ) → ((t : ℕ) → t < m → t ≢ 1 → slice_index idx t ≢ i) → element new i ≡ element old i
+  pub base : (t : ℕ) → t < m → t ≢ 1 → base_in (element_at new (slice_index idx t)) ≡ slice_index bases t
+  pub check : (t : ℕ) → t < m → t ≢ 1 → check_in (element_at new (slice_index idx t)) ≡ slice_index labels t
+  pub fail : (t : ℕ) → t < m → t ≢ 1 → fail_in (element_at new (slice_index idx t)) ≡ slice_index idx (slice_index fails t)
+  pub output : (t : ℕ) → t < m → t ≢ 1 → output_in (element_at new (slice_index idx t)) ≡ slice_index positions t
+  pub others : (i : ℕ) → ((t : ℕ) → t < m → t ≢ 1 → slice_index idx t ≢ i) → element_at new i ≡ element_at old i

@@ -9,14 +9,14 @@ ghost use Rattle.daachorse_core.specs.Outputs.{number};
 ghost use Rattle.daachorse_core.specs.Refusals.{IsOutOfMemory, IsRefusal};
 ghost use Rattle.daachorse_core.specs.declared.errors.Limit.TheVariants.{NumElements};
 ghost use Rattle.daachorse_build.specs.Builders.{states_of};
-ghost use Rattle.daachorse_bytewise_states.specs.Packing.{AreByteGroups, ArePackedOf, HoldStates};
+ghost use Rattle.daachorse_bytewise_states.specs.Packing.{AreByteGroups, ArePackedOf, ElementsHoldTrie};
 ghost use Rattle.daachorse_placement.specs.Placement.{HasSizes};
 ghost use Rattle.daachorse_build.specs.EdgeMaps.{id_at};
 ghost use Rattle.daachorse_build.specs.Groups.{IsProfileOf};
 ghost use Rattle.daachorse_build.specs.Tables.{HoldTrie, edges_of, fails_of, positions_of};
 ghost use Rattle.daachorse_bytewise_states.specs.Elements.{base_in, check_in, fail_in, output_in};
-ghost use Rattle.daachorse_bytewise_states.specs.Writing.{AreLabelled, AreVacant, HasPlaced, HasVacants};
-ghost use Rattle.daachorse_packing.specs.Settled.{ArePlaces, HasManyGroups};
+ghost use Rattle.daachorse_bytewise_states.specs.Writing.{AreLabelled, AreVacant, HasWritten, HasVacants};
+ghost use Rattle.daachorse_packing.specs.Settled.{HavePlaces, HasManyGroups};
 
 use crate::state::State;
 use daachorse_build::edge_map::EdgeMap;
@@ -86,10 +86,10 @@ fn write_states<V: Copy, A: Allocator + Copy>(
 ) -> Result<Vec<State<u32>, A>>
     requires trie { HoldTrie nat_cmp states.now }
     requires sizes { HasSizes helper.now 256 (length states.now) }
-    requires places { ArePlaces helper.now.idx (length states.now) (length helper.now.used) }
+    requires places { HavePlaces helper.now.idx (length states.now) (length helper.now.used) }
     requires links { (t : ℕ) → t < length states.now → t ≢ 1 → slice_index (fails_of states.now) t < length states.now }
     requires outputs { (t : ℕ) → t < length states.now → t ≢ 1 → slice_index (positions_of states.now) t < 2 ^ 24 }
-    ensures ok { IfOk result (λ elements. HoldStates helper.now (edges_of states.now) (fails_of states.now) (positions_of states.now) elements.items) }
+    ensures ok { IfOk result (λ elements. ElementsHoldTrie helper.now (edges_of states.now) (fails_of states.now) (positions_of states.now) elements.items) }
     ensures few { IfOk result (λ elements. length elements.items < 2 ^ 32) }
     ensures err { IfErr result IsOutOfMemory }
 {
@@ -195,10 +195,10 @@ fn place_states<V: Copy, A: Allocator>(
 )
     requires labels { length labels.now ≡ length states.now }
     requires bases { length bases.now ≡ length states.now }
-    requires places { ArePlaces idx_map.now (length states.now) (length elements.old) }
+    requires places { HavePlaces idx_map.now (length states.now) (length elements.old) }
     requires links { (t : ℕ) → t < length states.now → t ≢ 1 → slice_index (fails_of states.now) t < length states.now }
     requires outputs { (t : ℕ) → t < length states.now → t ≢ 1 → slice_index (positions_of states.now) t < 2 ^ 24 }
-    ensures { HasPlaced (length states.now) idx_map.now bases.now labels.now (fails_of states.now) (positions_of states.now) elements.old elements.new }
+    ensures { HasWritten (length states.now) idx_map.now bases.now labels.now (fails_of states.now) (positions_of states.now) elements.old elements.new }
 {
     for (id, state) in states.iter().enumerate() {
         if id == DEAD_STATE_IDX as usize {

@@ -14,7 +14,7 @@ ghost use Rattle.daachorse_serializer.specs.Packed.{packed_form};
 ghost use Rattle.daachorse_bytewise_states.specs.Elements.{base_in, check_in, fail_in, output_in, word_in};
 ghost use Rattle.daachorse_bytewise_states.specs.Children.{TellsChild};
 ghost use Rattle.daachorse_bytewise_states.specs.Parts.{child_by, without_link};
-ghost use Rattle.daachorse_bytewise_states.specs.StateForms.{IsState, state_form, state_law, take_state};
+ghost use Rattle.daachorse_bytewise_states.specs.StateForms.{IsStateValue, state_form, state_law, take_state};
 
 use daachorse_core::Empty;
 use daachorse_core::errors::{DaachorseError, Limit, Result};
@@ -230,7 +230,7 @@ impl Link for Empty {
 
 /// The base, 0 for none; the failure link; and a word, the output position times 256 and the check.
 impl<F: Link> Serializable for State<F> {
-    ghost is_value = { IsState F.is_value };
+    ghost is_value = { IsStateValue F.is_value };
 
     ghost form = { state_form F.form };
 

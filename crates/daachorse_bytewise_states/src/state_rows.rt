@@ -5,7 +5,7 @@
 
 ghost use Rattle.std.specs.Prelude.{◌≡◌, ◌≤◌, length, IfOk, IfSome};
 ghost use Rattle.daachorse_model.specs.declared.MatchKind.TheVariants.{Standard};
-ghost use Rattle.daachorse_rows.specs.Rows.{AreLabels, AreListed};
+ghost use Rattle.daachorse_rows.specs.Rows.{AreLabels, IsListOf};
 ghost use Rattle.daachorse_bytewise_states.specs.EdgeBytes.{IsMarked, MarksBases, MarksEdges};
 ghost use Rattle.daachorse_bytewise_states.specs.Parts.{content, count};
 ghost use Rattle.daachorse_bytewise_states.specs.StateRows.{CoversNear, HasNoRoom, HasRows, StaysUnlessLarge};
@@ -101,7 +101,7 @@ fn mark_edges<V: Copy, L: Allocator>(
 /// The bytes that are marked, in order.
 fn list_marked<L: Allocator>(alloc: L, marks: &Vec<bool, L>) -> Result<Vec<u8, L>, AllocError>
     requires { length marks.now.items ≡ 256 }
-    ensures { IfOk result (λ v. AreListed (IsMarked marks.now.items) 256 v.items) }
+    ensures { IfOk result (λ v. IsListOf (IsMarked marks.now.items) 256 v.items) }
 {
     let mut bytes = Vec::new(alloc);
     for byte in 0..256u32 {

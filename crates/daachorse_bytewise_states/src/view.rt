@@ -6,7 +6,7 @@
 ghost use Rattle.std.specs.Prelude.{◌≡◌, ◌<◌, ℕ, true, false, List, [], length, slice_index, IfSome};
 ghost use Rattle.daachorse_bytewise_states.specs.declared.state.State.{State};
 ghost use Rattle.daachorse_bytewise_states.specs.Elements.{fail_in};
-ghost use Rattle.daachorse_bytewise_states.specs.Views.{IsEntry, IsSeen, Lists, seen_parts};
+ghost use Rattle.daachorse_bytewise_states.specs.Views.{IsRootEntry, IsSeen, ElementLists, seen_parts};
 
 use crate::state::State;
 use daachorse_core::turns::{Look, Turns};
@@ -25,7 +25,7 @@ pub trait Reads: Searches {
     type Beside: Copy;
 
     /// The lists of the parts, of which some are empty.
-    ghost lists: { List (State Self.Link) → List Self.Beside → Lists };
+    ghost lists: { List (State Self.Link) → List Self.Beside → ElementLists };
 
     /// The table of the root.
     ghost root: { List Self.Beside → List (ℕ × ℕ) };
@@ -36,7 +36,7 @@ pub trait Reads: Searches {
     /// Where a byte leads from the root, and the position of the first output there, if that stands in a table.
     fn from_root(beside: &[Self::Beside], label: u8) -> Option<(u32, Option<NonZeroU32>)>
         requires { Self.leftmost ≡ false → length beside.now ≡ 256 }
-        ensures { IfSome result (λ to. (Self.leftmost ≡ false) × IsEntry (root beside.now) label to) };
+        ensures { IfSome result (λ to. (Self.leftmost ≡ false) × IsRootEntry (root beside.now) label to) };
 
     /// The link of the element of a state.
     fn link(element: State<Self::Link>, beside: &[Self::Beside], state: u32) -> u32

@@ -1,7 +1,7 @@
 -- A pattern behind the others.
 use Rattle.std.proofs.Common.{◌≡◌, ℕ, ◌-◌, ◌≤◌, List, [], ◌∷◌, ◌++◌, length, drop, take, slice_range, refl, ap, ◌∙◌, length-append, arith}
 use Rattle.std.proofs.lemmas.List.{drop-append-le, drop_at, length-drop, length_push, take-append-le, take_all}
-use Rattle.daachorse_c.specs.Listing.{Arrays, AreWhole, entries, last_end, one_more}
+use Rattle.daachorse_c.specs.Listing.{Arrays, AreWhole, entries, last_pattern_end, one_more}
 use Rattle.daachorse_c.specs.Patterns.{AreEnds, registrations}
 
 module _ (bytes w : List ℕ) where
@@ -16,7 +16,7 @@ module _ (bytes w : List ℕ) where
       let enough : length w ≤ length (bytes ++ w) - length bytes = omega (arith, length-append bytes w) in
       ap (take (length (bytes ++ w) - length bytes)) (drop_at bytes w (length bytes) refl) ∙ take_all (length (bytes ++ w) - length bytes) w enough
 
-  more_entries : (v start : ℕ) (ends values : List ℕ) → AreEnds start (length bytes) ends → length ends ≡ length values → last_end start ends ≡ length bytes
+  more_entries : (v start : ℕ) (ends values : List ℕ) → AreEnds start (length bytes) ends → length ends ≡ length values → last_pattern_end start ends ≡ length bytes
       → registrations (bytes ++ w) start (ends ++ length (bytes ++ w) ∷ []) (values ++ v ∷ []) ≡ registrations bytes start ends values ++ (w, v) ∷ []
   more_entries v start [] [] are same last =
       ap (λ s. (slice_range (bytes ++ w) s (length (bytes ++ w)), v) ∷ []) last ∙ ap (λ (t : List ℕ). (t, v) ∷ []) behind
@@ -27,12 +27,12 @@ module _ (bytes w : List ℕ) where
       ap (λ t. (t, u) ∷ registrations (bytes ++ w) e (ends ++ length (bytes ++ w) ∷ []) (values ++ v ∷ [])) (before start e are.0 are.1)
       ∙ ap (λ l. (slice_range bytes start e, u) ∷ l) rest
 
-  more_ends : (start : ℕ) (ends : List ℕ) → AreEnds start (length bytes) ends → last_end start ends ≡ length bytes
+  more_ends : (start : ℕ) (ends : List ℕ) → AreEnds start (length bytes) ends → last_pattern_end start ends ≡ length bytes
       → AreEnds start (length (bytes ++ w)) (ends ++ length (bytes ++ w) ∷ [])
   more_ends start [] are last = (omega (arith, last, length-append bytes w), omega arith, tt)
   more_ends start (e ∷ ends) are last = (are.0, omega (arith, are.1, length-append bytes w), more_ends e ends are.2 last)
 
-last_of_more : (start : ℕ) (ends : List ℕ) (e : ℕ) → last_end start (ends ++ e ∷ []) ≡ e
+last_of_more : (start : ℕ) (ends : List ℕ) (e : ℕ) → last_pattern_end start (ends ++ e ∷ []) ≡ e
 last_of_more start [] e = refl
 last_of_more start (d ∷ ends) e = last_of_more d ends e
 

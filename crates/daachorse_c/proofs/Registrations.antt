@@ -2,7 +2,7 @@
 use Rattle.std.proofs.Common.{◌≡◌, ℕ, ◌+◌, ◌<◌, ◌≤◌, List, [], ◌∷◌, ◌++◌, length, drop, get_or, slice_range, sym, ap, ◌∙◌, subst, append_assoc}
 use Rattle.std.proofs.lemmas.List.{drop_more, map-append}
 use Rattle.std.specs.Borrow.{Bor}
-use Rattle.daachorse_model.specs.Dictionary.{registered}
+use Rattle.daachorse_model.specs.Dictionary.{registrations_of}
 use Rattle.daachorse_c.specs.Patterns.{AreEnds, registrations}
 
 module _ (ends : List ℕ) (start size i : ℕ) (here : i < length ends) where
@@ -19,8 +19,8 @@ module _ (bytes ends values : List ℕ) (start i : ℕ) (here : i < length ends)
       ∙ ap (λ vs. registrations bytes start (get_or ends i 0 ∷ drop (i + 1) ends) vs) (drop_more values i 0 there)
 
   pub one_read : (before after : List (Bor (List ℕ) × ℕ)) (p : Bor (List ℕ)) → p.now ≡ slice_range bytes start (get_or ends i 0) → after ≡ before ++ (p, get_or values i 0) ∷ []
-      → registered before ++ registrations bytes start (drop i ends) (drop i values) ≡ registered after ++ registrations bytes (get_or ends i 0) (drop (i + 1) ends) (drop (i + 1) values)
+      → registrations_of before ++ registrations bytes start (drop i ends) (drop i values) ≡ registrations_of after ++ registrations bytes (get_or ends i 0) (drop (i + 1) ends) (drop (i + 1) values)
   one_read before after p is grown =
       let left = registrations bytes (get_or ends i 0) (drop (i + 1) ends) (drop (i + 1) values) in let v = get_or values i 0 in
-      ap (λ l. registered before ++ l) (next ∙ ap (λ w. (w, v) ∷ left) (sym is)) ∙ sym (append_assoc (registered before) ((p.now, v) ∷ []) left)
-      ∙ ap (λ l. l ++ left) (sym (map-append (λ (q : Bor (List ℕ) × ℕ). (q.0.now, q.1)) before ((p, v) ∷ [])) ∙ ap registered (sym grown))
+      ap (λ l. registrations_of before ++ l) (next ∙ ap (λ w. (w, v) ∷ left) (sym is)) ∙ sym (append_assoc (registrations_of before) ((p.now, v) ∷ []) left)
+      ∙ ap (λ l. l ++ left) (sym (map-append (λ (q : Bor (List ℕ) × ℕ). (q.0.now, q.1)) before ((p, v) ∷ [])) ∙ ap registrations_of (sym grown))

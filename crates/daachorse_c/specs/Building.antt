@@ -17,7 +17,7 @@ module _ (number : ℕ) (folds : Bool) (bytes ends values : List ℕ) where
   patterns_read = texts_as_read folds (registrations bytes 0 ends values)
 
   -- the automaton holds these patterns as they are read, reads haystacks so too, and keeps a filter where it is wanted
-  pub record IsBuilt (use_prefilter : Bool) (a : Automaton ℕ) : Type 0 where
+  pub record IsBuiltFrom (use_prefilter : Bool) (a : Automaton ℕ) : Type 0 where
     pub kind : byte_of_kind (kind_of a) ≡ number
     pub right : ArePatterns bytes ends values
     pub folded : a.folds ≡ folds

@@ -27,27 +27,27 @@ abbrev pub one_more : Arrays → List ℕ → ℕ → Arrays
 one_more p pattern value = arrays (p.bytes ++ pattern) (p.ends ++ length (p.bytes ++ pattern) ∷ []) (p.values ++ value ∷ [])
 
 -- where the last pattern ends, or `start` if there is none
-abbrev pub last_end : ℕ → List ℕ → ℕ
-last_end start [] = start
-last_end start (e ∷ es) = last_end e es
+abbrev pub last_pattern_end : ℕ → List ℕ → ℕ
+last_pattern_end start [] = start
+last_pattern_end start (e ∷ es) = last_pattern_end e es
 
 -- they are patterns as a build takes them, and no byte stands behind the last
 pub record AreWhole (p : Arrays) : Type 0 where
   pub right : ArePatterns p.bytes p.ends p.values
-  pub whole : last_end 0 p.ends ≡ length p.bytes
+  pub whole : last_pattern_end 0 p.ends ≡ length p.bytes
 
 -- the patterns, each with its value
 abbrev pub entries : Arrays → List (List ℕ × ℕ)
 entries p = registrations p.bytes 0 p.ends p.values
 
 -- they are the patterns that the automaton holds, in byte order, and equal ones as they were registered
-pub record AreListed (a : Searches ℕ) (p : Arrays) : Type 0 where
+pub record ArePatternsOf (a : Searches ℕ) (p : Arrays) : Type 0 where
   pub whole : AreWhole p
   pub listing : IsListing (dictionary_of a) (entries p)
 
 -- the same, of so many bytes and so many patterns
-pub record AreCounted (a : Searches ℕ) (p : Arrays) (size count : ℕ) : Type 0 where
-  pub listed : AreListed a p
+pub record AreListedIn (a : Searches ℕ) (p : Arrays) (size count : ℕ) : Type 0 where
+  pub listed : ArePatternsOf a p
   pub bytes : size ≡ length p.bytes
   pub patterns : count ≡ length p.ends
 
@@ -62,8 +62,8 @@ abbrev pub LackRoom : Arrays → Arrays → Type 0
 LackRoom p room = (length room.bytes < length p.bytes) ⊎ (length room.ends < length p.ends) ⊎ (length room.values < length p.values)
 
 -- the automaton's patterns stand at the beginning of the arrays, and are told to be so many bytes and so many patterns
-abbrev pub Lists : Searches ℕ → Arrays → Arrays → ℕ → ℕ → Type 0
-Lists a old new size count = (p : Arrays) × AreCounted a p size count × StandInFront p old new
+abbrev pub HasListed : Searches ℕ → Arrays → Arrays → ℕ → ℕ → Type 0
+HasListed a old new size count = (p : Arrays) × AreListedIn a p size count × StandInFront p old new
 
 -- no number is told
 abbrev pub TellsNone : ℕ → ℕ → Type 0
@@ -72,7 +72,7 @@ TellsNone size count = (size ≡ 0) × (count ≡ 0)
 -- why an automaton's patterns are not written to these arrays, and what is told then
 abbrev pub IsNotListed : Searches ℕ → Arrays → ℕ → ℕ → Refusal → Type 0
 IsNotListed a room size count r =
-    ((r ≡ OutOfMemory) × TellsNone size count) ⊎ ((r ≡ NoRoom) × ((p : Arrays) × AreCounted a p size count × LackRoom p room))
+    ((r ≡ OutOfMemory) × TellsNone size count) ⊎ ((r ≡ NoRoom) × ((p : Arrays) × AreListedIn a p size count × LackRoom p room))
 
 -- why a call to list is refused, and what is told then
 abbrev pub IsListCause : Option Held → Arrays → ℕ → ℕ → Refusal → Type 0

@@ -7,24 +7,24 @@ use Rattle.daachorse_core.specs.declared.errors.Limit.TheVariants.{PatternValues
 use Rattle.daachorse_c.specs.declared.refusal.Refusal.{Refusal}
 use Rattle.daachorse_c.specs.declared.refusal.Refusal.TheVariants.{OutOfMemory, EmptyHandle, UnknownKind, WrongKind, WrongPatterns, PatternTooLong, TooManyStates, TooManyPatterns, TooManyElements, InvalidAutomaton, NoRoom, NoStream, StreamTooLong}
 
-abbrev pub number_of : Refusal → ℕ
-number_of OutOfMemory = 1
-number_of EmptyHandle = 2
-number_of UnknownKind = 3
-number_of WrongKind = 4
-number_of WrongPatterns = 5
-number_of PatternTooLong = 6
-number_of TooManyStates = 7
-number_of TooManyPatterns = 8
-number_of TooManyElements = 9
-number_of InvalidAutomaton = 10
-number_of NoRoom = 11
-number_of NoStream = 12
-number_of StreamTooLong = 13
+abbrev pub refusal_number : Refusal → ℕ
+refusal_number OutOfMemory = 1
+refusal_number EmptyHandle = 2
+refusal_number UnknownKind = 3
+refusal_number WrongKind = 4
+refusal_number WrongPatterns = 5
+refusal_number PatternTooLong = 6
+refusal_number TooManyStates = 7
+refusal_number TooManyPatterns = 8
+refusal_number TooManyElements = 9
+refusal_number InvalidAutomaton = 10
+refusal_number NoRoom = 11
+refusal_number NoStream = 12
+refusal_number StreamTooLong = 13
 
 -- a call answers 0, or the number of a refusal for which P holds
 abbrev pub IsDoneOr : (Refusal → Type 0) → ℕ → Type 0
-IsDoneOr P answer = (answer ≡ 0) ⊎ ((r : Refusal) × (answer ≡ number_of r) × P r)
+IsDoneOr P answer = (answer ≡ 0) ⊎ ((r : Refusal) × (answer ≡ refusal_number r) × P r)
 
 -- the refusal of a build that would pass a limit: there are as many outputs as patterns
 abbrev pub limit_refusal : Limit → Refusal

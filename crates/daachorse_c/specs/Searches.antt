@@ -25,11 +25,11 @@ found_by Overlapping K haystack = overlapping byte_width K haystack
 found_by NoSuffix K haystack = no_suffix byte_width K haystack
 found_by Leftmost K haystack = leftmost byte_width K haystack
 
-abbrev pub IsFor : Search → MatchKind → Type 0
-IsFor Find kind = kind ≡ Standard
-IsFor Overlapping kind = kind ≡ Standard
-IsFor NoSuffix kind = kind ≡ Standard
-IsFor Leftmost kind = kind ≢ Standard
+abbrev pub ServesKind : Search → MatchKind → Type 0
+ServesKind Find kind = kind ≡ Standard
+ServesKind Overlapping kind = kind ≡ Standard
+ServesKind NoSuffix kind = kind ≡ Standard
+ServesKind Leftmost kind = kind ≢ Standard
 
 -- why a call is refused that asks for an automaton of any kind
 abbrev pub IsUseCause : Option Held → Refusal → Type 0
@@ -37,7 +37,7 @@ IsUseCause held r = (r ≡ EmptyHandle) × IsNone held
 
 -- why a search is refused
 abbrev pub IsSearchCause : Search → Option Held → Refusal → Type 0
-IsSearchCause search held r = IsUseCause held r ⊎ ((r ≡ WrongKind) × IsSomeAnd held (λ a. IsFor search (kind_of a.searches) → ⊥))
+IsSearchCause search held r = IsUseCause held r ⊎ ((r ≡ WrongKind) × IsSomeAnd held (λ a. ServesKind search (kind_of a.searches) → ⊥))
 
 -- What a search from C does: it leaves the handle as it was, and writes the first of its matches in the haystack as the automaton reads it, or says why it is refused and writes none.
 pub record IsSearchOf (search : Search) (haystack : List ℕ) (old new : Option Held) (out_old out_new : List CMatch) (written answer : ℕ) : Type 0 where

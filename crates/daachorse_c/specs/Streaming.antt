@@ -10,12 +10,12 @@ use Rattle.daachorse_c.specs.declared.stream.Stream.{Stream}
 use Rattle.daachorse_c.specs.Held.{Held}
 use Rattle.daachorse_c.specs.Refusals.{IsDoneOr}
 use Rattle.daachorse_c.specs.Searches.{IsUseCause}
-use Rattle.daachorse_c.specs.Streams.{Begins, Tells, read_by}
+use Rattle.daachorse_c.specs.Streams.{IsAtBeginning, Tells, read_by}
 
 -- the automaton is as before, and its stream begins
 pub record HasBegun (all : Bool) (old new : Held) : Type 0 where
   pub kept : new.searches ≡ old.searches
-  pub begins : IsSomeAnd new.stream (Begins all)
+  pub begins : IsSomeAnd new.stream (IsAtBeginning all)
 
 -- why no stream begins
 abbrev pub IsBeginCause : Option Held → Refusal → Type 0

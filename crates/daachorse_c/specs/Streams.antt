@@ -81,7 +81,7 @@ pub record GoesOnIn (a : Searches ℕ) (s : Stream) : Type 0 where
   pub least : s.here ≤ s.told
 
 -- it has consumed nothing, and told nothing
-pub record Begins (all : Bool) (s : Stream) : Type 0 where
+pub record IsAtBeginning (all : Bool) (s : Stream) : Type 0 where
   pub search : overlaps s.standing ≡ all
   pub read : read_by s.standing ≡ []
   pub told : s.told ≡ 0

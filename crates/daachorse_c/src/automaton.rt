@@ -11,8 +11,8 @@ ghost use Rattle.daachorse_model.specs.Matches.{overlapping};
 ghost use Rattle.daachorse_model.specs.Units.{byte_width};
 ghost use Rattle.daachorse_bytewise.specs.Automata.{dictionary_of, kind_of};
 ghost use Rattle.daachorse_c.specs.declared.refusal.Refusal.TheVariants.{WrongKind};
-ghost use Rattle.daachorse_c.specs.Listing.{IsNotListed, Lists, arrays};
-ghost use Rattle.daachorse_c.specs.Searches.{IsFor, found_by};
+ghost use Rattle.daachorse_c.specs.Listing.{IsNotListed, HasListed, arrays};
+ghost use Rattle.daachorse_c.specs.Searches.{ServesKind, found_by};
 ghost use Rattle.daachorse_c.specs.Streaming.{HasBegun, HasConsumed, IsIdleCause};
 ghost use Rattle.daachorse_c.specs.Writes.{Writes};
 ghost use Rattle.daachorse_c.specs.Written.{IsNotWritten, StandsInFront, form_of};
@@ -73,7 +73,7 @@ impl Automaton {
         out: &mut [CMatch],
     ) -> Result<usize, Refusal>
         ensures found { IfOk result (Writes (found_by search (dictionary_of self.now.searches) (as_read self.now.searches.folds haystack.now)) out.old out.new) }
-        ensures refused { IfErr result (λ r. (r ≡ WrongKind) × (IsFor search (kind_of self.now.searches) → ⊥)) }
+        ensures refused { IfErr result (λ r. (r ≡ WrongKind) × (ServesKind search (kind_of self.now.searches) → ⊥)) }
         ensures unwritten { IfErr result (λ _. out.new ≡ out.old) }
     {
         if !search.is_for(self.searches.match_kind()) {
@@ -128,7 +128,7 @@ impl Automaton {
         size: &mut usize,
         count: &mut usize,
     ) -> Result<(), Refusal>
-        ensures listed { OnOk result (Lists self.now.searches (arrays bytes.old ends.old values.old) (arrays bytes.new ends.new values.new) size.new count.new) }
+        ensures listed { OnOk result (HasListed self.now.searches (arrays bytes.old ends.old values.old) (arrays bytes.new ends.new values.new) size.new count.new) }
         ensures refused { IfErr result (IsNotListed self.now.searches (arrays bytes.old ends.old values.old) size.new count.new) }
         ensures unwritten { OnErr result (arrays bytes.new ends.new values.new ≡ arrays bytes.old ends.old values.old) }
     {
@@ -187,7 +187,7 @@ fn find_in(
     haystack: &[u8],
     out: &mut [CMatch],
 ) -> usize
-    requires { IsFor search (kind_of searches.now) }
+    requires { ServesKind search (kind_of searches.now) }
     ensures { Writes (found_by search (dictionary_of searches.now) (as_read searches.now.folds haystack.now)) out.old out.new result }
 {
     match search {

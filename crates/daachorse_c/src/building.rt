@@ -5,12 +5,12 @@
 
 ghost use Rattle.std.specs.Prelude.{◌≡◌, ◌≢◌, None, IfErr, IfOk, MatchResult, map};
 ghost use Rattle.daachorse_model.specs.declared.MatchKind.{MatchKind};
-ghost use Rattle.daachorse_model.specs.Dictionary.{registered};
+ghost use Rattle.daachorse_model.specs.Dictionary.{registrations_of};
 ghost use Rattle.daachorse_model.specs.Kinds.{byte_of_kind};
 ghost use Rattle.daachorse_patterns.specs.Folding.{all_as_read, texts_as_read};
 ghost use Rattle.daachorse_bytewise.specs.Automata.{kind_of};
 ghost use Rattle.daachorse_bytewise.specs.Building.{HoldsPatterns, IsRefusalOf, kept_filter};
-ghost use Rattle.daachorse_c.specs.Building.{IsBuildCause, IsBuilt};
+ghost use Rattle.daachorse_c.specs.Building.{IsBuildCause, IsBuiltFrom};
 ghost use Rattle.daachorse_c.specs.declared.refusal.Refusal.TheVariants.{UnknownKind};
 
 use crate::automaton::Automaton;
@@ -36,7 +36,7 @@ pub(crate) fn build(
     ends: &[usize],
     values: &[u32],
 ) -> Result<Box<Automaton, Global>, Refusal>
-    ensures built { IfOk result (λ b. IsBuilt kind ascii_case_insensitive bytes.now ends.now values.now use_prefilter b.value.searches) }
+    ensures built { IfOk result (λ b. IsBuiltFrom kind ascii_case_insensitive bytes.now ends.now values.now use_prefilter b.value.searches) }
     ensures stream { IfOk result (λ b. b.value.stream ≡ None) }
     ensures refused { IfErr result (IsBuildCause kind ascii_case_insensitive bytes.now ends.now values.now) }
 {
@@ -72,11 +72,11 @@ fn build_of(
     ascii_case_insensitive: bool,
     patterns: &[(&[u8], u32)],
 ) -> Result<DoubleArrayAhoCorasick<u32, Global>, DaachorseError>
-    ensures built { IfOk result (HoldsPatterns kind (texts_as_read ascii_case_insensitive (registered patterns.now))) }
+    ensures built { IfOk result (HoldsPatterns kind (texts_as_read ascii_case_insensitive (registrations_of patterns.now))) }
     ensures kind { IfOk result (λ a. kind_of a ≡ kind) }
     ensures folded { IfOk result (λ a. a.folds ≡ ascii_case_insensitive) }
     ensures filter { IfOk result (λ a. a.filter ≡ kept_filter use_prefilter (all_as_read ascii_case_insensitive (map (λ p. p.0.now) patterns.now))) }
-    ensures refused { IfErr result (IsRefusalOf kind (texts_as_read ascii_case_insensitive (registered patterns.now))) }
+    ensures refused { IfErr result (IsRefusalOf kind (texts_as_read ascii_case_insensitive (registrations_of patterns.now))) }
 {
     let builder = DoubleArrayAhoCorasickBuilder::new()
         .match_kind(kind)

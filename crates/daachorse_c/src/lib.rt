@@ -12,8 +12,8 @@ ghost use Rattle.daachorse_model.specs.Matches.{overlapping};
 ghost use Rattle.daachorse_model.specs.Units.{byte_width};
 ghost use Rattle.daachorse_bytewise.specs.Automata.{dictionary_of};
 ghost use Rattle.daachorse_c.specs.declared.search.Search.TheVariants.{Find, Leftmost, NoSuffix, Overlapping};
-ghost use Rattle.daachorse_c.specs.Building.{IsBuildCause, IsBuilt};
-ghost use Rattle.daachorse_c.specs.Listing.{IsListCause, Lists, arrays};
+ghost use Rattle.daachorse_c.specs.Building.{IsBuildCause, IsBuiltFrom};
+ghost use Rattle.daachorse_c.specs.Listing.{IsListCause, HasListed, arrays};
 ghost use Rattle.daachorse_c.specs.Refusals.{IsDoneOr};
 ghost use Rattle.daachorse_c.specs.Searches.{IsSearchOf, IsUseCause};
 ghost use Rattle.daachorse_c.specs.Streaming.{HasBegun, IsBeginCause, IsConsumption};
@@ -65,7 +65,7 @@ pub extern "C" fn daachorse_build(
     ends: &[usize],
     values: &[u32],
 ) -> u32
-    ensures built { result ≡ 0 → IsSomeAnd handle.new.automaton (λ a. IsBuilt kind ascii_case_insensitive bytes.now ends.now values.now use_prefilter a.searches) }
+    ensures built { result ≡ 0 → IsSomeAnd handle.new.automaton (λ a. IsBuiltFrom kind ascii_case_insensitive bytes.now ends.now values.now use_prefilter a.searches) }
     ensures stream { result ≡ 0 → IsSomeAnd handle.new.automaton (λ a. a.stream ≡ None) }
     ensures refused { IsDoneOr (IsBuildCause kind ascii_case_insensitive bytes.now ends.now values.now) result }
     ensures unchanged { result ≢ 0 → handle.new.automaton ≡ handle.old.automaton }
@@ -307,7 +307,7 @@ pub extern "C" fn daachorse_list(
     count: &mut usize,
 ) -> u32
     ensures kept { handle.new.automaton ≡ handle.old.automaton }
-    ensures listed { result ≡ 0 → IsSomeAnd handle.old.automaton (λ a. Lists a.searches (arrays bytes.old ends.old values.old) (arrays bytes.new ends.new values.new) size.new count.new) }
+    ensures listed { result ≡ 0 → IsSomeAnd handle.old.automaton (λ a. HasListed a.searches (arrays bytes.old ends.old values.old) (arrays bytes.new ends.new values.new) size.new count.new) }
     ensures refused { IsDoneOr (IsListCause handle.old.automaton (arrays bytes.old ends.old values.old) size.new count.new) result }
     ensures unwritten { result ≢ 0 → arrays bytes.new ends.new values.new ≡ arrays bytes.old ends.old values.old }
 {

@@ -4,7 +4,7 @@
 //! where there is room for it in each.
 
 ghost use Rattle.std.specs.Prelude.{◌≡◌, IfErr, IfOk, OnErr, OnOk};
-ghost use Rattle.daachorse_c.specs.Listing.{AreListed, LackRoom, StandInFront, arrays, arrays_of, one_more};
+ghost use Rattle.daachorse_c.specs.Listing.{ArePatternsOf, LackRoom, StandInFront, arrays, arrays_of, one_more};
 ghost use Rattle.daachorse_c.specs.declared.refusal.Refusal.TheVariants.{NoRoom, OutOfMemory};
 
 use crate::refusal::Refusal;
@@ -33,7 +33,7 @@ impl Listing {
         alloc: Global,
         searches: &DoubleArrayAhoCorasick<u32, Global>,
     ) -> Result<Listing, Refusal>
-        ensures listed { IfOk result (λ l. AreListed searches.now (arrays_of l)) }
+        ensures listed { IfOk result (λ l. ArePatternsOf searches.now (arrays_of l)) }
         ensures refused { IfErr result (λ r. r ≡ OutOfMemory) }
     {
         let mut listing = Listing {

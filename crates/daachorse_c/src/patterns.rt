@@ -3,7 +3,7 @@
 //! The layers above may rely on just these patterns, each with its value, in order.
 
 ghost use Rattle.std.specs.Prelude.{◌≡◌, ◌⊎◌, IfErr, IfOk};
-ghost use Rattle.daachorse_model.specs.Dictionary.{registered};
+ghost use Rattle.daachorse_model.specs.Dictionary.{registrations_of};
 ghost use Rattle.daachorse_c.specs.Patterns.{ArePatterns, registrations};
 ghost use Rattle.daachorse_c.specs.declared.refusal.Refusal.TheVariants.{OutOfMemory, WrongPatterns};
 
@@ -22,7 +22,7 @@ pub(crate) fn patterns_in<'a>(
     values: &[u32],
 ) -> Result<Vec<(&'a [u8], u32), Global>, Refusal>
     ensures right { IfOk result (λ _. ArePatterns bytes.entry.now ends.now values.now) }
-    ensures all { IfOk result (λ v. registered v.items ≡ registrations bytes.entry.now 0 ends.now values.now) }
+    ensures all { IfOk result (λ v. registrations_of v.items ≡ registrations bytes.entry.now 0 ends.now values.now) }
     ensures err { IfErr result (λ r. (r ≡ OutOfMemory) ⊎ ((r ≡ WrongPatterns) × (ArePatterns bytes.entry.now ends.now values.now → ⊥))) }
 {
     if ends.len() != values.len() {

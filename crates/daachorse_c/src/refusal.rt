@@ -3,7 +3,7 @@
 //! The layers above may rely on each refusal having a number of its own, above 0.
 
 ghost use Rattle.std.specs.Prelude.{◌≡◌, ◌<◌};
-ghost use Rattle.daachorse_c.specs.Refusals.{limit_refusal, number_of, refusal_of};
+ghost use Rattle.daachorse_c.specs.Refusals.{limit_refusal, refusal_number, refusal_of};
 ghost use Rattle.daachorse_c.specs.declared.refusal.Refusal.TheVariants.{OutOfMemory};
 
 use daachorse::errors::{DaachorseError, Limit};
@@ -43,7 +43,7 @@ pub enum Refusal {
 impl Refusal {
     /// The number that a call answers.
     pub(crate) fn number(self) -> u32
-        ensures is { result ≡ number_of self }
+        ensures is { result ≡ refusal_number self }
         ensures above { 0 < result }
     {
         match self {

@@ -3,7 +3,7 @@
 //! The layers above may rely on the answer whether a search is for automata of a kind.
 
 ghost use Rattle.std.specs.Prelude.{◌↔◌, IsTrue};
-ghost use Rattle.daachorse_c.specs.Searches.{IsFor};
+ghost use Rattle.daachorse_c.specs.Searches.{ServesKind};
 
 use daachorse::MatchKind;
 
@@ -23,7 +23,7 @@ pub enum Search {
 impl Search {
     /// Whether the search is for automata of this kind.
     pub(crate) fn is_for(self, kind: MatchKind) -> bool
-        ensures { IsTrue result ↔ IsFor self kind }
+        ensures { IsTrue result ↔ ServesKind self kind }
     {
         match self {
             Search::Find | Search::Overlapping | Search::NoSuffix => kind.is_standard(),

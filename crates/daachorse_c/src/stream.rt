@@ -7,7 +7,7 @@
 ghost use Rattle.std.specs.Prelude.{◌≡◌, ◌↔◌, ◌+◌, ◌<◌, ◌^◌, IsTrue, length};
 ghost use Rattle.daachorse_model.specs.declared.MatchKind.TheVariants.{Standard};
 ghost use Rattle.daachorse_bytewise.specs.Automata.{kind_of};
-ghost use Rattle.daachorse_c.specs.Streams.{Begins, GoesOnIn, Tells, read_by};
+ghost use Rattle.daachorse_c.specs.Streams.{IsAtBeginning, GoesOnIn, Tells, read_by};
 
 use crate::found::CMatch;
 use crate::stepper::{Standing, Stepper};
@@ -39,7 +39,7 @@ impl Stream {
     pub(crate) fn new(searches: &DoubleArrayAhoCorasick<u32, Global>, overlapping: bool) -> Stream
         requires { kind_of searches.now ≡ Standard }
         ensures goes_on { GoesOnIn searches.now result }
-        ensures begins { Begins overlapping result }
+        ensures begins { IsAtBeginning overlapping result }
     {
         let stepper = Stepper::new(searches, overlapping);
         Stream {

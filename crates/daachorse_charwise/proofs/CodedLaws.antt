@@ -7,14 +7,14 @@ use Rattle.std.proofs.lemmas.Bool.{eq-eqb}
 use Rattle.std.proofs.lemmas.Slice.Eq.{bytes_eq-Decides}
 use Rattle.daachorse_model.specs.declared.MatchKind.{MatchKind}
 use Rattle.daachorse_model.specs.declared.MatchKind.TheVariants.{Standard, LeftmostLongest, LeftmostFirst}
-use Rattle.daachorse_model.specs.Dictionary.{dictionary, is_proper_prefix, kept, values_of, without_extensions}
+use Rattle.daachorse_model.specs.Dictionary.{dictionary, is_proper_prefix, kept_registrations, values_of, without_extensions}
 use Rattle.daachorse_model.specs.Units.{same_text}
 use Rattle.daachorse_mapper.specs.Codings.{Coding, IsCodingOf}
 use Rattle.daachorse_packing.proofs.Keys.{of_key}
 use Rattle.daachorse_charwise_states.specs.Packing.{AreCoded}
 use Rattle.daachorse_charwise_states.specs.Texts.{AreTexts}
 use Rattle.daachorse_charwise_states.proofs.Codes.{char_code-of}
-use Rattle.daachorse_charwise.specs.Frequencies.{AreFrequencies, joined}
+use Rattle.daachorse_charwise.specs.Frequencies.{AreFrequencies, concatenation}
 use Rattle.daachorse_charwise.proofs.CountLaws.{count-append}
 use Rattle.daachorse_charwise.proofs.TextLaws.{scalar_in}
 
@@ -24,11 +24,11 @@ often u w = count_by (nat_eq u) w
 
 module _ {V : Type 0} (u : ℕ) where
   abbrev in_all : List (List ℕ × V) → ℕ
-  in_all rs = often u (joined (map (λ r. r.0) rs))
+  in_all rs = often u (concatenation (map (λ r. r.0) rs))
 
   -- the first text is one of all
   in_first : (r : List ℕ × V) (rs : List (List ℕ × V)) → in_all (r ∷ rs) ≡ often u r.0 + in_all rs
-  in_first r rs = count-append u r.0 (joined (map (λ r. r.0) rs))
+  in_first r rs = count-append u r.0 (concatenation (map (λ r. r.0) rs))
 
   -- registrations that are left out take characters away, and bring none
   without_fewer : (before : List (List ℕ)) (rs : List (List ℕ × V)) → in_all (without_extensions before rs) ≤ in_all rs
@@ -40,7 +40,7 @@ module _ {V : Type 0} (u : ℕ) where
       go true fewer = omega (arith, fewer, in_first r rs)
       go false fewer = omega (arith, fewer, in_first r rs, in_first r (without_extensions (r.0 ∷ before) rs))
 
-  kept_fewer : (kind : MatchKind) (rs : List (List ℕ × V)) → in_all (kept kind rs) ≤ in_all rs
+  kept_fewer : (kind : MatchKind) (rs : List (List ℕ × V)) → in_all (kept_registrations kind rs) ≤ in_all rs
   kept_fewer Standard rs = omega arith
   kept_fewer LeftmostLongest rs = omega arith
   kept_fewer LeftmostFirst rs = without_fewer [] rs
@@ -58,7 +58,7 @@ module _ {V : Type 0} (u : ℕ) where
 pub coded : {V : Type 0} (kind : MatchKind) (rs : List (List ℕ × V)) (freqs : List ℕ) (coding : Coding) → AreTexts rs → AreFrequencies (map (λ r. r.0) rs) freqs → IsCodingOf freqs coding → AreCoded coding (dictionary kind rs)
 coded {V} kind rs freqs coding texts counted codes v w u key =
     let character = scalar_in v w u (of_key (λ t. IsTrue (all_scalars t)) kind rs texts (v ++ u ∷ w) key) in
-    let among = key_among u (kept kind rs) (v ++ u ∷ w) key in
+    let among = key_among u (kept_registrations kind rs) (v ++ u ∷ w) key in
     let fewer = kept_fewer u kind rs in
     let here = count-append u v (u ∷ w) in
     let self : often u (u ∷ []) ≡ 1 = ap (λ b. 0 + cond b 1 0) (eq-eqb u u refl) in

@@ -8,10 +8,10 @@ use Rattle.std.specs.Str.{all_scalars, chars}
 use Rattle.std.proofs.Math.Utf8.{scalar}
 use Rattle.daachorse_model.proofs.Booleans.{both-true}
 use Rattle.daachorse_charwise_states.specs.Texts.{AreTexts}
-use Rattle.daachorse_charwise.specs.Building.{registered_texts}
+use Rattle.daachorse_charwise.specs.Building.{registrations_of_strings}
 
 -- the registered texts are made of characters
-pub registered_scalars : {V : Type 0} (patterns : List (Bor (List ℕ) × V)) → AllByRecursion (λ s. IsTrue (all_scalars (chars s.0.now))) patterns → AreTexts (registered_texts patterns)
+pub registered_scalars : {V : Type 0} (patterns : List (Bor (List ℕ) × V)) → AllByRecursion (λ s. IsTrue (all_scalars (chars s.0.now))) patterns → AreTexts (registrations_of_strings patterns)
 registered_scalars [] all = tt
 registered_scalars (s ∷ patterns) all = (all.0, registered_scalars patterns all.1)
 

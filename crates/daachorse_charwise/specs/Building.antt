@@ -6,7 +6,7 @@ use Rattle.daachorse_core.specs.declared.errors.DaachorseError.{DaachorseError}
 use Rattle.daachorse_core.specs.declared.errors.DaachorseError.TheVariants.{AutomatonScale}
 use Rattle.daachorse_core.specs.declared.errors.Limit.TheVariants.{NumElements}
 use Rattle.daachorse_model.specs.declared.MatchKind.{MatchKind}
-use Rattle.daachorse_model.specs.Dictionary.{dictionary, kept}
+use Rattle.daachorse_model.specs.Dictionary.{dictionary, kept_registrations}
 use Rattle.daachorse_model.specs.Units.{char_width}
 use Rattle.daachorse_mapper.specs.Codings.{Coding, IsCodingOf}
 use Rattle.daachorse_patterns.specs.Building.{Fit, IsBuildRefusalWithin, IsRefusalWithin, Limits}
@@ -18,12 +18,12 @@ use Rattle.daachorse_charwise.specs.Automata.{Automaton, coding_of, dictionary_o
 use Rattle.daachorse_charwise.specs.Frequencies.{AreFrequencies}
 
 -- the texts that strings stand for
-abbrev pub spelled : List (Bor (List ℕ)) → List (List ℕ)
-spelled strings = map (λ s. chars s.now) strings
+abbrev pub texts_of_strings : List (Bor (List ℕ)) → List (List ℕ)
+texts_of_strings strings = map (λ s. chars s.now) strings
 
 -- the registrations that strings with values stand for
-abbrev pub registered_texts : {V : Type 0} → List (Bor (List ℕ) × V) → List (List ℕ × V)
-registered_texts patterns = texts_of (λ s. chars s.now) patterns
+abbrev pub registrations_of_strings : {V : Type 0} → List (Bor (List ℕ) × V) → List (List ℕ × V)
+registrations_of_strings patterns = texts_of (λ s. chars s.now) patterns
 
 -- the codes of the characters of these texts: the most frequent have the smallest
 abbrev pub AreCodesOf : List (List ℕ) → Coding → Type 0
@@ -47,7 +47,7 @@ module _ {V : Type 0} (kind : MatchKind) (rs : List (List ℕ × V)) where
   pub record RunsOut (e : DaachorseError) : Type 0 where
     pub limit : e ≡ AutomatonScale (record { limit = NumElements })
     pub fit : Fit char_width kind rs
-    pub outputs : length (kept kind rs) ≤ 4294967295
+    pub outputs : length (kept_registrations kind rs) ≤ 4294967295
     pub coding : Coding
     pub codes : AreCodesOf (map (λ r. r.0) rs) coding
     pub blocks : NeedsManyBlocks coding (dictionary kind rs)

@@ -2,19 +2,19 @@
 use Rattle.std.specs.Prelude.{◌≡◌, ℕ, ◌+◌, ◌≤◌, min, List, [], ◌∷◌, ◌++◌, length, nat_eq, count_by, slice_index}
 
 -- how often u is in the text, if that is a number of 32 bits
-abbrev pub many : ℕ → ℕ
-many n = min n 4294967295
+abbrev pub frequency : ℕ → ℕ
+frequency n = min n 4294967295
 
 -- the texts, joined
-abbrev pub joined : List (List ℕ) → List ℕ
-joined [] = []
-joined (w ∷ ws) = w ++ joined ws
+abbrev pub concatenation : List (List ℕ) → List ℕ
+concatenation [] = []
+concatenation (w ∷ ws) = w ++ concatenation ws
 
 -- the counts after those of the characters of w were added: none is past the last code point
 pub record HasCounted (old : List ℕ) (w : List ℕ) (new : List ℕ) : Type 0 where
   pub few : length new ≤ 1114112
-  pub counts : (u : ℕ) → slice_index new u ≡ many (slice_index old u + count_by (nat_eq u) w)
+  pub counts : (u : ℕ) → slice_index new u ≡ frequency (slice_index old u + count_by (nat_eq u) w)
 
 -- the counts of the characters of all texts
 abbrev pub AreFrequencies : List (List ℕ) → List ℕ → Type 0
-AreFrequencies texts freqs = HasCounted [] (joined texts) freqs
+AreFrequencies texts freqs = HasCounted [] (concatenation texts) freqs

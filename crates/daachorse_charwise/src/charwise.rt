@@ -24,7 +24,7 @@ ghost use Rattle.daachorse_search.specs.Beginnings.{BeginsWith};
 ghost use Rattle.daachorse_search.specs.Filters.{IsSoundFor};
 ghost use Rattle.daachorse_skipping.specs.Asked.{BeginsAsking, lets_pass};
 ghost use Rattle.daachorse_charwise.specs.Automata.{HasDepths, MayFold, MayHaveFilter, dictionary_of, element_count, kind_of, states_of};
-ghost use Rattle.daachorse_charwise.specs.Building.{HoldsPatterns, IsBuildRefusal, IsBuiltOf, IsRefusalOf, kept_filter, registered_texts, spelled};
+ghost use Rattle.daachorse_charwise.specs.Building.{HoldsPatterns, IsBuildRefusal, IsBuiltOf, IsRefusalOf, kept_filter, registrations_of_strings, texts_of_strings};
 ghost use Rattle.daachorse_charwise_states.specs.Texts.{AreTexts};
 
 pub mod accelerated;
@@ -119,14 +119,14 @@ impl<V: Copy, A: Allocator + Copy> CharwiseDoubleArrayAhoCorasick<V, A> {
         V::Error: Drop,
         requires { (it : P.IntoIter) → P.into_iter_gives patterns it → P.IntoIter.can_next it × IsFinite (P.IntoIter.remaining it) }
         ensures ok { IfOk result (λ a. (it : P.IntoIter) × P.into_iter_gives patterns it
-            × WholeRun P.IntoIter.next_gives it (λ p. IsBuiltOf V.try_from_gives Standard (spelled p.items) a)) }
+            × WholeRun P.IntoIter.next_gives it (λ p. IsBuiltOf V.try_from_gives Standard (texts_of_strings p.items) a)) }
         ensures kind { IfOk result (λ a. kind_of a ≡ Standard) }
         ensures folds { IfOk result (λ a. a.folds ≡ false) }
         ensures filter { IfOk result (λ a. (it : P.IntoIter) × P.into_iter_gives patterns it
-            × WholeRun P.IntoIter.next_gives it (λ p. a.filter ≡ kept_filter true (spelled p.items))) }
+            × WholeRun P.IntoIter.next_gives it (λ p. a.filter ≡ kept_filter true (texts_of_strings p.items))) }
         ensures depths { IfOk result (λ a. a.depths ≡ []) }
         ensures err { IfErr result (λ e. IsOutOfMemory e ⊎ ((it : P.IntoIter) × P.into_iter_gives patterns it
-            × WholeRun P.IntoIter.next_gives it (λ p. IsBuildRefusal V.try_from_gives Standard (spelled p.items) e))) }
+            × WholeRun P.IntoIter.next_gives it (λ p. IsBuildRefusal V.try_from_gives Standard (texts_of_strings p.items) e))) }
     {
         CharwiseDoubleArrayAhoCorasickBuilder::new().build(alloc, patterns)
     }
@@ -155,14 +155,14 @@ impl<V: Copy, A: Allocator + Copy> CharwiseDoubleArrayAhoCorasick<V, A> {
         P::IntoIter: Drop,
         requires { (it : P.IntoIter) → P.into_iter_gives patvals it → P.IntoIter.can_next it × IsFinite (P.IntoIter.remaining it) }
         ensures ok { IfOk result (λ a. (it : P.IntoIter) × P.into_iter_gives patvals it
-            × WholeRun P.IntoIter.next_gives it (λ p. HoldsPatterns Standard (registered_texts p.items) a)) }
+            × WholeRun P.IntoIter.next_gives it (λ p. HoldsPatterns Standard (registrations_of_strings p.items) a)) }
         ensures kind { IfOk result (λ a. kind_of a ≡ Standard) }
         ensures folds { IfOk result (λ a. a.folds ≡ false) }
         ensures filter { IfOk result (λ a. (it : P.IntoIter) × P.into_iter_gives patvals it
-            × WholeRun P.IntoIter.next_gives it (λ p. a.filter ≡ kept_filter true (map (λ r. r.0) (registered_texts p.items)))) }
+            × WholeRun P.IntoIter.next_gives it (λ p. a.filter ≡ kept_filter true (map (λ r. r.0) (registrations_of_strings p.items)))) }
         ensures depths { IfOk result (λ a. a.depths ≡ []) }
         ensures err { IfErr result (λ e. IsOutOfMemory e ⊎ ((it : P.IntoIter) × P.into_iter_gives patvals it
-            × WholeRun P.IntoIter.next_gives it (λ p. IsRefusalOf Standard (registered_texts p.items) e))) }
+            × WholeRun P.IntoIter.next_gives it (λ p. IsRefusalOf Standard (registrations_of_strings p.items) e))) }
     {
         CharwiseDoubleArrayAhoCorasickBuilder::new().build_with_values(alloc, patvals)
     }

@@ -14,20 +14,20 @@ use Rattle.daachorse_machine.proofs.ChildLaws.{child_at-inside}
 use Rattle.daachorse_mapper.specs.Codings.{Coding}
 use Rattle.daachorse_charwise_states.specs.declared.state.State.{State}
 use Rattle.daachorse_charwise_states.specs.Elements.{base_in, check_in, vacant}
-use Rattle.daachorse_charwise_states.specs.Parts.{Parts, char_code, child, child_among, child_of, content, count, machine}
+use Rattle.daachorse_charwise_states.specs.Parts.{Parts, char_code, child, child_among, coded_child, content, count, machine}
 use Rattle.daachorse_charwise_states.specs.Valid.{IsValid, has_code}
 use Rattle.daachorse_charwise_states.proofs.Codes.{char_code-is, coded_inside}
 
 -- a character leads to what its code leads to
-pub child_by_code : (es : List State) (coding : Coding) (i u c : ℕ) → char_code coding u ≡ Some c → child_of es coding i u ≡ child_among es i c
+pub child_by_code : (es : List State) (coding : Coding) (i u c : ℕ) → char_code coding u ≡ Some c → coded_child es coding i u ≡ child_among es i c
 child_by_code es coding i u c is = ap (λ o. option_and_then (λ k. child_among es i k) o) is
 
 module _ (es : List State) (coding : Coding) where
   -- a text that leads somewhere is of characters
-  text_leads : (w : List ℕ) (i j : ℕ) → walk (child_of es coding) i w ≡ Some j → IsTrue (all_scalars w)
+  text_leads : (w : List ℕ) (i j : ℕ) → walk (coded_child es coding) i w ≡ Some j → IsTrue (all_scalars w)
   text_leads [] i j e = refl
   text_leads (u ∷ w) i j e =
-      let next = and_then_inv (λ k. walk (child_of es coding) k w) (child_of es coding i u) j e in
+      let next = and_then_inv (λ k. walk (coded_child es coding) k w) (coded_child es coding i u) j e in
       let code = and_then_inv (λ c. child_among es i c) (char_code coding u) next.0 next.1 in
       ap (λ b. b && all_scalars w) (char_code-is coding u code.0 code.1).0 ∙ text_leads w next.0 j next.2
 

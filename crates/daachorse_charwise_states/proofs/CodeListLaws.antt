@@ -1,7 +1,7 @@
 -- The codes that some character has are labels enough for rows: each that stands for a character is listed.
 use Rattle.std.proofs.Common.{◌≡◌, ℕ, true, List, Option, None, Some, inr, refl, ap, Vec}
 use Rattle.std.specs.Prelude.{slice_index, is_some, IfOk, Result, Ok, Err}
-use Rattle.daachorse_rows.specs.Rows.{AreLabels, AreListed}
+use Rattle.daachorse_rows.specs.Rows.{AreLabels, IsListOf}
 use Rattle.daachorse_charwise_states.specs.Edges.{IsLettered, Lettered, character_of}
 use Rattle.daachorse_charwise_states.specs.Parts.{content}
 use Rattle.daachorse_charwise_states.specs.StateRows.{IsUsed, stands_for}
@@ -11,7 +11,7 @@ some_of : (o : Option ℕ) → is_some o ≡ true → (unit : ℕ) × (o ≡ Som
 some_of None some = absurd (cc)
 some_of (Some unit) some = (unit, refl)
 
-pub used_labels : {V : Type 0} (a : Lettered V) (codes : List ℕ) → IsLettered a → AreListed (IsUsed a) 510 codes → AreLabels (content a.parts) (stands_for a.parts) codes
+pub used_labels : {V : Type 0} (a : Lettered V) (codes : List ℕ) → IsLettered a → IsListOf (IsUsed a) 510 codes → AreLabels (content a.parts) (stands_for a.parts) codes
 used_labels a codes lettered listed = record {
   all = λ code unit low coded. inr (listed.all code low (ap is_some (lettered.letters.from_code unit code (coded_inside a.parts.coding unit code coded) coded)));
   below = λ k within. (listed.only k within).0;
@@ -19,6 +19,6 @@ used_labels a codes lettered listed = record {
 }
 
 -- so they are where a list was made at all
-pub labels_of : {V A E : Type 0} (a : Lettered V) (made : Result (Vec ℕ A) E) → IsLettered a → IfOk made (λ v. AreListed (IsUsed a) 510 v.items) → IfOk made (λ v. AreLabels (content a.parts) (stands_for a.parts) v.items)
+pub labels_of : {V A E : Type 0} (a : Lettered V) (made : Result (Vec ℕ A) E) → IsLettered a → IfOk made (λ v. IsListOf (IsUsed a) 510 v.items) → IfOk made (λ v. AreLabels (content a.parts) (stands_for a.parts) v.items)
 labels_of a (Ok v) lettered listed = used_labels a v.items lettered listed
 labels_of a (Err e) lettered listed = listed

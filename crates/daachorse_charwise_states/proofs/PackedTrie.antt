@@ -16,8 +16,8 @@ use Rattle.daachorse_packing.proofs.Looks.{look, look_none, look_some}
 use Rattle.daachorse_packing.proofs.Places.{edge-at, place-alive, place-apart, place-inside, place_from, state_from}
 use Rattle.daachorse_charwise_states.specs.declared.state.State.{State}
 use Rattle.daachorse_charwise_states.specs.Elements.{check_in}
-use Rattle.daachorse_charwise_states.specs.Parts.{Parts, char_code, child_among, child_of, machine}
-use Rattle.daachorse_charwise_states.specs.Packing.{AreEdgesCoded, HoldElements, code_in, element}
+use Rattle.daachorse_charwise_states.specs.Parts.{Parts, char_code, child_among, coded_child, machine}
+use Rattle.daachorse_charwise_states.specs.Packing.{AreEdgesCoded, HoldElements, code_in, element_at}
 use Rattle.daachorse_charwise_states.proofs.Codes.{char_code-is, code_same}
 
 module _ {A : Type 0} {coding : Coding} {block : ℕ} {gs : List (SiblingGroup A)} {l : Layout} {edges : List (List (ℕ × ℕ))} {fails positions : List ℕ} {es : List State}
@@ -32,7 +32,7 @@ module _ {A : Type 0} {coding : Coding} {block : ℕ} {gs : List (SiblingGroup A
   base_at s = get_or l.bases s 0
 
   abbrev check_at : ℕ → ℕ
-  check_at i = check_in (element es i)
+  check_at i = check_in (element_at es i)
 
   -- a state's element to which the code of no edge leads has another parent
   state_apart : (s c k t : ℕ) → s < length edges → s ≢ 1 → code_of coding c ≡ Some k → to s c ≡ None → t < length edges → t ≢ 1 → place t ≡ bit_xor (base_at s) k → check_at (place t) ≢ place s
@@ -77,8 +77,8 @@ module _ {A : Type 0} {coding : Coding} {block : ℕ} {gs : List (SiblingGroup A
           look_some (length es) (base_at s) (bit_xor (base_at s) k) (check_at (bit_xor (base_at s) k)) (place s) edge.nonzero inside check ∙ ap (λ x. Some x) at
 
   -- what a character leads to from a state's element
-  pub element-child : (s c : ℕ) → s < length edges → s ≢ 1 → child_of es coding (place s) c ≡ option_map (λ t. place t) (to s c)
-  element-child s c less alive = go (char_code coding c) refl
+  pub element_at-child : (s c : ℕ) → s < length edges → s ≢ 1 → coded_child es coding (place s) c ≡ option_map (λ t. place t) (to s c)
+  element_at-child s c less alive = go (char_code coding c) refl
     where
       no_edge : (o : Option ℕ) → char_code coding c ≡ None → to s c ≡ o → None ≡ option_map (λ t. place t) o
       no_edge None code e = refl
@@ -92,4 +92,4 @@ module _ {A : Type 0} {coding : Coding} {block : ℕ} {gs : List (SiblingGroup A
   parts kind outputs n = record { kind = kind; states = es; coding = coding; outputs = outputs; num_states = n }
 
   pub packed-IsCopy : {V : Type 0} (kind : MatchKind) (outputs : List (Output V)) (n : ℕ) → IsCopy (trie_of edges fails positions) outputs (machine (parts kind outputs n)) (λ t. place t)
-  packed-IsCopy kind outputs n = held-IsCopy q fails positions held.states (machine (parts kind outputs n)) outputs refl refl refl element-child
+  packed-IsCopy kind outputs n = held-IsCopy q fails positions held.states (machine (parts kind outputs n)) outputs refl refl refl element_at-child

@@ -20,8 +20,8 @@ use Rattle.daachorse_charwise_states.specs.Elements.{base_in, check_in, fail_in,
 use Rattle.daachorse_charwise_states.specs.Parts.{char_code}
 
 -- the element at an index
-abbrev pub element : List State → ℕ → State
-element es i = slice_index_or es i vacant
+abbrev pub element_at : List State → ℕ → State
+element_at es i = slice_index_or es i vacant
 
 -- the code of a character, 0 where it has none
 abbrev pub code_in : Coding → ℕ → ℕ
@@ -30,10 +30,10 @@ code_in coding u = unwrap_or (code_of coding u) 0
 -- The elements hold the trie: each state but the dead one stands at its place, and all other elements are vacant. A child's check is its parent's place; that of the root and of a vacant element is the dead state.
 pub record HoldElements (l : Layout) (edges : List (List (ℕ × ℕ))) (fails positions : List ℕ) (es : List State) : Type 0 where
   pub size : length es ≡ length l.used
-  pub states : HoldStates l (length edges) fails positions 1 (λ i. base_in (element es i)) (λ i. fail_in (element es i)) (λ i. output_in (element es i))
-  pub children : (s c t : ℕ) → child_in nat_cmp edges s c ≡ Some t → check_in (element es (slice_index l.idx t)) ≡ slice_index l.idx s
-  pub root : check_in (element es (slice_index l.idx 0)) ≡ 1
-  pub others : (i : ℕ) → i < length es → IsVacantAt l (length edges) i → check_in (element es i) ≡ 1
+  pub states : HoldStates l (length edges) fails positions 1 (λ i. base_in (element_at es i)) (λ i. fail_in (element_at es i)) (λ i. output_in (element_at es i))
+  pub children : (s c t : ℕ) → child_in nat_cmp edges s c ≡ Some t → check_in (element_at es (slice_index l.idx t)) ≡ slice_index l.idx s
+  pub root : check_in (element_at es (slice_index l.idx 0)) ≡ 1
+  pub others : (i : ℕ) → i < length es → IsVacantAt l (length edges) i → check_in (element_at es i) ≡ 1
 
 -- the elements hold the trie of these states, by some groups and some placement of them
 pub record ArePackedOf {V A : Type 0} (coding : Coding) (block : ℕ) (states : List (NfaBuilderState ℕ V A)) (es : List State) : Type 0 where

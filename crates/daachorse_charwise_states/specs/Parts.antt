@@ -36,8 +36,8 @@ abbrev pub char_code : Coding → ℕ → Option ℕ
 char_code coding u = cond (scalar u) (code_of coding u) None
 
 -- what a character leads to from an element; one without a code leads nowhere, and so does a number that is no character
-abbrev pub child_of : List State → Coding → ℕ → ℕ → Option ℕ
-child_of elements coding i u = option_and_then (λ c. child_among elements i c) (char_code coding u)
+abbrev pub coded_child : List State → Coding → ℕ → ℕ → Option ℕ
+coded_child elements coding i u = option_and_then (λ c. child_among elements i c) (char_code coding u)
 
 module _ {V : Type 0} (p : Parts V) where
   -- the number of elements
@@ -58,7 +58,7 @@ module _ {V : Type 0} (p : Parts V) where
 
   -- what a character leads to from an element
   abbrev pub child : ℕ → ℕ → Option ℕ
-  child = child_of p.states p.coding
+  child = coded_child p.states p.coding
 
   abbrev pub machine : Machine V
   machine = record { child = child; fail = fail_of; output = output_of; outputs = p.outputs }

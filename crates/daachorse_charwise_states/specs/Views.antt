@@ -15,8 +15,8 @@ abbrev pub parts_of : {V : Type 0} → MatchKind → List State → Coding → L
 parts_of kind states coding outputs n =
     record { kind = kind; states = states; coding = coding; outputs = outputs; num_states = n }
 
-abbrev pub coding_of : List ℕ → ℕ → Coding
-coding_of table size = record { table = table; alphabet_size = size }
+abbrev pub coding_with : List ℕ → ℕ → Coding
+coding_with table size = record { table = table; alphabet_size = size }
 
 -- the position of the first output of the element that stands first
 abbrev pub IsRootOutput : List State → Option NonZeroU32 → Type 0

@@ -10,15 +10,15 @@ ghost use Rattle.std.specs.Ordering.{nat_cmp};
 ghost use Rattle.daachorse_core.specs.Outputs.{number};
 ghost use Rattle.daachorse_core.specs.Refusals.{IsOutOfMemory, IsRefusal};
 ghost use Rattle.daachorse_core.specs.declared.errors.Limit.TheVariants.{NumElements};
-ghost use Rattle.daachorse_placement.specs.Placement.{AreIds, children_of, parent_of};
+ghost use Rattle.daachorse_placement.specs.Placement.{AreIds, children_of, group_parent};
 ghost use Rattle.daachorse_build.specs.Builders.{states_of};
 ghost use Rattle.daachorse_build.specs.Groups.{IsProfileOf};
 ghost use Rattle.daachorse_build.specs.Tables.{HoldTrie, edges_of, fails_of, positions_of};
 ghost use Rattle.daachorse_mapper.specs.Codings.{IsCoding};
-ghost use Rattle.daachorse_packing.specs.Settled.{AreGroupsOf, ArePlaces, AreSettled, HasManyGroups};
+ghost use Rattle.daachorse_packing.specs.Settled.{AreGroupsOf, HavePlaces, AreSettled, HasManyGroups};
 ghost use Rattle.daachorse_charwise_states.specs.Elements.{base_in, check_in, fail_in, output_in, vacant};
 ghost use Rattle.daachorse_charwise_states.specs.Packing.{AreEdgesCoded, ArePackedOf, HoldElements, code_in};
-ghost use Rattle.daachorse_charwise_states.specs.Writing.{AreGroupsApart, HasPlaced, HaveCheck, HaveChecks};
+ghost use Rattle.daachorse_charwise_states.specs.Writing.{AreGroupsApart, HasWritten, HaveCheck, HaveChecks};
 
 use crate::state::State;
 use daachorse_build::nfa_builder::{EdgeLabel, NfaBuilder, NfaBuilderState};
@@ -112,9 +112,9 @@ fn place_states<L: EdgeLabel, V: Copy, A: Allocator>(
     bases: &[u32],
 )
     requires bases { length bases.now ≡ length states.now }
-    requires places { ArePlaces idx_map.now (length states.now) (length elements.old) }
+    requires places { HavePlaces idx_map.now (length states.now) (length elements.old) }
     requires links { (t : ℕ) → t < length states.now → t ≢ 1 → slice_index (fails_of states.now) t < length states.now }
-    ensures { HasPlaced (length states.now) idx_map.now bases.now (fails_of states.now) (positions_of states.now) elements.old elements.new }
+    ensures { HasWritten (length states.now) idx_map.now bases.now (fails_of states.now) (positions_of states.now) elements.old elements.new }
 {
     for (id, state) in states.iter().enumerate() {
         if id == DEAD_STATE_IDX as usize {
@@ -144,7 +144,7 @@ fn element_of(base: u32, fail: u32, output_pos: Option<NonZeroU32>) -> State
 
 /// Gives the children of each group their parent's index for a check.
 fn set_checks<A: Allocator>(elements: &mut [State], groups: &[SiblingGroup<A>], idx_map: &[u32])
-    requires parents { (k : ℕ) → k < length groups.now → parent_of groups.now k < length idx_map.now }
+    requires parents { (k : ℕ) → k < length groups.now → group_parent groups.now k < length idx_map.now }
     requires ids { (k : ℕ) → k < length groups.now → AreIds (length idx_map.now) (children_of groups.now k) }
     requires inside { (t : ℕ) → t < length idx_map.now → slice_index idx_map.now t < length elements.old }
     requires apart { AreGroupsApart groups.now idx_map.now }

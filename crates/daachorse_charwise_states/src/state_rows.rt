@@ -6,7 +6,7 @@
 ghost use Rattle.std.specs.Prelude.{◌≡◌, ◌≤◌, length, IfOk, IfSome, IfErr};
 ghost use Rattle.daachorse_core.specs.Refusals.{IsOutOfMemory};
 ghost use Rattle.daachorse_model.specs.declared.MatchKind.TheVariants.{Standard};
-ghost use Rattle.daachorse_rows.specs.Rows.{AreLabels, AreListed};
+ghost use Rattle.daachorse_rows.specs.Rows.{AreLabels, IsListOf};
 ghost use Rattle.daachorse_charwise_states.specs.Parts.{content};
 ghost use Rattle.daachorse_charwise_states.specs.StateRows.{CoversNear, HasFewCodes, HasNoRoom, HasRows, StaysUnlessLarge, IsUsed, stands_for};
 
@@ -70,7 +70,7 @@ fn list_used<V: Copy, A: Allocator + Copy>(
     alloc: A,
     elements: &Elements<'_, V, A>,
 ) -> Result<Vec<u32, A>>
-    ensures ok { IfOk result (λ v. AreListed (IsUsed elements.now) 510 v.items) }
+    ensures ok { IfOk result (λ v. IsListOf (IsUsed elements.now) 510 v.items) }
     ensures err { IfErr result IsOutOfMemory }
 {
     let mut codes = Vec::new(alloc);

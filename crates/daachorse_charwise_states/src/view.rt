@@ -40,13 +40,13 @@ pub struct View<'a, V: Copy, S: Searches> {
 
 impl<'a, V: Copy, S: Searches> Model for View<'a, V, S> {
     ghost use Rattle.daachorse_charwise_states.specs.Parts.{Parts};
-    ghost use Rattle.daachorse_charwise_states.specs.Views.{IsFor, IsRootOutput, coding_of, parts_of};
+    ghost use Rattle.daachorse_charwise_states.specs.Views.{IsFor, IsRootOutput, coding_with, parts_of};
 
     ghost Value = { Parts V };
 
-    ghost view = { λ s. parts_of s.kind s.states.now (coding_of s.table.now s.alphabet_size) s.outputs.now s.num_states };
+    ghost view = { λ s. parts_of s.kind s.states.now (coding_with s.table.now s.alphabet_size) s.outputs.now s.num_states };
 
-    ghost invariant = { λ s. IsFor S.leftmost (parts_of s.kind s.states.now (coding_of s.table.now s.alphabet_size) s.outputs.now s.num_states)
+    ghost invariant = { λ s. IsFor S.leftmost (parts_of s.kind s.states.now (coding_with s.table.now s.alphabet_size) s.outputs.now s.num_states)
         × IsRootOutput s.states.now s.root_output };
 }
 

@@ -3,12 +3,12 @@ use Rattle.std.proofs.Common.{◌≡◌, ℕ, ◌<◌, Bool, false, cond, List, 
 use Rattle.daachorse_model.specs.Paths.{is_reached}
 use Rattle.daachorse_listing.specs.Edges.{TellChildren}
 use Rattle.daachorse_machine.specs.Machines.{Machine, IsCounted, IsRight, own_from}
-use Rattle.daachorse_links.specs.Places.{IsTrie, HasLinks}
+use Rattle.daachorse_links.specs.Places.{IsTrieOfPlaces, HasLinks}
 use Rattle.daachorse_checker.specs.Places.{HasOnePath, ArePlaces}
 use Rattle.daachorse_checker.specs.Runs.{has_values}
 use Rattle.daachorse_checker.specs.Sizes.{AreSizes}
-use Rattle.daachorse_checker.specs.Links.{AreLinkPlaces, HasNoPlace, HasRightLinks}
-use Rattle.daachorse_checker.specs.Chains.{AreChained, AreLeavesOf, AreStopsAt}
+use Rattle.daachorse_checker.specs.Links.{AreLinkPlaces, LeadsToNoPlace, HasRightLinks}
+use Rattle.daachorse_checker.specs.Chains.{HaveRightChains, AreLeavesOf, AreStopsAt}
 use Rattle.daachorse_checker.proofs.MemberLaws.{label, one_unit}
 use Rattle.daachorse_checker.proofs.TreeLaws.{text_at}
 use Rattle.daachorse_checker.proofs.CountLaws.{places_counted, one_count}
@@ -23,7 +23,7 @@ module _ {V : Type 0} (width : ℕ → ℕ) (a : Machine V) {group : ℕ → Opt
 
   -- ---- chains
   module _ (tree : HasOnePath a.child) (sizes : List ℕ) (sized : AreSizes a.child width order sizes) (each : length sizes ≡ length order) {leaves : List Bool} (leafy : AreLeavesOf parents leaves (length parents)) (leftmost : Bool) where
-    pub right_from : AreChained a order sizes leaves (length order) → HasRightLinks width a leftmost → IsRight width a leftmost
+    pub right_from : HaveRightChains a order sizes leaves (length order) → HasRightLinks width a leftmost → IsRight width a leftmost
     right_from chained links = record {
       dead_no_child = tree.dead_no_child;
       one_path = tree.one_path;
@@ -33,7 +33,7 @@ module _ {V : Type 0} (width : ℕ → ℕ) (a : Machine V) {group : ℕ → Opt
       root_chain = chained.root;
     }
 
-    pub chained_from : IsRight width a leftmost → AreChained a order sizes leaves (length order)
+    pub chained_from : IsRight width a leftmost → HaveRightChains a order sizes leaves (length order)
     chained_from right = record {
       root = right.root_chain;
       others = chained_right width a are unit_of_place sizes sized each leafy tree right.chains right.leaf_has_own;
@@ -41,11 +41,11 @@ module _ {V : Type 0} (width : ℕ → ℕ) (a : Machine V) {group : ℕ → Opt
 
   -- ---- links
   module _ {units : ℕ} (inside : (i c j : ℕ) → a.child i c ≡ Some j → c < units) where
-    pub trie_of_places : IsTrie parents labels units
+    pub trie_of_places : IsTrieOfPlaces parents labels units
     trie_of_places = places_trie are inside (one_unit tell)
 
     -- a link that leads to no place is not right
-    pub no_place : (leftmost : Bool) → HasNoPlace leftmost a.fail order → HasRightLinks width a leftmost → ⊥
+    pub no_place : (leftmost : Bool) → LeadsToNoPlace leftmost a.fail order → HasRightLinks width a leftmost → ⊥
     no_place leftmost bad links =
         let text = text_at are.places bad.0 bad.2 in
         lost_link width a are inside (one_unit tell) [] leftmost bad.0 text.0 bad.1 bad.2 text.1 bad.3 links

@@ -5,7 +5,7 @@ use Rattle.std.proofs.lemmas.Option.{none-some}
 use Rattle.std.proofs.lemmas.Bool.{cases_lt, cases_eq}
 use borrow.Author.Count.{below_more}
 use Rattle.daachorse_listing.specs.Edges.{TellChildren, is_in, members}
-use Rattle.daachorse_checker.specs.Places.{ArePlaces, HasOnePath, HasPlaces, HasEntry, IsClosed, IsWalk}
+use Rattle.daachorse_checker.specs.Places.{ArePlaces, HasOnePath, HasPlaces, HasEntry, IsClosed, IsPlaceWalk}
 use Rattle.daachorse_checker.proofs.MemberLaws.{IsLast, below-none, below-cons, label, one_unit, member_child, child_member}
 use Rattle.daachorse_checker.proofs.PlaceLaws.{old_at, few, places_push, entry_push, entry_new, closed_push, parents_push}
 use Rattle.daachorse_checker.proofs.TreeLaws.{no_root, no_second}
@@ -35,7 +35,7 @@ module _ {child : ℕ → ℕ → Option ℕ} {group : ℕ → Option ℕ} {edge
     at_place places each k here = omega (arith, places.inside k here, each)
 
     -- an element with no group has no child
-    pub expand_none : (k : ℕ) → IsWalk child (label edge) n order parents labels marks k → k < length order → group (get_or order k 0) ≡ None → IsWalk child (label edge) n order parents labels marks (k + 1)
+    pub expand_none : (k : ℕ) → IsPlaceWalk child (label edge) n order parents labels marks k → k < length order → group (get_or order k 0) ≡ None → IsPlaceWalk child (label edge) n order parents labels marks (k + 1)
     expand_none k walk here none = record {
       places = walk.places;
       closed = below_more (λ l. (c t : ℕ) → child (get_or order l 0) c ≡ Some t → HasEntry order parents l t) k walk.closed
@@ -107,7 +107,7 @@ module _ {child : ℕ → ℕ → Option ℕ} {group : ℕ → Option ℕ} {edge
             (λ same. omega (arith, left.walk.latest m pos at.0 (sym same), at.1, last.less))
             edge_at e tree
 
-      pub expand_done : {xs : List ℕ} → xs ≡ [] → IsLeft child edge n xs order parents labels marks g k → IsWalk child (label edge) n order parents labels marks (k + 1)
+      pub expand_done : {xs : List ℕ} → xs ≡ [] → IsLeft child edge n xs order parents labels marks g k → IsPlaceWalk child (label edge) n order parents labels marks (k + 1)
       expand_done none left = record {
         places = walk.places;
         closed = below_more (λ l. (c t : ℕ) → child (get_or order l 0) c ≡ Some t → HasEntry order parents l t) k walk.closed (λ c t e. at c t e (cases_lt t left.bound));
@@ -128,7 +128,7 @@ module _ {child : ℕ → ℕ → Option ℕ} {group : ℕ → Option ℕ} {edge
     pub few_places : HasPlaces child (label edge) order parents labels marks → length marks ≡ n → length order ≤ n
     few_places places each = omega (arith, few places, each)
 
-    pub all_placed : {units : ℕ} → ((i c j : ℕ) → child i c ≡ Some j → c < units) → IsWalk child (label edge) n order parents labels marks (length order) → ArePlaces child (label edge) n order parents labels marks × HasOnePath child
+    pub all_placed : {units : ℕ} → ((i c j : ℕ) → child i c ≡ Some j → c < units) → IsPlaceWalk child (label edge) n order parents labels marks (length order) → ArePlaces child (label edge) n order parents labels marks × HasOnePath child
     all_placed inside walk =
         let are : ArePlaces child (label edge) n order parents labels marks = record { places = walk.places; closed = walk.closed; marks_each = walk.marks_each } in
         (are, one_path_from are inside (one_unit tell))

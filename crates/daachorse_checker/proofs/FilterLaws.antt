@@ -15,14 +15,14 @@ use Rattle.daachorse_prefilter.specs.Filters.{Filter, admits}
 use Rattle.daachorse_prefilter.specs.Windows.{HasRead}
 use Rattle.daachorse_prefilter.specs.declared.prefilter.window.Window.{Window}
 use Rattle.daachorse_prefilter.proofs.WindowLaws.{admits-append}
-use Rattle.daachorse_checker.specs.Filters.{HasRefused, IsAdmitted, IsBeginning, IsChildOf, IsIn, IsLevel, IsNextOf, IsPushed, PassesAll}
+use Rattle.daachorse_checker.specs.Filters.{HasRefused, IsAdmitted, IsBeginning, IsChildOf, IsInLevel, IsLevel, IsNextOf, IsPushed, PassesAll}
 use Rattle.daachorse_checker.specs.Places.{HasOnePath}
 use Rattle.daachorse_checker.proofs.MemberLaws.{IsLast, below-cons, below-none, child_member, label, member_child}
 
 abbrev Entry : Type 0
 Entry = ℕ × Window
 
-in_left : (xs ys : List Entry) (j : ℕ) → IsIn xs j → IsIn (xs ++ ys) j
+in_left : (xs ys : List Entry) (j : ℕ) → IsInLevel xs j → IsInLevel (xs ++ ys) j
 in_left xs ys j h = (h.0, Contains-append_left xs ys (j, h.0) h.1)
 
 -- Behind the old entries there are those of the children of e from an element on; the members of its group below that are left.
@@ -33,7 +33,7 @@ pub record IsPushing (child : ℕ → ℕ → Option ℕ) (bytes : ℕ → List 
   pub kids : List Entry
   pub is : new ≡ old ++ kids
   pub each : All (IsChildOf child bytes f e) kids
-  pub seen : (c t : ℕ) → child e.0 c ≡ Some t → bound ≤ t → IsIn kids t
+  pub seen : (c t : ℕ) → child e.0 c ≡ Some t → bound ≤ t → IsInLevel kids t
 
 module _ {child : ℕ → ℕ → Option ℕ} {bytes : ℕ → List ℕ} {f : Filter} {group : ℕ → Option ℕ} {edge : ℕ → Option (ℕ × ℕ)} {n : ℕ} (tell : TellChildren child group edge n) {e : Entry} (lt : e.0 < n) where
   -- an element without a group has no children
@@ -97,7 +97,7 @@ module _ {child : ℕ → ℕ → Option ℕ} {bytes : ℕ → List ℕ} {f : Fi
     }
 
 abbrev IsDone : (ℕ → ℕ → Option ℕ) → Filter → (ℕ → Bool) → List Entry → Entry → Type 0
-IsDone child f is_key next e = IsAdmitted f e ⊎ ((is_key e.0 ≡ false) × ((c j : ℕ) → child e.0 c ≡ Some j → IsIn next j))
+IsDone child f is_key next e = IsAdmitted f e ⊎ ((is_key e.0 ≡ false) × ((c j : ℕ) → child e.0 c ≡ Some j → IsInLevel next j))
 
 -- the filter passes at the text of an entry
 passes_at : {child : ℕ → ℕ → Option ℕ} {bytes : ℕ → List ℕ} {f : Filter} → HasOnePath child → (d : ℕ) (w : List ℕ) (e : Entry) → IsBeginning child bytes f d e → Leads child w e.0 → IsAdmitted f e → admits f (flat_map bytes w) ≡ true
@@ -137,7 +137,7 @@ module _ {child : ℕ → ℕ → Option ℕ} {bytes : ℕ → List ℕ} {f : Fi
           ]);
         }
       where
-        behind : {j : ℕ} → IsIn pushed.kids j → IsIn (next ++ pushed.kids) j
+        behind : {j : ℕ} → IsInLevel pushed.kids j → IsInLevel (next ++ pushed.kids) j
         behind h = (h.0, Contains-append_right next pushed.kids _ h.1)
 
   module _ (tree : HasOnePath child) where
@@ -156,7 +156,7 @@ module _ {child : ℕ → ℕ → Option ℕ} {bytes : ℕ → List ℕ} {f : Fi
 
     module _ {d : ℕ} {level : List Entry} (is : IsLevel child bytes f is_key d level) where
       -- what a text of d units leads to is done
-      done_at : (next : List Entry) → IsNextOf child bytes f is_key level (length level) next → (w : List ℕ) (i : ℕ) → length w ≡ d → Leads child w i → (admits f (flat_map bytes w) ≡ true) ⊎ ((is_key i ≡ false) × ((c j : ℕ) → child i c ≡ Some j → IsIn next j))
+      done_at : (next : List Entry) → IsNextOf child bytes f is_key level (length level) next → (w : List ℕ) (i : ℕ) → length w ≡ d → Leads child w i → (admits f (flat_map bytes w) ≡ true) ⊎ ((is_key i ≡ false) × ((c j : ℕ) → child i c ≡ Some j → IsInLevel next j))
       done_at next of w i long leads = elim (is.all w i long leads) [
         | inl h ↦ inl h
         | inr h ↦
@@ -178,7 +178,7 @@ module _ {child : ℕ → ℕ → Option ℕ} {bytes : ℕ → List ℕ} {f : Fi
             read = subst (λ (xs : List ℕ). HasRead f xs k.1) (flat_map_more bytes [] begun.text c) (child_of.2 (flat_map bytes begun.text) begun.read);
           }
 
-      next_all : (next : List Entry) → IsNextOf child bytes f is_key level (length level) next → (w : List ℕ) (i : ℕ) → length w ≡ d + 1 → Leads child w i → (admits f (flat_map bytes w) ≡ true) ⊎ IsIn next i
+      next_all : (next : List Entry) → IsNextOf child bytes f is_key level (length level) next → (w : List ℕ) (i : ℕ) → length w ≡ d + 1 → Leads child w i → (admits f (flat_map bytes w) ≡ true) ⊎ IsInLevel next i
       next_all next of [] i long leads = absurd (omega (arith, long))
       next_all next of (x ∷ xs) i long leads =
           let a = last_of x xs in

@@ -5,7 +5,7 @@ use Rattle.std.proofs.lemmas.Option.{none-some, same_Some}
 use Rattle.daachorse_model.specs.Paths.{walk, is_reached, Leads}
 use Rattle.daachorse_model.proofs.Lists.{some_of_map}
 use Rattle.daachorse_listing.proofs.SortLaws.{no_some}
-use Rattle.daachorse_links.specs.Places.{IsTrie, child as kid}
+use Rattle.daachorse_links.specs.Places.{IsTrieOfPlaces, child as kid}
 use Rattle.daachorse_links.proofs.ChildLaws.{edge, back}
 use Rattle.daachorse_links.proofs.TextLaws.{one_text, walk_later}
 use Rattle.daachorse_checker.specs.Places.{HasOnePath, HasPlaces, ArePlaces}
@@ -28,7 +28,7 @@ module _ {child : ℕ → ℕ → Option ℕ} {label : ℕ → ℕ} {n units : �
   edge_to m pos lt = ap (child (at (get_or parents m 0))) (places.labelled m pos lt) ∙ places.edge m pos lt
 
   -- the places are a trie
-  pub places_trie : IsTrie parents labels units
+  pub places_trie : IsTrieOfPlaces parents labels units
   places_trie = record {
     each = places.label_each ∙ sym places.one_each;
     order = record {

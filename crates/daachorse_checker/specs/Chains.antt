@@ -20,7 +20,7 @@ pub record AreLeavesOf (parents : List ℕ) (leaves : List Bool) (m : ℕ) : Typ
   pub some : (k : ℕ) → k < length leaves → slice_index_or leaves k false ≡ false → (j : ℕ) × (0 < j) × (j < m) × (slice_index parents j ≡ k)
 
 -- the chains of the elements at the first m places are right
-pub record AreChained {V : Type 0} (a : Machine V) (order sizes : List ℕ) (leaves : List Bool) (m : ℕ) : Type 0 where
+pub record HaveRightChains {V : Type 0} (a : Machine V) (order sizes : List ℕ) (leaves : List Bool) (m : ℕ) : Type 0 where
   pub root : (own_from a.outputs (a.output 0) 0 (a.output 0)).1 ≡ 0
   pub others : (k : ℕ) → 0 < k → k < m → IsChained a (slice_index_or leaves k false) (slice_index sizes k) (slice_index order k)
 

@@ -11,8 +11,8 @@ module _ (child : ℕ → ℕ → Option ℕ) (bytes : ℕ → List ℕ) where
   PassesAll is_key f = (i : ℕ) (w : List ℕ) → Leads child w i → is_key i ≡ true → admits f (flat_map bytes w) ≡ true
 
 -- an entry of a level is an element with the window of a filter; element j has one among these
-abbrev pub IsIn : List (ℕ × Window) → ℕ → Type 0
-IsIn level j = (s : Window) × Contains level (j, s)
+abbrev pub IsInLevel : List (ℕ × Window) → ℕ → Type 0
+IsInLevel level j = (s : Window) × Contains level (j, s)
 
 -- the filter passes at the beginning of each text that the entry's window has read
 abbrev pub IsAdmitted : Filter → ℕ × Window → Type 0
@@ -39,17 +39,17 @@ module _ (child : ℕ → ℕ → Option ℕ) (bytes : ℕ → List ℕ) (f : Fi
     pub kids : List (ℕ × Window)
     pub is : new ≡ old ++ kids
     pub each : All (IsChildOf e) kids
-    pub all : (c j : ℕ) → child e.0 c ≡ Some j → IsIn kids j
+    pub all : (c j : ℕ) → child e.0 c ≡ Some j → IsInLevel kids j
 
   module _ (is_key : ℕ → Bool) where
     -- The next level of the first n entries: the children of those at whose texts the filter does not pass, none of which is a key.
     pub record IsNextOf (level : List (ℕ × Window)) (n : ℕ) (next : List (ℕ × Window)) : Type 0 where
       pub each : All (λ k. (e : ℕ × Window) × Contains level e × IsChildOf e k) next
       pub all : (k : ℕ) (default : ℕ × Window) → k < n →
-          IsAdmitted f (slice_index_or level k default) ⊎ ((is_key (slice_index_or level k default).0 ≡ false) × ((c j : ℕ) → child (slice_index_or level k default).0 c ≡ Some j → IsIn next j))
+          IsAdmitted f (slice_index_or level k default) ⊎ ((is_key (slice_index_or level k default).0 ≡ false) × ((c j : ℕ) → child (slice_index_or level k default).0 c ≡ Some j → IsInLevel next j))
 
     -- The level of the texts of d units: it has entries of those at which the filter does not pass. It passes at all shorter keys.
     pub record IsLevel (d : ℕ) (level : List (ℕ × Window)) : Type 0 where
       pub begun : All (IsBeginning d) level
-      pub all : (w : List ℕ) (i : ℕ) → length w ≡ d → Leads child w i → (admits f (flat_map bytes w) ≡ true) ⊎ IsIn level i
+      pub all : (w : List ℕ) (i : ℕ) → length w ≡ d → Leads child w i → (admits f (flat_map bytes w) ≡ true) ⊎ IsInLevel level i
       pub short : (w : List ℕ) (i : ℕ) → length w < d → Leads child w i → is_key i ≡ true → admits f (flat_map bytes w) ≡ true

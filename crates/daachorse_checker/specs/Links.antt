@@ -17,8 +17,8 @@ abbrev pub AreLinkPlaces : (ℕ → ℕ) → List ℕ → List ℕ → Type 0
 AreLinkPlaces fail order fails = (m : ℕ) → 0 < m → m < length fails → IsLinkPlace order (fail (slice_index order m)) (slice_index fails m)
 
 -- the link of some place but the first leads to no place
-abbrev pub HasNoPlace : Bool → (ℕ → ℕ) → List ℕ → Type 0
-HasNoPlace leftmost fail order = (m : ℕ) × (0 < m) × (m < length order) × IsNoPlace leftmost order (fail (slice_index order m))
+abbrev pub LeadsToNoPlace : Bool → (ℕ → ℕ) → List ℕ → Type 0
+LeadsToNoPlace leftmost fail order = (m : ℕ) × (0 < m) × (m < length order) × IsNoPlace leftmost order (fail (slice_index order m))
 
 -- each element that a text leads to has the right link
 abbrev pub HasRightLinks : {V : Type 0} → (ℕ → ℕ) → Machine V → Bool → Type 0

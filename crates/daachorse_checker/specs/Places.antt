@@ -32,7 +32,7 @@ abbrev pub IsClosed : (ℕ → ℕ → Option ℕ) → List ℕ → List ℕ →
 IsClosed child order parents next = (k : ℕ) → k < next → (c j : ℕ) → child (slice_index order k) c ≡ Some j → HasEntry order parents k j
 
 -- Of n elements those at the first places, whose children have places too; all others that have one are children of these.
-pub record IsWalk (child : ℕ → ℕ → Option ℕ) (label : ℕ → ℕ) (n : ℕ) (order parents labels marks : List ℕ) (next : ℕ) : Type 0 where
+pub record IsPlaceWalk (child : ℕ → ℕ → Option ℕ) (label : ℕ → ℕ) (n : ℕ) (order parents labels marks : List ℕ) (next : ℕ) : Type 0 where
   pub places : HasPlaces child label order parents labels marks
   pub closed : IsClosed child order parents next
   pub recent : (m : ℕ) → 0 < m → m < length order → slice_index parents m < next

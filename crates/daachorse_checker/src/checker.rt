@@ -9,7 +9,7 @@ ghost use Rattle.daachorse_core.specs.Refusals.{IsOutOfMemory};
 ghost use Rattle.daachorse_listing.specs.Edges.{TellChildren};
 ghost use Rattle.daachorse_listing.specs.Listing.{unit_of};
 ghost use Rattle.daachorse_machine.specs.Machines.{IsCounted, IsRight, own_from};
-ghost use Rattle.daachorse_checker.specs.Chains.{AreChained, AreLeavesOf, AreStopsAt, machine_of};
+ghost use Rattle.daachorse_checker.specs.Chains.{HaveRightChains, AreLeavesOf, AreStopsAt, machine_of};
 ghost use Rattle.daachorse_checker.specs.Links.{HasRightLinks};
 ghost use Rattle.daachorse_checker.specs.Places.{HasOnePath, ArePlaces};
 ghost use Rattle.daachorse_checker.specs.Runs.{AreRuns};
@@ -44,8 +44,8 @@ fn chains_hold<V: Copy, E: Array, A: Allocator>(
     requires each { length runs.now ≡ length outputs.now }
     requires sizes { length sizes.now ≡ length places.now.order.items }
     requires leaves { length leaves.now ≡ length places.now.order.items }
-    ensures yes { result ≡ true → AreChained (machine_of (E.child array.now) (E.fail array.now) (E.first array.now) outputs.now) places.now.order.items sizes.now leaves.now (length places.now.order.items) }
-    ensures no { result ≡ false → AreChained (machine_of (E.child array.now) (E.fail array.now) (E.first array.now) outputs.now) places.now.order.items sizes.now leaves.now (length places.now.order.items) → ⊥ }
+    ensures yes { result ≡ true → HaveRightChains (machine_of (E.child array.now) (E.fail array.now) (E.first array.now) outputs.now) places.now.order.items sizes.now leaves.now (length places.now.order.items) }
+    ensures no { result ≡ false → HaveRightChains (machine_of (E.child array.now) (E.fail array.now) (E.first array.now) outputs.now) places.now.order.items sizes.now leaves.now (length places.now.order.items) → ⊥ }
 {
     let first = array.first(0);
     if rest_at(outputs, runs, 0, first) != 0 {

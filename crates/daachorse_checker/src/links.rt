@@ -6,7 +6,7 @@
 ghost use Rattle.std.specs.Prelude.{◌≡◌, ◌<◌, ◌^◌, ℕ, Some, length, slice_index, IfOk, IfErr, IfSome, IfNone};
 ghost use Rattle.daachorse_core.specs.Refusals.{IsOutOfMemory};
 ghost use Rattle.daachorse_listing.specs.Listing.{unit_of};
-ghost use Rattle.daachorse_checker.specs.Links.{AreLinkPlaces, HasNoPlace, IsLinkPlace, IsNoPlace};
+ghost use Rattle.daachorse_checker.specs.Links.{AreLinkPlaces, LeadsToNoPlace, IsLinkPlace, IsNoPlace};
 ghost use Rattle.daachorse_checker.specs.Places.{ArePlaces};
 
 use crate::array::Array;
@@ -62,7 +62,7 @@ pub fn link_places<E: Array, A: Allocator + Copy>(
     requires links { (i : ℕ) → i < E.count array.now → E.fail array.now i < E.count array.now }
     ensures some { IfOk result (λ found. IfSome found (λ fails. AreLinkPlaces (E.fail array.now) places.now.order.items fails.items)) }
     ensures each { IfOk result (λ found. IfSome found (λ fails. length fails.items ≡ length places.now.order.items)) }
-    ensures none { IfOk result (λ found. IfNone found (HasNoPlace leftmost (E.fail array.now) places.now.order.items)) }
+    ensures none { IfOk result (λ found. IfNone found (LeadsToNoPlace leftmost (E.fail array.now) places.now.order.items)) }
     ensures err { IfErr result IsOutOfMemory }
 {
     let mut fails = Vec::with_capacity(alloc, places.order.len())?;

@@ -8,7 +8,7 @@ ghost use Rattle.std.specs.Prelude.{◌≡◌, ◌+◌, ◌<◌, ◌^◌, ℕ, [
 ghost use Rattle.daachorse_core.specs.Refusals.{IsOutOfMemory};
 ghost use Rattle.daachorse_listing.specs.Edges.{TellChildren, members};
 ghost use Rattle.daachorse_listing.specs.Listing.{unit_of};
-ghost use Rattle.daachorse_checker.specs.Places.{HasOnePath, ArePlaces, IsWalk};
+ghost use Rattle.daachorse_checker.specs.Places.{HasOnePath, ArePlaces, IsPlaceWalk};
 
 use daachorse_core::errors::Result;
 use daachorse_listing::edges::Edges;
@@ -75,9 +75,9 @@ impl<A: Allocator + Copy> Places<A> {
             → slice_index_or groups.now g [] ≡ members (E.edge array.now) g (E.count array.now) }
         requires each { length groups.now ≡ E.count array.now }
         requires few { E.count array.now < 2 ^ 32 }
-        requires walk { IsWalk (E.child array.now) (λ j. unit_of (E.edge array.now j)) (E.count array.now) self.old.order.items self.old.parents.items self.old.labels.items self.old.marks.items place }
+        requires walk { IsPlaceWalk (E.child array.now) (λ j. unit_of (E.edge array.now j)) (E.count array.now) self.old.order.items self.old.parents.items self.old.labels.items self.old.marks.items place }
         requires more { place < length self.old.order.items }
-        ensures yes { IfOk result (λ found. found ≡ true → IsWalk (E.child array.now) (λ j. unit_of (E.edge array.now j)) (E.count array.now) self.new.order.items self.new.parents.items self.new.labels.items self.new.marks.items (place + 1)) }
+        ensures yes { IfOk result (λ found. found ≡ true → IsPlaceWalk (E.child array.now) (λ j. unit_of (E.edge array.now j)) (E.count array.now) self.new.order.items self.new.parents.items self.new.labels.items self.new.marks.items (place + 1)) }
         ensures no { IfOk result (λ found. found ≡ false → HasOnePath (E.child array.now) → ⊥) }
         ensures err { IfErr result IsOutOfMemory }
     {

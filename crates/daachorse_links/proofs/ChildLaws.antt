@@ -1,14 +1,14 @@
 -- The child of a place by a label.
 use Rattle.std.proofs.Common.{◌≡◌, ℕ, zero, suc, pred, ◌<◌, ◌≤◌, List, length, Some, None, refl, arith, get_or}
 use Rattle.std.proofs.lemmas.Option.{none-some}
-use Rattle.daachorse_links.specs.Places.{child_to, child, IsTrie}
+use Rattle.daachorse_links.specs.Places.{child_to, child, IsTrieOfPlaces}
 
 module _ (parents labels : List ℕ) where
   to_parts : (m p c j : ℕ) → child_to parents labels m p c ≡ Some j → (0 < j) × (j ≤ m) × (get_or parents j 0 ≡ p) × (get_or labels j 0 ≡ c)
   to_parts zero p c j h = absurd (none-some j h)
   to_parts (suc m) p c j h = grind (arith, to_parts m p c j)
 
-  module _ (alphabet : ℕ) (trie : IsTrie parents labels alphabet) where
+  module _ (alphabet : ℕ) (trie : IsTrieOfPlaces parents labels alphabet) where
     to_finds : (m j : ℕ) → 0 < j → j ≤ m → m < length parents → child_to parents labels m (get_or parents j 0) (get_or labels j 0) ≡ Some j
     to_finds zero j pos le lt = absurd (omega (arith, pos, le))
     to_finds (suc m) j pos le lt = grind (arith, to_finds m j pos, trie.apart j (suc m) pos)

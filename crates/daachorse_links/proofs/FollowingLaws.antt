@@ -2,7 +2,7 @@
 use Rattle.std.proofs.Common.{◌≡◌, ◌≢◌, ℕ, ◌+◌, ◌<◌, ◌≤◌, ◌⊎◌, Bool, cond, List, length, Some, None, refl, sym, ap, ◌∙◌, inl, inr, arith, get_or}
 use Rattle.std.proofs.lemmas.Bool.{cases_lt}
 use Rattle.daachorse_links.specs.Following.{IsFollowing}
-use Rattle.daachorse_links.specs.Places.{AreStarts, IsTrie, LinksFall, child, stop}
+use Rattle.daachorse_links.specs.Places.{AreStarts, IsTrieOfPlaces, LinksFall, child, stop}
 use Rattle.daachorse_links.specs.Near.{near, or_top, pick, right, root_value, top, up}
 use Rattle.daachorse_links.proofs.ChildLaws.{back, edge}
 use Rattle.daachorse_links.proofs.NearLaws.{near_child, near_other, near_top, ups_fall}
@@ -16,7 +16,7 @@ module _ (fails : List ℕ) (falls : LinksFall fails) where
   ups : (b q : ℕ) → q ≤ b → q < length fails → (up fails q < q) ⊎ (up fails q ≡ length fails)
   ups b q le lt = ups_fall fails b (fall_to b) q le lt
 
-module _ {parents labels : List ℕ} {alphabet : ℕ} (trie : IsTrie parents labels alphabet) where
+module _ {parents labels : List ℕ} {alphabet : ℕ} (trie : IsTrieOfPlaces parents labels alphabet) where
   -- a place is the child of its parent by its label
   pub is_picked : (m p c : ℕ) → 0 < m → m < length parents → get_or parents m 0 ≡ p → get_or labels m 0 ≡ c → m ≡ pick (child parents labels p c) 0
   is_picked m p c pos lt e g =

@@ -5,7 +5,7 @@ use Rattle.std.proofs.lemmas.Bool.{cases_Bool, cond_both, cond-true, cond-false,
 use Rattle.daachorse_model.specs.Paths.{walk}
 use Rattle.daachorse_model.proofs.Paths.{walk-push}
 use Rattle.daachorse_links.specs.Links.{left_long, left_link, IsPlaceOf, IsLinkOf}
-use Rattle.daachorse_links.specs.Places.{child, IsTrie, HasLinks, LinksFall, stop}
+use Rattle.daachorse_links.specs.Places.{child, IsTrieOfPlaces, HasLinks, LinksFall, stop}
 use Rattle.daachorse_links.specs.Near.{up, near, top, or_top, right, root_value, IsChecked}
 use Rattle.daachorse_links.proofs.ChildLaws.{edge, back}
 use Rattle.daachorse_links.proofs.NearLaws.{up_link, ups_fall, near_top, near_child, near_other}
@@ -13,7 +13,7 @@ use Rattle.daachorse_links.proofs.TopLaws.{or_top_some, top_end, top_next, top_l
 use Rattle.daachorse_links.proofs.TextLaws.{walk_later, root_text, one_text, text_of}
 use Rattle.daachorse_links.proofs.LeftLaws.{left_state, left_next, left_root, dead_by_stop, dead_by_parent, link_by_walk, link_of_first}
 
-module _ (parents labels : List ℕ) (stops : List Bool) (fails : List ℕ) (alphabet : ℕ) (trie : IsTrie parents labels alphabet) (each : length fails ≡ length parents) where
+module _ (parents labels : List ℕ) (stops : List Bool) (fails : List ℕ) (alphabet : ℕ) (trie : IsTrieOfPlaces parents labels alphabet) (each : length fails ≡ length parents) where
   abbrev kid : ℕ → ℕ → Option ℕ
   kid = child parents labels
 

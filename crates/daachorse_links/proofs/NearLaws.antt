@@ -1,7 +1,7 @@
 -- What is near a place.
 use Rattle.std.proofs.Common.{◌≡◌, ℕ, zero, suc, ◌<◌, ◌≤◌, ◌⊎◌, List, length, Option, Some, None, refl, sym, ap, ◌∙◌, inl, inr, arith, get_or}
 use Rattle.std.proofs.lemmas.List.{get_or_past, get_or_default}
-use Rattle.daachorse_links.specs.Places.{child, IsTrie}
+use Rattle.daachorse_links.specs.Places.{child, IsTrieOfPlaces}
 use Rattle.daachorse_links.specs.Near.{up, pick, near_by, near}
 use Rattle.daachorse_links.proofs.ChildLaws.{none_past}
 
@@ -39,7 +39,7 @@ module _ (child : ℕ → ℕ → Option ℕ) (up : ℕ → ℕ) (n : ℕ) (none
     near_law q c le lt =
         ap (λ r. pick (child q c) r) (same_fuel n (suc n) (up q) c (let fall = falls q le lt in grind arith))
 
-module _ (parents labels fails : List ℕ) (alphabet : ℕ) (trie : IsTrie parents labels alphabet) (each : length fails ≡ length parents) where
+module _ (parents labels fails : List ℕ) (alphabet : ℕ) (trie : IsTrieOfPlaces parents labels alphabet) (each : length fails ≡ length parents) where
   none_top : (c : ℕ) → child parents labels (length fails) c ≡ None
   none_top c = none_past parents labels alphabet trie (length fails) c (omega (arith, each))
 

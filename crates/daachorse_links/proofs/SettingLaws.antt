@@ -2,14 +2,14 @@
 use Rattle.std.proofs.Common.{◌≡◌, ◌≢◌, ℕ, ◌+◌, ◌<◌, ◌≤◌, ◌⊎◌, Bool, List, length, Some, None, refl, sym, ap, ◌∙◌, subst, inl, inr, arith, get_or, set, get_or-set_other, get_or-set_same}
 use Rattle.std.proofs.lemmas.List.{length-set}
 use Rattle.std.proofs.lemmas.Bool.{cases_eq, cases_lt}
-use Rattle.daachorse_links.specs.Places.{child, IsTrie, LinksFall, AreStarts}
+use Rattle.daachorse_links.specs.Places.{child, IsTrieOfPlaces, LinksFall, AreStarts}
 use Rattle.daachorse_links.specs.Near.{up, near, right, AreNear}
 use Rattle.daachorse_links.specs.Tours.{IsEntering, IsLeaving}
 use Rattle.daachorse_links.proofs.ChildLaws.{edge, back}
 use Rattle.daachorse_links.proofs.NearLaws.{near_child, near_other}
 use Rattle.daachorse_links.proofs.StartLaws.{not_after}
 
-module _ (parents labels : List ℕ) (stops : List Bool) (fails : List ℕ) (alphabet : ℕ) (trie : IsTrie parents labels alphabet) (each : length fails ≡ length parents) (falls : LinksFall fails)
+module _ (parents labels : List ℕ) (stops : List Bool) (fails : List ℕ) (alphabet : ℕ) (trie : IsTrieOfPlaces parents labels alphabet) (each : length fails ≡ length parents) (falls : LinksFall fails)
     (starts : List ℕ) (are : AreStarts parents starts) (p : ℕ) (within : p < length parents) where
   fall_to : (q : ℕ) → 0 < q → q ≤ p → q < length fails → (get_or fails q 0 < q) ⊎ (get_or fails q 0 ≡ length fails)
   fall_to q low _ high = falls q low high

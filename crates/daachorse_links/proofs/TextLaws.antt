@@ -5,10 +5,10 @@ use Rattle.std.proofs.lemmas.Option.{same_Some}
 use Rattle.daachorse_model.specs.Paths.{walk}
 use Rattle.daachorse_model.proofs.Paths.{walk-push, push-parts}
 use Rattle.daachorse_model.proofs.Lists.{last_of}
-use Rattle.daachorse_links.specs.Places.{child, IsTrie}
+use Rattle.daachorse_links.specs.Places.{child, IsTrieOfPlaces}
 use Rattle.daachorse_links.proofs.ChildLaws.{edge, back}
 
-module _ (parents labels : List ℕ) (alphabet : ℕ) (trie : IsTrie parents labels alphabet) where
+module _ (parents labels : List ℕ) (alphabet : ℕ) (trie : IsTrieOfPlaces parents labels alphabet) where
   pub walk_later : (c : ℕ) (cs : List ℕ) (t : ℕ) → walk (child parents labels) 0 (c ∷ cs) ≡ Some t → (0 < t) × (t < length parents)
   walk_later c cs t h =
       let last = last_of c cs in

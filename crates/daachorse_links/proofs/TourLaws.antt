@@ -3,7 +3,7 @@ use Rattle.std.proofs.Common.{◌≡◌, ◌≢◌, ℕ, suc, ◌<◌, ◌≤◌
 use Rattle.std.proofs.lemmas.List.{length-set}
 use Rattle.std.proofs.lemmas.Bool.{cases_eq, cond_both, eqb-false, eqb-true}
 use Rattle.daachorse_links.specs.Near.{IsAbove}
-use Rattle.daachorse_links.specs.Tours.{In, IsApart, IsLinked, IsTour}
+use Rattle.daachorse_links.specs.Tours.{In, IsApart, IsThreaded, IsTour}
 
 -- the list with m after f
 abbrev insert : ℕ → ℕ → List ℕ → List ℕ
@@ -38,25 +38,25 @@ module _ (f m : ℕ) where
       (λ _. ((λ g. grind (arith, h.0, no', in_parts y ys g)), apart_insert ys h.1 (λ g. no' (inr g))))
 
 module _ (next put : List ℕ) (n : ℕ) where
-  agree : (a : ℕ) (xs : List ℕ) → ((x : ℕ) → In x xs → get_or put x 0 ≡ get_or next x 0) → IsLinked next n a xs → IsLinked put n a xs
+  agree : (a : ℕ) (xs : List ℕ) → ((x : ℕ) → In x xs → get_or put x 0 ≡ get_or next x 0) → IsThreaded next n a xs → IsThreaded put n a xs
   agree a [] same l = l
   agree a (x ∷ xs) same l =
-      (l.0, subst (λ b. IsLinked put n b xs) (sym (same x (inl refl))) (agree (get_or next x 0) xs (λ y h. same y (inr h)) l.1))
+      (l.0, subst (λ b. IsThreaded put n b xs) (sym (same x (inl refl))) (agree (get_or next x 0) xs (λ y h. same y (inr h)) l.1))
 
   after_it : (f m a x : ℕ) (xs : List ℕ) → get_or put f 0 ≡ m → get_or put m 0 ≡ get_or next f 0 → ((y : ℕ) → In y (x ∷ xs) → y ≢ f → get_or put y 0 ≡ get_or next y 0) → IsApart (x ∷ xs) →
-      IsLinked next n a (x ∷ xs) → x ≡ f → IsLinked put n a (x ∷ m ∷ xs)
+      IsThreaded next n a (x ∷ xs) → x ≡ f → IsThreaded put n a (x ∷ m ∷ xs)
   after_it f m a x xs at_f at_m same apart l e =
-      let tail : IsLinked put n (get_or next x 0) xs = agree (get_or next x 0) xs (λ y g. same y (inr g) (λ k. apart.0 (subst (λ z. In z xs) (k ∙ sym e) g))) l.1 in
-      (l.0, (ap (λ z. get_or put z 0) e ∙ at_f, subst (λ b. IsLinked put n b xs) (ap (λ z. get_or next z 0) e ∙ sym at_m) tail))
+      let tail : IsThreaded put n (get_or next x 0) xs = agree (get_or next x 0) xs (λ y g. same y (inr g) (λ k. apart.0 (subst (λ z. In z xs) (k ∙ sym e) g))) l.1 in
+      (l.0, (ap (λ z. get_or put z 0) e ∙ at_f, subst (λ b. IsThreaded put n b xs) (ap (λ z. get_or next z 0) e ∙ sym at_m) tail))
 
   linked_insert : (f m a : ℕ) (xs : List ℕ) → get_or put f 0 ≡ m → get_or put m 0 ≡ get_or next f 0 → ((x : ℕ) → In x xs → x ≢ f → get_or put x 0 ≡ get_or next x 0) → In f xs → IsApart xs →
-      IsLinked next n a xs → IsLinked put n a (insert f m xs)
+      IsThreaded next n a xs → IsThreaded put n a (insert f m xs)
   linked_insert f m a [] at_f at_m same h apart l = absurd h
   linked_insert f m a (x ∷ xs) at_f at_m same h apart l =
-      by_test x f (x ∷ m ∷ xs) (x ∷ insert f m xs) (λ ys. IsLinked put n a ys) (λ e. after_it f m a x xs at_f at_m same apart l e)
+      by_test x f (x ∷ m ∷ xs) (x ∷ insert f m xs) (λ ys. IsThreaded put n a ys) (λ e. after_it f m a x xs at_f at_m same apart l e)
       (λ ne. (
       let later : In f xs = elim h [ inl e ↦ absurd (ne (sym e)) | inr g ↦ g ] in
-      (l.0, linked_insert f m (get_or put x 0) xs at_f at_m (λ y k. same y (inr k)) later apart.1 (subst (λ b. IsLinked next n b xs) (sym (same x (inl refl) ne)) l.1))))
+      (l.0, linked_insert f m (get_or put x 0) xs at_f at_m (λ y k. same y (inr k)) later apart.1 (subst (λ b. IsThreaded next n b xs) (sym (same x (inl refl) ne)) l.1))))
 
 module _ (up : ℕ → ℕ) (n : ℕ) (next : List ℕ) (m : ℕ) (tour : IsTour up n next m) (lt : m < n) where
   abbrev put : List ℕ
@@ -105,7 +105,7 @@ module _ (up : ℕ → ℕ) (n : ℕ) (next : List ℕ) (m : ℕ) (tour : IsTour
         list = m ∷ tour.list;
         linked = (
           ap (λ a. get_or put a 0) (sym e) ∙ read_up le ne,
-          subst (λ b. IsLinked put n b tour.list) (ap (λ a. get_or next a 0) (sym e) ∙ sym (read_m le ne))
+          subst (λ b. IsThreaded put n b tour.list) (ap (λ a. get_or next a 0) (sym e) ∙ sym (read_m le ne))
               (agree next put n (get_or next n 0) tour.list (λ x h. read_other le ne x (λ g. omega (arith, tour.below x h, g, e, lt)) (λ g. omega (arith, tour.below x h, g))) tour.linked),
         );
         count = ap suc tour.count;
@@ -125,7 +125,7 @@ module _ (up : ℕ → ℕ) (n : ℕ) (next : List ℕ) (m : ℕ) (tour : IsTour
         list = insert (up m) m tour.list;
         linked =
             linked_insert next put n (up m) m (get_or put n 0) tour.list (read_up le ne) (read_m le ne) (λ x h g. read_other le ne x g (λ k. omega (arith, tour.below x h, k))) has tour.apart
-            (subst (λ b. IsLinked next n b tour.list) (sym (read_other le ne n (λ g. omega (arith, g, low, lt)) (λ g. omega (arith, g, lt)))) tour.linked);
+            (subst (λ b. IsThreaded next n b tour.list) (sym (read_other le ne n (λ g. omega (arith, g, low, lt)) (λ g. omega (arith, g, lt)))) tour.linked);
         count = length_insert (up m) m tour.list has ∙ ap suc tour.count;
         apart = apart_insert (up m) m tour.list tour.apart (fresh le ne);
         below = λ x h. grind (arith, in_parts (up m) m x tour.list h, tour.below x);

@@ -2,9 +2,9 @@
 use Rattle.std.proofs.Common.{◌≡◌, ◌≢◌, ℕ, zero, suc, ◌+◌, ◌<◌, ◌≤◌, ◌⊎◌, ◌==◌, Bool, cond, List, [], ◌∷◌, length, refl, sym, ap, ◌∙◌, subst, inl, inr, arith, get_or}
 use Rattle.std.proofs.lemmas.List.{nil_from_length}
 use Rattle.std.proofs.lemmas.Bool.Decides.{nat_tests}
-use Rattle.daachorse_links.specs.Places.{IsTrie, LinksFall}
+use Rattle.daachorse_links.specs.Places.{IsTrieOfPlaces, LinksFall}
 use Rattle.daachorse_links.specs.Near.{up, top, above, IsAbove, AreNear, IsChecked, IsSaved}
-use Rattle.daachorse_links.specs.Tours.{IsLinked, IsTour, IsTouring}
+use Rattle.daachorse_links.specs.Tours.{IsThreaded, IsTour, IsTouring}
 use Rattle.daachorse_links.proofs.NearLaws.{up_past, ups_fall, near_top}
 use Rattle.daachorse_links.proofs.TopLaws.{top_next}
 
@@ -34,7 +34,7 @@ module _ (fails : List ℕ) where
   not_top_of : (here to : ℕ) → here ≤ length fails → IsAbove (up fails) to here → to ≢ length fails → here < length fails
   not_top_of here to le s ne = omega (arith, le, λ (e : here ≡ length fails). ne (sym s.1 ∙ ap (λ x. above (up fails) s.0 x) e ∙ above_end s.0))
 
-module _ {parents labels : List ℕ} {stops : List Bool} {fails : List ℕ} {alphabet : ℕ} (trie : IsTrie parents labels alphabet) (each : length fails ≡ length parents) where
+module _ {parents labels : List ℕ} {stops : List Bool} {fails : List ℕ} {alphabet : ℕ} (trie : IsTrieOfPlaces parents labels alphabet) (each : length fails ≡ length parents) where
   pub touring_start : (next array saved : List ℕ) → IsTour (up fails) (length fails) next (length fails) → ((c : ℕ) → c < length array → get_or array c 0 ≡ 0) → IsTouring parents labels stops fails next array saved 0 (length fails) (get_or next (length fails) 0) (length fails)
   touring_start next array saved tour zeros = record {
     rest = tour.list;
@@ -97,7 +97,7 @@ module _ {parents labels : List ℕ} {stops : List Bool} {fails : List ℕ} {alp
             let linked = rw is at touring.linked in
             record {
               rest = xs;
-              linked = subst (λ z. IsLinked next (length fails) (get_or next z 0) xs) (sym linked.0) linked.1;
+              linked = subst (λ z. IsThreaded next (length fails) (get_or next z 0) xs) (sym linked.0) linked.1;
               count = omega (arith, touring.count, ap length is);
               below = λ y h. touring.below y (rw is (inr h));
               each = λ y h. elim (rw is at (touring.each y h)) [

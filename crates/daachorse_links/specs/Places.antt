@@ -19,7 +19,7 @@ pub record IsOrder (parents : List ℕ) : Type 0 where
   pub rising : (l m : ℕ) → 0 < l → l < m → m < length parents → slice_index parents l ≤ slice_index parents m
 
 -- places whose labels are below `alphabet`; no two children of one place have one label
-pub record IsTrie (parents labels : List ℕ) (alphabet : ℕ) : Type 0 where
+pub record IsTrieOfPlaces (parents labels : List ℕ) (alphabet : ℕ) : Type 0 where
   pub each : length labels ≡ length parents
   pub order : IsOrder parents
   pub inside : (m : ℕ) → 0 < m → m < length parents → slice_index labels m < alphabet
@@ -27,7 +27,7 @@ pub record IsTrie (parents labels : List ℕ) (alphabet : ℕ) : Type 0 where
 
 -- such places, whatever bounds their labels
 abbrev pub IsLabelled : List ℕ → List ℕ → Type 0
-IsLabelled parents labels = (alphabet : ℕ) × IsTrie parents labels alphabet
+IsLabelled parents labels = (alphabet : ℕ) × IsTrieOfPlaces parents labels alphabet
 
 -- whether a place stops
 abbrev pub stop : List Bool → ℕ → Bool

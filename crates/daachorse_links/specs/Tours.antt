@@ -11,15 +11,15 @@ IsApart [] = zero ≡ zero
 IsApart (x ∷ xs) = (In x xs → ⊥) × IsApart xs
 
 -- from a on, next leads through the list and then to n
-abbrev pub IsLinked : List ℕ → ℕ → ℕ → List ℕ → Type 0
-IsLinked next n a [] = a ≡ n
-IsLinked next n a (x ∷ xs) = (a ≡ x) × IsLinked next n (slice_index next x) xs
+abbrev pub IsThreaded : List ℕ → ℕ → ℕ → List ℕ → Type 0
+IsThreaded next n a [] = a ≡ n
+IsThreaded next n a (x ∷ xs) = (a ≡ x) × IsThreaded next n (slice_index next x) xs
 
 -- a tour of the first m of n places, that begins after n
 pub record IsTour (up : ℕ → ℕ) (n : ℕ) (next : List ℕ) (m : ℕ) : Type 0 where
   pub size : length next ≡ suc n
   pub list : List ℕ
-  pub linked : IsLinked next n (slice_index next n) list
+  pub linked : IsThreaded next n (slice_index next n) list
   pub count : length list ≡ m
   pub apart : IsApart list
   pub below : (x : ℕ) → In x list → x < m
@@ -29,7 +29,7 @@ pub record IsTour (up : ℕ → ℕ) (n : ℕ) (next : List ℕ) (m : ℕ) : Typ
 -- a tour that has left k places, the last of them here, and comes to p next; t is the link where nothing is near here
 pub record IsTouring (parents labels : List ℕ) (stops : List Bool) (fails next array saved : List ℕ) (k here p t : ℕ) : Type 0 where
   pub rest : List ℕ
-  pub linked : IsLinked next (length fails) p rest
+  pub linked : IsThreaded next (length fails) p rest
   pub count : length rest + k ≡ length fails
   pub below : (x : ℕ) → In x rest → x < length fails
   pub each : (x : ℕ) → x < length fails → In x rest ⊎ IsChecked parents labels stops fails x

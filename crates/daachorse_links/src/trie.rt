@@ -11,7 +11,7 @@
 
 ghost use Rattle.std.specs.Prelude.{◌≡◌, ℕ, ◌<◌, ◌≤◌, ◌^◌, length, cond, true, false, IfOk, IfErr};
 ghost use Rattle.daachorse_core.specs.Refusals.{IsOutOfMemory};
-ghost use Rattle.daachorse_links.specs.Places.{IsOrder, IsTrie, HasLinks, LinksFall, AreStarts, stop};
+ghost use Rattle.daachorse_links.specs.Places.{IsOrder, IsTrieOfPlaces, HasLinks, LinksFall, AreStarts, stop};
 ghost use Rattle.daachorse_links.specs.Near.{up, near, top, above, root_value, or_top, IsAbove, AreNear, IsChecked, IsSaved};
 ghost use Rattle.daachorse_links.specs.Tours.{IsTour};
 
@@ -146,7 +146,7 @@ impl<A: Allocator + Copy> Trie<A> {
         p: u32,
         other: u32,
     ) -> bool
-        requires trie { IsTrie self.now.parents.items self.now.labels.items (length near.old.items) }
+        requires trie { IsTrieOfPlaces self.now.parents.items self.now.labels.items (length near.old.items) }
         requires each { length self.now.fails.items ≡ length self.now.parents.items }
         requires stops { length self.now.stops.items ≡ length self.now.parents.items }
         requires few { length self.now.parents.items < 2 ^ 32 }
@@ -181,7 +181,7 @@ impl<A: Allocator + Copy> Trie<A> {
 
     /// Goes back from place p to its link.
     fn leave(&self, starts: &[u32], near: &mut Vec<u32, A>, saved: &[u32], p: u32)
-        requires trie { IsTrie self.now.parents.items self.now.labels.items (length near.old.items) }
+        requires trie { IsTrieOfPlaces self.now.parents.items self.now.labels.items (length near.old.items) }
         requires each { length self.now.fails.items ≡ length self.now.parents.items }
         requires few { length self.now.parents.items < 2 ^ 32 }
         requires fall { LinksFall self.now.fails.items }
@@ -203,7 +203,7 @@ impl<A: Allocator + Copy> Trie<A> {
 
     /// Goes back from place `from` to the place `to` on its link path.
     fn retreat(&self, starts: &[u32], near: &mut Vec<u32, A>, saved: &[u32], from: u32, to: u32)
-        requires trie { IsTrie self.now.parents.items self.now.labels.items (length near.old.items) }
+        requires trie { IsTrieOfPlaces self.now.parents.items self.now.labels.items (length near.old.items) }
         requires each { length self.now.fails.items ≡ length self.now.parents.items }
         requires few { length self.now.parents.items < 2 ^ 32 }
         requires fall { LinksFall self.now.fails.items }
@@ -226,7 +226,7 @@ impl<A: Allocator + Copy> Trie<A> {
     /// Whether each place has the right leftmost link.
     pub fn has_links(&self, alloc: A, alphabet: u32) -> Result<bool>
         requires stops { length self.now.stops.items ≡ length self.now.parents.items }
-        requires trie { IsTrie self.now.parents.items self.now.labels.items alphabet }
+        requires trie { IsTrieOfPlaces self.now.parents.items self.now.labels.items alphabet }
         requires each { length self.now.fails.items ≡ length self.now.parents.items }
         requires few { length self.now.parents.items < 2 ^ 32 }
         ensures yes { IfOk result (λ valid. valid ≡ true → HasLinks self.now.parents.items self.now.labels.items self.now.stops.items self.now.fails.items) }

@@ -5,7 +5,7 @@ use Rattle.std.proofs.lemmas.Bool.{cases_eq}
 use Rattle.std.proofs.lemmas.Option.{none-some, same_Some, slice_get-get_or}
 use Rattle.daachorse_machine.specs.Texts.{IsReached}
 use Rattle.std.specs.List.{AllByRecursion}
-use Rattle.daachorse_listing.specs.Climbs.{AreKnown, IsDepthOf, IsPathBelow, deepened}
+use Rattle.daachorse_listing.specs.Climbs.{AreKnown, IsDepthOf, IsPathBelow, depths_along}
 use Rattle.daachorse_listing.specs.Depths.{IsDepthTable}
 use Rattle.daachorse_listing.specs.Edges.{IsTree, TellChildren}
 use Rattle.daachorse_listing.specs.Trees.{IsAmong, text}
@@ -42,9 +42,9 @@ set-kept (e ∷ depths) zero (suc k) d some = some
 set-kept (e ∷ depths) (suc i) zero d some = some
 set-kept (e ∷ depths) (suc i) (suc k) d some = set-kept depths i k d some
 
-pub deepened-kept : (path depths : List ℕ) (d i : ℕ) → get_or depths i 0 ≢ 0 → get_or (deepened d path depths) i 0 ≢ 0
-deepened-kept [] depths d i some = some
-deepened-kept (x ∷ path) depths d i some = deepened-kept path (set depths x (suc d)) (suc d) i (set-kept depths i x d some)
+pub depths_along-kept : (path depths : List ℕ) (d i : ℕ) → get_or depths i 0 ≢ 0 → get_or (depths_along d path depths) i 0 ≢ 0
+depths_along-kept [] depths d i some = some
+depths_along-kept (x ∷ path) depths d i some = depths_along-kept path (set depths x (suc d)) (suc d) i (set-kept depths i x d some)
 
 -- ---- parents
 
@@ -130,7 +130,7 @@ module _ {child : ℕ → ℕ → Option ℕ} {n m : ℕ} (tree : IsTree child n
   }
 
   -- the elements of the path are given their depths
-  pub known-deepened : (path depths : List ℕ) (d : ℕ) → AreKnown child n m path depths → IsPathBelow child n m d path → AreKnown child n m [] (deepened d path depths)
+  pub known-deepened : (path depths : List ℕ) (d : ℕ) → AreKnown child n m path depths → IsPathBelow child n m d path → AreKnown child n m [] (depths_along d path depths)
   known-deepened [] depths d k below = k
   known-deepened (x ∷ path) depths d k below = known-deepened path (set depths x (suc d)) (suc d) next below.1
     where

@@ -8,7 +8,7 @@ use Rattle.daachorse_model.proofs.Lists.{ends_in}
 use Rattle.daachorse_model.proofs.Paths.{push-parts}
 use Rattle.daachorse_machine.specs.Texts.{IsReached}
 use Rattle.daachorse_listing.specs.Edges.{IsTree, TellChildren, put_before}
-use Rattle.daachorse_listing.specs.Listing.{AreEntries, IsEntry, unit_of}
+use Rattle.daachorse_listing.specs.Listing.{AreEntries, IsAside, unit_of}
 use Rattle.daachorse_listing.specs.Trees.{text}
 use Rattle.daachorse_listing.proofs.WalkLaws.{root-text, reached-is, reached-inside, child-text, unit-is}
 
@@ -23,7 +23,7 @@ module _ (child : ℕ → ℕ → Option ℕ) (n m : ℕ) where
   entries-longer last_text most more [] up h = tt
   entries-longer last_text most more (e ∷ l) up h = (omega (arith, up, h.0), h.1, h.2)
 
-  pub entries-put : (last_text : List ℕ) (depth : ℕ) (kids : List ℕ) (l : List (ℕ × ℕ)) → AllByRecursion (λ j. IsEntry child n m last_text (depth, j)) kids → AreEntries child n m last_text depth l
+  pub entries-put : (last_text : List ℕ) (depth : ℕ) (kids : List ℕ) (l : List (ℕ × ℕ)) → AllByRecursion (λ j. IsAside child n m last_text (depth, j)) kids → AreEntries child n m last_text depth l
       → AreEntries child n m last_text depth (put_before (map (λ j. (depth, j)) kids) l)
   entries-put last_text depth [] l all h = h
   entries-put last_text depth (k ∷ kids) l all h = entries-put last_text depth kids ((depth, k) ∷ l) all.1 (omega arith, all.0, h)
@@ -48,7 +48,7 @@ module _ {child : ℕ → ℕ → Option ℕ} {n m : ℕ} (tree : IsTree child n
   ]
 
   -- its last unit is written behind the others
-  pub text-written : {group : ℕ → Option ℕ} {edge : ℕ → Option (ℕ × ℕ)} → TellChildren child group edge n → (last_text new : List ℕ) (x d : ℕ) → IsReached child m n x → IsEntry child n m last_text (d, x)
+  pub text-written : {group : ℕ → Option ℕ} {edge : ℕ → Option (ℕ × ℕ)} → TellChildren child group edge n → (last_text new : List ℕ) (x d : ℕ) → IsReached child m n x → IsAside child n m last_text (d, x)
       → (d ≡ 0 → new ≡ []) → (0 < d → new ≡ take (d - 1) last_text ++ unit_of (edge x) ∷ []) → new ≡ text child n m x
   text-written tell last_text new x zero r e none some = none refl ∙ sym (nil_from_length (text child n m x) (sym e.0))
   text-written {edge = edge} tell last_text new x (suc k) r e none some =
@@ -65,7 +65,7 @@ module _ {child : ℕ → ℕ → Option ℕ} {n m : ℕ} (tree : IsTree child n
       some (omega arith) ∙ (ap (λ w. w ++ unit_of (edge x) ∷ []) begun ∙ (ap (λ u. text child n m p ++ u ∷ []) unit ∙ sym longer))
 
   -- the text of an element is that of its children but for the last unit
-  pub child-entry : (last_text : List ℕ) (x d c j : ℕ) → IsReached child m n x → d ≡ length (text child n m x) → take d last_text ≡ text child n m x → child x c ≡ Some j → IsEntry child n m last_text (suc d, j)
+  pub child-entry : (last_text : List ℕ) (x d c j : ℕ) → IsReached child m n x → d ≡ length (text child n m x) → take d last_text ≡ text child n m x → child x c ≡ Some j → IsAside child n m last_text (suc d, j)
   child-entry last_text x d c j r deep begun e =
       let longer : text child n m j ≡ text child n m x ++ c ∷ [] = child-text tree x c j r e in
       let place : suc d - 1 ≡ d = omega arith in (

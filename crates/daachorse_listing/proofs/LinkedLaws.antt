@@ -4,7 +4,7 @@ use Rattle.std.proofs.lemmas.List.{get_or-map, get_or_push, get_or_append_left, 
 use Rattle.std.proofs.lemmas.Bool.{cases_eq, cases_order, eq-eqb, ne_eqb}
 use Rattle.std.proofs.Math.Seq.{get_or-append_seam}
 use Rattle.daachorse_listing.specs.Edges.{is_in, members}
-use Rattle.daachorse_listing.specs.Linked.{numbers_from, list_from, IsPut}
+use Rattle.daachorse_listing.specs.Linked.{numbers_from, linked_from, IsPut}
 
 module _ (next : List ℕ) (fall : (q : ℕ) → get_or next q 0 ≤ q) where
   -- any number of steps that is enough gives the same
@@ -20,15 +20,15 @@ module _ (next : List ℕ) (fall : (q : ℕ) → get_or next q 0 ≤ q) where
       ap (λ l. q ∷ l) (steps-same s t (get_or next q 0) (omega (arith, back)) (omega (arith, back)))
 
   -- the list of a link is its number, and then the list that this one goes on with
-  pub list_from-cons : (q : ℕ) → list_from next (suc q) ≡ q ∷ list_from next (get_or next q 0)
-  list_from-cons q =
+  pub linked_from-cons : (q : ℕ) → linked_from next (suc q) ≡ q ∷ linked_from next (get_or next q 0)
+  linked_from-cons q =
       let back : get_or next q 0 ≤ q = fall q in
       ap (λ l. q ∷ l) (steps-same q (get_or next q 0) (get_or next q 0) back (omega arith))
 
   -- the same at a link that ends no list
-  pub list_from-at : (link : ℕ) → 0 < link → list_from next link ≡ (link - 1) ∷ list_from next (get_or next (link - 1) 0)
-  list_from-at zero h = absurd (omega arith)
-  list_from-at (suc q) h = rw sub-one (list_from-cons q)
+  pub linked_from-at : (link : ℕ) → 0 < link → linked_from next link ≡ (link - 1) ∷ linked_from next (get_or next (link - 1) 0)
+  linked_from-at zero h = absurd (omega arith)
+  linked_from-at (suc q) h = rw sub-one (linked_from-cons q)
 
   -- ---- one more number
   module _ (x : ℕ) (back : x ≤ length next) where
@@ -48,11 +48,11 @@ module _ (next : List ℕ) (fall : (q : ℕ) → get_or next q 0 ≤ q) where
         rw (get_or_append_left next (x ∷ []) 0 q (omega arith)) (ap (λ l. q ∷ l) (steps-push s (get_or next q 0) (omega (arith, fall q))))
 
     -- the list of another number stays
-    pub list-push-other : (link : ℕ) → link ≤ length next → list_from (next ++ x ∷ []) link ≡ list_from next link
+    pub list-push-other : (link : ℕ) → link ≤ length next → linked_from (next ++ x ∷ []) link ≡ linked_from next link
     list-push-other link h = steps-push link link h
 
     -- the list that the new number begins
-    pub list-push-first : list_from (next ++ x ∷ []) (suc (length next)) ≡ length next ∷ list_from next x
+    pub list-push-first : linked_from (next ++ x ∷ []) (suc (length next)) ≡ length next ∷ linked_from next x
     list-push-first =
         rw (get_or-append_seam next x [] 0) (ap (λ l. length next ∷ l) (steps-push (length next) x back ∙ steps-same (length next) x x back (omega arith)))
 
@@ -62,7 +62,7 @@ pub record IsGrouped (edge : ℕ → Option (ℕ × ℕ)) (n k : ℕ) (first nex
   pub made : length next ≡ k
   pub fall : (q : ℕ) → get_or next q 0 ≤ q
   pub inside : (g : ℕ) → g < n → get_or first g 0 ≤ k
-  pub lists : (g : ℕ) → g < n → list_from next (get_or first g 0) ≡ members edge g k
+  pub lists : (g : ℕ) → g < n → linked_from next (get_or first g 0) ≡ members edge g k
 
 abbrev zeros : ℕ → List ℕ
 zeros n = replicate n 0
@@ -76,7 +76,7 @@ grouped-empty edge n = record {
   made = refl;
   fall = λ q. omega arith;
   inside = λ g h. (let z = zero-at n g h in omega (arith, z));
-  lists = λ g h. ap (list_from []) (zero-at n g h);
+  lists = λ g h. ap (linked_from []) (zero-at n g h);
 }
 
 pub grouped-start : (edge : ℕ → Option (ℕ × ℕ)) (n : ℕ) (first next : List ℕ) → first ≡ zeros n → next ≡ [] → IsGrouped edge n 0 first next
@@ -133,5 +133,5 @@ grouped-next edge n k first new next then link h put e = rw (e, add-one k) (at (
         rw (done, taken) (grouped-some edge n k first next h x.0 x.1 is (omega (arith, less, size)))
 
 -- the lists of all groups, read as one table
-pub grouped-list : (edge : ℕ → Option (ℕ × ℕ)) (n k : ℕ) (first next : List ℕ) → IsGrouped edge n k first next → (g : ℕ) → g < n → get_or (map (list_from next) first) g [] ≡ members edge g k
-grouped-list edge n k first next h g less = get_or-map (list_from next) first g 0 [] (omega (arith, h.size, less)) ∙ h.lists g less
+pub grouped-list : (edge : ℕ → Option (ℕ × ℕ)) (n k : ℕ) (first next : List ℕ) → IsGrouped edge n k first next → (g : ℕ) → g < n → get_or (map (linked_from next) first) g [] ≡ members edge g k
+grouped-list edge n k first next h g less = get_or-map (linked_from next) first g 0 [] (omega (arith, h.size, less)) ∙ h.lists g less

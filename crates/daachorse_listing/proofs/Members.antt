@@ -4,7 +4,7 @@ use Rattle.std.proofs.lemmas.List.{get_or-set_same, get_or-set_other, length-set
 use Rattle.std.proofs.lemmas.Bool.{cases_eq}
 use Rattle.std.specs.List.{AllByRecursion}
 use Rattle.daachorse_machine.proofs.PathLaws.{pigeon}
-use Rattle.daachorse_listing.specs.Edges.{put_before, child_before, children}
+use Rattle.daachorse_listing.specs.Edges.{put_before, child_before, children_below}
 use Rattle.daachorse_listing.specs.Trees.{IsAmong, Pairs, IsMarking, elements_of}
 
 -- ---- members
@@ -64,31 +64,31 @@ length-put (x ∷ xs) l = omega (arith, length-put xs (x ∷ l))
 -- ---- the children of an element
 
 module _ (child : ℕ → ℕ → Option ℕ) (i : ℕ) where
-  pub among-children : (m k : ℕ) → IsAmong (children child i m) k → (c : ℕ) × (child i c ≡ Some k)
+  pub among-children : (m k : ℕ) → IsAmong (children_below child i m) k → (c : ℕ) × (child i c ≡ Some k)
   among-children zero k h = absurd h
-  among-children (suc u) k h = (elim (child i u) as (λ o. child i u ≡ o → IsAmong (child_before o (children child i u)) k → (c : ℕ) × (child i c ≡ Some k)) [
+  among-children (suc u) k h = (elim (child i u) as (λ o. child i u ≡ o → IsAmong (child_before o (children_below child i u)) k → (c : ℕ) × (child i c ≡ Some k)) [
     | None ↦ λ is h. among-children u k h
     | Some j ↦ λ is h. elim h [ inl same ↦ (u, is ∙ ap (λ x. Some x) (sym same)) | inr more ↦ among-children u k more ]
   ]) refl h
 
-  pub children-among : (m c k : ℕ) → c < m → child i c ≡ Some k → IsAmong (children child i m) k
-  children-among zero c k h e = absurd (omega arith)
-  children-among (suc u) c k h e = elim (cases_eq c u) [
+  pub children_below-among : (m c k : ℕ) → c < m → child i c ≡ Some k → IsAmong (children_below child i m) k
+  children_below-among zero c k h e = absurd (omega arith)
+  children_below-among (suc u) c k h e = elim (cases_eq c u) [
     | inl same ↦ rw (ap (child i) (sym same) ∙ e) (inl refl)
     | inr other ↦ (
-        let more = children-among u c k (omega (arith, h, other)) e in
-        elim (child i u) as (λ o. IsAmong (child_before o (children child i u)) k) [ None ↦ more | Some j ↦ inr more ])
+        let more = children_below-among u c k (omega (arith, h, other)) e in
+        elim (child i u) as (λ o. IsAmong (child_before o (children_below child i u)) k) [ None ↦ more | Some j ↦ inr more ])
   ]
 
-  pub no-children : (m : ℕ) → ((c : ℕ) → child i c ≡ None) → children child i m ≡ []
+  pub no-children : (m : ℕ) → ((c : ℕ) → child i c ≡ None) → children_below child i m ≡ []
   no-children zero none = refl
-  no-children (suc u) none = ap (λ o. child_before o (children child i u)) (none u) ∙ no-children u none
+  no-children (suc u) none = ap (λ o. child_before o (children_below child i u)) (none u) ∙ no-children u none
 
   -- children put before others, where each stands in R to each later one
   pub Pairs-children : (R : ℕ → ℕ → Type 0) (m : ℕ) (l : List ℕ) → Pairs R l → ((c k : ℕ) → c < m → child i c ≡ Some k → AllByRecursion (R k) l)
-      → ((c d j k : ℕ) → c < d → d < m → child i c ≡ Some j → child i d ≡ Some k → R j k) → Pairs R (put_before (children child i m) l)
+      → ((c d j k : ℕ) → c < d → d < m → child i c ≡ Some j → child i d ≡ Some k → R j k) → Pairs R (put_before (children_below child i m) l)
   Pairs-children R zero l pairs before rise = pairs
-  Pairs-children R (suc u) l pairs before rise = (elim (child i u) as (λ o. child i u ≡ o → Pairs R (put_before (child_before o (children child i u)) l)) [
+  Pairs-children R (suc u) l pairs before rise = (elim (child i u) as (λ o. child i u ≡ o → Pairs R (put_before (child_before o (children_below child i u)) l)) [
     | None ↦ λ is. Pairs-children R u l pairs (λ c k h e. before c k (omega arith) e) (λ c d j k h less a b. rise c d j k h (omega arith) a b)
     | Some t ↦ λ is.
         Pairs-children R u (t ∷ l) (before u t (omega arith) is, pairs)

@@ -5,8 +5,8 @@ use Rattle.std.proofs.lemmas.List.{nil_from_length, reverse-append, take_all}
 use Rattle.daachorse_core.specs.declared.outputs.Output.{Output}
 use Rattle.daachorse_core.specs.Outputs.{value_of, parent_of}
 use Rattle.daachorse_machine.specs.Texts.{IsReached, text_of}
-use Rattle.daachorse_listing.specs.Edges.{children, put_before}
-use Rattle.daachorse_listing.specs.Listing.{AreEntries, HasPatterns, IsEntry, values_until, with_values, patterns_of, left_of, unit_of, IsWalking}
+use Rattle.daachorse_listing.specs.Edges.{children_below, put_before}
+use Rattle.daachorse_listing.specs.Listing.{AreEntries, HasPatterns, IsAside, values_until, with_values, patterns_of, left_of, unit_of, IsListingWalk}
 use Rattle.daachorse_listing.specs.Trees.{IsAmong, IsWalk, elements_of, taken_from}
 use Rattle.daachorse_listing.proofs.EntryLaws.{entries-elements, entries-longer, entries-put, entries-written, text-written, child-entry}
 use Rattle.daachorse_listing.proofs.ListingLaws.{values_until-step, values_until-end}
@@ -41,10 +41,10 @@ module _ {V : Type 0} {child : ℕ → ℕ → Option ℕ} {group : ℕ → Opti
 -- ---- the next element
 
 module _ {V : Type 0} {child : ℕ → ℕ → Option ℕ} {group : ℕ → Option ℕ} {edge : ℕ → Option (ℕ × ℕ)} {n m : ℕ} {outputs : List (Output V)} {first : ℕ → ℕ} {groups : List (List ℕ)} {aside : List (ℕ × ℕ)} {last_text : List ℕ} {position room room_for_children room_for_text : ℕ}
-    (w : IsWalking child group edge n m outputs first groups aside last_text position room room_for_children room_for_text) where
+    (w : IsListingWalk child group edge n m outputs first groups aside last_text position room room_for_children room_for_text) where
   module _ (rest : List (ℕ × ℕ)) (d x : ℕ) (e : aside ≡ rest ++ (d, x) ∷ []) where
     abbrev kids : List ℕ
-    kids = children child x m
+    kids = children_below child x m
 
     some : 0 < length aside
     some = omega (arith, ap length e, length-append rest ((d, x) ∷ []))
@@ -99,7 +99,7 @@ module _ {V : Type 0} {child : ℕ → ℕ → Option ℕ} {group : ℕ → Opti
         next-begun = ap (take d) next-text ∙ take_all d (text_of child m n x) (omega (arith, next-deep))
 
         pub next-walking : (more_room more_room_for_children more_room_for_text : ℕ) → room ≤ more_room → room_for_children ≤ more_room_for_children → room_for_text ≤ more_room_for_text
-            → IsWalking child group edge n m outputs first groups more new at more_room more_room_for_children more_room_for_text
+            → IsListingWalk child group edge n m outputs first groups more new at more_room more_room_for_children more_room_for_text
         next-walking more_room more_room_for_children more_room_for_text wide wide_for_children wide_for_text = record {
           patterns = w.patterns;
           groups_are = w.groups_are;
@@ -107,10 +107,10 @@ module _ {V : Type 0} {child : ℕ → ℕ → Option ℕ} {group : ℕ → Opti
           walk = λ some. (taken ++ x ∷ [], rw next-aside (walk-next w.patterns.tree taken (elements_of rest) x under));
           entries =
               let long : length new ≡ d = ap length next-text ∙ sym next-deep in
-              let begun : (j : ℕ) → IsAmong kids j → IsEntry child n m new (d + 1, j) =
+              let begun : (j : ℕ) → IsAmong kids j → IsAside child n m new (d + 1, j) =
               λ j a. (let kid = among-children child x m j a in rw (add-one d) (child-entry w.patterns.tree new x d kid.0 j next-reached next-deep next-begun kid.1)) in
               let kept = entries-written child n m last_text new d d (reverse rest) (ap (take (d - 1)) next-text ∙ sym entries.1.1) (omega arith) entries.2 in
-              let all = entries-put child n m new (d + 1) kids (reverse rest) (All-among (λ j. IsEntry child n m new (d + 1, j)) kids begun)
+              let all = entries-put child n m new (d + 1) kids (reverse rest) (All-among (λ j. IsAside child n m new (d + 1, j)) kids begun)
               (entries-longer child n m new d (d + 1) (reverse rest) (omega arith) kept) in
               rw put (entries-longer child n m new (d + 1) (suc (length new)) (put_before (map (λ j. (d + 1, j)) kids) (reverse rest)) (omega (arith, long)) all);
           inside = omega (arith, w.patterns.inside x next-inside, is);

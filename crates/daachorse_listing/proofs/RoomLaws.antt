@@ -10,7 +10,7 @@ use Rattle.daachorse_model.proofs.Paths.{push-parts, walk-push}
 use Rattle.daachorse_machine.specs.Texts.{IsReached}
 use Rattle.daachorse_machine.proofs.PathLaws.{pigeon, walk-split}
 use Rattle.daachorse_listing.specs.Edges.{is_in, below, members, IsTree, TellChildren}
-use Rattle.daachorse_listing.specs.Linked.{list_from, IsPut}
+use Rattle.daachorse_listing.specs.Linked.{linked_from, IsPut}
 use Rattle.daachorse_listing.specs.Listing.{unit_of}
 use Rattle.daachorse_listing.specs.Room.{is_filled, has_before, is_later, num_later}
 use Rattle.daachorse_listing.specs.Trees.{IsAmong, Pairs, Diverges, text, Apart}
@@ -121,7 +121,7 @@ later-linked : (edge : ℕ → Option (ℕ × ℕ)) (n k : ℕ) (first new next 
 unfolding linked
 later-linked edge n k first new next link h put = at (edge k) refl put
   where
-    filled : (q : ℕ) → is_filled (list_from next q) ≡ linked q
+    filled : (q : ℕ) → is_filled (linked_from next q) ≡ linked q
     filled zero = refl
     filled (suc q) = refl
 
@@ -130,7 +130,7 @@ later-linked edge n k first new next link h put = at (edge k) refl put
     at (Some e) is some =
         let size = h.size in
         let real : e.0 < n = omega (arith, size, some.0) in
-        ap (has_before edge k) is ∙ (ap is_filled (sym (h.lists e.0 real)) ∙ (ap (λ q. is_filled (list_from next q)) (sym some.2) ∙ filled link))
+        ap (has_before edge k) is ∙ (ap is_filled (sym (h.lists e.0 real)) ∙ (ap (λ q. is_filled (linked_from next q)) (sym some.2) ∙ filled link))
 
 pub later-next : (edge : ℕ → Option (ℕ × ℕ)) (n k : ℕ) (first new next : List ℕ) (link one : ℕ) → IsGrouped edge n k first next → IsPut (edge k) k first new link
     → (link ≡ 0 → one ≡ 0) → (0 < link → one ≡ 1) → num_later edge k + one ≡ num_later edge (k + 1)

@@ -12,7 +12,7 @@ use Rattle.std.specs.Ordering.{nat_cmp, ordering_then, is_lt}
 use Rattle.std.specs.declared.cmp.Ordering.{Ordering}
 use Rattle.std.proofs.lemmas.Bool.Decides.{nat_tests}
 use Rattle.daachorse_model.proofs.Booleans.{either}
-use Rattle.daachorse_listing.specs.Edges.{is_in, below, members, children, TellChildren}
+use Rattle.daachorse_listing.specs.Edges.{is_in, below, members, children_below, TellChildren}
 use Rattle.daachorse_listing.specs.Listing.{unit_of}
 use Rattle.daachorse_listing.specs.Trees.{Pairs, elements_of}
 
@@ -76,7 +76,7 @@ no_some None h = refl
 no_some (Some j) h = absurd (h j refl)
 
 falling-kids : (child : ℕ → ℕ → Option ℕ) (i m : ℕ) (l : List Kid) → Pairs Above l → AllByRecursion (λ p. p.0 < m) l → AllByRecursion (λ p. child i p.0 ≡ Some p.1) l → ((u j : ℕ) → u < m → child i u ≡ Some j → Has u l)
-    → elements l ≡ children child i m
+    → elements l ≡ children_below child i m
 falling-kids child i zero [] pairs low sound all = refl
 falling-kids child i zero (p ∷ l) pairs low sound all = absurd (omega (arith, low.0))
 falling-kids child i (suc m) [] pairs low sound all =
@@ -184,7 +184,7 @@ module _ {child : ℕ → ℕ → Option ℕ} {group : ℕ → Option ℕ} {edge
   }
 
   -- sorted by their units, and read backwards
-  pub sorted-children : (xs ys : List (ℕ × ℕ)) → xs ≡ map (kid_of edge) ms → IsPermutation xs ys → IsSorted (λ x y. ordering_then (nat_cmp x.0 y.0) (nat_cmp x.1 y.1)) ys → elements_of ys ≡ children child i m
+  pub sorted-children : (xs ys : List (ℕ × ℕ)) → xs ≡ map (kid_of edge) ms → IsPermutation xs ys → IsSorted (λ x y. ordering_then (nat_cmp x.0 y.0) (nat_cmp x.1 y.1)) ys → elements_of ys ≡ children_below child i m
   sorted-children xs ys e p up =
       falling-kids child i m (reverse ys) (falling (reverse ys) back.apart falls)
       (All-weaken (λ q. child i q.0 ≡ Some q.1) (λ q. q.0 < m) (reverse ys) (λ q is. (inside i q.0 q.1 is).1) sound) sound

@@ -8,10 +8,10 @@ use Rattle.daachorse_model.proofs.Paths.{walk-push}
 use Rattle.daachorse_machine.specs.Texts.{IsReached}
 use Rattle.daachorse_machine.proofs.PathLaws.{and_then_inv, text_of-Leads, Leads-inside}
 use Rattle.std.proofs.lemmas.Option.{none-some, same_Some}
-use Rattle.daachorse_listing.specs.Edges.{put_before, children, IsTree, TellChildren}
+use Rattle.daachorse_listing.specs.Edges.{put_before, children_below, IsTree, TellChildren}
 use Rattle.daachorse_listing.specs.Listing.{unit_of}
 use Rattle.daachorse_listing.specs.Trees.{IsAmong, Pairs, Diverges, text, Apart, ComesBefore, IsListed, IsWalk, elements_of, taken_from}
-use Rattle.daachorse_listing.proofs.Members.{among-append, among-left, among-right, among-put, put-left, put-right, All-among, among-All, among-children, children-among, Pairs-children, Pairs-append, Pairs-map, Pairs-push, Pairs-few, length-put, elements-pop}
+use Rattle.daachorse_listing.proofs.Members.{among-append, among-left, among-right, among-put, put-left, put-right, All-among, among-All, among-children, children_below-among, Pairs-children, Pairs-append, Pairs-map, Pairs-push, Pairs-few, length-put, elements-pop}
 use Rattle.daachorse_listing.proofs.Orders.{order, Diverges-order, Diverges-on, Diverges-last, order-longer, order-itself}
 
 -- what holds of the root, and of the children of each of which it holds, holds of what any text leads to
@@ -74,7 +74,7 @@ module _ {child : ℕ → ℕ → Option ℕ} {n m : ℕ} (tree : IsTree child n
     here = w.reached x (inr (inl refl))
 
     abbrev pub kids : List ℕ
-    kids = children child x m
+    kids = children_below child x m
 
     abbrev pub rest : List ℕ
     rest = put_before kids aside
@@ -147,7 +147,7 @@ module _ {child : ℕ → ℕ → Option ℕ} {n m : ℕ} (tree : IsTree child n
       closed = λ i c j a e. elim (among-append taken (x ∷ []) i a) [
         | inl old ↦ keep j (w.closed i c j old e)
         | inr new ↦ elim new [
-          | inl same ↦ (let e' : child x c ≡ Some j = ap (λ k. child k c) (sym same) ∙ e in inr (put-left kids aside j (children-among child x m c j (tree.inside x c j e').1 e')))
+          | inl same ↦ (let e' : child x c ≡ Some j = ap (λ k. child k c) (sym same) ∙ e in inr (put-left kids aside j (children_below-among child x m c j (tree.inside x c j e').1 e')))
           | inr bad ↦ absurd bad
         ]
       ];
@@ -179,7 +179,7 @@ module _ {child : ℕ → ℕ → Option ℕ} {n m : ℕ} (tree : IsTree child n
   walked zero taken (x ∷ aside) w enough = absurd (let few = taken-few taken aside x w in omega (arith, few, enough))
   walked (suc steps) taken [] w enough = subst (IsListed child n m) (sym (append-nil taken)) (walk-end taken w)
   walked (suc steps) taken (x ∷ aside) w enough =
-      let next = put_before (children child x m) aside in
+      let next = put_before (children_below child x m) aside in
       let more : n ≤ length (taken ++ x ∷ []) + steps = omega (arith, enough, length-append taken (x ∷ [])) in
       subst (IsListed child n m) (append_assoc taken (x ∷ []) (taken_from child n m steps next)) (walked steps (taken ++ x ∷ []) next (walk-next taken aside x w) more)
 
@@ -190,16 +190,16 @@ module _ {child : ℕ → ℕ → Option ℕ} {n m : ℕ} (tree : IsTree child n
   taken-enough (suc steps) taken [] w enough = refl
   taken-enough (suc steps) taken (x ∷ aside) w enough =
       let more : n ≤ length (taken ++ x ∷ []) + steps = omega (arith, enough, length-append taken (x ∷ [])) in
-      ap (λ l. x ∷ l) (taken-enough steps (taken ++ x ∷ []) (put_before (children child x m) aside) (walk-next taken aside x w) more)
+      ap (λ l. x ∷ l) (taken-enough steps (taken ++ x ∷ []) (put_before (children_below child x m) aside) (walk-next taken aside x w) more)
 
   -- what is taken from here on: the first that was put aside, and then what is taken behind it
-  pub taken-step : (taken aside : List ℕ) (x : ℕ) → IsWalk child n m taken (x ∷ aside) → taken_from child n m n (x ∷ aside) ≡ x ∷ taken_from child n m n (put_before (children child x m) aside)
+  pub taken-step : (taken aside : List ℕ) (x : ℕ) → IsWalk child n m taken (x ∷ aside) → taken_from child n m n (x ∷ aside) ≡ x ∷ taken_from child n m n (put_before (children_below child x m) aside)
   taken-step taken aside x w = at n refl
     where
-      at : (k : ℕ) → k ≡ n → taken_from child n m k (x ∷ aside) ≡ x ∷ taken_from child n m k (put_before (children child x m) aside)
+      at : (k : ℕ) → k ≡ n → taken_from child n m k (x ∷ aside) ≡ x ∷ taken_from child n m k (put_before (children_below child x m) aside)
       at zero e = absurd (let few = taken-few taken aside x w in omega (arith, few, e))
       at (suc k) e =
-          ap (λ l. x ∷ l) (sym (taken-enough k (taken ++ x ∷ []) (put_before (children child x m) aside) (walk-next taken aside x w) (omega (arith, e, length-append taken (x ∷ [])))))
+          ap (λ l. x ∷ l) (sym (taken-enough k (taken ++ x ∷ []) (put_before (children_below child x m) aside) (walk-next taken aside x w) (omega (arith, e, length-append taken (x ∷ [])))))
 
 -- nothing is taken where nothing is put aside
 pub taken-none : (child : ℕ → ℕ → Option ℕ) (n m steps : ℕ) → taken_from child n m steps [] ≡ []

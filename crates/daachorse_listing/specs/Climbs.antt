@@ -4,9 +4,9 @@ use Rattle.daachorse_machine.specs.Texts.{IsReached, text_of}
 use Rattle.daachorse_listing.specs.Trees.{IsAmong}
 
 -- The table in which each element of a path has one more than the one above it, the first of them one more than d.
-abbrev pub deepened : ℕ → List ℕ → List ℕ → List ℕ
-deepened d [] depths = depths
-deepened d (x ∷ path) depths = deepened (suc d) path (slice_set depths x (suc d))
+abbrev pub depths_along : ℕ → List ℕ → List ℕ → List ℕ
+depths_along d [] depths = depths
+depths_along d (x ∷ path) depths = depths_along (suc d) path (slice_set depths x (suc d))
 
 module _ (child : ℕ → ℕ → Option ℕ) (n m : ℕ) where
   -- d is the depth of element i, or the greatest number of 32 bits where no text leads to it

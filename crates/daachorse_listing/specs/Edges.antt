@@ -27,9 +27,9 @@ child_before None others = others
 child_before (Some j) others = j ∷ others
 
 -- the children of element i by the units below m, that of the greatest unit first
-abbrev pub children : (ℕ → ℕ → Option ℕ) → ℕ → ℕ → List ℕ
-children child i zero = []
-children child i (suc u) = child_before (child i u) (children child i u)
+abbrev pub children_below : (ℕ → ℕ → Option ℕ) → ℕ → ℕ → List ℕ
+children_below child i zero = []
+children_below child i (suc u) = child_before (child i u) (children_below child i u)
 
 -- Groups and edges tell the children of n elements: element i has the children of its group.
 pub record TellChildren (child : ℕ → ℕ → Option ℕ) (group : ℕ → Option ℕ) (edge : ℕ → Option (ℕ × ℕ)) (n : ℕ) : Type 0 where

@@ -9,8 +9,8 @@ module _ (next : List ℕ) where
   numbers_from (suc steps) (suc q) = q ∷ numbers_from steps (slice_index next q)
 
   -- the list that a link begins; links fall along a list, so that as many steps are enough
-  abbrev pub list_from : ℕ → List ℕ
-  list_from link = numbers_from link link
+  abbrev pub linked_from : ℕ → List ℕ
+  linked_from link = numbers_from link link
 
 -- links fall, and each is one of a number of the table or ends the list
 pub record AreLinked (first next : List ℕ) : Type 0 where

@@ -64,16 +64,16 @@ module _ {V : Type 0} (child : ℕ → ℕ → Option ℕ) (n m : ℕ) (outputs 
 
 module _ (child : ℕ → ℕ → Option ℕ) (n m : ℕ) (last_text : List ℕ) where
   -- an element behind the length of its text, which begins as the text of the element that was taken last in all units but its own last
-  abbrev pub IsEntry : ℕ × ℕ → Type 0
-  IsEntry e = (e.0 ≡ length (text_of child m n e.1)) × (take (e.0 - 1) last_text ≡ take (e.0 - 1) (text_of child m n e.1))
+  abbrev pub IsAside : ℕ × ℕ → Type 0
+  IsAside e = (e.0 ≡ length (text_of child m n e.1)) × (take (e.0 - 1) last_text ≡ take (e.0 - 1) (text_of child m n e.1))
 
   -- entries whose texts are at most so long, and none longer than that of an entry before it
   abbrev pub AreEntries : ℕ → List (ℕ × ℕ) → Type 0
   AreEntries most [] = Unit {0}
-  AreEntries most (e ∷ entries) = (e.0 ≤ most) × IsEntry e × AreEntries e.0 entries
+  AreEntries most (e ∷ entries) = (e.0 ≤ most) × IsAside e × AreEntries e.0 entries
 
 -- What holds of a walk over the patterns, with the text of the element that was taken last: there is room for what is put aside, for the children of one element and for each text.
-pub record IsWalking {V : Type 0} (child : ℕ → ℕ → Option ℕ) (group : ℕ → Option ℕ) (edge : ℕ → Option (ℕ × ℕ)) (n m : ℕ) (outputs : List (Output V)) (first : ℕ → ℕ) (groups : List (List ℕ)) (aside : List (ℕ × ℕ)) (last_text : List ℕ) (position room room_for_children room_for_text : ℕ) : Type 0 where
+pub record IsListingWalk {V : Type 0} (child : ℕ → ℕ → Option ℕ) (group : ℕ → Option ℕ) (edge : ℕ → Option (ℕ × ℕ)) (n m : ℕ) (outputs : List (Output V)) (first : ℕ → ℕ) (groups : List (List ℕ)) (aside : List (ℕ × ℕ)) (last_text : List ℕ) (position room room_for_children room_for_text : ℕ) : Type 0 where
   pub patterns : HasPatterns child group edge n m outputs first
   pub groups_are : (g : ℕ) → g < n → slice_index_or groups g [] ≡ members edge g n
   pub each : length groups ≡ n

@@ -5,7 +5,7 @@ use Rattle.std.specs.Cmp.Lexicographic.{slice_cmp}
 use Rattle.std.specs.Ordering.{nat_cmp}
 use Rattle.std.specs.declared.cmp.Ordering.TheVariants.{Less}
 use Rattle.daachorse_machine.specs.Texts.{IsReached, text_of}
-use Rattle.daachorse_listing.specs.Edges.{children, put_before}
+use Rattle.daachorse_listing.specs.Edges.{children_below, put_before}
 
 -- x is one of these
 abbrev pub IsAmong : List ℕ → ℕ → Type 0
@@ -74,4 +74,4 @@ module _ (child : ℕ → ℕ → Option ℕ) (n m : ℕ) where
   abbrev pub taken_from : ℕ → List ℕ → List ℕ
   taken_from zero aside = []
   taken_from (suc steps) [] = []
-  taken_from (suc steps) (x ∷ aside) = x ∷ taken_from steps (put_before (children child x m) aside)
+  taken_from (suc steps) (x ∷ aside) = x ∷ taken_from steps (put_before (children_below child x m) aside)

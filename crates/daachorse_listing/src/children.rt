@@ -1,7 +1,7 @@
 //! The children of one element, in the order of their units.
 
 ghost use Rattle.std.specs.Prelude.{◌≡◌, ◌+◌, ◌<◌, ◌≤◌, ℕ, [], ◌∷◌, Some, length, map, reverse, slice_index_or, vec_capacity, IfSome};
-ghost use Rattle.daachorse_listing.specs.Edges.{TellChildren, children, members, put_before};
+ghost use Rattle.daachorse_listing.specs.Edges.{TellChildren, children_below, members, put_before};
 ghost use Rattle.daachorse_listing.specs.Trees.{elements_of};
 
 use crate::edges::Edges;
@@ -25,8 +25,8 @@ pub(crate) fn put_aside<E: Edges, A: Allocator>(
     requires element { element < E.count edges.now }
     requires list { (g : ℕ) → g < E.count edges.now
         → length (members (E.edge edges.now) g (E.count edges.now)) ≤ vec_capacity list.old }
-    requires room { length aside.old.items + length (children (E.child edges.now) element (E.units edges.now)) ≤ vec_capacity aside.old }
-    ensures aside { reverse aside.new.items ≡ put_before (map (λ j. (depth, j)) (children (E.child edges.now) element (E.units edges.now))) (reverse aside.old.items) }
+    requires room { length aside.old.items + length (children_below (E.child edges.now) element (E.units edges.now)) ≤ vec_capacity aside.old }
+    ensures aside { reverse aside.new.items ≡ put_before (map (λ j. (depth, j)) (children_below (E.child edges.now) element (E.units edges.now))) (reverse aside.old.items) }
     ensures capacity { vec_capacity aside.new ≡ vec_capacity aside.old }
     ensures list_capacity { vec_capacity list.new ≡ vec_capacity list.old }
 {
@@ -52,7 +52,7 @@ fn only_child<E: Edges, A: Allocator>(
         → slice_index_or groups.now g [] ≡ members (E.edge edges.now) g (E.count edges.now) }
     requires each { length groups.now ≡ E.count edges.now }
     requires element { element < E.count edges.now }
-    ensures { IfSome result (λ child. children (E.child edges.now) element (E.units edges.now) ≡ child ∷ []) }
+    ensures { IfSome result (λ child. children_below (E.child edges.now) element (E.units edges.now) ≡ child ∷ []) }
 {
     let group = edges.group(element)?;
     let mut members = groups.members(group);
@@ -78,7 +78,7 @@ fn list_children<E: Edges, A: Allocator>(
     requires element { element < E.count edges.now }
     requires room { (g : ℕ) → g < E.count edges.now
         → length (members (E.edge edges.now) g (E.count edges.now)) ≤ vec_capacity list.old }
-    ensures all { elements_of list.new.items ≡ children (E.child edges.now) element (E.units edges.now) }
+    ensures all { elements_of list.new.items ≡ children_below (E.child edges.now) element (E.units edges.now) }
     ensures capacity { vec_capacity list.new ≡ vec_capacity list.old }
 {
     list.clear();

@@ -8,7 +8,7 @@ ghost use Rattle.std.specs.Prelude.{◌≡◌, ◌≢◌, ◌+◌, ◌<◌, ◌�
 ghost use Rattle.std.specs.List.{AllByRecursion};
 ghost use Rattle.daachorse_core.specs.Refusals.{IsOutOfMemory};
 ghost use Rattle.daachorse_machine.specs.Texts.{IsReached};
-ghost use Rattle.daachorse_listing.specs.Climbs.{AreKnown, IsPathBelow, deepened};
+ghost use Rattle.daachorse_listing.specs.Climbs.{AreKnown, IsPathBelow, depths_along};
 ghost use Rattle.daachorse_listing.specs.Edges.{IsTree, TellChildren};
 ghost use Rattle.daachorse_listing.specs.Depths.{IsDepthTable};
 ghost use Rattle.daachorse_listing.specs.Trees.{IsAmong};
@@ -95,7 +95,7 @@ fn climb<E: Edges, A: Allocator>(
 fn descend<A: Allocator>(depth: u32, depths: &mut Vec<u32, A>, path: &mut Vec<u32, A>)
     requires inside { AllByRecursion (λ i. i < length depths.old.items) (reverse path.old.items) }
     requires few { depth + length path.old.items < 2 ^ 32 }
-    ensures depths { depths.new.items ≡ deepened depth (reverse path.old.items) depths.old.items }
+    ensures depths { depths.new.items ≡ depths_along depth (reverse path.old.items) depths.old.items }
     ensures empty { path.new.items ≡ [] }
     ensures capacity { vec_capacity path.new ≡ vec_capacity path.old }
 {

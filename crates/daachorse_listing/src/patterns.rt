@@ -84,7 +84,7 @@ pub struct PatternWalk<V: Copy, E: Outputs<V>, A: Allocator = Global> {
 
 impl<V: Copy, E: Outputs<V>, A: Allocator> Model for PatternWalk<V, E, A> {
     ghost use Rattle.std.specs.Prelude.{List, ℕ, map, vec_capacity};
-    ghost use Rattle.daachorse_listing.specs.Listing.{IsWalking, left_of, own_end};
+    ghost use Rattle.daachorse_listing.specs.Listing.{IsListingWalk, left_of, own_end};
     ghost use Rattle.daachorse_listing.specs.Trees.{elements_of};
 
     ghost Value = { List (List ℕ × V) };
@@ -93,7 +93,7 @@ impl<V: Copy, E: Outputs<V>, A: Allocator> Model for PatternWalk<V, E, A> {
         (E.outputs s.elements) (E.first s.elements) (own_end (E.fail s.elements) (E.first s.elements))
         (map E.number s.text.items) (elements_of s.aside.items) s.stop s.position };
 
-    ghost invariant = { λ s. IsWalking (E.child s.elements) (E.group s.elements) (E.edge s.elements) (E.count s.elements) (E.units s.elements)
+    ghost invariant = { λ s. IsListingWalk (E.child s.elements) (E.group s.elements) (E.edge s.elements) (E.count s.elements) (E.units s.elements)
         (E.outputs s.elements) (E.first s.elements)
         s.groups s.aside.items (map E.number s.text.items) s.position (vec_capacity s.aside) (vec_capacity s.children) (vec_capacity s.text) };
 }

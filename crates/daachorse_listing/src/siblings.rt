@@ -25,11 +25,11 @@ pub struct Siblings<A: Allocator = Global> {
 
 impl<A: Allocator> Model for Siblings<A> {
     ghost use Rattle.std.specs.Prelude.{List, ℕ, map};
-    ghost use Rattle.daachorse_listing.specs.Linked.{AreLinked, list_from};
+    ghost use Rattle.daachorse_listing.specs.Linked.{AreLinked, linked_from};
 
     ghost Value = { List (List ℕ) };
 
-    ghost view = { λ s. map (list_from s.next.items) s.first.items };
+    ghost view = { λ s. map (linked_from s.next.items) s.first.items };
 
     ghost invariant = { λ s. AreLinked s.first.items s.next.items };
 }
@@ -128,11 +128,11 @@ pub struct Members<'a> {
 
 impl<'a> Model for Members<'a> {
     ghost use Rattle.std.specs.Prelude.{List, ℕ, ◌≤◌, slice_index, length};
-    ghost use Rattle.daachorse_listing.specs.Linked.{list_from};
+    ghost use Rattle.daachorse_listing.specs.Linked.{linked_from};
 
     ghost Value = { List ℕ };
 
-    ghost view = { λ s. list_from s.next.now s.link };
+    ghost view = { λ s. linked_from s.next.now s.link };
 
     ghost invariant = { λ s. ((q : ℕ) → slice_index s.next.now q ≤ q) × (s.link ≤ length s.next.now) };
 }

@@ -25,8 +25,8 @@ pub record AreRanked (freqs : List ℕ) (ranked : List (ℕ × ℕ)) : Type 0 wh
   pub size : length ranked ≡ count_by (λ n. nat_lt 0 n) freqs
 
 -- no index has two ranks
-abbrev pub AreApart : List (ℕ × ℕ) → Type 0
-AreApart ranked = (j k : ℕ) → j < k → k < length ranked → index_at ranked j ≢ index_at ranked k
+abbrev pub HaveOneRank : List (ℕ × ℕ) → Type 0
+HaveOneRank ranked = (j k : ℕ) → j < k → k < length ranked → index_at ranked j ≢ index_at ranked k
 
 -- the table has the ranks below `count` at their indexes, and no other code
 pub record IsFilled (ranked : List (ℕ × ℕ)) (count : ℕ) (table : List ℕ) : Type 0 where

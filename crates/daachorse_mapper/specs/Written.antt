@@ -13,17 +13,17 @@ AreNumbers m = All (λ n. n < 2 ^ 32) m.table × (m.alphabet_size < 2 ^ 32)
 abbrev pub IsCountable : Coding → Type 0
 IsCountable m = length m.table < 2 ^ 32
 
-abbrev pub parts_of : Coding → List ℕ × ℕ
-parts_of m = (m.table, m.alphabet_size)
+abbrev pub fields_of : Coding → List ℕ × ℕ
+fields_of m = (m.table, m.alphabet_size)
 
-abbrev pub coding_of : List ℕ × ℕ → Coding
-coding_of p = record { table = p.0; alphabet_size = p.1 }
+abbrev pub coding_from : List ℕ × ℕ → Coding
+coding_from p = record { table = p.0; alphabet_size = p.1 }
 
 abbrev pub coding_form : Coding → List ℕ
 coding_form m = list_form (number_form w32) m.table ++ number_form w32 m.alphabet_size
 
 abbrev pub take_coding : List ℕ → Taken Coding
-take_coding bytes = over coding_of (take_pair (take_list (take_number w32)) (take_number w32) bytes)
+take_coding bytes = over coding_from (take_pair (take_list (take_number w32)) (take_number w32) bytes)
 
 -- how long the form is
 abbrev pub coding_len : Coding → ℕ
@@ -32,5 +32,5 @@ coding_len m = 4 * length m.table + 4 + 4
 -- A coding is read back from its form.
 pub coding_law : IsForm (λ m. IsCountable m × AreNumbers m) coding_form take_coding coding_len
 coding_law =
-    law_through coding_of parts_of _ (λ m h. ((h.0, h.1.0), h.1.1)) (λ m h. refl)
+    law_through coding_from fields_of _ (λ m h. ((h.0, h.1.0), h.1.1)) (λ m h. refl)
     (pair_law (list_law (number_law w32)) (number_law w32))

@@ -12,8 +12,8 @@ ghost use Rattle.std.specs.Ordering.{on, eq_of_both};
 ghost use Rattle.std.proofs.Common.{rules};
 ghost use Rattle.daachorse_core.specs.Refusals.{IsOutOfMemory};
 ghost use Rattle.daachorse_mapper.specs.Codings.{Coding, IsCoding, IsCodingOf, code_of, entry_code};
-ghost use Rattle.daachorse_mapper.specs.Ranks.{AreApart, AreRanked, IsFilled, index_at, used_in};
-ghost use Rattle.daachorse_mapper.specs.Written.{AreNumbers, IsCountable, coding_form, coding_law, coding_len, coding_of, take_coding};
+ghost use Rattle.daachorse_mapper.specs.Ranks.{HaveOneRank, AreRanked, IsFilled, index_at, used_in};
+ghost use Rattle.daachorse_mapper.specs.Written.{AreNumbers, IsCountable, coding_form, coding_law, coding_len, coding_from, take_coding};
 
 use daachorse_core::errors::Result;
 use daachorse_serializer::serializer::{Serializable, SerializableVec};
@@ -213,8 +213,8 @@ impl<A: Allocator> SerializableVec for CodeMapper<A> {
 ///
 /// Each number below that size takes a byte.
 fn are_codes<A: Allocator>(alloc: A, table: &[u32], alphabet_size: u32) -> Result<bool>
-    ensures yes { IfOk result (λ right. right ≡ true → IsCoding (coding_of (table.now, alphabet_size))) }
-    ensures no { IfOk result (λ right. right ≡ false → IsCoding (coding_of (table.now, alphabet_size)) → ⊥) }
+    ensures yes { IfOk result (λ right. right ≡ true → IsCoding (coding_from (table.now, alphabet_size))) }
+    ensures no { IfOk result (λ right. right ≡ false → IsCoding (coding_from (table.now, alphabet_size)) → ⊥) }
     ensures err { IfErr result IsOutOfMemory }
 {
     let mut taken = vec![in alloc; false; alphabet_size as usize]?;
@@ -273,7 +273,7 @@ fn used<A: Allocator>(alloc: A, freqs: &[u32]) -> Result<Vec<(usize, u32), A>>
 fn fill<A: Allocator>(alloc: A, ranked: &[(usize, u32)], len: usize) -> Result<Vec<u32, A>>
     requires few { length ranked.now < 2 ^ 32 }
     requires inside { (k : ℕ) → k < length ranked.now → index_at ranked.now k < len }
-    requires apart { AreApart ranked.now }
+    requires apart { HaveOneRank ranked.now }
     ensures len { IfOk result (λ table. length table.items ≡ len) }
     ensures filled { IfOk result (λ table. IsFilled ranked.now (length ranked.now) table.items) }
     ensures err { IfErr result IsOutOfMemory }

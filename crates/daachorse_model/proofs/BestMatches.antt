@@ -3,16 +3,16 @@ use Rattle.std.proofs.Common.{◌≡◌, ◌≢◌, ℕ, ◌+◌, ◌<◌, ◌�
 use Rattle.daachorse_model.specs.declared.Match.{Match}
 use Rattle.daachorse_model.specs.Units.{size}
 use Rattle.daachorse_model.specs.Dictionary.{Dictionary}
-use Rattle.daachorse_model.specs.Leftmost.{longest_key, given, units_to_skip, is_after, leftmost_from}
+use Rattle.daachorse_model.specs.Leftmost.{longest_key, match_at, units_to_skip, is_after, leftmost_from}
 use Rattle.daachorse_model.specs.Best.{IsBest, NoneStarts}
-use Rattle.daachorse_model.proofs.Searches.{keyed-none, leftmost_from-skip}
+use Rattle.daachorse_model.proofs.Searches.{key_with_value-none, leftmost_from-skip}
 use Rattle.daachorse_model.proofs.Earliest.{longest_key-none, longest_key-is}
 use Rattle.daachorse_model.proofs.Lists.{nil_of}
 
 module _ {V : Type 0} (width : ℕ → ℕ) (K : Dictionary V) where
   -- what a search gives at a place and after it
   abbrev from_here : ℕ → ℕ → Bool → List ℕ → Option (List ℕ × V) → List (Match V)
-  from_here s next after w best = given width s after best ++ leftmost_from width K next (units_to_skip best) (is_after after best) w
+  from_here s next after w best = match_at width s after best ++ leftmost_from width K next (units_to_skip best) (is_after after best) w
 
   -- nothing is given where nothing starts
   pub leftmost_from-clear : (s : ℕ) (after : Bool) (front back : List ℕ) → NoneStarts K (length front) (front ++ back)
@@ -39,10 +39,10 @@ module _ {V : Type 0} (width : ℕ → ℕ) (K : Dictionary V) where
 
   -- at the end, with an empty key and without
   pub leftmost_from-last : (s : ℕ) (after : Bool) (v : V) → longest_key K [] [] ≡ Some ([], v) → leftmost_from width K s 0 after [] ≡ cond after [] (record { start = s; end = s; value = v } ∷ [])
-  leftmost_from-last s after v is = ap (given width s after) is
+  leftmost_from-last s after v is = ap (match_at width s after) is
 
   pub leftmost_from-none : (s : ℕ) (after : Bool) → K [] ≡ [] → leftmost_from width K s 0 after [] ≡ []
-  leftmost_from-none s after none = ap (given width s after) (keyed-none K [] none)
+  leftmost_from-none s after none = ap (match_at width s after) (key_with_value-none K [] none)
 
 module _ {V : Type 0} (K : Dictionary V) where
   -- the best of a text is the longest key where it stands

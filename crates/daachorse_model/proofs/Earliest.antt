@@ -9,9 +9,9 @@ use Rattle.std.proofs.lemmas.Option.{same_Some}
 use Rattle.daachorse_model.specs.declared.MatchKind.TheVariants.{LeftmostFirst}
 use Rattle.daachorse_model.specs.Units.{same_text}
 use Rattle.daachorse_model.specs.Dictionary.{Dictionary, is_prefix, is_proper_prefix, without_extensions, values_of, dictionary}
-use Rattle.daachorse_model.specs.Leftmost.{keyed, longest_key}
+use Rattle.daachorse_model.specs.Leftmost.{key_with_value, longest_key}
 use Rattle.daachorse_model.proofs.Booleans.{either, both-true}
-use Rattle.daachorse_model.proofs.Searches.{keyed-none}
+use Rattle.daachorse_model.proofs.Searches.{key_with_value-none}
 
 -- ---- prefixes
 
@@ -69,24 +69,24 @@ none_proper (p ∷ before) q w none is =
 
 -- ---- the longest key
 
-keyed-some : {V : Type 0} (K : Dictionary V) (t : List ℕ) (v : V) (vs : List V) → K t ≡ v ∷ vs → keyed K t ≡ Some (t, v)
-keyed-some K t v vs e = rw e
+key_with_value-some : {V : Type 0} (K : Dictionary V) (t : List ℕ) (v : V) (vs : List V) → K t ≡ v ∷ vs → key_with_value K t ≡ Some (t, v)
+key_with_value-some K t v vs e = rw e
 
 -- no key goes on from t in w
 pub longest_key-none : {V : Type 0} (K : Dictionary V) (t w : List ℕ) → ((z y : List ℕ) → w ≡ z ++ y → K (t ++ z) ≡ []) → longest_key K t w ≡ None
-longest_key-none K t [] none = keyed-none K t (ap K (sym (append-nil t)) ∙ none [] [] refl)
+longest_key-none K t [] none = key_with_value-none K t (ap K (sym (append-nil t)) ∙ none [] [] refl)
 longest_key-none K t (u ∷ w) none =
     let longer = longest_key-none K (t ++ u ∷ []) w (λ z y cut. ap K (append_assoc t (u ∷ []) z) ∙ none (u ∷ z) y (ap (λ r. u ∷ r) cut)) in
-    let own = keyed-none K t (ap K (sym (append-nil t)) ∙ none [] (u ∷ w) refl) in
+    let own = key_with_value-none K t (ap K (sym (append-nil t)) ∙ none [] (u ∷ w) refl) in
     rw (longer, own)
 
 -- t is a key, and none goes on from it in w
 longest_key-here : {V : Type 0} (K : Dictionary V) (t w : List ℕ) (v : V) (vs : List V) → K t ≡ v ∷ vs
     → ((z y : List ℕ) → w ≡ z ++ y → z ≢ [] → K (t ++ z) ≡ []) → longest_key K t w ≡ Some (t, v)
-longest_key-here K t [] v vs has none = keyed-some K t v vs has
+longest_key-here K t [] v vs has none = key_with_value-some K t v vs has
 longest_key-here K t (u ∷ w) v vs has none =
     let longer = longest_key-none K (t ++ u ∷ []) w (λ z y cut. ap K (append_assoc t (u ∷ []) z) ∙ none (u ∷ z) y (ap (λ r. u ∷ r) cut) (λ e. cc)) in
-    rw (longer, keyed-some K t v vs has)
+    rw (longer, key_with_value-some K t v vs has)
 
 pub longest_key-is : {V : Type 0} (K : Dictionary V) (t x y : List ℕ) (v : V) (vs : List V) → K (t ++ x) ≡ v ∷ vs
     → ((z r : List ℕ) → y ≡ z ++ r → z ≢ [] → K ((t ++ x) ++ z) ≡ []) → longest_key K t (x ++ y) ≡ Some (t ++ x, v)

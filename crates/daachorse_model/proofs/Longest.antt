@@ -7,7 +7,7 @@ use Rattle.std.proofs.lemmas.List.Elements.{All-append, All-cons, All-nil, All-w
 use Rattle.daachorse_model.specs.declared.MatchKind.TheVariants.{LeftmostFirst}
 use Rattle.daachorse_model.specs.Units.{size}
 use Rattle.daachorse_model.specs.Dictionary.{Dictionary, dictionary}
-use Rattle.daachorse_model.specs.Leftmost.{keyed, longest_key, given, units_to_skip, is_after, leftmost_from, leftmost}
+use Rattle.daachorse_model.specs.Leftmost.{key_with_value, longest_key, match_at, units_to_skip, is_after, leftmost_from, leftmost}
 use Rattle.daachorse_model.specs.declared.Match.{Match}
 use Rattle.daachorse_model.specs.Laws.{IsLongestAtStart, IsEarliestAtStart}
 use Rattle.daachorse_model.proofs.Suffixes.{size-append}
@@ -25,19 +25,19 @@ pub record IsFoundAtStart {V : Type 0} (width : ℕ → ℕ) (K : Dictionary V) 
   pub longest : longest_key K [] rest ≡ Some (key, m.value)
   pub ends : m.end ≡ m.start + size width key
 
-keyed-nothing : {V : Type 0} (K : Dictionary V) (t : List ℕ) (vs : List V) → K t ≡ vs → option_map {U = List ℕ × V} (λ v. (t, v)) (slice_get vs 0) ≡ None → K t ≡ []
-keyed-nothing K t [] is e = is
-keyed-nothing K t (v ∷ vs) is e = cc
+key_with_value-nothing : {V : Type 0} (K : Dictionary V) (t : List ℕ) (vs : List V) → K t ≡ vs → option_map {U = List ℕ × V} (λ v. (t, v)) (slice_get vs 0) ≡ None → K t ≡ []
+key_with_value-nothing K t [] is e = is
+key_with_value-nothing K t (v ∷ vs) is e = cc
 
 module _ {V : Type 0} (K : Dictionary V) where
   -- where nothing is found, no key begins
   longest_key-nothing : (t w k rest : List ℕ) → w ≡ k ++ rest → longest_key K t w ≡ None → K (t ++ k) ≡ []
-  longest_key-nothing t [] [] rest cut e = rw append-nil (keyed-nothing K t (K t) refl e)
-  longest_key-nothing t (u ∷ w) [] rest cut e = rw append-nil (keyed-nothing K t (K t) refl (none_either (longest_key K (t ++ u ∷ []) w) (keyed K t) e).1)
+  longest_key-nothing t [] [] rest cut e = rw append-nil (key_with_value-nothing K t (K t) refl e)
+  longest_key-nothing t (u ∷ w) [] rest cut e = rw append-nil (key_with_value-nothing K t (K t) refl (none_either (longest_key K (t ++ u ∷ []) w) (key_with_value K t) e).1)
   longest_key-nothing t [] (c ∷ k) rest cut e = cc
   longest_key-nothing t (u ∷ w) (c ∷ k) rest cut e =
       let same : u ≡ c = cc in
-      let later = longest_key-nothing (t ++ u ∷ []) w k rest (cc) (none_either (longest_key K (t ++ u ∷ []) w) (keyed K t) e).0 in
+      let later = longest_key-nothing (t ++ u ∷ []) w k rest (cc) (none_either (longest_key K (t ++ u ∷ []) w) (key_with_value K t) e).0 in
       ap (λ x. K (t ++ x ∷ k)) (sym same) ∙ ap K (sym (append_assoc t (u ∷ []) k)) ∙ later
 
   -- where a key begins in the rest, it is the rest that is found
@@ -45,7 +45,7 @@ module _ {V : Type 0} (K : Dictionary V) where
       → longest_key K (t ++ u ∷ []) w ≡ Some found
   longest_key-later t w k rest u found cut key is = by_rest (longest_key K (t ++ u ∷ []) w) refl is
     where
-      by_rest : (o : Option (List ℕ × V)) → longest_key K (t ++ u ∷ []) w ≡ o → option_or o (keyed K t) ≡ Some found → longest_key K (t ++ u ∷ []) w ≡ Some found
+      by_rest : (o : Option (List ℕ × V)) → longest_key K (t ++ u ∷ []) w ≡ o → option_or o (key_with_value K t) ≡ Some found → longest_key K (t ++ u ∷ []) w ≡ Some found
       by_rest None e is = absurd (key (longest_key-nothing (t ++ u ∷ []) w k rest cut e))
       by_rest (Some q) e is = e ∙ is
 
@@ -65,7 +65,7 @@ module _ {V : Type 0} (K : Dictionary V) where
 
 module _ {V : Type 0} (width : ℕ → ℕ) (K : Dictionary V) (h : List ℕ) where
   given_found : (before w : List ℕ) (s : ℕ) (after : Bool) (best : Option (List ℕ × V)) → h ≡ before ++ w → s ≡ size width before → longest_key K [] w ≡ best
-      → All (IsFoundAtStart width K h) (given width s after best)
+      → All (IsFoundAtStart width K h) (match_at width s after best)
   given_found before w s after None cut from is = All-nil (IsFoundAtStart width K h)
   given_found before w s true (Some ([], v)) cut from is = All-nil (IsFoundAtStart width K h)
   given_found before w s false (Some ([], v)) cut from is =
@@ -81,7 +81,7 @@ module _ {V : Type 0} (width : ℕ → ℕ) (K : Dictionary V) (h : List ℕ) wh
   from_found before [] s zero after cut from = given_found before [] s after (longest_key K [] []) cut from refl
   from_found before (u ∷ w) s zero after cut from =
       let best = longest_key K [] (u ∷ w) in
-      All-append (IsFoundAtStart width K h) (given width s after best) (leftmost_from width K (s + width u) (units_to_skip best) (is_after after best) w)
+      All-append (IsFoundAtStart width K h) (match_at width s after best) (leftmost_from width K (s + width u) (units_to_skip best) (is_after after best) w)
       (given_found before (u ∷ w) s after best cut from refl)
       (from_found (before ++ u ∷ []) w (s + width u) (units_to_skip best) (is_after after best) (cut ∙ sym (append_assoc before (u ∷ []) w)) (omega (arith, size-append width before (u ∷ []))))
 

@@ -3,12 +3,12 @@ use Rattle.std.proofs.Common.{◌≡◌, ℕ, List, [], ◌∷◌, ◌++◌, len
 use Rattle.std.specs.Fmt.{digits}
 use Rattle.daachorse_model.specs.declared.MatchKind.TheVariants.{Standard, LeftmostLongest, LeftmostFirst}
 use Rattle.daachorse_model.specs.Units.{byte_width}
-use Rattle.daachorse_model.specs.Dictionary.{dictionary, kept}
+use Rattle.daachorse_model.specs.Dictionary.{dictionary, kept_registrations}
 use Rattle.daachorse_model.specs.Matches.{overlapping, standard, matches_after, standard_after}
 use Rattle.daachorse_model.specs.Leftmost.{leftmost}
 use Rattle.daachorse_model.specs.Prefixes.{HasPrefixes, listing, long, link, cut, left_fail, begins_entry}
 use Rattle.daachorse_model.specs.Filter.{next_position, filter_entry}
-use Rattle.daachorse_model.specs.Program.{numbered, pattern_lines, match_text}
+use Rattle.daachorse_model.specs.Program.{with_numbers, pattern_lines, match_text}
 use Rattle.daachorse_model.proofs.PrefixCounts.{prefixes-is}
 use Rattle.daachorse_model.proofs.Rows.{found, patterns}
 
@@ -17,24 +17,24 @@ same_text_twice_listing : listing {V = ℕ} ((codes "ab", 0) ∷ (codes "a", 1) 
 same_text_twice_listing = refl
 
 abbrev five : List (List ℕ × ℕ)
-five = kept LeftmostFirst (numbered 0 (codes "ab" ∷ codes "a" ∷ codes "abcd" ∷ []))
+five = kept_registrations LeftmostFirst (with_numbers 0 (codes "ab" ∷ codes "a" ∷ codes "abcd" ∷ []))
 
-bytes_listing : listing (numbered 0 ((255 ∷ []) ∷ (97 ∷ 0 ∷ []) ∷ (0 ∷ []) ∷ (0 ∷ 255 ∷ []) ∷ []))
+bytes_listing : listing (with_numbers 0 ((255 ∷ []) ∷ (97 ∷ 0 ∷ []) ∷ (0 ∷ []) ∷ (0 ∷ 255 ∷ []) ∷ []))
     ≡ (0 ∷ [], 2) ∷ (0 ∷ 255 ∷ [], 3) ∷ (97 ∷ 0 ∷ [], 1) ∷ (255 ∷ [], 0) ∷ []
 bytes_listing = refl
 
 leftmost_first_listing : listing five ≡ (codes "a", 1) ∷ (codes "ab", 0) ∷ []
 leftmost_first_listing = refl
 
-leftmost_first_states : HasPrefixes (dictionary LeftmostFirst (numbered 0 (codes "ab" ∷ codes "a" ∷ codes "abcd" ∷ []))) 3
+leftmost_first_states : HasPrefixes (dictionary LeftmostFirst (with_numbers 0 (codes "ab" ∷ codes "a" ∷ codes "abcd" ∷ []))) 3
 leftmost_first_states = prefixes-is five
 
-characters_listing : listing (numbered 0 (codes "全世界" ∷ codes "世界" ∷ codes "に" ∷ []))
+characters_listing : listing (with_numbers 0 (codes "全世界" ∷ codes "世界" ∷ codes "に" ∷ []))
     ≡ (codes "に", 2) ∷ (codes "世界", 1) ∷ (codes "全世界", 0) ∷ []
 characters_listing = refl
 
 states_row : HasPrefixes (patterns Standard (codes "abba" ∷ codes "baaba" ∷ codes "ababa" ∷ [])) 13
-states_row = prefixes-is (numbered 0 (codes "abba" ∷ codes "baaba" ∷ codes "ababa" ∷ []))
+states_row = prefixes-is (with_numbers 0 (codes "abba" ∷ codes "baaba" ∷ codes "ababa" ∷ []))
 
 abbrev aria : ℕ → ℕ
 aria = filter_entry (codes "aria" ∷ codes "iris" ∷ [])
@@ -58,7 +58,7 @@ stepper_first_row : map (λ t. take 1 (matches_after byte_width (patterns Standa
 stepper_first_row = refl
 
 -- the depth of a stepper's state: the length of its text
-stepper_depth_row : map (λ t. length (long (begins_entry (numbered 0 (codes "ab" ∷ codes "b" ∷ []))) t)) ([] ∷ codes "a" ∷ codes "ab" ∷ codes "abb" ∷ [])
+stepper_depth_row : map (λ t. length (long (begins_entry (with_numbers 0 (codes "ab" ∷ codes "b" ∷ []))) t)) ([] ∷ codes "a" ∷ codes "ab" ∷ codes "abb" ∷ [])
     ≡ 0 ∷ 1 ∷ 2 ∷ 1 ∷ []
 stepper_depth_row = refl
 
@@ -96,7 +96,7 @@ stepper_empty_row = refl
 
 -- the states of a leftmost search of [abc, b]: after "ab" the whole of it; after "abd" nothing, since b starts earlier
 abbrev cut_row_patterns : List (List ℕ × ℕ)
-cut_row_patterns = numbered 0 (codes "abc" ∷ codes "b" ∷ [])
+cut_row_patterns = with_numbers 0 (codes "abc" ∷ codes "b" ∷ [])
 
 cut_rows : map (cut (dictionary LeftmostLongest cut_row_patterns) (begins_entry cut_row_patterns)) (codes "ab" ∷ codes "abd" ∷ codes "b" ∷ codes "bab" ∷ [])
     ≡ codes "ab" ∷ [] ∷ codes "b" ∷ [] ∷ []

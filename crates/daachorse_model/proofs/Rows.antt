@@ -5,7 +5,7 @@ use Rattle.daachorse_model.specs.declared.MatchKind.{MatchKind}
 use Rattle.daachorse_model.specs.declared.MatchKind.TheVariants.{Standard, LeftmostLongest, LeftmostFirst}
 use Rattle.daachorse_model.specs.Units.{byte_width, char_width}
 use Rattle.daachorse_model.specs.Dictionary.{Dictionary, dictionary}
-use Rattle.daachorse_model.specs.Program.{numbered}
+use Rattle.daachorse_model.specs.Program.{with_numbers}
 use Rattle.daachorse_model.specs.Matches.{overlapping, no_suffix, standard}
 use Rattle.daachorse_model.specs.Leftmost.{leftmost}
 
@@ -14,7 +14,7 @@ found s e v = record { start = s; end = e; value = v }
 
 -- the dictionary of patterns with the values 0, 1, 2 ..
 abbrev pub patterns : MatchKind → List (List ℕ) → Dictionary ℕ
-patterns kind ps = dictionary kind (numbered 0 ps)
+patterns kind ps = dictionary kind (with_numbers 0 ps)
 
 overlapping_row : overlapping byte_width (patterns Standard (codes "bcd" ∷ codes "ab" ∷ codes "a" ∷ [])) (codes "abcd")
     ≡ found 0 1 2 ∷ found 0 2 1 ∷ found 1 4 0 ∷ []

@@ -9,7 +9,7 @@ use Rattle.std.proofs.lemmas.Slice.Eq.{bytes_eq-Decides}
 use Rattle.std.specs.Bool.{one_answer}
 use Rattle.std.proofs.lemmas.List.{append_assoc, append-nil}
 use Rattle.daachorse_model.specs.Units.{size, byte_width, char_width, same_text}
-use Rattle.daachorse_model.specs.Dictionary.{Dictionary, values_of, in_bytes, is_proper_prefix, without_extensions, kept, dictionary}
+use Rattle.daachorse_model.specs.Dictionary.{Dictionary, values_of, in_bytes, is_proper_prefix, without_extensions, kept_registrations, dictionary}
 use Rattle.std.specs.List.{list_any}
 use Rattle.std.specs.Str.{IsUtf8, IsCharBoundary, chars}
 use Rattle.daachorse_model.specs.declared.MatchKind.{MatchKind}
@@ -248,20 +248,20 @@ without_extensions-in_bytes before (r ∷ rs) =
     rw (any_proper-encodes before r.0, without_extensions-in_bytes (r.0 ∷ before) rs)
     (in_bytes-cond (list_any (λ p. is_proper_prefix p r.0) before) r (without_extensions (r.0 ∷ before) rs))
 
-pub kept-in_bytes : {V : Type 0} (kind : MatchKind) (rs : List (List ℕ × V)) → kept kind (in_bytes rs) ≡ in_bytes (kept kind rs)
-kept-in_bytes Standard rs = refl
-kept-in_bytes LeftmostLongest rs = refl
-kept-in_bytes LeftmostFirst rs = without_extensions-in_bytes [] rs
+pub kept_registrations-in_bytes : {V : Type 0} (kind : MatchKind) (rs : List (List ℕ × V)) → kept_registrations kind (in_bytes rs) ≡ in_bytes (kept_registrations kind rs)
+kept_registrations-in_bytes Standard rs = refl
+kept_registrations-in_bytes LeftmostLongest rs = refl
+kept_registrations-in_bytes LeftmostFirst rs = without_extensions-in_bytes [] rs
 
 pub overlapping_texts : {V : Type 0} (kind : MatchKind) (rs : List (List ℕ × V)) (h : List ℕ) → dictionary kind rs [] ≡ []
     → overlapping byte_width (dictionary kind (in_bytes rs)) (encodes h) ≡ overlapping char_width (dictionary kind rs) h
 overlapping_texts kind rs h no_empty =
-    ap (λ r. overlapping byte_width (values_of r) (encodes h)) (kept-in_bytes kind rs) ∙ overlapping_same (kept kind rs) no_empty h
+    ap (λ r. overlapping byte_width (values_of r) (encodes h)) (kept_registrations-in_bytes kind rs) ∙ overlapping_same (kept_registrations kind rs) no_empty h
 
 pub no_suffix_texts : {V : Type 0} (kind : MatchKind) (rs : List (List ℕ × V)) (h : List ℕ) → dictionary kind rs [] ≡ []
     → no_suffix byte_width (dictionary kind (in_bytes rs)) (encodes h) ≡ no_suffix char_width (dictionary kind rs) h
 no_suffix_texts kind rs h no_empty =
-    ap (λ r. no_suffix byte_width (values_of r) (encodes h)) (kept-in_bytes kind rs) ∙ no_suffix_same (kept kind rs) no_empty h
+    ap (λ r. no_suffix byte_width (values_of r) (encodes h)) (kept_registrations-in_bytes kind rs) ∙ no_suffix_same (kept_registrations kind rs) no_empty h
 
 -- the last characters of some are some
 pub scalars-back : (xs ys : List ℕ) → scalars (xs ++ ys) ≡ true → scalars ys ≡ true

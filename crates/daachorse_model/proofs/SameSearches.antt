@@ -9,14 +9,14 @@ use Rattle.std.proofs.lemmas.List.{append_assoc, append-nil}
 use Rattle.daachorse_model.specs.declared.Match.{Match}
 use Rattle.daachorse_model.specs.declared.MatchKind.{MatchKind}
 use Rattle.daachorse_model.specs.Units.{size, byte_width, char_width}
-use Rattle.daachorse_model.specs.Dictionary.{Dictionary, values_of, in_bytes, kept, dictionary}
+use Rattle.daachorse_model.specs.Dictionary.{Dictionary, values_of, in_bytes, kept_registrations, dictionary}
 use Rattle.daachorse_model.specs.Matches.{ending_at, standard_from, standard, empty_matches}
-use Rattle.daachorse_model.specs.Leftmost.{keyed, longest_key, given, units_to_skip, is_after, leftmost_from, leftmost}
+use Rattle.daachorse_model.specs.Leftmost.{key_with_value, longest_key, match_at, units_to_skip, is_after, leftmost_from, leftmost}
 use Rattle.daachorse_model.proofs.Earliest.{longest_key-none}
 use Rattle.daachorse_model.proofs.Overlap.{longest_key-begins, Begins, take-append}
-use Rattle.daachorse_model.proofs.SameOnText.{spelled, AllInner, IsInner, starts_inner, ends_inner, values_of-in_bytes, values_of-no_text, ending_at-inner, ending_at-encodes, size-encodes, kept-in_bytes}
+use Rattle.daachorse_model.proofs.SameOnText.{spelled, AllInner, IsInner, starts_inner, ends_inner, values_of-in_bytes, values_of-no_text, ending_at-inner, ending_at-encodes, size-encodes, kept_registrations-in_bytes}
 use Rattle.daachorse_model.proofs.Suffixes.{size-bytes}
-use Rattle.daachorse_model.proofs.Searches.{first_or, keyed-none, leftmost_from-skip}
+use Rattle.daachorse_model.proofs.Searches.{first_or, key_with_value-none, leftmost_from-skip}
 use Rattle.daachorse_model.proofs.Lists.{no_back}
 
 -- ---- standard searches
@@ -85,38 +85,38 @@ module _ {V : Type 0} (rs : List (List ℕ × V)) (no_empty : values_of rs [] �
   abbrev bytes_of : Dictionary V
   bytes_of = values_of (in_bytes rs)
 
-  keyed-encodes : (t : List ℕ) (vs : List V) → option_map (λ v. (encodes t, v)) (slice_get vs 0) ≡ option_map spelled_out (option_map (λ v. (t, v)) (slice_get vs 0))
-  keyed-encodes t [] = refl
-  keyed-encodes t (v ∷ vs) = refl
+  key_with_value-encodes : (t : List ℕ) (vs : List V) → option_map (λ v. (encodes t, v)) (slice_get vs 0) ≡ option_map spelled_out (option_map (λ v. (t, v)) (slice_get vs 0))
+  key_with_value-encodes t [] = refl
+  key_with_value-encodes t (v ∷ vs) = refl
 
-  keyed-bytes : (t : List ℕ) → keyed bytes_of (encodes t) ≡ option_map spelled_out (keyed (values_of rs) t)
-  keyed-bytes t = ap (λ vs. option_map (λ v. (encodes t, v)) (slice_get vs 0)) (values_of-in_bytes rs t) ∙ keyed-encodes t (values_of rs t)
+  key_with_value-bytes : (t : List ℕ) → key_with_value bytes_of (encodes t) ≡ option_map spelled_out (key_with_value (values_of rs) t)
+  key_with_value-bytes t = ap (λ vs. option_map (λ v. (encodes t, v)) (slice_get vs 0)) (values_of-in_bytes rs t) ∙ key_with_value-encodes t (values_of rs t)
 
   longest_inner : (t w front back : List ℕ) (c : ℕ) → encode c ≡ front ++ back → front ≢ []
       → longest_key bytes_of (encodes t ++ front) (back ++ w) ≡ longest_key bytes_of (encodes t ++ encode c) w
   longest_inner t w front [] c cut some = ap (λ x. longest_key bytes_of (encodes t ++ x) w) (sym (append-nil front) ∙ sym cut)
   longest_inner t w front (b ∷ back) c cut some =
-      let none = keyed-none bytes_of (encodes t ++ front) (values_of-no_text rs (encodes t ++ front) (λ p. ends_inner t p front (b ∷ back) c cut some (λ e. cc))) in
+      let none = key_with_value-none bytes_of (encodes t ++ front) (values_of-no_text rs (encodes t ++ front) (λ p. ends_inner t p front (b ∷ back) c cut some (λ e. cc))) in
       ap (λ o. option_or (longest_key bytes_of ((encodes t ++ front) ++ b ∷ []) (back ++ w)) o) none
       ∙ option_or-none (longest_key bytes_of ((encodes t ++ front) ++ b ∷ []) (back ++ w))
       ∙ ap (λ x. longest_key bytes_of x (back ++ w)) (append_assoc (encodes t) front (b ∷ []))
       ∙ longest_inner t w (front ++ b ∷ []) back c (cut ∙ sym (append_assoc front (b ∷ []) back)) (λ e. let none = no_back front (b ∷ []) e in cc)
 
-  longest_char : (t w : List ℕ) (c : ℕ) → longest_key bytes_of (encodes t) (encode c ++ w) ≡ option_or (longest_key bytes_of (encodes t ++ encode c) w) (keyed bytes_of (encodes t))
+  longest_char : (t w : List ℕ) (c : ℕ) → longest_key bytes_of (encodes t) (encode c ++ w) ≡ option_or (longest_key bytes_of (encodes t ++ encode c) w) (key_with_value bytes_of (encodes t))
   longest_char t w c =
       let k = spelled c in
       ap (λ x. longest_key bytes_of (encodes t) (x ++ w)) k.is
-      ∙ ap (λ o. option_or o (keyed bytes_of (encodes t))) (longest_inner t w (k.first ∷ []) k.inner c k.is (λ e. cc))
+      ∙ ap (λ o. option_or o (key_with_value bytes_of (encodes t))) (longest_inner t w (k.first ∷ []) k.inner c k.is (λ e. cc))
 
   longest-encodes : (t w : List ℕ) → longest_key bytes_of (encodes t) (encodes w) ≡ option_map spelled_out (longest_key (values_of rs) t w)
-  longest-encodes t [] = keyed-bytes t
+  longest-encodes t [] = key_with_value-bytes t
   longest-encodes t (c ∷ w) =
       let one : encodes t ++ encode c ≡ encodes (t ++ c ∷ []) = ap (λ x. encodes t ++ x) (sym (append-nil (encode c))) ∙ sym (encodes-append t (c ∷ [])) in
       longest_char t (encodes w) c
-      ∙ ap (λ x. option_or (longest_key bytes_of x (encodes w)) (keyed bytes_of (encodes t))) one
-      ∙ ap (λ o. option_or o (keyed bytes_of (encodes t))) (longest-encodes (t ++ c ∷ []) w)
-      ∙ ap (λ o. option_or (option_map spelled_out (longest_key (values_of rs) (t ++ c ∷ []) w)) o) (keyed-bytes t)
-      ∙ option_or-map spelled_out (longest_key (values_of rs) (t ++ c ∷ []) w) (keyed (values_of rs) t)
+      ∙ ap (λ x. option_or (longest_key bytes_of x (encodes w)) (key_with_value bytes_of (encodes t))) one
+      ∙ ap (λ o. option_or o (key_with_value bytes_of (encodes t))) (longest-encodes (t ++ c ∷ []) w)
+      ∙ ap (λ o. option_or (option_map spelled_out (longest_key (values_of rs) (t ++ c ∷ []) w)) o) (key_with_value-bytes t)
+      ∙ option_or-map spelled_out (longest_key (values_of rs) (t ++ c ∷ []) w) (key_with_value (values_of rs) t)
 
   -- nothing begins inside a character
   nothing_inner : (b : ℕ) (w : List ℕ) → IsInner b → longest_key bytes_of [] (b ∷ w) ≡ None
@@ -132,13 +132,13 @@ module _ {V : Type 0} (rs : List (List ℕ × V)) (no_empty : values_of rs [] �
       → leftmost_from byte_width bytes_of s zero after (inner ++ w) ≡ leftmost_from byte_width bytes_of (s + length inner) zero after w
   leftmost_inner s after [] w all = ap (λ n. leftmost_from byte_width bytes_of n zero after w) (sym (add-zero s))
   leftmost_inner s after (b ∷ inner) w all =
-      ap (λ best. given byte_width s after best ++ leftmost_from byte_width bytes_of (s + 1) (units_to_skip best) (is_after after best) (inner ++ w)) (nothing_inner b (inner ++ w) all.0)
+      ap (λ best. match_at byte_width s after best ++ leftmost_from byte_width bytes_of (s + 1) (units_to_skip best) (is_after after best) (inner ++ w)) (nothing_inner b (inner ++ w) all.0)
       ∙ leftmost_inner (s + 1) after inner w all.1
       ∙ ap (λ n. leftmost_from byte_width bytes_of n zero after w) (omega arith)
 
   -- what a search gives at a character and after it
   abbrev goes_on : (ℕ → ℕ) → Dictionary V → ℕ → ℕ → Bool → List ℕ → Option (List ℕ × V) → List (Match V)
-  goes_on width K s next after w best = given width s after best ++ leftmost_from width K next (units_to_skip best) (is_after after best) w
+  goes_on width K s next after w best = match_at width s after best ++ leftmost_from width K next (units_to_skip best) (is_after after best) w
 
   goes_on-same : (s c : ℕ) (after : Bool) (w : List ℕ) (best : Option (List ℕ × V)) → ((k : List ℕ × V) → best ≡ Some k → Begins (values_of rs) [] (c ∷ w) k)
       → ((next n : ℕ) (a : Bool) → leftmost_from byte_width bytes_of next (length (encodes (take n w))) a (encodes w) ≡ leftmost_from char_width (values_of rs) next n a w)
@@ -176,9 +176,9 @@ module _ {V : Type 0} (rs : List (List ℕ × V)) (no_empty : values_of rs [] �
   leftmost_from-encodes : (s n : ℕ) (after : Bool) (w : List ℕ)
       → leftmost_from byte_width bytes_of s (length (encodes (take n w))) after (encodes w) ≡ leftmost_from char_width (values_of rs) s n after w
   leftmost_from-encodes s zero after [] =
-      ap (given byte_width s after) (keyed-none bytes_of [] (values_of-in_bytes rs [] ∙ no_empty))
-      ∙ sym (ap (λ vs. given char_width s after (option_map (λ v. ([], v)) (slice_get vs 0))) no_empty)
-  leftmost_from-encodes s (suc n) after [] = ap (given byte_width s after) (keyed-none bytes_of [] (values_of-in_bytes rs [] ∙ no_empty))
+      ap (match_at byte_width s after) (key_with_value-none bytes_of [] (values_of-in_bytes rs [] ∙ no_empty))
+      ∙ sym (ap (λ vs. match_at char_width s after (option_map (λ v. ([], v)) (slice_get vs 0))) no_empty)
+  leftmost_from-encodes s (suc n) after [] = ap (match_at byte_width s after) (key_with_value-none bytes_of [] (values_of-in_bytes rs [] ∙ no_empty))
   leftmost_from-encodes s (suc n) after (c ∷ w) =
       leftmost_from-skip byte_width bytes_of s (length (encode c ++ encodes (take n w))) (length (encodes (take n w))) after (encode c) (encodes w) (length-append (encode c) (encodes (take n w)))
       ∙ ap (λ m. leftmost_from byte_width bytes_of (s + m) (length (encodes (take n w))) after (encodes w)) (size-bytes (encode c) ∙ length-encode c)
@@ -197,9 +197,9 @@ module _ {V : Type 0} (rs : List (List ℕ × V)) (no_empty : values_of rs [] �
 pub standard_texts : {V : Type 0} (kind : MatchKind) (rs : List (List ℕ × V)) (h : List ℕ) → dictionary kind rs [] ≡ []
     → standard byte_width (dictionary kind (in_bytes rs)) (encodes h) ≡ standard char_width (dictionary kind rs) h
 standard_texts kind rs h no_empty =
-    ap (λ r. standard byte_width (values_of r) (encodes h)) (kept-in_bytes kind rs) ∙ standard_same (kept kind rs) no_empty h
+    ap (λ r. standard byte_width (values_of r) (encodes h)) (kept_registrations-in_bytes kind rs) ∙ standard_same (kept_registrations kind rs) no_empty h
 
 pub leftmost_texts : {V : Type 0} (kind : MatchKind) (rs : List (List ℕ × V)) (h : List ℕ) → dictionary kind rs [] ≡ []
     → leftmost byte_width (dictionary kind (in_bytes rs)) (encodes h) ≡ leftmost char_width (dictionary kind rs) h
 leftmost_texts kind rs h no_empty =
-    ap (λ r. leftmost byte_width (values_of r) (encodes h)) (kept-in_bytes kind rs) ∙ leftmost_same (kept kind rs) no_empty h
+    ap (λ r. leftmost byte_width (values_of r) (encodes h)) (kept_registrations-in_bytes kind rs) ∙ leftmost_same (kept_registrations kind rs) no_empty h

@@ -3,15 +3,15 @@ use Rattle.std.proofs.Common.{◌≡◌, ℕ, zero, suc, ◌+◌, Bool, List, []
 use Rattle.daachorse_model.specs.declared.Match.{Match}
 use Rattle.daachorse_model.specs.Units.{size}
 use Rattle.daachorse_model.specs.Dictionary.{Dictionary}
-use Rattle.daachorse_model.specs.Leftmost.{keyed, leftmost_from}
+use Rattle.daachorse_model.specs.Leftmost.{key_with_value, leftmost_from}
 
 -- `here` are the matches at an end: the first, and then `found`, or else `none`
 abbrev pub first_or : {V : Type 0} → List (Match V) → List (Match V) → List (Match V) → List (Match V)
 first_or here none found = elim here [ [] ↦ none | m ∷ _ ↦ m ∷ found ]
 
 -- a text without values is no key
-pub keyed-none : {V : Type 0} (K : Dictionary V) (t : List ℕ) → K t ≡ [] → keyed K t ≡ None
-keyed-none K t e = rw e
+pub key_with_value-none : {V : Type 0} (K : Dictionary V) (t : List ℕ) → K t ≡ [] → key_with_value K t ≡ None
+key_with_value-none K t e = rw e
 
 -- the units that the match given last still has are passed over
 pub leftmost_from-skip : {V : Type 0} (width : ℕ → ℕ) (K : Dictionary V) (s n k : ℕ) (after : Bool) (p w : List ℕ) → n ≡ length p + k

@@ -7,7 +7,7 @@ use Rattle.daachorse_model.specs.declared.Match.{Match}
 use Rattle.daachorse_model.specs.declared.slow.Width.{Width}
 use Rattle.daachorse_model.specs.declared.slow.Width.TheVariants.{Bytes, Chars}
 use Rattle.daachorse_model.specs.Units.{same_text, size}
-use Rattle.daachorse_model.specs.Dictionary.{Dictionary, values_of, registered}
+use Rattle.daachorse_model.specs.Dictionary.{Dictionary, values_of, registrations_of}
 use Rattle.daachorse_model.specs.Matches.{matches_of, ending_at, at_each_end, standard_from}
 use Rattle.daachorse_model.specs.Slow.{width_of}
 use Rattle.daachorse_model.proofs.Suffixes.{size-append, size-push}
@@ -53,18 +53,18 @@ cond-append true v xs ys zs e = ap {B = List _} (λ r. v ∷ r) e
 cond-append false v xs ys zs e = e
 
 values_of-suc : {V : Type 0} (ps : List (Bor (List ℕ) × V)) (i : ℕ) (p : Bor (List ℕ) × V) (w : List ℕ) → i < length ps → p ≡ get_or ps i p
-    → values_of (registered (take (suc i) ps)) w ≡ values_of (registered (take i ps)) w ++ value_if (same_text p.0.now w) p.1
+    → values_of (registrations_of (take (suc i) ps)) w ≡ values_of (registrations_of (take i ps)) w ++ value_if (same_text p.0.now w) p.1
 values_of-suc [] i p w h e = absurd (omega arith)
 values_of-suc (x ∷ xs) zero p w h e = ap (λ r. value_if (same_text r.0.now w) r.1) (sym e)
 values_of-suc (x ∷ xs) (suc i) p w h e =
-    cond-append (same_text x.0.now w) x.1 (values_of (registered (take (suc i) xs)) w) (values_of (registered (take i xs)) w) (value_if (same_text p.0.now w) p.1)
+    cond-append (same_text x.0.now w) x.1 (values_of (registrations_of (take (suc i) xs)) w) (values_of (registrations_of (take i xs)) w) (value_if (same_text p.0.now w) p.1)
     (values_of-suc xs i p w (omega arith) e)
 
 -- one more registration adds its match where the test says so
 pub matches_of-step : {V : Type 0} (ps : List (Bor (List ℕ) × V)) (i : ℕ) (p : Bor (List ℕ) × V) (s e : ℕ) (w : List ℕ) (found more : List (Match V)) (b : Bool)
     → i < length ps → p ≡ get_or ps i p → b ≡ same_text p.0.now w
-    → found ≡ more ++ matches_of (values_of (registered (take i ps))) s e w
-    → found ++ cond b (record { start = s; end = e; value = p.1 } ∷ []) [] ≡ more ++ matches_of (values_of (registered (take (i + 1) ps))) s e w
+    → found ≡ more ++ matches_of (values_of (registrations_of (take i ps))) s e w
+    → found ++ cond b (record { start = s; end = e; value = p.1 } ∷ []) [] ≡ more ++ matches_of (values_of (registrations_of (take (i + 1) ps))) s e w
 matches_of-step ps i p s e w found more true h is t f =
     rw (add-one, values_of-suc ps i p w h is, ← t, map-append, ← append_assoc) (ap (λ r. r ++ record { start = s; end = e; value = p.1 } ∷ []) f)
 matches_of-step ps i p s e w found more false h is t f =

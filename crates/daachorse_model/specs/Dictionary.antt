@@ -27,10 +27,10 @@ module _ {V : Type 0} where
       cond (list_any (λ p. is_proper_prefix p r.0) before) rest (r ∷ rest)
 
   -- the registrations that count: under `LeftmostFirst` none that extends an earlier text
-  abbrev pub kept : MatchKind → List (List ℕ × V) → List (List ℕ × V)
-  kept Standard rs = rs
-  kept LeftmostLongest rs = rs
-  kept LeftmostFirst rs = without_extensions [] rs
+  abbrev pub kept_registrations : MatchKind → List (List ℕ × V) → List (List ℕ × V)
+  kept_registrations Standard rs = rs
+  kept_registrations LeftmostLongest rs = rs
+  kept_registrations LeftmostFirst rs = without_extensions [] rs
 
   -- the values of a text, in order of registration; none where it is no key
   abbrev pub values_of : List (List ℕ × V) → List ℕ → List V
@@ -38,8 +38,8 @@ module _ {V : Type 0} where
   values_of (r ∷ rs) w = cond (same_text r.0 w) (r.1 ∷ values_of rs w) (values_of rs w)
 
 -- the registrations that a slice of patterns and values stands for
-abbrev pub registered : {V : Type 0} → List (Bor (List ℕ) × V) → List (List ℕ × V)
-registered patterns = map (λ p. (p.0.now, p.1)) patterns
+abbrev pub registrations_of : {V : Type 0} → List (Bor (List ℕ) × V) → List (List ℕ × V)
+registrations_of patterns = map (λ p. (p.0.now, p.1)) patterns
 
 -- the registrations of texts as registrations of their UTF-8
 abbrev pub in_bytes : {V : Type 0} → List (List ℕ × V) → List (List ℕ × V)
@@ -51,4 +51,4 @@ Dictionary V = List ℕ → List V
 
 -- the dictionary that a build makes of its registrations
 abbrev pub dictionary : {V : Type 0} → MatchKind → List (List ℕ × V) → Dictionary V
-dictionary kind rs = values_of (kept kind rs)
+dictionary kind rs = values_of (kept_registrations kind rs)

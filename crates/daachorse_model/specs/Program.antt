@@ -14,9 +14,9 @@ abbrev pub pattern_lines : List ℕ → List (List ℕ)
 pattern_lines bytes = without_empty_end (slice_split (λ b. b == 10) bytes)
 
 -- the texts as registrations, each with its number, where the first has the number i
-abbrev pub numbered : ℕ → List (List ℕ) → List (List ℕ × ℕ)
-numbered i [] = []
-numbered i (t ∷ ts) = (t, i) ∷ numbered (i + 1) ts
+abbrev pub with_numbers : ℕ → List (List ℕ) → List (List ℕ × ℕ)
+with_numbers i [] = []
+with_numbers i (t ∷ ts) = (t, i) ∷ with_numbers (i + 1) ts
 
 -- a match as a line: start, end and value, with a space between, then a line feed
 abbrev pub match_line : Match ℕ → List ℕ

@@ -12,7 +12,7 @@ ghost use Rattle.std.specs.Ordering.{nat_cmp};
 ghost use Rattle.daachorse_model.specs.declared.Match.{Match};
 ghost use Rattle.daachorse_model.specs.Units.{byte_width, char_width, size};
 ghost use Rattle.daachorse_model.specs.Folding.{folded};
-ghost use Rattle.daachorse_model.specs.Dictionary.{kept, dictionary, in_bytes};
+ghost use Rattle.daachorse_model.specs.Dictionary.{kept_registrations, dictionary, in_bytes};
 ghost use Rattle.daachorse_model.specs.Matches.{overlapping, no_suffix, standard, at_each_end, standard_after};
 ghost use Rattle.daachorse_model.specs.Leftmost.{leftmost};
 ghost use Rattle.daachorse_model.specs.Laws.{IsOccurrence, Follows, IsLongestAtStart, IsEarliestAtStart};
@@ -54,7 +54,7 @@ pub fn leftmost_first_is_earliest<V: Copy>()
         → All (IsEarliestAtStart width patterns h) (leftmost width (dictionary MatchKind.LeftmostFirst patterns) h) }
     ensures longest_of_kept { (width : ℕ → ℕ) (patterns : List (List ℕ × V)) (h : List ℕ)
         → leftmost width (dictionary MatchKind.LeftmostFirst patterns) h
-        ≡ leftmost width (dictionary MatchKind.LeftmostLongest (kept MatchKind.LeftmostFirst patterns)) h }
+        ≡ leftmost width (dictionary MatchKind.LeftmostLongest (kept_registrations MatchKind.LeftmostFirst patterns)) h }
 {}
 
 /// On text, with text patterns none of which is empty, bytes and characters give the same matches.

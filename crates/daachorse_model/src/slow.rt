@@ -5,7 +5,7 @@
 
 ghost use Rattle.std.specs.Prelude.{◌≡◌, ◌+◌, ◌++◌, [], take, OnOk, IfOk, slice_get};
 ghost use Rattle.daachorse_model.specs.Units.{size};
-ghost use Rattle.daachorse_model.specs.Dictionary.{values_of, dictionary, registered};
+ghost use Rattle.daachorse_model.specs.Dictionary.{values_of, dictionary, registrations_of};
 ghost use Rattle.daachorse_model.specs.Matches.{matches_of, ending_at, at_each_end, overlapping, no_suffix, standard, standard_from};
 ghost use Rattle.daachorse_model.specs.Slow.{width_of, matches_at_end};
 
@@ -70,7 +70,7 @@ fn push_values<V: Copy, A: Allocator>(
     start: usize,
     end: usize,
 ) -> Result<(), AllocError>
-    ensures { OnOk result (found.new.items ≡ found.old.items ++ matches_of (values_of (registered patterns.now)) start end part.now) }
+    ensures { OnOk result (found.new.items ≡ found.old.items ++ matches_of (values_of (registrations_of patterns.now)) start end part.now) }
 {
     for (text, value) in patterns {
         if *text == part {
@@ -94,7 +94,7 @@ fn push_ending_at<V: Copy, A: Allocator>(
     end: usize,
 ) -> Result<(), AllocError>
     requires { start + size (width_of width) text.now ≡ end }
-    ensures { OnOk result (found.new.items ≡ found.old.items ++ ending_at (width_of width) (values_of (registered patterns.now)) start end text.now) }
+    ensures { OnOk result (found.new.items ≡ found.old.items ++ ending_at (width_of width) (values_of (registrations_of patterns.now)) start end text.now) }
 {
     let mut from = start;
     for skipped in 0..text.len() {
@@ -114,7 +114,7 @@ fn first_ending_at<V: Copy, A: Allocator + Copy>(
     end: usize,
 ) -> Result<Option<Match<V>>, AllocError>
     requires { start + size (width_of width) text.now ≡ end }
-    ensures { IfOk result (λ first. first ≡ slice_get (ending_at (width_of width) (values_of (registered patterns.now)) start end text.now) 0) }
+    ensures { IfOk result (λ first. first ≡ slice_get (ending_at (width_of width) (values_of (registrations_of patterns.now)) start end text.now) 0) }
 {
     let mut found = Vec::new(alloc);
     push_ending_at(&mut found, width, patterns, text, start, end)?;
@@ -131,7 +131,7 @@ fn push_first_ending_at<V: Copy, A: Allocator + Copy>(
     end: usize,
 ) -> Result<(), AllocError>
     requires { start + size (width_of width) text.now ≡ end }
-    ensures { OnOk result (found.new.items ≡ found.old.items ++ take 1 (ending_at (width_of width) (values_of (registered patterns.now)) start end text.now)) }
+    ensures { OnOk result (found.new.items ≡ found.old.items ++ take 1 (ending_at (width_of width) (values_of (registrations_of patterns.now)) start end text.now)) }
 {
     let first = first_ending_at(*found.allocator(), width, patterns, text, start, end)?;
     if let Some(first) = first {
@@ -148,7 +148,7 @@ fn push_at_end<V: Copy, A: Allocator + Copy>(
     patterns: &[(&[u32], V)],
     text: &[u32],
 ) -> Result<(), AllocError>
-    ensures { OnOk result (found.new.items ≡ found.old.items ++ matches_at_end at_end (width_of width) (values_of (registered patterns.now)) text.now) }
+    ensures { OnOk result (found.new.items ≡ found.old.items ++ matches_at_end at_end (width_of width) (values_of (registrations_of patterns.now)) text.now) }
 {
     let place = width.size_of(text);
     match at_end {
@@ -166,7 +166,7 @@ fn search_each_end<V: Copy, A: Allocator + Copy>(
     patterns: &[(&[u32], V)],
     haystack: &[u32],
 ) -> Result<Vec<Match<V>, A>, AllocError>
-    ensures { IfOk result (λ found. found.items ≡ at_each_end (matches_at_end at_end (width_of width) (values_of (registered patterns.now))) [] haystack.now) }
+    ensures { IfOk result (λ found. found.items ≡ at_each_end (matches_at_end at_end (width_of width) (values_of (registrations_of patterns.now))) [] haystack.now) }
 {
     let mut found = Vec::new(alloc);
     for read in 0..haystack.len() {
@@ -189,7 +189,7 @@ pub fn overlapping_slowly<V: Copy, A: Allocator + Copy>(
     patterns: &[(&[u32], V)],
     haystack: &[u32],
 ) -> Result<Vec<Match<V>, A>, AllocError>
-    ensures { IfOk result (λ found. found.items ≡ overlapping (width_of width) (dictionary MatchKind.Standard (registered patterns.now)) haystack.now) }
+    ensures { IfOk result (λ found. found.items ≡ overlapping (width_of width) (dictionary MatchKind.Standard (registrations_of patterns.now)) haystack.now) }
 {
     search_each_end(alloc, AtEnd::Every, width, patterns, haystack)
 }
@@ -205,14 +205,14 @@ pub fn no_suffix_slowly<V: Copy, A: Allocator + Copy>(
     patterns: &[(&[u32], V)],
     haystack: &[u32],
 ) -> Result<Vec<Match<V>, A>, AllocError>
-    ensures { IfOk result (λ found. found.items ≡ no_suffix (width_of width) (dictionary MatchKind.Standard (registered patterns.now)) haystack.now) }
+    ensures { IfOk result (λ found. found.items ≡ no_suffix (width_of width) (dictionary MatchKind.Standard (registrations_of patterns.now)) haystack.now) }
 {
     search_each_end(alloc, AtEnd::First, width, patterns, haystack)
 }
 
 /// The first value of the pattern `text`.
 fn first_value<V: Copy>(patterns: &[(&[u32], V)], text: &[u32]) -> Option<V>
-    ensures { result ≡ slice_get (values_of (registered patterns.now) text.now) 0 }
+    ensures { result ≡ slice_get (values_of (registrations_of patterns.now) text.now) 0 }
 {
     for (pattern, value) in patterns {
         if *pattern == text {
@@ -230,7 +230,7 @@ fn search_nonempty<V: Copy, A: Allocator + Copy>(
     patterns: &[(&[u32], V)],
     haystack: &[u32],
 ) -> Result<Vec<Match<V>, A>, AllocError>
-    ensures { IfOk result (λ found. found.items ≡ standard_from (width_of width) (values_of (registered patterns.now)) 0 [] haystack.now) }
+    ensures { IfOk result (λ found. found.items ≡ standard_from (width_of width) (values_of (registrations_of patterns.now)) 0 [] haystack.now) }
 {
     let mut found = Vec::new(alloc);
     let mut resume = 0;
@@ -259,7 +259,7 @@ pub fn standard_slowly<V: Copy, A: Allocator + Copy>(
     patterns: &[(&[u32], V)],
     haystack: &[u32],
 ) -> Result<Vec<Match<V>, A>, AllocError>
-    ensures { IfOk result (λ found. found.items ≡ standard (width_of width) (dictionary MatchKind.Standard (registered patterns.now)) haystack.now) }
+    ensures { IfOk result (λ found. found.items ≡ standard (width_of width) (dictionary MatchKind.Standard (registrations_of patterns.now)) haystack.now) }
 {
     if first_value(patterns, &[]).is_some() {
         search_each_end(alloc, AtEnd::FirstEmpty, width, patterns, haystack)

@@ -15,7 +15,7 @@ use Rattle.daachorse_model.specs.Paths.{walk, Leads}
 use Rattle.daachorse_model.specs.Prefixes.{IsPrefix}
 use Rattle.daachorse_model.proofs.Paths.{walk-push}
 use Rattle.daachorse_placement.specs.declared.build_helper.SiblingGroup.{SiblingGroup}
-use Rattle.daachorse_placement.specs.Placement.{children_of, parent_of}
+use Rattle.daachorse_placement.specs.Placement.{children_of, group_parent}
 use Rattle.daachorse_build.specs.EdgeMaps.{id_at}
 use Rattle.daachorse_build.specs.Tables.{child_in}
 use Rattle.daachorse_build.proofs.Full.{all_mapped}
@@ -50,20 +50,20 @@ many-blocks groups block some fits full =
 module _ {A : Type 0} {code : ℕ → ℕ} {block : ℕ} {gs : List (SiblingGroup A)} {edges : List (List (ℕ × ℕ))} (g : AreGroupsOf code block gs edges) where
   -- the text leads to the parent of one of the first m groups
   abbrev IsParentText : ℕ → List ℕ → Type 0
-  IsParentText m w = (k : ℕ) × (k < m) × Leads (child_in nat_cmp edges) w (parent_of gs k)
+  IsParentText m w = (k : ℕ) × (k < m) × Leads (child_in nat_cmp edges) w (group_parent gs k)
 
-  parent_edge : (k : ℕ) → k < length gs → (c : ℕ) × (t : ℕ) × (child_in nat_cmp edges (parent_of gs k) c ≡ Some t)
+  parent_edge : (k : ℕ) → k < length gs → (c : ℕ) × (t : ℕ) × (child_in nat_cmp edges (group_parent gs k) c ≡ Some t)
   parent_edge k inside =
-      let es : List (ℕ × ℕ) = get_or edges (parent_of gs k) [] in
+      let es : List (ℕ × ℕ) = get_or edges (group_parent gs k) [] in
       let list : length (children_of gs k) ≡ length es = ap length (g.children k inside) ∙ length-map es (λ e. (code e.0, e.1)) in
       let some : 0 < length es = subst (λ (n : ℕ). 0 < n) list (g.groups.some k inside) in
       first_edge es some
 
-  parent_text : (k : ℕ) → k < length gs → (w : List ℕ) × Leads (child_in nat_cmp edges) w (parent_of gs k)
+  parent_text : (k : ℕ) → k < length gs → (w : List ℕ) × Leads (child_in nat_cmp edges) w (group_parent gs k)
   parent_text k inside =
       let edge = parent_edge k inside in
-      let alive = (g.table.trie.bounds (parent_of gs k) edge.0 edge.1 edge.2).1 in
-      text_of (child_in nat_cmp edges) (length edges) g.table.trie (parent_of gs k) (g.groups.parents k inside) alive
+      let alive = (g.table.trie.bounds (group_parent gs k) edge.0 edge.1 edge.2).1 in
+      text_of (child_in nat_cmp edges) (length edges) g.table.trie (group_parent gs k) (g.groups.parents k inside) alive
 
   record AreTexts (m : ℕ) : Type 0 where
     texts : List (List ℕ)
@@ -72,9 +72,9 @@ module _ {A : Type 0} {code : ℕ → ℕ} {block : ℕ} {gs : List (SiblingGrou
     distinct : IsDistinct same_text texts
 
   -- the text of one group's parent more
-  new_text : (m : ℕ) → m < length gs → (w : List ℕ) → Leads (child_in nat_cmp edges) w (parent_of gs m) → (v : List ℕ) → IsParentText m v → same_text w v ≡ false
+  new_text : (m : ℕ) → m < length gs → (w : List ℕ) → Leads (child_in nat_cmp edges) w (group_parent gs m) → (v : List ℕ) → IsParentText m v → same_text w v ≡ false
   new_text m inside w at v (k, less, leads) = false_from_ne_true (same_text w v) (λ same.
-      let one : parent_of gs m ≡ parent_of gs k = same_Some (parent_of gs m) (parent_of gs k) (sym at ∙ (ap (λ x. walk (child_in nat_cmp edges) 0 x) ((bytes_eq-Decides w v).0 same) ∙ leads)) in
+      let one : group_parent gs m ≡ group_parent gs k = same_Some (group_parent gs m) (group_parent gs k) (sym at ∙ (ap (λ x. walk (child_in nat_cmp edges) 0 x) ((bytes_eq-Decides w v).0 same) ∙ leads)) in
       let group : m ≡ k = g.groups.one_parent m k inside (omega (arith, less, inside)) one in
       omega (arith, group, less))
 
@@ -107,4 +107,4 @@ module _ {A : Type 0} {code : ℕ → ℕ} {block : ℕ} {gs : List (SiblingGrou
       begins : (w : List ℕ) → IsParentText (length gs) w → IsProperPrefix K w
       begins w (k, inside, leads) =
           let edge = parent_edge k inside in
-          goes_on K w edge.0 (only edge.1 (w ++ edge.0 ∷ []) (walk-push (child_in nat_cmp edges) 0 w edge.0 (parent_of gs k) leads ∙ edge.2))
+          goes_on K w edge.0 (only edge.1 (w ++ edge.0 ∷ []) (walk-push (child_in nat_cmp edges) 0 w edge.0 (group_parent gs k) leads ∙ edge.2))

@@ -13,13 +13,13 @@ use Rattle.daachorse_core.proofs.Xor.{xor_inside}
 use Rattle.daachorse_model.specs.Paths.{Leads}
 use Rattle.daachorse_placement.specs.declared.build_helper.SiblingGroup.{SiblingGroup}
 use Rattle.daachorse_placement.specs.Layout.{Layout}
-use Rattle.daachorse_placement.specs.Placement.{IsGroupAt, children_of, parent_of, label_of, child_of}
+use Rattle.daachorse_placement.specs.Placement.{IsGroupAt, children_of, group_parent, label_of, child_id}
 use Rattle.daachorse_build.specs.EdgeMaps.{id_at}
-use Rattle.daachorse_build.specs.Groups.{coded}
+use Rattle.daachorse_build.specs.Groups.{with_codes}
 use Rattle.daachorse_build.specs.Tables.{child_in}
 use Rattle.daachorse_build.proofs.Walks.{walk-above, walk-bounds}
 use Rattle.daachorse_machine.proofs.PathLaws.{search_below}
-use Rattle.daachorse_packing.specs.Settled.{ArePlaces, AreSettled, IsVacantAt}
+use Rattle.daachorse_packing.specs.Settled.{HavePlaces, AreSettled, IsVacantAt}
 
 -- ---- an edge stands in the list of its state's edges
 same_label : (c k : ℕ) → is_at (nat_cmp c) k ≡ true → c ≡ k
@@ -31,11 +31,11 @@ edge_place es c t e =
     let label : c ≡ at.1 = same_label c at.1 at.3 in
     (at.0, slice_get_within es at.0 (at.1, t) at.2, get_or_from_slice_get es at.0 (at.1, t) (0, 0) at.2 ∙ ap (λ k. (k, t)) (sym label))
 
-coded-length : (code : ℕ → ℕ) (es : List (ℕ × ℕ)) → length (coded code es) ≡ length es
-coded-length code es = length-map es (λ e. (code e.0, e.1))
+with_codes-length : (code : ℕ → ℕ) (es : List (ℕ × ℕ)) → length (with_codes code es) ≡ length es
+with_codes-length code es = length-map es (λ e. (code e.0, e.1))
 
-coded-at : (code : ℕ → ℕ) (es : List (ℕ × ℕ)) (i c t : ℕ) → i < length es → get_or es i (0, 0) ≡ (c, t) → get_or (coded code es) i (0, 0) ≡ (code c, t)
-coded-at code es i c t inside is =
+with_codes-at : (code : ℕ → ℕ) (es : List (ℕ × ℕ)) (i c t : ℕ) → i < length es → get_or es i (0, 0) ≡ (c, t) → get_or (with_codes code es) i (0, 0) ≡ (code c, t)
+with_codes-at code es i c t inside is =
     let f : ℕ × ℕ → ℕ × ℕ = λ e. (code e.0, e.1) in
     get_or-map f es i (0, 0) (0, 0) inside ∙ ap f is
 
@@ -54,10 +54,10 @@ module _ {A : Type 0} {code : ℕ → ℕ} {block : ℕ} {tracked : Bool} {gs : 
   pub record IsEdgeAt (s c t : ℕ) : Type 0 where
     pub group : ℕ
     pub inside : group < length gs
-    pub parent : parent_of gs group ≡ s
+    pub parent : group_parent gs group ≡ s
     pub index : ℕ
     pub low : index < length (children_of gs group)
-    pub child : child_of (children_of gs group) index ≡ t
+    pub child : child_id (children_of gs group) index ≡ t
     pub unit : code c < block
     pub nonzero : base_at s ≢ 0
     pub below : base_at s < length l.used
@@ -71,14 +71,14 @@ module _ {A : Type 0} {code : ℕ → ℕ} {block : ℕ} {tracked : Bool} {gs : 
       let es : List (ℕ × ℕ) = get_or edges s [] in
       let found = edge_place es c t e in
       let j = found.0 in
-      let list : children_of gs k ≡ coded code es = q.of_trie.children k from.1 ∙ ap (λ x. coded code (get_or edges x [])) from.2 in
-      let less : j < length (children_of gs k) = (let same : length (children_of gs k) ≡ length es = ap length list ∙ coded-length code es in let h : j < length es = found.1 in omega (arith, same, h)) in
-      let pair : get_or (children_of gs k) j (0, 0) ≡ (code c, t) = ap (λ x. get_or x j (0, 0)) list ∙ coded-at code es j c t found.1 found.2 in
+      let list : children_of gs k ≡ with_codes code es = q.of_trie.children k from.1 ∙ ap (λ x. with_codes code (get_or edges x [])) from.2 in
+      let less : j < length (children_of gs k) = (let same : length (children_of gs k) ≡ length es = ap length list ∙ with_codes-length code es in let h : j < length es = found.1 in omega (arith, same, h)) in
+      let pair : get_or (children_of gs k) j (0, 0) ≡ (code c, t) = ap (λ x. get_or x j (0, 0)) list ∙ with_codes-at code es j c t found.1 found.2 in
       let label : label_of (children_of gs k) j ≡ code c = ap (λ (x : ℕ × ℕ). x.0) pair in
-      let child : child_of (children_of gs k) j ≡ t = ap (λ (x : ℕ × ℕ). x.1) pair in
-      let group : IsGroupAt (children_of gs k) (get_or l.bases (parent_of gs k) 0) l = q.placed.groups k from.1 in
-      let base : get_or l.bases (parent_of gs k) 0 ≡ base_at s = ap (λ x. base_at x) from.2 in
-      let moved : bit_xor (get_or l.bases (parent_of gs k) 0) (label_of (children_of gs k) j) ≡ bit_xor (base_at s) (code c) = ap (λ x. bit_xor x (label_of (children_of gs k) j)) base ∙ ap (λ x. bit_xor (base_at s) x) label in
+      let child : child_id (children_of gs k) j ≡ t = ap (λ (x : ℕ × ℕ). x.1) pair in
+      let group : IsGroupAt (children_of gs k) (get_or l.bases (group_parent gs k) 0) l = q.placed.groups k from.1 in
+      let base : get_or l.bases (group_parent gs k) 0 ≡ base_at s = ap (λ x. base_at x) from.2 in
+      let moved : bit_xor (get_or l.bases (group_parent gs k) 0) (label_of (children_of gs k) j) ≡ bit_xor (base_at s) (code c) = ap (λ x. bit_xor x (label_of (children_of gs k) j)) base ∙ ap (λ x. bit_xor (base_at s) x) label in
       let at : place t ≡ bit_xor (base_at s) (code c) = ap (λ x. place x) (sym child) ∙ (group.at j less ∙ moved) in
       record {
         group = k;
@@ -112,8 +112,8 @@ module _ {A : Type 0} {code : ℕ → ℕ} {block : ℕ} {tracked : Bool} {gs : 
       ]
 
   -- a base is that of a group
-  pub base_from : (s : ℕ) → s < length edges → base_at s ≢ 0 → (k : ℕ) × (k < length gs) × (parent_of gs k ≡ s)
-  base_from s less some = elim (search_below (λ k. parent_of gs k ≡ s) (λ k. parent_of gs k ≢ s) (length gs) (λ k _. cases_eq (parent_of gs k) s)) [
+  pub base_from : (s : ℕ) → s < length edges → base_at s ≢ 0 → (k : ℕ) × (k < length gs) × (group_parent gs k ≡ s)
+  base_from s less some = elim (search_below (λ k. group_parent gs k ≡ s) (λ k. group_parent gs k ≢ s) (length gs) (λ k _. cases_eq (group_parent gs k) s)) [
     | inl found ↦ found
     | inr none ↦ absurd (some (q.placed.parents s (let same_size : length l.bases ≡ length edges = q.sizes.bases in omega arith) (λ k low same. none k low (sym same))))
   ]
@@ -122,8 +122,8 @@ module _ {A : Type 0} {code : ℕ → ℕ} {block : ℕ} {tracked : Bool} {gs : 
   pub base_inside : (s : ℕ) → s < length edges → base_at s ≢ 0 → base_at s < length l.used
   base_inside s less some =
       let from = base_from s less some in
-      let inside : get_or l.bases (parent_of gs from.0) 0 < length l.used = (q.placed.groups from.0 from.1).inside in
-      let base : get_or l.bases (parent_of gs from.0) 0 ≡ base_at s = ap (λ x. base_at x) from.2 in
+      let inside : get_or l.bases (group_parent gs from.0) 0 < length l.used = (q.placed.groups from.0 from.1).inside in
+      let base : get_or l.bases (group_parent gs from.0) 0 ≡ base_at s = ap (λ x. base_at x) from.2 in
       omega (arith, inside, base)
 
   -- a code leads from a base to an element
@@ -157,7 +157,7 @@ module _ {A : Type 0} {code : ℕ → ℕ} {block : ℕ} {tracked : Bool} {gs : 
   place-dead =
       let two : 1 < length edges = q.of_trie.table.trie.two in
       let ids : length l.idx ≡ length edges = q.sizes.idx in
-      q.placed.rest 1 (omega (arith, two, ids)) (λ e. omega (arith, e)) (λ k j inside low same. (let above : 1 < child_of (children_of gs k) j = q.of_trie.groups.above k j inside low in omega (arith, above, same)))
+      q.placed.rest 1 (omega (arith, two, ids)) (λ e. omega (arith, e)) (λ k j inside low same. (let above : 1 < child_id (children_of gs k) j = q.of_trie.groups.above k j inside low in omega (arith, above, same)))
 
   -- no state but the dead one stands at element 1
   pub place-alive : (t : ℕ) → t < length edges → t ≢ 1 → place t ≢ 1
@@ -189,7 +189,7 @@ module _ {A : Type 0} {code : ℕ → ℕ} {block : ℕ} {tracked : Bool} {gs : 
   ]
 
   -- each state was placed apart
-  pub settled-places : ArePlaces l.idx (length edges) (length l.used)
+  pub settled-places : HavePlaces l.idx (length edges) (length l.used)
   settled-places = record {
     size = q.sizes.idx;
     inside = place-inside;

@@ -4,10 +4,10 @@ use Rattle.std.specs.Int.{IsPowerOfTwo}
 use Rattle.std.specs.Ordering.{nat_cmp}
 use Rattle.daachorse_placement.specs.declared.build_helper.SiblingGroup.{SiblingGroup}
 use Rattle.daachorse_placement.specs.Layout.{Layout}
-use Rattle.daachorse_placement.specs.Placement.{AreGroups, HasSizes, IsPlaced, children_of, parent_of}
+use Rattle.daachorse_placement.specs.Placement.{AreGroups, HasSizes, IsPlaced, children_of, group_parent}
 use Rattle.daachorse_build.specs.declared.nfa_builder.NfaBuilderState.{NfaBuilderState}
 use Rattle.daachorse_build.specs.Tables.{child_in, edges_of, IsTable}
-use Rattle.daachorse_build.specs.Groups.{coded, edges_at}
+use Rattle.daachorse_build.specs.Groups.{with_codes, edges_at}
 use Rattle.daachorse_machine.specs.Copies.{LinkedTrie}
 
 -- the trie with these edges, links and positions
@@ -18,8 +18,8 @@ trie_of edges fails positions = record { child = child_in nat_cmp edges; fail = 
 pub record AreGroupsOf {A : Type 0} (code : ℕ → ℕ) (block : ℕ) (gs : List (SiblingGroup A)) (edges : List (List (ℕ × ℕ))) : Type 0 where
   pub table : IsTable nat_cmp edges
   pub groups : AreGroups gs (length edges) block
-  pub children : (k : ℕ) → k < length gs → children_of gs k ≡ coded code (edges_at edges (parent_of gs k))
-  pub all : (s c t : ℕ) → child_in nat_cmp edges s c ≡ Some t → (k : ℕ) × (k < length gs) × (parent_of gs k ≡ s)
+  pub children : (k : ℕ) → k < length gs → children_of gs k ≡ with_codes code (edges_at edges (group_parent gs k))
+  pub all : (s c t : ℕ) → child_in nat_cmp edges s c ≡ Some t → (k : ℕ) × (k < length gs) × (group_parent gs k ≡ s)
 
 -- The groups of a trie were placed.
 pub record AreSettled {A : Type 0} (code : ℕ → ℕ) (block : ℕ) (tracked : Bool) (gs : List (SiblingGroup A)) (l : Layout) (edges : List (List (ℕ × ℕ))) : Type 0 where
@@ -46,7 +46,7 @@ abbrev pub HasManyGroups : {V A : Type 0} → (ℕ → ℕ) → ℕ → List (Nf
 HasManyGroups {V} {A} code block states = (gs : List (SiblingGroup A)) × AreGroupsOf code block gs (edges_of states) × (2 ^ 32 ≤ (length gs + 1) * block)
 
 -- each of n states but the dead one has a place of its own, among so many elements
-pub record ArePlaces (idx : List ℕ) (n elements : ℕ) : Type 0 where
+pub record HavePlaces (idx : List ℕ) (n elements : ℕ) : Type 0 where
   pub size : length idx ≡ n
   pub inside : (t : ℕ) → t < n → slice_index idx t < elements
   pub apart : (t v : ℕ) → t < n → v < n → t ≢ 1 → v ≢ 1 → slice_index idx t ≡ slice_index idx v → t ≡ v

@@ -2,7 +2,7 @@
 use Rattle.std.proofs.Common.{◌≡◌, ℕ, ◌+◌, ◌<◌, ◌≤◌, inl, inr, List, length, arith, subst, sym}
 use Rattle.std.proofs.lemmas.Bool.{cases_lt, cases_order}
 use Rattle.daachorse_placement.specs.declared.build_helper.SiblingGroup.{SiblingGroup}
-use Rattle.daachorse_placement.specs.Placement.{AreGroups, children_of, parent_of, label_of, child_of}
+use Rattle.daachorse_placement.specs.Placement.{AreGroups, children_of, group_parent, label_of, child_id}
 use Rattle.daachorse_part_tests.specs.Rising.{AreRising, RiseTo}
 
 -- where a function of the index rises, equal values have equal indexes
@@ -23,13 +23,13 @@ rising_wider cs n label low high low' high' less more r = record {
   grows = let h = r.grows in omega arith;
 }
 
-pub rise_more : {A : Type 0} (gs : List (SiblingGroup A)) (n block parent high to : ℕ) → RiseTo gs n block parent high → 2 ≤ high → parent ≤ parent_of gs n → 0 < length (children_of gs n) → AreRising (children_of gs n) (length (children_of gs n)) block high to → RiseTo gs (n + 1) block (parent_of gs n + 1) to
+pub rise_more : {A : Type 0} (gs : List (SiblingGroup A)) (n block parent high to : ℕ) → RiseTo gs n block parent high → 2 ≤ high → parent ≤ group_parent gs n → 0 < length (children_of gs n) → AreRising (children_of gs n) (length (children_of gs n)) block high to → RiseTo gs (n + 1) block (group_parent gs n + 1) to
 rise_more gs n block parent high to r two above some here = record {
   some = λ k lt. elim (cases_lt k n) [ inl h ↦ r.some k h | inr h ↦ let e : k ≡ n = omega arith in subst (λ (i : ℕ). 0 < length (children_of gs i)) (sym e) some ];
-  parents = λ k lt. elim (cases_lt k n) [ inl h ↦ let p = r.parents k h in omega arith | inr h ↦ let e : k ≡ n = omega arith in subst (λ (i : ℕ). parent_of gs i < parent_of gs n + 1) (sym e) (omega arith) ];
+  parents = λ k lt. elim (cases_lt k n) [ inl h ↦ let p = r.parents k h in omega arith | inr h ↦ let e : k ≡ n = omega arith in subst (λ (i : ℕ). group_parent gs i < group_parent gs n + 1) (sym e) (omega arith) ];
   parent_order = λ k l lt last. elim (cases_lt l n) [
     | inl h ↦ r.parent_order k l lt h
-    | inr h ↦ let e : l ≡ n = omega arith in let p = r.parents k (omega arith) in subst (λ (i : ℕ). parent_of gs k < parent_of gs i) (sym e) (omega arith)
+    | inr h ↦ let e : l ≡ n = omega arith in let p = r.parents k (omega arith) in subst (λ (i : ℕ). group_parent gs k < group_parent gs i) (sym e) (omega arith)
   ];
   each = λ k lt. elim (cases_lt k n) [
     | inl h ↦ rising_wider (children_of gs k) (length (children_of gs k)) block 2 high 2 to (omega arith) here.grows (r.each k h)
@@ -44,7 +44,7 @@ rise_more gs n block parent high to r two above some here = record {
         let before = (r.each k (omega arith)).to i il in
         let jn : j < length (children_of gs n) = subst (λ (m : ℕ). j < length (children_of gs m)) e jl in
         let after = here.from j jn in
-        subst (λ (m : ℕ). child_of (children_of gs k) i < child_of (children_of gs m) j) (sym e) (omega (arith, before, after))
+        subst (λ (m : ℕ). child_id (children_of gs k) i < child_id (children_of gs m) j) (sym e) (omega (arith, before, after))
   ];
 }
 
@@ -54,7 +54,7 @@ rising_groups gs block parent high n r parents ids = record {
   labels = λ k lt. (r.each k lt).labels;
   distinct = λ k i j lt. apart_of (λ a. label_of (children_of gs k) a) (length (children_of gs k)) i j (r.each k lt).label_order;
   parents = λ k lt. let p = r.parents k lt in omega arith;
-  one_parent = λ k l kl ll. apart_of (λ a. parent_of gs a) (length gs) k l r.parent_order kl ll;
+  one_parent = λ k l kl ll. apart_of (λ a. group_parent gs a) (length gs) k l r.parent_order kl ll;
   ids = λ k lt j jl. let h = (r.each k lt).to j jl in omega arith;
   above = λ k j lt jl. let h = (r.each k lt).from j jl in omega arith;
   one_group = λ k l i j kl ll il jl e. elim (cases_order k l) [
@@ -62,5 +62,5 @@ rising_groups gs block parent high n r parents ids = record {
     | inr (inl lt) ↦ let h = r.order k l i j lt ll il jl in absurd (omega (arith, h, e))
     | inr (inr gt) ↦ let h = r.order l k j i gt kl jl il in absurd (omega (arith, h, e))
   ];
-  one_child = λ k lt i j. apart_of (λ a. child_of (children_of gs k) a) (length (children_of gs k)) i j (r.each k lt).order;
+  one_child = λ k lt i j. apart_of (λ a. child_id (children_of gs k) a) (length (children_of gs k)) i j (r.each k lt).order;
 }

@@ -9,7 +9,7 @@ use Rattle.std.proofs.lemmas.Option.{same_Some}
 use Rattle.daachorse_core.specs.Chains.{Passes}
 use Rattle.daachorse_core.specs.Outputs.{ParentsFall}
 use Rattle.daachorse_model.specs.declared.MatchKind.{MatchKind}
-use Rattle.daachorse_model.specs.Dictionary.{Dictionary, dictionary, kept}
+use Rattle.daachorse_model.specs.Dictionary.{Dictionary, dictionary, kept_registrations}
 use Rattle.daachorse_model.specs.Kinds.{is_leftmost}
 use Rattle.daachorse_model.specs.Outputs.{own_outputs}
 use Rattle.daachorse_model.specs.Paths.{Leads, walk, is_reached}
@@ -23,7 +23,7 @@ use Rattle.daachorse_build.specs.Left.{LinksLeft}
 use Rattle.daachorse_build.specs.Lists.{IsChainedAt, IsRest}
 use Rattle.daachorse_build.specs.Orders.{HoldLinks}
 use Rattle.daachorse_build.specs.Steps.{AreLeft, HoldEitherLinks, HasLinksOf, HasOutputsOf, KeepsPatterns}
-use Rattle.daachorse_build.specs.Tables.{child_in, child_of, edge_map, edges_of, fails_of, held_at, own_at, own_of, positions_of}
+use Rattle.daachorse_build.specs.Tables.{child_in, child_of, edge_map, edges_of, fails_of, own_outputs_at, own_at, own_of, positions_of}
 use Rattle.daachorse_build.proofs.Fitting.{state_of}
 use Rattle.daachorse_build.proofs.Queue.{all_in_order}
 use Rattle.daachorse_build.proofs.Registrations.{holds_twin}
@@ -44,7 +44,7 @@ module _ {L V A : Type 0} (cmp : L → L → Ordering) (unit : L → ℕ) (width
       let P : MatchKind → Type 0 = λ k. Holds cmp unit width k (states_of d) rs in
       record {
         holds = subst P (sym keeps.kind) (holds_twin cmp unit width (kind_of b) (states_of b) (states_of d) rs keeps.kept was.holds);
-        count = keeps.patterns ∙ was.count ∙ ap (λ k. length (kept k (in_units unit rs))) (sym keeps.kind);
+        count = keeps.patterns ∙ was.count ∙ ap (λ k. length (kept_registrations k (in_units unit rs))) (sym keeps.kind);
       }
 
   pub HasTexts-kept : (b d : NfaBuilder L V A) (rs : List (List ℕ × V)) → KeepsPatterns b d → HasTexts cmp unit width b rs → HasTexts cmp unit width d rs
@@ -157,7 +157,7 @@ module _ {L V A : Type 0} (cmp : L → L → Ordering) (unit : L → ℕ) (width
   own_is : (w : List ℕ) (s : ℕ) → Leads child w s → own_at (own_of (states_of d)) s ≡ own_outputs width K w
   own_is w s e =
       let a = read w s e in
-      let at : held_at cmp (states_of d) a.0 ≡ own_at (own_of (states_of d)) s = ap (λ o. unwrap_or (option_map (own_at (own_of (states_of d))) o) []) a.2 in
+      let at : own_outputs_at cmp (states_of d) a.0 ≡ own_at (own_of (states_of d)) s = ap (λ o. unwrap_or (option_map (own_at (own_of (states_of d))) o) []) a.2 in
       sym at ∙ was.holds.outputs a.0 ∙ ap (λ y. own_outputs width K y) a.1
 
   chains : ((w : List L) (s : ℕ) → Leads to w s → IsChainedAt (own_of (states_of d)) (fails_of (states_of d)) (outputs_of d) (positions_of (states_of d)) s)

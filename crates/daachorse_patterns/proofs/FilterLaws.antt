@@ -6,7 +6,7 @@ use Rattle.daachorse_model.specs.declared.MatchKind.{MatchKind}
 use Rattle.daachorse_model.specs.Dictionary.{dictionary}
 use Rattle.daachorse_build.proofs.KeyTexts.{of_key}
 use Rattle.daachorse_patterns.specs.Patterns.{texts_of}
-use Rattle.daachorse_prefilter.specs.Filters.{Filter, IsSoundFor, PassesKeys, admits}
+use Rattle.daachorse_prefilter.specs.Filters.{Filter, PassesAtPatterns, PassesKeys, admits}
 
 module _ {V : Type 0} where
   -- the texts of registrations, in bytes
@@ -27,7 +27,7 @@ module _ {V : Type 0} where
       All-cons (λ r. P (spell r.0)) r rs (All-head P (spell r.0) (words spell rs) all) (each_word P spell rs (All-tail P (spell r.0) (words spell rs) all))
 
   -- the filter passes at each key
-  pub sound_passes : (spell : List ℕ → List ℕ) (rs : List (List ℕ × V)) (filter : Option Filter) → IfSome filter (λ f. IsSoundFor f (words spell rs)) → (kind : MatchKind) → PassesKeys spell (dictionary kind rs) filter
+  pub sound_passes : (spell : List ℕ → List ℕ) (rs : List (List ℕ × V)) (filter : Option Filter) → IfSome filter (λ f. PassesAtPatterns f (words spell rs)) → (kind : MatchKind) → PassesKeys spell (dictionary kind rs) filter
   sound_passes spell rs None sound kind = tt
   sound_passes spell rs (Some f) sound kind = λ k key. key_holds (λ w. admits f (spell w) ≡ true) kind rs (each_word (λ p. admits f p ≡ true) spell rs sound) k key
 

@@ -9,7 +9,7 @@ use Rattle.daachorse_core.specs.declared.errors.Limit.{Limit}
 use Rattle.daachorse_core.specs.declared.errors.Limit.TheVariants.{NumElements, Outputs, OutputPos, PatternValues, StateId}
 use Rattle.daachorse_core.specs.Refusals.{IsRefusal}
 use Rattle.daachorse_model.specs.declared.MatchKind.{MatchKind}
-use Rattle.daachorse_model.specs.Dictionary.{dictionary, kept}
+use Rattle.daachorse_model.specs.Dictionary.{dictionary, kept_registrations}
 use Rattle.daachorse_model.specs.Units.{size}
 use Rattle.daachorse_build.specs.declared.nfa_builder.NfaBuilder.{NfaBuilder}
 use Rattle.daachorse_build.specs.Builders.{Registered, states_of, count_of, kind_of}
@@ -60,8 +60,8 @@ module _ {L V A : Type 0} (cmp : L → L → Ordering) (unit : L → ℕ) (width
   }
 
   -- as many patterns are kept as are counted
-  pub HasTexts-count : (b : NfaBuilder L V A) (rs : List (List ℕ × V)) → HasTexts cmp unit width b rs → count_of b ≡ length (kept (kind_of b) rs)
-  HasTexts-count b rs was = was.registered.count ∙ ap (λ xs. length (kept (kind_of b) xs)) was.units
+  pub HasTexts-count : (b : NfaBuilder L V A) (rs : List (List ℕ × V)) → HasTexts cmp unit width b rs → count_of b ≡ length (kept_registrations (kind_of b) rs)
+  HasTexts-count b rs was = was.registered.count ∙ ap (λ xs. length (kept_registrations (kind_of b) xs)) was.units
 
   -- a pattern with which there are too many prefixes, by its texts
   pub prefixes_more : (b : NfaBuilder L V A) (rs : List (List ℕ × V)) (x : List L) (text : List ℕ) (v : V) → HasTexts cmp unit width b rs → map unit x ≡ text
@@ -88,7 +88,7 @@ module _ {V : Type 0} (width : ℕ → ℕ) (limits : Limits) (kind : MatchKind)
   add_refused before after text value parts fit (OutOfMemory _) long passed much tells refused = tt
 
   -- more patterns are kept than may be, and all of them fit
-  pub count_refused : (n : ℕ) (e : DaachorseError) → n ≡ length (kept kind all) → Fit width kind all → (e ≡ AutomatonScale (record { limit = PatternValues })) × IsSomeAnd limits.patterns (λ m. m < n) → IsRefusalWithin width limits kind all e
+  pub count_refused : (n : ℕ) (e : DaachorseError) → n ≡ length (kept_registrations kind all) → Fit width kind all → (e ≡ AutomatonScale (record { limit = PatternValues })) × IsSomeAnd limits.patterns (λ m. m < n) → IsRefusalWithin width limits kind all e
   count_refused n e count fit refused =
       let P : DaachorseError → Type 0 = λ x. IsRefusalWithin width limits kind all x in
       let Q : ℕ → Type 0 = λ k. IsSomeAnd limits.patterns (λ m. m < k) in
@@ -110,7 +110,7 @@ module _ {V : Type 0} (width : ℕ → ℕ) (limits : Limits) (kind : MatchKind)
   refused_before (OutOfMemory _) refused = tt
 
   -- why the elements are refused is why the build is
-  pub elements_refused : Fit width kind all → IfSome limits.patterns (λ n. length (kept kind all) ≤ n) → (e : DaachorseError) (passed : Type 0) → (passed → IsSomeAnd limits.parents (λ n. HasMoreProperPrefixes (dictionary kind all) n)) → IsRefusal ⊥ NumElements passed e → IsRefusalWithin width limits kind all e
+  pub elements_refused : Fit width kind all → IfSome limits.patterns (λ n. length (kept_registrations kind all) ≤ n) → (e : DaachorseError) (passed : Type 0) → (passed → IsSomeAnd limits.parents (λ n. HasMoreProperPrefixes (dictionary kind all) n)) → IsRefusal ⊥ NumElements passed e → IsRefusalWithin width limits kind all e
   elements_refused fit few (InvalidArgument _) passed tells refused = absurd refused
   elements_refused fit few (AutomatonScale s) passed tells refused =
       rw refused.0 (fit, few, tells refused.1)
@@ -119,8 +119,8 @@ module _ {V : Type 0} (width : ℕ → ℕ) (limits : Limits) (kind : MatchKind)
   elements_refused fit few (OutOfMemory _) passed tells refused = tt
 
 -- why the outputs are refused is why the build is: where the patterns have a limit of their own, there are no more outputs than patterns
-pub outputs_refused : {V : Type 0} (width : ℕ → ℕ) (patterns parents : Option ℕ) (kind : MatchKind) (all : List (List ℕ × V)) → IfSome patterns (λ n. n ≤ 4294967295) → IfSome patterns (λ n. length (kept kind all) ≤ n) → Fit width kind all
-    → (e : DaachorseError) (passed : Type 0) → (passed → 4294967295 < length (kept kind all)) → IsRefusal ⊥ Outputs passed e → IsRefusalWithin width (record { patterns = patterns; parents = parents }) kind all e
+pub outputs_refused : {V : Type 0} (width : ℕ → ℕ) (patterns parents : Option ℕ) (kind : MatchKind) (all : List (List ℕ × V)) → IfSome patterns (λ n. n ≤ 4294967295) → IfSome patterns (λ n. length (kept_registrations kind all) ≤ n) → Fit width kind all
+    → (e : DaachorseError) (passed : Type 0) → (passed → 4294967295 < length (kept_registrations kind all)) → IsRefusal ⊥ Outputs passed e → IsRefusalWithin width (record { patterns = patterns; parents = parents }) kind all e
 outputs_refused width patterns parents kind all low few fit (InvalidArgument _) passed tells refused = absurd refused
 outputs_refused width None parents kind all low few fit (AutomatonScale s) passed tells refused =
     rw refused.0 (fit, refl, tells refused.1)

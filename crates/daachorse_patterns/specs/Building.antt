@@ -6,7 +6,7 @@ use Rattle.daachorse_core.specs.declared.errors.DaachorseError.TheVariants.{Inva
 use Rattle.daachorse_core.specs.declared.errors.Limit.{Limit}
 use Rattle.daachorse_core.specs.declared.errors.Limit.TheVariants.{PatternValues, StateId, NumElements, Outputs, OutputPos}
 use Rattle.daachorse_model.specs.declared.MatchKind.{MatchKind}
-use Rattle.daachorse_model.specs.Dictionary.{Dictionary, dictionary, kept}
+use Rattle.daachorse_model.specs.Dictionary.{Dictionary, dictionary, kept_registrations}
 use Rattle.daachorse_model.specs.Units.{size}
 use Rattle.daachorse_build.specs.declared.nfa_builder.NfaBuilder.{NfaBuilder}
 use Rattle.daachorse_build.specs.Holds.{HasMorePrefixes}
@@ -30,8 +30,8 @@ pub record Fit {V : Type 0} (width : ℕ → ℕ) (kind : MatchKind) (rs : List 
 pub record IsTrieOf {L V A : Type 0} (cmp : L → L → Ordering) (unit : L → ℕ) (width : ℕ → ℕ) (most : Option ℕ) (kind : MatchKind) (rs : List (List ℕ × V)) (b : NfaBuilder L V A) : Type 0 where
   pub built : IsBuilt cmp unit width most kind b (dictionary kind rs)
   pub fit : Fit width kind rs
-  pub outputs : length (kept kind rs) ≤ 4294967295
-  pub few : IfSome most (λ n. length (kept kind rs) ≤ n)
+  pub outputs : length (kept_registrations kind rs) ≤ 4294967295
+  pub few : IfSome most (λ n. length (kept_registrations kind rs) ≤ n)
 
 -- the patterns before r can be added, and r is next
 pub record ComesTo {V : Type 0} (width : ℕ → ℕ) (kind : MatchKind) (rs before : List (List ℕ × V)) (r : List ℕ × V) : Type 0 where
@@ -45,10 +45,10 @@ module _ {V : Type 0} (width : ℕ → ℕ) (limits : Limits) (kind : MatchKind)
   IsPassed StateId =
       (before : List (List ℕ × V)) × (r : List ℕ × V) × ComesTo width kind rs before r × (size width r.0 ≤ 4294967295)
       × HasMorePrefixes (dictionary kind (before ++ r ∷ [])) 4294967295
-  IsPassed PatternValues = Fit width kind rs × IsSomeAnd limits.patterns (λ n. n < length (kept kind rs))
-  IsPassed Outputs = Fit width kind rs × IsNone limits.patterns × (4294967295 < length (kept kind rs))
+  IsPassed PatternValues = Fit width kind rs × IsSomeAnd limits.patterns (λ n. n < length (kept_registrations kind rs))
+  IsPassed Outputs = Fit width kind rs × IsNone limits.patterns × (4294967295 < length (kept_registrations kind rs))
   IsPassed NumElements =
-      Fit width kind rs × IfSome limits.patterns (λ n. length (kept kind rs) ≤ n) × IsSomeAnd limits.parents (λ n. HasMoreProperPrefixes (dictionary kind rs) n)
+      Fit width kind rs × IfSome limits.patterns (λ n. length (kept_registrations kind rs) ≤ n) × IsSomeAnd limits.parents (λ n. HasMoreProperPrefixes (dictionary kind rs) n)
   IsPassed OutputPos = ⊥
 
   -- why a build of patterns with their values refuses

@@ -4,8 +4,8 @@ use Rattle.std.proofs.lemmas.Bool.{cases_order, cases_lt, cases_eq, true≢false
 use Rattle.std.proofs.lemmas.Grind.{get_or-set_at}
 use Rattle.std.proofs.lemmas.List.{get_or_past}
 use Rattle.daachorse_placement.specs.declared.build_helper.elements.Elements.{Elements}
-use Rattle.daachorse_placement.specs.Elements.{Fits, HasBase, HasBlockMore, HasFlagsOf, HasMarked, HasMore, HasPlaced, HasTaken, IsFirstFit, IsFull, IsMapOf, IsPlaceFor, IsWhole, NoneFits, boundary_of, count_in, count_of, is_base, is_used}
-use Rattle.daachorse_placement.specs.Placement.{AreApart, AreLabels, child_of, label_of}
+use Rattle.daachorse_placement.specs.Elements.{Fits, HasBase, HasBlockMore, HasFlagsOf, HasMarked, HasMore, HasPlaced, HasTaken, IsFirstFit, IsFull, IsMapOf, IsPlaceFor, IsWhole, NoneFits, boundary_of, count_in, element_count, is_base, is_used}
+use Rattle.daachorse_placement.specs.Placement.{AreApart, FitInBlock, child_id, label_of}
 use Rattle.std.specs.Int.{IsPowerOfTwo}
 use Rattle.daachorse_placement.proofs.FlagCounts.{count-mono, count-more, count-one}
 use Rattle.daachorse_core.proofs.Xor.{xor_inside, xor_back, xor_range}
@@ -15,12 +15,12 @@ used_set : (used : List Bool) (i k : ℕ) → i < length used → get_or used k 
 used_set used i k h u = elim (cases_eq k i) [ inl e ↦ get_or-set_at used i k true false e h | inr ne ↦ get_or-set_other used i k true false ne ∙ u ]
 
 -- a label leads from an element to an element
-pub child_inside : {A : Type 0} (e : Elements A) (b c : ℕ) → IsWhole e → b < count_of e → c < e.block_len → bit_xor b c < count_of e
+pub child_inside : {A : Type 0} (e : Elements A) (b c : ℕ) → IsWhole e → b < element_count e → c < e.block_len → bit_xor b c < element_count e
 child_inside e b c w inside label =
     let h : b < e.num_blocks * e.block_len = subst (λ (m : ℕ). b < m) w.blocks inside in
     subst (λ (m : ℕ). bit_xor b c < m) (sym w.blocks) (xor_inside e.block_len e.num_blocks b c w.power label h)
 
-pub base_inside : {A : Type 0} (e : Elements A) (b c : ℕ) → IsWhole e → b < count_of e → c < e.block_len → bit_xor b c < length e.used_base.items
+pub base_inside : {A : Type 0} (e : Elements A) (b c : ℕ) → IsWhole e → b < element_count e → c < e.block_len → bit_xor b c < length e.used_base.items
 base_inside e b c w inside label = subst (λ (m : ℕ). bit_xor b c < m) (sym w.bases) (child_inside e b c w inside label)
 
 -- what depends on the flags alone
@@ -30,7 +30,7 @@ used_kept a b k h = ap (λ xs. get_or xs k false) (sym h.used)
 pub base_kept : {A : Type 0} (a b : Elements A) (k : ℕ) → HasFlagsOf a b → is_base b k ≡ is_base a k
 base_kept a b k h = ap (λ xs. get_or xs k false) (sym h.bases)
 
-pub count_kept : {A : Type 0} (a b : Elements A) → HasFlagsOf a b → count_of b ≡ count_of a
+pub count_kept : {A : Type 0} (a b : Elements A) → HasFlagsOf a b → element_count b ≡ element_count a
 count_kept a b h = ap (λ (xs : List Bool). length xs) (sym h.used)
 
 pub boundary_kept : {A : Type 0} (a b : Elements A) → HasFlagsOf a b → boundary_of b ≡ boundary_of a
@@ -53,7 +53,7 @@ pub flags_chain : {A : Type 0} (a b c : Elements A) → HasFlagsOf a b → HasFl
 flags_chain a b c h k = record { used = h.used ∙ k.used; bases = h.bases ∙ k.bases; block = h.block ∙ k.block; blocks = h.blocks ∙ k.blocks; windowed = h.windowed ∙ k.windowed }
 
 -- the first fit that the scan has come to
-pub first_here : {A : Type 0} (a b : Elements A) (cs : List (ℕ × ℕ)) (i : ℕ) → IsWhole b → AreLabels a.block_len cs → 0 < length cs → HasFlagsOf a b → i < count_of b → boundary_of b ≤ i → NoneFits a cs i → HasBase b cs i → IsFirstFit a cs (bit_xor i (label_of cs 0))
+pub first_here : {A : Type 0} (a b : Elements A) (cs : List (ℕ × ℕ)) (i : ℕ) → IsWhole b → FitInBlock a.block_len cs → 0 < length cs → HasFlagsOf a b → i < element_count b → boundary_of b ≤ i → NoneFits a cs i → HasBase b cs i → IsFirstFit a cs (bit_xor i (label_of cs 0))
 first_here a b cs i w labels some h inside low none here =
     let back : bit_xor (bit_xor i (label_of cs 0)) (label_of cs 0) ≡ i = xor_back i (label_of cs 0) in
     let has : HasBase a cs i = has_base_kept a b cs i h here in
@@ -78,14 +78,14 @@ none_more a b cs i j h none here over = λ k low less vacant has. elim (cases_or
 ]
 
 -- a new block has a place for any children
-pub fresh_place : {A : Type 0} (a b : Elements A) (cs : List (ℕ × ℕ)) → IsWhole a → IsWhole b → HasBlockMore a b → 0 < length cs → AreLabels a.block_len cs → IsPlaceFor b cs (bit_xor (count_of a) (label_of cs 0))
+pub fresh_place : {A : Type 0} (a b : Elements A) (cs : List (ℕ × ℕ)) → IsWhole a → IsWhole b → HasBlockMore a b → 0 < length cs → FitInBlock a.block_len cs → IsPlaceFor b cs (bit_xor (element_count a) (label_of cs 0))
 fresh_place a b cs wa wb more some labels =
     let n = a.block_len in
     let q = a.num_blocks in
-    let base = bit_xor (count_of a) (label_of cs 0) in
-    let start : count_of a ≡ q * n = wa.blocks in
+    let base = bit_xor (element_count a) (label_of cs 0) in
+    let start : element_count a ≡ q * n = wa.blocks in
     let pos : n ≤ q * n = grind (arith, wa.some) in
-    let at = xor_range n q (count_of a) (label_of cs 0) wa.power (labels 0 some) (omega arith) (omega (arith, wa.two)) in
+    let at = xor_range n q (element_count a) (label_of cs 0) wa.power (labels 0 some) (omega arith) (omega (arith, wa.two)) in
     record {
       nonzero = λ e. omega (arith, at.0, wa.two, pos, e);
       inside = omega (arith, at.1, start, more.count);
@@ -96,7 +96,7 @@ fresh_place a b cs wa wb more some labels =
     }
 
 -- one child more is at its element
-pub taken_more : {A : Type 0} (a b : Elements A) (cs : List (ℕ × ℕ)) (i base : ℕ) (d : Elements A) → bit_xor base (label_of cs i) < count_of b →
+pub taken_more : {A : Type 0} (a b : Elements A) (cs : List (ℕ × ℕ)) (i base : ℕ) (d : Elements A) → bit_xor base (label_of cs i) < element_count b →
     d.used_index.items ≡ set b.used_index.items (bit_xor base (label_of cs i)) true → d.used_base.items ≡ b.used_base.items → d.block_len ≡ b.block_len → d.num_blocks ≡ b.num_blocks → d.windowed ≡ b.windowed →
     HasTaken a b cs i base → HasTaken a d cs (i + 1) base
 taken_more a b cs i base d inside used bases block blocks windowed t =
@@ -123,15 +123,15 @@ taken_more a b cs i base d inside used bases block blocks windowed t =
       ];
     }
 
-pub map_more : (old new : List ℕ) (cs : List (ℕ × ℕ)) (i base : ℕ) → AreApart cs → i < length cs → child_of cs i < length new → IsMapOf old new cs i base → IsMapOf old (set new (child_of cs i) (bit_xor base (label_of cs i))) cs (i + 1) base
+pub map_more : (old new : List ℕ) (cs : List (ℕ × ℕ)) (i base : ℕ) → AreApart cs → i < length cs → child_id cs i < length new → IsMapOf old new cs i base → IsMapOf old (set new (child_id cs i) (bit_xor base (label_of cs i))) cs (i + 1) base
 map_more old new cs i base apart less inside m =
-    let t = child_of cs i in
+    let t = child_id cs i in
     let x = bit_xor base (label_of cs i) in
     record {
       same = length-set new t x ∙ m.same;
       here = λ j lt. elim (cases_lt j i) [
-        | inl h ↦ get_or-set_other new t (child_of cs j) x 0 (λ e. let w : j ≡ i = apart j i (omega arith) less e in omega arith) ∙ m.here j h
-        | inr h ↦ let e : j ≡ i = omega arith in get_or-set_at new t (child_of cs j) x 0 (ap (λ (n : ℕ). child_of cs n) e) inside ∙ ap (λ (n : ℕ). bit_xor base (label_of cs n)) (sym e)
+        | inl h ↦ get_or-set_other new t (child_id cs j) x 0 (λ e. let w : j ≡ i = apart j i (omega arith) less e in omega arith) ∙ m.here j h
+        | inr h ↦ let e : j ≡ i = omega arith in get_or-set_at new t (child_id cs j) x 0 (ap (λ (n : ℕ). child_id cs n) e) inside ∙ ap (λ (n : ℕ). bit_xor base (label_of cs n)) (sym e)
       ];
       others = λ u h. get_or-set_other new t u x 0 (h i (omega arith)) ∙ m.others u (λ j lt. h j (omega arith));
     }
@@ -144,20 +144,20 @@ pub inside_true : (xs : List Bool) (k : ℕ) → get_or xs k false ≡ true → 
 inside_true xs k h = elim (cases_lt k (length xs)) [ inl lt ↦ lt | inr ge ↦ absurd (true≢false (sym h ∙ past xs k ge)) ]
 
 pub more_used : {A : Type 0} (a b : Elements A) (k : ℕ) → HasMore a b → is_used b k ≡ is_used a k
-more_used a b k h = elim (cases_lt k (count_of a)) [
+more_used a b k h = elim (cases_lt k (element_count a)) [
   | inl lt ↦ h.used k lt
-  | inr ge ↦ elim (cases_lt k (count_of b)) [
+  | inr ge ↦ elim (cases_lt k (element_count b)) [
     | inl lt ↦ h.vacant k ge lt ∙ sym (past a.used_index.items k ge)
     | inr over ↦ past b.used_index.items k over ∙ sym (past a.used_index.items k ge)
   ]
 ]
 
-pub more_bases : {A : Type 0} (a b : Elements A) (k : ℕ) → length a.used_base.items ≡ count_of a → length b.used_base.items ≡ count_of b → HasMore a b → is_base b k ≡ is_base a k
-more_bases a b k la lb h = elim (cases_lt k (count_of a)) [
+pub more_bases : {A : Type 0} (a b : Elements A) (k : ℕ) → length a.used_base.items ≡ element_count a → length b.used_base.items ≡ element_count b → HasMore a b → is_base b k ≡ is_base a k
+more_bases a b k la lb h = elim (cases_lt k (element_count a)) [
   | inl lt ↦ h.bases k lt
   | inr ge ↦
       let old : is_base a k ≡ false = past a.used_base.items k (omega arith) in
-      elim (cases_lt k (count_of b)) [
+      elim (cases_lt k (element_count b)) [
         | inl lt ↦ h.free k ge lt ∙ sym old
         | inr over ↦ past b.used_base.items k (omega arith) ∙ sym old
       ]
@@ -169,7 +169,7 @@ has_placed a b d e cs mark tracked wa wb m p t k =
     let more : (i : ℕ) → is_used b i ≡ is_used a i = λ i. more_used a b i m in
     let base : (i : ℕ) → is_base b i ≡ is_base a i = λ i. more_bases a b i wa.bases wb.bases m in
     let base2 : (i : ℕ) → is_base d i ≡ is_base b i = λ i. ap (λ (xs : List Bool). get_or xs i false) t.bases in
-    let count : count_of e ≡ count_of b = ap (λ (xs : List Bool). length xs) k.used ∙ t.count in
+    let count : element_count e ≡ element_count b = ap (λ (xs : List Bool). length xs) k.used ∙ t.count in
     record {
       count = let h = m.count in omega (arith, h, count);
       block = k.block ∙ (t.block ∙ m.block);
@@ -188,7 +188,7 @@ has_placed a b d e cs mark tracked wa wb m p t k =
     }
 
 -- a group takes one base at most, and one element at least, of the base's block
-pub full_more : {A : Type 0} (a b : Elements A) (cs : List (ℕ × ℕ)) (base : ℕ) (tracked : Bool) → IsWhole b → HasPlaced a b cs base tracked → 0 < length cs → AreLabels a.block_len cs → IsFull a → IsFull b
+pub full_more : {A : Type 0} (a b : Elements A) (cs : List (ℕ × ℕ)) (base : ℕ) (tracked : Bool) → IsWhole b → HasPlaced a b cs base tracked → 0 < length cs → FitInBlock a.block_len cs → IsFull a → IsFull b
 full_more a b cs base tracked w h some labels full =
     subst (λ (n : ℕ). (q : ℕ) → count_in b.used_base.items (q * n) n ≤ count_in b.used_index.items (q * n) n) (sym h.block) (λ q.
     let n = a.block_len in

@@ -6,18 +6,18 @@ use Rattle.daachorse_placement.specs.declared.build_helper.SiblingGroup.{Sibling
 use Rattle.daachorse_placement.specs.declared.build_helper.elements.Elements.{Elements}
 use Rattle.daachorse_placement.specs.Elements.{HasPlaced, IsMapOf, IsWhole, is_base, is_used, layout_of}
 use Rattle.daachorse_placement.specs.Layout.{Layout}
-use Rattle.daachorse_placement.specs.Placement.{AreGroups, IsGroupAt, IsPlaced, child_of, children_of, label_of, parent_of}
+use Rattle.daachorse_placement.specs.Placement.{AreGroups, IsGroupAt, IsPlaced, child_id, children_of, label_of, group_parent}
 use Rattle.daachorse_core.proofs.Xor.{xor_same_left, xor_block}
 
 -- t is one of the first n children, or none of them
-pub find_child : (cs : List (ℕ × ℕ)) (n t : ℕ) → ((j : ℕ) × (j < n) × (t ≡ child_of cs j)) ⊎ ((j : ℕ) → j < n → t ≢ child_of cs j)
+pub find_child : (cs : List (ℕ × ℕ)) (n t : ℕ) → ((j : ℕ) × (j < n) × (t ≡ child_id cs j)) ⊎ ((j : ℕ) → j < n → t ≢ child_id cs j)
 find_child cs zero t = inr (λ j lt. absurd (omega arith))
-find_child cs (suc n) t = elim (cases_eq t (child_of cs n)) [
+find_child cs (suc n) t = elim (cases_eq t (child_id cs n)) [
   | inl e ↦ inl (n, omega arith, e)
   | inr ne ↦ elim (find_child cs n t) [
     | inl (j, lt, e) ↦ inl (j, omega arith, e)
     | inr none ↦ inr (λ j lt. elim (cases_eq j n) [
-      | inl e ↦ subst (λ (m : ℕ). t ≢ child_of cs m) (sym e) ne
+      | inl e ↦ subst (λ (m : ℕ). t ≢ child_id cs m) (sym e) ne
       | inr other ↦ none j (omega arith)
     ])
   ]
@@ -34,16 +34,16 @@ module _ {A : Type 0} (gs : List (SiblingGroup A)) (m : ℕ) (tracked : Bool) (a
     (mp : IsMapOf idx idx2 (children_of gs m) (length (children_of gs m)) base) where
   -- the base of group k, and what callers see, once group m is placed
   abbrev base_after : ℕ → ℕ
-  base_after k = get_or (set bases (parent_of gs m) base) (parent_of gs k) 0
+  base_after k = get_or (set bases (group_parent gs m) base) (group_parent gs k) 0
 
   abbrev layout_after : Layout
-  layout_after = layout_of b idx2 (set bases (parent_of gs m) base)
+  layout_after = layout_of b idx2 (set bases (group_parent gs m) base)
 
-  parent_in : parent_of gs m < length bases
+  parent_in : group_parent gs m < length bases
   parent_in = let q = gr.parents m lt in omega (arith, q, blen)
 
   -- a group before has other children
-  other : (k j i : ℕ) → k < m → j < length (children_of gs k) → i < length (children_of gs m) → child_of (children_of gs k) j ≢ child_of (children_of gs m) i
+  other : (k j i : ℕ) → k < m → j < length (children_of gs k) → i < length (children_of gs m) → child_id (children_of gs k) j ≢ child_id (children_of gs m) i
   other k j i less jl il e = let q = gr.one_group k m j i (omega arith) lt jl il e in omega (arith, q, less)
 
   new_above : (j : ℕ) → j < length (children_of gs m) → 1 < bit_xor base (label_of (children_of gs m) j)
@@ -54,14 +54,14 @@ module _ {A : Type 0} (gs : List (SiblingGroup A)) (m : ℕ) (tracked : Bool) (a
       (λ e. true≢false (sym p.root_used ∙ subst (λ (i : ℕ). get_or a.used_index.items i false ≡ false) e v))
       (λ e. true≢false (sym p.dead_used ∙ subst (λ (i : ℕ). get_or a.used_index.items i false ≡ false) e v))
 
-  base_old : (k : ℕ) → k < m → base_after k ≡ get_or bases (parent_of gs k) 0
-  base_old k less = get_or-set_other bases (parent_of gs m) (parent_of gs k) base 0 (λ e. let q = gr.one_parent k m (omega arith) lt e in omega (arith, q, less))
+  base_old : (k : ℕ) → k < m → base_after k ≡ get_or bases (group_parent gs k) 0
+  base_old k less = get_or-set_other bases (group_parent gs m) (group_parent gs k) base 0 (λ e. let q = gr.one_parent k m (omega arith) lt e in omega (arith, q, less))
 
   base_new : base_after m ≡ base
-  base_new = get_or-set_at bases (parent_of gs m) (parent_of gs m) base 0 refl parent_in
+  base_new = get_or-set_at bases (group_parent gs m) (group_parent gs m) base 0 refl parent_in
 
-  idx_old : (k j : ℕ) → k < m → j < length (children_of gs k) → get_or idx2 (child_of (children_of gs k) j) 0 ≡ get_or idx (child_of (children_of gs k) j) 0
-  idx_old k j less jl = mp.others (child_of (children_of gs k) j) (λ i il. other k j i less jl il)
+  idx_old : (k j : ℕ) → k < m → j < length (children_of gs k) → get_or idx2 (child_id (children_of gs k) j) 0 ≡ get_or idx (child_id (children_of gs k) j) 0
+  idx_old k j less jl = mp.others (child_id (children_of gs k) j) (λ i il. other k j i less jl il)
 
   group_old : (k : ℕ) → k < m → IsGroupAt (children_of gs k) (base_after k) layout_after
   group_old k less =
@@ -71,7 +71,7 @@ module _ {A : Type 0} (gs : List (SiblingGroup A)) (m : ℕ) (tracked : Bool) (a
         inside = let q = g.inside in let r = h.count in omega (arith, q, r);
         at = λ j jl. idx_old k j less jl ∙ g.at j jl;
         above = g.above;
-        together = λ j jl. subst (λ (n : ℕ). bit_xor (get_or bases (parent_of gs k) 0) (label_of (children_of gs k) j) / n ≡ get_or bases (parent_of gs k) 0 / n) (sym h.block) (g.together j jl);
+        together = λ j jl. subst (λ (n : ℕ). bit_xor (get_or bases (group_parent gs k) 0) (label_of (children_of gs k) j) / n ≡ get_or bases (group_parent gs k) 0 / n) (sym h.block) (g.together j jl);
       })
 
   group_new : IsGroupAt (children_of gs m) (base_after m) layout_after
@@ -119,7 +119,7 @@ module _ {A : Type 0} (gs : List (SiblingGroup A)) (m : ℕ) (tracked : Bool) (a
                   let at2 : get_or idx2 v 0 ≡ bit_xor base (label_of (children_of gs m) i) = ap (λ (n : ℕ). get_or idx2 n 0) e2 ∙ mp.here i il in
                   let labels = xor_same_left base (label_of (children_of gs m) j) (label_of (children_of gs m) i) (sym at ∙ (same ∙ at2)) in
                   let ji = gr.distinct m j i lt jl il labels in
-                  e ∙ (ap (λ (n : ℕ). child_of (children_of gs m) n) ji ∙ sym e2)
+                  e ∙ (ap (λ (n : ℕ). child_id (children_of gs m) n) ji ∙ sym e2)
               | inr none ↦
                   let at2 : get_or idx2 v 0 ≡ get_or idx v 0 = mp.others v none in
                   let y : get_or idx v 0 ≡ bit_xor base (label_of (children_of gs m) j) = sym at2 ∙ (sym same ∙ at) in
@@ -156,13 +156,13 @@ module _ {A : Type 0} (gs : List (SiblingGroup A)) (m : ℕ) (tracked : Bool) (a
   ]
 
   -- a base that was taken before is another one
-  not_base : tracked ≡ true → (k : ℕ) → k < m → get_or bases (parent_of gs k) 0 ≢ base
+  not_base : tracked ≡ true → (k : ℕ) → k < m → get_or bases (group_parent gs k) 0 ≢ base
   not_base is_on k less e = true≢false (sym (p.marked is_on k less) ∙ (ap (λ (v : ℕ). get_or a.used_base.items v false) e ∙ h.free))
 
   marked2 : tracked ≡ true → (k : ℕ) → k < m + 1 → is_base b (base_after k) ≡ true
   marked2 is_on k less = elim (cases_eq k m) [
     | inl e ↦ subst (λ (i : ℕ). is_base b (base_after i) ≡ true) (sym e) (subst (λ (v : ℕ). is_base b v ≡ true) (sym base_new) (h.noted is_on))
-    | inr ne ↦ let kl : k < m = omega arith in subst (λ (v : ℕ). is_base b v ≡ true) (sym (base_old k kl)) (h.others (get_or bases (parent_of gs k) 0) (not_base is_on k kl) ∙ p.marked is_on k kl)
+    | inr ne ↦ let kl : k < m = omega arith in subst (λ (v : ℕ). is_base b v ≡ true) (sym (base_old k kl)) (h.others (get_or bases (group_parent gs k) 0) (not_base is_on k kl) ∙ p.marked is_on k kl)
   ]
 
   bases_apart2 : tracked ≡ true → (k l : ℕ) → k < m + 1 → l < m + 1 → base_after k ≡ base_after l → k ≡ l
@@ -191,7 +191,7 @@ module _ {A : Type 0} (gs : List (SiblingGroup A)) (m : ℕ) (tracked : Bool) (a
     owned = owned2;
     apart = apart2;
     rest = λ t tl nz none. let q = mp.same in mp.others t (λ j jl. none m j (omega arith) jl) ∙ p.rest t (omega (arith, tl, q)) nz (λ k j kl jl. none k j (omega arith) jl);
-    parents = λ v vl none. let q = length-set bases (parent_of gs m) base in get_or-set_other bases (parent_of gs m) v base 0 (none m (omega arith)) ∙ p.parents v (omega (arith, vl, q)) (λ k kl. none k (omega arith));
+    parents = λ v vl none. let q = length-set bases (group_parent gs m) base in get_or-set_other bases (group_parent gs m) v base 0 (none m (omega arith)) ∙ p.parents v (omega (arith, vl, q)) (λ k kl. none k (omega arith));
     few = let f = p.few in let g = h.blocks in omega (arith, f, g);
     marked = marked2;
     tracks = tracks2;

@@ -3,11 +3,11 @@ use Rattle.std.specs.Prelude.{◌≡◌, ◌≢◌, ℕ, ◌+◌, ◌*◌, ◌<�
 use Rattle.std.specs.Int.{IsPowerOfTwo}
 use Rattle.daachorse_placement.specs.declared.build_helper.elements.Elements.{Elements}
 use Rattle.daachorse_placement.specs.Layout.{Layout, window_start}
-use Rattle.daachorse_placement.specs.Placement.{label_of, child_of}
+use Rattle.daachorse_placement.specs.Placement.{label_of, child_id}
 
 -- how many elements there are
-abbrev pub count_of : {A : Type 0} → Elements A → ℕ
-count_of e = length e.used_index.items
+abbrev pub element_count : {A : Type 0} → Elements A → ℕ
+element_count e = length e.used_index.items
 
 -- element i holds the root, the dead state or a child; past the end none does
 abbrev pub is_used : {A : Type 0} → Elements A → ℕ → Bool
@@ -27,7 +27,7 @@ layout_of e idx bases =
     record { used = e.used_index.items; marks = e.used_base.items; blocks = e.num_blocks; block = e.block_len; windowed = e.windowed; idx = idx; bases = bases }
 
 -- `next` leads from each element over used ones alone
-pub record IsLinked (used : List Bool) (next : List ℕ) : Type 0 where
+pub record LeadsOverUsed (used : List Bool) (next : List ℕ) : Type 0 where
   pub same : length next ≡ length used
   pub after : (i : ℕ) → i < length used → i < slice_index next i
   pub inside : (i : ℕ) → i < length used → slice_index next i ≤ length used
@@ -38,11 +38,11 @@ pub record IsWhole {A : Type 0} (e : Elements A) : Type 0 where
   pub power : IsPowerOfTwo e.block_len
   pub two : 2 ≤ e.block_len
   pub some : 1 ≤ e.num_blocks
-  pub blocks : count_of e ≡ e.num_blocks * e.block_len
-  pub below : count_of e < 2 ^ 32
-  pub bases : length e.used_base.items ≡ count_of e
-  pub linked : IsLinked e.used_index.items e.next.items
-  pub first : e.first ≤ count_of e
+  pub blocks : element_count e ≡ e.num_blocks * e.block_len
+  pub below : element_count e < 2 ^ 32
+  pub bases : length e.used_base.items ≡ element_count e
+  pub linked : LeadsOverUsed e.used_index.items e.next.items
+  pub first : e.first ≤ element_count e
   pub none : (k : ℕ) → boundary_of e ≤ k → k < e.first → is_used e k ≡ true
 
 -- each child has a vacant element under this base
@@ -71,7 +71,7 @@ NoneFits e cs n =
 -- the base of the first vacant element that has one for the children
 pub record IsFirstFit {A : Type 0} (e : Elements A) (cs : List (ℕ × ℕ)) (base : ℕ) : Type 0 where
   pub nonzero : base ≢ 0
-  pub inside : base < count_of e
+  pub inside : base < element_count e
   pub free : is_base e base ≡ false
   pub fits : Fits e cs base
   pub searched : boundary_of e ≤ bit_xor base (label_of cs 0)
@@ -79,22 +79,22 @@ pub record IsFirstFit {A : Type 0} (e : Elements A) (cs : List (ℕ × ℕ)) (ba
 
 -- one block of vacant elements more
 pub record HasBlockMore {A : Type 0} (a b : Elements A) : Type 0 where
-  pub count : count_of b ≡ count_of a + a.block_len
-  pub used : (k : ℕ) → k < count_of a → is_used b k ≡ is_used a k
-  pub vacant : (k : ℕ) → count_of a ≤ k → k < count_of b → is_used b k ≡ false
-  pub bases : (k : ℕ) → k < count_of a → is_base b k ≡ is_base a k
-  pub free : (k : ℕ) → count_of a ≤ k → k < count_of b → is_base b k ≡ false
+  pub count : element_count b ≡ element_count a + a.block_len
+  pub used : (k : ℕ) → k < element_count a → is_used b k ≡ is_used a k
+  pub vacant : (k : ℕ) → element_count a ≤ k → k < element_count b → is_used b k ≡ false
+  pub bases : (k : ℕ) → k < element_count a → is_base b k ≡ is_base a k
+  pub free : (k : ℕ) → element_count a ≤ k → k < element_count b → is_base b k ≡ false
   pub block : b.block_len ≡ a.block_len
   pub blocks : b.num_blocks ≡ a.num_blocks + 1
   pub windowed : b.windowed ≡ a.windowed
 
 -- at most a block of vacant elements more
 pub record HasMore {A : Type 0} (a b : Elements A) : Type 0 where
-  pub count : count_of a ≤ count_of b
-  pub used : (k : ℕ) → k < count_of a → is_used b k ≡ is_used a k
-  pub vacant : (k : ℕ) → count_of a ≤ k → k < count_of b → is_used b k ≡ false
-  pub bases : (k : ℕ) → k < count_of a → is_base b k ≡ is_base a k
-  pub free : (k : ℕ) → count_of a ≤ k → k < count_of b → is_base b k ≡ false
+  pub count : element_count a ≤ element_count b
+  pub used : (k : ℕ) → k < element_count a → is_used b k ≡ is_used a k
+  pub vacant : (k : ℕ) → element_count a ≤ k → k < element_count b → is_used b k ≡ false
+  pub bases : (k : ℕ) → k < element_count a → is_base b k ≡ is_base a k
+  pub free : (k : ℕ) → element_count a ≤ k → k < element_count b → is_base b k ≡ false
   pub block : b.block_len ≡ a.block_len
   pub blocks : b.num_blocks ≤ a.num_blocks + 1
   pub windowed : b.windowed ≡ a.windowed
@@ -102,13 +102,13 @@ pub record HasMore {A : Type 0} (a b : Elements A) : Type 0 where
 -- a base that is free, with a vacant element for each child
 pub record IsPlaceFor {A : Type 0} (e : Elements A) (cs : List (ℕ × ℕ)) (base : ℕ) : Type 0 where
   pub nonzero : base ≢ 0
-  pub inside : base < count_of e
+  pub inside : base < element_count e
   pub free : is_base e base ≡ false
   pub fits : Fits e cs base
 
 -- the first n children were given their elements under the base
 pub record HasTaken {A : Type 0} (a b : Elements A) (cs : List (ℕ × ℕ)) (n base : ℕ) : Type 0 where
-  pub count : count_of b ≡ count_of a
+  pub count : element_count b ≡ element_count a
   pub block : b.block_len ≡ a.block_len
   pub blocks : b.num_blocks ≡ a.num_blocks
   pub windowed : b.windowed ≡ a.windowed
@@ -129,12 +129,12 @@ pub record HasMarked {A : Type 0} (a b : Elements A) (mark : ℕ) (tracked : Boo
 
 -- the children were given vacant elements under the base, which was free
 pub record HasPlaced {A : Type 0} (a b : Elements A) (cs : List (ℕ × ℕ)) (mark : ℕ) (tracked : Bool) : Type 0 where
-  pub count : count_of a ≤ count_of b
+  pub count : element_count a ≤ element_count b
   pub block : b.block_len ≡ a.block_len
   pub blocks : b.num_blocks ≤ a.num_blocks + 1
   pub windowed : b.windowed ≡ a.windowed
   pub nonzero : mark ≢ 0
-  pub inside : mark < count_of b
+  pub inside : mark < element_count b
   pub vacant : (j : ℕ) → j < length cs → is_used a (bit_xor mark (label_of cs j)) ≡ false
   pub here : (j : ℕ) → j < length cs → is_used b (bit_xor mark (label_of cs j)) ≡ true
   pub kept : (k : ℕ) → is_used a k ≡ true → is_used b k ≡ true
@@ -147,13 +147,13 @@ pub record HasPlaced {A : Type 0} (a b : Elements A) (cs : List (ℕ × ℕ)) (m
 -- the map leads from each of the first n children to its element, and is otherwise as it was
 pub record IsMapOf (old new : List ℕ) (cs : List (ℕ × ℕ)) (n base : ℕ) : Type 0 where
   pub same : length new ≡ length old
-  pub here : (j : ℕ) → j < n → slice_index new (child_of cs j) ≡ bit_xor base (label_of cs j)
-  pub others : (t : ℕ) → ((j : ℕ) → j < n → t ≢ child_of cs j) → slice_index new t ≡ slice_index old t
+  pub here : (j : ℕ) → j < n → slice_index new (child_id cs j) ≡ bit_xor base (label_of cs j)
+  pub others : (t : ℕ) → ((j : ℕ) → j < n → t ≢ child_id cs j) → slice_index new t ≡ slice_index old t
 
 -- one block, where elements 0 and 1 are used
-pub record IsFresh {A : Type 0} (e : Elements A) (len : ℕ) : Type 0 where
+pub record HasOneBlock {A : Type 0} (e : Elements A) (len : ℕ) : Type 0 where
   pub block : e.block_len ≡ len
-  pub count : count_of e ≡ len
+  pub count : element_count e ≡ len
   pub blocks : e.num_blocks ≡ 1
   pub windowed : e.windowed ≡ false
   pub zero : is_used e 0 ≡ true

@@ -9,7 +9,7 @@ ghost use Rattle.std.specs.Int.{IsPowerOfTwo};
 ghost use Rattle.std.specs.List.{list_any};
 ghost use Rattle.daachorse_placement.specs.Layout.{Layout, vacants, vacant_from, IsLeastUnused, AreAllSet};
 ghost use Rattle.daachorse_placement.specs.Placement.{AreBlocksFull, AreGroups, IsPlaced, HasSizes, IsPlaceRefusal, is_light};
-ghost use Rattle.daachorse_placement.specs.Elements.{IsWhole, IsLinked, IsFull, count_of, layout_of};
+ghost use Rattle.daachorse_placement.specs.Elements.{IsWhole, LeadsOverUsed, IsFull, element_count, layout_of};
 
 mod elements;
 mod list_item;
@@ -205,9 +205,9 @@ impl<'a, A: Allocator> Model for VacantIter<'a, A> {
 
     ghost view = { λ v. vacant_from v.elements.now.used_index.items v.idx };
 
-    ghost invariant = { λ v. IsLinked v.elements.now.used_index.items v.elements.now.next.items
-        × (v.idx ≤ count_of v.elements.now)
-        × (count_of v.elements.now < 2 ^ 32) };
+    ghost invariant = { λ v. LeadsOverUsed v.elements.now.used_index.items v.elements.now.next.items
+        × (v.idx ≤ element_count v.elements.now)
+        × (element_count v.elements.now < 2 ^ 32) };
 }
 
 impl<A: Allocator> Iterator for VacantIter<'_, A> {
@@ -286,13 +286,13 @@ fn least_unused<A: Allocator>(elements: &Elements<A>, block_idx: u32) -> Option<
 
 /// The first vacant element from `start` on, or the number of elements.
 fn first_vacant<A: Allocator>(elements: &Elements<A>, start: u32) -> u32
-    requires linked { IsLinked elements.now.used_index.items elements.now.next.items }
-    requires inside { start ≤ count_of elements.now }
-    ensures inside { result ≤ count_of elements.now }
-    ensures one { result < count_of elements.now →
+    requires linked { LeadsOverUsed elements.now.used_index.items elements.now.next.items }
+    requires inside { start ≤ element_count elements.now }
+    ensures inside { result ≤ element_count elements.now }
+    ensures one { result < element_count elements.now →
         vacant_from elements.now.used_index.items start
         ≡ result ∷ vacant_from elements.now.used_index.items (result + 1) }
-    ensures none { count_of elements.now ≤ result →
+    ensures none { element_count elements.now ≤ result →
         (vacant_from elements.now.used_index.items start ≡ [])
         × (vacant_from elements.now.used_index.items result ≡ []) }
 {

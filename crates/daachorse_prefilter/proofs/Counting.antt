@@ -7,7 +7,7 @@ use Rattle.std.proofs.lemmas.Bool.{cases_eq}
 use Rattle.std.proofs.lemmas.Bool.Decides.{nat_tests}
 use Rattle.std.proofs.lemmas.List.Sums.{sum_by-set, sum_by-cons}
 use Rattle.daachorse_model.specs.Filter.{is_clear}
-use Rattle.daachorse_prefilter.specs.Building.{count_clear, AreCounted}
+use Rattle.daachorse_prefilter.specs.Building.{count_clear, ArePairCounts}
 use Rattle.daachorse_prefilter.proofs.ClearBits.{is_clear_ones, is_clear_cleared_same, is_clear_cleared_other}
 use Rattle.daachorse_prefilter.proofs.Marking.{cleared}
 
@@ -25,7 +25,7 @@ one_more after before new old bit count change one sum same = omega arith
 none_more : (after before new old : ℕ) → after + old ≡ before + new → new ≡ old → before ≡ after
 none_more after before new old change same = omega arith
 
-counted_at : (entries counts : List ℕ) (k pair e : ℕ) → k < 8 → length counts ≡ 8 → pair < length entries → e ≡ get_or entries pair 0 → AreCounted entries counts →
+counted_at : (entries counts : List ℕ) (k pair e : ℕ) → k < 8 → length counts ≡ 8 → pair < length entries → e ≡ get_or entries pair 0 → ArePairCounts entries counts →
     (j : ℕ) → j < 8 → (j ≡ k) ⊎ (j ≢ k) → get_or (set counts k (get_or counts k 0 + e / 2 ^ k % 2)) j 0 ≡ count_clear (set entries pair (cleared e k)) j
 counted_at entries counts k pair e h size inside is counted j hj (inl here) =
     ap (λ n. get_or (set counts k (get_or counts k 0 + e / 2 ^ k % 2)) n 0) here
@@ -43,7 +43,7 @@ counted_at entries counts k pair e h size inside is counted j hj (inr other) =
     (sum_by-set (one_if_clear j) entries pair (cleared e k) 0 inside)
     (ap (λ b. cond b 1 0) (is_clear_cleared_other e k j h hj other ∙ ap (λ n. is_clear n j) is))
 
-pub counted_more : (entries counts : List ℕ) (k pair e : ℕ) → k < 8 → length counts ≡ 8 → pair < length entries → e ≡ get_or entries pair 0 → AreCounted entries counts → AreCounted (set entries pair (cleared e k)) (set counts k (get_or counts k 0 + e / 2 ^ k % 2))
+pub counted_more : (entries counts : List ℕ) (k pair e : ℕ) → k < 8 → length counts ≡ 8 → pair < length entries → e ≡ get_or entries pair 0 → ArePairCounts entries counts → ArePairCounts (set entries pair (cleared e k)) (set counts k (get_or counts k 0 + e / 2 ^ k % 2))
 counted_more entries counts k pair e h size inside is counted j hj = counted_at entries counts k pair e h size inside is counted j hj (cases_eq j k)
 
 -- where all bits are set, no pair may stand anywhere
@@ -58,5 +58,5 @@ none_clear (y ∷ ys) all j h =
     rest_only : sum_by (λ b. cond (is_clear b j) 1 0) ys ≡ 0 → 0 + sum_by (λ b. cond (is_clear b j) 1 0) ys ≡ 0
     rest_only e = omega arith
 
-pub counted_start : (items : List ℕ) → AllClonesOf (λ x y. y ≡ x) 255 items → AreCounted items (replicate 8 0)
+pub counted_start : (items : List ℕ) → AllClonesOf (λ x y. y ≡ x) 255 items → ArePairCounts items (replicate 8 0)
 counted_start items all j h = get_or-replicate 8 j 0 0 h ∙ sym (none_clear items all j h)

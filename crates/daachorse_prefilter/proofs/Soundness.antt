@@ -7,7 +7,7 @@ use Rattle.std.proofs.lemmas.List.Elements.{All-from_get_or}
 use Rattle.std.proofs.lemmas.List.Folds.{list_any_at}
 use Rattle.daachorse_model.specs.Filter.{is_clear, pairs_pass, passes, has_pair}
 use Rattle.daachorse_prefilter.specs.Filters.{Filter}
-use Rattle.daachorse_prefilter.specs.Building.{window_len, first_entries, filter_of, is_sparse, is_worth, made_of}
+use Rattle.daachorse_prefilter.specs.Building.{window_len, first_entries, filter_of, is_sparse, is_worth, built_filter}
 use Rattle.daachorse_prefilter.specs.Builders.{AreMarked, is_nil}
 use Rattle.daachorse_prefilter.proofs.ClearBits.{is_clear_zero}
 use Rattle.daachorse_prefilter.proofs.NextPlaces.{pairs_pass_more}
@@ -59,15 +59,15 @@ sound entries patterns m size is low marked =
         rw fits (pairs_pass_all (λ pair. get_or entries pair 0) p (m - 1) (omega arith)
         (λ j l. own_clear entries patterns i j (pair_at p j) size marked h (omega arith) (has_own p j (omega arith) (omega arith))))
 
-some_made : (patterns : List (List ℕ)) → is_nil patterns ≡ false → is_worth (filter_of patterns) ≡ true → Some (filter_of patterns) ≡ made_of patterns
+some_made : (patterns : List (List ℕ)) → is_nil patterns ≡ false → is_worth (filter_of patterns) ≡ true → Some (filter_of patterns) ≡ built_filter patterns
 some_made [] e worth = cc
 some_made (p ∷ patterns) e worth = rw worth refl
 
-none_made : (patterns : List (List ℕ)) → is_worth (filter_of patterns) ≡ false → None ≡ made_of patterns
+none_made : (patterns : List (List ℕ)) → is_worth (filter_of patterns) ≡ false → None ≡ built_filter patterns
 none_made [] worth = refl
 none_made (p ∷ patterns) worth = rw worth refl
 
-pub none_empty : (patterns : List (List ℕ)) → is_nil patterns ≡ true → None ≡ made_of patterns
+pub none_empty : (patterns : List (List ℕ)) → is_nil patterns ≡ true → None ≡ built_filter patterns
 none_empty [] e = refl
 none_empty (p ∷ patterns) e = cc
 
@@ -75,13 +75,13 @@ none_empty (p ∷ patterns) e = cc
 same_filter : (entries : List ℕ) (patterns : List (List ℕ)) (m : ℕ) → m ≡ window_len patterns → entries ≡ first_entries patterns 65536 → let f : Filter = record { window = m; entries = entries } in f ≡ filter_of patterns
 same_filter entries patterns m is same = rw (is, same) refl
 
-pub none_dense : (entries : List ℕ) (patterns : List (List ℕ)) (m : ℕ) → length entries ≡ 65536 → ((k : ℕ) → get_or entries k 0 < 2 ^ 8) → m ≡ window_len patterns → AreMarked entries patterns → is_sparse entries (m - 1) ≡ false → None ≡ made_of patterns
+pub none_dense : (entries : List ℕ) (patterns : List (List ℕ)) (m : ℕ) → length entries ≡ 65536 → ((k : ℕ) → get_or entries k 0 < 2 ^ 8) → m ≡ window_len patterns → AreMarked entries patterns → is_sparse entries (m - 1) ≡ false → None ≡ built_filter patterns
 none_dense entries patterns m size bytes is marked dense =
     let same = entries_are patterns entries size bytes marked in
     let worth : is_sparse (first_entries patterns 65536) (window_len patterns - 1) ≡ false = rw (← same, ← is) dense in
     none_made patterns (and_right (nat_le 2 (window_len patterns)) _ worth)
 
-pub some_sparse : (entries : List ℕ) (patterns : List (List ℕ)) (m : ℕ) → length entries ≡ 65536 → ((k : ℕ) → get_or entries k 0 < 2 ^ 8) → is_nil patterns ≡ false → m ≡ window_len patterns → 2 ≤ m → AreMarked entries patterns → is_sparse entries (m - 1) ≡ true → let f : Filter = record { window = m; entries = entries } in Some f ≡ made_of patterns
+pub some_sparse : (entries : List ℕ) (patterns : List (List ℕ)) (m : ℕ) → length entries ≡ 65536 → ((k : ℕ) → get_or entries k 0 < 2 ^ 8) → is_nil patterns ≡ false → m ≡ window_len patterns → 2 ≤ m → AreMarked entries patterns → is_sparse entries (m - 1) ≡ true → let f : Filter = record { window = m; entries = entries } in Some f ≡ built_filter patterns
 some_sparse entries patterns m size bytes some is low marked sparse =
     let same = entries_are patterns entries size bytes marked in
     let worth : is_sparse (first_entries patterns 65536) (window_len patterns - 1) ≡ true = rw (← same, ← is) sparse in

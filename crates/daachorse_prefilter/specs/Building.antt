@@ -22,8 +22,8 @@ abbrev pub count_clear : List ℕ → ℕ → ℕ
 count_clear entries j = count_by (λ e. is_clear e j) entries
 
 -- the counts of the first 8 places
-abbrev pub AreCounted : List ℕ → List ℕ → Type 0
-AreCounted entries counts = (j : ℕ) → j < 8 → slice_index counts j ≡ count_clear entries j
+abbrev pub ArePairCounts : List ℕ → List ℕ → Type 0
+ArePairCounts entries counts = (j : ℕ) → j < 8 → slice_index counts j ≡ count_clear entries j
 
 -- in how many ways k pairs may follow one another, were each chosen by itself
 abbrev pub count_ways : List ℕ → ℕ → ℕ
@@ -39,6 +39,6 @@ abbrev pub is_worth : Filter → Bool
 is_worth f = nat_le 2 f.window && is_sparse f.entries (f.window - 1)
 
 -- the filter of the patterns, where there is a pattern and the filter is worth its run
-abbrev pub made_of : List (List ℕ) → Option Filter
-made_of [] = None
-made_of (p ∷ patterns) = let f = filter_of (p ∷ patterns) in if is_worth f then Some f else None
+abbrev pub built_filter : List (List ℕ) → Option Filter
+built_filter [] = None
+built_filter (p ∷ patterns) = let f = filter_of (p ∷ patterns) in if is_worth f then Some f else None

@@ -28,8 +28,8 @@ pub record IsFilter (f : Filter) : Type 0 where
   pub sized : length f.entries ≡ 65536
 
 -- the filter passes at the beginning of each pattern, which is at least as long as the window
-abbrev pub IsSoundFor : Filter → List (List ℕ) → Type 0
-IsSoundFor f patterns = All (λ p. admits f p ≡ true) patterns
+abbrev pub PassesAtPatterns : Filter → List (List ℕ) → Type 0
+PassesAtPatterns f patterns = All (λ p. admits f p ≡ true) patterns
 
 -- the filter, if there is one, passes at the beginning of each key: `spell` gives the bytes of a text
 abbrev pub PassesKeys : {V : Type 0} → (List ℕ → List ℕ) → Dictionary V → Option Filter → Type 0

@@ -10,7 +10,7 @@ use Rattle.daachorse_model.specs.declared.MatchKind.TheVariants.{Standard, Leftm
 use Rattle.daachorse_model.specs.Units.{size}
 use Rattle.daachorse_model.specs.Dictionary.{Dictionary}
 use Rattle.daachorse_model.specs.Laws.{IsOccurrence}
-use Rattle.daachorse_model.specs.Leftmost.{given, is_after, keyed, leftmost, leftmost_from, longest_key, units_to_skip}
+use Rattle.daachorse_model.specs.Leftmost.{match_at, is_after, key_with_value, leftmost, leftmost_from, longest_key, units_to_skip}
 use Rattle.daachorse_model.specs.Matches.{at_each_end, empty_matches, ending_at, matches_after, matches_of, overlapping, standard, standard_from}
 use Rattle.daachorse_model.proofs.Complete.{overlapping_complete}
 use Rattle.daachorse_model.proofs.Find.{leftmost_occur, standard_occur}
@@ -52,7 +52,7 @@ module _ {V : Type 0} (width : ℕ → ℕ) (K : Dictionary V) where
 
   -- ---- leftmost
 
-  none_keyed : (t : List ℕ) → keyed K t ≡ None → K t ≡ []
+  none_keyed : (t : List ℕ) → key_with_value K t ≡ None → K t ≡ []
   none_keyed t e = from (K t) refl e
     where
       from : (vs : List V) → K t ≡ vs → option_map {U = List ℕ × V} (λ v. (t, v)) (slice_get vs 0) ≡ None → K t ≡ []
@@ -61,22 +61,22 @@ module _ {V : Type 0} (width : ℕ → ℕ) (K : Dictionary V) where
 
   none_here : (t w : List ℕ) → longest_key K t w ≡ None → K t ≡ []
   none_here t [] e = none_keyed t e
-  none_here t (u ∷ w) e = none_keyed t (none_either (longest_key K (t ++ u ∷ []) w) (keyed K t) e).1
+  none_here t (u ∷ w) e = none_keyed t (none_either (longest_key K (t ++ u ∷ []) w) (key_with_value K t) e).1
 
   some_key : (t key after : List ℕ) (v : V) → Contains (K (t ++ key)) v → longest_key K t (key ++ after) ≢ None
   some_key t [] after v has none = not-contained (K (t ++ [])) v (ap K (append-nil t) ∙ none_here t after none) has
   some_key t (u ∷ key) after v has none =
       some_key (t ++ u ∷ []) key after v (subst (λ x. Contains (K x) v) (sym (append_assoc t (u ∷ []) key)) has)
-      (none_either (longest_key K (t ++ u ∷ []) (key ++ after)) (keyed K t) none).0
+      (none_either (longest_key K (t ++ u ∷ []) (key ++ after)) (key_with_value K t) none).0
 
-  none_given : (s : ℕ) (best : Option (List ℕ × V)) → given width s false best ≡ [] → best ≡ None
+  none_given : (s : ℕ) (best : Option (List ℕ × V)) → match_at width s false best ≡ [] → best ≡ None
   none_given s None e = refl
   none_given s (Some ([], v)) e = cc
   none_given s (Some (c ∷ p, v)) e = cc
 
   none_best : (s : ℕ) (w : List ℕ) → leftmost_from width K s zero false w ≡ [] → longest_key K [] w ≡ None
   none_best s [] e = none_given s (longest_key K [] []) e
-  none_best s (u ∷ w) e = none_given s (longest_key K [] (u ∷ w)) (no_front (given width s false (longest_key K [] (u ∷ w))) _ e)
+  none_best s (u ∷ w) e = none_given s (longest_key K [] (u ∷ w)) (no_front (match_at width s false (longest_key K [] (u ∷ w))) _ e)
 
   none_leftmost : (s : ℕ) (before key after : List ℕ) (v : V) → Contains (K key) v → leftmost_from width K s zero false (before ++ (key ++ after)) ≢ []
   none_leftmost s [] key after v has e = some_key [] key after v has (none_best s (key ++ after) e)
@@ -84,7 +84,7 @@ module _ {V : Type 0} (width : ℕ → ℕ) (K : Dictionary V) where
       let w = before ++ (key ++ after) in
       let best = longest_key K [] (u ∷ w) in
       let none : best ≡ None = none_best s (u ∷ w) e in
-      let later = no_back (given width s false best) _ e in
+      let later = no_back (match_at width s false best) _ e in
       none_leftmost (s + width u) before key after v has (subst (λ b. leftmost_from width K (s + width u) (units_to_skip b) (is_after false b) w ≡ []) none later)
 
   leftmost_none : (h : List ℕ) → leftmost width K h ≡ [] → overlapping width K h ≡ []

@@ -8,7 +8,7 @@ use Rattle.std.specs.Iterator.{AlwaysYields, Yields}
 use Rattle.std.specs.Prelude.{slice_range}
 use Rattle.daachorse_model.specs.declared.Match.{Match}
 use Rattle.daachorse_model.specs.Matches.{last_end}
-use Rattle.daachorse_replacing.specs.Replaced.{AreParts, replaced, replaced_from}
+use Rattle.daachorse_replacing.specs.Replaced.{AreParts, with_replacements, with_replacements_from}
 
 -- ---- what an iterator gives
 
@@ -65,24 +65,24 @@ module _ {V : Type 0} (with : Match V → List ℕ) (bytes : List ℕ) where
   replaced_before-next s (m ∷ ms) x place at =
       ap (λ l. slice_range bytes s m.start ++ (with m ++ l)) (replaced_before-next m.end ms x place at) ∙ simp append_assoc refl
 
-  pub replaced-split : (s : ℕ) (xs ys : List (Match V)) → replaced_from with bytes s (xs ++ ys) ≡ replaced_before s xs ++ replaced_from with bytes (last_end s xs) ys
-  replaced-split s [] ys = refl
-  replaced-split s (m ∷ ms) ys = ap (λ l. slice_range bytes s m.start ++ (with m ++ l)) (replaced-split m.end ms ys) ∙ simp append_assoc refl
+  pub with_replacements-split : (s : ℕ) (xs ys : List (Match V)) → with_replacements_from with bytes s (xs ++ ys) ≡ replaced_before s xs ++ with_replacements_from with bytes (last_end s xs) ys
+  with_replacements-split s [] ys = refl
+  with_replacements-split s (m ∷ ms) ys = ap (λ l. slice_range bytes s m.start ++ (with m ++ l)) (with_replacements-split m.end ms ys) ∙ simp append_assoc refl
 
   -- the last piece is what is left
-  pub replaced_whole : (xs all : List (Match V)) (place end : ℕ) → all ≡ xs → place ≡ last_end 0 xs → end ≡ length bytes → replaced with bytes all ≡ replaced_before 0 xs ++ slice_range bytes place end
+  pub replaced_whole : (xs all : List (Match V)) (place end : ℕ) → all ≡ xs → place ≡ last_end 0 xs → end ≡ length bytes → with_replacements with bytes all ≡ replaced_before 0 xs ++ slice_range bytes place end
   replaced_whole xs all place end is at e =
-      ap (λ l. replaced_from with bytes 0 l) (is ∙ sym (append-nil xs)) ∙ replaced-split 0 xs []
+      ap (λ l. with_replacements_from with bytes 0 l) (is ∙ sym (append-nil xs)) ∙ with_replacements-split 0 xs []
       ∙ ap (λ l. replaced_before 0 xs ++ l) (ap (λ n. drop n bytes) (sym at) ∙ sym (take_rest bytes place) ∙ ap (λ n. take (n - place) (drop place bytes)) (sym e))
 
   -- the piece up to the next match, the match's replacement, and what comes behind
   pub replaced_next : (xs : List (Match V)) (x : Match V) (rest all : List (Match V)) (place : ℕ) → all ≡ xs ++ x ∷ rest → place ≡ last_end 0 xs
-      → replaced with bytes all ≡ replaced_before 0 xs ++ (slice_range bytes place x.start ++ (with x ++ replaced_from with bytes x.end rest))
+      → with_replacements with bytes all ≡ replaced_before 0 xs ++ (slice_range bytes place x.start ++ (with x ++ with_replacements_from with bytes x.end rest))
   replaced_next xs x rest all place is at =
-      ap (λ l. replaced_from with bytes 0 l) is ∙ replaced-split 0 xs (x ∷ rest)
-      ∙ ap (λ n. replaced_before 0 xs ++ (slice_range bytes n x.start ++ (with x ++ replaced_from with bytes x.end rest))) (sym at)
+      ap (λ l. with_replacements_from with bytes 0 l) is ∙ with_replacements-split 0 xs (x ∷ rest)
+      ∙ ap (λ n. replaced_before 0 xs ++ (slice_range bytes n x.start ++ (with x ++ with_replacements_from with bytes x.end rest))) (sym at)
 
   -- the same, where the piece up to the match went out
   pub replaced_found : (xs : List (Match V)) (x : Match V) (rest all : List (Match V)) (place : ℕ) → all ≡ xs ++ x ∷ rest → place ≡ last_end 0 xs
-      → replaced with bytes all ≡ (replaced_before 0 xs ++ slice_range bytes place x.start) ++ (with x ++ replaced_from with bytes x.end rest)
+      → with_replacements with bytes all ≡ (replaced_before 0 xs ++ slice_range bytes place x.start) ++ (with x ++ with_replacements_from with bytes x.end rest)
   replaced_found xs x rest all place is at = replaced_next xs x rest all place is at ∙ sym (append_assoc (replaced_before 0 xs) (slice_range bytes place x.start) _)

@@ -5,13 +5,13 @@ use Rattle.daachorse_model.specs.declared.Match.{Match}
 
 module _ {V : Type 0} (with : Match V → List ℕ) (bytes : List ℕ) where
   -- what comes of the bytes from s on, where these matches are left
-  abbrev pub replaced_from : ℕ → List (Match V) → List ℕ
-  replaced_from s [] = drop s bytes
-  replaced_from s (m ∷ ms) = slice_range bytes s m.start ++ (with m ++ replaced_from m.end ms)
+  abbrev pub with_replacements_from : ℕ → List (Match V) → List ℕ
+  with_replacements_from s [] = drop s bytes
+  with_replacements_from s (m ∷ ms) = slice_range bytes s m.start ++ (with m ++ with_replacements_from m.end ms)
 
   -- the bytes with each match replaced by what `with` says of it
-  abbrev pub replaced : List (Match V) → List ℕ
-  replaced ms = replaced_from 0 ms
+  abbrev pub with_replacements : List (Match V) → List ℕ
+  with_replacements ms = with_replacements_from 0 ms
 
 -- what a replacement gives for a match and the part of the haystack that it is has the bytes that `with` says of the match
 abbrev pub Replaces : {V P : Type 0} → (P → List ℕ) → List ℕ → (Match V → P → P → Type 0) → (Match V → List ℕ) → Type 0
@@ -19,7 +19,7 @@ Replaces bytes haystack gives with = (m : Match _) (part given : _) → bytes pa
 
 -- Q of the haystack with each of these matches replaced by what the replacement gives, where some `with` says that
 abbrev pub OfReplaced : {V P : Type 0} → (P → List ℕ) → List ℕ → (Match V → P → P → Type 0) → List (Match V) → (List ℕ → Type 0) → Type 0
-OfReplaced bytes haystack gives matches Q = (with : Match _ → List ℕ) → Replaces bytes haystack gives with → Q (replaced with haystack matches)
+OfReplaced bytes haystack gives matches Q = (with : Match _ → List ℕ) → Replaces bytes haystack gives with → Q (with_replacements with haystack matches)
 
 -- known bytes grow by a beginning of the text
 abbrev pub AppendsBeginning : Option (List ℕ) → Option (List ℕ) → List ℕ → Type 0

@@ -12,7 +12,7 @@ use Rattle.daachorse_model.specs.Dictionary.{Dictionary}
 use Rattle.daachorse_model.proofs.Steps.{IsLong-same}
 use Rattle.daachorse_model.proofs.Lists.{below_or_at}
 use Rattle.daachorse_search.proofs.LookLemmas.{StepEnds-long}
-use Rattle.daachorse_rows.specs.Rows.{state_at, RowTable, IsEntry, StandsFor, IsSlotOf, AreSlots, Leads, AreLabels, AreRows, Stands, AreChosen, AreClosed, AreCovered, AreStepped, Covers, IsSlot, AreWritten, MayClose, stands_by}
+use Rattle.daachorse_rows.specs.Rows.{state_at, RowTable, IsSlotEntry, StandsFor, IsSlotOf, AreSlots, StepLeads, AreLabels, AreRows, Stands, AreChosen, AreClosed, AreCovered, AreStepped, Covers, IsSlot, AreWritten, MayClose, stands_by}
 use Rattle.daachorse_rows.proofs.RowLaws.{place_behind, state_at-slot}
 
 -- what is read of a list to which one item was added
@@ -75,8 +75,8 @@ slot_some labels label slot (inr (is, none)) = (0, omega (arith, is))
 
 -- ---- entries
 
-pub IsEntry-map : (P Q : ℕ → Type 0) (A B : Type 0) (entry : ℕ) → IsEntry P A entry → ((x : ℕ) → P x → Q x) → (A → B) → IsEntry Q B entry
-IsEntry-map P Q A B entry h there quiet = record {
+pub IsSlotEntry-map : (P Q : ℕ → Type 0) (A B : Type 0) (entry : ℕ) → IsSlotEntry P A entry → ((x : ℕ) → P x → Q x) → (A → B) → IsSlotEntry Q B entry
+IsSlotEntry-map P Q A B entry h there quiet = record {
   place = h.place;
   stands_for = there h.place h.stands_for;
   small = h.small;
@@ -206,29 +206,29 @@ module _ {V : Type 0} (K : Dictionary V) (reached : ℕ → Type 0) (text : ℕ 
   }
 
   -- the entry of a state whose outputs begin at this position
-  entry_first : (s v : ℕ) (o : Option NonZeroU32) → IsEntry (λ x. Stands order width base x s) (o ≡ None) v → first (text s) o → IsEntry (λ x. Stands order width base x s) (first (text s) None) v
+  entry_first : (s v : ℕ) (o : Option NonZeroU32) → IsSlotEntry (λ x. Stands order width base x s) (o ≡ None) v → first (text s) o → IsSlotEntry (λ x. Stands order width base x s) (first (text s) None) v
   entry_first s v o entry at =
       let P : Option NonZeroU32 → Type 0 = λ p. first (text s) p in
-      IsEntry-map (λ x. Stands order width base x s) (λ x. Stands order width base x s) (o ≡ None) (first (text s) None) v entry (λ x there. there) (λ none. subst P none at)
+      IsSlotEntry-map (λ x. Stands order width base x s) (λ x. Stands order width base x s) (o ≡ None) (first (text s) None) v entry (λ x there. there) (λ none. subst P none at)
 
   module _ (named : AreLabels K stands labels) where
     foreign : (label unit : ℕ) → label < 510 → stands label unit → ((k : ℕ) → k < length labels → slice_index labels k ≢ label) → IsForeign K unit
     foreign label unit byte coded none = elim (named.all label unit byte coded) [ inl f ↦ f | inr at ↦ absurd (none at.0 at.1 at.2) ]
 
     -- the labels that are not listed lead to the root
-    pub slot_foreign : (k v s : ℕ) (o : Option NonZeroU32) → IsEntry (λ x. Stands order width base x s) (o ≡ None) v → first (text s) o → reached s → text s ≡ [] → Slot k 1 v
+    pub slot_foreign : (k v s : ℕ) (o : Option NonZeroU32) → IsSlotEntry (λ x. Stands order width base x s) (o ≡ None) v → first (text s) o → reached s → text s ≡ [] → Slot k 1 v
     slot_foreign k v s o entry at there empty = (s, entry_first s v o entry at, leads, λ _. empty)
       where
-        leads : (label : ℕ) → label < 510 → IsSlotOf labels label 1 → Leads K reached text dead stands first (slice_index order k) label s
+        leads : (label : ℕ) → label < 510 → IsSlotOf labels label 1 → StepLeads K reached text dead stands first (slice_index order k) label s
         leads label byte (inl (j, below, here, is)) = absurd (omega (arith, is))
         leads label byte (inr (is, none)) = record { is_state = there; ends = λ unit coded. inl (foreign label unit byte coded none, empty) }
 
     -- a listed label leads to where the step ends
-    pub slot_step : (k c j v t : ℕ) (o : Option NonZeroU32) → c ≡ 2 + j → IsEntry (λ x. Stands order width base x t) (o ≡ None) v → first (text t) o → reached t
+    pub slot_step : (k c j v t : ℕ) (o : Option NonZeroU32) → c ≡ 2 + j → IsSlotEntry (λ x. Stands order width base x t) (o ≡ None) v → first (text t) o → reached t
         → ((unit : ℕ) → stands (slice_index labels j) unit → StepEnds K dead (text (slice_index order k)) unit (text t)) → Slot k c v
     slot_step k c j v t o at entry told there ends = let P : ℕ → Type 0 = λ x. Slot k x v in subst P (let e : suc (suc j) ≡ c = omega (arith, at) in e) (t, entry_first t v o entry told, leads, λ none. absurd (omega (arith, none)))
       where
-        leads : (label : ℕ) → label < 510 → IsSlotOf labels label (suc (suc j)) → Leads K reached text dead stands first (slice_index order k) label t
+        leads : (label : ℕ) → label < 510 → IsSlotOf labels label (suc (suc j)) → StepLeads K reached text dead stands first (slice_index order k) label t
         leads label byte (inl (i, below, here, is)) =
             let same : i ≡ j = omega (arith, is) in
             let named_j : slice_index labels j ≡ label = ap (slice_index labels) (sym same) ∙ here in
@@ -273,14 +273,14 @@ module _ {V : Type 0} (K : Dictionary V) (reached : ℕ → Type 0) (text : ℕ 
   }
     where
       right : (k label : ℕ) → k < length order → label < 510 → (c : ℕ) × (slice_index r.classes label ≡ suc c)
-          → (t : ℕ) × IsEntry (λ x. StandsFor r x t) (first (text t) None) (slice_index r.top (k * r.width + slice_index r.classes label)) × Leads K reached text dead stands first (slice_index r.top (k * r.width)) label t
+          → (t : ℕ) × IsSlotEntry (λ x. StandsFor r x t) (first (text t) None) (slice_index r.top (k * r.width + slice_index r.classes label)) × StepLeads K reached text dead stands first (slice_index r.top (k * r.width)) label t
       right k label more less (c, at) =
           let slot : IsSlotOf labels label (slice_index r.classes label) = slots.right label less in
           let P : ℕ → Type 0 = λ x. IsSlotOf labels label x in
-          let Q : ℕ → Type 0 = λ x. IsEntry (λ y. StandsFor r y in_slot.0) (first (text in_slot.0) None) (slice_index r.top (k * r.width + x)) in
-          let R : ℕ → Type 0 = λ x. Leads K reached text dead stands first x label in_slot.0 in
-          let entry : IsEntry (λ y. StandsFor r y in_slot.0) (first (text in_slot.0) None) (slice_index r.top (k * r.width + suc c)) =
-          IsEntry-map (λ y. Stands order r.width (length order * r.width) y in_slot.0) (λ y. StandsFor r y in_slot.0) (first (text in_slot.0) None) (first (text in_slot.0) None) _ in_slot.1 (λ y there. stands_for y in_slot.0 there) (λ q. q) in
+          let Q : ℕ → Type 0 = λ x. IsSlotEntry (λ y. StandsFor r y in_slot.0) (first (text in_slot.0) None) (slice_index r.top (k * r.width + x)) in
+          let R : ℕ → Type 0 = λ x. StepLeads K reached text dead stands first x label in_slot.0 in
+          let entry : IsSlotEntry (λ y. StandsFor r y in_slot.0) (first (text in_slot.0) None) (slice_index r.top (k * r.width + suc c)) =
+          IsSlotEntry-map (λ y. Stands order r.width (length order * r.width) y in_slot.0) (λ y. StandsFor r y in_slot.0) (first (text in_slot.0) None) (first (text in_slot.0) None) _ in_slot.1 (λ y there. stands_for y in_slot.0 there) (λ q. q) in
           (in_slot.0, subst Q (sym at) entry, subst R (sym (at_start k more)) (in_slot.2 label less (subst P at slot)))
         where
           in_slot : IsSlot K reached text dead stands first labels order r.width (length order * r.width) k (suc c) (slice_index r.top (k * r.width + suc c))

@@ -6,7 +6,7 @@ use Rattle.std.proofs.lemmas.Nat.{mul-add-lt}
 use Rattle.daachorse_core.specs.Looks.{StepEnds, LookGives}
 use Rattle.daachorse_core.specs.declared.turns.Look.TheVariants.{Next, Fail}
 use Rattle.daachorse_model.specs.Dictionary.{Dictionary}
-use Rattle.daachorse_rows.specs.Rows.{state_at, RowTable, IsPlace, IsEntry, SharesText, StandsFor, AreClosed, AreRows, Leads}
+use Rattle.daachorse_rows.specs.Rows.{state_at, RowTable, IsPlace, IsSlotEntry, SharesText, StandsFor, AreClosed, AreRows, StepLeads}
 
 -- within the slots it is what is written there
 pub state_at-slot : (top : List ℕ) (x : ℕ) → x < length top → slice_index top x ≡ state_at top x
@@ -57,8 +57,8 @@ module _ {V : Type 0} (K : Dictionary V) (reached : ℕ → Type 0) (text : ℕ 
     -- the step by a label from the state of a row
     pub record IsRowStep (x label entry : ℕ) : Type 0 where
       pub state : ℕ
-      pub tells : IsEntry (λ y. StandsFor r y state) (first (text state) None) entry
-      pub leads : Leads K reached text dead stands first (state_at r.top x) label state
+      pub tells : IsSlotEntry (λ y. StandsFor r y state) (first (text state) None) entry
+      pub leads : StepLeads K reached text dead stands first (state_at r.top x) label state
 
     pub row_step : (x label : ℕ) → IsPlace r x → x < length r.top → label < 510 → IsRowStep x label (slice_index r.top (x + slice_index r.classes label))
     row_step x label (inr behind) within byte = absurd (omega arith)
@@ -66,9 +66,9 @@ module _ {V : Type 0} (K : Dictionary V) (reached : ℕ → Type 0) (text : ℕ 
         let class = slice_index r.classes label in
         let row = h.right k label less byte in
         let same : slice_index r.top (k * r.width + class) ≡ slice_index r.top (x + class) = ap (λ n. slice_index r.top (n + class)) (sym is) in
-        let P : ℕ → Type 0 = λ e. IsEntry (λ y. StandsFor r y row.0) (first (text row.0) None) e in
+        let P : ℕ → Type 0 = λ e. IsSlotEntry (λ y. StandsFor r y row.0) (first (text row.0) None) e in
         let here : slice_index r.top (k * r.width) ≡ state_at r.top x = ap (slice_index r.top) (sym is) ∙ state_at-slot r.top x within in
-        let Q : ℕ → Type 0 = λ s. Leads K reached text dead stands first s label row.0 in
+        let Q : ℕ → Type 0 = λ s. StepLeads K reached text dead stands first s label row.0 in
         record { state = row.0; tells = subst P same row.1; leads = subst Q here row.2 }
 
     -- an entry below 2 ^ 31 is the place of a state with no output

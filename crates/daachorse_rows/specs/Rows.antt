@@ -57,7 +57,7 @@ pub record AreClosed (most : ℕ) (stands : ℕ → ℕ → Type 0) (r : RowTabl
   pub stays : (k label : ℕ) → k < r.count → label < 510 → slice_index r.top (k * r.width + slice_index r.classes label) % 2147483648 < length r.top
 
 -- what a slot holds for a state: a place that stands for it, to which 2 ^ 31 is added, unless the state is quiet
-pub record IsEntry (stands : ℕ → Type 0) (quiet : Type 0) (entry : ℕ) : Type 0 where
+pub record IsSlotEntry (stands : ℕ → Type 0) (quiet : Type 0) (entry : ℕ) : Type 0 where
   pub place : ℕ
   pub stands_for : stands place
   pub small : place < 2147483648
@@ -75,7 +75,7 @@ module _ (labels : List ℕ) where
     pub right : (label : ℕ) → label < n → IsSlotOf label (slice_index classes label)
 
 -- the numbers below n of which something holds are listed, and no others
-pub record AreListed (holds : ℕ → Type 0) (n : ℕ) (listed : List ℕ) : Type 0 where
+pub record IsListOf (holds : ℕ → Type 0) (n : ℕ) (listed : List ℕ) : Type 0 where
   pub few : length listed ≤ n
   pub all : (x : ℕ) → x < n → holds x → (k : ℕ) × (k < length listed) × (slice_index listed k ≡ x)
   pub only : (k : ℕ) → k < length listed → (slice_index listed k < n) × holds (slice_index listed k)
@@ -121,7 +121,7 @@ ClosesOrFills most reached text stands room r = AreClosed most stands r ⊎ ((n 
 -- Of an automaton: `first` says of a text at which position the outputs of its state begin.
 module _ {V : Type 0} (K : Dictionary V) (reached : ℕ → Type 0) (text : ℕ → List ℕ) (dead : List ℕ → Type 0) (stands : ℕ → ℕ → Type 0) (first : List ℕ → Option NonZeroU32 → Type 0) where
   -- the step from the state s by the label ends at the state t
-  pub record Leads (s label t : ℕ) : Type 0 where
+  pub record StepLeads (s label t : ℕ) : Type 0 where
     pub is_state : reached t
     pub ends : (unit : ℕ) → stands label unit → StepEnds K dead (text s) unit (text t)
 
@@ -132,7 +132,7 @@ module _ {V : Type 0} (K : Dictionary V) (reached : ℕ → Type 0) (text : ℕ 
     pub wide : 0 < r.width
     pub classes_size : length r.classes ≡ 510
     pub inside : (label : ℕ) → label < 510 → slice_index r.classes label < r.width
-    pub right : (k label : ℕ) → k < r.count → label < 510 → (t : ℕ) × IsEntry (λ x. StandsFor r x t) (first (text t) None) (slice_index r.top (k * r.width + slice_index r.classes label)) × Leads (slice_index r.top (k * r.width)) label t
+    pub right : (k label : ℕ) → k < r.count → label < 510 → (t : ℕ) × IsSlotEntry (λ x. StandsFor r x t) (first (text t) None) (slice_index r.top (k * r.width + slice_index r.classes label)) × StepLeads (slice_index r.top (k * r.width)) label t
     -- in the table of the states' rows 65,535 stands for none
     pub homes : (s : ℕ) → s < length r.homes → slice_index r.homes s ≢ 65535 → (slice_index r.homes s < r.count) × (slice_index r.top (slice_index r.homes s * r.width) ≡ s)
     pub small : (s : ℕ) → reached s → length r.top + s < 2 ^ 32
@@ -193,7 +193,7 @@ module _ {V : Type 0} (K : Dictionary V) (reached : ℕ → Type 0) (text : ℕ 
   abbrev pub IsSlot : ℕ → ℕ → ℕ → Type 0
   IsSlot k zero v = v ≡ slice_index order k
   IsSlot k (suc c) v =
-      (t : ℕ) × IsEntry (λ x. Stands order width base x t) (first (text t) None) v × ((label : ℕ) → label < 510 → IsSlotOf labels label (suc c) → Leads K reached text dead stands first (slice_index order k) label t) × (c ≡ 0 → text t ≡ [])
+      (t : ℕ) × IsSlotEntry (λ x. Stands order width base x t) (first (text t) None) v × ((label : ℕ) → label < 510 → IsSlotOf labels label (suc c) → StepLeads K reached text dead stands first (slice_index order k) label t) × (c ≡ 0 → text t ≡ [])
 
   -- k rows were written, and c slots of the next
   pub record AreWritten (k c : ℕ) (top : List ℕ) : Type 0 where

@@ -6,7 +6,7 @@
 
 ghost use Rattle.std.specs.Prelude.{◌≡◌, ◌⊎◌, ◌*◌, ◌+◌, ◌/◌, ◌<◌, ◌≤◌, ◌^◌, ℕ, [], true, false, length, map, slice_index, IfOk, MatchOption, OnOk, None};
 ghost use Rattle.daachorse_core.specs.Looks.{IsFirstOutput};
-ghost use Rattle.daachorse_rows.specs.Rows.{AreChosen, AreCovered, AreHomes, AreLabels, AreOwn, AreShallow, AreSlots, AreStepped, AreTooMany, AreWritten, EndsInRow, GoesOn, HasEnd, IsEntry, IsShallow, IsSlotOf, Stands, stands_by};
+ghost use Rattle.daachorse_rows.specs.Rows.{AreChosen, AreCovered, AreHomes, AreLabels, AreOwn, AreShallow, AreSlots, AreStepped, AreTooMany, AreWritten, EndsInRow, GoesOn, HasEnd, IsSlotEntry, IsShallow, IsSlotOf, Stands, stands_by};
 
 use crate::label::{RowLabel, SLOTTED};
 use daachorse_core::turns::Turns;
@@ -88,7 +88,7 @@ impl<L: Allocator> Chosen<L> {
         requires few { length self.now.order.items * width ≤ 65536 }
         requires wide { 0 < width }
         requires fits { base + state < 2147483648 }
-        ensures { IsEntry (λ x. Stands self.now.order.items width base x state) (position ≡ None) result }
+        ensures { IsSlotEntry (λ x. Stands self.now.order.items width base x state) (position ≡ None) result }
     {
         let place = self.place(base, state, width);
         match position {

@@ -13,7 +13,7 @@ use Rattle.daachorse_model.proofs.Overlap.{take-append}
 use Rattle.daachorse_model.proofs.BestMatches.{leftmost_from-clear, leftmost_from-key, leftmost_from-empty, leftmost_from-last, leftmost_from-none, longest-best, none_starts-best}
 use Rattle.daachorse_search.specs.BestScans.{IsTheBest, IsClear}
 use Rattle.daachorse_search.specs.Filters.{PassesNoneBefore, PassesNowhere, count_passing}
-use Rattle.daachorse_search.specs.LeftmostSearches.{StandsBehind, SkipsUnit, IsSkipped, before_rest, leftmost_left, spare, IsWithin, IsResting}
+use Rattle.daachorse_search.specs.LeftmostSearches.{StandsBehind, SkipsUnit, IsSkipped, before_rest, leftmost_left, spare_turns, IsWithin, IsResting}
 use Rattle.daachorse_search.proofs.FilterLemmas.{none_starts-skipped, count_passing-more, count_passing-most, count_passing-none, count_passing-all}
 
 -- the units that come before the rest
@@ -33,18 +33,18 @@ abbrev pub unless : {V : Type 0} → Bool → Match V → List (Match V)
 unless after m = cond after [] (m ∷ [])
 
 module _ {V : Type 0} (width : ℕ → ℕ) (K : Dictionary V) where
-  within_key : (m : ℕ) (after : Bool) (passed turns later front key given : ℕ) → turns + spare width K m after ≤ 2 * passed + 4 * (m * given) → later ≤ turns + 2 * (front + m + 1) → 0 < key
-      → later + spare width K m true ≤ 2 * (passed + (front + key)) + 4 * (m * (given + 1))
+  within_key : (m : ℕ) (after : Bool) (passed turns later front key given : ℕ) → turns + spare_turns width K m after ≤ 2 * passed + 4 * (m * given) → later ≤ turns + 2 * (front + m + 1) → 0 < key
+      → later + spare_turns width K m true ≤ 2 * (passed + (front + key)) + 4 * (m * (given + 1))
   within_key m true passed turns later front key given was near some = omega (arith, was, near, some, times_one_more m given)
   within_key m false passed turns later front key given was near some = omega (arith, was, near, some, times_one_more m given)
 
-  within_empty : (m : ℕ) (after : Bool) (passed turns later front given : ℕ) → turns + spare width K m after ≤ 2 * passed + 4 * (m * given) → later ≤ turns + 2 * (front + m + 1) → front ≡ 0
-      → later + spare width K m false ≤ 2 * (passed + 1) + 4 * (m * one_unless after given)
+  within_empty : (m : ℕ) (after : Bool) (passed turns later front given : ℕ) → turns + spare_turns width K m after ≤ 2 * passed + 4 * (m * given) → later ≤ turns + 2 * (front + m + 1) → front ≡ 0
+      → later + spare_turns width K m false ≤ 2 * (passed + 1) + 4 * (m * one_unless after given)
   within_empty m true passed turns later front given was near none = omega (arith, was, near, none)
   within_empty m false passed turns later front given was near none = omega (arith, was, near, none, times_one_more m given)
 
-  within_last : (m : ℕ) (after : Bool) (passed turns later given : ℕ) → turns + spare width K m after ≤ 2 * passed + 4 * (m * given) → later ≤ turns
-      → later + spare width K m false ≤ 2 * passed + 4 * (m * one_unless after given)
+  within_last : (m : ℕ) (after : Bool) (passed turns later given : ℕ) → turns + spare_turns width K m after ≤ 2 * passed + 4 * (m * given) → later ≤ turns
+      → later + spare_turns width K m false ≤ 2 * passed + 4 * (m * one_unless after given)
   within_last m true passed turns later given was stays = omega (arith, was, stays)
   within_last m false passed turns later given was stays = omega (arith, was, stays, times_one_more m given)
 

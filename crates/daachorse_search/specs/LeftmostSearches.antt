@@ -41,12 +41,12 @@ module _ {V : Type 0} (width : ℕ → ℕ) (K : Dictionary V) where
   leftmost_left place rest after done = cond done [] (leftmost_from width K place 0 after rest)
 
   -- the turns that the empty match right after a nonempty one may take, which is not given
-  abbrev pub spare : ℕ → Bool → ℕ
-  spare m after = cond after (2 * m) 0
+  abbrev pub spare_turns : ℕ → Bool → ℕ
+  spare_turns m after = cond after (2 * m) 0
 
   -- at most two turns a unit passed, and four times the units of the longest key a match
   abbrev pub IsWithin : ℕ → Bool → ℕ → ℕ → Type 0
-  IsWithin passed after turns given = (m : ℕ) → HasNoLongerKey K m → turns + spare m after ≤ 2 * passed + 4 * (m * given)
+  IsWithin passed after turns given = (m : ℕ) → HasNoLongerKey K m → turns + spare_turns m after ≤ 2 * passed + 4 * (m * given)
 
 module _ {V : Type 0} (width : ℕ → ℕ) (K : Dictionary V) (dead : List ℕ → Type 0) (has_label : ℕ → Bool) (passes : List ℕ → Bool) (asked : Type 0) where
   -- The search goes on where `rest` begins. It asks a filter that passes by `passes`, where `asked` says that it was open at the beginning, and `opened` that it is.

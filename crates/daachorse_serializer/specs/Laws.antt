@@ -18,10 +18,10 @@ use Rattle.std.specs.declared.num.NonZeroU32.{NonZeroU32}
 use Rattle.daachorse_serializer.specs.Kinds.{kind_form, take_kind}
 use Rattle.daachorse_serializer.specs.Modes.{byte_of_mode, mode_of_byte, mode_form, take_mode}
 use Rattle.daachorse_serializer.specs.declared.mode.Mode.{Mode}
-use Rattle.daachorse_serializer.specs.Outputs.{parts_of, output_of, IsOutput, output_form, take_output}
+use Rattle.daachorse_serializer.specs.Outputs.{fields_of, output_from, IsOutput, output_form, take_output}
 use Rattle.daachorse_serializer.specs.declared.intpack.U24nU8.{U24nU8}
 use Rattle.daachorse_serializer.specs.Packed.{word_of, packed_of, packed_form, take_packed}
-use Rattle.daachorse_serializer.specs.Positions.{position_of, position_back, position_form, take_position}
+use Rattle.daachorse_serializer.specs.Positions.{position_from, position_back, position_form, take_position}
 use Rattle.daachorse_serializer.specs.Forms.{Taken, Ends, IsForm, over, then_take, take_if, pair_form, take_pair, number_form, take_number, signed_form, take_signed, option_form, option_most, take_option, take_items, list_form, take_list}
 
 -- ---- numbers
@@ -328,11 +328,11 @@ mode_law = record { reads_back = reads_back; leaves_end = through.leaves_end; fi
 pub output_law : {V : Type 0} {P : V → Type 0} {form : V → List ℕ} {taken : List ℕ → Taken V} {n : ℕ} → IsForm P form taken (λ _. n)
     → IsForm (IsOutput P) (output_form form) (take_output taken) (λ _. n + 8)
 output_law law =
-    law_through output_of parts_of _ (λ o h. (h.0, (h.1, h.2))) (λ o h. refl) (pair_law law (pair_law (number_law w32) (number_law w32)))
+    law_through output_from fields_of _ (λ o h. (h.0, (h.1, h.2))) (λ o h. refl) (pair_law law (pair_law (number_law w32) (number_law w32)))
 
 -- the law of a position, by its number
 pub position_law : IsForm (λ (v : Option NonZeroU32). number v < 2 ^ 32) position_form take_position (λ _. 4)
-position_law = law_through position_of number _ (λ v h. h) (λ v h. position_back v) (number_law w32)
+position_law = law_through position_from number _ (λ v h. h) (λ v h. position_back v) (number_law w32)
 
 pub packed_law : IsForm (λ (p : U24nU8). word_of p < 2 ^ 32) packed_form take_packed (λ _. 4)
 packed_law = law_through packed_of word_of _ (λ p h. h) (λ p h. refl) (number_law w32)

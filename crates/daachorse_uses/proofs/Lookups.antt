@@ -9,7 +9,7 @@ use Rattle.daachorse_model.specs.declared.MatchKind.{MatchKind}
 use Rattle.daachorse_model.specs.declared.MatchKind.TheVariants.{Standard, LeftmostLongest, LeftmostFirst}
 use Rattle.daachorse_model.specs.Dictionary.{Dictionary}
 use Rattle.daachorse_model.specs.Laws.{IsLongestAtStart}
-use Rattle.daachorse_model.specs.Leftmost.{keyed, leftmost, longest_key}
+use Rattle.daachorse_model.specs.Leftmost.{key_with_value, leftmost, longest_key}
 use Rattle.daachorse_model.specs.Matches.{ending_at, matches_after, matches_of}
 use Rattle.daachorse_model.specs.Units.{size, byte_width}
 use Rattle.daachorse_model.proofs.Longest.{leftmost_longest}
@@ -30,7 +30,7 @@ module _ {V : Type 0} (K : Dictionary V) where
       ap (λ l. option_map {U = List ℕ × V} (λ x. (t, x)) (slice_get l 0)) here ∙ ap (λ x. Some (x, v)) (sym (append-nil t))
   longest_whole t (u ∷ w) v vs has =
       let e : (t ++ u ∷ []) ++ w ≡ t ++ u ∷ w = append_assoc t (u ∷ []) w in
-      ap (λ o. option_or o (keyed K t)) (longest_whole (t ++ u ∷ []) w v vs (ap K e ∙ has)) ∙ ap (λ x. Some (x, v)) e
+      ap (λ o. option_or o (key_with_value K t)) (longest_whole (t ++ u ∷ []) w v vs (ap K e ∙ has)) ∙ ap (λ x. Some (x, v)) e
 
   first_whole : (h : List ℕ) (v : V) (vs : List V) → K h ≡ v ∷ vs → slice_get (leftmost byte_width K h) 0 ≡ Some (record { start = 0; end = 0 + size byte_width h; value = v })
   first_whole [] v vs has = rw (longest_whole [] [] v vs has)

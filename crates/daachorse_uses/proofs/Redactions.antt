@@ -22,10 +22,10 @@ use Rattle.daachorse_model.proofs.Steps.{IsLong-nil, IsPrefix-key, IsPrefix-less
 use Rattle.daachorse_model.proofs.Suffixes.{le_or_lt, size-bytes, IsSuffix-as_long, IsSuffix-cons, IsSuffix-length, IsSuffix-of_longer, IsSuffix-of_push, IsSuffix-same, IsSuffix-tail, IsSuffix-through}
 use Rattle.daachorse_search.specs.BestScans.{HasNoLongerKey}
 use Rattle.daachorse_bytewise.specs.Automata.{Automaton, dictionary_of, states_of}
-use Rattle.daachorse_replacing.specs.Replaced.{AppendsBeginning, replaced, replaced_from}
-use Rattle.daachorse_replacing.proofs.Parts.{last_end-next, replaced-split, replaced_before}
+use Rattle.daachorse_replacing.specs.Replaced.{AppendsBeginning, with_replacements, with_replacements_from}
+use Rattle.daachorse_replacing.proofs.Parts.{last_end-next, with_replacements-split, replaced_before}
 use Rattle.daachorse_uses.specs.Covered.{FitsIn}
-use Rattle.daachorse_uses.specs.Redacted.{ReachesBack, redacted}
+use Rattle.daachorse_uses.specs.Redacted.{ReachesBack, redaction}
 use Rattle.daachorse_uses.proofs.Marks.{standard-push, standard_fit}
 use Rattle.daachorse_uses.proofs.Readings.{as_read-nil, as_read-push}
 
@@ -36,17 +36,17 @@ at_any_err (Err e) P p = p
 
 -- of automata with the same states and option, masks and texts that are equal
 redacted_as : {V : Type 0} (a b : Automaton V) (m n x y : List ℕ) → states_of a ≡ states_of b → a.folds ≡ b.folds → m ≡ n → x ≡ y
-    → redacted a.folds (dictionary_of a) m x ≡ redacted b.folds (dictionary_of b) n y
+    → redaction a.folds (dictionary_of a) m x ≡ redaction b.folds (dictionary_of b) n y
 redacted_as a b m n x y states option mask text =
-    ap (λ p. redacted a.folds (dictionary_of (record b { parts = p })) m x) states
-    ∙ ap (λ f. redacted f (dictionary_of b) m x) option
-    ∙ ap (λ k. redacted b.folds (dictionary_of b) k x) mask
-    ∙ ap (redacted b.folds (dictionary_of b) n) text
+    ap (λ p. redaction a.folds (dictionary_of (record b { parts = p })) m x) states
+    ∙ ap (λ f. redaction f (dictionary_of b) m x) option
+    ∙ ap (λ k. redaction b.folds (dictionary_of b) k x) mask
+    ∙ ap (redaction b.folds (dictionary_of b) n) text
 
 -- a redactor's clause on a byte more, in words that do not change while it reads
 pub written_next : (a b : Automaton ℕ) (m n x y read : List ℕ) (u : ℕ) (written held new : List ℕ) → states_of a ≡ states_of b → a.folds ≡ b.folds → m ≡ n → x ≡ y → read ≡ x ++ u ∷ []
-    → ((w : List ℕ) → w ++ held ≡ redacted a.folds (dictionary_of a) m x → w ++ new ≡ redacted a.folds (dictionary_of a) m read)
-    → written ++ held ≡ redacted b.folds (dictionary_of b) n y → written ++ new ≡ redacted b.folds (dictionary_of b) n (y ++ u ∷ [])
+    → ((w : List ℕ) → w ++ held ≡ redaction a.folds (dictionary_of a) m x → w ++ new ≡ redaction a.folds (dictionary_of a) m read)
+    → written ++ held ≡ redaction b.folds (dictionary_of b) n y → written ++ new ≡ redaction b.folds (dictionary_of b) n (y ++ u ∷ [])
 written_next a b m n x y read u written held new states option mask text more next is =
     next written (is ∙ sym (redacted_as a b m n x y states option mask text)) ∙ redacted_as a b m n read (y ++ u ∷ []) states option mask (more ∙ ap (λ l. l ++ u ∷ []) text)
 
@@ -107,8 +107,8 @@ module _ {V : Type 0} where
         ap (λ l. l ++ (with m ++ replaced_before with (bytes ++ more) m.end ms)) (slice_kept bytes more s m.start follow.0 (omega (arith, fits.ordered, fits.within)))
         ∙ ap (λ l. slice_range bytes s m.start ++ (with m ++ l)) (before_kept m.end ms follow.2 (All-tail (FitsIn (length bytes)) m ms all))
 
-  replaced-ends : (with : Match V → List ℕ) (bytes : List ℕ) (ms : List (Match V)) → replaced with bytes ms ≡ replaced_before with bytes 0 ms ++ drop (last_end 0 ms) bytes
-  replaced-ends with bytes ms = ap (replaced_from with bytes 0) (sym (append-nil ms)) ∙ replaced-split with bytes 0 ms []
+  with_replacements-ends : (with : Match V → List ℕ) (bytes : List ℕ) (ms : List (Match V)) → with_replacements with bytes ms ≡ replaced_before with bytes 0 ms ++ drop (last_end 0 ms) bytes
+  with_replacements-ends with bytes ms = ap (with_replacements_from with bytes 0) (sym (append-nil ms)) ∙ with_replacements-split with bytes 0 ms []
 
 -- ---- the longest end that begins a key
 
@@ -214,7 +214,7 @@ module _ {V : Type 0} (K : Dictionary V) where
 
     -- ---- the bytes as they came, which are as many as were read
 
-    module _ (bytes : List ℕ) (b : ℕ) (long : length bytes ≡ length xs) (mask written held : List ℕ) (is : written ++ held ≡ replaced (λ (m : Match V). mask) bytes (standard byte_width K xs)) where
+    module _ (bytes : List ℕ) (b : ℕ) (long : length bytes ≡ length xs) (mask written held : List ℕ) (is : written ++ held ≡ with_replacements (λ (m : Match V). mask) bytes (standard byte_width K xs)) where
       before_same : replaced_before (λ (m : Match V). mask) (bytes ++ b ∷ []) 0 (standard byte_width K xs) ≡ replaced_before (λ (m : Match V). mask) bytes 0 (standard byte_width K xs)
       before_same =
           let fit = subst (λ n. All (FitsIn n) (standard byte_width K xs)) (sym long) (standard_fit K xs) in
@@ -225,18 +225,18 @@ module _ {V : Type 0} (K : Dictionary V) where
       joined =
           let ms = standard byte_width K xs in
           let with = λ (m : Match V). mask in
-          sym (append_assoc written held (b ∷ [])) ∙ ap (λ l. l ++ b ∷ []) (is ∙ replaced-ends with bytes ms) ∙ append_assoc (replaced_before with bytes 0 ms) (drop (last_end 0 ms) bytes) (b ∷ [])
+          sym (append_assoc written held (b ∷ [])) ∙ ap (λ l. l ++ b ∷ []) (is ∙ with_replacements-ends with bytes ms) ∙ append_assoc (replaced_before with bytes 0 ms) (drop (last_end 0 ms) bytes) (b ∷ [])
           ∙ ap (λ l. replaced_before with bytes 0 ms ++ l) (sym (drop-append-le (last_end 0 ms) bytes (b ∷ []) (omega (arith, long, resume_fits xs))))
           ∙ ap (λ l. l ++ drop (last_end 0 ms) (bytes ++ b ∷ [])) (sym before_same)
 
-      redacted-none : None ≡ standard_after byte_width K (xs ++ u ∷ []) → written ++ (held ++ b ∷ []) ≡ replaced (λ (m : Match V). mask) (bytes ++ b ∷ []) (standard byte_width K (xs ++ u ∷ []))
-      redacted-none none =
+      redaction-none : None ≡ standard_after byte_width K (xs ++ u ∷ []) → written ++ (held ++ b ∷ []) ≡ with_replacements (λ (m : Match V). mask) (bytes ++ b ∷ []) (standard byte_width K (xs ++ u ∷ []))
+      redaction-none none =
           let with = λ (m : Match V). mask in
-          joined ∙ sym (replaced-ends with (bytes ++ b ∷ []) (standard byte_width K xs)) ∙ ap (replaced with (bytes ++ b ∷ [])) (sym (same_matches none))
+          joined ∙ sym (with_replacements-ends with (bytes ++ b ∷ []) (standard byte_width K xs)) ∙ ap (with_replacements with (bytes ++ b ∷ [])) (sym (same_matches none))
 
-      redacted-some : (m : Match V) → Some m ≡ standard_after byte_width K (xs ++ u ∷ []) → ReachesBack K xs held
-          → written ++ (take (length (held ++ b ∷ []) - (m.end - m.start)) (held ++ b ∷ []) ++ mask) ≡ replaced (λ (m : Match V). mask) (bytes ++ b ∷ []) (standard byte_width K (xs ++ u ∷ []))
-      redacted-some m some reach =
+      redaction-some : (m : Match V) → Some m ≡ standard_after byte_width K (xs ++ u ∷ []) → ReachesBack K xs held
+          → written ++ (take (length (held ++ b ∷ []) - (m.end - m.start)) (held ++ b ∷ []) ++ mask) ≡ with_replacements (λ (m : Match V). mask) (bytes ++ b ∷ []) (standard byte_width K (xs ++ u ∷ []))
+      redaction-some m some reach =
           let ms = standard byte_width K xs in
           let text = bytes ++ b ∷ [] in
           let with = λ (m : Match V). mask in
@@ -251,7 +251,7 @@ module _ {V : Type 0} (K : Dictionary V) where
           cut ∙ ap (λ n. replaced_before with text 0 ms ++ take n (drop r text)) count in
           sym (append_assoc written _ mask) ∙ ap (λ l. l ++ mask) front ∙ append_assoc (replaced_before with text 0 ms) (slice_range text r m.start) mask
           ∙ ap (λ l. replaced_before with text 0 ms ++ (slice_range text r m.start ++ l)) (sym (append-nil mask) ∙ ap (λ l. mask ++ l) (sym (drop_of_length-le text (omega (arith, ends)))))
-          ∙ sym (replaced-split with text 0 ms (m ∷ [])) ∙ ap (replaced with text) (sym (one_more m some))
+          ∙ sym (with_replacements-split with text 0 ms (m ∷ [])) ∙ ap (with_replacements with text) (sym (one_more m some))
 
   -- ---- what a redactor holds, where the match is the one that ends with the byte, if there is one
 
@@ -278,33 +278,33 @@ module _ {V : Type 0} (K : Dictionary V) where
 
       pub redacted_next : (r : Option (Match V)) → r ≡ standard_after byte_width K (as_read folds (bytes ++ b ∷ [])) → (r ≡ None → new ≡ held ++ b ∷ [])
           → IfSome r (λ m. new ≡ take (length (held ++ b ∷ []) - (m.end - m.start)) (held ++ b ∷ []) ++ mask)
-          → (written : List ℕ) → written ++ held ≡ redacted folds K mask bytes → written ++ new ≡ redacted folds K mask (bytes ++ b ∷ [])
+          → (written : List ℕ) → written ++ held ≡ redaction folds K mask bytes → written ++ new ≡ redaction folds K mask (bytes ++ b ∷ [])
       redacted_next r is none some written before =
-          by r (found_next r is) none some ∙ ap (λ t. replaced (λ (m : Match V). mask) (bytes ++ b ∷ []) (standard byte_width K t)) (sym (as_read-push folds bytes b).1)
+          by r (found_next r is) none some ∙ ap (λ t. with_replacements (λ (m : Match V). mask) (bytes ++ b ∷ []) (standard byte_width K t)) (sym (as_read-push folds bytes b).1)
         where
           long : length bytes ≡ length (as_read folds bytes)
           long = sym (length-as_read folds bytes)
 
           by : (r : Option (Match V)) → r ≡ standard_after byte_width K (as_read folds bytes ++ (as_read-push folds bytes b).0 ∷ []) → (r ≡ None → new ≡ held ++ b ∷ [])
               → IfSome r (λ m. new ≡ take (length (held ++ b ∷ []) - (m.end - m.start)) (held ++ b ∷ []) ++ mask)
-              → written ++ new ≡ replaced (λ (m : Match V). mask) (bytes ++ b ∷ []) (standard byte_width K (as_read folds bytes ++ (as_read-push folds bytes b).0 ∷ []))
-          by None is none some = ap (λ l. written ++ l) (none refl) ∙ redacted-none (as_read folds bytes) (as_read-push folds bytes b).0 bytes b long mask written held before is
-          by (Some m) is none some = ap (λ l. written ++ l) some ∙ redacted-some (as_read folds bytes) (as_read-push folds bytes b).0 bytes b long mask written held before m is reach
+              → written ++ new ≡ with_replacements (λ (m : Match V). mask) (bytes ++ b ∷ []) (standard byte_width K (as_read folds bytes ++ (as_read-push folds bytes b).0 ∷ []))
+          by None is none some = ap (λ l. written ++ l) (none refl) ∙ redaction-none (as_read folds bytes) (as_read-push folds bytes b).0 bytes b long mask written held before is
+          by (Some m) is none some = ap (λ l. written ++ l) some ∙ redaction-some (as_read folds bytes) (as_read-push folds bytes b).0 bytes b long mask written held before m is reach
 
   -- ---- nothing was read
 
   at_begin : standard byte_width K [] ≡ option_to_list (standard_after byte_width K [])
   at_begin = sym (standard-joined byte_width K (λ v. omega arith) [])
 
-  pub begun-none : (folds : Bool) (mask : List ℕ) → None ≡ standard_after byte_width K [] → [] ≡ redacted folds K mask []
-  begun-none folds mask none = sym (ap (replaced (λ (m : Match V). mask) []) (ap (standard byte_width K) (as_read-nil folds) ∙ at_begin ∙ ap option_to_list (sym none)))
+  pub begun-none : (folds : Bool) (mask : List ℕ) → None ≡ standard_after byte_width K [] → [] ≡ redaction folds K mask []
+  begun-none folds mask none = sym (ap (with_replacements (λ (m : Match V). mask) []) (ap (standard byte_width K) (as_read-nil folds) ∙ at_begin ∙ ap option_to_list (sym none)))
 
-  pub begun-some : (folds : Bool) (mask : List ℕ) (m : Match V) → Some m ≡ standard_after byte_width K [] → mask ≡ redacted folds K mask []
+  pub begun-some : (folds : Bool) (mask : List ℕ) (m : Match V) → Some m ≡ standard_after byte_width K [] → mask ≡ redaction folds K mask []
   begun-some folds mask m some =
       let with = λ (m : Match V). mask in
       let fits : ◌≡◌ {A = List ℕ} (slice_range [] 0 m.start) [] = take-nil (m.start - 0) in
       sym (append-nil mask) ∙ ap (λ l. mask ++ l) (sym (drop-nil m.end)) ∙ ap (λ l. l ++ (mask ++ drop m.end [])) (sym fits)
-      ∙ ap (replaced with []) (ap option_to_list some ∙ sym at_begin ∙ ap (standard byte_width K) (sym (as_read-nil folds)))
+      ∙ ap (with_replacements with []) (ap option_to_list some ∙ sym at_begin ∙ ap (standard byte_width K) (sym (as_read-nil folds)))
 
   -- ---- what the depth leaves
 

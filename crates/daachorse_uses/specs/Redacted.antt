@@ -7,12 +7,12 @@ use Rattle.daachorse_model.specs.Matches.{IsSinceMatch, standard}
 use Rattle.daachorse_model.specs.Prefixes.{IsPrefix, IsSuffix}
 use Rattle.daachorse_model.specs.Units.{byte_width}
 use Rattle.daachorse_bytewise.specs.Automata.{Automaton}
-use Rattle.daachorse_replacing.specs.Replaced.{replaced}
+use Rattle.daachorse_replacing.specs.Replaced.{with_replacements}
 
 module _ {V : Type 0} where
   -- the text with the mask in place of each match in it as it is read
-  abbrev pub redacted : Bool → Dictionary V → List ℕ → List ℕ → List ℕ
-  redacted folds K mask text = replaced (λ (m : Match V). mask) text (standard byte_width K (as_read folds text))
+  abbrev pub redaction : Bool → Dictionary V → List ℕ → List ℕ → List ℕ
+  redaction folds K mask text = with_replacements (λ (m : Match V). mask) text (standard byte_width K (as_read folds text))
 
 module _ {V : Type 0} (K : Dictionary V) where
   -- no later match begins further back than `held` has bytes

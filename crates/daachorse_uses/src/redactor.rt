@@ -12,7 +12,7 @@ ghost use Rattle.daachorse_model.specs.declared.MatchKind.TheVariants.{Standard}
 ghost use Rattle.daachorse_search.specs.BestScans.{HasNoLongerKey};
 ghost use Rattle.daachorse_bytewise.specs.Automata.{dictionary_of, kind_of, states_of};
 ghost use Rattle.daachorse_replacing.specs.Replaced.{AppendsBeginning};
-ghost use Rattle.daachorse_uses.specs.Redacted.{redacted};
+ghost use Rattle.daachorse_uses.specs.Redacted.{redaction};
 
 use daachorse::bytewise::iter::FindStepper;
 use daachorse::turns::Seen;
@@ -49,8 +49,8 @@ pub fn redact_source<S: Iterator<Item = u8> + Drop, A: Allocator, W: Write>(
     requires can { S.can_next source }
     requires ends { IsFinite (S.remaining source) }
     requires fits { CountFits S.next_gives S.remaining 0 source }
-    ensures whole { OnOk result (WholeRun S.next_gives source (λ p. Appends (W.contents out.old) (W.contents out.new) (redacted words.now.folds (dictionary_of words.now) mask.now p.items))) }
-    ensures beginning { OnErr result (SomeRun S.next_gives source (λ p. AppendsBeginning (W.contents out.old) (W.contents out.new) (redacted words.now.folds (dictionary_of words.now) mask.now p.items))) }
+    ensures whole { OnOk result (WholeRun S.next_gives source (λ p. Appends (W.contents out.old) (W.contents out.new) (redaction words.now.folds (dictionary_of words.now) mask.now p.items))) }
+    ensures beginning { OnErr result (SomeRun S.next_gives source (λ p. AppendsBeginning (W.contents out.old) (W.contents out.new) (redaction words.now.folds (dictionary_of words.now) mask.now p.items))) }
 {
     let mut redactor = Redactor::new(alloc, words, mask)?;
     for byte in source {
@@ -116,7 +116,7 @@ impl<'a, A: Allocator> Redactor<'a, A> {
         ensures depths { IfOk result (λ r. r.words.depths ≡ words.entry.now.depths) }
         ensures mask { IfOk result (λ r. r.mask ≡ mask.entry.now) }
         ensures read { IfOk result (λ r. r.read ≡ []) }
-        ensures held { IfOk result (λ r. r.held ≡ redacted words.entry.now.folds (dictionary_of words.entry.now) mask.entry.now []) }
+        ensures held { IfOk result (λ r. r.held ≡ redaction words.entry.now.folds (dictionary_of words.entry.now) mask.entry.now []) }
     {
         let stepper = words.find_stepper();
         let first = match stepper.matches() {
@@ -146,8 +146,8 @@ impl<'a, A: Allocator> Redactor<'a, A> {
         ensures words { self.new.words ≡ self.old.words }
         ensures mask { self.new.mask ≡ self.old.mask }
         ensures read { OnOk result (self.new.read ≡ self.old.read ++ byte ∷ []) }
-        ensures held { OnOk result ((written : List ℕ) → written ++ self.old.held ≡ redacted self.old.words.folds (dictionary_of self.old.words) self.old.mask self.old.read
-            → written ++ self.new.held ≡ redacted self.old.words.folds (dictionary_of self.old.words) self.old.mask self.new.read) }
+        ensures held { OnOk result ((written : List ℕ) → written ++ self.old.held ≡ redaction self.old.words.folds (dictionary_of self.old.words) self.old.mask self.old.read
+            → written ++ self.new.held ≡ redaction self.old.words.folds (dictionary_of self.old.words) self.old.mask self.new.read) }
         ensures unchanged { OnErr result (self.new ≡ self.old) }
     {
         self.held.reserve(1 + self.mask.len())?;

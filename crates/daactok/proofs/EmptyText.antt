@@ -6,13 +6,13 @@ use Rattle.std.specs.Str.{chars}
 use Rattle.daachorse_model.specs.declared.Match.{Match}
 use Rattle.daachorse_model.specs.Dictionary.{Dictionary}
 use Rattle.daachorse_model.specs.Folding.{as_read}
-use Rattle.daachorse_model.specs.Leftmost.{given, leftmost}
+use Rattle.daachorse_model.specs.Leftmost.{match_at, leftmost}
 use Rattle.daachorse_model.specs.Units.{char_width}
 
 module _ {V : Type 0} where
   -- what is found, where the empty text has these values
   found : List V → List (Match V)
-  found vs = given char_width 0 false (option_map (λ v. ([], v)) (slice_get vs 0))
+  found vs = match_at char_width 0 false (option_map (λ v. ([], v)) (slice_get vs 0))
 
   found-none : (vs : List V) → found vs ≡ [] → vs ≡ []
   unfolding found

@@ -19,10 +19,10 @@ use Rattle.daachorse_model.proofs.Overlap.{leftmost_apart}
 use Rattle.daachorse_model.proofs.SlowLemmas.{drop-all}
 use Rattle.daachorse_model.proofs.SameOnText.{cut_at}
 use Rattle.daachorse_model.proofs.Suffixes.{le_or_lt, size-append}
-use Rattle.daactok.specs.Tokens.{AreParts, IsKnownOne, IsPart, Piece, piece, stretch, tokens_from}
+use Rattle.daactok.specs.Tokens.{FollowOneAnother, IsKnownOne, IsPart, Piece, piece, stretch, tokens_from}
 
 module _ {V : Type 0} (text : List ℕ) where
-  parts_from : (s : ℕ) (ms : List (Match V)) → IsCharBoundary text s → All (IsPart text) ms → Follows s ms → AreParts text s ms
+  parts_from : (s : ℕ) (ms : List (Match V)) → IsCharBoundary text s → All (IsPart text) ms → Follows s ms → FollowOneAnother text s ms
   parts_from s [] here all follow = here
   parts_from s (m ∷ ms) here all follow = let part = all 0 m (omega arith) in (here, follow.0, part, parts_from m.end ms part.ends (λ k d lt. all (suc k) d (omega arith)) follow.2)
 
@@ -41,7 +41,7 @@ module _ {V : Type 0} (text : List ℕ) where
           some = omega (arith, o.starts, o.ends, not_empty o.key m.value o.has);
         }
 
-    leftmost_parts : AreParts text 0 (leftmost char_width K (chars text))
+    leftmost_parts : FollowOneAnother text 0 (leftmost char_width K (chars text))
     leftmost_parts = parts_from 0 (leftmost char_width K (chars text)) (IsCharBoundary-start text utf8) (λ k d lt. is_part _ (leftmost_occur char_width K (chars text) k d lt)) (leftmost_apart char_width K (chars text))
 
 -- where a folded text may be cut, so may the text
@@ -49,7 +49,7 @@ cut_back : (text : List ℕ) (i : ℕ) → IsCharBoundary (folded text) i → Is
 cut_back text i cut = (IsCharBoundary-folded text i).0 cut
 
 module _ {V : Type 0} (text : List ℕ) where
-  parts_back : (s : ℕ) (ms : List (Match V)) → AreParts (folded text) s ms → AreParts text s ms
+  parts_back : (s : ℕ) (ms : List (Match V)) → FollowOneAnother (folded text) s ms → FollowOneAnother text s ms
   parts_back s [] here = cut_back text s here
   parts_back s (m ∷ ms) h = (
     cut_back text s h.0,
@@ -59,10 +59,10 @@ module _ {V : Type 0} (text : List ℕ) where
   )
 
   -- the matches of a search in the text as it is read
-  read_parts : (folds : Bool) (K : Dictionary V) → K [] ≡ [] → IsUtf8 text → AreParts text 0 (leftmost char_width K (as_read folds (chars text)))
+  read_parts : (folds : Bool) (K : Dictionary V) → K [] ≡ [] → IsUtf8 text → FollowOneAnother text 0 (leftmost char_width K (as_read folds (chars text)))
   read_parts true K none utf8 =
       let back = parts_back 0 (leftmost char_width K (chars (folded text))) (leftmost_parts (folded text) K none (IsUtf8-folded text utf8)) in
-      subst (λ units. AreParts text 0 (leftmost char_width K units)) (chars-folded text utf8) back
+      subst (λ units. FollowOneAnother text 0 (leftmost char_width K units)) (chars-folded text utf8) back
   read_parts false K none utf8 = leftmost_parts text K none utf8
 
 -- a part of a text, and what comes behind it
@@ -110,7 +110,7 @@ module _ {V : Type 0} (text : List ℕ) where
     | inr some ↦ rw (stretch-some s e some) refl
   ]
 
-  joined_from : (s : ℕ) (ms : List (Match V)) → AreParts text s ms → flat_map (λ t. t.text) (tokens_from text s ms) ≡ drop s text
+  joined_from : (s : ℕ) (ms : List (Match V)) → FollowOneAnother text s ms → flat_map (λ t. t.text) (tokens_from text s ms) ≡ drop s text
   joined_from s [] h =
       let n = length text in
       ap (flat_map (λ t. t.text)) (sym (append-nil (stretch text s n)))
@@ -131,7 +131,7 @@ module _ {V : Type 0} (text : List ℕ) where
     | inr some ↦ rw (stretch-some s e some) (All-cons (λ t. t.text ≢ []) (piece text s e None) ts (piece-some s e None some within) all)
   ]
 
-  nonempty_from : (s : ℕ) (ms : List (Match V)) → AreParts text s ms → All (λ t. t.text ≢ []) (tokens_from text s ms)
+  nonempty_from : (s : ℕ) (ms : List (Match V)) → FollowOneAnother text s ms → All (λ t. t.text ≢ []) (tokens_from text s ms)
   nonempty_from s [] h = rw (← append-nil (stretch {V = V} text s (length text))) (stretch-all s (length text) [] (omega arith) (λ k d lt. absurd (omega arith)))
   nonempty_from s (m ∷ ms) h =
       let known = piece text m.start m.end (Some m.value) in
@@ -167,8 +167,8 @@ module _ {V : Type 0} (text : List ℕ) where
     pub nonempty : All (λ t. t.text ≢ []) ts
     pub apart : AllAdjacentBelow IsKnownOne ts (length ts)
 
-  pub parts_of_search : (folds : Bool) (K : Dictionary V) (ms : List (Match V)) → ms ≡ leftmost char_width K (as_read folds (chars text)) → K [] ≡ [] → IsUtf8 text → AreParts text 0 ms
-  parts_of_search folds K ms is none utf8 = subst (AreParts text 0) (sym is) (read_parts text folds K none utf8)
+  pub parts_of_search : (folds : Bool) (K : Dictionary V) (ms : List (Match V)) → ms ≡ leftmost char_width K (as_read folds (chars text)) → K [] ≡ [] → IsUtf8 text → FollowOneAnother text 0 ms
+  parts_of_search folds K ms is none utf8 = subst (FollowOneAnother text 0) (sym is) (read_parts text folds K none utf8)
 
   pub tokens_of_search : (folds : Bool) (K : Dictionary V) (ms : List (Match V)) → ms ≡ leftmost char_width K (as_read folds (chars text)) → K [] ≡ [] → IsUtf8 text → AreTokens (tokens_from text 0 ms)
   tokens_of_search folds K ms is none utf8 =

@@ -48,6 +48,6 @@ module _ {V : Type 0} (text : List ℕ) where
     pub some : m.start < m.end
 
   -- from s on these matches follow one another
-  abbrev pub AreParts : ℕ → List (Match V) → Type 0
-  AreParts s [] = IsCharBoundary text s
-  AreParts s (m ∷ ms) = IsCharBoundary text s × (s ≤ m.start) × IsPart m × AreParts m.end ms
+  abbrev pub FollowOneAnother : ℕ → List (Match V) → Type 0
+  FollowOneAnother s [] = IsCharBoundary text s
+  FollowOneAnother s (m ∷ ms) = IsCharBoundary text s × (s ≤ m.start) × IsPart m × FollowOneAnother m.end ms

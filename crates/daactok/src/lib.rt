@@ -126,13 +126,13 @@ pub struct Tokens<'a, V: Copy, A: Allocator = Global> {
 
 impl<'a, V: Copy, A: Allocator> Model for Tokens<'a, V, A> {
     ghost use Rattle.std.specs.Prelude.{List, ◌++◌, option_to_list};
-    ghost use Rattle.daactok.specs.Tokens.{AreParts, Piece, tokens_from};
+    ghost use Rattle.daactok.specs.Tokens.{FollowOneAnother, Piece, tokens_from};
 
     ghost Value = { List (Piece V) };
 
     ghost view = { λ s. tokens_from s.text.now s.place (option_to_list s.known ++ s.matches.left) };
 
-    ghost invariant = { λ s. AreParts s.text.now s.place (option_to_list s.known ++ s.matches.left) };
+    ghost invariant = { λ s. FollowOneAnother s.text.now s.place (option_to_list s.known ++ s.matches.left) };
 }
 
 impl<'a, V: Copy, A: Allocator> Iterator for Tokens<'a, V, A> {

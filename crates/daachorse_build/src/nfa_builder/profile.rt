@@ -5,7 +5,7 @@
 
 ghost use Rattle.std.specs.Prelude.{◌≡◌, ◌≢◌, ◌<◌, ◌≤◌, [], length, vec_len, IfSome};
 ghost use Rattle.daachorse_build.specs.Tables.{HoldTrie};
-ghost use Rattle.daachorse_build.specs.Counts.{HasCounts, HasSameCounts, HaveGrown, IsCounted, LinksLeadBack};
+ghost use Rattle.daachorse_build.specs.Counts.{HasCounts, HasSameCounts, HaveGrown, HasCountedMore, LinksLeadBack};
 
 use super::{DEAD_STATE_ID, NfaBuilderState, ROOT_STATE_ID, child};
 use daachorse_core::edge_label::EdgeLabel;
@@ -25,7 +25,7 @@ pub(super) fn count_document<L: EdgeLabel, V: Copy, A: Allocator, H: Fn(L) -> bo
     requires links { LinksLeadBack L.cmp states.now }
     requires counts { HasCounts (length states.now) profile.old }
     requires callable { H.IsAlwaysCallable has_label.now }
-    ensures counted { IsCounted profile.old profile.new }
+    ensures counted { HasCountedMore profile.old profile.new }
     ensures empty { haystack.now ≡ [] → HasSameCounts profile.old profile.new }
 {
     let mut rest = haystack;
@@ -49,7 +49,7 @@ fn count_run<L: EdgeLabel, V: Copy, A: Allocator, H: Fn(L) -> bool>(
     requires links { LinksLeadBack L.cmp states.now }
     requires counts { HasCounts (length states.now) profile.old }
     requires callable { H.IsAlwaysCallable has_label.now }
-    ensures counted { IsCounted profile.old profile.new }
+    ensures counted { HasCountedMore profile.old profile.new }
     ensures empty { haystack.now ≡ [] → HasSameCounts profile.old profile.new }
     ensures on { IfSome result (λ n. (0 < n) × (n ≤ length haystack.now)) }
 {
@@ -93,7 +93,7 @@ fn count_label<L: EdgeLabel, V: Copy, A: Allocator, H: Fn(L) -> bool>(
     requires callable { H.IsAlwaysCallable has_label.now }
     requires start { start < length states.now }
     requires alive { start ≢ 1 }
-    ensures counted { IsCounted profile.old profile.new }
+    ensures counted { HasCountedMore profile.old profile.new }
     ensures state { result < length states.now }
     ensures alive { result ≢ 1 }
 {
@@ -116,7 +116,7 @@ fn count_step<L: EdgeLabel, V: Copy, A: Allocator>(
     requires counts { HasCounts (length states.now) profile.old }
     requires start { start < length states.now }
     requires alive { start ≢ 1 }
-    ensures counted { IsCounted profile.old profile.new }
+    ensures counted { HasCountedMore profile.old profile.new }
     ensures state { result < length states.now }
     ensures alive { result ≢ 1 }
 {
@@ -149,7 +149,7 @@ fn count_reads<L: EdgeLabel, V: Copy, A: Allocator>(
     requires counts { HasCounts (length states.now) profile.old }
     requires state { id < length states.now }
     requires next { IfSome next (λ t. t < length states.now) }
-    ensures { IsCounted profile.old profile.new }
+    ensures { HasCountedMore profile.old profile.new }
 {
     if dense_root && id == ROOT_STATE_ID {
         return;

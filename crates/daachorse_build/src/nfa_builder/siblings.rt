@@ -7,7 +7,7 @@ ghost use Rattle.std.specs.Prelude.{◌≡◌, ℕ, ◌<◌, ◌++◌, List, len
 ghost use Rattle.std.specs.Map.{values_of};
 ghost use Rattle.daachorse_core.specs.Refusals.{IsOutOfMemory};
 ghost use Rattle.daachorse_build.specs.Tables.{edges_of, HoldTrie};
-ghost use Rattle.daachorse_build.specs.Groups.{has_edges, IsWalk, IsProfileOf, AreGiven, AreFamilies, AreWeighed, weight_at, parents_of};
+ghost use Rattle.daachorse_build.specs.Groups.{has_edges, VisitsEachState, IsProfileOf, AreGiven, AreFamilies, AreWeighed, weight_at, parents_of};
 
 use super::{NfaBuilderState, ROOT_STATE_ID};
 use crate::edge_map::EdgeMap;
@@ -28,7 +28,7 @@ pub(super) fn groups_of<L: EdgeLabel, V: Copy, A: Allocator + Copy, F: Fn(L) -> 
     requires trie { HoldTrie L.cmp states.now }
     requires profile { IsProfileOf (length states.now) profile.now }
     requires callable { F.IsAlwaysCallable map_label.now }
-    ensures parents { IfOk result (λ groups. (order : List ℕ) × IsWalk (edges_of states.now) order × (parents_of groups.items ≡ filter (has_edges (edges_of states.now)) order)) }
+    ensures parents { IfOk result (λ groups. (order : List ℕ) × VisitsEachState (edges_of states.now) order × (parents_of groups.items ≡ filter (has_edges (edges_of states.now)) order)) }
     ensures families { IfOk result (λ groups. AreFamilies (F.post map_label.now) (edges_of states.now) groups.items) }
     ensures weights { IfOk result (λ groups. AreWeighed (edges_of states.now) profile.now groups.items) }
     ensures refused { IfErr result IsOutOfMemory }

@@ -16,7 +16,7 @@ ghost use Rattle.daachorse_build.specs.Groups.{IsProfileOf};
 ghost use Rattle.daachorse_patterns.specs.Documents.{documents_of};
 ghost use Rattle.daachorse_patterns.specs.Folding.{all_as_read, texts_as_read};
 ghost use Rattle.daachorse_model.specs.declared.MatchKind.TheVariants.{Standard};
-ghost use Rattle.daachorse_model.specs.Dictionary.{registered};
+ghost use Rattle.daachorse_model.specs.Dictionary.{registrations_of};
 ghost use Rattle.daachorse_bytewise.specs.Automata.{kind_of};
 ghost use Rattle.daachorse_bytewise.specs.Building.{HoldsPatterns, IsBuildRefusal, IsBuiltOf, IsRefusalOf, kept_filter};
 
@@ -238,14 +238,14 @@ impl<A: Allocator + Copy> DoubleArrayAhoCorasickBuilder<A> {
         P::IntoIter: Drop,
         requires { (it : P.IntoIter) → P.into_iter_gives patvals it → P.IntoIter.can_next it × IsFinite (P.IntoIter.remaining it) }
         ensures ok { IfOk result (λ a. (it : P.IntoIter) × P.into_iter_gives patvals it
-            × WholeRun P.IntoIter.next_gives it (λ p. HoldsPatterns self.match_kind (texts_as_read self.ascii_case_insensitive (registered p.items)) a)) }
+            × WholeRun P.IntoIter.next_gives it (λ p. HoldsPatterns self.match_kind (texts_as_read self.ascii_case_insensitive (registrations_of p.items)) a)) }
         ensures kind { IfOk result (λ a. kind_of a ≡ self.match_kind) }
         ensures folds { IfOk result (λ a. a.folds ≡ self.ascii_case_insensitive) }
         ensures filter { IfOk result (λ a. (it : P.IntoIter) × P.into_iter_gives patvals it
             × WholeRun P.IntoIter.next_gives it (λ p. a.filter ≡ kept_filter self.use_prefilter (all_as_read self.ascii_case_insensitive (map (λ t. t.0.now) p.items)))) }
         ensures depths { IfOk result (λ a. a.depths ≡ []) }
         ensures err { IfErr result (λ e. IsOutOfMemory e ⊎ ((it : P.IntoIter) × P.into_iter_gives patvals it
-            × WholeRun P.IntoIter.next_gives it (λ p. IsRefusalOf self.match_kind (texts_as_read self.ascii_case_insensitive (registered p.items)) e))) }
+            × WholeRun P.IntoIter.next_gives it (λ p. IsRefusalOf self.match_kind (texts_as_read self.ascii_case_insensitive (registrations_of p.items)) e))) }
     {
         let patterns = gather(alloc, patvals.into_iter())?;
         let settings = self.settings.with_documents_as_read();
@@ -278,12 +278,12 @@ fn from_patterns<V: Copy, A: Allocator + Copy>(
     settings: &Settings<u8, A>,
     patterns: &[(&[u8], V)],
 ) -> Result<DoubleArrayAhoCorasick<V, A>>
-    ensures ok { IfOk result (HoldsPatterns settings.now.match_kind (texts_as_read settings.now.ascii_case_insensitive (registered patterns.now))) }
+    ensures ok { IfOk result (HoldsPatterns settings.now.match_kind (texts_as_read settings.now.ascii_case_insensitive (registrations_of patterns.now))) }
     ensures kind { IfOk result (λ a. kind_of a ≡ settings.now.match_kind) }
     ensures folds { IfOk result (λ a. a.folds ≡ settings.now.ascii_case_insensitive) }
     ensures filter { IfOk result (λ a. a.filter ≡ kept_filter settings.now.use_prefilter (all_as_read settings.now.ascii_case_insensitive (map (λ p. p.0.now) patterns.now))) }
     ensures depths { IfOk result (λ a. a.depths ≡ []) }
-    ensures err { IfErr result (IsRefusalOf settings.now.match_kind (texts_as_read settings.now.ascii_case_insensitive (registered patterns.now))) }
+    ensures err { IfErr result (IsRefusalOf settings.now.match_kind (texts_as_read settings.now.ascii_case_insensitive (registrations_of patterns.now))) }
 {
     if !settings.ascii_case_insensitive {
         return from_read(alloc, settings, patterns);
@@ -299,13 +299,13 @@ fn from_read<V: Copy, A: Allocator + Copy>(
     settings: &Settings<u8, A>,
     patterns: &[(&[u8], V)],
 ) -> Result<DoubleArrayAhoCorasick<V, A>>
-    requires { texts_as_read settings.now.ascii_case_insensitive (registered patterns.now) ≡ registered patterns.now }
-    ensures ok { IfOk result (HoldsPatterns settings.now.match_kind (registered patterns.now)) }
+    requires { texts_as_read settings.now.ascii_case_insensitive (registrations_of patterns.now) ≡ registrations_of patterns.now }
+    ensures ok { IfOk result (HoldsPatterns settings.now.match_kind (registrations_of patterns.now)) }
     ensures kind { IfOk result (λ a. kind_of a ≡ settings.now.match_kind) }
     ensures folds { IfOk result (λ a. a.folds ≡ settings.now.ascii_case_insensitive) }
     ensures filter { IfOk result (λ a. a.filter ≡ kept_filter settings.now.use_prefilter (map (λ p. p.0.now) patterns.now)) }
     ensures depths { IfOk result (λ a. a.depths ≡ []) }
-    ensures err { IfErr result (IsRefusalOf settings.now.match_kind (registered patterns.now)) }
+    ensures err { IfErr result (IsRefusalOf settings.now.match_kind (registrations_of patterns.now)) }
 {
     let kind = settings.match_kind;
     let nfa = build_trie(alloc, kind, Some(MAX_PATTERNS), patterns)?;

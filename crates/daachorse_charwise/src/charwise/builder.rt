@@ -17,7 +17,7 @@ ghost use Rattle.daachorse_patterns.specs.Documents.{documents_of};
 ghost use Rattle.daachorse_patterns.specs.Folding.{all_as_read, texts_as_read};
 ghost use Rattle.daachorse_model.specs.declared.MatchKind.TheVariants.{Standard};
 ghost use Rattle.daachorse_charwise.specs.Automata.{kind_of};
-ghost use Rattle.daachorse_charwise.specs.Building.{HoldsPatterns, IsBuildRefusal, IsBuiltOf, IsRefusalOf, kept_filter, registered_texts, spelled};
+ghost use Rattle.daachorse_charwise.specs.Building.{HoldsPatterns, IsBuildRefusal, IsBuiltOf, IsRefusalOf, kept_filter, registrations_of_strings, texts_of_strings};
 
 use crate::charwise::CharwiseDoubleArrayAhoCorasick;
 use crate::charwise::frequencies::frequencies;
@@ -158,7 +158,7 @@ impl<A: Allocator + Copy> CharwiseDoubleArrayAhoCorasickBuilder<A> {
         ensures filter { IfOk result (λ b. b.use_prefilter ≡ self.use_prefilter) }
         ensures folds { IfOk result (λ b. b.ascii_case_insensitive ≡ self.ascii_case_insensitive) }
         ensures copies { IfOk result (λ b. (it : D.IntoIter) × D.into_iter_gives haystacks it
-            × WholeRun D.IntoIter.next_gives it (λ p. IsSomeAnd b.corpus (λ corpus. documents_of (λ u. u) corpus ≡ spelled p.items))) }
+            × WholeRun D.IntoIter.next_gives it (λ p. IsSomeAnd b.corpus (λ corpus. documents_of (λ u. u) corpus ≡ texts_of_strings p.items))) }
         ensures err { IfErr result IsOutOfMemory }
     {
         let documents = gather(alloc, haystacks.into_iter())?;
@@ -194,14 +194,14 @@ impl<A: Allocator + Copy> CharwiseDoubleArrayAhoCorasickBuilder<A> {
         P::IntoIter: Drop,
         requires { (it : P.IntoIter) → P.into_iter_gives patterns it → P.IntoIter.can_next it × IsFinite (P.IntoIter.remaining it) }
         ensures ok { IfOk result (λ a. (it : P.IntoIter) × P.into_iter_gives patterns it
-            × WholeRun P.IntoIter.next_gives it (λ p. IsBuiltOf V.try_from_gives self.match_kind (all_as_read self.ascii_case_insensitive (spelled p.items)) a)) }
+            × WholeRun P.IntoIter.next_gives it (λ p. IsBuiltOf V.try_from_gives self.match_kind (all_as_read self.ascii_case_insensitive (texts_of_strings p.items)) a)) }
         ensures kind { IfOk result (λ a. kind_of a ≡ self.match_kind) }
         ensures folds { IfOk result (λ a. a.folds ≡ self.ascii_case_insensitive) }
         ensures filter { IfOk result (λ a. (it : P.IntoIter) × P.into_iter_gives patterns it
-            × WholeRun P.IntoIter.next_gives it (λ p. a.filter ≡ kept_filter self.use_prefilter (all_as_read self.ascii_case_insensitive (spelled p.items)))) }
+            × WholeRun P.IntoIter.next_gives it (λ p. a.filter ≡ kept_filter self.use_prefilter (all_as_read self.ascii_case_insensitive (texts_of_strings p.items)))) }
         ensures depths { IfOk result (λ a. a.depths ≡ []) }
         ensures err { IfErr result (λ e. IsOutOfMemory e ⊎ ((it : P.IntoIter) × P.into_iter_gives patterns it
-            × WholeRun P.IntoIter.next_gives it (λ p. IsBuildRefusal V.try_from_gives self.match_kind (all_as_read self.ascii_case_insensitive (spelled p.items)) e))) }
+            × WholeRun P.IntoIter.next_gives it (λ p. IsBuildRefusal V.try_from_gives self.match_kind (all_as_read self.ascii_case_insensitive (texts_of_strings p.items)) e))) }
     {
         let texts = gather(alloc, patterns.into_iter())?;
         let settings = self.settings.with_documents_as_read();
@@ -238,14 +238,14 @@ impl<A: Allocator + Copy> CharwiseDoubleArrayAhoCorasickBuilder<A> {
         P::IntoIter: Drop,
         requires { (it : P.IntoIter) → P.into_iter_gives patvals it → P.IntoIter.can_next it × IsFinite (P.IntoIter.remaining it) }
         ensures ok { IfOk result (λ a. (it : P.IntoIter) × P.into_iter_gives patvals it
-            × WholeRun P.IntoIter.next_gives it (λ p. HoldsPatterns self.match_kind (texts_as_read self.ascii_case_insensitive (registered_texts p.items)) a)) }
+            × WholeRun P.IntoIter.next_gives it (λ p. HoldsPatterns self.match_kind (texts_as_read self.ascii_case_insensitive (registrations_of_strings p.items)) a)) }
         ensures kind { IfOk result (λ a. kind_of a ≡ self.match_kind) }
         ensures folds { IfOk result (λ a. a.folds ≡ self.ascii_case_insensitive) }
         ensures filter { IfOk result (λ a. (it : P.IntoIter) × P.into_iter_gives patvals it
-            × WholeRun P.IntoIter.next_gives it (λ p. a.filter ≡ kept_filter self.use_prefilter (map (λ r. r.0) (texts_as_read self.ascii_case_insensitive (registered_texts p.items))))) }
+            × WholeRun P.IntoIter.next_gives it (λ p. a.filter ≡ kept_filter self.use_prefilter (map (λ r. r.0) (texts_as_read self.ascii_case_insensitive (registrations_of_strings p.items))))) }
         ensures depths { IfOk result (λ a. a.depths ≡ []) }
         ensures err { IfErr result (λ e. IsOutOfMemory e ⊎ ((it : P.IntoIter) × P.into_iter_gives patvals it
-            × WholeRun P.IntoIter.next_gives it (λ p. IsRefusalOf self.match_kind (texts_as_read self.ascii_case_insensitive (registered_texts p.items)) e))) }
+            × WholeRun P.IntoIter.next_gives it (λ p. IsRefusalOf self.match_kind (texts_as_read self.ascii_case_insensitive (registrations_of_strings p.items)) e))) }
     {
         let patterns = gather(alloc, patvals.into_iter())?;
         let settings = self.settings.with_documents_as_read();
@@ -261,12 +261,12 @@ fn from_texts<V: Copy + TryFrom<usize>, A: Allocator + Copy>(
 ) -> Result<CharwiseDoubleArrayAhoCorasick<V, A>>
 where
     V::Error: Drop,
-    ensures ok { IfOk result (λ a. IsBuiltOf V.try_from_gives settings.now.match_kind (all_as_read settings.now.ascii_case_insensitive (spelled texts.now)) a) }
+    ensures ok { IfOk result (λ a. IsBuiltOf V.try_from_gives settings.now.match_kind (all_as_read settings.now.ascii_case_insensitive (texts_of_strings texts.now)) a) }
     ensures kind { IfOk result (λ a. kind_of a ≡ settings.now.match_kind) }
     ensures folds { IfOk result (λ a. a.folds ≡ settings.now.ascii_case_insensitive) }
-    ensures filter { IfOk result (λ a. a.filter ≡ kept_filter settings.now.use_prefilter (all_as_read settings.now.ascii_case_insensitive (spelled texts.now))) }
+    ensures filter { IfOk result (λ a. a.filter ≡ kept_filter settings.now.use_prefilter (all_as_read settings.now.ascii_case_insensitive (texts_of_strings texts.now))) }
     ensures depths { IfOk result (λ a. a.depths ≡ []) }
-    ensures err { IfErr result (IsBuildRefusal V.try_from_gives settings.now.match_kind (all_as_read settings.now.ascii_case_insensitive (spelled texts.now))) }
+    ensures err { IfErr result (IsBuildRefusal V.try_from_gives settings.now.match_kind (all_as_read settings.now.ascii_case_insensitive (texts_of_strings texts.now))) }
 {
     let patterns = indexed(alloc, texts)?;
     from_patterns(alloc, settings, &patterns)
@@ -278,12 +278,12 @@ fn from_patterns<V: Copy, A: Allocator + Copy>(
     settings: &Settings<char, A>,
     patterns: &[(&str, V)],
 ) -> Result<CharwiseDoubleArrayAhoCorasick<V, A>>
-    ensures ok { IfOk result (HoldsPatterns settings.now.match_kind (texts_as_read settings.now.ascii_case_insensitive (registered_texts patterns.now))) }
+    ensures ok { IfOk result (HoldsPatterns settings.now.match_kind (texts_as_read settings.now.ascii_case_insensitive (registrations_of_strings patterns.now))) }
     ensures kind { IfOk result (λ a. kind_of a ≡ settings.now.match_kind) }
     ensures folds { IfOk result (λ a. a.folds ≡ settings.now.ascii_case_insensitive) }
-    ensures filter { IfOk result (λ a. a.filter ≡ kept_filter settings.now.use_prefilter (map (λ r. r.0) (texts_as_read settings.now.ascii_case_insensitive (registered_texts patterns.now)))) }
+    ensures filter { IfOk result (λ a. a.filter ≡ kept_filter settings.now.use_prefilter (map (λ r. r.0) (texts_as_read settings.now.ascii_case_insensitive (registrations_of_strings patterns.now)))) }
     ensures depths { IfOk result (λ a. a.depths ≡ []) }
-    ensures err { IfErr result (IsRefusalOf settings.now.match_kind (texts_as_read settings.now.ascii_case_insensitive (registered_texts patterns.now))) }
+    ensures err { IfErr result (IsRefusalOf settings.now.match_kind (texts_as_read settings.now.ascii_case_insensitive (registrations_of_strings patterns.now))) }
 {
     if !settings.ascii_case_insensitive {
         return from_read(alloc, settings, patterns);
@@ -299,13 +299,13 @@ fn from_read<V: Copy, A: Allocator + Copy>(
     settings: &Settings<char, A>,
     patterns: &[(&str, V)],
 ) -> Result<CharwiseDoubleArrayAhoCorasick<V, A>>
-    requires { texts_as_read settings.now.ascii_case_insensitive (registered_texts patterns.now) ≡ registered_texts patterns.now }
-    ensures ok { IfOk result (HoldsPatterns settings.now.match_kind (registered_texts patterns.now)) }
+    requires { texts_as_read settings.now.ascii_case_insensitive (registrations_of_strings patterns.now) ≡ registrations_of_strings patterns.now }
+    ensures ok { IfOk result (HoldsPatterns settings.now.match_kind (registrations_of_strings patterns.now)) }
     ensures kind { IfOk result (λ a. kind_of a ≡ settings.now.match_kind) }
     ensures folds { IfOk result (λ a. a.folds ≡ settings.now.ascii_case_insensitive) }
-    ensures filter { IfOk result (λ a. a.filter ≡ kept_filter settings.now.use_prefilter (map (λ r. r.0) (registered_texts patterns.now))) }
+    ensures filter { IfOk result (λ a. a.filter ≡ kept_filter settings.now.use_prefilter (map (λ r. r.0) (registrations_of_strings patterns.now))) }
     ensures depths { IfOk result (λ a. a.depths ≡ []) }
-    ensures err { IfErr result (IsRefusalOf settings.now.match_kind (registered_texts patterns.now)) }
+    ensures err { IfErr result (IsRefusalOf settings.now.match_kind (registrations_of_strings patterns.now)) }
 {
     let kind = settings.match_kind;
     let freqs = frequencies(alloc, patterns)?;

@@ -7,7 +7,7 @@ ghost use Rattle.std.specs.Prelude.{◌≡◌, ◌+◌, ◌≤◌, ℕ, List, le
 ghost use Rattle.std.specs.List.{AllByRecursion};
 ghost use Rattle.std.specs.Str.{all_scalars, chars};
 ghost use Rattle.daachorse_core.specs.Refusals.{IsOutOfMemory};
-ghost use Rattle.daachorse_charwise.specs.Frequencies.{AreFrequencies, HasCounted, many};
+ghost use Rattle.daachorse_charwise.specs.Frequencies.{AreFrequencies, HasCounted, frequency};
 
 use daachorse_core::errors::Result;
 use std::alloc::Allocator;

@@ -4,8 +4,8 @@ ghost use Rattle.std.specs.Prelude.{◌≡◌, ◌+◌, ◌≤◌, ◌++◌, [],
 ghost use Rattle.std.specs.Option.{option_or};
 ghost use Rattle.std.specs.List.{list_any};
 ghost use Rattle.daachorse_model.specs.Units.{size};
-ghost use Rattle.daachorse_model.specs.Dictionary.{kept, without_extensions, values_of, dictionary, is_proper_prefix, registered};
-ghost use Rattle.daachorse_model.specs.Leftmost.{longest_key, given, leftmost_from, leftmost};
+ghost use Rattle.daachorse_model.specs.Dictionary.{kept_registrations, without_extensions, values_of, dictionary, is_proper_prefix, registrations_of};
+ghost use Rattle.daachorse_model.specs.Leftmost.{longest_key, match_at, leftmost_from, leftmost};
 ghost use Rattle.daachorse_model.specs.Slow.{width_of, key_found, skip_of, after_of};
 
 use crate::slow::{Width, first_value};
@@ -28,7 +28,7 @@ fn extends(text: &[u32], pattern: &[u32]) -> bool
 
 /// Whether an earlier pattern is a proper prefix of `text`.
 fn extends_any<V: Copy>(earlier: &[(&[u32], V)], text: &[u32]) -> bool
-    ensures { result ≡ list_any (λ r. is_proper_prefix r.0 text.now) (registered earlier.now) }
+    ensures { result ≡ list_any (λ r. is_proper_prefix r.0 text.now) (registrations_of earlier.now) }
 {
     for (pattern, _) in earlier {
         if extends(text, pattern) {
@@ -43,7 +43,7 @@ fn drop_extensions<'a, V: Copy, A: Allocator>(
     alloc: A,
     patterns: &[(&'a [u32], V)],
 ) -> Result<Vec<(&'a [u32], V), A>, AllocError>
-    ensures { IfOk result (λ rest. registered rest.items ≡ without_extensions [] (registered patterns.now)) }
+    ensures { IfOk result (λ rest. registrations_of rest.items ≡ without_extensions [] (registrations_of patterns.now)) }
 {
     let mut rest = Vec::new(alloc);
     for (index, (text, value)) in patterns.iter().enumerate() {
@@ -60,7 +60,7 @@ fn longer<V: Copy>(
     part: &[u32],
     best: Option<Longest<V>>,
 ) -> Option<Longest<V>>
-    ensures { result ≡ option_or (option_map (λ v. record { units = length part.now; value = v }) (slice_get (values_of (registered patterns.now) part.now) 0)) best }
+    ensures { result ≡ option_or (option_map (λ v. record { units = length part.now; value = v }) (slice_get (values_of (registrations_of patterns.now) part.now) 0)) best }
 {
     match first_value(patterns, part) {
         Some(value) => Some(Longest {
@@ -73,7 +73,7 @@ fn longer<V: Copy>(
 
 /// The longest pattern that the text begins with.
 fn longest_at<V: Copy>(patterns: &[(&[u32], V)], text: &[u32]) -> Option<Longest<V>>
-    ensures key { key_found text.now result ≡ longest_key (values_of (registered patterns.now)) [] text.now }
+    ensures key { key_found text.now result ≡ longest_key (values_of (registrations_of patterns.now)) [] text.now }
     ensures within { IfSome result (λ best. best.units ≤ length text.now) }
 {
     let mut best = None;
@@ -93,7 +93,7 @@ fn push_given<V: Copy, A: Allocator>(
     best: Option<Longest<V>>,
 ) -> Result<(), AllocError>
     requires { IfSome best (λ b. read + b.units ≤ length haystack.now) }
-    ensures { OnOk result (found.new.items ≡ found.old.items ++ given (width_of width) (size (width_of width) (take read haystack.now)) after (key_found (drop read haystack.now) best)) }
+    ensures { OnOk result (found.new.items ≡ found.old.items ++ match_at (width_of width) (size (width_of width) (take read haystack.now)) after (key_found (drop read haystack.now) best)) }
 {
     let Some(best) = best else {
         return Ok(());
@@ -130,7 +130,7 @@ fn search_starts<V: Copy, A: Allocator>(
     patterns: &[(&[u32], V)],
     haystack: &[u32],
 ) -> Result<Vec<Match<V>, A>, AllocError>
-    ensures { IfOk result (λ found. found.items ≡ leftmost (width_of width) (values_of (registered patterns.now)) haystack.now) }
+    ensures { IfOk result (λ found. found.items ≡ leftmost (width_of width) (values_of (registrations_of patterns.now)) haystack.now) }
 {
     let mut found = Vec::new(alloc);
     let mut skip = 0;
@@ -166,7 +166,7 @@ pub fn leftmost_slowly<V: Copy, A: Allocator + Copy>(
     patterns: &[(&[u32], V)],
     haystack: &[u32],
 ) -> Result<Vec<Match<V>, A>, AllocError>
-    ensures { IfOk result (λ found. found.items ≡ leftmost (width_of width) (dictionary kind (registered patterns.now)) haystack.now) }
+    ensures { IfOk result (λ found. found.items ≡ leftmost (width_of width) (dictionary kind (registrations_of patterns.now)) haystack.now) }
 {
     if kind.is_leftmost_first() {
         let kept = drop_extensions(alloc, patterns)?;

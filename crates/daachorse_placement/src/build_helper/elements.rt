@@ -6,8 +6,8 @@
 ghost use Rattle.std.specs.Prelude.{◌≡◌, ℕ, ◌+◌, ◌*◌, ◌<◌, ◌≤◌, ◌^◌, ◌⊎◌, ◌||◌, length, bit_xor, nat_eq, slice_set, true, false, Some, None, MatchOption, IfOk, IfErr, OnOk};
 ghost use Rattle.std.specs.Int.{IsPowerOfTwo};
 ghost use Rattle.daachorse_core.specs.declared.errors.DaachorseError.TheVariants.{OutOfMemory};
-ghost use Rattle.daachorse_placement.specs.Placement.{label_of, AreLabels, AreIds, AreApart, IsPlaceRefusal};
-ghost use Rattle.daachorse_placement.specs.Elements.{IsLinked, IsWhole, IsFull, IsFresh, HasFlagsOf, is_used, is_base, count_of, boundary_of, Fits, HasBase, NoneFits, IsFirstFit, HasBlockMore, HasMore, IsPlaceFor, HasTaken, HasMarked, HasPlaced, IsMapOf};
+ghost use Rattle.daachorse_placement.specs.Placement.{label_of, FitInBlock, AreIds, AreApart, IsPlaceRefusal};
+ghost use Rattle.daachorse_placement.specs.Elements.{LeadsOverUsed, IsWhole, IsFull, HasOneBlock, HasFlagsOf, is_used, is_base, element_count, boundary_of, Fits, HasBase, NoneFits, IsFirstFit, HasBlockMore, HasMore, IsPlaceFor, HasTaken, HasMarked, HasPlaced, IsMapOf};
 
 use daachorse_core::errors::{DaachorseError, Limit, Result};
 use std::alloc::Allocator;
@@ -34,7 +34,7 @@ impl<A: Allocator + Copy> Elements<A> {
         requires power { IsPowerOfTwo block_len }
         requires two { 2 ≤ block_len }
         ensures whole { IfOk result (λ e. IsWhole e) }
-        ensures fresh { IfOk result (λ e. IsFresh e block_len) }
+        ensures fresh { IfOk result (λ e. HasOneBlock e block_len) }
         ensures refused { IfErr result (λ e. e ≡ OutOfMemory (record {})) }
     {
         let mut used_index = vec![in alloc; false; block_len as usize]?;
@@ -61,7 +61,7 @@ impl<A: Allocator> Elements<A> {
     /// How many elements there are.
     pub(crate) fn num_elements(&self) -> u32
         requires { IsWhole self.now }
-        ensures { result ≡ count_of self.now }
+        ensures { result ≡ element_count self.now }
     {
         self.num_blocks * self.block_len
     }
@@ -80,7 +80,7 @@ impl<A: Allocator> Elements<A> {
 
     /// Whether the element holds the root, the dead state or a child.
     pub(crate) fn is_used_index(&self, idx: u32) -> bool
-        requires { idx < count_of self.now }
+        requires { idx < element_count self.now }
         ensures { result ≡ is_used self.now idx }
     {
         self.used_index[idx as usize]
@@ -89,7 +89,7 @@ impl<A: Allocator> Elements<A> {
     /// Whether the base was taken, where that is tracked.
     pub(crate) fn is_used_base(&self, base: u32) -> bool
         requires whole { IsWhole self.now }
-        requires inside { base < count_of self.now }
+        requires inside { base < element_count self.now }
         ensures { result ≡ is_base self.now base }
     {
         self.used_base[base as usize]
@@ -97,12 +97,12 @@ impl<A: Allocator> Elements<A> {
 
     /// The first vacant element from `start` on.
     pub(crate) fn skip_used(&self, start: u32) -> u32
-        requires linked { IsLinked self.now.used_index.items self.now.next.items }
-        requires inside { start ≤ count_of self.now }
+        requires linked { LeadsOverUsed self.now.used_index.items self.now.next.items }
+        requires inside { start ≤ element_count self.now }
         ensures from { start ≤ result }
-        ensures inside { result ≤ count_of self.now }
+        ensures inside { result ≤ element_count self.now }
         ensures used { (k : ℕ) → start ≤ k → k < result → is_used self.now k ≡ true }
-        ensures vacant { result < count_of self.now → is_used self.now result ≡ false }
+        ensures vacant { result < element_count self.now → is_used self.now result ≡ false }
     {
         let mut idx = start;
         while (idx as usize) < self.used_index.len() && self.used_index[idx as usize] {
@@ -114,10 +114,10 @@ impl<A: Allocator> Elements<A> {
     /// The first vacant element after `idx`.
     fn after(&self, idx: u32) -> u32
         requires whole { IsWhole self.now }
-        requires inside { idx < count_of self.now }
-        ensures order { (idx < result) × (result ≤ count_of self.now) }
+        requires inside { idx < element_count self.now }
+        ensures order { (idx < result) × (result ≤ element_count self.now) }
         ensures used { (k : ℕ) → idx < k → k < result → is_used self.now k ≡ true }
-        ensures vacant { result < count_of self.now → is_used self.now result ≡ false }
+        ensures vacant { result < element_count self.now → is_used self.now result ≡ false }
     {
         self.skip_used(self.next[idx as usize])
     }
@@ -125,8 +125,8 @@ impl<A: Allocator> Elements<A> {
     /// Whether each child has a vacant element under `base`.
     fn fits(&self, base: u32, children: &[(u32, u32)]) -> bool
         requires whole { IsWhole self.now }
-        requires inside { base < count_of self.now }
-        requires labels { AreLabels self.now.block_len children.now }
+        requires inside { base < element_count self.now }
+        requires labels { FitInBlock self.now.block_len children.now }
         ensures yes { result ≡ true → Fits self.now children.now base }
         ensures no { Fits self.now children.now base → result ≡ true }
     {
@@ -142,12 +142,12 @@ impl<A: Allocator> Elements<A> {
     fn base_at(&self, idx: u32, children: &[(u32, u32)]) -> Option<u32>
         requires whole { IsWhole self.now }
         requires some { 0 < length children.now }
-        requires inside { idx < count_of self.now }
-        requires labels { AreLabels self.now.block_len children.now }
+        requires inside { idx < element_count self.now }
+        requires labels { FitInBlock self.now.block_len children.now }
         ensures none { result ≡ None → HasBase self.now children.now idx → ⊥ }
         ensures found { (base : ℕ) → result ≡ Some base →
             (base ≡ bit_xor idx (label_of children.now 0)) × HasBase self.now children.now idx }
-        ensures inside { (base : ℕ) → result ≡ Some base → base < count_of self.now }
+        ensures inside { (base : ℕ) → result ≡ Some base → base < element_count self.now }
     {
         let (label, _) = children[0];
         let base = idx ^ label;
@@ -161,7 +161,7 @@ impl<A: Allocator> Elements<A> {
     /// Notes that no vacant element stands between `idx` and `next`.
     fn link(&mut self, idx: u32, next: u32)
         requires whole { IsWhole self.old }
-        requires order { (idx < next) × (next ≤ count_of self.old) }
+        requires order { (idx < next) × (next ≤ element_count self.old) }
         requires used { (k : ℕ) → idx < k → k < next → is_used self.old k ≡ true }
         ensures whole { IsWhole self.new }
         ensures kept { HasFlagsOf self.old self.new }
@@ -174,7 +174,7 @@ impl<A: Allocator> Elements<A> {
     fn first_fit(&mut self, children: &[(u32, u32)]) -> Option<u32>
         requires whole { IsWhole self.old }
         requires some { 0 < length children.now }
-        requires labels { AreLabels self.old.block_len children.now }
+        requires labels { FitInBlock self.old.block_len children.now }
         ensures whole { IsWhole self.new }
         ensures kept { HasFlagsOf self.old self.new }
         ensures found { MatchOption result
@@ -201,7 +201,7 @@ impl<A: Allocator> Elements<A> {
         ensures ok { OnOk result (IsWhole self.new) }
         ensures more { OnOk result (HasBlockMore self.old self.new) }
         ensures refused { IfErr result
-            (IsPlaceRefusal (2 ^ 32 ≤ count_of self.old + self.old.block_len)) }
+            (IsPlaceRefusal (2 ^ 32 ≤ element_count self.old + self.old.block_len)) }
     {
         let old_len = self.num_elements();
         if old_len > u32::MAX - self.block_len {
@@ -222,15 +222,15 @@ impl<A: Allocator> Elements<A> {
     pub(crate) fn find_base(&mut self, children: &[(u32, u32)]) -> Result<u32>
         requires whole { IsWhole self.old }
         requires some { 0 < length children.now }
-        requires labels { AreLabels self.old.block_len children.now }
+        requires labels { FitInBlock self.old.block_len children.now }
         ensures whole { OnOk result (IsWhole self.new) }
         ensures more { OnOk result (HasMore self.old self.new) }
         ensures found { IfOk result (IsPlaceFor self.new children.now) }
         ensures first { IfOk result (λ base. IsFirstFit self.old children.now base
-            ⊎ (NoneFits self.old children.now (count_of self.old)
-            × (base ≡ bit_xor (count_of self.old) (label_of children.now 0)))) }
+            ⊎ (NoneFits self.old children.now (element_count self.old)
+            × (base ≡ bit_xor (element_count self.old) (label_of children.now 0)))) }
         ensures refused { IfErr result
-            (IsPlaceRefusal (2 ^ 32 ≤ count_of self.old + self.old.block_len)) }
+            (IsPlaceRefusal (2 ^ 32 ≤ element_count self.old + self.old.block_len)) }
     {
         if let Some(base) = self.first_fit(children) {
             return Ok(base);
@@ -244,7 +244,7 @@ impl<A: Allocator> Elements<A> {
     /// Uses the element.
     fn use_index(&mut self, idx: u32)
         requires whole { IsWhole self.old }
-        requires inside { idx < count_of self.old }
+        requires inside { idx < element_count self.old }
         ensures whole { IsWhole self.new }
         ensures used { self.new.used_index.items ≡ slice_set self.old.used_index.items idx true }
         ensures bases { self.new.used_base.items ≡ self.old.used_base.items }
@@ -258,8 +258,8 @@ impl<A: Allocator> Elements<A> {
     /// Gives each child its element under `base`.
     pub(crate) fn take(&mut self, base: u32, children: &[(u32, u32)], idx_map: &mut [u32])
         requires whole { IsWhole self.old }
-        requires inside { base < count_of self.old }
-        requires labels { AreLabels self.old.block_len children.now }
+        requires inside { base < element_count self.old }
+        requires labels { FitInBlock self.old.block_len children.now }
         requires ids { AreIds (length idx_map.old) children.now }
         requires apart { AreApart children.now }
         ensures whole { IsWhole self.new }
@@ -276,7 +276,7 @@ impl<A: Allocator> Elements<A> {
     /// Notes that the base is taken, where that is tracked.
     pub(crate) fn use_base(&mut self, base: u32, tracked: bool)
         requires whole { IsWhole self.old }
-        requires inside { base < count_of self.old }
+        requires inside { base < element_count self.old }
         ensures whole { IsWhole self.new }
         ensures marked { HasMarked self.old self.new base tracked }
     {
@@ -294,7 +294,7 @@ impl<A: Allocator> Elements<A> {
     ) -> Result<u32>
         requires whole { IsWhole self.old }
         requires some { 0 < length children.now }
-        requires labels { AreLabels self.old.block_len children.now }
+        requires labels { FitInBlock self.old.block_len children.now }
         requires ids { AreIds (length idx_map.old) children.now }
         requires apart { AreApart children.now }
         requires full { IsFull self.old }
@@ -305,7 +305,7 @@ impl<A: Allocator> Elements<A> {
         ensures map { IfOk result
             (IsMapOf idx_map.old idx_map.new children.now (length children.now)) }
         ensures refused { IfErr result
-            (IsPlaceRefusal (2 ^ 32 ≤ count_of self.old + self.old.block_len)) }
+            (IsPlaceRefusal (2 ^ 32 ≤ element_count self.old + self.old.block_len)) }
     {
         let base = self.find_base(children)?;
         self.take(base, children, idx_map);

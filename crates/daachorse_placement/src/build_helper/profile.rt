@@ -5,7 +5,7 @@
 
 ghost use Rattle.std.specs.Prelude.{◌≡◌, [], ◌↔◌, IsTrue, OnOk, OnErr, IfErr};
 ghost use Rattle.daachorse_core.specs.declared.errors.DaachorseError.TheVariants.{OutOfMemory};
-ghost use Rattle.daachorse_placement.specs.Profiles.{resized};
+ghost use Rattle.daachorse_placement.specs.Profiles.{first_counts};
 
 use daachorse_core::errors::Result;
 use std::alloc::{Allocator, Global};
@@ -49,8 +49,8 @@ impl<A: Allocator> Profile<A> {
     ///
     /// An allocation failed, and nothing is changed.
     pub fn resize(&mut self, len: usize) -> Result<()>
-        ensures visits { OnOk result (self.new.visits.items ≡ resized self.old.visits.items len) }
-        ensures probes { OnOk result (self.new.probes.items ≡ resized self.old.probes.items len) }
+        ensures visits { OnOk result (self.new.visits.items ≡ first_counts self.old.visits.items len) }
+        ensures probes { OnOk result (self.new.probes.items ≡ first_counts self.old.probes.items len) }
         ensures same_visits { OnErr result (self.new.visits.items ≡ self.old.visits.items) }
         ensures same_probes { OnErr result (self.new.probes.items ≡ self.old.probes.items) }
         ensures refused { IfErr result (λ e. e ≡ OutOfMemory (record {})) }

@@ -6,8 +6,8 @@
 ghost use Rattle.std.specs.Prelude.{◌≡◌, ℕ, ◌+◌, ◌-◌, ◌*◌, ◌<◌, ◌≤◌, ◌^◌, ◌∷◌, [], ◌++◌, ◌||◌, List, length, vec_len, IfOk, IfErr, IfSome, slice_index};
 ghost use Rattle.daachorse_core.specs.Refusals.{IsOutOfMemory};
 ghost use Rattle.daachorse_model.specs.Filter.{is_clear, has_pair};
-ghost use Rattle.daachorse_prefilter.specs.Filters.{IsSoundFor};
-ghost use Rattle.daachorse_prefilter.specs.Building.{made_of, is_sparse, AreCounted};
+ghost use Rattle.daachorse_prefilter.specs.Filters.{PassesAtPatterns};
+ghost use Rattle.daachorse_prefilter.specs.Building.{built_filter, is_sparse, ArePairCounts};
 
 use super::{MAX_WINDOW_LEN, MIN_WINDOW_LEN, NUM_PAIRS, Prefilter};
 use daachorse_core::errors::Result;
@@ -27,7 +27,7 @@ pub struct PrefilterBuilder<A: Allocator = Global> {
     counts: [u32; 8],
     ghost short: { window_len ≤ 9 },
     ghost sized: { length table.items ≡ 65536 },
-    ghost counted: { AreCounted table.items counts },
+    ghost counted: { ArePairCounts table.items counts },
 }
 
 impl<A: Allocator> PrefilterBuilder<A> {
@@ -67,9 +67,9 @@ impl<A: Allocator> PrefilterBuilder<A> {
     /// With k pairs in a window, too many would pass where the counts of the pairs that may stand
     /// at each place have a product above 2^(16 k - 4), one in sixteen of all.
     pub fn build(self) -> Option<Prefilter<A>>
-        ensures made { (patterns : List (List ℕ)) → HasAdded self patterns → result ≡ made_of patterns }
+        ensures made { (patterns : List (List ℕ)) → HasAdded self patterns → result ≡ built_filter patterns }
         ensures sound { (patterns : List (List ℕ)) →
-            HasAdded self patterns → IfSome result (λ filter. IsSoundFor filter patterns) }
+            HasAdded self patterns → IfSome result (λ filter. PassesAtPatterns filter patterns) }
     {
         if self.is_empty || self.window_len < MIN_WINDOW_LEN {
             return None;
@@ -89,11 +89,11 @@ impl<A: Allocator> PrefilterBuilder<A> {
 fn clear_pairs(table: &mut [u8], counts: &mut [u32], window: &[u8])
     requires sized { length table.old ≡ 65536 }
     requires places { length counts.old ≡ 8 }
-    requires counted { AreCounted table.old counts.old }
+    requires counted { ArePairCounts table.old counts.old }
     requires short { length window.now ≤ 9 }
     ensures marked { (pair j : ℕ) → pair < 65536 → j < 8 → is_clear (slice_index table.new pair) j
         ≡ (is_clear (slice_index table.old pair) j || has_pair pair j window.now) }
-    ensures counted { AreCounted table.new counts.new }
+    ensures counted { ArePairCounts table.new counts.new }
 {
     for i in 1..window.len() {
         let place = i - 1;
@@ -109,7 +109,7 @@ fn is_sparse(counts: &[u32], num_pairs: u8) -> bool
     requires places { length counts.now ≡ 8 }
     requires low { 1 ≤ num_pairs }
     requires high { num_pairs ≤ 8 }
-    ensures { (entries : List ℕ) → length entries ≡ 65536 → AreCounted entries counts.now
+    ensures { (entries : List ℕ) → length entries ≡ 65536 → ArePairCounts entries counts.now
         → result ≡ is_sparse entries num_pairs }
 {
     let mut ways = 1u128;

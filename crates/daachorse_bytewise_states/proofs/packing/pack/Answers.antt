@@ -14,8 +14,8 @@ use Rattle.daachorse_placement.specs.Placement.{AreGroups, HasSizes, IsPlaced}
 use Rattle.daachorse_build.specs.Builders.{states_of}
 use Rattle.daachorse_build.specs.declared.nfa_builder.NfaBuilderState.{NfaBuilderState}
 use Rattle.daachorse_build.specs.Tables.{HoldTrie, edge_map, edges_of, fails_of, positions_of}
-use Rattle.daachorse_bytewise_states.specs.Packing.{AreByteGroups, HoldStates}
-use Rattle.daachorse_packing.specs.Settled.{ArePlaces, AreSettled, HasManyGroups}
+use Rattle.daachorse_bytewise_states.specs.Packing.{AreByteGroups, ElementsHoldTrie}
+use Rattle.daachorse_packing.specs.Settled.{HavePlaces, AreSettled, HasManyGroups}
 use Rattle.daachorse_packing.proofs.Groups.{settled-of}
 use Rattle.daachorse_packing.proofs.Places.{settled-places}
 use Rattle.daachorse_bytewise_states.specs.declared.state.State.{State}
@@ -70,7 +70,7 @@ write_states-requires g c = record {
       let P : ℕ → Type 0 = λ n. HasSizes c.in_ok-helper.helper 256 n in
       subst P (ap length (c.states.ensures ∙ sym c.states-2.ensures)) c.in_ok-helper.ensures.sizes;
   places =
-      let P : ℕ → Type 0 = λ n. ArePlaces c.in_ok-helper.helper.idx n (length c.in_ok-helper.helper.used) in
+      let P : ℕ → Type 0 = λ n. HavePlaces c.in_ok-helper.helper.idx n (length c.in_ok-helper.helper.used) in
       subst P (length-map (states_of c.args.nfa.now) edge_map ∙ sym (ap length c.states-2.ensures)) (settled-places (settled (states_of c.args.nfa.now) c.states.result.now c.in_ok-groups.groups.items c.deref.result.now c.in_ok-helper.helper c.states.ensures c.deref.ensures.value c.in_ok-groups.ensures.ok c.in_ok-helper.ensures.placed c.in_ok-helper.ensures.sizes));
   links =
       let P : List (NfaBuilderState ℕ g.row.V.Denot g.row.A.Denot) → Type 0 = λ ss. (t : ℕ) → t < length ss → t ≢ 1 → slice_index (fails_of ss) t < length ss in
@@ -83,7 +83,7 @@ write_states-requires g c = record {
 pub returns : goal.returns
 returns g c = record {
   ok =
-      let P : List (NfaBuilderState ℕ g.row.V.Denot g.row.A.Denot) → List (State ℕ) → Type 0 = λ ss es. HoldStates c.in_ok-helper.helper (edges_of ss) (fails_of ss) (positions_of ss) es in
+      let P : List (NfaBuilderState ℕ g.row.V.Denot g.row.A.Denot) → List (State ℕ) → Type 0 = λ ss es. ElementsHoldTrie c.in_ok-helper.helper (edges_of ss) (fails_of ss) (positions_of ss) es in
       IfOk-weaker c.write_states.result _ _
       (λ elements held. record { groups = c.in_ok-groups.groups.items; layout = c.in_ok-helper.helper; packed = record { settled = settled (states_of c.args.nfa.now) c.states.result.now c.in_ok-groups.groups.items c.deref.result.now c.in_ok-helper.helper c.states.ensures c.deref.ensures.value c.in_ok-groups.ensures.ok c.in_ok-helper.ensures.placed c.in_ok-helper.ensures.sizes; full = c.in_ok-helper.ensures.full; held = (let Q : List (NfaBuilderState ℕ g.row.V.Denot g.row.A.Denot) → Type 0 = λ ss. P ss elements.items in subst Q c.states-2.ensures held) } })
       c.write_states.ensures.ok;

@@ -3,7 +3,7 @@ use Rattle.std.proofs.Common.{◌≡◌, ◌<◌, ◌^◌, ℕ, length, ◌∙�
 use Rattle.std.specs.Prelude.{slice_index}
 use Rattle.daachorse_packing.proofs.Written.{link_at, position_at}
 use Rattle.daachorse_build.specs.Tables.{fails_of, positions_of}
-use Rattle.daachorse_bytewise_states.specs.Writing.{HasPlaced}
+use Rattle.daachorse_bytewise_states.specs.Writing.{HasWritten}
 use Rattle.daachorse_bytewise_states.proofs.WritingLaws.{placed_dead, placed_more}
 use Rattle.daachorse_bytewise_states.proofs.packing.place_states.Goals as goal
 
@@ -47,5 +47,5 @@ loop-id-preserved g c =
 
 pub returns : goal.returns
 returns g c =
-    let P : ℕ → Type 0 = λ m. HasPlaced m c.args.idx_map.now c.args.bases.now c.args.labels.now (fails_of c.args.states.now) (positions_of c.args.states.now) c.args.elements.now c.loop-id.elements in
+    let P : ℕ → Type 0 = λ m. HasWritten m c.args.idx_map.now c.args.bases.now c.args.labels.now (fails_of c.args.states.now) (positions_of c.args.states.now) c.args.elements.now c.loop-id.elements in
     subst P (let ends : c.loop-id.id ≡ length c.args.states.now = omega (arith, c.loop-id-test.false, c.loop-id.auto.id-end) in ends) c.loop-id.invariant.placed

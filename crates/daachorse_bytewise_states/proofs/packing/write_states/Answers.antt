@@ -3,10 +3,10 @@ use Rattle.std.proofs.Common.{◌≡◌, ℕ, ◌<◌, List, length, ◌∙◌, 
 use Rattle.std.proofs.lemmas.List.{length-map}
 use Rattle.std.proofs.lemmas.Result.{err_from_is_err_and}
 use Rattle.daachorse_build.specs.Tables.{edge_map, edges_of, fails_of, positions_of}
-use Rattle.daachorse_packing.specs.Settled.{ArePlaces}
+use Rattle.daachorse_packing.specs.Settled.{HavePlaces}
 use Rattle.daachorse_bytewise_states.specs.declared.state.State.{State}
-use Rattle.daachorse_bytewise_states.specs.Packing.{HoldStates}
-use Rattle.daachorse_bytewise_states.specs.Writing.{HasPlaced}
+use Rattle.daachorse_bytewise_states.specs.Packing.{ElementsHoldTrie}
+use Rattle.daachorse_bytewise_states.specs.Writing.{HasWritten}
 use Rattle.daachorse_bytewise_states.proofs.WrittenLaws.{written-held, written_back}
 use Rattle.daachorse_bytewise_states.proofs.packing.write_states.Goals as goal
 
@@ -19,8 +19,8 @@ vacant_elements-requires g c = record { block = c.requires.sizes.block; sizes = 
 pub place_states-requires : goal.place_states-requires
 place_states-requires g c =
     let states = c.args.states.now in let l = c.args.helper.now in
-    let P : ℕ → Type 0 = λ n. ArePlaces l.idx (length states) n in
-    let I : List ℕ → Type 0 = λ is. ArePlaces is (length states) (length c.deref_mut.result.now) in
+    let P : ℕ → Type 0 = λ n. HavePlaces l.idx (length states) n in
+    let I : List ℕ → Type 0 = λ is. HavePlaces is (length states) (length c.deref_mut.result.now) in
     record {
       labels = ap length c.deref.ensures.value ∙ (c.in_ok-labels.ensures.ok.size ∙ length-map states edge_map);
       bases = ap length c.bases.ensures ∙ c.requires.sizes.bases;
@@ -49,14 +49,14 @@ returns g c =
           let two : 1 < length (edges_of states) = c.requires.trie.trie.two in
           let vacant = c.in_ok-elements.ensures.ok in
           let labelled = c.in_ok-labels.ensures.ok in
-          let L : List ℕ → Type 0 = λ ls. HasPlaced (length states) c.idx_map.result.now c.bases.result.now ls (fails_of states) (positions_of states) c.deref_mut.result.now new in
-          let I : List ℕ → Type 0 = λ is. HasPlaced (length states) is c.bases.result.now c.in_ok-labels.labels.items (fails_of states) (positions_of states) c.deref_mut.result.now new in
-          let B : List ℕ → Type 0 = λ bs. HasPlaced (length states) l.idx bs c.in_ok-labels.labels.items (fails_of states) (positions_of states) c.deref_mut.result.now new in
-          let O : List (State ℕ) → Type 0 = λ es. HasPlaced (length states) l.idx l.bases c.in_ok-labels.labels.items (fails_of states) (positions_of states) es new in
-          let N : ℕ → Type 0 = λ n. HasPlaced n l.idx l.bases c.in_ok-labels.labels.items (fails_of states) (positions_of states) old new in
+          let L : List ℕ → Type 0 = λ ls. HasWritten (length states) c.idx_map.result.now c.bases.result.now ls (fails_of states) (positions_of states) c.deref_mut.result.now new in
+          let I : List ℕ → Type 0 = λ is. HasWritten (length states) is c.bases.result.now c.in_ok-labels.labels.items (fails_of states) (positions_of states) c.deref_mut.result.now new in
+          let B : List ℕ → Type 0 = λ bs. HasWritten (length states) l.idx bs c.in_ok-labels.labels.items (fails_of states) (positions_of states) c.deref_mut.result.now new in
+          let O : List (State ℕ) → Type 0 = λ es. HasWritten (length states) l.idx l.bases c.in_ok-labels.labels.items (fails_of states) (positions_of states) es new in
+          let N : ℕ → Type 0 = λ n. HasWritten n l.idx l.bases c.in_ok-labels.labels.items (fails_of states) (positions_of states) old new in
           let placed = subst N count (subst O c.deref_mut.ensures.value (subst B c.bases.ensures (subst I c.idx_map.ensures (subst L c.deref.ensures.value c.place_states.ensures)))) in
           let held = written-held l (edges_of states) c.in_ok-labels.labels.items (fails_of states) (positions_of states) old new (omega (arith, two)) labelled vacant placed in
-          let H : List (State ℕ) → Type 0 = λ es. HoldStates l (edges_of states) (fails_of states) (positions_of states) es in
+          let H : List (State ℕ) → Type 0 = λ es. ElementsHoldTrie l (edges_of states) (fails_of states) (positions_of states) es in
           let len : c.in_ok-elements.elements.len ≡ length new = omega (arith, placed.size, c.in_ok-elements.elements.ok.0) in
           subst H (sym (written_back new old c.in_ok-elements.elements.len len)) held;
       few =

@@ -1,14 +1,14 @@
 -- Each end takes one pattern off those that are left.
 use Rattle.std.proofs.Common.{◌<◌, ◌++◌, length, drop, refl, sym, ap, ◌∙◌, subst, inl, inr, arith}
 use Rattle.std.proofs.lemmas.List.{append-nil, drop_all}
-use Rattle.daachorse_model.specs.Dictionary.{registered}
+use Rattle.daachorse_model.specs.Dictionary.{registrations_of}
 use Rattle.daachorse_c.specs.Patterns.{AreEnds, registrations}
 use Rattle.daachorse_c.proofs.Registrations.{ends_next, ends_from_next, one_read}
 use Rattle.daachorse_c.proofs.patterns.patterns_in.Goals as goal
 
 pub loop-i-init : goal.loop-i-init
 loop-i-init c = record {
-  all = ap (λ l. registered l ++ registrations c.args.bytes.now 0 c.args.ends.now c.args.values.now) (sym c.new-patterns.ensures.items);
+  all = ap (λ l. registrations_of l ++ registrations c.args.bytes.now 0 c.args.ends.now c.args.values.now) (sym c.new-patterns.ensures.items);
   if_left = λ are. are;
   left = λ are. are;
 }
@@ -42,4 +42,4 @@ returns-clause-right c =
 pub returns-clause-all : goal.returns-clause-all
 returns-clause-all c =
     let ended = drop_all c.loop-i.i c.args.ends.now (omega (arith, c.loop-i-test.false)) in
-    sym (c.loop-i.invariant.all ∙ ap (λ es. registered c.loop-i.patterns.items ++ registrations c.args.bytes.now c.loop-i.start es (drop c.loop-i.i c.args.values.now)) ended ∙ append-nil (registered c.loop-i.patterns.items))
+    sym (c.loop-i.invariant.all ∙ ap (λ es. registrations_of c.loop-i.patterns.items ++ registrations c.args.bytes.now c.loop-i.start es (drop c.loop-i.i c.args.values.now)) ended ∙ append-nil (registrations_of c.loop-i.patterns.items))

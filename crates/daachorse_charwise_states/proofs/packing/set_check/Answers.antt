@@ -2,7 +2,7 @@
 use Rattle.std.proofs.Common.{◌<◌, ℕ, List, length, refl, ◌∙◌, ap, arith}
 use Rattle.std.specs.Prelude.{slice_index}
 use Rattle.std.proofs.lemmas.List.{get_or_default}
-use Rattle.daachorse_placement.specs.Placement.{child_of}
+use Rattle.daachorse_placement.specs.Placement.{child_id}
 use Rattle.daachorse_charwise_states.specs.declared.state.State.{State}
 use Rattle.daachorse_charwise_states.specs.Elements.{base_in, fail_in, output_in, vacant}
 use Rattle.daachorse_charwise_states.proofs.WritingLaws.{check_more}
@@ -11,7 +11,7 @@ use Rattle.daachorse_charwise_states.proofs.packing.set_check.Goals as goal
 pub loop-child-preserved : goal.loop-child-preserved
 loop-child-preserved c =
     let es : List State = c.loop-child.elements in
-    let child : ℕ = child_of c.args.children.now c.loop-child.child-index in
+    let child : ℕ = child_id c.args.children.now c.loop-child.child-index in
     let p : ℕ = slice_index c.args.idx_map.now child in
     let inside : p < length c.args.elements.now = c.requires.inside child (c.requires.ids c.loop-child.child-index c.loop-child-test.true) in
     let low : p < length es = omega (arith, inside, c.loop-child.auto.elements) in

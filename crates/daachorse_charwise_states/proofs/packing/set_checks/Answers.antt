@@ -1,7 +1,7 @@
 -- Each group's children are given their parent's place.
 use Rattle.std.proofs.Common.{◌≡◌, ◌<◌, ℕ, List, length, ◌∙◌, subst, sym, arith}
 use Rattle.std.specs.Prelude.{slice_index}
-use Rattle.daachorse_placement.specs.Placement.{AreIds, children_of, parent_of}
+use Rattle.daachorse_placement.specs.Placement.{AreIds, children_of, group_parent}
 use Rattle.daachorse_placement.proofs.PlaceStart.{children_at, parent_at}
 use Rattle.daachorse_charwise_states.specs.Writing.{HaveCheck, HaveChecks}
 use Rattle.daachorse_charwise_states.proofs.WritingLaws.{checks_more}
@@ -10,7 +10,7 @@ use Rattle.daachorse_charwise_states.proofs.packing.set_checks.Goals as goal
 pub bounds-idx_map-group : goal.bounds-idx_map-group
 bounds-idx_map-group g c =
     let gs = c.args.groups.now in let m = c.loop-group.group-index in
-    let low : parent_of gs m < length c.args.idx_map.now = c.requires.parents m c.loop-group-test.true in
+    let low : group_parent gs m < length c.args.idx_map.now = c.requires.parents m c.loop-group-test.true in
     omega (arith, low, parent_at gs m c.group-item.result c.loop-group-test.true c.group-item.is)
 
 pub set_check-requires-clause-ids : goal.set_check-requires-clause-ids

@@ -3,13 +3,13 @@ use Rattle.std.proofs.Common.{◌≡◌, ◌<◌, ◌++◌, ℕ, List, length, t
 use Rattle.std.specs.Prelude.{slice_index}
 use Rattle.std.proofs.lemmas.List.{length-map}
 use Rattle.std.proofs.lemmas.Result.{err_from_is_err_and}
-use Rattle.daachorse_placement.specs.Placement.{AreIds, children_of, parent_of}
+use Rattle.daachorse_placement.specs.Placement.{AreIds, children_of, group_parent}
 use Rattle.daachorse_build.specs.Tables.{edge_map, edges_of, fails_of, positions_of}
-use Rattle.daachorse_packing.specs.Settled.{ArePlaces}
+use Rattle.daachorse_packing.specs.Settled.{HavePlaces}
 use Rattle.daachorse_packing.proofs.Places.{settled-places}
 use Rattle.daachorse_charwise_states.specs.declared.state.State.{State}
 use Rattle.daachorse_charwise_states.specs.Packing.{HoldElements}
-use Rattle.daachorse_charwise_states.specs.Writing.{AreGroupsApart, HasPlaced, HaveChecks}
+use Rattle.daachorse_charwise_states.specs.Writing.{AreGroupsApart, HasWritten, HaveChecks}
 use Rattle.daachorse_charwise_states.proofs.WrittenLaws.{fresh, settled-apart, settled-ids, settled-inside, settled-parents, written-held, written_back}
 use Rattle.daachorse_charwise_states.proofs.packing.write_states.Goals as goal
 
@@ -26,16 +26,16 @@ place_states-requires g c = record {
       let l = c.args.helper.now in
       let q = c.requires.settled.2 in
       let count : length l.used ≡ length c.deref_mut.result.now = omega (arith, ap length c.deref_mut.ensures.value, c.in_ok-elements.ensures.len, c.num_elements.ensures, c.in_ok-elements.elements.ok.0) in
-      let N : ℕ → Type 0 = λ n. ArePlaces l.idx n (length l.used) in
-      let E : ℕ → Type 0 = λ n. ArePlaces l.idx (length c.args.states.now) n in
-      let I : List ℕ → Type 0 = λ is. ArePlaces is (length c.args.states.now) (length c.deref_mut.result.now) in
+      let N : ℕ → Type 0 = λ n. HavePlaces l.idx n (length l.used) in
+      let E : ℕ → Type 0 = λ n. HavePlaces l.idx (length c.args.states.now) n in
+      let I : List ℕ → Type 0 = λ is. HavePlaces is (length c.args.states.now) (length c.deref_mut.result.now) in
       subst I (sym c.idx_map.ensures) (subst E count (subst N (length-map c.args.states.now edge_map) (settled-places q)));
 }
 
 pub set_checks-requires : goal.set_checks-requires
 set_checks-requires g c = record {
   parents =
-      let P : List ℕ → Type 0 = λ is. (k : ℕ) → k < length c.args.groups.now → parent_of c.args.groups.now k < length is in
+      let P : List ℕ → Type 0 = λ is. (k : ℕ) → k < length c.args.groups.now → group_parent c.args.groups.now k < length is in
       subst P (sym c.idx_map-2.ensures) (settled-parents c.requires.settled.2);
   ids =
       let P : List ℕ → Type 0 = λ is. (k : ℕ) → k < length c.args.groups.now → AreIds (length is) (children_of c.args.groups.now k) in
@@ -66,10 +66,10 @@ returns g c =
           let fails = fails_of states in let positions = positions_of states in
           let vacants = fresh _ c.default.result old c.default.ensures (c.in_ok-elements.ensures.items_if_clones_equal (λ y same. same)) in
           let size : length old ≡ length l.used = omega (arith, c.in_ok-elements.ensures.len, c.num_elements.ensures, c.in_ok-elements.elements.ok.0) in
-          let S : List ℕ → Type 0 = λ is. HasPlaced (length states) is c.bases.result.now fails positions c.deref_mut.result.now mid in
-          let B : List ℕ → Type 0 = λ bs. HasPlaced (length states) l.idx bs fails positions c.deref_mut.result.now mid in
-          let O : List State → Type 0 = λ es. HasPlaced (length states) l.idx l.bases fails positions es mid in
-          let N : ℕ → Type 0 = λ m. HasPlaced m l.idx l.bases fails positions old mid in
+          let S : List ℕ → Type 0 = λ is. HasWritten (length states) is c.bases.result.now fails positions c.deref_mut.result.now mid in
+          let B : List ℕ → Type 0 = λ bs. HasWritten (length states) l.idx bs fails positions c.deref_mut.result.now mid in
+          let O : List State → Type 0 = λ es. HasWritten (length states) l.idx l.bases fails positions es mid in
+          let N : ℕ → Type 0 = λ m. HasWritten m l.idx l.bases fails positions old mid in
           let placed = subst N (sym (length-map states edge_map)) (subst O c.deref_mut.ensures.value (subst B c.bases.ensures (subst S c.idx_map.ensures c.place_states.ensures))) in
           let len : n ≡ length mid = omega (arith, placed.size, c.in_ok-elements.elements.ok.0) in
           let back = written_back mid old n len in

@@ -1,8 +1,8 @@
 -- The places are a trie with the same texts and keys as the array, so the trie's links are right just where those of the array are, and a link that leads to no place never is.
 use Rattle.std.proofs.Common.{rules, ◌≡◌, length, sym, subst, arith}
-use Rattle.daachorse_links.specs.Places.{IsTrie}
+use Rattle.daachorse_links.specs.Places.{IsTrieOfPlaces}
 use Rattle.daachorse_checker.specs.Chains.{machine_of}
-use Rattle.daachorse_checker.specs.Links.{AreLinkPlaces, HasNoPlace}
+use Rattle.daachorse_checker.specs.Links.{AreLinkPlaces, LeadsToNoPlace}
 use Rattle.daachorse_checker.proofs.PlaceLaws.{few}
 use Rattle.daachorse_checker.proofs.CheckedLaws.{trie_of_places, no_place, links_are_right, right_links_are}
 use Rattle.daachorse_checker.proofs.checker.links_hold.Goals as goal
@@ -15,7 +15,7 @@ returns-in_default-clause-no g c e links =
     let arr = c.args.array.now in
     let p = c.args.places in
     let a = machine_of (g.E.Edges.child arr) (g.E.Links.fail arr) (g.E.Links.first arr) c.args.outputs.now in
-    let bad : HasNoPlace c.args.leftmost (g.E.Links.fail arr) p.order.items = search rules in
+    let bad : LeadsToNoPlace c.args.leftmost (g.E.Links.fail arr) p.order.items = search rules in
     no_place (g.E.Array.width arr) a c.requires.tell c.requires.places (λ i u j h. (c.requires.inside i u j h).1) c.args.leftmost bad links
 
 pub has_links-requires-clause-trie : goal.has_links-requires-clause-trie
@@ -23,7 +23,7 @@ has_links-requires-clause-trie g c =
     let arr = c.args.array.now in
     let p = c.args.places in
     let a = machine_of (g.E.Edges.child arr) (g.E.Links.fail arr) (g.E.Links.first arr) c.args.outputs.now in
-    subst (λ u. IsTrie p.parents.items p.labels.items u) (sym c.num_units.ensures.bound)
+    subst (λ u. IsTrieOfPlaces p.parents.items p.labels.items u) (sym c.num_units.ensures.bound)
     (trie_of_places (g.E.Array.width arr) a c.requires.tell c.requires.places (λ i u j h. (c.requires.inside i u j h).1))
 
 pub has_links-requires-clause-few : goal.has_links-requires-clause-few

@@ -2,8 +2,8 @@
 use Rattle.std.proofs.Common.{◌≡◌, ◌≢◌, ◌+◌, ◌<◌, ℕ, reverse, replicate, ap, ◌∙◌, arith}
 use Rattle.std.specs.Prelude.{slice_index, vec_capacity}
 use borrow.Author.Count.{below_more}
-use Rattle.daachorse_listing.specs.Climbs.{deepened}
-use Rattle.daachorse_listing.proofs.ClimbLaws.{deepened-kept, known-deepened, known-end, known-lost, known-start, waiting-inside}
+use Rattle.daachorse_listing.specs.Climbs.{depths_along}
+use Rattle.daachorse_listing.proofs.ClimbLaws.{depths_along-kept, known-deepened, known-end, known-lost, known-start, waiting-inside}
 use Rattle.daachorse_listing.proofs.climbs.depths_by_parents.Goals.{in-Some, in-None}
 use Rattle.daachorse_listing.proofs.climbs.depths_by_parents.Goals as goal
 
@@ -28,10 +28,10 @@ loop-element-preserved g c =
     elim c.match-climb.branch [
       | in-Some w ↦ (
           let path = reverse c.climb.new.path.items in
-          let depths : c.match-climb.depths.items ≡ deepened w.in-Some.depth path c.climb.new.depths.items = ap (λ v. v.items) w.depths-is ∙ w.descend.ensures.depths in
+          let depths : c.match-climb.depths.items ≡ depths_along w.in-Some.depth path c.climb.new.depths.items = ap (λ v. v.items) w.depths-is ∙ w.descend.ensures.depths in
           record {
             known = rw depths (known-deepened c.requires.tree path c.climb.new.depths.items w.in-Some.depth c.climb.ensures.known w.in-Some.ensures.above);
-            passed = λ i some less. rw depths (deepened-kept path c.climb.new.depths.items w.in-Some.depth i (passed i less some));
+            passed = λ i some less. rw depths (depths_along-kept path c.climb.new.depths.items w.in-Some.depth i (passed i less some));
             empty = ap (λ v. v.items) w.path-is ∙ w.descend.ensures.empty;
             room = omega (arith, c.loop-element.invariant.room, c.climb.ensures.capacity, w.descend.ensures.capacity, ap vec_capacity w.path-is);
           })

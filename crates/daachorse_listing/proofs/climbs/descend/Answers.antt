@@ -1,7 +1,7 @@
 -- The element that is taken off the path is given its depth.
 use Rattle.std.proofs.Common.{◌≡◌, ◌+◌, [], ◌∷◌, ◌∙◌, length, reverse, ap, arith, add-one, length-append, set}
 use Rattle.std.proofs.lemmas.List.{length-set, reverse-append}
-use Rattle.daachorse_listing.specs.Climbs.{deepened}
+use Rattle.daachorse_listing.specs.Climbs.{depths_along}
 use Rattle.daachorse_listing.proofs.climbs.descend.Goals as goal
 
 pub overflow_add-deepest : goal.overflow_add-deepest
@@ -16,7 +16,7 @@ down-preserved g c =
     let left = rw steps at inv.left in
     let inside = rw steps at inv.inside in
     record {
-      left = ap (λ d. deepened d (reverse rest) (set c.down.depths.items element d)) (add-one c.down.deepest) ∙ left;
+      left = ap (λ d. depths_along d (reverse rest) (set c.down.depths.items element d)) (add-one c.down.deepest) ∙ left;
       inside = rw (length-set c.down.depths.items element (c.down.deepest + 1)) inside.1;
       few = omega (arith, inv.few, ap length c.in-Some.ensures.items, length-append rest (element ∷ []));
       same = c.pop.ensures.capacity ∙ inv.same;

@@ -2,12 +2,12 @@
 use Rattle.std.proofs.Common.{◌≡◌, ◌+◌, ◌<◌, ◌^◌, length, reverse}
 use Rattle.std.specs.Prelude.{vec_capacity}
 use Rattle.std.specs.List.{AllByRecursion}
-use Rattle.daachorse_listing.specs.Climbs.{deepened}
+use Rattle.daachorse_listing.specs.Climbs.{depths_along}
 use Rattle.daachorse_listing.proofs.climbs.descend.Given as goal
 
 abbrev pub invariant-down : goal.invariant-down
 invariant-down g l = record {
-  left : deepened l.deepest (reverse l.path.items) l.depths.items ≡ deepened l.fn.depth (reverse l.fn.path.items) l.fn.depths.items;
+  left : depths_along l.deepest (reverse l.path.items) l.depths.items ≡ depths_along l.fn.depth (reverse l.fn.path.items) l.fn.depths.items;
   inside : AllByRecursion (λ i. i < length l.depths.items) (reverse l.path.items);
   few : l.deepest + length l.path.items < 2 ^ 32;
   same : vec_capacity l.path ≡ vec_capacity l.fn.path;

@@ -4,7 +4,7 @@ use Rattle.std.proofs.lemmas.List.{get_or_read}
 use Rattle.std.proofs.lemmas.Result.{IfOk-from_err}
 use Rattle.std.proofs.lemmas.Grind.{common_steps}
 use Rattle.daachorse_mapper.specs.Codings.{Coding}
-use Rattle.daachorse_mapper.specs.Written.{coding_of}
+use Rattle.daachorse_mapper.specs.Written.{coding_from}
 use Rattle.daachorse_mapper.proofs.Entries.{code_read, none_read}
 use Rattle.daachorse_mapper.proofs.Taken.{AreTaken, taken_all, taken_left, taken_more, taken_past, taken_twice}
 use Rattle.daachorse_mapper.proofs.mapper.are_codes.Goals.{then-code+else-code-alphabet_size+else-index, else-code}
@@ -13,13 +13,13 @@ use Rattle.daachorse_mapper.proofs.mapper.are_codes.Goals as goal
 pub returns-then-code-alphabet_size-clause-no : goal.returns-then-code-alphabet_size-clause-no
 returns-then-code-alphabet_size-clause-no g c e =
     let table = c.args.table.now in let n = c.loop-code.code-index in
-    let coding : Coding = coding_of (table, c.args.alphabet_size) in
+    let coding : Coding = coding_from (table, c.args.alphabet_size) in
     taken_past coding n (slice_index table n) (code_read coding table refl n c.loop-code-test.true c.if-code.true) c.if-code-alphabet_size.true
 
 pub returns-then-index-clause-no : goal.returns-then-index-clause-no
 returns-then-index-clause-no g c e =
     let table = c.args.table.now in let n = c.loop-code.code-index in
-    let coding : Coding = coding_of (table, c.args.alphabet_size) in
+    let coding : Coding = coding_from (table, c.args.alphabet_size) in
     let so : AreTaken coding n c.loop-code.taken.items = c.loop-code.invariant.taken in
     let inside : slice_index table n < length c.loop-code.taken.items = omega (arith, c.if-code-alphabet_size.false, so.size) in
     let mark = get_or_read c.loop-code.taken.items (slice_index table n) c.index.result.now inside c.index.ensures false in
@@ -28,7 +28,7 @@ returns-then-index-clause-no g c e =
 pub loop-code-preserved : goal.loop-code-preserved
 loop-code-preserved g c =
     let table = c.args.table.now in let n = c.loop-code.code-index in
-    let coding : Coding = coding_of (table, c.args.alphabet_size) in
+    let coding : Coding = coding_from (table, c.args.alphabet_size) in
     let so : AreTaken coding n c.loop-code.taken.items = c.loop-code.invariant.taken in
     elim c.if-code.branch [
       | then-code+else-code-alphabet_size+else-index w ↦ record {
@@ -50,7 +50,7 @@ loop-code-preserved g c =
 
 pub returns-clause-yes : goal.returns-clause-yes
 returns-clause-yes g c e =
-    let coding : Coding = coding_of (c.args.table.now, c.args.alphabet_size) in
+    let coding : Coding = coding_from (c.args.table.now, c.args.alphabet_size) in
     let end : c.loop-code.code-index ≡ length c.args.table.now = omega (arith, c.loop-code-test.false, c.loop-code.auto.code-index-end) in
     let P : ℕ → Type 0 = λ n. AreTaken coding n c.loop-code.taken.items in
     taken_all coding c.loop-code.taken.items (subst P end c.loop-code.invariant.taken)

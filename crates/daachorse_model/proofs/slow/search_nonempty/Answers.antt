@@ -1,6 +1,6 @@
 -- Of the matches that end with one more unit and start behind the last match the definition takes the first and goes on behind it, and where there is none it reads on; the loop does just that.
 use Rattle.std.proofs.Common.{◌≡◌, ◌+◌, ◌-◌, [], arith, ap, ◌∙◌, inl, inr}
-use Rattle.daachorse_model.specs.Dictionary.{values_of, registered}
+use Rattle.daachorse_model.specs.Dictionary.{values_of, registrations_of}
 use Rattle.daachorse_model.specs.Matches.{standard_from}
 use Rattle.daachorse_model.specs.Slow.{width_of}
 use Rattle.daachorse_model.proofs.SlowLemmas.{size-join, standard_left-next}
@@ -15,7 +15,7 @@ first_ending_at-requires g c =
 pub loop-read-preserved : goal.loop-read-preserved
 loop-read-preserved g c =
     let width = width_of c.args.width in
-    let K = values_of (registered c.args.patterns.now) in
+    let K = values_of (registrations_of c.args.patterns.now) in
     standard_left-next width K c.args.haystack.now c.loop-read.resume c.match-branch-2.resume c.loop-read.read c.size_of-start.result c.size_of-end.result c.in_ok-first.field-0
     c.loop-read.found.items c.match-branch-2.found.items (standard_from width K 0 [] c.args.haystack.now)
     c.loop-read.invariant.0 c.loop-read-test.true c.size_of-start.ensures c.size_of-end.ensures c.in_ok-first.ensures

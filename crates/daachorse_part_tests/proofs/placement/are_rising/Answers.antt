@@ -1,7 +1,7 @@
 -- One group more rises; groups that rise may be placed.
 use Rattle.std.proofs.Common.{◌≡◌, ◌+◌, ◌<◌, ◌≤◌, ℕ, List, length, arith, subst, sym, ◌∙◌}
 use Rattle.std.proofs.lemmas.Bool.Decides.{nat_tests}
-use Rattle.daachorse_placement.specs.Placement.{children_of, parent_of}
+use Rattle.daachorse_placement.specs.Placement.{children_of, group_parent}
 use Rattle.daachorse_part_tests.specs.Rising.{AreRising, RiseTo}
 use Rattle.daachorse_placement.proofs.PlaceStart.{children_at, parent_at}
 use Rattle.daachorse_part_tests.proofs.RisingLaws.{rise_more, rising_groups}
@@ -14,7 +14,7 @@ loop-group-preserved c =
     let inv = c.loop-group.invariant in
     let inside : i < length gs = omega arith in
     let e : children_of gs i ≡ c.as_slice.result.now = children_at gs i c.group-item.result inside c.group-item.is ∙ sym c.as_slice.ensures.value in
-    let p : parent_of gs i ≡ c.group-item.result.parent = parent_at gs i c.group-item.result inside c.group-item.is in
+    let p : group_parent gs i ≡ c.group-item.result.parent = parent_at gs i c.group-item.result inside c.group-item.is in
     let here : AreRising (children_of gs i) (length (children_of gs i)) c.args.block_len c.loop-group.id_from c.in-Some.next =
     subst (λ (cs : List (ℕ × ℕ)). AreRising cs (length cs) c.args.block_len c.loop-group.id_from c.in-Some.next) (sym e) c.in-Some.ensures in
     let some : 0 < length (children_of gs i) = subst (λ (cs : List (ℕ × ℕ)). 0 < length cs) (sym e) (grind (arith, nat_tests, c.if-is_empty.ensures, c.as_slice.ensures.len)) in

@@ -4,7 +4,7 @@ use Rattle.std.proofs.lemmas.List.{take_all}
 use Rattle.daachorse_model.specs.declared.MatchKind.{MatchKind}
 use Rattle.daachorse_model.specs.Dictionary.{dictionary}
 use Rattle.daachorse_prefilter.specs.Builders.{HasAdded}
-use Rattle.daachorse_prefilter.specs.Building.{made_of}
+use Rattle.daachorse_prefilter.specs.Building.{built_filter}
 use Rattle.daachorse_prefilter.specs.Filters.{PassesKeys}
 use Rattle.daachorse_patterns.specs.Patterns.{texts_of}
 use Rattle.daachorse_patterns.proofs.FilterLaws.{sound_passes, words, words-push}
@@ -28,7 +28,7 @@ returns-clause-ok g c =
     let texts = texts_of g.P.Pattern.units in let patterns = c.args.patterns.now in let i = c.loop-pattern.pattern-index in
     let whole : take i patterns ≡ patterns = take_all i patterns (omega (arith, c.loop-pattern-test.false)) in
     let made = c.build.ensures.made (words g.P.Pattern.spell (texts (take i patterns))) c.loop-pattern.invariant in
-    rw c.if-not-wanted.false (made ∙ ap (λ ps. made_of (words g.P.Pattern.spell (texts ps))) whole)
+    rw c.if-not-wanted.false (made ∙ ap (λ ps. built_filter (words g.P.Pattern.spell (texts ps))) whole)
 
 pub returns-clause-passes : goal.returns-clause-passes
 returns-clause-passes g c =

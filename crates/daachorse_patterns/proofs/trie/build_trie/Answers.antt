@@ -5,7 +5,7 @@ use Rattle.std.proofs.lemmas.Option.{IfSome_then}
 use Rattle.std.proofs.lemmas.Result.{err_from_is_err_and, IfOk-from_err}
 use Rattle.daachorse_core.proofs.Refusals.{at_error}
 use Rattle.daachorse_model.specs.declared.MatchKind.{MatchKind}
-use Rattle.daachorse_model.specs.Dictionary.{kept}
+use Rattle.daachorse_model.specs.Dictionary.{kept_registrations}
 use Rattle.daachorse_model.specs.Kinds.{is_leftmost}
 use Rattle.daachorse_build.specs.Builders.{kind_of, outputs_of}
 use Rattle.daachorse_build.specs.Steps.{HasOutputsOf}
@@ -28,7 +28,7 @@ returns-clause-ok g c =
     let o = c.add_all.new.nfa in let b = c.build_links.new.nfa in let d = c.build_outputs.new.self in
     let texts = HasTexts-kept cmp unit width o b rs linked.kept added.ok in
     let bound = made.outputs.all_kept texts.labels texts.registered in
-    let count : c.num_patterns.result ≡ length (kept c.args.kind rs) = c.num_patterns.ensures ∙ HasTexts-count cmp unit width o rs added.ok ∙ ap (λ k. length (kept k rs)) (added.kind ∙ old) in
+    let count : c.num_patterns.result ≡ length (kept_registrations c.args.kind rs) = c.num_patterns.ensures ∙ HasTexts-count cmp unit width o rs added.ok ∙ ap (λ k. length (kept_registrations k rs)) (added.kind ∙ old) in
     let few : IfSome c.args.max_patterns (λ n. length (outputs_of d) ≤ n) = IfSome_then c.args.max_patterns c.in_ok-check_count.ensures.ok (λ n low. omega (arith, low, bound, linked.kept.patterns, c.num_patterns.ensures)) in
     let F : MatchKind → Type 0 = λ k. Fit width k rs in
     record {
@@ -57,7 +57,7 @@ returns-in_err-check_count g c = record {
       let cmp = g.L.Ord.cmp in let unit = g.L.EdgeLabel.unit in let width = g.L.EdgeLabel.width in
       let rs : List (List ℕ × g.row.V.Denot) = texts_of g.P.Pattern.units c.args.patterns.now in
       let added = c.in_ok-add_all.ensures in let old = c.in_ok-nfa.ensures.kind in
-      let count : c.num_patterns.result ≡ length (kept c.args.kind rs) = c.num_patterns.ensures ∙ HasTexts-count cmp unit width c.add_all.new.nfa rs added.ok ∙ ap (λ k. length (kept k rs)) (added.kind ∙ old) in
+      let count : c.num_patterns.result ≡ length (kept_registrations c.args.kind rs) = c.num_patterns.ensures ∙ HasTexts-count cmp unit width c.add_all.new.nfa rs added.ok ∙ ap (λ k. length (kept_registrations k rs)) (added.kind ∙ old) in
       let F : MatchKind → Type 0 = λ k. Fit width k rs in
       at_error c.from_residual-in_err-check_count.result _ _ c.from_residual-in_err-check_count.ensures.1 (count_refused width (record { patterns = c.args.max_patterns; parents = None }) c.args.kind rs c.num_patterns.result c.in_err-check_count.field-0.0 count (subst F old added.fit) c.in_err-check_count.ensures.err);
   ok = IfOk-from_err c.from_residual-in_err-check_count.result _ c.from_residual-in_err-check_count.ensures.0;
@@ -72,13 +72,13 @@ returns-in_err-build_outputs g c = record {
       let cmp = g.L.Ord.cmp in let unit = g.L.EdgeLabel.unit in let width = g.L.EdgeLabel.width in
       let rs : List (List ℕ × g.row.V.Denot) = texts_of g.P.Pattern.units c.args.patterns.now in
       let added = c.in_ok-add_all.ensures in let old = c.in_ok-nfa.ensures.kind in
-      let count : c.num_patterns.result ≡ length (kept c.args.kind rs) = c.num_patterns.ensures ∙ HasTexts-count cmp unit width c.add_all.new.nfa rs added.ok ∙ ap (λ k. length (kept k rs)) (added.kind ∙ old) in
+      let count : c.num_patterns.result ≡ length (kept_registrations c.args.kind rs) = c.num_patterns.ensures ∙ HasTexts-count cmp unit width c.add_all.new.nfa rs added.ok ∙ ap (λ k. length (kept_registrations k rs)) (added.kind ∙ old) in
       let F : MatchKind → Type 0 = λ k. Fit width k rs in
-      let few : IfSome c.args.max_patterns (λ n. length (kept c.args.kind rs) ≤ n) = IfSome_then c.args.max_patterns c.in_ok-check_count.ensures.ok (λ n low. omega (arith, low, count)) in
+      let few : IfSome c.args.max_patterns (λ n. length (kept_registrations c.args.kind rs) ≤ n) = IfSome_then c.args.max_patterns c.in_ok-check_count.ensures.ok (λ n low. omega (arith, low, count)) in
       let linked = c.in_ok-order.ensures in let b = c.build_links.new.nfa in
       let texts = HasTexts-kept cmp unit width c.add_all.new.nfa b rs linked.kept added.ok in
       at_error c.from_residual-in_err-build_outputs.result _ _ c.from_residual-in_err-build_outputs.ensures.1 (outputs_refused width c.args.max_patterns None c.args.kind rs c.requires few (subst F old added.fit) c.in_err-build_outputs.field-0.0 _
-      (λ passed. let many = passed texts.labels texts.registered in omega (arith, many, ap (λ xs. length (kept (kind_of b) xs)) texts.units, ap (λ k. length (kept k rs)) (linked.kept.kind ∙ (added.kind ∙ old))))
+      (λ passed. let many = passed texts.labels texts.registered in omega (arith, many, ap (λ xs. length (kept_registrations (kind_of b) xs)) texts.units, ap (λ k. length (kept_registrations k rs)) (linked.kept.kind ∙ (added.kind ∙ old))))
       c.in_err-build_outputs.ensures.refused);
   ok = IfOk-from_err c.from_residual-in_err-build_outputs.result _ c.from_residual-in_err-build_outputs.ensures.0;
 }

@@ -3,8 +3,8 @@ use Rattle.std.specs.Prelude.{IfErr}
 use Rattle.std.proofs.Common.{rules, Err, ◌≤◌, ◌*◌, ◌^◌, ◌≡◌, ◌<◌, ℕ, List, length, sym, ◌∙◌, subst, arith, ap, set, ◌+◌, ◌||◌}
 use Rattle.std.proofs.lemmas.Result.{IfOk-from_err}
 use Rattle.std.proofs.lemmas.Grind.{common_steps}
-use Rattle.daachorse_placement.specs.Elements.{count_of, HasPlaced, IsFull, IsMapOf, layout_of}
-use Rattle.daachorse_placement.specs.Placement.{IsPlaceRefusal, AreApart, AreGroups, AreIds, AreLabels, IsPlaced, children_of, is_light, parent_of}
+use Rattle.daachorse_placement.specs.Elements.{element_count, HasPlaced, IsFull, IsMapOf, layout_of}
+use Rattle.daachorse_placement.specs.Placement.{IsPlaceRefusal, AreApart, AreGroups, AreIds, FitInBlock, IsPlaced, children_of, is_light, group_parent}
 use Rattle.daachorse_placement.proofs.PlaceStart.{children_at, parent_at, placed_weighed, block_kept, light_more, refusal, refusal_under}
 use Rattle.daachorse_placement.proofs.PlaceSteps.{placed_more}
 use Rattle.daachorse_placement.proofs.build_helper.place_all.Goals as goal
@@ -22,7 +22,7 @@ place-requires g c =
       some = subst (λ (cs : List (ℕ × ℕ)). 0 < length cs) e (c.requires.groups.some i (omega arith));
       labels =
           let block = block_kept c.loop-group.elements c.weigh.new.self (c.loop-group.elements.windowed || is_light c.group-item.result) c.weigh.ensures.windowed ∙ c.loop-group.invariant.block in
-          subst (λ (cs : List (ℕ × ℕ)). AreLabels c.weigh.new.self.block_len cs) e (subst (λ (n : ℕ). AreLabels n (children_of c.args.groups.now i)) (sym block) (c.requires.groups.labels i (omega arith)));
+          subst (λ (cs : List (ℕ × ℕ)). FitInBlock c.weigh.new.self.block_len cs) e (subst (λ (n : ℕ). FitInBlock n (children_of c.args.groups.now i)) (sym block) (c.requires.groups.labels i (omega arith)));
       ids =
           let len : length c.args.idx_map.now ≡ length c.loop-group.idx_map = omega arith in
           subst (λ (cs : List (ℕ × ℕ)). AreIds (length c.loop-group.idx_map) cs) e (subst (λ (n : ℕ). AreIds n (children_of c.args.groups.now i)) len (c.requires.groups.ids i (omega arith)));
@@ -32,7 +32,7 @@ place-requires g c =
 pub bounds-bases-group : goal.bounds-bases-group
 bounds-bases-group g c =
     let i = c.loop-group.group-index in
-    let e : parent_of c.args.groups.now i ≡ c.group-item.result.parent = parent_at c.args.groups.now i c.group-item.result (omega arith) c.group-item.is in
+    let e : group_parent c.args.groups.now i ≡ c.group-item.result.parent = parent_at c.args.groups.now i c.group-item.result (omega arith) c.group-item.is in
     let h = c.requires.groups.parents i (omega arith) in
     omega (arith, e, h)
 
@@ -49,7 +49,7 @@ loop-group-preserved g c =
     let inv = c.loop-group.invariant in
     let is_weighed = c.weigh.ensures.windowed in
     let e : children_of gs i ≡ c.as_slice.result.now = children_at gs i c.group-item.result (omega arith) c.group-item.is ∙ sym c.as_slice.ensures.value in
-    let p : parent_of gs i ≡ c.group-item.result.parent = parent_at gs i c.group-item.result (omega arith) c.group-item.is in
+    let p : group_parent gs i ≡ c.group-item.result.parent = parent_at gs i c.group-item.result (omega arith) c.group-item.is in
     let block : w.block_len ≡ c.args.elements.now.block_len = block_kept a w (a.windowed || is_light c.group-item.result) is_weighed ∙ inv.block in
     let window : w.windowed ≡ (a.windowed || is_light c.group-item.result) = ap (λ v. v.windowed) is_weighed in
     let h : HasPlaced w b (children_of gs i) base c.args.tracked = subst (λ (cs : List (ℕ × ℕ)). HasPlaced w b cs base c.args.tracked) (sym e) c.in_ok-base.ensures.placed in
@@ -84,12 +84,12 @@ returns-in_err-base g c = record {
       let inv = c.loop-group.invariant in
       let is_weighed = c.weigh.ensures.windowed in
       let block : w.block_len ≡ n = block_kept a w (a.windowed || is_light c.group-item.result) is_weighed ∙ inv.block in
-      let count : count_of w ≡ a.num_blocks * n = ap (λ v. count_of v) is_weighed ∙ (inv.whole.blocks ∙ ap (λ k. a.num_blocks * k) inv.block) in
+      let count : element_count w ≡ a.num_blocks * n = ap (λ v. element_count v) is_weighed ∙ (inv.whole.blocks ∙ ap (λ k. a.num_blocks * k) inv.block) in
       let few : a.num_blocks ≤ m = let f = inv.placed.few in omega arith in
-      let passed : 2 ^ 32 ≤ count_of w + w.block_len → 2 ^ 32 ≤ (m + 1) * n = λ h. refusal a.num_blocks m n few (omega (arith, h, block, count)) in
+      let passed : 2 ^ 32 ≤ element_count w + w.block_len → 2 ^ 32 ≤ (m + 1) * n = λ h. refusal a.num_blocks m n few (omega (arith, h, block, count)) in
       let is_err : c.from_residual.result ≡ Err c.in_err-base.field-0.0 = search rules in
       subst (λ r. IfErr r (IsPlaceRefusal (2 ^ 32 ≤ (m + 1) * n))) (sym is_err)
-      (refusal_under (2 ^ 32 ≤ count_of w + w.block_len) (2 ^ 32 ≤ (m + 1) * n) c.in_err-base.field-0.0 passed c.in_err-base.ensures.refused);
+      (refusal_under (2 ^ 32 ≤ element_count w + w.block_len) (2 ^ 32 ≤ (m + 1) * n) c.in_err-base.field-0.0 passed c.in_err-base.ensures.refused);
   whole = IfOk-from_err c.from_residual.result _ c.from_residual.ensures.0;
   full = IfOk-from_err c.from_residual.result _ c.from_residual.ensures.0;
   block = IfOk-from_err c.from_residual.result _ c.from_residual.ensures.0;

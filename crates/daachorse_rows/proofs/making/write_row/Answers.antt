@@ -5,7 +5,7 @@ use Rattle.std.specs.declared.num.NonZeroU32.{NonZeroU32}
 use Rattle.std.proofs.lemmas.Result.{IfOk-from_err}
 use Rattle.std.proofs.lemmas.List.{get_or_read}
 use Rattle.daachorse_core.specs.Looks.{IsFirstOutput}
-use Rattle.daachorse_rows.specs.Rows.{IsEntry, Stands, stands_by}
+use Rattle.daachorse_rows.specs.Rows.{IsSlotEntry, Stands, stands_by}
 use Rattle.daachorse_rows.proofs.MakingLaws.{AreWritten-next, AreWritten-push, ends_read, fits_rows, slot_foreign, slot_step, unit_read}
 use Rattle.daachorse_rows.proofs.making.write_row.Goals as goal
 
@@ -19,7 +19,7 @@ loop-k-init g c =
     let width = c.args.width in let base = length order * width in let K = A.content a in
     let F : List ℕ → Option NonZeroU32 → Type 0 = IsFirstOutput g.A.Unit.EdgeLabel.width (A.content a) (A.dead a) (A.has_output a) (A.outputs a) (A.most_outputs a) in
     let e : c.len.result ≡ length order = omega (arith, c.len.ensures, c.args.chosen.now.order.ok.0) in
-    let S : ℕ → Type 0 = λ n. IsEntry (λ x. Stands order width (n * width) x c.root-root.result) (c.output_pos.result ≡ None) c.entry.result in
+    let S : ℕ → Type 0 = λ n. IsSlotEntry (λ x. Stands order width (n * width) x c.root-root.result) (c.output_pos.result ≡ None) c.entry.result in
     let one = AreWritten-push K (A.reached a) (A.text a) (A.dead a) (stands_by g.A.Label.RowLabel.number (A.labels a)) F labels order width base c.args.row 0 1 c.index-state.result.now c.args.top.now.items c.push.new.self.items c.requires.written c.in_ok-push.ensures.items (row_state order c.args.row c.index-state.result.now c.requires.row c.index-state.ensures) refl in
     AreWritten-push K (A.reached a) (A.text a) (A.dead a) (stands_by g.A.Label.RowLabel.number (A.labels a)) F labels order width base c.args.row 1 2 c.entry.result c.push.new.self.items c.push-2.new.self.items one c.in_ok-push-2.ensures.items
     (slot_foreign K (A.reached a) (A.text a) (A.dead a) (stands_by g.A.Label.RowLabel.number (A.labels a)) F labels order width base c.requires.labels c.args.row c.entry.result c.root-root.result c.output_pos.result (subst S e c.entry.ensures) c.output_pos.ensures c.root-root.ensures.reached c.root-root.ensures.text) refl
@@ -41,7 +41,7 @@ loop-k-preserved g c =
     let width = c.args.width in let base = length order * width in let K = A.content a in
     let F : List ℕ → Option NonZeroU32 → Type 0 = IsFirstOutput g.A.Unit.EdgeLabel.width (A.content a) (A.dead a) (A.has_output a) (A.outputs a) (A.most_outputs a) in
     let e : c.len.result ≡ length order = omega (arith, c.len.ensures, c.args.chosen.now.order.ok.0) in
-    let S : ℕ → Type 0 = λ n. IsEntry (λ x. Stands order width (n * width) x c.follow-next.result.0) (c.follow-next.result.1 ≡ None) c.entry-in-loop-k.result in
+    let S : ℕ → Type 0 = λ n. IsSlotEntry (λ x. Stands order width (n * width) x c.follow-next.result.0) (c.follow-next.result.1 ≡ None) c.entry-in-loop-k.result in
     let same = row_state order c.args.row c.index-state.result.now c.requires.row c.index-state.ensures in
     let label = c.index-labels-k.result in
     let ends = ends_read g.A.Label.RowLabel.number K (A.dead a) (A.text a) g.met.A.Label.RowLabel.exact (A.labels a) c.args.labels.now c.loop-k.k label (slice_index order c.args.row) c.index-state.result.now c.follow-next.result.0 c.loop-k-test.true c.index-labels-k.is same c.follow-next.ensures.ends in

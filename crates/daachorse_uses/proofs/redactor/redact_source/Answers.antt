@@ -9,14 +9,14 @@ use Rattle.daachorse_search.specs.ByteSources.{CountFits-after, CountFits-run}
 use Rattle.daachorse_bytewise.specs.Automata.{dictionary_of}
 use Rattle.daachorse_replacing.specs.Replaced.{AppendsBeginning}
 use Rattle.daachorse_replacing.proofs.Sending.{AppendsBeginning-more}
-use Rattle.daachorse_uses.specs.Redacted.{redacted}
+use Rattle.daachorse_uses.specs.Redacted.{redaction}
 use Rattle.daachorse_uses.proofs.Marks.{some_run, whole_run}
 use Rattle.daachorse_uses.proofs.Redactions.{at_any_err, written_begins, written_more, written_next}
 use Rattle.daachorse_uses.proofs.redactor.redact_source.Goals as goal
 
 pub returns-in_err-redactor-clause-beginning : goal.returns-in_err-redactor-clause-beginning
 returns-in_err-redactor-clause-beginning g c =
-    let all = redacted c.args.words.now.folds (dictionary_of c.args.words.now) c.args.mask.now in
+    let all = redaction c.args.words.now.folds (dictionary_of c.args.words.now) c.args.mask.now in
     let old = g.W.Write.contents c.args.out.now in
     at_any_err c.from_residual.result _ (some_run g.S.Iterator.next_gives c.args.source c.args.source [] (λ xs. AppendsBeginning old old (all xs)) refl ([], all [], refl, Appends-nil old))
 
@@ -43,7 +43,7 @@ push-requires g c =
 
 pub returns-in_err-push-clause-beginning : goal.returns-in_err-push-clause-beginning
 returns-in_err-push-clause-beginning g c =
-    let all = redacted c.args.words.now.folds (dictionary_of c.args.words.now) c.args.mask.now in
+    let all = redaction c.args.words.now.folds (dictionary_of c.args.words.now) c.args.mask.now in
     let old = g.W.Write.contents c.args.out.now in
     let now = g.W.Write.contents c.loop-byte.out in
     let P : g.row.S.Denot → Type 0 = λ s. SomeRun g.S.Iterator.next_gives s (λ p. AppendsBeginning old now (all p.items)) in
@@ -58,7 +58,7 @@ loop-byte-preserved g c =
     let goes = c.in-Some.ensures.goes.on kept.is_finite in
     let redactor = c.loop-byte.redactor in
     let text = c.loop-byte.yielded ++ c.in-Some.byte ∷ [] in
-    let all = redacted c.args.words.now.folds (dictionary_of c.args.words.now) c.args.mask.now in
+    let all = redaction c.args.words.now.folds (dictionary_of c.args.words.now) c.args.mask.now in
     let pushed : kept.written.0 ++ c.push.new.self.held ≡ all text =
     written_next redactor.words c.args.words.now redactor.mask c.args.mask.now redactor.read c.loop-byte.yielded c.push.new.self.read c.in-Some.byte kept.written.0 redactor.held c.push.new.self.held
     kept.states kept.folds kept.mask kept.read c.in_ok-push.ensures.read c.in_ok-push.ensures.held kept.written.1 in
@@ -78,7 +78,7 @@ returns-in_err-send-clause-beginning g c =
     let kept = c.loop-byte.invariant in
     let redactor = c.loop-byte.redactor in
     let text = c.loop-byte.yielded ++ c.in-Some.byte ∷ [] in
-    let all = redacted c.args.words.now.folds (dictionary_of c.args.words.now) c.args.mask.now in
+    let all = redaction c.args.words.now.folds (dictionary_of c.args.words.now) c.args.mask.now in
     let pushed : kept.written.0 ++ c.push.new.self.held ≡ all text =
     written_next redactor.words c.args.words.now redactor.mask c.args.mask.now redactor.read c.loop-byte.yielded c.push.new.self.read c.in-Some.byte kept.written.0 redactor.held c.push.new.self.held
     kept.states kept.folds kept.mask kept.read c.in_ok-push.ensures.read c.in_ok-push.ensures.held kept.written.1 in
@@ -92,7 +92,7 @@ returns-in_err-send-clause-beginning g c =
 
 pub returns : goal.returns
 returns g c =
-    let all = redacted c.args.words.now.folds (dictionary_of c.args.words.now) c.args.mask.now in
+    let all = redaction c.args.words.now.folds (dictionary_of c.args.words.now) c.args.mask.now in
     let written = c.loop-byte.invariant.written in
     let old = g.W.Write.contents c.args.out.now in
     let end = g.W.Write.contents c.finish.new.out in

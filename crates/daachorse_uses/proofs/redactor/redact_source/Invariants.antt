@@ -3,7 +3,7 @@ use Rattle.std.proofs.Common.{◌≡◌, List, ℕ, ◌++◌, length}
 use Rattle.std.specs.Io.KnownBytes.{Appends}
 use Rattle.std.specs.Iterator.Runs.{CountFits}
 use Rattle.daachorse_bytewise.specs.Automata.{dictionary_of, states_of}
-use Rattle.daachorse_uses.specs.Redacted.{redacted}
+use Rattle.daachorse_uses.specs.Redacted.{redaction}
 use Rattle.daachorse_uses.proofs.redactor.redact_source.Given as goal
 
 abbrev pub invariant-loop-byte : goal.invariant-loop-byte
@@ -15,5 +15,5 @@ invariant-loop-byte g l = record {
   folds : l.redactor.words.folds ≡ l.fn.words.folds;
   mask : l.redactor.mask ≡ l.fn.mask;
   read : l.redactor.read ≡ l.yielded;
-  written : (written : List ℕ) × (written ++ l.redactor.held ≡ redacted l.fn.words.folds (dictionary_of l.fn.words) l.fn.mask l.yielded) × Appends (g.W.Write.contents l.fn.out) (g.W.Write.contents l.out) written;
+  written : (written : List ℕ) × (written ++ l.redactor.held ≡ redaction l.fn.words.folds (dictionary_of l.fn.words) l.fn.mask l.yielded) × Appends (g.W.Write.contents l.fn.out) (g.W.Write.contents l.out) written;
 }

@@ -6,7 +6,7 @@ use Rattle.std.specs.declared.cmp.Ordering.{Ordering}
 use Rattle.daachorse_model.specs.declared.MatchKind.{MatchKind}
 use Rattle.daachorse_model.specs.Units.{size}
 use Rattle.daachorse_model.specs.Kinds.{is_leftmost_first}
-use Rattle.daachorse_model.specs.Dictionary.{kept}
+use Rattle.daachorse_model.specs.Dictionary.{kept_registrations}
 use Rattle.daachorse_core.specs.declared.errors.Limit.TheVariants.{StateId}
 use Rattle.daachorse_build.specs.declared.nfa_builder.NfaBuilderState.{NfaBuilderState}
 use Rattle.daachorse_build.specs.Tables.{child_of, stops_of}
@@ -22,12 +22,12 @@ use Rattle.daachorse_build.proofs.nfa_builder.NfaBuilder.add.Goals.{else-is_left
 
 module _ {L V A : Type 0} (cmp : L → L → Ordering) (unit : L → ℕ) (width : ℕ → ℕ) (kind : MatchKind) (states : List (NfaBuilderState L V A)) (rs : List (List L × V)) (holds : Holds cmp unit width kind states rs) (p : List L) (v : V) where
   -- a pattern that no key begins, or of another kind, counts
-  counts : (is_leftmost_first kind ≡ false) ⊎ (meets_early (child_of cmp states) (stops_of true states) 0 p ≡ false) → kept kind (in_units unit (rs ++ (p, v) ∷ [])) ≡ kept kind (in_units unit rs) ++ (map unit p, v) ∷ []
+  counts : (is_leftmost_first kind ≡ false) ⊎ (meets_early (child_of cmp states) (stops_of true states) 0 p ≡ false) → kept_registrations kind (in_units unit (rs ++ (p, v) ∷ [])) ≡ kept_registrations kind (in_units unit rs) ++ (map unit p, v) ∷ []
   counts (inl other) = kept_one unit kind rs p v (inl other)
   counts (inr none) = kept_one unit kind rs p v (inr (no_key_before cmp unit width kind states rs holds p none))
 
   -- a pattern that a key begins is left out
-  drops : is_leftmost_first kind ≡ true → meets_early (child_of cmp states) (stops_of true states) 0 p ≡ true → kept kind (in_units unit (rs ++ (p, v) ∷ [])) ≡ kept kind (in_units unit rs)
+  drops : is_leftmost_first kind ≡ true → meets_early (child_of cmp states) (stops_of true states) 0 p ≡ true → kept_registrations kind (in_units unit (rs ++ (p, v) ∷ [])) ≡ kept_registrations kind (in_units unit rs)
   drops first early =
       let key = key_before cmp unit width kind states rs holds p early in
       kept_same unit kind rs p v first key.0 key.1 key.2
@@ -66,7 +66,7 @@ returns-clause-added g c = rw (← c.self.view_is) (
           let more = counts cmp unit width b.kind b.states.items rs reg.holds p c.args.value why in
           record {
             holds = holds_more unit g.met.L.EdgeLabel.exact b.kind rs p c.args.value more cmp width b.states.items c.add_pattern.new.states.items reg.holds added;
-            count = omega (arith, len, reg.count, ap length more, length_push (kept b.kind (in_units unit rs)) (map unit p, c.args.value));
+            count = omega (arith, len, reg.count, ap length more, length_push (kept_registrations b.kind (in_units unit rs)) (map unit p, c.args.value));
           };
       short = rw (← c.in_ok-size.ensures.size) (search rules);
       fits = λ few. omega (arith, c.in_ok-add_pattern.ensures.fits (omega (arith, few)));

@@ -15,14 +15,14 @@ use Rattle.daachorse_placement.specs.declared.build_helper.profile.Profile.{Prof
 use Rattle.daachorse_placement.specs.declared.build_helper.SiblingGroup.{SiblingGroup}
 use Rattle.daachorse_build.specs.declared.nfa_builder.NfaBuilderState.{NfaBuilderState}
 use Rattle.daachorse_build.specs.Tables.{edges_of, HoldTrie}
-use Rattle.daachorse_build.specs.Groups.{AreGiven, edges_at, has_edges, parents_of, weight_at, IsWalk, GivesCodes, AreTrieGroups, AreFamilies, AreWeighed, AreFalling, AreLight, AreSiblingGroups}
+use Rattle.daachorse_build.specs.Groups.{AreGiven, edges_at, has_edges, parents_of, weight_at, VisitsEachState, GivesCodes, AreTrieGroups, AreFamilies, AreWeighed, AreFalling, AreLight, AreSiblingGroups}
 use Rattle.daachorse_build.proofs.Families.{few_groups, labels_below, trie_groups, placed_groups, if_counted-none}
 use Rattle.daachorse_build.proofs.nfa_builder.NfaBuilder.sibling_groups.Goals as goal
 use Rattle.daachorse_build.proofs.nfa_builder.NfaBuilder.sibling_groups.Goals.{then-not-is_empty+in_ok-sort_by_key, else-not-is_empty}
 
 -- groups of a walk, in another order
 module _ {L V A : Type 0} (cmp : L → L → Ordering) (total : IsTotalOrder cmp) (states : List (NfaBuilderState L V A)) (table : HoldTrie cmp states) (gives : L → ℕ → Type 0) (profile : Profile A) (first gs : List (SiblingGroup A)) (order : List ℕ)
-    (walk : IsWalk (edges_of states) order) (parents : parents_of first ≡ filter (has_edges (edges_of states)) order) (families : AreFamilies gives (edges_of states) first) (weighed : AreWeighed (edges_of states) profile first) (moved : IsPermutation first gs) where
+    (walk : VisitsEachState (edges_of states) order) (parents : parents_of first ≡ filter (has_edges (edges_of states)) order) (families : AreFamilies gives (edges_of states) first) (weighed : AreWeighed (edges_of states) profile first) (moved : IsPermutation first gs) where
   of_trie : (code : L → ℕ) → GivesCodes cmp (edges_of states) gives code → AreTrieGroups cmp code states gs
   of_trie code says = trie_groups cmp total states table order walk gives first gs parents families moved code says
 

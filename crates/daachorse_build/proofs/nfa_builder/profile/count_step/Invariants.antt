@@ -1,13 +1,13 @@
 -- More was counted, and each link leads nearer to the root.
 use Rattle.std.proofs.Common.{◌≢◌, ◌<◌, length}
 use Rattle.daachorse_build.specs.Tables.{edges_of, fails_of}
-use Rattle.daachorse_build.specs.Counts.{IsCounted}
+use Rattle.daachorse_build.specs.Counts.{HasCountedMore}
 use Rattle.daachorse_build.proofs.LinksBack.{links_from}
 use Rattle.daachorse_build.proofs.nfa_builder.profile.count_step.Given as goal
 
 abbrev pub invariant-loop-next : goal.invariant-loop-next
 invariant-loop-next g l = record {
-  counted : IsCounted l.fn.profile l.profile;
+  counted : HasCountedMore l.fn.profile l.profile;
   state : l.id < length l.states;
   alive : l.id ≢ 1;
 }

@@ -10,18 +10,18 @@ use Rattle.std.specs.declared.cmp.Ordering.{Ordering}
 use Rattle.std.specs.Cmp.{IsTotalOrder}
 use Rattle.daachorse_build.specs.Orders.{children}
 use Rattle.daachorse_build.specs.Tables.{edges_of, HoldTrie}
-use Rattle.daachorse_build.specs.Groups.{edges_at, is_some_edge, IsWalking, AreGiven, weight_at}
+use Rattle.daachorse_build.specs.Groups.{edges_at, is_some_edge, IsStackWalk, AreGiven, weight_at}
 use Rattle.daachorse_build.proofs.EdgeTurns.{edges_read}
 use Rattle.daachorse_build.proofs.Families.{has_edges_if, parents_more, parents_same}
 use Rattle.daachorse_build.proofs.StackWalk.{work, walk_start, walk_step, walk_end, top_bounds, less_work}
 use Rattle.daachorse_build.proofs.nfa_builder.siblings.groups_of.Goals as goal
 
-module _ {L V A : Type 0} (cmp : L → L → Ordering) (total : IsTotalOrder cmp) (states : List (NfaBuilderState L V A)) (table : HoldTrie cmp states) (order stack rest : List ℕ) (t : ℕ) (popped : stack ≡ rest ++ t ∷ []) (before : IsWalking (edges_of states) order stack) where
+module _ {L V A : Type 0} (cmp : L → L → Ordering) (total : IsTotalOrder cmp) (states : List (NfaBuilderState L V A)) (table : HoldTrie cmp states) (order stack rest : List ℕ) (t : ℕ) (popped : stack ≡ rest ++ t ∷ []) (before : IsStackWalk (edges_of states) order stack) where
   abbrev edges : List (List (L × ℕ))
   edges = edges_of states
 
-  walking : IsWalking edges order (rest ++ t ∷ [])
-  walking = let P : List ℕ → Type 0 = λ xs. IsWalking edges order xs in subst P popped before
+  walking : IsStackWalk edges order (rest ++ t ∷ [])
+  walking = let P : List ℕ → Type 0 = λ xs. IsStackWalk edges order xs in subst P popped before
 
   -- what comes off the stack is a state
   top_low : t < length states
@@ -36,8 +36,8 @@ module _ {L V A : Type 0} (cmp : L → L → Ordering) (total : IsTotalOrder cmp
       next_is : rest ++ children edges t ≡ next
       next_is = ap (λ fs. rest ++ values_of fs) edges_here ∙ sym put
 
-      step : IsWalking edges (order ++ t ∷ []) next
-      step = let W : List ℕ → Type 0 = λ xs. IsWalking edges (order ++ t ∷ []) xs in subst W next_is (walk_step cmp total edges table order rest t walking)
+      step : IsStackWalk edges (order ++ t ∷ []) next
+      step = let W : List ℕ → Type 0 = λ xs. IsStackWalk edges (order ++ t ∷ []) xs in subst W next_is (walk_step cmp total edges table order rest t walking)
 
       less : work edges next < work edges stack
       less = rw (popped, ← next_is) (less_work cmp total edges table order rest t walking)
@@ -132,7 +132,7 @@ pub returns-clause-parents : goal.returns-clause-parents
 returns-clause-parents g c =
     let edges = edges_of c.args.states.now in
     let walk = c.loop-id.invariant.walk in
-    let P : List ℕ → Type 0 = λ xs. IsWalking edges walk.0 xs in
+    let P : List ℕ → Type 0 = λ xs. IsStackWalk edges walk.0 xs in
     let zero' : length c.loop-id.stack.items ≡ 0 = omega (arith, c.in_default.ensures.cases.0) in
     let none = nothing c.loop-id.stack.items zero' in
     (walk.0, walk_end g.L.Ord.cmp g.met.L.Ord.total edges c.requires.trie walk.0 (subst P none walk.1), walk.2)

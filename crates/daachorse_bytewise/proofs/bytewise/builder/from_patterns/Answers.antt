@@ -2,7 +2,7 @@
 use Rattle.std.proofs.Common.{◌≡◌, ◌∙◌, ℕ, Bool, List, map, refl, ap, sym}
 use Rattle.std.specs.Borrow.{Bor}
 use Rattle.std.proofs.lemmas.Result.{IfOk-weaker}
-use Rattle.daachorse_model.specs.Dictionary.{registered}
+use Rattle.daachorse_model.specs.Dictionary.{registrations_of}
 use Rattle.daachorse_patterns.specs.Folding.{all_as_read, texts_as_read}
 use Rattle.daachorse_patterns.specs.Patterns.{texts_of}
 use Rattle.daachorse_patterns.proofs.FilterLaws.{texts-first}
@@ -11,11 +11,11 @@ use Rattle.daachorse_bytewise.specs.Building.{kept_filter}
 use Rattle.daachorse_bytewise.proofs.bytewise.builder.from_patterns.Goals as goal
 
 -- the texts of what is lent are those of the patterns, as they are read
-texts : {V : Type 0} (folds : Bool) (ps lends : List (Bor (List ℕ) × V)) → registered lends ≡ texts_as_read folds (registered ps) → map (λ p. p.0.now) lends ≡ all_as_read folds (map (λ p. p.0.now) ps)
+texts : {V : Type 0} (folds : Bool) (ps lends : List (Bor (List ℕ) × V)) → registrations_of lends ≡ texts_as_read folds (registrations_of ps) → map (λ p. p.0.now) lends ≡ all_as_read folds (map (λ p. p.0.now) ps)
 texts {V} folds ps lends is =
     let units : Bor (List ℕ) → List ℕ = λ p. p.now in
     let first : List (List ℕ × V) → List (List ℕ) = map (λ r. r.0) in
-    sym (texts-first units lends) ∙ ap first is ∙ first-as_read folds (registered ps) ∙ ap (all_as_read folds) (texts-first units ps)
+    sym (texts-first units lends) ∙ ap first is ∙ first-as_read folds (registrations_of ps) ∙ ap (all_as_read folds) (texts-first units ps)
 
 pub from_read-requires : goal.from_read-requires
 from_read-requires g c = rw c.if-not-settings.true refl
@@ -31,28 +31,28 @@ returns-then-not-settings-clause-err g c = rw c.if-not-settings.true c.from_read
 
 pub from_read-requires-2 : goal.from_read-requires-2
 from_read-requires-2 g c =
-    let rs = registered c.args.patterns.now in
-    read_stands c.args.settings.now.ascii_case_insensitive rs (registered c.deref-2.result.now)
-    (lent_read c.args.settings.now.ascii_case_insensitive rs (registered c.deref-2.result.now) _ c.if-not-settings.false (ap registered c.deref-2.ensures.value ∙ c.in_ok-folded.ensures.ok)
+    let rs = registrations_of c.args.patterns.now in
+    read_stands c.args.settings.now.ascii_case_insensitive rs (registrations_of c.deref-2.result.now)
+    (lent_read c.args.settings.now.ascii_case_insensitive rs (registrations_of c.deref-2.result.now) _ c.if-not-settings.false (ap registrations_of c.deref-2.ensures.value ∙ c.in_ok-folded.ensures.ok)
     (ap (texts_of (λ x. x.items)) c.deref.ensures.value ∙ c.in_ok-copies.ensures.ok))
 
 pub returns-clause-ok : goal.returns-clause-ok
 returns-clause-ok g c =
     let is =
-    lent_read c.args.settings.now.ascii_case_insensitive (registered c.args.patterns.now) (registered c.deref-2.result.now) _ c.if-not-settings.false (ap registered c.deref-2.ensures.value ∙ c.in_ok-folded.ensures.ok)
+    lent_read c.args.settings.now.ascii_case_insensitive (registrations_of c.args.patterns.now) (registrations_of c.deref-2.result.now) _ c.if-not-settings.false (ap registrations_of c.deref-2.ensures.value ∙ c.in_ok-folded.ensures.ok)
     (ap (texts_of (λ x. x.items)) c.deref.ensures.value ∙ c.in_ok-copies.ensures.ok) in
     rw is at c.from_read-2.ensures.ok
 
 pub returns-clause-err : goal.returns-clause-err
 returns-clause-err g c =
     let is =
-    lent_read c.args.settings.now.ascii_case_insensitive (registered c.args.patterns.now) (registered c.deref-2.result.now) _ c.if-not-settings.false (ap registered c.deref-2.ensures.value ∙ c.in_ok-folded.ensures.ok)
+    lent_read c.args.settings.now.ascii_case_insensitive (registrations_of c.args.patterns.now) (registrations_of c.deref-2.result.now) _ c.if-not-settings.false (ap registrations_of c.deref-2.ensures.value ∙ c.in_ok-folded.ensures.ok)
     (ap (texts_of (λ x. x.items)) c.deref.ensures.value ∙ c.in_ok-copies.ensures.ok) in
     rw is at c.from_read-2.ensures.err
 
 pub returns-clause-filter : goal.returns-clause-filter
 returns-clause-filter g c =
     let is =
-    lent_read c.args.settings.now.ascii_case_insensitive (registered c.args.patterns.now) (registered c.deref-2.result.now) _ c.if-not-settings.false (ap registered c.deref-2.ensures.value ∙ c.in_ok-folded.ensures.ok)
+    lent_read c.args.settings.now.ascii_case_insensitive (registrations_of c.args.patterns.now) (registrations_of c.deref-2.result.now) _ c.if-not-settings.false (ap registrations_of c.deref-2.ensures.value ∙ c.in_ok-folded.ensures.ok)
     (ap (texts_of (λ x. x.items)) c.deref.ensures.value ∙ c.in_ok-copies.ensures.ok) in
     IfOk-weaker c.from_read-2.result _ _ (λ a same. same ∙ ap (kept_filter c.args.settings.now.use_prefilter) (texts c.args.settings.now.ascii_case_insensitive c.args.patterns.now c.deref-2.result.now is)) c.from_read-2.ensures.filter

@@ -3,7 +3,7 @@ use Rattle.std.proofs.Common.{◌≡◌, ◌∙◌, ℕ, List, ap, sym, subst, S
 use Rattle.std.specs.Borrow.{Bor}
 use Rattle.std.proofs.lemmas.Result.{err_from_is_err_and}
 use Rattle.daachorse_core.proofs.Refusals.{at_error}
-use Rattle.daachorse_model.specs.Dictionary.{dictionary, registered}
+use Rattle.daachorse_model.specs.Dictionary.{dictionary, registrations_of}
 use Rattle.daachorse_model.specs.Units.{byte_width}
 use Rattle.daachorse_bytewise_states.specs.Parts.{Parts, content}
 use Rattle.daachorse_prefilter.proofs.KeyLaws.{passes_along}
@@ -15,29 +15,29 @@ use Rattle.daachorse_bytewise.specs.Building.{byte_limits, kept_filter}
 use Rattle.daachorse_bytewise.proofs.bytewise.builder.from_read.Goals as goal
 
 pub returns-in_err-nfa-clause-err : goal.returns-in_err-nfa-clause-err
-returns-in_err-nfa-clause-err g c = at_error c.from_residual.result _ _ c.from_residual.ensures.1 (refused_before byte_width byte_limits c.args.settings.now.match_kind (registered c.args.patterns.now) c.in_err-nfa.field-0.0 c.in_err-nfa.ensures.err)
+returns-in_err-nfa-clause-err g c = at_error c.from_residual.result _ _ c.from_residual.ensures.1 (refused_before byte_width byte_limits c.args.settings.now.match_kind (registrations_of c.args.patterns.now) c.in_err-nfa.field-0.0 c.in_err-nfa.ensures.err)
 
 pub profile_of-requires : goal.profile_of-requires
 profile_of-requires g c =
-    links_back byte_width (Some 16777215) c.args.settings.now.match_kind c.in_ok-nfa.nfa (dictionary c.args.settings.now.match_kind (registered c.args.patterns.now)) c.in_ok-nfa.ensures.ok.built
+    links_back byte_width (Some 16777215) c.args.settings.now.match_kind c.in_ok-nfa.nfa (dictionary c.args.settings.now.match_kind (registrations_of c.args.patterns.now)) c.in_ok-nfa.ensures.ok.built
 
 pub build-requires-clause-built : goal.build-requires-clause-built
-build-requires-clause-built g c = (dictionary c.args.settings.now.match_kind (registered c.args.patterns.now), c.in_ok-nfa.ensures.ok.built)
+build-requires-clause-built g c = (dictionary c.args.settings.now.match_kind (registrations_of c.args.patterns.now), c.in_ok-nfa.ensures.ok.built)
 
 pub returns-in_err-states-clause-err : goal.returns-in_err-states-clause-err
 returns-in_err-states-clause-err g c =
     let p = err_from_is_err_and c.from_residual-in_err-states.result c.from_residual-in_err-states.ensures.1 in
-    let rs = registered c.args.patterns.now in
+    let rs = registrations_of c.args.patterns.now in
     rw (p.1, p.2) (elements_refused byte_width byte_limits c.args.settings.now.match_kind rs c.in_ok-nfa.ensures.ok.fit c.in_ok-nfa.ensures.ok.few c.in_err-states.field-0.0 _ (λ passed. passed (dictionary c.args.settings.now.match_kind rs) c.in_ok-nfa.ensures.ok.built) c.in_err-states.ensures.err)
 
 pub of_states-requires : goal.of_states-requires
 of_states-requires g c = record {
   folded = λ on k key.
       let kind = c.args.settings.now.match_kind in
-      let rs = registered c.args.patterns.now in
+      let rs = registrations_of c.args.patterns.now in
       keys-as_read c.args.settings.now.ascii_case_insensitive kind rs c.requires on k (λ none. key (c.in_ok-states.ensures.ok (dictionary kind rs) c.in_ok-nfa.ensures.ok.built k ∙ none));
   filter =
-      let K = dictionary c.args.settings.now.match_kind (registered c.args.patterns.now) in
+      let K = dictionary c.args.settings.now.match_kind (registrations_of c.args.patterns.now) in
       passes_along (λ w. w) K (content c.in_ok-states.states) (c.in_ok-states.ensures.ok K c.in_ok-nfa.ensures.ok.built) c.in_ok-filter.filter (c.in_ok-filter.ensures.passes c.args.settings.now.match_kind);
 }
 
@@ -48,6 +48,6 @@ returns-clause-filter g c =
 
 pub returns-clause-ok : goal.returns-clause-ok
 returns-clause-ok g c =
-    let K = dictionary c.args.settings.now.match_kind (registered c.args.patterns.now) in
+    let K = dictionary c.args.settings.now.match_kind (registrations_of c.args.patterns.now) in
     let P : Parts g.row.V.Denot → Type 0 = λ p. (w : List ℕ) → content p w ≡ K w in
     subst P (sym c.of_states.ensures.states) (c.in_ok-states.ensures.ok K c.in_ok-nfa.ensures.ok.built)

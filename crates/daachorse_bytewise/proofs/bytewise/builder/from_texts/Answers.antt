@@ -2,7 +2,7 @@
 use Rattle.std.proofs.Common.{◌≡◌, ◌∙◌, ℕ, List, map, ap, sym, subst}
 use Rattle.std.proofs.lemmas.Result.{IfOk-weaker, IfErr-weaker, err_from_is_err_and}
 use Rattle.std.specs.Borrow.{Bor}
-use Rattle.daachorse_model.specs.Dictionary.{registered}
+use Rattle.daachorse_model.specs.Dictionary.{registrations_of}
 use Rattle.daachorse_model.specs.Units.{byte_width}
 use Rattle.daachorse_patterns.specs.Folding.{all_as_read, texts_as_read}
 use Rattle.daachorse_patterns.specs.Patterns.{AreIndexed}
@@ -24,10 +24,10 @@ returns-clause-ok g c =
     let now : Bor (List ℕ) → List ℕ = λ t. t.now in
     let folds = c.args.settings.now.ascii_case_insensitive in
     let all : List (List ℕ) = map now c.args.texts.now in
-    let P : List (Bor (List ℕ) × g.row.V.Denot) → Type 0 = λ ps. AreIndexed gives 0 all (registered ps) in
+    let P : List (Bor (List ℕ) × g.row.V.Denot) → Type 0 = λ ps. AreIndexed gives 0 all (registrations_of ps) in
     let indexed = subst P (sym c.deref.ensures.value) (AreIndexed-texts gives now 0 c.args.texts.now c.in_ok-patterns.patterns.items c.in_ok-patterns.ensures.ok) in
     IfOk-weaker c.from_patterns.result _ (IsBuiltOf gives c.args.settings.now.match_kind (all_as_read folds all))
-    (λ a built. (texts_as_read folds (registered c.deref.result.now), AreIndexed-as_read gives folds 0 all (registered c.deref.result.now) indexed, built))
+    (λ a built. (texts_as_read folds (registrations_of c.deref.result.now), AreIndexed-as_read gives folds 0 all (registrations_of c.deref.result.now) indexed, built))
     c.from_patterns.ensures.ok
 
 pub returns-clause-err : goal.returns-clause-err
@@ -36,10 +36,10 @@ returns-clause-err g c =
     let now : Bor (List ℕ) → List ℕ = λ t. t.now in
     let folds = c.args.settings.now.ascii_case_insensitive in
     let all : List (List ℕ) = map now c.args.texts.now in
-    let P : List (Bor (List ℕ) × g.row.V.Denot) → Type 0 = λ ps. AreIndexed gives 0 all (registered ps) in
+    let P : List (Bor (List ℕ) × g.row.V.Denot) → Type 0 = λ ps. AreIndexed gives 0 all (registrations_of ps) in
     let indexed = subst P (sym c.deref.ensures.value) (AreIndexed-texts gives now 0 c.args.texts.now c.in_ok-patterns.patterns.items c.in_ok-patterns.ensures.ok) in
     IfErr-weaker c.from_patterns.result _ (IsBuildRefusal gives c.args.settings.now.match_kind (all_as_read folds all))
-    (refused_build gives byte_width byte_limits c.args.settings.now.match_kind (all_as_read folds all) _ (AreIndexed-as_read gives folds 0 all (registered c.deref.result.now) indexed))
+    (refused_build gives byte_width byte_limits c.args.settings.now.match_kind (all_as_read folds all) _ (AreIndexed-as_read gives folds 0 all (registrations_of c.deref.result.now) indexed))
     c.from_patterns.ensures.err
 
 pub returns-clause-filter : goal.returns-clause-filter

@@ -9,17 +9,17 @@ use Rattle.daachorse_patterns.proofs.LinksBack.{links_back}
 use Rattle.daachorse_patterns.proofs.TextLaws.{keys-as_read}
 use Rattle.daachorse_mapper.specs.Codings.{Coding, IsCodingOf}
 use Rattle.daachorse_charwise_states.specs.Parts.{Parts, content}
-use Rattle.daachorse_charwise.specs.Building.{AreCodesOf, registered_texts}
+use Rattle.daachorse_charwise.specs.Building.{AreCodesOf, registrations_of_strings}
 use Rattle.daachorse_charwise.proofs.BuildLaws.{codes_of, coded_keys, elements_refused}
 use Rattle.daachorse_charwise.proofs.charwise.builder.from_read.Goals as goal
 
 pub profile_of-requires : goal.profile_of-requires
 profile_of-requires g c =
-    links_back char_width None c.args.settings.now.match_kind c.in_ok-nfa.nfa (dictionary c.args.settings.now.match_kind (registered_texts c.args.patterns.now)) c.in_ok-nfa.ensures.ok.built
+    links_back char_width None c.args.settings.now.match_kind c.in_ok-nfa.nfa (dictionary c.args.settings.now.match_kind (registrations_of_strings c.args.patterns.now)) c.in_ok-nfa.ensures.ok.built
 
 pub build-requires-clause-built : goal.build-requires-clause-built
 build-requires-clause-built g c =
-    let K : Dictionary g.row.V.Denot = dictionary c.args.settings.now.match_kind (registered_texts c.args.patterns.now) in
+    let K : Dictionary g.row.V.Denot = dictionary c.args.settings.now.match_kind (registrations_of_strings c.args.patterns.now) in
     let P : List ℕ → Type 0 = λ freqs. IsCodingOf freqs c.in_ok-mapper.mapper in
     let codes = subst P c.deref.ensures.value c.in_ok-mapper.ensures.ok in
     (K, c.in_ok-nfa.ensures.ok.built, coded_keys c.args.patterns.now c.in_ok-freqs.freqs.items c.in_ok-mapper.mapper c.in_ok-freqs.ensures.ok codes c.in_ok-freqs.ensures.texts c.args.settings.now.match_kind)
@@ -31,7 +31,7 @@ build-requires-clause-codes g c =
 
 pub returns-in_err-states-clause-err : goal.returns-in_err-states-clause-err
 returns-in_err-states-clause-err g c =
-    let rs : List (List ℕ × g.row.V.Denot) = registered_texts c.args.patterns.now in
+    let rs : List (List ℕ × g.row.V.Denot) = registrations_of_strings c.args.patterns.now in
     let K : Dictionary g.row.V.Denot = dictionary c.args.settings.now.match_kind rs in
     let P : List ℕ → Type 0 = λ freqs. IsCodingOf freqs c.in_ok-mapper.mapper in
     let codes = codes_of c.args.patterns.now c.in_ok-freqs.freqs.items c.in_ok-mapper.mapper c.in_ok-freqs.ensures.ok (subst P c.deref.ensures.value c.in_ok-mapper.ensures.ok) in
@@ -41,10 +41,10 @@ pub of_states-requires : goal.of_states-requires
 of_states-requires g c = record {
   folded = λ on k key.
       let kind = c.args.settings.now.match_kind in
-      let rs : List (List ℕ × g.row.V.Denot) = registered_texts c.args.patterns.now in
+      let rs : List (List ℕ × g.row.V.Denot) = registrations_of_strings c.args.patterns.now in
       keys-as_read c.args.settings.now.ascii_case_insensitive kind rs c.requires on k (λ none. key (c.in_ok-states.ensures.ok (dictionary kind rs) c.in_ok-nfa.ensures.ok.built k ∙ none));
   filter =
-      let K : Dictionary g.row.V.Denot = dictionary c.args.settings.now.match_kind (registered_texts c.args.patterns.now) in
+      let K : Dictionary g.row.V.Denot = dictionary c.args.settings.now.match_kind (registrations_of_strings c.args.patterns.now) in
       passes_along encode_utf8_all K (content c.in_ok-states.states) (c.in_ok-states.ensures.ok K c.in_ok-nfa.ensures.ok.built) c.in_ok-filter.filter (c.in_ok-filter.ensures.passes c.args.settings.now.match_kind);
 }
 
@@ -53,7 +53,7 @@ returns-clause-filter g c = c.of_states.ensures.filter ∙ c.in_ok-filter.ensure
 
 pub returns-clause-ok : goal.returns-clause-ok
 returns-clause-ok g c =
-    let rs : List (List ℕ × g.row.V.Denot) = registered_texts c.args.patterns.now in
+    let rs : List (List ℕ × g.row.V.Denot) = registrations_of_strings c.args.patterns.now in
     let K : Dictionary g.row.V.Denot = dictionary c.args.settings.now.match_kind rs in
     let P : List ℕ → Type 0 = λ freqs. IsCodingOf freqs c.in_ok-mapper.mapper in
     let codes = codes_of c.args.patterns.now c.in_ok-freqs.freqs.items c.in_ok-mapper.mapper c.in_ok-freqs.ensures.ok (subst P c.deref.ensures.value c.in_ok-mapper.ensures.ok) in

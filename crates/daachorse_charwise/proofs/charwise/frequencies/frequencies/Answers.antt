@@ -6,8 +6,8 @@ use Rattle.std.specs.List.{AllByRecursion}
 use Rattle.std.specs.Str.{all_scalars, chars}
 use Rattle.std.proofs.lemmas.List.{map_push, take_all, take_more}
 use Rattle.daachorse_packing.proofs.Keys.{all-push}
-use Rattle.daachorse_charwise.specs.Frequencies.{AreFrequencies, HasCounted, joined}
-use Rattle.daachorse_charwise.proofs.CountLaws.{counted_both, joined-push, none_counted}
+use Rattle.daachorse_charwise.specs.Frequencies.{AreFrequencies, HasCounted, concatenation}
+use Rattle.daachorse_charwise.proofs.CountLaws.{counted_both, concatenation-push, none_counted}
 use Rattle.daachorse_charwise.proofs.charwise.frequencies.frequencies.Goals as goal
 
 pub loop-pattern-preserved : goal.loop-pattern-preserved
@@ -23,7 +23,7 @@ loop-pattern-preserved g c =
     let T : Bor (List ℕ) × g.row.V.Denot → Type 0 = λ p. IsTrue (all_scalars (chars p.0.now)) in
     let A : List (Bor (List ℕ) × g.row.V.Denot) → Type 0 = λ ps. AllByRecursion T ps in
     record {
-      counted = subst P (sym (ap joined more ∙ joined-push so_far (text pair))) (counted_both [] c.loop-pattern.freqs.items c.count_chars.new.freqs.items (joined so_far) (text pair) c.loop-pattern.invariant.counted c.in_ok-count_chars.ensures.ok);
+      counted = subst P (sym (ap concatenation more ∙ concatenation-push so_far (text pair))) (counted_both [] c.loop-pattern.freqs.items c.count_chars.new.freqs.items (concatenation so_far) (text pair) c.loop-pattern.invariant.counted c.in_ok-count_chars.ensures.ok);
       texts = subst A (sym push) (all-push T (take i c.args.patterns.now) pair c.loop-pattern.invariant.texts c.in_ok-count_chars.ensures.text);
     }
 

@@ -1,12 +1,12 @@
 -- All children of the elements at the places before `next` have places, and each place but the root's is one of theirs; no element has two, so `next` rises to at most the number of elements.
 use Rattle.std.proofs.Common.{◌-◌}
 use Rattle.daachorse_listing.specs.Listing.{unit_of}
-use Rattle.daachorse_checker.specs.Places.{IsWalk}
+use Rattle.daachorse_checker.specs.Places.{IsPlaceWalk}
 use Rattle.daachorse_checker.proofs.places.Places.new.Given as goal
 
 abbrev pub invariant-loop-next : goal.invariant-loop-next
 invariant-loop-next g l = record {
-  walk : IsWalk (g.E.Edges.child l.array) (λ j. unit_of (g.E.Edges.edge l.array j)) (g.E.Edges.count l.array) l.places.order.items l.places.parents.items l.places.labels.items l.places.marks.items l.next;
+  walk : IsPlaceWalk (g.E.Edges.child l.array) (λ j. unit_of (g.E.Edges.edge l.array j)) (g.E.Edges.count l.array) l.places.order.items l.places.parents.items l.places.labels.items l.places.marks.items l.next;
 }
 
 abbrev pub decreases-loop-next : goal.decreases-loop-next

@@ -4,7 +4,7 @@ use Rattle.std.proofs.lemmas.List.{get_or_read, get_or-replicate, length-replica
 use Rattle.std.proofs.lemmas.Result.{IfOk-from_err}
 use Rattle.std.proofs.lemmas.Bool.{false≢true}
 use Rattle.daachorse_core.proofs.Refusals.{at_error, at_any_error}
-use Rattle.daachorse_links.specs.Places.{AreStarts, IsLabelled, IsTrie}
+use Rattle.daachorse_links.specs.Places.{AreStarts, IsLabelled, IsTrieOfPlaces}
 use Rattle.daachorse_links.specs.Near.{up, top, above, AreNear, IsAbove, IsSaved}
 use Rattle.daachorse_links.specs.Tours.{IsTouring}
 use Rattle.daachorse_links.proofs.LinkLaws.{right_falls, right_checked, sound}
@@ -139,7 +139,7 @@ retreat-requires g c =
     assumption (
       subst (λ q. IsAbove (up t.fails.items) q c.loop-k.here) (sym c.above-above.ensures) over,
       λ (j : ℕ). subst (λ xs. IsSaved t.parents.items t.labels.items t.fails.items xs (above (up t.fails.items) j c.loop-k.here)) (sym c.deref-in-loop-k-2.ensures.value) (inv.touring.path j),
-      subst (IsTrie t.parents.items t.labels.items) (sym inv.wide) c.requires.trie,
+      subst (IsTrieOfPlaces t.parents.items t.labels.items) (sym inv.wide) c.requires.trie,
       c.if-not-links_fall.ensures.yes refl,
       subst (AreStarts t.parents.items) (sym c.deref-in-loop-k.ensures.value) c.in_ok-starts.ensures.ok,
       subst (λ n. c.loop-k.here ≤ n) c.requires.each inv.touring.low,
@@ -165,7 +165,7 @@ enter-requires g c =
     ] in
     assumption (
       subst (λ n. k.next < n) c.requires.each (next_in c.requires.trie c.requires.each k.invariant.touring more),
-      subst (IsTrie t.parents.items t.labels.items) (sym (c.retreat.ensures.same ∙ k.invariant.wide)) c.requires.trie,
+      subst (IsTrieOfPlaces t.parents.items t.labels.items) (sym (c.retreat.ensures.same ∙ k.invariant.wide)) c.requires.trie,
       c.if-not-links_fall.ensures.yes refl,
       subst (AreStarts t.parents.items) (sym c.deref-in-loop-k-3.ensures.value) c.in_ok-starts.ensures.ok,
       subst (AreNear t.parents.items t.labels.items fs c.retreat.new.near.items) c.above-above.ensures c.retreat.ensures.near,

@@ -3,7 +3,7 @@ use Rattle.std.proofs.Common.{◌≡◌, ◌⊎◌, inl, inr, ◌+◌, ◌<◌, 
 use Rattle.std.proofs.lemmas.List.{map-append, take-map}
 use Rattle.std.specs.Prelude.{vec_capacity}
 use Rattle.daachorse_core.specs.Outputs.{parent_of}
-use Rattle.daachorse_listing.specs.Edges.{children}
+use Rattle.daachorse_listing.specs.Edges.{children_below}
 use Rattle.daachorse_listing.specs.Listing.{own_end, unit_of}
 use Rattle.daachorse_listing.specs.Trees.{elements_of}
 use Rattle.daachorse_listing.proofs.PatternLaws.{left-of-none, left-of-rest, left-of-value, next-fewer, next-inside, next-left-of, next-low, next-room, next-text-room, next-walking}
@@ -37,7 +37,7 @@ put_aside-requires g c =
     let w = c.loop-self.invariant.walking in
     let rest = c.pop.new.self.items in
     let x = c.in-Some.next in
-    let room : length rest + length (children (g.E.Edges.child s.elements) x (g.E.Edges.units s.elements)) ≤ vec_capacity c.pop.new.self =
+    let room : length rest + length (children_below (g.E.Edges.child s.elements) x (g.E.Edges.units s.elements)) ≤ vec_capacity c.pop.new.self =
     omega (arith, next-room w rest c.in-Some.depth x c.in-Some.ensures.items, c.pop.ensures.capacity) in
     assumption (room, next-inside w rest c.in-Some.depth x c.in-Some.ensures.items, w)
 

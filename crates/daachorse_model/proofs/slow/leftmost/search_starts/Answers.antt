@@ -1,6 +1,6 @@
 -- A place inside the last match gives nothing, and any other gives the longest key there as the definition does, the end of the haystack too.
 use Rattle.std.proofs.Common.{ap, ◌∙◌, arith, inl, inr}
-use Rattle.daachorse_model.specs.Dictionary.{values_of, registered}
+use Rattle.daachorse_model.specs.Dictionary.{values_of, registrations_of}
 use Rattle.daachorse_model.specs.Leftmost.{leftmost}
 use Rattle.daachorse_model.specs.Slow.{width_of}
 use Rattle.daachorse_model.proofs.SlowLeftmost.{leftmost_left-next, leftmost_left-last}
@@ -10,7 +10,7 @@ use Rattle.daachorse_model.proofs.slow.leftmost.search_starts.Goals.{then-skip-g
 pub loop-read-preserved : goal.loop-read-preserved
 loop-read-preserved g c =
     let width = width_of c.args.width in
-    let K = values_of (registered c.args.patterns.now) in
+    let K = values_of (registrations_of c.args.patterns.now) in
     leftmost_left-next width K c.args.haystack.now c.loop-read.read c.loop-read.skip c.if-skip-gt0.skip c.loop-read.after c.if-skip-gt0.after
     c.loop-read.found.items c.if-skip-gt0.found.items (leftmost width K c.args.haystack.now) c.loop-read-test.true
     (elim c.if-skip-gt0.branch [
@@ -29,7 +29,7 @@ loop-read-preserved g c =
 pub returns : goal.returns
 returns g c =
     let width = width_of c.args.width in
-    let K = values_of (registered c.args.patterns.now) in
+    let K = values_of (registrations_of c.args.patterns.now) in
     leftmost_left-last width K c.args.haystack.now c.loop-read.read c.loop-read.skip c.loop-read.after
     c.loop-read.found.items c.if-skip-eq0.found.items (leftmost width K c.args.haystack.now) c.loop-read-test.false
     (elim c.if-skip-eq0.branch [

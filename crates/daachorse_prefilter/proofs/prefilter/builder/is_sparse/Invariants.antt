@@ -1,10 +1,10 @@
 -- The product over the places so far, which 16 bits for each place hold, where the counts are those of a table.
 use Rattle.std.proofs.Common.{◌≡◌, ◌*◌, ◌^◌, ◌≤◌, ℕ, List, length}
-use Rattle.daachorse_prefilter.specs.Building.{AreCounted, count_ways}
+use Rattle.daachorse_prefilter.specs.Building.{ArePairCounts, count_ways}
 use Rattle.daachorse_prefilter.proofs.prefilter.builder.is_sparse.Given as goal
 
 abbrev pub invariant-loop-place : goal.invariant-loop-place
 invariant-loop-place l = record {
-  product : (entries : List ℕ) → length entries ≡ 65536 → AreCounted entries l.counts → l.ways ≡ count_ways entries l.place;
-  few : (entries : List ℕ) → length entries ≡ 65536 → AreCounted entries l.counts → l.ways ≤ 2 ^ (16 * l.place);
+  product : (entries : List ℕ) → length entries ≡ 65536 → ArePairCounts entries l.counts → l.ways ≡ count_ways entries l.place;
+  few : (entries : List ℕ) → length entries ≡ 65536 → ArePairCounts entries l.counts → l.ways ≤ 2 ^ (16 * l.place);
 }

@@ -5,7 +5,7 @@ use Rattle.daachorse_model.specs.Folding.{as_read}
 use Rattle.daachorse_model.proofs.FoldLemmas.{length-as_read}
 use Rattle.daachorse_model.proofs.Suffixes.{size-bytes}
 use Rattle.daachorse_bytewise.specs.Automata.{Automaton, dictionary_of}
-use Rattle.daachorse_uses.specs.Redacted.{ReachesBack, Redacting, redacted}
+use Rattle.daachorse_uses.specs.Redacted.{ReachesBack, Redacting, redaction}
 use Rattle.daachorse_uses.proofs.Marks.{told}
 use Rattle.daachorse_uses.proofs.Readings.{read_on}
 use Rattle.daachorse_uses.proofs.Redactions.{match_within, reaches_next, redacted_next}
@@ -64,7 +64,7 @@ returns-clause-held g c = λ written before.
     let said = told (record words { parts = c.consume.new.self.automaton }) words c.consume.new.self.read text c.matches.result c.matches.ensures c.consume.ensures.automaton read in
     let new = c.hold.new.held.items in
     let mask = c.self.inside.mask.now in
-    let old : written ++ held ≡ redacted stepper.folds K mask came = ap (λ l. written ++ l) c.in_ok-reserve.ensures.items ∙ subst (λ (v : Redacting). written ++ v.held ≡ redacted v.words.folds (dictionary_of v.words) v.mask v.read) (sym c.self.view_is) before in
+    let old : written ++ held ≡ redaction stepper.folds K mask came = ap (λ l. written ++ l) c.in_ok-reserve.ensures.items ∙ subst (λ (v : Redacting). written ++ v.held ≡ redaction v.words.folds (dictionary_of v.words) v.mask v.read) (sym c.self.view_is) before in
     let next = redacted_next K stepper.folds came c.args.byte held reach mask new c.matches.result said c.hold.ensures.none c.hold.ensures.some written old in
     let now : units c.push.new.self ≡ came ++ c.args.byte ∷ [] = one_more c.self.inside.came c.push.new.self c.from.result c.args.byte c.push.ensures c.from.ensures in
-    subst (λ (v : Redacting). written ++ new ≡ redacted v.words.folds (dictionary_of v.words) v.mask (units c.push.new.self)) c.self.view_is (next ∙ ap (redacted stepper.folds K mask) (sym now))
+    subst (λ (v : Redacting). written ++ new ≡ redaction v.words.folds (dictionary_of v.words) v.mask (units c.push.new.self)) c.self.view_is (next ∙ ap (redaction stepper.folds K mask) (sym now))

@@ -1,7 +1,7 @@
 -- The base lies within the array, and where a test fails, that test is what no base at this element can meet.
 use Rattle.std.proofs.Common.{◌≡◌, ◌<◌, ℕ, bit_xor, sym, ◌∙◌, subst}
 use Rattle.std.proofs.lemmas.Bool.{true≢false}
-use Rattle.daachorse_placement.specs.Elements.{count_of}
+use Rattle.daachorse_placement.specs.Elements.{element_count}
 use Rattle.daachorse_placement.specs.Placement.{label_of}
 use Rattle.daachorse_placement.proofs.ElementLaws.{child_inside}
 use Rattle.daachorse_placement.proofs.build_helper.elements.Elements.base_at.Goals as goal
@@ -17,7 +17,7 @@ pub returns-then-fits-clause-inside : goal.returns-then-fits-clause-inside
 returns-then-fits-clause-inside g c = λ base e.
     let inside = child_inside c.args.self.now c.args.idx (label_of c.args.children.now 0) c.requires.whole c.requires.inside (c.requires.labels 0 c.requires.some) in
     let same : bit_xor c.args.idx (label_of c.args.children.now 0) ≡ base = cc in
-    subst (λ (m : ℕ). m < count_of c.args.self.now) same inside
+    subst (λ (m : ℕ). m < element_count c.args.self.now) same inside
 
 pub returns-else-base-ne0-clause-none : goal.returns-else-base-ne0-clause-none
 returns-else-base-ne0-clause-none g c = λ _ has. elim c.else-base-ne0.branch [

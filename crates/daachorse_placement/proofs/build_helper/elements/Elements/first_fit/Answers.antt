@@ -1,6 +1,6 @@
 -- The element at hand gives the first fit, or the next vacant one is tried.
 use Rattle.std.proofs.Common.{◌≡◌, ℕ, arith, sym, ◌∙◌, subst}
-use Rattle.daachorse_placement.specs.Elements.{IsFirstFit, boundary_of, count_of}
+use Rattle.daachorse_placement.specs.Elements.{IsFirstFit, boundary_of, element_count}
 use Rattle.daachorse_placement.proofs.ElementLaws.{first_here, none_more, count_kept, boundary_kept, flags_chain, used_kept}
 use Rattle.daachorse_placement.proofs.build_helper.elements.Elements.first_fit.Goals as goal
 
@@ -21,7 +21,7 @@ loop-idx-preserved g c =
     let a = c.loop-idx.self in
     let b = c.link.new.self in
     let kept = c.link.ensures.kept in
-    let n : count_of b ≡ count_of a = count_kept a b kept in
+    let n : element_count b ≡ element_count a = count_kept a b kept in
     let bound : boundary_of b ≡ boundary_of a = boundary_kept a b kept in
     record {
       whole = c.link.ensures.whole;

@@ -1,6 +1,6 @@
 -- The new elements so far are linked, and nothing else changes.
 use Rattle.std.proofs.Common.{◌≡◌, ◌+◌, ℕ, ◌<◌, ◌≤◌, length, get_or}
-use Rattle.daachorse_placement.specs.Elements.{count_of}
+use Rattle.daachorse_placement.specs.Elements.{element_count}
 use Rattle.daachorse_placement.proofs.build_helper.elements.Elements.push_block.Given as goal
 
 abbrev pub invariant-loop-idx : goal.invariant-loop-idx
@@ -12,6 +12,6 @@ invariant-loop-idx g l = record {
   windowed : l.self.windowed ≡ l.initial.self.windowed;
   first : l.self.first ≡ l.initial.self.first;
   many : length l.self.next.items ≡ l.idx;
-  old : (k : ℕ) → k < count_of l.fn.self → get_or l.self.next.items k 0 ≡ get_or l.fn.self.next.items k 0;
-  fresh : (k : ℕ) → count_of l.fn.self ≤ k → k < l.idx → get_or l.self.next.items k 0 ≡ k + 1;
+  old : (k : ℕ) → k < element_count l.fn.self → get_or l.self.next.items k 0 ≡ get_or l.fn.self.next.items k 0;
+  fresh : (k : ℕ) → element_count l.fn.self ≤ k → k < l.idx → get_or l.self.next.items k 0 ≡ k + 1;
 }

@@ -1,6 +1,6 @@
 -- A label leads to an element, and one child more has its own.
 use Rattle.std.proofs.Common.{◌<◌, bit_xor, arith}
-use Rattle.daachorse_placement.specs.Elements.{count_of}
+use Rattle.daachorse_placement.specs.Elements.{element_count}
 use Rattle.daachorse_placement.specs.Placement.{label_of}
 use Rattle.daachorse_placement.proofs.ElementLaws.{child_inside, taken_more, map_more}
 use Rattle.daachorse_placement.proofs.build_helper.elements.Elements.take.Goals as goal
@@ -9,14 +9,14 @@ pub use_index-requires-clause-inside : goal.use_index-requires-clause-inside
 use_index-requires-clause-inside g c =
     let inv = c.loop-label.invariant in
     let i = c.loop-label.label-index in
-    let inside : bit_xor c.args.base (label_of c.args.children.now i) < count_of c.args.self.now = child_inside c.args.self.now c.args.base _ c.requires.whole c.requires.inside (c.requires.labels i (omega arith)) in
+    let inside : bit_xor c.args.base (label_of c.args.children.now i) < element_count c.args.self.now = child_inside c.args.self.now c.args.base _ c.requires.whole c.requires.inside (c.requires.labels i (omega arith)) in
     omega (arith, inv.taken.count, inside)
 
 pub loop-label-preserved : goal.loop-label-preserved
 loop-label-preserved g c =
     let inv = c.loop-label.invariant in
     let i = c.loop-label.label-index in
-    let inside : bit_xor c.args.base (label_of c.args.children.now i) < count_of c.args.self.now = child_inside c.args.self.now c.args.base _ c.requires.whole c.requires.inside (c.requires.labels i (omega arith)) in
+    let inside : bit_xor c.args.base (label_of c.args.children.now i) < element_count c.args.self.now = child_inside c.args.self.now c.args.base _ c.requires.whole c.requires.inside (c.requires.labels i (omega arith)) in
     let e = c.use_index.ensures in
     record {
       whole = e.whole;

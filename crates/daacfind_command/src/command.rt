@@ -60,7 +60,7 @@ pub fn command<A: Allocator + Copy, I: Inputs, S: Sink, E: Sink>(
     match attempt(alloc, args, files, out) {
         Ok(()) => 0,
         Err(error) => {
-            let _ = writeln!(Text { sink: err }, "{error}");
+            let _ = writeln!(SinkText { sink: err }, "{error}");
             match error {
                 CommandError::Usage => 2,
                 CommandError::Read(_) | CommandError::Run(_) | CommandError::Written(_) => 1,
@@ -108,11 +108,11 @@ fn bytes_of<'a, I: Inputs>(files: &mut I, name: &'a str) -> Result<Vec<u8>, Comm
 
 // A sink that takes formatted text.
 #[derive(Drop)]
-struct Text<'a, S: Sink> {
+struct SinkText<'a, S: Sink> {
     sink: &'a mut S,
 }
 
-impl<S: Sink> fmt::Write for Text<'_, S> {
+impl<S: Sink> fmt::Write for SinkText<'_, S> {
     ghost use Rattle.std.specs.Io.KnownBytes.{Appends};
 
     ghost write_str_gives = { λ old text new. Appends (S.taken old.sink.now) (S.taken new.sink.now) text };

@@ -97,7 +97,7 @@ pub(crate) fn build<A: Allocator + Copy>(
     ensures built { IfOk result (IsBuiltOf value_gives kind (pattern_lines file.now)) }
     ensures kind { IfOk result (λ a. kind_of a ≡ kind) }
     ensures folds { IfOk result (λ a. a.folds ≡ false) }
-    ensures refused { IfErr result (IsBuildRefusal value_gives kind (pattern_lines file.now)) }
+    ensures err { IfErr result (IsBuildRefusal value_gives kind (pattern_lines file.now)) }
 {
     let patterns = lines(alloc, file)?;
     let builder = DoubleArrayAhoCorasickBuilder::new().match_kind(kind);

@@ -127,7 +127,7 @@ impl<L: EdgeLabel, A: Allocator + Copy> EdgeMap<L, A> {
         ensures ordered { IsOrdered L.cmp self.new }
         ensures unchanged { OnErr result (self.new ≡ self.old) }
         ensures absent { OnErr result (id_at L.cmp self.old label ≡ None) }
-        ensures refused { IfErr result IsOutOfMemory }
+        ensures err { IfErr result IsOutOfMemory }
     {
         put(&mut self.edges, alloc, (label, id))
     }
@@ -139,7 +139,7 @@ impl<L: EdgeLabel, A: Allocator + Copy> EdgeMap<L, A> {
     /// An allocation failed.
     pub fn clone(&self) -> Result<Self>
         ensures same { IfOk result (λ map. map ≡ self.now) }
-        ensures refused { IfErr result IsOutOfMemory }
+        ensures err { IfErr result IsOutOfMemory }
     {
         let edges = self.edges.clone()?;
         Ok(Self { edges })
@@ -254,7 +254,7 @@ fn put_among<L: EdgeLabel, A: Allocator>(edges: &mut Vec<(L, u32), A>, edge: (L,
     ensures edges { OnOk result (edges.new.items ≡ insert_entry L.cmp edges.old.items edge.0 edge.1) }
     ensures unchanged { OnErr result (edges.new.items ≡ edges.old.items) }
     ensures absent { OnErr result (id_at L.cmp edges.old.items edge.0 ≡ None) }
-    ensures refused { IfErr result IsOutOfMemory }
+    ensures err { IfErr result IsOutOfMemory }
 {
     match find(edges, &edge.0) {
         Ok(place) => edges[place].1 = edge.1,
@@ -273,7 +273,7 @@ fn put<L: EdgeLabel, A: Allocator + Copy>(
     ensures edges { OnOk result (items_of edges.new ≡ insert_entry L.cmp (items_of edges.old) edge.0 edge.1) }
     ensures unchanged { OnErr result (items_of edges.new ≡ items_of edges.old) }
     ensures absent { OnErr result (id_at L.cmp (items_of edges.old) edge.0 ≡ None) }
-    ensures refused { IfErr result IsOutOfMemory }
+    ensures err { IfErr result IsOutOfMemory }
 {
     match edges {
         Few::Empty => *edges = Few::One(edge),

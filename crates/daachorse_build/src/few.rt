@@ -58,7 +58,7 @@ impl<T: Copy, A: Allocator + Copy> Few<T, A> {
     /// Two items. It takes memory for the vector and for what points to it.
     pub(crate) fn two(alloc: A, first: T, second: T) -> Result<Self>
         ensures items { IfOk result (λ few. items_of few ≡ first ∷ second ∷ []) }
-        ensures refused { IfErr result IsOutOfMemory }
+        ensures err { IfErr result IsOutOfMemory }
     {
         let mut items = Vec::with_capacity(alloc, 2)?;
         items.push(first)?;
@@ -70,7 +70,7 @@ impl<T: Copy, A: Allocator + Copy> Few<T, A> {
     pub(crate) fn push(&mut self, alloc: A, item: T) -> Result<()>
         ensures items { OnOk result (items_of self.new ≡ items_of self.old ++ item ∷ []) }
         ensures unchanged { OnErr result (items_of self.new ≡ items_of self.old) }
-        ensures refused { IfErr result IsOutOfMemory }
+        ensures err { IfErr result IsOutOfMemory }
     {
         match self {
             Few::Empty => *self = Few::One(item),
@@ -83,7 +83,7 @@ impl<T: Copy, A: Allocator + Copy> Few<T, A> {
     /// A list of the same items, in memory of its own.
     pub(crate) fn clone(&self) -> Result<Self>
         ensures same { IfOk result (λ few. items_of few ≡ items_of self.now) }
-        ensures refused { IfErr result IsOutOfMemory }
+        ensures err { IfErr result IsOutOfMemory }
     {
         match self {
             Few::Empty => Ok(Few::Empty),

@@ -105,7 +105,7 @@ impl<L: EdgeLabel, V: Copy, A: Allocator + Copy> NfaBuilderState<L, V, A> {
         ensures fail { IfOk result (λ state. link_of state ≡ link_of self.now) }
         ensures outputs { IfOk result (λ state. own_outputs_of state ≡ own_outputs_of self.now) }
         ensures position { IfOk result (λ state. position_of state ≡ position_of self.now) }
-        ensures refused { IfErr result IsOutOfMemory }
+        ensures err { IfErr result IsOutOfMemory }
     {
         Ok(Self {
             edges: self.edges.clone()?,
@@ -185,7 +185,7 @@ impl<L: EdgeLabel, V: Copy, A: Allocator + Copy> NfaBuilder<L, V, A> {
         ensures outputs { IfOk result (λ builder. outputs_of builder ≡ []) }
         ensures registered { IfOk result (λ builder. Registered L.cmp L.unit L.width builder []) }
         ensures fits { IfOk result (λ builder. length (states_of builder) ≤ 4294967296) }
-        ensures refused { IfErr result IsOutOfMemory }
+        ensures err { IfErr result IsOutOfMemory }
     {
         let mut states = Vec::new(alloc);
         states.push(NfaBuilderState::new(alloc))?;
@@ -212,7 +212,7 @@ impl<L: EdgeLabel, V: Copy, A: Allocator + Copy> NfaBuilder<L, V, A> {
         ensures kind { kind_of self.new ≡ kind_of self.old }
         ensures outputs { outputs_of self.new ≡ outputs_of self.old }
         ensures added { OnOk result (AddsPattern L.cmp L.unit L.width self.old self.new pattern.now value) }
-        ensures refused { IfErr result (IsRefusal (4294967295 < size L.width (map L.unit pattern.now)) StateId (IsOneTooMany L.cmp L.unit L.width self.old pattern.now value)) }
+        ensures err { IfErr result (IsRefusal (4294967295 < size L.width (map L.unit pattern.now)) StateId (IsOneTooMany L.cmp L.unit L.width self.old pattern.now value)) }
     {
         let size = adding::pattern_size(pattern)?;
         if self.kind.is_leftmost_first() && adding::extends_key(&self.states, pattern) {
@@ -241,7 +241,7 @@ impl<L: EdgeLabel, V: Copy, A: Allocator + Copy> NfaBuilder<L, V, A> {
         ensures kept { KeepsPatterns self.old self.new }
         ensures outputs { outputs_of self.new ≡ outputs_of self.old }
         ensures links { IfOk result (λ order. HasLinksOf L.cmp L.unit L.width false self.old self.new order.items) }
-        ensures refused { IfErr result IsOutOfMemory }
+        ensures err { IfErr result IsOutOfMemory }
     {
         self.find_links(alloc, false)
     }
@@ -257,7 +257,7 @@ impl<L: EdgeLabel, V: Copy, A: Allocator + Copy> NfaBuilder<L, V, A> {
         ensures kept { KeepsPatterns self.old self.new }
         ensures outputs { outputs_of self.new ≡ outputs_of self.old }
         ensures links { IfOk result (λ order. HasLinksOf L.cmp L.unit L.width true self.old self.new order.items) }
-        ensures refused { IfErr result IsOutOfMemory }
+        ensures err { IfErr result IsOutOfMemory }
     {
         self.find_links(alloc, true)
     }
@@ -266,7 +266,7 @@ impl<L: EdgeLabel, V: Copy, A: Allocator + Copy> NfaBuilder<L, V, A> {
         ensures kept { KeepsPatterns self.old self.new }
         ensures outputs { outputs_of self.new ≡ outputs_of self.old }
         ensures links { IfOk result (λ order. HasLinksOf L.cmp L.unit L.width leftmost self.old self.new order.items) }
-        ensures refused { IfErr result IsOutOfMemory }
+        ensures err { IfErr result IsOutOfMemory }
     {
         links::link_states(alloc, &mut self.states, leftmost)
     }
@@ -291,7 +291,7 @@ impl<L: EdgeLabel, V: Copy, A: Allocator + Copy> NfaBuilder<L, V, A> {
         ensures links { fails_of (states_of self.new) ≡ fails_of (states_of self.old) }
         ensures parents { ParentsFall (outputs_of self.new) }
         ensures outputs { OnOk result (HasOutputsOf L.cmp L.unit L.width self.old self.new order.now) }
-        ensures refused { IfErr result (IsRefusal ⊥ Outputs (KeepsMoreThan L.cmp L.unit L.width 4294967295 self.old)) }
+        ensures err { IfErr result (IsRefusal ⊥ Outputs (KeepsMoreThan L.cmp L.unit L.width 4294967295 self.old)) }
     {
         self.outputs.clear();
         outputs::put_lists(&mut self.states, &mut self.outputs, order)
@@ -367,7 +367,7 @@ impl<L: EdgeLabel, V: Copy, A: Allocator + Copy> NfaBuilder<L, V, A> {
         requires profile { IsProfileOf (length (states_of self.now)) profile.now }
         requires callable { F.IsAlwaysCallable map_label }
         ensures groups { IfOk result (λ groups. AreSiblingGroups L.cmp (F.post map_label) (states_of self.now) profile.now groups.items) }
-        ensures refused { IfErr result IsOutOfMemory }
+        ensures err { IfErr result IsOutOfMemory }
     {
         let mut groups = siblings::groups_of(alloc, &self.states, profile, &map_label)?;
         if !profile.is_empty() {

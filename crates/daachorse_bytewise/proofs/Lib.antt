@@ -1,3 +1,3 @@
-pub use Rattle.daachorse_search.proofs.MatchesLemmas
+pub use Rattle.daachorse_search.proofs.MatchesLaws
 pub mod WrittenLaws
 pub mod RowedLaws

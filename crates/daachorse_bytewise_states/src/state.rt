@@ -126,7 +126,7 @@ impl<F: Copy> State<F> {
         ensures check { check_in self.new ≡ check_in self.old }
         ensures fail { fail_in self.new ≡ fail_in self.old }
         ensures same { OnErr result (self.new ≡ self.old) }
-        ensures refused { IfErr result (λ e. (e ≡ DaachorseError.AutomatonScale (record { limit = OutputPos })) × (2 ^ 24 ≤ number position)) }
+        ensures err { IfErr result (λ e. (e ≡ DaachorseError.AutomatonScale (record { limit = OutputPos })) × (2 ^ 24 ≤ number position)) }
     {
         let Ok(position) = U24::try_from(position.map_or(0, NonZeroU32::get)) else {
             return Err(DaachorseError::automaton_scale(Limit::OutputPos));
@@ -201,7 +201,7 @@ pub trait Link: Serializable + Copy {
     ) -> Result<()>
         ensures written { OnOk result (dst.new.items ≡ dst.old.items ++ (number_form w32 base ++ (Self.form self ++ packed_form packed))) }
         ensures kept { Begins dst.old.items dst.new.items }
-        ensures refused { IfErr result IsOutOfMemory };
+        ensures err { IfErr result IsOutOfMemory };
 }
 
 impl Link for u32 {

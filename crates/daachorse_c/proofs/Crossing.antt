@@ -13,8 +13,8 @@ use Rattle.daachorse_search.specs.contracts.walk.Standing as walk
 use Rattle.daachorse_search.specs.contracts.find_stepper.FindStanding as find
 use Rattle.daachorse_search.specs.contracts.overlapping_stepper.OverlappingStanding as overlapping
 use Rattle.daachorse_bytewise.proofs.bytewise.DoubleArrayAhoCorasick.TheSendSync as bytewise
-use Rattle.daachorse_c.specs.contracts.automaton.Automaton as automaton
-use Rattle.daachorse_c.specs.contracts.automaton.Automaton.TheInside as inside
+use Rattle.daachorse_c.specs.contracts.automaton.Searcher as automaton
+use Rattle.daachorse_c.specs.contracts.automaton.Searcher.TheInside as inside
 use Rattle.daachorse_c.specs.contracts.stepper.Standing as standing
 use Rattle.daachorse_c.specs.contracts.stream.Stream as stream
 

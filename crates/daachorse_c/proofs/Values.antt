@@ -33,7 +33,7 @@ use Rattle.std.proofs.alloc.Global.TheLaws as heap_laws
 use Rattle.std.proofs.GlobalToken.{dealloc_token-Testable}
 use Rattle.std.specs.contracts.impls.GlobalAllocator.TheImpl.{ghosts}
 use Rattle.daachorse_c.specs.Handle.{held_owns}
-use Rattle.daachorse_c.specs.contracts.automaton.Automaton as automaton
+use Rattle.daachorse_c.specs.contracts.automaton.Searcher as automaton
 use Rattle.daachorse_c.specs.contracts.handle.Handle as handle
 use Rattle.daachorse_c.specs.contracts.loose.Loose as loose
 

@@ -12,20 +12,20 @@ use Rattle.daachorse_bytewise.specs.Automata.{dictionary_of, kind_of}
 use Rattle.daachorse_c.specs.declared.found.CMatch.{CMatch}
 use Rattle.daachorse_c.specs.declared.refusal.Refusal.{Refusal}
 use Rattle.daachorse_c.specs.declared.refusal.Refusal.TheVariants.{EmptyHandle, WrongKind}
-use Rattle.daachorse_c.specs.declared.search.Search.{Search}
-use Rattle.daachorse_c.specs.declared.search.Search.TheVariants.{Find, Overlapping, NoSuffix, Leftmost}
+use Rattle.daachorse_c.specs.declared.search.SearchKind.{SearchKind}
+use Rattle.daachorse_c.specs.declared.search.SearchKind.TheVariants.{Find, Overlapping, NoSuffix, Leftmost}
 use Rattle.daachorse_c.specs.Held.{Held}
 use Rattle.daachorse_c.specs.Refusals.{IsDoneOr}
 use Rattle.daachorse_c.specs.Writes.{Writes}
 
 -- the matches of a search in a haystack, for a dictionary K
-abbrev pub found_by : Search → Dictionary ℕ → List ℕ → List (Match ℕ)
+abbrev pub found_by : SearchKind → Dictionary ℕ → List ℕ → List (Match ℕ)
 found_by Find K haystack = standard byte_width K haystack
 found_by Overlapping K haystack = overlapping byte_width K haystack
 found_by NoSuffix K haystack = no_suffix byte_width K haystack
 found_by Leftmost K haystack = leftmost byte_width K haystack
 
-abbrev pub ServesKind : Search → MatchKind → Type 0
+abbrev pub ServesKind : SearchKind → MatchKind → Type 0
 ServesKind Find kind = kind ≡ Standard
 ServesKind Overlapping kind = kind ≡ Standard
 ServesKind NoSuffix kind = kind ≡ Standard
@@ -36,11 +36,11 @@ abbrev pub IsUseCause : Option Held → Refusal → Type 0
 IsUseCause held r = (r ≡ EmptyHandle) × IsNone held
 
 -- why a search is refused
-abbrev pub IsSearchCause : Search → Option Held → Refusal → Type 0
+abbrev pub IsSearchCause : SearchKind → Option Held → Refusal → Type 0
 IsSearchCause search held r = IsUseCause held r ⊎ ((r ≡ WrongKind) × IsSomeAnd held (λ a. ServesKind search (kind_of a.searches) → ⊥))
 
 -- What a search from C does: it leaves the handle as it was, and writes the first of its matches in the haystack as the automaton reads it, or says why it is refused and writes none.
-pub record IsSearchOf (search : Search) (haystack : List ℕ) (old new : Option Held) (out_old out_new : List CMatch) (written answer : ℕ) : Type 0 where
+pub record IsSearchOf (search : SearchKind) (haystack : List ℕ) (old new : Option Held) (out_old out_new : List CMatch) (written answer : ℕ) : Type 0 where
   pub kept : new ≡ old
   pub found : answer ≡ 0 → IsSomeAnd old (λ a. Writes (found_by search (dictionary_of a.searches) (as_read a.searches.folds haystack)) out_old out_new written)
   pub refused : IsDoneOr (IsSearchCause search old) answer

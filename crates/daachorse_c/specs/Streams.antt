@@ -11,8 +11,8 @@ use Rattle.daachorse_bytewise.specs.Automata.{Automaton as Searches, dictionary_
 use Rattle.daachorse_bytewise.specs.Standings.{IsFindStandingIn, IsOverlappingStandingIn}
 use Rattle.daachorse_bytewise_states.specs.Parts.{Parts}
 use Rattle.daachorse_c.specs.declared.found.CMatch.{CMatch}
-use Rattle.daachorse_c.specs.declared.search.Search.{Search}
-use Rattle.daachorse_c.specs.declared.search.Search.TheVariants.{Find, Overlapping}
+use Rattle.daachorse_c.specs.declared.search.SearchKind.{SearchKind}
+use Rattle.daachorse_c.specs.declared.search.SearchKind.TheVariants.{Find, Overlapping}
 use Rattle.daachorse_c.specs.declared.stepper.Standing.{Standing}
 use Rattle.daachorse_c.specs.declared.stepper.Standing.TheVariants.{Find as AtFind, Overlapping as AtOverlapping}
 use Rattle.daachorse_c.specs.declared.stepper.Stepper.{Stepper}
@@ -25,7 +25,7 @@ use Rattle.daachorse_c.specs.Writes.{Writes}
 -- ---- the search
 
 -- for all matches, or for those that do not overlap
-abbrev pub search_of : Bool → Search
+abbrev pub search_of : Bool → SearchKind
 search_of true = Overlapping
 search_of false = Find
 

@@ -21,7 +21,7 @@ use crate::found::{CMatch, fill};
 use crate::listing::Listing;
 use crate::refusal::Refusal;
 use crate::room::copy_to_front;
-use crate::search::Search;
+use crate::search::SearchKind;
 use crate::stream::{Done, Stream};
 use daachorse::DoubleArrayAhoCorasick;
 use std::alloc::Global;
@@ -29,14 +29,14 @@ use std::marker::Model;
 
 /// An automaton over bytes, with a value of 32 bits for each pattern, and a stream that it searches.
 #[derive(Drop)]
-pub struct Automaton {
+pub struct Searcher {
     // The automaton of the library.
     searches: DoubleArrayAhoCorasick<u32, Global>,
     // The stream, if one was begun.
     stream: Option<Stream>,
 }
 
-impl Model for Automaton {
+impl Model for Searcher {
     ghost use Rattle.std.specs.Prelude.{IfSome};
     ghost use Rattle.daachorse_c.specs.Held.{Held};
     ghost use Rattle.daachorse_c.specs.Streams.{GoesOnIn};
@@ -48,13 +48,13 @@ impl Model for Automaton {
     ghost invariant = { λ a. IfSome a.stream (GoesOnIn a.searches) };
 }
 
-impl Automaton {
+impl Searcher {
     /// An automaton of the library, with no stream.
-    pub(crate) fn new(searches: DoubleArrayAhoCorasick<u32, Global>) -> Automaton
+    pub(crate) fn new(searches: DoubleArrayAhoCorasick<u32, Global>) -> Searcher
         ensures searches { result.searches ≡ searches }
         ensures stream { result.stream ≡ None }
     {
-        Automaton {
+        Searcher {
             searches,
             stream: None,
         }
@@ -68,12 +68,12 @@ impl Automaton {
     /// The search is not for automata of this kind.
     pub(crate) fn find(
         &self,
-        search: Search,
+        search: SearchKind,
         haystack: &[u8],
         out: &mut [CMatch],
     ) -> Result<usize, Refusal>
         ensures found { IfOk result (Writes (found_by search (dictionary_of self.now.searches) (as_read self.now.searches.folds haystack.now)) out.old out.new) }
-        ensures refused { IfErr result (λ r. (r ≡ WrongKind) × (ServesKind search (kind_of self.now.searches) → ⊥)) }
+        ensures err { IfErr result (λ r. (r ≡ WrongKind) × (ServesKind search (kind_of self.now.searches) → ⊥)) }
         ensures unwritten { IfErr result (λ _. out.new ≡ out.old) }
     {
         if !search.is_for(self.searches.match_kind()) {
@@ -103,7 +103,7 @@ impl Automaton {
     ) -> Result<(), Refusal>
         ensures written { OnOk result (StandsInFront (form_of self.now.searches) out.old out.new) }
         ensures size { OnOk result (size.new ≡ length (form_of self.now.searches)) }
-        ensures refused { IfErr result (IsNotWritten self.now.searches out.old size.new) }
+        ensures err { IfErr result (IsNotWritten self.now.searches out.old size.new) }
         ensures unwritten { OnErr result (out.new ≡ out.old) }
     {
         *size = 0;
@@ -129,7 +129,7 @@ impl Automaton {
         count: &mut usize,
     ) -> Result<(), Refusal>
         ensures listed { OnOk result (HasListed self.now.searches (arrays bytes.old ends.old values.old) (arrays bytes.new ends.new values.new) size.new count.new) }
-        ensures refused { IfErr result (IsNotListed self.now.searches (arrays bytes.old ends.old values.old) size.new count.new) }
+        ensures err { IfErr result (IsNotListed self.now.searches (arrays bytes.old ends.old values.old) size.new count.new) }
         ensures unwritten { OnErr result (arrays bytes.new ends.new values.new ≡ arrays bytes.old ends.old values.old) }
     {
         *size = 0;
@@ -147,7 +147,7 @@ impl Automaton {
     /// The automaton is not standard. It is unchanged then.
     pub(crate) fn begin(&mut self, overlapping: bool) -> Result<(), Refusal>
         ensures begun { OnOk result (HasBegun overlapping self.old self.new) }
-        ensures refused { IfErr result (λ r. (r ≡ WrongKind) × (kind_of self.old.searches ≢ Standard)) }
+        ensures err { IfErr result (λ r. (r ≡ WrongKind) × (kind_of self.old.searches ≢ Standard)) }
         ensures unchanged { OnErr result (self.new ≡ self.old) }
     {
         if !self.searches.match_kind().is_standard() {
@@ -164,7 +164,7 @@ impl Automaton {
     /// There is no stream, or it is too long. Nothing changes then.
     pub(crate) fn consume(&mut self, bytes: &[u8], out: &mut [CMatch]) -> Result<Done, Refusal>
         ensures consumed { IfOk result (HasConsumed bytes.now self.old self.new out.old out.new) }
-        ensures refused { IfErr result (IsIdleCause self.old (length bytes.now) (length out.old)) }
+        ensures err { IfErr result (IsIdleCause self.old (length bytes.now) (length out.old)) }
         ensures unchanged { OnErr result ((self.new ≡ self.old) × (out.new ≡ out.old)) }
     {
         let Some(stream) = self.stream.take() else {
@@ -183,7 +183,7 @@ impl Automaton {
 /// Writes the first matches of a search that is for the automaton's kind.
 fn find_in(
     searches: &DoubleArrayAhoCorasick<u32, Global>,
-    search: Search,
+    search: SearchKind,
     haystack: &[u8],
     out: &mut [CMatch],
 ) -> usize
@@ -191,9 +191,9 @@ fn find_in(
     ensures { Writes (found_by search (dictionary_of searches.now) (as_read searches.now.folds haystack.now)) out.old out.new result }
 {
     match search {
-        Search::Find => fill(searches.find_iter(haystack), out),
-        Search::Overlapping => fill(searches.find_overlapping_iter(haystack), out),
-        Search::NoSuffix => fill(searches.find_overlapping_no_suffix_iter(haystack), out),
-        Search::Leftmost => fill(searches.leftmost_find_iter(haystack), out),
+        SearchKind::Find => fill(searches.find_iter(haystack), out),
+        SearchKind::Overlapping => fill(searches.find_overlapping_iter(haystack), out),
+        SearchKind::NoSuffix => fill(searches.find_overlapping_no_suffix_iter(haystack), out),
+        SearchKind::Leftmost => fill(searches.leftmost_find_iter(haystack), out),
     }
 }

@@ -13,7 +13,7 @@ ghost use Rattle.daachorse_bytewise.specs.Building.{HoldsPatterns, IsRefusalOf, 
 ghost use Rattle.daachorse_c.specs.Building.{IsBuildCause, IsBuiltFrom};
 ghost use Rattle.daachorse_c.specs.declared.refusal.Refusal.TheVariants.{UnknownKind};
 
-use crate::automaton::Automaton;
+use crate::automaton::Searcher;
 use crate::patterns::patterns_in;
 use crate::refusal::Refusal;
 use daachorse::errors::DaachorseError;
@@ -35,10 +35,10 @@ pub(crate) fn build(
     bytes: &[u8],
     ends: &[usize],
     values: &[u32],
-) -> Result<Box<Automaton, Global>, Refusal>
+) -> Result<Box<Searcher, Global>, Refusal>
     ensures built { IfOk result (λ b. IsBuiltFrom kind ascii_case_insensitive bytes.now ends.now values.now use_prefilter b.value.searches) }
     ensures stream { IfOk result (λ b. b.value.stream ≡ None) }
-    ensures refused { IfErr result (IsBuildCause kind ascii_case_insensitive bytes.now ends.now values.now) }
+    ensures err { IfErr result (IsBuildCause kind ascii_case_insensitive bytes.now ends.now values.now) }
 {
     let kind = kind_numbered(kind)?;
     let patterns = patterns_in(alloc, bytes, ends, values)?;
@@ -49,7 +49,7 @@ pub(crate) fn build(
         ascii_case_insensitive,
         &patterns,
     )?;
-    Ok(Box::new(alloc, Automaton::new(searches))?)
+    Ok(Box::new(alloc, Searcher::new(searches))?)
 }
 
 /// The kind with this number.
@@ -76,7 +76,7 @@ fn build_of(
     ensures kind { IfOk result (λ a. kind_of a ≡ kind) }
     ensures folded { IfOk result (λ a. a.folds ≡ ascii_case_insensitive) }
     ensures filter { IfOk result (λ a. a.filter ≡ kept_filter use_prefilter (all_as_read ascii_case_insensitive (map (λ p. p.0.now) patterns.now))) }
-    ensures refused { IfErr result (IsRefusalOf kind (texts_as_read ascii_case_insensitive (registrations_of patterns.now))) }
+    ensures err { IfErr result (IsRefusalOf kind (texts_as_read ascii_case_insensitive (registrations_of patterns.now))) }
 {
     let builder = DoubleArrayAhoCorasickBuilder::new()
         .match_kind(kind)

@@ -6,10 +6,10 @@
 ghost use Rattle.std.specs.Prelude.{◌≡◌, Option, None, Some, MatchOption};
 ghost use Rattle.std.specs.contracts.impls.GlobalAllocator.TheImpl.{ghosts};
 ghost use Rattle.daachorse_c.specs.Handle.{held_owns};
-ghost use Rattle.daachorse_c.specs.contracts.automaton.Automaton.{the_row};
+ghost use Rattle.daachorse_c.specs.contracts.automaton.Searcher.{the_row};
 ghost use Rattle.daachorse_c.specs.Held.{Held};
 
-use crate::automaton::Automaton;
+use crate::automaton::Searcher;
 use crate::loose::Loose;
 use std::alloc::Global;
 use std::marker::Model;
@@ -43,7 +43,7 @@ impl Handle {
     }
 
     /// A handle with an automaton.
-    fn of(loose: Loose<Automaton, Global>) -> Handle
+    fn of(loose: Loose<Searcher, Global>) -> Handle
         ensures { result.automaton ≡ Some loose.value }
     {
         let Loose { at, alloc } = loose;
@@ -52,20 +52,20 @@ impl Handle {
     }
 
     /// The automaton, if there is one.
-    fn into_loose(self) -> Option<Loose<Automaton, Global>>
+    fn into_loose(self) -> Option<Loose<Searcher, Global>>
         ensures { MatchOption result (self.automaton ≡ None) (λ l. self.automaton ≡ Some l.value) }
     {
         let Handle { at, alloc } = self;
         if at.is_null() {
             None
         } else {
-            let at = at as *mut Automaton;
+            let at = at as *mut Searcher;
             Some(Loose { at, alloc })
         }
     }
 
     /// Takes the automaton out, if there is one, and leaves the handle empty.
-    pub(crate) fn take(&mut self, alloc: Global) -> Option<Box<Automaton, Global>>
+    pub(crate) fn take(&mut self, alloc: Global) -> Option<Box<Searcher, Global>>
         ensures taken { MatchOption result (self.old.automaton ≡ None) (λ b. self.old.automaton ≡ Some b.value) }
         ensures empty { self.new.automaton ≡ None }
     {
@@ -81,7 +81,7 @@ impl Handle {
     /// # Conditions
     ///
     /// The handle is empty, since what it had would not be freed.
-    pub(crate) fn put(&mut self, automaton: Box<Automaton, Global>)
+    pub(crate) fn put(&mut self, automaton: Box<Searcher, Global>)
         requires { self.old.automaton ≡ None }
         ensures { self.new.automaton ≡ Some automaton.value }
     {
@@ -89,7 +89,7 @@ impl Handle {
     }
 
     /// Puts an automaton into the handle, and frees the one that it had.
-    pub(crate) fn fill(&mut self, alloc: Global, automaton: Box<Automaton, Global>)
+    pub(crate) fn fill(&mut self, alloc: Global, automaton: Box<Searcher, Global>)
         ensures { self.new.automaton ≡ Some automaton.value }
     {
         let _old = self.take(alloc);

@@ -11,7 +11,7 @@ ghost use Rattle.daachorse_model.specs.Folding.{as_read};
 ghost use Rattle.daachorse_model.specs.Matches.{overlapping};
 ghost use Rattle.daachorse_model.specs.Units.{byte_width};
 ghost use Rattle.daachorse_bytewise.specs.Automata.{dictionary_of};
-ghost use Rattle.daachorse_c.specs.declared.search.Search.TheVariants.{Find, Leftmost, NoSuffix, Overlapping};
+ghost use Rattle.daachorse_c.specs.declared.search.SearchKind.TheVariants.{Find, Leftmost, NoSuffix, Overlapping};
 ghost use Rattle.daachorse_c.specs.Building.{IsBuildCause, IsBuiltFrom};
 ghost use Rattle.daachorse_c.specs.Listing.{IsListCause, HasListed, arrays};
 ghost use Rattle.daachorse_c.specs.Refusals.{IsDoneOr};
@@ -24,7 +24,7 @@ use crate::found::CMatch;
 use crate::handle::Handle;
 use crate::reading::read;
 use crate::refusal::Refusal;
-use crate::search::Search;
+use crate::search::SearchKind;
 use std::alloc::Global;
 
 mod automaton;
@@ -106,7 +106,7 @@ pub extern "C" fn daachorse_find(
 ) -> u32
     ensures { IsSearchOf Find haystack.now handle.old.automaton handle.new.automaton out.old out.new written.new result }
 {
-    write_found(alloc, handle, Search::Find, haystack, out, written)
+    write_found(alloc, handle, SearchKind::Find, haystack, out, written)
 }
 
 /// Finds every match, also those that overlap, as [`daachorse_find`] writes them.
@@ -124,7 +124,7 @@ pub extern "C" fn daachorse_find_overlapping(
 ) -> u32
     ensures { IsSearchOf Overlapping haystack.now handle.old.automaton handle.new.automaton out.old out.new written.new result }
 {
-    write_found(alloc, handle, Search::Overlapping, haystack, out, written)
+    write_found(alloc, handle, SearchKind::Overlapping, haystack, out, written)
 }
 
 /// Finds the longest match at each end, as [`daachorse_find`] writes them.
@@ -142,7 +142,7 @@ pub extern "C" fn daachorse_find_overlapping_no_suffix(
 ) -> u32
     ensures { IsSearchOf NoSuffix haystack.now handle.old.automaton handle.new.automaton out.old out.new written.new result }
 {
-    write_found(alloc, handle, Search::NoSuffix, haystack, out, written)
+    write_found(alloc, handle, SearchKind::NoSuffix, haystack, out, written)
 }
 
 /// Finds matches that do not overlap, each of which starts as early as possible, as
@@ -162,7 +162,7 @@ pub extern "C" fn daachorse_leftmost_find(
 ) -> u32
     ensures { IsSearchOf Leftmost haystack.now handle.old.automaton handle.new.automaton out.old out.new written.new result }
 {
-    write_found(alloc, handle, Search::Leftmost, haystack, out, written)
+    write_found(alloc, handle, SearchKind::Leftmost, haystack, out, written)
 }
 
 /// Writes to `found` whether some pattern occurs in the haystack.
@@ -368,7 +368,7 @@ pub extern "C" fn daachorse_free(alloc: Global, handle: &mut Handle)
 fn write_found(
     alloc: Global,
     handle: &mut Handle,
-    search: Search,
+    search: SearchKind,
     haystack: &[u8],
     out: &mut [CMatch],
     written: &mut usize,

@@ -34,7 +34,7 @@ impl Listing {
         searches: &DoubleArrayAhoCorasick<u32, Global>,
     ) -> Result<Listing, Refusal>
         ensures listed { IfOk result (λ l. ArePatternsOf searches.now (arrays_of l)) }
-        ensures refused { IfErr result (λ r. r ≡ OutOfMemory) }
+        ensures err { IfErr result (λ r. r ≡ OutOfMemory) }
     {
         let mut listing = Listing {
             bytes: Vec::new(alloc),
@@ -55,7 +55,7 @@ impl Listing {
     /// An allocation failed. What is listed is then of no use.
     fn push(&mut self, pattern: &[u8], value: u32) -> Result<(), Refusal>
         ensures pushed { OnOk result (arrays_of self.new ≡ one_more (arrays_of self.old) pattern.now value) }
-        ensures refused { IfErr result (λ r. r ≡ OutOfMemory) }
+        ensures err { IfErr result (λ r. r ≡ OutOfMemory) }
     {
         self.bytes.extend_from_slice(pattern)?;
         self.ends.push(self.bytes.len())?;
@@ -75,7 +75,7 @@ impl Listing {
         values: &mut [u32],
     ) -> Result<(), Refusal>
         ensures copied { OnOk result (StandInFront (arrays_of self.now) (arrays bytes.old ends.old values.old) (arrays bytes.new ends.new values.new)) }
-        ensures refused { IfErr result (λ r. (r ≡ NoRoom) × LackRoom (arrays_of self.now) (arrays bytes.old ends.old values.old)) }
+        ensures err { IfErr result (λ r. (r ≡ NoRoom) × LackRoom (arrays_of self.now) (arrays bytes.old ends.old values.old)) }
         ensures unwritten { OnErr result (arrays bytes.new ends.new values.new ≡ arrays bytes.old ends.old values.old) }
     {
         if bytes.len() < self.bytes.len()

@@ -5,7 +5,7 @@
 ghost use Rattle.std.specs.Prelude.{◌≡◌, None, IfErr, IfOk};
 ghost use Rattle.daachorse_c.specs.Written.{IsRead, IsReadCause};
 
-use crate::automaton::Automaton;
+use crate::automaton::Searcher;
 use crate::refusal::Refusal;
 use daachorse::DoubleArrayAhoCorasick;
 use daachorse::errors::DaachorseError;
@@ -16,15 +16,15 @@ use std::alloc::Global;
 /// # Errors
 ///
 /// The bytes do not begin with an automaton, or an allocation failed.
-pub(crate) fn read(alloc: Global, bytes: &[u8]) -> Result<(Box<Automaton, Global>, usize), Refusal>
+pub(crate) fn read(alloc: Global, bytes: &[u8]) -> Result<(Box<Searcher, Global>, usize), Refusal>
     ensures read { IfOk result (λ r. IsRead bytes.now r.0.value.searches r.1) }
     ensures stream { IfOk result (λ r. r.0.value.stream ≡ None) }
-    ensures refused { IfErr result (IsReadCause bytes.now) }
+    ensures err { IfErr result (IsReadCause bytes.now) }
 {
     match DoubleArrayAhoCorasick::deserialize(alloc, bytes) {
         Ok((searches, rest)) => {
             let taken = bytes.len() - rest.len();
-            Ok((Box::new(alloc, Automaton::new(searches))?, taken))
+            Ok((Box::new(alloc, Searcher::new(searches))?, taken))
         }
         Err(DaachorseError::OutOfMemory(_)) => Err(Refusal::OutOfMemory),
         Err(_) => Err(Refusal::InvalidAutomaton),

@@ -13,7 +13,7 @@ use crate::refusal::Refusal;
 pub(crate) fn copy_to_front(bytes: &[u8], out: &mut [u8]) -> Result<(), Refusal>
     ensures copied { OnOk result (out.new ≡ bytes.now ++ drop (length bytes.now) out.old) }
     ensures fits { OnOk result (length bytes.now ≤ length out.old) }
-    ensures refused { IfErr result (λ r. (r ≡ NoRoom) × (length out.old < length bytes.now)) }
+    ensures err { IfErr result (λ r. (r ≡ NoRoom) × (length out.old < length bytes.now)) }
     ensures unwritten { OnErr result (out.new ≡ out.old) }
 {
     if out.len() < bytes.len() {

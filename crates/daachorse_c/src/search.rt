@@ -9,7 +9,7 @@ use daachorse::MatchKind;
 
 /// A search in a haystack.
 #[derive(Clone, Copy, PartialEq, Eq)]
-pub enum Search {
+pub enum SearchKind {
     /// Matches that do not overlap, each as early as it can end.
     Find,
     /// Every match.
@@ -20,14 +20,14 @@ pub enum Search {
     Leftmost,
 }
 
-impl Search {
+impl SearchKind {
     /// Whether the search is for automata of this kind.
     pub(crate) fn is_for(self, kind: MatchKind) -> bool
         ensures { IsTrue result ↔ ServesKind self kind }
     {
         match self {
-            Search::Find | Search::Overlapping | Search::NoSuffix => kind.is_standard(),
-            Search::Leftmost => kind.is_leftmost(),
+            SearchKind::Find | SearchKind::Overlapping | SearchKind::NoSuffix => kind.is_standard(),
+            SearchKind::Leftmost => kind.is_leftmost(),
         }
     }
 }

@@ -2,5 +2,5 @@ pub mod CountLaws
 pub mod CodedLaws
 pub mod BuildLaws
 pub mod TextLaws
-pub use Rattle.daachorse_search.proofs.MatchesLemmas
+pub use Rattle.daachorse_search.proofs.MatchesLaws
 pub mod RowedLaws

@@ -11,7 +11,7 @@ use Rattle.daachorse_serializer.specs.Endings.{Ending, ending_form, ending_law, 
 use Rattle.daachorse_serializer.specs.Forms.{IsForm, Taken, list_form, over, take_list, take_pair}
 use Rattle.daachorse_serializer.specs.Laws.{law_through, list_law, pair_law}
 use Rattle.daachorse_serializer.specs.Outputs.{IsOutput}
-use Rattle.daachorse_serializer.specs.declared.mode.Mode.{Mode}
+use Rattle.daachorse_serializer.specs.declared.mode.SearchMode.{SearchMode}
 use Rattle.daachorse_charwise_states.specs.declared.state.State.{State}
 use Rattle.daachorse_charwise_states.specs.declared.states.form.Lists.{Lists}
 use Rattle.daachorse_charwise_states.specs.Parts.{Parts}
@@ -23,7 +23,7 @@ abbrev pub Row : Type 0 → Type 0
 Row V = List State × (Coding × Ending V Filter)
 
 -- how the automaton searches
-abbrev pub mode_of : {V : Type 0} → Parts V → Bool → Mode
+abbrev pub mode_of : {V : Type 0} → Parts V → Bool → SearchMode
 mode_of p folds = record { kind = p.kind; folds = folds }
 
 abbrev pub row_of : {V : Type 0} → Parts V × (Bool × Option Filter) → Row V

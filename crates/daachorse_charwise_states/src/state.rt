@@ -180,7 +180,7 @@ impl Serializable for State {
     #[inline(always)]
     fn deserialize_from_slice(src: &[u8]) -> Result<(Self, &[u8])>
         ensures given { Gives result (take_element src.now) }
-        ensures refused { IfErr result (λ e. e ≡ InvalidAutomaton (record {})) }
+        ensures err { IfErr result (λ e. e ≡ InvalidAutomaton (record {})) }
     {
         let (base, rest) = u32::deserialize_from_slice(src)?;
         let (check, rest) = u32::deserialize_from_slice(rest)?;

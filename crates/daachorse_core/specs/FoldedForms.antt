@@ -4,7 +4,7 @@ use Rattle.std.specs.Char.{encode_utf8}
 use Rattle.std.proofs.Common.{refl}
 use Rattle.daachorse_model.specs.Units.{byte_width, char_width}
 use Rattle.daachorse_model.specs.Folding.{folded_unit, folded}
-use Rattle.daachorse_model.proofs.FoldLemmas.{char_width-folded, encode-folded}
+use Rattle.daachorse_model.proofs.FoldLaws.{char_width-folded, encode-folded}
 
 pub byte_folds : (a : ℕ) → folded_unit a ≡ folded_unit a
 byte_folds a = refl

@@ -3,7 +3,7 @@ use Rattle.std.proofs.Common.{◌≡◌, ℕ, ◌++◌, Bool, true, false, List,
 use Rattle.std.proofs.Math.Seq.{take-append_seam, drop-append_seam}
 use Rattle.daachorse_model.specs.Folding.{folded_unit, as_read}
 use Rattle.daachorse_model.specs.Units.{size}
-use Rattle.daachorse_model.proofs.FoldLemmas.{folded-cut, size-as_read}
+use Rattle.daachorse_model.proofs.FoldLaws.{folded-cut, size-as_read}
 
 -- the two parts of the text, as they are read
 pub parts-as_read : (folds : Bool) (w front back : List ℕ) → as_read folds w ≡ front ++ back → (as_read folds (take (length front) w) ≡ front) × (as_read folds (drop (length front) w) ≡ back)

@@ -1,3 +1,3 @@
 pub mod Cuts
-pub mod SourceLemmas
-pub mod RunLemmas
+pub mod SourceLaws
+pub mod RunLaws

@@ -1,5 +1,5 @@
 pub mod Booleans
-pub mod KindLemmas
+pub mod KindLaws
 pub mod Lists
 pub mod Suffixes
 pub mod Paths
@@ -11,7 +11,7 @@ pub mod Congruence
 pub mod Searches
 pub mod Rows
 pub mod MoreRows
-pub mod SlowLemmas
+pub mod SlowLaws
 pub mod SlowLeftmost
 pub mod Occur
 pub mod Overlap
@@ -23,9 +23,9 @@ pub mod SameSearches
 pub mod Find
 pub mod Listings
 pub mod PrefixCounts
-pub mod BestLemmas
+pub mod BestLaws
 pub mod Cuts
 pub mod BestMatches
 pub mod StandardEnds
 pub mod TextOrder
-pub mod FoldLemmas
+pub mod FoldLaws

@@ -11,7 +11,7 @@ use Rattle.daachorse_model.specs.Units.{size}
 use Rattle.daachorse_model.specs.Dictionary.{Dictionary, is_proper_prefix, without_extensions, registrations_of}
 use Rattle.daachorse_model.specs.Leftmost.{key_with_value, longest_key, match_at, units_to_skip, is_after, leftmost_from}
 use Rattle.daachorse_model.specs.Slow.{key_found, skip_of, after_of}
-use Rattle.daachorse_model.proofs.SlowLemmas.{drop-item, drop-next, drop-all, take-all, take-rest, size-join, size-next}
+use Rattle.daachorse_model.proofs.SlowLaws.{drop-item, drop-next, drop-all, take-all, take-rest, size-join, size-next}
 use Rattle.daachorse_model.proofs.Booleans.{and-false, or-none, or-turned}
 use Rattle.daachorse_model.proofs.Searches.{leftmost_from-skip}
 

@@ -4,7 +4,7 @@ use crate::expect;
 use crate::forms::{has_form, has_list_form, is_refused};
 use daachorse_core::{Empty, MatchKind, Output};
 use daachorse_serializer::intpack::{TooLargeError, U24, U24nU8};
-use daachorse_serializer::mode::Mode;
+use daachorse_serializer::mode::SearchMode;
 use daachorse_serializer::serializer::Table;
 use std::num::NonZeroU32;
 use std::test::Fail;
@@ -77,7 +77,7 @@ const MODES: [(MatchKind, bool, u8); 5] = [
 #[test]
 fn a_mode_is_the_byte_of_its_kind_or_128_more(rt: HostRuntime) -> Result<(), Fail> {
     for (kind, folds, byte) in MODES {
-        has_form(&rt, rt.alloc(), Mode { kind, folds }, &[byte])?;
+        has_form(&rt, rt.alloc(), SearchMode { kind, folds }, &[byte])?;
     }
     Ok(())
 }

@@ -7,7 +7,7 @@ use Rattle.daachorse_model.specs.declared.MatchKind.{MatchKind}
 use Rattle.daachorse_model.specs.Dictionary.{dictionary}
 use Rattle.daachorse_model.specs.Folding.{folded}
 use Rattle.daachorse_model.specs.Prefixes.{IsKey}
-use Rattle.daachorse_model.proofs.FoldLemmas.{folded-again}
+use Rattle.daachorse_model.proofs.FoldLaws.{folded-again}
 use Rattle.daachorse_patterns.specs.Folding.{folded_texts}
 use Rattle.daachorse_patterns.specs.Patterns.{texts_of}
 use Rattle.daachorse_patterns.proofs.FilterLaws.{key_holds}

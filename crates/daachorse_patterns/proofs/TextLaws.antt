@@ -9,7 +9,7 @@ use Rattle.daachorse_model.specs.declared.MatchKind.{MatchKind}
 use Rattle.daachorse_model.specs.Dictionary.{dictionary}
 use Rattle.daachorse_model.specs.Folding.{folded}
 use Rattle.daachorse_model.specs.Prefixes.{IsKey}
-use Rattle.daachorse_model.proofs.FoldLemmas.{folded-again}
+use Rattle.daachorse_model.proofs.FoldLaws.{folded-again}
 use Rattle.daachorse_patterns.specs.Building.{IsBuildRefusalWithin, Limits}
 use Rattle.daachorse_patterns.specs.Folding.{all_as_read, folded_texts, texts_as_read}
 use Rattle.daachorse_patterns.specs.Patterns.{AreIndexed, HasNoValue}

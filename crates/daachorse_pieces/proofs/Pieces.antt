@@ -14,7 +14,7 @@ use Rattle.daachorse_model.proofs.Suffixes.{le_or_lt, size-append, size-bytes}
 use Rattle.daachorse_model.proofs.Overlap.{take-append}
 use Rattle.daachorse_search.specs.BestScans.{HasNoLongerKey}
 use Rattle.daachorse_search.specs.Sources.{past_each_end}
-use Rattle.daachorse_search.proofs.SourceLemmas.{at_each_end-split, past_each_end-append}
+use Rattle.daachorse_search.proofs.SourceLaws.{at_each_end-split, past_each_end-append}
 use Rattle.daachorse_pieces.specs.Pieces.{IsCutInPieces, ending_behind, moved}
 
 module _ {V : Type 0} (width : ℕ → ℕ) (K : Dictionary V) where

@@ -1,7 +1,7 @@
 -- Counts of flags in a block: a block whose bases are all taken has no vacant element.
 use Rattle.std.proofs.Common.{◌≡◌, ◌≢◌, ℕ, ◌+◌, ◌<◌, ◌≤◌, inl, inr, zero, suc, Bool, true, false, cond, List, get_or, arith, refl, ap, sym, ◌∙◌, subst}
 use Rattle.std.proofs.lemmas.Bool.{cases_eq}
-use Rattle.daachorse_placement.specs.Elements.{count_in}
+use Rattle.daachorse_placement.specs.FreeLists.{count_in}
 
 bit : Bool → ℕ
 bit b = cond b 1 0

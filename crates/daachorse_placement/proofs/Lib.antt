@@ -1,5 +1,5 @@
 pub mod FlagCounts
-pub mod ElementLaws
+pub mod FreeListLaws
 pub mod PlaceStart
 pub mod PlaceSteps
 pub mod VacantLists

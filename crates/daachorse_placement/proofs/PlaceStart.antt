@@ -7,14 +7,14 @@ use Rattle.std.proofs.lemmas.Grind.{get_or-set_at}
 use Rattle.std.proofs.lemmas.List.{get_or-map, get_or-replicate, length-replicate, get_or_past}
 use Rattle.std.proofs.Math.Nat.{mul-le-mul_right}
 use Rattle.daachorse_placement.specs.declared.build_helper.SiblingGroup.{SiblingGroup}
-use Rattle.daachorse_placement.specs.declared.build_helper.elements.Elements.{Elements}
-use Rattle.daachorse_placement.specs.Elements.{HasOneBlock, IsFull, layout_of}
+use Rattle.daachorse_placement.specs.declared.build_helper.free_list.FreeList.{FreeList}
+use Rattle.daachorse_placement.specs.FreeLists.{HasOneBlock, IsFull, layout_of}
 use Rattle.daachorse_placement.specs.Placement.{IsPlaceRefusal, IsPlaced, children_of, is_light, group_parent}
 use Rattle.daachorse_core.specs.declared.errors.DaachorseError.{DaachorseError}
 use Rattle.daachorse_core.specs.declared.errors.Limit.TheVariants.{NumElements}
 use Rattle.daachorse_core.proofs.Refusals.{IsRefusal-weaker}
 use Rattle.daachorse_placement.proofs.FlagCounts.{count-mono}
-use Rattle.daachorse_placement.proofs.ElementLaws.{inside_true}
+use Rattle.daachorse_placement.proofs.FreeListLaws.{inside_true}
 
 pub children_at : {A : Type 0} (gs : List (SiblingGroup A)) (k : ℕ) (g : SiblingGroup A) → k < length gs → g ≡ get_or gs k g → children_of gs k ≡ g.children.items
 children_at {A = A} gs k g lt e = get_or-map (λ (v : SiblingGroup A). v.children.items) gs k g [] lt ∙ ap (λ (v : SiblingGroup A). v.children.items) (sym e)
@@ -25,7 +25,7 @@ parent_at {A = A} gs k g lt e = get_or-map (λ (v : SiblingGroup A). v.parent) g
 pub zeros : (n i : ℕ) → get_or {A = ℕ} (replicate n 0) i 0 ≡ 0
 zeros n i = elim (cases_lt i n) [ inl h ↦ get_or-replicate n i 0 0 h | inr h ↦ get_or_past (replicate n 0) i 0 (omega (arith, h, length-replicate {A = ℕ} n 0)) ]
 
-pub placed_start : {A : Type 0} (gs : List (SiblingGroup A)) (tracked : Bool) (e : Elements A) (n block : ℕ) → 2 ≤ n → HasOneBlock e block →
+pub placed_start : {A : Type 0} (gs : List (SiblingGroup A)) (tracked : Bool) (e : FreeList A) (n block : ℕ) → 2 ≤ n → HasOneBlock e block →
     IsPlaced gs 0 tracked (layout_of e (set (replicate n 1) 0 0) (replicate n 0))
 placed_start gs tracked e n block two f =
     let len : length (replicate {A = ℕ} n 1) ≡ n = length-replicate n 1 in
@@ -53,18 +53,18 @@ placed_start gs tracked e n block two f =
       bases_apart = λ on k l kl ll same. absurd (omega arith);
     }
 
-pub full_start : {A : Type 0} (e : Elements A) (block : ℕ) → HasOneBlock e block → IsFull e
+pub full_start : {A : Type 0} (e : FreeList A) (block : ℕ) → HasOneBlock e block → IsFull e
 full_start e block f = λ q. count-mono e.used_base.items e.used_index.items (q * e.block_len) e.block_len (λ k low less t. absurd (true≢false (sym t ∙ f.free k)))
 
 -- the bound under which a refusal comes
 pub refusal : (blocks m n : ℕ) → blocks ≤ m → 2 ^ 32 ≤ blocks * n + n → 2 ^ 32 ≤ (m + 1) * n
 refusal blocks m n le h = let q = mul-le-mul_right n le in omega (arith, q, h)
 
-pub block_kept : {A : Type 0} (a w : Elements A) (windowed : Bool) → w ≡ record a { windowed = windowed } → w.block_len ≡ a.block_len
+pub block_kept : {A : Type 0} (a w : FreeList A) (windowed : Bool) → w ≡ record a { windowed = windowed } → w.block_len ≡ a.block_len
 block_kept a w windowed e = ap (λ v. v.block_len) e
 
 -- whether there is a window changes no place
-pub placed_weighed : {A : Type 0} (gs : List (SiblingGroup A)) (m : ℕ) (tracked : Bool) (a : Elements A) (idx bases : List ℕ) (windowed : Bool) → IsPlaced gs m tracked (layout_of a idx bases) → IsPlaced gs m tracked (layout_of (record a { windowed = windowed }) idx bases)
+pub placed_weighed : {A : Type 0} (gs : List (SiblingGroup A)) (m : ℕ) (tracked : Bool) (a : FreeList A) (idx bases : List ℕ) (windowed : Bool) → IsPlaced gs m tracked (layout_of a idx bases) → IsPlaced gs m tracked (layout_of (record a { windowed = windowed }) idx bases)
 placed_weighed gs m tracked a idx bases windowed p = record {
   root = p.root;
   root_used = p.root_used;

@@ -3,8 +3,8 @@ use Rattle.std.proofs.Common.{◌/◌, ◌≡◌, ◌≢◌, ℕ, ◌+◌, ◌<�
 use Rattle.std.proofs.lemmas.Bool.{cases_eq, true≢false, cases_Bool}
 use Rattle.std.proofs.lemmas.Grind.{get_or-set_at}
 use Rattle.daachorse_placement.specs.declared.build_helper.SiblingGroup.{SiblingGroup}
-use Rattle.daachorse_placement.specs.declared.build_helper.elements.Elements.{Elements}
-use Rattle.daachorse_placement.specs.Elements.{HasPlaced, IsMapOf, IsWhole, is_base, is_used, layout_of}
+use Rattle.daachorse_placement.specs.declared.build_helper.free_list.FreeList.{FreeList}
+use Rattle.daachorse_placement.specs.FreeLists.{HasPlaced, IsMapOf, IsWhole, is_base, is_used, layout_of}
 use Rattle.daachorse_placement.specs.Layout.{Layout}
 use Rattle.daachorse_placement.specs.Placement.{AreGroups, IsGroupAt, IsPlaced, child_id, children_of, label_of, group_parent}
 use Rattle.daachorse_core.proofs.Xor.{xor_same_left, xor_block}
@@ -26,7 +26,7 @@ find_child cs (suc n) t = elim (cases_eq t (child_id cs n)) [
 pub above_one : (x : ℕ) → x ≢ 0 → x ≢ 1 → 1 < x
 above_one x a b = omega arith
 
-module _ {A : Type 0} (gs : List (SiblingGroup A)) (m : ℕ) (tracked : Bool) (a b : Elements A) (idx idx2 bases : List ℕ) (base num : ℕ)
+module _ {A : Type 0} (gs : List (SiblingGroup A)) (m : ℕ) (tracked : Bool) (a b : FreeList A) (idx idx2 bases : List ℕ) (base num : ℕ)
     (gr : AreGroups gs num a.block_len) (lt : m < length gs) (len : length idx ≡ num) (blen : length bases ≡ num)
     (w : IsWhole b)
     (p : IsPlaced gs m tracked (layout_of a idx bases))

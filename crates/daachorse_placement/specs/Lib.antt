@@ -1,4 +1,4 @@
-pub mod Elements
+pub mod FreeLists
 pub mod Layout
 pub mod ListItems
 pub mod Placement

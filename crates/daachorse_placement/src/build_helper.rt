@@ -9,14 +9,14 @@ ghost use Rattle.std.specs.Int.{IsPowerOfTwo};
 ghost use Rattle.std.specs.List.{list_any};
 ghost use Rattle.daachorse_placement.specs.Layout.{Layout, vacants, vacant_from, IsLeastUnused, AreAllSet};
 ghost use Rattle.daachorse_placement.specs.Placement.{AreBlocksFull, AreGroups, IsPlaced, HasSizes, IsPlaceRefusal, is_light};
-ghost use Rattle.daachorse_placement.specs.Elements.{IsWhole, LeadsOverUsed, IsFull, element_count, layout_of};
+ghost use Rattle.daachorse_placement.specs.FreeLists.{IsWhole, LeadsOverUsed, IsFull, element_count, layout_of};
 
-mod elements;
+mod free_list;
 mod list_item;
 mod profile;
 
 use daachorse_core::errors::Result;
-use elements::Elements;
+use free_list::FreeList;
 pub use list_item::ListItem;
 pub use profile::Profile;
 use std::alloc::{Allocator, Global};
@@ -44,7 +44,7 @@ pub struct SiblingGroup<A: Allocator = Global> {
 /// double-array Aho-Corasick automata" (arXiv 2207.13870).
 #[derive(Drop)]
 pub struct BuildHelper<A: Allocator = Global> {
-    elements: Elements<A>,
+    elements: FreeList<A>,
     idx_map: Vec<u32, A>,
     bases: Vec<u32, A>,
 }
@@ -94,10 +94,10 @@ impl<A: Allocator + Copy> BuildHelper<A> {
         ensures sizes { IfOk result (λ h. HasSizes h block_len num_nfa_states) }
         ensures windowed { IfOk result (λ h. h.windowed ≡ list_any is_light groups.now) }
         ensures full { IfOk result AreBlocksFull }
-        ensures refused { IfErr result
+        ensures err { IfErr result
             (IsPlaceRefusal (2 ^ 32 ≤ (length groups.now + 1) * block_len)) }
     {
-        let mut elements = Elements::new(alloc, block_len)?;
+        let mut elements = FreeList::new(alloc, block_len)?;
         let mut idx_map = vec![in alloc; 1u32; num_nfa_states]?;
         idx_map[0] = 0;
         let mut bases = vec![in alloc; 0u32; num_nfa_states]?;
@@ -196,7 +196,7 @@ impl<A: Allocator> BuildHelper<A> {
 /// It borrows the helper and takes no memory.
 #[derive(Drop)]
 pub struct VacantIter<'a, A: Allocator = Global> {
-    elements: &'a Elements<A>,
+    elements: &'a FreeList<A>,
     idx: u32,
 }
 
@@ -235,7 +235,7 @@ impl<A: Allocator> Iterator for VacantIter<'_, A> {
 fn place_all<A: Allocator>(
     groups: &[SiblingGroup<A>],
     tracked: bool,
-    elements: &mut Elements<A>,
+    elements: &mut FreeList<A>,
     idx_map: &mut [u32],
     bases: &mut [u32],
 ) -> Result<()>
@@ -252,7 +252,7 @@ fn place_all<A: Allocator>(
         (layout_of elements.new idx_map.new bases.new)) }
     ensures windowed { OnOk result
         (elements.new.windowed ≡ (elements.old.windowed || list_any is_light groups.now)) }
-    ensures refused { IfErr result
+    ensures err { IfErr result
         (IsPlaceRefusal (2 ^ 32 ≤ (length groups.now + 1) * elements.old.block_len)) }
 {
     for group in groups {
@@ -264,7 +264,7 @@ fn place_all<A: Allocator>(
 }
 
 /// The least base of the block that isn't taken.
-fn least_unused<A: Allocator>(elements: &Elements<A>, block_idx: u32) -> Option<u32>
+fn least_unused<A: Allocator>(elements: &FreeList<A>, block_idx: u32) -> Option<u32>
     requires whole { IsWhole elements.now }
     requires block { block_idx < elements.now.num_blocks }
     requires full { IsFull elements.now }
@@ -285,7 +285,7 @@ fn least_unused<A: Allocator>(elements: &Elements<A>, block_idx: u32) -> Option<
 }
 
 /// The first vacant element from `start` on, or the number of elements.
-fn first_vacant<A: Allocator>(elements: &Elements<A>, start: u32) -> u32
+fn first_vacant<A: Allocator>(elements: &FreeList<A>, start: u32) -> u32
     requires linked { LeadsOverUsed elements.now.used_index.items elements.now.next.items }
     requires inside { start ≤ element_count elements.now }
     ensures inside { result ≤ element_count elements.now }

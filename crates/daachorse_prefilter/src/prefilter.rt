@@ -147,7 +147,7 @@ impl<A: Allocator + Copy> Prefilter<A> {
     /// An allocation failed.
     pub fn clone(&self) -> Result<Self>
         ensures same { IfOk result (λ filter. filter ≡ self.now) }
-        ensures refused { IfErr result IsOutOfMemory }
+        ensures err { IfErr result IsOutOfMemory }
     {
         Ok(Self {
             window_len: self.window_len,
@@ -165,7 +165,7 @@ pub fn clone_filter<A: Allocator + Copy>(
     filter: &Option<Prefilter<A>>,
 ) -> Result<Option<Prefilter<A>>>
     ensures same { IfOk result (λ copy. copy ≡ filter.now) }
-    ensures refused { IfErr result IsOutOfMemory }
+    ensures err { IfErr result IsOutOfMemory }
 {
     match filter {
         Some(filter) => Ok(Some(filter.clone()?)),

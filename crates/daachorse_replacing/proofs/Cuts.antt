@@ -12,12 +12,12 @@ use Rattle.daachorse_model.specs.Folding.{as_read, folded}
 use Rattle.daachorse_model.specs.Laws.{Follows, IsOccurrence}
 use Rattle.daachorse_model.specs.Units.{byte_width, char_width}
 use Rattle.daachorse_model.proofs.Find.{standard_apart}
-use Rattle.daachorse_model.proofs.FoldLemmas.{chars-folded, IsCharBoundary-folded, IsUtf8-folded, length-as_read}
+use Rattle.daachorse_model.proofs.FoldLaws.{chars-folded, IsCharBoundary-folded, IsUtf8-folded, length-as_read}
 use Rattle.daachorse_model.proofs.Overlap.{leftmost_apart}
 use Rattle.daachorse_model.proofs.SameOnText.{cut_at}
 use Rattle.daachorse_model.proofs.Suffixes.{size-append, size-bytes}
 use Rattle.daachorse_search.specs.Matches.{GivesFirst, Progress}
-use Rattle.daachorse_search.proofs.MatchesLemmas.{YieldsList-from_progress}
+use Rattle.daachorse_search.proofs.MatchesLaws.{YieldsList-from_progress}
 use Rattle.daachorse_replacing.specs.ByKind.{non_overlapping}
 use Rattle.daachorse_replacing.specs.Replaced.{AreParts}
 use Rattle.daachorse_replacing.proofs.FirstMatches.{by_kind_occur}

@@ -11,7 +11,7 @@ use Rattle.daachorse_core.specs.Looks.{IsForeign, StepEnds}
 use Rattle.daachorse_model.specs.Dictionary.{Dictionary}
 use Rattle.daachorse_model.proofs.Steps.{IsLong-same}
 use Rattle.daachorse_model.proofs.Lists.{below_or_at}
-use Rattle.daachorse_search.proofs.LookLemmas.{StepEnds-long}
+use Rattle.daachorse_search.proofs.LookLaws.{StepEnds-long}
 use Rattle.daachorse_rows.specs.Rows.{state_at, RowTable, IsSlotEntry, StandsFor, IsSlotOf, AreSlots, StepLeads, AreLabels, AreRows, Stands, AreChosen, AreClosed, AreCovered, AreStepped, Covers, IsSlot, AreWritten, MayClose, stands_by}
 use Rattle.daachorse_rows.proofs.RowLaws.{place_behind, state_at-slot}
 

@@ -5,7 +5,7 @@ use Rattle.std.specs.Iterator.{Count, MakesProgress, Yields, YieldsFirstBy, item
 use Rattle.std.specs.Option.{option_map}
 use Rattle.daachorse_model.specs.Folding.{folded_unit, folded}
 use Rattle.daachorse_model.specs.Units.{size}
-use Rattle.daachorse_model.proofs.FoldLemmas.{size-folded}
+use Rattle.daachorse_model.proofs.FoldLaws.{size-folded}
 use Rattle.daachorse_search.specs.Sources.{IsReady, Reads}
 
 -- a call gave what `fold` makes of an item of the source

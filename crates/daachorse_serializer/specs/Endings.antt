@@ -3,7 +3,7 @@ use Rattle.std.specs.Prelude.{ℕ, ◌+◌, ◌*◌, ◌<◌, ◌≤◌, ◌^◌
 use Rattle.std.specs.Int.{w32}
 use Rattle.std.proofs.Common.{arith}
 use Rattle.daachorse_core.specs.declared.outputs.Output.{Output}
-use Rattle.daachorse_serializer.specs.declared.mode.Mode.{Mode}
+use Rattle.daachorse_serializer.specs.declared.mode.SearchMode.{SearchMode}
 use Rattle.daachorse_serializer.specs.Forms.{Taken, IsForm, take_pair, number_form, take_number, option_form, option_most, take_option, list_form, take_list}
 use Rattle.daachorse_serializer.specs.Laws.{list_law, mode_law, number_law, option_vec_law, output_law, pair_law}
 use Rattle.daachorse_serializer.specs.Modes.{mode_form, take_mode}
@@ -11,7 +11,7 @@ use Rattle.daachorse_serializer.specs.Outputs.{IsOutput, output_form, take_outpu
 
 -- the outputs, how the automaton searches, the number of states, and the filter
 abbrev pub Ending : Type 0 → Type 0 → Type 0
-Ending V F = List (Output V) × (Mode × (ℕ × Option F))
+Ending V F = List (Output V) × (SearchMode × (ℕ × Option F))
 
 -- a number of 32 bits counts the outputs, and the filter may be written
 abbrev pub CanWriteEnding : {V F : Type 0} → (F → Type 0) → Ending V F → Type 0

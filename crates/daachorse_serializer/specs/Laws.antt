@@ -17,7 +17,7 @@ use Rattle.daachorse_core.specs.Outputs.{number}
 use Rattle.std.specs.declared.num.NonZeroU32.{NonZeroU32}
 use Rattle.daachorse_serializer.specs.Kinds.{kind_form, take_kind}
 use Rattle.daachorse_serializer.specs.Modes.{byte_of_mode, mode_of_byte, mode_form, take_mode}
-use Rattle.daachorse_serializer.specs.declared.mode.Mode.{Mode}
+use Rattle.daachorse_serializer.specs.declared.mode.SearchMode.{SearchMode}
 use Rattle.daachorse_serializer.specs.Outputs.{fields_of, output_from, IsOutput, output_form, take_output}
 use Rattle.daachorse_serializer.specs.declared.intpack.U24nU8.{U24nU8}
 use Rattle.daachorse_serializer.specs.Packed.{word_of, packed_of, packed_form, take_packed}
@@ -290,7 +290,7 @@ kind_law = record { reads_back = reads_back; leaves_end = through.leaves_end; fi
     reads_back LeftmostLongest rest h = through.reads_back LeftmostLongest rest tt
     reads_back LeftmostFirst rest h = through.reads_back LeftmostFirst rest tt
 
-pub mode_law : IsForm (λ (m : Mode). Unit {0}) mode_form take_mode (λ _. 1)
+pub mode_law : IsForm (λ (m : SearchMode). Unit {0}) mode_form take_mode (λ _. 1)
 unfolding number_form
 mode_law = record { reads_back = reads_back; leaves_end = through.leaves_end; fits = λ m h. omega arith }
   where
@@ -310,7 +310,7 @@ mode_law = record { reads_back = reads_back; leaves_end = through.leaves_end; fi
     back LeftmostFirst false = refl
     back LeftmostFirst true = refl
 
-    through : IsForm (λ (m : Mode). Unit {0}) (λ m. number_form w8 (byte_of_mode m)) take_mode (λ _. 1)
+    through : IsForm (λ (m : SearchMode). Unit {0}) (λ m. number_form w8 (byte_of_mode m)) take_mode (λ _. 1)
     through = law_through mode_of_byte byte_of_mode (λ m. Unit {0}) (λ m h. small m.kind m.folds) (λ m h. back m.kind m.folds) (number_law w8)
 
     one_byte : (kind : MatchKind) (folds : Bool) → number_form w8 (byte_of_mode (record { kind = kind; folds = folds })) ≡ mode_form (record { kind = kind; folds = folds })
@@ -321,7 +321,7 @@ mode_law = record { reads_back = reads_back; leaves_end = through.leaves_end; fi
     one_byte LeftmostFirst false = refl
     one_byte LeftmostFirst true = refl
 
-    reads_back : (m : Mode) (rest : List ℕ) → Unit {0} → take_mode (mode_form m ++ rest) ≡ Some (m, rest)
+    reads_back : (m : SearchMode) (rest : List ℕ) → Unit {0} → take_mode (mode_form m ++ rest) ≡ Some (m, rest)
     reads_back m rest h = ap (λ bytes. take_mode (bytes ++ rest)) (sym (one_byte m.kind m.folds)) ∙ through.reads_back m rest tt
 
 -- the law of an output, from that of its value

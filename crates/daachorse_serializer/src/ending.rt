@@ -9,7 +9,7 @@ ghost use Rattle.daachorse_core.specs.Refusals.{IsOutOfMemory};
 ghost use Rattle.daachorse_serializer.specs.Endings.{ending_form, ending_most, take_ending};
 ghost use Rattle.daachorse_serializer.specs.Forms.{Begins, GivesView, IsReadRefusal, option_shape};
 
-use crate::mode::Mode;
+use crate::mode::SearchMode;
 use crate::serializer::{Serializable, SerializableVec};
 use daachorse_core::Output;
 use daachorse_core::errors::Result;
@@ -21,7 +21,7 @@ pub struct Ending<V, F, A: Allocator = Global> {
     /// The outputs.
     pub outputs: Vec<Output<V>, A>,
     /// How the automaton searches.
-    pub mode: Mode,
+    pub mode: SearchMode,
     /// The number of states.
     pub num_states: u32,
     /// The filter, if there is one.
@@ -39,7 +39,7 @@ pub struct Ending<V, F, A: Allocator = Global> {
 /// An allocation failed; `dst` then still begins with what it held.
 pub fn write_ending<V: Serializable + Copy, F: SerializableVec + Drop, A: Allocator, B: Allocator>(
     outputs: &Vec<Output<V>, A>,
-    mode: Mode,
+    mode: SearchMode,
     num_states: u32,
     filter: &Option<F>,
     dst: &mut Vec<u8, B>,
@@ -49,7 +49,7 @@ pub fn write_ending<V: Serializable + Copy, F: SerializableVec + Drop, A: Alloca
     ensures written { OnOk result (dst.new.items ≡ dst.old.items
         ++ ending_form V.form F.form (outputs.now.items, (mode, (num_states, option_shape F.shape filter.now)))) }
     ensures kept { Begins dst.old.items dst.new.items }
-    ensures refused { IfErr result IsOutOfMemory }
+    ensures err { IfErr result IsOutOfMemory }
 {
     outputs.serialize_to_vec(dst)?;
     mode.serialize_to_vec(dst)?;
@@ -71,10 +71,10 @@ pub fn read_ending<
         result (take_ending V.taken F.taken src.now) }
     ensures few { IfOk result (λ r. vec_len r.0.outputs < 2 ^ 32) }
     ensures again { IfOk result (λ r. IfSome (option_shape F.shape r.0.filter) F.can_write) }
-    ensures refused { IfErr result (IsReadRefusal (λ e. V.own_refusal e ⊎ F.own_refusal e)) }
+    ensures err { IfErr result (IsReadRefusal (λ e. V.own_refusal e ⊎ F.own_refusal e)) }
 {
     let (outputs, rest) = <Vec<Output<V>, A>>::deserialize_from_slice(alloc, src)?;
-    let (mode, rest) = Mode::deserialize_from_slice(rest)?;
+    let (mode, rest) = SearchMode::deserialize_from_slice(rest)?;
     let (num_states, rest) = u32::deserialize_from_slice(rest)?;
     let (filter, rest) = <Option<F>>::deserialize_from_slice(alloc, rest)?;
     let ending = Ending {

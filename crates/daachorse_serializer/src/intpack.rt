@@ -155,7 +155,7 @@ impl Serializable for U24nU8 {
     #[inline(always)]
     fn deserialize_from_slice(src: &[u8]) -> Result<(Self, &[u8])>
         ensures given { Gives result (take_packed src.now) }
-        ensures refused { IfErr result (λ e. e ≡ InvalidAutomaton (record {})) }
+        ensures err { IfErr result (λ e. e ≡ InvalidAutomaton (record {})) }
     {
         let (word, rest) = u32::deserialize_from_slice(src)?;
         Ok((Self { word }, rest))

@@ -16,7 +16,7 @@ use std::alloc::Allocator;
 
 /// How an automaton searches.
 #[derive(Clone, Copy, Debug, PartialEq, Eq)]
-pub struct Mode {
+pub struct SearchMode {
     /// The kind of searches.
     pub kind: MatchKind,
     /// Whether ASCII letters are found without regard to case.
@@ -25,7 +25,7 @@ pub struct Mode {
 
 /// The mode of a byte: 128, 129 and 130 stand for the kinds without regard to case, each other byte
 /// for the kind that it stands for by itself.
-impl From<u8> for Mode {
+impl From<u8> for SearchMode {
     ghost from_gives = { λ byte mode. mode ≡ mode_of_byte byte };
 
     fn from(byte: u8) -> Self {
@@ -39,17 +39,17 @@ impl From<u8> for Mode {
 }
 
 /// The byte of a mode: that of the kind, and 128 more without regard to case.
-impl From<Mode> for u8 {
+impl From<SearchMode> for u8 {
     ghost from_gives = { λ mode byte. byte ≡ byte_of_mode mode };
 
-    fn from(mode: Mode) -> Self {
+    fn from(mode: SearchMode) -> Self {
         let kind = u8::from(mode.kind);
         if mode.folds { kind + 128 } else { kind }
     }
 }
 
 /// One byte.
-impl Serializable for Mode {
+impl Serializable for SearchMode {
     ghost is_value = { λ _. Unit {0} };
 
     ghost form = { mode_form };
@@ -66,10 +66,10 @@ impl Serializable for Mode {
     #[inline(always)]
     fn deserialize_from_slice(src: &[u8]) -> Result<(Self, &[u8])>
         ensures given { Gives result (take_mode src.now) }
-        ensures refused { IfErr result (λ e. e ≡ InvalidAutomaton (record {})) }
+        ensures err { IfErr result (λ e. e ≡ InvalidAutomaton (record {})) }
     {
         let (byte, rest) = u8::deserialize_from_slice(src)?;
-        Ok((Mode::from(byte), rest))
+        Ok((SearchMode::from(byte), rest))
     }
 
     fn serialized_bytes() -> usize

@@ -52,7 +52,7 @@ pub trait Serializable: Sized + Drop {
     fn serialize_to_vec<A: Allocator>(&self, dst: &mut Vec<u8, A>) -> Result<()>
         ensures written { OnOk result (dst.new.items ≡ dst.old.items ++ form self.now) }
         ensures kept { Begins dst.old.items dst.new.items }
-        ensures refused { IfErr result IsOutOfMemory };
+        ensures err { IfErr result IsOutOfMemory };
 
     /// Reads a value, and returns it with the bytes behind it.
     ///
@@ -60,7 +60,7 @@ pub trait Serializable: Sized + Drop {
     /// Bytes that give no value, or out of memory.
     fn deserialize_from_slice(src: &[u8]) -> Result<(Self, &[u8])>
         ensures given { Gives result (taken src.now) }
-        ensures refused { IfErr result (IsReadRefusal own_refusal) };
+        ensures err { IfErr result (IsReadRefusal own_refusal) };
 
     /// The greatest length of a form, in bytes, or `usize::MAX` where it is more.
     fn serialized_bytes() -> usize
@@ -82,7 +82,7 @@ pub trait Serializable: Sized + Drop {
 pub fn append<A: Allocator>(dst: &mut Vec<u8, A>, bytes: &[u8]) -> Result<()>
     ensures written { OnOk result (dst.new.items ≡ dst.old.items ++ bytes.now) }
     ensures kept { Begins dst.old.items dst.new.items }
-    ensures refused { IfErr result IsOutOfMemory }
+    ensures err { IfErr result IsOutOfMemory }
 {
     dst.extend_from_slice(bytes)?;
     Ok(())
@@ -118,7 +118,7 @@ impl Serializable for u8 {
     #[inline(always)]
     fn deserialize_from_slice(src: &[u8]) -> Result<(Self, &[u8])>
         ensures given { Gives result (take_number w8 src.now) }
-        ensures refused { IfErr result (λ e. e ≡ InvalidAutomaton (record {})) }
+        ensures err { IfErr result (λ e. e ≡ InvalidAutomaton (record {})) }
     {
         let (bytes, rest) = first_chunk(src)?;
         Ok((u8::from_le_bytes(*bytes), rest))
@@ -157,7 +157,7 @@ impl Serializable for u16 {
     #[inline(always)]
     fn deserialize_from_slice(src: &[u8]) -> Result<(Self, &[u8])>
         ensures given { Gives result (take_number w16 src.now) }
-        ensures refused { IfErr result (λ e. e ≡ InvalidAutomaton (record {})) }
+        ensures err { IfErr result (λ e. e ≡ InvalidAutomaton (record {})) }
     {
         let (bytes, rest) = first_chunk(src)?;
         Ok((u16::from_le_bytes(*bytes), rest))
@@ -196,7 +196,7 @@ impl Serializable for u32 {
     #[inline(always)]
     fn deserialize_from_slice(src: &[u8]) -> Result<(Self, &[u8])>
         ensures given { Gives result (take_number w32 src.now) }
-        ensures refused { IfErr result (λ e. e ≡ InvalidAutomaton (record {})) }
+        ensures err { IfErr result (λ e. e ≡ InvalidAutomaton (record {})) }
     {
         let (bytes, rest) = first_chunk(src)?;
         Ok((u32::from_le_bytes(*bytes), rest))
@@ -235,7 +235,7 @@ impl Serializable for u64 {
     #[inline(always)]
     fn deserialize_from_slice(src: &[u8]) -> Result<(Self, &[u8])>
         ensures given { Gives result (take_number w64 src.now) }
-        ensures refused { IfErr result (λ e. e ≡ InvalidAutomaton (record {})) }
+        ensures err { IfErr result (λ e. e ≡ InvalidAutomaton (record {})) }
     {
         let (bytes, rest) = first_chunk(src)?;
         Ok((u64::from_le_bytes(*bytes), rest))
@@ -274,7 +274,7 @@ impl Serializable for u128 {
     #[inline(always)]
     fn deserialize_from_slice(src: &[u8]) -> Result<(Self, &[u8])>
         ensures given { Gives result (take_number w128 src.now) }
-        ensures refused { IfErr result (λ e. e ≡ InvalidAutomaton (record {})) }
+        ensures err { IfErr result (λ e. e ≡ InvalidAutomaton (record {})) }
     {
         let (bytes, rest) = first_chunk(src)?;
         Ok((u128::from_le_bytes(*bytes), rest))
@@ -312,7 +312,7 @@ impl Serializable for i8 {
     #[inline(always)]
     fn deserialize_from_slice(src: &[u8]) -> Result<(Self, &[u8])>
         ensures given { Gives result (take_signed w8 src.now) }
-        ensures refused { IfErr result (λ e. e ≡ InvalidAutomaton (record {})) }
+        ensures err { IfErr result (λ e. e ≡ InvalidAutomaton (record {})) }
     {
         let (number, rest) = u8::deserialize_from_slice(src)?;
         Ok((number.cast_signed(), rest))
@@ -350,7 +350,7 @@ impl Serializable for i16 {
     #[inline(always)]
     fn deserialize_from_slice(src: &[u8]) -> Result<(Self, &[u8])>
         ensures given { Gives result (take_signed w16 src.now) }
-        ensures refused { IfErr result (λ e. e ≡ InvalidAutomaton (record {})) }
+        ensures err { IfErr result (λ e. e ≡ InvalidAutomaton (record {})) }
     {
         let (number, rest) = u16::deserialize_from_slice(src)?;
         Ok((number.cast_signed(), rest))
@@ -388,7 +388,7 @@ impl Serializable for i32 {
     #[inline(always)]
     fn deserialize_from_slice(src: &[u8]) -> Result<(Self, &[u8])>
         ensures given { Gives result (take_signed w32 src.now) }
-        ensures refused { IfErr result (λ e. e ≡ InvalidAutomaton (record {})) }
+        ensures err { IfErr result (λ e. e ≡ InvalidAutomaton (record {})) }
     {
         let (number, rest) = u32::deserialize_from_slice(src)?;
         Ok((number.cast_signed(), rest))
@@ -426,7 +426,7 @@ impl Serializable for i64 {
     #[inline(always)]
     fn deserialize_from_slice(src: &[u8]) -> Result<(Self, &[u8])>
         ensures given { Gives result (take_signed w64 src.now) }
-        ensures refused { IfErr result (λ e. e ≡ InvalidAutomaton (record {})) }
+        ensures err { IfErr result (λ e. e ≡ InvalidAutomaton (record {})) }
     {
         let (number, rest) = u64::deserialize_from_slice(src)?;
         Ok((number.cast_signed(), rest))
@@ -464,7 +464,7 @@ impl Serializable for i128 {
     #[inline(always)]
     fn deserialize_from_slice(src: &[u8]) -> Result<(Self, &[u8])>
         ensures given { Gives result (take_signed w128 src.now) }
-        ensures refused { IfErr result (λ e. e ≡ InvalidAutomaton (record {})) }
+        ensures err { IfErr result (λ e. e ≡ InvalidAutomaton (record {})) }
     {
         let (number, rest) = u128::deserialize_from_slice(src)?;
         Ok((number.cast_signed(), rest))
@@ -503,7 +503,7 @@ impl Serializable for Option<NonZeroU32> {
     #[inline(always)]
     fn deserialize_from_slice(src: &[u8]) -> Result<(Self, &[u8])>
         ensures given { Gives result (take_position src.now) }
-        ensures refused { IfErr result (λ e. e ≡ InvalidAutomaton (record {})) }
+        ensures err { IfErr result (λ e. e ≡ InvalidAutomaton (record {})) }
     {
         let (number, rest) = u32::deserialize_from_slice(src)?;
         Ok((NonZeroU32::new(number), rest))
@@ -573,7 +573,7 @@ impl Serializable for MatchKind {
     #[inline(always)]
     fn deserialize_from_slice(src: &[u8]) -> Result<(Self, &[u8])>
         ensures given { Gives result (take_kind src.now) }
-        ensures refused { IfErr result (λ e. e ≡ InvalidAutomaton (record {})) }
+        ensures err { IfErr result (λ e. e ≡ InvalidAutomaton (record {})) }
     {
         let (byte, rest) = u8::deserialize_from_slice(src)?;
         Ok((MatchKind::from(byte), rest))
@@ -712,7 +712,7 @@ pub trait SerializableVec: Sized {
         requires { can_write (shape self.now) }
         ensures written { OnOk result (dst.new.items ≡ dst.old.items ++ form (shape self.now)) }
         ensures kept { Begins dst.old.items dst.new.items }
-        ensures refused { IfErr result IsOutOfMemory };
+        ensures err { IfErr result IsOutOfMemory };
 
     /// Reads a value, and returns it with the bytes behind it. What was read may be written.
     ///
@@ -721,7 +721,7 @@ pub trait SerializableVec: Sized {
     fn deserialize_from_slice<'a>(alloc: Self::Alloc, src: &'a [u8]) -> Result<(Self, &'a [u8])>
         ensures given { GivesView shape result (taken src.now) }
         ensures again { IfOk result (λ r. can_write (shape r.0)) }
-        ensures refused { IfErr result (IsReadRefusal own_refusal) };
+        ensures err { IfErr result (IsReadRefusal own_refusal) };
 
     /// The greatest length of the value's form, in bytes, or `usize::MAX` where it is more.
     fn serialized_bytes(&self) -> usize
@@ -739,7 +739,7 @@ pub trait SerializableVec: Sized {
 fn write_items<S: Serializable, A: Allocator>(items: &[S], dst: &mut Vec<u8, A>) -> Result<()>
     ensures written { OnOk result (dst.new.items ≡ dst.old.items ++ flat_map S.form items.now) }
     ensures kept { Begins dst.old.items dst.new.items }
-    ensures refused { IfErr result IsOutOfMemory }
+    ensures err { IfErr result IsOutOfMemory }
 {
     for item in items {
         item.serialize_to_vec(dst)?;
@@ -756,7 +756,7 @@ fn read_items<'a, S: Serializable, A: Allocator>(
 ) -> Result<(Vec<S, A>, &'a [u8])>
     ensures given { GivesView (λ v. v.items) result (take_items S.taken count src.now) }
     ensures full { IfOk result (λ r. vec_len r.0 ≡ count) }
-    ensures refused { IfErr result (IsReadRefusal S.own_refusal) }
+    ensures err { IfErr result (IsReadRefusal S.own_refusal) }
 {
     let fitting = src.len() / S::serialized_bytes().max(1);
     let mut items = Vec::with_capacity(alloc, count.min(fitting))?;

@@ -1,2 +1,2 @@
-pub mod SkipLemmas
+pub mod SkipLaws
 pub mod Soundness

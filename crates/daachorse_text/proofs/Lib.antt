@@ -1,5 +1,5 @@
-pub mod TextLemmas
+pub mod TextLaws
 pub mod FirstCharacters
-pub mod DecodingLemmas
+pub mod DecodingLaws
 pub mod DecodedRuns
 pub mod Places

@@ -3,7 +3,7 @@ use Rattle.std.proofs.Common.{◌≡◌, ℕ, ◌+◌, ◌<◌, ◌^◌, Option,
 use Rattle.std.specs.Iterator.{Count, MakesProgress}
 use Rattle.daachorse_model.specs.Units.{char_width}
 use Rattle.daachorse_search.specs.Sources.{IsReady}
-use Rattle.daachorse_search.proofs.SourceLemmas.{IsReady-next}
+use Rattle.daachorse_search.proofs.SourceLaws.{IsReady-next}
 use Rattle.daachorse_text.specs.TextSources.{IsText, GivesCharacter}
 
 module _ {S : Type 0} (can : S → Type 0) (steps : S → Option ℕ → S → Type 0) (left : S → Count) where

@@ -14,7 +14,7 @@ use Rattle.daachorse_model.specs.Laws.{IsOccurrence}
 use Rattle.daachorse_model.specs.Leftmost.{leftmost}
 use Rattle.daachorse_model.specs.Units.{byte_width}
 use Rattle.daachorse_model.proofs.Find.{leftmost_occur}
-use Rattle.daachorse_model.proofs.FoldLemmas.{length-as_read}
+use Rattle.daachorse_model.proofs.FoldLaws.{length-as_read}
 use Rattle.daachorse_model.proofs.Suffixes.{size-bytes}
 use Rattle.daachorse_uses.specs.Covered.{FitsIn, is_covered, is_within}
 

@@ -2,7 +2,7 @@
 use Rattle.std.proofs.Common.{◌≡◌, ℕ, Bool, true, false, List, [], ◌∷◌, ◌++◌, refl, sym, ap, ◌∙◌}
 use Rattle.std.proofs.lemmas.List.{map-append}
 use Rattle.daachorse_model.specs.Folding.{as_read, folded_unit}
-use Rattle.daachorse_model.proofs.FoldLemmas.{as_read-append}
+use Rattle.daachorse_model.proofs.FoldLaws.{as_read-append}
 
 pub as_read-nil : (folds : Bool) → as_read folds [] ≡ []
 as_read-nil true = refl

@@ -16,7 +16,7 @@ use Rattle.daachorse_model.specs.Matches.{IsSinceMatch, last_end, resume_place, 
 use Rattle.daachorse_model.specs.Prefixes.{IsLong, IsPrefix, IsSuffix}
 use Rattle.daachorse_model.specs.Units.{byte_width}
 use Rattle.daachorse_model.proofs.Find.{standard_apart, standard_occur}
-use Rattle.daachorse_model.proofs.FoldLemmas.{length-as_read}
+use Rattle.daachorse_model.proofs.FoldLaws.{length-as_read}
 use Rattle.daachorse_model.proofs.StandardEnds.{standard-joined}
 use Rattle.daachorse_model.proofs.Steps.{IsLong-nil, IsPrefix-key, IsPrefix-less}
 use Rattle.daachorse_model.proofs.Suffixes.{le_or_lt, size-bytes, IsSuffix-as_long, IsSuffix-cons, IsSuffix-length, IsSuffix-of_longer, IsSuffix-of_push, IsSuffix-same, IsSuffix-tail, IsSuffix-through}

@@ -28,7 +28,7 @@ pub fn lookup<V: Serializable + Copy, A: Allocator + Copy>(
         × (value ≡ slice_get (dictionary_of a (as_read a.folds text.now)) 0)) }
     ensures written { IfOk result (λ value. (a : Automaton V) (rest : List ℕ) → IsAutomaton V.is_value a → bytes.now ≡ written_form V.form a ++ rest
         → value ≡ slice_get (dictionary_of a (as_read a.folds text.now)) 0) }
-    ensures refused { IfErr result (λ e. IsOutOfMemory e ⊎ GivesNoAutomaton V.taken bytes.now) }
+    ensures err { IfErr result (λ e. IsOutOfMemory e ⊎ GivesNoAutomaton V.taken bytes.now) }
 {
     let (words, _rest) = DoubleArrayAhoCorasick::deserialize(alloc, bytes)?;
     Ok(value_of(&words, text))

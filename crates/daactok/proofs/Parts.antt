@@ -14,9 +14,9 @@ use Rattle.daachorse_model.specs.Laws.{Follows, IsOccurrence}
 use Rattle.daachorse_model.specs.Leftmost.{leftmost}
 use Rattle.daachorse_model.specs.Units.{size, char_width}
 use Rattle.daachorse_model.proofs.Find.{leftmost_occur}
-use Rattle.daachorse_model.proofs.FoldLemmas.{chars-folded, IsCharBoundary-folded, IsUtf8-folded}
+use Rattle.daachorse_model.proofs.FoldLaws.{chars-folded, IsCharBoundary-folded, IsUtf8-folded}
 use Rattle.daachorse_model.proofs.Overlap.{leftmost_apart}
-use Rattle.daachorse_model.proofs.SlowLemmas.{drop-all}
+use Rattle.daachorse_model.proofs.SlowLaws.{drop-all}
 use Rattle.daachorse_model.proofs.SameOnText.{cut_at}
 use Rattle.daachorse_model.proofs.Suffixes.{le_or_lt, size-append}
 use Rattle.daactok.specs.Tokens.{FollowOneAnother, IsKnownOne, IsPart, Piece, piece, stretch, tokens_from}

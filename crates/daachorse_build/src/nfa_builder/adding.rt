@@ -21,7 +21,7 @@ use std::alloc::Allocator;
 /// How many bytes a pattern takes.
 pub(super) fn pattern_size<L: EdgeLabel>(pattern: &[L]) -> Result<u32>
     ensures size { IfOk result (λ n. n ≡ size L.width (map L.unit pattern.now)) }
-    ensures refused { IfErr result (λ e. (e ≡ InvalidArgument (record {})) × (4294967295 < size L.width (map L.unit pattern.now))) }
+    ensures err { IfErr result (λ e. (e ≡ InvalidArgument (record {})) × (4294967295 < size L.width (map L.unit pattern.now))) }
 {
     let mut size = 0;
     for label in pattern {
@@ -46,7 +46,7 @@ fn child_or_new<L: EdgeLabel, V: Copy, A: Allocator + Copy>(
     ensures ok { IfOk result (λ t. Extends L.cmp states.old.items states.new.items id label t) }
     ensures kept { OnErr result (edges_of states.new.items ≡ edges_of states.old.items) }
     ensures fits { OnOk result (vec_len states.old ≤ 4294967296 → vec_len states.new ≤ 4294967296) }
-    ensures refused { IfErr result (IsRefusal ⊥ StateId ((4294967295 < vec_len states.old) × (child_of L.cmp states.old.items id label ≡ None))) }
+    ensures err { IfErr result (IsRefusal ⊥ StateId ((4294967295 < vec_len states.old) × (child_of L.cmp states.old.items id label ≡ None))) }
 {
     if let Some(found) = child(states, id, label) {
         return Ok(found);
@@ -94,7 +94,7 @@ pub(super) fn add_pattern<L: EdgeLabel, V: Copy, A: Allocator + Copy>(
     ensures ok { OnOk result (IsAdded L.cmp states.old.items states.new.items pattern.now (value, size)) }
     ensures trie { HoldTrie L.cmp states.new.items }
     ensures fits { OnOk result (vec_len states.old ≤ 4294967296 → vec_len states.new ≤ 4294967296) }
-    ensures refused { IfErr result (IsRefusal ⊥ StateId (Overflows L.cmp states.old.items pattern.now 4294967295)) }
+    ensures err { IfErr result (IsRefusal ⊥ StateId (Overflows L.cmp states.old.items pattern.now 4294967295)) }
 {
     let mut id = ROOT_STATE_ID;
     for label in pattern {

@@ -27,7 +27,7 @@ pub(super) fn link_states<L: EdgeLabel, V: Copy, A: Allocator + Copy>(
     requires { HoldTrie L.cmp states.old }
     ensures kept { HasTrieOf states.old states.new }
     ensures links { IfOk result (λ order. HaveLinks L.cmp leftmost states.new order.items) }
-    ensures refused { IfErr result IsOutOfMemory }
+    ensures err { IfErr result IsOutOfMemory }
 {
     let mut traversal = BreadthFirstTraversal::new(alloc, states, leftmost)?;
     while traversal.next < traversal.order.len() {
@@ -76,7 +76,7 @@ impl<A: Allocator + Copy> BreadthFirstTraversal<A> {
         requires { HoldTrie L.cmp states.now }
         ensures traversal { IfOk result (λ traversal. Traverses L.cmp states.now traversal []) }
         ensures kind { IfOk result (λ traversal. traversal.leftmost ≡ leftmost) }
-        ensures refused { IfErr result IsOutOfMemory }
+        ensures err { IfErr result IsOutOfMemory }
     {
         let mut links = vec![in alloc; 0; states.len()]?;
         let root = ROOT_STATE_ID as usize;
@@ -154,7 +154,7 @@ impl<A: Allocator> BreadthFirstTraversal<A> {
         ensures traversal { OnOk result (Traverses L.cmp states.now self.new []) }
         ensures next { OnOk result (self.new.next ≡ self.old.next + 1) }
         ensures kind { self.new.leftmost ≡ self.old.leftmost }
-        ensures refused { IfErr result IsOutOfMemory }
+        ensures err { IfErr result IsOutOfMemory }
     {
         let id = self.order[self.next];
         let start = self.links[id as usize];

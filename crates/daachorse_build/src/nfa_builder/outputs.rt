@@ -34,7 +34,7 @@ fn push_chain<V: Copy, A: Allocator>(
     ensures longer { (more : List (OutputOf V)) × (outputs.new.items ≡ outputs.old.items ++ more) }
     ensures parents { ParentsFall outputs.new.items }
     ensures chain { IfOk result (λ position. HasChain outputs.old.items outputs.new.items (items_of own.now) parent position) }
-    ensures refused { IfErr result (IsRefusal ⊥ Outputs (4294967295 < vec_len outputs.old + length (items_of own.now))) }
+    ensures err { IfErr result (IsRefusal ⊥ Outputs (4294967295 < vec_len outputs.old + length (items_of own.now))) }
 {
     let mut last = parent;
     let mut i = own.len();
@@ -66,7 +66,7 @@ fn put_list<L: EdgeLabel, V: Copy, A: Allocator>(
     ensures parents { ParentsFall outputs.new.items }
     ensures chain { OnOk result (HasChain outputs.old.items outputs.new.items (own_at (own_of states.old) id) parent (slice_index (positions_of states.new) id)) }
     ensures others { OnOk result ((t : ℕ) → t ≢ id → slice_index (positions_of states.new) t ≡ slice_index (positions_of states.old) t) }
-    ensures refused { IfErr result (IsRefusal ⊥ Outputs (4294967295 < vec_len outputs.old + length (own_at (own_of states.old) id))) }
+    ensures err { IfErr result (IsRefusal ⊥ Outputs (4294967295 < vec_len outputs.old + length (own_at (own_of states.old) id))) }
 {
     let state = &mut states[id as usize];
     state.output_pos = push_chain(outputs, &state.output, parent)?;
@@ -102,7 +102,7 @@ pub(super) fn put_lists<L: EdgeLabel, V: Copy, A: Allocator>(
     ensures fails { fails_of states.new ≡ fails_of states.old }
     ensures parents { ParentsFall outputs.new.items }
     ensures lists { OnOk result (HaveLists L.cmp states.old states.new order.now outputs.new.items) }
-    ensures refused { IfErr result (IsRefusal ⊥ Outputs (4294967295 < output_count (own_of states.old))) }
+    ensures err { IfErr result (IsRefusal ⊥ Outputs (4294967295 < output_count (own_of states.old))) }
 {
     put_list(states, outputs, ROOT_STATE_ID, 0)?;
     for id in order {

@@ -31,7 +31,7 @@ pub(super) fn groups_of<L: EdgeLabel, V: Copy, A: Allocator + Copy, F: Fn(L) -> 
     ensures parents { IfOk result (λ groups. (order : List ℕ) × VisitsEachState (edges_of states.now) order × (parents_of groups.items ≡ filter (has_edges (edges_of states.now)) order)) }
     ensures families { IfOk result (λ groups. AreFamilies (F.post map_label.now) (edges_of states.now) groups.items) }
     ensures weights { IfOk result (λ groups. AreWeighed (edges_of states.now) profile.now groups.items) }
-    ensures refused { IfErr result IsOutOfMemory }
+    ensures err { IfErr result IsOutOfMemory }
 {
     let mut groups = Vec::new(alloc);
     let mut stack = Vec::new(alloc);
@@ -53,7 +53,7 @@ fn put_children<L: EdgeLabel, A: Allocator>(
     edges: &EdgeMap<L, A>,
 ) -> Result<()>
     ensures children { OnOk result (stack.new.items ≡ stack.old.items ++ values_of edges.now) }
-    ensures refused { IfErr result IsOutOfMemory }
+    ensures err { IfErr result IsOutOfMemory }
 {
     for id in edges.values() {
         stack.push(*id)?;
@@ -73,7 +73,7 @@ fn group_of<L: EdgeLabel, A: Allocator + Copy, F: Fn(L) -> u32>(
     ensures parent { IfOk result (λ group. group.parent ≡ parent) }
     ensures children { IfOk result (λ group. AreGiven (F.post map_label.now) edges.now group.children.items) }
     ensures weight { IfOk result (λ group. group.weight ≡ weight) }
-    ensures refused { IfErr result IsOutOfMemory }
+    ensures err { IfErr result IsOutOfMemory }
 {
     let mut children = Vec::with_capacity(alloc, edges.len())?;
     for (label, id) in edges.iter() {

@@ -21,7 +21,7 @@ use daachorse_core::errors::{DaachorseError, Result};
 use daachorse_mapper::mapper::CodeMapper;
 use daachorse_prefilter::prefilter::Prefilter;
 use daachorse_serializer::ending::{Ending, ending_bytes, read_ending, write_ending};
-use daachorse_serializer::mode::Mode;
+use daachorse_serializer::mode::SearchMode;
 use daachorse_serializer::serializer::{Serializable, SerializableVec};
 use std::alloc::Allocator;
 
@@ -45,7 +45,7 @@ fn read_lists<V: Serializable + Copy, A: Allocator + Copy>(
 ) -> Result<(Lists<V, A>, &[u8])>
     ensures given { GivesView parts_in result (take_parts V.taken src.now) }
     ensures again { IfOk result (λ r. AreCounted (parts_in r.0).0) }
-    ensures refused { IfErr result (IsReadRefusal V.own_refusal) }
+    ensures err { IfErr result (IsReadRefusal V.own_refusal) }
 {
     let (states, rest) = <Vec<State, A>>::deserialize_from_slice(alloc, src)?;
     let (mapper, rest) = <CodeMapper<A>>::deserialize_from_slice(alloc, rest)?;
@@ -119,11 +119,11 @@ impl<V: Serializable + Copy, A: Allocator> States<V, A> {
         dst: &mut Vec<u8, B>,
     ) -> Result<()>
         ensures written { IfOk result (λ done. dst.new.items ≡ dst.old.items ++ parts_form V.form self.now folds filter.now) }
-        ensures refused { IfErr result IsOutOfMemory }
+        ensures err { IfErr result IsOutOfMemory }
     {
         self.states.serialize_to_vec(dst)?;
         self.mapper.serialize_to_vec(dst)?;
-        let mode = Mode {
+        let mode = SearchMode {
             kind: self.kind,
             folds,
         };
@@ -183,7 +183,7 @@ impl<V: Serializable + Copy, A: Allocator + Copy> States<V, A> {
     pub fn deserialize(alloc: A, src: &[u8]) -> Result<((Self, bool, Option<Prefilter<A>>), &[u8])>
         ensures given { IfOk result (λ r. take_parts V.taken src.now ≡ Some ((r.0.0, (r.0.1, r.0.2)), r.1.now)) }
         ensures valid { IfOk result (λ r. IsValid r.0.0) }
-        ensures refused { IfErr result (λ e. IsOutOfMemory e ⊎ HasNoParts IsValid (take_parts V.taken src.now)) }
+        ensures err { IfErr result (λ e. IsOutOfMemory e ⊎ HasNoParts IsValid (take_parts V.taken src.now)) }
         ensures cause { IfErr result (IsReadRefusal V.own_refusal) }
     {
         let (lists, rest) = read_lists(alloc, src)?;
@@ -211,7 +211,7 @@ impl<V: Serializable + Copy, A: Allocator + Copy> States<V, A> {
             num_states,
             filter,
         } = ending;
-        let Mode { kind, folds } = mode;
+        let SearchMode { kind, folds } = mode;
         let states = Self {
             kind,
             states,

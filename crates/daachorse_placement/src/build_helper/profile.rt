@@ -53,7 +53,7 @@ impl<A: Allocator> Profile<A> {
         ensures probes { OnOk result (self.new.probes.items ≡ first_counts self.old.probes.items len) }
         ensures same_visits { OnErr result (self.new.visits.items ≡ self.old.visits.items) }
         ensures same_probes { OnErr result (self.new.probes.items ≡ self.old.probes.items) }
-        ensures refused { IfErr result (λ e. e ≡ OutOfMemory (record {})) }
+        ensures err { IfErr result (λ e. e ≡ OutOfMemory (record {})) }
     {
         let missing = len.saturating_sub(self.probes.len());
         self.probes.reserve(missing)?;

@@ -40,7 +40,7 @@ impl<A: Allocator> PrefilterBuilder<A> {
     /// An allocation failed.
     pub fn new(alloc: A) -> Result<Self>
         ensures added { IfOk result (λ b. HasAdded b []) }
-        ensures refused { IfErr result IsOutOfMemory }
+        ensures err { IfErr result IsOutOfMemory }
     {
         Ok(Self {
             window_len: MAX_WINDOW_LEN,

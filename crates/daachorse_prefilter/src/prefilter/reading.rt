@@ -43,7 +43,7 @@ impl Reading for AsItIs {
 
 impl Reading for Folded {
     ghost use Rattle.daachorse_model.specs.Folding.{folded_unit};
-    ghost use Rattle.daachorse_model.proofs.FoldLemmas.{IsCharBoundary-folded};
+    ghost use Rattle.daachorse_model.proofs.FoldLaws.{IsCharBoundary-folded};
 
     ghost as_read = { folded_unit };
 

@@ -19,8 +19,8 @@ returns-clause-built g c =
     subst P (ap (map (λ (t : Bor (List ℕ)). t.now)) items ∙ c.in_ok-patterns.ensures) (rw (c.match_kind-builder.ensures, c.new.ensures.folds) at r.2.3))
     c.build.ensures.ok
 
-pub returns-clause-refused : goal.returns-clause-refused
-returns-clause-refused g c =
+pub returns-clause-err : goal.returns-clause-err
+returns-clause-err g c =
     let lines = pattern_lines c.args.file.now in
     IfErr-weaker c.build.result _ (IsBuildRefusal value_gives c.args.kind lines)
     (λ e cause. elim cause [

@@ -8,7 +8,7 @@ use Rattle.daacfind_command.specs.declared.mode.Mode.{Mode}
 use Rattle.daacfind_command.specs.declared.mode.Mode.TheVariants.{Overlapping, NoSuffix, Find, Longest, First}
 use Rattle.daachorse_bytewise.specs.Matches.{StandsAtEnd}
 use Rattle.daachorse_bytewise.specs.LeftmostSearches.{StandsBehind}
-use Rattle.daachorse_bytewise.proofs.MatchesLemmas.{YieldsList-from_progress}
+use Rattle.daachorse_bytewise.proofs.MatchesLaws.{YieldsList-from_progress}
 use Rattle.daacfind_command.specs.Modes.{found_by}
 use Rattle.daacfind_command.proofs.run.write_mode.Goals as goal
 

@@ -26,7 +26,7 @@ begun r mode patterns old new bytes is form to = at_error r Write (λ e. OnWrite
 pub returns-in_err-automaton-clause-refusal : goal.returns-in_err-automaton-clause-refusal
 returns-in_err-automaton-clause-refusal g c =
     let P : MatchKind → Type 0 = λ k. IsBuildRefusal value_gives k (pattern_lines c.args.patterns.now) c.in_err-automaton.field-0.0 in
-    at_error c.from_residual.result (Build c.in_err-automaton.field-0.0) (λ e. IfBuild e (IsBuildRefusal value_gives (kind_of_mode c.args.mode) (pattern_lines c.args.patterns.now))) c.from_residual.ensures.1 (subst P c.match_kind.ensures c.in_err-automaton.ensures.refused)
+    at_error c.from_residual.result (Build c.in_err-automaton.field-0.0) (λ e. IfBuild e (IsBuildRefusal value_gives (kind_of_mode c.args.mode) (pattern_lines c.args.patterns.now))) c.from_residual.ensures.1 (subst P c.match_kind.ensures c.in_err-automaton.ensures.err)
 
 pub returns-in_err-automaton-clause-unwritten : goal.returns-in_err-automaton-clause-unwritten
 returns-in_err-automaton-clause-unwritten g c =

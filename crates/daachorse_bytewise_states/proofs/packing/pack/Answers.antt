@@ -58,7 +58,7 @@ returns-in_err-helper g c = record {
   err =
       let p = err_from_is_err_and c.from_residual-in_err-helper.result c.from_residual-in_err-helper.ensures.1 in
       let many : 2 ^ 32 ≤ (length c.deref.result.now + 1) * 256 → HasManyGroups (λ b. b) 256 (states_of c.args.nfa.now) = λ passed. (c.in_ok-groups.groups.items, c.in_ok-groups.ensures.ok, (omega (arith, passed, ap length c.deref.ensures.value))) in
-      rw (p.1, p.2) (IsRefusal-weaker ⊥ ⊥ NumElements (2 ^ 32 ≤ (length c.deref.result.now + 1) * 256) (HasManyGroups (λ b. b) 256 (states_of c.args.nfa.now)) (λ x. x) many c.in_err-helper.field-0.0 c.in_err-helper.ensures.refused);
+      rw (p.1, p.2) (IsRefusal-weaker ⊥ ⊥ NumElements (2 ^ 32 ≤ (length c.deref.result.now + 1) * 256) (HasManyGroups (λ b. b) 256 (states_of c.args.nfa.now)) (λ x. x) many c.in_err-helper.field-0.0 c.in_err-helper.ensures.err);
 }
 
 pub write_states-requires : goal.write_states-requires

@@ -5,13 +5,13 @@ use Rattle.daachorse_model.specs.Dictionary.{Dictionary}
 use Rattle.daachorse_model.specs.Units.{byte_width}
 use Rattle.daachorse_bytewise.specs.Matches.{StandsAtEnd}
 use Rattle.daachorse_bytewise.specs.LeftmostSearches.{StandsBehind}
-use Rattle.daachorse_bytewise.proofs.MatchesLemmas.{YieldsList-from_progress}
-use Rattle.daachorse_c.specs.declared.search.Search.{Search}
-use Rattle.daachorse_c.specs.declared.search.Search.TheVariants.{Find, Overlapping, NoSuffix, Leftmost}
+use Rattle.daachorse_bytewise.proofs.MatchesLaws.{YieldsList-from_progress}
+use Rattle.daachorse_c.specs.declared.search.SearchKind.{SearchKind}
+use Rattle.daachorse_c.specs.declared.search.SearchKind.TheVariants.{Find, Overlapping, NoSuffix, Leftmost}
 use Rattle.daachorse_c.specs.Searches.{found_by}
 use Rattle.daachorse_c.proofs.automaton.find_in.Goals as goal
 
-found_in : (search asked : Search) (K : Dictionary ℕ) (h : List ℕ) (left : List (Match ℕ)) → asked ≡ search → left ≡ found_by search K h → left ≡ found_by asked K h
+found_in : (search asked : SearchKind) (K : Dictionary ℕ) (h : List ℕ) (left : List (Match ℕ)) → asked ≡ search → left ≡ found_by search K h → left ≡ found_by asked K h
 found_in search asked K h left is e = e ∙ ap (λ s. found_by s K h) (sym is)
 
 pub returns-in-Find : goal.returns-in-Find

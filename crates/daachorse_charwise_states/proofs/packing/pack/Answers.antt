@@ -47,7 +47,7 @@ returns-in_err-helper g c = record {
   err =
       let of_trie = c.in_ok-groups.ensures.ok c.args.block_len c.requires.block.0 c.requires.block.1 in
       let many : 2 ^ 32 ≤ (length c.deref.result.now + 1) * c.args.block_len → HasManyGroups (code_in c.args.mapper.now) c.args.block_len (states_of c.args.nfa.now) = λ passed. (c.in_ok-groups.groups.items, of_trie, (let P : List (SiblingGroup g.row.A.Denot) → Type 0 = λ gs. 2 ^ 32 ≤ (length gs + 1) * c.args.block_len in subst P c.deref.ensures.value passed)) in
-      at_error c.from_residual-in_err-helper.result _ _ c.from_residual-in_err-helper.ensures.1 (IsRefusal-weaker ⊥ ⊥ NumElements (2 ^ 32 ≤ (length c.deref.result.now + 1) * c.args.block_len) (HasManyGroups (code_in c.args.mapper.now) c.args.block_len (states_of c.args.nfa.now)) (λ x. x) many c.in_err-helper.field-0.0 c.in_err-helper.ensures.refused);
+      at_error c.from_residual-in_err-helper.result _ _ c.from_residual-in_err-helper.ensures.1 (IsRefusal-weaker ⊥ ⊥ NumElements (2 ^ 32 ≤ (length c.deref.result.now + 1) * c.args.block_len) (HasManyGroups (code_in c.args.mapper.now) c.args.block_len (states_of c.args.nfa.now)) (λ x. x) many c.in_err-helper.field-0.0 c.in_err-helper.ensures.err);
 }
 
 pub write_states-requires : goal.write_states-requires

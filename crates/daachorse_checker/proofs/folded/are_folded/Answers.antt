@@ -2,7 +2,7 @@
 use Rattle.std.proofs.Common.{◌≡◌, ℕ, ◌<◌, ◌≤◌, ◌⊎◌, get_or, inl, inr, arith}
 use borrow.Author.Count.{below_more}
 use Rattle.daachorse_model.specs.Folding.{folded_unit}
-use Rattle.daachorse_model.proofs.FoldLemmas.{folded_unit-is}
+use Rattle.daachorse_model.proofs.FoldLaws.{folded_unit-is}
 use Rattle.daachorse_checker.proofs.folded.are_folded.Goals as goal
 use Rattle.daachorse_checker.proofs.folded.are_folded.Goals.{else-label-from-via-then-label-from+else-label-from-2, else-label-from-via-else-label-from}
 

@@ -1,6 +1,6 @@
 -- A haystack has as many bytes as it is read.
 use Rattle.std.proofs.Common.{ap, arith}
-use Rattle.daachorse_model.proofs.FoldLemmas.{size-as_read}
+use Rattle.daachorse_model.proofs.FoldLaws.{size-as_read}
 use Rattle.daachorse_model.specs.Units.{size}
 use Rattle.daachorse_folding.proofs.matches.search_as_read.Goals as goal
 

@@ -2,7 +2,7 @@
 use Rattle.std.proofs.lemmas.List.{length-map}
 use Rattle.daachorse_model.specs.Units.{char_width}
 use Rattle.daachorse_model.specs.Folding.{folded_unit}
-use Rattle.daachorse_model.proofs.FoldLemmas.{folded-again, char_width-folded, size-folded, encodes-folded, chars-folded, IsCharBoundary-folded}
+use Rattle.daachorse_model.proofs.FoldLaws.{folded-again, char_width-folded, size-folded, encodes-folded, chars-folded, IsCharBoundary-folded}
 use Rattle.daachorse_model.proofs.laws.folding_keeps_places.Goals as goal
 
 pub returns : goal.returns

@@ -3,7 +3,7 @@ use Rattle.std.proofs.Common.{◌∙◌, sym}
 use Rattle.daachorse_model.specs.Dictionary.{values_of, registrations_of}
 use Rattle.daachorse_model.specs.Matches.{ending_at}
 use Rattle.daachorse_model.specs.Slow.{width_of}
-use Rattle.daachorse_model.proofs.SlowLemmas.{first-some, first-none}
+use Rattle.daachorse_model.proofs.SlowLaws.{first-some, first-none}
 use Rattle.daachorse_model.proofs.slow.push_first_ending_at.Goals as goal
 
 pub returns-in_ok-push : goal.returns-in_ok-push

@@ -1,7 +1,7 @@
 -- One more pattern adds its value to those of the part just where its text is the part, and then its match is pushed.
 use Rattle.std.proofs.Common.{true, false}
 use Rattle.std.proofs.lemmas.List.{append-nil}
-use Rattle.daachorse_model.proofs.SlowLemmas.{matches_of-step}
+use Rattle.daachorse_model.proofs.SlowLaws.{matches_of-step}
 use Rattle.daachorse_model.proofs.slow.push_values.Goals as goal
 use Rattle.daachorse_model.proofs.slow.push_values.Goals.{then-eq+in_ok-push, else-eq}
 

@@ -2,7 +2,7 @@
 use Rattle.std.proofs.Common.{◌∙◌}
 use Rattle.daachorse_model.specs.Dictionary.{values_of, registrations_of}
 use Rattle.daachorse_model.specs.Slow.{width_of, matches_at_end}
-use Rattle.daachorse_model.proofs.SlowLemmas.{at_each_end-step, at_each_end-last}
+use Rattle.daachorse_model.proofs.SlowLaws.{at_each_end-step, at_each_end-last}
 use Rattle.daachorse_model.proofs.slow.search_each_end.Goals as goal
 
 pub loop-read-preserved : goal.loop-read-preserved

@@ -3,7 +3,7 @@ use Rattle.std.proofs.Common.{◌≡◌, ◌+◌, ◌-◌, [], arith, ap, ◌∙
 use Rattle.daachorse_model.specs.Dictionary.{values_of, registrations_of}
 use Rattle.daachorse_model.specs.Matches.{standard_from}
 use Rattle.daachorse_model.specs.Slow.{width_of}
-use Rattle.daachorse_model.proofs.SlowLemmas.{size-join, standard_left-next}
+use Rattle.daachorse_model.proofs.SlowLaws.{size-join, standard_left-next}
 use Rattle.daachorse_model.proofs.slow.search_nonempty.Goals as goal
 use Rattle.daachorse_model.proofs.slow.search_nonempty.Goals.{in-Some+in_ok-push, in_default}
 

@@ -5,7 +5,7 @@ use Rattle.std.specs.String.{string_bytes}
 use Rattle.std.proofs.lemmas.List.{take_all}
 use Rattle.std.proofs.lemmas.Str.{IsUtf8-string_bytes}
 use Rattle.daachorse_model.specs.Folding.{folded, folded_unit}
-use Rattle.daachorse_model.proofs.FoldLemmas.{chars-folded}
+use Rattle.daachorse_model.proofs.FoldLaws.{chars-folded}
 use Rattle.daachorse_patterns.specs.Patterns.{texts_of}
 use Rattle.daachorse_patterns.proofs.FoldingLaws.{copied_more, folded_texts-of}
 use Rattle.daachorse_patterns.proofs.folding.fold_strings.Goals as goal

@@ -33,7 +33,7 @@ returns-in_err-add-clause-err g c =
     (Fit-texts g.L.Ord.cmp g.L.EdgeLabel.unit width c.loop-pattern.nfa (texts_of units (take i patterns)) was.so_far was.fits was.short)
     c.in_err-add.field-0.0 _ _ (λ much. subst M same much)
     (λ passed. (subst S same passed.short, prefixes_more g.L.Ord.cmp g.L.EdgeLabel.unit width c.loop-pattern.nfa (texts_of units (take i patterns)) labels text pair.1 was.so_far same passed.more))
-    c.in_err-add.ensures.refused))
+    c.in_err-add.ensures.err))
 
 pub returns-clause-fit : goal.returns-clause-fit
 returns-clause-fit g c =

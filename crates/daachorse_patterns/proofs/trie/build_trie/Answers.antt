@@ -79,6 +79,6 @@ returns-in_err-build_outputs g c = record {
       let texts = HasTexts-kept cmp unit width c.add_all.new.nfa b rs linked.kept added.ok in
       at_error c.from_residual-in_err-build_outputs.result _ _ c.from_residual-in_err-build_outputs.ensures.1 (outputs_refused width c.args.max_patterns None c.args.kind rs c.requires few (subst F old added.fit) c.in_err-build_outputs.field-0.0 _
       (λ passed. let many = passed texts.labels texts.registered in omega (arith, many, ap (λ xs. length (kept_registrations (kind_of b) xs)) texts.units, ap (λ k. length (kept_registrations k rs)) (linked.kept.kind ∙ (added.kind ∙ old))))
-      c.in_err-build_outputs.ensures.refused);
+      c.in_err-build_outputs.ensures.err);
   ok = IfOk-from_err c.from_residual-in_err-build_outputs.result _ c.from_residual-in_err-build_outputs.ensures.0;
 }

@@ -1,6 +1,6 @@
 -- Where all bases of a block are taken, so are its elements, since it has no more bases than elements.
 use Rattle.std.proofs.Common.{◌≡◌, ◌+◌, ◌-◌, ◌*◌, ℕ, ◌∙◌, arith, true, subst, sym}
-use Rattle.daachorse_placement.specs.Elements.{is_base}
+use Rattle.daachorse_placement.specs.FreeLists.{is_base}
 use Rattle.daachorse_placement.proofs.FlagCounts.{none-vacant}
 use Rattle.daachorse_placement.proofs.build_helper.least_unused.Goals as goal
 

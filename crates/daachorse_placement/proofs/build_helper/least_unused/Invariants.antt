@@ -1,6 +1,6 @@
 -- The bases of the block so far are taken.
 use Rattle.std.proofs.Common.{◌≡◌, ◌+◌, ℕ, ◌<◌, true}
-use Rattle.daachorse_placement.specs.Elements.{is_base}
+use Rattle.daachorse_placement.specs.FreeLists.{is_base}
 use Rattle.daachorse_placement.proofs.build_helper.least_unused.Given as goal
 
 abbrev pub invariant-loop-offset : goal.invariant-loop-offset

@@ -3,7 +3,7 @@ use Rattle.std.specs.Prelude.{IfErr}
 use Rattle.std.proofs.Common.{rules, Err, ◌≤◌, ◌*◌, ◌^◌, ◌≡◌, ◌<◌, ℕ, List, length, sym, ◌∙◌, subst, arith, ap, set, ◌+◌, ◌||◌}
 use Rattle.std.proofs.lemmas.Result.{IfOk-from_err}
 use Rattle.std.proofs.lemmas.Grind.{common_steps}
-use Rattle.daachorse_placement.specs.Elements.{element_count, HasPlaced, IsFull, IsMapOf, layout_of}
+use Rattle.daachorse_placement.specs.FreeLists.{element_count, HasPlaced, IsFull, IsMapOf, layout_of}
 use Rattle.daachorse_placement.specs.Placement.{IsPlaceRefusal, AreApart, AreGroups, AreIds, FitInBlock, IsPlaced, children_of, is_light, group_parent}
 use Rattle.daachorse_placement.proofs.PlaceStart.{children_at, parent_at, placed_weighed, block_kept, light_more, refusal, refusal_under}
 use Rattle.daachorse_placement.proofs.PlaceSteps.{placed_more}
@@ -76,7 +76,7 @@ returns-clause-block g c = c.loop-group.invariant.block
 
 pub returns-in_err-base : goal.returns-in_err-base
 returns-in_err-base g c = record {
-  refused =
+  err =
       let a = c.loop-group.elements in
       let w = c.weigh.new.self in
       let n = c.args.elements.now.block_len in
@@ -89,7 +89,7 @@ returns-in_err-base g c = record {
       let passed : 2 ^ 32 ≤ element_count w + w.block_len → 2 ^ 32 ≤ (m + 1) * n = λ h. refusal a.num_blocks m n few (omega (arith, h, block, count)) in
       let is_err : c.from_residual.result ≡ Err c.in_err-base.field-0.0 = search rules in
       subst (λ r. IfErr r (IsPlaceRefusal (2 ^ 32 ≤ (m + 1) * n))) (sym is_err)
-      (refusal_under (2 ^ 32 ≤ element_count w + w.block_len) (2 ^ 32 ≤ (m + 1) * n) c.in_err-base.field-0.0 passed c.in_err-base.ensures.refused);
+      (refusal_under (2 ^ 32 ≤ element_count w + w.block_len) (2 ^ 32 ≤ (m + 1) * n) c.in_err-base.field-0.0 passed c.in_err-base.ensures.err);
   whole = IfOk-from_err c.from_residual.result _ c.from_residual.ensures.0;
   full = IfOk-from_err c.from_residual.result _ c.from_residual.ensures.0;
   block = IfOk-from_err c.from_residual.result _ c.from_residual.ensures.0;

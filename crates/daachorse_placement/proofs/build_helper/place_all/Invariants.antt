@@ -1,7 +1,7 @@
 -- The groups so far are placed.
 use Rattle.std.proofs.Common.{◌≡◌, ◌||◌, take}
 use Rattle.std.specs.List.{list_any}
-use Rattle.daachorse_placement.specs.Elements.{IsFull, IsWhole, layout_of}
+use Rattle.daachorse_placement.specs.FreeLists.{IsFull, IsWhole, layout_of}
 use Rattle.daachorse_placement.specs.Placement.{IsPlaced, is_light}
 use Rattle.daachorse_placement.proofs.build_helper.place_all.Given as goal
 

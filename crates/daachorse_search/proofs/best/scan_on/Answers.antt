@@ -7,7 +7,7 @@ use Rattle.daachorse_core.specs.Outputs.{number}
 use Rattle.daachorse_model.specs.Outputs.{IsChain}
 use Rattle.daachorse_model.specs.Units.{size}
 use Rattle.daachorse_search.specs.BestScans.{IsScanning}
-use Rattle.daachorse_search.proofs.BestScanLemmas.{IsScanning-more, IsBehind-now, IsFound-new, IsFound-keeps, IsTheBest-stops, IsTheBest-ends, steady_of}
+use Rattle.daachorse_search.proofs.BestScanLaws.{IsScanning-more, IsBehind-now, IsFound-new, IsFound-keeps, IsTheBest-stops, IsTheBest-ends, steady_of}
 use Rattle.daachorse_search.proofs.best.scan_on.Goals as goal
 
 -- the first match is pending

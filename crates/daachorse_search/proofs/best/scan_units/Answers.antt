@@ -7,10 +7,10 @@ use Rattle.daachorse_core.specs.Outputs.{number}
 use Rattle.daachorse_model.specs.Outputs.{IsChain}
 use Rattle.daachorse_model.specs.Best.{IsSteady}
 use Rattle.daachorse_model.specs.Units.{size}
-use Rattle.daachorse_model.proofs.BestLemmas.{IsSteady-nil}
+use Rattle.daachorse_model.proofs.BestLaws.{IsSteady-nil}
 use Rattle.daachorse_model.proofs.Suffixes.{size-append}
 use Rattle.daachorse_search.specs.BestScans.{IsClear}
-use Rattle.daachorse_search.proofs.BestScanLemmas.{IsScanning-first, IsScanning-more, IsBehind-now, IsFound-new, IsFound-none, IsFound-keeps, IsClear-ends, IsClear-stops, steady_so_far}
+use Rattle.daachorse_search.proofs.BestScanLaws.{IsScanning-first, IsScanning-more, IsBehind-now, IsFound-new, IsFound-none, IsFound-keeps, IsClear-ends, IsClear-stops, steady_so_far}
 use Rattle.daachorse_search.proofs.best.scan_units.Goals as goal
 
 -- the empty key is found at once

@@ -1,5 +1,5 @@
 -- Where the filter is closed, units are read with no skip before them.
-use Rattle.daachorse_search.proofs.SkipLemmas.{SkipsTo-first, SkipsTo-reads}
+use Rattle.daachorse_search.proofs.SkipLaws.{SkipsTo-first, SkipsTo-reads}
 use Rattle.daachorse_search.proofs.matches.go_on.Goals as goal
 
 pub returns-then-not-is_open-clause-reads : goal.returns-then-not-is_open-clause-reads

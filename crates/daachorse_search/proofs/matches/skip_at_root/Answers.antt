@@ -1,6 +1,6 @@
 -- Behind places where the filter does not pass the walk goes on as one that begins there.
 use Rattle.std.proofs.Common.{arith}
-use Rattle.daachorse_search.proofs.SkipLemmas.{SkipsTo-first, SkipsTo-stays, SkipsTo-again}
+use Rattle.daachorse_search.proofs.SkipLaws.{SkipsTo-first, SkipsTo-stays, SkipsTo-again}
 use Rattle.daachorse_search.proofs.matches.skip_at_root.Goals as goal
 
 pub returns-then-not-is_at_root-clause-skips : goal.returns-then-not-is_at_root-clause-skips

@@ -2,7 +2,7 @@
 use Rattle.std.proofs.Common.{◌≡◌, ◌++◌, ◌∷◌, [], ap, arith}
 use Rattle.daachorse_model.specs.Units.{size}
 use Rattle.daachorse_model.proofs.Suffixes.{size-push}
-use Rattle.daachorse_search.proofs.SourceLemmas.{IsReady-more, ScansOver-more, none_found}
+use Rattle.daachorse_search.proofs.SourceLaws.{IsReady-more, ScansOver-more, none_found}
 use Rattle.daachorse_search.proofs.scan.scan_units.Goals as goal
 
 -- the place is that of all that was read

@@ -1,6 +1,6 @@
 -- A step ends where it ends from the link's state, and the turn for each link is paid for by the text that it shortens, to which the last look adds at most one unit.
 use Rattle.std.proofs.Common.{refl, arith}
-use Rattle.daachorse_search.proofs.LookLemmas.{StepEnds-length, StepEnds-link}
+use Rattle.daachorse_search.proofs.LookLaws.{StepEnds-length, StepEnds-link}
 use Rattle.daachorse_search.proofs.walk.follow.Goals as goal
 use Rattle.daachorse_search.proofs.walk.follow.Goals.{then-looks_ahead+in-Fail, else-looks_ahead}
 

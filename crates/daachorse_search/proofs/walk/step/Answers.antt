@@ -1,6 +1,6 @@
 -- Where the links end the step is the longest end that begins a key if no link is dead, and in a leftmost automaton the cut of what was read; a unit that is in no key leads to the root.
 use Rattle.std.proofs.Common.{inl}
-use Rattle.daachorse_search.proofs.LookLemmas.{StepEnds-cut, StepEnds-left, StepEnds-long}
+use Rattle.daachorse_search.proofs.LookLaws.{StepEnds-cut, StepEnds-left, StepEnds-long}
 use Rattle.daachorse_search.proofs.walk.step.Goals as goal
 
 -- no key has the unit

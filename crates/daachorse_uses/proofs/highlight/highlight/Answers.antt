@@ -5,7 +5,7 @@ use Rattle.std.specs.Iterator.Runs.{WholeRun}
 use Rattle.daachorse_model.specs.Folding.{as_read}
 use Rattle.daachorse_model.specs.Matches.{standard}
 use Rattle.daachorse_model.specs.Units.{byte_width}
-use Rattle.daachorse_model.proofs.FoldLemmas.{length-as_read}
+use Rattle.daachorse_model.proofs.FoldLaws.{length-as_read}
 use Rattle.daachorse_model.proofs.Suffixes.{size-bytes}
 use Rattle.daachorse_bytewise.specs.Automata.{dictionary_of}
 use Rattle.daachorse_uses.specs.Covered.{AreMarks, FitsIn, is_within}

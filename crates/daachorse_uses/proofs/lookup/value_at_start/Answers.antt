@@ -3,7 +3,7 @@ use Rattle.std.proofs.Common.{slice_get, arith, sym, ap, ◌∙◌}
 use Rattle.std.proofs.lemmas.Option.{same_Some}
 use Rattle.daachorse_model.specs.declared.Match.{Match}
 use Rattle.daachorse_model.specs.Folding.{as_read}
-use Rattle.daachorse_model.proofs.FoldLemmas.{length-as_read}
+use Rattle.daachorse_model.proofs.FoldLaws.{length-as_read}
 use Rattle.daachorse_bytewise.specs.Automata.{dictionary_of, kind_of}
 use Rattle.daachorse_uses.proofs.Lookups.{by_leftmost, first_is_other, first_is_whole}
 use Rattle.daachorse_uses.proofs.lookup.value_at_start.Goals as goal

@@ -32,8 +32,8 @@ module _ {L V A : Type 0} (cmp : L → L → Ordering) (unit : L → ℕ) (width
       let key = key_before cmp unit width kind states rs holds p early in
       kept_same unit kind rs p v first key.0 key.1 key.2
 
-pub returns-in_err-add_pattern-clause-refused : goal.returns-in_err-add_pattern-clause-refused
-returns-in_err-add_pattern-clause-refused g c =
+pub returns-in_err-add_pattern-clause-err : goal.returns-in_err-add_pattern-clause-err
+returns-in_err-add_pattern-clause-err g c =
     let p = err_from_is_err_and c.from_residual-in_err-add_pattern.result c.from_residual-in_err-add_pattern.ensures.1 in
     let b = c.self.inside in
     let cmp = g.L.Ord.cmp in
@@ -46,7 +46,7 @@ returns-in_err-add_pattern-clause-refused g c =
     let short : size width (map unit pattern) ≤ 4294967295 = rw (← c.in_ok-size.ensures.size) (search rules) in
     rw (← c.self.view_is, p.1, p.2) (IsRefusal-weaker ⊥ _ StateId _ _ (λ none. absurd none)
     (λ over. record { short = short; more = λ rs reg. too_many cmp unit g.met.L.EdgeLabel.exact width b.kind b.states.items rs pattern c.args.value (counts cmp unit width b.kind b.states.items rs reg.holds pattern c.args.value why) reg.holds 4294967295 over })
-    _ c.in_err-add_pattern.ensures.refused)
+    _ c.in_err-add_pattern.ensures.err)
 
 pub returns-clause-added : goal.returns-clause-added
 returns-clause-added g c = rw (← c.self.view_is) (

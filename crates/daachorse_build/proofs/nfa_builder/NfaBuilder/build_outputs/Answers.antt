@@ -89,5 +89,5 @@ returns-clause-links g c =
 pub invariant_of-self : goal.invariant_of-self
 invariant_of-self g c = grind (arith, common_steps)
 
-pub returns-clause-refused : goal.returns-clause-refused
-returns-clause-refused g c = grind (arith, elements)
+pub returns-clause-err : goal.returns-clause-err
+returns-clause-err g c = grind (arith, elements)

@@ -25,9 +25,9 @@ invariant_of-result g c =
 pub returns-in_err-push : goal.returns-in_err-push
 returns-in_err-push g c =
     let e = c.from_residual.ensures in
-    record { kind = IfOk-from_err _ _ e.0; outputs = IfOk-from_err _ _ e.0; registered = IfOk-from_err _ _ e.0; fits = IfOk-from_err _ _ e.0; refused = at_error _ _ _ e.1 refl }
+    record { kind = IfOk-from_err _ _ e.0; outputs = IfOk-from_err _ _ e.0; registered = IfOk-from_err _ _ e.0; fits = IfOk-from_err _ _ e.0; err = at_error _ _ _ e.1 refl }
 
 pub returns-in_err-push-2 : goal.returns-in_err-push-2
 returns-in_err-push-2 g c =
     let e = c.from_residual-in_err-push-2.ensures in
-    record { kind = IfOk-from_err _ _ e.0; outputs = IfOk-from_err _ _ e.0; registered = IfOk-from_err _ _ e.0; fits = IfOk-from_err _ _ e.0; refused = at_error _ _ _ e.1 refl }
+    record { kind = IfOk-from_err _ _ e.0; outputs = IfOk-from_err _ _ e.0; registered = IfOk-from_err _ _ e.0; fits = IfOk-from_err _ _ e.0; err = at_error _ _ _ e.1 refl }

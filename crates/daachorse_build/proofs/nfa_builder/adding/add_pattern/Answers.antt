@@ -52,8 +52,8 @@ returns-clause-ok g c =
     let done = added g.L.Ord.cmp g.met.L.Ord.total (label_exact g.L.EdgeLabel.unit g.L.Ord.cmp g.met.L.EdgeLabel.exact g.met.L.EdgeLabel.by_unit) c.args.states.now.items states (set states id y) p id (c.args.value, c.args.size) c.requires i edges out in
     rw whole at done
 
-pub returns-in_err-id-clause-refused : goal.returns-in_err-id-clause-refused
-returns-in_err-id-clause-refused g c =
+pub returns-in_err-id-clause-err : goal.returns-in_err-id-clause-err
+returns-in_err-id-clause-err g c =
     let p = err_from_is_err_and c.from_residual.result c.from_residual.ensures.1 in
     let pattern = c.args.pattern.now in
     let i = c.loop-label.label-index in
@@ -63,7 +63,7 @@ returns-in_err-id-clause-refused g c =
     let splits : take i pattern ++ x ∷ drop (i + 1) pattern ≡ pattern = ap (λ z. take i pattern ++ z) rest ∙ take-append-drop i pattern in
     rw (p.1, p.2) (IsRefusal-weaker ⊥ ⊥ StateId ((4294967295 < vec_len c.loop-label.states) × (child_of g.L.Ord.cmp c.loop-label.states.items c.loop-label.id x ≡ None)) (Overflows g.L.Ord.cmp c.args.states.now.items pattern 4294967295) (λ none. none)
     (λ h. record { mid = c.loop-label.states.items; front = take i pattern; label = x; rest = drop (i + 1) pattern; splits = splits; id = c.loop-label.id; adding = c.loop-label.invariant.0; full = omega (arith, h.0); none = h.1 })
-    _ c.in_err-id.ensures.refused)
+    _ c.in_err-id.ensures.err)
 
 pub returns-in_err-id-clause-trie : goal.returns-in_err-id-clause-trie
 returns-in_err-id-clause-trie g c =

@@ -32,8 +32,8 @@ size_of_front width unit zero p = zero-le
 size_of_front width unit (suc n) [] = zero-le
 size_of_front width unit (suc n) (x ∷ p) = omega (arith, size_of_front width unit n p)
 
-pub returns-then-size-clause-refused : goal.returns-then-size-clause-refused
-returns-then-size-clause-refused g c =
+pub returns-then-size-clause-err : goal.returns-then-size-clause-err
+returns-then-size-clause-err g c =
     let p = c.args.pattern.now in
     let i = c.loop-label.label-index in
     let more = size_more g.L.EdgeLabel.width g.L.EdgeLabel.unit p i c.label-item.result c.loop-label-test.true c.label-item.is in

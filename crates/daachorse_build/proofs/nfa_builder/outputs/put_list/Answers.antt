@@ -29,10 +29,10 @@ returns-in_err-state g c = record {
   parents = c.push_chain.ensures.parents;
   chain = IfOk-from_err c.from_residual.result _ c.from_residual.ensures.0;
   others = IfOk-from_err c.from_residual.result _ c.from_residual.ensures.0;
-  refused =
+  err =
       let p = err_from_is_err_and c.from_residual.result c.from_residual.ensures.1 in
       let own = own_here c.args.states.now c.args.id c.index-states-id.result _ c.requires.id refl in
-      rw (p.1, p.2) (rw own c.in_err-state.ensures.refused);
+      rw (p.1, p.2) (rw own c.in_err-state.ensures.err);
 }
 
 pub returns-clause-kept : goal.returns-clause-kept

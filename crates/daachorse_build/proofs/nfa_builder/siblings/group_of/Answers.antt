@@ -17,9 +17,9 @@ loop-label-preserved g c =
 pub returns-in_err-children : goal.returns-in_err-children
 returns-in_err-children g c =
     let e = c.from_residual.ensures in
-    record { parent = IfOk-from_err _ _ e.0; children = IfOk-from_err _ _ e.0; weight = IfOk-from_err _ _ e.0; refused = at_error _ _ _ e.1 refl }
+    record { parent = IfOk-from_err _ _ e.0; children = IfOk-from_err _ _ e.0; weight = IfOk-from_err _ _ e.0; err = at_error _ _ _ e.1 refl }
 
 pub returns-in_err-push : goal.returns-in_err-push
 returns-in_err-push g c =
     let e = c.from_residual-in_err-push.ensures in
-    record { parent = IfOk-from_err _ _ e.0; children = IfOk-from_err _ _ e.0; weight = IfOk-from_err _ _ e.0; refused = at_error _ _ _ e.1 refl }
+    record { parent = IfOk-from_err _ _ e.0; children = IfOk-from_err _ _ e.0; weight = IfOk-from_err _ _ e.0; err = at_error _ _ _ e.1 refl }

@@ -140,19 +140,19 @@ returns-clause-parents g c =
 pub returns-in_err-push : goal.returns-in_err-push
 returns-in_err-push g c =
     let e = c.from_residual.ensures in
-    record { parents = IfOk-from_err _ _ e.0; families = IfOk-from_err _ _ e.0; weights = IfOk-from_err _ _ e.0; refused = at_error _ _ _ e.1 refl }
+    record { parents = IfOk-from_err _ _ e.0; families = IfOk-from_err _ _ e.0; weights = IfOk-from_err _ _ e.0; err = at_error _ _ _ e.1 refl }
 
 pub returns-in_err-put_children : goal.returns-in_err-put_children
 returns-in_err-put_children g c =
     let e = c.from_residual-in_err-put_children.ensures in
-    record { parents = IfOk-from_err _ _ e.0; families = IfOk-from_err _ _ e.0; weights = IfOk-from_err _ _ e.0; refused = at_error _ _ _ e.1 c.in_err-put_children.ensures.refused }
+    record { parents = IfOk-from_err _ _ e.0; families = IfOk-from_err _ _ e.0; weights = IfOk-from_err _ _ e.0; err = at_error _ _ _ e.1 c.in_err-put_children.ensures.err }
 
 pub returns-in_err-group_of : goal.returns-in_err-group_of
 returns-in_err-group_of g c =
     let e = c.from_residual-in_err-group_of.ensures in
-    record { parents = IfOk-from_err _ _ e.0; families = IfOk-from_err _ _ e.0; weights = IfOk-from_err _ _ e.0; refused = at_error _ _ _ e.1 c.in_err-group_of.ensures.refused }
+    record { parents = IfOk-from_err _ _ e.0; families = IfOk-from_err _ _ e.0; weights = IfOk-from_err _ _ e.0; err = at_error _ _ _ e.1 c.in_err-group_of.ensures.err }
 
 pub returns-in_err-push-2 : goal.returns-in_err-push-2
 returns-in_err-push-2 g c =
     let e = c.from_residual-in_err-push-2.ensures in
-    record { parents = IfOk-from_err _ _ e.0; families = IfOk-from_err _ _ e.0; weights = IfOk-from_err _ _ e.0; refused = at_error _ _ _ e.1 refl }
+    record { parents = IfOk-from_err _ _ e.0; families = IfOk-from_err _ _ e.0; weights = IfOk-from_err _ _ e.0; err = at_error _ _ _ e.1 refl }

@@ -9,18 +9,18 @@ use Rattle.daachorse_bytewise_states.proofs.FormLaws.{automaton_law}
 use Rattle.daachorse_bytewise.specs.Automata.{MayFold, MayHaveFilter}
 use Rattle.daachorse_bytewise.proofs.bytewise.DoubleArrayAhoCorasick.deserialize.Goals as goal
 
-pub returns-in_err-read-clause-refused : goal.returns-in_err-read-clause-refused
-returns-in_err-read-clause-refused g c = at_error c.from_residual.result _ _ c.from_residual.ensures.1 (refused_parts IsValid MayFold MayHaveFilter (take_parts g.V.Serializable.taken c.args.source.now) c.in_err-read.field-0.0 c.in_err-read.ensures.refused)
+pub returns-in_err-read-clause-err : goal.returns-in_err-read-clause-err
+returns-in_err-read-clause-err g c = at_error c.from_residual.result _ _ c.from_residual.ensures.1 (refused_parts IsValid MayFold MayHaveFilter (take_parts g.V.Serializable.taken c.args.source.now) c.in_err-read.field-0.0 c.in_err-read.ensures.err)
 
 pub returns-in_err-read-clause-memory : goal.returns-in_err-read-clause-memory
 returns-in_err-read-clause-memory g c =
     let p = err_from_is_err_and c.from_residual.result c.from_residual.ensures.1 in
     rw (p.1, p.2)
     (λ w. refuses_written (automaton_law g.met.V.Serializable.law) c.args.source.now w.begins.0 w.automaton w.is_one w.begins.1 c.in_err-read.field-0.0
-    (refused_parts IsValid MayFold MayHaveFilter (take_parts g.V.Serializable.taken c.args.source.now) c.in_err-read.field-0.0 c.in_err-read.ensures.refused))
+    (refused_parts IsValid MayFold MayHaveFilter (take_parts g.V.Serializable.taken c.args.source.now) c.in_err-read.field-0.0 c.in_err-read.ensures.err))
 
-pub returns-then-not-branch-clause-refused : goal.returns-then-not-branch-clause-refused
-returns-then-not-branch-clause-refused g c =
+pub returns-then-not-branch-clause-err : goal.returns-then-not-branch-clause-err
+returns-then-not-branch-clause-err g c =
     let r = c.in_ok-read in
     inr (refused_fold IsValid MayFold MayHaveFilter (take_parts g.V.Serializable.taken c.args.source.now) r.read.0 r.read.1 r.read.2 r.rest.now r.ensures.given (c.in_ok-may_fold.ensures.no c.if-not-branch.true))
 
@@ -30,8 +30,8 @@ returns-then-not-branch-clause-memory g c w =
     refuses_written (automaton_law g.met.V.Serializable.law) c.args.source.now w.begins.0 w.automaton w.is_one w.begins.1 c.invalid_automaton.result
     (inr (refused_fold IsValid MayFold MayHaveFilter (take_parts g.V.Serializable.taken c.args.source.now) r.read.0 r.read.1 r.read.2 r.rest.now r.ensures.given (c.in_ok-may_fold.ensures.no c.if-not-branch.true)))
 
-pub returns-then-not-branch-2-clause-refused : goal.returns-then-not-branch-2-clause-refused
-returns-then-not-branch-2-clause-refused g c =
+pub returns-then-not-branch-2-clause-err : goal.returns-then-not-branch-2-clause-err
+returns-then-not-branch-2-clause-err g c =
     let r = c.in_ok-read in
     inr (refused_filter IsValid MayFold MayHaveFilter (take_parts g.V.Serializable.taken c.args.source.now) r.read.0 r.read.1 r.read.2 r.rest.now r.ensures.given (c.in_ok-passes.ensures.no c.if-not-branch-2.true))
 

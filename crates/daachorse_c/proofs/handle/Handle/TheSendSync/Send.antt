@@ -11,7 +11,7 @@ use Rattle.std.specs.contracts.impls.GlobalAllocator.TheImpl.{ghosts}
 use Rattle.std.proofs.alloc.Global.TheSendSync as heap
 use Rattle.std.proofs.Crossing.{frees}
 use Rattle.daachorse_c.specs.Handle.{held_owns}
-use Rattle.daachorse_c.specs.contracts.automaton.Automaton as automaton
+use Rattle.daachorse_c.specs.contracts.automaton.Searcher as automaton
 use Rattle.daachorse_c.specs.contracts.handle.Handle.{the_row}
 use Rattle.daachorse_c.proofs.Crossing.{automaton_send}
 

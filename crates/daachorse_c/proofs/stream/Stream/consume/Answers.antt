@@ -3,7 +3,7 @@ use borrow.Rule.Slice.PartMut.{mid_of, same_len_mid}
 use Rattle.std.proofs.Common.{◌≡◌, ◌-◌, ◌++◌, [], ◌∷◌, drop, get_or, length, take, refl, arith, sym, ap, ◌∙◌, subst, append_assoc}
 use Rattle.std.proofs.lemmas.List.{take_more}
 use Rattle.daachorse_model.specs.Folding.{as_read}
-use Rattle.daachorse_model.proofs.FoldLemmas.{as_read-append}
+use Rattle.daachorse_model.proofs.FoldLaws.{as_read-append}
 use Rattle.daachorse_bytewise.specs.Automata.{dictionary_of}
 use Rattle.daachorse_bytewise_states.specs.Parts.{content}
 use Rattle.daachorse_c.specs.Streams.{ending_with, found_in, overlaps, overlaps_in, read_by, read_in, states_in}

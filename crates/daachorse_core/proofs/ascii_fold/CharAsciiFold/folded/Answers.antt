@@ -1,6 +1,6 @@
 -- A character past ASCII lies behind the letters.
 use Rattle.std.proofs.Common.{sym, arith}
-use Rattle.daachorse_model.proofs.FoldLemmas.{folded_unit-is}
+use Rattle.daachorse_model.proofs.FoldLaws.{folded_unit-is}
 use Rattle.daachorse_core.proofs.ascii_fold.CharAsciiFold.folded.Goals as goal
 
 pub returns-else-self-lt128 : goal.returns-else-self-lt128

@@ -5,11 +5,11 @@ use Rattle.std.specs.Prelude.{option_map, encode_utf8_all}
 use Rattle.std.specs.Str.{IsUtf8, chars}
 use Rattle.daachorse_model.specs.Folding.{folded}
 use Rattle.daachorse_model.specs.Units.{char_width}
-use Rattle.daachorse_model.proofs.FoldLemmas.{IsUtf8-folded, chars-folded}
+use Rattle.daachorse_model.proofs.FoldLaws.{IsUtf8-folded, chars-folded}
 use Rattle.daachorse_prefilter.specs.Filters.{Filter}
 use Rattle.daachorse_search.specs.Filters.{IsNextPassing}
 use Rattle.daachorse_skipping.specs.Asked.{lets_pass}
-use Rattle.daachorse_skipping.proofs.SkipLemmas.{chars_cut, chars_sized, recorded_skip, skipped_chars}
+use Rattle.daachorse_skipping.proofs.SkipLaws.{chars_cut, chars_sized, recorded_skip, skipped_chars}
 use Rattle.daachorse_folding.proofs.filter.SkippingFoldingFilterCharText.skip_folded.Goals as goal
 
 -- the characters of the folded bytes are those that are still to come, folded

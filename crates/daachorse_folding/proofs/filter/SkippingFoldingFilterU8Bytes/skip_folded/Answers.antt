@@ -7,7 +7,7 @@ use Rattle.daachorse_model.specs.Units.{byte_width}
 use Rattle.daachorse_prefilter.specs.Filters.{Filter, next_place}
 use Rattle.daachorse_search.specs.Filters.{IsNextPassing}
 use Rattle.daachorse_skipping.specs.Asked.{lets_pass}
-use Rattle.daachorse_skipping.proofs.SkipLemmas.{bytes_sized, recorded_skip, skipped_bytes}
+use Rattle.daachorse_skipping.proofs.SkipLaws.{bytes_sized, recorded_skip, skipped_bytes}
 use Rattle.daachorse_folding.proofs.filter.SkippingFoldingFilterU8Bytes.skip_folded.Goals as goal
 
 -- the place that was found is one of the folded bytes

@@ -1,6 +1,6 @@
 -- What the search in the folded source gives, it gives of the source as it is read.
 use Rattle.std.proofs.Common.{refl}
-use Rattle.daachorse_folding.proofs.SourceLemmas.{GivesFrom-as_read}
+use Rattle.daachorse_folding.proofs.SourceLaws.{GivesFrom-as_read}
 use Rattle.daachorse_folding.proofs.matches_from.MatchesFromAsReadIterator.next.Goals as goal
 use Rattle.daachorse_folding.proofs.matches_from.MatchesFromAsReadIterator.next.Goals.{in-AsItIs, in-Folded}
 

@@ -2,7 +2,7 @@
 use Rattle.std.proofs.Common.{sym, ap, ◌∙◌}
 use Rattle.daachorse_model.specs.Folding.{as_read}
 use Rattle.daachorse_model.specs.Units.{size}
-use Rattle.daachorse_model.proofs.FoldLemmas.{size-as_read}
+use Rattle.daachorse_model.proofs.FoldLaws.{size-as_read}
 use Rattle.daachorse_folding.proofs.reading.AsReadReread.left.Goals as goal
 
 pub returns : goal.returns

@@ -2,7 +2,7 @@
 use Rattle.std.proofs.Common.{arith, ap}
 use Rattle.daachorse_model.specs.Units.{size}
 use Rattle.daachorse_model.specs.Slow.{width_of}
-use Rattle.daachorse_model.proofs.SlowLemmas.{size-most, size-drop, drop-all}
+use Rattle.daachorse_model.proofs.SlowLaws.{size-most, size-drop, drop-all}
 use Rattle.daachorse_model.proofs.slow.Width.size_of.Goals as goal
 
 pub overflow_add-size : goal.overflow_add-size

@@ -2,7 +2,7 @@
 use Rattle.std.proofs.Common.{◌≡◌, true, false, ap, sym, ◌∙◌}
 use Rattle.daachorse_model.specs.Kinds.{is_leftmost_first}
 use Rattle.daachorse_model.specs.Dictionary.{kept_registrations, registrations_of}
-use Rattle.daachorse_model.proofs.KindLemmas.{kept_registrations-first, kept_registrations-all}
+use Rattle.daachorse_model.proofs.KindLaws.{kept_registrations-first, kept_registrations-all}
 use Rattle.daachorse_model.proofs.slow.leftmost.leftmost_slowly.Goals as goal
 
 pub returns-in_ok-kept : goal.returns-in_ok-kept

@@ -2,7 +2,7 @@
 use Rattle.std.proofs.Common.{◌≡◌, ◌*◌, ℕ, List, ap, sym, ◌∙◌, subst, arith, replicate, rules, set}
 use Rattle.std.proofs.lemmas.Result.{IfOk-from_err}
 use Rattle.std.proofs.lemmas.Grind.{common_steps}
-use Rattle.daachorse_placement.specs.Elements.{layout_of}
+use Rattle.daachorse_placement.specs.FreeLists.{layout_of}
 use Rattle.daachorse_placement.specs.Placement.{IsPlaced}
 use Rattle.daachorse_placement.proofs.FlagCounts.{none-vacant}
 use Rattle.daachorse_placement.proofs.PlaceStart.{placed_start, full_start}

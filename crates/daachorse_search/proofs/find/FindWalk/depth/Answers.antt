@@ -4,7 +4,7 @@ use Rattle.daachorse_core.specs.Seen.{units}
 use Rattle.daachorse_model.specs.Matches.{IsSinceMatch}
 use Rattle.daachorse_model.specs.Prefixes.{IsLong}
 use Rattle.daachorse_search.specs.Walks.{Walked}
-use Rattle.daachorse_search.proofs.FindLemmas.{finding-since}
+use Rattle.daachorse_search.proofs.FindLaws.{finding-since}
 use Rattle.daachorse_search.proofs.find.FindWalk.depth.Goals as goal
 
 pub returns-clause-depth : goal.returns-clause-depth

@@ -1,5 +1,5 @@
 -- The root's outputs are those of the empty key, so their position tells whether every place has a match, or whether no key is empty and the walk has yet to read up to one.
-use Rattle.daachorse_search.proofs.FindLemmas.{finding-begin}
+use Rattle.daachorse_search.proofs.FindLaws.{finding-begin}
 use Rattle.daachorse_search.proofs.find.FindWalk.new.Goals as goal
 
 pub invariant_of-result : goal.invariant_of-result

@@ -1,7 +1,7 @@
 -- The walk begins again at the root behind each match, so the matches that it finds with the unit are those that start behind the last one, of which the first is the standard search's.
 use Rattle.std.proofs.Common.{sym, ◌∙◌, arith}
 use Rattle.std.proofs.lemmas.Grind.{common_steps}
-use Rattle.daachorse_search.proofs.FindLemmas.{finding-skip, finding-pass, finding-find}
+use Rattle.daachorse_search.proofs.FindLaws.{finding-skip, finding-pass, finding-find}
 use Rattle.daachorse_search.proofs.find.FindWalkStepwise.advance.Goals as goal
 
 -- with an empty key each place has its match

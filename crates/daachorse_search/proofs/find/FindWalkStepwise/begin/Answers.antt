@@ -1,5 +1,5 @@
 -- Where nothing was read, the standard search finds the first match of the empty key, whose outputs the walk keeps, and nothing if no key is empty.
-use Rattle.daachorse_search.proofs.FindLemmas.{finding-at, stops-begin}
+use Rattle.daachorse_search.proofs.FindLaws.{finding-at, stops-begin}
 use Rattle.daachorse_search.proofs.find.FindWalkStepwise.begin.Goals as goal
 
 pub returns : goal.returns

@@ -1,5 +1,5 @@
 -- Whether some key is empty stays as it was with the automaton, and a walk that has read nothing and taken no turn stands as one that begins.
-use Rattle.daachorse_search.proofs.FindLemmas.{finding-again}
+use Rattle.daachorse_search.proofs.FindLaws.{finding-again}
 use Rattle.daachorse_search.proofs.find.FindWalkStepwise.begin_again.Goals as goal
 
 pub invariant_of-self : goal.invariant_of-self

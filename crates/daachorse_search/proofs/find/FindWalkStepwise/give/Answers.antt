@@ -5,7 +5,7 @@ use Rattle.daachorse_model.specs.Units.{size}
 use Rattle.daachorse_search.specs.Afresh.{shifted}
 use Rattle.daachorse_search.specs.Nothing.{first_from-none}
 use Rattle.daachorse_search.specs.Walks.{Walked, matches_from}
-use Rattle.daachorse_search.proofs.AfreshLemmas.{first_shifted}
+use Rattle.daachorse_search.proofs.AfreshLaws.{first_shifted}
 use Rattle.daachorse_search.proofs.find.FindWalkStepwise.give.Goals as goal
 
 pub returns-clause-given : goal.returns-clause-given

@@ -6,8 +6,8 @@ use Rattle.daachorse_core.specs.Seen.{units}
 use Rattle.daachorse_search.specs.Afresh.{GoesOnAfresh}
 use Rattle.daachorse_search.specs.Searches.{standard_found}
 use Rattle.daachorse_search.specs.Walks.{Walked}
-use Rattle.daachorse_search.proofs.FindLemmas.{finding-afresh}
-use Rattle.daachorse_search.proofs.OverlappingLemmas.{root_begins}
+use Rattle.daachorse_search.proofs.FindLaws.{finding-afresh}
+use Rattle.daachorse_search.proofs.OverlappingLaws.{root_begins}
 use Rattle.daachorse_search.proofs.find.FindWalkStepwise.is_at_root.Goals as goal
 
 pub returns-clause-afresh : goal.returns-clause-afresh

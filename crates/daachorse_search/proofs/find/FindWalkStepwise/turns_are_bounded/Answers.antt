@@ -4,7 +4,7 @@ use Rattle.std.specs.Prelude.{count_by}
 use Rattle.daachorse_core.specs.Seen.{units}
 use Rattle.daachorse_search.specs.Walks.{Walked}
 use Rattle.daachorse_search.specs.Stepwise.{AreBoundedSince, looks_unless_empty}
-use Rattle.daachorse_search.proofs.FindLemmas.{finding-bounded, finding-least}
+use Rattle.daachorse_search.proofs.FindLaws.{finding-bounded, finding-least}
 use Rattle.daachorse_search.proofs.find.FindWalkStepwise.turns_are_bounded.Goals as goal
 
 pub returns-clause-bounds : goal.returns-clause-bounds

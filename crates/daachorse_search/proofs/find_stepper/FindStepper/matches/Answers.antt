@@ -6,7 +6,7 @@ use Rattle.daachorse_core.specs.Seen.{units}
 use Rattle.daachorse_model.specs.Matches.{standard_after}
 use Rattle.daachorse_search.specs.Stepwise.{Stepped}
 use Rattle.daachorse_search.specs.Walks.{matches_from}
-use Rattle.daachorse_search.proofs.AfreshLemmas.{unshifted}
+use Rattle.daachorse_search.proofs.AfreshLaws.{unshifted}
 use Rattle.daachorse_search.proofs.find_stepper.FindStepper.matches.Goals as goal
 
 only : {X : Type 0} (o : Option X) (x : X) (l : List X) → option_to_list o ≡ x ∷ l → Some x ≡ o

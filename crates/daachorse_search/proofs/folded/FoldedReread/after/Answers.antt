@@ -2,7 +2,7 @@
 use Rattle.std.proofs.Common.{◌≡◌, ℕ, ◌++◌, List, take, drop, length, sym, ap, ◌∙◌, take-append-drop}
 use Rattle.daachorse_model.specs.Folding.{folded_unit, folded}
 use Rattle.daachorse_model.specs.Units.{size}
-use Rattle.daachorse_model.proofs.FoldLemmas.{folded-cut, size-folded}
+use Rattle.daachorse_model.proofs.FoldLaws.{folded-cut, size-folded}
 use Rattle.daachorse_search.proofs.folded.FoldedReread.after.Goals as goal
 
 -- as many units are passed as folded ones, and they take as many bytes

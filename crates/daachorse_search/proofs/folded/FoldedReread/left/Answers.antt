@@ -1,7 +1,7 @@
 -- The folded units take as many bytes as the units.
 use Rattle.std.proofs.Common.{sym, ap, ◌∙◌}
 use Rattle.daachorse_model.specs.Units.{size}
-use Rattle.daachorse_model.proofs.FoldLemmas.{size-folded}
+use Rattle.daachorse_model.proofs.FoldLaws.{size-folded}
 use Rattle.daachorse_search.proofs.folded.FoldedReread.left.Goals as goal
 
 pub returns : goal.returns

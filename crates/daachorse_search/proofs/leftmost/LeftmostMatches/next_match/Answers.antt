@@ -7,7 +7,7 @@ use Rattle.daachorse_model.specs.declared.Match.{Match}
 use Rattle.daachorse_model.specs.Units.{size}
 use Rattle.daachorse_model.proofs.Suffixes.{size-append}
 use Rattle.daachorse_search.specs.LeftmostSearches.{StandsBehind, IsResting, before_rest, leftmost_left}
-use Rattle.daachorse_search.proofs.LeftmostLemmas.{skipped, cleared, over_at, fewer_left, best_ends, best_fits, ends_at_once, ends_behind, output_fits, gives_key, gives_empty, stands_key, stands_empty}
+use Rattle.daachorse_search.proofs.LeftmostLaws.{skipped, cleared, over_at, fewer_left, best_ends, best_fits, ends_at_once, ends_behind, output_fits, gives_key, gives_empty, stands_key, stands_empty}
 use Rattle.daachorse_search.proofs.leftmost.LeftmostMatches.next_match.Goals as goal
 
 pub skip_places-may_stop-requires : goal.skip_places-may_stop-requires

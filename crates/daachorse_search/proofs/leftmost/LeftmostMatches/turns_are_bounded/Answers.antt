@@ -4,7 +4,7 @@ use Rattle.std.proofs.lemmas.Grind.{common_steps}
 use Rattle.std.specs.Prelude.{count_by}
 use Rattle.daachorse_search.specs.Filters.{PassesNowhere, count_passing}
 use Rattle.daachorse_search.specs.Matches.{Progress}
-use Rattle.daachorse_search.proofs.LeftmostLemmas.{passed_parts, passing_least, labelled_least}
+use Rattle.daachorse_search.proofs.LeftmostLaws.{passed_parts, passing_least, labelled_least}
 use Rattle.daachorse_search.proofs.leftmost.LeftmostMatches.turns_are_bounded.Goals as goal
 
 pub returns-clause-passed : goal.returns-clause-passed

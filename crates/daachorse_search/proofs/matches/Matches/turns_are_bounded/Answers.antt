@@ -4,7 +4,7 @@ use Rattle.std.proofs.lemmas.Grind.{common_steps}
 use Rattle.daachorse_core.specs.Outputs.{number}
 use Rattle.daachorse_search.specs.Filters.{count_passing}
 use Rattle.daachorse_search.specs.Matches.{AreBoundedBehind, Progress}
-use Rattle.daachorse_search.proofs.SkipLemmas.{passed_is, reading-bounded, reading-plain, reading-single}
+use Rattle.daachorse_search.proofs.SkipLaws.{passed_is, reading-bounded, reading-plain, reading-single}
 use Rattle.daachorse_search.proofs.matches.Matches.turns_are_bounded.Goals as goal
 
 pub returns-clause-passing : goal.returns-clause-passing

@@ -1,7 +1,7 @@
 -- A search begins with all that is given of each beginning of the haystack.
 use Rattle.std.proofs.Common.{ap}
 use Rattle.daachorse_core.specs.Outputs.{number}
-use Rattle.daachorse_search.proofs.SkipLemmas.{left_first}
+use Rattle.daachorse_search.proofs.SkipLaws.{left_first}
 use Rattle.daachorse_search.proofs.matches.Matches.with_filter.Goals as goal
 
 pub returns-clause-left : goal.returns-clause-left

@@ -10,7 +10,7 @@ use Rattle.daachorse_search.specs.declared.matches.Matches.TheInside.{Inside}
 use Rattle.daachorse_search.specs.LeftmostSearches.{before_rest}
 use Rattle.daachorse_search.specs.Matches.{Progress, GaveMatch, GaveNone, GivesFirst, StandsAtEnd}
 use Rattle.daachorse_search.specs.Skipping.{HasNoPlace, SkipsTo}
-use Rattle.daachorse_search.proofs.SkipLemmas.{SkipsTo-places, no_place_on, reading, left_of, reading-on, reading-gives, reading-ended, place_is}
+use Rattle.daachorse_search.proofs.SkipLaws.{SkipsTo-places, no_place_on, reading, left_of, reading-on, reading-gives, reading-ended, place_is}
 use Rattle.daachorse_search.proofs.matches.MatchesIterator.next.Given as given
 use Rattle.daachorse_search.proofs.matches.MatchesIterator.next.Goals as goal
 use Rattle.daachorse_search.proofs.matches.MatchesIterator.next.Goals.{in-Some, in-None+in_ok-position-in-None}

@@ -6,7 +6,7 @@ use Rattle.daachorse_core.specs.Seen.{units}
 use Rattle.daachorse_search.specs.Afresh.{GoesOnAfresh}
 use Rattle.daachorse_search.specs.Searches.{first_found}
 use Rattle.daachorse_search.specs.Walks.{Walked}
-use Rattle.daachorse_search.proofs.OverlappingLemmas.{first_afresh, read_begins}
+use Rattle.daachorse_search.proofs.OverlappingLaws.{first_afresh, read_begins}
 use Rattle.daachorse_search.proofs.overlapping.NoSuffixWalkStepwise.is_at_root.Goals as goal
 
 pub returns-clause-afresh : goal.returns-clause-afresh

@@ -4,7 +4,7 @@ use Rattle.std.specs.Prelude.{◌↔◌, IsTrue}
 use Rattle.daachorse_core.specs.Seen.{units}
 use Rattle.daachorse_model.specs.Prefixes.{IsLong}
 use Rattle.daachorse_search.specs.Walks.{Walked}
-use Rattle.daachorse_search.proofs.OverlappingLemmas.{root_of_read}
+use Rattle.daachorse_search.proofs.OverlappingLaws.{root_of_read}
 use Rattle.daachorse_search.proofs.overlapping.OverlappingWalk.stands_at_root.Goals as goal
 
 pub returns : goal.returns

@@ -4,8 +4,8 @@ use Rattle.std.specs.declared.num.NonZeroU32.{NonZeroU32}
 use Rattle.daachorse_core.specs.Outputs.{number}
 use Rattle.daachorse_search.specs.declared.search.Search.TheInside.{Inside}
 use Rattle.daachorse_model.specs.Units.{size}
-use Rattle.daachorse_search.proofs.AfreshLemmas.{unshifted}
-use Rattle.daachorse_search.proofs.SearchLemmas.{IsReached, IsReached-pending_at, IsReached-scan_at, Gave-reached, progress-reached}
+use Rattle.daachorse_search.proofs.AfreshLaws.{unshifted}
+use Rattle.daachorse_search.proofs.SearchLaws.{IsReached, IsReached-pending_at, IsReached-scan_at, Gave-reached, progress-reached}
 use Rattle.daachorse_search.proofs.search.SearchIterator.next.Given as given
 use Rattle.daachorse_search.proofs.search.SearchIterator.next.Goals as goal
 use Rattle.daachorse_search.proofs.search.SearchIterator.next.Goals.{in-Some, in-None+in_ok-position-in-None}

@@ -1,6 +1,6 @@
 -- The place behind the unit fits, since the source is ready.
 use Rattle.std.proofs.Common.{arith}
-use Rattle.daachorse_search.proofs.SourceLemmas.{IsReady-next}
+use Rattle.daachorse_search.proofs.SourceLaws.{IsReady-next}
 use Rattle.daachorse_search.proofs.source.Source.next_at.Goals as goal
 
 pub overflow_add-place : goal.overflow_add-place

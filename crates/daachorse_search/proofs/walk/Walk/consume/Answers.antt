@@ -1,5 +1,5 @@
 -- No link is dead, so the step ends at the longest end of one unit more that begins a key, and that state's outputs are all the matches that end there since the walk last began.
-use Rattle.daachorse_search.proofs.WalkLemmas.{HasOutputs-first, IsWalking-read}
+use Rattle.daachorse_search.proofs.WalkLaws.{HasOutputs-first, IsWalking-read}
 use Rattle.daachorse_search.proofs.walk.Walk.consume.Goals as goal
 
 -- one more unit was read

@@ -3,7 +3,7 @@ use Rattle.std.proofs.Common.{Some, subst, sym, ap}
 use Rattle.daachorse_model.specs.Prefixes.{IsLong}
 use Rattle.daachorse_core.specs.Depths.{AreDepths}
 use Rattle.daachorse_search.specs.Walks.{Walked}
-use Rattle.daachorse_search.proofs.DepthLemmas.{depth-of}
+use Rattle.daachorse_search.proofs.DepthLaws.{depth-of}
 use Rattle.daachorse_search.proofs.walk.Walk.depth.Goals as goal
 
 pub returns-clause-depth : goal.returns-clause-depth

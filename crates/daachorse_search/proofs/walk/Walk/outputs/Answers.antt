@@ -2,7 +2,7 @@
 use Rattle.std.proofs.Common.{subst}
 use Rattle.daachorse_core.specs.Outputs.{number}
 use Rattle.daachorse_search.specs.Walks.{Walked, HasOutputs}
-use Rattle.daachorse_search.proofs.WalkLemmas.{HasOutputs-first}
+use Rattle.daachorse_search.proofs.WalkLaws.{HasOutputs-first}
 use Rattle.daachorse_search.proofs.walk.Walk.outputs.Goals as goal
 
 pub returns-clause-outputs : goal.returns-clause-outputs

@@ -1,5 +1,5 @@
 -- A unit that is passed takes no turn and leaves the walk at the root, whose text is empty, so the bounds on the turns stay.
-use Rattle.daachorse_search.proofs.WalkLemmas.{IsWalking-skip}
+use Rattle.daachorse_search.proofs.WalkLaws.{IsWalking-skip}
 use Rattle.daachorse_search.proofs.walk.Walk.skip.Goals as goal
 
 pub invariant_of-self : goal.invariant_of-self

@@ -4,7 +4,7 @@ use Rattle.std.specs.Prelude.{IsSome}
 use Rattle.daachorse_prefilter.specs.Gates.{HasRecorded}
 use Rattle.daachorse_prefilter.specs.declared.prefilter.gate.PrefilterGate.{PrefilterGate}
 use Rattle.daachorse_skipping.specs.Asked.{Asked}
-use Rattle.daachorse_skipping.proofs.SkipLemmas.{still_some}
+use Rattle.daachorse_skipping.proofs.SkipLaws.{still_some}
 use Rattle.daachorse_skipping.proofs.skipping.Skipping.is_worth.Goals as goal
 
 pub returns-then-is_some-clause-unused : goal.returns-then-is_some-clause-unused

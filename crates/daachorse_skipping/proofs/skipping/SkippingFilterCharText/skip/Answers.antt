@@ -9,7 +9,7 @@ use Rattle.daachorse_prefilter.specs.Gates.{HasRecorded}
 use Rattle.daachorse_prefilter.specs.Filters.{Filter}
 use Rattle.daachorse_search.specs.Filters.{IsNextPassing}
 use Rattle.daachorse_skipping.specs.Asked.{Asked, lets_pass}
-use Rattle.daachorse_skipping.proofs.SkipLemmas.{chars_cut, chars_sized, recorded_skip, skipped_chars}
+use Rattle.daachorse_skipping.proofs.SkipLaws.{chars_cut, chars_sized, recorded_skip, skipped_chars}
 use Rattle.daachorse_skipping.proofs.skipping.SkippingFilterCharText.skip.Goals as goal
 
 pub after-requires : goal.after-requires

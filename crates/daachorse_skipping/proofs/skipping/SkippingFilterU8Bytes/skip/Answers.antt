@@ -8,7 +8,7 @@ use Rattle.daachorse_prefilter.specs.Gates.{HasRecorded}
 use Rattle.daachorse_prefilter.specs.Filters.{Filter, next_place}
 use Rattle.daachorse_search.specs.Filters.{IsNextPassing}
 use Rattle.daachorse_skipping.specs.Asked.{Asked, lets_pass}
-use Rattle.daachorse_skipping.proofs.SkipLemmas.{bytes_sized, recorded_skip, skipped_bytes}
+use Rattle.daachorse_skipping.proofs.SkipLaws.{bytes_sized, recorded_skip, skipped_bytes}
 use Rattle.daachorse_skipping.proofs.skipping.SkippingFilterU8Bytes.skip.Goals as goal
 
 pub after-requires : goal.after-requires

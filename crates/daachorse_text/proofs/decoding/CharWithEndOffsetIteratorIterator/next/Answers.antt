@@ -3,7 +3,7 @@ use Rattle.std.proofs.Common.{◌+◌, ℕ, Some, subst, sym, ap, arith}
 use Rattle.std.specs.Iterator.{MakesProgress}
 use Rattle.daachorse_text.specs.DecodedSources.{IsTextFrom-place}
 use Rattle.daachorse_text.specs.TextSources.{Placed, IsTextFrom}
-use Rattle.daachorse_text.proofs.DecodingLemmas.{goes_placed}
+use Rattle.daachorse_text.proofs.DecodingLaws.{goes_placed}
 use Rattle.daachorse_text.proofs.decoding.CharWithEndOffsetIteratorIterator.next.Goals as goal
 
 pub overflow_add-self : goal.overflow_add-self

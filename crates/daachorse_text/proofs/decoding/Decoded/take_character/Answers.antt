@@ -1,7 +1,7 @@
 -- A character of one byte, and then those of two, three and four.
 use Rattle.std.proofs.Common.{◌*◌, refl, arith}
 use Rattle.std.specs.Str.{lead_bits}
-use Rattle.daachorse_text.proofs.DecodingLemmas.{Came, ascii_character, begins, two_bytes, third_comes, three_bytes, fourth_comes, four_bytes}
+use Rattle.daachorse_text.proofs.DecodingLaws.{Came, ascii_character, begins, two_bytes, third_comes, three_bytes, fourth_comes, four_bytes}
 use Rattle.daachorse_text.proofs.decoding.Decoded.take_character.Given as given
 use Rattle.daachorse_text.proofs.decoding.Decoded.take_character.Goals as goal
 

@@ -1,6 +1,6 @@
 -- A byte inside comes, since the source does not end there, and its bits stand behind the others.
 use Rattle.std.proofs.Common.{◌+◌}
-use Rattle.daachorse_text.proofs.DecodingLemmas.{IsMidway-goes_on, IsMidway-more}
+use Rattle.daachorse_text.proofs.DecodingLaws.{IsMidway-goes_on, IsMidway-more}
 use Rattle.daachorse_text.proofs.decoding.Decoded.take_inner.Goals as goal
 
 pub unreachable-requires : goal.unreachable-requires

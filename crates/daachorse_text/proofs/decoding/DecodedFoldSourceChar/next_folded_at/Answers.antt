@@ -3,7 +3,7 @@ use Rattle.std.proofs.Common.{◌≡◌, ℕ, ◌<◌, ◌≤◌, ◌⊎◌, inl
 use Rattle.std.proofs.lemmas.Bool.{cases_lt, lt-ltb}
 use Rattle.daachorse_model.specs.Folding.{folded_unit}
 use Rattle.daachorse_model.specs.Units.{char_width}
-use Rattle.daachorse_model.proofs.FoldLemmas.{char_width-folded, folded_unit-past_ascii}
+use Rattle.daachorse_model.proofs.FoldLaws.{char_width-folded, folded_unit-past_ascii}
 use Rattle.daachorse_text.proofs.Places.{place-fits}
 use Rattle.daachorse_text.proofs.decoding.DecodedFoldSourceChar.next_folded_at.Goals as goal
 

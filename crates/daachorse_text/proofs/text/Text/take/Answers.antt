@@ -4,7 +4,7 @@ use Rattle.std.proofs.lemmas.List.{drop_all}
 use Rattle.std.proofs.lemmas.Str.{chars-nil}
 use Rattle.std.proofs.Math.ListN.{get_or}
 use Rattle.std.specs.Str.{chars}
-use Rattle.daachorse_text.proofs.TextLemmas.{BeginsPastAscii, IsByteAsRead, ascii-byte, past_ascii-byte, byte-as_it_is, byte-folded, past_ascii, begins_past, past_folded}
+use Rattle.daachorse_text.proofs.TextLaws.{BeginsPastAscii, IsByteAsRead, ascii-byte, past_ascii-byte, byte-as_it_is, byte-folded, past_ascii, begins_past, past_folded}
 use Rattle.daachorse_text.proofs.text.Text.take.Goals as goal
 use Rattle.daachorse_text.proofs.text.Text.take.Goals.{then-folds, else-folds}
 

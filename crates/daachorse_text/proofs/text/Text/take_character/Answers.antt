@@ -1,7 +1,7 @@
 -- The string's own characters take it off.
 use Rattle.std.proofs.Common.{◌∙◌}
 use Rattle.std.proofs.lemmas.Str.{IsCharBoundary-from_drop}
-use Rattle.daachorse_text.proofs.TextLemmas.{past_steps}
+use Rattle.daachorse_text.proofs.TextLaws.{past_steps}
 use Rattle.daachorse_text.proofs.text.Text.take_character.Goals as goal
 
 pub range_from-requires : goal.range_from-requires

@@ -1,6 +1,6 @@
 -- The front is whole characters, so behind it is a boundary, and from there on the string is UTF-8 and has just the characters that follow the front.
 use Rattle.std.proofs.Common.{◌∙◌, arith}
-use Rattle.daachorse_text.proofs.TextLemmas.{past_front}
+use Rattle.daachorse_text.proofs.TextLaws.{past_front}
 use Rattle.daachorse_text.proofs.text.TextRereadChar.after.Goals as goal
 
 pub overflow_add-result : goal.overflow_add-result

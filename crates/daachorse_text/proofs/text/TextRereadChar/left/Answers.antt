@@ -2,7 +2,7 @@
 use Rattle.std.proofs.Common.{drop, sym, ap, ◌∙◌}
 use Rattle.std.proofs.lemmas.List.{length-drop}
 use Rattle.daachorse_model.specs.Units.{size, char_width}
-use Rattle.daachorse_text.proofs.TextLemmas.{size-chars}
+use Rattle.daachorse_text.proofs.TextLaws.{size-chars}
 use Rattle.daachorse_text.proofs.text.TextRereadChar.left.Goals as goal
 
 pub returns : goal.returns

@@ -2,7 +2,7 @@
 use Rattle.std.proofs.Common.{◌≡◌, ◌≤◌, ◌++◌, ◌∷◌, List, [], None, ℕ, length, sym, ap, ◌∙◌, refl, subst, append_assoc, arith}
 use Rattle.daachorse_core.specs.Seen.{SeenUnits, units}
 use Rattle.daachorse_model.specs.Folding.{as_read}
-use Rattle.daachorse_model.proofs.FoldLemmas.{length-as_read}
+use Rattle.daachorse_model.proofs.FoldLaws.{length-as_read}
 use Rattle.daachorse_model.proofs.Suffixes.{size-bytes}
 use Rattle.daachorse_bytewise.specs.Automata.{Automaton, dictionary_of}
 use Rattle.daachorse_uses.specs.Redacted.{ReachesBack, Redacting, redaction}

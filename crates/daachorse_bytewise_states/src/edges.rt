@@ -195,13 +195,13 @@ impl<'a, V: Copy> Array for Elements<'a, V> {
     ghost width = { λ p. byte_width };
 
     fn num_units(&self) -> usize {
-        // A field is read for what the elements keep.
+        // A field is read, so that the type's invariant is known here.
         let _ = self.num_states;
         256
     }
 
     fn width(&self, unit: u32) -> usize {
-        // A field is read for what the elements keep.
+        // A field is read, so that the type's invariant is known here.
         let _ = self.num_states;
         let _ = unit;
         1

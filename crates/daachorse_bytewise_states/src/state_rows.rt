@@ -37,7 +37,7 @@ impl<V: Copy, A: Allocator> States<V, A> {
     {
         let bytes = self.edge_bytes(alloc)?;
         let count = self.num_elements() as u32;
-        // A field is read for what the parts keep.
+        // A field is read, so that the type's invariant is known here.
         let _num_states = self.num_states;
         match self.kind() {
             MatchKind::Standard => {

@@ -181,14 +181,14 @@ impl<'a, V: Copy, S: Reads> Automaton<V> for View<'a, V, S> {
 
     #[inline(always)]
     fn root(&self) -> u32 {
-        // A field is read for what the parts keep.
+        // A field is read, so that the type's invariant is known here.
         let _ = &self.states;
         ROOT_STATE_IDX
     }
 
     #[inline(always)]
     fn is_root(&self, state: u32) -> bool {
-        // A field is read for what the parts keep.
+        // A field is read, so that the type's invariant is known here.
         let _ = &self.states;
         state == ROOT_STATE_IDX
     }
@@ -206,7 +206,7 @@ impl<'a, V: Copy, S: Reads> Automaton<V> for View<'a, V, S> {
                 return Look::Next(child, position);
             }
         }
-        // A copy loads base and link at once, and then its place isn't needed again.
+        // A copy loads base and link together, and the element's index is not needed again.
         let states = self.states;
         let element = states[state as usize];
         if let Some((child, position)) = element.child_and_output(label, states) {
@@ -224,7 +224,7 @@ impl<'a, V: Copy, S: Reads> Automaton<V> for View<'a, V, S> {
 
     #[inline(always)]
     fn looks_ahead(&self) -> bool {
-        // A field is read for what the parts keep.
+        // A field is read, so that the type's invariant is known here.
         let _ = &self.states;
         S::are_leftmost()
     }

@@ -49,8 +49,8 @@ impl Stream {
         }
     }
 
-    /// Whether there are numbers for the places and the matches, if so many bytes come and so many matches
-    /// are told.
+    /// Whether places and matches can still be counted when this many bytes come and this many matches are
+    /// told.
     pub(crate) fn can_count(
         &self,
         searches: &DoubleArrayAhoCorasick<u32, Global>,

@@ -123,7 +123,7 @@ impl<'a, V: Copy, A: Allocator> Elements<'a, V, A> {
         ensures edge { result ≡ edge_of self.now element }
         ensures inside { IfSome result (λ e. (e.0 < count self.now.parts) × (e.1 < length self.now.parts.coding.table)) }
     {
-        // A field is read for what the elements keep.
+        // A field is read, so that the type's invariant is known here.
         let _num_states = self.num_states;
         let parent = self.check_at(element);
         let base = self.base_at(parent)?;
@@ -229,7 +229,7 @@ impl<'a, V: Copy, A: Allocator> Array for Elements<'a, V, A> {
     }
 
     fn width(&self, unit: u32) -> usize {
-        // A field is read for what the elements keep.
+        // A field is read, so that the type's invariant is known here.
         let _ = self.num_states;
         match unit {
             0..=0x7f => 1,

@@ -40,7 +40,7 @@ impl<V: Copy, A: Allocator + Copy> States<V, A> {
     {
         let codes = self.row_codes(alloc)?;
         let count = self.num_elements() as u32;
-        // A field is read for what the parts keep.
+        // A field is read, so that the type's invariant is known here.
         let _num_states = self.num_states;
         match self.kind() {
             MatchKind::Standard => {

@@ -18,7 +18,7 @@ use daachorse_mapper::mapper::CodeMapper;
 use std::alloc::Allocator;
 use std::num::NonZeroU32;
 
-/// Whether so many elements are whole blocks for the codes of a mapper.
+/// Whether `num_elements` elements are whole blocks for the codes of a mapper.
 fn are_blocks<A: Allocator>(mapper: &CodeMapper<A>, num_elements: usize) -> bool
     ensures yes { result ≡ true → HasBlocks mapper.now num_elements }
     ensures no { result ≡ false → HasBlocks mapper.now num_elements → ⊥ }

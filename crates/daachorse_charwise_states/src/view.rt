@@ -107,14 +107,14 @@ impl<'a, V: Copy, S: Searches> Automaton<V> for View<'a, V, S> {
 
     #[inline(always)]
     fn root(&self) -> u32 {
-        // A field is read for what the parts keep.
+        // A field is read, so that the type's invariant is known here.
         let _ = &self.states;
         ROOT_STATE_IDX
     }
 
     #[inline(always)]
     fn is_root(&self, state: u32) -> bool {
-        // A field is read for what the parts keep.
+        // A field is read, so that the type's invariant is known here.
         let _ = &self.states;
         state == ROOT_STATE_IDX
     }

@@ -1,7 +1,7 @@
 //! The check of an array: the places of its elements, the chains of outputs, and the links, in turn.
 //!
-//! The layers above may rely on the answer being yes exactly where the array is a right machine with
-//! so many texts.
+//! The layers above may rely on the answer being yes exactly where the array is a right machine to whose
+//! elements the given number of texts lead.
 
 ghost use Rattle.std.specs.Prelude.{◌≡◌, ◌≢◌, ◌<◌, ◌≤◌, ◌^◌, ℕ, Some, true, false, cond, length, slice_index, slice_index_or, IfOk, IfErr};
 ghost use Rattle.daachorse_core.specs.Outputs.{ParentsFall};
@@ -185,7 +185,7 @@ pub fn is_right<V: Copy, E: Array, A: Allocator + Copy>(
 }
 
 /// Whether an array with these outputs is sound: whether all that it names is there, and it is a right
-/// machine, leftmost or standard, to whose elements so many texts lead.
+/// machine, leftmost or standard, to whose elements `num_states` texts lead.
 ///
 /// # Errors
 ///

@@ -32,7 +32,7 @@ pub trait Spelled: Links {
 
 /// Whether a filter passes at the beginning of each key of a tree.
 ///
-/// It goes over levels, the elements that texts of so many units lead to. Where the filter passes at
+/// It goes over levels: a level is the elements to which texts of one length lead. Where the filter passes at
 /// the beginning of a text it passes at that of each longer one, so that nothing behind is looked at.
 ///
 /// # Errors

@@ -7,7 +7,7 @@ ghost use Rattle.daachorse_checker.specs.Sound.{IsInRange};
 
 use crate::array::Array;
 
-/// Whether each link is an element, and each position one of so many outputs.
+/// Whether each link is an element, and each position is that of one of `num_outputs` outputs, or none.
 pub fn ranges_hold<E: Array>(array: &E, num_outputs: usize) -> bool
     ensures yes { result ≡ true → IsInRange (E.fail array.now) (E.first array.now) (E.count array.now) num_outputs }
     ensures no { result ≡ false → IsInRange (E.fail array.now) (E.first array.now) (E.count array.now) num_outputs → ⊥ }

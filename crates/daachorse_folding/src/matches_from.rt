@@ -1,8 +1,8 @@
-//! A search in what a source gives, with each unit read as it is or folded.
+//! A search over a source, with each unit read as it is or folded.
 //!
-//! The layers above may rely on a search giving, of each beginning of what its source gives as it is
-//! read, all that there is to give at its end, and on each match being given before a unit past its end
-//! is taken.
+//! The layers above may rely on a search yielding, for each prefix of what its source gives as it is
+//! read, all the matches that it finds at that prefix's end, each of them before it takes a unit past the
+//! match's end.
 
 ghost use Rattle.std.specs.Prelude.{◌≡◌, ◌+◌, ◌*◌, ℕ, [], length};
 

@@ -182,7 +182,7 @@ impl<V: Copy, E: Keys<V, A> + Drop, A: Allocator + Copy> Iterator for PatternWal
     }
 }
 
-/// Makes a text one of so many units that ends with this one: those before it stay.
+/// Makes a text `depth` units long: all but the last stay, and the last is this one.
 fn write_last<U: Copy, A: Allocator>(text: &mut Vec<U, A>, depth: usize, unit: U)
     requires { depth ≤ vec_capacity text.old }
     ensures none { depth ≡ 0 → text.new.items ≡ [] }

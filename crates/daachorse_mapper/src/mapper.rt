@@ -269,7 +269,7 @@ fn used<A: Allocator>(alloc: A, freqs: &[u32]) -> Result<Vec<(usize, u32), A>>
     Ok(used)
 }
 
-/// A table of so many entries, with the rank at each index that is ranked.
+/// A table of `len` entries, with the rank at each index that is ranked.
 fn fill<A: Allocator>(alloc: A, ranked: &[(usize, u32)], len: usize) -> Result<Vec<u32, A>>
     requires few { length ranked.now < 2 ^ 32 }
     requires inside { (k : ℕ) → k < length ranked.now → index_at ranked.now k < len }

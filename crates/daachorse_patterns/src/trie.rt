@@ -21,7 +21,7 @@ use daachorse_core::errors::{DaachorseError, Limit, Result};
 use std::alloc::Allocator;
 
 /// The trie of these patterns and values, with the links of searches of this kind and its outputs.
-/// `max_patterns` says how many patterns may be kept, if there is a limit of their own.
+/// `max_patterns` limits the patterns that are kept; with `None` only the limit on outputs holds.
 ///
 /// # Errors
 ///

@@ -98,7 +98,7 @@ impl<L: Allocator> Chosen<L> {
     }
 }
 
-/// The states of the rows, at most so many: `None` where those whose texts have at most two units
+/// The states that get rows, at most `most`: `None` where the states whose texts have at most two units
 /// with a slot are more, or where the states are too many for an entry.
 pub(crate) fn choose<V: Copy, A: Automaton<V>, L: Allocator + Copy>(
     alloc: L,

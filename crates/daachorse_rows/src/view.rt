@@ -157,7 +157,7 @@ where
 
     #[inline(always)]
     fn root(&self) -> u32 {
-        // A field is read for what the rows keep.
+        // A field is read, so that the type's invariant is known here.
         let _ = &self.top;
         self.root
     }

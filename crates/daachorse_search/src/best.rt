@@ -31,7 +31,8 @@ pub struct Found {
 pub enum Scanned {
     /// The best match.
     Best(Found),
-    /// Nothing starts in so many bytes: all of them, or those behind which the scan stopped.
+    /// No match starts in this many bytes: the whole rest of the haystack, or what the scan read before it
+    /// stopped at the root.
     Clear(usize),
 }
 

@@ -1,8 +1,8 @@
-//! A search in what a source gives, which says of the source alone when it may be called.
+//! A search over a source, with what its source needs as its only condition.
 //!
-//! The layers above may rely on a search giving, of each beginning of what its source gives, all
-//! that there is to give at its end, and on each match being given before a unit past its end is
-//! taken.
+//! The layers above may rely on a search yielding, for each prefix of what its source gives, all the
+//! matches that it finds at that prefix's end, each of them before it takes a unit past the match's
+//! end.
 
 ghost use Rattle.std.specs.Prelude.{◌≡◌, ◌+◌, ◌*◌, ℕ, [], length};
 

@@ -99,7 +99,7 @@ impl<'a, V: Copy, A: Automaton<V>> FindOverlappingStepper<'a, V, A> {
         self.consume_wide(unit, unit.num_bytes());
     }
 
-    /// Consumes one unit, as [`Self::consume`] does, where it is known that the unit takes so many bytes.
+    /// Consumes one unit, as [`Self::consume`] does, of which it is known that it takes `bytes` bytes.
     #[inline(always)]
     pub fn consume_wide(&mut self, unit: A::Unit, bytes: usize)
         requires fits { size A.Unit.width self.old.read + A.Unit.width (A.Unit.unit unit) < 2 ^ 64 }

@@ -42,7 +42,7 @@ pub trait Serializable: Sized + Drop {
     /// The greatest length of a form.
     ghost form_len: { ℕ };
 
-    /// What a read may refuse by, besides an invalid automaton and want of memory.
+    /// The errors of a read besides an invalid automaton and a failed allocation.
     ghost own_refusal: { DaachorseError → Type 0 } = { λ _. ⊥ };
 
     /// Appends the bytes of the value.
@@ -88,7 +88,7 @@ pub fn append<A: Allocator>(dst: &mut Vec<u8, A>, bytes: &[u8]) -> Result<()>
     Ok(())
 }
 
-/// The first bytes, so many as the type asks, and the rest.
+/// The first `N` bytes, and the rest.
 fn first_chunk<const N: usize>(src: &[u8]) -> Result<(&[u8; N], &[u8])>
     ensures { MatchResult result
         (λ r. (N ≤ length src.now) × (r.0.now ≡ take N src.now) × (r.1.now ≡ drop N src.now))
@@ -701,7 +701,7 @@ pub trait SerializableVec: Sized {
     /// The greatest length of a form of this value.
     ghost form_len: { Shape → ℕ };
 
-    /// What a read may refuse by, besides an invalid automaton and want of memory.
+    /// The errors of a read besides an invalid automaton and a failed allocation.
     ghost own_refusal: { DaachorseError → Type 0 } = { λ _. ⊥ };
 
     /// Appends the bytes of the value.
@@ -747,7 +747,7 @@ fn write_items<S: Serializable, A: Allocator>(items: &[S], dst: &mut Vec<u8, A>)
     Ok(())
 }
 
-/// Reads so many items. Room is made at first for as many as the bytes can hold, so that a count alone
+/// Reads `count` items. Room is made at first for as many as the bytes can hold, so that a count alone
 /// asks for none.
 fn read_items<'a, S: Serializable, A: Allocator>(
     alloc: A,
@@ -823,7 +823,7 @@ impl<S: Serializable, A: Allocator> SerializableVec for Vec<S, A> {
     ghost law = { list_law S.law };
 }
 
-/// A list of exactly so many items, which is written without a count.
+/// A list whose length its type tells, so that it is written without a count.
 ///
 /// `daachorse_part_tests` writes one and reads it.
 #[derive(Drop)]

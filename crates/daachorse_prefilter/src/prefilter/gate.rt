@@ -9,7 +9,7 @@ ghost use Rattle.daachorse_prefilter.specs.Gates.{IsPaying};
 /// The number of runs of a group.
 const NUM_RUNS: u32 = 64;
 
-/// How many bytes a group has to skip, lest the gate close.
+/// A group of runs that skips fewer bytes than this closes the gate.
 const MIN_SKIPPED: usize = 512;
 
 /// A gate before a filter, which closes for good where runs of the filter skip too little.

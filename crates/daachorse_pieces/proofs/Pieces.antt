@@ -15,7 +15,8 @@ use Rattle.daachorse_model.proofs.Overlap.{take-append}
 use Rattle.daachorse_search.specs.BestScans.{HasNoLongerKey}
 use Rattle.daachorse_search.specs.Sources.{past_each_end}
 use Rattle.daachorse_search.proofs.SourceLaws.{at_each_end-split, past_each_end-append}
-use Rattle.daachorse_pieces.specs.Pieces.{IsCutInPieces, ending_behind, moved}
+use Rattle.daachorse_pieces.specs.Pieces.{IsCutInPieces, ending_behind}
+use Rattle.daachorse_search.specs.Afresh.{shifted}
 
 module _ {V : Type 0} (width : ℕ → ℕ) (K : Dictionary V) where
   -- ---- what is too long is no key
@@ -37,53 +38,53 @@ module _ {V : Type 0} (width : ℕ → ℕ) (K : Dictionary V) where
 
   -- ---- units in front move the places
 
-  moved_of : (n s e : ℕ) (vs : List V) → map (λ v. record { start = n + s; end = n + e; value = v }) vs ≡ map (moved n) (map (λ v. record { start = s; end = e; value = v }) vs)
-  moved_of n s e [] = refl
-  moved_of n s e (v ∷ vs) = ap (λ l. record { start = n + s; end = n + e; value = v } ∷ l) (moved_of n s e vs)
+  shifted_of : (n s e : ℕ) (vs : List V) → map (λ v. record { start = n + s; end = n + e; value = v }) vs ≡ map (shifted n) (map (λ v. record { start = s; end = e; value = v }) vs)
+  shifted_of n s e [] = refl
+  shifted_of n s e (v ∷ vs) = ap (λ l. record { start = n + s; end = n + e; value = v } ∷ l) (shifted_of n s e vs)
 
-  moved_ending : (n s e : ℕ) (w : List ℕ) → ending_at width K (n + s) (n + e) w ≡ map (moved n) (ending_at width K s e w)
-  moved_ending n s e [] = moved_of n s e (K [])
-  moved_ending n s e (u ∷ w) =
+  shifted_ending : (n s e : ℕ) (w : List ℕ) → ending_at width K (n + s) (n + e) w ≡ map (shifted n) (ending_at width K s e w)
+  shifted_ending n s e [] = shifted_of n s e (K [])
+  shifted_ending n s e (u ∷ w) =
       let next : (n + s) + width u ≡ n + (s + width u) = omega arith in
-      ap (λ l. l ++ ending_at width K ((n + s) + width u) (n + e) w) (moved_of n s e (K (u ∷ w)))
-      ∙ ap (λ i. map (moved n) (matches_of K s e (u ∷ w)) ++ ending_at width K i (n + e) w) next
-      ∙ ap (λ l. map (moved n) (matches_of K s e (u ∷ w)) ++ l) (moved_ending n (s + width u) e w)
-      ∙ sym (map-append (moved n) (matches_of K s e (u ∷ w)) (ending_at width K (s + width u) e w))
+      ap (λ l. l ++ ending_at width K ((n + s) + width u) (n + e) w) (shifted_of n s e (K (u ∷ w)))
+      ∙ ap (λ i. map (shifted n) (matches_of K s e (u ∷ w)) ++ ending_at width K i (n + e) w) next
+      ∙ ap (λ l. map (shifted n) (matches_of K s e (u ∷ w)) ++ l) (shifted_ending n (s + width u) e w)
+      ∙ sym (map-append (shifted n) (matches_of K s e (u ∷ w)) (ending_at width K (s + width u) e w))
 
-  moved_after : (m : ℕ) (a w : List ℕ) → HasNoLongerKey K m → m ≤ length w → matches_after width K (a ++ w) ≡ map (moved (size width a)) (matches_after width K w)
-  moved_after m a w longest within =
+  shifted_after : (m : ℕ) (a w : List ℕ) → HasNoLongerKey K m → m ≤ length w → matches_after width K (a ++ w) ≡ map (shifted (size width a)) (matches_after width K w)
+  shifted_after m a w longest within =
       let n = size width a in
       let start : 0 + n ≡ n + 0 = omega arith in
       short_only m 0 (size width (a ++ w)) a w longest within
       ∙ ap (λ i. ending_at width K i (size width (a ++ w)) w) start
       ∙ ap (λ i. ending_at width K (n + 0) i w) (size-append width a w)
-      ∙ moved_ending n 0 (size width w) w
+      ∙ shifted_ending n 0 (size width w) w
 
-  moved_each : (m : ℕ) (a w b : List ℕ) → HasNoLongerKey K m → m ≤ length w → at_each_end (matches_after width K) (a ++ w) b ≡ map (moved (size width a)) (at_each_end (matches_after width K) w b)
-  moved_each m a w [] longest within = moved_after m a w longest within
-  moved_each m a w (u ∷ b) longest within =
+  shifted_each : (m : ℕ) (a w b : List ℕ) → HasNoLongerKey K m → m ≤ length w → at_each_end (matches_after width K) (a ++ w) b ≡ map (shifted (size width a)) (at_each_end (matches_after width K) w b)
+  shifted_each m a w [] longest within = shifted_after m a w longest within
+  shifted_each m a w (u ∷ b) longest within =
       let n = size width a in
       let next = w ++ u ∷ [] in
-      let here = moved_after m a w longest within in
-      let later = moved_each m a next b longest (omega (arith, length-append w (u ∷ []))) in
+      let here = shifted_after m a w longest within in
+      let later = shifted_each m a next b longest (omega (arith, length-append w (u ∷ []))) in
       ap (λ l. l ++ at_each_end (matches_after width K) ((a ++ w) ++ u ∷ []) b) here
-      ∙ ap (λ x. map (moved n) (matches_after width K w) ++ at_each_end (matches_after width K) x b) (append_assoc a w (u ∷ []))
-      ∙ ap (λ l. map (moved n) (matches_after width K w) ++ l) later
-      ∙ sym (map-append (moved n) (matches_after width K w) (at_each_end (matches_after width K) next b))
+      ∙ ap (λ x. map (shifted n) (matches_after width K w) ++ at_each_end (matches_after width K) x b) (append_assoc a w (u ∷ []))
+      ∙ ap (λ l. map (shifted n) (matches_after width K w) ++ l) later
+      ∙ sym (map-append (shifted n) (matches_after width K w) (at_each_end (matches_after width K) next b))
 
-  moved_past : (m : ℕ) (a w b : List ℕ) → HasNoLongerKey K m → m ≤ length w + 1 → past_each_end (matches_after width K) (a ++ w) b ≡ map (moved (size width a)) (past_each_end (matches_after width K) w b)
-  moved_past m a w [] longest within = refl
-  moved_past m a w (u ∷ b) longest within =
-      ap (λ x. at_each_end (matches_after width K) x b) (append_assoc a w (u ∷ [])) ∙ moved_each m a (w ++ u ∷ []) b longest (omega (arith, length-append w (u ∷ [])))
+  shifted_past : (m : ℕ) (a w b : List ℕ) → HasNoLongerKey K m → m ≤ length w + 1 → past_each_end (matches_after width K) (a ++ w) b ≡ map (shifted (size width a)) (past_each_end (matches_after width K) w b)
+  shifted_past m a w [] longest within = refl
+  shifted_past m a w (u ∷ b) longest within =
+      ap (λ x. at_each_end (matches_after width K) x b) (append_assoc a w (u ∷ [])) ∙ shifted_each m a (w ++ u ∷ []) b longest (omega (arith, length-append w (u ∷ [])))
 
   -- nothing in front moves nothing
-  moved_none : (ms : List (Match V)) → ms ≡ map (moved 0) ms
-  moved_none [] = refl
-  moved_none (m ∷ ms) =
+  shifted_none : (ms : List (Match V)) → ms ≡ map (shifted 0) ms
+  shifted_none [] = refl
+  shifted_none (m ∷ ms) =
       let start : m.start ≡ 0 + m.start = omega arith in
       let end : m.end ≡ 0 + m.end = omega arith in
-      let same : m ≡ moved 0 m = (λ i. record { start = start i; end = end i; value = m.value }) in
-      ap (λ x. x ∷ ms) same ∙ ap (λ l. moved 0 m ∷ l) (moved_none ms)
+      let same : m ≡ shifted 0 m = (λ i. record { start = start i; end = end i; value = m.value }) in
+      ap (λ x. x ∷ ms) same ∙ ap (λ l. shifted 0 m ∷ l) (shifted_none ms)
 
   -- ---- where matches end
 
@@ -134,24 +135,24 @@ module _ {V : Type 0} (width : ℕ → ℕ) (K : Dictionary V) where
       ∙ ap (λ l. l ++ ending_behind p past) (none_behind p (overlapping width K carried) (all_by carried)) ∙ only_behind p past (past_behind some carried rest)
 
   cut_from : (front carried rest : List ℕ) → ((u : ℕ) → 1 ≤ width u)
-      → past_each_end (matches_after width K) (front ++ carried) rest ≡ map (moved (size width front)) (past_each_end (matches_after width K) carried rest) → IsCutInPieces width K front carried rest
+      → past_each_end (matches_after width K) (front ++ carried) rest ≡ map (shifted (size width front)) (past_each_end (matches_after width K) carried rest) → IsCutInPieces width K front carried rest
   cut_from front carried rest some past =
       ap (overlapping width K) (sym (append_assoc front carried rest)) ∙ cut_behind (front ++ carried) rest
-      ∙ ap (λ l. overlapping width K (front ++ carried) ++ l) (past ∙ ap (map (moved (size width front))) (sym (new_behind some carried rest)))
+      ∙ ap (λ l. overlapping width K (front ++ carried) ++ l) (past ∙ ap (map (shifted (size width front))) (sym (new_behind some carried rest)))
 
   pub pieces_hold : (front carried rest : List ℕ) → ((u : ℕ) → 1 ≤ width u) → HasNoLongerKey K (length carried + 1) → IsCutInPieces width K front carried rest
-  pieces_hold front carried rest some longest = cut_from front carried rest some (moved_past (length carried + 1) front carried rest longest (omega arith))
+  pieces_hold front carried rest some longest = cut_from front carried rest some (shifted_past (length carried + 1) front carried rest longest (omega arith))
 
   -- nothing stands before what is carried
   pub first_hold : (carried rest : List ℕ) → ((u : ℕ) → 1 ≤ width u) → IsCutInPieces width K [] carried rest
-  first_hold carried rest some = cut_from [] carried rest some (moved_none (past_each_end (matches_after width K) carried rest))
+  first_hold carried rest some = cut_from [] carried rest some (shifted_none (past_each_end (matches_after width K) carried rest))
 
 -- ---- over bytes, by places
 
 module _ {V : Type 0} (K : Dictionary V) where
   -- the cut at `at`, where what is carried begins at `start`
   abbrev pub IsCutAt : List ℕ → ℕ → ℕ → Type 0
-  IsCutAt h at start = overlapping byte_width K h ≡ overlapping byte_width K (take at h) ++ map (moved start) (ending_behind (at - start) (overlapping byte_width K (drop start h)))
+  IsCutAt h at start = overlapping byte_width K h ≡ overlapping byte_width K (take at h) ++ map (shifted start) (ending_behind (at - start) (overlapping byte_width K (drop start h)))
 
   pub cut_at_place : (h : List ℕ) (at longest start : ℕ) → HasNoLongerKey K longest → at ≤ length h → start ≡ at - (longest - 1) → IsCutAt h at start
   cut_at_place h at longest start none within is =
@@ -174,7 +175,7 @@ module _ {V : Type 0} (K : Dictionary V) where
             subst (λ x. IsCutInPieces byte_width K x carried rest) nothing (first_hold byte_width K carried rest (λ u. omega arith))
       ] in
       ap found (sym whole) ∙ cut
-      ∙ ap (λ l. found l ++ map (moved (size byte_width front)) (ending_behind (size byte_width carried) (found (carried ++ rest)))) begun
-      ∙ ap (λ n. found (take at h) ++ map (moved n) (ending_behind (size byte_width carried) (found (carried ++ rest)))) (size-bytes front ∙ first)
-      ∙ ap (λ n. found (take at h) ++ map (moved start) (ending_behind n (found (carried ++ rest)))) (size-bytes carried ∙ held)
-      ∙ ap (λ l. found (take at h) ++ map (moved start) (ending_behind (at - start) (found l))) later
+      ∙ ap (λ l. found l ++ map (shifted (size byte_width front)) (ending_behind (size byte_width carried) (found (carried ++ rest)))) begun
+      ∙ ap (λ n. found (take at h) ++ map (shifted n) (ending_behind (size byte_width carried) (found (carried ++ rest)))) (size-bytes front ∙ first)
+      ∙ ap (λ n. found (take at h) ++ map (shifted start) (ending_behind n (found (carried ++ rest)))) (size-bytes carried ∙ held)
+      ∙ ap (λ l. found (take at h) ++ map (shifted start) (ending_behind (at - start) (found l))) later

@@ -4,10 +4,7 @@ use Rattle.daachorse_model.specs.declared.Match.{Match}
 use Rattle.daachorse_model.specs.Dictionary.{Dictionary}
 use Rattle.daachorse_model.specs.Matches.{overlapping}
 use Rattle.daachorse_model.specs.Units.{size}
-
--- the match in a haystack that has n bytes more in front
-abbrev pub moved : {V : Type 0} → ℕ → Match V → Match V
-moved n m = record { start = n + m.start; end = n + m.end; value = m.value }
+use Rattle.daachorse_search.specs.Afresh.{shifted}
 
 -- those of the matches that end behind place p
 abbrev pub ending_behind : {V : Type 0} → ℕ → List (Match V) → List (Match V)
@@ -17,4 +14,4 @@ ending_behind p ms = filter (λ m. nat_lt p m.end) ms
 abbrev pub IsCutInPieces : {V : Type 0} → (ℕ → ℕ) → Dictionary V → List ℕ → List ℕ → List ℕ → Type 0
 IsCutInPieces width K front carried rest =
     overlapping width K (front ++ (carried ++ rest))
-    ≡ overlapping width K (front ++ carried) ++ map (moved (size width front)) (ending_behind (size width carried) (overlapping width K (carried ++ rest)))
+    ≡ overlapping width K (front ++ carried) ++ map (shifted (size width front)) (ending_behind (size width carried) (overlapping width K (carried ++ rest)))

@@ -10,7 +10,8 @@ ghost use Rattle.daachorse_model.specs.Dictionary.{Dictionary};
 ghost use Rattle.daachorse_model.specs.Matches.{overlapping};
 ghost use Rattle.daachorse_model.specs.Units.{byte_width};
 ghost use Rattle.daachorse_pieces.specs.BestScans.{HasNoLongerKey};
-ghost use Rattle.daachorse_pieces.specs.Pieces.{IsCutInPieces, ending_behind, moved};
+ghost use Rattle.daachorse_pieces.specs.Pieces.{IsCutInPieces, ending_behind};
+ghost use Rattle.daachorse_search.specs.Afresh.{shifted};
 
 /// Returns where a piece of a haystack begins that is to find all that ends behind `at`, where no
 /// pattern has more than `longest` bytes.
@@ -20,7 +21,7 @@ ghost use Rattle.daachorse_pieces.specs.Pieces.{IsCutInPieces, ending_behind, mo
 pub fn piece_start<V: Copy>(at: usize, longest: usize) -> usize
     ensures place { result ≡ at - (longest - 1) }
     ensures matches { (K : Dictionary V) (h : List ℕ) → HasNoLongerKey K longest → at ≤ length h
-        → overlapping byte_width K h ≡ overlapping byte_width K (take at h) ++ map (moved result) (ending_behind (at - result) (overlapping byte_width K (drop result h))) }
+        → overlapping byte_width K h ≡ overlapping byte_width K (take at h) ++ map (shifted result) (ending_behind (at - result) (overlapping byte_width K (drop result h))) }
 {
     at.saturating_sub(longest.saturating_sub(1))
 }

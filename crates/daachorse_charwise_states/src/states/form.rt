@@ -110,6 +110,16 @@ impl<V: Serializable + Copy, A: Allocator> States<V, A> {
         Ok(bytes)
     }
 
+    /// How long the form is at most, in bytes, or `usize::MAX` where it is more.
+    fn serialized_bytes(&self, filter: &Option<Prefilter<A>>) -> usize
+        ensures { result ≡ min (parts_most V.form_len self.now filter.now) (2 ^ 64 - 1) }
+    {
+        self.states
+            .serialized_bytes()
+            .saturating_add(self.mapper.serialized_bytes())
+            .saturating_add(ending_bytes(&self.outputs, filter))
+    }
+
     /// Appends the form.
     #[tactic(auto, unfolding(crate::specs::PartForms::parts_form))]
     fn write<B: Allocator>(
@@ -128,16 +138,6 @@ impl<V: Serializable + Copy, A: Allocator> States<V, A> {
             folds,
         };
         write_ending(&self.outputs, mode, self.num_states, filter, dst)
-    }
-
-    /// How long the form is at most, in bytes, or `usize::MAX` where it is more.
-    fn serialized_bytes(&self, filter: &Option<Prefilter<A>>) -> usize
-        ensures { result ≡ min (parts_most V.form_len self.now filter.now) (2 ^ 64 - 1) }
-    {
-        self.states
-            .serialized_bytes()
-            .saturating_add(self.mapper.serialized_bytes())
-            .saturating_add(ending_bytes(&self.outputs, filter))
     }
 
     /// Does nothing, and promises that states in hand are those of an automaton.

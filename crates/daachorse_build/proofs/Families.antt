@@ -1,10 +1,10 @@
 -- Groups as families: the parents are the states with an edge, each once, and that outlasts a sort.
 use Rattle.std.proofs.Common.{◌≡◌, ◌≢◌, ℕ, zero, suc, ◌<◌, Bool, true, false, not, cond, eqb, List, [], ◌∷◌, ◌++◌, length, get_or, Some, refl, sym, ap, ◌∙◌, subst, inl, inr, arith}
-use Rattle.std.proofs.lemmas.Bool.{cases_order, cond_both, false≢true}
+use Rattle.std.proofs.lemmas.Bool.{cases_order, false≢true}
 use Rattle.std.proofs.lemmas.Bool.Decides.{Decides-eqb}
 use Rattle.std.proofs.lemmas.Option.{same_Some}
 use Rattle.std.proofs.lemmas.List.{append-nil, map-append, length-map, get_or_default}
-use Rattle.std.proofs.lemmas.List.Elements.{All-filter, All-head, All-tail, filter-append, filter_passes}
+use Rattle.std.proofs.lemmas.List.Elements.{All-filter, All-head, All-tail, Contains-get_or, filter-append, filter_passes}
 use Rattle.std.proofs.lemmas.List.Sorted.{All-permutation, Contains-permutation, IsPermutation-map, length_permutation}
 use Rattle.std.proofs.lemmas.List.Sums.{count_by-le-length, length-filter}
 use Rattle.std.proofs.lemmas.List.Kept.{AllPairs-filter}
@@ -22,9 +22,9 @@ use Rattle.daachorse_placement.specs.declared.build_helper.SiblingGroup.{Sibling
 use Rattle.daachorse_placement.specs.Placement.{children_of, group_parent, label_of, child_id, AreGroups}
 use Rattle.daachorse_build.specs.declared.nfa_builder.NfaBuilderState.{NfaBuilderState}
 use Rattle.daachorse_build.specs.Tables.{edges_of, child_in, HoldTrie}
-use Rattle.daachorse_build.specs.Orders.{IsIn, children}
+use Rattle.daachorse_build.specs.Orders.{children}
 use Rattle.daachorse_build.specs.Groups.{edges_at, with_codes, GivesCodes, AreCodes, AreTrieGroups, is_some_edge, has_edges, VisitsEachState, AreGiven, AreFamilies, parents_of, if_counted}
-use Rattle.daachorse_build.proofs.Queue.{in_equal, in_at, place_of, distinct_once, child_at_place, listed_of_child, value_at, children_once}
+use Rattle.daachorse_build.proofs.Queue.{Contains-filter, distinct_once, child_at_place, listed_of_child, value_at, children_once}
 use Rattle.daachorse_build.proofs.StackWalk.{length-walk}
 use Rattle.daachorse_build.proofs.Walks.{text_of, walk-bounds}
 
@@ -56,16 +56,6 @@ parents_same edges order t gs before none =
     before
     ∙ sym (append-nil _)
     ∙ sym (filter-append (has_edges edges) order (t ∷ []) ∙ ap (λ b. filter (has_edges edges) order ++ cond b (t ∷ []) []) none)
-
-in_filter : (p : ℕ → Bool) (xs : List ℕ) (t : ℕ) → IsIn xs t → p t ≡ true → IsIn (filter p xs) t
-in_filter p [] t h e = absurd h
-in_filter p (x ∷ xs) t h e =
-    cond_both (p x) _ _ (λ ys. IsIn ys t)
-    (λ k. elim h [ inl same ↦ inl same | inr later ↦ inr (in_filter p xs t later e) ])
-    (λ k. elim h [ inl same ↦ absurd (false≢true (sym k ∙ ap p same ∙ e)) | inr later ↦ in_filter p xs t later e ])
-
-contains_in : (xs : List ℕ) (t : ℕ) → IsIn xs t → Contains xs t
-contains_in xs t h = let p = place_of xs t h in (p.0, p.1, get_or_default xs p.0 t 0 p.1 ∙ p.2)
 
 -- ---- groups by their places
 -- the group at a place
@@ -104,8 +94,8 @@ some_edge : {L : Type 0} (es : List (L × ℕ)) → is_some_edge es ≡ true →
 some_edge [] h = absurd (false≢true h)
 some_edge (e ∷ es) h = omega arith
 
-edge_of_child : {L : Type 0} (es : List (L × ℕ)) (t : ℕ) → IsIn (values_of es) t → is_some_edge es ≡ true
-edge_of_child [] t h = absurd h
+edge_of_child : {L : Type 0} (es : List (L × ℕ)) (t : ℕ) → Contains (values_of es) t → is_some_edge es ≡ true
+edge_of_child [] t h = absurd (omega (arith, h.1))
 edge_of_child (e ∷ es) t h = refl
 
 -- two places of the same number
@@ -143,7 +133,7 @@ module _ {L V A : Type 0} (cmp : L → L → Ordering) (total : IsTotalOrder cmp
       let P : List ℕ → Type 0 = λ ps. All Q ps in
       let start = subst P (sym parents)
       (λ k d l. (
-      let at = All-filter (has_edges edges) (λ p. (p < length edges) × (p ≢ 1)) order (λ i e h. walk.states _ (in_equal order _ _ (get_or_default order i 0 e h) (in_at order i h))) k d l in
+      let at = All-filter (has_edges edges) (λ p. (p < length edges) × (p ≢ 1)) order (λ i e h. walk.states _ (Contains-get_or order i e h)) k d l in
       (at.0, at.1, filter_passes (has_edges edges) order k d l))) in
       All-permutation Q (parents_of first) (parents_of gs) moved_parents start
 
@@ -151,7 +141,7 @@ module _ {L V A : Type 0} (cmp : L → L → Ordering) (total : IsTotalOrder cmp
   is_parent : (s : ℕ) → s < length edges → s ≢ 1 → has_edges edges s ≡ true → Contains (parents_of gs) s
   is_parent s l ne some =
       let P : List ℕ → Type 0 = λ ps. Contains ps s in
-      let start = subst P (sym parents) (contains_in _ s (in_filter (has_edges edges) order s (walk.all s l ne) some)) in
+      let start = subst P (sym parents) (Contains-filter (has_edges edges) order s (walk.all s l ne) some) in
       Contains-permutation (parents_of first) (parents_of gs) s moved_parents start
 
   parent_at : (k : ℕ) → k < length gs → (group_parent gs k < length edges) × (group_parent gs k ≢ 1) × (has_edges edges (group_parent gs k) ≡ true)

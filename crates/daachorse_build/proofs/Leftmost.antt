@@ -1,5 +1,5 @@
 -- The leftmost links of a trie are the leftmost failure links of the dictionary that it holds.
-use Rattle.std.proofs.Common.{◌≡◌, ◌≢◌, ℕ, Bool, true, false, cond, List, [], ◌∷◌, ◌++◌, length, map, get_or, Option, Some, None, is_some, refl, sym, ap, ◌∙◌, subst, inl, inr, arith}
+use Rattle.std.proofs.Common.{◌≡◌, ◌≢◌, ℕ, Bool, true, false, cond, List, [], ◌∷◌, ◌++◌, length, map, get_or, Contains, Option, Some, None, is_some, refl, sym, ap, ◌∙◌, subst, inl, inr, arith}
 use Rattle.std.specs.Prelude.{option_map, not, ◌==◌}
 use Rattle.std.specs.List.{list_any}
 use Rattle.std.proofs.lemmas.Bool.{cond_both, false≢true, or_cases, or_left, or_right}
@@ -15,7 +15,7 @@ use Rattle.daachorse_model.proofs.Listings.{value_later}
 use Rattle.daachorse_build.specs.declared.nfa_builder.NfaBuilderState.{NfaBuilderState}
 use Rattle.daachorse_build.specs.Tables.{child_in, child_of, edges_of, own_at, fails_of, stops_of, HoldTrie}
 use Rattle.daachorse_build.specs.Growth.{HasTrieOf}
-use Rattle.daachorse_build.specs.Orders.{IsIn, IsBreadthFirst, HoldLeftLinks}
+use Rattle.daachorse_build.specs.Orders.{IsBreadthFirst, HoldLeftLinks}
 use Rattle.std.specs.Cmp.{IsTotalOrder}
 use Rattle.daachorse_build.proofs.Walks.{walk-same, walk-bounds}
 use Rattle.daachorse_build.proofs.Queue.{all_in_order}
@@ -115,7 +115,7 @@ module _ {L V A : Type 0} (cmp : L → L → Ordering) (unit : L → ℕ) (width
 -- ---- where the links are built
 module _ {L V A : Type 0} (cmp : L → L → Ordering) (total : IsTotalOrder cmp) (old new : List (NfaBuilderState L V A)) (table : HoldTrie cmp old) (kept_registrations' : HasTrieOf old new) (order : List ℕ) (links : HoldLeftLinks cmp true new order) where
   -- a state but the root stands in the order
-  in_order : (c : L) (w : List L) (t : ℕ) → Leads (child_of cmp old) (c ∷ w) t → IsIn order t
+  in_order : (c : L) (w : List L) (t : ℕ) → Leads (child_of cmp old) (c ∷ w) t → Contains order t
   in_order c w t h =
       let b = walk-bounds (child_of cmp old) (length (edges_of old)) table.trie (c ∷ w) t h in
       let apart : t ≢ 0 = λ e. (let nil : c ∷ w ≡ [] = walk-same (child_of cmp old) (length (edges_of old)) table.trie (c ∷ w) [] 0 (h ∙ ap Some e) refl in cc) in

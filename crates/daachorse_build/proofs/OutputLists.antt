@@ -1,8 +1,9 @@
 -- The lists of outputs, state by state: a state's own outputs and then the list of its link, which has those of the longest proper suffix that is a state's text.
-use Rattle.std.proofs.Common.{◌≡◌, ◌≢◌, ℕ, ◌+◌, ◌<◌, ◌≤◌, ◌⊎◌, Bool, true, false, cond, List, [], ◌∷◌, ◌++◌, length, map, get_or, take, Option, Some, None, is_some, zero, suc, refl, sym, ap, ◌∙◌, subst, inl, inr, length-append, arith}
+use Rattle.std.proofs.Common.{◌≡◌, ◌≢◌, ℕ, ◌+◌, ◌<◌, ◌≤◌, ◌⊎◌, Bool, true, false, cond, List, [], ◌∷◌, ◌++◌, length, map, get_or, take, Contains, Option, Some, None, is_some, zero, suc, refl, sym, ap, ◌∙◌, subst, inl, inr, length-append, arith}
 use Rattle.std.proofs.lemmas.Option.{same_Some}
 use Rattle.std.proofs.lemmas.Bool.{cases_Bool, cases_eq, cond-true, cond-false}
 use Rattle.std.proofs.lemmas.List.{append-nil, length-map, take_more}
+use Rattle.std.proofs.lemmas.List.Elements.{Contains-get_or, Contains-append_right, Contains-push_cases}
 use Rattle.std.specs.declared.cmp.Ordering.{Ordering}
 use Rattle.std.specs.declared.cmp.Ordering.TheVariants.{Equal}
 use Rattle.std.specs.Cmp.{IsTotalOrder}
@@ -15,12 +16,12 @@ use Rattle.daachorse_model.specs.Paths.{walk, is_reached, Leads}
 use Rattle.daachorse_build.specs.declared.nfa_builder.NfaBuilderState.{NfaBuilderState}
 use Rattle.daachorse_build.specs.Left.{meets, long_unless_stop, left_link, IsStateOf, IsLeftFailOf}
 use Rattle.daachorse_build.specs.Tables.{child_of, edges_of, own_of, own_at, own_outputs_at, output_count, HoldTrie}
-use Rattle.daachorse_build.specs.Orders.{IsIn, IsKnown, IsLinkAmong, IsLeftLinked}
+use Rattle.daachorse_build.specs.Orders.{IsKnown, IsLinkAmong, IsLeftLinked}
 use Rattle.daachorse_build.specs.Holds.{in_units, Holds}
 use Rattle.daachorse_build.specs.Lists.{suffix_outputs, left_outputs, AreListed, PositionsFit, IsParent}
 use Rattle.daachorse_build.proofs.Walks.{walk-same, walk-bounds}
 use Rattle.daachorse_build.proofs.LeftLinks.{meets_never}
-use Rattle.daachorse_build.proofs.Queue.{in_push, in_same, in_equal, in_at, child_of_known, bounds_of_listed, all_in_order}
+use Rattle.daachorse_build.proofs.Queue.{child_of_known, bounds_of_listed, all_in_order}
 use Rattle.daachorse_build.proofs.Cleared.{all_cleared, cleared}
 use Rattle.daachorse_build.proofs.States.{outputs_missing, outputs_found}
 use Rattle.daachorse_build.specs.Few.{items_of}
@@ -55,26 +56,26 @@ module _ {L V A : Type 0} (cmp : L → L → Ordering) (total : IsTotalOrder cmp
 
   -- the list of the root
   pub listed_start : (stops : ℕ → Bool) (states : List (NfaBuilderState L V A)) (outputs : List (Output V)) (positions : List ℕ) → HoldTrie cmp states → outputs_at outputs (get_or positions 0 0) ≡ own_at (own_of states) 0 ++ [] → AreListed cmp stops states [] outputs positions
-  listed_start stops states outputs positions table list t (inr none) w at = absurd none
+  listed_start stops states outputs positions table list t (inr none) w at = absurd (omega (arith, none.1))
   listed_start stops states outputs positions table list t (inl root) w at =
       let nil = walk-same (child_of cmp states) (length (edges_of states)) table.trie w [] 0 (at ∙ ap Some root) refl in
       ap (λ u. outputs_at outputs (get_or positions u 0)) root ∙ list ∙ append-nil _ ∙ sym (ap (left_outputs cmp stops states) nil)
 
   module _ (stops : ℕ → Bool) (states : List (NfaBuilderState L V A)) (table : HoldTrie cmp states) (order fails : List ℕ) (links : IsLeftLinked cmp stops (edges_of states) fails order) where
     -- the states of the order
-    pub order-bounds : (t : ℕ) → IsIn order t → (1 < t) × (t < length (edges_of states))
+    pub order-bounds : (t : ℕ) → Contains order t → (1 < t) × (t < length (edges_of states))
     order-bounds t h =
-        let p = child_of_known cmp total (edges_of states) table order t (in_same _ _ t links.first h) in
+        let p = child_of_known cmp total (edges_of states) table order t (subst (λ ts. Contains ts t) links.first h) in
         bounds_of_listed cmp total (edges_of states) table p.0 t p.2
 
     -- each state but the dead one is known, so only it can have outputs that are left
     pub none_left : own_at (own_of states) 1 ≡ [] → output_count (cleared (own_of states) (0 ∷ order)) ≡ 0
     none_left dead = all_cleared (own_of states) (0 ∷ order) (λ t low. done t (omega (arith, low, length-map states (λ s. s.edges), length-map states (λ s. items_of s.output))))
       where
-        done : (t : ℕ) → t < length (edges_of states) → IsIn (0 ∷ order) t ⊎ (own_at (own_of states) t ≡ [])
-        done zero low = inl (inl refl)
+        done : (t : ℕ) → t < length (edges_of states) → Contains (0 ∷ order) t ⊎ (own_at (own_of states) t ≡ [])
+        done zero low = inl (0, omega arith, refl)
         done (suc zero) low = inr dead
-        done (suc (suc t)) low = inl (inr (all_in_order cmp total (edges_of states) table order links.first (suc (suc t)) (omega arith) low))
+        done (suc (suc t)) low = inl (Contains-append_right (0 ∷ []) order _ (all_in_order cmp total (edges_of states) table order links.first (suc (suc t)) (omega arith) low))
 
     -- each state that a text leads to is known
     pub known_of_leads : (w : List L) (t : ℕ) → Leads (child_of cmp states) w t → IsKnown order t
@@ -111,8 +112,8 @@ module _ {L V A : Type 0} (cmp : L → L → Ordering) (total : IsTotalOrder cmp
         ∙ ap (λ os. os ++ cond (meets (child_of cmp states) stops 0 (c ∷ cs)) [] (left_outputs cmp stops states cs)) (sym (outputs_found cmp total exact states (c ∷ cs) t at))
 
     module _ (i t f : ℕ) (l : i < length order) (is : get_or order i 0 ≡ t) (fail : get_or fails t 0 ≡ f) where
-      in' : IsIn order t
-      in' = in_equal order _ t is (in_at order i l)
+      in' : Contains order t
+      in' = subst (Contains order) is (Contains-get_or order i 0 l)
 
       low : 1 < t
       low = (order-bounds t in').0
@@ -127,12 +128,12 @@ module _ {L V A : Type 0} (cmp : L → L → Ordering) (total : IsTotalOrder cmp
       pub known_cases : (u : ℕ) → IsKnown (take (i + 1) order) u → IsKnown (take i order) u ⊎ (t ≡ u)
       known_cases u (inl e) = inl (inl e)
       known_cases u (inr h) =
-          elim (in_push (take i order) t u (in_same _ _ u (take_more order i 0 l ∙ ap (λ v. take i order ++ v ∷ []) is) h)) [ inl a ↦ inl (inr a) | inr e ↦ inr e ]
+          elim (Contains-push_cases (take i order) t u (subst (λ ts. Contains ts u) (take_more order i 0 l ∙ ap (λ v. take i order ++ v ∷ []) is) h)) [ inl a ↦ inl (inr a) | inr e ↦ inr e ]
 
       -- the state is not yet done
       pub known_apart : (u : ℕ) → IsKnown (take i order) u → u ≢ t
       known_apart u (inl e) k = omega (arith, e, k, low)
-      known_apart u (inr a) k = links.once i l (in_equal (take i order) u _ (k ∙ sym is) a)
+      known_apart u (inr a) k = links.once i l (subst (Contains (take i order)) (k ∙ sym is) a)
 
       module _ (outputs outputs' more : List (Output V)) (positions positions' : List ℕ) (longer : outputs' ≡ outputs ++ more) (others : (u : ℕ) → u ≢ t → get_or positions' u 0 ≡ get_or positions u 0) (fits : PositionsFit (take i order) outputs positions) where
         -- one state more has a list

@@ -1,6 +1,7 @@
 -- From position to position along the outputs: a walk stays where outputs are added, and an output in front of it makes it one longer.
 use Rattle.std.proofs.Common.{◌≡◌, ◌≢◌, ℕ, zero, suc, ◌+◌, ◌<◌, Bool, List, [], ◌∷◌, ◌++◌, length, get_or, take, Some, refl, sym, ap, ◌∙◌, subst, inl, inr, arith}
 use Rattle.std.proofs.lemmas.Option.{slice_get_within}
+use Rattle.std.proofs.lemmas.List.Elements.{Contains-get_or}
 use Rattle.std.specs.List.{slice_get}
 use Rattle.daachorse_core.specs.declared.outputs.Output.{Output}
 use Rattle.daachorse_core.specs.Outputs.{value_of, length_of, parent_of}
@@ -12,7 +13,7 @@ use Rattle.daachorse_build.specs.declared.nfa_builder.NfaBuilderState.{NfaBuilde
 use Rattle.daachorse_build.specs.Tables.{edges_of, own_at, HoldTrie}
 use Rattle.daachorse_build.specs.Orders.{IsKnown, IsLinkAmong, IsLeftLinked}
 use Rattle.daachorse_build.specs.Lists.{IsParent, IsRest, IsChainedAt, AreChained}
-use Rattle.daachorse_build.proofs.Queue.{in_at, link_among, known_but_root}
+use Rattle.daachorse_build.proofs.Queue.{link_among, known_but_root}
 use Rattle.daachorse_build.proofs.OutputLists.{order-bounds, fail_known, known_apart, known_cases}
 use Rattle.daachorse_build.proofs.OutputChains.{slice_get_last, slice_get_left}
 
@@ -43,7 +44,7 @@ parent_others positions positions' t f q others apart (inr alive) = inr (alive.0
 
 -- the root's own outputs are all that it has
 pub chained_start : {V : Type 0} (own : List (List (V × ℕ))) (fails : List ℕ) (outputs : List (Output V)) (positions : List ℕ) → Passes outputs (get_or positions 0 0) (own_at own 0) 0 → AreChained own fails [] outputs positions
-chained_start own fails outputs positions h t (inr none) = absurd none
+chained_start own fails outputs positions h t (inr none) = absurd (omega (arith, none.1))
 chained_start own fails outputs positions h t (inl root) =
     let P : ℕ → Type 0 = λ u. Passes outputs (get_or positions u 0) (own_at own u) 0 in
     (0, inl (root, refl), subst P (sym root) h)
@@ -82,7 +83,7 @@ module _ {L V A : Type 0} (cmp : L → L → Ordering) (total : IsTotalOrder cmp
           | inl old ↦ old_chained own u old (chained u old)
           | inr new ↦
               let P : ℕ → Type 0 = λ v. IsChainedAt own fails outputs' positions' v in
-              let in' = in_at order i l in
+              let in' = Contains-get_or order i 0 l in
               let low = (order-bounds cmp total exact stops states table order fails links t in').0 in
               let among = fail_known cmp total exact stops states table order fails links i t f l refl refl in
               subst P new (p, inr (omega (arith, low), parent_others positions positions' t f p others (link_apart f among) parent), passes)

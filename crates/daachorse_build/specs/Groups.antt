@@ -1,5 +1,5 @@
 -- The groups of siblings of a trie: each state that has edges is the parent of one, with its children in order of labels.
-use Rattle.std.specs.Prelude.{◌≡◌, ◌≢◌, ℕ, ◌+◌, ◌-◌, ◌^◌, ◌<◌, ◌≤◌, ◌⊎◌, min, sum_by, Bool, true, false, List, [], ◌∷◌, length, map, slice_index, slice_index_or, Some}
+use Rattle.std.specs.Prelude.{◌≡◌, ◌≢◌, ℕ, ◌+◌, ◌-◌, ◌^◌, ◌<◌, ◌≤◌, ◌⊎◌, min, sum_by, Bool, true, false, List, [], ◌∷◌, length, map, slice_index, slice_index_or, Contains, Some}
 use Rattle.std.specs.declared.cmp.Ordering.{Ordering}
 use Rattle.std.specs.List.{All, AllZip, AllAdjacentBelow}
 use Rattle.daachorse_model.specs.Paths.{Leads}
@@ -8,7 +8,7 @@ use Rattle.daachorse_placement.specs.declared.build_helper.profile.Profile.{Prof
 use Rattle.daachorse_placement.specs.Placement.{children_of, group_parent, AreGroups}
 use Rattle.daachorse_build.specs.declared.nfa_builder.NfaBuilderState.{NfaBuilderState}
 use Rattle.daachorse_build.specs.Tables.{edges_of, child_in, child_of}
-use Rattle.daachorse_build.specs.Orders.{IsIn, StandOnce, children}
+use Rattle.daachorse_build.specs.Orders.{StandOnce, children}
 
 -- ---- labels and their codes
 -- the edges of a state, by rising labels
@@ -71,19 +71,19 @@ has_edges edges s = is_some_edge (edges_at edges s)
 
 -- each state that a text leads to stands once
 pub record VisitsEachState {L : Type 0} (edges : List (List (L × ℕ))) (order : List ℕ) : Type 0 where
-  pub states : (t : ℕ) → IsIn order t → (t < length edges) × (t ≢ 1)
-  pub all : (t : ℕ) → t < length edges → t ≢ 1 → IsIn order t
+  pub states : (t : ℕ) → Contains order t → (t < length edges) × (t ≢ 1)
+  pub all : (t : ℕ) → t < length edges → t ≢ 1 → Contains order t
   pub once : StandOnce order
 
 -- the states of the order have been taken off the stack, and their children put on it
 pub record IsStackWalk {L : Type 0} (edges : List (List (L × ℕ))) (order stack : List ℕ) : Type 0 where
   pub once : StandOnce order
   pub once_stack : StandOnce stack
-  pub apart : (t : ℕ) → IsIn order t → IsIn stack t → ⊥
-  pub states : (t : ℕ) → IsIn order t ⊎ IsIn stack t → (t < length edges) × (t ≢ 1)
-  pub root : IsIn order 0 ⊎ IsIn stack 0
-  pub covers : (s t : ℕ) → IsIn order s → IsIn (children edges s) t → IsIn order t ⊎ IsIn stack t
-  pub from : (t : ℕ) → IsIn order t ⊎ IsIn stack t → (t ≡ 0) ⊎ ((s : ℕ) × IsIn order s × IsIn (children edges s) t)
+  pub apart : (t : ℕ) → Contains order t → Contains stack t → ⊥
+  pub states : (t : ℕ) → Contains order t ⊎ Contains stack t → (t < length edges) × (t ≢ 1)
+  pub root : Contains order 0 ⊎ Contains stack 0
+  pub covers : (s t : ℕ) → Contains order s → Contains (children edges s) t → Contains order t ⊎ Contains stack t
+  pub from : (t : ℕ) → Contains order t ⊎ Contains stack t → (t ≡ 0) ⊎ ((s : ℕ) × Contains order s × Contains (children edges s) t)
 
 -- ---- one group
 -- the edges, with what was given for each label

@@ -1,5 +1,5 @@
 -- The breadth-first order of the states, and the failure links.
-use Rattle.std.specs.Prelude.{◌≡◌, ℕ, Bool, ◌<◌, ◌≤◌, ◌⊎◌, List, [], ◌∷◌, ◌++◌, length, take, slice_index, slice_index_or}
+use Rattle.std.specs.Prelude.{◌≡◌, ℕ, Bool, ◌<◌, ◌≤◌, ◌⊎◌, List, [], ◌++◌, length, take, slice_index, slice_index_or, Contains}
 use Rattle.std.specs.declared.cmp.Ordering.{Ordering}
 use Rattle.std.specs.List.{flat_map}
 use Rattle.std.specs.Map.{values_of}
@@ -8,14 +8,9 @@ use Rattle.daachorse_build.specs.Trie.{IsFailOf}
 use Rattle.daachorse_build.specs.Left.{IsLeftFailOf}
 use Rattle.daachorse_build.specs.Tables.{child_in, edges_of, fails_of, stops_of}
 
--- x is an element
-abbrev pub IsIn : List ℕ → ℕ → Type 0
-IsIn [] x = ⊥
-IsIn (y ∷ ys) x = (y ≡ x) ⊎ IsIn ys x
-
 -- the root, or an element
 abbrev pub IsKnown : List ℕ → ℕ → Type 0
-IsKnown xs t = (t ≡ 0) ⊎ IsIn xs t
+IsKnown xs t = (t ≡ 0) ⊎ Contains xs t
 
 -- the children of a state, by rising labels
 abbrev pub children : {L : Type 0} → List (List (L × ℕ)) → ℕ → List ℕ
@@ -31,11 +26,11 @@ LinksComeFirst fails order = (i : ℕ) → i < length order → IsKnown (take i 
 
 -- no state stands twice
 abbrev pub StandOnce : List ℕ → Type 0
-StandOnce order = (i : ℕ) → i < length order → IsIn (take i order) (slice_index order i) → ⊥
+StandOnce order = (i : ℕ) → i < length order → Contains (take i order) (slice_index order i) → ⊥
 
 -- each state's link is right
 abbrev pub AllLinked : {L : Type 0} → (L → L → Ordering) → List (List (L × ℕ)) → List ℕ → List ℕ → Type 0
-AllLinked cmp edges fails order = (t : ℕ) → IsIn order t → IsFailOf (child_in cmp edges) t (slice_index fails t)
+AllLinked cmp edges fails order = (t : ℕ) → Contains order t → IsFailOf (child_in cmp edges) t (slice_index fails t)
 
 -- the order is breadth-first, and the links of its states are right
 pub record IsLinked {L : Type 0} (cmp : L → L → Ordering) (edges : List (List (L × ℕ))) (fails order : List ℕ) : Type 0 where
@@ -57,7 +52,7 @@ LeftLinksComeFirst fails order = (i : ℕ) → i < length order → IsLinkAmong 
 
 -- each state's leftmost link is right
 abbrev pub AllLeftLinked : {L : Type 0} → (L → L → Ordering) → (ℕ → Bool) → List (List (L × ℕ)) → List ℕ → List ℕ → Type 0
-AllLeftLinked cmp stops edges fails order = (t : ℕ) → IsIn order t → IsLeftFailOf (child_in cmp edges) stops t (slice_index fails t)
+AllLeftLinked cmp stops edges fails order = (t : ℕ) → Contains order t → IsLeftFailOf (child_in cmp edges) stops t (slice_index fails t)
 
 -- the order is breadth-first, and the leftmost links of its states are right
 pub record IsLeftLinked {L : Type 0} (cmp : L → L → Ordering) (stops : ℕ → Bool) (edges : List (List (L × ℕ))) (fails order : List ℕ) : Type 0 where
@@ -74,13 +69,13 @@ HoldLeftLinks cmp leftmost states order = IsLeftLinked cmp (stops_of leftmost st
 pub record HaveLinks {L V A : Type 0} (cmp : L → L → Ordering) (leftmost : Bool) (states : List (NfaBuilderState L V A)) (order : List ℕ) : Type 0 where
   pub links : HoldLeftLinks cmp leftmost states order
   pub root : slice_index (fails_of states) 0 ≡ 0
-  pub within : (t : ℕ) → IsIn order t → (1 < t) × (t < length states)
+  pub within : (t : ℕ) → Contains order t → (1 < t) × (t < length states)
 
 -- a traversal whose first next states have been left, and which stands at the children pending of the one after them; of the root's children the list start is in the queue, and the root's link is the root
 pub record IsTraversal {L : Type 0} (cmp : L → L → Ordering) (stops : ℕ → Bool) (edges : List (List (L × ℕ))) (start fails order : List ℕ) (next : ℕ) (pending : List ℕ) : Type 0 where
   pub queue : order ≡ (start ++ flat_map (children edges) (take next order)) ++ pending
   pub within : next ≤ length order
-  pub states : (t : ℕ) → IsIn order t → (1 < t) × (t < length edges)
+  pub states : (t : ℕ) → Contains order t → (1 < t) × (t < length edges)
   pub one_each : length fails ≡ length edges
   pub root : slice_index fails 0 ≡ 0
   pub linked : AllLeftLinked cmp stops edges fails order

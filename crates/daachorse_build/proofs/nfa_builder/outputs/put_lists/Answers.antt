@@ -1,6 +1,8 @@
 -- One state more has its list: its own outputs, and then the list of its link, which is done before it.
-use Rattle.std.proofs.Common.{◌≡◌, ◌<◌, ◌≤◌, ◌+◌, ℕ, Bool, List, [], ◌∷◌, ◌++◌, length, get_or, take, inl, inr, refl, sym, ap, ◌∙◌, subst, vec_len, arith}
+use Rattle.std.proofs.Common.{◌≡◌, ◌<◌, ◌≤◌, ◌+◌, ℕ, Bool, List, [], ◌∷◌, ◌++◌, length, get_or, take, Contains, inl, inr, refl, sym, ap, ◌∙◌, subst, vec_len, arith}
 use Rattle.std.proofs.lemmas.List.{length-map, take_more, take_all}
+use Rattle.std.proofs.lemmas.List.Elements.{Contains-get_or}
+use Rattle.std.proofs.lemmas.Map.Made.{Contains-tail}
 use Rattle.std.proofs.lemmas.Result.{err_from_is_err_and, IfOk-from_err}
 use Rattle.std.specs.declared.cmp.Ordering.{Ordering}
 use Rattle.std.specs.declared.cmp.Ordering.TheVariants.{Equal}
@@ -9,12 +11,12 @@ use Rattle.daachorse_core.specs.declared.errors.Limit.TheVariants.{Outputs}
 use Rattle.daachorse_core.specs.Outputs.{outputs_at}
 use Rattle.daachorse_build.specs.declared.nfa_builder.NfaBuilderState.{NfaBuilderState}
 use Rattle.daachorse_build.specs.Tables.{edges_of, fails_of, own_of, own_at, positions_of, output_count, stops_of, HoldTrie}
-use Rattle.daachorse_build.specs.Orders.{IsIn, IsKnown, IsLinkAmong, IsLeftLinked}
+use Rattle.daachorse_build.specs.Orders.{IsKnown, IsLinkAmong, IsLeftLinked}
 use Rattle.daachorse_build.specs.Growth.{HasTrieOf}
 use Rattle.daachorse_build.specs.Lists.{PositionsFit, IsParent}
 use Rattle.daachorse_core.specs.declared.outputs.Output.{Output}
 use Rattle.daachorse_build.proofs.Labels.{label_exact}
-use Rattle.daachorse_build.proofs.Queue.{in_at, in_take}
+use Rattle.daachorse_build.proofs.Queue.{Contains-take}
 use Rattle.daachorse_build.proofs.Cleared.{cleared, count-cleared}
 use Rattle.daachorse_build.proofs.Passes.{chained_start, chained_more}
 use Rattle.daachorse_build.proofs.OutputChains.{ParentsFall-nil}
@@ -31,9 +33,9 @@ module _ {L V A : Type 0} (cmp : L → L → Ordering) (total : IsTotalOrder cmp
       let count : length new ≡ length old = sym (length-map new (λ s. s.edges)) ∙ ap length kept.edges ∙ length-map old (λ s. s.edges) in
       let edges = length-map old (λ s. s.edges) in
       let within = order-bounds cmp total exact stops old table order (fails_of old) links in
-      let at = within (get_or order i 0) (in_at order i l) in
+      let at = within (get_or order i 0) (Contains-get_or order i 0 l) in
       let known_link : (f : ℕ) → IsKnown (take i order) f → f < length (edges_of old) = λ f known.
-      elim known [ inl e ↦ omega (arith, e, table.trie.two) | inr h ↦ (within f (in_take i order f h)).1 ] in
+      elim known [ inl e ↦ omega (arith, e, table.trie.two) | inr h ↦ (within f (Contains-take i order f h)).1 ] in
       let link : (f : ℕ) → IsLinkAmong (take i order) f → f < length (edges_of old) = λ f among.
       elim among [ inl e ↦ omega (arith, e, table.trie.two) | inr known ↦ known_link f known ] in
       (omega (arith, at.1), omega (arith, link _ (links.earlier i l)))
@@ -42,13 +44,9 @@ module _ {L V A : Type 0} (cmp : L → L → Ordering) (total : IsTotalOrder cmp
   count_next : output_count (cleared (own_of old) (0 ∷ take (i + 1) order)) + length (own_at (own_of old) (get_or order i 0)) ≡ output_count (cleared (own_of old) (0 ∷ take i order))
   count_next =
       let t = get_or order i 0 in
-      let b = order-bounds cmp total exact stops old table order (fails_of old) links t (in_at order i l) in
+      let b = order-bounds cmp total exact stops old table order (fails_of old) links t (Contains-get_or order i 0 l) in
       let low : t < length (own_of old) = omega (arith, b.1, length-map old (λ s. s.edges), length-map old (λ s. items_of s.output)) in
-      let apart : IsIn (0 ∷ take i order) t → ⊥ = λ h.
-      elim h [
-        | inl e ↦ omega (arith, e, b.0)
-        | inr in' ↦ links.once i l in'
-      ] in
+      let apart : Contains (0 ∷ take i order) t → ⊥ = λ h. links.once i l (Contains-tail 0 (take i order) t (λ e. omega (arith, e, b.0)) h) in
       ap (λ ts. output_count (cleared (own_of old) (0 ∷ ts)) + length (own_at (own_of old) t)) (take_more order i 0 l)
       ∙ count-cleared (own_of old) (0 ∷ take i order) t low apart
 
@@ -61,11 +59,11 @@ loop-id-init g c =
       kept = e.kept;
       fails = e.fails;
       parents = e.parents;
-      fits = λ t h. elim h [ inl root ↦ omega (arith, ap (λ u. get_or (positions_of c.put_list.new.states) u 0) root, e.chain.fits) | inr none ↦ absurd none ];
+      fits = λ t h. elim h [ inl root ↦ omega (arith, ap (λ u. get_or (positions_of c.put_list.new.states) u 0) root, e.chain.fits) | inr none ↦ absurd (omega (arith, none.1)) ];
       lists = λ leftmost links. listed_start g.L.Ord.cmp g.met.L.Ord.total (label_exact g.L.EdgeLabel.unit g.L.Ord.cmp g.met.L.EdgeLabel.exact g.met.L.EdgeLabel.by_unit) (stops_of leftmost states) states c.put_list.new.outputs.items (positions_of c.put_list.new.states) c.requires.trie e.chain.list;
       chained = λ leftmost links. chained_start (own_of states) (fails_of states) c.put_list.new.outputs.items (positions_of c.put_list.new.states) e.chain.passes;
       few = omega (arith, e.chain.few (omega (arith, ap length c.requires.unbuilt)));
-      count = omega (arith, e.chain.count, count-cleared (own_of states) [] 0 two (λ h. h), ap length c.requires.unbuilt);
+      count = omega (arith, e.chain.count, count-cleared (own_of states) [] 0 two (λ h. omega (arith, h.1)), ap length c.requires.unbuilt);
     }
 
 pub fail_position-parent-requires : goal.fail_position-parent-requires
@@ -155,7 +153,7 @@ returns-in_err-put_list g c = record {
       let p = err_from_is_err_and c.from_residual.result c.from_residual.ensures.1 in
       let states = c.args.states.now in
       let two : 0 < length (own_of states) = omega (arith, c.requires.trie.trie.two, length-map states (λ s. s.edges), length-map states (λ s. items_of s.output)) in
-      let count = count-cleared (own_of states) [] 0 two (λ h. h) in
+      let count = count-cleared (own_of states) [] 0 two (λ h. omega (arith, h.1)) in
       let none = ap length c.requires.unbuilt in
       let fewer : 4294967295 < vec_len c.args.outputs.now + length (own_at (own_of states) 0) → 4294967295 < output_count (own_of states) = λ h. omega (arith, h, count, none) in
       rw (p.1, p.2) (IsRefusal-weaker ⊥ ⊥ Outputs _ (4294967295 < output_count (own_of states)) (λ x. x) fewer _ c.in_err-put_list.ensures.err);

@@ -1,5 +1,5 @@
 -- A child is a state, and so it has a count.
-use Rattle.std.proofs.Common.{Bor, Option, ◌≡◌, ◌+◌, ◌-◌, ◌^◌, ◌<◌, min, ℕ, List, [], ◌∷◌, ◌++◌, length, map, get_or, sum_by, Some, refl, sym, ap, ◌∙◌, inl, inr, arith}
+use Rattle.std.proofs.Common.{Bor, Option, ◌≡◌, ◌+◌, ◌-◌, ◌^◌, ◌<◌, min, ℕ, List, [], ◌∷◌, ◌++◌, length, map, get_or, sum_by, Contains, Some, refl, sym, ap, ◌∙◌, subst, inl, inr, arith}
 use Rattle.std.proofs.lemmas.List.{length-map, map-append, get_or_default}
 use Rattle.std.proofs.lemmas.List.Sums.{sum_by_push}
 use Rattle.std.proofs.lemmas.Bool.{false≢true}
@@ -15,7 +15,7 @@ use Rattle.daachorse_build.specs.declared.nfa_builder.NfaBuilderState.{NfaBuilde
 use Rattle.daachorse_build.specs.Tables.{edges_of, HoldTrie}
 use Rattle.daachorse_build.specs.Orders.{children}
 use Rattle.daachorse_build.specs.Groups.{if_counted}
-use Rattle.daachorse_build.proofs.Queue.{bounds_of_listed, in_at, in_equal, in_same}
+use Rattle.daachorse_build.proofs.Queue.{bounds_of_listed}
 use Rattle.daachorse_build.proofs.EdgeTurns.{edges_read}
 use Rattle.daachorse_build.proofs.Families.{if_counted-none}
 use Rattle.daachorse_build.proofs.nfa_builder.siblings.weight_of.Goals as goal
@@ -28,8 +28,8 @@ module _ {L V A : Type 0} (cmp : L → L → Ordering) (total : IsTotalOrder cmp
   child_low : (yielded : List (Bor ℕ)) (start now next : List ℕ) (r : Option (Bor ℕ)) → start ≡ values_of es → Yields (TakesFirst deref) start yielded now → (id : Bor ℕ) → r ≡ Some id → TakesFirst deref now r next → id.now < length states
   child_low yielded start now next r begun calls id given steps =
       let at = (iter_turn deref (values_of es) yielded start now next r begun calls id given steps).1 in
-      let in' = in_equal (values_of es) _ _ (get_or_from_slice_get (values_of es) _ id.now 0 at) (in_at (values_of es) (length yielded) (slice_get_within (values_of es) _ id.now at)) in
-      let b = bounds_of_listed cmp total (edges_of states) table s id.now (in_same _ _ id.now (sym children_here) in') in
+      let in' : Contains (values_of es) id.now = (length yielded, slice_get_within (values_of es) _ id.now at, get_or_from_slice_get (values_of es) _ id.now id.now at) in
+      let b = bounds_of_listed cmp total (edges_of states) table s id.now (subst (λ ts. Contains ts id.now) (sym children_here) in') in
       omega (arith, b.1, length-map states (λ y. y.edges))
 
 weight_start : (p w : ℕ) → w ≡ p → w < 2 ^ 64 → w ≡ min (p + 0) (2 ^ 64 - 1)

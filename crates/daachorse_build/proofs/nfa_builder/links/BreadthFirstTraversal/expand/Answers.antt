@@ -1,22 +1,23 @@
 -- One child more goes into the queue, with the link that following the links found.
-use Rattle.std.proofs.Common.{◌≡◌, ℕ, ◌<◌, List, [], ◌∷◌, ◌++◌, length, take, get_or, refl, sym, ◌∙◌, subst, arith}
+use Rattle.std.proofs.Common.{◌≡◌, ℕ, ◌<◌, List, [], ◌∷◌, ◌++◌, length, take, get_or, Contains, refl, sym, ◌∙◌, subst, arith}
 use Rattle.std.proofs.lemmas.List.{length-map, get_or_read, length_push, get_or_append_left, take-append-le}
+use Rattle.std.proofs.lemmas.List.Elements.{Contains-get_or}
 use Rattle.std.proofs.lemmas.Result.{IfOk-from_err}
 use Rattle.std.specs.declared.cmp.Ordering.{Ordering}
 use Rattle.daachorse_build.specs.Tables.{edges_of, stops_of}
-use Rattle.daachorse_build.specs.Orders.{IsLinkAmong, IsIn}
+use Rattle.daachorse_build.specs.Orders.{IsLinkAmong}
 use Rattle.daachorse_build.specs.declared.nfa_builder.NfaBuilderState.{NfaBuilderState}
 use Rattle.daachorse_build.specs.declared.nfa_builder.links.BreadthFirstTraversal.{BreadthFirstTraversal}
 use Rattle.daachorse_build.specs.Traversals.{Traverses}
 use Rattle.daachorse_build.proofs.EdgeTurns.{edge_read, all_read}
-use Rattle.daachorse_build.proofs.Queue.{in_at, in_equal, traversal_push, traversal_next, child_at_place}
+use Rattle.daachorse_build.proofs.Queue.{traversal_push, traversal_next, child_at_place}
 use Rattle.daachorse_build.proofs.nfa_builder.links.BreadthFirstTraversal.expand.Goals as goal
 
 -- the state that is left, and that it is in the queue
-left_is : {L V A : Type 0} (cmp : L → L → Ordering) (states : List (NfaBuilderState L V A)) (s : BreadthFirstTraversal A) (pending : List ℕ) (id : ℕ) → Traverses cmp states s pending → s.next < length s.order.items → id ≡ get_or s.order.items s.next id → (get_or s.order.items s.next 0 ≡ id) × IsIn s.order.items id × (1 < id) × (id < length states) × (id < length s.links.items)
+left_is : {L V A : Type 0} (cmp : L → L → Ordering) (states : List (NfaBuilderState L V A)) (s : BreadthFirstTraversal A) (pending : List ℕ) (id : ℕ) → Traverses cmp states s pending → s.next < length s.order.items → id ≡ get_or s.order.items s.next id → (get_or s.order.items s.next 0 ≡ id) × Contains s.order.items id × (1 < id) × (id < length states) × (id < length s.links.items)
 left_is cmp states s pending id traversal l is =
     let e = get_or_read s.order.items s.next id l is 0 in
-    let in' = in_equal s.order.items _ _ (sym e) (in_at s.order.items s.next l) in
+    let in' = subst (Contains s.order.items) (sym e) (Contains-get_or s.order.items s.next 0 l) in
     let b = traversal.states id in' in
     (sym e, in', b.0, omega (arith, b.1, length-map states (λ x. x.edges)), omega (arith, b.1, traversal.one_each))
 

@@ -1,10 +1,9 @@
 -- A state with an edge ends the traversal, and so do the root and a dead link; else the link goes on.
-use Rattle.std.proofs.Common.{rules, ◌≡◌, ◌≢◌, ℕ, ◌<◌, length, get_or, Some, None, sym, ap, ◌∙◌, subst, inl, inr, arith}
+use Rattle.std.proofs.Common.{rules, ◌≡◌, ◌≢◌, ℕ, ◌<◌, length, get_or, Contains, Some, None, sym, ap, ◌∙◌, subst, inl, inr, arith}
 use Rattle.std.proofs.lemmas.List.{length-map, get_or_read}
 use Rattle.daachorse_build.specs.Tables.{child_in, edges_of, stops_of}
-use Rattle.daachorse_build.specs.Orders.{IsIn}
 use Rattle.daachorse_build.proofs.LeftLinks.{leads_hit, leads_root, leads_dead, leads_next, LeadsAs}
-use Rattle.daachorse_build.proofs.Queue.{known_bounds, known_link, in_take, known_but_root, link_before}
+use Rattle.daachorse_build.proofs.Queue.{known_bounds, known_link, Contains-take, known_but_root, link_before}
 use Rattle.daachorse_build.proofs.nfa_builder.links.BreadthFirstTraversal.follow.Goals as goal
 
 pub child-requires : goal.child-requires
@@ -37,7 +36,7 @@ returns-then-id-eq-DEAD_STATE_ID-clause-link g c =
     let child = child_in g.L.Ord.cmp (edges_of states) in
     let stops = stops_of s.leftmost states in
     let known = known_but_root _ c.loop-found.id c.if-id-eq-ROOT_STATE_ID.false c.loop-found.invariant.known in
-    let in' : IsIn s.order.items c.loop-found.id = in_take s.next s.order.items _ known in
+    let in' : Contains s.order.items c.loop-found.id = Contains-take s.next s.order.items _ known in
     let b = c.requires.traversal.1.states c.loop-found.id in' in
     let low : c.loop-found.id < length s.links.items = omega (arith, b.1, c.requires.traversal.1.one_each) in
     let fail = get_or_read s.links.items c.loop-found.id c.index-id.result.now low c.index-id.ensures 0 in
@@ -56,7 +55,7 @@ pub loop-found-smaller : goal.loop-found-smaller
 loop-found-smaller g c =
     let s = c.args.self.now in
     let known = known_but_root _ c.loop-found.id c.if-id-eq-ROOT_STATE_ID.false c.loop-found.invariant.known in
-    let in' : IsIn s.order.items c.loop-found.id = in_take s.next s.order.items _ known in
+    let in' : Contains s.order.items c.loop-found.id = Contains-take s.next s.order.items _ known in
     let b = c.requires.traversal.1.states c.loop-found.id in' in
     let low : c.loop-found.id < length s.links.items = omega (arith, b.1, c.requires.traversal.1.one_each) in
     let fail = get_or_read s.links.items c.loop-found.id c.index-id.result.now low c.index-id.ensures 0 in
@@ -70,7 +69,7 @@ loop-found-preserved g c =
     let child = child_in g.L.Ord.cmp (edges_of states) in
     let stops = stops_of s.leftmost states in
     let known = known_but_root _ c.loop-found.id c.if-id-eq-ROOT_STATE_ID.false c.loop-found.invariant.known in
-    let in' : IsIn s.order.items c.loop-found.id = in_take s.next s.order.items _ known in
+    let in' : Contains s.order.items c.loop-found.id = Contains-take s.next s.order.items _ known in
     let b = c.requires.traversal.1.states c.loop-found.id in' in
     let low : c.loop-found.id < length s.links.items = omega (arith, b.1, c.requires.traversal.1.one_each) in
     let fail = get_or_read s.links.items c.loop-found.id c.index-id.result.now low c.index-id.ensures 0 in

@@ -43,7 +43,7 @@ loop-child-preserved g c =
     c.loop-child.yielded c.into_iter-child-iterator.result c.loop-child.child-iterator c.next.new.self c.next.result (cc) c.loop-child.yielded_by c.next.ensures.steps
     (c.in-Some.field-0-0, c.in-Some.child) c.in-Some.is in
     let more = traversal_first g.L.Ord.cmp g.met.L.Ord.total (edges_of states) c.requires (stops_of c.args.leftmost states) c.loop-child.links.items c.loop-child.order.items (length c.loop-child.yielded) c.in-Some.field-0-0.now c.in-Some.child.now c.first_link.result c.loop-child.invariant at c.first_link.ensures.link
-    (elim c.first_link.ensures.among [ inl dead ↦ inl dead | inr known ↦ inr (elim known [ inl root ↦ inl root | inr none ↦ absurd none ]) ]) in
+    (elim c.first_link.ensures.among [ inl dead ↦ inl dead | inr known ↦ inr (elim known [ inl root ↦ inl root | inr none ↦ absurd (omega (arith, none.1)) ]) ]) in
     rw (c.in_ok-push.ensures.items, length_push c.loop-child.yielded (c.in-Some.field-0-0, c.in-Some.child)) more
 
 pub returns-clause-traversal : goal.returns-clause-traversal

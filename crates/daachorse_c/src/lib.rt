@@ -124,7 +124,14 @@ pub extern "C" fn daachorse_find_overlapping(
 ) -> u32
     ensures { IsSearchOf Overlapping haystack.now handle.old.automaton handle.new.automaton out.old out.new written.new result }
 {
-    write_found(alloc, handle, SearchKind::Overlapping, haystack, out, written)
+    write_found(
+        alloc,
+        handle,
+        SearchKind::Overlapping,
+        haystack,
+        out,
+        written,
+    )
 }
 
 /// Finds the longest match at each end, as [`daachorse_find`] writes them.

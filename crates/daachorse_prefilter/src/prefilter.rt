@@ -24,7 +24,7 @@ mod window;
 pub use builder::PrefilterBuilder;
 use daachorse_core::errors::Result;
 pub use gate::PrefilterGate;
-use reading::{AsItIs, Folded, Reading};
+use reading::{AsFolded, AsItIs, ByteReading};
 use std::alloc::{Allocator, Global};
 use std::hash::{Hash, Hasher};
 use std::marker::Model;
@@ -88,7 +88,7 @@ impl<A: Allocator> Prefilter<A> {
         ensures skips_none { (pattern rest : List ℕ) (place : ℕ) → admits self.now pattern ≡ true
             → pos ≤ place → drop place (folded haystack.now) ≡ pattern ++ rest → result ≤ place }
     {
-        self.first_place::<Folded>(haystack, pos)
+        self.first_place::<AsFolded>(haystack, pos)
     }
 
     /// The first boundary of the text's characters from `pos` on at which the filter passes, or
@@ -110,12 +110,12 @@ impl<A: Allocator> Prefilter<A> {
     pub fn next_position_folded_at_char_boundary(&self, haystack: &str, pos: usize) -> usize
         ensures { IsNextBoundary self.now (folded haystack.now) pos result }
     {
-        self.first_boundary::<Folded>(haystack, pos)
+        self.first_boundary::<AsFolded>(haystack, pos)
     }
 
     /// The first place from `pos` on at which the filter passes in what is read of the haystack.
     #[inline(always)]
-    fn first_place<R: Reading>(&self, haystack: &[u8], pos: usize) -> usize
+    fn first_place<R: ByteReading>(&self, haystack: &[u8], pos: usize) -> usize
         ensures { result ≡ next_place self.now (map R.as_read haystack.now) pos }
     {
         scan::<R>(self.table.as_slice(), self.window_len, haystack, pos)
@@ -123,7 +123,7 @@ impl<A: Allocator> Prefilter<A> {
 
     /// The first boundary from `pos` on at which the filter passes in what is read of the text.
     #[inline(always)]
-    fn first_boundary<R: Reading>(&self, haystack: &str, pos: usize) -> usize
+    fn first_boundary<R: ByteReading>(&self, haystack: &str, pos: usize) -> usize
         ensures { IsNextBoundary self.now (map R.as_read haystack.now) pos result }
     {
         let mut from = pos;
@@ -200,7 +200,7 @@ impl<A: Allocator> Hash for Prefilter<A> {
 
 /// The first place from `pos` on at which a window of what is read passes, or the haystack's length.
 #[inline(always)]
-fn scan<R: Reading>(table: &[u8], window_len: u8, haystack: &[u8], pos: usize) -> usize
+fn scan<R: ByteReading>(table: &[u8], window_len: u8, haystack: &[u8], pos: usize) -> usize
     requires sized { length table.now ≡ 65536 }
     requires low { 2 ≤ window_len }
     requires high { window_len ≤ 9 }

@@ -10,7 +10,7 @@ ghost use Rattle.std.specs.Str.{IsCharBoundary};
 use daachorse_core::ascii_fold::AsciiFold;
 
 /// A way to read bytes.
-pub trait Reading {
+pub trait ByteReading {
     /// The byte that is read.
     ghost as_read: { ℕ → ℕ };
 
@@ -26,9 +26,9 @@ pub trait Reading {
 pub struct AsItIs;
 
 /// A to Z as a to z, and each other byte as it is.
-pub struct Folded;
+pub struct AsFolded;
 
-impl Reading for AsItIs {
+impl ByteReading for AsItIs {
     ghost use Rattle.daachorse_prefilter.specs.Readings.{same_as_it_is};
 
     ghost as_read = { λ b. b };
@@ -41,7 +41,7 @@ impl Reading for AsItIs {
     ghost same_boundaries = { same_as_it_is };
 }
 
-impl Reading for Folded {
+impl ByteReading for AsFolded {
     ghost use Rattle.daachorse_model.specs.Folding.{folded_unit};
     ghost use Rattle.daachorse_model.proofs.FoldLaws.{IsCharBoundary-folded};
 

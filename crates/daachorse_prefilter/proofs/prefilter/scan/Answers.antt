@@ -12,7 +12,7 @@ read_at as_read h i byte inside is = is ∙ sym (get_or-map as_read h i 0 0 insi
 
 pub loop-i-init : goal.loop-i-init
 loop-i-init g c =
-    let h = c.args.haystack.now in let as_read = g.R.Reading.as_read in
+    let h = c.args.haystack.now in let as_read = g.R.ByteReading.as_read in
     let inside : c.args.pos < length h = search rules in
     let first : c.in-Some.first.now ≡ get_or h c.args.pos 0 = search rules in
     let back : c.args.pos + 1 - 1 ≡ c.args.pos = omega arith in
@@ -28,7 +28,7 @@ loop-i-init g c =
 
 pub overflow_sub-result : goal.overflow_sub-result
 overflow_sub-result g c =
-    let l = c.loop-i in let h = c.args.haystack.now in let as_read = g.R.Reading.as_read in
+    let l = c.loop-i in let h = c.args.haystack.now in let as_read = g.R.ByteReading.as_read in
     let size : length (map as_read h) ≡ length h = length-map h as_read in
     let read = read_at as_read h l.i c.read-byte.result (omega arith) c.read-byte.ensures in
     let read_next = read_at as_read h (l.i + 1) c.read-next.result c.loop-i-test.true c.read-next.ensures in
@@ -37,7 +37,7 @@ overflow_sub-result g c =
 
 pub returns-then-once-twice-eq0 : goal.returns-then-once-twice-eq0
 returns-then-once-twice-eq0 g c =
-    let l = c.loop-i in let h = c.args.haystack.now in let as_read = g.R.Reading.as_read in
+    let l = c.loop-i in let h = c.args.haystack.now in let as_read = g.R.ByteReading.as_read in
     let size : length (map as_read h) ≡ length h = length-map h as_read in
     let read = read_at as_read h l.i c.read-byte.result (omega arith) c.read-byte.ensures in
     let read_next = read_at as_read h (l.i + 1) c.read-next.result c.loop-i-test.true c.read-next.ensures in
@@ -46,14 +46,14 @@ returns-then-once-twice-eq0 g c =
 
 pub returns-in_default : goal.returns-in_default
 returns-in_default g c =
-    let h = c.args.haystack.now in let as_read = g.R.Reading.as_read in
+    let h = c.args.haystack.now in let as_read = g.R.ByteReading.as_read in
     let past : length h ≤ c.args.pos = search rules in
     let size : length (map as_read h) ≡ length h = length-map h as_read in
     sym size ∙ next_position_past (entry_in c.args.table.now) c.args.window_len (map as_read h) c.args.pos (omega arith)
 
 pub loop-i-preserved : goal.loop-i-preserved
 loop-i-preserved g c =
-    let l = c.loop-i in let h = c.args.haystack.now in let as_read = g.R.Reading.as_read in
+    let l = c.loop-i in let h = c.args.haystack.now in let as_read = g.R.ByteReading.as_read in
     let size : length (map as_read h) ≡ length h = length-map h as_read in
     let read = read_at as_read h l.i c.read-byte.result (omega arith) c.read-byte.ensures in
     let read_next = read_at as_read h (l.i + 1) c.read-next.result c.loop-i-test.true c.read-next.ensures in
@@ -70,7 +70,7 @@ loop-i-preserved g c =
 
 pub overflow_sub-result-then-seen-table-eq0 : goal.overflow_sub-result-then-seen-table-eq0
 overflow_sub-result-then-seen-table-eq0 g c =
-    let l = c.loop-i in let h = c.args.haystack.now in let as_read = g.R.Reading.as_read in
+    let l = c.loop-i in let h = c.args.haystack.now in let as_read = g.R.ByteReading.as_read in
     let size : length (map as_read h) ≡ length h = length-map h as_read in
     let read = read_at as_read h l.i c.read-byte-then-i-haystack.result c.if-i-haystack.true c.read-byte-then-i-haystack.ensures in
     let hit = step_hit c.args.table.now (map as_read h) c.args.window_len c.args.pos l.i l.before c.read-byte-then-i-haystack.result l.seen c.requires.low c.requires.high l.invariant.begun (omega arith) l.invariant.previous read l.invariant.bits l.invariant.none c.if-seen-table-eq0.true in
@@ -78,7 +78,7 @@ overflow_sub-result-then-seen-table-eq0 g c =
 
 pub returns-then-seen-table-eq0 : goal.returns-then-seen-table-eq0
 returns-then-seen-table-eq0 g c =
-    let l = c.loop-i in let h = c.args.haystack.now in let as_read = g.R.Reading.as_read in
+    let l = c.loop-i in let h = c.args.haystack.now in let as_read = g.R.ByteReading.as_read in
     let size : length (map as_read h) ≡ length h = length-map h as_read in
     let read = read_at as_read h l.i c.read-byte-then-i-haystack.result c.if-i-haystack.true c.read-byte-then-i-haystack.ensures in
     let hit = step_hit c.args.table.now (map as_read h) c.args.window_len c.args.pos l.i l.before c.read-byte-then-i-haystack.result l.seen c.requires.low c.requires.high l.invariant.begun (omega arith) l.invariant.previous read l.invariant.bits l.invariant.none c.if-seen-table-eq0.true in
@@ -86,7 +86,7 @@ returns-then-seen-table-eq0 g c =
 
 pub returns-else-seen-table-eq0 : goal.returns-else-seen-table-eq0
 returns-else-seen-table-eq0 g c =
-    let l = c.loop-i in let h = c.args.haystack.now in let as_read = g.R.Reading.as_read in
+    let l = c.loop-i in let h = c.args.haystack.now in let as_read = g.R.ByteReading.as_read in
     let size : length (map as_read h) ≡ length h = length-map h as_read in
     let read = read_at as_read h l.i c.read-byte-then-i-haystack.result c.if-i-haystack.true c.read-byte-then-i-haystack.ensures in
     let more = step_miss c.args.table.now (map as_read h) c.args.window_len c.args.pos l.i l.before c.read-byte-then-i-haystack.result l.seen c.requires.low c.requires.high l.invariant.begun (omega arith) l.invariant.previous read l.invariant.bits l.invariant.none c.if-seen-table-eq0.false in
@@ -95,7 +95,7 @@ returns-else-seen-table-eq0 g c =
 
 pub returns-else-i-haystack : goal.returns-else-i-haystack
 returns-else-i-haystack g c =
-    let l = c.loop-i in let h = c.args.haystack.now in let as_read = g.R.Reading.as_read in
+    let l = c.loop-i in let h = c.args.haystack.now in let as_read = g.R.ByteReading.as_read in
     let size : length (map as_read h) ≡ length h = length-map h as_read in
     let end : l.i ≡ length h = omega arith in
     sym size ∙ found_none c.args.table.now (map as_read h) c.args.window_len c.args.pos c.requires.low (omega arith) (rw (end ∙ sym size) at l.invariant.none)

@@ -4,7 +4,7 @@ use Rattle.daachorse_prefilter.proofs.Scanned.{AreBits, NonePasses}
 use Rattle.daachorse_prefilter.proofs.prefilter.scan.Given as goal
 
 abbrev pub invariant-loop-i : goal.invariant-loop-i
-invariant-loop-i g l = let text = map g.R.Reading.as_read l.haystack in record {
+invariant-loop-i g l = let text = map g.R.ByteReading.as_read l.haystack in record {
   begun : l.pos + 1 ≤ l.i;
   inside : l.i ≤ length l.haystack;
   high : l.before ≤ 65280;

@@ -6,7 +6,7 @@ use Rattle.daachorse_prefilter.proofs.prefilter.Prefilter.first_boundary.Given a
 abbrev pub invariant-places : goal.invariant-places
 invariant-places g l = record {
   low : l.pos ≤ l.from;
-  none : NoBoundaryPasses l.self (map g.R.Reading.as_read l.haystack) l.pos l.from;
+  none : NoBoundaryPasses l.self (map g.R.ByteReading.as_read l.haystack) l.pos l.from;
 }
 
 abbrev pub decreases-places : goal.decreases-places

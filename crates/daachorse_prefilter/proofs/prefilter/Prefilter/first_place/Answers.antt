@@ -6,7 +6,7 @@ use Rattle.daachorse_prefilter.proofs.prefilter.Prefilter.first_place.Goals as g
 
 pub returns : goal.returns
 returns g c =
-    let text = map g.R.Reading.as_read c.args.haystack.now in
+    let text = map g.R.ByteReading.as_read c.args.haystack.now in
     c.scan.ensures
     ∙ ap (λ xs. next_position (λ pair. get_or xs pair 0) c.self.inside.window_len text c.args.pos) c.as_slice.ensures.value
     ∙ ap (λ f. next_place f text c.args.pos) c.self.view_is

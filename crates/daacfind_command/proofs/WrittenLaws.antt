@@ -2,14 +2,14 @@
 use Rattle.std.proofs.Common.{◌≡◌, ◌⊎◌, ◌^◌, ◌<◌, ℕ, false, List, ◌++◌, ap, subst, ◌∙◌, [], Option, append-nil, sym}
 use Rattle.std.specs.Int.{w32}
 use Rattle.std.specs.Io.KnownBytes.{Appends}
-use Rattle.daachorse_core.specs.declared.errors.DaachorseError.{DaachorseError}
-use Rattle.daachorse_core.specs.Refusals.{IsOutOfMemory}
-use Rattle.daachorse_replacing.specs.Replaced.{AppendsBeginning}
+use Rattle.daachorse_bytewise.specs.DaachorseError.{DaachorseError}
+use Rattle.daachorse_bytewise.specs.Refusals.{IsOutOfMemory}
+use Rattle.daachorse_bytewise.specs.Replaced.{AppendsBeginning}
 use Rattle.daachorse_model.specs.declared.MatchKind.{MatchKind}
 use Rattle.daachorse_model.specs.Folding.{as_read}
 use Rattle.daachorse_model.specs.Program.{match_text, pattern_lines}
-use Rattle.daachorse_serializer.specs.Forms.{number_form, take_number}
-use Rattle.daachorse_serializer.specs.Laws.{number_law}
+use Rattle.daachorse_bytewise.specs.Forms.{number_form, take_number}
+use Rattle.daachorse_bytewise.specs.Laws.{number_law}
 use Rattle.daachorse_bytewise.specs.Automata.{Automaton as Searches, dictionary_of, kind_of}
 use Rattle.daachorse_bytewise.specs.Building.{IsBuiltOf}
 use Rattle.daachorse_bytewise.specs.ReadForms.{GivesAutomaton, GivesNoAutomaton}

@@ -2,7 +2,7 @@
 use Rattle.std.specs.Prelude.{⊤, ℕ, ◌<◌, ◌^◌, Result}
 use Rattle.std.specs.Result.{OkIff}
 use Rattle.std.specs.declared.num.TryFromIntError.{TryFromIntError}
-use Rattle.daachorse_core.specs.declared.errors.DaachorseError.{DaachorseError}
+use Rattle.daachorse_bytewise.specs.DaachorseError.{DaachorseError}
 use Rattle.daacfind_command.specs.declared.run.RunError.{RunError}
 use Rattle.daacfind_command.specs.declared.run.RunError.TheVariants.{Build, Write}
 

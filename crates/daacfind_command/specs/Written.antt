@@ -1,10 +1,10 @@
 -- What is written of an automaton for later runs, and what a run finds by one that was written.
 use Rattle.std.specs.Prelude.{◌≡◌, ◌≢◌, ◌<◌, ◌^◌, ⊤, ℕ, List, false}
 use Rattle.std.specs.Int.{w32}
-use Rattle.daachorse_core.specs.declared.errors.DaachorseError.{DaachorseError}
+use Rattle.daachorse_bytewise.specs.DaachorseError.{DaachorseError}
 use Rattle.daachorse_model.specs.Folding.{as_read}
 use Rattle.daachorse_model.specs.Program.{match_text, pattern_lines}
-use Rattle.daachorse_serializer.specs.Forms.{number_form, take_number}
+use Rattle.daachorse_bytewise.specs.Forms.{number_form, take_number}
 use Rattle.daachorse_bytewise.specs.Automata.{Automaton as Searches, dictionary_of, kind_of}
 use Rattle.daachorse_bytewise.specs.Building.{IsBuiltOf}
 use Rattle.daachorse_bytewise.specs.ReadForms.{GivesAutomaton}

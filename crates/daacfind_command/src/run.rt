@@ -12,7 +12,7 @@ ghost use Rattle.daachorse_model.specs.Folding.{as_read};
 ghost use Rattle.daachorse_model.specs.Program.{pattern_lines, match_line, match_text};
 ghost use Rattle.daachorse_bytewise.specs.Automata.{dictionary_of, kind_of};
 ghost use Rattle.daachorse_bytewise.specs.Building.{IsBuiltOf, IsBuildRefusal};
-ghost use Rattle.daachorse_replacing.specs.Replaced.{AppendsBeginning};
+ghost use Rattle.daachorse_bytewise.specs.Replaced.{AppendsBeginning};
 ghost use Rattle.daacfind_command.specs.declared.run.RunError.TheVariants.{Build, Write};
 ghost use Rattle.daacfind_command.specs.Modes.{found_by, kind_of_mode, text_of_mode};
 ghost use Rattle.daacfind_command.specs.Runs.{IfBuild, OnWrite, value_gives};

@@ -7,12 +7,12 @@
 ghost use Rattle.std.specs.Prelude.{◌≡◌, ◌≢◌, ◌⊎◌, ◌+◌, ℕ, List, IfErr, OnOk};
 ghost use Rattle.std.specs.Int.{w32};
 ghost use Rattle.std.specs.Io.KnownBytes.{Appends, Keeps};
-ghost use Rattle.daachorse_core.specs.Refusals.{IsOutOfMemory};
+ghost use Rattle.daachorse_bytewise.specs.Refusals.{IsOutOfMemory};
 ghost use Rattle.daachorse_model.specs.Program.{pattern_lines};
-ghost use Rattle.daachorse_serializer.specs.Forms.{take_number};
+ghost use Rattle.daachorse_bytewise.specs.Forms.{take_number};
 ghost use Rattle.daachorse_bytewise.specs.Building.{IsBuildRefusal};
 ghost use Rattle.daachorse_bytewise.specs.ReadForms.{GivesNoAutomaton};
-ghost use Rattle.daachorse_replacing.specs.Replaced.{AppendsBeginning};
+ghost use Rattle.daachorse_bytewise.specs.Replaced.{AppendsBeginning};
 ghost use Rattle.daacfind_command.specs.Modes.{kind_of_mode};
 ghost use Rattle.daacfind_command.specs.Runs.{IfBuild, OnWrite, value_gives};
 ghost use Rattle.daacfind_command.specs.Written.{IfAutomaton, IsFormOf, IsOfAnotherKind, IsTextBy, OnFailure, OnKind, OnRefusal};

@@ -32,7 +32,7 @@
 //!   states; [`Serializable`] is what a value type needs for an automaton to be written.
 //! - [`laws`] has what the lists of matches promise, for callers who prove something.
 //! - The rest, such as [`nfa_builder`], [`build_helper`] and [`prefilter`], is what a build is made
-//!   of; [`turns`] is what contracts count by. A user needs none of it.
+//!   of; [`turns`] and [`counter`] are what contracts count by. A user needs none of it.
 //!
 //! # Cost
 //!
@@ -51,7 +51,7 @@ pub use daachorse_charwise::charwise::{
 };
 pub use daachorse_core::errors::Result;
 pub use daachorse_core::{
-    DEAD_STATE_IDX, Empty, Match, MatchKind, Output, ROOT_STATE_IDX, errors, turns, utils,
+    DEAD_STATE_IDX, Empty, Match, MatchKind, Output, ROOT_STATE_IDX, counter, errors, turns, utils,
 };
 pub use daachorse_model::laws;
 pub use daachorse_placement::build_helper;

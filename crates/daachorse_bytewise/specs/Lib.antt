@@ -5,6 +5,7 @@ pub mod ReadForms
 pub mod Standings
 pub mod Accelerated
 pub use Rattle.daachorse_core.specs.Refusals
+pub use Rattle.daachorse_core.specs.declared.errors.DaachorseError
 pub use Rattle.daachorse_listing.specs.Listing
 pub use Rattle.daachorse_patterns.specs.Folding
 pub use Rattle.daachorse_patterns.specs.Patterns
@@ -17,3 +18,5 @@ pub use Rattle.daachorse_search.specs.LeftmostSearches
 pub use Rattle.daachorse_search.specs.Matches
 pub use Rattle.daachorse_search.specs.Searches
 pub use Rattle.daachorse_search.specs.Stepwise
+pub use Rattle.daachorse_serializer.specs.Forms
+pub use Rattle.daachorse_serializer.specs.Laws

@@ -3,7 +3,7 @@ use Rattle.std.proofs.Common.{ℕ, List, map, ◌∙◌, ap, sym, subst, inl, in
 use Rattle.std.proofs.lemmas.Result.{IfOk-weaker, IfErr-weaker}
 use Rattle.std.specs.Borrow.{Bor}
 use Rattle.daachorse_bytewise.specs.Building.{IsBuiltOf, IsBuildRefusal}
-use Rattle.daachorse_core.specs.declared.errors.DaachorseError.{DaachorseError}
+use Rattle.daachorse_bytewise.specs.DaachorseError.{DaachorseError}
 use Rattle.daachorse_model.specs.Program.{pattern_lines}
 use Rattle.daacfind_command.specs.Runs.{value_gives}
 use Rattle.daacfind_command.proofs.run.build.Goals as goal

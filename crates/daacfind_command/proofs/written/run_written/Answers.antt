@@ -4,17 +4,17 @@ use Rattle.std.specs.Prelude.{Result}
 use Rattle.std.specs.Result.{IsErrAnd}
 use Rattle.std.specs.Int.{w32}
 use Rattle.std.proofs.KnownBytes.{Appends-kept}
-use Rattle.daachorse_core.proofs.Refusals.{at_error}
+use Rattle.daachorse_bytewise.proofs.Refusals.{at_error}
 use mathlib.Core.Bool.{not}
 use denote.Enum.Bare.{sameb}
 use Rattle.daachorse_model.specs.contracts.MatchKind.{the_type}
 use Rattle.daachorse_model.specs.declared.MatchKind.{MatchKind}
 use Rattle.daachorse_model.specs.Folding.{as_read}
 use Rattle.daachorse_model.specs.Program.{match_text}
-use Rattle.daachorse_serializer.specs.Forms.{take_number}
+use Rattle.daachorse_bytewise.specs.Forms.{take_number}
 use Rattle.daachorse_bytewise.specs.Automata.{Automaton as Searches, dictionary_of, kind_of}
 use Rattle.daachorse_bytewise.specs.ReadForms.{GivesAutomaton}
-use Rattle.daachorse_replacing.specs.Replaced.{AppendsBeginning}
+use Rattle.daachorse_bytewise.specs.Replaced.{AppendsBeginning}
 use Rattle.daacfind_command.specs.declared.mode.Mode.{Mode}
 use Rattle.daacfind_command.specs.declared.written.WrittenError.{WrittenError}
 use Rattle.daacfind_command.specs.declared.written.WrittenError.TheVariants.{Write}

@@ -1,20 +1,20 @@
 -- Valid parts are a right machine, so that looks, chains and outputs are those of the dictionary that they hold.
-use Rattle.std.proofs.Common.{◌≡◌, ◌≢◌, Bool, true, false, cond, ℕ, ◌<◌, ◌≤◌, ◌/◌, ◌%◌, List, [], length, Option, Some, None, refl, sym, ap, ◌∙◌, subst, arith}
+use Rattle.std.proofs.Common.{◌≡◌, ◌≢◌, Bool, true, false, cond, ℕ, ◌<◌, ◌/◌, ◌%◌, List, [], Option, Some, None, refl, sym, ap, ◌∙◌, subst, arith}
 use Rattle.std.specs.Prelude.{slice_index_or, unwrap_or}
 use Rattle.std.specs.declared.num.NonZeroU32.{NonZeroU32}
-use Rattle.daachorse_core.specs.Outputs.{number, outputs_at}
+use Rattle.daachorse_core.specs.Outputs.{number}
 use Rattle.daachorse_core.specs.declared.turns.Look.{Look}
 use Rattle.daachorse_core.specs.declared.turns.Look.TheVariants.{Next, Fail}
 use Rattle.daachorse_model.specs.declared.MatchKind.TheVariants.{Standard}
 use Rattle.daachorse_model.specs.Kinds.{is_leftmost}
 use Rattle.daachorse_model.specs.Units.{byte_width}
-use Rattle.daachorse_core.specs.Looks.{IsFirstOutput, LookGives}
 use Rattle.daachorse_machine.specs.Machines.{IsMachine}
 use Rattle.daachorse_machine.proofs.ChildLaws.{child_at-inside}
 use Rattle.daachorse_machine.proofs.MachineLaws.{Reached-inside, Reached-root, first-output, text-root, root-text, turn-next, turn-root, turn-dead, turn-link, standard-alive}
+use Rattle.daachorse_search.specs.Views.{HasFirst, SeesLook}
 use Rattle.daachorse_bytewise_states.specs.Elements.{output_in, vacant, vacant_left}
-use Rattle.daachorse_bytewise_states.specs.Parts.{Parts, base_of, check_of, child, content, count, fail_of, machine, output_of, word_at}
-use Rattle.daachorse_bytewise_states.specs.Valid.{IsRootTable, IsState, IsValid, dead, text}
+use Rattle.daachorse_bytewise_states.specs.Parts.{Parts, base_of, check_of, child, count, fail_of, machine, output_of, word_at}
+use Rattle.daachorse_bytewise_states.specs.Valid.{IsRootTable, IsState, IsValid, sees, text}
 use Rattle.daachorse_bytewise_states.proofs.DeadLaws.{alive}
 
 below_256 : (b : Bool) (m n : ℕ) → cond b (m % 256) (n % 256) < 256
@@ -24,7 +24,7 @@ below_256 false m n = omega arith
 module _ {V : Type 0} (p : Parts V) where
   -- what a look at an element gives for a byte
   abbrev pub Gives : ℕ → ℕ → Look → Type 0
-  Gives i c look = LookGives (content p) (IsState p) (text p) (dead p) (text p i) c look
+  Gives i c look = SeesLook (sees p) i c look
 
   pub gives_label : (i c : ℕ) (look : Look) → Gives i c look → (unit : ℕ) → c ≡ unit → Gives i unit look
   gives_label i c look gives unit same = let P : ℕ → Type 0 = λ u. Gives i u look in subst P same gives
@@ -99,6 +99,5 @@ module _ {V : Type 0} (p : Parts V) where
     -- ---- outputs
 
     -- the first output of an element, as it was read off it
-    pub first_at : (i : ℕ) (o : Option NonZeroU32) → IsState p i → output_of p i ≡ number o
-        → IsFirstOutput byte_width (content p) (dead p) (λ position. position ≤ length p.outputs) (outputs_at p.outputs) (length p.outputs) (text p i) o
+    pub first_at : (i : ℕ) (o : Option NonZeroU32) → IsState p i → output_of p i ≡ number o → HasFirst byte_width (sees p) i o
     first_at i o r at = first-output byte_width (machine p) (is_leftmost p.kind) (count p) 256 is_machine i o r at

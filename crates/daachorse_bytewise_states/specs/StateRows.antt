@@ -1,23 +1,20 @@
 -- Right rows of the states over bytes, and the states near the root, which all have one.
-use Rattle.std.specs.Prelude.{◌≡◌, ◌<◌, ◌≤◌, ◌⊎◌, ℕ, length}
-use Rattle.daachorse_core.specs.Looks.{IsFirstOutput}
-use Rattle.daachorse_core.specs.Outputs.{outputs_at}
+use Rattle.std.specs.Prelude.{◌≡◌, ◌<◌, ◌⊎◌, ℕ}
 use Rattle.daachorse_model.specs.Units.{byte_width}
 use Rattle.daachorse_rows.specs.Rows.{AreClosed, AreRows, AreTooMany, ClosesOrFills, Covers, RowTable, stands_by}
-use Rattle.daachorse_bytewise_states.specs.Parts.{Parts, content, count}
-use Rattle.daachorse_bytewise_states.specs.Valid.{IsState, dead, text}
+use Rattle.daachorse_bytewise_states.specs.Parts.{Parts, count}
+use Rattle.daachorse_bytewise_states.specs.Valid.{sees}
 
 -- each byte stands for itself
 abbrev pub stands_for : ℕ → ℕ → Type 0
 stands_for = stands_by (λ (byte : ℕ). byte) (λ label unit. label ≡ unit)
 
 abbrev pub HasRows : {V : Type 0} → Parts V → RowTable → Type 0
-HasRows p r =
-    AreRows (content p) (IsState p) (text p) (dead p) stands_for (IsFirstOutput byte_width (content p) (dead p) (λ position. position ≤ length p.outputs) (outputs_at p.outputs) (length p.outputs)) r
+HasRows p r = AreRows byte_width (sees p) stands_for r
 
 -- each text of at most two bytes that begins a pattern is that of a state with a row
 abbrev pub CoversNear : {V : Type 0} → Parts V → RowTable → Type 0
-CoversNear p r = Covers (content p) (text p) stands_for 2 r
+CoversNear p r = Covers (sees p) stands_for 2 r
 
 -- the root and each slot lead to a row, so that a standard search takes one look for each byte
 abbrev pub StaysInRows : RowTable → Type 0
@@ -25,8 +22,8 @@ StaysInRows r = AreClosed 256 stands_for r
 
 -- they do, or more than 254 states have a text
 abbrev pub StaysUnlessLarge : {V : Type 0} → Parts V → RowTable → Type 0
-StaysUnlessLarge p r = ClosesOrFills 256 (IsState p) (text p) stands_for 254 r
+StaysUnlessLarge p r = ClosesOrFills 256 (sees p) stands_for 254 r
 
 -- more than 254 states have a text of at most two bytes, or the elements are more than an entry of a row can tell
 abbrev pub HasNoRoom : {V : Type 0} → Parts V → Type 0
-HasNoRoom p = AreTooMany (IsState p) (text p) stands_for 2 254 ⊎ (2147418112 < count p)
+HasNoRoom p = AreTooMany (sees p) stands_for 2 254 ⊎ (2147418112 < count p)

@@ -1,5 +1,5 @@
 -- Which parts are those of an automaton, and what a search sees of them.
-use Rattle.std.specs.Prelude.{◌≡◌, ℕ, ◌<◌, ◌≤◌, List, [], length, slice_index_or, unwrap_or, Option}
+use Rattle.std.specs.Prelude.{◌≡◌, ℕ, ◌<◌, ◌≤◌, List, length, slice_index_or, true, unwrap_or, Option}
 use Rattle.std.proofs.Common.{arith, refl}
 use Rattle.daachorse_core.specs.Outputs.{outputs_at}
 use Rattle.daachorse_model.specs.declared.MatchKind.TheVariants.{Standard}
@@ -8,8 +8,9 @@ use Rattle.daachorse_model.specs.Units.{byte_width}
 use Rattle.daachorse_machine.specs.Machines.{dead_in}
 use Rattle.daachorse_machine.specs.Texts.{IsReached, text_of}
 use Rattle.daachorse_checker.specs.Sound.{IsSoundArray}
+use Rattle.daachorse_search.specs.Views.{AutomatonView, HasNone}
 use Rattle.daachorse_bytewise_states.specs.Grouped.{IsGrouped}
-use Rattle.daachorse_bytewise_states.specs.Parts.{Parts, child, count, machine, word_at}
+use Rattle.daachorse_bytewise_states.specs.Parts.{Parts, child, content, count, machine, word_at}
 
 -- elements that may be looked at, and are a sound array
 pub record IsValid {V : Type 0} (p : Parts V) : Type 0 where
@@ -40,6 +41,20 @@ module _ {V : Type 0} (p : Parts V) where
   abbrev pub dead : List ℕ → Type 0
   dead = dead_in byte_width (machine p) (is_leftmost p.kind)
 
+  -- what a search sees of it all, in which some look may tell a link
+  abbrev pub sees : AutomatonView V
+  sees = record {
+    content = content p;
+    reached = IsState;
+    text = text;
+    dead = dead;
+    has_label = λ unit. true;
+    has_output = λ position. position ≤ length p.outputs;
+    outputs = λ position. outputs_at p.outputs position;
+    most_outputs = length p.outputs;
+    ends_at_once = ⊥;
+  }
+
 -- position 0 stands for no output
-pub no_output : {V : Type 0} (p : Parts V) → (0 ≤ length p.outputs) × (outputs_at p.outputs 0 ≡ [])
+pub no_output : {V : Type 0} (p : Parts V) → HasNone (sees p)
 no_output p = (omega arith, refl)

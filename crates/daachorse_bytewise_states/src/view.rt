@@ -152,32 +152,16 @@ impl<'a, V: Copy, S: Reads> View<'a, V, S> {
 }
 
 impl<'a, V: Copy, S: Reads> Automaton<V> for View<'a, V, S> {
-    ghost use Rattle.std.specs.Prelude.{◌≡◌, ◌≤◌, length, Bool, true};
-    ghost use Rattle.daachorse_core.specs.Outputs.{outputs_at};
-    ghost use Rattle.daachorse_bytewise_states.specs.Parts.{content};
-    ghost use Rattle.daachorse_bytewise_states.specs.Valid.{IsState, dead, no_output, text};
+    ghost use Rattle.std.specs.Prelude.{◌≡◌};
+    ghost use Rattle.daachorse_bytewise_states.specs.Valid.{no_output, sees};
 
     type Unit = u8;
 
     type Label = u8;
 
-    ghost content = { content };
-
-    ghost reached = { IsState };
-
-    ghost text = { text };
-
-    ghost dead = { dead };
-
-    ghost has_label = { λ p unit. true };
+    ghost sees = { sees };
 
     ghost labels = { λ p label unit. label ≡ unit };
-
-    ghost has_output = { λ p position. position ≤ length p.outputs };
-
-    ghost outputs = { λ p position. outputs_at p.outputs position };
-
-    ghost most_outputs = { λ p. length p.outputs };
 
     #[inline(always)]
     fn root(&self) -> u32 {

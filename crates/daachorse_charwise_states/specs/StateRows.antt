@@ -1,12 +1,10 @@
 -- Right rows of the states over characters, the codes that stand in them, and the states near the root, which all have a row.
-use Rattle.std.specs.Prelude.{◌≡◌, ◌<◌, ◌≤◌, ◌^◌, ◌⊎◌, ℕ, true, length, Some, is_some}
-use Rattle.daachorse_core.specs.Looks.{IsFirstOutput}
-use Rattle.daachorse_core.specs.Outputs.{outputs_at}
+use Rattle.std.specs.Prelude.{◌≡◌, ◌<◌, ◌^◌, ◌⊎◌, ℕ, true, Some, is_some}
 use Rattle.daachorse_model.specs.Units.{char_width}
 use Rattle.daachorse_rows.specs.Rows.{AreClosed, AreRows, AreTooMany, ClosesOrFills, Covers, RowTable, stands_by}
 use Rattle.daachorse_charwise_states.specs.Edges.{Lettered, character_of}
-use Rattle.daachorse_charwise_states.specs.Parts.{Parts, char_code, content, count}
-use Rattle.daachorse_charwise_states.specs.Valid.{IsState, dead, text}
+use Rattle.daachorse_charwise_states.specs.Parts.{Parts, char_code, count}
+use Rattle.daachorse_charwise_states.specs.Valid.{sees}
 
 -- some character has the code
 abbrev pub IsUsed : {V : Type 0} → Lettered V → ℕ → Type 0
@@ -17,12 +15,11 @@ abbrev pub stands_for : {V : Type 0} → Parts V → ℕ → ℕ → Type 0
 stands_for p code unit = char_code p.coding unit ≡ Some code
 
 abbrev pub HasRows : {V : Type 0} → Parts V → RowTable → Type 0
-HasRows p r =
-    AreRows (content p) (IsState p) (text p) (dead p) (stands_by (λ (code : ℕ). code) (stands_for p)) (IsFirstOutput char_width (content p) (dead p) (λ position. position ≤ length p.outputs) (outputs_at p.outputs) (length p.outputs)) r
+HasRows p r = AreRows char_width (sees p) (stands_by (λ (code : ℕ). code) (stands_for p)) r
 
 -- each text of at most two characters with codes below 510 that begins a pattern is that of a state with a row
 abbrev pub CoversNear : {V : Type 0} → Parts V → RowTable → Type 0
-CoversNear p r = Covers (content p) (text p) (stands_by (λ (code : ℕ). code) (stands_for p)) 2 r
+CoversNear p r = Covers (sees p) (stands_by (λ (code : ℕ). code) (stands_for p)) 2 r
 
 -- each code is below 510
 abbrev pub HasFewCodes : {V : Type 0} → Parts V → Type 0
@@ -34,8 +31,8 @@ StaysInRows p r = AreClosed (2 ^ 32) (stands_by (λ (code : ℕ). code) (stands_
 
 -- so it is, or more than 128 states have a text
 abbrev pub StaysUnlessLarge : {V : Type 0} → Parts V → RowTable → Type 0
-StaysUnlessLarge p r = ClosesOrFills (2 ^ 32) (IsState p) (text p) (stands_by (λ (code : ℕ). code) (stands_for p)) 128 r
+StaysUnlessLarge p r = ClosesOrFills (2 ^ 32) (sees p) (stands_by (λ (code : ℕ). code) (stands_for p)) 128 r
 
 -- more than 128 states have a text of at most two such characters, or the elements are more than an entry of a row can tell
 abbrev pub HasNoRoom : {V : Type 0} → Parts V → Type 0
-HasNoRoom p = AreTooMany (IsState p) (text p) (stands_by (λ (code : ℕ). code) (stands_for p)) 2 128 ⊎ (2147418112 < count p)
+HasNoRoom p = AreTooMany (sees p) (stands_by (λ (code : ℕ). code) (stands_for p)) 2 128 ⊎ (2147418112 < count p)

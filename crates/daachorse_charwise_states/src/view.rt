@@ -78,32 +78,17 @@ impl<'a, V: Copy, S: Searches> View<'a, V, S> {
 }
 
 impl<'a, V: Copy, S: Searches> Automaton<V> for View<'a, V, S> {
-    ghost use Rattle.std.specs.Prelude.{◌≡◌, ◌≤◌, length, Some};
-    ghost use Rattle.daachorse_core.specs.Outputs.{outputs_at};
-    ghost use Rattle.daachorse_charwise_states.specs.Parts.{char_code, content};
-    ghost use Rattle.daachorse_charwise_states.specs.Valid.{IsState, dead, has_code, no_output, text};
+    ghost use Rattle.std.specs.Prelude.{◌≡◌, Some};
+    ghost use Rattle.daachorse_charwise_states.specs.Parts.{char_code};
+    ghost use Rattle.daachorse_charwise_states.specs.Valid.{no_output, sees};
 
     type Unit = char;
 
     type Label = u32;
 
-    ghost content = { content };
-
-    ghost reached = { IsState };
-
-    ghost text = { text };
-
-    ghost dead = { dead };
-
-    ghost has_label = { has_code };
+    ghost sees = { sees };
 
     ghost labels = { λ p code unit. char_code p.coding unit ≡ Some code };
-
-    ghost has_output = { λ p position. position ≤ length p.outputs };
-
-    ghost outputs = { λ p position. outputs_at p.outputs position };
-
-    ghost most_outputs = { λ p. length p.outputs };
 
     #[inline(always)]
     fn root(&self) -> u32 {

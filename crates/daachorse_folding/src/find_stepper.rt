@@ -8,10 +8,10 @@ ghost use Rattle.daachorse_model.specs.Folding.{as_read};
 ghost use Rattle.daachorse_model.specs.Matches.{standard_after, IsSinceMatch};
 ghost use Rattle.daachorse_model.specs.Prefixes.{IsLong};
 ghost use Rattle.daachorse_model.specs.Units.{size};
-ghost use Rattle.daachorse_core.specs.Depths.{AreDepths};
 ghost use Rattle.daachorse_core.specs.Seen.{units};
 ghost use Rattle.daachorse_search.specs.Standings.{IsFindStanding};
 ghost use Rattle.daachorse_search.specs.Stepwise.{AreBoundedSince};
+ghost use Rattle.daachorse_search.specs.Views.{HasDepths, IsStandard};
 
 use daachorse_core::Match;
 use daachorse_core::ascii_fold::AsciiFold;
@@ -47,8 +47,8 @@ where
     /// A stepper that has consumed nothing. The depths are those of the automaton's states, or none.
     #[inline(always)]
     pub fn new(automaton: A, depths: &'a [u32], folds: bool) -> Self
-        requires alive { (w : List ℕ) → ¬ A.dead automaton w }
-        requires depths { AreDepths (A.reached automaton) (A.text automaton) depths.now }
+        requires alive { IsStandard (A.sees automaton) }
+        requires depths { HasDepths (A.sees automaton) depths.now }
         ensures automaton { result.automaton ≡ automaton }
         ensures depths { result.depths ≡ depths.entry.now }
         ensures folds { result.folds ≡ folds }
@@ -83,7 +83,7 @@ where
     /// The match of the standard search that ends with the units consumed, if there is one.
     #[inline(always)]
     pub fn matches(&self) -> Option<Match<V>>
-        ensures { result ≡ standard_after A.Unit.width (A.content self.now.automaton) self.now.read }
+        ensures { result ≡ standard_after A.Unit.width (A.sees self.now.automaton).content self.now.read }
     {
         self.stepper.matches()
     }
@@ -95,8 +95,8 @@ where
     #[inline(always)]
     pub fn depth(&self) -> Option<u32>
         ensures none { self.now.depths ≡ [] → result ≡ None }
-        ensures depth { self.now.depths ≢ [] → (since s : List ℕ) → IsSinceMatch A.Unit.width (A.content self.now.automaton) self.now.read since
-            → IsLong (A.content self.now.automaton) since s → result ≡ Some (length s) }
+        ensures depth { self.now.depths ≢ [] → (since s : List ℕ) → IsSinceMatch A.Unit.width (A.sees self.now.automaton).content self.now.read since
+            → IsLong (A.sees self.now.automaton).content since s → result ≡ Some (length s) }
     {
         self.stepper.depth()
     }
@@ -106,7 +106,7 @@ where
     /// It takes no memory.
     #[inline(always)]
     pub fn into_standing(self) -> FindStanding
-        ensures stands { IsFindStanding A.Unit.width A.content A.reached A.text A.dead A.has_label A.ends_at_once A.has_output A.outputs self.entry.automaton result }
+        ensures stands { IsFindStanding A.Unit.width A.sees self.entry.automaton result }
         ensures read { units result.walk.seen ≡ self.entry.read }
         ensures turns { result.walk.turns ≡ self.entry.turns }
     {
@@ -121,8 +121,8 @@ where
     /// automaton's states, or none. What was consumed before stays as it was read.
     #[inline(always)]
     pub fn resume(automaton: A, depths: &'a [u32], standing: FindStanding, folds: bool) -> Self
-        requires stands { IsFindStanding A.Unit.width A.content A.reached A.text A.dead A.has_label A.ends_at_once A.has_output A.outputs automaton standing }
-        requires depths { AreDepths (A.reached automaton) (A.text automaton) depths.now }
+        requires stands { IsFindStanding A.Unit.width A.sees automaton standing }
+        requires depths { HasDepths (A.sees automaton) depths.now }
         ensures automaton { result.automaton ≡ automaton }
         ensures depths { result.depths ≡ depths.entry.now }
         ensures folds { result.folds ≡ folds }
@@ -138,7 +138,7 @@ where
     /// Does nothing, and promises the bounds of the turns.
     #[inline(always)]
     pub fn turns_are_bounded(&self)
-        ensures { AreBoundedSince (A.content self.now.automaton) (A.has_label self.now.automaton) (A.ends_at_once self.now.automaton) A.Unit.width self.now.read self.now.turns }
+        ensures { AreBoundedSince A.Unit.width (A.sees self.now.automaton) self.now.read self.now.turns }
     {
         self.stepper.turns_are_bounded();
     }

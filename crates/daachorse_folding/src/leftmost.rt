@@ -4,11 +4,11 @@
 //! haystack as it is read.
 
 ghost use Rattle.std.specs.Prelude.{◌≡◌, ◌^◌, ◌<◌, []};
-ghost use Rattle.daachorse_model.specs.Best.{IsLeftmost};
 ghost use Rattle.daachorse_model.specs.Folding.{as_read};
 ghost use Rattle.daachorse_model.specs.Leftmost.{leftmost};
 ghost use Rattle.daachorse_model.specs.Units.{size};
 ghost use Rattle.daachorse_search.specs.Filters.{IsSoundFor};
+ghost use Rattle.daachorse_search.specs.Views.{IsLeftmostView};
 
 use crate::filter::{FilterAsRead, FoldingFilter};
 use crate::reading::AsRead;
@@ -34,13 +34,13 @@ pub fn leftmost_as_read<
 >(automaton: A, haystack: H, filter: F, folds: bool) -> LeftmostMatchesAsRead<V, A, H, F>
 where
     A::Unit: AsciiFold,
-    requires kind { IsLeftmost (A.content automaton) (A.dead automaton) }
+    requires kind { IsLeftmostView (A.sees automaton) }
     requires fits { size A.Unit.width (H.rest haystack) < 2 ^ 64 }
-    requires sound { IsSoundFor (F.passes filter) (A.content automaton) }
+    requires sound { IsSoundFor (F.passes filter) (A.sees automaton).content }
     ensures automaton { result.automaton ≡ automaton }
     ensures filter { result.filter ≡ filter }
     ensures haystack { result.haystack ≡ as_read folds (H.rest haystack) }
-    ensures left { result.left ≡ leftmost A.Unit.width (A.content automaton) (as_read folds (H.rest haystack)) }
+    ensures left { result.left ≡ leftmost A.Unit.width (A.sees automaton).content (as_read folds (H.rest haystack)) }
     ensures passed { result.passed ≡ [] }
     ensures turns { result.turns ≡ 0 }
     ensures given { result.given ≡ 0 }

@@ -4,11 +4,12 @@
 //! The layers above may rely on all that the engine's search promises of its haystack, said of the
 //! haystack as it is read.
 
-ghost use Rattle.std.specs.Prelude.{◌≡◌, ◌^◌, ◌<◌, ℕ, List, []};
+ghost use Rattle.std.specs.Prelude.{◌≡◌, ◌^◌, ◌<◌, []};
 ghost use Rattle.daachorse_model.specs.Folding.{as_read};
 ghost use Rattle.daachorse_model.specs.Matches.{at_each_end, standard, overlapping, no_suffix};
 ghost use Rattle.daachorse_model.specs.Units.{size};
 ghost use Rattle.daachorse_search.specs.Filters.{IsSoundFor};
+ghost use Rattle.daachorse_search.specs.Views.{IsStandard};
 
 use crate::filter::{FilterAsRead, FoldingFilter};
 use crate::reading::AsRead;
@@ -61,13 +62,13 @@ pub fn find_as_read<
 >(automaton: A, haystack: H, filter: F, folds: bool) -> MatchesAsRead<V, FindWalk<V, A>, H, F>
 where
     A::Unit: AsciiFold,
-    requires alive { (w : List ℕ) → ¬ A.dead automaton w }
+    requires alive { IsStandard (A.sees automaton) }
     requires fits { size A.Unit.width (H.rest haystack) < 2 ^ 64 }
-    requires sound { IsSoundFor (F.passes filter) (A.content automaton) }
+    requires sound { IsSoundFor (F.passes filter) (A.sees automaton).content }
     ensures automaton { result.automaton ≡ automaton }
     ensures filter { result.filter ≡ filter }
     ensures haystack { result.haystack ≡ as_read folds (H.rest haystack) }
-    ensures left { result.left ≡ standard A.Unit.width (A.content automaton) (as_read folds (H.rest haystack)) }
+    ensures left { result.left ≡ standard A.Unit.width (A.sees automaton).content (as_read folds (H.rest haystack)) }
     ensures passed { result.passed ≡ [] }
     ensures turns { result.turns ≡ 0 }
     ensures given { result.given ≡ 0 }
@@ -91,13 +92,13 @@ pub fn find_overlapping_as_read<
 ) -> MatchesAsRead<V, OverlappingWalk<V, A>, H, F>
 where
     A::Unit: AsciiFold,
-    requires alive { (w : List ℕ) → ¬ A.dead automaton w }
+    requires alive { IsStandard (A.sees automaton) }
     requires fits { size A.Unit.width (H.rest haystack) < 2 ^ 64 }
-    requires sound { IsSoundFor (F.passes filter) (A.content automaton) }
+    requires sound { IsSoundFor (F.passes filter) (A.sees automaton).content }
     ensures automaton { result.automaton ≡ automaton }
     ensures filter { result.filter ≡ filter }
     ensures haystack { result.haystack ≡ as_read folds (H.rest haystack) }
-    ensures left { result.left ≡ overlapping A.Unit.width (A.content automaton) (as_read folds (H.rest haystack)) }
+    ensures left { result.left ≡ overlapping A.Unit.width (A.sees automaton).content (as_read folds (H.rest haystack)) }
     ensures passed { result.passed ≡ [] }
     ensures turns { result.turns ≡ 0 }
     ensures given { result.given ≡ 0 }
@@ -116,13 +117,13 @@ pub fn find_overlapping_no_suffix_as_read<
 >(automaton: A, haystack: H, filter: F, folds: bool) -> MatchesAsRead<V, NoSuffixWalk<V, A>, H, F>
 where
     A::Unit: AsciiFold,
-    requires alive { (w : List ℕ) → ¬ A.dead automaton w }
+    requires alive { IsStandard (A.sees automaton) }
     requires fits { size A.Unit.width (H.rest haystack) < 2 ^ 64 }
-    requires sound { IsSoundFor (F.passes filter) (A.content automaton) }
+    requires sound { IsSoundFor (F.passes filter) (A.sees automaton).content }
     ensures automaton { result.automaton ≡ automaton }
     ensures filter { result.filter ≡ filter }
     ensures haystack { result.haystack ≡ as_read folds (H.rest haystack) }
-    ensures left { result.left ≡ no_suffix A.Unit.width (A.content automaton) (as_read folds (H.rest haystack)) }
+    ensures left { result.left ≡ no_suffix A.Unit.width (A.sees automaton).content (as_read folds (H.rest haystack)) }
     ensures passed { result.passed ≡ [] }
     ensures turns { result.turns ≡ 0 }
     ensures given { result.given ≡ 0 }

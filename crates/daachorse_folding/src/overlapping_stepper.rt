@@ -8,10 +8,10 @@ ghost use Rattle.daachorse_model.specs.Folding.{as_read};
 ghost use Rattle.daachorse_model.specs.Matches.{matches_after};
 ghost use Rattle.daachorse_model.specs.Prefixes.{IsLong};
 ghost use Rattle.daachorse_model.specs.Units.{size};
-ghost use Rattle.daachorse_core.specs.Depths.{AreDepths};
 ghost use Rattle.daachorse_core.specs.Seen.{units};
 ghost use Rattle.daachorse_search.specs.Standings.{IsOverlappingStanding};
 ghost use Rattle.daachorse_search.specs.Stepwise.{AreBounded};
+ghost use Rattle.daachorse_search.specs.Views.{HasDepths, IsStandard};
 
 use daachorse_core::ascii_fold::AsciiFold;
 use daachorse_core::edge_label::EdgeLabel;
@@ -47,8 +47,8 @@ where
     /// A stepper that has consumed nothing. The depths are those of the automaton's states, or none.
     #[inline(always)]
     pub fn new(automaton: A, depths: &'a [u32], folds: bool) -> Self
-        requires alive { (w : List ℕ) → ¬ A.dead automaton w }
-        requires depths { AreDepths (A.reached automaton) (A.text automaton) depths.now }
+        requires alive { IsStandard (A.sees automaton) }
+        requires depths { HasDepths (A.sees automaton) depths.now }
         ensures automaton { result.automaton ≡ automaton }
         ensures depths { result.depths ≡ depths.entry.now }
         ensures folds { result.folds ≡ folds }
@@ -84,7 +84,7 @@ where
     /// on.
     #[inline(always)]
     pub fn matches(&self) -> EndingHere<V, A>
-        ensures { result ≡ matches_after A.Unit.width (A.content self.now.automaton) self.now.read }
+        ensures { result ≡ matches_after A.Unit.width (A.sees self.now.automaton).content self.now.read }
     {
         self.stepper.matches()
     }
@@ -96,7 +96,7 @@ where
     #[inline(always)]
     pub fn depth(&self) -> Option<u32>
         ensures none { self.now.depths ≡ [] → result ≡ None }
-        ensures depth { self.now.depths ≢ [] → (s : List ℕ) → IsLong (A.content self.now.automaton) self.now.read s → result ≡ Some (length s) }
+        ensures depth { self.now.depths ≢ [] → (s : List ℕ) → IsLong (A.sees self.now.automaton).content self.now.read s → result ≡ Some (length s) }
     {
         self.stepper.depth()
     }
@@ -106,7 +106,7 @@ where
     /// It takes no memory.
     #[inline(always)]
     pub fn into_standing(self) -> OverlappingStanding
-        ensures stands { IsOverlappingStanding A.Unit.width A.content A.reached A.text A.dead A.has_label A.ends_at_once A.has_output A.outputs self.entry.automaton result }
+        ensures stands { IsOverlappingStanding A.Unit.width A.sees self.entry.automaton result }
         ensures read { units result.walk.seen ≡ self.entry.read }
         ensures turns { result.walk.turns ≡ self.entry.turns }
     {
@@ -126,8 +126,8 @@ where
         standing: OverlappingStanding,
         folds: bool,
     ) -> Self
-        requires stands { IsOverlappingStanding A.Unit.width A.content A.reached A.text A.dead A.has_label A.ends_at_once A.has_output A.outputs automaton standing }
-        requires depths { AreDepths (A.reached automaton) (A.text automaton) depths.now }
+        requires stands { IsOverlappingStanding A.Unit.width A.sees automaton standing }
+        requires depths { HasDepths (A.sees automaton) depths.now }
         ensures automaton { result.automaton ≡ automaton }
         ensures depths { result.depths ≡ depths.entry.now }
         ensures folds { result.folds ≡ folds }
@@ -143,7 +143,7 @@ where
     /// Does nothing, and promises the bounds of the turns.
     #[inline(always)]
     pub fn turns_are_bounded(&self)
-        ensures { AreBounded (A.content self.now.automaton) (A.has_label self.now.automaton) (A.ends_at_once self.now.automaton) self.now.read self.now.turns }
+        ensures { AreBounded (A.sees self.now.automaton) self.now.read self.now.turns }
     {
         self.stepper.turns_are_bounded();
     }

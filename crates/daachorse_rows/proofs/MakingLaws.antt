@@ -7,10 +7,11 @@ use Rattle.std.proofs.Math.Nat.{div-mul-le_self}
 use Rattle.std.proofs.lemmas.Nat.{mul-add-lt, mul-le}
 use Rattle.std.proofs.lemmas.Bool.{cases_eq}
 use Rattle.std.proofs.lemmas.List.{get_or_append_left, get_or-map, get_or-set_same, get_or-set_other, length-map, length-set}
-use Rattle.daachorse_core.specs.Looks.{IsForeign, StepEnds}
+use Rattle.daachorse_core.specs.Looks.{IsForeign}
 use Rattle.daachorse_model.specs.Dictionary.{Dictionary}
 use Rattle.daachorse_model.proofs.Steps.{IsLong-same}
 use Rattle.daachorse_model.proofs.Lists.{below_or_at}
+use Rattle.daachorse_search.specs.Views.{AutomatonView, HasFirst, Steps}
 use Rattle.daachorse_search.proofs.LookLaws.{StepEnds-long}
 use Rattle.daachorse_rows.specs.Rows.{state_at, RowTable, IsSlotEntry, StandsFor, IsSlotOf, AreSlots, StepLeads, AreLabels, AreRows, Stands, AreChosen, AreClosed, AreCovered, AreStepped, Covers, IsSlot, AreWritten, MayClose, stands_by}
 use Rattle.daachorse_rows.proofs.RowLaws.{place_behind, state_at-slot}
@@ -41,10 +42,10 @@ module _ {L : Type 0} (number : L → ℕ) where
       (some.0, stands_own exact stands label (slice_index (map number labels) k) some.0 (number_read labels k label less is) some.1)
 
   -- where a step by a listed label that was read ends
-  pub ends_read : {V : Type 0} (K : Dictionary V) (dead : List ℕ → Type 0) (text : ℕ → List ℕ) (exact : (a b : L) → number a ≡ number b → a ≡ b) (stands : L → ℕ → Type 0) (labels : List L) (k : ℕ) (label : L) (s state t : ℕ) → k < length labels
-      → label ≡ get_or labels k label → state ≡ s → ((unit : ℕ) → stands label unit → StepEnds K dead (text state) unit (text t)) → (unit : ℕ) → stands_by number stands (slice_index (map number labels) k) unit → StepEnds K dead (text s) unit (text t)
-  ends_read K dead text exact stands labels k label s state t less is same ends unit coded =
-      let P : ℕ → Type 0 = λ x. StepEnds K dead (text x) unit (text t) in
+  pub ends_read : {V : Type 0} (view : AutomatonView V) (exact : (a b : L) → number a ≡ number b → a ≡ b) (stands : L → ℕ → Type 0) (labels : List L) (k : ℕ) (label : L) (s state t : ℕ) → k < length labels
+      → label ≡ get_or labels k label → state ≡ s → ((unit : ℕ) → stands label unit → Steps view state unit t) → (unit : ℕ) → stands_by number stands (slice_index (map number labels) k) unit → Steps view s unit t
+  ends_read view exact stands labels k label s state t less is same ends unit coded =
+      let P : ℕ → Type 0 = λ x. Steps view x unit t in
       subst P same (ends unit (stands_own exact stands label (slice_index (map number labels) k) unit (number_read labels k label less is) coded))
 
 -- ---- the slots of labels
@@ -92,9 +93,9 @@ pub Stands-small : (order : List ℕ) (width base x s : ℕ) → Stands order wi
 Stands-small order width base x s (inl (k, below, is, at)) wide few fits = omega (arith, is, mul-add-lt k width 0 (length order) below wide)
 Stands-small order width base x s (inr (is, none)) wide few fits = omega (arith, is)
 
-module _ (reached : ℕ → Type 0) (order homes : List ℕ) (most : ℕ) where
+module _ {V : Type 0} (view : AutomatonView V) (order homes : List ℕ) (most : ℕ) where
   -- there are none yet
-  pub AreChosen-none : order ≡ [] → ((s : ℕ) → s < length homes → slice_index homes s ≡ 65535) → ((s : ℕ) → reached s → s + 65536 < 2147483648) → AreChosen reached order homes most
+  pub AreChosen-none : order ≡ [] → ((s : ℕ) → s < length homes → slice_index homes s ≡ 65535) → ((s : ℕ) → view.reached s → s + 65536 < 2147483648) → AreChosen view order homes most
   AreChosen-none none_chosen no_homes fits = record {
     states = λ k below. absurd (omega (arith, below, ap length none_chosen));
     homes = λ s below some. absurd (some (no_homes s below));
@@ -103,15 +104,15 @@ module _ (reached : ℕ → Type 0) (order homes : List ℕ) (most : ℕ) where
     fits = fits;
   }
 
-  module _ (h : AreChosen reached order homes most) where
+  module _ (h : AreChosen view order homes most) where
     -- one state more, whose row is the next
-    pub AreChosen-more : (s : ℕ) (order' homes' : List ℕ) → order' ≡ order ++ s ∷ [] → homes' ≡ slice_set homes s (length order) → s < length homes → slice_index homes s ≡ 65535 → length order < most → most < 65535 → reached s
-        → AreChosen reached order' homes' most
+    pub AreChosen-more : (s : ℕ) (order' homes' : List ℕ) → order' ≡ order ++ s ∷ [] → homes' ≡ slice_set homes s (length order) → s < length homes → slice_index homes s ≡ 65535 → length order < most → most < 65535 → view.reached s
+        → AreChosen view order' homes' most
     AreChosen-more s order' homes' is at within none less room there = record {
       states = λ k below.
           elim (below_or_at k (length order) (count k below)) [
-            | inl old ↦ let P : ℕ → Type 0 = λ x. reached x in subst P (sym (read-old order order' s k is old)) (h.states k old)
-            | inr new ↦ let P : ℕ → Type 0 = λ x. reached x in subst P (sym (read-new order order' s k is new)) there
+            | inl old ↦ let P : ℕ → Type 0 = λ x. view.reached x in subst P (sym (read-old order order' s k is old)) (h.states k old)
+            | inr new ↦ let P : ℕ → Type 0 = λ x. view.reached x in subst P (sym (read-new order order' s k is new)) there
           ];
       homes = λ q below some.
           elim (cases_eq q s) [
@@ -154,17 +155,17 @@ module _ (reached : ℕ → Type 0) (order homes : List ℕ) (most : ℕ) where
         taken : (k : ℕ) → k < length order → slice_index order k ≢ s
         taken k below same = omega (arith, none, ap (slice_index homes) same, (h.own k below).1, below, less, room)
 
-    pub AreChosen-small : (width s : ℕ) → length order * width ≤ 65536 → reached s → length order * width + s < 2 ^ 32
+    pub AreChosen-small : (width s : ℕ) → length order * width ≤ 65536 → view.reached s → length order * width + s < 2 ^ 32
     AreChosen-small width s few there = omega (arith, h.fits s there, few)
 
 -- ---- the slots of the rows
 
-module _ {V : Type 0} (K : Dictionary V) (reached : ℕ → Type 0) (text : ℕ → List ℕ) (dead : List ℕ → Type 0) (stands : ℕ → ℕ → Type 0) (first : List ℕ → Option NonZeroU32 → Type 0) (labels order : List ℕ) (width base : ℕ) where
+module _ {V : Type 0} (unit_width : ℕ → ℕ) (view : AutomatonView V) (stands : ℕ → ℕ → Type 0) (labels order : List ℕ) (width base : ℕ) where
   abbrev Slot : ℕ → ℕ → ℕ → Type 0
-  Slot k c v = IsSlot K reached text dead stands first labels order width base k c v
+  Slot k c v = IsSlot unit_width view stands labels order width base k c v
 
   abbrev Written : ℕ → ℕ → List ℕ → Type 0
-  Written k c top = AreWritten K reached text dead stands first labels order width base k c top
+  Written k c top = AreWritten unit_width view stands labels order width base k c top
 
   pub AreWritten-none : (top : List ℕ) → top ≡ [] → Written 0 0 top
   AreWritten-none top none = record {
@@ -206,38 +207,38 @@ module _ {V : Type 0} (K : Dictionary V) (reached : ℕ → Type 0) (text : ℕ 
   }
 
   -- the entry of a state whose outputs begin at this position
-  entry_first : (s v : ℕ) (o : Option NonZeroU32) → IsSlotEntry (λ x. Stands order width base x s) (o ≡ None) v → first (text s) o → IsSlotEntry (λ x. Stands order width base x s) (first (text s) None) v
+  entry_first : (s v : ℕ) (o : Option NonZeroU32) → IsSlotEntry (λ x. Stands order width base x s) (o ≡ None) v → HasFirst unit_width view s o → IsSlotEntry (λ x. Stands order width base x s) (HasFirst unit_width view s None) v
   entry_first s v o entry at =
-      let P : Option NonZeroU32 → Type 0 = λ p. first (text s) p in
-      IsSlotEntry-map (λ x. Stands order width base x s) (λ x. Stands order width base x s) (o ≡ None) (first (text s) None) v entry (λ x there. there) (λ none. subst P none at)
+      let P : Option NonZeroU32 → Type 0 = λ p. HasFirst unit_width view s p in
+      IsSlotEntry-map (λ x. Stands order width base x s) (λ x. Stands order width base x s) (o ≡ None) (HasFirst unit_width view s None) v entry (λ x there. there) (λ none. subst P none at)
 
-  module _ (named : AreLabels K stands labels) where
-    foreign : (label unit : ℕ) → label < 510 → stands label unit → ((k : ℕ) → k < length labels → slice_index labels k ≢ label) → IsForeign K unit
+  module _ (named : AreLabels view.content stands labels) where
+    foreign : (label unit : ℕ) → label < 510 → stands label unit → ((k : ℕ) → k < length labels → slice_index labels k ≢ label) → IsForeign view.content unit
     foreign label unit byte coded none = elim (named.all label unit byte coded) [ inl f ↦ f | inr at ↦ absurd (none at.0 at.1 at.2) ]
 
     -- the labels that are not listed lead to the root
-    pub slot_foreign : (k v s : ℕ) (o : Option NonZeroU32) → IsSlotEntry (λ x. Stands order width base x s) (o ≡ None) v → first (text s) o → reached s → text s ≡ [] → Slot k 1 v
+    pub slot_foreign : (k v s : ℕ) (o : Option NonZeroU32) → IsSlotEntry (λ x. Stands order width base x s) (o ≡ None) v → HasFirst unit_width view s o → view.reached s → view.text s ≡ [] → Slot k 1 v
     slot_foreign k v s o entry at there empty = (s, entry_first s v o entry at, leads, λ _. empty)
       where
-        leads : (label : ℕ) → label < 510 → IsSlotOf labels label 1 → StepLeads K reached text dead stands first (slice_index order k) label s
+        leads : (label : ℕ) → label < 510 → IsSlotOf labels label 1 → StepLeads view stands (slice_index order k) label s
         leads label byte (inl (j, below, here, is)) = absurd (omega (arith, is))
         leads label byte (inr (is, none)) = record { is_state = there; ends = λ unit coded. inl (foreign label unit byte coded none, empty) }
 
     -- a listed label leads to where the step ends
-    pub slot_step : (k c j v t : ℕ) (o : Option NonZeroU32) → c ≡ 2 + j → IsSlotEntry (λ x. Stands order width base x t) (o ≡ None) v → first (text t) o → reached t
-        → ((unit : ℕ) → stands (slice_index labels j) unit → StepEnds K dead (text (slice_index order k)) unit (text t)) → Slot k c v
+    pub slot_step : (k c j v t : ℕ) (o : Option NonZeroU32) → c ≡ 2 + j → IsSlotEntry (λ x. Stands order width base x t) (o ≡ None) v → HasFirst unit_width view t o → view.reached t
+        → ((unit : ℕ) → stands (slice_index labels j) unit → Steps view (slice_index order k) unit t) → Slot k c v
     slot_step k c j v t o at entry told there ends = let P : ℕ → Type 0 = λ x. Slot k x v in subst P (let e : suc (suc j) ≡ c = omega (arith, at) in e) (t, entry_first t v o entry told, leads, λ none. absurd (omega (arith, none)))
       where
-        leads : (label : ℕ) → label < 510 → IsSlotOf labels label (suc (suc j)) → StepLeads K reached text dead stands first (slice_index order k) label t
+        leads : (label : ℕ) → label < 510 → IsSlotOf labels label (suc (suc j)) → StepLeads view stands (slice_index order k) label t
         leads label byte (inl (i, below, here, is)) =
             let same : i ≡ j = omega (arith, is) in
             let named_j : slice_index labels j ≡ label = ap (slice_index labels) (sym same) ∙ here in
-            let Q : ℕ → Type 0 = λ l. (unit : ℕ) → stands l unit → StepEnds K dead (text (slice_index order k)) unit (text t) in
+            let Q : ℕ → Type 0 = λ l. (unit : ℕ) → stands l unit → Steps view (slice_index order k) unit t in
             record { is_state = there; ends = subst Q named_j ends }
         leads label byte (inr (is, none)) = absurd (omega (arith, is))
 
-module _ {V : Type 0} (K : Dictionary V) (reached : ℕ → Type 0) (text : ℕ → List ℕ) (dead : List ℕ → Type 0) (stands : ℕ → ℕ → Type 0) (first : List ℕ → Option NonZeroU32 → Type 0) (labels : List ℕ) (r : RowTable) (order : List ℕ)
-    (count_is : r.count ≡ length order) (wide : 0 < r.width) (w : AreWritten K reached text dead stands first labels order r.width (length order * r.width) (length order) 0 r.top) where
+module _ {V : Type 0} (unit_width : ℕ → ℕ) (view : AutomatonView V) (stands : ℕ → ℕ → Type 0) (labels : List ℕ) (r : RowTable) (order : List ℕ)
+    (count_is : r.count ≡ length order) (wide : 0 < r.width) (w : AreWritten unit_width view stands labels order r.width (length order * r.width) (length order) 0 r.top) where
   at_start : (k : ℕ) → k < length order → slice_index r.top (k * r.width) ≡ slice_index order k
   at_start k below = let e : k * r.width ≡ k * r.width + 0 = omega arith in ap (slice_index r.top) e ∙ w.rows k 0 below wide
 
@@ -252,14 +253,14 @@ module _ {V : Type 0} (K : Dictionary V) (reached : ℕ → Type 0) (text : ℕ 
       subst P e (place_behind r s)
 
   -- what the rows' states cover, the rows cover
-  pub Covers-made : (n : ℕ) → AreCovered K text stands n order → Covers K text stands n r
+  pub Covers-made : (n : ℕ) → AreCovered view stands n order → Covers view stands n r
   Covers-made n covered w begins shallow =
       let row = covered w begins shallow in
-      (row.0, omega (arith, row.1, count_is), ap text (at_start row.0 row.1) ∙ row.2)
+      (row.0, omega (arith, row.1, count_is), ap view.text (at_start row.0 row.1) ∙ row.2)
 
-  pub AreRows-made : (s : ℕ) → r.width ≡ length labels + 2 → AreSlots labels 510 r.classes → AreChosen reached order r.homes (65536 / r.width)
-      → Stands order r.width (length order * r.width) r.root s → reached s → text s ≡ []
-      → AreRows K reached text dead stands first r
+  pub AreRows-made : (s : ℕ) → r.width ≡ length labels + 2 → AreSlots labels 510 r.classes → AreChosen view order r.homes (65536 / r.width)
+      → Stands order r.width (length order * r.width) r.root s → view.reached s → view.text s ≡ []
+      → AreRows unit_width view stands r
   AreRows-made s is slots chosen place there empty = record {
     size = omega (arith, w.size, ap (λ n. n * r.width) count_is);
     few = omega (arith, w.size, fits_rows (length order) r.width chosen.few);
@@ -268,22 +269,22 @@ module _ {V : Type 0} (K : Dictionary V) (reached : ℕ → Type 0) (text : ℕ 
     inside = λ label less. omega (arith, is, slot_inside labels label (slice_index r.classes label) (slots.right label less));
     right = λ k label more less. right k label (omega (arith, more, count_is)) less (slot_some labels label (slice_index r.classes label) (slots.right label less));
     homes = λ t within some. let home = chosen.homes t within some in (omega (arith, home.0, count_is), at_start (slice_index r.homes t) home.0 ∙ home.1);
-    small = λ t here. omega (arith, w.size, AreChosen-small reached order r.homes (65536 / r.width) chosen r.width t (fits_rows (length order) r.width chosen.few) here);
+    small = λ t here. omega (arith, w.size, AreChosen-small view order r.homes (65536 / r.width) chosen r.width t (fits_rows (length order) r.width chosen.few) here);
     root_state = (s, stands_for r.root s place, there, empty);
   }
     where
       right : (k label : ℕ) → k < length order → label < 510 → (c : ℕ) × (slice_index r.classes label ≡ suc c)
-          → (t : ℕ) × IsSlotEntry (λ x. StandsFor r x t) (first (text t) None) (slice_index r.top (k * r.width + slice_index r.classes label)) × StepLeads K reached text dead stands first (slice_index r.top (k * r.width)) label t
+          → (t : ℕ) × IsSlotEntry (λ x. StandsFor r x t) (HasFirst unit_width view t None) (slice_index r.top (k * r.width + slice_index r.classes label)) × StepLeads view stands (slice_index r.top (k * r.width)) label t
       right k label more less (c, at) =
           let slot : IsSlotOf labels label (slice_index r.classes label) = slots.right label less in
           let P : ℕ → Type 0 = λ x. IsSlotOf labels label x in
-          let Q : ℕ → Type 0 = λ x. IsSlotEntry (λ y. StandsFor r y in_slot.0) (first (text in_slot.0) None) (slice_index r.top (k * r.width + x)) in
-          let R : ℕ → Type 0 = λ x. StepLeads K reached text dead stands first x label in_slot.0 in
-          let entry : IsSlotEntry (λ y. StandsFor r y in_slot.0) (first (text in_slot.0) None) (slice_index r.top (k * r.width + suc c)) =
-          IsSlotEntry-map (λ y. Stands order r.width (length order * r.width) y in_slot.0) (λ y. StandsFor r y in_slot.0) (first (text in_slot.0) None) (first (text in_slot.0) None) _ in_slot.1 (λ y there. stands_for y in_slot.0 there) (λ q. q) in
+          let Q : ℕ → Type 0 = λ x. IsSlotEntry (λ y. StandsFor r y in_slot.0) (HasFirst unit_width view in_slot.0 None) (slice_index r.top (k * r.width + x)) in
+          let R : ℕ → Type 0 = λ x. StepLeads view stands x label in_slot.0 in
+          let entry : IsSlotEntry (λ y. StandsFor r y in_slot.0) (HasFirst unit_width view in_slot.0 None) (slice_index r.top (k * r.width + suc c)) =
+          IsSlotEntry-map (λ y. Stands order r.width (length order * r.width) y in_slot.0) (λ y. StandsFor r y in_slot.0) (HasFirst unit_width view in_slot.0 None) (HasFirst unit_width view in_slot.0 None) _ in_slot.1 (λ y there. stands_for y in_slot.0 there) (λ q. q) in
           (in_slot.0, subst Q (sym at) entry, subst R (sym (at_start k more)) (in_slot.2 label less (subst P at slot)))
         where
-          in_slot : IsSlot K reached text dead stands first labels order r.width (length order * r.width) k (suc c) (slice_index r.top (k * r.width + suc c))
+          in_slot : IsSlot unit_width view stands labels order r.width (length order * r.width) k (suc c) (slice_index r.top (k * r.width + suc c))
           in_slot = w.rows k (suc c) more (omega (arith, is, at, slot_inside labels label (slice_index r.classes label) (slots.right label less)))
 
   -- a state with a row is told by it
@@ -292,15 +293,15 @@ module _ {V : Type 0} (K : Dictionary V) (reached : ℕ → Type 0) (text : ℕ 
   row_place x t (inr (is, none)) row = absurd (none row.0 row.1 row.2)
 
   -- where each step from a row ends in a row, the rows are closed
-  pub AreClosed-made : (most s : ℕ) → r.width ≡ length labels + 2 → AreSlots labels 510 r.classes → AreLabels K stands labels → ((k : ℕ) → k < length order → reached (slice_index order k))
-      → Stands order r.width (length order * r.width) r.root s → reached s → text s ≡ [] → AreStepped K text stands dead labels (length order) order → MayClose most reached text dead stands → AreClosed most stands r
+  pub AreClosed-made : (most s : ℕ) → r.width ≡ length labels + 2 → AreSlots labels 510 r.classes → AreLabels view.content stands labels → ((k : ℕ) → k < length order → view.reached (slice_index order k))
+      → Stands order r.width (length order * r.width) r.root s → view.reached s → view.text s ≡ [] → AreStepped view stands labels (length order) order → MayClose most view stands → AreClosed most stands r
   AreClosed-made most s is slots named states place there empty stepped may = record {
     slots = may.slots;
     root = row_place r.root s place (row_of_root s there empty);
     stays = λ k label more less. stays k label (omega (arith, more, count_is)) less (slot_some labels label (slice_index r.classes label) (slots.right label less));
   }
     where
-      row_of_root : (t : ℕ) → reached t → text t ≡ [] → (k : ℕ) × (k < length order) × (slice_index order k ≡ t)
+      row_of_root : (t : ℕ) → view.reached t → view.text t ≡ [] → (k : ℕ) × (k < length order) × (slice_index order k ≡ t)
       row_of_root t here none = (0, stepped.root.0, may.single (slice_index order 0) t (states 0 stepped.root.0) here (stepped.root.1 ∙ sym none))
 
       stays : (k label : ℕ) → k < length order → label < 510 → (c : ℕ) × (slice_index r.classes label ≡ suc c) → slice_index r.top (k * r.width + slice_index r.classes label) % 2147483648 < length r.top
@@ -311,10 +312,10 @@ module _ {V : Type 0} (K : Dictionary V) (reached : ℕ → Type 0) (text : ℕ 
           Q : ℕ → Type 0
           Q x = IsSlotOf labels label x
 
-          in_slot : IsSlot K reached text dead stands first labels order r.width (length order * r.width) k (suc c) (slice_index r.top (k * r.width + suc c))
+          in_slot : IsSlot unit_width view stands labels order r.width (length order * r.width) k (suc c) (slice_index r.top (k * r.width + suc c))
           in_slot = w.rows k (suc c) more (omega (arith, is, at, slot_inside labels label (slice_index r.classes label) (slots.right label less)))
 
-          within : ((slice_index r.top (k * r.width + suc c) ≡ in_slot.1.place) × first (text in_slot.0) None) ⊎ (slice_index r.top (k * r.width + suc c) ≡ in_slot.1.place + 2147483648) → in_slot.1.place < length r.top
+          within : ((slice_index r.top (k * r.width + suc c) ≡ in_slot.1.place) × HasFirst unit_width view in_slot.0 None) ⊎ (slice_index r.top (k * r.width + suc c) ≡ in_slot.1.place + 2147483648) → in_slot.1.place < length r.top
               → slice_index r.top (k * r.width + suc c) % 2147483648 < length r.top
           within (inl (low, quiet)) inside = omega (arith, low, in_slot.1.small, inside)
           within (inr high) inside = omega (arith, high, in_slot.1.small, inside)
@@ -328,7 +329,7 @@ module _ {V : Type 0} (K : Dictionary V) (reached : ℕ → Type 0) (text : ℕ 
               let some = named.none_idle j below in
               let row = stepped.ends k j more below in
               let U : ℕ → Type 0 = λ l. stands l some.0 in
-              let w' : List ℕ = text (slice_index order k) in
-              let own = StepEnds-long K dead w' (text in_slot.0) some.0 (leads.ends some.0 (subst U here some.1)) may.alive in
-              let other = StepEnds-long K dead w' (text (slice_index order row.0)) some.0 (row.2 some.0 some.1) may.alive in
-              (row.0, row.1, may.single (slice_index order row.0) in_slot.0 (states row.0 row.1) leads.is_state (IsLong-same K (w' ++ some.0 ∷ []) (text (slice_index order row.0)) (text in_slot.0) other own))
+              let w' : List ℕ = view.text (slice_index order k) in
+              let own = StepEnds-long view w' (view.text in_slot.0) some.0 (leads.ends some.0 (subst U here some.1)) may.alive in
+              let other = StepEnds-long view w' (view.text (slice_index order row.0)) some.0 (row.2 some.0 some.1) may.alive in
+              (row.0, row.1, may.single (slice_index order row.0) in_slot.0 (states row.0 row.1) leads.is_state (IsLong-same view.content (w' ++ some.0 ∷ []) (view.text (slice_index order row.0)) (view.text in_slot.0) other own))

@@ -9,6 +9,7 @@ use Rattle.daachorse_model.specs.Dictionary.{Dictionary}
 use Rattle.daachorse_model.specs.Prefixes.{IsPrefix, IsSuffix}
 use Rattle.daachorse_model.proofs.Steps.{IsPrefix-less}
 use Rattle.daachorse_model.proofs.Lists.{below_or_at, ends_in}
+use Rattle.daachorse_search.specs.Views.{AutomatonView, Steps}
 use Rattle.daachorse_rows.specs.Rows.{AreChosen, AreCovered, AreLabels, AreShallow, AreStepped, AreTooMany, EndsInRow, GoesOn, HasEnd, HasSlot, IsShallow}
 use Rattle.daachorse_rows.proofs.MakingLaws.{read-new, read-old}
 
@@ -91,94 +92,94 @@ module _ (order order' : List ℕ) (s : ℕ) (is : order' ≡ order ++ s ∷ [])
   pub row_last : (k : ℕ) × (k < length order') × (slice_index order' k ≡ s)
   row_last = (length order, omega (arith, ap length is, length-append order (s ∷ [])), read-new order order' s (length order) is refl)
 
-  pub AreShallow-push : (text : ℕ → List ℕ) (stands : ℕ → ℕ → Type 0) (n : ℕ) → AreShallow text stands n order → IsShallow stands n (text s) → AreShallow text stands n order'
-  AreShallow-push text stands n shallow last k below =
-      let P : ℕ → Type 0 = λ x. IsShallow stands n (text x) in
+  pub AreShallow-push : {V : Type 0} (view : AutomatonView V) (stands : ℕ → ℕ → Type 0) (n : ℕ) → AreShallow view stands n order → IsShallow stands n (view.text s) → AreShallow view stands n order'
+  AreShallow-push view stands n shallow last k below =
+      let P : ℕ → Type 0 = λ x. IsShallow stands n (view.text x) in
       elim (below_or_at k (length order) (omega (arith, below, ap length is, length-append order (s ∷ [])))) [
         | inl old ↦ subst P (sym (read-old order order' s k is old)) (shallow k old)
         | inr new ↦ subst P (sym (read-new order order' s k is new)) last
       ]
 
 -- a row's state has the text that it had
-pub state_shallow : (text : ℕ → List ℕ) (stands : ℕ → ℕ → Type 0) (n : ℕ) (old new : List ℕ) (k : ℕ) → GoesOn old new → k < length old → AreShallow text stands n old → IsShallow stands n (text (slice_index new k))
-state_shallow text stands n old new k on below shallow = let P : ℕ → Type 0 = λ s. IsShallow stands n (text s) in subst P (sym (on.same k below)) (shallow k below)
+pub state_shallow : {V : Type 0} (view : AutomatonView V) (stands : ℕ → ℕ → Type 0) (n : ℕ) (old new : List ℕ) (k : ℕ) → GoesOn old new → k < length old → AreShallow view stands n old → IsShallow stands n (view.text (slice_index new k))
+state_shallow view stands n old new k on below shallow = let P : ℕ → Type 0 = λ s. IsShallow stands n (view.text s) in subst P (sym (on.same k below)) (shallow k below)
 
-module _ {V : Type 0} (K : Dictionary V) (text : ℕ → List ℕ) (stands : ℕ → ℕ → Type 0) where
+module _ {V : Type 0} (view : AutomatonView V) (stands : ℕ → ℕ → Type 0) where
   -- with the ends of all steps the rows cover the texts with one unit more
-  pub AreCovered-next : (n : ℕ) (old new : List ℕ) → GoesOn old new → ((k : ℕ) → k < length old → (label : ℕ) → label < 510 → HasEnd K text stands (slice_index old k) label new) → AreCovered K text stands n old
-      → AreCovered K text stands (n + 1) new
+  pub AreCovered-next : (n : ℕ) (old new : List ℕ) → GoesOn old new → ((k : ℕ) → k < length old → (label : ℕ) → label < 510 → HasEnd view stands (slice_index old k) label new) → AreCovered view stands n old
+      → AreCovered view stands (n + 1) new
   AreCovered-next n old new on ends covered w begins shallow = by (ends_in w)
     where
-      by : (w ≡ []) ⊎ ((v : List ℕ) × (u : ℕ) × (w ≡ v ++ u ∷ [])) → (k : ℕ) × (k < length new) × (text (slice_index new k) ≡ w)
-      by (inl none) = row_on text old new on w (covered w begins (IsShallow-none stands n w none))
+      by : (w ≡ []) ⊎ ((v : List ℕ) × (u : ℕ) × (w ≡ v ++ u ∷ [])) → (k : ℕ) × (k < length new) × (view.text (slice_index new k) ≡ w)
+      by (inl none) = row_on view.text old new on w (covered w begins (IsShallow-none stands n w none))
       by (inr (v, u, is)) =
-          let P : List ℕ → Type 0 = λ l. IsPrefix K l in
+          let P : List ℕ → Type 0 = λ l. IsPrefix view.content l in
           let Q : List ℕ → Type 0 = λ l. IsShallow stands (n + 1) l in
           let last = IsShallow-last stands n v u (subst Q is shallow) in
-          let at = covered v (IsPrefix-less K v (u ∷ []) (subst P is begins)) last.0 in
-          let R : List ℕ → Type 0 = λ l. IsPrefix K (l ++ u ∷ []) in
+          let at = covered v (IsPrefix-less view.content v (u ∷ []) (subst P is begins)) last.0 in
+          let R : List ℕ → Type 0 = λ l. IsPrefix view.content (l ++ u ∷ []) in
           let end = ends at.0 at.1 last.1.0 last.1.1 u last.1.2 (subst R (sym at.2) (subst P is begins)) in
           (end.0, end.1, end.2 ∙ (ap (λ l. l ++ u ∷ []) at.2 ∙ sym is))
 
-  pub AreCovered-on : (n : ℕ) (old new : List ℕ) → GoesOn old new → AreCovered K text stands n old → AreCovered K text stands n new
-  AreCovered-on n old new on covered w begins shallow = row_on text old new on w (covered w begins shallow)
+  pub AreCovered-on : (n : ℕ) (old new : List ℕ) → GoesOn old new → AreCovered view stands n old → AreCovered view stands n new
+  AreCovered-on n old new on covered w begins shallow = row_on view.text old new on w (covered w begins shallow)
 
-  pub HasEnd-on : (s label : ℕ) (old new : List ℕ) → GoesOn old new → HasEnd K text stands s label old → HasEnd K text stands s label new
-  HasEnd-on s label old new on ends unit coded begins = row_on text old new on (text s ++ unit ∷ []) (ends unit coded begins)
+  pub HasEnd-on : (s label : ℕ) (old new : List ℕ) → GoesOn old new → HasEnd view stands s label old → HasEnd view stands s label new
+  HasEnd-on s label old new on ends unit coded begins = row_on view.text old new on (view.text s ++ unit ∷ []) (ends unit coded begins)
 
-  pub EndsInRow-on : (dead : List ℕ → Type 0) (s label : ℕ) (old new : List ℕ) → GoesOn old new → EndsInRow K text stands dead s label old → EndsInRow K text stands dead s label new
-  EndsInRow-on dead s label old new on (k, below, ends) =
-      let P : ℕ → Type 0 = λ x. (unit : ℕ) → stands label unit → StepEnds K dead (text s) unit (text x) in
+  pub EndsInRow-on : (s label : ℕ) (old new : List ℕ) → GoesOn old new → EndsInRow view stands s label old → EndsInRow view stands s label new
+  EndsInRow-on s label old new on (k, below, ends) =
+      let P : ℕ → Type 0 = λ x. (unit : ℕ) → stands label unit → Steps view s unit x in
       (k, omega (arith, below, on.more), subst P (sym (on.same k below)) ends)
 
   -- the state at which the step ends has a row
-  pub EndsInRow-row : (dead : List ℕ → Type 0) (s label t : ℕ) → ((unit : ℕ) → stands label unit → StepEnds K dead (text s) unit (text t)) → (order : List ℕ) → (k : ℕ) × (k < length order) × (slice_index order k ≡ t) → EndsInRow K text stands dead s label order
-  EndsInRow-row dead s label t ends order (k, below, is) =
-      let P : ℕ → Type 0 = λ x. (unit : ℕ) → stands label unit → StepEnds K dead (text s) unit (text x) in
+  pub EndsInRow-row : (s label t : ℕ) → ((unit : ℕ) → stands label unit → Steps view s unit t) → (order : List ℕ) → (k : ℕ) × (k < length order) × (slice_index order k ≡ t) → EndsInRow view stands s label order
+  EndsInRow-row s label t ends order (k, below, is) =
+      let P : ℕ → Type 0 = λ x. (unit : ℕ) → stands label unit → Steps view s unit x in
       (k, below, subst P (sym is) ends)
 
-  module _ (dead : List ℕ → Type 0) (labels : List ℕ) where
-    pub AreStepped-none : (order : List ℕ) → (0 < length order) × (text (slice_index order 0) ≡ []) → AreStepped K text stands dead labels 0 order
+  module _ (labels : List ℕ) where
+    pub AreStepped-none : (order : List ℕ) → (0 < length order) × (view.text (slice_index order 0) ≡ []) → AreStepped view stands labels 0 order
     AreStepped-none order root = record { root = root; ends = λ k j below. absurd (omega (arith, below)) }
 
-    pub AreStepped-fewer : (n m : ℕ) (order : List ℕ) → n ≤ m → AreStepped K text stands dead labels m order → AreStepped K text stands dead labels n order
+    pub AreStepped-fewer : (n m : ℕ) (order : List ℕ) → n ≤ m → AreStepped view stands labels m order → AreStepped view stands labels n order
     AreStepped-fewer n m order fewer h = record { root = h.root; ends = λ k j below. h.ends k j (omega (arith, below, fewer)) }
 
     -- the ends of the steps from one row more
-    pub AreStepped-more : (n : ℕ) (old new : List ℕ) → GoesOn old new → n < length old → AreStepped K text stands dead labels n old → ((j : ℕ) → j < length labels → EndsInRow K text stands dead (slice_index old n) (slice_index labels j) new)
-        → AreStepped K text stands dead labels (n + 1) new
+    pub AreStepped-more : (n : ℕ) (old new : List ℕ) → GoesOn old new → n < length old → AreStepped view stands labels n old → ((j : ℕ) → j < length labels → EndsInRow view stands (slice_index old n) (slice_index labels j) new)
+        → AreStepped view stands labels (n + 1) new
     AreStepped-more n old new on inside h here = record {
-      root = (omega (arith, h.root.0, on.more), ap text (on.same 0 h.root.0) ∙ h.root.1);
+      root = (omega (arith, h.root.0, on.more), ap view.text (on.same 0 h.root.0) ∙ h.root.1);
       ends = λ k j below low.
-          let P : ℕ → Type 0 = λ x. EndsInRow K text stands dead x (slice_index labels j) new in
+          let P : ℕ → Type 0 = λ x. EndsInRow view stands x (slice_index labels j) new in
           elim (below_or_at k n below) [
-            | inl before ↦ subst P (sym (on.same k (omega (arith, before, inside)))) (EndsInRow-on dead (slice_index old k) (slice_index labels j) old new on (h.ends k j before low))
+            | inl before ↦ subst P (sym (on.same k (omega (arith, before, inside)))) (EndsInRow-on (slice_index old k) (slice_index labels j) old new on (h.ends k j before low))
             | inr same ↦ let Q : ℕ → Type 0 = λ i. P (slice_index new i) in subst Q (sym same) (subst P (sym (on.same n inside)) (here j low))
           ];
     }
 
   -- the labels that are not listed lead nowhere
-  pub HasEnd-all : (labels : List ℕ) → AreLabels K stands labels → (s : ℕ) (order : List ℕ) → ((k : ℕ) → k < length labels → HasEnd K text stands s (slice_index labels k) order) → (label : ℕ) → label < 510 → HasEnd K text stands s label order
+  pub HasEnd-all : (labels : List ℕ) → AreLabels view.content stands labels → (s : ℕ) (order : List ℕ) → ((k : ℕ) → k < length labels → HasEnd view stands s (slice_index labels k) order) → (label : ℕ) → label < 510 → HasEnd view stands s label order
   HasEnd-all labels named s order ends label low unit coded begins = elim (named.all label unit low coded) [
-    | inl foreign ↦ absurd (foreign (text s) begins)
-    | inr at ↦ let P : ℕ → Type 0 = λ l. HasEnd K text stands s l order in subst P at.2 (ends at.0 at.1) unit coded begins
+    | inl foreign ↦ absurd (foreign (view.text s) begins)
+    | inr at ↦ let P : ℕ → Type 0 = λ l. HasEnd view stands s l order in subst P at.2 (ends at.0 at.1) unit coded begins
   ]
 
-  module _ (dead : List ℕ → Type 0) (s label t : ℕ) (ends : (unit : ℕ) → stands label unit → StepEnds K dead (text s) unit (text t)) where
+  module _ (s label t : ℕ) (ends : (unit : ℕ) → stands label unit → Steps view s unit t) where
     -- the state at which the step ends has a row
-    pub HasEnd-row : (order : List ℕ) → (k : ℕ) × (k < length order) × (slice_index order k ≡ t) → HasEnd K text stands s label order
-    HasEnd-row order (k, below, is) unit coded begins = (k, below, ap text is ∙ StepEnds-on K dead (text s) (text t) unit (ends unit coded) begins)
+    pub HasEnd-row : (order : List ℕ) → (k : ℕ) × (k < length order) × (slice_index order k ≡ t) → HasEnd view stands s label order
+    HasEnd-row order (k, below, is) unit coded begins = (k, below, ap view.text is ∙ StepEnds-on view.content view.dead (view.text s) (view.text t) unit (ends unit coded) begins)
 
     -- its text has at most one unit more
-    pub end_shallow : (n : ℕ) → label < 510 → (unit : ℕ) × stands label unit → IsShallow stands n (text s) → IsShallow stands (n + 1) (text t)
-    end_shallow n low some shallow = StepEnds-shallow stands K dead n (text s) (text t) some.0 (ends some.0 some.1) shallow (label, low, some.1)
+    pub end_shallow : (n : ℕ) → label < 510 → (unit : ℕ) × stands label unit → IsShallow stands n (view.text s) → IsShallow stands (n + 1) (view.text t)
+    end_shallow n low some shallow = StepEnds-shallow stands view.content view.dead n (view.text s) (view.text t) some.0 (ends some.0 some.1) shallow (label, low, some.1)
 
 -- ---- there is no room
 
 -- the states of the rows, and one more that has none, are too many
-pub AreTooMany-full : (reached : ℕ → Type 0) (text : ℕ → List ℕ) (stands : ℕ → ℕ → Type 0) (n : ℕ) (order homes : List ℕ) (most : ℕ) → AreChosen reached order homes most → AreShallow text stands n order → length order ≡ most → most < 65535
-    → (s : ℕ) → reached s → IsShallow stands n (text s) → slice_index homes s ≡ 65535 → AreTooMany reached text stands n most
-AreTooMany-full reached text stands n order homes most chosen shallow full few s there last none = record {
+pub AreTooMany-full : {V : Type 0} (view : AutomatonView V) (stands : ℕ → ℕ → Type 0) (n : ℕ) (order homes : List ℕ) (most : ℕ) → AreChosen view order homes most → AreShallow view stands n order → length order ≡ most → most < 65535
+    → (s : ℕ) → view.reached s → IsShallow stands n (view.text s) → slice_index homes s ≡ 65535 → AreTooMany view stands n most
+AreTooMany-full view stands n order homes most chosen shallow full few s there last none = record {
   states = s ∷ order;
   many = omega (arith, full);
   different = different;
@@ -194,16 +195,16 @@ AreTooMany-full reached text stands n order homes most chosen shallow full few s
     different (suc i) zero p q same = absurd (fresh i (omega (arith, p)) (sym same))
     different (suc i) (suc j) p q same = ap suc (sym (chosen.own i (omega (arith, p))).1 ∙ (ap (slice_index homes) same ∙ (chosen.own j (omega (arith, q))).1))
 
-    each : (i : ℕ) → i < length (s ∷ order) → reached (slice_index (s ∷ order) i) × IsShallow stands n (text (slice_index (s ∷ order) i))
+    each : (i : ℕ) → i < length (s ∷ order) → view.reached (slice_index (s ∷ order) i) × IsShallow stands n (view.text (slice_index (s ∷ order) i))
     each zero p = (there, last)
     each (suc i) p = (chosen.states i (omega (arith, p)), shallow i (omega (arith, p)))
 
-pub AreTooMany-weaker : (reached : ℕ → Type 0) (text : ℕ → List ℕ) (stands : ℕ → ℕ → Type 0) (n m room least : ℕ) → n ≤ m → least ≤ room → AreTooMany reached text stands n room → AreTooMany reached text stands m least
-AreTooMany-weaker reached text stands n m room least less fewer h = record {
+pub AreTooMany-weaker : {V : Type 0} (view : AutomatonView V) (stands : ℕ → ℕ → Type 0) (n m room least : ℕ) → n ≤ m → least ≤ room → AreTooMany view stands n room → AreTooMany view stands m least
+AreTooMany-weaker view stands n m room least less fewer h = record {
   states = h.states;
   many = omega (arith, fewer, h.many);
   different = h.different;
-  shallow = λ i below. ((h.shallow i below).0, IsShallow-weaker stands n m (text (slice_index h.states i)) less (h.shallow i below).1);
+  shallow = λ i below. ((h.shallow i below).0, IsShallow-weaker stands n m (view.text (slice_index h.states i)) less (h.shallow i below).1);
 }
 
 -- so many rows fit in any case

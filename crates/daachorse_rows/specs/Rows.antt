@@ -1,10 +1,10 @@
 -- Rows of the states near the root: of each label where the step ends. A place stands for a state: a row's first slot, in which the state is written, or behind all slots the states in order.
-use Rattle.std.specs.Prelude.{◌≡◌, ◌≢◌, ◌⊎◌, ℕ, zero, suc, ◌+◌, ◌*◌, ◌%◌, ◌<◌, ◌≤◌, ◌^◌, List, [], ◌∷◌, ◌++◌, length, slice_index, Option, None}
+use Rattle.std.specs.Prelude.{◌≡◌, ◌≢◌, ◌⊎◌, ℕ, zero, suc, ◌+◌, ◌*◌, ◌%◌, ◌<◌, ◌≤◌, ◌^◌, List, [], ◌∷◌, ◌++◌, length, slice_index, None}
 use Rattle.std.specs.List.{All}
-use Rattle.std.specs.declared.num.NonZeroU32.{NonZeroU32}
-use Rattle.daachorse_core.specs.Looks.{IsForeign, StepEnds}
+use Rattle.daachorse_core.specs.Looks.{IsForeign}
 use Rattle.daachorse_model.specs.Dictionary.{Dictionary}
 use Rattle.daachorse_model.specs.Prefixes.{IsPrefix}
+use Rattle.daachorse_search.specs.Views.{AutomatonView, HasFirst, IsStandard, Steps}
 
 -- a number tells which label it is
 pub exact_number : (a b : ℕ) → a ≡ b → a ≡ b
@@ -45,16 +45,24 @@ module _ (r : RowTable) where
     pub state : state_at r.top x ≡ s
 
 -- the place stands for the state, or for another with the same text
-pub record SharesText (reached : ℕ → Type 0) (text : ℕ → List ℕ) (r : RowTable) (x s : ℕ) : Type 0 where
+pub record SharesText {V : Type 0} (view : AutomatonView V) (r : RowTable) (x s : ℕ) : Type 0 where
   pub is_place : IsPlace r x
-  pub is_state : reached (state_at r.top x)
-  pub same : text (state_at r.top x) ≡ text s
+  pub is_state : view.reached (state_at r.top x)
+  pub same : view.text (state_at r.top x) ≡ view.text s
 
 -- each label below `most` has a slot, and the root and each slot lead to a row, so that no step leaves the rows
 pub record AreClosed (most : ℕ) (stands : ℕ → ℕ → Type 0) (r : RowTable) : Type 0 where
   pub slots : (label unit : ℕ) → label < most → stands label unit → label < 510
   pub root : r.root < length r.top
   pub stays : (k label : ℕ) → k < r.count → label < 510 → slice_index r.top (k * r.width + slice_index r.classes label) % 2147483648 < length r.top
+
+-- what a search sees over rows: places stand for the states, and where the rows are closed, each look ends its step
+abbrev pub over_rows : {V : Type 0} → ℕ → AutomatonView V → (ℕ → ℕ → Type 0) → RowTable → AutomatonView V
+over_rows most view stands r = record view {
+  reached = λ x. IsPlace r x × view.reached (state_at r.top x) × (AreClosed most stands r → x < length r.top);
+  text = λ x. view.text (state_at r.top x);
+  ends_at_once = AreClosed most stands r;
+}
 
 -- what a slot holds for a state: a place that stands for it, to which 2 ^ 31 is added, unless the state is quiet
 pub record IsSlotEntry (stands : ℕ → Type 0) (quiet : Type 0) (entry : ℕ) : Type 0 where
@@ -98,33 +106,33 @@ pub record IsShallow (stands : ℕ → ℕ → Type 0) (n : ℕ) (w : List ℕ) 
   pub slots : All (HasSlot stands) w
 
 -- the texts of more than `room` different states have at most n units, each with a slot
-pub record AreTooMany (reached : ℕ → Type 0) (text : ℕ → List ℕ) (stands : ℕ → ℕ → Type 0) (n room : ℕ) : Type 0 where
+pub record AreTooMany {V : Type 0} (view : AutomatonView V) (stands : ℕ → ℕ → Type 0) (n room : ℕ) : Type 0 where
   pub states : List ℕ
   pub many : room < length states
   pub different : (i j : ℕ) → i < length states → j < length states → slice_index states i ≡ slice_index states j → i ≡ j
-  pub shallow : (i : ℕ) → i < length states → reached (slice_index states i) × IsShallow stands n (text (slice_index states i))
+  pub shallow : (i : ℕ) → i < length states → view.reached (slice_index states i) × IsShallow stands n (view.text (slice_index states i))
 
 -- each text of at most n units, each with a slot, that begins a key is that of a state with a row
-abbrev pub Covers : {V : Type 0} → Dictionary V → (ℕ → List ℕ) → (ℕ → ℕ → Type 0) → ℕ → RowTable → Type 0
-Covers K text stands n r = (w : List ℕ) → IsPrefix K w → IsShallow stands n w → (k : ℕ) × (k < r.count) × (text (slice_index r.top (k * r.width)) ≡ w)
+abbrev pub Covers : {V : Type 0} → AutomatonView V → (ℕ → ℕ → Type 0) → ℕ → RowTable → Type 0
+Covers view stands n r = (w : List ℕ) → IsPrefix view.content w → IsShallow stands n w → (k : ℕ) × (k < r.count) × (view.text (slice_index r.top (k * r.width)) ≡ w)
 
 -- no link is dead, states with the same text are the same, and each label below `most` has a slot
-pub record MayClose (most : ℕ) (reached : ℕ → Type 0) (text : ℕ → List ℕ) (dead : List ℕ → Type 0) (stands : ℕ → ℕ → Type 0) : Type 0 where
-  pub alive : (w : List ℕ) → ¬ dead w
-  pub single : (s t : ℕ) → reached s → reached t → text s ≡ text t → s ≡ t
+pub record MayClose {V : Type 0} (most : ℕ) (view : AutomatonView V) (stands : ℕ → ℕ → Type 0) : Type 0 where
+  pub alive : IsStandard view
+  pub single : (s t : ℕ) → view.reached s → view.reached t → view.text s ≡ view.text t → s ≡ t
   pub slots : (label unit : ℕ) → label < most → stands label unit → label < 510
 
 -- the rows are closed, or the texts of more than `room` different states have units with a slot alone
-abbrev pub ClosesOrFills : ℕ → (ℕ → Type 0) → (ℕ → List ℕ) → (ℕ → ℕ → Type 0) → ℕ → RowTable → Type 0
-ClosesOrFills most reached text stands room r = AreClosed most stands r ⊎ ((n : ℕ) × AreTooMany reached text stands n room)
+abbrev pub ClosesOrFills : {V : Type 0} → ℕ → AutomatonView V → (ℕ → ℕ → Type 0) → ℕ → RowTable → Type 0
+ClosesOrFills most view stands room r = AreClosed most stands r ⊎ ((n : ℕ) × AreTooMany view stands n room)
 
--- Of an automaton: `first` says of a text at which position the outputs of its state begin.
-module _ {V : Type 0} (K : Dictionary V) (reached : ℕ → Type 0) (text : ℕ → List ℕ) (dead : List ℕ → Type 0) (stands : ℕ → ℕ → Type 0) (first : List ℕ → Option NonZeroU32 → Type 0) where
+module _ {V : Type 0} (view : AutomatonView V) (stands : ℕ → ℕ → Type 0) where
   -- the step from the state s by the label ends at the state t
   pub record StepLeads (s label t : ℕ) : Type 0 where
-    pub is_state : reached t
-    pub ends : (unit : ℕ) → stands label unit → StepEnds K dead (text s) unit (text t)
+    pub is_state : view.reached t
+    pub ends : (unit : ℕ) → stands label unit → Steps view s unit t
 
+module _ {V : Type 0} (unit_width : ℕ → ℕ) (view : AutomatonView V) (stands : ℕ → ℕ → Type 0) where
   -- the rows are right
   pub record AreRows (r : RowTable) : Type 0 where
     pub size : length r.top ≡ r.count * r.width
@@ -132,11 +140,11 @@ module _ {V : Type 0} (K : Dictionary V) (reached : ℕ → Type 0) (text : ℕ 
     pub wide : 0 < r.width
     pub classes_size : length r.classes ≡ 510
     pub inside : (label : ℕ) → label < 510 → slice_index r.classes label < r.width
-    pub right : (k label : ℕ) → k < r.count → label < 510 → (t : ℕ) × IsSlotEntry (λ x. StandsFor r x t) (first (text t) None) (slice_index r.top (k * r.width + slice_index r.classes label)) × StepLeads (slice_index r.top (k * r.width)) label t
+    pub right : (k label : ℕ) → k < r.count → label < 510 → (t : ℕ) × IsSlotEntry (λ x. StandsFor r x t) (HasFirst unit_width view t None) (slice_index r.top (k * r.width + slice_index r.classes label)) × StepLeads view stands (slice_index r.top (k * r.width)) label t
     -- in the table of the states' rows 65,535 stands for none
     pub homes : (s : ℕ) → s < length r.homes → slice_index r.homes s ≢ 65535 → (slice_index r.homes s < r.count) × (slice_index r.top (slice_index r.homes s * r.width) ≡ s)
-    pub small : (s : ℕ) → reached s → length r.top + s < 2 ^ 32
-    pub root_state : (s : ℕ) × StandsFor r r.root s × reached s × (text s ≡ [])
+    pub small : (s : ℕ) → view.reached s → length r.top + s < 2 ^ 32
+    pub root_state : (s : ℕ) × StandsFor r r.root s × view.reached s × (view.text s ≡ [])
 
 -- ---- while they are made: `order` are the states of the rows, and `base` is where the slots end
 
@@ -154,46 +162,46 @@ abbrev pub AreOwn : List ℕ → List ℕ → Type 0
 AreOwn order homes = (k : ℕ) → k < length order → (slice_index order k < length homes) × (slice_index homes (slice_index order k) ≡ k) × (k < 65535)
 
 -- the states of the rows can be reached, and the row of each is known; no state is too large for an entry
-pub record AreChosen (reached : ℕ → Type 0) (order table : List ℕ) (most : ℕ) : Type 0 where
-  pub states : (k : ℕ) → k < length order → reached (slice_index order k)
+pub record AreChosen {V : Type 0} (view : AutomatonView V) (order table : List ℕ) (most : ℕ) : Type 0 where
+  pub states : (k : ℕ) → k < length order → view.reached (slice_index order k)
   pub homes : AreHomes order table
   pub own : AreOwn order table
   pub few : length order ≤ most
-  pub fits : (s : ℕ) → reached s → s + 65536 < 2147483648
+  pub fits : (s : ℕ) → view.reached s → s + 65536 < 2147483648
 
 -- the rows stay, and more may follow
 pub record GoesOn (old new : List ℕ) : Type 0 where
   pub more : length old ≤ length new
   pub same : (k : ℕ) → k < length old → slice_index new k ≡ slice_index old k
 
--- the texts of the rows' states have at most n units, each with a slot
-abbrev pub AreShallow : (ℕ → List ℕ) → (ℕ → ℕ → Type 0) → ℕ → List ℕ → Type 0
-AreShallow text stands n order = (k : ℕ) → k < length order → IsShallow stands n (text (slice_index order k))
+module _ {V : Type 0} (view : AutomatonView V) (stands : ℕ → ℕ → Type 0) where
+  -- the texts of the rows' states have at most n units, each with a slot
+  abbrev pub AreShallow : ℕ → List ℕ → Type 0
+  AreShallow n order = (k : ℕ) → k < length order → IsShallow stands n (view.text (slice_index order k))
 
-module _ {V : Type 0} (K : Dictionary V) (text : ℕ → List ℕ) (stands : ℕ → ℕ → Type 0) where
   -- the state that the label leads to from the state s has a row, where that text begins a key
   abbrev pub HasEnd : ℕ → ℕ → List ℕ → Type 0
-  HasEnd s label order = (unit : ℕ) → stands label unit → IsPrefix K (text s ++ unit ∷ []) → (k : ℕ) × (k < length order) × (text (slice_index order k) ≡ text s ++ unit ∷ [])
+  HasEnd s label order = (unit : ℕ) → stands label unit → IsPrefix view.content (view.text s ++ unit ∷ []) → (k : ℕ) × (k < length order) × (view.text (slice_index order k) ≡ view.text s ++ unit ∷ [])
 
   -- the step by the label from the state s ends at the text of a row's state
-  abbrev pub EndsInRow : (List ℕ → Type 0) → ℕ → ℕ → List ℕ → Type 0
-  EndsInRow dead s label order = (k : ℕ) × (k < length order) × ((unit : ℕ) → stands label unit → StepEnds K dead (text s) unit (text (slice_index order k)))
+  abbrev pub EndsInRow : ℕ → ℕ → List ℕ → Type 0
+  EndsInRow s label order = (k : ℕ) × (k < length order) × ((unit : ℕ) → stands label unit → Steps view s unit (slice_index order k))
 
   -- so do those by each of these labels from the first n rows, and the first row is the root's
-  pub record AreStepped (dead : List ℕ → Type 0) (labels : List ℕ) (n : ℕ) (order : List ℕ) : Type 0 where
-    pub root : (0 < length order) × (text (slice_index order 0) ≡ [])
-    pub ends : (k j : ℕ) → k < n → j < length labels → EndsInRow dead (slice_index order k) (slice_index labels j) order
+  pub record AreStepped (labels : List ℕ) (n : ℕ) (order : List ℕ) : Type 0 where
+    pub root : (0 < length order) × (view.text (slice_index order 0) ≡ [])
+    pub ends : (k j : ℕ) → k < n → j < length labels → EndsInRow (slice_index order k) (slice_index labels j) order
 
   -- each such text that begins a key is that of a row's state
   abbrev pub AreCovered : ℕ → List ℕ → Type 0
-  AreCovered n order = (w : List ℕ) → IsPrefix K w → IsShallow stands n w → (k : ℕ) × (k < length order) × (text (slice_index order k) ≡ w)
+  AreCovered n order = (w : List ℕ) → IsPrefix view.content w → IsShallow stands n w → (k : ℕ) × (k < length order) × (view.text (slice_index order k) ≡ w)
 
-module _ {V : Type 0} (K : Dictionary V) (reached : ℕ → Type 0) (text : ℕ → List ℕ) (dead : List ℕ → Type 0) (stands : ℕ → ℕ → Type 0) (first : List ℕ → Option NonZeroU32 → Type 0) (labels order : List ℕ) (width base : ℕ) where
+module _ {V : Type 0} (unit_width : ℕ → ℕ) (view : AutomatonView V) (stands : ℕ → ℕ → Type 0) (labels order : List ℕ) (width base : ℕ) where
   -- the slot c of the row k
   abbrev pub IsSlot : ℕ → ℕ → ℕ → Type 0
   IsSlot k zero v = v ≡ slice_index order k
   IsSlot k (suc c) v =
-      (t : ℕ) × IsSlotEntry (λ x. Stands order width base x t) (first (text t) None) v × ((label : ℕ) → label < 510 → IsSlotOf labels label (suc c) → StepLeads K reached text dead stands first (slice_index order k) label t) × (c ≡ 0 → text t ≡ [])
+      (t : ℕ) × IsSlotEntry (λ x. Stands order width base x t) (HasFirst unit_width view t None) v × ((label : ℕ) → label < 510 → IsSlotOf labels label (suc c) → StepLeads view stands (slice_index order k) label t) × (c ≡ 0 → view.text t ≡ [])
 
   -- k rows were written, and c slots of the next
   pub record AreWritten (k c : ℕ) (top : List ℕ) : Type 0 where

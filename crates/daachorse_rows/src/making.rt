@@ -5,7 +5,6 @@
 //! two steps lead having one, and on no order.
 
 ghost use Rattle.std.specs.Prelude.{◌≡◌, ◌⊎◌, ◌*◌, ◌+◌, ◌/◌, ◌<◌, ◌≤◌, ◌^◌, ℕ, [], true, false, length, map, slice_index, IfOk, MatchOption, OnOk, None};
-ghost use Rattle.daachorse_core.specs.Looks.{IsFirstOutput};
 ghost use Rattle.daachorse_rows.specs.Rows.{AreChosen, AreCovered, AreHomes, AreLabels, AreOwn, AreShallow, AreSlots, AreStepped, AreTooMany, AreWritten, EndsInRow, GoesOn, HasEnd, IsSlotEntry, IsShallow, IsSlotOf, Stands, stands_by};
 
 use crate::label::{RowLabel, SLOTTED};
@@ -109,16 +108,16 @@ pub(crate) fn choose<V: Copy, A: Automaton<V>, L: Allocator + Copy>(
 ) -> Result<Option<Chosen<L>>, AllocError>
 where
     A::Label: RowLabel,
-    requires labels { AreLabels (A.content automaton.now) (stands_by A.Label.number (A.labels automaton.now)) (map A.Label.number labels.now) }
-    requires count { (s : ℕ) → A.reached automaton.now s → s < count }
+    requires labels { AreLabels (A.sees automaton.now).content (stands_by A.Label.number (A.labels automaton.now)) (map A.Label.number labels.now) }
+    requires count { (s : ℕ) → (A.sees automaton.now).reached s → s < count }
     requires some { 0 < most }
     requires few { most < 65535 }
     ensures { IfOk result (λ chosen. MatchOption chosen
-        (AreTooMany (A.reached automaton.now) (A.text automaton.now) (stands_by A.Label.number (A.labels automaton.now)) 2 most ⊎ (2147418112 < count))
-        (λ c. AreChosen (A.reached automaton.now) c.order.items c.homes.items most
-        × AreCovered (A.content automaton.now) (A.text automaton.now) (stands_by A.Label.number (A.labels automaton.now)) 2 c.order.items
-        × (AreStepped (A.content automaton.now) (A.text automaton.now) (stands_by A.Label.number (A.labels automaton.now)) (A.dead automaton.now) (map A.Label.number labels.now) (length c.order.items) c.order.items
-        ⊎ ((n : ℕ) × AreTooMany (A.reached automaton.now) (A.text automaton.now) (stands_by A.Label.number (A.labels automaton.now)) n most)))) }
+        (AreTooMany (A.sees automaton.now) (stands_by A.Label.number (A.labels automaton.now)) 2 most ⊎ (2147418112 < count))
+        (λ c. AreChosen (A.sees automaton.now) c.order.items c.homes.items most
+        × AreCovered (A.sees automaton.now) (stands_by A.Label.number (A.labels automaton.now)) 2 c.order.items
+        × (AreStepped (A.sees automaton.now) (stands_by A.Label.number (A.labels automaton.now)) (map A.Label.number labels.now) (length c.order.items) c.order.items
+        ⊎ ((n : ℕ) × AreTooMany (A.sees automaton.now) (stands_by A.Label.number (A.labels automaton.now)) n most)))) }
 {
     if count > MOST_STATES {
         return Ok(None);
@@ -144,14 +143,14 @@ fn choose_root<V: Copy, A: Automaton<V>, L: Allocator + Copy>(
 ) -> Result<Chosen<L>, AllocError>
 where
     A::Label: RowLabel,
-    requires count { (s : ℕ) → A.reached automaton.now s → s < count }
+    requires count { (s : ℕ) → (A.sees automaton.now).reached s → s < count }
     requires fits { count ≤ 2147418112 }
     requires some { 0 < most }
-    ensures chosen { IfOk result (λ c. AreChosen (A.reached automaton.now) c.order.items c.homes.items most) }
+    ensures chosen { IfOk result (λ c. AreChosen (A.sees automaton.now) c.order.items c.homes.items most) }
     ensures size { IfOk result (λ c. length c.homes.items ≡ count) }
-    ensures shallow { IfOk result (λ c. AreShallow (A.text automaton.now) (stands_by A.Label.number (A.labels automaton.now)) 0 c.order.items) }
-    ensures covered { IfOk result (λ c. AreCovered (A.content automaton.now) (A.text automaton.now) (stands_by A.Label.number (A.labels automaton.now)) 0 c.order.items) }
-    ensures root { IfOk result (λ c. (0 < length c.order.items) × (A.text automaton.now (slice_index c.order.items 0) ≡ [])) }
+    ensures shallow { IfOk result (λ c. AreShallow (A.sees automaton.now) (stands_by A.Label.number (A.labels automaton.now)) 0 c.order.items) }
+    ensures covered { IfOk result (λ c. AreCovered (A.sees automaton.now) (stands_by A.Label.number (A.labels automaton.now)) 0 c.order.items) }
+    ensures root { IfOk result (λ c. (0 < length c.order.items) × ((A.sees automaton.now).text (slice_index c.order.items 0) ≡ [])) }
 {
     let mut order = Vec::new(alloc);
     let mut homes = Vec::from_elem(alloc, NO_ROW, count as usize)?;
@@ -171,21 +170,21 @@ fn choose_next<V: Copy, A: Automaton<V>, L: Allocator>(
 ) -> Result<bool, AllocError>
 where
     A::Label: RowLabel,
-    requires labels { AreLabels (A.content automaton.now) (stands_by A.Label.number (A.labels automaton.now)) (map A.Label.number labels.now) }
-    requires chosen { AreChosen (A.reached automaton.now) chosen.old.order.items chosen.old.homes.items most }
-    requires count { (s : ℕ) → A.reached automaton.now s → s < length chosen.old.homes.items }
+    requires labels { AreLabels (A.sees automaton.now).content (stands_by A.Label.number (A.labels automaton.now)) (map A.Label.number labels.now) }
+    requires chosen { AreChosen (A.sees automaton.now) chosen.old.order.items chosen.old.homes.items most }
+    requires count { (s : ℕ) → (A.sees automaton.now).reached s → s < length chosen.old.homes.items }
     requires few { most < 65535 }
-    ensures chosen { OnOk result (AreChosen (A.reached automaton.now) chosen.new.order.items chosen.new.homes.items most) }
+    ensures chosen { OnOk result (AreChosen (A.sees automaton.now) chosen.new.order.items chosen.new.homes.items most) }
     ensures same { OnOk result (length chosen.new.homes.items ≡ length chosen.old.homes.items) }
     ensures on { OnOk result (GoesOn chosen.old.order.items chosen.new.order.items) }
-    ensures stepped { IfOk result (λ all. all ≡ true → (0 < length chosen.old.order.items) × (A.text automaton.now (slice_index chosen.old.order.items 0) ≡ [])
-        → AreStepped (A.content automaton.now) (A.text automaton.now) (stands_by A.Label.number (A.labels automaton.now)) (A.dead automaton.now) (map A.Label.number labels.now) (length chosen.old.order.items) chosen.new.order.items) }
-    ensures shallow { OnOk result ((n : ℕ) → AreShallow (A.text automaton.now) (stands_by A.Label.number (A.labels automaton.now)) n chosen.old.order.items
-        → AreShallow (A.text automaton.now) (stands_by A.Label.number (A.labels automaton.now)) (n + 1) chosen.new.order.items) }
-    ensures all { IfOk result (λ all. all ≡ true → (n : ℕ) → AreCovered (A.content automaton.now) (A.text automaton.now) (stands_by A.Label.number (A.labels automaton.now)) n chosen.old.order.items
-        → AreCovered (A.content automaton.now) (A.text automaton.now) (stands_by A.Label.number (A.labels automaton.now)) (n + 1) chosen.new.order.items) }
-    ensures full { IfOk result (λ all. all ≡ false → (n : ℕ) → AreShallow (A.text automaton.now) (stands_by A.Label.number (A.labels automaton.now)) n chosen.old.order.items
-        → AreTooMany (A.reached automaton.now) (A.text automaton.now) (stands_by A.Label.number (A.labels automaton.now)) (n + 1) most) }
+    ensures stepped { IfOk result (λ all. all ≡ true → (0 < length chosen.old.order.items) × ((A.sees automaton.now).text (slice_index chosen.old.order.items 0) ≡ [])
+        → AreStepped (A.sees automaton.now) (stands_by A.Label.number (A.labels automaton.now)) (map A.Label.number labels.now) (length chosen.old.order.items) chosen.new.order.items) }
+    ensures shallow { OnOk result ((n : ℕ) → AreShallow (A.sees automaton.now) (stands_by A.Label.number (A.labels automaton.now)) n chosen.old.order.items
+        → AreShallow (A.sees automaton.now) (stands_by A.Label.number (A.labels automaton.now)) (n + 1) chosen.new.order.items) }
+    ensures all { IfOk result (λ all. all ≡ true → (n : ℕ) → AreCovered (A.sees automaton.now) (stands_by A.Label.number (A.labels automaton.now)) n chosen.old.order.items
+        → AreCovered (A.sees automaton.now) (stands_by A.Label.number (A.labels automaton.now)) (n + 1) chosen.new.order.items) }
+    ensures full { IfOk result (λ all. all ≡ false → (n : ℕ) → AreShallow (A.sees automaton.now) (stands_by A.Label.number (A.labels automaton.now)) n chosen.old.order.items
+        → AreTooMany (A.sees automaton.now) (stands_by A.Label.number (A.labels automaton.now)) (n + 1) most) }
 {
     for at in 0..chosen.order.len() {
         if !choose_ends(automaton, labels, chosen, at, most)? {
@@ -206,16 +205,16 @@ fn choose_rest<V: Copy, A: Automaton<V>, L: Allocator>(
 ) -> Result<(), AllocError>
 where
     A::Label: RowLabel,
-    requires labels { AreLabels (A.content automaton.now) (stands_by A.Label.number (A.labels automaton.now)) (map A.Label.number labels.now) }
-    requires chosen { AreChosen (A.reached automaton.now) chosen.old.order.items chosen.old.homes.items most }
-    requires count { (s : ℕ) → A.reached automaton.now s → s < length chosen.old.homes.items }
+    requires labels { AreLabels (A.sees automaton.now).content (stands_by A.Label.number (A.labels automaton.now)) (map A.Label.number labels.now) }
+    requires chosen { AreChosen (A.sees automaton.now) chosen.old.order.items chosen.old.homes.items most }
+    requires count { (s : ℕ) → (A.sees automaton.now).reached s → s < length chosen.old.homes.items }
     requires few { most < 65535 }
-    ensures chosen { OnOk result (AreChosen (A.reached automaton.now) chosen.new.order.items chosen.new.homes.items most) }
+    ensures chosen { OnOk result (AreChosen (A.sees automaton.now) chosen.new.order.items chosen.new.homes.items most) }
     ensures on { OnOk result (GoesOn chosen.old.order.items chosen.new.order.items) }
-    ensures stepped { OnOk result ((n : ℕ) → AreShallow (A.text automaton.now) (stands_by A.Label.number (A.labels automaton.now)) n chosen.old.order.items
-        → AreStepped (A.content automaton.now) (A.text automaton.now) (stands_by A.Label.number (A.labels automaton.now)) (A.dead automaton.now) (map A.Label.number labels.now) from chosen.old.order.items
-        → AreStepped (A.content automaton.now) (A.text automaton.now) (stands_by A.Label.number (A.labels automaton.now)) (A.dead automaton.now) (map A.Label.number labels.now) (length chosen.new.order.items) chosen.new.order.items
-        ⊎ ((m : ℕ) × AreTooMany (A.reached automaton.now) (A.text automaton.now) (stands_by A.Label.number (A.labels automaton.now)) m most)) }
+    ensures stepped { OnOk result ((n : ℕ) → AreShallow (A.sees automaton.now) (stands_by A.Label.number (A.labels automaton.now)) n chosen.old.order.items
+        → AreStepped (A.sees automaton.now) (stands_by A.Label.number (A.labels automaton.now)) (map A.Label.number labels.now) from chosen.old.order.items
+        → AreStepped (A.sees automaton.now) (stands_by A.Label.number (A.labels automaton.now)) (map A.Label.number labels.now) (length chosen.new.order.items) chosen.new.order.items
+        ⊎ ((m : ℕ) × AreTooMany (A.sees automaton.now) (stands_by A.Label.number (A.labels automaton.now)) m most)) }
 {
     let mut at = from;
     while at < chosen.order.len() {
@@ -238,24 +237,24 @@ fn choose_ends<V: Copy, A: Automaton<V>, L: Allocator>(
 ) -> Result<bool, AllocError>
 where
     A::Label: RowLabel,
-    requires labels { AreLabels (A.content automaton.now) (stands_by A.Label.number (A.labels automaton.now)) (map A.Label.number labels.now) }
-    requires chosen { AreChosen (A.reached automaton.now) chosen.old.order.items chosen.old.homes.items most }
-    requires count { (s : ℕ) → A.reached automaton.now s → s < length chosen.old.homes.items }
+    requires labels { AreLabels (A.sees automaton.now).content (stands_by A.Label.number (A.labels automaton.now)) (map A.Label.number labels.now) }
+    requires chosen { AreChosen (A.sees automaton.now) chosen.old.order.items chosen.old.homes.items most }
+    requires count { (s : ℕ) → (A.sees automaton.now).reached s → s < length chosen.old.homes.items }
     requires at { at < length chosen.old.order.items }
     requires few { most < 65535 }
-    ensures chosen { OnOk result (AreChosen (A.reached automaton.now) chosen.new.order.items chosen.new.homes.items most) }
+    ensures chosen { OnOk result (AreChosen (A.sees automaton.now) chosen.new.order.items chosen.new.homes.items most) }
     ensures same { OnOk result (length chosen.new.homes.items ≡ length chosen.old.homes.items) }
     ensures on { OnOk result (GoesOn chosen.old.order.items chosen.new.order.items) }
-    ensures shallow { OnOk result ((n : ℕ) → IsShallow (stands_by A.Label.number (A.labels automaton.now)) n (A.text automaton.now (slice_index chosen.old.order.items at))
-        → AreShallow (A.text automaton.now) (stands_by A.Label.number (A.labels automaton.now)) (n + 1) chosen.old.order.items
-        → AreShallow (A.text automaton.now) (stands_by A.Label.number (A.labels automaton.now)) (n + 1) chosen.new.order.items) }
+    ensures shallow { OnOk result ((n : ℕ) → IsShallow (stands_by A.Label.number (A.labels automaton.now)) n ((A.sees automaton.now).text (slice_index chosen.old.order.items at))
+        → AreShallow (A.sees automaton.now) (stands_by A.Label.number (A.labels automaton.now)) (n + 1) chosen.old.order.items
+        → AreShallow (A.sees automaton.now) (stands_by A.Label.number (A.labels automaton.now)) (n + 1) chosen.new.order.items) }
     ensures all { IfOk result (λ all. all ≡ true → (label : ℕ) → label < 510
-        → HasEnd (A.content automaton.now) (A.text automaton.now) (stands_by A.Label.number (A.labels automaton.now)) (slice_index chosen.old.order.items at) label chosen.new.order.items) }
+        → HasEnd (A.sees automaton.now) (stands_by A.Label.number (A.labels automaton.now)) (slice_index chosen.old.order.items at) label chosen.new.order.items) }
     ensures ends { IfOk result (λ all. all ≡ true → (j : ℕ) → j < length labels.now
-        → EndsInRow (A.content automaton.now) (A.text automaton.now) (stands_by A.Label.number (A.labels automaton.now)) (A.dead automaton.now) (slice_index chosen.old.order.items at) (slice_index (map A.Label.number labels.now) j) chosen.new.order.items) }
-    ensures full { IfOk result (λ all. all ≡ false → (n : ℕ) → IsShallow (stands_by A.Label.number (A.labels automaton.now)) n (A.text automaton.now (slice_index chosen.old.order.items at))
-        → AreShallow (A.text automaton.now) (stands_by A.Label.number (A.labels automaton.now)) (n + 1) chosen.old.order.items
-        → AreTooMany (A.reached automaton.now) (A.text automaton.now) (stands_by A.Label.number (A.labels automaton.now)) (n + 1) most) }
+        → EndsInRow (A.sees automaton.now) (stands_by A.Label.number (A.labels automaton.now)) (slice_index chosen.old.order.items at) (slice_index (map A.Label.number labels.now) j) chosen.new.order.items) }
+    ensures full { IfOk result (λ all. all ≡ false → (n : ℕ) → IsShallow (stands_by A.Label.number (A.labels automaton.now)) n ((A.sees automaton.now).text (slice_index chosen.old.order.items at))
+        → AreShallow (A.sees automaton.now) (stands_by A.Label.number (A.labels automaton.now)) (n + 1) chosen.old.order.items
+        → AreTooMany (A.sees automaton.now) (stands_by A.Label.number (A.labels automaton.now)) (n + 1) most) }
 {
     let state = chosen.order[at];
     let mut turns = Turns::new();
@@ -282,11 +281,10 @@ pub(crate) fn write<V: Copy, A: Automaton<V>, L: Allocator + Copy>(
 ) -> Result<Vec<u32, L>, AllocError>
 where
     A::Label: RowLabel,
-    requires labels { AreLabels (A.content automaton.now) (stands_by A.Label.number (A.labels automaton.now)) (map A.Label.number labels.now) }
-    requires chosen { AreChosen (A.reached automaton.now) chosen.now.order.items chosen.now.homes.items (65536 / width) }
+    requires labels { AreLabels (A.sees automaton.now).content (stands_by A.Label.number (A.labels automaton.now)) (map A.Label.number labels.now) }
+    requires chosen { AreChosen (A.sees automaton.now) chosen.now.order.items chosen.now.homes.items (65536 / width) }
     requires width { width ≡ length labels.now + 2 }
-    ensures { IfOk result (λ top. AreWritten (A.content automaton.now) (A.reached automaton.now) (A.text automaton.now) (A.dead automaton.now) (stands_by A.Label.number (A.labels automaton.now))
-        (IsFirstOutput A.Unit.width (A.content automaton.now) (A.dead automaton.now) (A.has_output automaton.now) (A.outputs automaton.now) (A.most_outputs automaton.now))
+    ensures { IfOk result (λ top. AreWritten A.Unit.width (A.sees automaton.now) (stands_by A.Label.number (A.labels automaton.now))
         (map A.Label.number labels.now) chosen.now.order.items width (length chosen.now.order.items * width) (length chosen.now.order.items) 0 top.items) }
 {
     let base = chosen.order.len() as u32 * width;
@@ -309,15 +307,13 @@ fn write_row<V: Copy, A: Automaton<V>, L: Allocator>(
 ) -> Result<(), AllocError>
 where
     A::Label: RowLabel,
-    requires labels { AreLabels (A.content automaton.now) (stands_by A.Label.number (A.labels automaton.now)) (map A.Label.number labels.now) }
-    requires chosen { AreChosen (A.reached automaton.now) chosen.now.order.items chosen.now.homes.items (65536 / width) }
+    requires labels { AreLabels (A.sees automaton.now).content (stands_by A.Label.number (A.labels automaton.now)) (map A.Label.number labels.now) }
+    requires chosen { AreChosen (A.sees automaton.now) chosen.now.order.items chosen.now.homes.items (65536 / width) }
     requires width { width ≡ length labels.now + 2 }
     requires row { row < length chosen.now.order.items }
-    requires written { AreWritten (A.content automaton.now) (A.reached automaton.now) (A.text automaton.now) (A.dead automaton.now) (stands_by A.Label.number (A.labels automaton.now))
-        (IsFirstOutput A.Unit.width (A.content automaton.now) (A.dead automaton.now) (A.has_output automaton.now) (A.outputs automaton.now) (A.most_outputs automaton.now))
+    requires written { AreWritten A.Unit.width (A.sees automaton.now) (stands_by A.Label.number (A.labels automaton.now))
         (map A.Label.number labels.now) chosen.now.order.items width (length chosen.now.order.items * width) row 0 top.old.items }
-    ensures { OnOk result (AreWritten (A.content automaton.now) (A.reached automaton.now) (A.text automaton.now) (A.dead automaton.now) (stands_by A.Label.number (A.labels automaton.now))
-        (IsFirstOutput A.Unit.width (A.content automaton.now) (A.dead automaton.now) (A.has_output automaton.now) (A.outputs automaton.now) (A.most_outputs automaton.now))
+    ensures { OnOk result (AreWritten A.Unit.width (A.sees automaton.now) (stands_by A.Label.number (A.labels automaton.now))
         (map A.Label.number labels.now) chosen.now.order.items width (length chosen.now.order.items * width) (row + 1) 0 top.new.items) }
 {
     let base = chosen.order.len() as u32 * width;

@@ -4,8 +4,7 @@
 //! below, on one look a unit where a row is looked at, which is everywhere where the rows are closed,
 //! and on no call taking memory.
 
-ghost use Rattle.std.specs.Prelude.{◌≡◌, ◌<◌, length};
-ghost use Rattle.daachorse_core.specs.Looks.{IsFirstOutput};
+ghost use Rattle.std.specs.Prelude.{◌≡◌};
 ghost use Rattle.daachorse_rows.specs.Rows.{AreRows, SharesText, StandsFor, stands_by, state_at};
 
 use crate::label::{RowLabel, SLOTTED};
@@ -42,15 +41,13 @@ impl<'a, V: Copy, A: Automaton<V>> Model for RowView<'a, V, A>
 where
     A::Label: RowLabel,
 {
-    ghost use Rattle.daachorse_core.specs.Looks.{IsFirstOutput};
     ghost use Rattle.daachorse_rows.specs.Rows.{AreRows, Rowed, stands_by};
 
     ghost Value = { Rowed A };
 
     ghost view = { λ s. record { automaton = s.automaton; rows = record { classes = s.classes.now; top = s.top.now; homes = s.homes.now; count = s.count; width = s.width; root = s.root } } };
 
-    ghost invariant = { λ s. AreRows (A.content s.automaton) (A.reached s.automaton) (A.text s.automaton) (A.dead s.automaton) (stands_by A.Label.number (A.labels s.automaton))
-        (IsFirstOutput A.Unit.width (A.content s.automaton) (A.dead s.automaton) (A.has_output s.automaton) (A.outputs s.automaton) (A.most_outputs s.automaton))
+    ghost invariant = { λ s. AreRows A.Unit.width (A.sees s.automaton) (stands_by A.Label.number (A.labels s.automaton))
         (record { classes = s.classes.now; top = s.top.now; homes = s.homes.now; count = s.count; width = s.width; root = s.root }) };
 }
 
@@ -69,8 +66,7 @@ where
         width: u32,
         root: u32,
     ) -> Self
-        requires { AreRows (A.content automaton) (A.reached automaton) (A.text automaton) (A.dead automaton) (stands_by A.Label.number (A.labels automaton))
-            (IsFirstOutput A.Unit.width (A.content automaton) (A.dead automaton) (A.has_output automaton) (A.outputs automaton) (A.most_outputs automaton))
+        requires { AreRows A.Unit.width (A.sees automaton) (stands_by A.Label.number (A.labels automaton))
             (record { classes = classes.now; top = top.now; homes = homes.now; count = count; width = width; root = root }) }
         ensures { result ≡ record { automaton = automaton; rows = record { classes = classes.entry.now; top = top.entry.now; homes = homes.entry.now; count = count; width = width; root = root } } }
     {
@@ -89,7 +85,7 @@ where
     /// The state of a place.
     #[inline(always)]
     fn state(&self, place: u32) -> u32
-        requires { A.reached self.now.automaton (state_at self.now.rows.top place) }
+        requires { (A.sees self.now.automaton).reached (state_at self.now.rows.top place) }
         ensures { result ≡ state_at self.now.rows.top place }
     {
         let place = place as usize;
@@ -102,7 +98,7 @@ where
     /// The place of a state.
     #[inline(always)]
     fn place(&self, state: u32) -> u32
-        ensures { A.reached self.now.automaton state → StandsFor self.now.rows result state }
+        ensures { (A.sees self.now.automaton).reached state → StandsFor self.now.rows result state }
     {
         let index = state as usize;
         if index < self.homes.len() && self.homes[index] != NO_ROW {
@@ -115,7 +111,7 @@ where
     /// row, since each state that has one is led to by a state that has one.
     #[inline(always)]
     fn place_below(&self, state: u32) -> u32
-        ensures { A.reached self.now.automaton state → SharesText (A.reached self.now.automaton) (A.text self.now.automaton) self.now.rows result state }
+        ensures { (A.sees self.now.automaton).reached state → SharesText (A.sees self.now.automaton) self.now.rows result state }
     {
         if state == self.automaton.root() {
             return self.root;
@@ -128,32 +124,15 @@ impl<'a, V: Copy, A: Automaton<V>> Automaton<V> for RowView<'a, V, A>
 where
     A::Label: RowLabel,
 {
-    ghost use Rattle.daachorse_rows.specs.Rows.{AreClosed, IsPlace, state_at};
+    ghost use Rattle.daachorse_rows.specs.Rows.{over_rows};
 
     type Unit = A::Unit;
 
     type Label = A::Label;
 
-    ghost content = { λ p. A.content p.automaton };
-
-    ghost reached = { λ p place. IsPlace p.rows place × A.reached p.automaton (state_at p.rows.top place)
-        × (AreClosed A.Label.most (stands_by A.Label.number (A.labels p.automaton)) p.rows → place < length p.rows.top) };
-
-    ghost text = { λ p place. A.text p.automaton (state_at p.rows.top place) };
-
-    ghost dead = { λ p. A.dead p.automaton };
-
-    ghost has_label = { λ p. A.has_label p.automaton };
+    ghost sees = { λ p. over_rows A.Label.most (A.sees p.automaton) (stands_by A.Label.number (A.labels p.automaton)) p.rows };
 
     ghost labels = { λ p. A.labels p.automaton };
-
-    ghost has_output = { λ p. A.has_output p.automaton };
-
-    ghost outputs = { λ p. A.outputs p.automaton };
-
-    ghost most_outputs = { λ p. A.most_outputs p.automaton };
-
-    ghost ends_at_once = { λ p. AreClosed A.Label.most (stands_by A.Label.number (A.labels p.automaton)) p.rows };
 
     #[inline(always)]
     fn root(&self) -> u32 {

@@ -6,7 +6,7 @@ use Rattle.daachorse_model.specs.Units.{size}
 use Rattle.daachorse_model.specs.Dictionary.{Dictionary}
 use Rattle.daachorse_model.specs.Prefixes.{IsPrefix, Occurs}
 use Rattle.daachorse_model.specs.Outputs.{IsChain}
-use Rattle.daachorse_model.specs.Best.{IsBest, IsBestSoFar, NoneStarts, IsSteady, LeftSteps, IsLeftmost}
+use Rattle.daachorse_model.specs.Best.{IsBest, IsBestSoFar, NoneStarts, IsSteady, LeftSteps}
 use Rattle.daachorse_model.proofs.Suffixes.{size-append, le_or_lt}
 use Rattle.daachorse_model.proofs.Links.{none_before}
 use Rattle.daachorse_model.proofs.Occurrences.{split_after}
@@ -14,6 +14,7 @@ use Rattle.daachorse_model.proofs.BestLaws.{IsSteady-nil, Told, Told-IsSteady, I
 use Rattle.daachorse_model.proofs.Lists.{nil_of}
 use Rattle.daachorse_search.specs.declared.best.Found.{Found}
 use Rattle.daachorse_search.specs.BestScans.{HasNoLongerKey, IsOutputOf, IsTheBest, IsClear, IsFound, IsFoundSoFar, IsScanning}
+use Rattle.daachorse_search.specs.Views.{AutomatonView, IsLeftmostView}
 
 module _ {V : Type 0} (K : Dictionary V) where
   IsPrefix-short : (t : List ℕ) (m : ℕ) → HasNoLongerKey K m → IsPrefix K t → length t ≤ m
@@ -68,22 +69,25 @@ module _ {V : Type 0} (K : Dictionary V) where
       ]
 
 -- The scan of `text` keeps the position of the best's output, and how many bytes are behind it.
-module _ {V : Type 0} (width : ℕ → ℕ) (K : Dictionary V) (has_output : ℕ → Type 0) (outputs : ℕ → List (V × ℕ)) (has_label : ℕ → Bool) (text : List ℕ) where
+module _ {V : Type 0} (width : ℕ → ℕ) (view : AutomatonView V) (text : List ℕ) where
+  abbrev K : Dictionary V
+  K = view.content
+
   abbrev Found_in : List ℕ → ℕ × ℕ → Type 0
-  Found_in = IsFound width K has_output outputs has_label text
+  Found_in = IsFound width view text
 
   abbrev Found_so_far : List ℕ → Option (ℕ × ℕ) → Type 0
-  Found_so_far = IsFoundSoFar width K has_output outputs has_label text
+  Found_so_far = IsFoundSoFar width view text
 
   abbrev Scanning : List ℕ → List ℕ → Option (ℕ × ℕ) → ℕ → ℕ → Type 0
-  Scanning = IsScanning width K has_output outputs has_label text
+  Scanning = IsScanning width view text
 
   -- what is left is behind all that was read
   pub IsBehind-now : (seen left : List ℕ) → text ≡ seen ++ left → size width text ≡ size width seen + size width left
   IsBehind-now seen left parts = omega (arith, ap (size width) parts, size-append width seen left)
 
   -- an output that a steady state tells of is that of the best
-  found_told : (w : List ℕ) (position behind : ℕ) (l : List (V × ℕ)) → size width text ≡ size width w + behind → outputs position ≡ l → 0 < length l → has_output position → Told width K w l
+  found_told : (w : List ℕ) (position behind : ℕ) (l : List (V × ℕ)) → size width text ≡ size width w + behind → view.outputs position ≡ l → 0 < length l → view.has_output position → Told width K w l
       → Found_in w (position, behind)
   found_told w position behind [] past is some has tells = absurd (omega arith)
   found_told w position behind (o ∷ l) past is some has tells =
@@ -96,27 +100,27 @@ module _ {V : Type 0} (width : ℕ → ℕ) (K : Dictionary V) (has_output : ℕ
         output = record { place = has; value = o.0; others = values.0; more = l; has = values.1; first = is ∙ ap (λ n. (o.0, n) ∷ l) tells.3 };
       }
 
-  module _ (dead : List ℕ → Type 0) (kind : IsLeftmost K dead) where
-    pub IsFound-new : (w t : List ℕ) (position behind : ℕ) → IsSteady K w t → IsChain width K dead t (outputs position) → 0 < length (outputs position) → has_output position → size width text ≡ size width w + behind
+  module _ (kind : IsLeftmostView view) where
+    pub IsFound-new : (w t : List ℕ) (position behind : ℕ) → IsSteady K w t → IsChain width K view.dead t (view.outputs position) → 0 < length (view.outputs position) → view.has_output position → size width text ≡ size width w + behind
         → Found_in w (position, behind)
     IsFound-new w t position behind steady chain some has past =
-        found_told w position behind (outputs position) past refl some has (Told-IsSteady width K dead kind w t (outputs position) steady chain)
+        found_told w position behind (view.outputs position) past refl some has (Told-IsSteady width K view.dead kind w t (view.outputs position) steady chain)
 
-    pub IsFound-keeps : (w t : List ℕ) (u : ℕ) (best : Option (ℕ × ℕ)) → IsSteady K (w ++ u ∷ []) t → IsChain width K dead t [] → Found_so_far w best → Found_so_far (w ++ u ∷ []) best
-    IsFound-keeps w t u None steady chain found = IsBestSoFar-keeps width K w u None (Told-IsSteady width K dead kind (w ++ u ∷ []) t [] steady chain) found
+    pub IsFound-keeps : (w t : List ℕ) (u : ℕ) (best : Option (ℕ × ℕ)) → IsSteady K (w ++ u ∷ []) t → IsChain width K view.dead t [] → Found_so_far w best → Found_so_far (w ++ u ∷ []) best
+    IsFound-keeps w t u None steady chain found = IsBestSoFar-keeps width K w u None (Told-IsSteady width K view.dead kind (w ++ u ∷ []) t [] steady chain) found
     IsFound-keeps w t u (Some m) steady chain found = record {
       front = found.front;
       key = found.key;
-      best = IsBestSoFar-keeps width K w u (Some (found.front, found.key)) (Told-IsSteady width K dead kind (w ++ u ∷ []) t [] steady chain) found.best;
+      best = IsBestSoFar-keeps width K w u (Some (found.front, found.key)) (Told-IsSteady width K view.dead kind (w ++ u ∷ []) t [] steady chain) found.best;
       ends = found.ends;
       output = found.output;
     }
 
     -- at the root, where it has no output, nothing occurs
-    pub IsFound-none : (t : List ℕ) → t ≡ [] → IsChain width K dead t [] → IsBestSoFar K [] None
+    pub IsFound-none : (t : List ℕ) → t ≡ [] → IsChain width K view.dead t [] → IsBestSoFar K [] None
     IsFound-none t empty chain =
         let P : List ℕ → Type 0 = λ x. IsSteady K [] x in
-        let tells : Told width K [] [] = Told-IsSteady width K dead kind [] t [] (subst P (sym empty) (IsSteady-nil K)) chain in
+        let tells : Told width K [] [] = Told-IsSteady width K view.dead kind [] t [] (subst P (sym empty) (IsSteady-nil K)) chain in
         λ a k b o. let here = tells k (a, at_end a k b o) o.key in absurd (omega (arith, here.5))
       where
         at_end : (a k b : List ℕ) → Occurs K [] a k b → a ++ k ≡ []
@@ -125,13 +129,13 @@ module _ {V : Type 0} (width : ℕ → ℕ) (K : Dictionary V) (has_output : ℕ
         at_end (x ∷ a) k b o = absurd (let e : [] ≡ x ∷ (a ++ (k ++ b)) = o.parts in omega (arith, ap length e))
 
   abbrev labelled : List ℕ → ℕ
-  labelled w = count_by has_label w
+  labelled w = count_by view.has_label w
 
   labelled-append : (x y : List ℕ) → labelled (x ++ y) ≡ labelled x + labelled y
-  labelled-append x y = sum_by-append (λ u. cond (has_label u) 1 0) x y
+  labelled-append x y = sum_by-append (λ u. cond (view.has_label u) 1 0) x y
 
-  labelled-push : (w : List ℕ) (u : ℕ) → labelled (w ++ u ∷ []) ≡ labelled w + cond (has_label u) 1 0
-  labelled-push w u = sum_by_push (λ x. cond (has_label x) 1 0) w u
+  labelled-push : (w : List ℕ) (u : ℕ) → labelled (w ++ u ∷ []) ≡ labelled w + cond (view.has_label u) 1 0
+  labelled-push w u = sum_by_push (λ x. cond (view.has_label x) 1 0) w u
 
   -- the first unit of what was read and what is to come
   labelled-first : (w : List ℕ) (u : ℕ) (more : List ℕ) → labelled (take 1 (w ++ u ∷ more)) ≤ labelled (w ++ u ∷ [])
@@ -151,7 +155,7 @@ module _ {V : Type 0} (width : ℕ → ℕ) (K : Dictionary V) (has_output : ℕ
   -- one more unit
   pub IsScanning-more : (left t : List ℕ) (old : Option (ℕ × ℕ)) (before turns u : ℕ) (more r : List ℕ) (best : Option (ℕ × ℕ)) (later : ℕ)
       → (was : Scanning left t old before turns) → left ≡ u ∷ more
-      → later + length r ≤ turns + length t + 2 → turns + cond (has_label u) 1 0 ≤ later
+      → later + length r ≤ turns + length t + 2 → turns + cond (view.has_label u) 1 0 ≤ later
       → IsSteady K (was.seen ++ u ∷ []) r → Found_so_far (was.seen ++ u ∷ []) best → Scanning more r best before later
   IsScanning-more left t old before turns u more r best later was next most least steady found = record {
     seen = was.seen ++ u ∷ [];
@@ -165,12 +169,12 @@ module _ {V : Type 0} (width : ℕ → ℕ) (K : Dictionary V) (has_output : ℕ
   -- the scan comes to the root while a match is pending
   pub IsTheBest-stops : (left t : List ℕ) (position behind : ℕ) (f : Found) (before turns u : ℕ) (more r : List ℕ) (later : ℕ)
       → (was : Scanning left t (Some (position, behind)) before turns) → f.position.value ≡ position → f.end + behind ≡ size width text → left ≡ u ∷ more → LeftSteps K was.seen u r → r ≡ []
-      → later + length r ≤ turns + length t + 2 → turns + cond (has_label u) 1 0 ≤ later
-      → IsTheBest width K has_output outputs has_label text f.position.value f.end before later
+      → later + length r ≤ turns + length t + 2 → turns + cond (view.has_label u) 1 0 ≤ later
+      → IsTheBest width view text f.position.value f.end before later
   IsTheBest-stops left t position behind f before turns u more r later was same ended next steps empty most least =
       let w = was.seen in
       let found = was.found in
-      let Q : ℕ → Type 0 = λ p. IsOutputOf width K has_output outputs p found.key in
+      let Q : ℕ → Type 0 = λ p. IsOutputOf width view p found.key in
       let whole : text ≡ w ++ u ∷ more = was.parts ∙ ap (λ x. w ++ x) next in
       let P : List ℕ → Type 0 = λ x. IsBest K x found.front found.key in
       let cut : w ≡ (found.front ++ found.key) ++ found.best.rest = found.best.occurs.parts ∙ sym (append_assoc found.front found.key found.best.rest) in
@@ -189,11 +193,11 @@ module _ {V : Type 0} (width : ℕ → ℕ) (K : Dictionary V) (has_output : ℕ
 
   -- the text ends while a match is pending
   pub IsTheBest-ends : (left t : List ℕ) (position behind : ℕ) (f : Found) (before turns : ℕ) → Scanning left t (Some (position, behind)) before turns → f.position.value ≡ position → f.end + behind ≡ size width text → left ≡ []
-      → IsTheBest width K has_output outputs has_label text f.position.value f.end before turns
+      → IsTheBest width view text f.position.value f.end before turns
   IsTheBest-ends left t position behind f before turns was same ended none =
       let w = was.seen in
       let found = was.found in
-      let Q : ℕ → Type 0 = λ p. IsOutputOf width K has_output outputs p found.key in
+      let Q : ℕ → Type 0 = λ p. IsOutputOf width view p found.key in
       let whole : text ≡ w = was.parts ∙ (ap (λ x. w ++ x) none ∙ append-nil w) in
       let P : List ℕ → Type 0 = λ x. IsBest K x found.front found.key in
       let cut : w ≡ (found.front ++ found.key) ++ found.best.rest = found.best.occurs.parts ∙ sym (append_assoc found.front found.key found.best.rest) in
@@ -214,7 +218,7 @@ module _ {V : Type 0} (width : ℕ → ℕ) (K : Dictionary V) (has_output : ℕ
   no_empty_of w none = nil_of (K []) (λ key. none [] [] w (record { parts = refl; key = key }))
 
   -- the text ends while none is
-  pub IsClear-ends : (left t : List ℕ) (may_stop : Bool) (end before turns : ℕ) → Scanning left t None before turns → end ≡ size width text → left ≡ [] → IsClear width K has_output outputs has_label text may_stop end before turns
+  pub IsClear-ends : (left t : List ℕ) (may_stop : Bool) (end before turns : ℕ) → Scanning left t None before turns → end ≡ size width text → left ≡ [] → IsClear width view text may_stop end before turns
   IsClear-ends left t may_stop end before turns was ended none =
       let w = was.seen in
       let whole : text ≡ w = was.parts ∙ (ap (λ x. w ++ x) none ∙ append-nil w) in
@@ -234,8 +238,8 @@ module _ {V : Type 0} (width : ℕ → ℕ) (K : Dictionary V) (has_output : ℕ
   -- the scan comes to the root while none is
   pub IsClear-stops : (left t : List ℕ) (end before turns u : ℕ) (more r : List ℕ) (later : ℕ)
       → (was : Scanning left t None before turns) → end + size width more ≡ size width text → left ≡ u ∷ more → LeftSteps K was.seen u r → r ≡ []
-      → later + length r ≤ turns + length t + 2 → turns + cond (has_label u) 1 0 ≤ later
-      → IsClear width K has_output outputs has_label text true end before later
+      → later + length r ≤ turns + length t + 2 → turns + cond (view.has_label u) 1 0 ≤ later
+      → IsClear width view text true end before later
   IsClear-stops left t end before turns u more r later was ended next steps empty most least =
       let w = was.seen ++ u ∷ [] in
       let on = steady_none K was.seen r u steps empty was.found in

@@ -14,6 +14,7 @@ use Rattle.daachorse_model.specs.Matches.{standard_after, IsSinceMatch}
 use Rattle.daachorse_model.specs.Outputs.{AllWithin, matches_of_outputs}
 use Rattle.daachorse_model.specs.Prefixes.{IsLong, is_key}
 use Rattle.daachorse_model.proofs.StandardEnds.{IsResumed-begin, IsResumed-passes, IsResumed-finds, IsResumed-since, IsSinceMatch-empty, standard_after-empty, standard_after-nil}
+use Rattle.daachorse_search.specs.Views.{AutomatonView, HasNone}
 use Rattle.daachorse_search.specs.Walks.{Walked, read_on, skip_on, begin_on, matches_since, matches_from, HasPlace, HasOutputs}
 use Rattle.daachorse_search.specs.Nothing.{HasPlace-none, first_from-none}
 use Rattle.daachorse_search.specs.Finds.{IsResuming, IsEverywhere, IsFinding}
@@ -42,12 +43,15 @@ own_at_start {V} (o ∷ outputs) (v ∷ values) fits same =
     let is : o.0 ≡ v = sym (ap (λ (m : Match V). m.value) heads) in let none : o.1 ≡ 0 = omega (arith, fits.0) in
     ap (λ x. (x, o.1) ∷ outputs) is ∙ ap (λ n. (v, n) ∷ outputs) none ∙ ap (λ l. (v, 0) ∷ l) (own_at_start outputs values fits.1 tails)
 
-module _ {V : Type 0} (width : ℕ → ℕ) (K : Dictionary V) (wide : (u : ℕ) → 1 ≤ width u) (has_output : ℕ → Type 0) (outputs : ℕ → List (V × ℕ)) (most : ℕ) where
+module _ {V : Type 0} (width : ℕ → ℕ) (view : AutomatonView V) (wide : (u : ℕ) → 1 ≤ width u) where
+  abbrev K : Dictionary V
+  K = view.content
+
   -- ---- with an empty key
 
-  pub IsEverywhere-begin : (turns position : ℕ) → turns ≡ 0 → HasOutputs width K has_output outputs most unread position → 0 < length (outputs position) → IsEverywhere width K has_output outputs unread turns position
+  pub IsEverywhere-begin : (turns position : ℕ) → turns ≡ 0 → HasOutputs width view unread position → 0 < length (view.outputs position) → IsEverywhere width view unread turns position
   IsEverywhere-begin turns position idle at_root some =
-      let own : outputs position ≡ map (λ v. (v, 0)) (K []) = own_at_start (outputs position) (K []) at_root.fits at_root.matches in
+      let own : view.outputs position ≡ map (λ v. (v, 0)) (K []) = own_at_start (view.outputs position) (K []) at_root.fits at_root.matches in
       record {
         keyed = λ none. omega (arith, some, ap length (own ∙ ap (map (λ v. (v, 0))) none));
         stays = refl;
@@ -61,7 +65,7 @@ module _ {V : Type 0} (width : ℕ → ℕ) (K : Dictionary V) (wide : (u : ℕ)
   within-empty place (v ∷ values) = (omega arith, within-empty place values)
 
   -- the empty key's outputs may be given anywhere
-  pub IsEverywhere-place : (seen : SeenUnits) (turns position : ℕ) → IsEverywhere width K has_output outputs seen turns position → HasPlace width has_output outputs seen position
+  pub IsEverywhere-place : (seen : SeenUnits) (turns position : ℕ) → IsEverywhere width view seen turns position → HasPlace width view seen position
   IsEverywhere-place seen turns position h =
       let P : List (V × ℕ) → Type 0 = λ l. AllWithin (size width (units seen)) l in
       record { place = h.place; fits = subst P (sym h.own) (within-empty (size width (units seen)) (K [])) }
@@ -76,7 +80,7 @@ module _ {V : Type 0} (width : ℕ → ℕ) (K : Dictionary V) (wide : (u : ℕ)
   found_here t (v ∷ values) has some = ap option_to_list (standard_after-empty width K wide v values has t)
 
   -- the standard search's match at each place is the empty key's first
-  pub IsEverywhere-found : (seen : SeenUnits) (turns position : ℕ) → IsEverywhere width K has_output outputs seen turns position → option_to_list (standard_after width K (units seen)) ≡ take 1 (matches_from width outputs seen position)
+  pub IsEverywhere-found : (seen : SeenUnits) (turns position : ℕ) → IsEverywhere width view seen turns position → option_to_list (standard_after width K (units seen)) ≡ take 1 (matches_from width view seen position)
   IsEverywhere-found seen turns position h =
       found_here (units seen) (K []) refl h.keyed ∙ sym (first_here (size width (units seen)) (K [])) ∙ ap (λ l. take 1 (matches_of_outputs (size width (units seen)) l)) (sym h.own)
 
@@ -84,30 +88,30 @@ module _ {V : Type 0} (width : ℕ → ℕ) (K : Dictionary V) (wide : (u : ℕ)
   some_of [] place some = absurd (some refl)
   some_of (v ∷ values) place some = omega arith
 
-  pub IsEverywhere-some : (seen : SeenUnits) (turns position : ℕ) → IsEverywhere width K has_output outputs seen turns position → 0 < length (take 1 (matches_from width outputs seen position))
+  pub IsEverywhere-some : (seen : SeenUnits) (turns position : ℕ) → IsEverywhere width view seen turns position → 0 < length (take 1 (matches_from width view seen position))
   IsEverywhere-some seen turns position h =
       let P : List (V × ℕ) → Type 0 = λ l. 0 < length (take 1 (matches_of_outputs (size width (units seen)) l)) in
       subst P (sym h.own) (some_of (K []) (size width (units seen)) h.keyed)
 
   -- it stays so, one unit further
-  pub IsEverywhere-skip : (before after : SeenUnits) (turns later position : ℕ) (u : ℕ) → IsEverywhere width K has_output outputs before turns position → after ≡ skip_on before u → later ≡ turns → IsEverywhere width K has_output outputs after later position
+  pub IsEverywhere-skip : (before after : SeenUnits) (turns later position : ℕ) (u : ℕ) → IsEverywhere width view before turns position → after ≡ skip_on before u → later ≡ turns → IsEverywhere width view after later position
   IsEverywhere-skip before after turns later position u h skipped same = record { keyed = h.keyed; stays = ap (λ s. s.since) skipped; idle = same ∙ h.idle; place = h.place; own = h.own }
 
   -- ---- without an empty key
 
-  pub IsResuming-begin : HasOutputs width K has_output outputs most unread 0 → outputs 0 ≡ [] → IsResuming width K has_output outputs unread
+  pub IsResuming-begin : HasOutputs width view unread 0 → view.outputs 0 ≡ [] → IsResuming width view unread
   IsResuming-begin at_root none =
       let empty : K [] ≡ [] = map-empty (λ v. record { start = 0; end = 0; value = v }) (K []) (at_root.matches ∙ ap (matches_of_outputs 0) none) in
       record { resumed = IsResumed-begin width K wide empty; all = refl }
 
   -- one more unit, and no match ends with it
-  pub IsResuming-passes : (before after : SeenUnits) (u : ℕ) → IsResuming width K has_output outputs before → after ≡ read_on before (u ∷ []) → HasOutputs width K has_output outputs most after 0 → outputs 0 ≡ []
-      → IsResuming width K has_output outputs after × (option_to_list (standard_after width K (units after)) ≡ [])
+  pub IsResuming-passes : (before after : SeenUnits) (u : ℕ) → IsResuming width view before → after ≡ read_on before (u ∷ []) → HasOutputs width view after 0 → view.outputs 0 ≡ []
+      → IsResuming width view after × (option_to_list (standard_after width K (units after)) ≡ [])
   IsResuming-passes before after u h read here none =
       let P : SeenUnits → Type 0 = λ s. matches_since width K s.before s.since ≡ [] in
       let nothing : matches_since width K before.before (before.since ++ u ∷ []) ≡ [] = subst P read (here.matches ∙ ap (matches_of_outputs (size width (units after))) none) in
       let later = IsResumed-passes width K wide before.before before.since u h.resumed nothing in
-      let Q : SeenUnits → Type 0 = λ s. IsResuming width K has_output outputs s × (option_to_list (standard_after width K (units s)) ≡ []) in
+      let Q : SeenUnits → Type 0 = λ s. IsResuming width view s × (option_to_list (standard_after width K (units s)) ≡ []) in
       let text : (before.before ++ before.since) ++ u ∷ [] ≡ before.before ++ (before.since ++ u ∷ []) = append_assoc before.before before.since (u ∷ []) in
       subst Q (sym read) (
         record { resumed = later.0; all = ap (λ l. l ++ u ∷ []) h.all ∙ text },
@@ -115,59 +119,59 @@ module _ {V : Type 0} (width : ℕ → ℕ) (K : Dictionary V) (wide : (u : ℕ)
       )
 
   -- one more unit, with which a match ends: the walk begins again behind it
-  pub IsResuming-finds : (before after later : SeenUnits) (u position : ℕ) → IsResuming width K has_output outputs before → after ≡ read_on before (u ∷ []) → HasOutputs width K has_output outputs most after position → 0 < length (outputs position)
-      → later ≡ begin_on after → IsResuming width K has_output outputs later × (option_to_list (standard_after width K (units later)) ≡ take 1 (matches_from width outputs later position))
-  IsResuming-finds before after later u position h read here some began = by (matches_of_outputs (size width (units after)) (outputs position)) refl
+  pub IsResuming-finds : (before after later : SeenUnits) (u position : ℕ) → IsResuming width view before → after ≡ read_on before (u ∷ []) → HasOutputs width view after position → 0 < length (view.outputs position)
+      → later ≡ begin_on after → IsResuming width view later × (option_to_list (standard_after width K (units later)) ≡ take 1 (matches_from width view later position))
+  IsResuming-finds before after later u position h read here some began = by (matches_of_outputs (size width (units after)) (view.outputs position)) refl
     where
-      by : (ms : List (Match V)) → matches_of_outputs (size width (units after)) (outputs position) ≡ ms → IsResuming width K has_output outputs later × (option_to_list (standard_after width K (units later)) ≡ take 1 (matches_from width outputs later position))
-      by [] none = absurd (omega (arith, some, ap length (map-empty (λ o. record { start = size width (units after) - o.1; end = size width (units after); value = o.0 }) (outputs position) none)))
+      by : (ms : List (Match V)) → matches_of_outputs (size width (units after)) (view.outputs position) ≡ ms → IsResuming width view later × (option_to_list (standard_after width K (units later)) ≡ take 1 (matches_from width view later position))
+      by [] none = absurd (omega (arith, some, ap length (map-empty (λ o. record { start = size width (units after) - o.1; end = size width (units after); value = o.0 }) (view.outputs position) none)))
       by (m ∷ others) is =
           let P : SeenUnits → Type 0 = λ s. matches_since width K s.before s.since ≡ m ∷ others in
           let found = IsResumed-finds width K wide before.before before.since u m others h.resumed (subst P read (here.matches ∙ is)) in
           let text : (before.before ++ before.since) ++ u ∷ [] ≡ before.before ++ (before.since ++ u ∷ []) = append_assoc before.before before.since (u ∷ []) in
           let all : units later ≡ before.before ++ (before.since ++ u ∷ []) = ap units began ∙ append-nil (units after) ∙ ap units read in
           let same : units later ≡ units after = ap units began ∙ append-nil (units after) in
-          let Q : SeenUnits → Type 0 = λ s. IsResuming width K has_output outputs s in
-          let R : SeenUnits → Type 0 = λ s. IsResuming width K has_output outputs (begin_on s) in
-          let again : IsResuming width K has_output outputs (begin_on (read_on before (u ∷ []))) = record {
+          let Q : SeenUnits → Type 0 = λ s. IsResuming width view s in
+          let R : SeenUnits → Type 0 = λ s. IsResuming width view (begin_on s) in
+          let again : IsResuming width view (begin_on (read_on before (u ∷ []))) = record {
             resumed = found.0;
             all = ap (λ l. l ++ u ∷ []) h.all ∙ text ∙ sym (append-nil (before.before ++ (before.since ++ u ∷ [])));
           } in (
             subst Q (sym began) (subst R (sym read) again),
-            ap (λ t. option_to_list (standard_after width K t)) (all ∙ sym text) ∙ ap option_to_list found.1 ∙ ap (take 1) (sym is) ∙ ap (λ t. take 1 (matches_of_outputs (size width t) (outputs position))) (sym same),
+            ap (λ t. option_to_list (standard_after width K t)) (all ∙ sym text) ∙ ap option_to_list found.1 ∙ ap (take 1) (sym is) ∙ ap (λ t. take 1 (matches_of_outputs (size width t) (view.outputs position))) (sym same),
           )
 
 -- ---- the walk, as callers see it
 
-module _ {V A : Type 0} (width : ℕ → ℕ) (wide : (u : ℕ) → 1 ≤ width u) (content : A → Dictionary V) (has_label : A → ℕ → Bool) (has_output : A → ℕ → Type 0) (outputs : A → ℕ → List (V × ℕ)) (most : A → ℕ) where
+module _ {V A : Type 0} (width : ℕ → ℕ) (wide : (u : ℕ) → 1 ≤ width u) (sees : A → AutomatonView V) where
   abbrev finding : A → SeenUnits → ℕ → Option NonZeroU32 → Type 0
-  finding a seen turns o = IsFinding width (content a) (has_output a) (outputs a) seen turns o
+  finding a seen turns o = IsFinding width (sees a) seen turns o
 
   abbrev found_outputs : A → SeenUnits → Option NonZeroU32 → Type 0
-  found_outputs a seen o = HasOutputs width (content a) (has_output a) (outputs a) (most a) seen (number o) × IfSome o (λ p. 0 < length (outputs a p.value)) × (has_output a 0 × (outputs a 0 ≡ []))
+  found_outputs a seen o = HasOutputs width (sees a) seen (number o) × IfSome o (λ p. 0 < length ((sees a).outputs p.value)) × HasNone (sees a)
 
   abbrev stops : Walked A → Option NonZeroU32 → Type 0
-  stops s o = Stops (λ s. s.automaton) (λ s. units s.seen) (standard_found width content) (λ a. 1) (λ s position. HasPlace width (has_output s.automaton) (outputs s.automaton) s.seen position)
-      (λ s position. take 1 (matches_from width (outputs s.automaton) s.seen position)) s o
+  stops s o = Stops (λ s. s.automaton) (λ s. units s.seen) (standard_found width sees) (λ a. 1) (λ s position. HasPlace width (sees s.automaton) s.seen position)
+      (λ s position. take 1 (matches_from width (sees s.automaton) s.seen position)) s o
 
   one_at_most : {X : Type 0} (xs : List X) → length (take 1 xs) ≤ 1
   one_at_most [] = omega arith
   one_at_most (x ∷ xs) = omega arith
 
   -- an output was found, or none
-  stops-place : (s : Walked A) (p : NonZeroU32) → HasPlace width (has_output s.automaton) (outputs s.automaton) s.seen p.value → option_to_list (standard_after width (content s.automaton) (units s.seen)) ≡ take 1 (matches_from width (outputs s.automaton) s.seen p.value)
-      → 0 < length (take 1 (matches_from width (outputs s.automaton) s.seen p.value)) → stops s (Some p)
-  stops-place s p place matches some = record { place = place; matches = matches; few = one_at_most (matches_from width (outputs s.automaton) s.seen p.value); some = some }
+  stops-place : (s : Walked A) (p : NonZeroU32) → HasPlace width (sees s.automaton) s.seen p.value → option_to_list (standard_after width (sees s.automaton).content (units s.seen)) ≡ take 1 (matches_from width (sees s.automaton) s.seen p.value)
+      → 0 < length (take 1 (matches_from width (sees s.automaton) s.seen p.value)) → stops s (Some p)
+  stops-place s p place matches some = record { place = place; matches = matches; few = one_at_most (matches_from width (sees s.automaton) s.seen p.value); some = some }
 
-  stops-none : (s : Walked A) → has_output s.automaton 0 × (outputs s.automaton 0 ≡ []) → option_to_list (standard_after width (content s.automaton) (units s.seen)) ≡ [] → stops s None
+  stops-none : (s : Walked A) → HasNone (sees s.automaton) → option_to_list (standard_after width (sees s.automaton).content (units s.seen)) ≡ [] → stops s None
   stops-none s none nothing =
-      let given = first_from-none width (has_output s.automaton) (outputs s.automaton) s.seen none in
-      record { place = HasPlace-none width (has_output s.automaton) (outputs s.automaton) s.seen none; matches = nothing ∙ sym given; few = one_at_most (matches_from width (outputs s.automaton) s.seen 0); some = tt }
+      let given = first_from-none width (sees s.automaton) s.seen none in
+      record { place = HasPlace-none width (sees s.automaton) s.seen none; matches = nothing ∙ sym given; few = one_at_most (matches_from width (sees s.automaton) s.seen 0); some = tt }
 
   stops-everywhere : (s : Walked A) (p : NonZeroU32) → finding s.automaton s.seen s.turns (Some p) → stops s (Some p)
   stops-everywhere s p h =
-      let K = content s.automaton in let has = has_output s.automaton in let out = outputs s.automaton in
-      stops-place s p (IsEverywhere-place width K wide has out (most s.automaton) s.seen s.turns p.value h) (IsEverywhere-found width K wide has out (most s.automaton) s.seen s.turns p.value h) (IsEverywhere-some width K wide has out (most s.automaton) s.seen s.turns p.value h)
+      let view = sees s.automaton in
+      stops-place s p (IsEverywhere-place width view wide s.seen s.turns p.value h) (IsEverywhere-found width view wide s.seen s.turns p.value h) (IsEverywhere-some width view wide s.seen s.turns p.value h)
 
   -- a walk that has read nothing
   pub finding-begin : (a : A) (seen : SeenUnits) (turns : ℕ) (o : Option NonZeroU32) → seen ≡ unread → turns ≡ 0 → found_outputs a seen o → finding a seen turns o
@@ -176,16 +180,16 @@ module _ {V A : Type 0} (width : ℕ → ℕ) (wide : (u : ℕ) → 1 ≤ width 
       subst P (sym fresh) (by o) at_root
     where
       by : (o : Option NonZeroU32) → found_outputs a unread o → finding a unread turns o
-      by None (here, some, none) = IsResuming-begin width (content a) wide (has_output a) (outputs a) (most a) here none.1
-      by (Some p) (here, some, none) = IsEverywhere-begin width (content a) wide (has_output a) (outputs a) (most a) turns p.value idle here some
+      by None (here, some, none) = IsResuming-begin width (sees a) wide here none.1
+      by (Some p) (here, some, none) = IsEverywhere-begin width (sees a) wide turns p.value idle here some
 
   -- the same for what callers see
   pub finding-at : (s t : Walked A) (o : Option NonZeroU32) → s ≡ t → finding s.automaton s.seen s.turns o → finding t.automaton t.seen t.turns o
   finding-at s t o is h = let P : Walked A → Type 0 = λ x. finding x.automaton x.seen x.turns o in subst P is h
 
-  pub stops-begin : (s : Walked A) (o : Option NonZeroU32) → units s.seen ≡ [] → has_output s.automaton 0 × (outputs s.automaton 0 ≡ []) → finding s.automaton s.seen s.turns o → stops s o
+  pub stops-begin : (s : Walked A) (o : Option NonZeroU32) → units s.seen ≡ [] → HasNone (sees s.automaton) → finding s.automaton s.seen s.turns o → stops s o
   stops-begin s None fresh none h =
-      stops-none s none (ap (λ t. option_to_list (standard_after width (content s.automaton) t)) fresh ∙ ap option_to_list (standard_after-nil width (content s.automaton) wide h.resumed.no_empty))
+      stops-none s none (ap (λ t. option_to_list (standard_after width (sees s.automaton).content t)) fresh ∙ ap option_to_list (standard_after-nil width (sees s.automaton).content wide h.resumed.no_empty))
   stops-begin s (Some p) fresh none h = stops-everywhere s p h
 
   -- a unit was passed with no look
@@ -194,7 +198,7 @@ module _ {V A : Type 0} (width : ℕ → ℕ) (wide : (u : ℕ) → 1 ≤ width 
   finding-skip was now u None is h same skipped idle = absurd (omega (arith, ap {B = ℕ} (λ b. cond b 1 0) is))
   finding-skip was now u (Some p) is h same skipped idle =
       let P : A → Type 0 = λ a. finding a now.seen now.turns (Some p) in
-      let later = subst P (sym same) (IsEverywhere-skip width (content was.automaton) wide (has_output was.automaton) (outputs was.automaton) (most was.automaton) was.seen now.seen was.turns now.turns p.value u h skipped idle) in
+      let later = subst P (sym same) (IsEverywhere-skip width (sees was.automaton) wide was.seen now.seen was.turns now.turns p.value u h skipped idle) in
       (later, stops-everywhere now p later)
 
   -- a unit was looked up, and no match ends with it
@@ -203,8 +207,8 @@ module _ {V A : Type 0} (width : ℕ → ℕ) (wide : (u : ℕ) → 1 ≤ width 
   finding-pass was now u (Some p) o is none h same read here = absurd (omega (arith, ap {B = ℕ} (λ b. cond b 1 0) is))
   finding-pass was now u None (Some p) is none h same read here = absurd (omega (arith, ap {B = ℕ} (λ b. cond b 1 0) none))
   finding-pass was now u None None is none h same read (here, some, zero) =
-      let P : A → Type 0 = λ a. IsResuming width (content a) (has_output a) (outputs a) was.seen in
-      let later = IsResuming-passes width (content now.automaton) wide (has_output now.automaton) (outputs now.automaton) (most now.automaton) was.seen now.seen u (subst P (sym same) h) read here zero.1 in
+      let P : A → Type 0 = λ a. IsResuming width (sees a) was.seen in
+      let later = IsResuming-passes width (sees now.automaton) wide was.seen now.seen u (subst P (sym same) h) read here zero.1 in
       (later.0, stops-none now zero later.1)
 
   -- a unit was looked up, and a match ends with it
@@ -213,17 +217,17 @@ module _ {V A : Type 0} (width : ℕ → ℕ) (wide : (u : ℕ) → 1 ≤ width 
   finding-find was read now u (Some p) o is none h same more here still began = absurd (omega (arith, ap {B = ℕ} (λ b. cond b 1 0) is))
   finding-find was read now u None None is some h same more here still began = absurd (omega (arith, ap {B = ℕ} (λ b. cond b 1 0) some))
   finding-find was read now u None (Some p) is some h same more (here, many, zero) still began =
-      let P : A → Type 0 = λ a. IsResuming width (content a) (has_output a) (outputs a) was.seen in
-      let H : A → Type 0 = λ a. HasOutputs width (content a) (has_output a) (outputs a) (most a) read.seen p.value in
-      let L : A → Type 0 = λ a. 0 < length (outputs a p.value) in
+      let P : A → Type 0 = λ a. IsResuming width (sees a) was.seen in
+      let H : A → Type 0 = λ a. HasOutputs width (sees a) read.seen p.value in
+      let L : A → Type 0 = λ a. 0 < length ((sees a).outputs p.value) in
       let a = now.automaton in
-      let outs : HasOutputs width (content a) (has_output a) (outputs a) (most a) read.seen p.value = subst H (sym still) here in
-      let some' : 0 < length (outputs a p.value) = subst L (sym still) many in
-      let later = IsResuming-finds width (content a) wide (has_output a) (outputs a) (most a) was.seen read.seen now.seen u p.value (subst P (sym (still ∙ same)) h) more outs some' began in
+      let outs : HasOutputs width (sees a) read.seen p.value = subst H (sym still) here in
+      let some' : 0 < length ((sees a).outputs p.value) = subst L (sym still) many in
+      let later = IsResuming-finds width (sees a) wide was.seen read.seen now.seen u p.value (subst P (sym (still ∙ same)) h) more outs some' began in
       let units' : units now.seen ≡ units read.seen = ap units began ∙ append-nil (units read.seen) in
-      let F : List ℕ → Type 0 = λ t. AllWithin (size width t) (outputs a p.value) in
-      let place : HasPlace width (has_output a) (outputs a) now.seen p.value = record { place = outs.place; fits = subst F (sym units') outs.fits } in
-      (later.0, stops-place now p place later.1 (omega (arith, some', first_of (matches_from width (outputs a) now.seen p.value), length-matches (size width (units now.seen)) (outputs a p.value))))
+      let F : List ℕ → Type 0 = λ t. AllWithin (size width t) ((sees a).outputs p.value) in
+      let place : HasPlace width (sees a) now.seen p.value = record { place = outs.place; fits = subst F (sym units') outs.fits } in
+      (later.0, stops-place now p place later.1 (omega (arith, some', first_of (matches_from width (sees a) now.seen p.value), length-matches (size width (units now.seen)) ((sees a).outputs p.value))))
     where
       first_of : {X : Type 0} (xs : List X) → 0 < length xs → 0 < length (take 1 xs)
       first_of [] some = some
@@ -237,27 +241,27 @@ module _ {V A : Type 0} (width : ℕ → ℕ) (wide : (u : ℕ) → 1 ≤ width 
       subst P (sym same) (subst Q (sym began) (by o h))
     where
       by : (o : Option NonZeroU32) → finding was.automaton was.seen was.turns o → finding was.automaton unread now.turns o
-      by None h = record { resumed = IsResumed-begin width (content was.automaton) wide h.resumed.no_empty; all = refl }
+      by None h = record { resumed = IsResumed-begin width (sees was.automaton).content wide h.resumed.no_empty; all = refl }
       by (Some p) h = record { keyed = h.keyed; stays = refl; idle = idle; place = h.place; own = h.own }
 
   -- at the root the matches are found as by a walk that begins there
-  pub finding-afresh : (s : Walked A) (o : Option NonZeroU32) (b : Bool) → finding s.automaton s.seen s.turns o → (IsTrue b ↔ IsLong (content s.automaton) s.seen.since [])
-      → OnTrue b (GoesOnAfresh width (content s.automaton) (standard_found width content s.automaton) (units s.seen))
+  pub finding-afresh : (s : Walked A) (o : Option NonZeroU32) (b : Bool) → finding s.automaton s.seen s.turns o → (IsTrue b ↔ IsLong (sees s.automaton).content s.seen.since [])
+      → OnTrue b (GoesOnAfresh width (sees s.automaton).content (standard_found width sees s.automaton) (units s.seen))
   finding-afresh s o b h at =
-      on_true b (GoesOnAfresh width (content s.automaton) (standard_found width content s.automaton) (units s.seen)) (IsLong (content s.automaton) s.seen.since []) at (λ long. by o h long)
+      on_true b (GoesOnAfresh width (sees s.automaton).content (standard_found width sees s.automaton) (units s.seen)) (IsLong (sees s.automaton).content s.seen.since []) at (λ long. by o h long)
     where
-      keyed : (vs : List V) → content s.automaton [] ≡ vs → content s.automaton [] ≢ [] → GoesOnAfresh width (content s.automaton) (standard_found width content s.automaton) (units s.seen)
+      keyed : (vs : List V) → (sees s.automaton).content [] ≡ vs → (sees s.automaton).content [] ≢ [] → GoesOnAfresh width (sees s.automaton).content (standard_found width sees s.automaton) (units s.seen)
       keyed [] none some = absurd (some none)
-      keyed (v ∷ vs) has some = GoesOnAfresh-empty width (content s.automaton) wide v vs has (units s.seen)
+      keyed (v ∷ vs) has some = GoesOnAfresh-empty width (sees s.automaton).content wide v vs has (units s.seen)
 
-      by : (o : Option NonZeroU32) → finding s.automaton s.seen s.turns o → IsLong (content s.automaton) s.seen.since [] → GoesOnAfresh width (content s.automaton) (standard_found width content s.automaton) (units s.seen)
-      by None h long = GoesOnAfresh-standard width (content s.automaton) wide s.seen.before s.seen.since h.resumed long
-      by (Some p) h long = keyed (content s.automaton []) refl h.keyed
+      by : (o : Option NonZeroU32) → finding s.automaton s.seen s.turns o → IsLong (sees s.automaton).content s.seen.since [] → GoesOnAfresh width (sees s.automaton).content (standard_found width sees s.automaton) (units s.seen)
+      by None h long = GoesOnAfresh-standard width (sees s.automaton).content wide s.seen.before s.seen.since h.resumed long
+      by (Some p) h long = keyed ((sees s.automaton).content []) refl h.keyed
 
   -- what was read since the last match is what the walk read since it last began at the root
-  pub finding-since : (s : Walked A) (o : Option NonZeroU32) → finding s.automaton s.seen s.turns o → (since : List ℕ) → IsSinceMatch width (content s.automaton) (units s.seen) since → since ≡ s.seen.since
-  finding-since s None h since is = IsResumed-since width (content s.automaton) wide s.seen.before s.seen.since h.resumed since is
-  finding-since s (Some p) h since is = empty (content s.automaton) h.keyed (units s.seen) is ∙ sym h.stays
+  pub finding-since : (s : Walked A) (o : Option NonZeroU32) → finding s.automaton s.seen s.turns o → (since : List ℕ) → IsSinceMatch width (sees s.automaton).content (units s.seen) since → since ≡ s.seen.since
+  finding-since s None h since is = IsResumed-since width (sees s.automaton).content wide s.seen.before s.seen.since h.resumed since is
+  finding-since s (Some p) h since is = empty (sees s.automaton).content h.keyed (units s.seen) is ∙ sym h.stays
     where
       empty : (K : Dictionary V) → K [] ≢ [] → (t : List ℕ) → IsSinceMatch width K t since → since ≡ []
       empty K keyed t is = by (K []) refl
@@ -266,37 +270,37 @@ module _ {V A : Type 0} (width : ℕ → ℕ) (wide : (u : ℕ) → 1 ≤ width 
           by [] none = absurd (keyed none)
           by (v ∷ values) has = IsSinceMatch-empty width K wide v values has t since is
 
-  deep_since : (s : Walked A) (o : Option NonZeroU32) → finding s.automaton s.seen s.turns o → ((t : List ℕ) → IsLong (content s.automaton) s.seen.since t → s.turns + length t ≤ 2 * length (units s.seen))
-      → (since t : List ℕ) → IsSinceMatch width (content s.automaton) (units s.seen) since → IsLong (content s.automaton) since t → s.turns + length t ≤ 2 * length (units s.seen)
-  deep_since s o h deep since t is long = let Q : List ℕ → Type 0 = λ w. IsLong (content s.automaton) w t in deep t (subst Q (finding-since s o h since is) long)
+  deep_since : (s : Walked A) (o : Option NonZeroU32) → finding s.automaton s.seen s.turns o → ((t : List ℕ) → IsLong (sees s.automaton).content s.seen.since t → s.turns + length t ≤ 2 * length (units s.seen))
+      → (since t : List ℕ) → IsSinceMatch width (sees s.automaton).content (units s.seen) since → IsLong (sees s.automaton).content since t → s.turns + length t ≤ 2 * length (units s.seen)
+  deep_since s o h deep since t is long = let Q : List ℕ → Type 0 = λ w. IsLong (sees s.automaton).content w t in deep t (subst Q (finding-since s o h since is) long)
 
   none_counted : (l : List ℕ) → count_by (λ u. false) l ≡ 0
   none_counted [] = refl
   none_counted (u ∷ l) = omega (arith, none_counted l, sum_by-append (λ (x : ℕ). 0) (u ∷ []) l)
 
   -- at least the units that it looks at
-  pub finding-least : (s : Walked A) (o : Option NonZeroU32) → finding s.automaton s.seen s.turns o → count_by (has_label s.automaton) s.seen.looked ≤ s.turns
-      → count_by (looks_unless_empty (content s.automaton) (has_label s.automaton)) (units s.seen) ≤ s.turns
+  pub finding-least : (s : Walked A) (o : Option NonZeroU32) → finding s.automaton s.seen s.turns o → count_by (sees s.automaton).has_label s.seen.looked ≤ s.turns
+      → count_by (looks_unless_empty (sees s.automaton)) (units s.seen) ≤ s.turns
   finding-least s None h least =
-      let P : List ℕ → Type 0 = λ l. count_by (has_label s.automaton) l ≤ s.turns in
-      let Q : Bool → Type 0 = λ b. count_by (λ u. cond b false (has_label s.automaton u)) (units s.seen) ≤ s.turns in
-      let unkeyed : is_key (content s.automaton) [] ≡ false = ap {B = Bool} (λ vs. elim vs [ [] ↦ false | _ ∷ _ ↦ true ]) h.resumed.no_empty in
+      let P : List ℕ → Type 0 = λ l. count_by (sees s.automaton).has_label l ≤ s.turns in
+      let Q : Bool → Type 0 = λ b. count_by (λ u. cond b false ((sees s.automaton).has_label u)) (units s.seen) ≤ s.turns in
+      let unkeyed : is_key (sees s.automaton).content [] ≡ false = ap {B = Bool} (λ vs. elim vs [ [] ↦ false | _ ∷ _ ↦ true ]) h.resumed.no_empty in
       subst Q (sym unkeyed) (subst P h.all least)
-  finding-least s (Some p) h least = by (content s.automaton []) refl
+  finding-least s (Some p) h least = by ((sees s.automaton).content []) refl
     where
-      by : (vs : List V) → content s.automaton [] ≡ vs → count_by (looks_unless_empty (content s.automaton) (has_label s.automaton)) (units s.seen) ≤ s.turns
+      by : (vs : List V) → (sees s.automaton).content [] ≡ vs → count_by (looks_unless_empty (sees s.automaton)) (units s.seen) ≤ s.turns
       by [] none = absurd (h.keyed none)
       by (v ∷ vs) has =
-          let Q : Bool → Type 0 = λ b. count_by (λ u. cond b false (has_label s.automaton u)) (units s.seen) ≤ s.turns in
-          let keyed : is_key (content s.automaton) [] ≡ true = ap {B = Bool} (λ vs. elim vs [ [] ↦ false | _ ∷ _ ↦ true ]) has in
+          let Q : Bool → Type 0 = λ b. count_by (λ u. cond b false ((sees s.automaton).has_label u)) (units s.seen) ≤ s.turns in
+          let keyed : is_key (sees s.automaton).content [] ≡ true = ap {B = Bool} (λ vs. elim vs [ [] ↦ false | _ ∷ _ ↦ true ]) has in
           subst Q (sym keyed) (omega (arith, none_counted (units s.seen)))
 
   -- the bounds of the turns, of what was read since the last match
-  pub finding-bounded : (ends_at_once : Type 0) (s : Walked A) (o : Option NonZeroU32) → finding s.automaton s.seen s.turns o → s.turns ≤ 2 * length (units s.seen)
-      → ((t : List ℕ) → IsLong (content s.automaton) s.seen.since t → s.turns + length t ≤ 2 * length (units s.seen)) → (ends_at_once → s.turns ≤ length (units s.seen))
-      → count_by (has_label s.automaton) s.seen.looked ≤ s.turns → AreBoundedSince (content s.automaton) (has_label s.automaton) ends_at_once width (units s.seen) s.turns
-  finding-bounded once s None h most' deep single least =
-      let P : List ℕ → Type 0 = λ l. count_by (has_label s.automaton) l ≤ s.turns in
+  pub finding-bounded : (s : Walked A) (o : Option NonZeroU32) → finding s.automaton s.seen s.turns o → s.turns ≤ 2 * length (units s.seen)
+      → ((t : List ℕ) → IsLong (sees s.automaton).content s.seen.since t → s.turns + length t ≤ 2 * length (units s.seen)) → ((sees s.automaton).ends_at_once → s.turns ≤ length (units s.seen))
+      → count_by (sees s.automaton).has_label s.seen.looked ≤ s.turns → AreBoundedSince width (sees s.automaton) (units s.seen) s.turns
+  finding-bounded s None h most' deep single least =
+      let P : List ℕ → Type 0 = λ l. count_by (sees s.automaton).has_label l ≤ s.turns in
       record {
         most = most';
         deep = deep_since s None h deep;
@@ -304,7 +308,7 @@ module _ {V A : Type 0} (width : ℕ → ℕ) (wide : (u : ℕ) → 1 ≤ width 
         least = λ _. subst P h.all least;
         idle = λ keyed. absurd (keyed h.resumed.no_empty);
       }
-  finding-bounded once s (Some p) h most' deep single least = record {
+  finding-bounded s (Some p) h most' deep single least = record {
     most = most';
     deep = deep_since s (Some p) h deep;
     single = single;

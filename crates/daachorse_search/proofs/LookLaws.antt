@@ -3,12 +3,19 @@ use Rattle.std.proofs.Common.{ℕ, zero, suc, ◌+◌, ◌≤◌, inl, inr, List
 use Rattle.daachorse_core.specs.Looks.{EndsAfter, StepEnds}
 use Rattle.daachorse_model.specs.Dictionary.{Dictionary}
 use Rattle.daachorse_model.specs.Prefixes.{IsPrefix, IsLong, IsLink, IsCut}
-use Rattle.daachorse_model.specs.Best.{IsLeftmost, IsSteady, LeftSteps}
+use Rattle.daachorse_model.specs.Best.{IsSteady, LeftSteps}
 use Rattle.daachorse_model.proofs.BestLaws.{IsLeftCandidate, IsLeftCandidate-first, IsLeftCandidate-link, LeftSteps-turn, LeftSteps-foreign}
 use Rattle.daachorse_model.proofs.Cuts.{LeftSteps-IsCut}
 use Rattle.daachorse_model.proofs.Steps.{IsCandidate, IsCandidate-first, IsCandidate-link, IsLong-turn, IsLong-no_label}
+use Rattle.daachorse_search.specs.Views.{AutomatonView, IsLeftmostView, IsStandard}
 
-module _ {V : Type 0} (K : Dictionary V) (dead : List ℕ → Type 0) where
+module _ {V : Type 0} (view : AutomatonView V) where
+  abbrev K : Dictionary V
+  K = view.content
+
+  abbrev dead : List ℕ → Type 0
+  dead = view.dead
+
   -- one link more before it
   pub StepEnds-link : (w s t : List ℕ) (u : ℕ) → (¬ IsPrefix K (w ++ u ∷ [])) → (¬ dead w) → IsLink K w s → StepEnds K dead s u t → StepEnds K dead w u t
   StepEnds-link w s t u stuck live link (inl foreign) = inl foreign
@@ -24,16 +31,16 @@ module _ {V : Type 0} (K : Dictionary V) (dead : List ℕ → Type 0) where
   StepEnds-length w t u (inl foreign) = omega (arith, ap length foreign.1)
   StepEnds-length w t u (inr (n, ends)) = after-length n w t u ends
 
-  after-long : (n : ℕ) (w c t : List ℕ) (u : ℕ) → ((v : List ℕ) → ¬ dead v) → IsCandidate K w u c → EndsAfter K dead n c u t → IsLong K (w ++ u ∷ []) t
+  after-long : (n : ℕ) (w c t : List ℕ) (u : ℕ) → IsStandard view → IsCandidate K w u c → EndsAfter K dead n c u t → IsLong K (w ++ u ∷ []) t
   after-long zero w c t u alive h ends = IsLong-turn K dead w u c t h (alive c) ends
   after-long (suc n) w c t u alive h (stuck, live, (s, link, ends)) = after-long n w s t u alive (IsCandidate-link K w u c s h stuck link) ends
 
   -- with no dead link it is the longest end that begins a key
-  pub StepEnds-long : (w t : List ℕ) (u : ℕ) → StepEnds K dead w u t → ((v : List ℕ) → ¬ dead v) → IsLong K (w ++ u ∷ []) t
+  pub StepEnds-long : (w t : List ℕ) (u : ℕ) → StepEnds K dead w u t → IsStandard view → IsLong K (w ++ u ∷ []) t
   StepEnds-long w t u (inl foreign) alive = IsLong-no_label K w u t foreign.0 foreign.1
   StepEnds-long w t u (inr (n, ends)) alive = after-long n w w t u alive (IsCandidate-first K w u) ends
 
-  module _ (kind : IsLeftmost K dead) where
+  module _ (kind : IsLeftmostView view) where
     after-left : (n : ℕ) (all w c t : List ℕ) (u : ℕ) → IsSteady K all w → IsLeftCandidate K all w u c → EndsAfter K dead n c u t → LeftSteps K all u t
     after-left zero all w c t u steady h ends = LeftSteps-turn K dead kind all w u c t steady h ends
     after-left (suc n) all w c t u steady h (stuck, live, (s, link, ends)) =

@@ -5,12 +5,12 @@ use Rattle.std.specs.Prelude.{◌↔◌, IsTrue, map}
 use Rattle.std.proofs.lemmas.List.{length-map}
 use Rattle.daachorse_core.specs.Seen.{units}
 use Rattle.daachorse_model.specs.declared.Match.{Match}
-use Rattle.daachorse_model.specs.Dictionary.{Dictionary}
 use Rattle.daachorse_model.specs.Outputs.{matches_of_outputs}
 use Rattle.daachorse_model.specs.Prefixes.{IsLong}
 use Rattle.daachorse_model.proofs.Steps.{IsLong-nil}
 use Rattle.daachorse_search.specs.Afresh.{shifted, GoesOnAfresh}
 use Rattle.daachorse_search.specs.Searches.{all_found, first_found}
+use Rattle.daachorse_search.specs.Views.{AutomatonView}
 use Rattle.daachorse_search.specs.Walks.{Walked, IsFresh}
 use Rattle.daachorse_search.proofs.AfreshLaws.{GoesOnAfresh-all}
 
@@ -30,33 +30,33 @@ first_even : {V : Type 0} (d : ℕ) (ms : List (Match V)) → take 1 (map (shift
 first_even d [] = refl
 first_even d (m ∷ ms) = refl
 
-module _ {V A : Type 0} (width : ℕ → ℕ) (content : A → Dictionary V) where
+module _ {V A : Type 0} (width : ℕ → ℕ) (sees : A → AutomatonView V) where
   -- a walk stands at the root where nothing was read
-  pub root_begins : (s : Walked A) (b : Bool) → (IsTrue b ↔ IsLong (content s.automaton) s.seen.since []) → units s.seen ≡ [] → IsTrue b
+  pub root_begins : (s : Walked A) (b : Bool) → (IsTrue b ↔ IsLong (sees s.automaton).content s.seen.since []) → units s.seen ≡ [] → IsTrue b
   root_begins s b at none =
-      let P : List ℕ → Type 0 = λ w. IsLong (content s.automaton) w [] in
-      at.1 (subst P (sym (nil_right s.seen.before s.seen.since none)) (IsLong-nil (content s.automaton)))
+      let P : List ℕ → Type 0 = λ w. IsLong (sees s.automaton).content w [] in
+      at.1 (subst P (sym (nil_right s.seen.before s.seen.since none)) (IsLong-nil (sees s.automaton).content))
 
   -- the test whether no end of what was read begins a key
   abbrev AtRoot : Walked A → Bool → Type 0
-  AtRoot s b = IsTrue b ↔ IsLong (content s.automaton) (units s.seen) []
+  AtRoot s b = IsTrue b ↔ IsLong (sees s.automaton).content (units s.seen) []
 
-  pub root_of_read : (s : Walked A) (b : Bool) → IsFresh s.seen → (IsTrue b ↔ IsLong (content s.automaton) s.seen.since []) → AtRoot s b
-  root_of_read s b fresh at = let P : List ℕ → Type 0 = λ x. IsTrue b ↔ IsLong (content s.automaton) (x ++ s.seen.since) [] in subst P (sym fresh.fresh) at
+  pub root_of_read : (s : Walked A) (b : Bool) → IsFresh s.seen → (IsTrue b ↔ IsLong (sees s.automaton).content s.seen.since []) → AtRoot s b
+  root_of_read s b fresh at = let P : List ℕ → Type 0 = λ x. IsTrue b ↔ IsLong (sees s.automaton).content (x ++ s.seen.since) [] in subst P (sym fresh.fresh) at
 
   pub read_begins : (s : Walked A) (b : Bool) → AtRoot s b → units s.seen ≡ [] → IsTrue b
   read_begins s b at none =
-      let P : List ℕ → Type 0 = λ w. IsLong (content s.automaton) w [] in
-      at.1 (subst P (sym none) (IsLong-nil (content s.automaton)))
+      let P : List ℕ → Type 0 = λ w. IsLong (sees s.automaton).content w [] in
+      at.1 (subst P (sym none) (IsLong-nil (sees s.automaton).content))
 
   -- there all matches are found as by a walk that begins there
-  pub all_afresh : (s : Walked A) (b : Bool) → AtRoot s b → OnTrue b (GoesOnAfresh width (content s.automaton) (all_found width content s.automaton) (units s.seen))
+  pub all_afresh : (s : Walked A) (b : Bool) → AtRoot s b → OnTrue b (GoesOnAfresh width (sees s.automaton).content (all_found width sees s.automaton) (units s.seen))
   all_afresh s b at =
-      on_true b (GoesOnAfresh width (content s.automaton) (all_found width content s.automaton) (units s.seen)) (IsLong (content s.automaton) (units s.seen) []) at
-      (GoesOnAfresh-all width (content s.automaton) (λ l. l) refl (λ d ms. refl) (units s.seen))
+      on_true b (GoesOnAfresh width (sees s.automaton).content (all_found width sees s.automaton) (units s.seen)) (IsLong (sees s.automaton).content (units s.seen) []) at
+      (GoesOnAfresh-all width (sees s.automaton).content (λ l. l) refl (λ d ms. refl) (units s.seen))
 
   -- and the first of them at each end
-  pub first_afresh : (s : Walked A) (b : Bool) → AtRoot s b → OnTrue b (GoesOnAfresh width (content s.automaton) (first_found width content s.automaton) (units s.seen))
+  pub first_afresh : (s : Walked A) (b : Bool) → AtRoot s b → OnTrue b (GoesOnAfresh width (sees s.automaton).content (first_found width sees s.automaton) (units s.seen))
   first_afresh s b at =
-      on_true b (GoesOnAfresh width (content s.automaton) (first_found width content s.automaton) (units s.seen)) (IsLong (content s.automaton) (units s.seen) []) at
-      (GoesOnAfresh-all width (content s.automaton) (take 1) refl first_even (units s.seen))
+      on_true b (GoesOnAfresh width (sees s.automaton).content (first_found width sees s.automaton) (units s.seen)) (IsLong (sees s.automaton).content (units s.seen) []) at
+      (GoesOnAfresh-all width (sees s.automaton).content (take 1) refl first_even (units s.seen))

@@ -4,9 +4,9 @@ use Rattle.daachorse_model.specs.declared.Match.{Match}
 use Rattle.daachorse_model.specs.Units.{size}
 use Rattle.daachorse_model.specs.Dictionary.{Dictionary}
 use Rattle.daachorse_model.specs.Leftmost.{leftmost_from}
-use Rattle.daachorse_model.specs.Best.{IsLeftmost}
 use Rattle.daachorse_search.specs.BestScans.{HasNoLongerKey}
 use Rattle.daachorse_search.specs.Filters.{IsSoundFor, PassesNoneBefore, PassesNowhere, count_passing}
+use Rattle.daachorse_search.specs.Views.{AutomatonView, IsLeftmostView}
 
 -- the units passed end one unit behind the place, or at it where they are the whole haystack
 abbrev pub EndsUnitBehind : (ℕ → ℕ) → ℕ → List ℕ → List ℕ → Type 0
@@ -48,16 +48,16 @@ module _ {V : Type 0} (width : ℕ → ℕ) (K : Dictionary V) where
   abbrev pub IsWithin : ℕ → Bool → ℕ → ℕ → Type 0
   IsWithin passed after turns given = (m : ℕ) → HasNoLongerKey K m → turns + spare_turns m after ≤ 2 * passed + 4 * (m * given)
 
-module _ {V : Type 0} (width : ℕ → ℕ) (K : Dictionary V) (dead : List ℕ → Type 0) (has_label : ℕ → Bool) (passes : List ℕ → Bool) (asked : Type 0) where
+module _ {V : Type 0} (width : ℕ → ℕ) (view : AutomatonView V) (passes : List ℕ → Bool) (asked : Type 0) where
   -- The search goes on where `rest` begins. It asks a filter that passes by `passes`, where `asked` says that it was open at the beginning, and `opened` that it is.
   pub record IsResting (opened : Type 0) (whole rest : List ℕ) (place : ℕ) (after done : Bool) (turns given : ℕ) : Type 0 where
-    pub kind : IsLeftmost K dead
-    pub sound : IsSoundFor passes K
+    pub kind : IsLeftmostView view
+    pub sound : IsSoundFor passes view.content
     pub passed : List ℕ
     pub parts : whole ≡ passed ++ rest
     pub here : place ≡ size width passed
     pub fits : size width whole < 2 ^ 64
     pub ended : IsTrue done → rest ≡ []
-    pub most : IsWithin width K (length passed) after turns given
-    pub least : count_passing passes has_label whole passed ≤ turns
+    pub most : IsWithin width view.content (length passed) after turns given
+    pub least : count_passing passes view.has_label whole passed ≤ turns
     pub idle : asked → PassesNowhere passes whole → (turns ≡ 0) × (opened ⊎ (rest ≡ []))

@@ -1,3 +1,4 @@
+pub mod Views
 pub mod Walks
 pub mod Nothing
 pub mod Sources

@@ -3,10 +3,10 @@ use Rattle.std.specs.Prelude.{◌≡◌, ℕ, ◌+◌, ◌≤◌, List, [], ◌�
 use Rattle.std.specs.Iterator.{Count, Yields, YieldsThen, items_left}
 use Rattle.daachorse_model.specs.declared.Match.{Match}
 use Rattle.daachorse_model.specs.Units.{size}
-use Rattle.daachorse_model.specs.Dictionary.{Dictionary}
 use Rattle.daachorse_model.specs.Matches.{matches_after, standard_after}
 use Rattle.std.specs.Option.{option_to_list}
 use Rattle.daachorse_search.specs.Sources.{past_each_end}
+use Rattle.daachorse_search.specs.Views.{AutomatonView}
 
 -- what callers see of a search with an automaton A over a source S: the units that were read, the matches that end with them and are still to come, and the turns taken
 pub record SourceProgress (V A S : Type 0) : Type 0 where
@@ -18,16 +18,16 @@ pub record SourceProgress (V A S : Type 0) : Type 0 where
   pub most : ℕ
 
 -- all matches that end with the units read
-abbrev pub all_found : {V A : Type 0} → (ℕ → ℕ) → (A → Dictionary V) → A → List ℕ → List (Match V)
-all_found width content automaton read = matches_after width (content automaton) read
+abbrev pub all_found : {V A : Type 0} → (ℕ → ℕ) → (A → AutomatonView V) → A → List ℕ → List (Match V)
+all_found width sees automaton read = matches_after width (sees automaton).content read
 
 -- the first of them
-abbrev pub first_found : {V A : Type 0} → (ℕ → ℕ) → (A → Dictionary V) → A → List ℕ → List (Match V)
-first_found width content automaton read = take 1 (matches_after width (content automaton) read)
+abbrev pub first_found : {V A : Type 0} → (ℕ → ℕ) → (A → AutomatonView V) → A → List ℕ → List (Match V)
+first_found width sees automaton read = take 1 (matches_after width (sees automaton).content read)
 
 -- the standard search's match that ends with the units read
-abbrev pub standard_found : {V A : Type 0} → (ℕ → ℕ) → (A → Dictionary V) → A → List ℕ → List (Match V)
-standard_found width content automaton read = option_to_list (standard_after width (content automaton) read)
+abbrev pub standard_found : {V A : Type 0} → (ℕ → ℕ) → (A → AutomatonView V) → A → List ℕ → List (Match V)
+standard_found width sees automaton read = option_to_list (standard_after width (sees automaton).content read)
 
 module _ {V A S U : Type 0} (found : A → List ℕ → List (Match V)) (steps : S → Option U → S → Type 0) (left : S → Count) (unit : U → ℕ) (width : ℕ → ℕ) where
   -- A call took the units xs from the source, and no unit past the match's end. It gave the first of the pending matches and of those that end with xs.

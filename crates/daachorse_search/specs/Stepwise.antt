@@ -4,9 +4,9 @@ use Rattle.std.specs.declared.num.NonZeroU32.{NonZeroU32}
 use Rattle.daachorse_core.specs.Outputs.{number}
 use Rattle.daachorse_model.specs.declared.Match.{Match}
 use Rattle.daachorse_model.specs.Units.{size}
-use Rattle.daachorse_model.specs.Dictionary.{Dictionary}
 use Rattle.daachorse_model.specs.Matches.{IsSinceMatch}
 use Rattle.daachorse_model.specs.Prefixes.{IsLong, is_key}
+use Rattle.daachorse_search.specs.Views.{AutomatonView}
 
 -- the place, in bytes, is that after the units read
 abbrev pub StandsAt : (ℕ → ℕ) → List ℕ → ℕ → Type 0
@@ -27,22 +27,23 @@ module _ {V A W : Type 0} (automaton : W → A) (read : W → List ℕ) (found :
     pub few : length (given_from walk (number position)) ≤ most (automaton walk)
     pub some : IfSome position (λ p. 0 < length (given_from walk p.value))
 
-module _ {V : Type 0} (K : Dictionary V) (has_label : ℕ → Bool) where
+module _ {V : Type 0} (view : AutomatonView V) where
   -- The turns of a search that begins at the root once: at most twice the units read, less the length of its state's text, at most the units read where each look ends its step, and at least the units read that some key has.
-  pub record AreBounded (ends_at_once : Type 0) (read : List ℕ) (turns : ℕ) : Type 0 where
+  pub record AreBounded (read : List ℕ) (turns : ℕ) : Type 0 where
     pub most : turns ≤ 2 * length read
-    pub deep : (s : List ℕ) → IsLong K read s → turns + length s ≤ 2 * length read
-    pub single : ends_at_once → turns ≤ length read
-    pub least : count_by has_label read ≤ turns
+    pub deep : (s : List ℕ) → IsLong view.content read s → turns + length s ≤ 2 * length read
+    pub single : view.ends_at_once → turns ≤ length read
+    pub least : count_by view.has_label read ≤ turns
 
   -- a search that looks up nothing where some key is empty looks at each unit that some key has, where none is
   abbrev pub looks_unless_empty : ℕ → Bool
-  looks_unless_empty u = cond (is_key K []) false (has_label u)
+  looks_unless_empty u = cond (is_key view.content []) false (view.has_label u)
 
+module _ {V : Type 0} (width : ℕ → ℕ) (view : AutomatonView V) where
   -- The same for a search that begins again at the root behind each match. With an empty key it takes no turn.
-  pub record AreBoundedSince (ends_at_once : Type 0) (width : ℕ → ℕ) (read : List ℕ) (turns : ℕ) : Type 0 where
+  pub record AreBoundedSince (read : List ℕ) (turns : ℕ) : Type 0 where
     pub most : turns ≤ 2 * length read
-    pub deep : (since s : List ℕ) → IsSinceMatch width K read since → IsLong K since s → turns + length s ≤ 2 * length read
-    pub single : ends_at_once → turns ≤ length read
-    pub least : K [] ≡ [] → count_by has_label read ≤ turns
-    pub idle : K [] ≢ [] → turns ≡ 0
+    pub deep : (since s : List ℕ) → IsSinceMatch width view.content read since → IsLong view.content since s → turns + length s ≤ 2 * length read
+    pub single : view.ends_at_once → turns ≤ length read
+    pub least : view.content [] ≡ [] → count_by view.has_label read ≤ turns
+    pub idle : view.content [] ≢ [] → turns ≡ 0

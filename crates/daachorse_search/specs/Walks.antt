@@ -1,5 +1,5 @@
 -- A walk through an automaton: where it stands after the units that it read.
-use Rattle.std.specs.Prelude.{◌≡◌, ℕ, ◌+◌, ◌*◌, ◌≤◌, Bool, List, [], ◌∷◌, ◌++◌, length, count_by, Option}
+use Rattle.std.specs.Prelude.{◌≡◌, ℕ, ◌+◌, ◌*◌, ◌≤◌, List, [], ◌∷◌, ◌++◌, length, count_by, Option}
 use Rattle.std.specs.declared.num.NonZeroU32.{NonZeroU32}
 use Rattle.daachorse_core.specs.Outputs.{number}
 use Rattle.daachorse_core.specs.Seen.{SeenUnits, units}
@@ -9,6 +9,7 @@ use Rattle.daachorse_model.specs.Dictionary.{Dictionary}
 use Rattle.daachorse_model.specs.Matches.{ending_at, matches_after}
 use Rattle.daachorse_model.specs.Prefixes.{IsLong}
 use Rattle.daachorse_model.specs.Outputs.{AllWithin, matches_of_outputs}
+use Rattle.daachorse_search.specs.Views.{AutomatonView, IsStandard}
 
 -- what callers see of a walk: the automaton, what was seen, and the turns taken
 pub record Walked (A : Type 0) : Type 0 where
@@ -38,42 +39,41 @@ pub record IsFresh (seen : SeenUnits) : Type 0 where
   pub fresh : seen.before ≡ []
   pub all : seen.looked ≡ seen.since
 
--- the outputs from the position on, as matches that end with the units read
-abbrev pub matches_from : {V : Type 0} → (ℕ → ℕ) → (ℕ → List (V × ℕ)) → SeenUnits → ℕ → List (Match V)
-matches_from width outputs seen position = matches_of_outputs (size width (units seen)) (outputs position)
-
--- there are outputs at the position, and they may end at the place
-module _ {V : Type 0} (has_output : ℕ → Type 0) (outputs : ℕ → List (V × ℕ)) where
+module _ {V : Type 0} (view : AutomatonView V) where
+  -- there are outputs at the position, and they may end at the place
   pub record MayEndAt (place position : ℕ) : Type 0 where
-    pub is_position : has_output position
-    pub fits : AllWithin place (outputs position)
+    pub is_position : view.has_output position
+    pub fits : AllWithin place (view.outputs position)
 
--- there are outputs at the position, and they may be given here
-module _ {V : Type 0} (width : ℕ → ℕ) (has_output : ℕ → Type 0) (outputs : ℕ → List (V × ℕ)) where
+module _ {V : Type 0} (width : ℕ → ℕ) (view : AutomatonView V) where
+  -- the outputs from the position on, as matches that end with the units read
+  abbrev pub matches_from : SeenUnits → ℕ → List (Match V)
+  matches_from seen position = matches_of_outputs (size width (units seen)) (view.outputs position)
+
+  -- there are outputs at the position, and they may be given here
   pub record HasPlace (seen : SeenUnits) (position : ℕ) : Type 0 where
-    pub place : has_output position
-    pub fits : AllWithin (size width (units seen)) (outputs position)
+    pub place : view.has_output position
+    pub fits : AllWithin (size width (units seen)) (view.outputs position)
 
--- the position is that of the first of all matches that end where the walk stands
-module _ {V A : Type 0} (width : ℕ → ℕ) (content : A → Dictionary V) (has_output : A → ℕ → Type 0) (outputs : A → ℕ → List (V × ℕ)) where
-  pub record HasAll (walk : Walked A) (found : Option NonZeroU32) : Type 0 where
-    pub place : HasPlace width (has_output walk.automaton) (outputs walk.automaton) walk.seen (number found)
-    pub matches : matches_after width (content walk.automaton) (units walk.seen) ≡ matches_from width (outputs walk.automaton) walk.seen (number found)
-
-module _ {V : Type 0} (width : ℕ → ℕ) (K : Dictionary V) (has_output : ℕ → Type 0) (outputs : ℕ → List (V × ℕ)) (most : ℕ) where
   -- The outputs at the position are the matches that end where the walk stands.
   pub record HasOutputs (seen : SeenUnits) (position : ℕ) : Type 0 where
-    pub place : has_output position
-    pub few : length (outputs position) ≤ most
-    pub fits : AllWithin (size width (units seen)) (outputs position)
-    pub matches : matches_since width K seen.before seen.since ≡ matches_of_outputs (size width (units seen)) (outputs position)
+    pub place : view.has_output position
+    pub few : length (view.outputs position) ≤ view.most_outputs
+    pub fits : AllWithin (size width (units seen)) (view.outputs position)
+    pub matches : matches_since width view.content seen.before seen.since ≡ matches_from seen position
+
+-- the position is that of the first of all matches that end where the walk stands
+module _ {V A : Type 0} (width : ℕ → ℕ) (sees : A → AutomatonView V) where
+  pub record HasAll (walk : Walked A) (found : Option NonZeroU32) : Type 0 where
+    pub place : HasPlace width (sees walk.automaton) walk.seen (number found)
+    pub matches : matches_after width (sees walk.automaton).content (units walk.seen) ≡ matches_from width (sees walk.automaton) walk.seen (number found)
 
 -- The walk stands at the state of the units read since it last began at the root, with these bounds on its turns.
-module _ {V : Type 0} (K : Dictionary V) (reached : ℕ → Type 0) (text : ℕ → List ℕ) (dead : List ℕ → Type 0) (has_label : ℕ → Bool) (ends_at_once : Type 0) where
+module _ {V : Type 0} (view : AutomatonView V) where
   pub record IsWalking (seen : SeenUnits) (state turns : ℕ) : Type 0 where
-    pub alive : (w : List ℕ) → ¬ dead w
-    pub at_state : reached state
-    pub long : IsLong K seen.since (text state)
-    pub most : turns + length (text state) ≤ 2 * length (units seen)
-    pub single : ends_at_once → turns ≤ length (units seen)
-    pub least : count_by has_label seen.looked ≤ turns
+    pub alive : IsStandard view
+    pub at_state : view.reached state
+    pub long : IsLong view.content seen.since (view.text state)
+    pub most : turns + length (view.text state) ≤ 2 * length (units seen)
+    pub single : view.ends_at_once → turns ≤ length (units seen)
+    pub least : count_by view.has_label seen.looked ≤ turns

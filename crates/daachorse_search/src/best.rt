@@ -7,8 +7,8 @@
 
 ghost use Rattle.std.specs.Prelude.{◌≡◌, ◌+◌, ◌<◌, ◌≤◌, ◌^◌, ℕ, [], Some};
 ghost use Rattle.daachorse_model.specs.Units.{size};
-ghost use Rattle.daachorse_model.specs.Best.{IsLeftmost};
 ghost use Rattle.daachorse_search.specs.BestScans.{IsBestScan, IsScanning, IsTheBest, ScansToMatch};
+ghost use Rattle.daachorse_search.specs.Views.{IsLeftmostView};
 
 use crate::automaton::Automaton;
 use crate::haystack::Reread;
@@ -54,10 +54,9 @@ pub fn scan_best<V: Copy, A: Automaton<V>, H: Reread<A::Unit>, const FOLDED: boo
     may_stop: bool,
     turns: &mut Turns,
 ) -> Scanned
-    requires kind { IsLeftmost (A.content automaton.now) (A.dead automaton.now) }
+    requires kind { IsLeftmostView (A.sees automaton.now) }
     requires fits { size A.Unit.width (H.rest haystack.now) < 2 ^ 64 }
-    ensures { IsBestScan A.Unit.width (A.content automaton.now) (A.has_output automaton.now) (A.outputs automaton.now) (A.has_label automaton.now)
-        (H.rest haystack.now) may_stop turns.old turns.new result }
+    ensures { IsBestScan A.Unit.width (A.sees automaton.now) (H.rest haystack.now) may_stop turns.old turns.new result }
 {
     let mut source = haystack.after(0);
     let mut state = automaton.root();
@@ -79,12 +78,11 @@ fn scan_to_match<V: Copy, A: Automaton<V>, H: Reread<A::Unit>, const FOLDED: boo
     may_stop: bool,
     turns: &mut Turns,
 ) -> Option<NonZeroU32>
-    requires kind { IsLeftmost (A.content automaton.now) (A.dead automaton.now) }
-    requires reached { A.reached automaton.now state.old }
-    requires root { A.text automaton.now state.old ≡ [] }
-    ensures reached { A.reached automaton.now state.new }
-    ensures scans { ScansToMatch A.Unit.width (A.content automaton.now) (A.has_output automaton.now) (A.outputs automaton.now) (A.has_label automaton.now)
-        (H.rest source.old) (H.rest source.new) (A.text automaton.now state.new) may_stop result turns.old turns.new }
+    requires kind { IsLeftmostView (A.sees automaton.now) }
+    requires reached { (A.sees automaton.now).reached state.old }
+    requires root { (A.sees automaton.now).text state.old ≡ [] }
+    ensures reached { (A.sees automaton.now).reached state.new }
+    ensures scans { ScansToMatch A.Unit.width (A.sees automaton.now) (H.rest source.old) (H.rest source.new) ((A.sees automaton.now).text state.new) may_stop result turns.old turns.new }
 {
     // It is asked ahead of the loop, which is compiled for each answer and asks no more.
     if may_stop {
@@ -102,12 +100,11 @@ fn scan_units<V: Copy, A: Automaton<V>, H: Reread<A::Unit>>(
     may_stop: bool,
     turns: &mut Turns,
 ) -> Option<NonZeroU32>
-    requires kind { IsLeftmost (A.content automaton.now) (A.dead automaton.now) }
-    requires reached { A.reached automaton.now state.old }
-    requires root { A.text automaton.now state.old ≡ [] }
-    ensures reached { A.reached automaton.now state.new }
-    ensures scans { ScansToMatch A.Unit.width (A.content automaton.now) (A.has_output automaton.now) (A.outputs automaton.now) (A.has_label automaton.now)
-        (H.rest source.old) (H.rest source.new) (A.text automaton.now state.new) may_stop result turns.old turns.new }
+    requires kind { IsLeftmostView (A.sees automaton.now) }
+    requires reached { (A.sees automaton.now).reached state.old }
+    requires root { (A.sees automaton.now).text state.old ≡ [] }
+    ensures reached { (A.sees automaton.now).reached state.new }
+    ensures scans { ScansToMatch A.Unit.width (A.sees automaton.now) (H.rest source.old) (H.rest source.new) ((A.sees automaton.now).text state.new) may_stop result turns.old turns.new }
 {
     if let Some(position) = automaton.output_pos(*state) {
         return Some(position);
@@ -137,13 +134,12 @@ fn scan_on<V: Copy, A: Automaton<V>, H: Reread<A::Unit>>(
     position: NonZeroU32,
     turns: &mut Turns,
 ) -> Found
-    requires kind { IsLeftmost (A.content automaton.now) (A.dead automaton.now) }
-    requires reached { A.reached automaton.now state }
+    requires kind { IsLeftmostView (A.sees automaton.now) }
+    requires reached { (A.sees automaton.now).reached state }
     requires left { size A.Unit.width (H.rest source) ≤ size A.Unit.width (H.rest haystack.now) }
-    ensures { (before : ℕ) → IsScanning A.Unit.width (A.content automaton.now) (A.has_output automaton.now) (A.outputs automaton.now) (A.has_label automaton.now)
-        (H.rest haystack.now) (H.rest source) (A.text automaton.now state) (Some (position.value, size A.Unit.width (H.rest source))) before turns.old
-        → IsTheBest A.Unit.width (A.content automaton.now) (A.has_output automaton.now) (A.outputs automaton.now) (A.has_label automaton.now)
-        (H.rest haystack.now) result.position.value result.end before turns.new }
+    ensures { (before : ℕ) → IsScanning A.Unit.width (A.sees automaton.now) (H.rest haystack.now) (H.rest source) ((A.sees automaton.now).text state)
+        (Some (position.value, size A.Unit.width (H.rest source))) before turns.old
+        → IsTheBest A.Unit.width (A.sees automaton.now) (H.rest haystack.now) result.position.value result.end before turns.new }
 {
     let mut source = source;
     let mut state = state;

@@ -32,18 +32,18 @@ impl<V: Copy, A: Automaton<V>> Model for EndingHere<V, A> {
 
     ghost Value = { List (Match V) };
 
-    ghost view = { λ s. matches_of_outputs s.place (A.outputs s.automaton (number s.output)) };
+    ghost view = { λ s. matches_of_outputs s.place ((A.sees s.automaton).outputs (number s.output)) };
 
-    ghost invariant = { λ s. MayEndAt (A.has_output s.automaton) (A.outputs s.automaton) s.place (number s.output) };
+    ghost invariant = { λ s. MayEndAt (A.sees s.automaton) s.place (number s.output) };
 }
 
 impl<V: Copy, A: Automaton<V>> EndingHere<V, A> {
     /// The matches of the outputs from a position on.
     #[inline(always)]
     pub fn new(automaton: A, place: usize, output: Option<NonZeroU32>) -> Self
-        requires place { A.has_output automaton (number output) }
-        requires fits { AllWithin place (A.outputs automaton (number output)) }
-        ensures { result ≡ matches_of_outputs place (A.outputs automaton (number output)) }
+        requires place { (A.sees automaton).has_output (number output) }
+        requires fits { AllWithin place ((A.sees automaton).outputs (number output)) }
+        ensures { result ≡ matches_of_outputs place ((A.sees automaton).outputs (number output)) }
     {
         EndingHere {
             automaton,

@@ -8,10 +8,10 @@ ghost use Rattle.std.specs.Bool.{OnTrue};
 ghost use Rattle.daachorse_model.specs.Matches.{IsSinceMatch, standard};
 ghost use Rattle.daachorse_model.specs.Prefixes.{IsLong};
 ghost use Rattle.daachorse_model.specs.Units.{size};
-ghost use Rattle.daachorse_core.specs.Depths.{AreDepths};
 ghost use Rattle.daachorse_search.specs.Afresh.{GoesOnAfresh, shifted};
 ghost use Rattle.daachorse_search.specs.Filters.{IsSoundFor};
 ghost use Rattle.daachorse_search.specs.Finds.{IsFinding};
+ghost use Rattle.daachorse_search.specs.Views.{HasDepths, IsStandard};
 ghost use Rattle.daachorse_search.specs.Walks.{IsWalking};
 ghost use Rattle.daachorse_search.specs.Nothing.{HasPlace-none, first_from-none};
 
@@ -44,7 +44,7 @@ impl<V: Copy, A: Automaton<V>> Model for FindWalk<V, A> {
 
     ghost view = { λ s. s.walk };
 
-    ghost invariant = { λ s. IsFinding A.Unit.width (A.content s.walk.automaton) (A.has_output s.walk.automaton) (A.outputs s.walk.automaton) s.walk.seen s.walk.turns s.everywhere };
+    ghost invariant = { λ s. IsFinding A.Unit.width (A.sees s.walk.automaton) s.walk.seen s.walk.turns s.everywhere };
 }
 
 impl<V: Copy, A: Automaton<V>> FindWalk<V, A> {
@@ -53,7 +53,7 @@ impl<V: Copy, A: Automaton<V>> FindWalk<V, A> {
     /// A walk that has read nothing.
     #[inline(always)]
     pub fn new(automaton: A) -> Self
-        requires { (w : List ℕ) → ¬ A.dead automaton w }
+        requires { IsStandard (A.sees automaton) }
         ensures automaton { result.automaton ≡ automaton }
         ensures seen { result.seen ≡ unread }
         ensures turns { result.turns ≡ 0 }
@@ -67,10 +67,10 @@ impl<V: Copy, A: Automaton<V>> FindWalk<V, A> {
     /// empty key it is 0, and `None` if no depths are kept.
     #[inline(always)]
     pub fn depth(&self, depths: &[u32]) -> Option<u32>
-        requires { AreDepths (A.reached self.now.automaton) (A.text self.now.automaton) depths.now }
+        requires { HasDepths (A.sees self.now.automaton) depths.now }
         ensures none { depths.now ≡ [] → result ≡ None }
-        ensures depth { depths.now ≢ [] → (since s : List ℕ) → IsSinceMatch A.Unit.width (A.content self.now.automaton) (units self.now.seen) since
-            → IsLong (A.content self.now.automaton) since s → result ≡ Some (length s) }
+        ensures depth { depths.now ≢ [] → (since s : List ℕ) → IsSinceMatch A.Unit.width (A.sees self.now.automaton).content (units self.now.seen) since
+            → IsLong (A.sees self.now.automaton).content since s → result ≡ Some (length s) }
     {
         self.walk.depth(depths)
     }
@@ -78,9 +78,8 @@ impl<V: Copy, A: Automaton<V>> FindWalk<V, A> {
     /// Where the walk stands, and the outputs of the empty key, for [`Self::resume`].
     #[inline(always)]
     pub fn into_standing(self) -> (Standing, Option<NonZeroU32>)
-        ensures walks { IsWalking (A.content self.automaton) (A.reached self.automaton) (A.text self.automaton) (A.dead self.automaton) (A.has_label self.automaton) (A.ends_at_once self.automaton)
-            result.0.seen result.0.state result.0.turns }
-        ensures finds { IsFinding A.Unit.width (A.content self.automaton) (A.has_output self.automaton) (A.outputs self.automaton) result.0.seen result.0.turns result.1 }
+        ensures walks { IsWalking (A.sees self.automaton) result.0.seen result.0.state result.0.turns }
+        ensures finds { IsFinding A.Unit.width (A.sees self.automaton) result.0.seen result.0.turns result.1 }
         ensures seen { result.0.seen ≡ self.seen }
         ensures turns { result.0.turns ≡ self.turns }
     {
@@ -91,9 +90,8 @@ impl<V: Copy, A: Automaton<V>> FindWalk<V, A> {
     /// A walk that goes on where one through the same automaton stood.
     #[inline(always)]
     pub fn resume(automaton: A, standing: Standing, everywhere: Option<NonZeroU32>) -> Self
-        requires walks { IsWalking (A.content automaton) (A.reached automaton) (A.text automaton) (A.dead automaton) (A.has_label automaton) (A.ends_at_once automaton)
-            standing.seen standing.state standing.turns }
-        requires finds { IsFinding A.Unit.width (A.content automaton) (A.has_output automaton) (A.outputs automaton) standing.seen standing.turns everywhere }
+        requires walks { IsWalking (A.sees automaton) standing.seen standing.state standing.turns }
+        requires finds { IsFinding A.Unit.width (A.sees automaton) standing.seen standing.turns everywhere }
         ensures automaton { result.automaton ≡ automaton }
         ensures seen { result.seen ≡ standing.seen }
         ensures turns { result.turns ≡ standing.turns }
@@ -115,25 +113,25 @@ impl<V: Copy, A: Automaton<V>> Stepwise<V> for FindWalk<V, A> {
 
     ghost automaton = { λ s. s.automaton };
 
-    ghost content = { A.content };
+    ghost content = { λ a. (A.sees a).content };
 
     ghost read = { λ s. units s.seen };
 
     ghost turns = { λ s. s.turns };
 
-    ghost found = { standard_found A.Unit.width A.content };
+    ghost found = { standard_found A.Unit.width A.sees };
 
     ghost most_found = { λ a. 1 };
 
-    ghost has_output = { λ s position. HasPlace A.Unit.width (A.has_output s.automaton) (A.outputs s.automaton) s.seen position };
+    ghost has_output = { λ s position. HasPlace A.Unit.width (A.sees s.automaton) s.seen position };
 
-    ghost given_from = { λ s position. take 1 (matches_from A.Unit.width (A.outputs s.automaton) s.seen position) };
+    ghost given_from = { λ s position. take 1 (matches_from A.Unit.width (A.sees s.automaton) s.seen position) };
 
-    ghost looks_at = { λ a. looks_unless_empty (A.content a) (A.has_label a) };
+    ghost looks_at = { λ a. looks_unless_empty (A.sees a) };
 
-    ghost ends_at_once = { A.ends_at_once };
+    ghost ends_at_once = { λ a. (A.sees a).ends_at_once };
 
-    ghost bounds = { λ a read turns. AreBoundedSince (A.content a) (A.has_label a) (A.ends_at_once a) A.Unit.width read turns };
+    ghost bounds = { λ a read turns. AreBoundedSince A.Unit.width (A.sees a) read turns };
 
     #[inline(always)]
     fn begin(&self) -> Option<NonZeroU32> {
@@ -183,7 +181,7 @@ impl<V: Copy, A: Automaton<V>> Stepwise<V> for FindWalk<V, A> {
         self.walk.turns_are_bounded();
     }
 
-    ghost no_output = { λ s. (HasPlace-none A.Unit.width (A.has_output s.automaton) (A.outputs s.automaton) s.seen (A.no_output s.automaton), first_from-none A.Unit.width (A.has_output s.automaton) (A.outputs s.automaton) s.seen (A.no_output s.automaton)) };
+    ghost no_output = { λ s. (HasPlace-none A.Unit.width (A.sees s.automaton) s.seen (A.no_output s.automaton), first_from-none A.Unit.width (A.sees s.automaton) s.seen (A.no_output s.automaton)) };
 }
 
 impl<V: Copy, A: Automaton<V>> Clone for FindWalk<V, A> {
@@ -207,13 +205,13 @@ pub fn find_in<V: Copy, A: Automaton<V>, H: Reread<A::Unit>, F: Filter<A::Unit, 
     haystack: H,
     filter: F,
 ) -> Matches<V, FindWalk<V, A>, H, F>
-    requires alive { (w : List ℕ) → ¬ A.dead automaton w }
+    requires alive { IsStandard (A.sees automaton) }
     requires fits { size A.Unit.width (H.rest haystack) < 2 ^ 64 }
-    requires sound { IsSoundFor (F.passes filter) (A.content automaton) }
+    requires sound { IsSoundFor (F.passes filter) (A.sees automaton).content }
     ensures automaton { result.automaton ≡ automaton }
     ensures filter { result.filter ≡ filter }
     ensures haystack { result.haystack ≡ H.rest haystack }
-    ensures left { result.left ≡ standard A.Unit.width (A.content automaton) (H.rest haystack) }
+    ensures left { result.left ≡ standard A.Unit.width (A.sees automaton).content (H.rest haystack) }
     ensures passed { result.passed ≡ [] }
     ensures turns { result.turns ≡ 0 }
     ensures given { result.given ≡ 0 }

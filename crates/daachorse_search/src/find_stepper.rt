@@ -7,10 +7,10 @@ ghost use Rattle.std.specs.Prelude.{◌≡◌, ◌≢◌, ◌<◌, ◌^◌, ◌+
 ghost use Rattle.daachorse_model.specs.Matches.{standard_after, IsSinceMatch};
 ghost use Rattle.daachorse_model.specs.Prefixes.{IsLong};
 ghost use Rattle.daachorse_model.specs.Units.{size};
-ghost use Rattle.daachorse_core.specs.Depths.{AreDepths};
 ghost use Rattle.daachorse_core.specs.Seen.{units};
 ghost use Rattle.daachorse_search.specs.Standings.{IsFindStanding};
 ghost use Rattle.daachorse_search.specs.Stepwise.{AreBoundedSince};
+ghost use Rattle.daachorse_search.specs.Views.{HasDepths, IsStandard};
 
 use crate::automaton::Automaton;
 use crate::find::FindWalk;
@@ -54,7 +54,7 @@ pub struct FindStanding {
 
 impl<'a, V: Copy, A: Automaton<V>> Model for FindStepper<'a, V, A> {
     ghost use Rattle.daachorse_core.specs.Seen.{units};
-    ghost use Rattle.daachorse_core.specs.Depths.{AreDepths};
+    ghost use Rattle.daachorse_search.specs.Views.{HasDepths};
     ghost use Rattle.daachorse_search.specs.Finds.{HasFound};
     ghost use Rattle.daachorse_search.specs.Stepwise.{Stepped, StandsAt};
 
@@ -63,16 +63,16 @@ impl<'a, V: Copy, A: Automaton<V>> Model for FindStepper<'a, V, A> {
     ghost view = { λ s. record { automaton = s.walk.automaton; depths = s.depths.now; read = units s.walk.seen; turns = s.walk.turns } };
 
     ghost invariant = { λ s. StandsAt A.Unit.width (units s.walk.seen) s.place
-        × HasFound A.Unit.width A.content A.has_output A.outputs s.walk s.found
-        × AreDepths (A.reached s.walk.automaton) (A.text s.walk.automaton) s.depths.now };
+        × HasFound A.Unit.width A.sees s.walk s.found
+        × HasDepths (A.sees s.walk.automaton) s.depths.now };
 }
 
 impl<'a, V: Copy, A: Automaton<V>> FindStepper<'a, V, A> {
     /// A stepper that has consumed nothing. The depths are those of the automaton's states, or none.
     #[inline(always)]
     pub fn new(automaton: A, depths: &'a [u32]) -> Self
-        requires alive { (w : List ℕ) → ¬ A.dead automaton w }
-        requires depths { AreDepths (A.reached automaton) (A.text automaton) depths.now }
+        requires alive { IsStandard (A.sees automaton) }
+        requires depths { HasDepths (A.sees automaton) depths.now }
         ensures automaton { result.automaton ≡ automaton }
         ensures depths { result.depths ≡ depths.entry.now }
         ensures read { result.read ≡ [] }
@@ -106,7 +106,7 @@ impl<'a, V: Copy, A: Automaton<V>> FindStepper<'a, V, A> {
     /// The match of the standard search that ends with the units consumed, if there is one.
     #[inline(always)]
     pub fn matches(&self) -> Option<Match<V>>
-        ensures { result ≡ standard_after A.Unit.width (A.content self.now.automaton) self.now.read }
+        ensures { result ≡ standard_after A.Unit.width (A.sees self.now.automaton).content self.now.read }
     {
         let position = self.found?;
         Some(self.walk.give(position, self.place).0)
@@ -120,8 +120,8 @@ impl<'a, V: Copy, A: Automaton<V>> FindStepper<'a, V, A> {
     #[inline(always)]
     pub fn depth(&self) -> Option<u32>
         ensures none { self.now.depths ≡ [] → result ≡ None }
-        ensures depth { self.now.depths ≢ [] → (since s : List ℕ) → IsSinceMatch A.Unit.width (A.content self.now.automaton) self.now.read since
-            → IsLong (A.content self.now.automaton) since s → result ≡ Some (length s) }
+        ensures depth { self.now.depths ≢ [] → (since s : List ℕ) → IsSinceMatch A.Unit.width (A.sees self.now.automaton).content self.now.read since
+            → IsLong (A.sees self.now.automaton).content since s → result ≡ Some (length s) }
     {
         self.walk.depth(self.depths)
     }
@@ -132,7 +132,7 @@ impl<'a, V: Copy, A: Automaton<V>> FindStepper<'a, V, A> {
     /// the automaton is borrowed again.
     #[inline(always)]
     pub fn into_standing(self) -> FindStanding
-        ensures stands { IsFindStanding A.Unit.width A.content A.reached A.text A.dead A.has_label A.ends_at_once A.has_output A.outputs self.entry.automaton result }
+        ensures stands { IsFindStanding A.Unit.width A.sees self.entry.automaton result }
         ensures read { units result.walk.seen ≡ self.entry.read }
         ensures turns { result.walk.turns ≡ self.entry.turns }
     {
@@ -155,8 +155,8 @@ impl<'a, V: Copy, A: Automaton<V>> FindStepper<'a, V, A> {
     /// automaton's states, or none.
     #[inline(always)]
     pub fn resume(automaton: A, depths: &'a [u32], standing: FindStanding) -> Self
-        requires stands { IsFindStanding A.Unit.width A.content A.reached A.text A.dead A.has_label A.ends_at_once A.has_output A.outputs automaton standing }
-        requires depths { AreDepths (A.reached automaton) (A.text automaton) depths.now }
+        requires stands { IsFindStanding A.Unit.width A.sees automaton standing }
+        requires depths { HasDepths (A.sees automaton) depths.now }
         ensures automaton { result.automaton ≡ automaton }
         ensures depths { result.depths ≡ depths.entry.now }
         ensures read { result.read ≡ units standing.walk.seen }
@@ -179,7 +179,7 @@ impl<'a, V: Copy, A: Automaton<V>> FindStepper<'a, V, A> {
     /// Does nothing, and promises the bounds of the turns.
     #[inline(always)]
     pub fn turns_are_bounded(&self)
-        ensures { AreBoundedSince (A.content self.now.automaton) (A.has_label self.now.automaton) (A.ends_at_once self.now.automaton) A.Unit.width self.now.read self.now.turns }
+        ensures { AreBoundedSince A.Unit.width (A.sees self.now.automaton) self.now.read self.now.turns }
     {
         self.walk.turns_are_bounded();
     }

@@ -11,12 +11,12 @@
 
 ghost use Rattle.std.specs.Prelude.{◌≡◌, ◌+◌, ◌*◌, ◌^◌, ◌<◌, ◌≤◌, ◌++◌, ℕ, true, List, [], length, count_by, IsTrue};
 ghost use Rattle.daachorse_model.specs.Units.{size};
-ghost use Rattle.daachorse_model.specs.Best.{IsLeftmost};
 ghost use Rattle.daachorse_model.specs.Leftmost.{leftmost};
 ghost use Rattle.daachorse_search.specs.BestScans.{HasNoLongerKey};
 ghost use Rattle.daachorse_search.specs.Filters.{IsSoundFor, PassesNowhere, count_passing};
 ghost use Rattle.daachorse_search.specs.LeftmostSearches.{SkipsUnit, StandsBehind, IsSkipped};
 ghost use Rattle.daachorse_search.specs.Matches.{GivesFirst};
+ghost use Rattle.daachorse_search.specs.Views.{IsLeftmostView};
 
 use crate::automaton::Automaton;
 use crate::best::{Scanned, scan_best};
@@ -69,7 +69,7 @@ impl<V: Copy, A: Automaton<V>, H: Reread<A::Unit>, F: Filter<A::Unit, H>> Model
       automaton = s.automaton;
       filter = s.first_filter.value;
       haystack = H.rest s.whole.value;
-      left = leftmost_left A.Unit.width (A.content s.automaton) s.place (H.rest s.rest) s.after s.done;
+      left = leftmost_left A.Unit.width (A.sees s.automaton).content s.place (H.rest s.rest) s.after s.done;
       passed = before_rest (H.rest s.whole.value) (H.rest s.rest);
       since = [];
       turns = s.turns;
@@ -77,7 +77,7 @@ impl<V: Copy, A: Automaton<V>, H: Reread<A::Unit>, F: Filter<A::Unit, H>> Model
     } };
 
     ghost invariant = { λ s. ((w : List ℕ) → F.passes s.filter w ≡ F.passes s.first_filter.value w)
-        × IsResting A.Unit.width (A.content s.automaton) (A.dead s.automaton) (A.has_label s.automaton) (F.passes s.first_filter.value) (F.opened s.first_filter.value)
+        × IsResting A.Unit.width (A.sees s.automaton) (F.passes s.first_filter.value) (F.opened s.first_filter.value)
         (F.opened s.filter) (H.rest s.whole.value) (H.rest s.rest) s.place s.after s.done s.turns s.seen.given };
 }
 
@@ -85,11 +85,11 @@ impl<V: Copy, A: Automaton<V>, H: Reread<A::Unit>> LeftmostMatches<V, A, H, NoFi
     /// A search from the beginning of the haystack.
     #[inline(always)]
     pub fn new(automaton: A, haystack: H) -> Self
-        requires kind { IsLeftmost (A.content automaton) (A.dead automaton) }
+        requires kind { IsLeftmostView (A.sees automaton) }
         requires fits { size A.Unit.width (H.rest haystack) < 2 ^ 64 }
         ensures automaton { result.automaton ≡ automaton }
         ensures haystack { result.haystack ≡ H.rest haystack }
-        ensures left { result.left ≡ leftmost A.Unit.width (A.content automaton) (H.rest haystack) }
+        ensures left { result.left ≡ leftmost A.Unit.width (A.sees automaton).content (H.rest haystack) }
         ensures passed { result.passed ≡ [] }
         ensures turns { result.turns ≡ 0 }
         ensures given { result.given ≡ 0 }
@@ -107,13 +107,13 @@ impl<V: Copy, A: Automaton<V>, H: Reread<A::Unit>, F: Filter<A::Unit, H>> Leftmo
     /// A search from the beginning of the haystack, which asks a filter where it goes on.
     #[inline(always)]
     pub fn with_filter(automaton: A, haystack: H, filter: F) -> Self
-        requires kind { IsLeftmost (A.content automaton) (A.dead automaton) }
+        requires kind { IsLeftmostView (A.sees automaton) }
         requires fits { size A.Unit.width (H.rest haystack) < 2 ^ 64 }
-        requires sound { IsSoundFor (F.passes filter) (A.content automaton) }
+        requires sound { IsSoundFor (F.passes filter) (A.sees automaton).content }
         ensures automaton { result.automaton ≡ automaton }
         ensures filter { result.filter ≡ filter }
         ensures haystack { result.haystack ≡ H.rest haystack }
-        ensures left { result.left ≡ leftmost A.Unit.width (A.content automaton) (H.rest haystack) }
+        ensures left { result.left ≡ leftmost A.Unit.width (A.sees automaton).content (H.rest haystack) }
         ensures passed { result.passed ≡ [] }
         ensures turns { result.turns ≡ 0 }
         ensures given { result.given ≡ 0 }
@@ -139,11 +139,11 @@ impl<V: Copy, A: Automaton<V>, H: Reread<A::Unit>, F: Filter<A::Unit, H>> Leftmo
     /// nowhere; and that the haystack begins with the units passed.
     #[inline(always)]
     pub fn turns_are_bounded(&self)
-        ensures most { (m : ℕ) → HasNoLongerKey (A.content self.now.automaton) m
+        ensures most { (m : ℕ) → HasNoLongerKey (A.sees self.now.automaton).content m
             → self.now.turns ≤ 2 * length self.now.passed + 4 * (m * self.now.given) }
-        ensures passing { count_passing (F.passes self.now.filter) (A.has_label self.now.automaton) self.now.haystack self.now.passed ≤ self.now.turns }
+        ensures passing { count_passing (F.passes self.now.filter) (A.sees self.now.automaton).has_label self.now.haystack self.now.passed ≤ self.now.turns }
         ensures least { ((w : List ℕ) → F.passes self.now.filter w ≡ true)
-            → count_by (A.has_label self.now.automaton) self.now.passed ≤ self.now.turns }
+            → count_by (A.sees self.now.automaton).has_label self.now.passed ≤ self.now.turns }
         ensures idle { F.opened self.now.filter → PassesNowhere (F.passes self.now.filter) self.now.haystack → self.now.turns ≡ 0 }
         ensures passed { (rest : List ℕ) × (self.now.haystack ≡ self.now.passed ++ rest) }
     {

@@ -8,9 +8,9 @@ ghost use Rattle.std.specs.Bool.{OnTrue};
 ghost use Rattle.daachorse_model.specs.Matches.{no_suffix, overlapping};
 ghost use Rattle.daachorse_model.specs.Prefixes.{IsLong};
 ghost use Rattle.daachorse_model.specs.Units.{size};
-ghost use Rattle.daachorse_core.specs.Depths.{AreDepths};
 ghost use Rattle.daachorse_search.specs.Afresh.{GoesOnAfresh, shifted};
 ghost use Rattle.daachorse_search.specs.Filters.{IsSoundFor};
+ghost use Rattle.daachorse_search.specs.Views.{HasDepths, IsStandard};
 ghost use Rattle.daachorse_search.specs.Walks.{IsFresh, IsWalking};
 ghost use Rattle.daachorse_search.specs.Nothing.{HasPlace-none, matches_from-none, first_from-none};
 
@@ -49,7 +49,7 @@ impl<V: Copy, A: Automaton<V>> OverlappingWalk<V, A> {
     /// A walk that has read nothing.
     #[inline(always)]
     pub fn new(automaton: A) -> Self
-        requires { (w : List ℕ) → ¬ A.dead automaton w }
+        requires { IsStandard (A.sees automaton) }
         ensures automaton { result.automaton ≡ automaton }
         ensures seen { result.seen ≡ unread }
         ensures turns { result.turns ≡ 0 }
@@ -62,7 +62,7 @@ impl<V: Copy, A: Automaton<V>> OverlappingWalk<V, A> {
     /// Whether no key that began before goes on here.
     #[inline(always)]
     pub fn stands_at_root(&self) -> bool
-        ensures { IsTrue result ↔ IsLong (A.content self.now.automaton) (units self.now.seen) [] }
+        ensures { IsTrue result ↔ IsLong (A.sees self.now.automaton).content (units self.now.seen) [] }
     {
         self.walk.is_at_root()
     }
@@ -71,9 +71,9 @@ impl<V: Copy, A: Automaton<V>> OverlappingWalk<V, A> {
     /// are kept.
     #[inline(always)]
     pub fn depth(&self, depths: &[u32]) -> Option<u32>
-        requires { AreDepths (A.reached self.now.automaton) (A.text self.now.automaton) depths.now }
+        requires { HasDepths (A.sees self.now.automaton) depths.now }
         ensures none { depths.now ≡ [] → result ≡ None }
-        ensures depth { depths.now ≢ [] → (s : List ℕ) → IsLong (A.content self.now.automaton) (units self.now.seen) s → result ≡ Some (length s) }
+        ensures depth { depths.now ≢ [] → (s : List ℕ) → IsLong (A.sees self.now.automaton).content (units self.now.seen) s → result ≡ Some (length s) }
     {
         self.walk.depth(depths)
     }
@@ -81,8 +81,7 @@ impl<V: Copy, A: Automaton<V>> OverlappingWalk<V, A> {
     /// Where the walk stands, for [`Self::resume`].
     #[inline(always)]
     pub fn into_standing(self) -> Standing
-        ensures walks { IsWalking (A.content self.automaton) (A.reached self.automaton) (A.text self.automaton) (A.dead self.automaton) (A.has_label self.automaton) (A.ends_at_once self.automaton)
-            result.seen result.state result.turns }
+        ensures walks { IsWalking (A.sees self.automaton) result.seen result.state result.turns }
         ensures fresh { IsFresh result.seen }
         ensures seen { result.seen ≡ self.seen }
         ensures turns { result.turns ≡ self.turns }
@@ -94,8 +93,7 @@ impl<V: Copy, A: Automaton<V>> OverlappingWalk<V, A> {
     /// A walk that goes on where one through the same automaton stood.
     #[inline(always)]
     pub fn resume(automaton: A, standing: Standing) -> Self
-        requires walks { IsWalking (A.content automaton) (A.reached automaton) (A.text automaton) (A.dead automaton) (A.has_label automaton) (A.ends_at_once automaton)
-            standing.seen standing.state standing.turns }
+        requires walks { IsWalking (A.sees automaton) standing.seen standing.state standing.turns }
         requires fresh { IsFresh standing.seen }
         ensures automaton { result.automaton ≡ automaton }
         ensures seen { result.seen ≡ standing.seen }
@@ -119,27 +117,27 @@ impl<V: Copy, A: Automaton<V>> Stepwise<V> for OverlappingWalk<V, A> {
 
     ghost automaton = { λ s. s.automaton };
 
-    ghost content = { A.content };
+    ghost content = { λ a. (A.sees a).content };
 
     ghost read = { λ s. units s.seen };
 
     ghost turns = { λ s. s.turns };
 
-    ghost found = { all_found A.Unit.width A.content };
+    ghost found = { all_found A.Unit.width A.sees };
 
-    ghost most_found = { A.most_outputs };
+    ghost most_found = { λ a. (A.sees a).most_outputs };
 
-    ghost has_output = { λ s position. HasPlace A.Unit.width (A.has_output s.automaton) (A.outputs s.automaton) s.seen position };
+    ghost has_output = { λ s position. HasPlace A.Unit.width (A.sees s.automaton) s.seen position };
 
-    ghost given_from = { λ s position. matches_from A.Unit.width (A.outputs s.automaton) s.seen position };
+    ghost given_from = { λ s position. matches_from A.Unit.width (A.sees s.automaton) s.seen position };
 
-    ghost no_output = { λ s. (HasPlace-none A.Unit.width (A.has_output s.automaton) (A.outputs s.automaton) s.seen (A.no_output s.automaton), matches_from-none A.Unit.width (A.has_output s.automaton) (A.outputs s.automaton) s.seen (A.no_output s.automaton)) };
+    ghost no_output = { λ s. (HasPlace-none A.Unit.width (A.sees s.automaton) s.seen (A.no_output s.automaton), matches_from-none A.Unit.width (A.sees s.automaton) s.seen (A.no_output s.automaton)) };
 
-    ghost looks_at = { A.has_label };
+    ghost looks_at = { λ a. (A.sees a).has_label };
 
-    ghost ends_at_once = { A.ends_at_once };
+    ghost ends_at_once = { λ a. (A.sees a).ends_at_once };
 
-    ghost bounds = { λ a read turns. AreBounded (A.content a) (A.has_label a) (A.ends_at_once a) read turns };
+    ghost bounds = { λ a read turns. AreBounded (A.sees a) read turns };
 
     #[inline(always)]
     fn begin(&self) -> Option<NonZeroU32> {
@@ -216,7 +214,7 @@ impl<V: Copy, A: Automaton<V>> NoSuffixWalk<V, A> {
     /// A walk that has read nothing.
     #[inline(always)]
     pub fn new(automaton: A) -> Self
-        requires { (w : List ℕ) → ¬ A.dead automaton w }
+        requires { IsStandard (A.sees automaton) }
         ensures automaton { result.automaton ≡ automaton }
         ensures seen { result.seen ≡ unread }
         ensures turns { result.turns ≡ 0 }
@@ -239,27 +237,27 @@ impl<V: Copy, A: Automaton<V>> Stepwise<V> for NoSuffixWalk<V, A> {
 
     ghost automaton = { λ s. s.automaton };
 
-    ghost content = { A.content };
+    ghost content = { λ a. (A.sees a).content };
 
     ghost read = { λ s. units s.seen };
 
     ghost turns = { λ s. s.turns };
 
-    ghost found = { first_found A.Unit.width A.content };
+    ghost found = { first_found A.Unit.width A.sees };
 
     ghost most_found = { λ a. 1 };
 
-    ghost has_output = { λ s position. HasPlace A.Unit.width (A.has_output s.automaton) (A.outputs s.automaton) s.seen position };
+    ghost has_output = { λ s position. HasPlace A.Unit.width (A.sees s.automaton) s.seen position };
 
-    ghost given_from = { λ s position. take 1 (matches_from A.Unit.width (A.outputs s.automaton) s.seen position) };
+    ghost given_from = { λ s position. take 1 (matches_from A.Unit.width (A.sees s.automaton) s.seen position) };
 
-    ghost no_output = { λ s. (HasPlace-none A.Unit.width (A.has_output s.automaton) (A.outputs s.automaton) s.seen (A.no_output s.automaton), first_from-none A.Unit.width (A.has_output s.automaton) (A.outputs s.automaton) s.seen (A.no_output s.automaton)) };
+    ghost no_output = { λ s. (HasPlace-none A.Unit.width (A.sees s.automaton) s.seen (A.no_output s.automaton), first_from-none A.Unit.width (A.sees s.automaton) s.seen (A.no_output s.automaton)) };
 
-    ghost looks_at = { A.has_label };
+    ghost looks_at = { λ a. (A.sees a).has_label };
 
-    ghost ends_at_once = { A.ends_at_once };
+    ghost ends_at_once = { λ a. (A.sees a).ends_at_once };
 
-    ghost bounds = { λ a read turns. AreBounded (A.content a) (A.has_label a) (A.ends_at_once a) read turns };
+    ghost bounds = { λ a read turns. AreBounded (A.sees a) read turns };
 
     #[inline(always)]
     fn begin(&self) -> Option<NonZeroU32> {
@@ -309,13 +307,13 @@ pub fn find_overlapping_in<V: Copy, A: Automaton<V>, H: Reread<A::Unit>, F: Filt
     haystack: H,
     filter: F,
 ) -> Matches<V, OverlappingWalk<V, A>, H, F>
-    requires alive { (w : List ℕ) → ¬ A.dead automaton w }
+    requires alive { IsStandard (A.sees automaton) }
     requires fits { size A.Unit.width (H.rest haystack) < 2 ^ 64 }
-    requires sound { IsSoundFor (F.passes filter) (A.content automaton) }
+    requires sound { IsSoundFor (F.passes filter) (A.sees automaton).content }
     ensures automaton { result.automaton ≡ automaton }
     ensures filter { result.filter ≡ filter }
     ensures haystack { result.haystack ≡ H.rest haystack }
-    ensures left { result.left ≡ overlapping A.Unit.width (A.content automaton) (H.rest haystack) }
+    ensures left { result.left ≡ overlapping A.Unit.width (A.sees automaton).content (H.rest haystack) }
     ensures passed { result.passed ≡ [] }
     ensures turns { result.turns ≡ 0 }
     ensures given { result.given ≡ 0 }
@@ -331,13 +329,13 @@ pub fn find_overlapping_no_suffix_in<
     H: Reread<A::Unit>,
     F: Filter<A::Unit, H>,
 >(automaton: A, haystack: H, filter: F) -> Matches<V, NoSuffixWalk<V, A>, H, F>
-    requires alive { (w : List ℕ) → ¬ A.dead automaton w }
+    requires alive { IsStandard (A.sees automaton) }
     requires fits { size A.Unit.width (H.rest haystack) < 2 ^ 64 }
-    requires sound { IsSoundFor (F.passes filter) (A.content automaton) }
+    requires sound { IsSoundFor (F.passes filter) (A.sees automaton).content }
     ensures automaton { result.automaton ≡ automaton }
     ensures filter { result.filter ≡ filter }
     ensures haystack { result.haystack ≡ H.rest haystack }
-    ensures left { result.left ≡ no_suffix A.Unit.width (A.content automaton) (H.rest haystack) }
+    ensures left { result.left ≡ no_suffix A.Unit.width (A.sees automaton).content (H.rest haystack) }
     ensures passed { result.passed ≡ [] }
     ensures turns { result.turns ≡ 0 }
     ensures given { result.given ≡ 0 }

@@ -7,10 +7,10 @@ ghost use Rattle.std.specs.Prelude.{◌≡◌, ◌≢◌, ◌<◌, ◌^◌, ◌+
 ghost use Rattle.daachorse_model.specs.Matches.{matches_after};
 ghost use Rattle.daachorse_model.specs.Prefixes.{IsLong};
 ghost use Rattle.daachorse_model.specs.Units.{size};
-ghost use Rattle.daachorse_core.specs.Depths.{AreDepths};
 ghost use Rattle.daachorse_core.specs.Seen.{units};
 ghost use Rattle.daachorse_search.specs.Standings.{IsOverlappingStanding};
 ghost use Rattle.daachorse_search.specs.Stepwise.{AreBounded};
+ghost use Rattle.daachorse_search.specs.Views.{HasDepths, IsStandard};
 
 use crate::automaton::Automaton;
 use crate::ending_here::EndingHere;
@@ -51,7 +51,7 @@ pub struct OverlappingStanding {
 
 impl<'a, V: Copy, A: Automaton<V>> Model for FindOverlappingStepper<'a, V, A> {
     ghost use Rattle.daachorse_core.specs.Seen.{units};
-    ghost use Rattle.daachorse_core.specs.Depths.{AreDepths};
+    ghost use Rattle.daachorse_search.specs.Views.{HasDepths};
     ghost use Rattle.daachorse_search.specs.Stepwise.{Stepped, StandsAt};
     ghost use Rattle.daachorse_search.specs.Walks.{HasAll};
 
@@ -60,16 +60,16 @@ impl<'a, V: Copy, A: Automaton<V>> Model for FindOverlappingStepper<'a, V, A> {
     ghost view = { λ s. record { automaton = s.walk.automaton; depths = s.depths.now; read = units s.walk.seen; turns = s.walk.turns } };
 
     ghost invariant = { λ s. StandsAt A.Unit.width (units s.walk.seen) s.place
-        × HasAll A.Unit.width A.content A.has_output A.outputs s.walk s.found
-        × AreDepths (A.reached s.walk.automaton) (A.text s.walk.automaton) s.depths.now };
+        × HasAll A.Unit.width A.sees s.walk s.found
+        × HasDepths (A.sees s.walk.automaton) s.depths.now };
 }
 
 impl<'a, V: Copy, A: Automaton<V>> FindOverlappingStepper<'a, V, A> {
     /// A stepper that has consumed nothing. The depths are those of the automaton's states, or none.
     #[inline(always)]
     pub fn new(automaton: A, depths: &'a [u32]) -> Self
-        requires alive { (w : List ℕ) → ¬ A.dead automaton w }
-        requires depths { AreDepths (A.reached automaton) (A.text automaton) depths.now }
+        requires alive { IsStandard (A.sees automaton) }
+        requires depths { HasDepths (A.sees automaton) depths.now }
         ensures automaton { result.automaton ≡ automaton }
         ensures depths { result.depths ≡ depths.entry.now }
         ensures read { result.read ≡ [] }
@@ -117,7 +117,7 @@ impl<'a, V: Copy, A: Automaton<V>> FindOverlappingStepper<'a, V, A> {
     /// on.
     #[inline(always)]
     pub fn matches(&self) -> EndingHere<V, A>
-        ensures { result ≡ matches_after A.Unit.width (A.content self.now.automaton) self.now.read }
+        ensures { result ≡ matches_after A.Unit.width (A.sees self.now.automaton).content self.now.read }
     {
         EndingHere::new(self.walk.walked(), self.place, self.found)
     }
@@ -130,7 +130,7 @@ impl<'a, V: Copy, A: Automaton<V>> FindOverlappingStepper<'a, V, A> {
     #[inline(always)]
     pub fn depth(&self) -> Option<u32>
         ensures none { self.now.depths ≡ [] → result ≡ None }
-        ensures depth { self.now.depths ≢ [] → (s : List ℕ) → IsLong (A.content self.now.automaton) self.now.read s → result ≡ Some (length s) }
+        ensures depth { self.now.depths ≢ [] → (s : List ℕ) → IsLong (A.sees self.now.automaton).content self.now.read s → result ≡ Some (length s) }
     {
         self.walk.depth(self.depths)
     }
@@ -141,7 +141,7 @@ impl<'a, V: Copy, A: Automaton<V>> FindOverlappingStepper<'a, V, A> {
     /// from it, when the automaton is borrowed again.
     #[inline(always)]
     pub fn into_standing(self) -> OverlappingStanding
-        ensures stands { IsOverlappingStanding A.Unit.width A.content A.reached A.text A.dead A.has_label A.ends_at_once A.has_output A.outputs self.entry.automaton result }
+        ensures stands { IsOverlappingStanding A.Unit.width A.sees self.entry.automaton result }
         ensures read { units result.walk.seen ≡ self.entry.read }
         ensures turns { result.walk.turns ≡ self.entry.turns }
     {
@@ -159,8 +159,8 @@ impl<'a, V: Copy, A: Automaton<V>> FindOverlappingStepper<'a, V, A> {
     /// automaton's states, or none.
     #[inline(always)]
     pub fn resume(automaton: A, depths: &'a [u32], standing: OverlappingStanding) -> Self
-        requires stands { IsOverlappingStanding A.Unit.width A.content A.reached A.text A.dead A.has_label A.ends_at_once A.has_output A.outputs automaton standing }
-        requires depths { AreDepths (A.reached automaton) (A.text automaton) depths.now }
+        requires stands { IsOverlappingStanding A.Unit.width A.sees automaton standing }
+        requires depths { HasDepths (A.sees automaton) depths.now }
         ensures automaton { result.automaton ≡ automaton }
         ensures depths { result.depths ≡ depths.entry.now }
         ensures read { result.read ≡ units standing.walk.seen }
@@ -178,7 +178,7 @@ impl<'a, V: Copy, A: Automaton<V>> FindOverlappingStepper<'a, V, A> {
     /// Does nothing, and promises the bounds of the turns.
     #[inline(always)]
     pub fn turns_are_bounded(&self)
-        ensures { AreBounded (A.content self.now.automaton) (A.has_label self.now.automaton) (A.ends_at_once self.now.automaton) self.now.read self.now.turns }
+        ensures { AreBounded (A.sees self.now.automaton) self.now.read self.now.turns }
     {
         self.walk.turns_are_bounded();
     }

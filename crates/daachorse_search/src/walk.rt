@@ -12,14 +12,13 @@
 
 ghost use Rattle.std.specs.Prelude.{◌≡◌, ◌≢◌, Some, None, false, ◌+◌, ◌*◌, ◌↔◌, ◌^◌, ◌<◌, ◌≤◌, ℕ, List, [], ◌∷◌, ◌++◌, IfSome, IsTrue, if◌then◌else◌, length, map, count_by};
 ghost use Rattle.daachorse_model.specs.Units.{size};
-ghost use Rattle.daachorse_model.specs.Best.{IsLeftmost, IsSteady, LeftSteps};
+ghost use Rattle.daachorse_model.specs.Best.{IsSteady, LeftSteps};
 ghost use Rattle.daachorse_model.specs.Prefixes.{IsCut, IsLong};
 ghost use Rattle.daachorse_core.specs.Outputs.{number};
 ghost use Rattle.daachorse_model.specs.Outputs.{AllWithin, matches_of_outputs};
 ghost use Rattle.daachorse_core.specs.Seen.{units, unread};
-ghost use Rattle.daachorse_core.specs.Depths.{AreDepths};
-ghost use Rattle.daachorse_core.specs.Looks.{IsFirstOutput, StepEnds};
 ghost use Rattle.daachorse_search.specs.Afresh.{shifted};
+ghost use Rattle.daachorse_search.specs.Views.{HasDepths, HasFirst, IsLeftmostView, IsStandard, Steps};
 ghost use Rattle.daachorse_search.specs.Walks.{read_on, skip_on, begin_on, HasOutputs, IsWalking};
 
 use crate::automaton::Automaton;
@@ -58,14 +57,14 @@ impl<V: Copy, A: Automaton<V>> Model for Walk<V, A> {
 
     ghost view = { λ s. record { automaton = s.automaton; seen = s.seen; turns = s.turns } };
 
-    ghost invariant = { λ s. IsWalking (A.content s.automaton) (A.reached s.automaton) (A.text s.automaton) (A.dead s.automaton) (A.has_label s.automaton) (A.ends_at_once s.automaton) s.seen s.state s.turns };
+    ghost invariant = { λ s. IsWalking (A.sees s.automaton) s.seen s.state s.turns };
 }
 
 impl<V: Copy, A: Automaton<V>> Walk<V, A> {
     /// A walk that stands at the root and has read nothing.
     #[inline(always)]
     pub fn new(automaton: A) -> Self
-        requires { (w : List ℕ) → ¬ A.dead automaton w }
+        requires { IsStandard (A.sees automaton) }
         ensures automaton { result.automaton ≡ automaton }
         ensures seen { result.seen ≡ unread }
         ensures turns { result.turns ≡ 0 }
@@ -86,9 +85,8 @@ impl<V: Copy, A: Automaton<V>> Walk<V, A> {
     pub fn consume(&mut self, unit: A::Unit) -> Option<NonZeroU32>
         ensures automaton { self.new.automaton ≡ self.old.automaton }
         ensures seen { self.new.seen ≡ read_on self.old.seen (A.Unit.unit unit ∷ []) }
-        ensures outputs { HasOutputs A.Unit.width (A.content self.new.automaton) (A.has_output self.new.automaton) (A.outputs self.new.automaton) (A.most_outputs self.new.automaton)
-            self.new.seen (number result) }
-        ensures some { IfSome result (λ position. 0 < length (A.outputs self.new.automaton position.value)) }
+        ensures outputs { HasOutputs A.Unit.width (A.sees self.new.automaton) self.new.seen (number result) }
+        ensures some { IfSome result (λ position. 0 < length ((A.sees self.new.automaton).outputs position.value)) }
     {
         let (state, position) = step(&self.automaton, self.state, unit, &mut self.turns);
         self.state = state;
@@ -135,7 +133,7 @@ impl<V: Copy, A: Automaton<V>> Walk<V, A> {
     /// Whether it stands at the root: no key that began before goes on here.
     #[inline(always)]
     pub fn is_at_root(&self) -> bool
-        ensures { IsTrue result ↔ IsLong (A.content self.now.automaton) self.now.seen.since [] }
+        ensures { IsTrue result ↔ IsLong (A.sees self.now.automaton).content self.now.seen.since [] }
     {
         self.automaton.is_root(self.state)
     }
@@ -151,9 +149,8 @@ impl<V: Copy, A: Automaton<V>> Walk<V, A> {
     /// The position of the first output of the matches that end here.
     #[inline(always)]
     pub fn outputs(&self) -> Option<NonZeroU32>
-        ensures outputs { HasOutputs A.Unit.width (A.content self.now.automaton) (A.has_output self.now.automaton) (A.outputs self.now.automaton) (A.most_outputs self.now.automaton)
-            self.now.seen (number result) }
-        ensures some { IfSome result (λ position. 0 < length (A.outputs self.now.automaton position.value)) }
+        ensures outputs { HasOutputs A.Unit.width (A.sees self.now.automaton) self.now.seen (number result) }
+        ensures some { IfSome result (λ position. 0 < length ((A.sees self.now.automaton).outputs position.value)) }
     {
         self.automaton.output_pos(self.state)
     }
@@ -161,9 +158,9 @@ impl<V: Copy, A: Automaton<V>> Walk<V, A> {
     /// The depth of the state, by a table of depths; `None` if none are kept.
     #[inline(always)]
     pub fn depth(&self, depths: &[u32]) -> Option<u32>
-        requires { AreDepths (A.reached self.now.automaton) (A.text self.now.automaton) depths.now }
+        requires { HasDepths (A.sees self.now.automaton) depths.now }
         ensures none { depths.now ≡ [] → result ≡ None }
-        ensures depth { depths.now ≢ [] → (s : List ℕ) → IsLong (A.content self.now.automaton) self.now.seen.since s → result ≡ Some (length s) }
+        ensures depth { depths.now ≢ [] → (s : List ℕ) → IsLong (A.sees self.now.automaton).content self.now.seen.since s → result ≡ Some (length s) }
     {
         if depths.is_empty() {
             return None;
@@ -177,12 +174,12 @@ impl<V: Copy, A: Automaton<V>> Walk<V, A> {
     #[inline(always)]
     pub fn give(&self, position: NonZeroU32, place: usize) -> (Match<V>, Option<NonZeroU32>)
         requires here { size A.Unit.width (units self.now.seen) ≤ place }
-        requires place { A.has_output self.now.automaton position.value }
-        requires fits { AllWithin (size A.Unit.width (units self.now.seen)) (A.outputs self.now.automaton position.value) }
-        ensures place { A.has_output self.now.automaton (number result.1) }
-        ensures matches { let end = size A.Unit.width (units self.now.seen) in (before : ℕ) → place ≡ before + end
-            → map (shifted before) (matches_of_outputs end (A.outputs self.now.automaton position.value)) ≡ result.0 ∷ map (shifted before) (matches_of_outputs end (A.outputs self.now.automaton (number result.1))) }
-        ensures fits { AllWithin (size A.Unit.width (units self.now.seen)) (A.outputs self.now.automaton (number result.1)) }
+        requires place { (A.sees self.now.automaton).has_output position.value }
+        requires fits { AllWithin (size A.Unit.width (units self.now.seen)) ((A.sees self.now.automaton).outputs position.value) }
+        ensures place { (A.sees self.now.automaton).has_output (number result.1) }
+        ensures matches { let end = size A.Unit.width (units self.now.seen) in let view = A.sees self.now.automaton in (before : ℕ) → place ≡ before + end
+            → map (shifted before) (matches_of_outputs end (view.outputs position.value)) ≡ result.0 ∷ map (shifted before) (matches_of_outputs end (view.outputs (number result.1))) }
+        ensures fits { AllWithin (size A.Unit.width (units self.now.seen)) ((A.sees self.now.automaton).outputs (number result.1)) }
         ensures ends { result.0.end ≡ place }
     {
         let output = self.automaton.output(position);
@@ -192,8 +189,7 @@ impl<V: Copy, A: Automaton<V>> Walk<V, A> {
     /// Where the walk stands, for [`Self::resume`].
     #[inline(always)]
     pub fn into_standing(self) -> Standing
-        ensures walks { IsWalking (A.content self.automaton) (A.reached self.automaton) (A.text self.automaton) (A.dead self.automaton) (A.has_label self.automaton) (A.ends_at_once self.automaton)
-            result.seen result.state result.turns }
+        ensures walks { IsWalking (A.sees self.automaton) result.seen result.state result.turns }
         ensures seen { result.seen ≡ self.seen }
         ensures turns { result.turns ≡ self.turns }
     {
@@ -210,8 +206,7 @@ impl<V: Copy, A: Automaton<V>> Walk<V, A> {
     /// A walk that goes on where one through the same automaton stood.
     #[inline(always)]
     pub fn resume(automaton: A, standing: Standing) -> Self
-        requires { IsWalking (A.content automaton) (A.reached automaton) (A.text automaton) (A.dead automaton) (A.has_label automaton) (A.ends_at_once automaton)
-            standing.seen standing.state standing.turns }
+        requires { IsWalking (A.sees automaton) standing.seen standing.state standing.turns }
         ensures automaton { result.automaton ≡ automaton }
         ensures seen { result.seen ≡ standing.seen }
         ensures turns { result.turns ≡ standing.turns }
@@ -232,10 +227,10 @@ impl<V: Copy, A: Automaton<V>> Walk<V, A> {
     #[inline(always)]
     pub fn turns_are_bounded(&self)
         ensures most { self.now.turns ≤ 2 * length (units self.now.seen) }
-        ensures deep { (s : List ℕ) → IsLong (A.content self.now.automaton) self.now.seen.since s
+        ensures deep { (s : List ℕ) → IsLong (A.sees self.now.automaton).content self.now.seen.since s
             → self.now.turns + length s ≤ 2 * length (units self.now.seen) }
-        ensures single { A.ends_at_once self.now.automaton → self.now.turns ≤ length (units self.now.seen) }
-        ensures least { count_by (A.has_label self.now.automaton) self.now.seen.looked ≤ self.now.turns }
+        ensures single { (A.sees self.now.automaton).ends_at_once → self.now.turns ≤ length (units self.now.seen) }
+        ensures least { count_by (A.sees self.now.automaton).has_label self.now.seen.looked ≤ self.now.turns }
     {
         let _ = &self.state;
     }
@@ -270,20 +265,19 @@ pub fn step<V: Copy, A: Automaton<V>>(
     unit: A::Unit,
     turns: &mut Turns,
 ) -> (u32, Option<NonZeroU32>)
-    requires { A.reached automaton.now state }
-    ensures reached { A.reached automaton.now result.0 }
-    ensures output { IsFirstOutput A.Unit.width (A.content automaton.now) (A.dead automaton.now) (A.has_output automaton.now) (A.outputs automaton.now) (A.most_outputs automaton.now) (A.text automaton.now result.0) result.1 }
-    ensures ends { StepEnds (A.content automaton.now) (A.dead automaton.now) (A.text automaton.now state) (A.Unit.unit unit) (A.text automaton.now result.0) }
-    ensures standard { ((w : List ℕ) → ¬ A.dead automaton.now w)
-        → IsLong (A.content automaton.now) (A.text automaton.now state ++ A.Unit.unit unit ∷ []) (A.text automaton.now result.0) }
-    ensures leftmost { IsLeftmost (A.content automaton.now) (A.dead automaton.now) → (w : List ℕ) → IsSteady (A.content automaton.now) w (A.text automaton.now state)
-        → LeftSteps (A.content automaton.now) w (A.Unit.unit unit) (A.text automaton.now result.0) }
-    ensures cut { IsLeftmost (A.content automaton.now) (A.dead automaton.now) → (w : List ℕ) → IsSteady (A.content automaton.now) w (A.text automaton.now state)
-        → IsCut (A.content automaton.now) (w ++ A.Unit.unit unit ∷ []) (A.text automaton.now result.0) }
-    ensures most { turns.new + length (A.text automaton.now result.0) ≤ turns.old + length (A.text automaton.now state) + 2 }
-    ensures single { A.ends_at_once automaton.now → turns.new ≤ turns.old + 1 }
-    ensures least { turns.old + (if A.has_label automaton.now (A.Unit.unit unit) then 1 else 0) ≤ turns.new }
-    ensures no_label { A.has_label automaton.now (A.Unit.unit unit) ≡ false → (turns.new ≡ turns.old) × (A.text automaton.now result.0 ≡ []) }
+    requires { (A.sees automaton.now).reached state }
+    ensures reached { (A.sees automaton.now).reached result.0 }
+    ensures output { HasFirst A.Unit.width (A.sees automaton.now) result.0 result.1 }
+    ensures ends { Steps (A.sees automaton.now) state (A.Unit.unit unit) result.0 }
+    ensures standard { let view = A.sees automaton.now in IsStandard view → IsLong view.content (view.text state ++ A.Unit.unit unit ∷ []) (view.text result.0) }
+    ensures leftmost { let view = A.sees automaton.now in IsLeftmostView view → (w : List ℕ) → IsSteady view.content w (view.text state)
+        → LeftSteps view.content w (A.Unit.unit unit) (view.text result.0) }
+    ensures cut { let view = A.sees automaton.now in IsLeftmostView view → (w : List ℕ) → IsSteady view.content w (view.text state)
+        → IsCut view.content (w ++ A.Unit.unit unit ∷ []) (view.text result.0) }
+    ensures most { let view = A.sees automaton.now in turns.new + length (view.text result.0) ≤ turns.old + length (view.text state) + 2 }
+    ensures single { (A.sees automaton.now).ends_at_once → turns.new ≤ turns.old + 1 }
+    ensures least { turns.old + (if (A.sees automaton.now).has_label (A.Unit.unit unit) then 1 else 0) ≤ turns.new }
+    ensures no_label { (A.sees automaton.now).has_label (A.Unit.unit unit) ≡ false → (turns.new ≡ turns.old) × ((A.sees automaton.now).text result.0 ≡ []) }
 {
     let Some(label) = automaton.label(unit) else {
         let root = automaton.root();
@@ -301,14 +295,13 @@ pub fn follow<V: Copy, A: Automaton<V>>(
     label: A::Label,
     turns: &mut Turns,
 ) -> (u32, Option<NonZeroU32>)
-    requires reached { A.reached automaton.now state }
+    requires reached { (A.sees automaton.now).reached state }
     requires unit { (unit : ℕ) × A.labels automaton.now label unit }
-    ensures reached { A.reached automaton.now result.0 }
-    ensures output { IsFirstOutput A.Unit.width (A.content automaton.now) (A.dead automaton.now) (A.has_output automaton.now) (A.outputs automaton.now) (A.most_outputs automaton.now) (A.text automaton.now result.0) result.1 }
-    ensures ends { (unit : ℕ) → A.labels automaton.now label unit
-        → StepEnds (A.content automaton.now) (A.dead automaton.now) (A.text automaton.now state) unit (A.text automaton.now result.0) }
-    ensures most { turns.new + length (A.text automaton.now result.0) ≤ turns.old + length (A.text automaton.now state) + 2 }
-    ensures single { A.ends_at_once automaton.now → turns.new ≤ turns.old + 1 }
+    ensures reached { (A.sees automaton.now).reached result.0 }
+    ensures output { HasFirst A.Unit.width (A.sees automaton.now) result.0 result.1 }
+    ensures ends { (unit : ℕ) → A.labels automaton.now label unit → Steps (A.sees automaton.now) state unit result.0 }
+    ensures most { let view = A.sees automaton.now in turns.new + length (view.text result.0) ≤ turns.old + length (view.text state) + 2 }
+    ensures single { (A.sees automaton.now).ends_at_once → turns.new ≤ turns.old + 1 }
     ensures least { turns.old + 1 ≤ turns.new }
 {
     let mut at = state;

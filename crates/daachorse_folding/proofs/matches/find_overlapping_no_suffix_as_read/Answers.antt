@@ -8,5 +8,5 @@ use Rattle.daachorse_folding.proofs.matches.find_overlapping_no_suffix_as_read.G
 pub returns-clause-left : goal.returns-clause-left
 returns-clause-left g c =
     let A = g.A.Automaton in let unit = g.A.Unit.EdgeLabel in let read = as_read c.args.folds (g.H.Haystack.rest c.args.haystack) in
-    let found = λ (a : g.row.A.Denot). at_each_end (first_found unit.width A.content a) [] read in
+    let found = λ (a : g.row.A.Denot). at_each_end (first_found unit.width A.sees a) [] read in
     c.search_as_read.ensures.left ∙ ap found c.new.ensures.automaton

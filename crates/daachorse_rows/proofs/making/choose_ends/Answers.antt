@@ -4,8 +4,8 @@ use Rattle.std.specs.Prelude.{slice_index, slice_set}
 use Rattle.std.proofs.lemmas.Bool.{false≢true}
 use Rattle.std.proofs.lemmas.Result.{IfOk-from_err}
 use Rattle.std.proofs.lemmas.List.{get_or_read, length-map, length-set}
-use Rattle.daachorse_core.specs.Looks.{StepEnds}
 use Rattle.daachorse_model.proofs.Lists.{below_or_at}
+use Rattle.daachorse_search.specs.Views.{Steps}
 use Rattle.daachorse_rows.specs.Rows.{EndsInRow, HasEnd, stands_by}
 use Rattle.daachorse_rows.proofs.MakingLaws.{AreChosen-more, ends_read, unit_read}
 use Rattle.daachorse_rows.proofs.ShallowLaws.{AreShallow-push, AreTooMany-full, EndsInRow-on, EndsInRow-row, GoesOn-push, GoesOn-same, GoesOn-through, HasEnd-all, HasEnd-on, HasEnd-row, end_shallow, row_last}
@@ -14,14 +14,14 @@ use Rattle.daachorse_rows.proofs.making.choose_ends.Goals as goal
 
 pub loop-k-preserved : goal.loop-k-preserved
 loop-k-preserved g c =
-    let A = g.A.Automaton in let a = c.args.automaton.now in let number = g.A.Label.RowLabel.number in let K = A.content a in
+    let A = g.A.Automaton in let a = c.args.automaton.now in let number = g.A.Label.RowLabel.number in
     let stands = stands_by number (A.labels a) in let labels = map number c.args.labels.now in let named = c.requires.labels in
     let old = c.args.chosen.now.order.items in let order = c.loop-k.chosen.order.items in let homes = c.loop-k.chosen.homes.items in
     let s = slice_index old c.args.at in let next = c.follow-next.result.0 in let k = c.loop-k.k in let kept = c.loop-k.invariant in
     let within : next < length homes = omega (arith, kept.same, c.requires.count next c.follow-next.ensures.reached) in
     let home = get_or_read homes next c.index.result.now within c.index.ensures 0 in
-    let ends : (unit : ℕ) → stands (slice_index labels k) unit → StepEnds K (A.dead a) (A.text a s) unit (A.text a next) =
-    ends_read number K (A.dead a) (A.text a) g.met.A.Label.RowLabel.exact (A.labels a) c.args.labels.now k c.index-labels-k.result s c.index-state.result.now next c.loop-k-test.true c.index-labels-k.is
+    let ends : (unit : ℕ) → stands (slice_index labels k) unit → Steps (A.sees a) s unit next =
+    ends_read number (A.sees a) g.met.A.Label.RowLabel.exact (A.labels a) c.args.labels.now k c.index-labels-k.result s c.index-state.result.now next c.loop-k-test.true c.index-labels-k.is
     (get_or_read old c.args.at c.index-state.result.now c.requires.at c.index-state.ensures 0) c.follow-next.ensures.ends in
     let listed : k < length labels = omega (arith, c.loop-k-test.true, length-map c.args.labels.now number) in
     elim c.if-index.branch [
@@ -31,17 +31,17 @@ loop-k-preserved g c =
           let room : length order < c.args.most = omega (arith, w.if-len-most.false, w.len.ensures, c.loop-k.chosen.order.ok.0, kept.chosen.few) in
           let is = w.in_ok-push.ensures.items in
           rw w.chosen-is (record {
-            chosen = AreChosen-more (A.reached a) order homes c.args.most kept.chosen next order' _ is (ap (λ (n : ℕ). slice_set homes next n) e) within (sym home ∙ w.if-index.true) room c.requires.few c.follow-next.ensures.reached;
+            chosen = AreChosen-more (A.sees a) order homes c.args.most kept.chosen next order' _ is (ap (λ (n : ℕ). slice_set homes next n) e) within (sym home ∙ w.if-index.true) room c.requires.few c.follow-next.ensures.reached;
             same = length-set homes next _ ∙ kept.same;
             on = GoesOn-through old order order' kept.on (GoesOn-push order order' next is);
-            shallow = λ n shallow all. AreShallow-push order order' next is (A.text a) stands (n + 1) (kept.shallow n shallow all) (end_shallow K (A.text a) stands (A.dead a) s (slice_index labels k) next ends n (named.below k listed) (named.none_idle k listed) shallow);
+            shallow = λ n shallow all. AreShallow-push order order' next is (A.sees a) stands (n + 1) (kept.shallow n shallow all) (end_shallow (A.sees a) stands s (slice_index labels k) next ends n (named.below k listed) (named.none_idle k listed) shallow);
             steps = λ j below. elim (below_or_at j k below) [
-              | inl before ↦ EndsInRow-on K (A.text a) stands (A.dead a) s (slice_index labels j) order order' (GoesOn-push order order' next is) (kept.steps j before)
-              | inr same ↦ let P : ℕ → Type 0 = λ i. EndsInRow K (A.text a) stands (A.dead a) s (slice_index labels i) order' in subst P (sym same) (EndsInRow-row K (A.text a) stands (A.dead a) s (slice_index labels k) next ends order' (row_last order order' next is))
+              | inl before ↦ EndsInRow-on (A.sees a) stands s (slice_index labels j) order order' (GoesOn-push order order' next is) (kept.steps j before)
+              | inr same ↦ let P : ℕ → Type 0 = λ i. EndsInRow (A.sees a) stands s (slice_index labels i) order' in subst P (sym same) (EndsInRow-row (A.sees a) stands s (slice_index labels k) next ends order' (row_last order order' next is))
             ];
             ends = λ j below. elim (below_or_at j k below) [
-              | inl before ↦ HasEnd-on K (A.text a) stands s (slice_index labels j) order order' (GoesOn-push order order' next is) (kept.ends j before)
-              | inr same ↦ let P : ℕ → Type 0 = λ i. HasEnd K (A.text a) stands s (slice_index labels i) order' in subst P (sym same) (HasEnd-row K (A.text a) stands (A.dead a) s (slice_index labels k) next ends order' (row_last order order' next is))
+              | inl before ↦ HasEnd-on (A.sees a) stands s (slice_index labels j) order order' (GoesOn-push order order' next is) (kept.ends j before)
+              | inr same ↦ let P : ℕ → Type 0 = λ i. HasEnd (A.sees a) stands s (slice_index labels i) order' in subst P (sym same) (HasEnd-row (A.sees a) stands s (slice_index labels k) next ends order' (row_last order order' next is))
             ];
           })
       | else-index w ↦
@@ -53,11 +53,11 @@ loop-k-preserved g c =
             shallow = kept.shallow;
             steps = λ j below. elim (below_or_at j k below) [
               | inl before ↦ kept.steps j before
-              | inr same ↦ let P : ℕ → Type 0 = λ i. EndsInRow K (A.text a) stands (A.dead a) s (slice_index labels i) order in subst P (sym same) (EndsInRow-row K (A.text a) stands (A.dead a) s (slice_index labels k) next ends order (slice_index homes next, row.0, row.1))
+              | inr same ↦ let P : ℕ → Type 0 = λ i. EndsInRow (A.sees a) stands s (slice_index labels i) order in subst P (sym same) (EndsInRow-row (A.sees a) stands s (slice_index labels k) next ends order (slice_index homes next, row.0, row.1))
             ];
             ends = λ j below. elim (below_or_at j k below) [
               | inl before ↦ kept.ends j before
-              | inr same ↦ let P : ℕ → Type 0 = λ i. HasEnd K (A.text a) stands s (slice_index labels i) order in subst P (sym same) (HasEnd-row K (A.text a) stands (A.dead a) s (slice_index labels k) next ends order (slice_index homes next, row.0, row.1))
+              | inr same ↦ let P : ℕ → Type 0 = λ i. HasEnd (A.sees a) stands s (slice_index labels i) order in subst P (sym same) (HasEnd-row (A.sees a) stands s (slice_index labels k) next ends order (slice_index homes next, row.0, row.1))
             ];
           })
     ]
@@ -79,9 +79,9 @@ pub follow-next-requires : goal.follow-next-requires
 follow-next-requires g c =
     let A = g.A.Automaton in let a = c.args.automaton.now in
     record {
-      unit = unit_read g.A.Label.RowLabel.number (A.content a) g.met.A.Label.RowLabel.exact (A.labels a) c.args.labels.now c.loop-k.k c.index-labels-k.result c.requires.labels c.loop-k-test.true c.index-labels-k.is;
+      unit = unit_read g.A.Label.RowLabel.number (A.sees a).content g.met.A.Label.RowLabel.exact (A.labels a) c.args.labels.now c.loop-k.k c.index-labels-k.result c.requires.labels c.loop-k-test.true c.index-labels-k.is;
       reached =
-          let P : ℕ → Type 0 = λ s. A.reached a s in
+          let P : ℕ → Type 0 = λ s. (A.sees a).reached s in
           subst P (sym (get_or_read c.args.chosen.now.order.items c.args.at c.index-state.result.now c.requires.at c.index-state.ensures 0)) (c.requires.chosen.states c.args.at c.requires.at);
     }
 
@@ -91,19 +91,19 @@ index-requires g c = omega (arith, c.requires.count c.follow-next.result.0 c.fol
 pub returns-then-len-most : goal.returns-then-len-most
 returns-then-len-most g c = record {
   full = λ _ n shallow all.
-      let A = g.A.Automaton in let a = c.args.automaton.now in let number = g.A.Label.RowLabel.number in let K = A.content a in
+      let A = g.A.Automaton in let a = c.args.automaton.now in let number = g.A.Label.RowLabel.number in
       let stands = stands_by number (A.labels a) in let labels = map number c.args.labels.now in let named = c.requires.labels in
       let old = c.args.chosen.now.order.items in let order = c.loop-k.chosen.order.items in let homes = c.loop-k.chosen.homes.items in
       let s = slice_index old c.args.at in let next = c.follow-next.result.0 in let k = c.loop-k.k in let kept = c.loop-k.invariant in
       let within : next < length homes = omega (arith, kept.same, c.requires.count next c.follow-next.ensures.reached) in
       let home = get_or_read homes next c.index.result.now within c.index.ensures 0 in
-      let ends : (unit : ℕ) → stands (slice_index labels k) unit → StepEnds K (A.dead a) (A.text a s) unit (A.text a next) =
-      ends_read number K (A.dead a) (A.text a) g.met.A.Label.RowLabel.exact (A.labels a) c.args.labels.now k c.index-labels-k.result s c.index-state.result.now next c.loop-k-test.true c.index-labels-k.is
+      let ends : (unit : ℕ) → stands (slice_index labels k) unit → Steps (A.sees a) s unit next =
+      ends_read number (A.sees a) g.met.A.Label.RowLabel.exact (A.labels a) c.args.labels.now k c.index-labels-k.result s c.index-state.result.now next c.loop-k-test.true c.index-labels-k.is
       (get_or_read old c.args.at c.index-state.result.now c.requires.at c.index-state.ensures 0) c.follow-next.ensures.ends in
       let listed : k < length labels = omega (arith, c.loop-k-test.true, length-map c.args.labels.now number) in
       let full : length order ≡ c.args.most = omega (arith, c.if-len-most.true, c.len.ensures, c.loop-k.chosen.order.ok.0) in
-      AreTooMany-full (A.reached a) (A.text a) stands (n + 1) order homes c.args.most kept.chosen (kept.shallow n shallow all) full c.requires.few next c.follow-next.ensures.reached
-      (end_shallow K (A.text a) stands (A.dead a) s (slice_index labels k) next ends n (named.below k listed) (named.none_idle k listed) shallow) (sym home ∙ c.if-index.true);
+      AreTooMany-full (A.sees a) stands (n + 1) order homes c.args.most kept.chosen (kept.shallow n shallow all) full c.requires.few next c.follow-next.ensures.reached
+      (end_shallow (A.sees a) stands s (slice_index labels k) next ends n (named.below k listed) (named.none_idle k listed) shallow) (sym home ∙ c.if-index.true);
   chosen = c.loop-k.invariant.chosen;
   same = c.loop-k.invariant.same;
   on = c.loop-k.invariant.on;
@@ -128,7 +128,7 @@ returns g c = record {
   all = λ _.
       let A = g.A.Automaton in let a = c.args.automaton.now in let number = g.A.Label.RowLabel.number in
       let labels = map number c.args.labels.now in
-      HasEnd-all (A.content a) (A.text a) (stands_by number (A.labels a)) labels c.requires.labels (slice_index c.args.chosen.now.order.items c.args.at) c.loop-k.chosen.order.items
+      HasEnd-all (A.sees a) (stands_by number (A.labels a)) labels c.requires.labels (slice_index c.args.chosen.now.order.items c.args.at) c.loop-k.chosen.order.items
       (λ k below. c.loop-k.invariant.ends k (omega (arith, below, c.loop-k-test.false, c.loop-k.auto.k-end, length-map c.args.labels.now number)));
   ends = λ _ j below. c.loop-k.invariant.steps j (omega (arith, below, c.loop-k-test.false, c.loop-k.auto.k-end));
   chosen = c.loop-k.invariant.chosen;

@@ -9,10 +9,10 @@ invariant-loop-k g l =
     let A = g.A.Automaton in let a = l.automaton in let number = g.A.Label.RowLabel.number in let stands = stands_by number (A.labels a) in
     let old = l.fn.chosen.order.items in
     record {
-      chosen : AreChosen (A.reached a) l.chosen.order.items l.chosen.homes.items l.most;
+      chosen : AreChosen (A.sees a) l.chosen.order.items l.chosen.homes.items l.most;
       same : length l.chosen.homes.items ≡ length l.fn.chosen.homes.items;
       on : GoesOn old l.chosen.order.items;
-      shallow : (n : ℕ) → IsShallow stands n (A.text a (slice_index old l.at)) → AreShallow (A.text a) stands (n + 1) old → AreShallow (A.text a) stands (n + 1) l.chosen.order.items;
-      steps : (j : ℕ) → j < l.k → EndsInRow (A.content a) (A.text a) stands (A.dead a) (slice_index old l.at) (slice_index (map number l.labels) j) l.chosen.order.items;
-      ends : (j : ℕ) → j < l.k → HasEnd (A.content a) (A.text a) stands (slice_index old l.at) (slice_index (map number l.labels) j) l.chosen.order.items;
+      shallow : (n : ℕ) → IsShallow stands n ((A.sees a).text (slice_index old l.at)) → AreShallow (A.sees a) stands (n + 1) old → AreShallow (A.sees a) stands (n + 1) l.chosen.order.items;
+      steps : (j : ℕ) → j < l.k → EndsInRow (A.sees a) stands (slice_index old l.at) (slice_index (map number l.labels) j) l.chosen.order.items;
+      ends : (j : ℕ) → j < l.k → HasEnd (A.sees a) stands (slice_index old l.at) (slice_index (map number l.labels) j) l.chosen.order.items;
     }

@@ -15,16 +15,16 @@ loop-at-preserved g c =
     let old = c.args.chosen.now.order.items in let now = c.loop-at.chosen.order.items in let at = c.loop-at.at in
     let inside : at < length old = omega (arith, c.loop-at-test.true, c.loop-at.auto.at-end, c.len-at-end.ensures, c.args.chosen.now.order.ok.0) in
     let made = c.in_ok-choose_ends.ensures in let kept = c.loop-at.invariant in
-    let P : ℕ → Type 0 = λ s. (label : ℕ) → label < 510 → HasEnd (A.content a) (A.text a) stands s label c.choose_ends.new.chosen.order.items in
+    let P : ℕ → Type 0 = λ s. (label : ℕ) → label < 510 → HasEnd (A.sees a) stands s label c.choose_ends.new.chosen.order.items in
     let Q : ℕ → Type 0 = λ k. P (slice_index old k) in
     record {
       chosen = made.chosen;
       same = omega (arith, made.same, kept.same);
       on = GoesOn-through old now c.choose_ends.new.chosen.order.items kept.on made.on;
-      steps = λ root. AreStepped-more (A.content a) (A.text a) stands (A.dead a) (map g.A.Label.RowLabel.number c.args.labels.now) at now c.choose_ends.new.chosen.order.items made.on (omega (arith, inside, kept.on.more)) (kept.steps root) (λ j below. made.ends (c.if-not-branch.false) j (omega (arith, below, length-map c.args.labels.now g.A.Label.RowLabel.number)));
-      shallow = λ n shallow. made.shallow n (state_shallow (A.text a) stands n old now at kept.on inside shallow) (kept.shallow n shallow);
+      steps = λ root. AreStepped-more (A.sees a) stands (map g.A.Label.RowLabel.number c.args.labels.now) at now c.choose_ends.new.chosen.order.items made.on (omega (arith, inside, kept.on.more)) (kept.steps root) (λ j below. made.ends (c.if-not-branch.false) j (omega (arith, below, length-map c.args.labels.now g.A.Label.RowLabel.number)));
+      shallow = λ n shallow. made.shallow n (state_shallow (A.sees a) stands n old now at kept.on inside shallow) (kept.shallow n shallow);
       ends = λ k below. elim (below_or_at k at below) [
-        | inl before ↦ λ label low. HasEnd-on (A.content a) (A.text a) stands (slice_index old k) label now c.choose_ends.new.chosen.order.items made.on (kept.ends k before label low)
+        | inl before ↦ λ label low. HasEnd-on (A.sees a) stands (slice_index old k) label now c.choose_ends.new.chosen.order.items made.on (kept.ends k before label low)
         | inr same ↦ subst Q (sym same) (subst P (kept.on.same at inside) (made.all (c.if-not-branch.false)))
       ];
     }
@@ -37,8 +37,8 @@ loop-at-init g c =
       chosen = c.requires.chosen;
       same = refl;
       on = GoesOn-same old;
-      steps = λ root. AreStepped-none (A.content a) (A.text a) stands (A.dead a) (map g.A.Label.RowLabel.number c.args.labels.now) old root;
-      shallow = λ n shallow k below. IsShallow-weaker stands n (n + 1) (A.text a (slice_index old k)) (omega arith) (shallow k below);
+      steps = λ root. AreStepped-none (A.sees a) stands (map g.A.Label.RowLabel.number c.args.labels.now) old root;
+      shallow = λ n shallow k below. IsShallow-weaker stands n (n + 1) ((A.sees a).text (slice_index old k)) (omega arith) (shallow k below);
       ends = λ k below label low unit coded begins. absurd (omega (arith, below));
     }
 
@@ -67,11 +67,11 @@ returns-then-not-branch g c = record {
   shallow = λ n shallow.
       let A = g.A.Automaton in let a = c.args.automaton.now in let stands = stands_by g.A.Label.RowLabel.number (A.labels a) in
       let inside : c.loop-at.at < length c.args.chosen.now.order.items = omega (arith, c.loop-at-test.true, c.loop-at.auto.at-end, c.len-at-end.ensures, c.args.chosen.now.order.ok.0) in
-      c.in_ok-choose_ends.ensures.shallow n (state_shallow (A.text a) stands n c.args.chosen.now.order.items c.loop-at.chosen.order.items c.loop-at.at c.loop-at.invariant.on inside shallow) (c.loop-at.invariant.shallow n shallow);
+      c.in_ok-choose_ends.ensures.shallow n (state_shallow (A.sees a) stands n c.args.chosen.now.order.items c.loop-at.chosen.order.items c.loop-at.at c.loop-at.invariant.on inside shallow) (c.loop-at.invariant.shallow n shallow);
   full = λ _ n shallow.
       let A = g.A.Automaton in let a = c.args.automaton.now in let stands = stands_by g.A.Label.RowLabel.number (A.labels a) in
       let inside : c.loop-at.at < length c.args.chosen.now.order.items = omega (arith, c.loop-at-test.true, c.loop-at.auto.at-end, c.len-at-end.ensures, c.args.chosen.now.order.ok.0) in
-      c.in_ok-choose_ends.ensures.full (c.if-not-branch.true) n (state_shallow (A.text a) stands n c.args.chosen.now.order.items c.loop-at.chosen.order.items c.loop-at.at c.loop-at.invariant.on inside shallow) (c.loop-at.invariant.shallow n shallow);
+      c.in_ok-choose_ends.ensures.full (c.if-not-branch.true) n (state_shallow (A.sees a) stands n c.args.chosen.now.order.items c.loop-at.chosen.order.items c.loop-at.at c.loop-at.invariant.on inside shallow) (c.loop-at.invariant.shallow n shallow);
   chosen = c.in_ok-choose_ends.ensures.chosen;
   same = c.in_ok-choose_ends.ensures.same ∙ c.loop-at.invariant.same;
   on = GoesOn-through c.args.chosen.now.order.items c.loop-at.chosen.order.items c.choose_ends.new.chosen.order.items c.loop-at.invariant.on c.in_ok-choose_ends.ensures.on;
@@ -84,11 +84,11 @@ returns g c = record {
   all = λ _ n covered.
       let A = g.A.Automaton in let a = c.args.automaton.now in let stands = stands_by g.A.Label.RowLabel.number (A.labels a) in
       let kept = c.loop-at.invariant in
-      AreCovered-next (A.content a) (A.text a) stands n c.args.chosen.now.order.items c.loop-at.chosen.order.items kept.on
+      AreCovered-next (A.sees a) stands n c.args.chosen.now.order.items c.loop-at.chosen.order.items kept.on
       (λ k below. kept.ends k (omega (arith, below, c.loop-at-test.false, c.loop-at.auto.at-end, c.len-at-end.ensures, c.args.chosen.now.order.ok.0))) covered;
   stepped = λ _ root.
       let A = g.A.Automaton in let a = c.args.automaton.now in
-      AreStepped-fewer (A.content a) (A.text a) (stands_by g.A.Label.RowLabel.number (A.labels a)) (A.dead a) (map g.A.Label.RowLabel.number c.args.labels.now) (length c.args.chosen.now.order.items) c.loop-at.at c.loop-at.chosen.order.items
+      AreStepped-fewer (A.sees a) (stands_by g.A.Label.RowLabel.number (A.labels a)) (map g.A.Label.RowLabel.number c.args.labels.now) (length c.args.chosen.now.order.items) c.loop-at.at c.loop-at.chosen.order.items
       (omega (arith, c.loop-at-test.false, c.loop-at.auto.at-end, c.len-at-end.ensures, c.args.chosen.now.order.ok.0)) (c.loop-at.invariant.steps root);
   chosen = c.loop-at.invariant.chosen;
   same = c.loop-at.invariant.same;

@@ -8,10 +8,10 @@ abbrev pub invariant-loop-at : goal.invariant-loop-at
 invariant-loop-at g l =
     let A = g.A.Automaton in let a = l.automaton in let stands = stands_by g.A.Label.RowLabel.number (A.labels a) in
     record {
-      chosen : AreChosen (A.reached a) l.chosen.order.items l.chosen.homes.items l.most;
+      chosen : AreChosen (A.sees a) l.chosen.order.items l.chosen.homes.items l.most;
       same : length l.chosen.homes.items ≡ length l.fn.chosen.homes.items;
       on : GoesOn l.fn.chosen.order.items l.chosen.order.items;
-      steps : (0 < length l.fn.chosen.order.items) × (A.text a (slice_index l.fn.chosen.order.items 0) ≡ []) → AreStepped (A.content a) (A.text a) stands (A.dead a) (map g.A.Label.RowLabel.number l.labels) l.at l.chosen.order.items;
-      shallow : (n : ℕ) → AreShallow (A.text a) stands n l.fn.chosen.order.items → AreShallow (A.text a) stands (n + 1) l.chosen.order.items;
-      ends : (k : ℕ) → k < l.at → (label : ℕ) → label < 510 → HasEnd (A.content a) (A.text a) stands (slice_index l.fn.chosen.order.items k) label l.chosen.order.items;
+      steps : (0 < length l.fn.chosen.order.items) × ((A.sees a).text (slice_index l.fn.chosen.order.items 0) ≡ []) → AreStepped (A.sees a) stands (map g.A.Label.RowLabel.number l.labels) l.at l.chosen.order.items;
+      shallow : (n : ℕ) → AreShallow (A.sees a) stands n l.fn.chosen.order.items → AreShallow (A.sees a) stands (n + 1) l.chosen.order.items;
+      ends : (k : ℕ) → k < l.at → (label : ℕ) → label < 510 → HasEnd (A.sees a) stands (slice_index l.fn.chosen.order.items k) label l.chosen.order.items;
     }

@@ -20,8 +20,8 @@ loop-at-preserved g c =
       chosen = made.chosen;
       count = omega (arith, made.same, kept.count);
       on = GoesOn-through old now later kept.on made.on;
-      shallow = λ n shallow. (let all = kept.shallow n shallow in (all.0 + 1, made.shallow all.0 (all.1 at inside) (λ k below. IsShallow-weaker stands all.0 (all.0 + 1) (A.text a (slice_index now k)) (omega arith) (all.1 k below))));
-      steps = λ stepped. AreStepped-more (A.content a) (A.text a) stands (A.dead a) (map g.A.Label.RowLabel.number c.args.labels.now) at now later made.on inside (kept.steps stepped) (λ j below. made.ends (c.if-not-branch.false) j (omega (arith, below, length-map c.args.labels.now g.A.Label.RowLabel.number)));
+      shallow = λ n shallow. (let all = kept.shallow n shallow in (all.0 + 1, made.shallow all.0 (all.1 at inside) (λ k below. IsShallow-weaker stands all.0 (all.0 + 1) ((A.sees a).text (slice_index now k)) (omega arith) (all.1 k below))));
+      steps = λ stepped. AreStepped-more (A.sees a) stands (map g.A.Label.RowLabel.number c.args.labels.now) at now later made.on inside (kept.steps stepped) (λ j below. made.ends (c.if-not-branch.false) j (omega (arith, below, length-map c.args.labels.now g.A.Label.RowLabel.number)));
     }
 
 pub choose_ends-requires : goal.choose_ends-requires
@@ -47,7 +47,7 @@ returns-then-not-branch g c = record {
       let now = c.loop-at.chosen.order.items in let at = c.loop-at.at in
       let inside : at < length now = omega (arith, c.loop-at-test.true, c.len.ensures, c.loop-at.chosen.order.ok.0) in
       let all = c.loop-at.invariant.shallow n shallow in
-      inr (all.0 + 1, c.in_ok-choose_ends.ensures.full (c.if-not-branch.true) all.0 (all.1 at inside) (λ k below. IsShallow-weaker stands all.0 (all.0 + 1) (A.text a (slice_index now k)) (omega arith) (all.1 k below)));
+      inr (all.0 + 1, c.in_ok-choose_ends.ensures.full (c.if-not-branch.true) all.0 (all.1 at inside) (λ k below. IsShallow-weaker stands all.0 (all.0 + 1) ((A.sees a).text (slice_index now k)) (omega arith) (all.1 k below)));
   chosen = c.in_ok-choose_ends.ensures.chosen;
   on = GoesOn-through c.args.chosen.now.order.items c.loop-at.chosen.order.items c.choose_ends.new.chosen.order.items c.loop-at.invariant.on c.in_ok-choose_ends.ensures.on;
 }
@@ -56,7 +56,7 @@ pub returns : goal.returns
 returns g c = record {
   stepped = λ n shallow stepped.
       let A = g.A.Automaton in let a = c.args.automaton.now in
-      inl (AreStepped-fewer (A.content a) (A.text a) (stands_by g.A.Label.RowLabel.number (A.labels a)) (A.dead a) (map g.A.Label.RowLabel.number c.args.labels.now) (length c.loop-at.chosen.order.items) c.loop-at.at c.loop-at.chosen.order.items
+      inl (AreStepped-fewer (A.sees a) (stands_by g.A.Label.RowLabel.number (A.labels a)) (map g.A.Label.RowLabel.number c.args.labels.now) (length c.loop-at.chosen.order.items) c.loop-at.at c.loop-at.chosen.order.items
       (omega (arith, c.loop-at-test.false, c.len.ensures, c.loop-at.chosen.order.ok.0)) (c.loop-at.invariant.steps stepped));
   chosen = c.loop-at.invariant.chosen;
   on = c.loop-at.invariant.on;

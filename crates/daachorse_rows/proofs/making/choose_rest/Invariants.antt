@@ -7,11 +7,11 @@ abbrev pub invariant-loop-at : goal.invariant-loop-at
 invariant-loop-at g l =
     let A = g.A.Automaton in let a = l.automaton in let number = g.A.Label.RowLabel.number in let stands = stands_by number (A.labels a) in
     record {
-      chosen : AreChosen (A.reached a) l.chosen.order.items l.chosen.homes.items l.most;
+      chosen : AreChosen (A.sees a) l.chosen.order.items l.chosen.homes.items l.most;
       count : length l.chosen.homes.items ≡ length l.fn.chosen.homes.items;
       on : GoesOn l.fn.chosen.order.items l.chosen.order.items;
-      shallow : (n : ℕ) → AreShallow (A.text a) stands n l.fn.chosen.order.items → (m : ℕ) × AreShallow (A.text a) stands m l.chosen.order.items;
-      steps : AreStepped (A.content a) (A.text a) stands (A.dead a) (map number l.labels) l.from l.fn.chosen.order.items → AreStepped (A.content a) (A.text a) stands (A.dead a) (map number l.labels) l.at l.chosen.order.items;
+      shallow : (n : ℕ) → AreShallow (A.sees a) stands n l.fn.chosen.order.items → (m : ℕ) × AreShallow (A.sees a) stands m l.chosen.order.items;
+      steps : AreStepped (A.sees a) stands (map number l.labels) l.from l.fn.chosen.order.items → AreStepped (A.sees a) stands (map number l.labels) l.at l.chosen.order.items;
     }
 
 abbrev pub decreases-loop-at : goal.decreases-loop-at

@@ -1,9 +1,6 @@
 -- The rows are written one after the other.
-use Rattle.std.proofs.Common.{◌≡◌, ℕ, List, ◌*◌, length, map, ap, subst, arith}
-use Rattle.std.specs.Prelude.{Option}
-use Rattle.std.specs.declared.num.NonZeroU32.{NonZeroU32}
+use Rattle.std.proofs.Common.{◌≡◌, ℕ, ◌*◌, length, map, ap, subst, arith}
 use Rattle.std.proofs.lemmas.Result.{IfOk-from_err}
-use Rattle.daachorse_core.specs.Looks.{IsFirstOutput}
 use Rattle.daachorse_rows.specs.Rows.{AreWritten, stands_by}
 use Rattle.daachorse_rows.proofs.MakingLaws.{AreWritten-none, fits_rows}
 use Rattle.daachorse_rows.proofs.making.write.Goals as goal
@@ -11,8 +8,7 @@ use Rattle.daachorse_rows.proofs.making.write.Goals as goal
 pub loop-row-init : goal.loop-row-init
 loop-row-init g c =
     let A = g.A.Automaton in let a = c.args.automaton.now in let order = c.args.chosen.now.order.items in
-    let F : List ℕ → Option NonZeroU32 → Type 0 = IsFirstOutput g.A.Unit.EdgeLabel.width (A.content a) (A.dead a) (A.has_output a) (A.outputs a) (A.most_outputs a) in
-    AreWritten-none (A.content a) (A.reached a) (A.text a) (A.dead a) (stands_by g.A.Label.RowLabel.number (A.labels a)) F (map g.A.Label.RowLabel.number c.args.labels.now) order c.args.width (length order * c.args.width) c.in_ok-top.top.items c.in_ok-top.ensures.items
+    AreWritten-none g.A.Unit.EdgeLabel.width (A.sees a) (stands_by g.A.Label.RowLabel.number (A.labels a)) (map g.A.Label.RowLabel.number c.args.labels.now) order c.args.width (length order * c.args.width) c.in_ok-top.top.items c.in_ok-top.ensures.items
 
 pub returns-in_err-top : goal.returns-in_err-top
 returns-in_err-top g c = IfOk-from_err c.from_residual.result _ c.from_residual.ensures.0
@@ -35,9 +31,8 @@ loop-row-preserved g c = c.in_ok-write_row.ensures
 pub returns : goal.returns
 returns g c =
     let A = g.A.Automaton in let a = c.args.automaton.now in let order = c.args.chosen.now.order.items in
-    let F : List ℕ → Option NonZeroU32 → Type 0 = IsFirstOutput g.A.Unit.EdgeLabel.width (A.content a) (A.dead a) (A.has_output a) (A.outputs a) (A.most_outputs a) in
     let e : c.loop-row.row ≡ length order = omega (arith, c.loop-row-test.false, c.loop-row.auto.row-end, c.len-row-end.ensures, c.args.chosen.now.order.ok.0) in
-    let P : ℕ → Type 0 = λ n. AreWritten (A.content a) (A.reached a) (A.text a) (A.dead a) (stands_by g.A.Label.RowLabel.number (A.labels a)) F (map g.A.Label.RowLabel.number c.args.labels.now) order c.args.width (length order * c.args.width) n 0 c.loop-row.top.items in
+    let P : ℕ → Type 0 = λ n. AreWritten g.A.Unit.EdgeLabel.width (A.sees a) (stands_by g.A.Label.RowLabel.number (A.labels a)) (map g.A.Label.RowLabel.number c.args.labels.now) order c.args.width (length order * c.args.width) n 0 c.loop-row.top.items in
     subst P e c.loop-row.invariant
 
 pub overflow_mul-base : goal.overflow_mul-base

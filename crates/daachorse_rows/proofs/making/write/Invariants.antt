@@ -1,11 +1,10 @@
 -- The rows of the states so far are written, one behind the other, and nothing behind them.
 use Rattle.std.proofs.Common.{◌*◌, length, map}
-use Rattle.daachorse_core.specs.Looks.{IsFirstOutput}
 use Rattle.daachorse_rows.specs.Rows.{AreWritten, stands_by}
 use Rattle.daachorse_rows.proofs.making.write.Given as goal
 
 abbrev pub invariant-loop-row : goal.invariant-loop-row
 invariant-loop-row g l =
     let A = g.A.Automaton in let a = l.automaton in let order = l.chosen.order.items in
-    AreWritten (A.content a) (A.reached a) (A.text a) (A.dead a) (stands_by g.A.Label.RowLabel.number (A.labels a)) (IsFirstOutput g.A.Unit.EdgeLabel.width (A.content a) (A.dead a) (A.has_output a) (A.outputs a) (A.most_outputs a))
+    AreWritten g.A.Unit.EdgeLabel.width (A.sees a) (stands_by g.A.Label.RowLabel.number (A.labels a))
     (map g.A.Label.RowLabel.number l.labels) order l.width (length order * l.width) l.row 0 l.top.items

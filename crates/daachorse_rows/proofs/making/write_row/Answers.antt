@@ -1,10 +1,8 @@
 -- A step by a listed label ends where `follow` tells, and one by a label that no key has at the root, so each slot holds the place of the state to which its label leads.
 use Rattle.std.proofs.Common.{◌≡◌, ℕ, List, ◌+◌, ◌*◌, ◌<◌, length, map, get_or, ap, subst, refl, sym, arith}
-use Rattle.std.specs.Prelude.{slice_index, Option, None}
-use Rattle.std.specs.declared.num.NonZeroU32.{NonZeroU32}
+use Rattle.std.specs.Prelude.{slice_index, None}
 use Rattle.std.proofs.lemmas.Result.{IfOk-from_err}
 use Rattle.std.proofs.lemmas.List.{get_or_read}
-use Rattle.daachorse_core.specs.Looks.{IsFirstOutput}
 use Rattle.daachorse_rows.specs.Rows.{IsSlotEntry, Stands, stands_by}
 use Rattle.daachorse_rows.proofs.MakingLaws.{AreWritten-next, AreWritten-push, ends_read, fits_rows, slot_foreign, slot_step, unit_read}
 use Rattle.daachorse_rows.proofs.making.write_row.Goals as goal
@@ -16,43 +14,40 @@ row_state order row s less is = get_or_read order row s less is 0
 pub loop-k-init : goal.loop-k-init
 loop-k-init g c =
     let A = g.A.Automaton in let a = c.args.automaton.now in let order = c.args.chosen.now.order.items in let labels = map g.A.Label.RowLabel.number c.args.labels.now in
-    let width = c.args.width in let base = length order * width in let K = A.content a in
-    let F : List ℕ → Option NonZeroU32 → Type 0 = IsFirstOutput g.A.Unit.EdgeLabel.width (A.content a) (A.dead a) (A.has_output a) (A.outputs a) (A.most_outputs a) in
+    let width = c.args.width in let base = length order * width in
     let e : c.len.result ≡ length order = omega (arith, c.len.ensures, c.args.chosen.now.order.ok.0) in
     let S : ℕ → Type 0 = λ n. IsSlotEntry (λ x. Stands order width (n * width) x c.root-root.result) (c.output_pos.result ≡ None) c.entry.result in
-    let one = AreWritten-push K (A.reached a) (A.text a) (A.dead a) (stands_by g.A.Label.RowLabel.number (A.labels a)) F labels order width base c.args.row 0 1 c.index-state.result.now c.args.top.now.items c.push.new.self.items c.requires.written c.in_ok-push.ensures.items (row_state order c.args.row c.index-state.result.now c.requires.row c.index-state.ensures) refl in
-    AreWritten-push K (A.reached a) (A.text a) (A.dead a) (stands_by g.A.Label.RowLabel.number (A.labels a)) F labels order width base c.args.row 1 2 c.entry.result c.push.new.self.items c.push-2.new.self.items one c.in_ok-push-2.ensures.items
-    (slot_foreign K (A.reached a) (A.text a) (A.dead a) (stands_by g.A.Label.RowLabel.number (A.labels a)) F labels order width base c.requires.labels c.args.row c.entry.result c.root-root.result c.output_pos.result (subst S e c.entry.ensures) c.output_pos.ensures c.root-root.ensures.reached c.root-root.ensures.text) refl
+    let one = AreWritten-push g.A.Unit.EdgeLabel.width (A.sees a) (stands_by g.A.Label.RowLabel.number (A.labels a)) labels order width base c.args.row 0 1 c.index-state.result.now c.args.top.now.items c.push.new.self.items c.requires.written c.in_ok-push.ensures.items (row_state order c.args.row c.index-state.result.now c.requires.row c.index-state.ensures) refl in
+    AreWritten-push g.A.Unit.EdgeLabel.width (A.sees a) (stands_by g.A.Label.RowLabel.number (A.labels a)) labels order width base c.args.row 1 2 c.entry.result c.push.new.self.items c.push-2.new.self.items one c.in_ok-push-2.ensures.items
+    (slot_foreign g.A.Unit.EdgeLabel.width (A.sees a) (stands_by g.A.Label.RowLabel.number (A.labels a)) labels order width base c.requires.labels c.args.row c.entry.result c.root-root.result c.output_pos.result (subst S e c.entry.ensures) c.output_pos.ensures c.root-root.ensures.reached c.root-root.ensures.text) refl
 
 pub follow-next-requires : goal.follow-next-requires
 follow-next-requires g c = record {
   reached =
       let order = c.args.chosen.now.order.items in
-      let P : ℕ → Type 0 = λ s. g.A.Automaton.reached c.args.automaton.now s in
+      let P : ℕ → Type 0 = λ s. (g.A.Automaton.sees c.args.automaton.now).reached s in
       subst P (sym (row_state order c.args.row c.index-state.result.now c.requires.row c.index-state.ensures)) (c.requires.chosen.states c.args.row c.requires.row);
   unit =
       let A = g.A.Automaton in let a = c.args.automaton.now in
-      unit_read g.A.Label.RowLabel.number (A.content a) g.met.A.Label.RowLabel.exact (A.labels a) c.args.labels.now c.loop-k.k c.index-labels-k.result c.requires.labels c.loop-k-test.true c.index-labels-k.is;
+      unit_read g.A.Label.RowLabel.number (A.sees a).content g.met.A.Label.RowLabel.exact (A.labels a) c.args.labels.now c.loop-k.k c.index-labels-k.result c.requires.labels c.loop-k-test.true c.index-labels-k.is;
 }
 
 pub loop-k-preserved : goal.loop-k-preserved
 loop-k-preserved g c =
     let A = g.A.Automaton in let a = c.args.automaton.now in let order = c.args.chosen.now.order.items in let labels = map g.A.Label.RowLabel.number c.args.labels.now in
-    let width = c.args.width in let base = length order * width in let K = A.content a in
-    let F : List ℕ → Option NonZeroU32 → Type 0 = IsFirstOutput g.A.Unit.EdgeLabel.width (A.content a) (A.dead a) (A.has_output a) (A.outputs a) (A.most_outputs a) in
+    let width = c.args.width in let base = length order * width in
     let e : c.len.result ≡ length order = omega (arith, c.len.ensures, c.args.chosen.now.order.ok.0) in
     let S : ℕ → Type 0 = λ n. IsSlotEntry (λ x. Stands order width (n * width) x c.follow-next.result.0) (c.follow-next.result.1 ≡ None) c.entry-in-loop-k.result in
     let same = row_state order c.args.row c.index-state.result.now c.requires.row c.index-state.ensures in
     let label = c.index-labels-k.result in
-    let ends = ends_read g.A.Label.RowLabel.number K (A.dead a) (A.text a) g.met.A.Label.RowLabel.exact (A.labels a) c.args.labels.now c.loop-k.k label (slice_index order c.args.row) c.index-state.result.now c.follow-next.result.0 c.loop-k-test.true c.index-labels-k.is same c.follow-next.ensures.ends in
-    AreWritten-push K (A.reached a) (A.text a) (A.dead a) (stands_by g.A.Label.RowLabel.number (A.labels a)) F labels order width base c.args.row (2 + c.loop-k.k) (2 + (c.loop-k.k + 1)) c.entry-in-loop-k.result c.loop-k.top.items c.push-in-loop-k.new.self.items c.loop-k.invariant c.in_ok-push-3.ensures.items
-    (slot_step K (A.reached a) (A.text a) (A.dead a) (stands_by g.A.Label.RowLabel.number (A.labels a)) F labels order width base c.requires.labels c.args.row (2 + c.loop-k.k) c.loop-k.k c.entry-in-loop-k.result c.follow-next.result.0 c.follow-next.result.1 refl (subst S e c.entry-in-loop-k.ensures) c.follow-next.ensures.output c.follow-next.ensures.reached ends) (omega arith)
+    let ends = ends_read g.A.Label.RowLabel.number (A.sees a) g.met.A.Label.RowLabel.exact (A.labels a) c.args.labels.now c.loop-k.k label (slice_index order c.args.row) c.index-state.result.now c.follow-next.result.0 c.loop-k-test.true c.index-labels-k.is same c.follow-next.ensures.ends in
+    AreWritten-push g.A.Unit.EdgeLabel.width (A.sees a) (stands_by g.A.Label.RowLabel.number (A.labels a)) labels order width base c.args.row (2 + c.loop-k.k) (2 + (c.loop-k.k + 1)) c.entry-in-loop-k.result c.loop-k.top.items c.push-in-loop-k.new.self.items c.loop-k.invariant c.in_ok-push-3.ensures.items
+    (slot_step g.A.Unit.EdgeLabel.width (A.sees a) (stands_by g.A.Label.RowLabel.number (A.labels a)) labels order width base c.requires.labels c.args.row (2 + c.loop-k.k) c.loop-k.k c.entry-in-loop-k.result c.follow-next.result.0 c.follow-next.result.1 refl (subst S e c.entry-in-loop-k.ensures) c.follow-next.ensures.output c.follow-next.ensures.reached ends) (omega arith)
 
 pub returns : goal.returns
 returns g c =
     let A = g.A.Automaton in let a = c.args.automaton.now in let order = c.args.chosen.now.order.items in
-    let F : List ℕ → Option NonZeroU32 → Type 0 = IsFirstOutput g.A.Unit.EdgeLabel.width (A.content a) (A.dead a) (A.has_output a) (A.outputs a) (A.most_outputs a) in
-    AreWritten-next (A.content a) (A.reached a) (A.text a) (A.dead a) (stands_by g.A.Label.RowLabel.number (A.labels a)) F (map g.A.Label.RowLabel.number c.args.labels.now) order c.args.width (length order * c.args.width) c.args.row (2 + c.loop-k.k) c.loop-k.top.items c.loop-k.invariant (omega (arith, c.requires.width, c.loop-k-test.false, c.loop-k.auto.k-end))
+    AreWritten-next g.A.Unit.EdgeLabel.width (A.sees a) (stands_by g.A.Label.RowLabel.number (A.labels a)) (map g.A.Label.RowLabel.number c.args.labels.now) order c.args.width (length order * c.args.width) c.args.row (2 + c.loop-k.k) c.loop-k.top.items c.loop-k.invariant (omega (arith, c.requires.width, c.loop-k-test.false, c.loop-k.auto.k-end))
 
 pub index-state-requires : goal.index-state-requires
 index-state-requires g c = omega (arith, c.requires.row, c.args.chosen.now.order.ok.0)

@@ -20,9 +20,9 @@ overflow_sub-result g c =
 -- a match was found
 pub returns-in-Some : goal.returns-in-Some
 returns-in-Some g c =
-    let A = g.A.Automaton in let a = c.args.automaton.now in let width = g.A.Unit.EdgeLabel.width in let rest = g.H.Haystack.rest in
-    let text = rest c.args.haystack.now in let first = c.scan_to_match in let left = rest first.new.source in let t = A.text a first.new.state in
-    let Scanning : List ℕ → NonZeroU32 → Type 0 = λ x p. IsScanning width (A.content a) (A.has_output a) (A.outputs a) (A.has_label a) x left t (Some (p.value, size width left)) c.args.turns.now first.new.turns in
+    let view = g.A.Automaton.sees c.args.automaton.now in let width = g.A.Unit.EdgeLabel.width in let rest = g.H.Haystack.rest in
+    let text = rest c.args.haystack.now in let first = c.scan_to_match in let left = rest first.new.source in let t = view.text first.new.state in
+    let Scanning : List ℕ → NonZeroU32 → Type 0 = λ x p. IsScanning width view x left t (Some (p.value, size width left)) c.args.turns.now first.new.turns in
     let S : Option NonZeroU32 → Type 0 = λ o. IfSome o (λ p. Scanning (rest c.after-source.result) p) in
     let T : List ℕ → Type 0 = λ x. Scanning x c.in-Some.position in
     c.scan_on.ensures c.args.turns.now (subst T (c.after-source.ensures [] text refl refl) (subst S c.in-Some.is first.ensures.scans.some))
@@ -30,8 +30,8 @@ returns-in-Some g c =
 -- nothing was
 pub returns-in-None : goal.returns-in-None
 returns-in-None g c =
-    let A = g.A.Automaton in let a = c.args.automaton.now in let width = g.A.Unit.EdgeLabel.width in let rest = g.H.Haystack.rest in
+    let view = g.A.Automaton.sees c.args.automaton.now in let width = g.A.Unit.EdgeLabel.width in let rest = g.H.Haystack.rest in
     let text = rest c.args.haystack.now in let first = c.scan_to_match in let end : ℕ = c.left.result - c.left-in-None.result in
     let same : rest c.after-source.result ≡ text = c.after-source.ensures [] text refl refl in
-    let B : List ℕ → Type 0 = λ x. IsClear width (A.content a) (A.has_output a) (A.outputs a) (A.has_label a) x c.args.may_stop end c.args.turns.now first.new.turns in
+    let B : List ℕ → Type 0 = λ x. IsClear width view x c.args.may_stop end c.args.turns.now first.new.turns in
     subst B same (first.ensures.scans.none c.in-None.is end (omega (arith, c.left.ensures, c.left-in-None.ensures, first.ensures.scans.fewer, ap (size width) same)))

@@ -6,14 +6,14 @@ use Rattle.daachorse_search.proofs.best.scan_on.Given as goal
 
 abbrev pub invariant-units : goal.invariant-units
 invariant-units g l =
-    let A = g.A.Automaton in let a = l.automaton in let width = g.A.Unit.EdgeLabel.width in let rest = g.H.Haystack.rest in
-    let Scanning = IsScanning width (A.content a) (A.has_output a) (A.outputs a) (A.has_label a) (rest l.haystack) in
+    let view = g.A.Automaton.sees l.automaton in let width = g.A.Unit.EdgeLabel.width in let rest = g.H.Haystack.rest in
+    let Scanning = IsScanning width view (rest l.haystack) in
     record {
-      reached : A.reached a l.state;
+      reached : view.reached l.state;
       left : size width (rest l.source) ≤ size width (rest l.haystack);
       behind : size width (rest l.mark.behind) ≤ size width (rest l.haystack);
-      scanning : (before : ℕ) → Scanning (rest l.fn.source) (A.text a l.fn.state) (Some (l.fn.position.value, size width (rest l.fn.source))) before l.fn.turns
-          → Scanning (rest l.source) (A.text a l.state) (Some (l.mark.position.value, size width (rest l.mark.behind))) before l.turns;
+      scanning : (before : ℕ) → Scanning (rest l.fn.source) (view.text l.fn.state) (Some (l.fn.position.value, size width (rest l.fn.source))) before l.fn.turns
+          → Scanning (rest l.source) (view.text l.state) (Some (l.mark.position.value, size width (rest l.mark.behind))) before l.turns;
     }
 
 abbrev pub decreases-units : goal.decreases-units

@@ -5,10 +5,10 @@ use Rattle.daachorse_search.proofs.best.scan_units.Given as goal
 
 abbrev pub invariant-units : goal.invariant-units
 invariant-units g l =
-    let A = g.A.Automaton in let a = l.automaton in let rest = g.H.Haystack.rest in
+    let view = g.A.Automaton.sees l.automaton in let rest = g.H.Haystack.rest in
     record {
-      reached : A.reached a l.state;
-      scanning : IsScanning g.A.Unit.EdgeLabel.width (A.content a) (A.has_output a) (A.outputs a) (A.has_label a) (rest l.fn.source) (rest l.source) (A.text a l.state) None l.fn.turns l.turns;
+      reached : view.reached l.state;
+      scanning : IsScanning g.A.Unit.EdgeLabel.width view (rest l.fn.source) (rest l.source) (view.text l.state) None l.fn.turns l.turns;
     }
 
 abbrev pub decreases-units : goal.decreases-units

@@ -8,10 +8,10 @@ use Rattle.daachorse_search.proofs.overlapping.find_overlapping_no_suffix_in.Goa
 pub returns-clause-left : goal.returns-clause-left
 returns-clause-left g c =
     let A = g.A.Automaton in let unit = g.A.Unit.EdgeLabel in
-    let found = λ (a : g.row.A.Denot). at_each_end (first_found unit.width A.content a) [] (g.H.Haystack.rest c.args.haystack) in
+    let found = λ (a : g.row.A.Denot). at_each_end (first_found unit.width A.sees a) [] (g.H.Haystack.rest c.args.haystack) in
     c.with_filter.ensures.left ∙ ap found c.new.ensures.automaton
 
 pub with_filter-requires-clause-sound : goal.with_filter-requires-clause-sound
 with_filter-requires-clause-sound g c =
-    let P : g.row.A.Denot → Type 0 = λ a. IsSoundFor (g.F.Filter.passes c.args.filter) (g.A.Automaton.content a) in
+    let P : g.row.A.Denot → Type 0 = λ a. IsSoundFor (g.F.Filter.passes c.args.filter) (g.A.Automaton.sees a).content in
     subst P (sym c.new.ensures.automaton) c.requires.sound

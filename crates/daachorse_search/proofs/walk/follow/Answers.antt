@@ -13,19 +13,19 @@ returns-in-Next-clause-ends g c = λ unit coded. (c.in-Next.ensures.look unit co
 
 pub returns-in-Next-clause-most : goal.returns-in-Next-clause-most
 returns-in-Next-clause-most g c =
-    let A = g.A.Automaton in let a = c.args.automaton.now in
+    let view = g.A.Automaton.sees c.args.automaton.now in
     let looked = c.in-Next.ensures.look c.requires.unit.0 c.requires.unit.1 in
-    omega (arith, StepEnds-length (A.content a) (A.dead a) _ _ _ looked.1, c.in-Next.ensures.counted)
+    omega (arith, StepEnds-length view _ _ _ looked.1, c.in-Next.ensures.counted)
 
 pub links-init : goal.links-init
 links-init g c =
-    let A = g.A.Automaton in let a = c.args.automaton.now in
+    let view = g.A.Automaton.sees c.args.automaton.now in
     elim c.if-looks_ahead.branch [
       | then-looks_ahead+in-Fail w ↦
           let looked = w.in-Fail.ensures.look c.requires.unit.0 c.requires.unit.1 in
           rw (w.at-is, w.turns-is) (record {
             reached = looked.0;
-            on = λ unit t coded ends. let here = w.in-Fail.ensures.look unit coded in StepEnds-link (A.content a) (A.dead a) _ _ t unit here.1 here.2 here.3 ends;
+            on = λ unit t coded ends. let here = w.in-Fail.ensures.look unit coded in StepEnds-link view _ _ t unit here.1 here.2 here.3 ends;
             counted = omega (arith, looked.3.shorter, w.in-Fail.ensures.counted);
             more = omega (arith, w.in-Fail.ensures.counted);
             linked = λ once. absurd (w.in-Fail.ensures.single once c.requires.unit.0 _ c.requires.unit.1 refl);
@@ -43,20 +43,20 @@ returns-in-Next-turn-clause-ends g c = λ unit coded. c.links.invariant.on unit 
 
 pub returns-in-Next-turn-clause-most : goal.returns-in-Next-turn-clause-most
 returns-in-Next-turn-clause-most g c =
-    let A = g.A.Automaton in let a = c.args.automaton.now in
+    let view = g.A.Automaton.sees c.args.automaton.now in
     let looked = c.in-Next-turn.ensures.look c.requires.unit.0 c.requires.unit.1 in
-    omega (arith, StepEnds-length (A.content a) (A.dead a) _ _ _ looked.1, c.in-Next-turn.ensures.counted, c.links.invariant.counted)
+    omega (arith, StepEnds-length view _ _ _ looked.1, c.in-Next-turn.ensures.counted, c.links.invariant.counted)
 
 pub returns-in-Next-turn-clause-single : goal.returns-in-Next-turn-clause-single
 returns-in-Next-turn-clause-single g c = λ once. omega (arith, c.in-Next-turn.ensures.counted, c.links.invariant.linked once)
 
 pub links-preserved : goal.links-preserved
 links-preserved g c =
-    let A = g.A.Automaton in let a = c.args.automaton.now in
+    let view = g.A.Automaton.sees c.args.automaton.now in
     let looked = c.in-Fail-turn.ensures.look c.requires.unit.0 c.requires.unit.1 in
     record {
       reached = looked.0;
-      on = λ unit t coded ends. let here = c.in-Fail-turn.ensures.look unit coded in c.links.invariant.on unit t coded (StepEnds-link (A.content a) (A.dead a) _ _ t unit here.1 here.2 here.3 ends);
+      on = λ unit t coded ends. let here = c.in-Fail-turn.ensures.look unit coded in c.links.invariant.on unit t coded (StepEnds-link view _ _ t unit here.1 here.2 here.3 ends);
       counted = omega (arith, looked.3.shorter, c.in-Fail-turn.ensures.counted, c.links.invariant.counted);
       more = omega (arith, c.in-Fail-turn.ensures.counted, c.links.invariant.more);
       linked = λ once. absurd (c.in-Fail-turn.ensures.single once c.requires.unit.0 _ c.requires.unit.1 refl);

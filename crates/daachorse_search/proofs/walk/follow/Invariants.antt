@@ -5,14 +5,14 @@ use Rattle.daachorse_search.proofs.walk.follow.Given as goal
 
 abbrev pub invariant-links : goal.invariant-links
 invariant-links g l =
-    let A = g.A.Automaton in let K = A.content l.automaton in let text = A.text l.automaton in let dead = A.dead l.automaton in
+    let A = g.A.Automaton in let view = A.sees l.automaton in
     record {
-      reached : A.reached l.automaton l.at;
-      on : (unit : ℕ) (t : List ℕ) → A.labels l.automaton l.label unit → StepEnds K dead (text l.at) unit t → StepEnds K dead (text l.fn.state) unit t;
-      counted : l.turns + length (text l.at) ≤ l.fn.turns + length (text l.fn.state);
+      reached : view.reached l.at;
+      on : (unit : ℕ) (t : List ℕ) → A.labels l.automaton l.label unit → StepEnds view.content view.dead (view.text l.at) unit t → StepEnds view.content view.dead (view.text l.fn.state) unit t;
+      counted : l.turns + length (view.text l.at) ≤ l.fn.turns + length (view.text l.fn.state);
       more : l.fn.turns ≤ l.turns;
-      linked : A.ends_at_once l.automaton → l.turns ≡ l.fn.turns;
+      linked : view.ends_at_once → l.turns ≡ l.fn.turns;
     }
 
 abbrev pub decreases-links : goal.decreases-links
-decreases-links g l = length (g.A.Automaton.text l.automaton l.at)
+decreases-links g l = length ((g.A.Automaton.sees l.automaton).text l.at)

@@ -9,18 +9,15 @@ returns-in_default-clause-ends g c = inl (c.in_default.ensures.1, c.root-root.en
 
 pub returns-in_default-clause-standard : goal.returns-in_default-clause-standard
 returns-in_default-clause-standard g c = λ alive.
-    let a = c.args.automaton.now in
-    StepEnds-long (g.A.Automaton.content a) (g.A.Automaton.dead a) _ _ _ (inl (c.in_default.ensures.1, c.root-root.ensures.text)) alive
+    StepEnds-long (g.A.Automaton.sees c.args.automaton.now) _ _ _ (inl (c.in_default.ensures.1, c.root-root.ensures.text)) alive
 
 pub returns-in_default-clause-leftmost : goal.returns-in_default-clause-leftmost
 returns-in_default-clause-leftmost g c =
-    let a = c.args.automaton.now in
-    λ kind w h. StepEnds-left (g.A.Automaton.content a) (g.A.Automaton.dead a) kind w _ _ _ h (inl (c.in_default.ensures.1, c.root-root.ensures.text))
+    λ kind w h. StepEnds-left (g.A.Automaton.sees c.args.automaton.now) kind w _ _ _ h (inl (c.in_default.ensures.1, c.root-root.ensures.text))
 
 pub returns-in_default-clause-cut : goal.returns-in_default-clause-cut
 returns-in_default-clause-cut g c =
-    let a = c.args.automaton.now in
-    λ kind w h. StepEnds-cut (g.A.Automaton.content a) (g.A.Automaton.dead a) kind w _ _ _ h (inl (c.in_default.ensures.1, c.root-root.ensures.text))
+    λ kind w h. StepEnds-cut (g.A.Automaton.sees c.args.automaton.now) kind w _ _ _ h (inl (c.in_default.ensures.1, c.root-root.ensures.text))
 
 -- some key may have it
 pub follow-requires-clause-unit : goal.follow-requires-clause-unit
@@ -31,15 +28,12 @@ returns-clause-ends g c = c.follow.ensures.ends _ c.in-Some.ensures.0
 
 pub returns-clause-standard : goal.returns-clause-standard
 returns-clause-standard g c = λ alive.
-    let a = c.args.automaton.now in
-    StepEnds-long (g.A.Automaton.content a) (g.A.Automaton.dead a) _ _ _ (c.follow.ensures.ends _ c.in-Some.ensures.0) alive
+    StepEnds-long (g.A.Automaton.sees c.args.automaton.now) _ _ _ (c.follow.ensures.ends _ c.in-Some.ensures.0) alive
 
 pub returns-clause-leftmost : goal.returns-clause-leftmost
 returns-clause-leftmost g c =
-    let a = c.args.automaton.now in
-    λ kind w h. StepEnds-left (g.A.Automaton.content a) (g.A.Automaton.dead a) kind w _ _ _ h (c.follow.ensures.ends _ c.in-Some.ensures.0)
+    λ kind w h. StepEnds-left (g.A.Automaton.sees c.args.automaton.now) kind w _ _ _ h (c.follow.ensures.ends _ c.in-Some.ensures.0)
 
 pub returns-clause-cut : goal.returns-clause-cut
 returns-clause-cut g c =
-    let a = c.args.automaton.now in
-    λ kind w h. StepEnds-cut (g.A.Automaton.content a) (g.A.Automaton.dead a) kind w _ _ _ h (c.follow.ensures.ends _ c.in-Some.ensures.0)
+    λ kind w h. StepEnds-cut (g.A.Automaton.sees c.args.automaton.now) kind w _ _ _ h (c.follow.ensures.ends _ c.in-Some.ensures.0)

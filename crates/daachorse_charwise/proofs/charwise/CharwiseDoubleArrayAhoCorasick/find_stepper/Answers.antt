@@ -1,14 +1,14 @@
 -- The cached depths are those of the states that the view shows.
 use Rattle.std.proofs.Common.{ℕ, List, length, sym, subst}
-use Rattle.daachorse_core.specs.Depths.{AreDepths}
 use Rattle.daachorse_listing.proofs.DepthLaws.{table_tells}
+use Rattle.daachorse_search.specs.Views.{HasDepths}
 use Rattle.daachorse_charwise_states.specs.Parts.{Parts, child, count}
-use Rattle.daachorse_charwise_states.specs.Valid.{IsState, text}
+use Rattle.daachorse_charwise_states.specs.Valid.{sees}
 use Rattle.daachorse_charwise.proofs.charwise.CharwiseDoubleArrayAhoCorasick.find_stepper.Goals as goal
 
 pub new-requires-clause-depths : goal.new-requires-clause-depths
 new-requires-clause-depths g c =
     let kept = c.self.inside in let p : Parts g.row.V.Denot = kept.states in
-    let P : Parts g.row.V.Denot → Type 0 = λ x. AreDepths (IsState x) (text x) kept.depths.items in
-    let Q : List ℕ → Type 0 = λ depths. AreDepths (IsState c.standard.result) (text c.standard.result) depths in
+    let P : Parts g.row.V.Denot → Type 0 = λ x. HasDepths (sees x) kept.depths.items in
+    let Q : List ℕ → Type 0 = λ depths. HasDepths (sees c.standard.result) depths in
     subst Q (sym c.deref.ensures.value) (subst P (sym c.standard.ensures) (table_tells (child p) (length p.coding.table) (count p) kept.depths.items c.self.invariant.depths))

@@ -8,5 +8,5 @@ use Rattle.daachorse_folding.proofs.find_stepper.FindStepperAsRead.depth.Goals a
 pub returns-clause-depth : goal.returns-clause-depth
 returns-clause-depth g c =
     let A = g.A.Automaton in let unit = g.A.Unit.EdgeLabel in
-    let P : SteppedAsRead g.row.A.Denot → Type 0 = λ p. p.depths ≢ [] → (since s : List ℕ) → IsSinceMatch unit.width (A.content p.automaton) p.read since → IsLong (A.content p.automaton) since s → c.depth.result ≡ Some (length s) in
+    let P : SteppedAsRead g.row.A.Denot → Type 0 = λ p. p.depths ≢ [] → (since s : List ℕ) → IsSinceMatch unit.width (A.sees p.automaton).content p.read since → IsLong (A.sees p.automaton).content since s → c.depth.result ≡ Some (length s) in
     subst P c.self.view_is c.depth.ensures.depth

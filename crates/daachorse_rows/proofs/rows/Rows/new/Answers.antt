@@ -1,12 +1,9 @@
 -- The rows are those of the chosen states as they were written, so they are right, cover what the choice covers, and are closed where each step from a chosen state ends at one.
-use Rattle.std.proofs.Common.{◌≡◌, ℕ, List, ◌+◌, ◌*◌, inl, inr, length, map, refl, subst, sym, ap, ◌∙◌, arith}
-use Rattle.std.specs.Prelude.{Option}
-use Rattle.std.specs.declared.num.NonZeroU32.{NonZeroU32}
+use Rattle.std.proofs.Common.{◌≡◌, ℕ, ◌+◌, ◌*◌, inl, inr, length, map, refl, subst, sym, ap, ◌∙◌, arith}
 use Rattle.std.proofs.Math.Nat.{div-mul-le_self}
 use Rattle.std.proofs.lemmas.List.{length-map}
 use Rattle.std.proofs.lemmas.Result.{IfOk-from_err}
 use Rattle.std.proofs.lemmas.Option.{none-some, MatchOption-at_none, MatchOption-at_some}
-use Rattle.daachorse_core.specs.Looks.{IsFirstOutput}
 use Rattle.daachorse_rows.specs.Rows.{RowTable, Stands, stands_by}
 use Rattle.daachorse_rows.proofs.MakingLaws.{AreClosed-made, AreRows-made, Covers-made, fits_rows}
 use Rattle.daachorse_rows.proofs.ShallowLaws.{room_least}
@@ -84,7 +81,6 @@ pub returns : goal.returns
 returns g c =
     let A = g.A.Automaton in let a = c.args.automaton.now in let order = c.in-Some.chosen.order.items in
     let width = length c.args.labels.now + 2 in
-    let F : List ℕ → Option NonZeroU32 → Type 0 = IsFirstOutput g.A.Unit.EdgeLabel.width (A.content a) (A.dead a) (A.has_output a) (A.outputs a) (A.most_outputs a) in
     let r : RowTable = record { classes = c.in_ok-classes.classes.items; top = c.in_ok-top.top.items; homes = c.in-Some.chosen.homes.items; count = c.len-count.result; width = width; root = c.place-root.result } in
     let S : ℕ → Type 0 = λ n. Stands order width (n * width) c.place-root.result c.root.result in
     let e : c.len-count.result ≡ length order = c.len-count.ensures ∙ c.in-Some.chosen.order.ok.0 in
@@ -92,12 +88,12 @@ returns g c =
     let chosen = MatchOption-at_some _ _ c.in-Some.chosen c.in-Some.is c.in_ok-chosen.ensures in
     record {
       right =
-          AreRows-made (A.content a) (A.reached a) (A.text a) (A.dead a) stands F (map g.A.Label.RowLabel.number c.args.labels.now) r order e (omega arith) c.in_ok-top.ensures
+          AreRows-made g.A.Unit.EdgeLabel.width (A.sees a) stands (map g.A.Label.RowLabel.number c.args.labels.now) r order e (omega arith) c.in_ok-top.ensures
           c.root.result (ap (λ n. n + 2) (sym (length-map c.args.labels.now g.A.Label.RowLabel.number))) c.in_ok-classes.ensures chosen.0 (subst S e c.place-root.ensures) c.root.ensures.reached c.root.ensures.text;
-      covered = Covers-made (A.content a) (A.reached a) (A.text a) (A.dead a) stands F (map g.A.Label.RowLabel.number c.args.labels.now) r order e (omega arith) c.in_ok-top.ensures 2 chosen.1;
+      covered = Covers-made g.A.Unit.EdgeLabel.width (A.sees a) stands (map g.A.Label.RowLabel.number c.args.labels.now) r order e (omega arith) c.in_ok-top.ensures 2 chosen.1;
       -- where each step ends in a row the rows are closed, and else there are too many states
       closed = λ may. elim chosen.2 [
-        | inl stepped ↦ inl (AreClosed-made (A.content a) (A.reached a) (A.text a) (A.dead a) stands F (map g.A.Label.RowLabel.number c.args.labels.now) r order e (omega arith) c.in_ok-top.ensures
+        | inl stepped ↦ inl (AreClosed-made g.A.Unit.EdgeLabel.width (A.sees a) stands (map g.A.Label.RowLabel.number c.args.labels.now) r order e (omega arith) c.in_ok-top.ensures
             g.A.Label.RowLabel.most c.root.result (ap (λ n. n + 2) (sym (length-map c.args.labels.now g.A.Label.RowLabel.number))) c.in_ok-classes.ensures c.requires.labels chosen.0.states (subst S e c.place-root.ensures) c.root.ensures.reached c.root.ensures.text stepped may)
         | inr many ↦ inr many
       ];

@@ -8,11 +8,11 @@ use Rattle.daachorse_rows.proofs.view.RowView.place.Goals as goal
 pub returns-then-self-index : goal.returns-then-self-index
 returns-then-self-index g c =
     let s = c.self.inside in
-    let P : Rowed g.row.A.Denot → Type 0 = λ p. g.A.Automaton.reached p.automaton c.args.state → StandsFor p.rows (slice_index s.homes.now c.args.state * s.width) c.args.state in
-    subst P c.self.view_is (λ there. place_home _ _ _ _ _ _ g.A.Label.RowLabel.most _ c.self.invariant c.args.state c.if-index-self.true c.if-self-index.true)
+    let P : Rowed g.row.A.Denot → Type 0 = λ p. (g.A.Automaton.sees p.automaton).reached c.args.state → StandsFor p.rows (slice_index s.homes.now c.args.state * s.width) c.args.state in
+    subst P c.self.view_is (λ there. place_home g.A.Unit.EdgeLabel.width (g.A.Automaton.sees s.automaton) _ g.A.Label.RowLabel.most _ c.self.invariant c.args.state c.if-index-self.true c.if-self-index.true)
 
 pub returns : goal.returns
 returns g c =
     let s = c.self.inside in
-    let P : Rowed g.row.A.Denot → Type 0 = λ p. g.A.Automaton.reached p.automaton c.args.state → StandsFor p.rows ((length s.top.now + c.args.state) % 2 ^ 32) c.args.state in
+    let P : Rowed g.row.A.Denot → Type 0 = λ p. (g.A.Automaton.sees p.automaton).reached c.args.state → StandsFor p.rows ((length s.top.now + c.args.state) % 2 ^ 32) c.args.state in
     subst P c.self.view_is (λ there. place_past _ c.args.state ((length s.top.now + c.args.state) % 2 ^ 32) refl (c.self.invariant.small c.args.state there))

@@ -1,18 +1,17 @@
 -- The root's place stands for a state with the empty text, and behind all slots each state stands for itself, whether it has a row or not.
 use Rattle.std.proofs.Common.{subst, refl, length, ap, ◌∙◌, ◌+◌, ◌%◌, ◌^◌}
-use Rattle.daachorse_rows.specs.Rows.{Rowed, SharesText, stands_by}
+use Rattle.daachorse_rows.specs.Rows.{Rowed, SharesText}
 use Rattle.daachorse_rows.proofs.RowLaws.{place_past, shares_root, shares_state}
 use Rattle.daachorse_rows.proofs.view.RowView.place_below.Goals as goal
 
 pub returns-then-state-root : goal.returns-then-state-root
 returns-then-state-root g c =
     let A = g.A.Automaton in let s = c.self.inside in
-    let P : Rowed g.row.A.Denot → Type 0 = λ p. A.reached p.automaton c.args.state → SharesText (A.reached p.automaton) (A.text p.automaton) p.rows s.root c.args.state in
-    subst P c.self.view_is (λ there. shares_root _ _ _ _ _ _ g.A.Label.RowLabel.most _ c.self.invariant c.args.state (ap (A.text s.automaton) c.if-state-root.true ∙ c.root.ensures.text))
+    let P : Rowed g.row.A.Denot → Type 0 = λ p. (A.sees p.automaton).reached c.args.state → SharesText (A.sees p.automaton) p.rows s.root c.args.state in
+    subst P c.self.view_is (λ there. shares_root g.A.Unit.EdgeLabel.width (A.sees s.automaton) _ g.A.Label.RowLabel.most _ c.self.invariant c.args.state (ap (A.sees s.automaton).text c.if-state-root.true ∙ c.root.ensures.text))
 
 pub returns : goal.returns
 returns g c =
-    let A = g.A.Automaton in let s = c.self.inside in let a = s.automaton in
-    let P : Rowed g.row.A.Denot → Type 0 = λ p. A.reached p.automaton c.args.state → SharesText (A.reached p.automaton) (A.text p.automaton) p.rows ((length s.top.now + c.args.state) % 2 ^ 32) c.args.state in
-    subst P c.self.view_is (λ there. shares_state (A.content a) (A.reached a) (A.text a) (A.dead a) (stands_by g.A.Label.RowLabel.number (A.labels a)) (λ w o. Unit {0}) g.A.Label.RowLabel.most _ _ c.args.state
-    (place_past _ c.args.state ((length s.top.now + c.args.state) % 2 ^ 32) refl (c.self.invariant.small c.args.state there)) there)
+    let A = g.A.Automaton in let s = c.self.inside in
+    let P : Rowed g.row.A.Denot → Type 0 = λ p. (A.sees p.automaton).reached c.args.state → SharesText (A.sees p.automaton) p.rows ((length s.top.now + c.args.state) % 2 ^ 32) c.args.state in
+    subst P c.self.view_is (λ there. shares_state (A.sees s.automaton) _ _ c.args.state (place_past _ c.args.state ((length s.top.now + c.args.state) % 2 ^ 32) refl (c.self.invariant.small c.args.state there)) there)

@@ -10,8 +10,8 @@ use Rattle.daachorse_search.proofs.find.FindWalk.depth.Goals as goal
 pub returns-clause-depth : goal.returns-clause-depth
 returns-clause-depth g c some since s is long =
     let A = g.A.Automaton in let unit = g.A.Unit.EdgeLabel in let i = c.self.inside in
-    let S : Walked g.row.A.Denot → Type 0 = λ w. IsSinceMatch unit.width (A.content w.automaton) (units w.seen) since in
-    let L : Walked g.row.A.Denot → Type 0 = λ w. IsLong (A.content w.automaton) since s in
-    let P : List ℕ → Type 0 = λ w. IsLong (A.content i.walk.automaton) w s in
-    let same = finding-since unit.width g.met.A.Unit.EdgeLabel.wide A.content A.has_label A.has_output A.outputs A.most_outputs i.walk i.everywhere c.self.invariant since (subst S (sym c.self.view_is) is) in
+    let S : Walked g.row.A.Denot → Type 0 = λ w. IsSinceMatch unit.width (A.sees w.automaton).content (units w.seen) since in
+    let L : Walked g.row.A.Denot → Type 0 = λ w. IsLong (A.sees w.automaton).content since s in
+    let P : List ℕ → Type 0 = λ w. IsLong (A.sees i.walk.automaton).content w s in
+    let same = finding-since unit.width g.met.A.Unit.EdgeLabel.wide A.sees i.walk i.everywhere c.self.invariant since (subst S (sym c.self.view_is) is) in
     c.depth.ensures.depth some s (subst P same (subst L (sym c.self.view_is) long))

@@ -5,4 +5,4 @@ use Rattle.daachorse_search.proofs.find.FindWalkStepwise.begin_again.Goals as go
 pub invariant_of-self : goal.invariant_of-self
 invariant_of-self g c =
     let A = g.A.Automaton in let unit = g.A.Unit.EdgeLabel in let i = c.self.inside in let again = c.begin_again in
-    finding-again unit.width g.met.A.Unit.EdgeLabel.wide A.content A.has_label A.has_output A.outputs A.most_outputs i.walk again.new.self i.everywhere c.self.invariant again.ensures.automaton again.ensures.seen again.ensures.turns
+    finding-again unit.width g.met.A.Unit.EdgeLabel.wide A.sees i.walk again.new.self i.everywhere c.self.invariant again.ensures.automaton again.ensures.seen again.ensures.turns

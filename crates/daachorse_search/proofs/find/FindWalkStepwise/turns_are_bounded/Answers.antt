@@ -10,11 +10,11 @@ use Rattle.daachorse_search.proofs.find.FindWalkStepwise.turns_are_bounded.Goals
 pub returns-clause-bounds : goal.returns-clause-bounds
 returns-clause-bounds g c =
     let A = g.A.Automaton in let unit = g.A.Unit.EdgeLabel in let s = c.self.inside in let bounds = c.turns_are_bounded.ensures in
-    let P : Walked g.row.A.Denot → Type 0 = λ x. AreBoundedSince (A.content x.automaton) (A.has_label x.automaton) (A.ends_at_once x.automaton) unit.width (units x.seen) x.turns in
-    subst P c.self.view_is (finding-bounded unit.width g.met.A.Unit.EdgeLabel.wide A.content A.has_label A.has_output A.outputs A.most_outputs (A.ends_at_once s.walk.automaton) s.walk s.everywhere c.self.invariant bounds.most bounds.deep bounds.single bounds.least)
+    let P : Walked g.row.A.Denot → Type 0 = λ x. AreBoundedSince unit.width (A.sees x.automaton) (units x.seen) x.turns in
+    subst P c.self.view_is (finding-bounded unit.width g.met.A.Unit.EdgeLabel.wide A.sees s.walk s.everywhere c.self.invariant bounds.most bounds.deep bounds.single bounds.least)
 
 pub returns-clause-least : goal.returns-clause-least
 returns-clause-least g c =
     let A = g.A.Automaton in let unit = g.A.Unit.EdgeLabel in let s = c.self.inside in
-    let P : Walked g.row.A.Denot → Type 0 = λ x. count_by (looks_unless_empty (A.content x.automaton) (A.has_label x.automaton)) (units x.seen) ≤ x.turns in
-    subst P c.self.view_is (finding-least unit.width g.met.A.Unit.EdgeLabel.wide A.content A.has_label A.has_output A.outputs A.most_outputs s.walk s.everywhere c.self.invariant c.turns_are_bounded.ensures.least)
+    let P : Walked g.row.A.Denot → Type 0 = λ x. count_by (looks_unless_empty (A.sees x.automaton)) (units x.seen) ≤ x.turns in
+    subst P c.self.view_is (finding-least unit.width g.met.A.Unit.EdgeLabel.wide A.sees s.walk s.everywhere c.self.invariant c.turns_are_bounded.ensures.least)

@@ -16,8 +16,8 @@ only (Some y) x l e = cc
 pub returns : goal.returns
 returns g c =
     let A = g.A.Automaton in let width = g.A.Unit.EdgeLabel.width in let i = c.self.inside in let s = i.walk in
-    let given = λ (position : ℕ). take 1 (matches_from width (A.outputs s.automaton) s.seen position) in
+    let given = λ (position : ℕ). take 1 (matches_from width (A.sees s.automaton) s.seen position) in
     let found = c.self.invariant.1 in
-    let P : Stepped g.row.A.Denot → Type 0 = λ x. Some c.give.result.0 ≡ standard_after width (A.content x.automaton) x.read in
+    let P : Stepped g.row.A.Denot → Type 0 = λ x. Some c.give.result.0 ≡ standard_after width (A.sees x.automaton).content x.read in
     let first = unshifted (given c.in_ok-position.position.value) (given (number c.give.result.1)) c.give.result.0 (c.give.ensures.given 0 (omega (arith, c.self.invariant.0))) in
-    subst P c.self.view_is (only (standard_after width (A.content s.automaton) (units s.seen)) c.give.result.0 _ (found.matches ∙ ap (λ o. given (number o)) c.in_ok-position.was ∙ first))
+    subst P c.self.view_is (only (standard_after width (A.sees s.automaton).content (units s.seen)) c.give.result.0 _ (found.matches ∙ ap (λ o. given (number o)) c.in_ok-position.was ∙ first))

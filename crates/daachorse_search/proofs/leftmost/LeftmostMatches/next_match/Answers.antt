@@ -17,89 +17,89 @@ skip_places-may_stop-requires g c =
 
 pub scan_best-requires-clause-fits : goal.scan_best-requires-clause-fits
 scan_best-requires-clause-fits g c =
-    let A = g.A.Automaton in let F = g.F.Filter in let width = g.A.Unit.EdgeLabel.width in let rest = g.H.Haystack.rest in let s = c.scans.self-inside in let a = s.automaton in let was = c.scans.invariant in
-    let K = A.content a in let dead = A.dead a in let has = A.has_label a in let whole = rest s.whole.value in let first = s.first_filter.value in let p = F.passes first in let asked = F.opened first in
+    let A = g.A.Automaton in let F = g.F.Filter in let width = g.A.Unit.EdgeLabel.width in let rest = g.H.Haystack.rest in let s = c.scans.self-inside in let was = c.scans.invariant in
+    let view = A.sees s.automaton in let whole = rest s.whole.value in let first = s.first_filter.value in let p = F.passes first in let asked = F.opened first in
     let skip = c.skip_places-may_stop in let text = rest skip.new.rest in let at : ℕ = skip.new.place in let opened = F.opened skip.new.filter in
-    let R : Bool → Type 0 = λ d. IsResting width K dead has p asked (F.opened s.filter) whole (rest s.rest) s.place s.after d s.turns s.seen.given in
-    let begun = skipped width K dead has p asked (F.passes s.filter) (F.opened s.filter) whole (rest s.rest) text s.place at s.after s.turns s.seen.given was.same (subst R c.if-self.false was.resting) skip.ensures.skipped in
+    let R : Bool → Type 0 = λ d. IsResting width view p asked (F.opened s.filter) whole (rest s.rest) s.place s.after d s.turns s.seen.given in
+    let begun = skipped width view p asked (F.passes s.filter) (F.opened s.filter) whole (rest s.rest) text s.place at s.after s.turns s.seen.given was.same (subst R c.if-self.false was.resting) skip.ensures.skipped in
     let resting = begun.0 in
     omega (arith, resting.fits, ap (size width) resting.parts, size-append width resting.passed text)
 
 pub after-requires : goal.after-requires
 after-requires g c =
-    let A = g.A.Automaton in let F = g.F.Filter in let width = g.A.Unit.EdgeLabel.width in let rest = g.H.Haystack.rest in let s = c.scans.self-inside in let a = s.automaton in let was = c.scans.invariant in
-    let K = A.content a in let dead = A.dead a in let has = A.has_label a in let whole = rest s.whole.value in let first = s.first_filter.value in let p = F.passes first in let asked = F.opened first in
+    let A = g.A.Automaton in let F = g.F.Filter in let width = g.A.Unit.EdgeLabel.width in let rest = g.H.Haystack.rest in let s = c.scans.self-inside in let was = c.scans.invariant in
+    let view = A.sees s.automaton in let whole = rest s.whole.value in let first = s.first_filter.value in let p = F.passes first in let asked = F.opened first in
     let skip = c.skip_places-may_stop in let text = rest skip.new.rest in let at : ℕ = skip.new.place in let opened = F.opened skip.new.filter in
-    let R : Bool → Type 0 = λ d. IsResting width K dead has p asked (F.opened s.filter) whole (rest s.rest) s.place s.after d s.turns s.seen.given in
-    let begun = skipped width K dead has p asked (F.passes s.filter) (F.opened s.filter) whole (rest s.rest) text s.place at s.after s.turns s.seen.given was.same (subst R c.if-self.false was.resting) skip.ensures.skipped in
+    let R : Bool → Type 0 = λ d. IsResting width view p asked (F.opened s.filter) whole (rest s.rest) s.place s.after d s.turns s.seen.given in
+    let begun = skipped width view p asked (F.passes s.filter) (F.opened s.filter) whole (rest s.rest) text s.place at s.after s.turns s.seen.given was.same (subst R c.if-self.false was.resting) skip.ensures.skipped in
     let resting = begun.0 in
     (c.in-Clear.ensures.front, c.in-Clear.ensures.rest, c.in-Clear.ensures.parts, c.in-Clear.ensures.ends)
 
 pub overflow_add-self : goal.overflow_add-self
 overflow_add-self g c =
-    let A = g.A.Automaton in let F = g.F.Filter in let width = g.A.Unit.EdgeLabel.width in let rest = g.H.Haystack.rest in let s = c.scans.self-inside in let a = s.automaton in let was = c.scans.invariant in
-    let K = A.content a in let dead = A.dead a in let has = A.has_label a in let whole = rest s.whole.value in let first = s.first_filter.value in let p = F.passes first in let asked = F.opened first in
+    let A = g.A.Automaton in let F = g.F.Filter in let width = g.A.Unit.EdgeLabel.width in let rest = g.H.Haystack.rest in let s = c.scans.self-inside in let was = c.scans.invariant in
+    let view = A.sees s.automaton in let whole = rest s.whole.value in let first = s.first_filter.value in let p = F.passes first in let asked = F.opened first in
     let skip = c.skip_places-may_stop in let text = rest skip.new.rest in let at : ℕ = skip.new.place in let opened = F.opened skip.new.filter in
-    let R : Bool → Type 0 = λ d. IsResting width K dead has p asked (F.opened s.filter) whole (rest s.rest) s.place s.after d s.turns s.seen.given in
-    let begun = skipped width K dead has p asked (F.passes s.filter) (F.opened s.filter) whole (rest s.rest) text s.place at s.after s.turns s.seen.given was.same (subst R c.if-self.false was.resting) skip.ensures.skipped in
+    let R : Bool → Type 0 = λ d. IsResting width view p asked (F.opened s.filter) whole (rest s.rest) s.place s.after d s.turns s.seen.given in
+    let begun = skipped width view p asked (F.passes s.filter) (F.opened s.filter) whole (rest s.rest) text s.place at s.after s.turns s.seen.given was.same (subst R c.if-self.false was.resting) skip.ensures.skipped in
     let resting = begun.0 in
     let clear = c.in-Clear.ensures in
     omega (arith, resting.here, clear.ends, resting.fits, ap (size width) resting.parts, size-append width resting.passed text, ap (size width) clear.parts, size-append width clear.front clear.rest)
 
 pub overflow_add-self-inside : goal.overflow_add-self-inside
 overflow_add-self-inside g c =
-    let A = g.A.Automaton in let F = g.F.Filter in let width = g.A.Unit.EdgeLabel.width in let rest = g.H.Haystack.rest in let s = c.scans.self-inside in let a = s.automaton in let was = c.scans.invariant in
-    let K = A.content a in let dead = A.dead a in let has = A.has_label a in let whole = rest s.whole.value in let first = s.first_filter.value in let p = F.passes first in let asked = F.opened first in
+    let A = g.A.Automaton in let F = g.F.Filter in let width = g.A.Unit.EdgeLabel.width in let rest = g.H.Haystack.rest in let s = c.scans.self-inside in let was = c.scans.invariant in
+    let view = A.sees s.automaton in let whole = rest s.whole.value in let first = s.first_filter.value in let p = F.passes first in let asked = F.opened first in
     let skip = c.skip_places-may_stop in let text = rest skip.new.rest in let at : ℕ = skip.new.place in let opened = F.opened skip.new.filter in
-    let R : Bool → Type 0 = λ d. IsResting width K dead has p asked (F.opened s.filter) whole (rest s.rest) s.place s.after d s.turns s.seen.given in
-    let begun = skipped width K dead has p asked (F.passes s.filter) (F.opened s.filter) whole (rest s.rest) text s.place at s.after s.turns s.seen.given was.same (subst R c.if-self.false was.resting) skip.ensures.skipped in
+    let R : Bool → Type 0 = λ d. IsResting width view p asked (F.opened s.filter) whole (rest s.rest) s.place s.after d s.turns s.seen.given in
+    let begun = skipped width view p asked (F.passes s.filter) (F.opened s.filter) whole (rest s.rest) text s.place at s.after s.turns s.seen.given was.same (subst R c.if-self.false was.resting) skip.ensures.skipped in
     let resting = begun.0 in
-    omega (arith, resting.fits, best_fits width K dead has p asked (A.has_output a) (A.outputs a) whole text at c.in-Best.found.position.value c.in-Best.found.end s.after s.turns c.scan_best.new.turns s.seen.given resting c.in-Best.ensures)
+    omega (arith, resting.fits, best_fits width view p asked whole text at c.in-Best.found.position.value c.in-Best.found.end s.after s.turns c.scan_best.new.turns s.seen.given resting c.in-Best.ensures)
 
 pub to_match-best-requires : goal.to_match-best-requires
 to_match-best-requires g c =
-    let A = g.A.Automaton in let F = g.F.Filter in let width = g.A.Unit.EdgeLabel.width in let rest = g.H.Haystack.rest in let s = c.scans.self-inside in let a = s.automaton in let was = c.scans.invariant in
-    let K = A.content a in let dead = A.dead a in let has = A.has_label a in let whole = rest s.whole.value in let first = s.first_filter.value in let p = F.passes first in let asked = F.opened first in
+    let A = g.A.Automaton in let F = g.F.Filter in let width = g.A.Unit.EdgeLabel.width in let rest = g.H.Haystack.rest in let s = c.scans.self-inside in let was = c.scans.invariant in
+    let view = A.sees s.automaton in let whole = rest s.whole.value in let first = s.first_filter.value in let p = F.passes first in let asked = F.opened first in
     let skip = c.skip_places-may_stop in let text = rest skip.new.rest in let at : ℕ = skip.new.place in let opened = F.opened skip.new.filter in
-    let R : Bool → Type 0 = λ d. IsResting width K dead has p asked (F.opened s.filter) whole (rest s.rest) s.place s.after d s.turns s.seen.given in
-    let begun = skipped width K dead has p asked (F.passes s.filter) (F.opened s.filter) whole (rest s.rest) text s.place at s.after s.turns s.seen.given was.same (subst R c.if-self.false was.resting) skip.ensures.skipped in
+    let R : Bool → Type 0 = λ d. IsResting width view p asked (F.opened s.filter) whole (rest s.rest) s.place s.after d s.turns s.seen.given in
+    let begun = skipped width view p asked (F.passes s.filter) (F.opened s.filter) whole (rest s.rest) text s.place at s.after s.turns s.seen.given was.same (subst R c.if-self.false was.resting) skip.ensures.skipped in
     let resting = begun.0 in
-    output_fits width K dead has p asked (A.has_output a) (A.outputs a) text at c.in-Best.found.position.value c.in-Best.found.end s.turns c.scan_best.new.turns _ _ _ c.in-Best.ensures c.output-output.ensures.value
+    output_fits width view p asked text at c.in-Best.found.position.value c.in-Best.found.end s.turns c.scan_best.new.turns _ _ _ c.in-Best.ensures c.output-output.ensures.value
 
 pub after-requires-then-found-gt0 : goal.after-requires-then-found-gt0
 after-requires-then-found-gt0 g c =
-    let A = g.A.Automaton in let F = g.F.Filter in let width = g.A.Unit.EdgeLabel.width in let rest = g.H.Haystack.rest in let s = c.scans.self-inside in let a = s.automaton in let was = c.scans.invariant in
-    let K = A.content a in let dead = A.dead a in let has = A.has_label a in let whole = rest s.whole.value in let first = s.first_filter.value in let p = F.passes first in let asked = F.opened first in
+    let A = g.A.Automaton in let F = g.F.Filter in let width = g.A.Unit.EdgeLabel.width in let rest = g.H.Haystack.rest in let s = c.scans.self-inside in let was = c.scans.invariant in
+    let view = A.sees s.automaton in let whole = rest s.whole.value in let first = s.first_filter.value in let p = F.passes first in let asked = F.opened first in
     let skip = c.skip_places-may_stop in let text = rest skip.new.rest in let at : ℕ = skip.new.place in let opened = F.opened skip.new.filter in
-    let R : Bool → Type 0 = λ d. IsResting width K dead has p asked (F.opened s.filter) whole (rest s.rest) s.place s.after d s.turns s.seen.given in
-    let begun = skipped width K dead has p asked (F.passes s.filter) (F.opened s.filter) whole (rest s.rest) text s.place at s.after s.turns s.seen.given was.same (subst R c.if-self.false was.resting) skip.ensures.skipped in
+    let R : Bool → Type 0 = λ d. IsResting width view p asked (F.opened s.filter) whole (rest s.rest) s.place s.after d s.turns s.seen.given in
+    let begun = skipped width view p asked (F.passes s.filter) (F.opened s.filter) whole (rest s.rest) text s.place at s.after s.turns s.seen.given was.same (subst R c.if-self.false was.resting) skip.ensures.skipped in
     let resting = begun.0 in
-    best_ends width K dead has p asked (A.has_output a) (A.outputs a) text c.in-Best.found.position.value c.in-Best.found.end s.turns c.scan_best.new.turns c.in-Best.ensures
+    best_ends width view p asked text c.in-Best.found.position.value c.in-Best.found.end s.turns c.scan_best.new.turns c.in-Best.ensures
 
 pub invariant_of-self-then-found-gt0 : goal.invariant_of-self-then-found-gt0
 invariant_of-self-then-found-gt0 g c =
-    let A = g.A.Automaton in let F = g.F.Filter in let width = g.A.Unit.EdgeLabel.width in let rest = g.H.Haystack.rest in let s = c.scans.self-inside in let a = s.automaton in let was = c.scans.invariant in
-    let K = A.content a in let dead = A.dead a in let has = A.has_label a in let whole = rest s.whole.value in let first = s.first_filter.value in let p = F.passes first in let asked = F.opened first in
+    let A = g.A.Automaton in let F = g.F.Filter in let width = g.A.Unit.EdgeLabel.width in let rest = g.H.Haystack.rest in let s = c.scans.self-inside in let was = c.scans.invariant in
+    let view = A.sees s.automaton in let whole = rest s.whole.value in let first = s.first_filter.value in let p = F.passes first in let asked = F.opened first in
     let skip = c.skip_places-may_stop in let text = rest skip.new.rest in let at : ℕ = skip.new.place in let opened = F.opened skip.new.filter in
-    let R : Bool → Type 0 = λ d. IsResting width K dead has p asked (F.opened s.filter) whole (rest s.rest) s.place s.after d s.turns s.seen.given in
-    let begun = skipped width K dead has p asked (F.passes s.filter) (F.opened s.filter) whole (rest s.rest) text s.place at s.after s.turns s.seen.given was.same (subst R c.if-self.false was.resting) skip.ensures.skipped in
+    let R : Bool → Type 0 = λ d. IsResting width view p asked (F.opened s.filter) whole (rest s.rest) s.place s.after d s.turns s.seen.given in
+    let begun = skipped width view p asked (F.passes s.filter) (F.opened s.filter) whole (rest s.rest) text s.place at s.after s.turns s.seen.given was.same (subst R c.if-self.false was.resting) skip.ensures.skipped in
     let resting = begun.0 in
     let o = c.output-output.result in let n : ℕ = c.in-Best.found.end in
     let later = rest c.after-then-found-gt0.result in
     let m : Match g.row.V.Denot = record { start = at + n - length_of o; end = at + n; value = value_of o } in
     let is : c.to_match-best.result ≡ m = c.to_match-best.ensures in
-    let next = gives_key width K dead has p asked (A.has_output a) (A.outputs a) opened whole text later at c.in-Best.found.position.value n s.after s.turns c.scan_best.new.turns s.seen.given (value_of o) (length_of o) _ resting c.in-Best.ensures c.output-output.ensures.value
-    (ends_behind width K dead has p asked (A.has_output a) (A.outputs a) g.met.A.Unit.EdgeLabel.wide text c.in-Best.found.position.value c.in-Best.found.end s.turns c.scan_best.new.turns _ _ _ c.in-Best.ensures c.output-output.ensures.value (omega (arith, c.if-found-gt0.true))) c.after-then-found-gt0.ensures in
-    let P : Bool → ℕ → Type 0 = λ d k. IsResting width K dead has p asked opened whole later (at + n) true d c.scan_best.new.turns k in
+    let next = gives_key width view p asked opened whole text later at c.in-Best.found.position.value n s.after s.turns c.scan_best.new.turns s.seen.given (value_of o) (length_of o) _ resting c.in-Best.ensures c.output-output.ensures.value
+    (ends_behind width view p asked g.met.A.Unit.EdgeLabel.wide text c.in-Best.found.position.value c.in-Best.found.end s.turns c.scan_best.new.turns _ _ _ c.in-Best.ensures c.output-output.ensures.value (omega (arith, c.if-found-gt0.true))) c.after-then-found-gt0.ensures in
+    let P : Bool → ℕ → Type 0 = λ d k. IsResting width view p asked opened whole later (at + n) true d c.scan_best.new.turns k in
     (λ w. skip.ensures.passes w ∙ was.same w, subst (P s.done) (sym (ap (λ (x : SeenUnits). x.given) c.give.ensures)) (subst (λ d. P d (s.seen.given + 1)) (sym c.if-self.false) next.0))
 
 pub returns-then-found-gt0 : goal.returns-then-found-gt0
 returns-then-found-gt0 g c =
-    let A = g.A.Automaton in let F = g.F.Filter in let width = g.A.Unit.EdgeLabel.width in let rest = g.H.Haystack.rest in let s = c.scans.self-inside in let a = s.automaton in let was = c.scans.invariant in
-    let K = A.content a in let dead = A.dead a in let has = A.has_label a in let whole = rest s.whole.value in let first = s.first_filter.value in let p = F.passes first in let asked = F.opened first in
+    let A = g.A.Automaton in let F = g.F.Filter in let width = g.A.Unit.EdgeLabel.width in let rest = g.H.Haystack.rest in let s = c.scans.self-inside in let was = c.scans.invariant in
+    let view = A.sees s.automaton in let K = view.content in let whole = rest s.whole.value in let first = s.first_filter.value in let p = F.passes first in let asked = F.opened first in
     let skip = c.skip_places-may_stop in let text = rest skip.new.rest in let at : ℕ = skip.new.place in let opened = F.opened skip.new.filter in
-    let R : Bool → Type 0 = λ d. IsResting width K dead has p asked (F.opened s.filter) whole (rest s.rest) s.place s.after d s.turns s.seen.given in
-    let begun = skipped width K dead has p asked (F.passes s.filter) (F.opened s.filter) whole (rest s.rest) text s.place at s.after s.turns s.seen.given was.same (subst R c.if-self.false was.resting) skip.ensures.skipped in
+    let R : Bool → Type 0 = λ d. IsResting width view p asked (F.opened s.filter) whole (rest s.rest) s.place s.after d s.turns s.seen.given in
+    let begun = skipped width view p asked (F.passes s.filter) (F.opened s.filter) whole (rest s.rest) text s.place at s.after s.turns s.seen.given was.same (subst R c.if-self.false was.resting) skip.ensures.skipped in
     let resting = begun.0 in
     let L : Bool → Type 0 = λ d. leftmost_left width K s.place (rest s.rest) s.after d ≡ c.args.self.now.left in
     let left : leftmost_left width K at text s.after false ≡ c.args.self.now.left = sym begun.1 ∙ subst L c.if-self.false was.left in
@@ -107,64 +107,64 @@ returns-then-found-gt0 g c =
     let later = rest c.after-then-found-gt0.result in
     let m : Match g.row.V.Denot = record { start = at + n - length_of o; end = at + n; value = value_of o } in
     let is : c.to_match-best.result ≡ m = c.to_match-best.ensures in
-    let next = gives_key width K dead has p asked (A.has_output a) (A.outputs a) opened whole text later at c.in-Best.found.position.value n s.after s.turns c.scan_best.new.turns s.seen.given (value_of o) (length_of o) _ resting c.in-Best.ensures c.output-output.ensures.value
-    (ends_behind width K dead has p asked (A.has_output a) (A.outputs a) g.met.A.Unit.EdgeLabel.wide text c.in-Best.found.position.value c.in-Best.found.end s.turns c.scan_best.new.turns _ _ _ c.in-Best.ensures c.output-output.ensures.value (omega (arith, c.if-found-gt0.true))) c.after-then-found-gt0.ensures in
+    let next = gives_key width view p asked opened whole text later at c.in-Best.found.position.value n s.after s.turns c.scan_best.new.turns s.seen.given (value_of o) (length_of o) _ resting c.in-Best.ensures c.output-output.ensures.value
+    (ends_behind width view p asked g.met.A.Unit.EdgeLabel.wide text c.in-Best.found.position.value c.in-Best.found.end s.turns c.scan_best.new.turns _ _ _ c.in-Best.ensures c.output-output.ensures.value (omega (arith, c.if-found-gt0.true))) c.after-then-found-gt0.ensures in
     let fewer : c.args.self.now.left ≡ c.to_match-best.result ∷ leftmost_left width K (at + n) later true s.done =
     sym left ∙ next.1 ∙ ap (λ x. x ∷ leftmost_left width K (at + n) later true false) (sym is) ∙ ap (λ d. c.to_match-best.result ∷ leftmost_left width K (at + n) later true d) (sym c.if-self.false) in
     let stands : StandsBehind width m whole (before_rest whole later) =
-    stands_key width K dead has p asked opened whole later (at + n) (length_of o) (value_of o) true false c.scan_best.new.turns (s.seen.given + 1) next.0 (ends_behind width K dead has p asked (A.has_output a) (A.outputs a) g.met.A.Unit.EdgeLabel.wide text c.in-Best.found.position.value c.in-Best.found.end s.turns c.scan_best.new.turns _ _ _ c.in-Best.ensures c.output-output.ensures.value (omega (arith, c.if-found-gt0.true)))
-    (output_fits width K dead has p asked (A.has_output a) (A.outputs a) text at c.in-Best.found.position.value n s.turns c.scan_best.new.turns _ _ _ c.in-Best.ensures c.output-output.ensures.value) in
+    stands_key width view p asked opened whole later (at + n) (length_of o) (value_of o) true false c.scan_best.new.turns (s.seen.given + 1) next.0 (ends_behind width view p asked g.met.A.Unit.EdgeLabel.wide text c.in-Best.found.position.value c.in-Best.found.end s.turns c.scan_best.new.turns _ _ _ c.in-Best.ensures c.output-output.ensures.value (omega (arith, c.if-found-gt0.true)))
+    (output_fits width view p asked text at c.in-Best.found.position.value n s.turns c.scan_best.new.turns _ _ _ c.in-Best.ensures c.output-output.ensures.value) in
     let B : Match g.row.V.Denot → Type 0 = λ x. StandsBehind width x whole (before_rest whole later) in
     record { automaton = was.automaton; filter = was.filter; haystack = was.haystack; first = fewer; counted = ap (λ (x : SeenUnits). x.given) c.give.ensures ∙ ap (λ k. k + 1) was.given; behind = subst B (sym is) stands }
 
 pub scans-preserved-in-Clear : goal.scans-preserved-in-Clear
 scans-preserved-in-Clear g c =
-    let A = g.A.Automaton in let F = g.F.Filter in let width = g.A.Unit.EdgeLabel.width in let rest = g.H.Haystack.rest in let s = c.scans.self-inside in let a = s.automaton in let was = c.scans.invariant in
-    let K = A.content a in let dead = A.dead a in let has = A.has_label a in let whole = rest s.whole.value in let first = s.first_filter.value in let p = F.passes first in let asked = F.opened first in
+    let A = g.A.Automaton in let F = g.F.Filter in let width = g.A.Unit.EdgeLabel.width in let rest = g.H.Haystack.rest in let s = c.scans.self-inside in let was = c.scans.invariant in
+    let view = A.sees s.automaton in let K = view.content in let whole = rest s.whole.value in let first = s.first_filter.value in let p = F.passes first in let asked = F.opened first in
     let skip = c.skip_places-may_stop in let text = rest skip.new.rest in let at : ℕ = skip.new.place in let opened = F.opened skip.new.filter in
-    let R : Bool → Type 0 = λ d. IsResting width K dead has p asked (F.opened s.filter) whole (rest s.rest) s.place s.after d s.turns s.seen.given in
-    let begun = skipped width K dead has p asked (F.passes s.filter) (F.opened s.filter) whole (rest s.rest) text s.place at s.after s.turns s.seen.given was.same (subst R c.if-self.false was.resting) skip.ensures.skipped in
+    let R : Bool → Type 0 = λ d. IsResting width view p asked (F.opened s.filter) whole (rest s.rest) s.place s.after d s.turns s.seen.given in
+    let begun = skipped width view p asked (F.passes s.filter) (F.opened s.filter) whole (rest s.rest) text s.place at s.after s.turns s.seen.given was.same (subst R c.if-self.false was.resting) skip.ensures.skipped in
     let resting = begun.0 in
     let L : Bool → Type 0 = λ d. leftmost_left width K s.place (rest s.rest) s.after d ≡ c.args.self.now.left in
     let left : leftmost_left width K at text s.after false ≡ c.args.self.now.left = sym begun.1 ∙ subst L c.if-self.false was.left in
-    let next = cleared width K dead has p asked opened (A.has_output a) (A.outputs a) whole text (rest c.after.result) at c.in-Clear.end skip.result s.after (eqb c.left.result 0) s.turns c.scan_best.new.turns s.seen.given resting c.in-Clear.ensures c.after.ensures
-    (over_at width K dead has p asked g.met.A.Unit.EdgeLabel.wide (rest c.after.result) c.left.result c.left.ensures) in
+    let next = cleared width view p asked opened whole text (rest c.after.result) at c.in-Clear.end skip.result s.after (eqb c.left.result 0) s.turns c.scan_best.new.turns s.seen.given resting c.in-Clear.ensures c.after.ensures
+    (over_at width view p asked g.met.A.Unit.EdgeLabel.wide (rest c.after.result) c.left.result c.left.ensures) in
     record { same = λ w. skip.ensures.passes w ∙ was.same w; resting = next.0; left = sym next.1 ∙ left; automaton = was.automaton; filter = was.filter; haystack = was.haystack; given = was.given }
 
 pub skip_unit-self-inside-requires : goal.skip_unit-self-inside-requires
 skip_unit-self-inside-requires g c =
-    let A = g.A.Automaton in let F = g.F.Filter in let width = g.A.Unit.EdgeLabel.width in let rest = g.H.Haystack.rest in let s = c.scans.self-inside in let a = s.automaton in let was = c.scans.invariant in
-    let K = A.content a in let dead = A.dead a in let has = A.has_label a in let whole = rest s.whole.value in let first = s.first_filter.value in let p = F.passes first in let asked = F.opened first in
+    let A = g.A.Automaton in let F = g.F.Filter in let width = g.A.Unit.EdgeLabel.width in let rest = g.H.Haystack.rest in let s = c.scans.self-inside in let was = c.scans.invariant in
+    let view = A.sees s.automaton in let whole = rest s.whole.value in let first = s.first_filter.value in let p = F.passes first in let asked = F.opened first in
     let skip = c.skip_places-may_stop in let text = rest skip.new.rest in let at : ℕ = skip.new.place in let opened = F.opened skip.new.filter in
-    let R : Bool → Type 0 = λ d. IsResting width K dead has p asked (F.opened s.filter) whole (rest s.rest) s.place s.after d s.turns s.seen.given in
-    let begun = skipped width K dead has p asked (F.passes s.filter) (F.opened s.filter) whole (rest s.rest) text s.place at s.after s.turns s.seen.given was.same (subst R c.if-self.false was.resting) skip.ensures.skipped in
+    let R : Bool → Type 0 = λ d. IsResting width view p asked (F.opened s.filter) whole (rest s.rest) s.place s.after d s.turns s.seen.given in
+    let begun = skipped width view p asked (F.passes s.filter) (F.opened s.filter) whole (rest s.rest) text s.place at s.after s.turns s.seen.given was.same (subst R c.if-self.false was.resting) skip.ensures.skipped in
     let resting = begun.0 in
     omega (arith, resting.here, resting.fits, ap (size width) resting.parts, size-append width resting.passed text)
 
 pub invariant_of-self-then-not-passed_over : goal.invariant_of-self-then-not-passed_over
 invariant_of-self-then-not-passed_over g c =
-    let A = g.A.Automaton in let F = g.F.Filter in let width = g.A.Unit.EdgeLabel.width in let rest = g.H.Haystack.rest in let s = c.scans.self-inside in let a = s.automaton in let was = c.scans.invariant in
-    let K = A.content a in let dead = A.dead a in let has = A.has_label a in let whole = rest s.whole.value in let first = s.first_filter.value in let p = F.passes first in let asked = F.opened first in
+    let A = g.A.Automaton in let F = g.F.Filter in let width = g.A.Unit.EdgeLabel.width in let rest = g.H.Haystack.rest in let s = c.scans.self-inside in let was = c.scans.invariant in
+    let view = A.sees s.automaton in let whole = rest s.whole.value in let first = s.first_filter.value in let p = F.passes first in let asked = F.opened first in
     let skip = c.skip_places-may_stop in let text = rest skip.new.rest in let at : ℕ = skip.new.place in let opened = F.opened skip.new.filter in
-    let R : Bool → Type 0 = λ d. IsResting width K dead has p asked (F.opened s.filter) whole (rest s.rest) s.place s.after d s.turns s.seen.given in
-    let begun = skipped width K dead has p asked (F.passes s.filter) (F.opened s.filter) whole (rest s.rest) text s.place at s.after s.turns s.seen.given was.same (subst R c.if-self.false was.resting) skip.ensures.skipped in
+    let R : Bool → Type 0 = λ d. IsResting width view p asked (F.opened s.filter) whole (rest s.rest) s.place s.after d s.turns s.seen.given in
+    let begun = skipped width view p asked (F.passes s.filter) (F.opened s.filter) whole (rest s.rest) text s.place at s.after s.turns s.seen.given was.same (subst R c.if-self.false was.resting) skip.ensures.skipped in
     let resting = begun.0 in
     let o = c.output-output.result in let n : ℕ = c.in-Best.found.end in
     let later = rest c.skip_unit-self-inside.new.rest in let to = c.skip_unit-self-inside.new.place in let over : Bool = c.skip_unit-self-inside.result in
     let m : Match g.row.V.Denot = record { start = at + n - length_of o; end = at + n; value = value_of o } in
     let is : c.to_match-best.result ≡ m = c.to_match-best.ensures in
-    let next = gives_empty width K dead has p asked (A.has_output a) (A.outputs a) g.met.A.Unit.EdgeLabel.wide opened whole text later at to c.in-Best.found.position.value n s.after over s.turns c.scan_best.new.turns s.seen.given (value_of o) (length_of o) _ resting c.in-Best.ensures c.output-output.ensures.value
-    (ends_at_once width K dead has p asked (A.has_output a) (A.outputs a) text c.in-Best.found.position.value c.in-Best.found.end s.turns c.scan_best.new.turns _ _ _ c.in-Best.ensures c.output-output.ensures.value (omega (arith, c.if-found-gt0.false))) c.skip_unit-self-inside.ensures in
-    let P : ℕ → Type 0 = λ k. IsResting width K dead has p asked opened whole later to false over c.scan_best.new.turns k in
+    let next = gives_empty width view p asked g.met.A.Unit.EdgeLabel.wide opened whole text later at to c.in-Best.found.position.value n s.after over s.turns c.scan_best.new.turns s.seen.given (value_of o) (length_of o) _ resting c.in-Best.ensures c.output-output.ensures.value
+    (ends_at_once width view p asked text c.in-Best.found.position.value c.in-Best.found.end s.turns c.scan_best.new.turns _ _ _ c.in-Best.ensures c.output-output.ensures.value (omega (arith, c.if-found-gt0.false))) c.skip_unit-self-inside.ensures in
+    let P : ℕ → Type 0 = λ k. IsResting width view p asked opened whole later to false over c.scan_best.new.turns k in
     (λ w. skip.ensures.passes w ∙ was.same w, subst P (ap (λ b. cond b s.seen.given (s.seen.given + 1)) c.if-not-passed_over.true ∙ sym (ap (λ (x : SeenUnits). x.given) c.give-then-not-passed_over.ensures)) next.0)
 
 pub returns-then-not-passed_over : goal.returns-then-not-passed_over
 returns-then-not-passed_over g c =
-    let A = g.A.Automaton in let F = g.F.Filter in let width = g.A.Unit.EdgeLabel.width in let rest = g.H.Haystack.rest in let s = c.scans.self-inside in let a = s.automaton in let was = c.scans.invariant in
-    let K = A.content a in let dead = A.dead a in let has = A.has_label a in let whole = rest s.whole.value in let first = s.first_filter.value in let p = F.passes first in let asked = F.opened first in
+    let A = g.A.Automaton in let F = g.F.Filter in let width = g.A.Unit.EdgeLabel.width in let rest = g.H.Haystack.rest in let s = c.scans.self-inside in let was = c.scans.invariant in
+    let view = A.sees s.automaton in let K = view.content in let whole = rest s.whole.value in let first = s.first_filter.value in let p = F.passes first in let asked = F.opened first in
     let skip = c.skip_places-may_stop in let text = rest skip.new.rest in let at : ℕ = skip.new.place in let opened = F.opened skip.new.filter in
-    let R : Bool → Type 0 = λ d. IsResting width K dead has p asked (F.opened s.filter) whole (rest s.rest) s.place s.after d s.turns s.seen.given in
-    let begun = skipped width K dead has p asked (F.passes s.filter) (F.opened s.filter) whole (rest s.rest) text s.place at s.after s.turns s.seen.given was.same (subst R c.if-self.false was.resting) skip.ensures.skipped in
+    let R : Bool → Type 0 = λ d. IsResting width view p asked (F.opened s.filter) whole (rest s.rest) s.place s.after d s.turns s.seen.given in
+    let begun = skipped width view p asked (F.passes s.filter) (F.opened s.filter) whole (rest s.rest) text s.place at s.after s.turns s.seen.given was.same (subst R c.if-self.false was.resting) skip.ensures.skipped in
     let resting = begun.0 in
     let L : Bool → Type 0 = λ d. leftmost_left width K s.place (rest s.rest) s.after d ≡ c.args.self.now.left in
     let left : leftmost_left width K at text s.after false ≡ c.args.self.now.left = sym begun.1 ∙ subst L c.if-self.false was.left in
@@ -172,23 +172,23 @@ returns-then-not-passed_over g c =
     let later = rest c.skip_unit-self-inside.new.rest in let to = c.skip_unit-self-inside.new.place in let over : Bool = c.skip_unit-self-inside.result in
     let m : Match g.row.V.Denot = record { start = at + n - length_of o; end = at + n; value = value_of o } in
     let is : c.to_match-best.result ≡ m = c.to_match-best.ensures in
-    let next = gives_empty width K dead has p asked (A.has_output a) (A.outputs a) g.met.A.Unit.EdgeLabel.wide opened whole text later at to c.in-Best.found.position.value n s.after over s.turns c.scan_best.new.turns s.seen.given (value_of o) (length_of o) _ resting c.in-Best.ensures c.output-output.ensures.value
-    (ends_at_once width K dead has p asked (A.has_output a) (A.outputs a) text c.in-Best.found.position.value c.in-Best.found.end s.turns c.scan_best.new.turns _ _ _ c.in-Best.ensures c.output-output.ensures.value (omega (arith, c.if-found-gt0.false))) c.skip_unit-self-inside.ensures in
+    let next = gives_empty width view p asked g.met.A.Unit.EdgeLabel.wide opened whole text later at to c.in-Best.found.position.value n s.after over s.turns c.scan_best.new.turns s.seen.given (value_of o) (length_of o) _ resting c.in-Best.ensures c.output-output.ensures.value
+    (ends_at_once width view p asked text c.in-Best.found.position.value c.in-Best.found.end s.turns c.scan_best.new.turns _ _ _ c.in-Best.ensures c.output-output.ensures.value (omega (arith, c.if-found-gt0.false))) c.skip_unit-self-inside.ensures in
     let fewer : c.args.self.now.left ≡ c.to_match-best.result ∷ leftmost_left width K to later false over =
     sym left ∙ next.1 ∙ ap (λ b. cond b [] (m ∷ []) ++ leftmost_left width K to later false over) c.if-not-passed_over.true ∙ ap (λ x. x ∷ leftmost_left width K to later false over) (sym is) in
     let stands : StandsBehind width m whole (before_rest whole later) =
-    stands_empty width K dead has p asked (A.has_output a) (A.outputs a) g.met.A.Unit.EdgeLabel.wide whole text later at to c.in-Best.found.position.value n s.after over s.turns c.scan_best.new.turns s.seen.given (value_of o) (length_of o) _ resting c.in-Best.ensures c.output-output.ensures.value
-    (ends_at_once width K dead has p asked (A.has_output a) (A.outputs a) text c.in-Best.found.position.value c.in-Best.found.end s.turns c.scan_best.new.turns _ _ _ c.in-Best.ensures c.output-output.ensures.value (omega (arith, c.if-found-gt0.false))) c.skip_unit-self-inside.ensures in
+    stands_empty width view p asked g.met.A.Unit.EdgeLabel.wide whole text later at to c.in-Best.found.position.value n s.after over s.turns c.scan_best.new.turns s.seen.given (value_of o) (length_of o) _ resting c.in-Best.ensures c.output-output.ensures.value
+    (ends_at_once width view p asked text c.in-Best.found.position.value c.in-Best.found.end s.turns c.scan_best.new.turns _ _ _ c.in-Best.ensures c.output-output.ensures.value (omega (arith, c.if-found-gt0.false))) c.skip_unit-self-inside.ensures in
     let B : Match g.row.V.Denot → Type 0 = λ x. StandsBehind width x whole (before_rest whole later) in
     record { automaton = was.automaton; filter = was.filter; haystack = was.haystack; first = fewer; counted = ap (λ (x : SeenUnits). x.given) c.give-then-not-passed_over.ensures ∙ ap (λ k. k + 1) was.given; behind = subst B (sym is) stands }
 
 pub scans-preserved : goal.scans-preserved
 scans-preserved g c =
-    let A = g.A.Automaton in let F = g.F.Filter in let width = g.A.Unit.EdgeLabel.width in let rest = g.H.Haystack.rest in let s = c.scans.self-inside in let a = s.automaton in let was = c.scans.invariant in
-    let K = A.content a in let dead = A.dead a in let has = A.has_label a in let whole = rest s.whole.value in let first = s.first_filter.value in let p = F.passes first in let asked = F.opened first in
+    let A = g.A.Automaton in let F = g.F.Filter in let width = g.A.Unit.EdgeLabel.width in let rest = g.H.Haystack.rest in let s = c.scans.self-inside in let was = c.scans.invariant in
+    let view = A.sees s.automaton in let K = view.content in let whole = rest s.whole.value in let first = s.first_filter.value in let p = F.passes first in let asked = F.opened first in
     let skip = c.skip_places-may_stop in let text = rest skip.new.rest in let at : ℕ = skip.new.place in let opened = F.opened skip.new.filter in
-    let R : Bool → Type 0 = λ d. IsResting width K dead has p asked (F.opened s.filter) whole (rest s.rest) s.place s.after d s.turns s.seen.given in
-    let begun = skipped width K dead has p asked (F.passes s.filter) (F.opened s.filter) whole (rest s.rest) text s.place at s.after s.turns s.seen.given was.same (subst R c.if-self.false was.resting) skip.ensures.skipped in
+    let R : Bool → Type 0 = λ d. IsResting width view p asked (F.opened s.filter) whole (rest s.rest) s.place s.after d s.turns s.seen.given in
+    let begun = skipped width view p asked (F.passes s.filter) (F.opened s.filter) whole (rest s.rest) text s.place at s.after s.turns s.seen.given was.same (subst R c.if-self.false was.resting) skip.ensures.skipped in
     let resting = begun.0 in
     let L : Bool → Type 0 = λ d. leftmost_left width K s.place (rest s.rest) s.after d ≡ c.args.self.now.left in
     let left : leftmost_left width K at text s.after false ≡ c.args.self.now.left = sym begun.1 ∙ subst L c.if-self.false was.left in
@@ -196,9 +196,9 @@ scans-preserved g c =
     let later = rest c.skip_unit-self-inside.new.rest in let to = c.skip_unit-self-inside.new.place in let over : Bool = c.skip_unit-self-inside.result in
     let m : Match g.row.V.Denot = record { start = at + n - length_of o; end = at + n; value = value_of o } in
     let is : c.to_match-best.result ≡ m = c.to_match-best.ensures in
-    let next = gives_empty width K dead has p asked (A.has_output a) (A.outputs a) g.met.A.Unit.EdgeLabel.wide opened whole text later at to c.in-Best.found.position.value n s.after over s.turns c.scan_best.new.turns s.seen.given (value_of o) (length_of o) _ resting c.in-Best.ensures c.output-output.ensures.value
-    (ends_at_once width K dead has p asked (A.has_output a) (A.outputs a) text c.in-Best.found.position.value c.in-Best.found.end s.turns c.scan_best.new.turns _ _ _ c.in-Best.ensures c.output-output.ensures.value (omega (arith, c.if-found-gt0.false))) c.skip_unit-self-inside.ensures in
-    let P : ℕ → Type 0 = λ k. IsResting width K dead has p asked opened whole later to false over c.scan_best.new.turns k in
+    let next = gives_empty width view p asked g.met.A.Unit.EdgeLabel.wide opened whole text later at to c.in-Best.found.position.value n s.after over s.turns c.scan_best.new.turns s.seen.given (value_of o) (length_of o) _ resting c.in-Best.ensures c.output-output.ensures.value
+    (ends_at_once width view p asked text c.in-Best.found.position.value c.in-Best.found.end s.turns c.scan_best.new.turns _ _ _ c.in-Best.ensures c.output-output.ensures.value (omega (arith, c.if-found-gt0.false))) c.skip_unit-self-inside.ensures in
+    let P : ℕ → Type 0 = λ k. IsResting width view p asked opened whole later to false over c.scan_best.new.turns k in
     record {
       same = λ w. skip.ensures.passes w ∙ was.same w;
       resting = subst P (ap (λ b. cond b s.seen.given (s.seen.given + 1)) c.if-not-passed_over.false) next.0;
@@ -212,12 +212,12 @@ scans-preserved g c =
 -- what was scanned is taken off, or nothing was left
 pub scans-smaller-in-Clear : goal.scans-smaller-in-Clear
 scans-smaller-in-Clear g c =
-    let A = g.A.Automaton in let F = g.F.Filter in let width = g.A.Unit.EdgeLabel.width in let rest = g.H.Haystack.rest in let s = c.scans.self-inside in let a = s.automaton in let was = c.scans.invariant in
-    let K = A.content a in let dead = A.dead a in let has = A.has_label a in let whole = rest s.whole.value in let first = s.first_filter.value in let p = F.passes first in let asked = F.opened first in
+    let A = g.A.Automaton in let F = g.F.Filter in let width = g.A.Unit.EdgeLabel.width in let rest = g.H.Haystack.rest in let s = c.scans.self-inside in let was = c.scans.invariant in
+    let view = A.sees s.automaton in let whole = rest s.whole.value in let first = s.first_filter.value in let p = F.passes first in let asked = F.opened first in
     let skip = c.skip_places-may_stop in let text = rest skip.new.rest in let at : ℕ = skip.new.place in let opened = F.opened skip.new.filter in
     omega (
       arith,
-      fewer_left width K dead has p asked (A.has_output a) (A.outputs a) text (rest c.after.result) skip.result c.in-Clear.end c.left.result s.turns c.scan_best.new.turns c.in-Clear.ensures c.after.ensures c.left.ensures,
+      fewer_left width view p asked text (rest c.after.result) skip.result c.in-Clear.end c.left.result s.turns c.scan_best.new.turns c.in-Clear.ensures c.after.ensures c.left.ensures,
       ap length skip.ensures.skipped.parts,
       length-append skip.ensures.skipped.front text,
       ap {B = ℕ} (λ d. cond d 0 1) c.if-self.false,

@@ -8,8 +8,8 @@ invariant-scans g l =
     let A = g.A.Automaton in let F = g.F.Filter in let width = g.A.Unit.EdgeLabel.width in let rest = g.H.Haystack.rest in let s = l.self-inside in let a = s.automaton in let first = s.first_filter.value in
     record {
       same : (w : List ℕ) → F.passes s.filter w ≡ F.passes first w;
-      resting : IsResting width (A.content a) (A.dead a) (A.has_label a) (F.passes first) (F.opened first) (F.opened s.filter) (rest s.whole.value) (rest s.rest) s.place s.after s.done s.turns s.seen.given;
-      left : leftmost_left width (A.content a) s.place (rest s.rest) s.after s.done ≡ l.fn.self.left;
+      resting : IsResting width (A.sees a) (F.passes first) (F.opened first) (F.opened s.filter) (rest s.whole.value) (rest s.rest) s.place s.after s.done s.turns s.seen.given;
+      left : leftmost_left width (A.sees a).content s.place (rest s.rest) s.after s.done ≡ l.fn.self.left;
       automaton : a ≡ l.fn.self.automaton;
       filter : first ≡ l.fn.self.filter;
       haystack : rest s.whole.value ≡ l.fn.self.haystack;

@@ -7,7 +7,7 @@ use Rattle.daachorse_search.proofs.leftmost.LeftmostMatches.with_filter.Goals as
 pub invariant_of-result : goal.invariant_of-result
 invariant_of-result g c =
     let F = g.F.Filter in
-    let S : g.row.F.Denot → Type 0 = λ f. IsSoundFor (F.passes f) (g.A.Automaton.content c.args.automaton) in
+    let S : g.row.F.Denot → Type 0 = λ f. IsSoundFor (F.passes f) (g.A.Automaton.sees c.args.automaton).content in
     let O : g.row.F.Denot → Type 0 = λ f. F.opened f in (
       λ w. ap (λ f. F.passes f w) (sym c.of.ensures),
       record {

@@ -12,11 +12,11 @@ use Rattle.daachorse_search.proofs.overlapping.NoSuffixWalkStepwise.is_at_root.G
 pub returns-clause-afresh : goal.returns-clause-afresh
 returns-clause-afresh g c =
     let A = g.A.Automaton in let width = g.A.Unit.EdgeLabel.width in
-    let P : Walked g.row.A.Denot → Type 0 = λ s. OnTrue c.stands_at_root.result (GoesOnAfresh width (A.content s.automaton) (first_found width A.content s.automaton) (units s.seen)) in
-    subst P c.self.view_is (first_afresh width A.content c.self.inside.all c.stands_at_root.result c.stands_at_root.ensures)
+    let P : Walked g.row.A.Denot → Type 0 = λ s. OnTrue c.stands_at_root.result (GoesOnAfresh width (A.sees s.automaton).content (first_found width A.sees s.automaton) (units s.seen)) in
+    subst P c.self.view_is (first_afresh width A.sees c.self.inside.all c.stands_at_root.result c.stands_at_root.ensures)
 
 pub returns-clause-begins : goal.returns-clause-begins
 returns-clause-begins g c =
     let A = g.A.Automaton in let width = g.A.Unit.EdgeLabel.width in
     let P : Walked g.row.A.Denot → Type 0 = λ s. units s.seen ≡ [] → IsTrue c.stands_at_root.result in
-    subst P c.self.view_is (read_begins width A.content c.self.inside.all c.stands_at_root.result c.stands_at_root.ensures)
+    subst P c.self.view_is (read_begins width A.sees c.self.inside.all c.stands_at_root.result c.stands_at_root.ensures)

@@ -10,5 +10,5 @@ use Rattle.daachorse_search.proofs.overlapping.OverlappingWalk.stands_at_root.Go
 pub returns : goal.returns
 returns g c =
     let A = g.A.Automaton in let width = g.A.Unit.EdgeLabel.width in
-    let P : Walked g.row.A.Denot → Type 0 = λ s. IsTrue c.is_at_root.result ↔ IsLong (A.content s.automaton) (units s.seen) [] in
-    subst P c.self.view_is (root_of_read width A.content c.self.inside.walk c.is_at_root.result c.self.invariant c.is_at_root.ensures)
+    let P : Walked g.row.A.Denot → Type 0 = λ s. IsTrue c.is_at_root.result ↔ IsLong (A.sees s.automaton).content (units s.seen) [] in
+    subst P c.self.view_is (root_of_read width A.sees c.self.inside.walk c.is_at_root.result c.self.invariant c.is_at_root.ensures)

@@ -7,6 +7,6 @@ use Rattle.daachorse_search.proofs.walk.Walk.outputs.Goals as goal
 
 pub returns-clause-outputs : goal.returns-clause-outputs
 returns-clause-outputs g c =
-    let A = g.A.Automaton in let width = g.A.Unit.EdgeLabel.width in let s = c.self.inside in let a = s.automaton in let found = c.output_pos in
-    let P = λ (w : Walked g.row.A.Denot). HasOutputs width (A.content w.automaton) (A.has_output w.automaton) (A.outputs w.automaton) (A.most_outputs w.automaton) w.seen (number found.result) in
-    subst P c.self.view_is (HasOutputs-first (A.content a) (A.reached a) (A.text a) (A.dead a) (A.has_label a) (A.ends_at_once a) width (A.has_output a) (A.outputs a) (A.most_outputs a) s.seen s.state s.turns found.result c.self.invariant found.ensures)
+    let A = g.A.Automaton in let width = g.A.Unit.EdgeLabel.width in let s = c.self.inside in let found = c.output_pos in
+    let P = λ (w : Walked g.row.A.Denot). HasOutputs width (A.sees w.automaton) w.seen (number found.result) in
+    subst P c.self.view_is (HasOutputs-first (A.sees s.automaton) width s.seen s.state s.turns found.result c.self.invariant found.ensures)

@@ -4,6 +4,6 @@ use Rattle.daachorse_search.proofs.walk.Walk.skip.Goals as goal
 
 pub invariant_of-self : goal.invariant_of-self
 invariant_of-self g c =
-    let A = g.A.Automaton in let unit = g.A.Unit.EdgeLabel in let s = c.self.inside in let a = s.automaton in let root = c.root-self-inside in
-    IsWalking-skip (A.content a) (A.reached a) (A.text a) (A.dead a) (A.has_label a) (A.ends_at_once a) s.seen c.skip.new.self (unit.unit c.args.unit) c.code.result s.state s.turns root.result
+    let A = g.A.Automaton in let unit = g.A.Unit.EdgeLabel in let s = c.self.inside in let root = c.root-self-inside in
+    IsWalking-skip (A.sees s.automaton) s.seen c.skip.new.self (unit.unit c.args.unit) c.code.result s.state s.turns root.result
     c.self.invariant c.skip.ensures c.code.ensures root.ensures.reached root.ensures.text

@@ -34,7 +34,7 @@ module _ {V : Type 0} where
 
 module _ {V : Type 0} (a : Lettered V) (valid : IsValid a.parts) where
   pub valid_patterns : AreCharacters a.parts.coding (length a.parts.coding.table) a.characters → a.parts.num_states < 4294967296
-      → HasPatterns (child a.parts) (λ i. Some i) (edge_of a) (count a.parts) (length a.parts.coding.table) a.parts.outputs (output_of a.parts)
+      → HasPatterns (child a.parts) (λ i. Some i) (edge_of a) (count a.parts) (length a.parts.coding.table) a.parts.outputs (output_of a.parts) (own_end (fail_of a.parts) (output_of a.parts))
   valid_patterns letters few =
       machine_patterns char_width (machine a.parts) (is_leftmost a.parts.kind) (count a.parts) (length a.parts.coding.table) (valid_machine a.parts valid) a.parts.num_states valid.sound.counted few
       (λ i. Some i) (edge_of a) (valid_tells a letters)

@@ -6,7 +6,6 @@ pub mod WalkLaws
 pub mod DepthLaws
 pub mod ListingLaws
 pub mod EntryLaws
-pub mod RoomLaws
 pub mod PatternLaws
 pub mod ReachLaws
 pub mod ClimbLaws

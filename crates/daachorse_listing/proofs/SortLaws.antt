@@ -1,5 +1,5 @@
 -- The children of an element, sorted by their units, are the list of them by falling units, read backwards.
-use Rattle.std.proofs.Common.{◌≡◌, ℕ, zero, suc, ◌+◌, ◌-◌, ◌<◌, ◌≤◌, ◌⊎◌, inl, inr, Bool, true, false, ◌==◌, List, [], ◌∷◌, length, map, get_or, reverse, Option, Some, None, refl, sym, ap, ◌∙◌, arith, subst}
+use Rattle.std.proofs.Common.{◌≡◌, ◌≢◌, ℕ, zero, suc, ◌+◌, ◌-◌, ◌<◌, ◌≤◌, ◌⊎◌, inl, inr, Bool, true, false, ◌==◌, List, [], ◌∷◌, length, map, get_or, reverse, Option, Some, None, refl, sym, ap, ◌∙◌, arith, subst}
 use Rattle.std.proofs.lemmas.List.{get_or-map, get_or-reverse, length-map, length-reverse}
 use Rattle.std.proofs.lemmas.List.Elements.{All-from_recursion, All-map, recursion_from_All}
 use Rattle.std.proofs.lemmas.Bool.{cases_eq, eqb-false, ne_eqb}
@@ -14,7 +14,8 @@ use Rattle.std.proofs.lemmas.Bool.Decides.{nat_tests}
 use Rattle.daachorse_model.proofs.Booleans.{either}
 use Rattle.daachorse_listing.specs.Edges.{is_in, below, members, children_below, TellChildren}
 use Rattle.daachorse_listing.specs.Listing.{unit_of}
-use Rattle.daachorse_listing.specs.Trees.{Pairs, elements_of}
+use Rattle.daachorse_listing.specs.Trees.{IsAmong, Pairs, elements_of}
+use Rattle.daachorse_listing.proofs.Members.{children_below-among}
 
 -- what each passes still holds of each where it follows
 All-weaken : {X : Type 0} (P Q : X → Type 0) (l : List X) → ((x : X) → P x → Q x) → AllByRecursion P l → AllByRecursion Q l
@@ -157,9 +158,15 @@ module _ {child : ℕ → ℕ → Option ℕ} {group : ℕ → Option ℕ} {edge
   abbrev IsKid : ℕ → Type 0
   IsKid j = child i (unit_of (edge j)) ≡ Some j
 
+  member-kid : (j : ℕ) → (j < n) × (is_in g (edge j) ≡ true) → IsKid j
+  member-kid j both = tell.to_child i g (unit_of (edge j)) j real own both.0 (in-edge g (edge j) both.1)
+
   are-kids : AllByRecursion IsKid ms
-  are-kids = All-weaken (λ j. (j < n) × (is_in g (edge j) ≡ true)) IsKid ms
-      (λ j both. tell.to_child i g (unit_of (edge j)) j real own both.0 (in-edge g (edge j) both.1)) (below-All (λ j. is_in g (edge j)) n)
+  are-kids = All-weaken (λ j. (j < n) × (is_in g (edge j) ≡ true)) IsKid ms member-kid (below-All (λ j. is_in g (edge j)) n)
+
+  -- where the group has a member there is a child
+  pub some-children : (j : ℕ) → (j < n) × (is_in g (edge j) ≡ true) → children_below child i m ≢ []
+  some-children j both none = let is = member-kid j both in subst (λ l. IsAmong l j) none (children_below-among child i m (unit_of (edge j)) j (inside i (unit_of (edge j)) j is).1 is)
 
   distinct : (l : List ℕ) → Pairs (λ a b. b < a) l → AllByRecursion IsKid l → IsDistinct same_unit (map (kid_of edge) l)
   unfolding IsDistinct

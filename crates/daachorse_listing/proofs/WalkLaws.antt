@@ -170,7 +170,7 @@ module _ {child : ℕ → ℕ → Option ℕ} {n m : ℕ} (tree : IsTree child n
       only i (inr bad) = absurd bad
 
   -- no more is taken than all elements
-  taken-few : (taken aside : List ℕ) (x : ℕ) → IsWalk child n m taken (x ∷ aside) → length taken < n
+  pub taken-few : (taken aside : List ℕ) (x : ℕ) → IsWalk child n m taken (x ∷ aside) → length taken < n
   taken-few taken aside x w = let few = taken-room taken aside x w in omega (arith, few)
 
   -- where steps are enough for all that was not taken, all that is reached is taken

@@ -6,4 +6,3 @@ pub mod Climbs
 pub mod Automata
 pub mod Listing
 pub mod EqualOutputs
-pub mod Room

@@ -4,9 +4,8 @@ use Rattle.daachorse_core.specs.declared.errors.DaachorseError.{DaachorseError}
 use Rattle.daachorse_core.specs.Refusals.{IsOutOfMemory}
 use Rattle.daachorse_core.specs.declared.outputs.Output.{Output}
 use Rattle.daachorse_core.specs.Outputs.{value_of, parent_of, ParentsFall}
-use Rattle.daachorse_machine.specs.Texts.{text_of}
+use Rattle.daachorse_machine.specs.Texts.{IsReached, text_of}
 use Rattle.daachorse_listing.specs.Edges.{IsTree, TellChildren, members}
-use Rattle.daachorse_listing.specs.Room.{num_later}
 use Rattle.daachorse_listing.specs.Trees.{IsListed, IsWalk, elements_of, taken_from}
 
 -- the unit of an edge
@@ -45,12 +44,13 @@ own_end fail first i = cond (i == 0) 0 (cond (fail i == 1) 0 (first (fail i)))
 abbrev pub has_own : (ℕ → ℕ) → (ℕ → ℕ) → ℕ → Bool
 has_own fail first i = cond (first i == own_end fail first i) false true
 
--- What a listing goes over: a tree whose n elements have outputs.
-pub record HasPatterns {V : Type 0} (child : ℕ → ℕ → Option ℕ) (group : ℕ → Option ℕ) (edge : ℕ → Option (ℕ × ℕ)) (n m : ℕ) (outputs : List (Output V)) (first : ℕ → ℕ) : Type 0 where
+-- What a listing goes over: a tree whose n elements have outputs. A reached one without children has some of its own, unless it is the root.
+pub record HasPatterns {V : Type 0} (child : ℕ → ℕ → Option ℕ) (group : ℕ → Option ℕ) (edge : ℕ → Option (ℕ × ℕ)) (n m : ℕ) (outputs : List (Output V)) (first stop : ℕ → ℕ) : Type 0 where
   pub tree : IsTree child n m
   pub tell : TellChildren child group edge n
   pub falls : ParentsFall outputs
   pub inside : (i : ℕ) → i < n → first i ≤ length outputs
+  pub leaves : (i : ℕ) → i ≢ 0 → IsReached child m n i → ((c : ℕ) → child i c ≡ None) → values_until outputs (stop i) (first i) ≢ []
 
 module _ {V : Type 0} (child : ℕ → ℕ → Option ℕ) (n m : ℕ) (outputs : List (Output V)) (first stop : ℕ → ℕ) where
   -- all patterns: those of the reached elements, in the order of their texts
@@ -72,17 +72,14 @@ module _ (child : ℕ → ℕ → Option ℕ) (n m : ℕ) (last_text : List ℕ)
   AreEntries most [] = Unit {0}
   AreEntries most (e ∷ entries) = (e.0 ≤ most) × IsAside e × AreEntries e.0 entries
 
--- What holds of a walk over the patterns, with the text of the element that was taken last: there is room for what is put aside, for the children of one element and for each text.
-pub record IsListingWalk {V : Type 0} (child : ℕ → ℕ → Option ℕ) (group : ℕ → Option ℕ) (edge : ℕ → Option (ℕ × ℕ)) (n m : ℕ) (outputs : List (Output V)) (first : ℕ → ℕ) (groups : List (List ℕ)) (aside : List (ℕ × ℕ)) (last_text : List ℕ) (position room room_for_children room_for_text : ℕ) : Type 0 where
-  pub patterns : HasPatterns child group edge n m outputs first
+-- What holds of a walk over the patterns, with the text of the element that was taken last.
+pub record IsListingWalk {V : Type 0} (child : ℕ → ℕ → Option ℕ) (group : ℕ → Option ℕ) (edge : ℕ → Option (ℕ × ℕ)) (n m : ℕ) (outputs : List (Output V)) (first stop : ℕ → ℕ) (groups : List (List ℕ)) (aside : List (ℕ × ℕ)) (last_text : List ℕ) (position : ℕ) : Type 0 where
+  pub patterns : HasPatterns child group edge n m outputs first stop
   pub groups_are : (g : ℕ) → g < n → slice_index_or groups g [] ≡ members edge g n
   pub each : length groups ≡ n
   pub walk : 0 < length aside → (taken : List ℕ) × IsWalk child n m taken (elements_of aside)
   pub entries : AreEntries child n m last_text (suc (length last_text)) (reverse aside)
   pub inside : position ≤ length outputs
-  pub wide : num_later edge n < room
-  pub wide_for_children : (g : ℕ) → g < n → length (members edge g n) ≤ room_for_children
-  pub wide_for_text : n - num_later edge n ≤ room_for_text
 
 -- A call gives the first pattern, or an error behind which nothing is left; `text` reads the key.
 abbrev pub GivesPattern : {K V : Type 0} → (K → List ℕ) → List (List ℕ × V) → Option (Result (K × V) DaachorseError) → List (List ℕ × V) → Type 0

@@ -5,12 +5,14 @@
 //!
 //! The text of an element begins with that of its parent, and so does each text from there to its
 //! own in their order. So a walk keeps one text, of which it writes the last unit of each element
-//! that it comes to. What it needs room for is counted before it starts, so that memory is refused
-//! there, or for a pattern that is to be given.
+//! that it comes to. Its lists grow as they are needed: they hold little more than the children on
+//! the way to one element. An element without children has outputs, so that where memory is refused
+//! on the way to it, a pattern is left in whose place the error is given.
 
-ghost use Rattle.std.specs.Prelude.{◌≡◌, ◌<◌, ◌≤◌, ◌-◌, ◌++◌, ℕ, List, [], ◌∷◌, Some, length, map, slice_get, take, vec_capacity, IfOk, IfErr};
+ghost use Rattle.std.specs.Prelude.{◌≡◌, ◌<◌, ◌≤◌, ◌+◌, ◌-◌, ◌++◌, ◌⊎◌, ◌≢◌, ℕ, List, [], ◌∷◌, Some, length, map, reverse, slice_get, slice_index_or, take, IfOk, IfErr, OnOk};
 ghost use Rattle.daachorse_core.specs.Refusals.{IsOutOfMemory};
 ghost use Rattle.daachorse_core.specs.declared.outputs.Output.{Output};
+ghost use Rattle.daachorse_listing.specs.Edges.{TellChildren, children_below, members, put_before};
 ghost use Rattle.daachorse_listing.specs.Listing.{HasPatterns, IsPatterns, own_end, unit_of};
 
 use crate::children::put_aside;
@@ -69,12 +71,11 @@ pub trait Keys<V: Copy, A: Allocator>: Outputs<V> {
 pub struct PatternWalk<V: Copy, E: Outputs<V>, A: Allocator = Global> {
     elements: E,
     groups: Siblings<A>,
-    // The elements that were put aside, the next one last, each behind the length of its text. There
-    // is room for one more than come later in their groups.
+    // The elements that were put aside, the next one last, each behind the length of its text.
     aside: Vec<(u32, u32), A>,
-    // Room for the children of any one element.
+    // Room for the children of one element.
     children: Vec<(u32, u32), A>,
-    // The text of the element that was taken last, with room for that of any other.
+    // The text of the element that was taken last.
     text: Vec<E::Unit, A>,
     // What is left of its own outputs: those from a position until another.
     position: usize,
@@ -83,7 +84,7 @@ pub struct PatternWalk<V: Copy, E: Outputs<V>, A: Allocator = Global> {
 }
 
 impl<V: Copy, E: Outputs<V>, A: Allocator> Model for PatternWalk<V, E, A> {
-    ghost use Rattle.std.specs.Prelude.{List, ℕ, map, vec_capacity};
+    ghost use Rattle.std.specs.Prelude.{List, ℕ, map};
     ghost use Rattle.daachorse_listing.specs.Listing.{IsListingWalk, left_of, own_end};
     ghost use Rattle.daachorse_listing.specs.Trees.{elements_of};
 
@@ -94,8 +95,8 @@ impl<V: Copy, E: Outputs<V>, A: Allocator> Model for PatternWalk<V, E, A> {
         (map E.number s.text.items) (elements_of s.aside.items) s.stop s.position };
 
     ghost invariant = { λ s. IsListingWalk (E.child s.elements) (E.group s.elements) (E.edge s.elements) (E.count s.elements) (E.units s.elements)
-        (E.outputs s.elements) (E.first s.elements)
-        s.groups s.aside.items (map E.number s.text.items) s.position (vec_capacity s.aside) (vec_capacity s.children) (vec_capacity s.text) };
+        (E.outputs s.elements) (E.first s.elements) (own_end (E.fail s.elements) (E.first s.elements))
+        s.groups s.aside.items (map E.number s.text.items) s.position };
 }
 
 impl<V: Copy, E: Outputs<V> + Drop, A: Allocator + Copy> PatternWalk<V, E, A> {
@@ -105,22 +106,19 @@ impl<V: Copy, E: Outputs<V> + Drop, A: Allocator + Copy> PatternWalk<V, E, A> {
     ///
     /// An allocation failed.
     pub fn new(alloc: A, elements: E) -> Result<Self>
-        requires { HasPatterns (E.child elements) (E.group elements) (E.edge elements) (E.count elements) (E.units elements) (E.outputs elements) (E.first elements) }
+        requires { HasPatterns (E.child elements) (E.group elements) (E.edge elements) (E.count elements) (E.units elements) (E.outputs elements) (E.first elements) (own_end (E.fail elements) (E.first elements)) }
         ensures ok { IfOk result (λ walk. IsPatterns (E.child elements) (E.count elements) (E.units elements) (E.outputs elements) (E.first elements) (own_end (E.fail elements) (E.first elements)) walk) }
         ensures err { IfErr result IsOutOfMemory }
     {
-        let (groups, later) = Siblings::counted(alloc, &elements)?;
-        let count = elements.num_elements();
-        let mut aside = Vec::with_capacity(alloc, later + 1)?;
-        aside.push_reserved((0, 0));
-        let children = Vec::with_capacity(alloc, later + 1)?;
-        let text = Vec::with_capacity(alloc, count - later)?;
+        let groups = Siblings::new(alloc, &elements)?;
+        let mut aside = Vec::new(alloc);
+        aside.push((0, 0))?;
         Ok(PatternWalk {
             elements,
             groups,
             aside,
-            children,
-            text,
+            children: Vec::new(alloc),
+            text: Vec::new(alloc),
             position: 0,
             stop: 0,
             values: PhantomData,
@@ -154,18 +152,24 @@ impl<V: Copy, E: Keys<V, A> + Drop, A: Allocator + Copy> Iterator for PatternWal
                 return None;
             };
             let element = next as usize;
-            write_last(&mut self.text, depth as usize, self.elements.unit(element));
-            let (position, stop) = own_outputs(&self.elements, element);
-            self.position = position;
-            self.stop = stop;
-            put_aside(
+            let entered = enter(
                 &self.elements,
                 &self.groups,
                 element,
-                depth + 1,
+                depth,
+                &mut self.text,
                 &mut self.children,
                 &mut self.aside,
             );
+            if let Err(error) = entered {
+                // The two steps of `end`, which takes no walk that stopped on its way to an element.
+                self.position = 0;
+                self.aside.clear();
+                return Some(Err(error));
+            }
+            let (position, stop) = own_outputs(&self.elements, element);
+            self.position = position;
+            self.stop = stop;
         }
         let output = self.elements.output(self.position);
         let alloc = *self.text.allocator();
@@ -182,19 +186,56 @@ impl<V: Copy, E: Keys<V, A> + Drop, A: Allocator + Copy> Iterator for PatternWal
     }
 }
 
+/// Writes the text of an element that has `depth` units, and puts its children aside.
+///
+/// # Errors
+///
+/// An allocation failed. For the root without children there is none.
+fn enter<V: Copy, E: Outputs<V>, A: Allocator>(
+    elements: &E,
+    groups: &Siblings<A>,
+    element: usize,
+    depth: u32,
+    text: &mut Vec<E::Unit, A>,
+    children: &mut Vec<(u32, u32), A>,
+    aside: &mut Vec<(u32, u32), A>,
+) -> Result<()>
+    requires inside { (i c j : ℕ) → E.child elements.now i c ≡ Some j → (j < E.count elements.now) × (c < E.units elements.now) }
+    requires tell { TellChildren (E.child elements.now) (E.group elements.now) (E.edge elements.now) (E.count elements.now) }
+    requires groups { (g : ℕ) → g < E.count elements.now
+        → slice_index_or groups.now g [] ≡ members (E.edge elements.now) g (E.count elements.now) }
+    requires each { length groups.now ≡ E.count elements.now }
+    requires element { element < E.count elements.now }
+    requires depth { depth < 4294967295 }
+    ensures none { OnOk result (depth ≡ 0 → text.new.items ≡ []) }
+    ensures text { OnOk result (0 < depth
+        → map E.number text.new.items ≡ take (depth - 1) (map E.number text.old.items) ++ unit_of (E.edge elements.now element) ∷ []) }
+    ensures aside { OnOk result (reverse aside.new.items ≡ put_before (map (λ j. (depth + 1, j)) (children_below (E.child elements.now) element (E.units elements.now))) (reverse aside.old.items)) }
+    ensures err { IfErr result IsOutOfMemory }
+    ensures some { IfErr result (λ _. (0 < depth) ⊎ (children_below (E.child elements.now) element (E.units elements.now) ≢ [])) }
+{
+    write_last(text, depth as usize, elements.unit(element))?;
+    put_aside(elements, groups, element, depth + 1, children, aside)
+}
+
 /// Makes a text `depth` units long: all but the last stay, and the last is this one.
-fn write_last<U: Copy, A: Allocator>(text: &mut Vec<U, A>, depth: usize, unit: U)
-    requires { depth ≤ vec_capacity text.old }
-    ensures none { depth ≡ 0 → text.new.items ≡ [] }
-    ensures some { 0 < depth → text.new.items ≡ take (depth - 1) text.old.items ++ unit ∷ [] }
-    ensures capacity { vec_capacity text.new ≡ vec_capacity text.old }
+///
+/// # Errors
+///
+/// An allocation failed. Without units there is none.
+fn write_last<U: Copy, A: Allocator>(text: &mut Vec<U, A>, depth: usize, unit: U) -> Result<()>
+    ensures none { OnOk result (depth ≡ 0 → text.new.items ≡ []) }
+    ensures ok { OnOk result (0 < depth → text.new.items ≡ take (depth - 1) text.old.items ++ unit ∷ []) }
+    ensures err { IfErr result IsOutOfMemory }
+    ensures some { IfErr result (λ _. 0 < depth) }
 {
     if depth == 0 {
         text.clear();
-        return;
+        return Ok(());
     }
     text.truncate(depth - 1);
-    text.push_reserved(unit);
+    text.push(unit)?;
+    Ok(())
 }
 
 /// The position of an element's first output, and that where its own outputs end, which is read only

@@ -7,7 +7,6 @@ ghost use Rattle.std.specs.Prelude.{◌≡◌, ◌<◌, ◌≤◌, ◌^◌, ℕ,
 ghost use Rattle.daachorse_core.specs.Refusals.{IsOutOfMemory};
 ghost use Rattle.daachorse_listing.specs.Edges.{members};
 ghost use Rattle.daachorse_listing.specs.Linked.{IsPut};
-ghost use Rattle.daachorse_listing.specs.Room.{num_later};
 
 use crate::edges::Edges;
 use daachorse_core::errors::Result;
@@ -47,34 +46,14 @@ impl<A: Allocator + Copy> Siblings<A> {
         ensures size { IfOk result (λ groups. length groups ≡ E.count edges.now) }
         ensures err { IfErr result IsOutOfMemory }
     {
-        let (groups, _later) = Siblings::counted(alloc, edges)?;
-        Ok(groups)
-    }
-
-    /// The groups of all elements, and how many elements are put before others of their group.
-    ///
-    /// # Errors
-    ///
-    /// An allocation failed.
-    #[inline(always)]
-    pub(crate) fn counted<E: Edges>(alloc: A, edges: &E) -> Result<(Self, usize)>
-        ensures ok { IfOk result (λ both. (g : ℕ) → g < E.count edges.now
-            → slice_index_or both.0 g [] ≡ members (E.edge edges.now) g (E.count edges.now)) }
-        ensures size { IfOk result (λ both. length both.0 ≡ E.count edges.now) }
-        ensures later { IfOk result (λ both. both.1 ≡ num_later (E.edge edges.now) (E.count edges.now)) }
-        ensures few { IfOk result (λ both. both.1 ≤ E.count edges.now) }
-        ensures err { IfErr result IsOutOfMemory }
-    {
         let count = edges.num_elements();
         let mut first = vec![in alloc; 0; count]?;
         let mut next = Vec::with_capacity(alloc, count)?;
-        let mut later = 0;
         for element in 0..count {
             let link = put_first(edges, element, &mut first);
             next.push_reserved(link);
-            later += num_linked(link);
         }
-        Ok((Siblings { first, next }, later))
+        Ok(Siblings { first, next })
     }
 }
 
@@ -89,18 +68,6 @@ impl<A: Allocator> Siblings<A> {
             link: self.first[group],
         }
     }
-}
-
-/// How many elements a link leads to at once.
-fn num_linked(link: u32) -> usize
-    ensures none { link ≡ 0 → result ≡ 0 }
-    ensures some { 0 < link → result ≡ 1 }
-    ensures most { result ≤ 1 }
-{
-    if link == 0 {
-        return 0;
-    }
-    1
 }
 
 /// Puts an element before the others of its group. Answers the link to these, or 0 where it has no

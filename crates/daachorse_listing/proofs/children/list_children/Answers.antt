@@ -2,14 +2,15 @@
 use Rattle.std.proofs.Common.{◌≡◌, ◌<◌, ◌++◌, length, sym, ap, ◌∙◌, map, arith}
 use Rattle.std.proofs.lemmas.List.{append-nil}
 use Rattle.std.proofs.lemmas.List.Sorted.{IsPermutation-refl}
+use Rattle.daachorse_core.proofs.Refusals.{at_error}
 use Rattle.daachorse_listing.specs.Edges.{is_in, members}
 use Rattle.daachorse_listing.specs.Trees.{elements_of}
 use Rattle.daachorse_listing.proofs.Members.{no-children}
-use Rattle.daachorse_listing.proofs.SortLaws.{below-All, kid_of, sorted-few, sorted-children}
+use Rattle.daachorse_listing.proofs.SortLaws.{below-All, kid_of, some-children, sorted-few, sorted-children}
 use Rattle.daachorse_listing.proofs.children.list_children.Goals as goal
 
-pub returns-in_default-clause-all : goal.returns-in_default-clause-all
-returns-in_default-clause-all g c =
+pub returns-in_default-clause-ok : goal.returns-in_default-clause-ok
+returns-in_default-clause-ok g c =
     let none = no-children (g.E.Edges.child c.args.edges.now) c.args.element (g.E.Edges.units c.args.edges.now)
     (λ u. c.requires.tell.alone c.args.element u c.requires.element (sym c.in_default.ensures)) in
     ap elements_of c.clear.ensures.items ∙ sym none
@@ -20,19 +21,19 @@ loop-member-init g c =
     let count = g.E.Edges.count c.args.edges.now in
     let is : c.into_iter-member-iterator.result ≡ members edge c.in-Some.group count =
     c.into_iter-member-iterator.ensures.into_iter_gives ∙ c.members-member-items.ensures ∙ c.requires.groups c.in-Some.group (c.requires.tell.inside c.args.element c.in-Some.group c.requires.element (sym c.in-Some.ensures)) in
-    let few = c.requires.room c.in-Some.group (c.requires.tell.inside c.args.element c.in-Some.group c.requires.element (sym c.in-Some.ensures)) in
     record {
       less = rw is (below-All (λ j. is_in c.in-Some.group (edge j)) count);
       done = ap (λ l. l ++ map (kid_of edge) c.into_iter-member-iterator.result) c.clear.ensures.items ∙ ap (map (kid_of edge)) is;
-      room = omega (arith, ap length is, ap length c.clear.ensures.items, few, c.clear.ensures.capacity);
-      same = c.clear.ensures.capacity;
     }
 
-pub push_reserved-requires : goal.push_reserved-requires
-push_reserved-requires g c = omega (arith, c.loop-member.invariant.room, ap length c.in-Some-member.ensures.steps, c.loop-member.list.ok)
+pub returns-in_err-push-clause-some : goal.returns-in_err-push-clause-some
+returns-in_err-push-clause-some g c =
+    let own = sym c.in-Some.ensures in
+    let less = rw c.in-Some-member.ensures.steps at c.loop-member.invariant.less in
+    at_error _ _ _ c.from_residual.ensures.1 (some-children c.requires.tell c.requires.inside c.args.element c.in-Some.group c.requires.element own c.in-Some-member.member less.0)
 
-pub returns-then-len-gt1-clause-all : goal.returns-then-len-gt1-clause-all
-returns-then-len-gt1-clause-all g c =
+pub returns-then-len-gt1-clause-ok : goal.returns-then-len-gt1-clause-ok
+returns-then-len-gt1-clause-ok g c =
     let edge = g.E.Edges.edge c.args.edges.now in
     let count = g.E.Edges.count c.args.edges.now in
     let all : c.loop-member.list.items ≡ map (kid_of edge) (members edge c.in-Some.group count) =
@@ -40,8 +41,8 @@ returns-then-len-gt1-clause-all g c =
     sorted-children c.requires.tell c.requires.inside c.args.element c.in-Some.group c.requires.element (sym c.in-Some.ensures) c.loop-member.list.items c.sort_unstable.new.self.items all
     c.sort_unstable.ensures.permutation c.sort_unstable.ensures.sorted
 
-pub returns-else-len-gt1-clause-all : goal.returns-else-len-gt1-clause-all
-returns-else-len-gt1-clause-all g c =
+pub returns-else-len-gt1-clause-ok : goal.returns-else-len-gt1-clause-ok
+returns-else-len-gt1-clause-ok g c =
     let edge = g.E.Edges.edge c.args.edges.now in
     let count = g.E.Edges.count c.args.edges.now in
     let list = c.loop-member.list.items in

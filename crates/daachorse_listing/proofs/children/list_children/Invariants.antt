@@ -1,7 +1,6 @@
--- The members that are left will follow with their units, for which there is room.
-use Rattle.std.proofs.Common.{◌≡◌, ◌+◌, ◌<◌, ◌≤◌, ◌++◌, true, length, map}
+-- The members that are left will follow with their units.
+use Rattle.std.proofs.Common.{◌≡◌, ◌<◌, ◌++◌, true, map}
 use Rattle.std.specs.List.{AllByRecursion}
-use Rattle.std.specs.Prelude.{vec_capacity}
 use Rattle.daachorse_listing.specs.Edges.{is_in, members}
 use Rattle.daachorse_listing.proofs.SortLaws.{kid_of}
 use Rattle.daachorse_listing.proofs.children.list_children.Given as goal
@@ -13,6 +12,4 @@ invariant-loop-member g l =
     record {
       less : AllByRecursion (λ j. (j < count) × (is_in l.group (edge j) ≡ true)) l.member-iterator;
       done : l.list.items ++ map (kid_of edge) l.member-iterator ≡ map (kid_of edge) (members edge l.group count);
-      room : length l.list.items + length l.member-iterator ≤ vec_capacity l.list;
-      same : vec_capacity l.list ≡ vec_capacity l.fn.list;
     }

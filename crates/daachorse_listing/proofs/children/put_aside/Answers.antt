@@ -1,5 +1,5 @@
 -- Each child is put aside behind the depth.
-use Rattle.std.proofs.Common.{◌≡◌, [], ◌∷◌, length, map, reverse, refl, ap, ◌∙◌, arith, length-append}
+use Rattle.std.proofs.Common.{◌≡◌, [], ◌∷◌, length, map, reverse, ap, ◌∙◌, arith, length-append}
 use Rattle.std.proofs.lemmas.List.{reverse-append}
 use Rattle.daachorse_listing.specs.Edges.{put_before}
 use Rattle.daachorse_listing.specs.Trees.{elements_of}
@@ -8,10 +8,8 @@ use Rattle.daachorse_listing.proofs.children.put_aside.Goals as goal
 
 pub loop-unit-init : goal.loop-unit-init
 loop-unit-init g c = record {
-  aside = ap (λ kids. put_before (map (λ j. (c.args.depth, j)) kids) (reverse c.args.aside.now.items)) c.list_children.ensures.all;
-  room = omega (arith, c.requires.room, ap length c.list_children.ensures.all, length-elements c.list_children.new.list.items);
-  same = refl;
-  list = c.list_children.ensures.capacity;
+  aside = ap (λ kids. put_before (map (λ j. (c.args.depth, j)) kids) (reverse c.args.aside.now.items)) c.in_ok-list_children.ensures.ok;
+  few = omega (arith, ap length c.in_ok-list_children.ensures.ok, length-elements c.list_children.new.list.items);
 }
 
 pub loop-unit-preserved : goal.loop-unit-preserved
@@ -22,8 +20,6 @@ loop-unit-preserved g c =
     let steps : elements_of c.loop-unit.list.items ≡ child ∷ elements_of rest = elements-pop c.loop-unit.list.items rest (c.in-Some-pop._unit, child) c.in-Some-pop.ensures.items in
     let aside = rw steps at inv.aside in
     record {
-      aside = ap (λ l. put_before (map (λ j. (c.args.depth, j)) (elements_of rest)) l) (ap reverse c.push_reserved-in-Some-pop.ensures.items ∙ reverse-append c.loop-unit.aside.items ((c.args.depth, child) ∷ [])) ∙ aside;
-      room = omega (arith, inv.room, ap length c.in-Some-pop.ensures.items, length-append rest ((c.in-Some-pop._unit, child) ∷ []), ap length c.push_reserved-in-Some-pop.ensures.items, length-append c.loop-unit.aside.items ((c.args.depth, child) ∷ []), c.push_reserved-in-Some-pop.ensures.capacity);
-      same = c.push_reserved-in-Some-pop.ensures.capacity ∙ inv.same;
-      list = c.pop.ensures.capacity ∙ inv.list;
+      aside = ap (λ l. put_before (map (λ j. (c.args.depth, j)) (elements_of rest)) l) (ap reverse c.in_ok-push-2.ensures.items ∙ reverse-append c.loop-unit.aside.items ((c.args.depth, child) ∷ [])) ∙ aside;
+      few = omega (arith, inv.few, ap length c.in-Some-pop.ensures.items, length-append rest ((c.in-Some-pop._unit, child) ∷ []));
     }

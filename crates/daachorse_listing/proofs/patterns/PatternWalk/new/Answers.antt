@@ -1,19 +1,14 @@
 -- A walk starts with the root put aside.
-use Rattle.std.proofs.Common.{◌≡◌, [], ◌∷◌, ◌++◌, refl, sym, ap, ◌∙◌, length, map, arith}
+use Rattle.std.proofs.Common.{◌≡◌, [], ◌∷◌, ◌++◌, refl, sym, ap, ◌∙◌, length, arith}
 use Rattle.daachorse_machine.specs.Texts.{text_of}
 use Rattle.daachorse_listing.specs.Listing.{own_end, patterns_of}
 use Rattle.daachorse_listing.specs.Trees.{elements_of, taken_from}
-use Rattle.daachorse_listing.proofs.RoomLaws.{members-few}
 use Rattle.daachorse_listing.proofs.WalkLaws.{root-text, walk-start, walked}
 use Rattle.daachorse_listing.proofs.patterns.PatternWalk.new.Goals as goal
 
 pub invariant_of-result : goal.invariant_of-result
 invariant_of-result g c =
-    let child = g.E.Edges.child c.args.elements in
-    let n = g.E.Edges.count c.args.elements in
-    let m = g.E.Edges.units c.args.elements in
-    let text = map g.E.Outputs.number c.in_ok-text.text.items in
-    let aside : c.push_reserved.new.self.items ≡ (0, 0) ∷ [] = c.push_reserved.ensures.items ∙ ap (λ l. l ++ (0, 0) ∷ []) c.in_ok-aside.ensures.items in
+    let aside : c.push.new.self.items ≡ (0, 0) ∷ [] = c.in_ok-push.ensures.items ∙ ap (λ l. l ++ (0, 0) ∷ []) c.new-aside.ensures.items in
     record {
       patterns = c.requires;
       groups_are = c.in_ok-groups.ensures.ok;
@@ -21,9 +16,6 @@ invariant_of-result g c =
       walk = λ some. ([], rw aside (walk-start c.requires.tree));
       entries = rw aside (omega arith, (sym (ap length (root-text c.requires.tree)), refl), tt);
       inside = omega arith;
-      wide = omega (arith, c.in_ok-aside.ensures.exact, c.push_reserved.ensures.capacity, c.in_ok-groups.ensures.later);
-      wide_for_children = λ q less. (let few = members-few (g.E.Edges.edge c.args.elements) q n in omega (arith, few, c.in_ok-children.ensures.exact, c.in_ok-groups.ensures.later));
-      wide_for_text = omega (arith, c.in_ok-text.ensures.exact, c.in_ok-groups.ensures.later, c.num_elements-count.ensures.all);
     }
 
 pub returns-clause-ok : goal.returns-clause-ok
@@ -31,7 +23,7 @@ returns-clause-ok g c =
     let child = g.E.Edges.child c.args.elements in
     let n = g.E.Edges.count c.args.elements in
     let m = g.E.Edges.units c.args.elements in
-    let aside : c.push_reserved.new.self.items ≡ (0, 0) ∷ [] = c.push_reserved.ensures.items ∙ ap (λ l. l ++ (0, 0) ∷ []) c.in_ok-aside.ensures.items in (
+    let aside : c.push.new.self.items ≡ (0, 0) ∷ [] = c.in_ok-push.ensures.items ∙ ap (λ l. l ++ (0, 0) ∷ []) c.new-aside.ensures.items in (
       taken_from child n m n (0 ∷ []),
       walked c.requires.tree n [] (0 ∷ []) (walk-start c.requires.tree) (omega arith),
       ap (λ l. patterns_of (text_of child m n) (g.E.Outputs.outputs c.args.elements) (g.E.Links.first c.args.elements) (own_end (g.E.Links.fail c.args.elements) (g.E.Links.first c.args.elements)) (taken_from child n m n (elements_of l))) aside,

@@ -1,9 +1,7 @@
 -- Each element is put before the others of its group.
-use Rattle.std.proofs.Common.{◌≡◌, ◌+◌, ◌∙◌, refl, ap, arith, replicate, subst, ℕ}
-use Rattle.daachorse_listing.specs.Room.{num_later}
+use Rattle.std.proofs.Common.{◌≡◌, ◌∙◌, ap, arith, replicate, subst, ℕ}
 use Rattle.daachorse_listing.proofs.LinkedLaws.{IsGrouped, grouped-start, grouped-next, grouped-list}
-use Rattle.daachorse_listing.proofs.RoomLaws.{later-next}
-use Rattle.daachorse_listing.proofs.siblings.Siblings.counted.Goals as goal
+use Rattle.daachorse_listing.proofs.siblings.Siblings.new.Goals as goal
 
 pub loop-element-init : goal.loop-element-init
 loop-element-init g c =
@@ -11,8 +9,6 @@ loop-element-init g c =
     let first : c.in_ok-first.first.items ≡ replicate count 0 = c.in_ok-first.ensures.items_if_clones_equal (λ y e. e) ∙ ap (λ k. replicate k 0) c.num_elements-count.ensures.all in
     record {
       grouped = grouped-start (g.E.Edges.edge c.args.edges.now) count c.in_ok-first.first.items c.in_ok-next.next.items first c.in_ok-next.ensures.items;
-      later = refl;
-      few = omega arith;
       room = omega (arith, c.in_ok-next.ensures.exact, c.num_elements-count.ensures.all);
     }
 
@@ -21,10 +17,6 @@ loop-element-preserved g c =
     record {
       grouped = grouped-next (g.E.Edges.edge c.args.edges.now) (g.E.Edges.count c.args.edges.now) c.loop-element.element c.loop-element.first.items _ c.loop-element.next.items _ _
           c.loop-element.invariant.grouped c.put_first-link.ensures c.push_reserved.ensures.items;
-      later = ap (λ k. k + c.num_linked-later.result) c.loop-element.invariant.later
-          ∙ later-next (g.E.Edges.edge c.args.edges.now) (g.E.Edges.count c.args.edges.now) c.loop-element.element c.loop-element.first.items _ c.loop-element.next.items _ c.num_linked-later.result
-          c.loop-element.invariant.grouped c.put_first-link.ensures c.num_linked-later.ensures.none c.num_linked-later.ensures.some;
-      few = omega (arith, c.loop-element.invariant.few, c.num_linked-later.ensures.most);
       room = omega (arith, c.loop-element.invariant.room, c.push_reserved.ensures.capacity);
     }
 
@@ -35,8 +27,3 @@ returns-clause-ok g c =
     let end : c.loop-element.element ≡ count = let past = c.loop-element-test.false in omega (arith, past, c.loop-element.auto.element-end, c.num_elements-count.ensures.all) in
     let P : ℕ → Type 0 = λ k. IsGrouped edge count k c.loop-element.first.items c.loop-element.next.items in
     λ q less. grouped-list edge count count c.loop-element.first.items c.loop-element.next.items (subst P end c.loop-element.invariant.grouped) q less
-
-pub returns-clause-later : goal.returns-clause-later
-returns-clause-later g c =
-    let end : c.loop-element.element ≡ g.E.Edges.count c.args.edges.now = let past = c.loop-element-test.false in omega (arith, past, c.loop-element.auto.element-end, c.num_elements-count.ensures.all) in
-    c.loop-element.invariant.later ∙ ap (num_later (g.E.Edges.edge c.args.edges.now)) end

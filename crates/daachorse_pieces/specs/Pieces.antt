@@ -1,5 +1,5 @@
 -- A haystack in pieces: the matches of a piece as those of the whole haystack.
-use Rattle.std.specs.Prelude.{◌≡◌, ℕ, ◌+◌, List, ◌++◌, filter, map, nat_lt}
+use Rattle.std.specs.Prelude.{◌≡◌, ℕ, List, ◌++◌, filter, map, nat_lt}
 use Rattle.daachorse_model.specs.declared.Match.{Match}
 use Rattle.daachorse_model.specs.Dictionary.{Dictionary}
 use Rattle.daachorse_model.specs.Matches.{overlapping}

@@ -268,29 +268,12 @@ fn read_on<V: Copy, W: Stepwise<V>, H: Haystack<W::Unit>>(
 ) -> Option<NonZeroU32>
     ensures { ReadsOn W.automaton W.read W.found W.has_output W.given_from walk.old (H.rest rest.old) result walk.new (H.rest rest.new) }
 {
-    if walk.finds_everywhere() {
-        return pass_one(walk, rest);
-    }
-    // It is asked ahead of the loop, so that the loop is compiled for each answer and asks no more.
-    if rest.is_folded() {
+    // Both are asked ahead of the loop, so that it is compiled once more for a search that reads its haystack as it is
+    // and gives nothing without a look, and asks neither there.
+    if rest.is_folded() || walk.finds_everywhere() {
         return read_units(walk, rest);
     }
     read_units(walk, rest)
-}
-
-/// Does the work of [`read_on`] where there is something to give behind each unit: it reads one.
-#[inline(always)]
-fn pass_one<V: Copy, W: Stepwise<V>, H: Haystack<W::Unit>>(
-    walk: &mut W,
-    rest: &mut H,
-) -> Option<NonZeroU32>
-    requires { W.everywhere walk.old }
-    ensures { ReadsOn W.automaton W.read W.found W.has_output W.given_from walk.old (H.rest rest.old) result walk.new (H.rest rest.new) }
-{
-    let Some(unit) = rest.next() else {
-        return None;
-    };
-    walk.pass(unit)
 }
 
 /// Does the work of [`read_on`], one unit at a time.

@@ -127,6 +127,8 @@ impl<V: Copy, A: Automaton<V>> Stepwise<V> for FindWalk<V, A> {
 
     ghost given_from = { λ s position. take 1 (matches_from A.Unit.width (A.sees s.automaton) s.seen position) };
 
+    ghost everywhere = { λ s. (A.sees s.automaton).content [] ≢ [] };
+
     ghost looks_at = { λ a. looks_unless_empty (A.sees a) };
 
     ghost ends_at_once = { λ a. (A.sees a).ends_at_once };
@@ -154,6 +156,15 @@ impl<V: Copy, A: Automaton<V>> Stepwise<V> for FindWalk<V, A> {
     #[inline(always)]
     fn finds_everywhere(&self) -> bool {
         self.everywhere.is_some()
+    }
+
+    #[inline(always)]
+    fn pass(&mut self, unit: A::Unit) -> Option<NonZeroU32> {
+        if self.everywhere.is_some() {
+            self.walk.skip(unit);
+            return self.everywhere;
+        }
+        None
     }
 
     #[inline(always)]

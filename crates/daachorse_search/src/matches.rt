@@ -179,31 +179,10 @@ impl<V: Copy, W: Stepwise<V>, H: Reread<W::Unit>, F: Filter<W::Unit, H>> Iterato
 }
 
 /// Reads on until there is something to give, past what a filter that is open passes over, and
-/// answers the position of the first output; `None` where the haystack ends first.
+/// answers the position of the first output; `None` where the haystack ends first. The filter is asked at
+/// the root, until it closes.
 #[inline(always)]
 fn go_on<V: Copy, W: Stepwise<V>, H: Reread<W::Unit>, F: Filter<W::Unit, H>>(
-    walk: &mut W,
-    taken: &mut Turns,
-    rest: &mut H,
-    filter: &mut F,
-) -> Option<NonZeroU32>
-    requires { IsSoundFor (F.passes filter.old) (W.content (W.automaton walk.old)) }
-    ensures passes { (w : List ℕ) → F.passes filter.new w ≡ F.passes filter.old w }
-    ensures reads { SkipsTo W.Unit.width W.automaton W.read W.found W.looks_at W.ends_at_once (F.passes filter.old) walk.old (H.rest rest.old) taken.old (W.given_from walk.new (number result)) walk.new (H.rest rest.new) taken.new }
-    ensures output { W.has_output walk.new (number result) }
-    ensures ended { IfNone result (H.rest rest.new ≡ []) }
-    ensures idle { HasNoPlace (F.passes filter.old) (F.opened filter.old) (W.read walk.old) (H.rest rest.old)
-        → (taken.new + W.turns walk.new ≡ taken.old + W.turns walk.old) × (H.rest rest.new ≡ []) }
-{
-    if !filter.is_open() {
-        return read_on(walk, rest);
-    }
-    skip_on(walk, taken, rest, filter)
-}
-
-/// Does the work of [`go_on`] where the filter is open: it is asked at the root, until it closes.
-#[inline(always)]
-fn skip_on<V: Copy, W: Stepwise<V>, H: Reread<W::Unit>, F: Filter<W::Unit, H>>(
     walk: &mut W,
     taken: &mut Turns,
     rest: &mut H,
@@ -268,17 +247,36 @@ fn read_on<V: Copy, W: Stepwise<V>, H: Haystack<W::Unit>>(
 ) -> Option<NonZeroU32>
     ensures { ReadsOn W.automaton W.read W.found W.has_output W.given_from walk.old (H.rest rest.old) result walk.new (H.rest rest.new) }
 {
-    // Both are asked ahead of the loop, so that it is compiled once more for a search that reads its haystack as it is
-    // and gives nothing without a look, and asks neither there.
-    if rest.is_folded() || walk.finds_everywhere() {
-        return read_units(walk, rest);
+    if walk.finds_everywhere() {
+        return pass_one(walk, rest);
     }
-    read_units(walk, rest)
+    // It is asked ahead of the loop, so that the loop is compiled for each answer and asks no more. Two calls of one
+    // function would be joined again.
+    if !rest.is_folded() {
+        return read_units::<V, W, H, false>(walk, rest);
+    }
+    read_units::<V, W, H, true>(walk, rest)
 }
 
-/// Does the work of [`read_on`], one unit at a time.
+/// Does the work of [`read_on`] where there is something to give behind each unit: it reads one.
 #[inline(always)]
-fn read_units<V: Copy, W: Stepwise<V>, H: Haystack<W::Unit>>(
+fn pass_one<V: Copy, W: Stepwise<V>, H: Haystack<W::Unit>>(
+    walk: &mut W,
+    rest: &mut H,
+) -> Option<NonZeroU32>
+    requires { W.everywhere walk.old }
+    ensures { ReadsOn W.automaton W.read W.found W.has_output W.given_from walk.old (H.rest rest.old) result walk.new (H.rest rest.new) }
+{
+    let Some(unit) = rest.next() else {
+        return None;
+    };
+    walk.pass(unit)
+}
+
+/// Does the work of [`read_on`], one unit at a time. It is compiled by itself for a folded haystack, which `FOLDED`
+/// names and changes nothing.
+#[inline(always)]
+fn read_units<V: Copy, W: Stepwise<V>, H: Haystack<W::Unit>, const FOLDED: bool>(
     walk: &mut W,
     rest: &mut H,
 ) -> Option<NonZeroU32>

@@ -133,6 +133,8 @@ impl<V: Copy, A: Automaton<V>> Stepwise<V> for OverlappingWalk<V, A> {
 
     ghost no_output = { λ s. (HasPlace-none A.Unit.width (A.sees s.automaton) s.seen (A.no_output s.automaton), matches_from-none A.Unit.width (A.sees s.automaton) s.seen (A.no_output s.automaton)) };
 
+    ghost everywhere = { λ _. ⊥ };
+
     ghost looks_at = { λ a. (A.sees a).has_label };
 
     ghost ends_at_once = { λ a. (A.sees a).ends_at_once };
@@ -152,6 +154,11 @@ impl<V: Copy, A: Automaton<V>> Stepwise<V> for OverlappingWalk<V, A> {
     #[inline(always)]
     fn finds_everywhere(&self) -> bool {
         false
+    }
+
+    #[inline(always)]
+    fn pass(&mut self, _unit: A::Unit) -> Option<NonZeroU32> {
+        None
     }
 
     #[inline(always)]
@@ -253,6 +260,8 @@ impl<V: Copy, A: Automaton<V>> Stepwise<V> for NoSuffixWalk<V, A> {
 
     ghost no_output = { λ s. (HasPlace-none A.Unit.width (A.sees s.automaton) s.seen (A.no_output s.automaton), first_from-none A.Unit.width (A.sees s.automaton) s.seen (A.no_output s.automaton)) };
 
+    ghost everywhere = { λ _. ⊥ };
+
     ghost looks_at = { λ a. (A.sees a).has_label };
 
     ghost ends_at_once = { λ a. (A.sees a).ends_at_once };
@@ -272,6 +281,11 @@ impl<V: Copy, A: Automaton<V>> Stepwise<V> for NoSuffixWalk<V, A> {
     #[inline(always)]
     fn finds_everywhere(&self) -> bool {
         false
+    }
+
+    #[inline(always)]
+    fn pass(&mut self, _unit: A::Unit) -> Option<NonZeroU32> {
+        None
     }
 
     #[inline(always)]

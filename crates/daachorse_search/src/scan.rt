@@ -1,4 +1,4 @@
-//! The loop of all searches: reading on until something is found.
+//! The loop of the searches in a source: reading on until something is found.
 //!
 //! The layers above may rely on a scan taking no unit past the first at whose end there is
 //! something to give.

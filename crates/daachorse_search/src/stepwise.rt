@@ -3,7 +3,7 @@
 //! The layers above may rely on a search that is [`Stepwise`] telling, with each unit, all that it
 //! has to give at the end of what it read: no more, no less, and in order.
 
-ghost use Rattle.std.specs.Prelude.{◌≡◌, ◌+◌, ◌*◌, ◌≤◌, ◌<◌, ◌^◌, ℕ, Bool, List, [], ◌∷◌, ◌++◌, IfSome, IsTrue, count_by, length, map};
+ghost use Rattle.std.specs.Prelude.{◌≡◌, ◌+◌, ◌*◌, ◌≤◌, ◌<◌, ◌^◌, ℕ, Bool, List, [], ◌∷◌, ◌++◌, IfSome, IsSome, IsTrue, count_by, length, map};
 ghost use Rattle.std.specs.Bool.{OnTrue};
 ghost use Rattle.daachorse_model.specs.declared.Match.{Match};
 ghost use Rattle.daachorse_model.specs.Dictionary.{Dictionary};
@@ -48,6 +48,9 @@ pub trait Stepwise<V: Copy>: Drop {
     /// What is given from a position on, where the search stands.
     ghost given_from: { Self → ℕ → List (Match V) };
 
+    /// There is something to give behind each unit, with no look.
+    ghost everywhere: { Self → Type 0 };
+
     /// Reading such a unit takes a look, at least.
     ghost looks_at: { Self.Automaton → ℕ → Bool };
 
@@ -69,9 +72,17 @@ pub trait Stepwise<V: Copy>: Drop {
         ensures stops { Stops automaton read found most_found has_output given_from self.new result };
 
     /// Whether there is something to give behind each unit with no look, as where a key is empty and
-    /// matches do not overlap. It is for speed alone: whoever reads on may ask once, ahead of a loop, and no
-    /// clause rests on the answer.
-    fn finds_everywhere(&self) -> bool;
+    /// matches do not overlap. Whoever reads on may ask once, ahead of a loop.
+    fn finds_everywhere(&self) -> bool
+        ensures { IsTrue result → everywhere self.now };
+
+    /// Passes one unit with no look, where there is something to give behind each, and answers the position of
+    /// the first output behind it. Elsewhere it does nothing, and answers `None`.
+    fn pass(&mut self, unit: Self::Unit) -> Option<NonZeroU32>
+        ensures automaton { automaton self.new ≡ automaton self.old }
+        ensures read { IfSome result (λ _. read self.new ≡ read self.old ++ Self.Unit.unit unit ∷ []) }
+        ensures stops { IfSome result (λ _. Stops automaton read found most_found has_output given_from self.new result) }
+        ensures some { everywhere self.old → IsSome result };
 
     /// Whether no key that began before goes on here, as where nothing was read.
     fn is_at_root(&self) -> bool

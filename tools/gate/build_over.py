@@ -4,7 +4,7 @@
 
 `rt lib` and `rt run` take no library that the gate left, and would prove each of them again. Here the crate alone is
 proved again. It leaves out/libCRATE.a or the program out/CRATE. Status 3 says that some library is not the gate's:
-`rt lib` or `rt run` is to be used then.
+`rt lib` or `rt run` is to be used then. TOOLCHAIN names another folder of compilers than the kit's.
 """
 
 import os
@@ -21,10 +21,11 @@ crate = next(it for it in rtlib.crates_below(root) if it.name == name)
 if not all(os.path.isdir(it.rlib) and not os.path.exists(f"{os.path.dirname(it.rlib)}/stamp") for it in crate.below()):
     sys.exit(3)
 os.makedirs(f"{crate.folder}/out", exist_ok=True)
+toolchain = os.environ.get("TOOLCHAIN", f"{kit}/toolchain")
 made = f"out/{name}.o" if crate.is_program else f"out/lib{name}.a"
 words = crate.words(["--jobs", "1"], keeps=False)
-failed = crate.call(rtlib.RATTLE, "build", *words, "--toolchain", f"{kit}/toolchain", "--backend", "llvm", "-o", made)
+failed = crate.call(rtlib.RATTLE, "build", *words, "--toolchain", toolchain, "--backend", "llvm", "-o", made)
 if not failed and crate.is_program:
-    words = ["--target", "x86_64-unknown-linux-gnu", "--toolchain", f"{kit}/toolchain", "-o", f"out/{name}", made]
+    words = ["--target", "x86_64-unknown-linux-gnu", "--toolchain", toolchain, "-o", f"out/{name}", made]
     failed = crate.call(f"{kit}/bin/rattle-link", *words, f"{kit}/c/libos_c.a", f"{kit}/c/liblibc_c.a")
 sys.exit(1 if failed else 0)

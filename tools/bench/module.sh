@@ -2,9 +2,10 @@
 # module.sh keep WORK
 # module.sh link WORK MODULE NAME
 #
-# Tries by hand, with no proof and in half a minute, what a change of the source would take in a proved build. WORK is
-# the folder where run.sh built. `keep` builds its library once more, and keeps what the compiler is given, as text, in
-# WORK/module.ll. `link` compiles a changed copy MODULE of it, and links the driver WORK/driver-NAME.
+# Tries by hand, with no proof, what a change of the source would take in a proved build. WORK is the folder where
+# run.sh built, in a clone where the gate has passed. `keep` builds its library once more, for which the benchmark is
+# proved again, and keeps what the compiler is given, as text, in WORK/module.ll. `link` compiles a changed copy MODULE
+# of it, and links the driver WORK/driver-NAME; it takes half a minute.
 set -eu
 here=$(CDPATH= cd -- "$(dirname -- "$0")" && pwd)
 top=$(CDPATH= cd -- "$here/../.." && pwd)

@@ -273,8 +273,8 @@ fn pass_one<V: Copy, W: Stepwise<V>, H: Haystack<W::Unit>>(
     walk.pass(unit)
 }
 
-/// Does the work of [`read_on`], one unit at a time. It is compiled by itself for a folded haystack, which `FOLDED`
-/// names and changes nothing.
+/// Does the work of [`read_on`], one unit at a time. `FOLDED` says whether the haystack is folded. It changes no
+/// answer, and has the loop compiled once for either case.
 #[inline(always)]
 fn read_units<V: Copy, W: Stepwise<V>, H: Haystack<W::Unit>, const FOLDED: bool>(
     walk: &mut W,

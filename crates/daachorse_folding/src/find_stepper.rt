@@ -73,11 +73,8 @@ where
         ensures folds { self.new.folds ≡ self.old.folds }
         ensures read { self.new.read ≡ self.old.read ++ as_read self.old.folds (A.Unit.unit unit ∷ []) }
     {
-        if self.folds {
-            self.stepper.consume(unit.folded());
-        } else {
-            self.stepper.consume(unit);
-        }
+        let read = if self.folds { unit.folded() } else { unit };
+        self.stepper.consume(read);
     }
 
     /// The match of the standard search that ends with the units consumed, if there is one.

@@ -5,6 +5,7 @@
 
 ghost use Rattle.std.specs.Prelude.{◌≡◌, ◌≢◌, Some, None, length, ◌<◌, ◌≤◌, ◌^◌, ◌+◌, ◌*◌, ℕ, List, [], ◌∷◌, ◌++◌, IsTrue, count_by, map, take};
 ghost use Rattle.std.specs.Bool.{OnTrue};
+ghost use Rattle.daachorse_core.specs.Outputs.{value_of, length_of, parent_of};
 ghost use Rattle.daachorse_model.specs.Matches.{IsSinceMatch, standard};
 ghost use Rattle.daachorse_model.specs.Prefixes.{IsLong};
 ghost use Rattle.daachorse_model.specs.Units.{size};
@@ -21,8 +22,8 @@ use crate::haystack::Reread;
 use crate::matches::Matches;
 use crate::stepwise::Stepwise;
 use crate::walk::{Standing, Walk};
-use daachorse_core::Match;
 use daachorse_core::turns::Turns;
+use daachorse_core::{Match, Output};
 use std::alloc::AllocError;
 use std::marker::Model;
 use std::num::NonZeroU32;
@@ -73,6 +74,15 @@ impl<V: Copy, A: Automaton<V>> FindWalk<V, A> {
             → IsLong (A.sees self.now.automaton).content since s → result ≡ Some (length s) }
     {
         self.walk.depth(depths)
+    }
+
+    /// The output at a position.
+    #[inline(always)]
+    pub fn output(&self, position: NonZeroU32) -> Output<V>
+        requires { (A.sees self.now.automaton).has_output position.value }
+        ensures { let view = A.sees self.now.automaton in view.outputs position.value ≡ (value_of result, length_of result) ∷ view.outputs (parent_of result) }
+    {
+        self.walk.output(position)
     }
 
     /// Where the walk stands, and the outputs of the empty key, for [`Self::resume`].

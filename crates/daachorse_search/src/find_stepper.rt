@@ -108,8 +108,12 @@ impl<'a, V: Copy, A: Automaton<V>> FindStepper<'a, V, A> {
     pub fn matches(&self) -> Option<Match<V>>
         ensures { result ≡ standard_after A.Unit.width (A.sees self.now.automaton).content self.now.read }
     {
-        let position = self.found?;
-        Some(self.walk.give(position, self.place).0)
+        // A `match`: the compiler joins it with the branch that began again at the root. Of that branch it makes a
+        // conditional move where a `?` stands here, and the next look waits for it.
+        match self.found {
+            Some(position) => Some(self.walk.output(position).to_match(self.place)),
+            None => None,
+        }
     }
 
     /// How many of the last units consumed since the last match begin a key, at most; with an empty

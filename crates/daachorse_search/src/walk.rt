@@ -14,7 +14,7 @@ ghost use Rattle.std.specs.Prelude.{◌≡◌, ◌≢◌, Some, None, false, ◌
 ghost use Rattle.daachorse_model.specs.Units.{size};
 ghost use Rattle.daachorse_model.specs.Best.{IsSteady, LeftSteps};
 ghost use Rattle.daachorse_model.specs.Prefixes.{IsCut, IsLong};
-ghost use Rattle.daachorse_core.specs.Outputs.{number};
+ghost use Rattle.daachorse_core.specs.Outputs.{number, value_of, length_of, parent_of};
 ghost use Rattle.daachorse_model.specs.Outputs.{AllWithin, matches_of_outputs};
 ghost use Rattle.daachorse_core.specs.Seen.{units, unread};
 ghost use Rattle.daachorse_search.specs.Afresh.{shifted};
@@ -22,9 +22,9 @@ ghost use Rattle.daachorse_search.specs.Views.{HasDepths, HasFirst, IsLeftmostVi
 ghost use Rattle.daachorse_search.specs.Walks.{read_on, skip_on, begin_on, HasOutputs, IsWalking};
 
 use crate::automaton::Automaton;
-use daachorse_core::Match;
 use daachorse_core::edge_label::EdgeLabel;
 use daachorse_core::turns::{Look, Seen, Turns};
+use daachorse_core::{Match, Output};
 use std::alloc::AllocError;
 use std::marker::{Model, PhantomData};
 use std::num::NonZeroU32;
@@ -166,6 +166,15 @@ impl<V: Copy, A: Automaton<V>> Walk<V, A> {
             return None;
         }
         Some(depths[self.state as usize])
+    }
+
+    /// The output at a position.
+    #[inline(always)]
+    pub fn output(&self, position: NonZeroU32) -> Output<V>
+        requires { (A.sees self.now.automaton).has_output position.value }
+        ensures { let view = A.sees self.now.automaton in view.outputs position.value ≡ (value_of result, length_of result) ∷ view.outputs (parent_of result) }
+    {
+        self.automaton.output(position)
     }
 
     /// The match of the output at a position, which ends here, and the position of the next output.

@@ -1,5 +1,5 @@
 -- What is read of the elements that a view borrows is what its parts have.
-use Rattle.std.proofs.Common.{◌≡◌, ◌≢◌, ℕ, ◌<◌, Bool, false, List, length, Option, sym, ap, ◌∙◌, subst, arith, slice_index_or}
+use Rattle.std.proofs.Common.{◌≡◌, ◌≢◌, ℕ, ◌<◌, ◌/◌, Bool, false, List, length, Option, sym, ap, ◌∙◌, subst, arith, slice_index_or}
 use Rattle.std.specs.declared.num.NonZeroU32.{NonZeroU32}
 use Rattle.daachorse_core.specs.Outputs.{number}
 use Rattle.daachorse_core.specs.declared.turns.Look.TheVariants.{Next}
@@ -11,7 +11,7 @@ use Rattle.daachorse_bytewise_states.specs.declared.state.State.{State}
 use Rattle.daachorse_bytewise_states.specs.Elements.{base_in, check_in, output_in}
 use Rattle.daachorse_bytewise_states.specs.Parts.{Parts, base_of, check_of, child, child_by, count, fail_of, output_of}
 use Rattle.daachorse_bytewise_states.specs.Valid.{IsState}
-use Rattle.daachorse_bytewise_states.specs.Views.{IsRootEntry, IsSeen}
+use Rattle.daachorse_bytewise_states.specs.Views.{IsSeen}
 use Rattle.daachorse_bytewise_states.proofs.ByteLaws.{Gives, link_alive, look_table, state_inside, table_output}
 
 -- q is what is borrowed, and p what contracts see of it
@@ -49,10 +49,10 @@ module _ {V F B : Type 0} {leftmost : Bool} {link : State F → List B → ℕ �
   seen_alive standard = link_alive p seen.stored.valid (kind_standard p.kind (seen.kind ∙ standard))
 
   -- what the table of the root has for a byte, with the first output there
-  pub seen_entry : leftmost ≡ false → (i c : ℕ) (to : ℕ × Option NonZeroU32) → IsState p i → c < 256 → i ≡ 0 → IsRootEntry root c to → Gives p i c (Next to.0 to.1) × (output_of p to.0 ≡ number to.1)
-  seen_entry standard i c to r byte top entry =
+  pub seen_entry : leftmost ≡ false → (i c : ℕ) (to : ℕ × ℕ) → IsState p i → c < 256 → i ≡ 0 → to ≡ slice_index_or root c (0, 0) → (o : Option NonZeroU32) → number o ≡ to.1 / 256 → Gives p i c (Next to.0 o) × (output_of p to.0 ≡ number o)
+  seen_entry standard i c to r byte top entry o at =
       let kind : is_leftmost p.kind ≡ false = seen.kind ∙ standard in
       let table = seen.stored.table (kind_standard p.kind kind) in (
-        look_table p seen.stored.valid root table i c to.0 r byte top entry.0 to.1,
-        ap (λ j. output_of p j) entry.0 ∙ (table_output p seen.stored.valid kind root table c byte ∙ sym entry.1),
+        look_table p seen.stored.valid root table i c to.0 r byte top (ap (λ e. e.0) entry) o,
+        ap (λ e. output_of p e.0) entry ∙ (table_output p seen.stored.valid kind root table c byte ∙ (sym (ap (λ e. e.1 / 256) entry) ∙ sym at)),
       )

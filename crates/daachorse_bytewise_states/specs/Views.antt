@@ -1,7 +1,5 @@
 -- What a view shows of the elements that it borrows: valid parts, read off these and what stands beside them.
-use Rattle.std.specs.Prelude.{◌≡◌, ℕ, ◌<◌, ◌/◌, Bool, cond, List, length, slice_index_or, Option}
-use Rattle.std.specs.declared.num.NonZeroU32.{NonZeroU32}
-use Rattle.daachorse_core.specs.Outputs.{number}
+use Rattle.std.specs.Prelude.{◌≡◌, ℕ, ◌<◌, Bool, cond, List, length, slice_index_or}
 use Rattle.daachorse_core.specs.declared.outputs.Empty.{Empty}
 use Rattle.daachorse_core.specs.declared.outputs.Output.{Output}
 use Rattle.daachorse_model.specs.declared.MatchKind.{MatchKind}
@@ -17,10 +15,6 @@ ElementLists = List (State ℕ) × List (State Empty) × List ℕ
 
 abbrev pub seen_parts : {V : Type 0} → MatchKind → ElementLists → List (Output V) → ℕ → Parts V
 seen_parts kind lists outputs n = parts_with kind lists.0 lists.1 lists.2 outputs n
-
--- what the table of the root has for byte c: an element, and the position of its first output, which is the upper part of its word
-abbrev pub IsRootEntry : List (ℕ × ℕ) → ℕ → ℕ × Option NonZeroU32 → Type 0
-IsRootEntry root c to = (to.0 ≡ (slice_index_or root c (0, 0)).0) × (number to.1 ≡ (slice_index_or root c (0, 0)).1 / 256)
 
 -- Valid parts for leftmost searches or for standard ones, whose elements are these, whatever stands past the last.
 pub record IsSeen {V F B : Type 0} (leftmost : Bool) (link : State F → List B → ℕ → ℕ) (elements : List (State F)) (beside : List B) (root : List (ℕ × ℕ)) (p : Parts V) : Type 0 where

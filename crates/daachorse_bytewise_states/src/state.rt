@@ -144,20 +144,15 @@ impl<F: Copy> State<F> {
         requires inside { base_in self.now < length states.now }
         ensures { result ≡ child_by (length states.now) (base_in self.now) (λ i. check_in (slice_index_or states.now i self.now)) label }
     {
-        let (child, _) = self.child_and_output(label, states)?;
+        let (child, _) = self.child_and_word(label, states)?;
         Some(child)
     }
 
-    /// The index of the element that a byte leads to, if there is one, and the position of its
-    /// first output.
+    /// The index of the element that a byte leads to, if there is one, and that element's [`Self::word`].
     ///
     /// It reads one other element at most.
     #[inline(always)]
-    pub fn child_and_output(
-        &self,
-        label: u8,
-        states: &[State<F>],
-    ) -> Option<(u32, Option<NonZeroU32>)>
+    pub fn child_and_word(&self, label: u8, states: &[State<F>]) -> Option<(u32, u32)>
         requires blocks { length states.now % 256 ≡ 0 }
         requires inside { base_in self.now < length states.now }
         ensures { TellsChild states.now self.now label result }
@@ -166,7 +161,7 @@ impl<F: Copy> State<F> {
         let child = base.get() ^ u32::from(label);
         let element = &states[child as usize];
         if element.check() == label {
-            Some((child, element.output_pos()))
+            Some((child, element.word()))
         } else {
             None
         }

@@ -3,10 +3,11 @@
 //! The layers above may rely on a [`View`] being the automaton of its parts, on `turn` looking at
 //! one element and its child alone and counting one turn, and on no call taking memory.
 
-ghost use Rattle.std.specs.Prelude.{◌≡◌, ◌<◌, ℕ, true, false, List, [], length, slice_index, IfSome};
+ghost use Rattle.std.specs.Prelude.{◌≡◌, ◌<◌, ◌/◌, ℕ, true, false, List, [], length, slice_index, slice_index_or, IfSome};
+ghost use Rattle.daachorse_core.specs.Outputs.{number};
 ghost use Rattle.daachorse_bytewise_states.specs.declared.state.State.{State};
 ghost use Rattle.daachorse_bytewise_states.specs.Elements.{fail_in};
-ghost use Rattle.daachorse_bytewise_states.specs.Views.{IsRootEntry, IsSeen, ElementLists, seen_parts};
+ghost use Rattle.daachorse_bytewise_states.specs.Views.{IsSeen, ElementLists, seen_parts};
 
 use crate::state::State;
 use daachorse_core::turns::{Look, Turns};
@@ -33,15 +34,15 @@ pub trait Reads: Searches {
     /// The link of an element at an index.
     ghost link: { State Self.Link → List Self.Beside → ℕ → ℕ };
 
-    /// Where a byte leads from the root, and the position of the first output there, if that stands in a table.
-    fn from_root(beside: &[Self::Beside], label: u8) -> Option<(u32, Option<NonZeroU32>)>
+    /// The element that a byte leads to from the root, and that element's word, if they stand in a table.
+    fn from_root(beside: &[Self::Beside], label: u8) -> Option<(u32, u32)>
         requires { Self.leftmost ≡ false → length beside.now ≡ 256 }
-        ensures { IfSome result (λ to. (Self.leftmost ≡ false) × IsRootEntry (root beside.now) label to) };
+        ensures { IfSome result (λ to. (Self.leftmost ≡ false) × (to ≡ slice_index_or (root beside.now) label (0, 0))) };
 
     /// The link of the element of a state.
-    fn link(element: State<Self::Link>, beside: &[Self::Beside], state: u32) -> u32
+    fn link(element: &State<Self::Link>, beside: &[Self::Beside], state: u32) -> u32
         requires { Self.leftmost ≡ true → state < length beside.now }
-        ensures { result ≡ link element beside.now state };
+        ensures { result ≡ link element.now beside.now state };
 }
 
 /// An element has its link, and a table tells where each byte leads from the root.
@@ -57,15 +58,13 @@ impl Reads for ForStandard {
     ghost link = { λ element table state. fail_in element };
 
     #[inline(always)]
-    fn from_root(beside: &[(u32, u32)], label: u8) -> Option<(u32, Option<NonZeroU32>)> {
-        // The position is taken out of the word as it is of an element's, so that both ways meet in one.
-        let (child, word) = beside[label as usize];
-        Some((child, NonZeroU32::new(word / 256)))
+    fn from_root(beside: &[(u32, u32)], label: u8) -> Option<(u32, u32)> {
+        Some(beside[label as usize])
     }
 
     #[inline(always)]
-    fn link(element: State<u32>, _beside: &[(u32, u32)], _state: u32) -> u32
-        ensures { result ≡ fail_in element }
+    fn link(element: &State<u32>, _beside: &[(u32, u32)], _state: u32) -> u32
+        ensures { result ≡ fail_in element.now }
     {
         element.fail()
     }
@@ -84,12 +83,12 @@ impl Reads for ForLeftmost {
     ghost link = { λ element links state. slice_index links state };
 
     #[inline(always)]
-    fn from_root(_beside: &[u32], _label: u8) -> Option<(u32, Option<NonZeroU32>)> {
+    fn from_root(_beside: &[u32], _label: u8) -> Option<(u32, u32)> {
         None
     }
 
     #[inline(always)]
-    fn link(_element: State<Empty>, beside: &[u32], state: u32) -> u32
+    fn link(_element: &State<Empty>, beside: &[u32], state: u32) -> u32
         requires { state < length beside.now }
         ensures { result ≡ slice_index beside.now state }
     {
@@ -186,20 +185,20 @@ impl<'a, V: Copy, S: Reads> Automaton<V> for View<'a, V, S> {
     fn turn(&self, state: u32, label: u8, turns: &mut Turns) -> Look {
         turns.tick();
         if state == ROOT_STATE_IDX {
-            if let Some((child, position)) = S::from_root(self.beside, label) {
-                return Look::Next(child, position);
+            if let Some((child, word)) = S::from_root(self.beside, label) {
+                return Look::Next(child, position_in(word));
             }
         }
         // A copy loads base and link together, and the element's index is not needed again.
         let states = self.states;
         let element = states[state as usize];
-        if let Some((child, position)) = element.child_and_output(label, states) {
-            return Look::Next(child, position);
+        if let Some((child, word)) = element.child_and_word(label, states) {
+            return Look::Next(child, position_in(word));
         }
         if state == ROOT_STATE_IDX {
             return Look::Next(ROOT_STATE_IDX, self.output_pos(ROOT_STATE_IDX));
         }
-        let link = S::link(element, self.beside, state);
+        let link = S::link(&element, self.beside, state);
         if S::are_leftmost() && link == DEAD_STATE_IDX {
             return Look::Next(ROOT_STATE_IDX, self.output_pos(ROOT_STATE_IDX));
         }
@@ -238,4 +237,13 @@ impl<'a, V: Copy, S: Reads> Automaton<V> for View<'a, V, S> {
     }
 
     ghost no_output = { no_output };
+}
+
+/// The position of the first output in the word of an element. Both ways to a child meet in such a word, of which it
+/// is taken once.
+#[inline(always)]
+fn position_in(word: u32) -> Option<NonZeroU32>
+    ensures { number result ≡ word / 256 }
+{
+    NonZeroU32::new(word / 256)
 }

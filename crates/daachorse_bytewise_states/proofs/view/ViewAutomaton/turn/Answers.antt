@@ -1,5 +1,5 @@
 -- The element's child ends the step, and without one the root does if the look is at the root or at a dead link; else the link is told. In valid parts child and link are those of the dictionary.
-use Rattle.std.proofs.Common.{◌≢◌, ◌<◌, ◌∙◌, ap, arith, cond, length, sym}
+use Rattle.std.proofs.Common.{◌≢◌, ◌<◌, ◌/◌, ◌∙◌, ap, arith, cond, length, sym}
 use Rattle.daachorse_core.specs.declared.turns.Look.TheVariants.{Next, Fail}
 use Rattle.daachorse_bytewise_states.proofs.ByteLaws.{first_at, gives_label, look_child, look_dead, look_fail, look_root, root_state}
 use Rattle.daachorse_bytewise_states.proofs.ViewLaws.{seen_alive, seen_base, seen_by, seen_child, seen_entry, seen_inside, seen_link}
@@ -13,14 +13,14 @@ from_root-requires g c standard = c.self.invariant.size_beside ∙ ap (λ b. con
 pub returns-in-Some-clause-look : goal.returns-in-Some-clause-look
 returns-in-Some-clause-look g c =
     let seen = seen_by c.self.view_is c.self.invariant in
-    let entry = seen_entry seen c.in-Some.ensures.0 c.args.state c.args.label (c.in-Some.child, c.in-Some.position) c.requires (omega arith) c.if-state-eq-ROOT_STATE_IDX.true c.in-Some.ensures.1 in
-    gives_label c.args.self.now c.args.state c.args.label (Next c.in-Some.child c.in-Some.position) entry.0
+    let entry = seen_entry seen c.in-Some.ensures.0 c.args.state c.args.label (c.in-Some.child, c.in-Some.word) c.requires (omega arith) c.if-state-eq-ROOT_STATE_IDX.true c.in-Some.ensures.1 c.position_in.result c.position_in.ensures in
+    gives_label c.args.self.now c.args.state c.args.label (Next c.in-Some.child c.position_in.result) entry.0
 
 pub returns-in-Some-clause-output : goal.returns-in-Some-clause-output
 returns-in-Some-clause-output g c = λ unit same.
     let seen = seen_by c.self.view_is c.self.invariant in
-    let entry = seen_entry seen c.in-Some.ensures.0 c.args.state c.args.label (c.in-Some.child, c.in-Some.position) c.requires (omega arith) c.if-state-eq-ROOT_STATE_IDX.true c.in-Some.ensures.1 in
-    first_at _ seen.stored.valid c.in-Some.child c.in-Some.position entry.0.0 entry.1
+    let entry = seen_entry seen c.in-Some.ensures.0 c.args.state c.args.label (c.in-Some.child, c.in-Some.word) c.requires (omega arith) c.if-state-eq-ROOT_STATE_IDX.true c.in-Some.ensures.1 c.position_in.result c.position_in.ensures in
+    first_at _ seen.stored.valid c.in-Some.child c.position_in.result entry.0.0 entry.1
 
 pub bounds-states-state : goal.bounds-states-state
 bounds-states-state g c = seen_inside (seen_by c.self.view_is c.self.invariant) c.args.state c.requires
@@ -28,32 +28,32 @@ bounds-states-state g c = seen_inside (seen_by c.self.view_is c.self.invariant) 
 pub offset_bounds-states-state : goal.offset_bounds-states-state
 offset_bounds-states-state g c = omega (arith, seen_inside (seen_by c.self.view_is c.self.invariant) c.args.state c.requires)
 
-pub child_and_output-requires-clause-inside : goal.child_and_output-requires-clause-inside
-child_and_output-requires-clause-inside g c = seen_base (seen_by c.self.view_is c.self.invariant) _ c.args.state c.index-states-state.is c.requires
+pub child_and_word-requires-clause-inside : goal.child_and_word-requires-clause-inside
+child_and_word-requires-clause-inside g c = seen_base (seen_by c.self.view_is c.self.invariant) _ c.args.state c.index-states-state.is c.requires
 
 -- by the element's own child
-pub returns-in-Some-child_and_output-clause-look :
-    goal.returns-in-Some-child_and_output-clause-look
-returns-in-Some-child_and_output-clause-look g c =
+pub returns-in-Some-child_and_word-clause-look :
+    goal.returns-in-Some-child_and_word-clause-look
+returns-in-Some-child_and_word-clause-look g c =
     let seen = seen_by c.self.view_is c.self.invariant in
-    let at = c.in-Some-child_and_output in
+    let at = c.in-Some-child_and_word in
     let next = seen_child seen _ c.args.state c.index-states-state.is c.requires c.args.label ∙ at.ensures.0 in
-    gives_label c.args.self.now c.args.state c.args.label (Next at.child at.position) (look_child _ seen.stored.valid c.args.state c.args.label at.child c.requires next at.position)
+    gives_label c.args.self.now c.args.state c.args.label (Next at.child c.position_in-in-Some-child_and_word.result) (look_child _ seen.stored.valid c.args.state c.args.label at.child c.requires next c.position_in-in-Some-child_and_word.result)
 
-pub returns-in-Some-child_and_output-clause-output :
-    goal.returns-in-Some-child_and_output-clause-output
-returns-in-Some-child_and_output-clause-output g c = λ unit same.
+pub returns-in-Some-child_and_word-clause-output :
+    goal.returns-in-Some-child_and_word-clause-output
+returns-in-Some-child_and_word-clause-output g c = λ unit same.
     let seen = seen_by c.self.view_is c.self.invariant in
-    let at = c.in-Some-child_and_output in
+    let at = c.in-Some-child_and_word in
     let next = seen_child seen _ c.args.state c.index-states-state.is c.requires c.args.label ∙ at.ensures.0 in
-    let reached = (look_child _ seen.stored.valid c.args.state c.args.label at.child c.requires next at.position).0 in
-    first_at _ seen.stored.valid at.child at.position reached (seen.output at.child _ (seen_inside seen at.child reached) ∙ sym at.ensures.1)
+    let reached = (look_child _ seen.stored.valid c.args.state c.args.label at.child c.requires next c.position_in-in-Some-child_and_word.result).0 in
+    first_at _ seen.stored.valid at.child c.position_in-in-Some-child_and_word.result reached (seen.output at.child _ (seen_inside seen at.child reached) ∙ (sym (ap (λ w. w / 256) at.ensures.1) ∙ sym c.position_in-in-Some-child_and_word.ensures))
 
 pub returns-then-state-eq-ROOT_STATE_IDX-2-clause-look :
     goal.returns-then-state-eq-ROOT_STATE_IDX-2-clause-look
 returns-then-state-eq-ROOT_STATE_IDX-2-clause-look g c =
     let seen = seen_by c.self.view_is c.self.invariant in
-    let none = seen_child seen _ c.args.state c.index-states-state.is c.requires c.args.label ∙ c.in_default-child_and_output.ensures in
+    let none = seen_child seen _ c.args.state c.index-states-state.is c.requires c.args.label ∙ c.in_default-child_and_word.ensures in
     gives_label c.args.self.now c.args.state c.args.label (Next 0 c.output_pos.result) (look_root _ seen.stored.valid c.args.state c.args.label c.requires none c.if-state-eq-ROOT_STATE_IDX-2.true c.output_pos.result)
 
 pub link-link-requires : goal.link-link-requires
@@ -72,7 +72,7 @@ pub returns-then-link-eq-DEAD_STATE_IDX-clause-look :
     goal.returns-then-link-eq-DEAD_STATE_IDX-clause-look
 returns-then-link-eq-DEAD_STATE_IDX-clause-look g c =
     let seen = seen_by c.self.view_is c.self.invariant in
-    let none = seen_child seen _ c.args.state c.index-states-state.is c.requires c.args.label ∙ c.in_default-child_and_output.ensures in
+    let none = seen_child seen _ c.args.state c.index-states-state.is c.requires c.args.label ∙ c.in_default-child_and_word.ensures in
     let link = seen_link seen _ c.args.state c.index-states-state.is c.requires ∙ (sym c.link-link.ensures ∙ c.if-link-eq-DEAD_STATE_IDX.true) in
     let position = c.output_pos-then-link-eq-DEAD_STATE_IDX.result in
     gives_label c.args.self.now c.args.state c.args.label (Next 0 position) (look_dead _ seen.stored.valid c.args.state c.args.label c.requires none c.if-state-eq-ROOT_STATE_IDX-2.false link position)
@@ -81,7 +81,7 @@ returns-then-link-eq-DEAD_STATE_IDX-clause-look g c =
 pub returns-clause-look : goal.returns-clause-look
 returns-clause-look g c =
     let seen = seen_by c.self.view_is c.self.invariant in
-    let none = seen_child seen _ c.args.state c.index-states-state.is c.requires c.args.label ∙ c.in_default-child_and_output.ensures in
+    let none = seen_child seen _ c.args.state c.index-states-state.is c.requires c.args.label ∙ c.in_default-child_and_word.ensures in
     let to = c.link-link.result in
     let link = seen_link seen _ c.args.state c.index-states-state.is c.requires ∙ sym c.link-link.ensures in
     let live : to ≢ 1 = elim c.else-are_leftmost.branch [

@@ -1,10 +1,10 @@
 -- A base and a byte lead, by exclusive or, to an element of the base's own block, and blocks are whole, so there is one; it is the child just where its check is the byte.
 use Rattle.std.proofs.Common.{◌≡◌, ◌≢◌, ◌<◌, ◌∙◌, ap, bit_xor, length, slice_index_or, sym, arith}
 use Rattle.std.proofs.lemmas.List.{get_or_default}
-use Rattle.daachorse_bytewise_states.specs.Elements.{base_in, check_in, output_in}
+use Rattle.daachorse_bytewise_states.specs.Elements.{base_in, check_in, word_in}
 use Rattle.daachorse_machine.proofs.ChildLaws.{child_at-some}
 use Rattle.daachorse_bytewise_states.proofs.ChildLaws.{moved_inside}
-use Rattle.daachorse_bytewise_states.proofs.state.State.child_and_output.Goals as goal
+use Rattle.daachorse_bytewise_states.proofs.state.State.child_and_word.Goals as goal
 
 pub offset_bounds-states-child : goal.offset_bounds-states-child
 offset_bounds-states-child g c =
@@ -27,5 +27,5 @@ returns-then-check-label g c =
     let at : bit_xor (base_in c.args.self.now) c.args.label ≡ bit_xor c.get.result c.from.result = cc in
     let read : slice_index_or states (bit_xor c.get.result c.from.result) c.args.self.now ≡ c.index-states-child.result = get_or_default states _ c.args.self.now c.index-states-child.result moved ∙ sym c.index-states-child.is in (
       child_at-some (length states) c.args.label (base_in c.args.self.now) c.args.label (bit_xor c.get.result c.from.result) (λ i. check_in (slice_index_or states i c.args.self.now)) some at moved (ap check_in read ∙ (sym c.check.ensures ∙ c.if-check-label.true)),
-      c.output_pos.ensures ∙ sym (ap output_in read),
+      c.word.ensures ∙ sym (ap word_in read),
     )

@@ -8,8 +8,8 @@
 # UNITS=bytes or UNITS=chars measures one of the automata.
 # PARTS=build, PARTS=counts, PARTS=memory or PARTS=times does a part alone. SEEDS is how many links are timed
 # (5), ROUNDS how many rounds in each (15), BYTES the part of a text that instructions are counted
-# in (262144). MODES names what is counted, and BUILDS of which kinds a build is. With FILTER=1 the filter
-# of places of both sides is on.
+# in (262144). MODES names what is counted and timed, and BUILDS of which kinds a build is. With FILTER=1 the
+# filter of places of both sides is on.
 set -eu
 here=$(CDPATH= cd -- "$(dirname -- "$0")" && pwd)
 top=$(CDPATH= cd -- "$here/../.." && pwd)
@@ -101,7 +101,8 @@ time_links() {
     seed=1
     while [ "$seed" -le "$seeds" ]; do
         echo "link $seed"
-        "$work/driver-$seed" time "$1" "$2" "$3" "$rounds"
+        "$work/driver-$seed" time "$1" "$2" "$3" "$rounds" "${MODES-$searches $rows $others}" \
+            "${BUILDS-find longest first}"
         seed=$((seed + 1))
     done | tee "$work/times"
     echo "middle of the links"

@@ -1,7 +1,8 @@
 //! Times and counts the automata of this repository beside those of the Rust crate.
 //!
-//! `driver time UNIT WORDS TEXT ROUNDS` prints the least and the median of the rounds of each mode
-//! and of each build. `driver rounds UNIT MODE WORDS TEXT BYTES OURS THEIRS` and
+//! `driver time UNIT WORDS TEXT ROUNDS MODES BUILDS` prints the least and the median of the rounds of
+//! each mode of `MODES`, and of the builds for each of `BUILDS`; either is a list of names with a space
+//! between two. `driver rounds UNIT MODE WORDS TEXT BYTES OURS THEIRS` and
 //! `driver builds UNIT MODE WORDS OURS THEIRS` do so many rounds or builds of either and print
 //! nothing but what they found: they are for counting instructions. `UNIT` is `bytes` or `chars`.
 //! With `FILTER` in the environment the filter of places of both sides is on.
@@ -85,11 +86,18 @@ fn filter() -> bool {
     std::env::var_os("FILTER").is_some()
 }
 
-fn time(words: &'static Words, text: &'static [u8], unit: Unit, rounds: u32) {
+fn time(
+    words: &'static Words,
+    text: &'static [u8],
+    unit: Unit,
+    rounds: u32,
+    modes: &[Mode],
+    builds: &[Mode],
+) {
     println!(
         "what\tours least ms\tmedian\ttheirs least ms\tmedian\tours MB/s\ttheirs MB/s\tratio of least\tof medians"
     );
-    for mode in Mode::all(unit) {
+    for &mode in modes {
         let times = ours::run_beside(words, text, unit, mode, filter(), 0, rounds);
         print_line(
             mode.name(),
@@ -98,7 +106,7 @@ fn time(words: &'static Words, text: &'static [u8], unit: Unit, rounds: u32) {
             times.theirs,
         );
     }
-    for mode in [Mode::Find, Mode::Longest, Mode::First] {
+    for &mode in builds {
         let times = ours::run_beside(words, text, unit, mode, filter(), rounds, 0);
         print_line(
             &format!("build {}", mode.kind_name()),
@@ -141,6 +149,10 @@ fn beginning(text: &[u8], bytes: usize) -> &[u8] {
     &text[..end]
 }
 
+fn named(names: &str) -> impl Iterator<Item = Mode> + '_ {
+    names.split_whitespace().map(Mode::of)
+}
+
 fn number(word: &str) -> u32 {
     word.parse().unwrap_or_else(|_| panic!("no number: {word}"))
 }
@@ -149,12 +161,16 @@ fn main() {
     let args: Vec<String> = std::env::args().skip(1).collect();
     let args: Vec<&str> = args.iter().map(String::as_str).collect();
     match args.as_slice() {
-        ["time", unit, words, text, n] => {
+        ["time", unit, words, text, n, modes, builds] => {
+            let unit = Unit::of(unit);
+            let modes = named(modes).filter(|mode| mode.is_of(unit));
             time(
                 Box::leak(Box::new(Words::read(words))),
                 read(text).leak(),
-                Unit::of(unit),
+                unit,
                 number(n),
+                &modes.collect::<Vec<_>>(),
+                &named(builds).collect::<Vec<_>>(),
             );
         }
         ["rounds", unit, mode, words, text, bytes, n, m] => {

@@ -79,12 +79,9 @@ const MODES: [(Mode, &str); 22] = [
 ];
 
 impl Mode {
-    pub fn all(unit: Unit) -> impl Iterator<Item = Mode> {
-        // Tokens are parts of a text.
-        MODES
-            .into_iter()
-            .map(|(mode, _)| mode)
-            .filter(move |mode| unit == Unit::Char || *mode != Mode::Tokens)
+    /// Whether a round goes over such units. Tokens are parts of a text.
+    pub fn is_of(self, unit: Unit) -> bool {
+        unit == Unit::Char || self != Mode::Tokens
     }
 
     pub fn name(self) -> &'static str {

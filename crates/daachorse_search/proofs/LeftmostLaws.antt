@@ -87,9 +87,10 @@ module _ {V : Type 0} (width : ℕ → ℕ) (view : AutomatonView V) (passes : L
 
   -- over a skip nothing is given and nothing is looked at, and a filter that is open and passes nowhere goes to the end
   pub skipped : (now : List ℕ → Bool) (opened : Type 0) (whole rest later : List ℕ) (place to : ℕ) (after : Bool) (turns given : ℕ) → ((w : List ℕ) → now w ≡ passes w)
-      → IsResting width view passes asked opened whole rest place after false turns given → IsSkipped width now opened rest place later to
+      → IsResting width view passes asked opened whole rest place after false turns given → IsSkipped now opened rest later → to + size width later ≡ place + size width rest
       → IsResting width view passes asked ⊥ whole later to after false turns given × (leftmost_left width K place rest after false ≡ leftmost_left width K to later after false)
-  skipped now opened whole rest later place to after turns given same was skip =
+  skipped now opened whole rest later place to after turns given same was skip moves =
+      let ends : to ≡ place + size width skip.front = omega (arith, moves, ap (size width) skip.parts, size-append width skip.front later) in
       let none : PassesNoneBefore passes later rest = λ a b parts less. sym (same b) ∙ skip.none a b parts less in
       let P : List ℕ → Type 0 = λ x. PassesNoneBefore passes later x in
       let N : List ℕ → Type 0 = λ x. NoneStarts K (length skip.front) x in
@@ -99,7 +100,7 @@ module _ {V : Type 0} (width : ℕ → ℕ) (view : AutomatonView V) (passes : L
           sound = was.sound;
           passed = was.passed ++ skip.front;
           parts = was.parts ∙ (ap (λ x. was.passed ++ x) skip.parts ∙ sym (append_assoc was.passed skip.front later));
-          here = omega (arith, was.here, skip.ends, size-append width was.passed skip.front);
+          here = omega (arith, was.here, ends, size-append width was.passed skip.front);
           fits = was.fits;
           ended = λ e. absurd (cc);
           most = λ m bound. omega (arith, was.most m bound, length-append was.passed skip.front);
@@ -108,7 +109,7 @@ module _ {V : Type 0} (width : ℕ → ℕ) (view : AutomatonView V) (passes : L
         },
         ap (λ w. leftmost_from width K place 0 after w) skip.parts
             ∙ leftmost_from-clear width K place after skip.front later (subst N skip.parts (none_starts-skipped passes K was.sound rest skip.front later skip.parts none))
-            ∙ ap (λ n. leftmost_from width K n 0 after later) (sym skip.ends),
+            ∙ ap (λ n. leftmost_from width K n 0 after later) (sym ends),
       )
     where
       all : whole ≡ (was.passed ++ skip.front) ++ later
@@ -125,6 +126,17 @@ module _ {V : Type 0} (width : ℕ → ℕ) (view : AutomatonView V) (passes : L
           at_unit : now later ≡ true → (x : List ℕ) → later ≡ x → later ≡ []
           at_unit stands [] e = e
           at_unit stands (u ∷ x) e = absurd (let not_here = nowhere (was.passed ++ skip.front) later all (omega (arith, ap length e)) in let bad : true ≡ false = sym (sym (same later) ∙ stands) ∙ not_here in cc)
+
+  -- where a unit is taken off the rest, or none, no byte is added
+  pub skips_fewer : (rest later : List ℕ) (over : Bool) → SkipsUnit rest later over → size width later ≤ size width rest
+  skips_fewer rest later false (u, cut) = omega (arith, ap (size width) cut)
+  skips_fewer rest later true (at_end, over) = omega (arith, ap (size width) at_end, ap (size width) over)
+
+  -- the place is what the rest leaves of the whole
+  pub place_is : (opened : Type 0) (whole rest : List ℕ) (place bytes : ℕ) (after done : Bool) (turns given : ℕ) → IsResting width view passes asked opened whole rest place after done turns given → bytes ≡ size width whole
+      → (bytes - size width rest ≡ place) × (size width rest ≤ bytes)
+  place_is opened whole rest place bytes after done turns given was spans =
+      let all = ap (size width) was.parts in (omega (arith, was.here, spans, all, size-append width was.passed rest), omega (arith, spans, all, size-append width was.passed rest))
 
   -- what turns_are_bounded says, in terms of the units before the rest
   module _ (opened : Type 0) (whole rest : List ℕ) (place : ℕ) (after done : Bool) (turns given : ℕ) (was : IsResting width view passes asked opened whole rest place after done turns given) where
@@ -304,10 +316,11 @@ module _ {V : Type 0} (width : ℕ → ℕ) (view : AutomatonView V) (passes : L
 
     -- at an empty best: one unit is taken off, or the search is over
     pub gives_empty : (opened : Type 0) (whole rest later : List ℕ) (place to position end : ℕ) (after over : Bool) (turns next given : ℕ) (value : V) (len : ℕ) (more : List (V × ℕ)) → IsResting width view passes asked ⊥ whole rest place after false turns given
-        → IsTheBest width view rest position end turns next → view.outputs position ≡ (value, len) ∷ more → len ≤ 0 → SkipsUnit width rest place later to over
+        → IsTheBest width view rest position end turns next → view.outputs position ≡ (value, len) ∷ more → len ≤ 0 → SkipsUnit rest later over → to + size width later ≡ place + size width rest
         → IsResting width view passes asked opened whole later to false over next (one_unless after given)
         × (leftmost_left width K place rest after false ≡ unless after (record { start = place + end - len; end = place + end; value = value }) ++ leftmost_left width K to later false over)
-    gives_empty opened whole rest later place to position end after false turns next given value len more was best is none (u, cut, at) =
+    gives_empty opened whole rest later place to position end after false turns next given value len more was best is none (u, cut) moves =
+        let at : to ≡ place + width u = omega (arith, moves, ap (size width) cut) in
         let empty = empty_best rest position end turns next value len more best is none in
         let one : width u ≡ size width (u ∷ []) = omega arith in
         let start : place ≡ place + end - len = omega (arith, empty.1, none) in
@@ -322,7 +335,8 @@ module _ {V : Type 0} (width : ℕ → ℕ) (view : AutomatonView V) (passes : L
               ∙ ap (λ n. unless after (record { start = place; end = place; value = value }) ++ leftmost_from width K n 0 false later) (sym at)
               ∙ (λ i. unless after (record { start = start i; end = finish i; value = value }) ++ leftmost_from width K to 0 false later),
         )
-    gives_empty opened whole rest later place to position end after true turns next given value len more was best is none (at_end, over, at) =
+    gives_empty opened whole rest later place to position end after true turns next given value len more was best is none (at_end, over) moves =
+        let at : to ≡ place = omega (arith, moves, ap (size width) at_end, ap (size width) over) in
         let empty = empty_best rest position end turns next value len more best is none in
         let stays : next ≤ turns = omega (arith, best.most, ap length at_end) in
         let start : place ≡ place + end - len = omega (arith, empty.1, none) in
@@ -347,15 +361,15 @@ module _ {V : Type 0} (width : ℕ → ℕ) (view : AutomatonView V) (passes : L
 
     -- behind an empty match the search goes on one unit later, or is over
     pub stands_empty : (whole rest later : List ℕ) (place to position end : ℕ) (after over : Bool) (turns next given : ℕ) (value : V) (len : ℕ) (more : List (V × ℕ)) → IsResting width view passes asked ⊥ whole rest place after false turns given
-        → IsTheBest width view rest position end turns next → view.outputs position ≡ (value, len) ∷ more → len ≤ 0 → SkipsUnit width rest place later to over
+        → IsTheBest width view rest position end turns next → view.outputs position ≡ (value, len) ∷ more → len ≤ 0 → SkipsUnit rest later over
         → StandsBehind width (record { start = place + end - len; end = place + end; value = value }) whole (before_rest whole later)
-    stands_empty whole rest later place to position end after false turns next given value len more was best is none (u, cut, at) =
+    stands_empty whole rest later place to position end after false turns next given value len more was best is none (u, cut) =
         let empty = empty_best rest position end turns next value len more best is none in
         record {
           nonempty = λ lt. absurd (omega (arith, lt, none));
           empty = λ _. inl (was.passed, u, before_rest-is whole (was.passed ++ u ∷ []) later (was.parts ∙ (ap (λ x. was.passed ++ x) cut ∙ sym (append_assoc was.passed (u ∷ []) later))), omega (arith, was.here, empty.1));
         }
-    stands_empty whole rest later place to position end after true turns next given value len more was best is none (at_end, over, at) =
+    stands_empty whole rest later place to position end after true turns next given value len more was best is none (at_end, over) =
         let empty = empty_best rest position end turns next value len more best is none in
         let all : before_rest whole later ≡ whole = before_rest-is whole whole later (sym (append-nil whole) ∙ ap (λ x. whole ++ x) (sym over)) in
         record {

@@ -19,21 +19,28 @@ pub record StandsBehind {V : Type 0} (width : ℕ → ℕ) (m : Match V) (haysta
   pub empty : m.start ≡ m.end → EndsUnitBehind width m.end haystack passed
 
 -- one unit was taken off the rest, or there was none
-abbrev pub SkipsUnit : (ℕ → ℕ) → List ℕ → ℕ → List ℕ → ℕ → Bool → Type 0
-SkipsUnit width rest place later to false = (u : ℕ) × (rest ≡ u ∷ later) × (to ≡ place + width u)
-SkipsUnit width rest place later to true = (rest ≡ []) × (later ≡ []) × (to ≡ place)
+abbrev pub SkipsUnit : List ℕ → List ℕ → Bool → Type 0
+SkipsUnit rest later false = (u : ℕ) × (rest ≡ u ∷ later)
+SkipsUnit rest later true = (rest ≡ []) × (later ≡ [])
 
--- The rest is moved on to `later` over units where a filter does not pass, from place to place; where the filter is open, to the first place that passes, or to the end.
-pub record IsSkipped (width : ℕ → ℕ) (passes : List ℕ → Bool) (opened : Type 0) (rest : List ℕ) (place : ℕ) (later : List ℕ) (to : ℕ) : Type 0 where
+-- The rest is moved on to `later` over units where a filter does not pass; where the filter is open, to the first place that passes, or to the end.
+pub record IsSkipped (passes : List ℕ → Bool) (opened : Type 0) (rest later : List ℕ) : Type 0 where
   pub front : List ℕ
   pub parts : rest ≡ front ++ later
   pub none : PassesNoneBefore passes later rest
-  pub ends : to ≡ place + size width front
   pub here : opened → (later ≡ []) ⊎ (passes later ≡ true)
 
 -- the units of the whole haystack that come before the rest
 abbrev pub before_rest : List ℕ → List ℕ → List ℕ
 before_rest whole rest = take (length whole - length rest) whole
+
+-- the place where the rest begins, in a haystack of so many bytes
+abbrev pub place_at : (ℕ → ℕ) → ℕ → List ℕ → ℕ
+place_at width bytes rest = bytes - size width rest
+
+-- the haystack has so many bytes
+abbrev pub Spans : (ℕ → ℕ) → ℕ → List ℕ → Type 0
+Spans width bytes whole = bytes ≡ size width whole
 
 module _ {V : Type 0} (width : ℕ → ℕ) (K : Dictionary V) where
   -- the matches that are left where the rest begins at the place

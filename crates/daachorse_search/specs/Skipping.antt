@@ -1,5 +1,7 @@
 -- A search in a haystack that asks a filter of places: where the walk has read to, and where it began again.
-use Rattle.std.specs.Prelude.{◌≡◌, ℕ, ◌+◌, ◌*◌, ◌≤◌, ◌⊎◌, Bool, true, List, [], ◌++◌, map, length}
+use Rattle.std.specs.Prelude.{◌≡◌, ℕ, ◌+◌, ◌*◌, ◌≤◌, ◌⊎◌, Bool, true, List, [], ◌++◌, map, length, Option, Some, None}
+use Rattle.std.specs.declared.num.NonZeroU32.{NonZeroU32}
+use Rattle.daachorse_core.specs.Outputs.{number}
 use Rattle.daachorse_model.specs.declared.Match.{Match}
 use Rattle.daachorse_model.specs.Units.{size}
 use Rattle.daachorse_model.specs.Dictionary.{Dictionary}
@@ -12,6 +14,11 @@ use Rattle.daachorse_search.specs.Sources.{past_each_end}
 -- the matches that are left where a walk began behind the units before `read ++ rest`, and has read `read`
 abbrev pub matches_behind : {V : Type 0} → (ℕ → ℕ) → (List ℕ → List (Match V)) → List ℕ → List (Match V) → List ℕ → List ℕ → List (Match V)
 matches_behind width found whole pending read rest = map (shifted (size width (before_rest whole (read ++ rest)))) (matches_left found pending read rest)
+
+-- the position of the next output to give: of the first of all, where that is still to give
+abbrev pub next_position : Option NonZeroU32 → Option NonZeroU32 → ℕ
+next_position (Some first) output = first.value
+next_position None output = number output
 
 -- nothing is left, or an open filter passes nowhere in what is left, of which nothing was read
 abbrev pub HasNoPlace : (List ℕ → Bool) → Type 0 → List ℕ → List ℕ → Type 0
@@ -29,6 +36,11 @@ module _ {V A W : Type 0} (width : ℕ → ℕ) (automaton : W → A) (text : W 
     pub single : ends_at_once (automaton from) → taken ≤ before + length gap
     pub least : before + count_passing passes (looks_at (automaton from)) (text from ++ rest) gap ≤ taken
     pub plain : ((w : List ℕ) → passes w ≡ true) → (gap ≡ []) × (taken ≡ before)
+
+  -- A walk came to the next output: to the first of all, where that was still to give, and else by reading on.
+  abbrev pub ComesTo : Option NonZeroU32 → W → List ℕ → ℕ → ℕ → List (Match V) → W → List ℕ → ℕ → Type 0
+  ComesTo (Some first) from rest before position matches to later taken = (position ≡ first.value) × (to ≡ from) × (later ≡ rest) × (taken ≡ before)
+  ComesTo None from rest before position matches to later taken = SkipsTo from rest before matches to later taken
 
 module _ {V : Type 0} (width : ℕ → ℕ) (K : Dictionary V) (has_output : ℕ → Type 0) (looks_at : ℕ → Bool) (ends_at_once : Type 0) (passes : List ℕ → Bool) (asked : Type 0) where
   -- Between two calls: the next output to give stands at the position, and the walk began behind `base`, up to where it took `before` turns. It asks a filter that passes by `passes`, where `asked` says that it was open at the beginning, and `opened` that it is.

@@ -202,6 +202,8 @@ impl<V: Copy, A: Automaton<V>> Stepwise<V> for FindWalk<V, A> {
         self.walk.turns_are_bounded();
     }
 
+    ghost everywhere_keyed = { λ s keyed. keyed };
+
     ghost no_output = { λ s. (HasPlace-none A.Unit.width (A.sees s.automaton) s.seen (A.no_output s.automaton), first_from-none A.Unit.width (A.sees s.automaton) s.seen (A.no_output s.automaton)) };
 }
 

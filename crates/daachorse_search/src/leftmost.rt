@@ -46,8 +46,8 @@ pub struct LeftmostMatches<
     whole: Snapshot<H>,
     // The haystack from where the search goes on.
     rest: H,
-    // Where that is, in bytes.
-    place: usize,
+    // How many bytes the whole haystack has: the search goes on where the rest begins.
+    size: usize,
     // Whether a nonempty match ends there.
     after: bool,
     // Whether the search is over.
@@ -61,7 +61,7 @@ impl<V: Copy, A: Automaton<V>, H: Reread<A::Unit>, F: Filter<A::Unit, H>> Model
     for LeftmostMatches<V, A, H, F> {
     ghost use Rattle.std.specs.Prelude.{◌≡◌, ℕ, List, []};
     ghost use Rattle.daachorse_search.specs.Matches.{Progress};
-    ghost use Rattle.daachorse_search.specs.LeftmostSearches.{before_rest, leftmost_left, IsResting};
+    ghost use Rattle.daachorse_search.specs.LeftmostSearches.{before_rest, leftmost_left, place_at, IsResting, Spans};
 
     ghost Value = { Progress V A F };
 
@@ -69,7 +69,7 @@ impl<V: Copy, A: Automaton<V>, H: Reread<A::Unit>, F: Filter<A::Unit, H>> Model
       automaton = s.automaton;
       filter = s.first_filter.value;
       haystack = H.rest s.whole.value;
-      left = leftmost_left A.Unit.width (A.sees s.automaton).content s.place (H.rest s.rest) s.after s.done;
+      left = leftmost_left A.Unit.width (A.sees s.automaton).content (place_at A.Unit.width s.size (H.rest s.rest)) (H.rest s.rest) s.after s.done;
       passed = before_rest (H.rest s.whole.value) (H.rest s.rest);
       since = [];
       turns = s.turns;
@@ -78,7 +78,8 @@ impl<V: Copy, A: Automaton<V>, H: Reread<A::Unit>, F: Filter<A::Unit, H>> Model
 
     ghost invariant = { λ s. ((w : List ℕ) → F.passes s.filter w ≡ F.passes s.first_filter.value w)
         × IsResting A.Unit.width (A.sees s.automaton) (F.passes s.first_filter.value) (F.opened s.first_filter.value)
-        (F.opened s.filter) (H.rest s.whole.value) (H.rest s.rest) s.place s.after s.done s.turns s.seen.given };
+        (F.opened s.filter) (H.rest s.whole.value) (H.rest s.rest) (place_at A.Unit.width s.size (H.rest s.rest)) s.after s.done s.turns s.seen.given
+        × Spans A.Unit.width s.size (H.rest s.whole.value) };
 }
 
 impl<V: Copy, A: Automaton<V>, H: Reread<A::Unit>> LeftmostMatches<V, A, H, NoFilter> {
@@ -118,13 +119,14 @@ impl<V: Copy, A: Automaton<V>, H: Reread<A::Unit>, F: Filter<A::Unit, H>> Leftmo
         ensures turns { result.turns ≡ 0 }
         ensures given { result.given ≡ 0 }
     {
+        let size = haystack.left();
         LeftmostMatches {
             automaton,
             first_filter: Snapshot::of(&filter),
             filter,
             whole: Snapshot::of(&haystack),
             rest: haystack,
-            place: 0,
+            size,
             after: false,
             done: false,
             turns: Turns::new(),
@@ -147,7 +149,7 @@ impl<V: Copy, A: Automaton<V>, H: Reread<A::Unit>, F: Filter<A::Unit, H>> Leftmo
         ensures idle { F.opened self.now.filter → PassesNowhere (F.passes self.now.filter) self.now.haystack → self.now.turns ≡ 0 }
         ensures passed { (rest : List ℕ) × (self.now.haystack ≡ self.now.passed ++ rest) }
     {
-        let _ = &self.place;
+        let _ = &self.size;
     }
 
     /// Does the work of `next`. It is compiled by itself for a folded haystack, which `FOLDED` names and changes
@@ -160,21 +162,20 @@ impl<V: Copy, A: Automaton<V>, H: Reread<A::Unit>, F: Filter<A::Unit, H>> Leftmo
             if self.done {
                 return None;
             }
-            let may_stop = skip_places(&mut self.filter, &mut self.rest, &mut self.place);
+            let may_stop = skip_places(&mut self.filter, &mut self.rest);
             let turns = &mut self.turns;
             match scan_best::<V, A, H, FOLDED>(&self.automaton, &self.rest, may_stop, turns) {
                 Scanned::Clear(end) => {
                     self.rest = self.rest.after(end);
-                    self.place += end;
                     self.done = self.rest.left() == 0;
                 }
                 Scanned::Best(found) => {
                     let output = self.automaton.output(found.position);
-                    let best = output.to_match(self.place + found.end);
+                    let place = self.size - self.rest.left();
+                    let best = output.to_match(place + found.end);
                     // An empty match ends where the scan began, and any other behind it.
                     if found.end > 0 {
                         self.rest = self.rest.after(found.end);
-                        self.place += found.end;
                         self.after = true;
                         self.seen.give();
                         return Some(best);
@@ -182,7 +183,7 @@ impl<V: Copy, A: Automaton<V>, H: Reread<A::Unit>, F: Filter<A::Unit, H>> Leftmo
                     // An empty match right after a nonempty one is passed over.
                     let passed_over = self.after;
                     self.after = false;
-                    self.done = skip_unit(&mut self.rest, &mut self.place);
+                    self.done = skip_unit(&mut self.rest);
                     if !passed_over {
                         self.seen.give();
                         return Some(best);
@@ -215,33 +216,21 @@ impl<V: Copy, A: Automaton<V>, H: Reread<A::Unit>, F: Filter<A::Unit, H>> Iterat
 
 /// Moves on to the first place that passes, if the filter is open, and answers whether it is.
 #[inline(always)]
-fn skip_places<U: EdgeLabel, H: Reread<U>, F: Filter<U, H>>(
-    filter: &mut F,
-    rest: &mut H,
-    place: &mut usize,
-) -> bool
-    requires { place.old + size U.width (H.rest rest.old) < 2 ^ 64 }
+fn skip_places<U: EdgeLabel, H: Reread<U>, F: Filter<U, H>>(filter: &mut F, rest: &mut H) -> bool
     ensures passes { (w : List ℕ) → F.passes filter.new w ≡ F.passes filter.old w }
-    ensures skipped { IsSkipped U.width (F.passes filter.old) (F.opened filter.old) (H.rest rest.old) place.old (H.rest rest.new) place.new }
+    ensures skipped { IsSkipped (F.passes filter.old) (F.opened filter.old) (H.rest rest.old) (H.rest rest.new) }
 {
     if !filter.is_open() {
         return false;
     }
-    let before = rest.left();
     filter.skip(rest);
-    *place += before - rest.left();
     true
 }
 
 /// Takes one unit off the haystack, and answers whether there was none.
 #[inline(always)]
-fn skip_unit<U: EdgeLabel, H: Reread<U>>(rest: &mut H, place: &mut usize) -> bool
-    requires { place.old + size U.width (H.rest rest.old) < 2 ^ 64 }
-    ensures { SkipsUnit U.width (H.rest rest.old) place.old (H.rest rest.new) place.new result }
+fn skip_unit<U: EdgeLabel, H: Reread<U>>(rest: &mut H) -> bool
+    ensures { SkipsUnit (H.rest rest.old) (H.rest rest.new) result }
 {
-    let Some(unit) = rest.next() else {
-        return true;
-    };
-    *place += unit.num_bytes();
-    false
+    rest.next().is_none()
 }

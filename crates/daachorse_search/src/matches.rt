@@ -7,13 +7,13 @@
 //! Where nothing is pending and the walk stands at the root, a filter that is open moves the haystack
 //! on, and the walk begins again there. No match depends on it.
 
-ghost use Rattle.std.specs.Prelude.{◌≡◌, ◌+◌, ◌*◌, ◌^◌, ◌<◌, ◌≤◌, ◌++◌, ℕ, true, IfNone, IsTrue, List, [], length};
+ghost use Rattle.std.specs.Prelude.{◌≡◌, ◌+◌, ◌*◌, ◌^◌, ◌<◌, ◌≤◌, ◌++◌, ℕ, true, IfNone, IfSome, None, IsTrue, List, [], length};
 ghost use Rattle.daachorse_core.specs.Outputs.{number};
 ghost use Rattle.daachorse_model.specs.Units.{size};
 ghost use Rattle.daachorse_model.specs.Matches.{at_each_end};
 ghost use Rattle.daachorse_search.specs.Filters.{IsSoundFor, PassesNowhere, count_passing};
 ghost use Rattle.daachorse_search.specs.Matches.{AreBoundedBehind, ReadsOn};
-ghost use Rattle.daachorse_search.specs.Skipping.{HasNoPlace, SkipsTo};
+ghost use Rattle.daachorse_search.specs.Skipping.{next_position, ComesTo, HasNoPlace, SkipsTo};
 
 use crate::filter::{Filter, NoFilter};
 use crate::haystack::{Haystack, Reread};
@@ -41,6 +41,10 @@ pub struct Matches<V: Copy, W: Stepwise<V>, H: Reread<W::Unit>, F: Filter<W::Uni
     size: usize,
     // The next output to give there.
     output: Option<NonZeroU32>,
+    // The first of all to give, at the beginning, where there is something to give behind each unit. It stands apart
+    // from `output`, so that in a search which gives one match at an end, and finds none of an empty key, the compiler
+    // knows that none is left there, and a call begins by reading.
+    first: Option<NonZeroU32>,
     // The walk has it too. It stands here so that a field's type names what it borrows; no search
     // reads it.
     automaton: W::Automaton,
@@ -53,11 +57,10 @@ pub struct Matches<V: Copy, W: Stepwise<V>, H: Reread<W::Unit>, F: Filter<W::Uni
 
 impl<V: Copy, W: Stepwise<V>, H: Reread<W::Unit>, F: Filter<W::Unit, H>> Model
     for Matches<V, W, H, F> {
-    ghost use Rattle.std.specs.Prelude.{◌≡◌, ◌+◌, ◌++◌, ℕ, List};
-    ghost use Rattle.daachorse_core.specs.Outputs.{number};
+    ghost use Rattle.std.specs.Prelude.{◌≡◌, ◌+◌, ◌++◌, ℕ, List, IfSome, None};
     ghost use Rattle.daachorse_search.specs.LeftmostSearches.{before_rest};
     ghost use Rattle.daachorse_search.specs.Matches.{Progress};
-    ghost use Rattle.daachorse_search.specs.Skipping.{matches_behind, IsReading};
+    ghost use Rattle.daachorse_search.specs.Skipping.{matches_behind, next_position, IsReading};
 
     ghost Value = { Progress V W.Automaton F };
 
@@ -65,7 +68,7 @@ impl<V: Copy, W: Stepwise<V>, H: Reread<W::Unit>, F: Filter<W::Unit, H>> Model
       automaton = W.automaton s.walk;
       filter = s.first_filter.value;
       haystack = H.rest s.whole.value;
-      left = matches_behind W.Unit.width (W.found (W.automaton s.walk)) (H.rest s.whole.value) (W.given_from s.walk (number s.output)) (W.read s.walk) (H.rest s.rest);
+      left = matches_behind W.Unit.width (W.found (W.automaton s.walk)) (H.rest s.whole.value) (W.given_from s.walk (next_position s.first s.output)) (W.read s.walk) (H.rest s.rest);
       passed = before_rest (H.rest s.whole.value) (H.rest s.rest);
       since = W.read s.walk;
       turns = s.taken + W.turns s.walk;
@@ -74,7 +77,8 @@ impl<V: Copy, W: Stepwise<V>, H: Reread<W::Unit>, F: Filter<W::Unit, H>> Model
 
     ghost invariant = { λ s. ((w : List ℕ) → F.passes s.filter w ≡ F.passes s.first_filter.value w)
         × IsReading W.Unit.width (W.content (W.automaton s.walk)) (W.has_output s.walk) (W.looks_at (W.automaton s.walk)) (W.ends_at_once (W.automaton s.walk)) (F.passes s.first_filter.value) (F.opened s.first_filter.value)
-        (F.opened s.filter) (H.rest s.whole.value) (W.read s.walk) (H.rest s.rest) (number s.output) s.size s.taken (W.turns s.walk) };
+        (F.opened s.filter) (H.rest s.whole.value) (W.read s.walk) (H.rest s.rest) (next_position s.first s.output) s.size s.taken (W.turns s.walk)
+        × IfSome s.first (λ _. W.everywhere s.walk × (s.output ≡ None)) };
 }
 
 impl<V: Copy, W: Stepwise<V>, H: Reread<W::Unit>> Matches<V, W, H, NoFilter> {
@@ -111,7 +115,7 @@ impl<V: Copy, W: Stepwise<V>, H: Reread<W::Unit>, F: Filter<W::Unit, H>> Matches
     {
         walk.turns_are_bounded();
         let size = haystack.left();
-        let output = walk.begin();
+        let (first, output) = place_first(&walk);
         let automaton = walk.walked();
         Matches {
             walk,
@@ -121,6 +125,7 @@ impl<V: Copy, W: Stepwise<V>, H: Reread<W::Unit>, F: Filter<W::Unit, H>> Matches
             rest: haystack,
             size,
             output,
+            first,
             automaton,
             taken: Turns::new(),
             seen: Seen::new(),
@@ -168,6 +173,7 @@ impl<V: Copy, W: Stepwise<V>, H: Reread<W::Unit>, F: Filter<W::Unit, H>> Iterato
                 &mut self.taken,
                 &mut self.rest,
                 &mut self.filter,
+                &mut self.first,
             )?,
         };
         let place = self.size - self.rest.left();
@@ -178,11 +184,58 @@ impl<V: Copy, W: Stepwise<V>, H: Reread<W::Unit>, F: Filter<W::Unit, H>> Iterato
     }
 }
 
+/// The first output at the beginning of a haystack: in the first place where there is something to give behind
+/// each unit, and elsewhere in the second.
+#[inline(always)]
+fn place_first<V: Copy, W: Stepwise<V>>(walk: &W) -> (Option<NonZeroU32>, Option<NonZeroU32>)
+    requires { W.read walk.now ≡ [] }
+    ensures stops { W.found (W.automaton walk.now) (W.read walk.now) ≡ W.given_from walk.now (next_position result.0 result.1) }
+    ensures place { W.has_output walk.now (next_position result.0 result.1) }
+    ensures apart { IfSome result.0 (λ _. W.everywhere walk.now × (result.1 ≡ None)) }
+{
+    let output = walk.begin();
+    if walk.finds_everywhere() {
+        return (output, None);
+    }
+    (None, output)
+}
+
+/// Where no output is left to give, comes to the next: to the first of all, which it takes out of `first`, or by
+/// reading on. It answers its position; `None` where the haystack ends first.
+#[inline(always)]
+fn go_on<V: Copy, W: Stepwise<V>, H: Reread<W::Unit>, F: Filter<W::Unit, H>>(
+    walk: &mut W,
+    taken: &mut Turns,
+    rest: &mut H,
+    filter: &mut F,
+    first: &mut Option<NonZeroU32>,
+) -> Option<NonZeroU32>
+    requires sound { IsSoundFor (F.passes filter.old) (W.content (W.automaton walk.old)) }
+    requires apart { IfSome first.old (λ _. W.everywhere walk.old) }
+    requires place { W.has_output walk.old (number first.old) }
+    ensures passes { (w : List ℕ) → F.passes filter.new w ≡ F.passes filter.old w }
+    ensures comes { ComesTo W.Unit.width W.automaton W.read W.found W.looks_at W.ends_at_once (F.passes filter.old) first.old walk.old (H.rest rest.old) taken.old (number result) (W.given_from walk.new (number result)) walk.new (H.rest rest.new) taken.new }
+    ensures output { W.has_output walk.new (number result) }
+    ensures ended { IfNone result (H.rest rest.new ≡ []) }
+    ensures idle { IfNone first.old (HasNoPlace (F.passes filter.old) (F.opened filter.old) (W.read walk.old) (H.rest rest.old)
+        → (taken.new + W.turns walk.new ≡ taken.old + W.turns walk.old) × (H.rest rest.new ≡ [])) }
+    ensures kept { IfSome first.old (λ _. filter.new ≡ filter.old) }
+    ensures first { first.new ≡ None }
+{
+    if walk.finds_everywhere() {
+        return match first.take() {
+            Some(position) => Some(position),
+            None => pass_one(walk, rest),
+        };
+    }
+    read_past(walk, taken, rest, filter)
+}
+
 /// Reads on until there is something to give, past what a filter that is open passes over, and
 /// answers the position of the first output; `None` where the haystack ends first. The filter is asked at
 /// the root, until it closes.
 #[inline(always)]
-fn go_on<V: Copy, W: Stepwise<V>, H: Reread<W::Unit>, F: Filter<W::Unit, H>>(
+fn read_past<V: Copy, W: Stepwise<V>, H: Reread<W::Unit>, F: Filter<W::Unit, H>>(
     walk: &mut W,
     taken: &mut Turns,
     rest: &mut H,
@@ -247,9 +300,6 @@ fn read_on<V: Copy, W: Stepwise<V>, H: Haystack<W::Unit>>(
 ) -> Option<NonZeroU32>
     ensures { ReadsOn W.automaton W.read W.found W.has_output W.given_from walk.old (H.rest rest.old) result walk.new (H.rest rest.new) }
 {
-    if walk.finds_everywhere() {
-        return pass_one(walk, rest);
-    }
     // It is asked ahead of the loop, so that the loop is compiled for each answer and asks no more. Two calls of one
     // function would be joined again.
     if !rest.is_folded() {
@@ -258,7 +308,7 @@ fn read_on<V: Copy, W: Stepwise<V>, H: Haystack<W::Unit>>(
     read_units::<V, W, H, true>(walk, rest)
 }
 
-/// Does the work of [`read_on`] where there is something to give behind each unit: it reads one.
+/// Does the work of [`read_on`] where there is something to give behind each unit: it reads one, with no look.
 #[inline(always)]
 fn pass_one<V: Copy, W: Stepwise<V>, H: Haystack<W::Unit>>(
     walk: &mut W,

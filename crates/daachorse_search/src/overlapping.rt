@@ -135,6 +135,8 @@ impl<V: Copy, A: Automaton<V>> Stepwise<V> for OverlappingWalk<V, A> {
 
     ghost everywhere = { λ _. ⊥ };
 
+    ghost everywhere_keyed = { λ s never. absurd never };
+
     ghost looks_at = { λ a. (A.sees a).has_label };
 
     ghost ends_at_once = { λ a. (A.sees a).ends_at_once };
@@ -261,6 +263,8 @@ impl<V: Copy, A: Automaton<V>> Stepwise<V> for NoSuffixWalk<V, A> {
     ghost no_output = { λ s. (HasPlace-none A.Unit.width (A.sees s.automaton) s.seen (A.no_output s.automaton), first_from-none A.Unit.width (A.sees s.automaton) s.seen (A.no_output s.automaton)) };
 
     ghost everywhere = { λ _. ⊥ };
+
+    ghost everywhere_keyed = { λ s never. absurd never };
 
     ghost looks_at = { λ a. (A.sees a).has_label };
 

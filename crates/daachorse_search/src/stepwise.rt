@@ -3,7 +3,7 @@
 //! The layers above may rely on a search that is [`Stepwise`] telling, with each unit, all that it
 //! has to give at the end of what it read: no more, no less, and in order.
 
-ghost use Rattle.std.specs.Prelude.{◌≡◌, ◌+◌, ◌*◌, ◌≤◌, ◌<◌, ◌^◌, ℕ, Bool, List, [], ◌∷◌, ◌++◌, IfSome, IsSome, IsTrue, count_by, length, map};
+ghost use Rattle.std.specs.Prelude.{◌≡◌, ◌≢◌, ◌↔◌, ◌+◌, ◌*◌, ◌≤◌, ◌<◌, ◌^◌, ℕ, Bool, List, [], ◌∷◌, ◌++◌, IfSome, IsSome, IsTrue, count_by, length, map};
 ghost use Rattle.std.specs.Bool.{OnTrue};
 ghost use Rattle.daachorse_model.specs.declared.Match.{Match};
 ghost use Rattle.daachorse_model.specs.Dictionary.{Dictionary};
@@ -74,7 +74,7 @@ pub trait Stepwise<V: Copy>: Drop {
     /// Whether there is something to give behind each unit with no look, as where a key is empty and
     /// matches do not overlap. Whoever reads on may ask once, ahead of a loop.
     fn finds_everywhere(&self) -> bool
-        ensures { IsTrue result → everywhere self.now };
+        ensures { IsTrue result ↔ everywhere self.now };
 
     /// Passes one unit with no look, where there is something to give behind each, and answers the position of
     /// the first output behind it. Elsewhere it does nothing, and answers `None`.
@@ -117,6 +117,9 @@ pub trait Stepwise<V: Copy>: Drop {
         ensures most { turns self.now ≤ 2 * length (read self.now) }
         ensures single { ends_at_once (automaton self.now) → turns self.now ≤ length (read self.now) }
         ensures least { count_by (looks_at (automaton self.now)) (read self.now) ≤ turns self.now };
+
+    // That is so only where a key is empty.
+    ghost everywhere_keyed: { (s : Self) → everywhere s → content (automaton s) [] ≢ [] };
 
     // From position 0 on nothing is given.
     ghost no_output: { (s : Self) → has_output s 0 × (given_from s 0 ≡ []) };

@@ -1,14 +1,7 @@
 -- The place moves on with the haystack: by the size of what is skipped.
 use Rattle.std.proofs.Common.{◌≡◌, true, [], length, refl, ap, arith}
 use Rattle.std.proofs.lemmas.List.{length-append}
-use Rattle.daachorse_model.specs.Units.{size}
-use Rattle.daachorse_model.proofs.Suffixes.{size-append}
 use Rattle.daachorse_search.proofs.leftmost.skip_places.Goals as goal
-
-pub overflow_sub-place : goal.overflow_sub-place
-overflow_sub-place g c =
-    let width = g.U.EdgeLabel.width in let skip = c.skip.ensures.goes in let later = g.H.Haystack.rest c.skip.new.rest in
-    omega (arith, c.left.ensures, c.left-before.ensures, ap (size width) skip.parts, size-append width skip.front later)
 
 pub returns-clause-skipped : goal.returns-clause-skipped
 returns-clause-skipped g c =
@@ -17,7 +10,6 @@ returns-clause-skipped g c =
       front = skip.front;
       parts = skip.parts;
       none = skip.none;
-      ends = omega (arith, c.left.ensures, c.left-before.ensures, ap (size width) skip.parts, size-append width skip.front later);
       here = λ _. skip.here;
     }
 
@@ -28,6 +20,5 @@ returns-then-not-is_open-clause-skipped g c =
       front = [];
       parts = refl;
       none = λ front rest parts fewer. absurd (omega (arith, fewer, ap length parts, length-append front rest));
-      ends = omega arith;
       here = λ opened. (let open_now : c.is_open.result ≡ true = c.is_open.ensures.open opened in cc);
     }

@@ -1,5 +1,5 @@
 -- A search begins with its filter as it came, at the beginning of its haystack.
-use Rattle.std.proofs.Common.{inl, [], ap, sym, subst, arith}
+use Rattle.std.proofs.Common.{inl, [], ap, sym, ◌∙◌, subst, arith}
 use Rattle.daachorse_model.specs.Units.{size}
 use Rattle.daachorse_search.specs.Filters.{IsSoundFor}
 use Rattle.daachorse_search.proofs.leftmost.LeftmostMatches.with_filter.Goals as goal
@@ -15,11 +15,12 @@ invariant_of-result g c =
         sound = subst S (sym c.of.ensures) c.requires.sound;
         passed = [];
         parts = ap g.H.Haystack.rest c.of-2.ensures;
-        here = omega arith;
+        here = omega (arith, c.left-size.ensures);
         fits = omega (arith, c.requires.fits, ap (λ h. size g.A.Unit.EdgeLabel.width (g.H.Haystack.rest h)) c.of-2.ensures);
         ended = λ e. absurd (cc);
         most = λ m bound. omega (arith, c.new.ensures);
         least = omega arith;
         idle = λ was_open none. (c.new.ensures, inl (subst O c.of.ensures was_open));
       },
+      c.left-size.ensures ∙ ap (λ h. size g.A.Unit.EdgeLabel.width (g.H.Haystack.rest h)) (sym c.of-2.ensures),
     )

@@ -1,7 +1,7 @@
 -- The turns are those up to where the walk began, and those of the walk.
 use Rattle.std.proofs.Common.{◌≡◌, ◌+◌, ◌≤◌, ◌++◌, ℕ, true, List, length, refl, sym, ap, ◌∙◌, subst, append_assoc, arith}
 use Rattle.std.proofs.lemmas.Grind.{common_steps}
-use Rattle.daachorse_core.specs.Outputs.{number}
+use Rattle.daachorse_search.specs.Skipping.{next_position}
 use Rattle.daachorse_search.specs.Filters.{count_passing}
 use Rattle.daachorse_search.specs.Matches.{AreBoundedBehind, Progress}
 use Rattle.daachorse_search.proofs.SkipLaws.{passed_is, reading-bounded, reading-plain, reading-single}
@@ -11,13 +11,13 @@ pub returns-clause-passing : goal.returns-clause-passing
 returns-clause-passing g c =
     let W = g.W.Stepwise in let F = g.F.Filter in let rest = g.H.Haystack.rest in let i = c.self.inside in let walked = c.turns_are_bounded.ensures in
     let P : Progress g.row.V.Denot g.row.W-Automaton.Denot g.row.F.Denot → Type 0 = λ s. count_passing (F.passes s.filter) (W.looks_at s.automaton) s.haystack s.passed ≤ s.turns in
-    subst P c.self.view_is (reading-bounded g.W.Unit.EdgeLabel.width W.automaton W.read W.turns W.found W.content W.looks_at W.ends_at_once W.has_output W.given_from (F.passes i.first_filter.value) (F.opened i.first_filter.value) (rest i.whole.value) i.size (F.opened i.filter) i.walk (rest i.rest) (number i.output) i.taken c.self.invariant.1 walked.most walked.least).1
+    subst P c.self.view_is (reading-bounded g.W.Unit.EdgeLabel.width W.automaton W.read W.turns W.found W.content W.looks_at W.ends_at_once W.has_output W.given_from (F.passes i.first_filter.value) (F.opened i.first_filter.value) (rest i.whole.value) i.size (F.opened i.filter) i.walk (rest i.rest) (next_position i.first i.output) i.taken c.self.invariant.1 walked.most walked.least).1
 
 pub returns-clause-single : goal.returns-clause-single
 returns-clause-single g c =
     let W = g.W.Stepwise in let F = g.F.Filter in let rest = g.H.Haystack.rest in let i = c.self.inside in
     let P : Progress g.row.V.Denot g.row.W-Automaton.Denot g.row.F.Denot → Type 0 = λ s. W.ends_at_once s.automaton → s.turns ≤ length s.passed in
-    subst P c.self.view_is (reading-single g.W.Unit.EdgeLabel.width W.automaton W.read W.turns W.found W.content W.looks_at W.ends_at_once W.has_output W.given_from (F.passes i.first_filter.value) (F.opened i.first_filter.value) (rest i.whole.value) i.size (F.opened i.filter) i.walk (rest i.rest) (number i.output) i.taken c.self.invariant.1 c.turns_are_bounded.ensures.single)
+    subst P c.self.view_is (reading-single g.W.Unit.EdgeLabel.width W.automaton W.read W.turns W.found W.content W.looks_at W.ends_at_once W.has_output W.given_from (F.passes i.first_filter.value) (F.opened i.first_filter.value) (rest i.whole.value) i.size (F.opened i.filter) i.walk (rest i.rest) (next_position i.first i.output) i.taken c.self.invariant.1 c.turns_are_bounded.ensures.single)
 
 -- the walk began last behind the base
 pub returns-clause-behind : goal.returns-clause-behind
@@ -28,7 +28,7 @@ returns-clause-behind g c =
       base = was.base;
       before = i.taken;
       after = W.turns i.walk;
-      parts = passed_is g.W.Unit.EdgeLabel.width W.automaton W.read W.turns W.found W.content W.looks_at W.ends_at_once W.has_output W.given_from (F.passes i.first_filter.value) (F.opened i.first_filter.value) (rest i.whole.value) i.size (F.opened i.filter) i.walk (rest i.rest) (number i.output) i.taken was;
+      parts = passed_is g.W.Unit.EdgeLabel.width W.automaton W.read W.turns W.found W.content W.looks_at W.ends_at_once W.has_output W.given_from (F.passes i.first_filter.value) (F.opened i.first_filter.value) (rest i.whole.value) i.size (F.opened i.filter) i.walk (rest i.rest) (next_position i.first i.output) i.taken was;
       sum = refl;
       most = was.most;
       walked = c.turns_are_bounded.ensures.bounds;
@@ -42,7 +42,7 @@ returns-clause-bounds g c =
     let Q : List ℕ → Type 0 = λ x. W.bounds (W.automaton i.walk) x (i.taken + W.turns i.walk) in
     let R : ℕ → Type 0 = λ n. W.bounds (W.automaton i.walk) (W.read i.walk) n in
     subst P c.self.view_is (λ everywhere.
-    let plain = reading-plain g.W.Unit.EdgeLabel.width W.automaton W.read W.turns W.found W.content W.looks_at W.ends_at_once W.has_output W.given_from (F.passes i.first_filter.value) (F.opened i.first_filter.value) (rest i.whole.value) i.size (F.opened i.filter) i.walk (rest i.rest) (number i.output) i.taken c.self.invariant.1 everywhere in
+    let plain = reading-plain g.W.Unit.EdgeLabel.width W.automaton W.read W.turns W.found W.content W.looks_at W.ends_at_once W.has_output W.given_from (F.passes i.first_filter.value) (F.opened i.first_filter.value) (rest i.whole.value) i.size (F.opened i.filter) i.walk (rest i.rest) (next_position i.first i.output) i.taken c.self.invariant.1 everywhere in
     subst Q (sym plain.0) (subst R (sym plain.1) walked.bounds))
 
 -- what is left of the haystack comes after the units passed
@@ -53,7 +53,7 @@ returns-clause-passed g c =
     subst P c.self.view_is (
       rest i.rest,
       was.parts ∙ sym (append_assoc was.base (W.read i.walk) (rest i.rest))
-          ∙ ap (λ x. x ++ rest i.rest) (sym (passed_is g.W.Unit.EdgeLabel.width W.automaton W.read W.turns W.found W.content W.looks_at W.ends_at_once W.has_output W.given_from (F.passes i.first_filter.value) (F.opened i.first_filter.value) (rest i.whole.value) i.size (F.opened i.filter) i.walk (rest i.rest) (number i.output) i.taken c.self.invariant.1)),
+          ∙ ap (λ x. x ++ rest i.rest) (sym (passed_is g.W.Unit.EdgeLabel.width W.automaton W.read W.turns W.found W.content W.looks_at W.ends_at_once W.has_output W.given_from (F.passes i.first_filter.value) (F.opened i.first_filter.value) (rest i.whole.value) i.size (F.opened i.filter) i.walk (rest i.rest) (next_position i.first i.output) i.taken c.self.invariant.1)),
     )
 
 pub returns-clause-most : goal.returns-clause-most

@@ -1,6 +1,6 @@
 -- A call comes to the next output, by going on where none is pending, and gives its match; what is left begins with it.
 use Rattle.std.proofs.Common.{◌≡◌, ◌+◌, ◌-◌, ◌∷◌, ℕ, List, [], length, Option, Some, None, refl, sym, ap, ◌∙◌, subst, arith}
-use Rattle.std.specs.Prelude.{IfNone}
+use Rattle.std.specs.Prelude.{IfNone, IfSome}
 use Rattle.std.specs.declared.num.NonZeroU32.{NonZeroU32}
 use Rattle.daachorse_core.specs.Outputs.{number}
 use Rattle.daachorse_core.specs.Seen.{SeenUnits}
@@ -9,7 +9,7 @@ use Rattle.daachorse_model.specs.Units.{size}
 use Rattle.daachorse_search.specs.declared.matches.Matches.TheInside.{Inside}
 use Rattle.daachorse_search.specs.LeftmostSearches.{before_rest}
 use Rattle.daachorse_search.specs.Matches.{Progress, GaveMatch, GaveNone, GivesFirst, StandsAtEnd}
-use Rattle.daachorse_search.specs.Skipping.{HasNoPlace, SkipsTo}
+use Rattle.daachorse_search.specs.Skipping.{next_position, ComesTo, HasNoPlace}
 use Rattle.daachorse_search.proofs.SkipLaws.{SkipsTo-places, no_place_on, reading, left_of, reading-on, reading-gives, reading-ended, place_is}
 use Rattle.daachorse_search.proofs.matches.MatchesIterator.next.Given as given
 use Rattle.daachorse_search.proofs.matches.MatchesIterator.next.Goals as goal
@@ -35,32 +35,60 @@ record Came (g : given.Over) (was now : Ins g) (position : ℕ) : Type 0 where
   whole : now.whole ≡ was.whole
   seen : now.seen ≡ was.seen
   automaton : g.W.Stepwise.automaton now.walk ≡ g.W.Stepwise.automaton was.walk
+  none : now.first ≡ None
   stands : standing g now position
-  left : left_at g was (number was.output) ≡ left_at g now position
+  left : left_at g was (next_position was.first was.output) ≡ left_at g now position
 
--- none was pending, and the search went on
-went_on : (g : given.Over) (was : Ins g) (walk : g.row.W.Denot) (later : g.row.H.Denot) (taken position : ℕ) (filter : g.row.F.Denot) → standing g was (number was.output) → was.output ≡ None
+-- the next output to give, where it is known what stands first
+next_is : (first output known : Option NonZeroU32) → first ≡ known → next_position first output ≡ next_position known output
+next_is first output known is = ap (λ f. next_position f output) is
+
+-- where an output is pending, none stands apart
+none_apart : (E : Type 0) (first output : Option NonZeroU32) (q : NonZeroU32) → IfSome first (λ _. E × (output ≡ None)) → output ≡ Some q → first ≡ None
+none_apart E None output q apart some = refl
+none_apart E (Some first) output q apart some = (let bad : Some q ≡ None = sym some ∙ apart.1 in cc)
+
+apart_none : (first : Option NonZeroU32) (E : Type 0) → first ≡ None → IfSome first (λ _. E)
+apart_none first E none = let P : Option NonZeroU32 → Type 0 = λ f. IfSome f (λ _. E) in subst P (sym none) tt
+
+-- none was pending, and the search came to the first of all, or went on
+went_on : (g : given.Over) (was : Ins g) (known : Option NonZeroU32) (walk : g.row.W.Denot) (later : g.row.H.Denot) (taken position : ℕ) (filter : g.row.F.Denot) (first : Option NonZeroU32) → standing g was (next_position was.first was.output) → was.output ≡ None → was.first ≡ known → first ≡ None
     → ((w : List ℕ) → g.F.Filter.passes filter w ≡ g.F.Filter.passes was.filter w)
-    → SkipsTo g.W.Unit.EdgeLabel.width g.W.Stepwise.automaton g.W.Stepwise.read g.W.Stepwise.found g.W.Stepwise.looks_at g.W.Stepwise.ends_at_once (g.F.Filter.passes was.filter) was.walk (g.H.Haystack.rest was.rest) was.taken (g.W.Stepwise.given_from walk position) walk (g.H.Haystack.rest later) taken
+    → ComesTo g.W.Unit.EdgeLabel.width g.W.Stepwise.automaton g.W.Stepwise.read g.W.Stepwise.found g.W.Stepwise.looks_at g.W.Stepwise.ends_at_once (g.F.Filter.passes was.filter) known was.walk (g.H.Haystack.rest was.rest) was.taken position (g.W.Stepwise.given_from walk position) walk (g.H.Haystack.rest later) taken
     → g.W.Stepwise.has_output walk position
-    → (HasNoPlace (g.F.Filter.passes was.filter) (g.F.Filter.opened was.filter) (g.W.Stepwise.read was.walk) (g.H.Haystack.rest was.rest) → (taken + g.W.Stepwise.turns walk ≡ was.taken + g.W.Stepwise.turns was.walk) × (g.H.Haystack.rest later ≡ []))
-    → Came g was (record was { walk = walk; taken = taken; rest = later; filter = filter }) position
-went_on g was walk later taken position filter stands pending places reads output idle =
-    let W = g.W.Stepwise in let F = g.F.Filter in let rest = g.H.Haystack.rest in let first = F.passes was.first_filter.value in
-    let zero : number was.output ≡ 0 = ap number pending in
-    let R : ℕ → Type 0 = λ n. reading g.W.Unit.EdgeLabel.width W.automaton W.read W.turns W.found W.content W.looks_at W.ends_at_once W.has_output W.given_from (F.passes was.first_filter.value) (F.opened was.first_filter.value) (rest was.whole.value) was.size (F.opened was.filter) was.walk (rest was.rest) n was.taken in
-    let on = reading-on g.W.Unit.EdgeLabel.width W.automaton W.read W.turns W.found W.content W.looks_at W.ends_at_once W.has_output W.given_from (F.passes was.first_filter.value) (F.opened was.first_filter.value) (rest was.whole.value) was.size (F.opened was.filter) (F.opened filter) was.walk (rest was.rest) was.taken walk (rest later) taken position (subst R zero stands.1) (g.met.W.Stepwise.no_output was.walk).1
-    (SkipsTo-places g.W.Unit.EdgeLabel.width W.automaton W.read W.turns W.found W.content W.looks_at W.ends_at_once first (F.passes was.filter) was.walk (rest was.rest) was.taken (W.given_from walk position) walk (rest later) taken stands.0 reads) output
-    (λ none. idle (no_place_on first (F.passes was.filter) (F.opened was.filter) (W.read was.walk) (rest was.rest) stands.0 none)) in
-    record { filter = refl; whole = refl; seen = refl; automaton = reads.same; stands = (λ w. places w ∙ stands.0 w, on.0); left = ap (left_at g was) zero ∙ on.1 }
+    → IfNone known (HasNoPlace (g.F.Filter.passes was.filter) (g.F.Filter.opened was.filter) (g.W.Stepwise.read was.walk) (g.H.Haystack.rest was.rest) → (taken + g.W.Stepwise.turns walk ≡ was.taken + g.W.Stepwise.turns was.walk) × (g.H.Haystack.rest later ≡ []))
+    → IfSome known (λ _. filter ≡ was.filter)
+    → Came g was (record was { walk = walk; taken = taken; rest = later; filter = filter; first = first }) position
+went_on g was None walk later taken position filter first stands pending is none places reads output idle kept =
+    let W = g.W.Stepwise in let F = g.F.Filter in let rest = g.H.Haystack.rest in let begun = F.passes was.first_filter.value in
+    let zero : next_position was.first was.output ≡ 0 = next_is was.first was.output None is ∙ ap number pending in
+    let R : ℕ → Type 0 = λ n. reading g.W.Unit.EdgeLabel.width W.automaton W.read W.turns W.found W.content W.looks_at W.ends_at_once W.has_output W.given_from begun (F.opened was.first_filter.value) (rest was.whole.value) was.size (F.opened was.filter) was.walk (rest was.rest) n was.taken in
+    let on = reading-on g.W.Unit.EdgeLabel.width W.automaton W.read W.turns W.found W.content W.looks_at W.ends_at_once W.has_output W.given_from begun (F.opened was.first_filter.value) (rest was.whole.value) was.size (F.opened was.filter) (F.opened filter) was.walk (rest was.rest) was.taken walk (rest later) taken position (subst R zero stands.1) (g.met.W.Stepwise.no_output was.walk).1
+    (SkipsTo-places g.W.Unit.EdgeLabel.width W.automaton W.read W.turns W.found W.content W.looks_at W.ends_at_once begun (F.passes was.filter) was.walk (rest was.rest) was.taken (W.given_from walk position) walk (rest later) taken stands.0 reads) output
+    (λ nowhere. idle (no_place_on begun (F.passes was.filter) (F.opened was.filter) (W.read was.walk) (rest was.rest) stands.0 nowhere)) in
+    record { filter = refl; whole = refl; seen = refl; automaton = reads.same; none = none; stands = (λ w. places w ∙ stands.0 w, on.0); left = ap (left_at g was) zero ∙ on.1 }
+went_on g was (Some p) walk later taken position filter first stands pending is none places reads output idle kept =
+    let W = g.W.Stepwise in let F = g.F.Filter in let rest = g.H.Haystack.rest in let begun = F.passes was.first_filter.value in
+    let here : next_position was.first was.output ≡ position = next_is was.first was.output (Some p) is ∙ sym reads.0 in
+    let R : g.row.F.Denot → g.row.W.Denot → List ℕ → ℕ → ℕ → Type 0 = λ f w l n t. reading g.W.Unit.EdgeLabel.width W.automaton W.read W.turns W.found W.content W.looks_at W.ends_at_once W.has_output W.given_from begun (F.opened was.first_filter.value) (rest was.whole.value) was.size (F.opened f) w l n t in
+    let L : g.row.W.Denot → List ℕ → ℕ → List (Match g.row.V.Denot) = λ w l n. left_of g.W.Unit.EdgeLabel.width W.automaton W.read W.turns W.found W.content W.looks_at W.ends_at_once W.has_output W.given_from begun (F.opened was.first_filter.value) (rest was.whole.value) was.size w l n in
+    record {
+      filter = refl;
+      whole = refl;
+      seen = refl;
+      automaton = ap W.automaton reads.1;
+      none = none;
+      stands = (λ w. places w ∙ stands.0 w, subst (λ f. R f walk (rest later) position taken) (sym kept) (subst (λ w. R was.filter w (rest later) position taken) (sym reads.1) (subst (λ l. R was.filter was.walk l position taken) (sym reads.2) (subst (λ t. R was.filter was.walk (rest was.rest) position t) (sym reads.3) (subst (λ n. R was.filter was.walk (rest was.rest) n was.taken) here stands.1)))));
+      left = ap (left_at g was) here ∙ ap (λ w. L w (rest was.rest) position) (sym reads.1) ∙ ap (λ l. L walk l position) (sym reads.2);
+    }
 
 -- one was pending
-pending_came : (g : given.Over) (was now : Ins g) (p q : NonZeroU32) → standing g was (number was.output) → was.output ≡ Some q → p ≡ q → now ≡ was → Came g was now p.value
-pending_came g was now p q stands pending same stays =
+pending_came : (g : given.Over) (was now : Ins g) (p q : NonZeroU32) → standing g was (next_position was.first was.output) → was.first ≡ None → was.output ≡ Some q → p ≡ q → now ≡ was → Came g was now p.value
+pending_came g was now p q stands none pending same stays =
     let P : Ins g → Type 0 = λ i. Came g was i p.value in
     let Q : NonZeroU32 → Type 0 = λ x. Came g was was x.value in
     let N : ℕ → Type 0 = λ n. Came g was was n in
-    subst P (sym stays) (subst Q (sym same) (subst N (ap number pending) (record { filter = refl; whole = refl; seen = refl; automaton = refl; stands = stands; left = refl })))
+    subst P (sym stays) (subst Q (sym same) (subst N (next_is was.first was.output None none ∙ ap number pending) (record { filter = refl; whole = refl; seen = refl; automaton = refl; none = none; stands = stands; left = refl })))
 
 same_came : (g : given.Over) (was after now : Ins g) (p q : NonZeroU32) → Came g was after q.value → p ≡ q → now ≡ after → Came g was now p.value
 same_came g was after now p q came same stays =
@@ -72,22 +100,22 @@ came : (g : given.Over) (c : goal.After-left g) → Came g c.self.inside c.match
 came g c =
     let was = c.self.inside in let now = c.match-self.self-inside in let p = c.match-self.position in
     elim c.match-self.branch [
-      | in-Some w ↦ pending_came g was now p w.in-Some.position c.self.invariant w.in-Some.is w.position-is w.self-inside-is
+      | in-Some w ↦ pending_came g was now p w.in-Some.position (c.self.invariant.0, c.self.invariant.1) (none_apart (g.W.Stepwise.everywhere was.walk) was.first was.output w.in-Some.position c.self.invariant.2 w.in-Some.is) w.in-Some.is w.position-is w.self-inside-is
       | in-None+in_ok-position-in-None w ↦
           let to = w.go_on.new in let found = w.in_ok-position-in-None in
-          same_came g was (record was { walk = to.walk; taken = to.taken; rest = to.rest; filter = to.filter }) now p found.position
-          (went_on g was to.walk to.rest to.taken found.position.value to.filter c.self.invariant w.in-None.is found.ensures.passes found.ensures.reads found.ensures.output found.ensures.idle) w.position-is w.self-inside-is
+          same_came g was (record was { walk = to.walk; taken = to.taken; rest = to.rest; filter = to.filter; first = to.first }) now p found.position
+          (went_on g was was.first to.walk to.rest to.taken found.position.value to.filter to.first (c.self.invariant.0, c.self.invariant.1) w.in-None.is refl found.ensures.first found.ensures.passes found.ensures.comes found.ensures.output found.ensures.idle found.ensures.kept) w.position-is w.self-inside-is
     ]
 
 came_on : (g : given.Over) (c : goal.After-give g) → Came g c.self.inside c.match-self.self-inside c.match-self.position.value
 came_on g c =
     let was = c.self.inside in let now = c.match-self.self-inside in let p = c.match-self.position in
     elim c.match-self.branch [
-      | in-Some w ↦ pending_came g was now p w.in-Some.position c.self.invariant w.in-Some.is w.position-is w.self-inside-is
+      | in-Some w ↦ pending_came g was now p w.in-Some.position (c.self.invariant.0, c.self.invariant.1) (none_apart (g.W.Stepwise.everywhere was.walk) was.first was.output w.in-Some.position c.self.invariant.2 w.in-Some.is) w.in-Some.is w.position-is w.self-inside-is
       | in-None+in_ok-position-in-None w ↦
           let to = w.go_on.new in let found = w.in_ok-position-in-None in
-          same_came g was (record was { walk = to.walk; taken = to.taken; rest = to.rest; filter = to.filter }) now p found.position
-          (went_on g was to.walk to.rest to.taken found.position.value to.filter c.self.invariant w.in-None.is found.ensures.passes found.ensures.reads found.ensures.output found.ensures.idle) w.position-is w.self-inside-is
+          same_came g was (record was { walk = to.walk; taken = to.taken; rest = to.rest; filter = to.filter; first = to.first }) now p found.position
+          (went_on g was was.first to.walk to.rest to.taken found.position.value to.filter to.first (c.self.invariant.0, c.self.invariant.1) w.in-None.is refl found.ensures.first found.ensures.passes found.ensures.comes found.ensures.output found.ensures.idle found.ensures.kept) w.position-is w.self-inside-is
     ]
 
 pub overflow_sub-place : goal.overflow_sub-place
@@ -107,18 +135,19 @@ give-found-requires-clause-output g c = (came g c).stands.1.output
 pub invariant_of-self : goal.invariant_of-self
 invariant_of-self g c =
     let was = c.self.inside in let to = c.go_on.new in let found = c.go_on.ensures in
-    let after : Ins g = record was { walk = to.walk; taken = to.taken; rest = to.rest; filter = to.filter } in
+    let after : Ins g = record was { walk = to.walk; taken = to.taken; rest = to.rest; filter = to.filter; first = to.first } in
     let P : ℕ → Type 0 = λ n. standing g after n in
-    let gone : Came g was after (number c.go_on.result) = went_on g was to.walk to.rest to.taken (number c.go_on.result) to.filter c.self.invariant c.in-None.is found.passes found.reads found.output found.idle in
-    subst P (ap number c.in_err-position-in-None.was ∙ sym (ap number c.in-None.is)) gone.stands
+    let gone : Came g was after (number c.go_on.result) = went_on g was was.first to.walk to.rest to.taken (number c.go_on.result) to.filter to.first (c.self.invariant.0, c.self.invariant.1) c.in-None.is refl found.first found.passes found.comes found.output found.idle found.kept in
+    let stands : standing g after (next_position to.first was.output) = subst P (ap number c.in_err-position-in-None.was ∙ sym (ap number c.in-None.is) ∙ sym (next_is to.first was.output None found.first)) gone.stands in
+    (stands.0, stands.1, apart_none to.first (g.W.Stepwise.everywhere to.walk × (was.output ≡ None)) found.first)
 
 pub returns-in_err-position-in-None-clause-steps : goal.returns-in_err-position-in-None-clause-steps
 returns-in_err-position-in-None-clause-steps g c =
     let W = g.W.Stepwise in let F = g.F.Filter in let rest = g.H.Haystack.rest in
     let was = c.self.inside in let to = c.go_on.new in let found = c.go_on.ensures in
-    let after : Ins g = record was { walk = to.walk; taken = to.taken; rest = to.rest; filter = to.filter } in
+    let after : Ins g = record was { walk = to.walk; taken = to.taken; rest = to.rest; filter = to.filter; first = to.first } in
     let C : ℕ → Type 0 = λ n. Came g was after n in
-    let gone : Came g was after 0 = subst C (ap number c.in_err-position-in-None.was) (went_on g was to.walk to.rest to.taken (number c.go_on.result) to.filter c.self.invariant c.in-None.is found.passes found.reads found.output found.idle) in
+    let gone : Came g was after 0 = subst C (ap number c.in_err-position-in-None.was) (went_on g was was.first to.walk to.rest to.taken (number c.go_on.result) to.filter to.first (c.self.invariant.0, c.self.invariant.1) c.in-None.is refl found.first found.passes found.comes found.output found.idle found.kept) in
     let E : Option NonZeroU32 → Type 0 = λ r. IfNone r (rest to.rest ≡ []) in
     let over : rest to.rest ≡ [] = subst E c.in_err-position-in-None.was found.ended in
     let ended = reading-ended g.W.Unit.EdgeLabel.width W.automaton W.read W.turns W.found W.content W.looks_at W.ends_at_once W.has_output W.given_from (F.passes after.first_filter.value) (F.opened after.first_filter.value) (rest after.whole.value) after.size (F.opened after.filter) to.walk (rest to.rest) to.taken gone.stands.1 (g.met.W.Stepwise.no_output to.walk).1 over in
@@ -126,7 +155,7 @@ returns-in_err-position-in-None-clause-steps g c =
       automaton = W.automaton to.walk;
       filter = was.first_filter.value;
       haystack = rest was.whole.value;
-      left = left_at g after (number was.output);
+      left = left_at g after (next_position to.first was.output);
       passed = before_rest (rest was.whole.value) (rest to.rest);
       since = W.read to.walk;
       turns = to.taken + W.turns to.walk;
@@ -138,7 +167,7 @@ returns-in_err-position-in-None-clause-steps g c =
       filter = refl;
       haystack = refl;
       none = gone.left ∙ ended.0;
-      still_none = ap (left_at g after) (ap number c.in-None.is) ∙ ended.0;
+      still_none = ap (left_at g after) (next_is to.first was.output None found.first ∙ ap number c.in-None.is) ∙ ended.0;
       counted = refl;
       all = ended.1;
     }) in
@@ -163,7 +192,10 @@ gives g c =
     ((stands.0, next.0), next.1, next.2)
 
 pub invariant_of-self-2 : goal.invariant_of-self-2
-invariant_of-self-2 g c = (gives g c).0
+invariant_of-self-2 g c =
+    let now = given_on g c in let none = (came_on g c).none in
+    let stands : standing g now (next_position now.first now.output) = subst (standing g now) (sym (next_is now.first now.output None none)) (gives g c).0 in
+    (stands.0, stands.1, apart_none now.first (g.W.Stepwise.everywhere now.walk × (now.output ≡ None)) none)
 
 -- what callers see then
 abbrev seen_on : (g : given.Over) (c : goal.After-give g) → Progress g.row.V.Denot g.row.W-Automaton.Denot g.row.F.Denot
@@ -173,7 +205,7 @@ seen_on g c =
       automaton = W.automaton now.walk;
       filter = now.first_filter.value;
       haystack = rest now.whole.value;
-      left = left_at g (given_on g c) (number c.give-found.result.1);
+      left = left_at g (given_on g c) (next_position now.first c.give-found.result.1);
       passed = before_rest (rest now.whole.value) (rest now.rest);
       since = W.read now.walk;
       turns = now.taken + W.turns now.walk;
@@ -188,7 +220,7 @@ gave g c =
       automaton = to.automaton;
       filter = ap (λ x. x.value) to.filter;
       haystack = ap (λ x. rest x.value) to.whole;
-      first = to.left ∙ next.1;
+      first = to.left ∙ next.1 ∙ ap (λ n. c.give-found.result.0 ∷ left_at g (given_on g c) n) (sym (next_is c.match-self.self-inside.first c.give-found.result.1 None to.none));
       counted = ap (λ (x : SeenUnits). x.given) c.give.ensures ∙ ap (λ (x : SeenUnits). x.given + 1) to.seen;
       behind = next.2;
     })

@@ -1,7 +1,7 @@
 -- What is left to find is what there was to find at first, further on by the units skipped, and a filter that is open and passes nowhere leaves no turn to take; each round takes a unit off the rest.
 use Rattle.std.proofs.Common.{◌≡◌, ◌+◌, ℕ, List, [], length}
 use Rattle.daachorse_search.specs.Skipping.{HasNoPlace, SkipsTo}
-use Rattle.daachorse_search.proofs.matches.go_on.Given as goal
+use Rattle.daachorse_search.proofs.matches.read_past.Given as goal
 
 abbrev pub invariant-units : goal.invariant-units
 invariant-units g l =

@@ -13,6 +13,7 @@ ghost use Rattle.daachorse_search.specs.Standings.{IsFindStanding};
 ghost use Rattle.daachorse_search.specs.Stepwise.{AreBoundedSince};
 ghost use Rattle.daachorse_search.specs.Views.{HasDepths, IsStandard};
 
+use crate::step_unit::StepUnit;
 use daachorse_core::Match;
 use daachorse_core::ascii_fold::AsciiFold;
 use daachorse_search::automaton::Automaton;
@@ -42,7 +43,7 @@ impl<'a, V: Copy, A: Automaton<V>> Model for FindStepperAsRead<'a, V, A> {
 
 impl<'a, V: Copy, A: Automaton<V>> FindStepperAsRead<'a, V, A>
 where
-    A::Unit: AsciiFold,
+    A::Unit: StepUnit,
 {
     /// A stepper that has consumed nothing. The depths are those of the automaton's states, or none.
     #[inline(always)]
@@ -73,6 +74,10 @@ where
         ensures folds { self.new.folds ≡ self.old.folds }
         ensures read { self.new.read ≡ self.old.read ++ as_read self.old.folds (A.Unit.unit unit ∷ []) }
     {
+        if unit.finds_apart() && self.folds {
+            self.stepper.consume(unit.folded());
+            return;
+        }
         let read = if self.folds { unit.folded() } else { unit };
         self.stepper.consume(read);
     }

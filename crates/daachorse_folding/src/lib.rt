@@ -11,3 +11,4 @@ pub mod matches;
 pub mod matches_from;
 pub mod overlapping_stepper;
 pub mod reading;
+pub mod step_unit;

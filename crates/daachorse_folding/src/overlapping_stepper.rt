@@ -13,6 +13,7 @@ ghost use Rattle.daachorse_search.specs.Standings.{IsOverlappingStanding};
 ghost use Rattle.daachorse_search.specs.Stepwise.{AreBounded};
 ghost use Rattle.daachorse_search.specs.Views.{HasDepths, IsStandard};
 
+use crate::step_unit::StepUnit;
 use daachorse_core::ascii_fold::AsciiFold;
 use daachorse_core::edge_label::EdgeLabel;
 use daachorse_search::automaton::Automaton;
@@ -42,7 +43,7 @@ impl<'a, V: Copy, A: Automaton<V>> Model for FindOverlappingStepperAsRead<'a, V,
 
 impl<'a, V: Copy, A: Automaton<V>> FindOverlappingStepperAsRead<'a, V, A>
 where
-    A::Unit: AsciiFold,
+    A::Unit: StepUnit,
 {
     /// A stepper that has consumed nothing. The depths are those of the automaton's states, or none.
     #[inline(always)]
@@ -75,6 +76,10 @@ where
     {
         // A folded unit takes as many bytes, so they are counted whether it folds or not.
         let bytes = unit.num_bytes();
+        if unit.finds_overlapping_apart() && self.folds {
+            self.stepper.consume_wide(unit.folded(), bytes);
+            return;
+        }
         let read = if self.folds { unit.folded() } else { unit };
         self.stepper.consume_wide(read, bytes);
     }

@@ -13,6 +13,7 @@ use daachorse_folding::find_stepper::FindStepperAsRead;
 use daachorse_folding::leftmost::LeftmostMatchesAsRead;
 use daachorse_folding::matches::MatchesAsRead;
 use daachorse_folding::overlapping_stepper::FindOverlappingStepperAsRead;
+use daachorse_folding::step_unit::StepUnit;
 use daachorse_search::automaton::Automaton;
 use daachorse_search::folded::FoldHaystack;
 use daachorse_search::stepwise::Stepwise;
@@ -122,7 +123,7 @@ pub fn are_found<A: Automaton<u32>>(
     depths: &[u32],
 ) -> bool
 where
-    A::Unit: AsciiFold,
+    A::Unit: StepUnit,
     requires { stepper.old.read ≡ [] }
 {
     let mut expected = Expected::new(expected, depths);
@@ -148,7 +149,7 @@ pub fn are_found_overlapping<A: Automaton<u32>>(
     depths: &[u32],
 ) -> bool
 where
-    A::Unit: AsciiFold,
+    A::Unit: StepUnit,
     requires { stepper.old.read ≡ [] }
 {
     let mut expected = Expected::new(expected, depths);

@@ -96,7 +96,8 @@ count_all() {
     done
 }
 
-# time_links UNIT WORDS TEXT: the lines of all links, and then of each column the middle one.
+# time_links UNIT WORDS TEXT: the lines of all links, then of each column the middle one, and then the ratios balanced
+# over where the functions begin.
 time_links() {
     seed=1
     while [ "$seed" -le "$seeds" ]; do
@@ -125,6 +126,7 @@ time_links() {
                 print line
             }
         }' "$work/times"
+    python3 "$here/balanced.py" "$work" "$1"
 }
 
 case " $parts " in *" build "*) build_links ;; esac

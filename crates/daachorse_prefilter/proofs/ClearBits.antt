@@ -1,11 +1,11 @@
 -- Which bits of a byte are 0 after each step of the code.
-use Rattle.std.proofs.Common.{◌≡◌, ◌≢◌, ℕ, zero, suc, ◌+◌, ◌*◌, ◌/◌, ◌%◌, ◌^◌, ◌<◌, true, false, ◌&&◌, sym, ap, ◌∙◌, arith}
+use Rattle.std.proofs.Common.{◌≡◌, ◌≢◌, ℕ, ◌+◌, ◌-◌, ◌*◌, ◌/◌, ◌%◌, ◌^◌, ◌<◌, ◌≤◌, true, false, ◌&&◌, sym, ap, ◌∙◌, arith}
 use Rattle.std.specs.Prelude.{◌==◌, ◌||◌, max, min, bit_and, bit_or}
-use Rattle.std.specs.Int.{bit_at, bit_not, w8}
+use Rattle.std.specs.Int.{bit_at, bit_not, w8, w32}
 use Rattle.std.proofs.lemmas.Bool.{eq-eqb}
 use Rattle.std.proofs.lemmas.Bool.Decides.{nat_tests}
-use Rattle.std.proofs.lemmas.Nat.{one_shl, pow_pos}
-use Rattle.std.proofs.lemmas.Nat.Bits.{bit_at_and, bit_at_or, bit_at-suc, bit_at_cat_low, bit_at_ones, bit_at-lt, and_pow, bit_at_clear_same, bit_at_clear_other, same_from_bits_below}
+use Rattle.std.proofs.lemmas.Nat.{pow_pos}
+use Rattle.std.proofs.lemmas.Nat.Bits.{bit_at_and, bit_at_or, bit_at_not, bit_at-zero, bit_at_cat_low, bit_at_cat_high, bit_at_ones, bit_at_ones_above, bit_at-lt, bit_at_clear_same, bit_at_clear_other, same_from_bits_below}
 use Rattle.daachorse_model.specs.Filter.{is_clear}
 
 both_zero : (x y : ℕ) → (max x y == 0) ≡ ((x == 0) && (y == 0))
@@ -20,20 +20,28 @@ one_zero x y = grind (arith, nat_tests)
 pub is_clear-and : (a b j : ℕ) → is_clear (bit_and a b) j ≡ (is_clear a j || is_clear b j)
 is_clear-and a b j = ap (λ n. n == 0) (bit_at_and a b j) ∙ one_zero (bit_at a j) (bit_at b j)
 
-pub is_clear_shifted_first : (n : ℕ) → is_clear ((n * 2 ^ 1) % 2 ^ 8) 0 ≡ true
-is_clear_shifted_first n = eq-eqb _ 0 (omega arith)
+in_width : (n i : ℕ) → i < 32 → bit_at (n % 2 ^ 32) i ≡ bit_at n i
+in_width n i h =
+    let whole : n / 4294967296 * 2 ^ 32 + n % 4294967296 ≡ n = omega arith in
+    sym (bit_at_cat_low (n / 4294967296) 32 (n % 4294967296) i h) ∙ ap (λ m. bit_at m i) whole
 
-bit_at_shifted : (n j : ℕ) → j < 7 → bit_at ((n * 2 ^ 1) % 2 ^ 8) (suc j) ≡ bit_at n j
-bit_at_shifted n j h =
-    let whole : n * 2 / 256 * 2 ^ 8 + n * 2 % 256 ≡ n * 2 = omega arith in
-    let half : n * 2 / 2 ≡ n = omega arith in
-    sym (bit_at_cat_low (n * 2 / 256) 8 (n * 2 % 256) (suc j) (omega arith))
-    ∙ ap (λ m. bit_at m (suc j)) whole
-    ∙ bit_at-suc (n * 2) j
-    ∙ ap (λ m. bit_at m j) half
+bit_at_shifted_below : (n k i : ℕ) → i < k → bit_at (n * 2 ^ k) i ≡ 0
+bit_at_shifted_below n k i h =
+    let none : n * 2 ^ k + 0 ≡ n * 2 ^ k = omega arith in
+    ap (λ m. bit_at m i) (sym none) ∙ bit_at_cat_low n k 0 i h ∙ bit_at-zero i
 
-pub is_clear_shifted_later : (n j : ℕ) → j < 7 → is_clear ((n * 2 ^ 1) % 2 ^ 8) (suc j) ≡ is_clear n j
-is_clear_shifted_later n j h = ap (λ b. b == 0) (bit_at_shifted n j h)
+bit_at_shifted : (n k i : ℕ) → bit_at (n * 2 ^ k) (k + i) ≡ bit_at n i
+bit_at_shifted n k i =
+    let none : n * 2 ^ k + 0 ≡ n * 2 ^ k = omega arith in
+    let back : k + i - k ≡ i = omega arith in
+    ap (λ m. bit_at m (k + i)) (sym none) ∙ bit_at_cat_high n k 0 (k + i) (pow_pos k) (omega arith) ∙ ap (λ j. bit_at n j) back
+
+-- a shift by k moves each bit up by k, and the bits below are 0
+pub is_clear_shifted_below : (n k i : ℕ) → i < k → i < 32 → is_clear ((n * 2 ^ k) % 2 ^ 32) i ≡ true
+is_clear_shifted_below n k i h within = eq-eqb _ 0 (in_width (n * 2 ^ k) i within ∙ bit_at_shifted_below n k i h)
+
+pub is_clear_shifted : (n k i : ℕ) → k + i < 32 → is_clear ((n * 2 ^ k) % 2 ^ 32) (k + i) ≡ is_clear n i
+is_clear_shifted n k i within = ap (λ b. b == 0) (in_width (n * 2 ^ k) (k + i) within ∙ bit_at_shifted n k i)
 
 pub is_clear_ones : (j : ℕ) → j < 8 → is_clear 255 j ≡ false
 is_clear_ones j h = ap (λ b. b == 0) (bit_at_ones 8 j h)
@@ -42,14 +50,25 @@ is_clear_ones j h = ap (λ b. b == 0) (bit_at_ones 8 j h)
 pub is_clear_zero : (j : ℕ) → is_clear 0 j ≡ true
 is_clear_zero j = eq-eqb _ 0 (let p = pow_pos j in omega arith)
 
--- the test of one bit by a mask
-pub is_clear_test : (n k : ℕ) → k < 8 → (bit_and n (1 * 2 ^ k % 2 ^ 8) == 0) ≡ is_clear n k
-is_clear_test n k h =
-    ap (λ m. bit_and n m == 0) (one_shl k 8 h) ∙ ap (λ m. m == 0) (and_pow n k) ∙ product_zero (bit_at n k) (2 ^ k) (pow_pos k)
+-- the complement in 32 bits
+pub is_clear_not : (n i : ℕ) → n < 2 ^ 32 → i < 32 → is_clear (bit_not w32 n) i ≡ (bit_at n i == 1)
+is_clear_not n i h within = ap (λ b. b == 0) (bit_at_not w32 n i h within) ∙ other (bit_at n i) (bit_at-lt n i)
   where
-    product_zero : (b p : ℕ) → 0 < p → (b * p == 0) ≡ (b == 0)
-    product_zero zero p h = eq-eqb (zero * p) 0 (omega arith)
-    product_zero (suc b) p h = grind (arith, nat_tests, Rattle.std.proofs.Math.Nat.suc-mul b p)
+    other : (b : ℕ) → b < 2 → (1 - b == 0) ≡ (b == 1)
+    other b h = grind (arith, nat_tests)
+
+pub set_is_not_clear : (n i : ℕ) → (bit_at n i == 1) ≡ true → is_clear n i ≡ false
+set_is_not_clear n i e = grind (arith, nat_tests)
+
+pub not_set_is_clear : (n i : ℕ) → (bit_at n i == 1) ≡ false → is_clear n i ≡ true
+not_set_is_clear n i e = let two = bit_at-lt n i in grind (arith, nat_tests)
+
+-- the k bits of a mask of ones
+pub is_clear_mask : (k i : ℕ) → i < k → is_clear (2 ^ k - 1) i ≡ false
+is_clear_mask k i h = ap (λ b. b == 0) (bit_at_ones k i h)
+
+pub is_clear_mask_above : (k i : ℕ) → k ≤ i → is_clear (2 ^ k - 1) i ≡ true
+is_clear_mask_above k i h = ap (λ b. b == 0) (bit_at_ones_above k i h)
 
 pub is_clear_cleared_same : (n k : ℕ) → k < 8 → is_clear (bit_and n (bit_not w8 (1 * 2 ^ k % 2 ^ 8))) k ≡ true
 is_clear_cleared_same n k h = eq-eqb _ 0 (bit_at_clear_same w8 n k h)

@@ -1,8 +1,11 @@
 pub mod ClearBits
 pub mod NextPlaces
 pub mod Scanned
+pub mod Rounds
+pub mod Pairs
 pub mod Marking
 pub mod Tables
+pub mod PairTables
 pub mod Density
 pub mod Soundness
 pub mod Boundaries

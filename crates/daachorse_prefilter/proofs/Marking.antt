@@ -87,9 +87,9 @@ pub marked_more : (before now w : List ℕ) (i e : ℕ) → 1 ≤ i → i ≤ 8 
 marked_more before now w i e low high inside is marked pair j h hj =
     marked_at before now w i e low high inside is marked pair j h hj (cases_eq pair (pair_at w (i - 1))) (cases_eq j (i - 1))
 
-pub marked_step : (before now w : List ℕ) (i pair : ℕ) → 1 ≤ i → i ≤ 8 → pair ≡ get_or w (i - 1) 0 * 256 + get_or w i 0 → pair < length now → AreMarkedBelow before now w i → AreMarkedBelow before (set now pair (cleared (get_or now pair 0) (i - 1))) w (i + 1)
-marked_step before now w i pair low high is inside marked =
+pub marked_step : (before now w : List ℕ) (i pair e : ℕ) → 1 ≤ i → i ≤ 8 → pair ≡ get_or w (i - 1) 0 * 256 + get_or w i 0 → pair < length now → e ≡ get_or now pair 0 → AreMarkedBelow before now w i → AreMarkedBelow before (set now pair (cleared e (i - 1))) w (i + 1)
+marked_step before now w i pair e low high is inside entry marked =
     let last : suc (i - 1) ≡ i = omega arith in
     let same : pair_at w (i - 1) ≡ pair = ap (λ n. get_or w (i - 1) 0 * 256 + get_or w n 0) last ∙ sym is in
-    let P : ℕ → Type 0 = λ p. AreMarkedBelow before (set now p (cleared (get_or now p 0) (i - 1))) w (i + 1) in
-    subst P same (marked_more before now w i _ low high (rw same inside) refl marked)
+    let P : ℕ → Type 0 = λ p. AreMarkedBelow before (set now p (cleared e (i - 1))) w (i + 1) in
+    subst P same (marked_more before now w i e low high (rw same inside) (rw same entry) marked)

@@ -1,56 +1,43 @@
 -- What the shift-or state knows: bit j is 0 where the last j + 1 pairs are those that a window begins with, from the first place on.
 use Rattle.std.proofs.Common.{◌≡◌, ℕ, zero, suc, ◌+◌, ◌-◌, ◌*◌, ◌%◌, ◌^◌, ◌<◌, ◌≤◌, ◌⊎◌, Bool, true, false, ◌&&◌, List, length, drop, get_or, refl, sym, ap, ◌∙◌, inl, inr, arith}
 use Rattle.std.specs.Prelude.{nat_le, ◌||◌, bit_and, bit_or}
-use Rattle.std.proofs.lemmas.Bool.{cases_lt, le-leb, lt-leb, eq-eqb, ne_eqb}
+use Rattle.std.proofs.lemmas.Bool.{cases_lt, le-leb, lt-leb}
+use Rattle.std.proofs.Math.Pow.{pow_mono}
 use Rattle.std.proofs.lemmas.List.{get_or-drop, length-drop}
 use Rattle.daachorse_model.specs.Filter.{is_clear, pairs_pass, passes, next_position}
-use Rattle.daachorse_prefilter.proofs.ClearBits.{is_clear-and, is_clear-or, is_clear_shifted_first, is_clear_shifted_later, is_clear_ones, is_clear_test}
+use Rattle.daachorse_prefilter.specs.Scans.{has_begun, AreBits, HasEnded, NonePasses}
+use Rattle.daachorse_prefilter.proofs.ClearBits.{is_clear-and, is_clear-or, is_clear_shifted, is_clear_shifted_below, is_clear_mask, is_clear_mask_above}
 use Rattle.daachorse_prefilter.proofs.NextPlaces.{pairs_pass_more, passes_short, next_position_is}
 
 abbrev pub entry_in : List ℕ → ℕ → ℕ
 entry_in entries pair = get_or entries pair 0
 
+-- the pair that byte i ends
+abbrev pub pair_before : List ℕ → ℕ → ℕ
+pair_before h i = get_or h (i - 1) 0 * 256 + get_or h i 0
+
 -- the window's bytes before i, of which the last has the number of its pair
-window_more : (t : ℕ → ℕ) (h : List ℕ) (s k i : ℕ) → s + suc k ≡ i → i < length h → pairs_pass t 0 (suc k) (drop s h) ≡ (pairs_pass t 0 k (drop s h) && is_clear (t (get_or h (i - 1) 0 * 256 + get_or h i 0)) k)
+window_more : (t : ℕ → ℕ) (h : List ℕ) (s k i : ℕ) → s + suc k ≡ i → i < length h → pairs_pass t 0 (suc k) (drop s h) ≡ (pairs_pass t 0 k (drop s h) && is_clear (t (pair_before h i)) k)
 window_more t h s k i e l =
     let size = length-drop s h in
     let first : get_or (drop s h) k 0 ≡ get_or h (i - 1) 0 = get_or-drop s h k 0 ∙ ap (λ n. get_or h n 0) (let same : s + k ≡ i - 1 = omega arith in same) in
     let second : get_or (drop s h) (suc k) 0 ≡ get_or h i 0 = get_or-drop s h (suc k) 0 ∙ ap (λ n. get_or h n 0) e in
-    let pair : get_or (drop s h) k 0 * 256 + get_or (drop s h) (suc k) 0 ≡ get_or h (i - 1) 0 * 256 + get_or h i 0 = omega arith in
+    let pair : get_or (drop s h) k 0 * 256 + get_or (drop s h) (suc k) 0 ≡ pair_before h i = omega arith in
     pairs_pass_more t 0 k k (drop s h) (omega arith) (omega arith)
     ∙ ap (λ p. pairs_pass t 0 k (drop s h) && is_clear (t p) k) pair
 
--- the bits of the state before byte i is read, where the scan began at pos
-abbrev pub AreBits : List ℕ → List ℕ → ℕ → ℕ → ℕ → Type 0
-AreBits entries h pos i seen =
-    (b : ℕ) → b < 8 → is_clear seen b ≡ (nat_le (pos + b + 2) i && pairs_pass (entry_in entries) 0 (suc b) (drop (i - b - 2) h))
+-- of the pair that byte i ends, the bit of a window's first pair
+begun_first : (entries h : List ℕ) (pos i : ℕ) → pos + 1 ≤ i → i < length h → is_clear (entry_in entries (pair_before h i)) 0 ≡ has_begun entries h pos (i + 1) 0
+begun_first entries h pos i low l =
+    let long : nat_le (pos + 0 + 2) (i + 1) ≡ true = le-leb (pos + 0 + 2) (i + 1) (omega arith) in
+    let more = window_more (entry_in entries) h (i + 1 - 0 - 2) 0 i (omega arith) l in
+    rw long (sym more)
 
-pub bits_start : (entries h : List ℕ) (pos : ℕ) → AreBits entries h pos (pos + 1) 255
-bits_start entries h pos b l =
-    let short : nat_le (pos + b + 2) (pos + 1) ≡ false = lt-leb (pos + b + 2) (pos + 1) (omega arith) in
-    rw short (is_clear_ones b l)
-
-abbrev pub next_state : List ℕ → ℕ → ℕ → ℕ
-next_state entries seen pair = bit_or ((seen * 2 ^ 1) % 2 ^ 8) (get_or entries pair 0)
-
-bits_more : (entries h : List ℕ) (pos i seen pair : ℕ) → pos + 1 ≤ i → i < length h → pair ≡ get_or h (i - 1) 0 * 256 + get_or h i 0 → AreBits entries h pos i seen → AreBits entries h pos (i + 1) (next_state entries seen pair)
-bits_more entries h pos i seen pair low l e bits zero hb =
-    let long : nat_le (pos + zero + 2) (i + 1) ≡ true = le-leb (pos + zero + 2) (i + 1) (omega arith) in
-    let s = i + 1 - zero - 2 in
-    let more = window_more (entry_in entries) h s zero i (omega arith) l in
-    let shifted = is_clear_shifted_first seen in
-    is_clear-or _ (get_or entries pair 0) zero
-    ∙ ap (λ x. x && is_clear (get_or entries pair 0) zero) shifted
-    ∙ ap (λ p. is_clear (get_or entries p 0) zero) e
-    ∙ sym more
-    ∙ sym (ap (λ x. x && pairs_pass (entry_in entries) 0 1 (drop s h)) long)
-bits_more entries h pos i seen pair low l e bits (suc b) hb =
-    is_clear-or _ (get_or entries pair 0) (suc b)
-    ∙ ap (λ x. x && is_clear (get_or entries pair 0) (suc b)) (is_clear_shifted_later seen b (omega arith) ∙ bits b (omega arith))
-    ∙ ap (λ p. (nat_le (pos + b + 2) i && pairs_pass (entry_in entries) 0 (suc b) (drop (i - b - 2) h)) && is_clear (get_or entries p 0) (suc b)) e
-    ∙ by (cases_lt i (pos + b + 2))
+-- and that of each later pair
+begun_later : (entries h : List ℕ) (pos i b : ℕ) → pos + 1 ≤ i → i < length h → (has_begun entries h pos i b && is_clear (entry_in entries (pair_before h i)) (suc b)) ≡ has_begun entries h pos (i + 1) (suc b)
+begun_later entries h pos i b low l = by (cases_lt i (pos + b + 2))
   where
-    by : (i < pos + b + 2) ⊎ (pos + b + 2 ≤ i) → ((nat_le (pos + b + 2) i && pairs_pass (entry_in entries) 0 (suc b) (drop (i - b - 2) h)) && is_clear (get_or entries (get_or h (i - 1) 0 * 256 + get_or h i 0) 0) (suc b)) ≡ (nat_le (pos + suc b + 2) (i + 1) && pairs_pass (entry_in entries) 0 (suc (suc b)) (drop (i + 1 - suc b - 2) h))
+    by : (i < pos + b + 2) ⊎ (pos + b + 2 ≤ i) → (has_begun entries h pos i b && is_clear (entry_in entries (pair_before h i)) (suc b)) ≡ has_begun entries h pos (i + 1) (suc b)
     by (inl less) =
         let short : nat_le (pos + b + 2) i ≡ false = lt-leb (pos + b + 2) i less in
         let short_more : nat_le (pos + suc b + 2) (i + 1) ≡ false = lt-leb (pos + suc b + 2) (i + 1) (omega arith) in
@@ -62,136 +49,218 @@ bits_more entries h pos i seen pair low l e bits (suc b) hb =
         let more = window_more (entry_in entries) h (i - b - 2) (suc b) i (omega arith) l in
         rw (long, long_more, place) (sym more)
 
--- no window that ends before i passes
-abbrev pub NonePasses : List ℕ → List ℕ → ℕ → ℕ → ℕ → Type 0
-NonePasses entries h m pos i = (k : ℕ) → pos ≤ k → k + m ≤ i → passes (entry_in entries) m (drop k h) ≡ false
+-- the state after a pair whose entry is e
+abbrev pub next_state : ℕ → ℕ → ℕ
+next_state s e = bit_or ((s * 2 ^ 1) % 2 ^ 32) e
 
--- the bit of the last pair tells whether the window that ends before i passes
-last_bit : (entries h : List ℕ) (m pos i k seen : ℕ) → 2 ≤ m → m ≤ 9 → i ≤ length h → pos ≤ k → k + m ≡ i → AreBits entries h pos i seen → passes (entry_in entries) m (drop k h) ≡ is_clear seen (m - 2)
-last_bit entries h m pos i k seen low high inside from end bits =
-    let size = length-drop k h in
-    let fits : nat_le m (length (drop k h)) ≡ true = le-leb m (length (drop k h)) (omega arith) in
-    let long : nat_le (pos + (m - 2) + 2) i ≡ true = le-leb (pos + (m - 2) + 2) i (omega arith) in
-    let pairs : m - 1 ≡ suc (m - 2) = omega arith in
-    let place : i - (m - 2) - 2 ≡ k = omega arith in
-    let is : is_clear seen (m - 2) ≡ pairs_pass (entry_in entries) 0 (suc (m - 2)) (drop k h) = bits (m - 2) (omega arith) ∙ rw (long, place) refl in
-    rw (fits, pairs) (sym is)
+next_first : (s e : ℕ) → is_clear (next_state s e) 0 ≡ is_clear e 0
+next_first s e = is_clear-or ((s * 2 ^ 1) % 2 ^ 32) e 0 ∙ ap (λ x. x && is_clear e 0) (is_clear_shifted_below s 1 0 (omega arith) (omega arith))
 
-pub none_start : (entries h : List ℕ) (m pos : ℕ) → 2 ≤ m → NonePasses entries h m pos (pos + 1)
-none_start entries h m pos low k from end = absurd (omega arith)
+next_later : (s e b : ℕ) → b < 31 → is_clear (next_state s e) (suc b) ≡ (is_clear s b && is_clear e (suc b))
+next_later s e b h =
+    let place : 1 + b ≡ suc b = omega arith in
+    is_clear-or ((s * 2 ^ 1) % 2 ^ 32) e (suc b)
+    ∙ ap (λ x. x && is_clear e (suc b)) (ap (λ n. is_clear ((s * 2 ^ 1) % 2 ^ 32) n) (sym place) ∙ is_clear_shifted s 1 b (omega arith))
 
-none_more : (entries h : List ℕ) (m pos i seen : ℕ) → 2 ≤ m → m ≤ 9 → i + 1 ≤ length h → AreBits entries h pos (i + 1) seen → is_clear seen (m - 2) ≡ false → NonePasses entries h m pos i → NonePasses entries h m pos (i + 1)
-none_more entries h m pos i seen low high inside bits bit none k from end = by (cases_lt i (k + m))
+-- the bits of the next state, where the entry has the bits of the pair that byte i ends
+pub bits_next : (entries h : List ℕ) (last pos i s e : ℕ) → last ≤ 7 → pos + 1 ≤ i → i < length h → ((b : ℕ) → b ≤ last → is_clear e b ≡ is_clear (entry_in entries (pair_before h i)) b) → AreBits entries h last pos i s → AreBits entries h last pos (i + 1) (next_state s e)
+bits_next entries h last pos i s e small low l same bits zero hb =
+    next_first s e ∙ same 0 hb ∙ begun_first entries h pos i low l
+bits_next entries h last pos i s e small low l same bits (suc b) hb =
+    next_later s e b (omega arith)
+    ∙ ap (λ x. x && is_clear e (suc b)) (bits b (omega arith))
+    ∙ ap (λ x. has_begun entries h pos i b && x) (same (suc b) hb)
+    ∙ begun_later entries h pos i b low l
+
+-- the bits from the first to that of a window's last pair
+abbrev pub window_bits : ℕ → ℕ
+window_bits last = (2 * 2 ^ last) % 2 ^ 32 - 1
+
+window_bits_is : (last : ℕ) → last ≤ 7 → window_bits last ≡ 2 ^ (suc last) - 1
+window_bits_is last h =
+    let small : 2 ^ last ≤ 2 ^ 7 = pow_mono h in
+    omega arith
+
+or_false : (x y : Bool) → y ≡ false → (x || y) ≡ x
+or_false true y e = refl
+or_false false y e = e
+
+or_true : (x y : Bool) → y ≡ true → (x || y) ≡ true
+or_true true y e = refl
+or_true false y e = e
+
+within_window : (e last b : ℕ) → last ≤ 7 → b ≤ last → is_clear (bit_and e (window_bits last)) b ≡ is_clear e b
+within_window e last b small h =
+    is_clear-and e (window_bits last) b
+    ∙ or_false (is_clear e b) (is_clear (window_bits last) b) (ap (λ w. is_clear w b) (window_bits_is last small) ∙ is_clear_mask (suc last) b (omega arith))
+
+above_window : (e last b : ℕ) → last ≤ 7 → last < b → is_clear (bit_and e (window_bits last)) b ≡ true
+above_window e last b small h =
+    is_clear-and e (window_bits last) b
+    ∙ or_true (is_clear e b) (is_clear (window_bits last) b) (ap (λ w. is_clear w b) (window_bits_is last small) ∙ is_clear_mask_above (suc last) b (omega arith))
+
+-- the state after the k pairs that bytes i and on end, of whose entries the bits of a window are taken
+unfoldable pub states : List ℕ → List ℕ → ℕ → ℕ → ℕ → ℕ → ℕ
+states entries h w i s zero = s
+states entries h w i s (suc k) = next_state (states entries h w i s k) (bit_and (entry_in entries (pair_before h (i + k))) w)
+
+pub states_none : (entries h : List ℕ) (w i s : ℕ) → s ≡ states entries h w i s 0
+unfolding states
+states_none entries h w i s = refl
+
+pub states_more : (entries h : List ℕ) (w i s k : ℕ) → next_state (states entries h w i s k) (bit_and (entry_in entries (pair_before h (i + k))) w) ≡ states entries h w i s (k + 1)
+unfolding states
+states_more entries h w i s k =
+    let more : k + 1 ≡ suc k = omega arith in
+    ap (λ n. states entries h w i s n) (sym more)
+
+and_true : (x : Bool) → (x && true) ≡ x
+and_true true = refl
+and_true false = refl
+
+pub ended : (entries h : List ℕ) (last pos i s k : ℕ) → last ≤ 7 → pos + 1 ≤ i → i + k ≤ length h → k ≤ 8 → AreBits entries h last pos i s → HasEnded entries h last pos i k (states entries h (window_bits last) i s k)
+unfolding states
+ended entries h last pos i s zero small low l few bits =
+    let same : i + zero ≡ i = omega arith in
+    record { bits = rw same bits; ends = λ d hd. absurd (omega arith) }
+ended entries h last pos i s (suc k) small low l few bits =
+    let r = states entries h (window_bits last) i s k in
+    let e = bit_and (entry_in entries (pair_before h (i + k))) (window_bits last) in
+    let before : HasEnded entries h last pos i k r = ended entries h last pos i s k small low (omega arith) (omega arith) bits in
+    let place : i + suc k ≡ i + k + 1 = omega arith in
+    let more : AreBits entries h last pos (i + k + 1) (next_state r e) =
+    bits_next entries h last pos (i + k) r e small (omega arith) (omega arith) (λ b hb. within_window _ last b small hb) before.bits in
+    record { bits = rw place more; ends = λ d hd. at d hd r e before.ends more }
   where
-    by : (i < k + m) ⊎ (k + m ≤ i) → passes (entry_in entries) m (drop k h) ≡ false
-    by (inl last) = last_bit entries h m pos (i + 1) k seen low high inside from (omega arith) bits ∙ bit
+    at : (d : ℕ) → d < suc k → (r e : ℕ) → ((d : ℕ) → d < k → is_clear r (last + d) ≡ has_begun entries h pos (i + k - d) last)
+        → AreBits entries h last pos (i + k + 1) (next_state r (bit_and (entry_in entries (pair_before h (i + k))) (window_bits last)))
+        → is_clear (next_state r (bit_and (entry_in entries (pair_before h (i + k))) (window_bits last))) (last + d) ≡ has_begun entries h pos (i + suc k - d) last
+    at zero hd r e ends more =
+        let bit : last + zero ≡ last = omega arith in
+        let place : i + suc k - zero ≡ i + k + 1 = omega arith in
+        rw (bit, place) (more last (omega arith))
+    at (suc d) hd r e ends more =
+        let entry = bit_and (entry_in entries (pair_before h (i + k))) (window_bits last) in
+        let bit : last + suc d ≡ suc (last + d) = omega arith in
+        let place : i + suc k - suc d ≡ i + k - d = omega arith in
+        let none : is_clear entry (suc (last + d)) ≡ true = above_window _ last (suc (last + d)) small (omega arith) in
+        rw (bit, place) (next_later r entry (last + d) (omega arith) ∙ ap (λ x. is_clear r (last + d) && x) none ∙ and_true (is_clear r (last + d)) ∙ ends d (omega arith))
+
+and_assoc : (x y z : Bool) → (x && (y && z)) ≡ ((x && y) && z)
+and_assoc true y z = refl
+and_assoc false y z = refl
+
+shifted_more : (s k b : ℕ) → suc b < 32 → is_clear ((s * 2 ^ suc k) % 2 ^ 32) (suc b) ≡ is_clear ((s * 2 ^ k) % 2 ^ 32) b
+shifted_more s k b h = by (cases_lt b k)
+  where
+    by : (b < k) ⊎ (k ≤ b) → is_clear ((s * 2 ^ suc k) % 2 ^ 32) (suc b) ≡ is_clear ((s * 2 ^ k) % 2 ^ 32) b
+    by (inl below) = is_clear_shifted_below s (suc k) (suc b) (omega arith) h ∙ sym (is_clear_shifted_below s k b below (omega arith))
+    by (inr above) =
+        let high : suc k + (b - k) ≡ suc b = omega arith in
+        let low : k + (b - k) ≡ b = omega arith in
+        ap (λ n. is_clear ((s * 2 ^ suc k) % 2 ^ 32) n) (sym high) ∙ is_clear_shifted s (suc k) (b - k) (omega arith)
+        ∙ sym (is_clear_shifted s k (b - k) (omega arith)) ∙ ap (λ n. is_clear ((s * 2 ^ k) % 2 ^ 32) n) low
+
+-- a state that is made of the pairs alone, and the state before, shifted past them
+pub apart : (entries h : List ℕ) (w i s k b : ℕ) → b < 32 → is_clear (bit_or ((s * 2 ^ k) % 2 ^ 32) (states entries h w i 0 k)) b ≡ is_clear (states entries h w i s k) b
+unfolding states
+apart entries h w i s zero b hb =
+    is_clear-or ((s * 2 ^ 0) % 2 ^ 32) 0 b
+    ∙ ap (λ x. is_clear ((s * 2 ^ 0) % 2 ^ 32) b && x) (is_clear_mask_above 0 b (omega arith))
+    ∙ and_true (is_clear ((s * 2 ^ 0) % 2 ^ 32) b)
+    ∙ (let same : 0 + b ≡ b = omega arith in ap (λ n. is_clear ((s * 2 ^ 0) % 2 ^ 32) n) (sym same))
+    ∙ is_clear_shifted s 0 b (omega arith)
+apart entries h w i s (suc k) zero hb =
+    let e = bit_and (entry_in entries (pair_before h (i + k))) w in
+    is_clear-or ((s * 2 ^ suc k) % 2 ^ 32) (states entries h w i 0 (suc k)) 0
+    ∙ ap (λ x. x && is_clear (states entries h w i 0 (suc k)) 0) (is_clear_shifted_below s (suc k) 0 (omega arith) (omega arith))
+    ∙ next_first (states entries h w i 0 k) e
+    ∙ sym (next_first (states entries h w i s k) e)
+apart entries h w i s (suc k) (suc b) hb =
+    let e = bit_and (entry_in entries (pair_before h (i + k))) w in
+    let shifted = is_clear ((s * 2 ^ k) % 2 ^ 32) b in
+    let alone = is_clear (states entries h w i 0 k) b in
+    is_clear-or ((s * 2 ^ suc k) % 2 ^ 32) (states entries h w i 0 (suc k)) (suc b)
+    ∙ ap (λ x. x && is_clear (states entries h w i 0 (suc k)) (suc b)) (shifted_more s k b hb)
+    ∙ ap (λ x. shifted && x) (next_later (states entries h w i 0 k) e b (omega arith))
+    ∙ and_assoc shifted alone (is_clear e (suc b))
+    ∙ ap (λ x. x && is_clear e (suc b)) (sym (is_clear-or ((s * 2 ^ k) % 2 ^ 32) (states entries h w i 0 k) b) ∙ apart entries h w i s k b (omega arith))
+    ∙ sym (next_later (states entries h w i s k) e b (omega arith))
+
+pub ended_apart : (entries h : List ℕ) (last pos i s : ℕ) → last ≤ 7 → pos + 1 ≤ i → i + 8 ≤ length h → AreBits entries h last pos i s → HasEnded entries h last pos i 8 (bit_or ((s * 2 ^ 8) % 2 ^ 32) (states entries h (window_bits last) i 0 8))
+ended_apart entries h last pos i s small low l bits =
+    let all = ended entries h last pos i s 8 small low l (omega arith) bits in
+    record {
+      bits = λ b hb. apart entries h (window_bits last) i s 8 b (omega arith) ∙ all.bits b hb;
+      ends = λ d hd. apart entries h (window_bits last) i s 8 (last + d) (omega arith) ∙ all.ends d hd;
+    }
+
+-- no state was made yet
+pub bits_start : (entries h : List ℕ) (last pos : ℕ) → last ≤ 7 → AreBits entries h last pos (pos + 1) (2 ^ 32 - 1)
+bits_start entries h last pos small b l =
+    let short : nat_le (pos + b + 2) (pos + 1) ≡ false = lt-leb (pos + b + 2) (pos + 1) (omega arith) in
+    rw short (is_clear_mask 32 b (omega arith))
+
+pub none_start : (entries h : List ℕ) (last pos : ℕ) → NonePasses entries h (last + 2) pos (pos + 1)
+none_start entries h last pos k from end = absurd (omega arith)
+
+-- whether the window that ends before i passes
+passes_is : (entries h : List ℕ) (last pos i k : ℕ) → i ≤ length h → pos ≤ k → k + (last + 2) ≡ i → passes (entry_in entries) (last + 2) (drop k h) ≡ has_begun entries h pos i last
+passes_is entries h last pos i k inside from end =
+    let size = length-drop k h in
+    let fits : nat_le (last + 2) (length (drop k h)) ≡ true = le-leb (last + 2) (length (drop k h)) (omega arith) in
+    let long : nat_le (pos + last + 2) i ≡ true = le-leb (pos + last + 2) i (omega arith) in
+    let pairs : last + 2 - 1 ≡ suc last = omega arith in
+    let place : i - last - 2 ≡ k = omega arith in
+    rw (fits, pairs, long, place) refl
+
+pub none_more : (entries h : List ℕ) (last pos i : ℕ) → i + 1 ≤ length h → has_begun entries h pos (i + 1) last ≡ false → NonePasses entries h (last + 2) pos i → NonePasses entries h (last + 2) pos (i + 1)
+none_more entries h last pos i inside unfit none k from end = by (cases_lt i (k + (last + 2)))
+  where
+    by : (i < k + (last + 2)) ⊎ (k + (last + 2) ≤ i) → passes (entry_in entries) (last + 2) (drop k h) ≡ false
+    by (inl ends) = passes_is entries h last pos (i + 1) k inside from (omega arith) ∙ unfit
     by (inr before) = none k from before
 
 -- the scan stops at the window that ends with byte i
-found : (entries h : List ℕ) (m pos i seen : ℕ) → 2 ≤ m → m ≤ 9 → i + 1 ≤ length h → pos + 1 ≤ i → AreBits entries h pos (i + 1) seen → is_clear seen (m - 2) ≡ true → NonePasses entries h m pos i → (pos + m ≤ i + 1) × (i + 1 - m ≡ next_position (entry_in entries) m h pos)
-found entries h m pos i seen low high inside after bits bit none =
-    let from = starts (cases_lt (i + 1) (pos + m)) in (
+pub found : (entries h : List ℕ) (last pos i : ℕ) → i + 1 ≤ length h → has_begun entries h pos (i + 1) last ≡ true → NonePasses entries h (last + 2) pos i → (pos + last + 2 ≤ i + 1) × (i + 1 - (last + 2) ≡ next_position (entry_in entries) (last + 2) h pos)
+found entries h last pos i inside fit none =
+    let from = starts (cases_lt (i + 1) (pos + last + 2)) in (
       from,
-      next_position_is (entry_in entries) m h pos (i + 1 - m) (record {
+      next_position_is (entry_in entries) (last + 2) h pos (i + 1 - (last + 2)) (record {
         after = omega arith;
         inside = omega arith;
         misses = λ k l u. none k l (omega arith);
-        passing = λ l. (last_bit entries h m pos (i + 1) (i + 1 - m) seen low high inside (omega arith) (omega arith) bits ∙ bit);
+        passing = λ l. (passes_is entries h last pos (i + 1) (i + 1 - (last + 2)) inside (omega arith) (omega arith) ∙ fit);
       }),
     )
   where
-    starts : (i + 1 < pos + m) ⊎ (pos + m ≤ i + 1) → pos + m ≤ i + 1
+    starts : (i + 1 < pos + last + 2) ⊎ (pos + last + 2 ≤ i + 1) → pos + last + 2 ≤ i + 1
     starts (inl less) =
-        let short : nat_le (pos + (m - 2) + 2) (i + 1) ≡ false = lt-leb (pos + (m - 2) + 2) (i + 1) (omega arith) in
-        let never : is_clear seen (m - 2) ≡ false = bits (m - 2) (omega arith) ∙ rw short refl in
+        let short : nat_le (pos + last + 2) (i + 1) ≡ false = lt-leb (pos + last + 2) (i + 1) less in
+        let never : has_begun entries h pos (i + 1) last ≡ false = rw short refl in
         absurd (cc)
     starts (inr most) = most
 
 -- the scan reached the end
-pub found_none : (entries h : List ℕ) (m pos : ℕ) → 2 ≤ m → pos ≤ length h → NonePasses entries h m pos (length h) → length h ≡ next_position (entry_in entries) m h pos
-found_none entries h m pos low inside none =
-    next_position_is (entry_in entries) m h pos (length h) (record {
+pub found_none : (entries h : List ℕ) (last pos : ℕ) → pos ≤ length h → NonePasses entries h (last + 2) pos (length h) → length h ≡ next_position (entry_in entries) (last + 2) h pos
+found_none entries h last pos inside none =
+    next_position_is (entry_in entries) (last + 2) h pos (length h) (record {
       after = inside;
       inside = omega arith;
-      misses = λ k l u. by k l (cases_lt (length h) (k + m));
+      misses = λ k l u. by k l (cases_lt (length h) (k + (last + 2)));
       passing = λ l. absurd (omega arith);
     })
   where
-    by : (k : ℕ) → pos ≤ k → (length h < k + m) ⊎ (k + m ≤ length h) → passes (entry_in entries) m (drop k h) ≡ false
-    by k l (inl short) = passes_short (entry_in entries) m (drop k h) (let size = length-drop k h in omega arith)
+    by : (k : ℕ) → pos ≤ k → (length h < k + (last + 2)) ⊎ (k + (last + 2) ≤ length h) → passes (entry_in entries) (last + 2) (drop k h) ≡ false
+    by k l (inl short) = passes_short (entry_in entries) (last + 2) (drop k h) (let size = length-drop k h in omega arith)
     by k l (inr fits) = none k l fits
 
--- byte i is read, and the window that ends with it passes
-pub step_hit : (entries h : List ℕ) (m pos i before byte seen : ℕ) → 2 ≤ m → m ≤ 9 → pos + 1 ≤ i → i < length h → before ≡ get_or h (i - 1) 0 * 256 → byte ≡ get_or h i 0 → AreBits entries h pos i seen → NonePasses entries h m pos i → bit_and (next_state entries seen (before + byte)) (1 * 2 ^ (m - 2) % 2 ^ 8) ≡ 0 → (pos + m ≤ i + 1) × (i + 1 - m ≡ next_position (entry_in entries) m h pos)
-step_hit entries h m pos i before byte seen low high after inside is read bits none zero_bit =
-    let next = next_state entries seen (before + byte) in
-    let more = bits_more entries h pos i seen (before + byte) after inside (omega (arith, is, read)) bits in
-    let clear : is_clear next (m - 2) ≡ true = sym (is_clear_test next (m - 2) (omega arith)) ∙ eq-eqb _ 0 zero_bit in
-    found entries h m pos i next low high (omega arith) after more clear none
-
--- byte i is read, and the window that ends with it doesn't pass
-clear_miss : (entries h : List ℕ) (m pos i before byte seen : ℕ) → 2 ≤ m → m ≤ 9 → pos + 1 ≤ i → i < length h → before ≡ get_or h (i - 1) 0 * 256 → byte ≡ get_or h i 0 → AreBits entries h pos i seen → NonePasses entries h m pos i → is_clear (next_state entries seen (before + byte)) (m - 2) ≡ false → AreBits entries h pos (i + 1) (next_state entries seen (before + byte)) × NonePasses entries h m pos (i + 1)
-clear_miss entries h m pos i before byte seen low high after inside is read bits none unclear =
-    let next = next_state entries seen (before + byte) in
-    let more = bits_more entries h pos i seen (before + byte) after inside (omega (arith, is, read)) bits in
-    (more, none_more entries h m pos i next low high (omega arith) more unclear none)
-
-pub step_miss : (entries h : List ℕ) (m pos i before byte seen : ℕ) → 2 ≤ m → m ≤ 9 → pos + 1 ≤ i → i < length h → before ≡ get_or h (i - 1) 0 * 256 → byte ≡ get_or h i 0 → AreBits entries h pos i seen → NonePasses entries h m pos i → (bit_and (next_state entries seen (before + byte)) (1 * 2 ^ (m - 2) % 2 ^ 8) ≡ 0 → ⊥) → AreBits entries h pos (i + 1) (next_state entries seen (before + byte)) × NonePasses entries h m pos (i + 1)
-step_miss entries h m pos i before byte seen low high after inside is read bits none set_bit =
-    clear_miss entries h m pos i before byte seen low high after inside is read bits none
-    (sym (is_clear_test (next_state entries seen (before + byte)) (m - 2) (omega arith)) ∙ ne_eqb _ 0 set_bit)
-
--- one test of the states after two bytes tells whether the last bit is 0 in either
-either_clear : (once twice m : ℕ) → 2 ≤ m → m ≤ 9 → bit_and (bit_and once twice) (1 * 2 ^ (m - 2) % 2 ^ 8) ≡ 0 → (is_clear once (m - 2) || is_clear twice (m - 2)) ≡ true
-either_clear once twice m low high zero_bit =
-    sym (is_clear-and once twice (m - 2)) ∙ sym (is_clear_test (bit_and once twice) (m - 2) (omega arith)) ∙ eq-eqb _ 0 zero_bit
-
-neither_clear : (once twice m : ℕ) → 2 ≤ m → m ≤ 9 → (bit_and (bit_and once twice) (1 * 2 ^ (m - 2) % 2 ^ 8) ≡ 0 → ⊥) → (is_clear once (m - 2) || is_clear twice (m - 2)) ≡ false
-neither_clear once twice m low high set_bit =
-    sym (is_clear-and once twice (m - 2)) ∙ sym (is_clear_test (bit_and once twice) (m - 2) (omega arith)) ∙ ne_eqb _ 0 set_bit
-
-left_false : (x y : Bool) → (x || y) ≡ false → x ≡ false
-left_false false y e = refl
-left_false true y e = absurd (cc)
-
-right_false : (x y : Bool) → (x || y) ≡ false → y ≡ false
-right_false false y e = e
-right_false true y e = absurd (cc)
-
-right_true : (x y : Bool) → (x || y) ≡ true → x ≡ false → y ≡ true
-right_true false y e n = e
-right_true true y e n = absurd (cc)
-
--- bytes i and i + 1 are read, and neither window that ends with one of them passes
-pub two_miss : (entries h : List ℕ) (m pos i before byte next seen : ℕ) → 2 ≤ m → m ≤ 9 → pos + 1 ≤ i → i + 1 < length h → before ≡ get_or h (i - 1) 0 * 256 → byte ≡ get_or h i 0 → next ≡ get_or h (i + 1) 0 → AreBits entries h pos i seen → NonePasses entries h m pos i → (bit_and (bit_and (next_state entries seen (before + byte)) (next_state entries (next_state entries seen (before + byte)) (byte * 256 + next))) (1 * 2 ^ (m - 2) % 2 ^ 8) ≡ 0 → ⊥) → AreBits entries h pos (i + 2) (next_state entries (next_state entries seen (before + byte)) (byte * 256 + next)) × NonePasses entries h m pos (i + 2)
-two_miss entries h m pos i before byte next seen low high after inside is read read_next bits none set_bit =
-    let once = next_state entries seen (before + byte) in
-    let twice = next_state entries once (byte * 256 + next) in
-    let neither = neither_clear once twice m low high set_bit in
-    let first = clear_miss entries h m pos i before byte seen low high after (omega arith) is read bits none (left_false _ _ neither) in
-    let back : i + 1 - 1 ≡ i = omega arith in
-    let place : i + 1 + 1 ≡ i + 2 = omega arith in
-    let was : byte * 256 ≡ get_or h (i + 1 - 1) 0 * 256 = rw (back, read) refl in
-    rw (sym place) (clear_miss entries h m pos (i + 1) (byte * 256) next once low high (omega arith) inside was read_next first.0 first.1 (right_false _ _ neither))
-
--- bytes i and i + 1 are read, and the window that ends with the second passes where that which ends with the first doesn't
-second_hit : (entries h : List ℕ) (m pos i before byte next seen : ℕ) → 2 ≤ m → m ≤ 9 → pos + 1 ≤ i → i + 1 < length h → before ≡ get_or h (i - 1) 0 * 256 → byte ≡ get_or h i 0 → next ≡ get_or h (i + 1) 0 → AreBits entries h pos i seen → NonePasses entries h m pos i → (bit_and (next_state entries seen (before + byte)) (1 * 2 ^ (m - 2) % 2 ^ 8) ≡ 0 → ⊥) → bit_and (bit_and (next_state entries seen (before + byte)) (next_state entries (next_state entries seen (before + byte)) (byte * 256 + next))) (1 * 2 ^ (m - 2) % 2 ^ 8) ≡ 0 → (pos + m ≤ i + 2) × (i + 2 - m ≡ next_position (entry_in entries) m h pos)
-second_hit entries h m pos i before byte next seen low high after inside is read read_next bits none set_bit zero_bit =
-    let once = next_state entries seen (before + byte) in
-    let twice = next_state entries once (byte * 256 + next) in
-    let unclear : is_clear once (m - 2) ≡ false = sym (is_clear_test once (m - 2) (omega arith)) ∙ ne_eqb _ 0 set_bit in
-    let first = clear_miss entries h m pos i before byte seen low high after (omega arith) is read bits none unclear in
-    let back : i + 1 - 1 ≡ i = omega arith in
-    let place : i + 1 + 1 ≡ i + 2 = omega arith in
-    let was : get_or h (i + 1 - 1) 0 * 256 + get_or h (i + 1) 0 ≡ byte * 256 + next = rw (back, sym read, sym read_next) refl in
-    let more = bits_more entries h pos (i + 1) once (byte * 256 + next) (omega arith) inside (sym was) first.0 in
-    let clear = right_true _ _ (either_clear once twice m low high zero_bit) unclear in
-    rw (sym place) (found entries h m pos (i + 1) twice low high (omega arith) (omega arith) more clear first.1)
-
--- bytes i and i + 1 are read, and a window that ends with one of them passes
-pub two_hit : (entries h : List ℕ) (m pos i before byte next seen last : ℕ) → 2 ≤ m → m ≤ 9 → pos + 1 ≤ i → i + 1 < length h → before ≡ get_or h (i - 1) 0 * 256 → byte ≡ get_or h i 0 → next ≡ get_or h (i + 1) 0 → AreBits entries h pos i seen → NonePasses entries h m pos i → ((bit_and (next_state entries seen (before + byte)) (1 * 2 ^ (m - 2) % 2 ^ 8) ≡ 0) × (last ≡ i)) ⊎ ((bit_and (next_state entries seen (before + byte)) (1 * 2 ^ (m - 2) % 2 ^ 8) ≡ 0 → ⊥) × (last ≡ i + 1)) → bit_and (bit_and (next_state entries seen (before + byte)) (next_state entries (next_state entries seen (before + byte)) (byte * 256 + next))) (1 * 2 ^ (m - 2) % 2 ^ 8) ≡ 0 → (pos + m ≤ last + 1) × (last + 1 - m ≡ next_position (entry_in entries) m h pos)
-two_hit entries h m pos i before byte next seen last low high after inside is read read_next bits none (inl first) zero_bit =
-    rw (first.1) (step_hit entries h m pos i before byte seen low high after (omega arith) is read bits none first.0)
-two_hit entries h m pos i before byte next seen last low high after inside is read read_next bits none (inr second) zero_bit =
-    let place : last + 1 ≡ i + 2 = omega (arith, second.1) in
-    rw place (second_hit entries h m pos i before byte next seen low high after inside is read read_next bits none second.0 zero_bit)
+-- of n places the first j end no window that passes
+pub none_of_first : (entries h : List ℕ) (last pos i n state j : ℕ) → j ≤ n → i + n ≤ length h → HasEnded entries h last pos i n state → ((d : ℕ) → d < n → n - j ≤ d → is_clear state (last + d) ≡ false) → NonePasses entries h (last + 2) pos i → NonePasses entries h (last + 2) pos (i + j)
+none_of_first entries h last pos i n state zero few inside ends unfit none = let same : i + zero ≡ i = omega arith in rw same none
+none_of_first entries h last pos i n state (suc j) few inside ends unfit none =
+    let before = none_of_first entries h last pos i n state j (omega arith) inside ends (λ d l u. unfit d l (omega arith)) none in
+    let place : i + suc j ≡ i + j + 1 = omega arith in
+    let at : i + n - (n - suc j) ≡ i + j + 1 = omega arith in
+    let bit : has_begun entries h pos (i + j + 1) last ≡ false = ap (λ p. has_begun entries h pos p last) (sym at) ∙ sym (ends.ends (n - suc j) (omega arith)) ∙ unfit (n - suc j) (omega arith) (omega arith) in
+    rw place (none_more entries h last pos (i + j) (omega arith) bit before)

@@ -18,4 +18,4 @@ AreMarked entries patterns =
 pub record HasAdded {A : Type 0} (b : PrefilterBuilder A) (patterns : List (List ℕ)) : Type 0 where
   pub none : b.is_empty ≡ is_nil patterns
   pub shortest : b.window_len ≡ window_len patterns
-  pub marked : AreMarked b.table.items patterns
+  pub marked : AreMarked b.table patterns

@@ -1,4 +1,5 @@
 pub mod Filters
+pub mod PairTables
 pub mod Building
 pub mod Builders
 pub mod Gates
@@ -6,3 +7,4 @@ pub mod FilterForms
 pub mod Windows
 pub mod Equality
 pub mod Readings
+pub mod Scans

@@ -6,32 +6,32 @@
 //! its patterns, on [`Prefilter::next_position`] being the first place that passes, and on a gate
 //! that closes by what was recorded alone.
 
-ghost use Rattle.std.specs.Prelude.{◌≡◌, ◌++◌, ℕ, ◌<◌, ◌≤◌, List, length, map, drop, true, IfOk, IfErr, slice_index};
-ghost use Rattle.std.specs.Cmp.Rules.{comparing, hashing};
+ghost use Rattle.std.specs.Prelude.{◌≡◌, ◌++◌, ℕ, ◌<◌, ◌≤◌, List, map, drop, true, IfOk, IfErr};
+ghost use Rattle.std.specs.Cmp.Rules.{comparing};
 ghost use Rattle.std.proofs.Common.{rules};
 ghost use Rattle.daachorse_core.specs.Refusals.{IsOutOfMemory};
-ghost use Rattle.daachorse_model.specs.Filter.{next_position};
 ghost use Rattle.daachorse_model.specs.Folding.{folded};
-ghost use Rattle.daachorse_prefilter.specs.Equality.{filter_eq, filter_input};
+ghost use Rattle.daachorse_prefilter.specs.Equality.{filter_alike, filter_eq, filter_input};
 ghost use Rattle.daachorse_prefilter.specs.Filters.{Filter, IsFilter, IsNextBoundary, admits, next_place};
 
 mod builder;
 mod form;
 mod gate;
+mod pair_table;
 mod reading;
+mod scan;
 mod window;
 
 pub use builder::PrefilterBuilder;
 use daachorse_core::errors::Result;
 pub use gate::PrefilterGate;
+use pair_table::PairTable;
 use reading::{AsFolded, AsItIs, ByteReading};
+use scan::scan;
 use std::alloc::{Allocator, Global};
 use std::hash::{Hash, Hasher};
 use std::marker::Model;
 pub use window::Window;
-
-/// How many pairs of bytes there are.
-const NUM_PAIRS: usize = 65536;
 
 const MIN_WINDOW_LEN: u8 = 2;
 
@@ -44,17 +44,17 @@ const MAX_WINDOW_LEN: u8 = 9;
 #[derive(Drop)]
 pub struct Prefilter<A: Allocator = Global> {
     window_len: u8,
-    // For each pair of bytes a and b, at 256 a + b, the places of a window at which it may not
-    // stand: bit j is 0 where some pattern has the pair at place j.
-    table: Vec<u8, A>,
+    // For each pair of bytes the places of a window at which it may not stand: bit j is 0 where
+    // some pattern has the pair at place j.
+    table: PairTable<A>,
 }
 
 impl<A: Allocator> Model for Prefilter<A> {
     ghost Value = { Filter };
 
-    ghost view = { λ f. record { window = f.window_len; entries = f.table.items } };
+    ghost view = { λ f. record { window = f.window_len; entries = f.table } };
 
-    ghost invariant = { λ f. IsFilter (record { window = f.window_len; entries = f.table.items }) };
+    ghost invariant = { λ f. IsFilter (record { window = f.window_len; entries = f.table }) };
 }
 
 impl<A: Allocator> Prefilter<A> {
@@ -118,7 +118,7 @@ impl<A: Allocator> Prefilter<A> {
     fn first_place<R: ByteReading>(&self, haystack: &[u8], pos: usize) -> usize
         ensures { result ≡ next_place self.now (map R.as_read haystack.now) pos }
     {
-        scan::<R>(self.table.as_slice(), self.window_len, haystack, pos)
+        scan::<R, A>(&self.table, self.window_len, haystack, pos)
     }
 
     /// The first boundary from `pos` on at which the filter passes in what is read of the text.
@@ -151,7 +151,7 @@ impl<A: Allocator + Copy> Prefilter<A> {
     {
         Ok(Self {
             window_len: self.window_len,
-            table: Vec::from_slice(*self.table.allocator(), &self.table)?,
+            table: self.table.clone()?,
         })
     }
 }
@@ -190,50 +190,10 @@ impl<A: Allocator> Eq for Prefilter<A> {
 impl<A: Allocator> Hash for Prefilter<A> {
     ghost hash_input = { filter_input };
 
-    ghost respects_eq = { Prim.search (hashing, rules) };
+    ghost respects_eq = { filter_alike.fed };
 
     fn hash<H: Hasher>(&self, state: &mut H) {
         self.window_len.hash(state);
         self.table.hash(state);
     }
-}
-
-/// The first place from `pos` on at which a window of what is read passes, or the haystack's length.
-#[inline(always)]
-fn scan<R: ByteReading>(table: &[u8], window_len: u8, haystack: &[u8], pos: usize) -> usize
-    requires sized { length table.now ≡ 65536 }
-    requires low { 2 ≤ window_len }
-    requires high { window_len ≤ 9 }
-    ensures { result ≡ next_position (λ pair. slice_index table.now pair) window_len (map R.as_read haystack.now) pos }
-{
-    let Some(first) = haystack.get(pos) else {
-        return haystack.len();
-    };
-    let last_pair = 1u8 << (window_len - 2);
-    // The byte before, as the higher byte of the pair that the next one ends.
-    let mut before = R::read(*first) as usize * 256;
-    // Bit j is 0 where the last j + 1 pairs are those that a window begins with.
-    let mut seen = u8::MAX;
-    let mut i = pos + 1;
-    // Two bytes are read in a round, with one test of both, which is faster wherever the loop stands.
-    while i + 1 < haystack.len() {
-        let byte = R::read(haystack[i]) as usize;
-        let next = R::read(haystack[i + 1]) as usize;
-        let once = (seen << 1) | table[before + byte];
-        let twice = (once << 1) | table[byte * 256 + next];
-        if once & twice & last_pair == 0 {
-            let last = if once & last_pair == 0 { i } else { i + 1 };
-            return last + 1 - window_len as usize;
-        }
-        seen = twice;
-        before = next * 256;
-        i += 2;
-    }
-    if i < haystack.len() {
-        let byte = R::read(haystack[i]) as usize;
-        if ((seen << 1) | table[before + byte]) & last_pair == 0 {
-            return i + 1 - window_len as usize;
-        }
-    }
-    haystack.len()
 }

@@ -3,13 +3,14 @@
 //! The layers above may rely on the filter being that of all patterns that were added, and on
 //! there being none exactly where it would not be worth its run.
 
-ghost use Rattle.std.specs.Prelude.{◌≡◌, ℕ, ◌+◌, ◌-◌, ◌*◌, ◌<◌, ◌≤◌, ◌^◌, ◌∷◌, [], ◌++◌, ◌||◌, List, length, vec_len, IfOk, IfErr, IfSome, slice_index};
+ghost use Rattle.std.specs.Prelude.{◌≡◌, ℕ, ◌+◌, ◌-◌, ◌*◌, ◌<◌, ◌≤◌, ◌∷◌, [], ◌++◌, ◌||◌, List, length, vec_len, IfOk, IfErr, IfSome, slice_index};
 ghost use Rattle.daachorse_core.specs.Refusals.{IsOutOfMemory};
 ghost use Rattle.daachorse_model.specs.Filter.{is_clear, has_pair};
 ghost use Rattle.daachorse_prefilter.specs.Filters.{PassesAtPatterns};
 ghost use Rattle.daachorse_prefilter.specs.Building.{built_filter, is_sparse, ArePairCounts};
 
-use super::{MAX_WINDOW_LEN, MIN_WINDOW_LEN, NUM_PAIRS, Prefilter};
+use super::pair_table::{PairTable, pair_of};
+use super::{MAX_WINDOW_LEN, MIN_WINDOW_LEN, Prefilter};
 use daachorse_core::errors::Result;
 use std::alloc::{Allocator, Global};
 
@@ -22,12 +23,12 @@ pub struct PrefilterBuilder<A: Allocator = Global> {
     // The length of the shortest pattern, at most 9.
     window_len: u8,
     is_empty: bool,
-    table: Vec<u8, A>,
+    table: PairTable<A>,
     // For each place of a window, how many pairs may stand at it.
     counts: [u32; 8],
     ghost short: { window_len ≤ 9 },
-    ghost sized: { length table.items ≡ 65536 },
-    ghost counted: { ArePairCounts table.items counts },
+    ghost sized: { length table ≡ 65536 },
+    ghost counted: { ArePairCounts table counts },
 }
 
 impl<A: Allocator> PrefilterBuilder<A> {
@@ -45,7 +46,7 @@ impl<A: Allocator> PrefilterBuilder<A> {
         Ok(Self {
             window_len: MAX_WINDOW_LEN,
             is_empty: true,
-            table: vec![in alloc; u8::MAX; NUM_PAIRS]?,
+            table: PairTable::new(alloc)?,
             counts: [0; 8],
         })
     }
@@ -74,7 +75,7 @@ impl<A: Allocator> PrefilterBuilder<A> {
         if self.is_empty || self.window_len < MIN_WINDOW_LEN {
             return None;
         }
-        in_range(&self.table);
+        self.table.in_range();
         if !is_sparse(&self.counts, self.window_len - 1) {
             return None;
         }
@@ -86,21 +87,22 @@ impl<A: Allocator> PrefilterBuilder<A> {
 }
 
 /// Lets each pair of the window stand at its place, and counts those that are new there.
-fn clear_pairs(table: &mut [u8], counts: &mut [u32], window: &[u8])
+fn clear_pairs<A: Allocator>(table: &mut PairTable<A>, counts: &mut [u32], window: &[u8])
     requires sized { length table.old ≡ 65536 }
     requires places { length counts.old ≡ 8 }
     requires counted { ArePairCounts table.old counts.old }
     requires short { length window.now ≤ 9 }
     ensures marked { (pair j : ℕ) → pair < 65536 → j < 8 → is_clear (slice_index table.new pair) j
         ≡ (is_clear (slice_index table.old pair) j || has_pair pair j window.now) }
+    ensures sized { length table.new ≡ 65536 }
     ensures counted { ArePairCounts table.new counts.new }
 {
     for i in 1..window.len() {
         let place = i - 1;
-        let pair = window[place] as usize * 256 + window[i] as usize;
-        let entry = table[pair];
+        let pair = pair_of(window[place], window[i]);
+        let entry = table.entry(pair);
         counts[place] += ((entry >> place) % 2) as u32;
-        table[pair] = entry & !(1u8 << place);
+        table.set_entry(pair, entry & !(1u8 << place));
     }
 }
 
@@ -122,8 +124,3 @@ fn is_sparse(counts: &[u32], num_pairs: u8) -> bool
     }
     ways <= 1u128 << (16 * num_pairs - 4)
 }
-
-/// Does nothing. It promises that a table in hand has bytes.
-fn in_range(_table: &[u8])
-    ensures { (pair : ℕ) → slice_index _table.now pair < 2 ^ 8 }
-{}

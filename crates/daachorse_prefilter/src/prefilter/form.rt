@@ -7,12 +7,14 @@ ghost use Rattle.std.specs.Prelude.{◌≡◌, length};
 ghost use Rattle.daachorse_prefilter.specs.FilterForms.{filter_form, filter_law, take_filter};
 ghost use Rattle.daachorse_prefilter.specs.Filters.{Filter, IsFilter};
 
-use super::{MAX_WINDOW_LEN, MIN_WINDOW_LEN, NUM_PAIRS, Prefilter};
+use super::pair_table::{NUM_PAIRS, PairTable};
+use super::{MAX_WINDOW_LEN, MIN_WINDOW_LEN, Prefilter};
 use daachorse_core::errors::{DaachorseError, Result};
 use daachorse_serializer::serializer::SerializableVec;
 use std::alloc::Allocator;
 
-/// The length of the window as one byte, then the table without a count.
+/// The length of the window as one byte, then the entries without a count, that of bytes a and b at
+/// 256 a + b.
 impl<A: Allocator> SerializableVec for Prefilter<A> {
     type Alloc = A;
 
@@ -32,7 +34,7 @@ impl<A: Allocator> SerializableVec for Prefilter<A> {
 
     fn serialize_to_vec<B: Allocator>(&self, dst: &mut Vec<u8, B>) -> Result<()> {
         dst.push(self.window_len)?;
-        dst.extend_from_slice(&self.table)?;
+        self.table.push_to(dst)?;
         Ok(())
     }
 
@@ -48,7 +50,7 @@ impl<A: Allocator> SerializableVec for Prefilter<A> {
         let Some((entries, rest)) = bytes.split_at_checked(NUM_PAIRS) else {
             return Err(DaachorseError::invalid_automaton());
         };
-        let table = Vec::from_slice(alloc, entries)?;
+        let table = PairTable::from_entries(alloc, entries)?;
         Ok((Self { window_len, table }, rest))
     }
 

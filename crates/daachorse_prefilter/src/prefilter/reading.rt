@@ -4,9 +4,10 @@
 //! The scan may rely on each byte being read by itself, and on the boundaries of a text's characters
 //! staying where they are.
 
-ghost use Rattle.std.specs.Prelude.{◌≡◌, ◌↔◌, ℕ, List, map};
+ghost use Rattle.std.specs.Prelude.{◌≡◌, ◌↔◌, ◌+◌, ◌/◌, ◌%◌, ◌<◌, ℕ, List, length, map, slice_index};
 ghost use Rattle.std.specs.Str.{IsCharBoundary};
 
+use super::pair_table::pair_of;
 use daachorse_core::ascii_fold::AsciiFold;
 
 /// A way to read bytes.
@@ -14,9 +15,11 @@ pub trait ByteReading {
     /// The byte that is read.
     ghost as_read: { ℕ → ℕ };
 
-    /// Reads a byte.
-    fn read(byte: u8) -> u8
-        ensures { result ≡ Self.as_read byte };
+    /// Reads the byte at a place and the next, and answers the number of their pair.
+    fn pair(haystack: &[u8], place: usize) -> u16
+        requires { place + 1 < length haystack.now }
+        ensures first { result % 256 ≡ Self.as_read (slice_index haystack.now place) }
+        ensures second { result / 256 ≡ Self.as_read (slice_index haystack.now (place + 1)) };
 
     // The text that is read has its boundaries at the same places.
     ghost same_boundaries: { (text : List ℕ) (place : ℕ) → IsCharBoundary (map as_read text) place ↔ IsCharBoundary text place };
@@ -34,8 +37,10 @@ impl ByteReading for AsItIs {
     ghost as_read = { λ b. b };
 
     #[inline(always)]
-    fn read(byte: u8) -> u8 {
-        byte
+    fn pair(haystack: &[u8], place: usize) -> u16 {
+        // As one array both are loaded at once.
+        let (pairs, _rest) = haystack[place..place + 2].as_chunks::<2>();
+        u16::from_le_bytes(pairs[0])
     }
 
     ghost same_boundaries = { same_as_it_is };
@@ -48,8 +53,8 @@ impl ByteReading for AsFolded {
     ghost as_read = { folded_unit };
 
     #[inline(always)]
-    fn read(byte: u8) -> u8 {
-        byte.folded()
+    fn pair(haystack: &[u8], place: usize) -> u16 {
+        pair_of(haystack[place].folded(), haystack[place + 1].folded())
     }
 
     ghost same_boundaries = { IsCharBoundary-folded };

@@ -7,6 +7,7 @@ ghost use Rattle.std.specs.Prelude.{◌≡◌, ◌++◌, ◌∷◌, [], ℕ, Lis
 ghost use Rattle.daachorse_prefilter.specs.Filters.{Filter, admits};
 
 use super::Prefilter;
+use super::pair_table::pair_of;
 use std::alloc::Allocator;
 
 /// What a filter keeps of the beginning of a text, of which some bytes were read.
@@ -59,7 +60,7 @@ impl<A: Allocator> Prefilter<A> {
         }
         let mut passes = window.passes;
         if window.len > 0 {
-            let entry = self.table[window.last as usize * 256 + byte as usize];
+            let entry = self.table.entry(pair_of(window.last, byte));
             passes = passes && (entry >> (window.len - 1)) % 2 == 0;
         }
         Window {

@@ -1,8 +1,8 @@
 -- A byte more of the window, if it is not whole.
 use Rattle.std.proofs.Common.{◌≡◌, ◌+◌, ◌-◌, ◌*◌, ◌<◌, ◌≤◌, ◌&&◌, [], ◌∷◌, get_or, sym, ap, ◌∙◌, arith}
-use Rattle.std.proofs.lemmas.List.{get_or_read}
 use Rattle.daachorse_model.specs.Filter.{is_clear}
 use Rattle.daachorse_prefilter.specs.Filters.{entry_of}
+use Rattle.daachorse_prefilter.proofs.PairTables.{entry_at}
 use Rattle.daachorse_prefilter.proofs.WindowLaws.{first_read, next_read, whole_read}
 use Rattle.daachorse_prefilter.proofs.prefilter.Prefilter.read_byte.Goals as goal
 use Rattle.daachorse_prefilter.proofs.prefilter.Prefilter.read_byte.Goals.{then-window-gt0+then-passes, then-window-gt0+else-passes, else-window-gt0}
@@ -23,8 +23,9 @@ returns g c text read =
     let wide : 2 ≤ f.window = omega (arith, size, c.self.invariant.low) in
     elim c.if-window-gt0.branch [
       | then-window-gt0+then-passes w ↦
-          let entry : w.index-entry.result.now ≡ entry_of f (s.last * 256 + c.args.byte) =
-          get_or_read c.self.inside.table.items (s.last * 256 + c.args.byte) w.index-entry.result.now (omega (arith, c.self.invariant.sized)) w.index-entry.ensures 0
+          let entry : w.entry-entry.result ≡ entry_of f (s.last * 256 + c.args.byte) =
+          w.entry-entry.ensures
+          ∙ entry_at c.self.inside.table s.last c.args.byte w.pair_of.result (omega arith) w.pair_of.ensures
           ∙ ap (λ f. get_or f.entries (s.last * 256 + c.args.byte) 0) c.self.view_is in
           next_read f text s wide read c.args.byte c.if-window-gt0.passes w.if-window-gt0.true less
           (w.passes-is ∙ ap (λ n. is_clear n (s.len - 1)) entry ∙ ap (λ b. b && is_clear (entry_of f (s.last * 256 + c.args.byte)) (s.len - 1)) (sym w.if-passes.true))

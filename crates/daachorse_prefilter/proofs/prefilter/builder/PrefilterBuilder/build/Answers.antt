@@ -1,5 +1,5 @@
 -- The table is that of the patterns, since its bits are.
-use Rattle.std.proofs.Common.{◌≡◌, ◌<◌, ◌^◌, ◌-◌, ℕ, List, get_or, true, false, sym, ◌∙◌, subst, arith}
+use Rattle.std.proofs.Common.{◌≡◌, ◌-◌, true, false, sym, ◌∙◌, arith}
 use Rattle.daachorse_prefilter.specs.Building.{is_sparse}
 use Rattle.daachorse_prefilter.proofs.Soundness.{sound, none_dense, some_sparse}
 use Rattle.daachorse_prefilter.proofs.prefilter.builder.PrefilterBuilder.build.Goals as goal
@@ -7,10 +7,8 @@ use Rattle.daachorse_prefilter.proofs.prefilter.builder.PrefilterBuilder.build.G
 pub returns-then-not-is_sparse-clause-made : goal.returns-then-not-is_sparse-clause-made
 returns-then-not-is_sparse-clause-made g c patterns added =
     let b = c.args.self in
-    let P : List ℕ → Type 0 = λ xs. (k : ℕ) → get_or xs k 0 < 2 ^ 8 in
-    let bytes : P b.table.items = subst P c.deref.ensures.value c.in_range.ensures in
-    let dense : is_sparse b.table.items (b.window_len - 1) ≡ false = sym (c.is_sparse.ensures b.table.items b.sized b.counted) ∙ c.if-not-is_sparse.true in
-    none_dense b.table.items patterns b.window_len b.sized bytes added.shortest added.marked dense
+    let dense : is_sparse b.table (b.window_len - 1) ≡ false = sym (c.is_sparse.ensures b.table b.sized b.counted) ∙ c.if-not-is_sparse.true in
+    none_dense b.table patterns b.window_len b.sized c.in_range.ensures.bytes added.shortest added.marked dense
 
 pub invariant_of-result : goal.invariant_of-result
 invariant_of-result g c = record { low = omega arith; high = c.args.self.short; sized = c.args.self.sized }
@@ -20,9 +18,7 @@ returns g c =
     let b = c.args.self in
     record {
       made = λ patterns added.
-          let P : List ℕ → Type 0 = λ xs. (k : ℕ) → get_or xs k 0 < 2 ^ 8 in
-          let bytes : P b.table.items = subst P c.deref.ensures.value c.in_range.ensures in
-          let sparse : is_sparse b.table.items (b.window_len - 1) ≡ true = sym (c.is_sparse.ensures b.table.items b.sized b.counted) ∙ c.if-not-is_sparse.false in
-          some_sparse b.table.items patterns b.window_len b.sized bytes (sym added.none ∙ c.if-self.false) added.shortest (omega arith) added.marked sparse;
-      sound = λ patterns added. sound b.table.items patterns b.window_len b.sized added.shortest (omega arith) added.marked;
+          let sparse : is_sparse b.table (b.window_len - 1) ≡ true = sym (c.is_sparse.ensures b.table b.sized b.counted) ∙ c.if-not-is_sparse.false in
+          some_sparse b.table patterns b.window_len b.sized c.in_range.ensures.bytes (sym added.none ∙ c.if-self.false) added.shortest (omega arith) added.marked sparse;
+      sound = λ patterns added. sound b.table patterns b.window_len b.sized added.shortest (omega arith) added.marked;
     }

@@ -1,0 +1,21 @@
+-- What the state of a scan tells of the windows of a text.
+use Rattle.std.specs.Prelude.{◌≡◌, ℕ, suc, ◌+◌, ◌-◌, ◌<◌, ◌≤◌, Bool, false, nat_le, ◌&&◌, List, drop, slice_index}
+use Rattle.daachorse_model.specs.Filter.{is_clear, pairs_pass, passes}
+
+-- the last b + 1 pairs before place i, of those from pos on, are the first of a window that may pass
+abbrev pub has_begun : List ℕ → List ℕ → ℕ → ℕ → ℕ → Bool
+has_begun entries text pos i b =
+    nat_le (pos + b + 2) i && pairs_pass (λ pair. slice_index entries pair) 0 (suc b) (drop (i - b - 2) text)
+
+-- bit b of the state is 0 just where this is so, up to the bit of a window's last pair
+abbrev pub AreBits : List ℕ → List ℕ → ℕ → ℕ → ℕ → ℕ → Type 0
+AreBits entries text last pos i state = (b : ℕ) → b ≤ last → is_clear state b ≡ has_begun entries text pos i b
+
+-- the state knows of each of the last n places whether a window ends there
+pub record HasEnded (entries text : List ℕ) (last pos i n state : ℕ) : Type 0 where
+  pub bits : AreBits entries text last pos (i + n) state
+  pub ends : (d : ℕ) → d < n → is_clear state (last + d) ≡ has_begun entries text pos (i + n - d) last
+
+-- no window that ends before place i passes
+abbrev pub NonePasses : List ℕ → List ℕ → ℕ → ℕ → ℕ → Type 0
+NonePasses entries text m pos i = (k : ℕ) → pos ≤ k → k + m ≤ i → passes (λ pair. slice_index entries pair) m (drop k text) ≡ false

@@ -7,7 +7,7 @@ ghost use Rattle.std.specs.Prelude.{◌≡◌, ℕ, List, encode_utf8_all};
 ghost use Rattle.daachorse_search.specs.Filters.{IsNextPassing};
 ghost use Rattle.daachorse_model.specs.Folding.{folded};
 ghost use Rattle.daachorse_model.specs.Units.{byte_width, char_width};
-ghost use Rattle.daachorse_prefilter.specs.Filters.{next_place};
+ghost use Rattle.daachorse_prefilter.specs.Filters.{IsNextBoundary, next_place};
 ghost use Rattle.daachorse_skipping.specs.Asked.{HasRecordedSkip, lets_pass};
 
 use crate::reading::AsRead;
@@ -58,7 +58,7 @@ impl<'a, 'h, A: Allocator> FoldingFilter<char, Text<'h>> for Skipping<'a, A> {
         ensures records { HasRecordedSkip char_width self.old (folded rest.old) (folded rest.new) self.new }
     {
         if let Some(filter) = self.filter() {
-            let gain = filter.next_position_folded_at_char_boundary(rest.unfolded().text(), 0);
+            let gain = first_boundary_folded(filter, rest.unfolded().text());
             self.record(gain);
             *rest = rest.after(gain);
         }
@@ -122,4 +122,15 @@ fn first_place_folded<A: Allocator>(filter: &Prefilter<A>, haystack: &[u8]) -> u
     ensures { result ≡ next_place filter.now (folded haystack.now) 0 }
 {
     filter.next_position_folded(haystack, 0)
+}
+
+/// The first boundary of the folded text at which the filter passes, or its length in bytes.
+///
+/// It stands by itself and is marked cold for the same reason as [`first_place_folded`].
+#[cold]
+#[inline(never)]
+fn first_boundary_folded<A: Allocator>(filter: &Prefilter<A>, haystack: &str) -> usize
+    ensures { IsNextBoundary filter.now (folded haystack.now) 0 result }
+{
+    filter.next_position_folded_at_char_boundary(haystack, 0)
 }

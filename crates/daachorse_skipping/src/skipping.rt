@@ -5,7 +5,7 @@
 //! skipped. No search's answer rests on the gate.
 
 ghost use Rattle.std.specs.Prelude.{◌≡◌, ℕ, List, [], ◌∷◌, ◌++◌, option_map, encode_utf8_all, IsTrue};
-ghost use Rattle.daachorse_prefilter.specs.Filters.{next_place};
+ghost use Rattle.daachorse_prefilter.specs.Filters.{IsNextBoundary, next_place};
 ghost use Rattle.daachorse_prefilter.specs.Gates.{HasRecorded};
 ghost use Rattle.daachorse_search.specs.Filters.{IsNextPassing};
 ghost use Rattle.daachorse_model.specs.Units.{byte_width, char_width};
@@ -129,7 +129,7 @@ impl<'a, 'h, A: Allocator> Filter<char, Text<'h>> for Skipping<'a, A> {
         ensures records { HasRecordedSkip char_width self.old rest.old rest.new self.new }
     {
         if let Some(filter) = self.filter {
-            let gain = filter.next_position_at_char_boundary(rest.text(), 0);
+            let gain = first_boundary(filter, rest.text());
             self.gate.record(gain);
             *rest = rest.after(gain);
         }
@@ -146,4 +146,15 @@ fn first_place<A: Allocator>(filter: &Prefilter<A>, haystack: &[u8]) -> usize
     ensures { result ≡ next_place filter.now haystack.now 0 }
 {
     filter.next_position(haystack, 0)
+}
+
+/// The first boundary of the text at which the filter passes, or its length in bytes.
+///
+/// It stands by itself and is marked cold for the same reason as [`first_place`].
+#[cold]
+#[inline(never)]
+fn first_boundary<A: Allocator>(filter: &Prefilter<A>, haystack: &str) -> usize
+    ensures { IsNextBoundary filter.now haystack.now 0 result }
+{
+    filter.next_position_at_char_boundary(haystack, 0)
 }

@@ -18,15 +18,15 @@ spelled h unfolded bytes u same as_it_is = chars-folded bytes u ∙ ap folded (s
 
 pub after-requires : goal.after-requires
 after-requires g c =
-    let bs = folded c.text.result.now in let r : ℕ = c.next_position_folded_at_char_boundary-gain.result in let boundary = c.next_position_folded_at_char_boundary-gain.ensures.boundary in
+    let bs = folded c.text.result.now in let r : ℕ = c.first_boundary_folded-gain.result in let boundary = c.first_boundary_folded-gain.ensures.boundary in
     let u = IsUtf8-folded c.text.result.now c.text.utf8 in
     let whole = spelled c.args.rest.now c.unfolded.result.now c.text.result.now c.text.utf8 c.text.ensures c.unfolded.ensures in
     (chars (take r bs), chars (drop r bs), sym whole ∙ chars_cut bs r u boundary, chars_sized bs r u boundary)
 
 pub returns-in-Some-clause-goes : goal.returns-in-Some-clause-goes
 returns-in-Some-clause-goes g c =
-    let f = c.in-Some.filter.now in let bs = folded c.text.result.now in let r : ℕ = c.next_position_folded_at_char_boundary-gain.result in let later = folded c.after.result in
-    let next = c.next_position_folded_at_char_boundary-gain.ensures in
+    let f = c.in-Some.filter.now in let bs = folded c.text.result.now in let r : ℕ = c.first_boundary_folded-gain.result in let later = folded c.after.result in
+    let next = c.first_boundary_folded-gain.ensures in
     let u = IsUtf8-folded c.text.result.now c.text.utf8 in
     let whole = spelled c.args.rest.now c.unfolded.result.now c.text.result.now c.text.utf8 c.text.ensures c.unfolded.ensures in
     let shown : c.args.self.now.filter ≡ Some f = c.filter.ensures ∙ ap (option_map (λ (x : Bor Filter). x.now)) c.in-Some.is in
@@ -37,8 +37,8 @@ returns-in-Some-clause-goes g c =
 
 pub returns-in-Some-clause-records : goal.returns-in-Some-clause-records
 returns-in-Some-clause-records g c = λ gains before.
-    let f = c.in-Some.filter.now in let h = folded c.args.rest.now in let bs = folded c.text.result.now in let r : ℕ = c.next_position_folded_at_char_boundary-gain.result in let later = folded c.after.result in
-    let boundary = c.next_position_folded_at_char_boundary-gain.ensures.boundary in
+    let f = c.in-Some.filter.now in let h = folded c.args.rest.now in let bs = folded c.text.result.now in let r : ℕ = c.first_boundary_folded-gain.result in let later = folded c.after.result in
+    let boundary = c.first_boundary_folded-gain.ensures.boundary in
     let u = IsUtf8-folded c.text.result.now c.text.utf8 in
     let whole = spelled c.args.rest.now c.unfolded.result.now c.text.result.now c.text.utf8 c.text.ensures c.unfolded.ensures in
     let shown : c.args.self.now.filter ≡ Some f = c.filter.ensures ∙ ap (option_map (λ (x : Bor Filter). x.now)) c.in-Some.is in

@@ -14,13 +14,13 @@ use Rattle.daachorse_skipping.proofs.skipping.SkippingFilterCharText.skip.Goals 
 
 pub after-requires : goal.after-requires
 after-requires g c =
-    let bs = c.text.result.now in let r : ℕ = c.next_position_at_char_boundary-gain.result in let boundary = c.next_position_at_char_boundary-gain.ensures.boundary in
+    let bs = c.text.result.now in let r : ℕ = c.first_boundary-gain.result in let boundary = c.first_boundary-gain.ensures.boundary in
     (chars (take r bs), chars (drop r bs), sym c.text.ensures ∙ chars_cut bs r c.text.utf8 boundary, chars_sized bs r c.text.utf8 boundary)
 
 pub returns-in-Some-clause-goes : goal.returns-in-Some-clause-goes
 returns-in-Some-clause-goes g c =
-    let f = c.in-Some.filter.now in let bs = c.text.result.now in let r : ℕ = c.next_position_at_char_boundary-gain.result in let later = c.after.result in
-    let next = c.next_position_at_char_boundary-gain.ensures in
+    let f = c.in-Some.filter.now in let bs = c.text.result.now in let r : ℕ = c.first_boundary-gain.result in let later = c.after.result in
+    let next = c.first_boundary-gain.ensures in
     let shown : c.args.self.now.filter ≡ Some f = sym (ap (λ (s : Asked). s.filter) c.self.view_is) ∙ ap (option_map (λ (x : Bor Filter). x.now)) c.in-Some.is in
     let P : Option Filter → Type 0 = λ o. IsNextPassing (λ w. lets_pass o (encode_utf8_all w)) c.args.rest.now later in
     let Q : List ℕ → Type 0 = λ h. IsNextPassing (λ w. lets_pass (Some f) (encode_utf8_all w)) h later in
@@ -29,8 +29,8 @@ returns-in-Some-clause-goes g c =
 
 pub returns-in-Some-clause-records : goal.returns-in-Some-clause-records
 returns-in-Some-clause-records g c = λ gains before.
-    let f = c.in-Some.filter.now in let h = c.args.rest.now in let bs = c.text.result.now in let r : ℕ = c.next_position_at_char_boundary-gain.result in let later = c.after.result in
-    let boundary = c.next_position_at_char_boundary-gain.ensures.boundary in
+    let f = c.in-Some.filter.now in let h = c.args.rest.now in let bs = c.text.result.now in let r : ℕ = c.first_boundary-gain.result in let later = c.after.result in
+    let boundary = c.first_boundary-gain.ensures.boundary in
     let shown : c.args.self.now.filter ≡ Some f = sym (ap (λ (s : Asked). s.filter) c.self.view_is) ∙ ap (option_map (λ (x : Bor Filter). x.now)) c.in-Some.is in
     let P : PrefilterGate → Type 0 = λ gate. HasRecorded gate gains in
     let recorded = c.record.ensures gains (subst P (sym (ap (λ (s : Asked). s.gate) c.self.view_is)) before) in

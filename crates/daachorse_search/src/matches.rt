@@ -202,7 +202,8 @@ fn place_first<V: Copy, W: Stepwise<V>>(walk: &W) -> (Option<NonZeroU32>, Option
 
 /// Where no output is left to give, comes to the next: to the first of all, which it takes out of `first`, or by
 /// reading on. It answers its position; `None` where the haystack ends first.
-#[inline(always)]
+// Neither this function nor the next is marked to be compiled into its caller, as the others here are. Both are, but
+// with the mark they make `next` so large that the mark of that is dropped.
 fn go_on<V: Copy, W: Stepwise<V>, H: Reread<W::Unit>, F: Filter<W::Unit, H>>(
     walk: &mut W,
     taken: &mut Turns,
@@ -234,8 +235,6 @@ fn go_on<V: Copy, W: Stepwise<V>, H: Reread<W::Unit>, F: Filter<W::Unit, H>>(
 /// Reads on until there is something to give, past what a filter that is open passes over, and
 /// answers the position of the first output; `None` where the haystack ends first. The filter is asked at
 /// the root, until it closes.
-// It is not marked to be compiled into its caller, as the others here are. It is compiled into it, but with the mark
-// it would make `next` so large that the mark of that is dropped.
 fn read_past<V: Copy, W: Stepwise<V>, H: Reread<W::Unit>, F: Filter<W::Unit, H>>(
     walk: &mut W,
     taken: &mut Turns,

@@ -4,8 +4,8 @@
 //! below, on one look a unit where a row is looked at, which is everywhere where the rows are closed,
 //! and on no call taking memory.
 
-ghost use Rattle.std.specs.Prelude.{◌≡◌};
-ghost use Rattle.daachorse_rows.specs.Rows.{AreRows, SharesText, StandsFor, stands_by, state_at};
+ghost use Rattle.std.specs.Prelude.{◌≡◌, ◌+◌, ◌<◌, length, slice_index};
+ghost use Rattle.daachorse_rows.specs.Rows.{AreRows, IsPlace, SharesText, StandsFor, stands_by, state_at};
 
 use crate::label::{RowLabel, SLOTTED};
 use crate::making::{HAS_OUTPUTS, NO_ROW};
@@ -107,6 +107,19 @@ where
         (self.top.len() as u32).wrapping_add(state)
     }
 
+    /// The slot of the label `number` in the row that begins at a place.
+    // The label's column is found first: a search waits for the place, and then for this one load alone.
+    #[inline(always)]
+    fn slot(&self, place: usize, number: usize) -> u32
+        requires place { IsPlace self.now.rows place }
+        requires inside { place < length self.now.rows.top }
+        requires label { number < 510 }
+        ensures { result ≡ slice_index self.now.rows.top (place + slice_index self.now.rows.classes number) }
+    {
+        let column = &self.top[self.classes[number] as usize..];
+        column[place]
+    }
+
     /// The place of a state in which a look below the rows ends the step. But for the root it has no
     /// row, since each state that has one is led to by a state that has one.
     #[inline(always)]
@@ -157,7 +170,7 @@ where
         let number = label.index();
         if place < self.top.len() && number < SLOTTED as usize {
             turns.tick();
-            let entry = self.top[place + self.classes[number] as usize];
+            let entry = self.slot(place, number);
             if entry < HAS_OUTPUTS {
                 return Look::Next(entry, None);
             }

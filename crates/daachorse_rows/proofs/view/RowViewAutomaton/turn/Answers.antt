@@ -1,5 +1,5 @@
 -- A slot holds the end of its label's step, so one look at it tells what all looks of the automaton would; elsewhere the automaton looks itself, and its states are told as places.
-use Rattle.std.proofs.Common.{ℕ, ◌+◌, ◌-◌, ◌<◌, List, length, refl, sym, subst, arith}
+use Rattle.std.proofs.Common.{ℕ, ◌+◌, ◌-◌, ◌<◌, ◌≤◌, List, length, refl, sym, subst, arith}
 use Rattle.std.specs.Prelude.{slice_index, None}
 use Rattle.daachorse_core.specs.Looks.{IsFirstOutput}
 use Rattle.daachorse_core.specs.declared.turns.Look.TheVariants.{Next, Fail}
@@ -14,39 +14,51 @@ pub returns-then-entry-lt-HAS_OUTPUTS-clause-look :
     goal.returns-then-entry-lt-HAS_OUTPUTS-clause-look
 returns-then-entry-lt-HAS_OUTPUTS-clause-look g c =
     let A = g.A.Automaton in let s = c.self.inside in
-    let e : ℕ = slice_index s.top.now (c.args.state + slice_index s.classes.now c.index-number.result) in
     let R : Rowed g.row.A.Denot → Type 0 = λ p. IsPlace p.rows c.args.state in
+    let L : Rowed g.row.A.Denot → Type 0 = λ p. slice_index p.rows.top (c.args.state + slice_index p.rows.classes c.index-number.result) < 2147483648 in
+    let B : ℕ → Type 0 = λ e. e < 2147483648 in
     let sees = λ (p : Rowed g.row.A.Denot). over_rows g.A.Label.RowLabel.most (A.sees p.automaton) (stands_by g.A.Label.RowLabel.number (A.labels p.automaton)) p.rows in
-    let P : Rowed g.row.A.Denot → Type 0 = λ p. (unit : ℕ) → A.labels p.automaton c.args.label unit → SeesLook (sees p) c.args.state unit (Next e None) in
-    subst P c.self.view_is (λ unit coded. look_quiet g.A.Unit.EdgeLabel.width (A.sees s.automaton) _ g.A.Label.RowLabel.most _ c.self.invariant c.args.state c.index-number.result (subst R (sym c.self.view_is) c.requires.0) c.if-place-self.true c.if-number.true c.if-entry-lt-HAS_OUTPUTS.true unit (c.args.label, sym c.index-number.ensures.is, coded))
+    let P : Rowed g.row.A.Denot → Type 0 = λ p. (unit : ℕ) → A.labels p.automaton c.args.label unit → SeesLook (sees p) c.args.state unit (Next (slice_index p.rows.top (c.args.state + slice_index p.rows.classes c.index-number.result)) None) in
+    let Q : ℕ → Type 0 = λ e. (unit : ℕ) → A.labels c.args.self.now.automaton c.args.label unit → SeesLook (sees c.args.self.now) c.args.state unit (Next e None) in
+    let low = subst L (sym c.self.view_is) (subst B c.slot-entry.ensures c.if-entry-lt-HAS_OUTPUTS.true) in
+    subst Q (sym c.slot-entry.ensures) (subst P c.self.view_is (λ unit coded. look_quiet g.A.Unit.EdgeLabel.width (A.sees s.automaton) _ g.A.Label.RowLabel.most _ c.self.invariant c.args.state c.index-number.result (subst R (sym c.self.view_is) c.requires.0) c.if-place-self.true c.if-number.true low unit (c.args.label, sym c.index-number.ensures.is, coded)))
 
 pub returns-then-entry-lt-HAS_OUTPUTS-clause-output :
     goal.returns-then-entry-lt-HAS_OUTPUTS-clause-output
 returns-then-entry-lt-HAS_OUTPUTS-clause-output g c =
     let A = g.A.Automaton in let s = c.self.inside in
-    let e : ℕ = slice_index s.top.now (c.args.state + slice_index s.classes.now c.index-number.result) in
     let R : Rowed g.row.A.Denot → Type 0 = λ p. IsPlace p.rows c.args.state in
+    let L : Rowed g.row.A.Denot → Type 0 = λ p. slice_index p.rows.top (c.args.state + slice_index p.rows.classes c.index-number.result) < 2147483648 in
+    let B : ℕ → Type 0 = λ e. e < 2147483648 in
     let sees = λ (p : Rowed g.row.A.Denot). over_rows g.A.Label.RowLabel.most (A.sees p.automaton) (stands_by g.A.Label.RowLabel.number (A.labels p.automaton)) p.rows in
-    let P : Rowed g.row.A.Denot → Type 0 = λ p. (unit : ℕ) → A.labels p.automaton c.args.label unit → HasFirst g.A.Unit.EdgeLabel.width (sees p) e None in
-    subst P c.self.view_is (λ unit coded. output_quiet g.A.Unit.EdgeLabel.width (A.sees s.automaton) _ g.A.Label.RowLabel.most _ c.self.invariant c.args.state c.index-number.result (subst R (sym c.self.view_is) c.requires.0) c.if-place-self.true c.if-number.true c.if-entry-lt-HAS_OUTPUTS.true)
+    let P : Rowed g.row.A.Denot → Type 0 = λ p. (unit : ℕ) → A.labels p.automaton c.args.label unit → HasFirst g.A.Unit.EdgeLabel.width (sees p) (slice_index p.rows.top (c.args.state + slice_index p.rows.classes c.index-number.result)) None in
+    let Q : ℕ → Type 0 = λ e. (unit : ℕ) → A.labels c.args.self.now.automaton c.args.label unit → HasFirst g.A.Unit.EdgeLabel.width (sees c.args.self.now) e None in
+    let low = subst L (sym c.self.view_is) (subst B c.slot-entry.ensures c.if-entry-lt-HAS_OUTPUTS.true) in
+    subst Q (sym c.slot-entry.ensures) (subst P c.self.view_is (λ unit coded. output_quiet g.A.Unit.EdgeLabel.width (A.sees s.automaton) _ g.A.Label.RowLabel.most _ c.self.invariant c.args.state c.index-number.result (subst R (sym c.self.view_is) c.requires.0) c.if-place-self.true c.if-number.true low))
 
 pub output_pos-requires : goal.output_pos-requires
 output_pos-requires g c =
     let A = g.A.Automaton in let s = c.self.inside in
-    let e : ℕ = slice_index s.top.now (c.args.state + slice_index s.classes.now c.index-number.result) in
     let R : Rowed g.row.A.Denot → Type 0 = λ p. IsPlace p.rows c.args.state in
+    let L : Rowed g.row.A.Denot → Type 0 = λ p. 2147483648 ≤ slice_index p.rows.top (c.args.state + slice_index p.rows.classes c.index-number.result) in
+    let B : ℕ → Type 0 = λ e. 2147483648 ≤ e in
     let sees = λ (p : Rowed g.row.A.Denot). over_rows g.A.Label.RowLabel.most (A.sees p.automaton) (stands_by g.A.Label.RowLabel.number (A.labels p.automaton)) p.rows in
-    let P : Rowed g.row.A.Denot → Type 0 = λ p. (sees p).reached (e - 2147483648) in
-    subst P c.self.view_is (reached_loud g.A.Unit.EdgeLabel.width (A.sees s.automaton) _ g.A.Label.RowLabel.most _ c.self.invariant c.args.state c.index-number.result (subst R (sym c.self.view_is) c.requires.0) c.if-place-self.true c.if-number.true c.if-entry-lt-HAS_OUTPUTS.false)
+    let P : Rowed g.row.A.Denot → Type 0 = λ p. (sees p).reached (slice_index p.rows.top (c.args.state + slice_index p.rows.classes c.index-number.result) - 2147483648) in
+    let Q : ℕ → Type 0 = λ e. (sees c.args.self.now).reached (e - 2147483648) in
+    let high = subst L (sym c.self.view_is) (subst B c.slot-entry.ensures c.if-entry-lt-HAS_OUTPUTS.false) in
+    subst Q (sym c.slot-entry.ensures) (subst P c.self.view_is (reached_loud g.A.Unit.EdgeLabel.width (A.sees s.automaton) _ g.A.Label.RowLabel.most _ c.self.invariant c.args.state c.index-number.result (subst R (sym c.self.view_is) c.requires.0) c.if-place-self.true c.if-number.true high))
 
 pub returns-then-number-clause-look : goal.returns-then-number-clause-look
 returns-then-number-clause-look g c =
     let A = g.A.Automaton in let s = c.self.inside in
-    let e : ℕ = slice_index s.top.now (c.args.state + slice_index s.classes.now c.index-number.result) in
     let R : Rowed g.row.A.Denot → Type 0 = λ p. IsPlace p.rows c.args.state in
+    let L : Rowed g.row.A.Denot → Type 0 = λ p. 2147483648 ≤ slice_index p.rows.top (c.args.state + slice_index p.rows.classes c.index-number.result) in
+    let B : ℕ → Type 0 = λ e. 2147483648 ≤ e in
     let sees = λ (p : Rowed g.row.A.Denot). over_rows g.A.Label.RowLabel.most (A.sees p.automaton) (stands_by g.A.Label.RowLabel.number (A.labels p.automaton)) p.rows in
-    let P : Rowed g.row.A.Denot → Type 0 = λ p. (unit : ℕ) → A.labels p.automaton c.args.label unit → SeesLook (sees p) c.args.state unit (Next (e - 2147483648) None) in
-    subst P c.self.view_is (λ unit coded. look_loud g.A.Unit.EdgeLabel.width (A.sees s.automaton) _ g.A.Label.RowLabel.most _ c.self.invariant c.args.state c.index-number.result (subst R (sym c.self.view_is) c.requires.0) c.if-place-self.true c.if-number.true c.if-entry-lt-HAS_OUTPUTS.false unit (c.args.label, sym c.index-number.ensures.is, coded))
+    let P : Rowed g.row.A.Denot → Type 0 = λ p. (unit : ℕ) → A.labels p.automaton c.args.label unit → SeesLook (sees p) c.args.state unit (Next (slice_index p.rows.top (c.args.state + slice_index p.rows.classes c.index-number.result) - 2147483648) None) in
+    let Q : ℕ → Type 0 = λ e. (unit : ℕ) → A.labels c.args.self.now.automaton c.args.label unit → SeesLook (sees c.args.self.now) c.args.state unit (Next (e - 2147483648) None) in
+    let high = subst L (sym c.self.view_is) (subst B c.slot-entry.ensures c.if-entry-lt-HAS_OUTPUTS.false) in
+    subst Q (sym c.slot-entry.ensures) (subst P c.self.view_is (λ unit coded. look_loud g.A.Unit.EdgeLabel.width (A.sees s.automaton) _ g.A.Label.RowLabel.most _ c.self.invariant c.args.state c.index-number.result (subst R (sym c.self.view_is) c.requires.0) c.if-place-self.true c.if-number.true high unit (c.args.label, sym c.index-number.ensures.is, coded)))
 
 -- below the rows and by a label with no slot, what the automaton's own look tells
 pub turn-requires : goal.turn-requires

@@ -236,8 +236,7 @@ impl<V: Copy, A: Allocator + Copy> DoubleArrayAhoCorasick<V, A> {
         ensures ok { IfOk result (λ patterns. IsListing (dictionary_of self.entry.now) patterns) }
         ensures err { IfErr result IsOutOfMemory }
     {
-        let walk = self.states.pattern_iter(alloc)?;
-        Ok(PatternIterator { walk })
+        self.states.pattern_iter(alloc)
     }
 
     /// Makes a copy of the automaton, in memory of its own.

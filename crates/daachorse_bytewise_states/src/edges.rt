@@ -1,19 +1,18 @@
 //! The elements and their children, as a listing goes over them, and the check of parts that were read.
 //!
-//! The layers above may rely on the table of the depths, which [`States::depths`] makes, on
-//! [`States::pattern_iter`] giving the listing of the dictionary, and on [`Elements`] looking at any elements, valid
-//! or not, in whole blocks and with bases that are elements.
+//! The layers above may rely on the table of the depths, which [`States::depths`] makes, and on [`Elements`] looking
+//! at any elements, valid or not, in whole blocks and with bases that are elements.
 
 ghost use Rattle.std.specs.Prelude.{◌≡◌, ◌<◌, ◌≤◌, ◌-◌, bit_xor, Some, length, slice_get, slice_index_or, IfOk, IfErr};
 ghost use Rattle.daachorse_core.specs.Outputs.{number};
 ghost use Rattle.daachorse_core.specs.Refusals.{IsOutOfMemory};
 ghost use Rattle.daachorse_listing.specs.Depths.{IsDepthTable};
-ghost use Rattle.daachorse_model.specs.Prefixes.{IsListing};
 ghost use Rattle.daachorse_bytewise_states.specs.declared.state.State.{State};
 ghost use Rattle.daachorse_bytewise_states.specs.Elements.{output_in};
 ghost use Rattle.daachorse_bytewise_states.specs.Grouped.{IsGrouped};
-ghost use Rattle.daachorse_bytewise_states.specs.Parts.{base_of, check_of, child, content, count, parts_with};
+ghost use Rattle.daachorse_bytewise_states.specs.Parts.{base_of, check_of, child, count, parts_with};
 
+use crate::for_kinds::{ByKind, ForKinds};
 use crate::state::State;
 use crate::states::States;
 use daachorse_checker::array::Array;
@@ -22,23 +21,27 @@ use daachorse_core::{Empty, MatchKind, Output};
 use daachorse_listing::depths::depths;
 use daachorse_listing::edges::Edges;
 use daachorse_listing::links::Links;
-use daachorse_listing::patterns::{Keys, Outputs, PatternWalk};
+use daachorse_listing::patterns::{Keys, Outputs};
+use daachorse_search::view::{ForLeftmost, ForStandard};
 use std::alloc::Allocator;
-use std::marker::Model;
+use std::marker::{Model, PhantomData};
 use std::num::NonZeroU32;
 
 /// Elements that may be looked at. They may be those of an automaton or any others.
+///
+/// Where `K` names the searches, no look asks for the kind, which would stand in the way from one element to the next.
 #[derive(Drop)]
-pub struct Elements<'a, V: Copy> {
+pub struct Elements<'a, V: Copy, K: ForKinds = ByKind> {
     pub(crate) kind: MatchKind,
     standard: &'a [State<u32>],
     leftmost: &'a [State<Empty>],
     fails: &'a [u32],
     pub(crate) outputs: &'a [Output<V>],
     pub(crate) num_states: u32,
+    kinds: PhantomData<K>,
 }
 
-impl<'a, V: Copy> Model for Elements<'a, V> {
+impl<'a, V: Copy, K: ForKinds> Model for Elements<'a, V, K> {
     ghost use Rattle.daachorse_bytewise_states.specs.Grouped.{IsGrouped};
     ghost use Rattle.daachorse_bytewise_states.specs.Parts.{Parts, parts_with};
 
@@ -46,10 +49,10 @@ impl<'a, V: Copy> Model for Elements<'a, V> {
 
     ghost view = { λ s. parts_with s.kind s.standard.now s.leftmost.now s.fails.now s.outputs.now s.num_states };
 
-    ghost invariant = { λ s. IsGrouped (parts_with s.kind s.standard.now s.leftmost.now s.fails.now s.outputs.now s.num_states) };
+    ghost invariant = { λ s. IsGrouped (parts_with s.kind s.standard.now s.leftmost.now s.fails.now s.outputs.now s.num_states) × K.fits s.kind };
 }
 
-impl<'a, V: Copy> Elements<'a, V> {
+impl<'a, V: Copy, K: ForKinds> Elements<'a, V, K> {
     /// The elements of these lists.
     pub(crate) fn new(
         kind: MatchKind,
@@ -59,7 +62,8 @@ impl<'a, V: Copy> Elements<'a, V> {
         outputs: &'a [Output<V>],
         num_states: u32,
     ) -> Self
-        requires { IsGrouped (parts_with kind standard.now leftmost.now fails.now outputs.now num_states) }
+        requires grouped { IsGrouped (parts_with kind standard.now leftmost.now fails.now outputs.now num_states) }
+        requires fits { K.fits kind }
         ensures { result ≡ parts_with kind standard.entry.now leftmost.entry.now fails.entry.now outputs.entry.now num_states }
     {
         Elements {
@@ -69,6 +73,7 @@ impl<'a, V: Copy> Elements<'a, V> {
             fails,
             outputs,
             num_states,
+            kinds: PhantomData,
         }
     }
 
@@ -79,7 +84,7 @@ impl<'a, V: Copy> Elements<'a, V> {
         ensures value { number result ≡ base_of self.now element }
         ensures inside { number result < count self.now }
     {
-        if self.kind.is_leftmost() {
+        if K::is_leftmost(self.kind) {
             self.leftmost[element].base()
         } else {
             self.standard[element].base()
@@ -93,7 +98,7 @@ impl<'a, V: Copy> Elements<'a, V> {
         ensures value { result ≡ check_of self.now element }
         ensures inside { bit_xor element result < count self.now }
     {
-        if self.kind.is_leftmost() {
+        if K::is_leftmost(self.kind) {
             self.leftmost[element].check()
         } else {
             self.standard[element].check()
@@ -102,7 +107,7 @@ impl<'a, V: Copy> Elements<'a, V> {
 }
 
 /// The elements of a group are those that the bytes lead to from one base.
-impl<'a, V: Copy> Edges for Elements<'a, V> {
+impl<'a, V: Copy, K: ForKinds> Edges for Elements<'a, V, K> {
     ghost use Rattle.daachorse_bytewise_states.specs.Edges.{edge_of, group_of};
     ghost use Rattle.daachorse_bytewise_states.specs.Parts.{child, count};
 
@@ -117,7 +122,7 @@ impl<'a, V: Copy> Edges for Elements<'a, V> {
     ghost edge = { edge_of };
 
     fn num_elements(&self) -> usize {
-        if self.kind.is_leftmost() {
+        if K::is_leftmost(self.kind) {
             self.leftmost.len()
         } else {
             self.standard.len()
@@ -135,7 +140,7 @@ impl<'a, V: Copy> Edges for Elements<'a, V> {
     }
 }
 
-impl<'a, V: Copy> Links for Elements<'a, V> {
+impl<'a, V: Copy, K: ForKinds> Links for Elements<'a, V, K> {
     ghost use Rattle.daachorse_bytewise_states.specs.Parts.{fail_of, output_of};
 
     ghost fail = { fail_of };
@@ -143,7 +148,7 @@ impl<'a, V: Copy> Links for Elements<'a, V> {
     ghost first = { output_of };
 
     fn fail(&self, element: usize) -> u32 {
-        if self.kind.is_leftmost() {
+        if K::is_leftmost(self.kind) {
             self.fails[element]
         } else {
             self.standard[element].fail()
@@ -151,7 +156,7 @@ impl<'a, V: Copy> Links for Elements<'a, V> {
     }
 
     fn first(&self, element: usize) -> u32 {
-        if self.kind.is_leftmost() {
+        if K::is_leftmost(self.kind) {
             output_at(self.leftmost, element)
         } else {
             output_at(self.standard, element)
@@ -160,7 +165,7 @@ impl<'a, V: Copy> Links for Elements<'a, V> {
 }
 
 /// A unit is a byte.
-impl<'a, V: Copy> Outputs<V> for Elements<'a, V> {
+impl<'a, V: Copy, K: ForKinds> Outputs<V> for Elements<'a, V, K> {
     type Unit = u8;
 
     ghost number = { λ byte. byte };
@@ -178,7 +183,7 @@ impl<'a, V: Copy> Outputs<V> for Elements<'a, V> {
 }
 
 /// A key is the bytes of a text.
-impl<'a, V: Copy, A: Allocator> Keys<V, A> for Elements<'a, V> {
+impl<'a, V: Copy, A: Allocator, K: ForKinds> Keys<V, A> for Elements<'a, V, K> {
     type Key = Vec<u8, A>;
 
     ghost units_of = { λ key. key.items };
@@ -189,7 +194,7 @@ impl<'a, V: Copy, A: Allocator> Keys<V, A> for Elements<'a, V> {
 }
 
 /// Each byte is a unit, and takes one.
-impl<'a, V: Copy> Array for Elements<'a, V> {
+impl<'a, V: Copy, K: ForKinds> Array for Elements<'a, V, K> {
     ghost use Rattle.daachorse_model.specs.Units.{byte_width};
 
     ghost width = { λ p. byte_width };
@@ -219,22 +224,25 @@ impl<V: Copy, A: Allocator + Copy> States<V, A> {
         ensures ok { IfOk result (λ v. IsDepthTable (child self.now) 256 (count self.now) v.items) }
         ensures err { IfErr result IsOutOfMemory }
     {
-        let elements = self.elements();
-        depths(alloc, &elements)
+        if self.kind().is_leftmost() {
+            self.depths_in::<ForLeftmost>(alloc)
+        } else {
+            self.depths_in::<ForStandard>(alloc)
+        }
     }
 
-    /// All patterns with their values, in byte order, and those of one pattern in order of
-    /// registration.
+    /// The same depths, by elements whose list the type tells.
     ///
     /// # Errors
     ///
     /// An allocation failed.
-    pub fn pattern_iter<'a>(&'a self, alloc: A) -> Result<PatternWalk<V, Elements<'a, V>, A>>
-        ensures ok { IfOk result (λ walk. IsListing (content self.entry.now) walk) }
+    fn depths_in<K: ForKinds>(&self, alloc: A) -> Result<Vec<u32, A>>
+        requires { K.fits self.now.kind }
+        ensures ok { IfOk result (λ v. IsDepthTable (child self.now) 256 (count self.now) v.items) }
         ensures err { IfErr result IsOutOfMemory }
     {
-        let elements = self.elements();
-        PatternWalk::new(alloc, elements)
+        let elements = self.elements_in::<K>();
+        depths(alloc, &elements)
     }
 }
 

@@ -8,6 +8,7 @@ ghost use Rattle.daachorse_prefilter.specs.Filters.{PassesKeys};
 ghost use Rattle.daachorse_bytewise_states.specs.Parts.{content};
 
 use crate::edges::Elements;
+use crate::for_kinds::ForKinds;
 use crate::states::States;
 use daachorse_checker::filters::{Spelled, passes_all};
 use daachorse_core::errors::Result;
@@ -15,7 +16,7 @@ use daachorse_prefilter::prefilter::{Prefilter, Window};
 use std::alloc::Allocator;
 
 /// A unit is a byte, which spells itself.
-impl<'a, V: Copy> Spelled for Elements<'a, V> {
+impl<'a, V: Copy, K: ForKinds> Spelled for Elements<'a, V, K> {
     ghost use Rattle.std.specs.Prelude.{[], ◌∷◌};
 
     ghost bytes = { λ byte. byte ∷ [] };

@@ -7,7 +7,9 @@
 pub mod edges;
 mod filters;
 mod folded;
+pub mod for_kinds;
 mod packing;
+pub mod patterns;
 pub mod state;
 mod state_rows;
 pub mod states;

@@ -21,6 +21,7 @@ ghost use Rattle.daachorse_bytewise_states.specs.Valid.{IsRootTable, IsValid};
 mod form;
 
 use crate::edges::Elements;
+use crate::for_kinds::{ByKind, ForKinds};
 use crate::packing::pack;
 use crate::state::State;
 use crate::view::{Leftmost, Standard, View};
@@ -162,8 +163,18 @@ impl<V: Copy, A: Allocator> States<V, A> {
         self.elements().num_elements()
     }
 
-    /// The elements, as a listing goes over them.
+    /// The elements, whichever list they stand in.
     pub fn elements(&self) -> Elements<'_, V>
+        ensures parts { result ≡ self.entry.now }
+        ensures valid { IsValid result }
+        ensures few { result.num_states < 2 ^ 32 }
+    {
+        self.elements_in::<ByKind>()
+    }
+
+    /// The elements, with what tells the list that they stand in.
+    pub(crate) fn elements_in<K: ForKinds>(&self) -> Elements<'_, V, K>
+        requires { K.fits self.now.kind }
         ensures parts { result ≡ self.entry.now }
         ensures valid { IsValid result }
         ensures few { result.num_states < 2 ^ 32 }

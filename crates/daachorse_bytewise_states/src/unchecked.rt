@@ -13,6 +13,7 @@ ghost use Rattle.daachorse_bytewise_states.specs.Grouped.{AreBlocks, AreLists};
 ghost use Rattle.daachorse_bytewise_states.specs.Valid.{IsValid};
 
 use crate::edges::Elements;
+use crate::for_kinds::ForKinds;
 use crate::state::State;
 use daachorse_checker::checker::is_sound;
 use daachorse_core::errors::Result;
@@ -94,7 +95,7 @@ pub(crate) fn are_lists(
     }
 }
 
-impl<'a, V: Copy> Elements<'a, V> {
+impl<'a, V: Copy, K: ForKinds> Elements<'a, V, K> {
     /// Whether the parts are an automaton's.
     ///
     /// # Errors

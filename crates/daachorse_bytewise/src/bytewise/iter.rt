@@ -9,9 +9,9 @@
 //! each in memory of its own.
 
 pub mod accelerated;
-mod patterns;
 
 use crate::bytewise::states::{Leftmost, Standard};
+pub use daachorse_bytewise_states::patterns::PatternIterator;
 use daachorse_folding::find_stepper::FindStepperAsRead;
 use daachorse_folding::leftmost::LeftmostMatchesAsRead;
 use daachorse_folding::matches::MatchesAsRead;
@@ -22,7 +22,6 @@ use daachorse_search::find::FindWalk;
 use daachorse_search::overlapping::{NoSuffixWalk, OverlappingWalk};
 use daachorse_search::{haystack, source};
 use daachorse_skipping::skipping::Skipping;
-pub use patterns::PatternIterator;
 use std::alloc::Global;
 
 /// An iterator over non-overlapping matches in a slice, each of which ends as early as possible.

@@ -77,7 +77,7 @@ impl<V: Copy, A: Allocator + Copy> Lists<V, A> {
         if !are_lists(kind, &self.standard, &self.leftmost, &self.fails) {
             return Ok(false);
         }
-        let elements = Elements::new(
+        let elements: Elements<'_, V> = Elements::new(
             kind,
             self.standard.as_slice(),
             self.leftmost.as_slice(),

@@ -9,13 +9,13 @@ use Rattle.daachorse_bytewise_states.proofs.edges.Elements.are_valid.Goals as go
 
 pub is_sound-requires-clause-tell : goal.is_sound-requires-clause-tell
 is_sound-requires-clause-tell g c =
-    let grouped : IsGrouped c.args.self.now = rw (← c.self.view_is) c.self.invariant in
+    let grouped : IsGrouped c.args.self.now = rw (← c.self.view_is) c.self.invariant.0 in
     bases_tell c.args.self.now grouped.bases
 
 pub returns-clause-yes : goal.returns-clause-yes
 returns-clause-yes g c e =
     let p = c.args.self.now in
-    let grouped : IsGrouped p = rw (← c.self.view_is) c.self.invariant in
+    let grouped : IsGrouped p = rw (← c.self.view_is) c.self.invariant.0 in
     let kind : c.is_leftmost-leftmost.result ≡ is_leftmost p.kind = c.is_leftmost-leftmost.ensures ∙ ap (λ (q : Parts g.row.V.Denot). is_leftmost q.kind) c.self.view_is in
     let outputs : c.self.inside.outputs.now ≡ p.outputs = ap (λ (q : Parts g.row.V.Denot). q.outputs) c.self.view_is in
     let count : c.self.inside.num_states ≡ p.num_states = ap (λ (q : Parts g.row.V.Denot). q.num_states) c.self.view_is in

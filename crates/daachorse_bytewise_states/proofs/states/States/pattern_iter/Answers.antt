@@ -1,18 +1,10 @@
--- What is stored is valid, so that its patterns are the listing.
-use Rattle.std.proofs.Common.{subst}
-use Rattle.std.proofs.lemmas.Result.{IfOk-weaker}
-use Rattle.daachorse_model.specs.Prefixes.{IsListing}
-use Rattle.daachorse_bytewise_states.specs.Parts.{Parts, content}
-use Rattle.daachorse_bytewise_states.proofs.ListingLaws.{valid_patterns, patterns_listing}
+-- Of either list the walk is the listing.
+use Rattle.daachorse_bytewise_states.proofs.states.States.pattern_iter.Goals.{then-is_leftmost+in_ok-pattern_walk, else-is_leftmost+in_ok-pattern_walk-2}
 use Rattle.daachorse_bytewise_states.proofs.states.States.pattern_iter.Goals as goal
-
-pub new-requires : goal.new-requires
-new-requires g c = valid_patterns c.elements-elements.result c.elements-elements.ensures.valid c.elements-elements.ensures.few
 
 pub returns-clause-ok : goal.returns-clause-ok
 returns-clause-ok g c =
-    IfOk-weaker c.new.result _ _
-    (λ walk is.
-    let P : Parts g.row.V.Denot → Type 0 = λ p. IsListing (content p) walk in
-    subst P c.elements-elements.ensures.parts (patterns_listing c.elements-elements.result c.elements-elements.ensures.valid walk is))
-    c.new.ensures.ok
+    elim c.if-is_leftmost.branch [
+      | then-is_leftmost+in_ok-pattern_walk w ↦ rw w.walk-is w.in_ok-pattern_walk.ensures.ok
+      | else-is_leftmost+in_ok-pattern_walk-2 w ↦ rw w.walk-is w.in_ok-pattern_walk-2.ensures.ok
+    ]

@@ -1,5 +1,5 @@
 -- What a walk over the edges of a state reads: an edge at each turn, and all of them in the end.
-use Rattle.std.proofs.Common.{◌≡◌, ℕ, ◌<◌, List, [], length, get_or, take, Option, Some, None, Bor, sym, ap, ◌∙◌, arith}
+use Rattle.std.proofs.Common.{◌≡◌, ℕ, ◌<◌, ◌≤◌, List, [], length, get_or, take, Option, Some, None, Bor, sym, ap, ◌∙◌, arith}
 use Rattle.std.specs.Iterator.{Yields}
 use Rattle.std.specs.List.{slice_get}
 use Rattle.std.specs.Map.Iter.{TakesFirst, deref_pair}
@@ -24,3 +24,8 @@ module _ {L V A : Type 0} (states : List (NfaBuilderState L V A)) (s : ℕ) (x :
     all_read none =
         let end = iter_end deref_pair x.edges yielded start now next r begun calls none steps in
         take_all (length yielded) (children (edges_of states) s) (omega (arith, end.1, length-values_of (get_or (edges_of states) s []), ap length edges_read))
+
+    pub all_passed : r ≡ None → length (get_or (edges_of states) s []) ≤ length yielded
+    all_passed none =
+        let end = iter_end deref_pair x.edges yielded start now next r begun calls none steps in
+        omega (arith, end.1, ap length edges_read)

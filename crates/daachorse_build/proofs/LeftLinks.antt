@@ -159,6 +159,11 @@ module _ {A : Type 0} (child : ℕ → A → Option ℕ) (stops : ℕ → Bool) 
         let root : long_unless_stop child stops (c ∷ []) ≡ Some [] = cond-false _ _ _ missing ∙ cond-false _ _ _ (meets_other 0 [] c missing ∙ go) in
         state_along (Some []) _ 0 (sym root ∙ sym (ap (λ x. long_unless_stop child stops (x ++ c ∷ [])) nil) ∙ v.2) refl
 
+    -- at the root: its child by the label, and the root where there is none
+    pub leads_from_root : (start : ℕ) (c : A) (o : Option ℕ) → child 0 c ≡ o → LeadsAs start c 0 → stops 0 ≡ false → LeadsTo start c (unwrap_or o 0)
+    leads_from_root start c None e same go = leads_root start c same e go
+    leads_from_root start c (Some t) e same go = leads_hit start c 0 t same e
+
     -- one step, from a state whose link is known
     left_next : (c : A) (id f : ℕ) (v : List A) → walk child 0 v ≡ Some id → id ≢ 0 → child id c ≡ None → IsLeftFailOf child stops id f → (o : Option (List A)) × IsStateOf child o f × (long_unless_stop child stops (v ++ c ∷ []) ≡ after c o)
     left_next c id f [] at ne none link = absurd (ne (sym (same_Some 0 id at)))

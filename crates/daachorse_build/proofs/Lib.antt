@@ -3,6 +3,7 @@ pub mod Walks
 pub mod LeftLinks
 pub mod Queue
 pub mod EdgeTurns
+pub mod RootEdges
 pub mod Growing
 pub mod Labels
 pub mod States

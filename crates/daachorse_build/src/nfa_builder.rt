@@ -24,6 +24,7 @@ mod adding;
 mod links;
 mod outputs;
 mod profile;
+mod root_children;
 mod siblings;
 
 use crate::edge_map::EdgeMap;

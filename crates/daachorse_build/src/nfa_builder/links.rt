@@ -9,9 +9,10 @@ ghost use Rattle.daachorse_core.specs.Refusals.{IsOutOfMemory};
 ghost use Rattle.daachorse_build.specs.Tables.{child_of, edges_of, fails_of, stops_of, HoldTrie};
 ghost use Rattle.daachorse_build.specs.Orders.{IsKnown, IsLinkAmong, HaveLinks};
 ghost use Rattle.daachorse_build.specs.Left.{IsLeftFailOf};
-ghost use Rattle.daachorse_build.specs.Traversals.{Traverses, LeadsTo, ComesFrom};
+ghost use Rattle.daachorse_build.specs.Traversals.{Traverses, LeadsTo, ComesFrom, AreRootChildren};
 ghost use Rattle.daachorse_build.specs.Growth.{HasTrieOf};
 
+use super::root_children::RootChildren;
 use super::{DEAD_STATE_ID, NfaBuilderState, ROOT_STATE_ID, child, stops};
 use daachorse_core::edge_label::EdgeLabel;
 use daachorse_core::errors::Result;
@@ -64,6 +65,7 @@ struct BreadthFirstTraversal<A: Allocator> {
     next: usize,
     // Whether a state with an own output ends the links.
     leftmost: bool,
+    root_children: RootChildren,
 }
 
 impl<A: Allocator + Copy> BreadthFirstTraversal<A> {
@@ -76,6 +78,7 @@ impl<A: Allocator + Copy> BreadthFirstTraversal<A> {
         requires { HoldTrie L.cmp states.now }
         ensures traversal { IfOk result (λ traversal. Traverses L.cmp states.now traversal []) }
         ensures kind { IfOk result (λ traversal. traversal.leftmost ≡ leftmost) }
+        ensures root { IfOk result (λ traversal. AreRootChildren L.cmp L.unit (edges_of states.now) traversal.root_children.ids) }
         ensures err { IfErr result IsOutOfMemory }
     {
         let mut links = vec![in alloc; 0; states.len()]?;
@@ -90,6 +93,7 @@ impl<A: Allocator + Copy> BreadthFirstTraversal<A> {
             order,
             next: 0,
             leftmost,
+            root_children: RootChildren::of(states),
         })
     }
 }
@@ -106,17 +110,18 @@ impl<A: Allocator> BreadthFirstTraversal<A> {
         requires table { HoldTrie L.cmp states.now }
         requires traversal { (pending : List ℕ) × Traverses L.cmp states.now self.now pending }
         requires known { IsKnown (take self.now.next self.now.order.items) start }
+        requires root { AreRootChildren L.cmp L.unit (edges_of states.now) self.now.root_children.ids }
         requires goes { stops_of self.now.leftmost states.now 0 ≡ false }
         ensures link { LeadsTo L.cmp (stops_of self.now.leftmost states.now) (edges_of states.now) start label result }
         ensures from { ComesFrom L.cmp (edges_of states.now) (take self.now.next self.now.order.items) label result }
     {
         let mut id = start;
         loop {
+            if id == ROOT_STATE_ID {
+                return self.root_children.child_or_root(states, label);
+            }
             if let Some(found) = child(states, id, label) {
                 return found;
-            }
-            if id == ROOT_STATE_ID {
-                return ROOT_STATE_ID;
             }
             id = self.links[id as usize];
             if id == DEAD_STATE_ID {
@@ -137,6 +142,7 @@ impl<A: Allocator> BreadthFirstTraversal<A> {
         requires traversal { (pending : List ℕ) × Traverses L.cmp states.now self.now pending }
         requires parent { (s : ℕ) × (1 < s) × (child_of L.cmp states.now s label ≡ Some child) × IsLeftFailOf (child_of L.cmp states.now) (stops_of self.now.leftmost states.now) s start }
         requires known { IsLinkAmong (take self.now.next self.now.order.items) start }
+        requires root { AreRootChildren L.cmp L.unit (edges_of states.now) self.now.root_children.ids }
         ensures link { IsLeftFailOf (child_of L.cmp states.now) (stops_of self.now.leftmost states.now) child result }
         ensures from { ComesFrom L.cmp (edges_of states.now) (take self.now.next self.now.order.items) label result }
     {
@@ -151,9 +157,11 @@ impl<A: Allocator> BreadthFirstTraversal<A> {
         requires table { HoldTrie L.cmp states.now }
         requires traversal { Traverses L.cmp states.now self.old [] }
         requires more { self.old.next < vec_len self.old.order }
+        requires root { AreRootChildren L.cmp L.unit (edges_of states.now) self.old.root_children.ids }
         ensures traversal { OnOk result (Traverses L.cmp states.now self.new []) }
         ensures next { OnOk result (self.new.next ≡ self.old.next + 1) }
         ensures kind { self.new.leftmost ≡ self.old.leftmost }
+        ensures root { self.new.root_children.ids ≡ self.old.root_children.ids }
         ensures err { IfErr result IsOutOfMemory }
     {
         let id = self.order[self.next];

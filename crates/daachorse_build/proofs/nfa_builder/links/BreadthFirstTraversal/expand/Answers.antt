@@ -47,6 +47,7 @@ loop-label-init g c =
       known = rw start (subst P left.0 (c.requires.traversal.earlier s.next more));
       link = rw start (c.requires.traversal.linked id left.1);
       kind = refl;
+      root = refl;
     }
 
 pub link-fail-requires-clause-parent : goal.link-fail-requires-clause-parent
@@ -90,6 +91,7 @@ loop-label-preserved g c =
       known = rw (pushed, front) i.known;
       link = i.link;
       kind = i.kind;
+      root = i.root;
     }
 
 pub returns-clause-traversal : goal.returns-clause-traversal

@@ -15,4 +15,5 @@ invariant-loop-label g l = record {
   known : IsLinkAmong (take l.self.next l.self.order.items) l.start;
   link : IsLeftFailOf (child_in g.L.Ord.cmp (edges_of l.states)) (stops_of l.self.leftmost l.states) l.id l.start;
   kind : l.self.leftmost ≡ l.fn.self.leftmost;
+  root : l.self.root_children.ids ≡ l.fn.self.root_children.ids;
 }

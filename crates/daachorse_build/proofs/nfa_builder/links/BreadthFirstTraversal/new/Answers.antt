@@ -61,14 +61,14 @@ bounds-states-root g c = omega (arith, c.requires.trie.two, length-map c.args.st
 pub returns-in_err-links : goal.returns-in_err-links
 returns-in_err-links g c =
     let e = c.from_residual.ensures in
-    record { traversal = IfOk-from_err _ _ e.0; kind = IfOk-from_err _ _ e.0; err = at_error _ _ _ e.1 refl }
+    record { traversal = IfOk-from_err _ _ e.0; kind = IfOk-from_err _ _ e.0; root = IfOk-from_err _ _ e.0; err = at_error _ _ _ e.1 refl }
 
 pub returns-in_err-order : goal.returns-in_err-order
 returns-in_err-order g c =
     let e = c.from_residual-in_err-order.ensures in
-    record { traversal = IfOk-from_err _ _ e.0; kind = IfOk-from_err _ _ e.0; err = at_error _ _ _ e.1 refl }
+    record { traversal = IfOk-from_err _ _ e.0; kind = IfOk-from_err _ _ e.0; root = IfOk-from_err _ _ e.0; err = at_error _ _ _ e.1 refl }
 
 pub returns-in_err-push : goal.returns-in_err-push
 returns-in_err-push g c =
     let e = c.from_residual-in_err-push.ensures in
-    record { traversal = IfOk-from_err _ _ e.0; kind = IfOk-from_err _ _ e.0; err = at_error _ _ _ e.1 refl }
+    record { traversal = IfOk-from_err _ _ e.0; kind = IfOk-from_err _ _ e.0; root = IfOk-from_err _ _ e.0; err = at_error _ _ _ e.1 refl }

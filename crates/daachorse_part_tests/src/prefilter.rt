@@ -2,6 +2,7 @@
 
 use crate::expect;
 use daachorse_core::errors::DaachorseError;
+use daachorse_prefilter::place_test::NoTest;
 use daachorse_prefilter::prefilter::{Prefilter, PrefilterBuilder, PrefilterGate};
 use daachorse_serializer::serializer::SerializableVec;
 use std::alloc::Global;
@@ -32,6 +33,16 @@ fn place_of(filter: &Prefilter, asked: Asked, text: &str, from: usize) -> usize 
         Asked::FoldedBytes => filter.next_position_folded(text.as_bytes(), from),
         Asked::Text => filter.next_position_at_char_boundary(text, from),
         Asked::FoldedText => filter.next_position_folded_at_char_boundary(text, from),
+    }
+}
+
+/// The same by the calls that take a test, with the one that passes everywhere.
+fn place_where(filter: &Prefilter, asked: Asked, text: &str, from: usize) -> Option<usize> {
+    let bytes = text.as_bytes();
+    match asked {
+        Asked::Bytes => Some(filter.next_position_where(&NoTest, bytes, from)),
+        Asked::FoldedBytes => Some(filter.next_position_folded_where(&NoTest, bytes, from)),
+        Asked::Text | Asked::FoldedText => None,
     }
 }
 
@@ -82,6 +93,8 @@ fn the_first_place_that_passes_is_found(rt: HostRuntime) -> Result<(), Fail> {
         let filter = filter_of(rt.alloc(), patterns)?.ok_or("no filter")?;
         let found = place_of(&filter, *asked, text, *from);
         expect(&rt, found == *place, text);
+        let tested = place_where(&filter, *asked, text, *from);
+        expect(&rt, tested.is_none_or(|tested| tested == *place), text);
     }
     expect(&rt, Prefilter::<Global>::MIN_WINDOW_LEN == 2, "the least");
     expect(&rt, Prefilter::<Global>::MAX_WINDOW_LEN == 9, "the most");

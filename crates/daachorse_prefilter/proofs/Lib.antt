@@ -1,5 +1,6 @@
 pub mod ClearBits
 pub mod NextPlaces
+pub mod PlaceLaws
 pub mod Scanned
 pub mod Rounds
 pub mod Pairs

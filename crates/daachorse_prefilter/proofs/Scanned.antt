@@ -4,10 +4,12 @@ use Rattle.std.specs.Prelude.{nat_le, ◌||◌, bit_and, bit_or}
 use Rattle.std.proofs.lemmas.Bool.{cases_lt, le-leb, lt-leb}
 use Rattle.std.proofs.Math.Pow.{pow_mono}
 use Rattle.std.proofs.lemmas.List.{get_or-drop, length-drop}
-use Rattle.daachorse_model.specs.Filter.{is_clear, pairs_pass, passes, next_position}
+use Rattle.daachorse_model.specs.Filter.{is_clear, pairs_pass, passes}
+use Rattle.daachorse_prefilter.specs.Places.{IsFirstPlace}
 use Rattle.daachorse_prefilter.specs.Scans.{has_begun, AreBits, HasEnded, NonePasses}
 use Rattle.daachorse_prefilter.proofs.ClearBits.{is_clear-and, is_clear-or, is_clear_shifted, is_clear_shifted_below, is_clear_mask, is_clear_mask_above}
-use Rattle.daachorse_prefilter.proofs.NextPlaces.{pairs_pass_more, passes_short, next_position_is}
+use Rattle.daachorse_prefilter.proofs.NextPlaces.{pairs_pass_more, passes_short}
+use Rattle.daachorse_prefilter.proofs.PlaceLaws.{both_pass, refused}
 
 abbrev pub entry_in : List ℕ → ℕ → ℕ
 entry_in entries pair = get_or entries pair 0
@@ -201,9 +203,6 @@ bits_start entries h last pos small b l =
     let short : nat_le (pos + b + 2) (pos + 1) ≡ false = lt-leb (pos + b + 2) (pos + 1) (omega arith) in
     rw short (is_clear_mask 32 b (omega arith))
 
-pub none_start : (entries h : List ℕ) (last pos : ℕ) → NonePasses entries h (last + 2) pos (pos + 1)
-none_start entries h last pos k from end = absurd (omega arith)
-
 -- whether the window that ends before i passes
 passes_is : (entries h : List ℕ) (last pos i k : ℕ) → i ≤ length h → pos ≤ k → k + (last + 2) ≡ i → passes (entry_in entries) (last + 2) (drop k h) ≡ has_begun entries h pos i last
 passes_is entries h last pos i k inside from end =
@@ -214,53 +213,55 @@ passes_is entries h last pos i k inside from end =
     let place : i - last - 2 ≡ k = omega arith in
     rw (fits, pairs, long, place) refl
 
-pub none_more : (entries h : List ℕ) (last pos i : ℕ) → i + 1 ≤ length h → has_begun entries h pos (i + 1) last ≡ false → NonePasses entries h (last + 2) pos i → NonePasses entries h (last + 2) pos (i + 1)
-none_more entries h last pos i inside unfit none k from end = by (cases_lt i (k + (last + 2)))
+-- a window that has begun does so at the first place or behind it
+pub begins_behind : (entries h : List ℕ) (last pos i : ℕ) → has_begun entries h pos i last ≡ true → pos + last + 2 ≤ i
+begins_behind entries h last pos i fit = by (cases_lt i (pos + last + 2))
   where
-    by : (i < k + (last + 2)) ⊎ (k + (last + 2) ≤ i) → passes (entry_in entries) (last + 2) (drop k h) ≡ false
-    by (inl ends) = passes_is entries h last pos (i + 1) k inside from (omega arith) ∙ unfit
-    by (inr before) = none k from before
-
--- the scan stops at the window that ends with byte i
-pub found : (entries h : List ℕ) (last pos i : ℕ) → i + 1 ≤ length h → has_begun entries h pos (i + 1) last ≡ true → NonePasses entries h (last + 2) pos i → (pos + last + 2 ≤ i + 1) × (i + 1 - (last + 2) ≡ next_position (entry_in entries) (last + 2) h pos)
-found entries h last pos i inside fit none =
-    let from = starts (cases_lt (i + 1) (pos + last + 2)) in (
-      from,
-      next_position_is (entry_in entries) (last + 2) h pos (i + 1 - (last + 2)) (record {
-        after = omega arith;
-        inside = omega arith;
-        misses = λ k l u. none k l (omega arith);
-        passing = λ l. (passes_is entries h last pos (i + 1) (i + 1 - (last + 2)) inside (omega arith) (omega arith) ∙ fit);
-      }),
-    )
-  where
-    starts : (i + 1 < pos + last + 2) ⊎ (pos + last + 2 ≤ i + 1) → pos + last + 2 ≤ i + 1
-    starts (inl less) =
-        let short : nat_le (pos + last + 2) (i + 1) ≡ false = lt-leb (pos + last + 2) (i + 1) less in
-        let never : has_begun entries h pos (i + 1) last ≡ false = rw short refl in
+    by : (i < pos + last + 2) ⊎ (pos + last + 2 ≤ i) → pos + last + 2 ≤ i
+    by (inl less) =
+        let short : nat_le (pos + last + 2) i ≡ false = lt-leb (pos + last + 2) i less in
+        let never : has_begun entries h pos i last ≡ false = rw short refl in
         absurd (cc)
-    starts (inr most) = most
+    by (inr most) = most
 
--- the scan reached the end
-pub found_none : (entries h : List ℕ) (last pos : ℕ) → pos ≤ length h → NonePasses entries h (last + 2) pos (length h) → length h ≡ next_position (entry_in entries) (last + 2) h pos
-found_none entries h last pos inside none =
-    next_position_is (entry_in entries) (last + 2) h pos (length h) (record {
-      after = inside;
-      inside = omega arith;
-      misses = λ k l u. by k l (cases_lt (length h) (k + (last + 2)));
-      passing = λ l. absurd (omega arith);
-    })
-  where
-    by : (k : ℕ) → pos ≤ k → (length h < k + (last + 2)) ⊎ (k + (last + 2) ≤ length h) → passes (entry_in entries) (last + 2) (drop k h) ≡ false
-    by k l (inl short) = passes_short (entry_in entries) (last + 2) (drop k h) (let size = length-drop k h in omega arith)
-    by k l (inr fits) = none k l fits
+module _ (tested : List ℕ → Bool) (entries h : List ℕ) (last pos : ℕ) where
+  pub none_start : NonePasses tested entries h (last + 2) pos (pos + 1)
+  none_start k from end = absurd (omega arith)
 
--- of n places the first j end no window that passes
-pub none_of_first : (entries h : List ℕ) (last pos i n state j : ℕ) → j ≤ n → i + n ≤ length h → HasEnded entries h last pos i n state → ((d : ℕ) → d < n → n - j ≤ d → is_clear state (last + d) ≡ false) → NonePasses entries h (last + 2) pos i → NonePasses entries h (last + 2) pos (i + j)
-none_of_first entries h last pos i n state zero few inside ends unfit none = let same : i + zero ≡ i = omega arith in rw same none
-none_of_first entries h last pos i n state (suc j) few inside ends unfit none =
-    let before = none_of_first entries h last pos i n state j (omega arith) inside ends (λ d l u. unfit d l (omega arith)) none in
-    let place : i + suc j ≡ i + j + 1 = omega arith in
-    let at : i + n - (n - suc j) ≡ i + j + 1 = omega arith in
-    let bit : has_begun entries h pos (i + j + 1) last ≡ false = ap (λ p. has_begun entries h pos p last) (sym at) ∙ sym (ends.ends (n - suc j) (omega arith)) ∙ unfit (n - suc j) (omega arith) (omega arith) in
-    rw place (none_more entries h last pos (i + j) (omega arith) bit before)
+  -- the window that ends with byte i has not begun, or the test refuses there
+  pub none_more : (i : ℕ) → i + 1 ≤ length h → (has_begun entries h pos (i + 1) last ≡ true → tested (drop (i + 1 - (last + 2)) h) ≡ false) → NonePasses tested entries h (last + 2) pos i → NonePasses tested entries h (last + 2) pos (i + 1)
+  none_more i inside unfit none k from end = by (cases_lt i (k + (last + 2)))
+    where
+      by : (i < k + (last + 2)) ⊎ (k + (last + 2) ≤ i) → (tested (drop k h) && passes (entry_in entries) (last + 2) (drop k h)) ≡ false
+      by (inl ends) =
+          let place : k ≡ i + 1 - (last + 2) = omega arith in
+          let is = passes_is entries h last pos (i + 1) k inside from (omega arith) in
+          refused (tested (drop k h)) (passes (entry_in entries) (last + 2) (drop k h)) (λ e. ap (λ n. tested (drop n h)) place ∙ unfit (sym is ∙ e))
+      by (inr before) = none k from before
+
+  -- the scan stops at the window that ends with byte i
+  pub found : (i : ℕ) → i + 1 ≤ length h → has_begun entries h pos (i + 1) last ≡ true → tested (drop (i + 1 - (last + 2)) h) ≡ true → NonePasses tested entries h (last + 2) pos i → IsFirstPlace (λ w. tested w && passes (entry_in entries) (last + 2) w) h pos (i + 1 - (last + 2))
+  found i inside fit accepted none =
+      let r = i + 1 - (last + 2) in
+      let behind = begins_behind entries h last pos (i + 1) fit in
+      record {
+        inside = omega arith;
+        told = tt;
+        found = λ l. (omega arith, both_pass (tested (drop r h)) (passes (entry_in entries) (last + 2) (drop r h)) accepted (passes_is entries h last pos (i + 1) r inside (omega arith) (omega arith) ∙ fit));
+        first = λ k l u may. none k l (omega arith);
+      }
+
+  -- the scan reached the end
+  pub found_none : NonePasses tested entries h (last + 2) pos (length h) → IsFirstPlace (λ w. tested w && passes (entry_in entries) (last + 2) w) h pos (length h)
+  found_none none = record {
+    inside = omega arith;
+    told = tt;
+    found = λ l. absurd (omega arith);
+    first = λ k l u may. by k l (cases_lt (length h) (k + (last + 2)));
+  }
+    where
+      by : (k : ℕ) → pos ≤ k → (length h < k + (last + 2)) ⊎ (k + (last + 2) ≤ length h) → (tested (drop k h) && passes (entry_in entries) (last + 2) (drop k h)) ≡ false
+      by k l (inl short) =
+          let none : passes (entry_in entries) (last + 2) (drop k h) ≡ false = passes_short (entry_in entries) (last + 2) (drop k h) (let size = length-drop k h in omega arith) in
+          refused (tested (drop k h)) (passes (entry_in entries) (last + 2) (drop k h)) (λ e. absurd (cc))
+      by k l (inr fits) = none k l fits

@@ -8,3 +8,4 @@ pub mod Windows
 pub mod Equality
 pub mod Readings
 pub mod Scans
+pub mod Places

@@ -1,5 +1,5 @@
 -- What the state of a scan tells of the windows of a text.
-use Rattle.std.specs.Prelude.{◌≡◌, ℕ, suc, ◌+◌, ◌-◌, ◌<◌, ◌≤◌, Bool, false, nat_le, ◌&&◌, List, drop, slice_index}
+use Rattle.std.specs.Prelude.{◌≡◌, ℕ, suc, ◌+◌, ◌-◌, ◌<◌, ◌≤◌, Bool, true, false, nat_le, ◌&&◌, List, drop, slice_index}
 use Rattle.daachorse_model.specs.Filter.{is_clear, pairs_pass, passes}
 
 -- the last b + 1 pairs before place i, of those from pos on, are the first of a window that may pass
@@ -16,6 +16,22 @@ pub record HasEnded (entries text : List ℕ) (last pos i n state : ℕ) : Type 
   pub bits : AreBits entries text last pos (i + n) state
   pub ends : (d : ℕ) → d < n → is_clear state (last + d) ≡ has_begun entries text pos (i + n - d) last
 
--- no window that ends before place i passes
-abbrev pub NonePasses : List ℕ → List ℕ → ℕ → ℕ → ℕ → Type 0
-NonePasses entries text m pos i = (k : ℕ) → pos ≤ k → k + m ≤ i → passes (λ pair. slice_index entries pair) m (drop k text) ≡ false
+-- no window that ends before place i passes, and the test with it
+abbrev pub NonePasses : (List ℕ → Bool) → List ℕ → List ℕ → ℕ → ℕ → ℕ → Type 0
+NonePasses tested entries text m pos i =
+    (k : ℕ) → pos ≤ k → k + m ≤ i → (tested (drop k text) && passes (λ pair. slice_index entries pair) m (drop k text)) ≡ false
+
+-- of a round's windows from j on and before n, the test refuses each whose bit is 0: window k ends with the pair that begins at place + k
+abbrev pub NoneAccepted : (List ℕ → Bool) → List ℕ → ℕ → ℕ → ℕ → ℕ → ℕ → Type 0
+NoneAccepted tested text last place state j n =
+    (k : ℕ) → j ≤ k → k < n → is_clear state (last + 7 - k) ≡ true → tested (drop (place + k - last) text) ≡ false
+
+-- of a round's windows from j on, the first whose bit is 0 and at which the test passes begins at r
+pub record IsFirstAccepted (tested : List ℕ → Bool) (text : List ℕ) (last place state j r : ℕ) : Type 0 where
+  pub window : ℕ
+  pub after : j ≤ window
+  pub within : window < 8
+  pub none : NoneAccepted tested text last place state j window
+  pub clear : is_clear state (last + 7 - window) ≡ true
+  pub begins : r ≡ place + window - last
+  pub accepted : tested (drop r text) ≡ true

@@ -3,16 +3,18 @@
 //! A window is as long as the shortest pattern, at most 9 bytes. A place passes where each pair of
 //! neighbouring bytes of its window stands at the same place in some pattern. The method is known
 //! as shift-or with q-grams. The layers above may rely on a filter passing at each occurrence of
-//! its patterns, on [`Prefilter::next_position`] being the first place that passes, and on a gate
-//! that closes by what was recorded alone.
+//! its patterns, on [`Prefilter::next_position`] being the first place that passes, on
+//! [`Prefilter::next_position_where`] being the first at which a test passes too, and on a gate that
+//! closes by what was recorded alone.
 
-ghost use Rattle.std.specs.Prelude.{◌≡◌, ◌++◌, ℕ, ◌<◌, ◌≤◌, List, map, drop, true, IfOk, IfErr};
+ghost use Rattle.std.specs.Prelude.{◌≡◌, ◌++◌, ℕ, ◌<◌, ◌≤◌, ◌&&◌, List, map, drop, true, IfOk, IfErr};
 ghost use Rattle.std.specs.Cmp.Rules.{comparing};
 ghost use Rattle.std.proofs.Common.{rules};
 ghost use Rattle.daachorse_core.specs.Refusals.{IsOutOfMemory};
 ghost use Rattle.daachorse_model.specs.Folding.{folded};
 ghost use Rattle.daachorse_prefilter.specs.Equality.{filter_alike, filter_eq, filter_input};
 ghost use Rattle.daachorse_prefilter.specs.Filters.{Filter, IsFilter, IsNextBoundary, admits, next_place};
+ghost use Rattle.daachorse_prefilter.specs.Places.{IsFirstPlace};
 
 mod builder;
 mod form;
@@ -22,6 +24,7 @@ mod reading;
 mod scan;
 mod window;
 
+use crate::place_test::{NoTest, PlaceTest};
 pub use builder::PrefilterBuilder;
 use daachorse_core::errors::Result;
 pub use gate::PrefilterGate;
@@ -75,7 +78,7 @@ impl<A: Allocator> Prefilter<A> {
         ensures skips_none { (pattern rest : List ℕ) (place : ℕ) → admits self.now pattern ≡ true
             → pos ≤ place → drop place haystack.now ≡ pattern ++ rest → result ≤ place }
     {
-        self.first_place::<AsItIs>(haystack, pos)
+        self.first_place::<AsItIs, NoTest>(&NoTest, haystack, pos)
     }
 
     /// What [`Self::next_position`] is of the haystack without regard to the case of ASCII letters: of
@@ -88,7 +91,34 @@ impl<A: Allocator> Prefilter<A> {
         ensures skips_none { (pattern rest : List ℕ) (place : ℕ) → admits self.now pattern ≡ true
             → pos ≤ place → drop place (folded haystack.now) ≡ pattern ++ rest → result ≤ place }
     {
-        self.first_place::<AsFolded>(haystack, pos)
+        self.first_place::<AsFolded, NoTest>(&NoTest, haystack, pos)
+    }
+
+    /// The first place from `pos` on at which the filter passes and the test too, or the haystack's length.
+    ///
+    /// It takes no memory. The test is asked only at places at which the filter passes.
+    /// `daachorse_part_tests` runs it.
+    #[inline(always)]
+    pub fn next_position_where<T: PlaceTest>(&self, test: &T, haystack: &[u8], pos: usize) -> usize
+        ensures { IsFirstPlace (λ w. T.lets test.now w && admits self.now w) haystack.now pos result }
+    {
+        self.first_place::<AsItIs, T>(test, haystack, pos)
+    }
+
+    /// What [`Self::next_position_where`] is of the haystack without regard to the case of ASCII letters:
+    /// of the haystack with a to z for A to Z.
+    ///
+    /// `daachorse_part_tests` runs it.
+    #[inline(always)]
+    pub fn next_position_folded_where<T: PlaceTest>(
+        &self,
+        test: &T,
+        haystack: &[u8],
+        pos: usize,
+    ) -> usize
+        ensures { IsFirstPlace (λ w. T.lets test.now w && admits self.now w) (folded haystack.now) pos result }
+    {
+        self.first_place::<AsFolded, T>(test, haystack, pos)
     }
 
     /// The first boundary of the text's characters from `pos` on at which the filter passes, or
@@ -113,12 +143,17 @@ impl<A: Allocator> Prefilter<A> {
         self.first_boundary::<AsFolded>(haystack, pos)
     }
 
-    /// The first place from `pos` on at which the filter passes in what is read of the haystack.
+    /// The first place from `pos` on at which the filter and the test pass in what is read of the haystack.
     #[inline(always)]
-    fn first_place<R: ByteReading>(&self, haystack: &[u8], pos: usize) -> usize
-        ensures { result ≡ next_place self.now (map R.as_read haystack.now) pos }
+    fn first_place<R: ByteReading, T: PlaceTest>(
+        &self,
+        test: &T,
+        haystack: &[u8],
+        pos: usize,
+    ) -> usize
+        ensures { IsFirstPlace (λ w. T.lets test.now w && admits self.now w) (map R.as_read haystack.now) pos result }
     {
-        scan::<R, A>(&self.table, self.window_len, haystack, pos)
+        scan::<R, A, T>(&self.table, test, self.window_len, haystack, pos)
     }
 
     /// The first boundary from `pos` on at which the filter passes in what is read of the text.
@@ -128,7 +163,7 @@ impl<A: Allocator> Prefilter<A> {
     {
         let mut from = pos;
         'places: loop {
-            let place = self.first_place::<R>(haystack.as_bytes(), from);
+            let place = self.first_place::<R, NoTest>(&NoTest, haystack.as_bytes(), from);
             if haystack.is_char_boundary(place) {
                 return place;
             }

@@ -4,10 +4,11 @@
 //! The scan may rely on each byte being read by itself, and on the boundaries of a text's characters
 //! staying where they are.
 
-ghost use Rattle.std.specs.Prelude.{◌≡◌, ◌↔◌, ◌+◌, ◌/◌, ◌%◌, ◌<◌, ℕ, List, length, map, slice_index};
+ghost use Rattle.std.specs.Prelude.{◌≡◌, ◌↔◌, ◌+◌, ◌/◌, ◌%◌, ◌<◌, ◌≤◌, ℕ, List, drop, length, map, slice_index};
 ghost use Rattle.std.specs.Str.{IsCharBoundary};
 
 use super::pair_table::pair_of;
+use crate::place_test::PlaceTest;
 use daachorse_core::ascii_fold::AsciiFold;
 
 /// A way to read bytes.
@@ -20,6 +21,11 @@ pub trait ByteReading {
         requires { place + 1 < length haystack.now }
         ensures first { result % 256 ≡ Self.as_read (slice_index haystack.now place) }
         ensures second { result / 256 ≡ Self.as_read (slice_index haystack.now (place + 1)) };
+
+    /// Whether the test passes at a place in what is read.
+    fn test_passes<T: PlaceTest>(test: &T, haystack: &[u8], place: usize) -> bool
+        requires { place ≤ length haystack.now }
+        ensures { result ≡ T.lets test.now (drop place (map Self.as_read haystack.now)) };
 
     // The text that is read has its boundaries at the same places.
     ghost same_boundaries: { (text : List ℕ) (place : ℕ) → IsCharBoundary (map as_read text) place ↔ IsCharBoundary text place };
@@ -43,6 +49,11 @@ impl ByteReading for AsItIs {
         u16::from_le_bytes(pairs[0])
     }
 
+    #[inline(always)]
+    fn test_passes<T: PlaceTest>(test: &T, haystack: &[u8], place: usize) -> bool {
+        test.passes(&haystack[place..])
+    }
+
     ghost same_boundaries = { same_as_it_is };
 }
 
@@ -55,6 +66,11 @@ impl ByteReading for AsFolded {
     #[inline(always)]
     fn pair(haystack: &[u8], place: usize) -> u16 {
         pair_of(haystack[place].folded(), haystack[place + 1].folded())
+    }
+
+    #[inline(always)]
+    fn test_passes<T: PlaceTest>(test: &T, haystack: &[u8], place: usize) -> bool {
+        test.passes_folded(&haystack[place..])
     }
 
     ghost same_boundaries = { IsCharBoundary-folded };

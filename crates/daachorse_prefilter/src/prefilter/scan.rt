@@ -1,33 +1,37 @@
-//! The scan of a haystack for the first place at which a filter passes.
+//! The scan of a haystack for the first place at which a filter passes, and a test with it.
 //!
 //! A filter may rely on the scan answering that place, or the haystack's length.
 
-ghost use Rattle.std.specs.Prelude.{◌≡◌, ℕ, ◌+◌, ◌-◌, ◌<◌, ◌≤◌, length, map, slice_index};
-ghost use Rattle.daachorse_model.specs.Filter.{next_position};
-ghost use Rattle.daachorse_prefilter.specs.Scans.{AreBits, HasEnded, NonePasses};
+ghost use Rattle.std.specs.Prelude.{◌≡◌, ℕ, ◌+◌, ◌-◌, ◌<◌, ◌≤◌, ◌&&◌, true, length, map, slice_index, MatchOption};
+ghost use Rattle.daachorse_model.specs.Filter.{is_clear, passes};
+ghost use Rattle.daachorse_prefilter.specs.Places.{IsFirstPlace};
+ghost use Rattle.daachorse_prefilter.specs.Scans.{AreBits, HasEnded, IsFirstAccepted, NoneAccepted, NonePasses};
 
 use super::pair_table::PairTable;
 use super::reading::ByteReading;
+use crate::place_test::PlaceTest;
 use std::alloc::Allocator;
 
 /// How many pairs are read in a round of the scan.
 const NUM_IN_ROUND: usize = 8;
 
-/// The first place from `pos` on at which a window of what is read passes, or the haystack's length.
+/// The first place from `pos` on at which a window of what is read passes, and the test too, or the
+/// haystack's length.
 ///
 /// Bit j of the state is 0 where the last j + 1 pairs are those that a window begins with. A round reads eight
-/// pairs: the bit of a window's last pair goes on to the bits above it, so that one test tells of each of
-/// them.
+/// pairs: the bit of a window's last pair goes on to the bits above it, so that one look tells of each of
+/// them. The test is asked only of the windows that pass.
 #[inline(always)]
-pub(super) fn scan<R: ByteReading, A: Allocator>(
+pub(super) fn scan<R: ByteReading, A: Allocator, T: PlaceTest>(
     table: &PairTable<A>,
+    test: &T,
     window_len: u8,
     haystack: &[u8],
     pos: usize,
 ) -> usize
     requires low { 2 ≤ window_len }
     requires high { window_len ≤ 9 }
-    ensures { result ≡ next_position (λ pair. slice_index table.now pair) window_len (map R.as_read haystack.now) pos }
+    ensures { IsFirstPlace (λ w. T.lets test.now w && passes (λ pair. slice_index table.now pair) window_len w) (map R.as_read haystack.now) pos result }
 {
     if pos >= haystack.len() {
         return haystack.len();
@@ -44,11 +48,18 @@ pub(super) fn scan<R: ByteReading, A: Allocator>(
         if passing != 0 {
             // The round's first window has bit last + 7, and 24 - last bits are above it.
             let before = passing.leading_zeros() as usize + last as usize - 24;
-            return place + before + 2 - window_len as usize;
+            let found = place + before + 2 - window_len as usize;
+            if R::test_passes(test, haystack, found) {
+                return found;
+            }
+            let later = later_in_round::<R, T>(test, haystack, last, place, state, before + 1);
+            if let Some(found) = later {
+                return found;
+            }
         }
         place += NUM_IN_ROUND;
     }
-    scan_rest::<R, A>(table, last, haystack, pos, place, state)
+    scan_rest::<R, A, T>(table, test, last, haystack, pos, place, state)
 }
 
 /// The state after the eight pairs that begin with the bytes from a place on.
@@ -76,10 +87,39 @@ fn read_eight<R: ByteReading, A: Allocator>(
     (state << 8) | read
 }
 
+/// The place of a round's first window, from the one with the number `from` on, whose bit is 0 in the
+/// state and at which the test passes.
+#[inline(always)]
+fn later_in_round<R: ByteReading, T: PlaceTest>(
+    test: &T,
+    haystack: &[u8],
+    last: u8,
+    place: usize,
+    state: u32,
+    from: usize,
+) -> Option<usize>
+    requires low { last ≤ 7 }
+    requires inside { place + 8 < length haystack.now }
+    requires begun { (k : ℕ) → k < 8 → is_clear state (last + 7 - k) ≡ true → last ≤ place + k }
+    ensures { MatchOption result (NoneAccepted (T.lets test.now) (map R.as_read haystack.now) last place state from 8)
+        (IsFirstAccepted (T.lets test.now) (map R.as_read haystack.now) last place state from) }
+{
+    for k in from..NUM_IN_ROUND {
+        if (state >> (last + 7 - k as u8)) % 2 == 0 {
+            let found = place + k - last as usize;
+            if R::test_passes(test, haystack, found) {
+                return Some(found);
+            }
+        }
+    }
+    None
+}
+
 /// What [`scan`] answers, where fewer pairs are left than a round reads.
 #[inline(always)]
-fn scan_rest<R: ByteReading, A: Allocator>(
+fn scan_rest<R: ByteReading, A: Allocator, T: PlaceTest>(
     table: &PairTable<A>,
+    test: &T,
     last: u8,
     haystack: &[u8],
     pos: usize,
@@ -90,15 +130,18 @@ fn scan_rest<R: ByteReading, A: Allocator>(
     requires begun { pos ≤ from }
     requires inside { from < length haystack.now }
     requires bits { AreBits table.now (map R.as_read haystack.now) last pos (from + 1) state }
-    requires none { NonePasses table.now (map R.as_read haystack.now) (last + 2) pos (from + 1) }
-    ensures { result ≡ next_position (λ pair. slice_index table.now pair) (last + 2) (map R.as_read haystack.now) pos }
+    requires none { NonePasses (T.lets test.now) table.now (map R.as_read haystack.now) (last + 2) pos (from + 1) }
+    ensures { IsFirstPlace (λ w. T.lets test.now w && passes (λ pair. slice_index table.now pair) (last + 2) w) (map R.as_read haystack.now) pos result }
 {
     let mut state = state;
     for place in from..haystack.len() - 1 {
         let entry = table.entry(R::pair(haystack, place));
         state = (state << 1) | u32::from(entry);
         if (state >> last) % 2 == 0 {
-            return place - last as usize;
+            let found = place - last as usize;
+            if R::test_passes(test, haystack, found) {
+                return found;
+            }
         }
     }
     haystack.len()

@@ -1,12 +1,15 @@
--- What callers see of an automaton over bytes with rows: the automaton, and the rows of its states near the root.
+-- What callers see of an automaton over bytes with rows: the automaton, the rows of its states near the root, and the marks of what its patterns begin with, if there are any.
+use Rattle.std.specs.Prelude.{Bool, List}
 use Rattle.daachorse_rows.specs.Rows.{RowTable, Rowed}
 use Rattle.daachorse_bytewise_states.specs.Parts.{Parts}
 use Rattle.daachorse_bytewise_states.specs.StateRows.{CoversNear, StaysInRows, StaysUnlessLarge}
-use Rattle.daachorse_bytewise.specs.Automata.{Automaton, states_of}
+use Rattle.daachorse_skipping.specs.Beginnings.{MayTell}
+use Rattle.daachorse_bytewise.specs.Automata.{Automaton, dictionary_of, states_of}
 
 pub record Accelerated (V : Type 0) : Type 0 where
   pub automaton : Automaton V
   pub rows : RowTable
+  pub beginnings : List Bool
 
 -- its states with their rows, through which its searches go
 abbrev pub rowed_states : {V : Type 0} → Accelerated V → Rowed (Parts V)
@@ -23,3 +26,7 @@ IsAllRows a = StaysInRows a.rows
 -- it does, or more than 254 texts begin a pattern, the empty one among them
 abbrev pub IsAllRowsUnlessLarge : {V : Type 0} → Accelerated V → Type 0
 IsAllRowsUnlessLarge a = StaysUnlessLarge (states_of a.automaton) a.rows
+
+-- nothing tells what its patterns begin with, or the marks of four bytes each are those that patterns begin with, and no others
+abbrev pub MayTellBeginnings : {V : Type 0} → Accelerated V → Type 0
+MayTellBeginnings a = MayTell (λ w. w) (dictionary_of a.automaton) a.beginnings

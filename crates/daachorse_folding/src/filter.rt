@@ -7,15 +7,15 @@ ghost use Rattle.std.specs.Prelude.{◌≡◌, ℕ, List, encode_utf8_all};
 ghost use Rattle.daachorse_search.specs.Filters.{IsNextPassing};
 ghost use Rattle.daachorse_model.specs.Folding.{folded};
 ghost use Rattle.daachorse_model.specs.Units.{byte_width, char_width};
-ghost use Rattle.daachorse_prefilter.specs.Filters.{IsNextBoundary, next_place};
 ghost use Rattle.daachorse_skipping.specs.Asked.{HasRecordedSkip, lets_pass};
 
 use crate::reading::AsRead;
 use daachorse_core::ascii_fold::AsciiFold;
-use daachorse_prefilter::prefilter::Prefilter;
+use daachorse_prefilter::place_test::PlaceTest;
 use daachorse_search::filter::{Filter, NoFilter};
 use daachorse_search::folded::{FoldHaystack, Folded};
 use daachorse_search::haystack::{Bytes, Reread};
+use daachorse_skipping::places::{AsFolded, first_boundary, first_place};
 use daachorse_skipping::skipping::Skipping;
 use daachorse_text::text::Text;
 use std::alloc::Allocator;
@@ -35,30 +35,34 @@ impl<U: AsciiFold, H: Reread<U>> FoldingFilter<U, H> for NoFilter {
     fn skip_folded(&mut self, _rest: &mut Folded<H>) {}
 }
 
-impl<'a, 'h, A: Allocator> FoldingFilter<u8, Bytes<'h>> for Skipping<'a, A> {
+impl<'a, 'h, A: Allocator, T: PlaceTest> FoldingFilter<u8, Bytes<'h>> for Skipping<'a, A, T> {
     #[inline(always)]
     fn skip_folded(&mut self, rest: &mut Folded<Bytes<'h>>)
-        ensures passes { (w : List ℕ) → lets_pass self.new.filter w ≡ lets_pass self.old.filter w }
-        ensures goes { IsNextPassing (λ w. lets_pass self.old.filter w) (folded rest.old) (folded rest.new) }
+        ensures passes { (w : List ℕ) → lets_pass (T.lets self.new.test) self.new.filter w ≡ lets_pass (T.lets self.old.test) self.old.filter w }
+        ensures goes { IsNextPassing (λ w. lets_pass (T.lets self.old.test) self.old.filter w) (folded rest.old) (folded rest.new) }
         ensures records { HasRecordedSkip byte_width self.old (folded rest.old) (folded rest.new) self.new }
     {
         if let Some(filter) = self.filter() {
-            let gain = first_place_folded(filter, rest.unfolded().bytes());
+            let gain = first_place::<AsFolded, A, T>(filter, self.test(), rest.unfolded().bytes());
             self.record(gain);
             *rest = rest.after(gain);
         }
     }
 }
 
-impl<'a, 'h, A: Allocator> FoldingFilter<char, Text<'h>> for Skipping<'a, A> {
+impl<'a, 'h, A: Allocator, T: PlaceTest> FoldingFilter<char, Text<'h>> for Skipping<'a, A, T> {
     #[inline(always)]
     fn skip_folded(&mut self, rest: &mut Folded<Text<'h>>)
-        ensures passes { (w : List ℕ) → lets_pass self.new.filter (encode_utf8_all w) ≡ lets_pass self.old.filter (encode_utf8_all w) }
-        ensures goes { IsNextPassing (λ w. lets_pass self.old.filter (encode_utf8_all w)) (folded rest.old) (folded rest.new) }
+        ensures passes { (w : List ℕ) → lets_pass (T.lets self.new.test) self.new.filter (encode_utf8_all w) ≡ lets_pass (T.lets self.old.test) self.old.filter (encode_utf8_all w) }
+        ensures goes { IsNextPassing (λ w. lets_pass (T.lets self.old.test) self.old.filter (encode_utf8_all w)) (folded rest.old) (folded rest.new) }
         ensures records { HasRecordedSkip char_width self.old (folded rest.old) (folded rest.new) self.new }
     {
         if let Some(filter) = self.filter() {
-            let gain = first_boundary_folded(filter, rest.unfolded().text());
+            let gain = first_boundary::<AsFolded, A, T>(
+                filter,
+                self.test(),
+                rest.unfolded().text(),
+            );
             self.record(gain);
             *rest = rest.after(gain);
         }
@@ -110,27 +114,4 @@ impl<U: AsciiFold, H: FoldHaystack<U>, F: FoldingFilter<U, H>> Filter<U, AsRead<
         self.filter.skip_folded(&mut folded);
         rest.units = folded.unfolded().after(0);
     }
-}
-
-/// The first place of the folded slice at which the filter passes, or its length.
-///
-/// It stands by itself and is marked cold, so that the loop of a search past a closed filter keeps
-/// its registers: a search calls it once for a whole run of bytes.
-#[cold]
-#[inline(never)]
-fn first_place_folded<A: Allocator>(filter: &Prefilter<A>, haystack: &[u8]) -> usize
-    ensures { result ≡ next_place filter.now (folded haystack.now) 0 }
-{
-    filter.next_position_folded(haystack, 0)
-}
-
-/// The first boundary of the folded text at which the filter passes, or its length in bytes.
-///
-/// It stands by itself and is marked cold for the same reason as [`first_place_folded`].
-#[cold]
-#[inline(never)]
-fn first_boundary_folded<A: Allocator>(filter: &Prefilter<A>, haystack: &str) -> usize
-    ensures { IsNextBoundary filter.now (folded haystack.now) 0 result }
-{
-    filter.next_position_folded_at_char_boundary(haystack, 0)
 }

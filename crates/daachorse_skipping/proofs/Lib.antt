@@ -1,2 +1,4 @@
+pub mod PlaceLaws
 pub mod SkipLaws
 pub mod Soundness
+pub mod BeginningLaws

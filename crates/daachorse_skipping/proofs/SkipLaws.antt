@@ -1,5 +1,5 @@
--- The next position of a filter in what is still to come is the next place that passes, in bytes and in characters.
-use Rattle.std.proofs.Common.{◌≡◌, ℕ, ◌+◌, ◌-◌, ◌<◌, ◌≤◌, inl, inr, true, false, List, [], ◌∷◌, ◌++◌, length, take, drop, Option, Some, None, refl, sym, ap, ◌∙◌, subst, length-append, length-drop, take-append-drop, arith}
+-- The first place that passes in what is still to come is where a search goes on, in bytes and in characters.
+use Rattle.std.proofs.Common.{◌≡◌, ℕ, ◌+◌, ◌-◌, ◌<◌, ◌≤◌, inl, inr, true, false, Bool, List, [], ◌∷◌, ◌++◌, length, take, drop, Option, Some, None, refl, sym, ap, ◌∙◌, subst, length-append, length-drop, take-append-drop, arith}
 use Rattle.std.proofs.lemmas.Bool.{cases_lt, false≢true}
 use Rattle.std.proofs.lemmas.List.{drop_at, drop_all, length-take-le, nil_from_length}
 use Rattle.std.proofs.lemmas.Str.{chars-nil, chars-append, encodes-chars, IsUtf8-take, IsUtf8-drop}
@@ -10,12 +10,12 @@ use Rattle.daachorse_core.specs.CharForms.{char_wide}
 use Rattle.daachorse_model.specs.Units.{size, byte_width, char_width}
 use Rattle.daachorse_model.proofs.Occurrences.{split_after}
 use Rattle.daachorse_model.proofs.Suffixes.{size-append, size-bytes}
-use Rattle.daachorse_prefilter.specs.Filters.{Filter, entry_of, admits, next_place, IsNextBoundary}
-use Rattle.daachorse_prefilter.proofs.NextPlaces.{next_position-IsNextPlace}
+use Rattle.daachorse_prefilter.specs.Filters.{Filter}
 use Rattle.daachorse_prefilter.specs.Gates.{HasRecorded}
 use Rattle.daachorse_prefilter.specs.declared.prefilter.gate.PrefilterGate.{PrefilterGate}
 use Rattle.daachorse_search.specs.Filters.{IsNextPassing}
 use Rattle.daachorse_skipping.specs.Asked.{run_of}
+use Rattle.daachorse_prefilter.specs.Places.{IsFirstBoundary, IsFirstPlace}
 use Rattle.daachorse_text.proofs.TextLaws.{seam, size-chars}
 
 dropped : (h a b : List ℕ) → h ≡ a ++ b → drop (length a) h ≡ b
@@ -41,24 +41,21 @@ recorded_skip width gate filter f front units later gains gain shown parts sized
     let P : List ℕ → Type 0 = λ runs. HasRecorded gate (gains ++ runs) in
     subst P run recorded
 
-module _ (f : Filter) where
-  pub bytes_sized : (h : List ℕ) (r : ℕ) → r ≡ next_place f h 0 → r ≡ size byte_width (take r h)
-  bytes_sized h r is =
-      let next = next_position-IsNextPlace (entry_of f) f.window h 0 r (omega arith) is in
-      omega (arith, size-bytes (take r h), length-take-le r h next.inside)
+pub bytes_sized : (h : List ℕ) (r : ℕ) → r ≤ length h → r ≡ size byte_width (take r h)
+bytes_sized h r inside = omega (arith, size-bytes (take r h), length-take-le r h inside)
 
-  pub skipped_bytes : (h later : List ℕ) (r : ℕ) → r ≡ next_place f h 0 → later ≡ drop r h → IsNextPassing (admits f) h later
-  skipped_bytes h later r is rest =
-      let next = next_position-IsNextPlace (entry_of f) f.window h 0 r (omega arith) is in
-      let P : List ℕ → Type 0 = λ w. admits f w ≡ false in
-      let Q : List ℕ → Type 0 = λ w. admits f w ≡ true in
+module _ (passes : List ℕ → Bool) where
+  pub skipped_bytes : (h later : List ℕ) (r : ℕ) → IsFirstPlace passes h 0 r → later ≡ drop r h → IsNextPassing passes h later
+  skipped_bytes h later r next rest =
+      let P : List ℕ → Type 0 = λ w. passes w ≡ false in
+      let Q : List ℕ → Type 0 = λ w. passes w ≡ true in
       let sized : length later + r ≡ length h = omega (arith, next.inside, ap length rest, length-drop r h) in
       record {
         front = take r h;
         parts = sym (take-append-drop r h) ∙ ap (λ w. take r h ++ w) (sym rest);
-        none = λ a b parts less. subst P (dropped h a b parts) (next.misses (length a) (omega arith) (omega (arith, less, sized, ap length parts, length-append a b)));
+        none = λ a b parts less. subst P (dropped h a b parts) (next.first (length a) (omega arith) (omega (arith, less, sized, ap length parts, length-append a b)) tt);
         here = elim (cases_lt r (length h)) [
-          | inl before ↦ inr (subst Q (sym rest) (next.passing before))
+          | inl before ↦ inr (subst Q (sym rest) (next.found before).1)
           | inr past ↦ inl (nil_from_length later (omega (arith, sized, past)))
         ];
       }
@@ -70,9 +67,9 @@ module _ (f : Filter) where
   no_units [] none = refl
   no_units (u ∷ w) none = absurd (omega (arith, none, char_wide u))
 
-  pub skipped_chars : (bs later : List ℕ) (r : ℕ) → IsUtf8 bs → IsNextBoundary f bs 0 r → later ≡ chars (drop r bs) → IsNextPassing (λ w. admits f (encodes w)) (chars bs) later
+  pub skipped_chars : (bs later : List ℕ) (r : ℕ) → IsUtf8 bs → IsFirstBoundary passes bs 0 r → later ≡ chars (drop r bs) → IsNextPassing (λ w. passes (encodes w)) (chars bs) later
   skipped_chars bs later r u next rest =
-      let Q : List ℕ → Type 0 = λ w. admits f w ≡ true in
+      let Q : List ℕ → Type 0 = λ w. passes w ≡ true in
       record {
         front = front;
         parts = cut;
@@ -87,13 +84,13 @@ module _ (f : Filter) where
       front = chars (take r bs)
 
       behind : IsUtf8 (drop r bs)
-      behind = IsUtf8-drop bs r u next.boundary
+      behind = IsUtf8-drop bs r u next.told
 
       cut : chars bs ≡ front ++ later
-      cut = chars_cut bs r u next.boundary ∙ ap (λ w. front ++ w) (sym rest)
+      cut = chars_cut bs r u next.told ∙ ap (λ w. front ++ w) (sym rest)
 
       sized : r ≡ size char_width front
-      sized = chars_sized bs r u next.boundary
+      sized = chars_sized bs r u next.told
 
       -- a place with more to come stands before the one that is found
       before_found : (a b : List ℕ) → chars bs ≡ a ++ b → length later < length b → size char_width a < r
@@ -105,9 +102,9 @@ module _ (f : Filter) where
             | inr past ↦ absurd (omega (arith, shorter, past, sized, ap (size char_width) d.1, size-append char_width a d.0, ap length d.1, length-append a d.0, no_units d.0 (omega (arith, past, sized, ap (size char_width) d.1, size-append char_width a d.0))))
           ]
 
-      none : (a b : List ℕ) → chars bs ≡ a ++ b → length later < length b → admits f (encodes b) ≡ false
+      none : (a b : List ℕ) → chars bs ≡ a ++ b → length later < length b → passes (encodes b) ≡ false
       none a b parts less =
           let at : ℕ = size char_width a in
           let here = seam bs a b at u parts refl in
-          let P : List ℕ → Type 0 = λ w. admits f w ≡ false in
+          let P : List ℕ → Type 0 = λ w. passes w ≡ false in
           subst P (bytes_of bs at b (IsUtf8-drop bs at u here.boundary) here.rest) (next.first at (omega arith) (before_found a b parts less) here.boundary)

@@ -1,16 +1,17 @@
-//! A filter with a gate, which moves a haystack on to the next place where a pattern may begin.
+//! A filter with a gate and a test, which moves a haystack on to the next place where a pattern may begin.
 //!
 //! The layers above may rely on the filter being asked where there is one and its gate is open, from
-//! the place of the haystack on, and on the gate recording of each run just the bytes that it
-//! skipped. No search's answer rests on the gate.
+//! the place of the haystack on, on the test being asked where the filter passes, and on the gate
+//! recording of each run just the bytes that it skipped. No search's answer rests on the gate.
 
 ghost use Rattle.std.specs.Prelude.{◌≡◌, ℕ, List, [], ◌∷◌, ◌++◌, option_map, encode_utf8_all, IsTrue};
-ghost use Rattle.daachorse_prefilter.specs.Filters.{IsNextBoundary, next_place};
 ghost use Rattle.daachorse_prefilter.specs.Gates.{HasRecorded};
 ghost use Rattle.daachorse_search.specs.Filters.{IsNextPassing};
 ghost use Rattle.daachorse_model.specs.Units.{byte_width, char_width};
 ghost use Rattle.daachorse_skipping.specs.Asked.{HasRecordedSkip, IsOpenWhilePaying, IsUnused, IsWorthAsking, lets_pass};
 
+use crate::places::{AsItIs, first_boundary, first_place};
+use daachorse_prefilter::place_test::{NoTest, PlaceTest};
 use daachorse_prefilter::prefilter::{Prefilter, PrefilterGate};
 use daachorse_search::filter::Filter;
 use daachorse_search::haystack::{Bytes, Reread};
@@ -18,20 +19,22 @@ use daachorse_text::text::Text;
 use std::alloc::{Allocator, Global};
 use std::marker::Model;
 
-/// The filter of an automaton, if it has one, for the time of one search.
+/// The filter of an automaton, if it has one, for the time of one search, and a test that is asked where it
+/// passes.
 #[derive(Drop)]
-pub struct Skipping<'a, A: Allocator = Global> {
+pub struct Skipping<'a, A: Allocator = Global, T: PlaceTest = NoTest> {
     filter: Option<&'a Prefilter<A>>,
+    test: T,
     gate: PrefilterGate,
 }
 
-impl<'a, A: Allocator> Model for Skipping<'a, A> {
+impl<'a, A: Allocator, T: PlaceTest> Model for Skipping<'a, A, T> {
     ghost use Rattle.std.specs.Prelude.{option_map};
     ghost use Rattle.daachorse_skipping.specs.Asked.{Asked};
 
-    ghost Value = { Asked };
+    ghost Value = { Asked T };
 
-    ghost view = { λ s. record { filter = option_map (λ f. f.now) s.filter; gate = s.gate } };
+    ghost view = { λ s. record { filter = option_map (λ f. f.now) s.filter; test = s.test; gate = s.gate } };
 }
 
 impl<'a, A: Allocator> Skipping<'a, A> {
@@ -43,10 +46,27 @@ impl<'a, A: Allocator> Skipping<'a, A> {
     {
         Self {
             filter,
+            test: NoTest,
             gate: PrefilterGate::new(),
         }
     }
 
+    /// The same filter behind the same gate, and a test that is asked where it passes.
+    #[inline(always)]
+    pub fn with_test<T: PlaceTest>(self, test: T) -> Skipping<'a, A, T>
+        ensures filter { result.filter ≡ self.entry.filter }
+        ensures test { result.test ≡ test }
+        ensures gate { result.gate ≡ self.entry.gate }
+    {
+        Skipping {
+            filter: self.filter,
+            test,
+            gate: self.gate,
+        }
+    }
+}
+
+impl<'a, A: Allocator, T: PlaceTest> Skipping<'a, A, T> {
     /// The filter, if there is one.
     #[inline(always)]
     pub fn filter(&self) -> Option<&'a Prefilter<A>>
@@ -55,10 +75,19 @@ impl<'a, A: Allocator> Skipping<'a, A> {
         self.filter
     }
 
+    /// The test.
+    #[inline(always)]
+    pub fn test(&self) -> &T
+        ensures { result.now ≡ self.now.test }
+    {
+        &self.test
+    }
+
     /// Records at the gate that a run of the filter skipped `gain` bytes.
     #[inline(always)]
     pub fn record(&mut self, gain: usize)
         ensures filter { self.new.filter ≡ self.old.filter }
+        ensures test { self.new.test ≡ self.old.test }
         ensures gate { (gains : List ℕ) →
             HasRecorded self.old.gate gains → HasRecorded self.new.gate (gains ++ gain ∷ []) }
     {
@@ -76,8 +105,8 @@ impl<'a, A: Allocator> Skipping<'a, A> {
     }
 }
 
-impl<'a, 'h, A: Allocator> Filter<u8, Bytes<'h>> for Skipping<'a, A> {
-    ghost passes = { λ s w. lets_pass s.filter w };
+impl<'a, 'h, A: Allocator, T: PlaceTest> Filter<u8, Bytes<'h>> for Skipping<'a, A, T> {
+    ghost passes = { λ s w. lets_pass (T.lets s.test) s.filter w };
 
     ghost opened = { λ s. IsUnused s };
 
@@ -94,20 +123,20 @@ impl<'a, 'h, A: Allocator> Filter<u8, Bytes<'h>> for Skipping<'a, A> {
 
     #[inline(always)]
     fn skip(&mut self, rest: &mut Bytes<'h>)
-        ensures passes { (w : List ℕ) → lets_pass self.new.filter w ≡ lets_pass self.old.filter w }
-        ensures goes { IsNextPassing (λ w. lets_pass self.old.filter w) rest.old rest.new }
+        ensures passes { (w : List ℕ) → lets_pass (T.lets self.new.test) self.new.filter w ≡ lets_pass (T.lets self.old.test) self.old.filter w }
+        ensures goes { IsNextPassing (λ w. lets_pass (T.lets self.old.test) self.old.filter w) rest.old rest.new }
         ensures records { HasRecordedSkip byte_width self.old rest.old rest.new self.new }
     {
         if let Some(filter) = self.filter {
-            let gain = first_place(filter, rest.bytes());
+            let gain = first_place::<AsItIs, A, T>(filter, &self.test, rest.bytes());
             self.gate.record(gain);
             *rest = rest.after(gain);
         }
     }
 }
 
-impl<'a, 'h, A: Allocator> Filter<char, Text<'h>> for Skipping<'a, A> {
-    ghost passes = { λ s w. lets_pass s.filter (encode_utf8_all w) };
+impl<'a, 'h, A: Allocator, T: PlaceTest> Filter<char, Text<'h>> for Skipping<'a, A, T> {
+    ghost passes = { λ s w. lets_pass (T.lets s.test) s.filter (encode_utf8_all w) };
 
     ghost opened = { λ s. IsUnused s };
 
@@ -124,37 +153,14 @@ impl<'a, 'h, A: Allocator> Filter<char, Text<'h>> for Skipping<'a, A> {
 
     #[inline(always)]
     fn skip(&mut self, rest: &mut Text<'h>)
-        ensures passes { (w : List ℕ) → lets_pass self.new.filter (encode_utf8_all w) ≡ lets_pass self.old.filter (encode_utf8_all w) }
-        ensures goes { IsNextPassing (λ w. lets_pass self.old.filter (encode_utf8_all w)) rest.old rest.new }
+        ensures passes { (w : List ℕ) → lets_pass (T.lets self.new.test) self.new.filter (encode_utf8_all w) ≡ lets_pass (T.lets self.old.test) self.old.filter (encode_utf8_all w) }
+        ensures goes { IsNextPassing (λ w. lets_pass (T.lets self.old.test) self.old.filter (encode_utf8_all w)) rest.old rest.new }
         ensures records { HasRecordedSkip char_width self.old rest.old rest.new self.new }
     {
         if let Some(filter) = self.filter {
-            let gain = first_boundary(filter, rest.text());
+            let gain = first_boundary::<AsItIs, A, T>(filter, &self.test, rest.text());
             self.gate.record(gain);
             *rest = rest.after(gain);
         }
     }
-}
-
-/// The first place of the slice at which the filter passes, or its length.
-///
-/// It stands by itself and is marked cold, so that the loop of a search past a closed filter keeps
-/// its registers: a search calls it once for a whole run of bytes.
-#[cold]
-#[inline(never)]
-fn first_place<A: Allocator>(filter: &Prefilter<A>, haystack: &[u8]) -> usize
-    ensures { result ≡ next_place filter.now haystack.now 0 }
-{
-    filter.next_position(haystack, 0)
-}
-
-/// The first boundary of the text at which the filter passes, or its length in bytes.
-///
-/// It stands by itself and is marked cold for the same reason as [`first_place`].
-#[cold]
-#[inline(never)]
-fn first_boundary<A: Allocator>(filter: &Prefilter<A>, haystack: &str) -> usize
-    ensures { IsNextBoundary filter.now haystack.now 0 result }
-{
-    filter.next_position_at_char_boundary(haystack, 0)
 }

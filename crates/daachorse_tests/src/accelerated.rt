@@ -1,8 +1,8 @@
-//! How many states have rows, and characters that have no slot there.
+//! How many states have rows, characters that have no slot there, and what patterns begin with.
 
 use crate::automata::{Automaton, Bytewise, Charwise};
 use crate::expect;
-use crate::rows::{BUILT, Search};
+use crate::rows::{BUILT, FOLDING, Search, Way};
 use daachorse::{DoubleArrayAhoCorasick, MatchKind, Result};
 use std::alloc::Global;
 use std::test::Fail;
@@ -62,5 +62,50 @@ fn finds_without_slot(alloc: Global) -> Result<bool> {
 #[test]
 fn a_character_without_a_slot_is_found(rt: HostRuntime) -> Result<(), Fail> {
     expect(&rt, finds_without_slot(rt.alloc())?, "600 characters");
+    Ok(())
+}
+
+/// Whether a search over rows of many states passes over what begins no pattern, and finds what does.
+///
+/// The filter passes at `abcy` too, whose pairs of bytes stand at the same places in the patterns.
+fn finds_beginnings<T: Automaton<Alloc = Global>>(
+    alloc: Global,
+    way: Way,
+    text: &str,
+) -> Result<bool> {
+    let mut long = String::from_str(alloc, "abcd")?;
+    for _ in 0..9000 {
+        long.push('e')?;
+    }
+    let patvals = [(long.as_str(), 0), ("xbcy", 1)];
+    let automaton = T::built(alloc, way, MatchKind::Standard, &patvals)?;
+    automaton.finds_with_rows(alloc, Search::Overlapping, text, &[(5, 9, 1)])
+}
+
+#[test]
+fn what_begins_no_pattern_is_passed_over(rt: HostRuntime) -> Result<(), Fail> {
+    let alloc = rt.alloc();
+    let text = "zabcyxbcyabcdeabc";
+    expect(
+        &rt,
+        finds_beginnings::<Bytewise>(alloc, BUILT, text)?,
+        "bytes",
+    );
+    expect(
+        &rt,
+        finds_beginnings::<Charwise>(alloc, BUILT, text)?,
+        "characters",
+    );
+    let text = "zaBCyXbCyABcdeabc";
+    expect(
+        &rt,
+        finds_beginnings::<Bytewise>(alloc, FOLDING, text)?,
+        "folded bytes",
+    );
+    expect(
+        &rt,
+        finds_beginnings::<Charwise>(alloc, FOLDING, text)?,
+        "folded characters",
+    );
     Ok(())
 }

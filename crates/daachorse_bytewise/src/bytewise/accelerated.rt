@@ -15,9 +15,11 @@ ghost use Rattle.daachorse_model.specs.Units.{byte_width};
 ghost use Rattle.daachorse_folding.specs.SourceSearches.{BeginsFromAsRead};
 ghost use Rattle.daachorse_folding.specs.Steppers.{BeginsSteppingAsRead};
 ghost use Rattle.daachorse_search.specs.Beginnings.{BeginsWith};
-ghost use Rattle.daachorse_skipping.specs.Asked.{BeginsAsking};
+ghost use Rattle.daachorse_search.specs.Filters.{IsSoundFor};
+ghost use Rattle.daachorse_skipping.specs.Asked.{BeginsAsking, lets_pass};
+ghost use Rattle.daachorse_skipping.specs.Beginnings.{MayTell, may_begin};
 ghost use Rattle.daachorse_bytewise_states.specs.StateRows.{HasNoRoom};
-ghost use Rattle.daachorse_bytewise.specs.Accelerated.{HasRowsNear, IsAllRowsUnlessLarge, rowed_states};
+ghost use Rattle.daachorse_bytewise.specs.Accelerated.{HasRowsNear, IsAllRowsUnlessLarge, MayTellBeginnings, rowed_states};
 ghost use Rattle.daachorse_core.specs.Seen.{units};
 ghost use Rattle.daachorse_bytewise.specs.Automata.{dictionary_of, kind_of, states_of};
 ghost use Rattle.daachorse_bytewise.specs.Standings.{IsFindStandingOver, IsOverlappingStandingOver};
@@ -42,6 +44,8 @@ use daachorse_search::haystack::Bytes;
 use daachorse_search::overlapping::{NoSuffixWalk, OverlappingWalk};
 use daachorse_search::overlapping_stepper::OverlappingStanding;
 use daachorse_search::source;
+use daachorse_skipping::beginnings::{BEGINNING, Beginnings, FEW_STATES};
+use daachorse_skipping::skipping::Skipping;
 use std::alloc::{Allocator, Global};
 use std::marker::Model;
 
@@ -59,17 +63,21 @@ use std::marker::Model;
 pub struct Accelerated<'a, V: Copy, A: Allocator = Global> {
     automaton: &'a DoubleArrayAhoCorasick<V, A>,
     rows: Rows<A>,
+    // What the patterns begin with, which a search in a slice asks where the filter passes.
+    beginnings: Beginnings<A>,
 }
 
 impl<'a, V: Copy, A: Allocator> Model for Accelerated<'a, V, A> {
     ghost use Rattle.daachorse_bytewise.specs.Accelerated.{Accelerated};
     ghost use Rattle.daachorse_bytewise_states.specs.StateRows.{HasRows};
+    ghost use Rattle.daachorse_skipping.specs.Beginnings.{MayTell};
+    ghost use Rattle.daachorse_bytewise.specs.Automata.{dictionary_of};
 
     ghost Value = { Accelerated V };
 
-    ghost view = { λ s. record { automaton = s.automaton.now; rows = s.rows } };
+    ghost view = { λ s. record { automaton = s.automaton.now; rows = s.rows; beginnings = s.beginnings } };
 
-    ghost invariant = { λ s. HasRows s.automaton.now.parts s.rows };
+    ghost invariant = { λ s. HasRows s.automaton.now.parts s.rows × MayTell (λ w. w) (dictionary_of s.automaton.now) s.beginnings };
 }
 
 impl<V: Copy, A: Allocator + Copy> DoubleArrayAhoCorasick<V, A> {
@@ -91,9 +99,13 @@ impl<V: Copy, A: Allocator + Copy> DoubleArrayAhoCorasick<V, A> {
     /// patterns of one byte each and four of two of these bytes there are no rows
     /// (`daachorse_tests` runs both).
     ///
+    /// Where the automaton has a filter, at least 8,192 states and no pattern of less than four bytes, a
+    /// table of 8,192 bytes tells which four bytes patterns begin with. A search in a slice asks it
+    /// where the filter passes.
+    ///
     /// It borrows the automaton, and takes at most 256 KiB for the slots of the rows, two bytes for
-    /// each element and 1,020 bytes. The work grows with the elements and with the slots; it has no
-    /// bound by proof.
+    /// each element, 1,020 bytes, and that table. A walk over the patterns stands beside these while
+    /// it is made. The work grows with the elements and with the slots; it has no bound by proof.
     ///
     /// # Errors
     ///
@@ -102,16 +114,45 @@ impl<V: Copy, A: Allocator + Copy> DoubleArrayAhoCorasick<V, A> {
         ensures automaton { IfOk result (λ a. IfSome a (λ a. a.automaton ≡ self.entry.now)) }
         ensures covered { IfOk result (λ a. IfSome a HasRowsNear) }
         ensures stays { IfOk result (λ a. IfSome a (λ a. kind_of a.automaton ≡ Standard → IsAllRowsUnlessLarge a)) }
+        ensures told { IfOk result (λ a. IfSome a MayTellBeginnings) }
         ensures none { IfOk result (λ a. a ≡ None → HasNoRoom (states_of self.entry.now)) }
         ensures err { IfErr result IsOutOfMemory }
     {
         let Some(rows) = self.states.rows(alloc)? else {
             return Ok(None);
         };
+        let beginnings = self.beginnings(alloc)?;
         Ok(Some(Accelerated {
             automaton: self,
             rows,
+            beginnings,
         }))
+    }
+
+    /// What the patterns begin with, where that tells more than the filter.
+    ///
+    /// It tells nothing where there is no filter, where the states are few, since the filter then passes at
+    /// little else than these beginnings, and where some pattern is shorter than a beginning.
+    ///
+    /// # Errors
+    ///
+    /// An allocation failed.
+    fn beginnings(&self, alloc: A) -> Result<Beginnings<A>>
+        ensures told { IfOk result (MayTell (λ w. w) (dictionary_of self.now)) }
+        ensures err { IfErr result IsOutOfMemory }
+    {
+        if self.filter.is_none() || self.num_states() < FEW_STATES {
+            return Ok(Beginnings::none(alloc));
+        }
+        let mut beginnings = Beginnings::new(alloc)?;
+        for item in self.iter(alloc)? {
+            let (pattern, _value) = item?;
+            if pattern.len() < BEGINNING {
+                return Ok(Beginnings::none(alloc));
+            }
+            beginnings.add(&pattern);
+        }
+        Ok(beginnings)
     }
 }
 
@@ -163,6 +204,17 @@ impl<'a, V: Copy, A: Allocator> Accelerated<'a, V, A> {
         self.rows.view(self.automaton.leftmost())
     }
 
+    /// What a search in a slice asks: the filter of the automaton, if it has one, behind an open gate, and
+    /// where it passes what the patterns begin with.
+    #[inline(always)]
+    fn skipping<'s>(&'s self) -> Skipping<'s, A, &'s Beginnings<A>>
+        ensures asks { BeginsAsking self.entry.now.automaton.filter result }
+        ensures test { result.test.now ≡ self.entry.now.beginnings }
+        ensures sound { IsSoundFor (λ w. lets_pass (may_begin result.test.now) result.filter w) (dictionary_of self.entry.now.automaton) }
+    {
+        self.automaton.skipping().with_test(&self.beginnings)
+    }
+
     /// Finds non-overlapping matches in a haystack, each of which ends as early as possible.
     ///
     /// They are the matches of [`DoubleArrayAhoCorasick::find_iter`], where the rest is said of
@@ -185,11 +237,12 @@ impl<'a, V: Copy, A: Allocator> Accelerated<'a, V, A> {
         ensures begins { BeginsWith (rowed_states self.entry.now) (as_read self.entry.now.automaton.folds haystack.entry.now)
             (standard byte_width (dictionary_of self.entry.now.automaton) (as_read self.entry.now.automaton.folds haystack.entry.now)) result }
         ensures asks { BeginsAsking self.entry.now.automaton.filter result.filter }
+        ensures test { result.filter.test.now ≡ self.entry.now.beginnings }
     {
         find_as_read(
             self.standard(),
             Bytes::new(haystack),
-            self.automaton().skipping(),
+            self.skipping(),
             self.automaton().is_ascii_case_insensitive(),
         )
     }
@@ -251,11 +304,12 @@ impl<'a, V: Copy, A: Allocator> Accelerated<'a, V, A> {
         ensures begins { BeginsWith (rowed_states self.entry.now) (as_read self.entry.now.automaton.folds haystack.entry.now)
             (overlapping byte_width (dictionary_of self.entry.now.automaton) (as_read self.entry.now.automaton.folds haystack.entry.now)) result }
         ensures asks { BeginsAsking self.entry.now.automaton.filter result.filter }
+        ensures test { result.filter.test.now ≡ self.entry.now.beginnings }
     {
         find_overlapping_as_read(
             self.standard(),
             Bytes::new(haystack),
-            self.automaton().skipping(),
+            self.skipping(),
             self.automaton().is_ascii_case_insensitive(),
         )
     }
@@ -317,11 +371,12 @@ impl<'a, V: Copy, A: Allocator> Accelerated<'a, V, A> {
         ensures begins { BeginsWith (rowed_states self.entry.now) (as_read self.entry.now.automaton.folds haystack.entry.now)
             (no_suffix byte_width (dictionary_of self.entry.now.automaton) (as_read self.entry.now.automaton.folds haystack.entry.now)) result }
         ensures asks { BeginsAsking self.entry.now.automaton.filter result.filter }
+        ensures test { result.filter.test.now ≡ self.entry.now.beginnings }
     {
         find_overlapping_no_suffix_as_read(
             self.standard(),
             Bytes::new(haystack),
-            self.automaton().skipping(),
+            self.skipping(),
             self.automaton().is_ascii_case_insensitive(),
         )
     }
@@ -383,11 +438,12 @@ impl<'a, V: Copy, A: Allocator> Accelerated<'a, V, A> {
         ensures begins { BeginsWith (rowed_states self.entry.now) (as_read self.entry.now.automaton.folds haystack.entry.now)
             (leftmost byte_width (dictionary_of self.entry.now.automaton) (as_read self.entry.now.automaton.folds haystack.entry.now)) result }
         ensures asks { BeginsAsking self.entry.now.automaton.filter result.filter }
+        ensures test { result.filter.test.now ≡ self.entry.now.beginnings }
     {
         leftmost_as_read(
             self.leftmost(),
             Bytes::new(haystack),
-            self.automaton().skipping(),
+            self.skipping(),
             self.automaton().is_ascii_case_insensitive(),
         )
     }

@@ -4,7 +4,7 @@
 //! its name gives, within the same bounds of the turns, and on a stepper telling the matches that
 //! that of its name tells.
 
-ghost use Rattle.std.specs.Prelude.{◌≡◌, ◌≢◌, [], IfOk, IfSome, IfErr, take};
+ghost use Rattle.std.specs.Prelude.{◌≡◌, ◌≢◌, [], IfOk, IfSome, IfErr, encode_utf8_all, take};
 ghost use Rattle.std.specs.Option.{option_to_list};
 ghost use Rattle.std.specs.Str.{chars};
 ghost use Rattle.daachorse_core.specs.Refusals.{IsOutOfMemory};
@@ -16,9 +16,11 @@ ghost use Rattle.daachorse_model.specs.Units.{char_width};
 ghost use Rattle.daachorse_folding.specs.SourceSearches.{BeginsFromAsRead};
 ghost use Rattle.daachorse_folding.specs.Steppers.{BeginsSteppingAsRead};
 ghost use Rattle.daachorse_search.specs.Beginnings.{BeginsWith};
-ghost use Rattle.daachorse_skipping.specs.Asked.{BeginsAsking};
+ghost use Rattle.daachorse_search.specs.Filters.{IsSoundFor};
+ghost use Rattle.daachorse_skipping.specs.Asked.{BeginsAsking, lets_pass};
+ghost use Rattle.daachorse_skipping.specs.Beginnings.{MayTell, may_begin};
 ghost use Rattle.daachorse_charwise_states.specs.StateRows.{HasFewCodes, HasNoRoom};
-ghost use Rattle.daachorse_charwise.specs.Accelerated.{HasRowsNear, IsAllRowsUnlessLarge, rowed_states};
+ghost use Rattle.daachorse_charwise.specs.Accelerated.{HasRowsNear, IsAllRowsUnlessLarge, MayTellBeginnings, rowed_states};
 ghost use Rattle.daachorse_charwise.specs.Automata.{dictionary_of, kind_of, states_of};
 
 use crate::charwise::iter::accelerated::{
@@ -37,6 +39,8 @@ use daachorse_rows::rows::Rows;
 use daachorse_rows::view::RowView;
 use daachorse_search::find::FindWalk;
 use daachorse_search::overlapping::{NoSuffixWalk, OverlappingWalk};
+use daachorse_skipping::beginnings::{BEGINNING, Beginnings, FEW_STATES};
+use daachorse_skipping::skipping::Skipping;
 use daachorse_text::decoding::Decoded;
 use daachorse_text::text::Text;
 use std::alloc::{Allocator, Global};
@@ -56,17 +60,22 @@ use std::marker::Model;
 pub struct Accelerated<'a, V: Copy, A: Allocator = Global> {
     automaton: &'a CharwiseDoubleArrayAhoCorasick<V, A>,
     rows: Rows<A>,
+    // What the patterns begin with, which a search in a text asks where the filter passes.
+    beginnings: Beginnings<A>,
 }
 
 impl<'a, V: Copy, A: Allocator> Model for Accelerated<'a, V, A> {
     ghost use Rattle.daachorse_charwise.specs.Accelerated.{Accelerated};
     ghost use Rattle.daachorse_charwise_states.specs.StateRows.{HasRows};
+    ghost use Rattle.daachorse_skipping.specs.Beginnings.{MayTell};
+    ghost use Rattle.daachorse_charwise.specs.Automata.{dictionary_of};
+    ghost use Rattle.std.specs.Prelude.{encode_utf8_all};
 
     ghost Value = { Accelerated V };
 
-    ghost view = { λ s. record { automaton = s.automaton.now; rows = s.rows } };
+    ghost view = { λ s. record { automaton = s.automaton.now; rows = s.rows; beginnings = s.beginnings } };
 
-    ghost invariant = { λ s. HasRows s.automaton.now.parts s.rows };
+    ghost invariant = { λ s. HasRows s.automaton.now.parts s.rows × MayTell encode_utf8_all (dictionary_of s.automaton.now) s.beginnings };
 }
 
 impl<V: Copy, A: Allocator + Copy> CharwiseDoubleArrayAhoCorasick<V, A> {
@@ -87,10 +96,14 @@ impl<V: Copy, A: Allocator + Copy> CharwiseDoubleArrayAhoCorasick<V, A> {
     /// [`Accelerated::find_overlapping_iter`] finds `aß` from 0 to 3 and `ß` from 1 to 3
     /// (`daachorse_tests` runs this).
     ///
+    /// Where the automaton has a filter, at least 8,192 states and no pattern of less than four bytes, a
+    /// table of 8,192 bytes tells which four bytes patterns begin with. A search in a text asks it
+    /// where the filter passes.
+    ///
     /// It borrows the automaton, and takes at most 256 KiB for the slots of the rows, two bytes for
-    /// each element and 1,020 bytes. Beside these stands a list of the characters while rows are
-    /// made. The work grows with the elements, the characters and the slots; it has no bound by
-    /// proof.
+    /// each element, 1,020 bytes, and that table. Beside these stand a list of the characters while
+    /// rows are made, and then a walk over the patterns. The work grows with the elements, the
+    /// characters and the slots; it has no bound by proof.
     ///
     /// # Errors
     ///
@@ -99,16 +112,46 @@ impl<V: Copy, A: Allocator + Copy> CharwiseDoubleArrayAhoCorasick<V, A> {
         ensures automaton { IfOk result (λ a. IfSome a (λ a. a.automaton ≡ self.entry.now)) }
         ensures covered { IfOk result (λ a. IfSome a HasRowsNear) }
         ensures stays { IfOk result (λ a. IfSome a (λ a. kind_of a.automaton ≡ Standard → HasFewCodes (states_of a.automaton) → IsAllRowsUnlessLarge a)) }
+        ensures told { IfOk result (λ a. IfSome a MayTellBeginnings) }
         ensures none { IfOk result (λ a. a ≡ None → HasNoRoom (states_of self.entry.now)) }
         ensures err { IfErr result IsOutOfMemory }
     {
         let Some(rows) = self.states.rows(alloc)? else {
             return Ok(None);
         };
+        let beginnings = self.beginnings(alloc)?;
         Ok(Some(Accelerated {
             automaton: self,
             rows,
+            beginnings,
         }))
+    }
+
+    /// What the patterns begin with, where that tells more than the filter.
+    ///
+    /// It tells nothing where there is no filter, where the states are few, since the filter then passes at
+    /// little else than these beginnings, and where some pattern is shorter than a beginning.
+    ///
+    /// # Errors
+    ///
+    /// An allocation failed.
+    fn beginnings(&self, alloc: A) -> Result<Beginnings<A>>
+        ensures told { IfOk result (MayTell encode_utf8_all (dictionary_of self.now)) }
+        ensures err { IfErr result IsOutOfMemory }
+    {
+        if self.filter.is_none() || self.num_states() < FEW_STATES {
+            return Ok(Beginnings::none(alloc));
+        }
+        let mut beginnings = Beginnings::new(alloc)?;
+        for item in self.iter(alloc)? {
+            let (pattern, _value) = item?;
+            let text = pattern.as_str();
+            if text.len() < BEGINNING {
+                return Ok(Beginnings::none(alloc));
+            }
+            beginnings.add(text.as_bytes());
+        }
+        Ok(beginnings)
     }
 }
 
@@ -160,6 +203,17 @@ impl<'a, V: Copy, A: Allocator> Accelerated<'a, V, A> {
         self.rows.view(self.automaton.leftmost())
     }
 
+    /// What a search in a text asks: the filter of the automaton, if it has one, behind an open gate, and
+    /// where it passes what the patterns begin with.
+    #[inline(always)]
+    fn skipping<'s>(&'s self) -> Skipping<'s, A, &'s Beginnings<A>>
+        ensures asks { BeginsAsking self.entry.now.automaton.filter result }
+        ensures test { result.test.now ≡ self.entry.now.beginnings }
+        ensures sound { IsSoundFor (λ w. lets_pass (may_begin result.test.now) result.filter (encode_utf8_all w)) (dictionary_of self.entry.now.automaton) }
+    {
+        self.automaton.skipping().with_test(&self.beginnings)
+    }
+
     /// Finds non-overlapping matches in a haystack, each of which ends as early as possible.
     ///
     /// They are the matches of [`CharwiseDoubleArrayAhoCorasick::find_iter`], where the rest is
@@ -183,11 +237,12 @@ impl<'a, V: Copy, A: Allocator> Accelerated<'a, V, A> {
         ensures begins { BeginsWith (rowed_states self.entry.now) (as_read self.entry.now.automaton.folds (chars haystack.entry.now))
             (standard char_width (dictionary_of self.entry.now.automaton) (as_read self.entry.now.automaton.folds (chars haystack.entry.now))) result }
         ensures asks { BeginsAsking self.entry.now.automaton.filter result.filter }
+        ensures test { result.filter.test.now ≡ self.entry.now.beginnings }
     {
         find_as_read(
             self.standard(),
             Text::new(haystack),
-            self.automaton().skipping(),
+            self.skipping(),
             self.automaton().is_ascii_case_insensitive(),
         )
     }
@@ -249,11 +304,12 @@ impl<'a, V: Copy, A: Allocator> Accelerated<'a, V, A> {
         ensures begins { BeginsWith (rowed_states self.entry.now) (as_read self.entry.now.automaton.folds (chars haystack.entry.now))
             (overlapping char_width (dictionary_of self.entry.now.automaton) (as_read self.entry.now.automaton.folds (chars haystack.entry.now))) result }
         ensures asks { BeginsAsking self.entry.now.automaton.filter result.filter }
+        ensures test { result.filter.test.now ≡ self.entry.now.beginnings }
     {
         find_overlapping_as_read(
             self.standard(),
             Text::new(haystack),
-            self.automaton().skipping(),
+            self.skipping(),
             self.automaton().is_ascii_case_insensitive(),
         )
     }
@@ -315,11 +371,12 @@ impl<'a, V: Copy, A: Allocator> Accelerated<'a, V, A> {
         ensures begins { BeginsWith (rowed_states self.entry.now) (as_read self.entry.now.automaton.folds (chars haystack.entry.now))
             (no_suffix char_width (dictionary_of self.entry.now.automaton) (as_read self.entry.now.automaton.folds (chars haystack.entry.now))) result }
         ensures asks { BeginsAsking self.entry.now.automaton.filter result.filter }
+        ensures test { result.filter.test.now ≡ self.entry.now.beginnings }
     {
         find_overlapping_no_suffix_as_read(
             self.standard(),
             Text::new(haystack),
-            self.automaton().skipping(),
+            self.skipping(),
             self.automaton().is_ascii_case_insensitive(),
         )
     }
@@ -381,11 +438,12 @@ impl<'a, V: Copy, A: Allocator> Accelerated<'a, V, A> {
         ensures begins { BeginsWith (rowed_states self.entry.now) (as_read self.entry.now.automaton.folds (chars haystack.entry.now))
             (leftmost char_width (dictionary_of self.entry.now.automaton) (as_read self.entry.now.automaton.folds (chars haystack.entry.now))) result }
         ensures asks { BeginsAsking self.entry.now.automaton.filter result.filter }
+        ensures test { result.filter.test.now ≡ self.entry.now.beginnings }
     {
         leftmost_as_read(
             self.leftmost(),
             Text::new(haystack),
-            self.automaton().skipping(),
+            self.skipping(),
             self.automaton().is_ascii_case_insensitive(),
         )
     }

@@ -2,6 +2,7 @@
 use Rattle.std.proofs.Common.{Option, sym, ◌∙◌, subst}
 use Rattle.daachorse_prefilter.specs.Filters.{Filter}
 use Rattle.daachorse_search.specs.Filters.{IsSoundFor}
+use Rattle.daachorse_prefilter.specs.Places.{untested}
 use Rattle.daachorse_skipping.specs.Asked.{BeginsAsking, lets_pass}
 use Rattle.daachorse_skipping.proofs.Soundness.{sound_bytes}
 use Rattle.daachorse_bytewise_states.specs.Parts.{content}
@@ -15,7 +16,7 @@ returns g c = record {
       subst P c.self.view_is (record { filter = c.new.ensures.filter ∙ c.as_ref.ensures.value; gate = c.new.ensures.gate });
   sound =
       let i = c.self.inside in
-      let P : Automaton g.row.V.Denot → Type 0 = λ a. IsSoundFor (λ w. lets_pass c.new.result.filter w) (content a.parts) in
-      let Q : Option Filter → Type 0 = λ f. IsSoundFor (λ w. lets_pass f w) (content i.states) in
+      let P : Automaton g.row.V.Denot → Type 0 = λ a. IsSoundFor (λ w. lets_pass untested c.new.result.filter w) (content a.parts) in
+      let Q : Option Filter → Type 0 = λ f. IsSoundFor (λ w. lets_pass untested f w) (content i.states) in
       subst P c.self.view_is (subst Q (sym (c.new.ensures.filter ∙ c.as_ref.ensures.value)) (sound_bytes (content i.states) i.filter c.self.invariant.filter));
 }

@@ -11,5 +11,5 @@ pub returns-clause-begins : goal.returns-clause-begins
 returns-clause-begins g c =
     let e = c.leftmost_as_read.ensures in
     begins_rowed content (leftmost byte_width) (rowed_states c.args.self.now) c.leftmost.result c.is_ascii_case_insensitive.result c.args.self.now.automaton.folds _ c.args.haystack.now c.leftmost_as_read.result c.leftmost.ensures
-    (c.is_ascii_case_insensitive.ensures ∙ ap (λ x. x.folds) c.automaton-2.ensures) c.new.ensures.bytes
+    (c.is_ascii_case_insensitive.ensures ∙ ap (λ x. x.folds) c.automaton.ensures) c.new.ensures.bytes
     (record { automaton = e.automaton; haystack = e.haystack; left = e.left; passed = e.passed; turns = e.turns; given = e.given })

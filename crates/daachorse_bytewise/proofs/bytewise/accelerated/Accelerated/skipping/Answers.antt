@@ -1,0 +1,20 @@
+-- The filter is sound for the patterns, and so are the marks of their beginnings.
+use Rattle.std.proofs.Common.{◌≡◌, Bool, List, refl, ap, ◌∙◌, subst}
+use Rattle.std.specs.Borrow.{Bor}
+use Rattle.daachorse_skipping.specs.Asked.{BeginsAsking}
+use Rattle.daachorse_skipping.proofs.BeginningLaws.{sound_asked}
+use Rattle.daachorse_bytewise.specs.Accelerated.{Accelerated}
+use Rattle.daachorse_bytewise.specs.Automata.{dictionary_of}
+use Rattle.daachorse_bytewise.proofs.bytewise.accelerated.Accelerated.skipping.Goals as goal
+
+pub returns : goal.returns
+returns g c =
+    let marks : c.with_test.result.test.now ≡ c.self.inside.beginnings = ap (λ (b : Bor (List Bool)). b.now) c.with_test.ensures.test in
+    record {
+      asks =
+          let P : Accelerated g.row.V.Denot → Type 0 = λ a. BeginsAsking a.automaton.filter c.with_test.result in
+          subst P c.self.view_is (record { filter = c.with_test.ensures.filter ∙ c.skipping.ensures.asks.filter; gate = rw c.with_test.ensures.gate c.skipping.ensures.asks.gate });
+      test = marks ∙ ap (λ (a : Accelerated g.row.V.Denot). a.beginnings) c.self.view_is;
+      sound = sound_asked (λ w. w) (dictionary_of c.self.inside.automaton.now) (λ v w. refl) c.self.inside.beginnings c.with_test.result.test.now c.skipping.result.filter c.with_test.result.filter (dictionary_of c.args.self.now.automaton)
+          c.self.invariant.1 c.skipping.ensures.sound marks c.with_test.ensures.filter (ap (λ (a : Accelerated g.row.V.Denot). dictionary_of a.automaton) c.self.view_is);
+    }

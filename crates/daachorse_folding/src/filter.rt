@@ -11,12 +11,12 @@ ghost use Rattle.daachorse_skipping.specs.Asked.{HasRecordedSkip, lets_pass};
 
 use crate::reading::AsRead;
 use daachorse_core::ascii_fold::AsciiFold;
-use daachorse_prefilter::place_test::PlaceTest;
 use daachorse_search::filter::{Filter, NoFilter};
 use daachorse_search::folded::{FoldHaystack, Folded};
 use daachorse_search::haystack::{Bytes, Reread};
 use daachorse_skipping::places::{AsFolded, first_boundary, first_place};
 use daachorse_skipping::skipping::Skipping;
+use daachorse_skipping::telling::Telling;
 use daachorse_text::text::Text;
 use std::alloc::Allocator;
 use std::marker::Model;
@@ -35,7 +35,7 @@ impl<U: AsciiFold, H: Reread<U>> FoldingFilter<U, H> for NoFilter {
     fn skip_folded(&mut self, _rest: &mut Folded<H>) {}
 }
 
-impl<'a, 'h, A: Allocator, T: PlaceTest> FoldingFilter<u8, Bytes<'h>> for Skipping<'a, A, T> {
+impl<'a, 'h, A: Allocator, T: Telling> FoldingFilter<u8, Bytes<'h>> for Skipping<'a, A, T> {
     #[inline(always)]
     fn skip_folded(&mut self, rest: &mut Folded<Bytes<'h>>)
         ensures passes { (w : List ℕ) → lets_pass (T.lets self.new.test) self.new.filter w ≡ lets_pass (T.lets self.old.test) self.old.filter w }
@@ -50,7 +50,7 @@ impl<'a, 'h, A: Allocator, T: PlaceTest> FoldingFilter<u8, Bytes<'h>> for Skippi
     }
 }
 
-impl<'a, 'h, A: Allocator, T: PlaceTest> FoldingFilter<char, Text<'h>> for Skipping<'a, A, T> {
+impl<'a, 'h, A: Allocator, T: Telling> FoldingFilter<char, Text<'h>> for Skipping<'a, A, T> {
     #[inline(always)]
     fn skip_folded(&mut self, rest: &mut Folded<Text<'h>>)
         ensures passes { (w : List ℕ) → lets_pass (T.lets self.new.test) self.new.filter (encode_utf8_all w) ≡ lets_pass (T.lets self.old.test) self.old.filter (encode_utf8_all w) }

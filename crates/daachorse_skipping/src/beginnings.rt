@@ -9,6 +9,7 @@ ghost use Rattle.daachorse_core.specs.Refusals.{IsOutOfMemory};
 ghost use Rattle.daachorse_skipping.specs.Beginnings.{beginning_of, hash_of, may_begin};
 ghost use Rattle.std.specs.Int.{from_le_bytes, w32};
 
+use crate::telling::Telling;
 use daachorse_core::ascii_fold::AsciiFold;
 use daachorse_core::errors::Result;
 use daachorse_prefilter::place_test::PlaceTest;
@@ -115,6 +116,13 @@ impl<'a, A: Allocator> PlaceTest for &'a Beginnings<A> {
                 bytes[2].folded(),
                 bytes[3].folded(),
             ])
+    }
+}
+
+impl<'a, A: Allocator> Telling for &'a Beginnings<A> {
+    #[inline(always)]
+    fn tells(&self) -> bool {
+        !self.marks.is_empty()
     }
 }
 

@@ -4,9 +4,11 @@
 //! bytes of a slice and over the UTF-8 form of a text, on it being worth asking until something was
 //! recorded at its gate, and on it handing out its filter and its test and recording its runs for a layer
 //! that asks it otherwise. [`places`] finds the first place at which both pass, and [`beginnings`] has a
-//! test: whether some pattern begins with the next four bytes.
+//! test: whether some pattern begins with the next four bytes. A test that has nothing to tell
+//! ([`telling`]) is not asked.
 #![tactic(auto)]
 
 pub mod beginnings;
 pub mod places;
 pub mod skipping;
+pub mod telling;

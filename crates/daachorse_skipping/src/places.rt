@@ -8,7 +8,8 @@ ghost use Rattle.std.specs.Str.{IsCharBoundary};
 ghost use Rattle.daachorse_prefilter.specs.Filters.{admits};
 ghost use Rattle.daachorse_prefilter.specs.Places.{IsFirstBoundary, IsFirstPlace};
 
-use daachorse_prefilter::place_test::PlaceTest;
+use crate::telling::Telling;
+use daachorse_prefilter::place_test::{NoTest, PlaceTest};
 use daachorse_prefilter::prefilter::Prefilter;
 use std::alloc::Allocator;
 
@@ -87,13 +88,17 @@ impl Reads for AsFolded {
 /// its registers: a search calls it once for a whole run of bytes.
 #[cold]
 #[inline(never)]
-pub fn first_place<R: Reads, A: Allocator, T: PlaceTest>(
+pub fn first_place<R: Reads, A: Allocator, T: Telling>(
     filter: &Prefilter<A>,
     test: &T,
     haystack: &[u8],
 ) -> usize
     ensures { IsFirstPlace (λ w. T.lets test.now w && admits filter.now w) (R.as_read haystack.now) 0 result }
 {
+    // A scan that asks no test is shorter.
+    if !test.tells() {
+        return R::next_position(filter, &NoTest, haystack, 0);
+    }
     R::next_position(filter, test, haystack, 0)
 }
 
@@ -103,7 +108,22 @@ pub fn first_place<R: Reads, A: Allocator, T: PlaceTest>(
 /// It stands by itself and is marked cold for the same reason as [`first_place`].
 #[cold]
 #[inline(never)]
-pub fn first_boundary<R: Reads, A: Allocator, T: PlaceTest>(
+pub fn first_boundary<R: Reads, A: Allocator, T: Telling>(
+    filter: &Prefilter<A>,
+    test: &T,
+    haystack: &str,
+) -> usize
+    ensures { IsFirstBoundary (λ w. T.lets test.now w && admits filter.now w) (R.as_read haystack.now) 0 result }
+{
+    if !test.tells() {
+        return next_boundary::<R, A, NoTest>(filter, &NoTest, haystack);
+    }
+    next_boundary::<R, A, T>(filter, test, haystack)
+}
+
+/// The first boundary of what is read of the text at which both pass, or its length in bytes.
+#[inline(always)]
+fn next_boundary<R: Reads, A: Allocator, T: PlaceTest>(
     filter: &Prefilter<A>,
     test: &T,
     haystack: &str,

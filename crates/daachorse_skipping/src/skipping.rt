@@ -11,7 +11,8 @@ ghost use Rattle.daachorse_model.specs.Units.{byte_width, char_width};
 ghost use Rattle.daachorse_skipping.specs.Asked.{HasRecordedSkip, IsOpenWhilePaying, IsUnused, IsWorthAsking, lets_pass};
 
 use crate::places::{AsItIs, first_boundary, first_place};
-use daachorse_prefilter::place_test::{NoTest, PlaceTest};
+use crate::telling::Telling;
+use daachorse_prefilter::place_test::NoTest;
 use daachorse_prefilter::prefilter::{Prefilter, PrefilterGate};
 use daachorse_search::filter::Filter;
 use daachorse_search::haystack::{Bytes, Reread};
@@ -22,13 +23,13 @@ use std::marker::Model;
 /// The filter of an automaton, if it has one, for the time of one search, and a test that is asked where it
 /// passes.
 #[derive(Drop)]
-pub struct Skipping<'a, A: Allocator = Global, T: PlaceTest = NoTest> {
+pub struct Skipping<'a, A: Allocator = Global, T: Telling = NoTest> {
     filter: Option<&'a Prefilter<A>>,
     test: T,
     gate: PrefilterGate,
 }
 
-impl<'a, A: Allocator, T: PlaceTest> Model for Skipping<'a, A, T> {
+impl<'a, A: Allocator, T: Telling> Model for Skipping<'a, A, T> {
     ghost use Rattle.std.specs.Prelude.{option_map};
     ghost use Rattle.daachorse_skipping.specs.Asked.{Asked};
 
@@ -53,7 +54,7 @@ impl<'a, A: Allocator> Skipping<'a, A> {
 
     /// The same filter behind the same gate, and a test that is asked where it passes.
     #[inline(always)]
-    pub fn with_test<T: PlaceTest>(self, test: T) -> Skipping<'a, A, T>
+    pub fn with_test<T: Telling>(self, test: T) -> Skipping<'a, A, T>
         ensures filter { result.filter ≡ self.entry.filter }
         ensures test { result.test ≡ test }
         ensures gate { result.gate ≡ self.entry.gate }
@@ -66,7 +67,7 @@ impl<'a, A: Allocator> Skipping<'a, A> {
     }
 }
 
-impl<'a, A: Allocator, T: PlaceTest> Skipping<'a, A, T> {
+impl<'a, A: Allocator, T: Telling> Skipping<'a, A, T> {
     /// The filter, if there is one.
     #[inline(always)]
     pub fn filter(&self) -> Option<&'a Prefilter<A>>
@@ -105,7 +106,7 @@ impl<'a, A: Allocator, T: PlaceTest> Skipping<'a, A, T> {
     }
 }
 
-impl<'a, 'h, A: Allocator, T: PlaceTest> Filter<u8, Bytes<'h>> for Skipping<'a, A, T> {
+impl<'a, 'h, A: Allocator, T: Telling> Filter<u8, Bytes<'h>> for Skipping<'a, A, T> {
     ghost passes = { λ s w. lets_pass (T.lets s.test) s.filter w };
 
     ghost opened = { λ s. IsUnused s };
@@ -135,7 +136,7 @@ impl<'a, 'h, A: Allocator, T: PlaceTest> Filter<u8, Bytes<'h>> for Skipping<'a, 
     }
 }
 
-impl<'a, 'h, A: Allocator, T: PlaceTest> Filter<char, Text<'h>> for Skipping<'a, A, T> {
+impl<'a, 'h, A: Allocator, T: Telling> Filter<char, Text<'h>> for Skipping<'a, A, T> {
     ghost passes = { λ s w. lets_pass (T.lets s.test) s.filter (encode_utf8_all w) };
 
     ghost opened = { λ s. IsUnused s };

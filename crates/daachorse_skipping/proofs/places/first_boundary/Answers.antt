@@ -1,13 +1,8 @@
--- Each place found is a boundary, or is passed over.
-use Rattle.std.proofs.Common.{ℕ, Bool, ◌&&◌, List, refl, subst}
+-- A test that has nothing to tell need not be asked.
+use Rattle.std.specs.Str.{IsCharBoundary}
 use Rattle.daachorse_prefilter.specs.Filters.{admits}
-use Rattle.daachorse_prefilter.specs.Places.{IsFirstPlace}
-use Rattle.daachorse_skipping.proofs.PlaceLaws.{boundary_found}
+use Rattle.daachorse_skipping.proofs.PlaceLaws.{asks_none}
 use Rattle.daachorse_skipping.proofs.places.first_boundary.Goals as goal
 
-pub returns-then-is_char_boundary : goal.returns-then-is_char_boundary
-returns-then-is_char_boundary g c =
-    let read = g.R.Reads.as_read in let passes : List ℕ → Bool = λ w. g.T.PlaceTest.lets c.args.test.now w && admits c.args.filter.now w in let r : ℕ = c.next_position-place.result in
-    let P : List ℕ → Type 0 = λ w. IsFirstPlace passes (read w) c.places.from r in
-    boundary_found passes (read c.args.haystack.now) c.places.from r (subst P c.as_bytes.ensures.value c.next_position-place.ensures) c.places.invariant.none
-    ((g.met.R.Reads.same_boundaries c.args.haystack.now r).1 (c.if-is_char_boundary.ensures.test.0 refl))
+pub returns-then-not-tells : goal.returns-then-not-tells
+returns-then-not-tells g c = asks_none (IsCharBoundary (g.R.Reads.as_read c.args.haystack.now)) (g.T.PlaceTest.lets c.args.test.now) (admits c.args.filter.now) (g.R.Reads.as_read c.args.haystack.now) 0 c.next_boundary.result (c.tells.ensures c.if-not-tells.true) c.next_boundary.ensures

@@ -2,7 +2,7 @@
 use Rattle.std.proofs.Common.{◌-◌, ◌&&◌, length}
 use Rattle.daachorse_prefilter.specs.Filters.{admits}
 use Rattle.daachorse_skipping.proofs.PlaceLaws.{NoBoundaryBefore}
-use Rattle.daachorse_skipping.proofs.places.first_boundary.Given as goal
+use Rattle.daachorse_skipping.proofs.places.next_boundary.Given as goal
 
 abbrev pub invariant-places : goal.invariant-places
 invariant-places g l = record {

@@ -74,9 +74,14 @@ const ROWS: &[Row] = &[
     (WORDS, Asked::FoldedBytes, "xxxarIAxxx", 5, 10),
     (WORDS, Asked::FoldedBytes, "XX@RIAXXXX", 0, 10),
     (WORDS, Asked::FoldedBytes, "XX[RISXXXX", 0, 10),
+    // A round reads sixteen pairs. Here one has two windows that pass, and another window ends behind one.
+    (WORDS, Asked::Bytes, "xxxariaxxxirisxxxxxxxxxx", 0, 3),
+    (WORDS, Asked::Bytes, "xxxariaxxxirisxxxxxxxxxx", 4, 10),
+    (WORDS, Asked::FoldedBytes, "XXXXXXXXXXXXXXARIAXXXXXX", 0, 14),
     // A window has at most 9 bytes.
     (NAME, Asked::Bytes, "xxneovenezix", 0, 2),
     (NAME, Asked::Bytes, "xxneovenezxx", 0, 12),
+    (NAME, Asked::Bytes, "xxxxxxxxxxneovenezixxxxxxxxxxxxxxxxx", 0, 10),
     (WITHIN, Asked::Bytes, "あい", 0, 1),
     (WITHIN, Asked::Text, "あい", 0, 6),
     (KANA, Asked::Text, "xあえい", 0, 1),

@@ -57,8 +57,8 @@ is_clear_not n i h within = ap (λ b. b == 0) (bit_at_not w32 n i h within) ∙ 
     other : (b : ℕ) → b < 2 → (1 - b == 0) ≡ (b == 1)
     other b h = grind (arith, nat_tests)
 
-pub set_is_not_clear : (n i : ℕ) → (bit_at n i == 1) ≡ true → is_clear n i ≡ false
-set_is_not_clear n i e = grind (arith, nat_tests)
+pub clear_is_not_set : (n i : ℕ) → is_clear n i ≡ true → (bit_at n i == 1) ≡ false
+clear_is_not_set n i e = grind (arith, nat_tests)
 
 pub not_set_is_clear : (n i : ℕ) → (bit_at n i == 1) ≡ false → is_clear n i ≡ true
 not_set_is_clear n i e = let two = bit_at-lt n i in grind (arith, nat_tests)

@@ -120,7 +120,7 @@ and_true : (x : Bool) → (x && true) ≡ x
 and_true true = refl
 and_true false = refl
 
-pub ended : (entries h : List ℕ) (last pos i s k : ℕ) → last ≤ 7 → pos + 1 ≤ i → i + k ≤ length h → k ≤ 8 → AreBits entries h last pos i s → HasEnded entries h last pos i k (states entries h (window_bits last) i s k)
+pub ended : (entries h : List ℕ) (last pos i s k : ℕ) → last ≤ 7 → pos + 1 ≤ i → i + k ≤ length h → k ≤ 16 → AreBits entries h last pos i s → HasEnded entries h last pos i k (states entries h (window_bits last) i s k)
 unfolding states
 ended entries h last pos i s zero small low l few bits =
     let same : i + zero ≡ i = omega arith in
@@ -189,12 +189,12 @@ apart entries h w i s (suc k) (suc b) hb =
     ∙ ap (λ x. x && is_clear e (suc b)) (sym (is_clear-or ((s * 2 ^ k) % 2 ^ 32) (states entries h w i 0 k) b) ∙ apart entries h w i s k b (omega arith))
     ∙ sym (next_later (states entries h w i s k) e b (omega arith))
 
-pub ended_apart : (entries h : List ℕ) (last pos i s : ℕ) → last ≤ 7 → pos + 1 ≤ i → i + 8 ≤ length h → AreBits entries h last pos i s → HasEnded entries h last pos i 8 (bit_or ((s * 2 ^ 8) % 2 ^ 32) (states entries h (window_bits last) i 0 8))
+pub ended_apart : (entries h : List ℕ) (last pos i s : ℕ) → last ≤ 7 → pos + 1 ≤ i → i + 16 ≤ length h → AreBits entries h last pos i s → HasEnded entries h last pos i 16 (bit_or ((s * 2 ^ 16) % 2 ^ 32) (states entries h (window_bits last) i 0 16))
 ended_apart entries h last pos i s small low l bits =
-    let all = ended entries h last pos i s 8 small low l (omega arith) bits in
+    let all = ended entries h last pos i s 16 small low l (omega arith) bits in
     record {
-      bits = λ b hb. apart entries h (window_bits last) i s 8 b (omega arith) ∙ all.bits b hb;
-      ends = λ d hd. apart entries h (window_bits last) i s 8 (last + d) (omega arith) ∙ all.ends d hd;
+      bits = λ b hb. apart entries h (window_bits last) i s 16 b (omega arith) ∙ all.bits b hb;
+      ends = λ d hd. apart entries h (window_bits last) i s 16 (last + d) (omega arith) ∙ all.ends d hd;
     }
 
 -- no state was made yet

@@ -21,17 +21,15 @@ abbrev pub NonePasses : (List ℕ → Bool) → List ℕ → List ℕ → ℕ �
 NonePasses tested entries text m pos i =
     (k : ℕ) → pos ≤ k → k + m ≤ i → (tested (drop k text) && passes (λ pair. slice_index entries pair) m (drop k text)) ≡ false
 
--- of a round's windows from j on and before n, the test refuses each whose bit is 0: window k ends with the pair that begins at place + k
-abbrev pub NoneAccepted : (List ℕ → Bool) → List ℕ → ℕ → ℕ → ℕ → ℕ → ℕ → Type 0
-NoneAccepted tested text last place state j n =
-    (k : ℕ) → j ≤ k → k < n → is_clear state (last + 7 - k) ≡ true → tested (drop (place + k - last) text) ≡ false
+-- of the windows of a round that have a bit from n on and whose bit is set, the test refuses each: the window with bit b begins at place + 15 - b
+abbrev pub AreRefused : (List ℕ → Bool) → List ℕ → ℕ → ℕ → ℕ → Type 0
+AreRefused tested text place passing n =
+    (b : ℕ) → n ≤ b → is_clear passing b ≡ false → tested (drop (place + 15 - b) text) ≡ false
 
--- of a round's windows from j on, the first whose bit is 0 and at which the test passes begins at r
-pub record IsFirstAccepted (tested : List ℕ → Bool) (text : List ℕ) (last place state j r : ℕ) : Type 0 where
+-- of the windows of a round whose bit is set, the first at which the test passes begins at r: a window that begins before another has a higher bit
+pub record IsFirstAccepted (tested : List ℕ → Bool) (text : List ℕ) (place passing r : ℕ) : Type 0 where
   pub window : ℕ
-  pub after : j ≤ window
-  pub within : window < 8
-  pub none : NoneAccepted tested text last place state j window
-  pub clear : is_clear state (last + 7 - window) ≡ true
-  pub begins : r ≡ place + window - last
+  pub set : is_clear passing window ≡ false
+  pub begins : r ≡ place + 15 - window
   pub accepted : tested (drop r text) ≡ true
+  pub earlier : AreRefused tested text place passing (suc window)

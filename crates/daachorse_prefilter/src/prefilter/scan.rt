@@ -2,25 +2,26 @@
 //!
 //! A filter may rely on the scan answering that place, or the haystack's length.
 
-ghost use Rattle.std.specs.Prelude.{◌≡◌, ℕ, ◌+◌, ◌-◌, ◌<◌, ◌≤◌, ◌&&◌, true, length, map, slice_index, MatchOption};
+ghost use Rattle.std.specs.Prelude.{◌≡◌, ℕ, ◌+◌, ◌-◌, ◌<◌, ◌≤◌, ◌&&◌, false, length, map, slice_index, MatchOption};
 ghost use Rattle.daachorse_model.specs.Filter.{is_clear, passes};
 ghost use Rattle.daachorse_prefilter.specs.Places.{IsFirstPlace};
-ghost use Rattle.daachorse_prefilter.specs.Scans.{AreBits, HasEnded, IsFirstAccepted, NoneAccepted, NonePasses};
+ghost use Rattle.daachorse_prefilter.specs.Scans.{AreBits, AreRefused, HasEnded, IsFirstAccepted, NonePasses};
 
 use super::pair_table::PairTable;
 use super::reading::ByteReading;
 use crate::place_test::PlaceTest;
 use std::alloc::Allocator;
 
-/// How many pairs are read in a round of the scan.
-const NUM_IN_ROUND: usize = 8;
+/// How many pairs are read in a round of the scan. The bits of their windows fit in the state, and so do
+/// those below.
+const NUM_IN_ROUND: usize = 16;
 
 /// The first place from `pos` on at which a window of what is read passes, and the test too, or the
 /// haystack's length.
 ///
-/// Bit j of the state is 0 where the last j + 1 pairs are those that a window begins with. A round reads eight
-/// pairs: the bit of a window's last pair goes on to the bits above it, so that one look tells of each of
-/// them. The test is asked only of the windows that pass.
+/// Bit j of the state is 0 where the last j + 1 pairs are those that a window begins with. A round reads
+/// sixteen pairs: the bit of a window's last pair goes on to the bits above it, so that one look tells of
+/// each of them. The test is asked only of the windows that pass.
 #[inline(always)]
 pub(super) fn scan<R: ByteReading, A: Allocator, T: PlaceTest>(
     table: &PairTable<A>,
@@ -38,33 +39,23 @@ pub(super) fn scan<R: ByteReading, A: Allocator, T: PlaceTest>(
     }
     // The bit of a window's last pair.
     let last = window_len - 2;
-    let ends = 0xffu32 << last;
+    let ends = 0xffffu32 << last;
     let mut state = u32::MAX;
     // The place of the last byte that was read.
     let mut place = pos;
     while haystack.len() - place > NUM_IN_ROUND {
-        state = read_eight::<R, A>(table, last, haystack, place, state);
-        let passing = !state & ends;
-        if passing != 0 {
-            // The round's first window has bit last + 7, and 24 - last bits are above it.
-            let before = passing.leading_zeros() as usize + last as usize - 24;
-            let found = place + before + 2 - window_len as usize;
-            if R::test_passes(test, haystack, found) {
-                return found;
-            }
-            let later = later_in_round::<R, T>(test, haystack, last, place, state, before + 1);
-            if let Some(found) = later {
-                return found;
-            }
+        state = read_round::<R, A>(table, last, haystack, place, state);
+        if let Some(found) = first_in_round::<R, T>(test, haystack, place, !state & ends) {
+            return found;
         }
         place += NUM_IN_ROUND;
     }
     scan_rest::<R, A, T>(table, test, last, haystack, pos, place, state)
 }
 
-/// The state after the eight pairs that begin with the bytes from a place on.
+/// The state after the pairs of a round, which begin with the bytes from a place on.
 #[inline(always)]
-fn read_eight<R: ByteReading, A: Allocator>(
+fn read_round<R: ByteReading, A: Allocator>(
     table: &PairTable<A>,
     last: u8,
     haystack: &[u8],
@@ -72,9 +63,9 @@ fn read_eight<R: ByteReading, A: Allocator>(
     state: u32,
 ) -> u32
     requires low { last ≤ 7 }
-    requires inside { place + 8 < length haystack.now }
+    requires inside { place + 16 < length haystack.now }
     ensures { (pos : ℕ) → pos ≤ place → AreBits table.now (map R.as_read haystack.now) last pos (place + 1) state
-        → HasEnded table.now (map R.as_read haystack.now) last pos (place + 1) 8 result }
+        → HasEnded table.now (map R.as_read haystack.now) last pos (place + 1) 16 result }
 {
     // No other bit of an entry may meet those above the last.
     let window = (2u32 << last) - 1;
@@ -84,33 +75,31 @@ fn read_eight<R: ByteReading, A: Allocator>(
         let entry = table.entry(R::pair(haystack, place + k));
         read = (read << 1) | (u32::from(entry) & window);
     }
-    (state << 8) | read
+    (state << 16) | read
 }
 
-/// The place of a round's first window, from the one with the number `from` on, whose bit is 0 in the
-/// state and at which the test passes.
+/// The place of the first window of a round at which the test passes, of those whose bit is set: the window
+/// with bit b begins at place + 15 - b, so that the first has the highest.
 #[inline(always)]
-fn later_in_round<R: ByteReading, T: PlaceTest>(
+fn first_in_round<R: ByteReading, T: PlaceTest>(
     test: &T,
     haystack: &[u8],
-    last: u8,
     place: usize,
-    state: u32,
-    from: usize,
+    passing: u32,
 ) -> Option<usize>
-    requires low { last ≤ 7 }
-    requires inside { place + 8 < length haystack.now }
-    requires begun { (k : ℕ) → k < 8 → is_clear state (last + 7 - k) ≡ true → last ≤ place + k }
-    ensures { MatchOption result (NoneAccepted (T.lets test.now) (map R.as_read haystack.now) last place state from 8)
-        (IsFirstAccepted (T.lets test.now) (map R.as_read haystack.now) last place state from) }
+    requires inside { place + 15 ≤ length haystack.now }
+    requires begun { (b : ℕ) → is_clear passing b ≡ false → b ≤ place + 15 }
+    ensures { MatchOption result (AreRefused (T.lets test.now) (map R.as_read haystack.now) place passing 0)
+        (IsFirstAccepted (T.lets test.now) (map R.as_read haystack.now) place passing) }
 {
-    for k in from..NUM_IN_ROUND {
-        if (state >> (last + 7 - k as u8)) % 2 == 0 {
-            let found = place + k - last as usize;
-            if R::test_passes(test, haystack, found) {
-                return Some(found);
-            }
+    let mut left = passing;
+    while left != 0 {
+        let bit = 31 - left.leading_zeros();
+        let found = place + 15 - bit as usize;
+        if R::test_passes(test, haystack, found) {
+            return Some(found);
         }
+        left &= !(1 << bit);
     }
     None
 }

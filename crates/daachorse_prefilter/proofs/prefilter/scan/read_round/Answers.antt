@@ -3,7 +3,7 @@ use Rattle.std.proofs.Common.{◌≡◌, ◌+◌, map, length, ◌∙◌, arith}
 use Rattle.std.proofs.lemmas.List.{length-map}
 use Rattle.daachorse_prefilter.proofs.Pairs.{entry_read}
 use Rattle.daachorse_prefilter.proofs.Scanned.{entry_in, pair_before, states_none, states_more, window_bits, ended_apart}
-use Rattle.daachorse_prefilter.proofs.prefilter.scan.read_eight.Goals as goal
+use Rattle.daachorse_prefilter.proofs.prefilter.scan.read_round.Goals as goal
 
 pub loop-k-init : goal.loop-k-init
 loop-k-init g c = record { read = states_none c.args.table.now (map g.R.ByteReading.as_read c.args.haystack.now) (window_bits c.args.last) (c.args.place + 1) 0 }
@@ -18,6 +18,6 @@ loop-k-preserved g c =
 pub returns : goal.returns
 returns g c pos low bits =
     let text = map g.R.ByteReading.as_read c.args.haystack.now in
-    let all : c.loop-k.k ≡ 8 = omega arith in
+    let all : c.loop-k.k ≡ 16 = omega arith in
     let size : length text ≡ length c.args.haystack.now = length-map c.args.haystack.now g.R.ByteReading.as_read in
     rw (c.loop-k.invariant.read, all) (ended_apart c.args.table.now text c.args.last pos (c.args.place + 1) c.args.state c.requires.low (omega arith) (omega arith) bits)

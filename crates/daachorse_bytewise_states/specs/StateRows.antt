@@ -20,10 +20,10 @@ CoversNear p r = Covers (sees p) stands_for 2 r
 abbrev pub StaysInRows : RowTable → Type 0
 StaysInRows r = AreClosed 256 stands_for r
 
--- they do, or more than 254 states have a text
+-- they do, or more than 245 states have a text
 abbrev pub StaysUnlessLarge : {V : Type 0} → Parts V → RowTable → Type 0
-StaysUnlessLarge p r = ClosesOrFills 256 (sees p) stands_for 254 r
+StaysUnlessLarge p r = ClosesOrFills 256 (sees p) stands_for 245 r
 
--- more than 254 states have a text of at most two bytes, or the elements are more than an entry of a row can tell
+-- more than 245 states have a text of at most two bytes, or the elements are more than an entry of a row can tell
 abbrev pub HasNoRoom : {V : Type 0} → Parts V → Type 0
-HasNoRoom p = AreTooMany (sees p) stands_for 2 254 ⊎ (2147418112 < count p)
+HasNoRoom p = AreTooMany (sees p) stands_for 2 245 ⊎ (2147418112 < count p)

@@ -29,10 +29,10 @@ HasFewCodes p = (unit code : ℕ) → stands_for p code unit → code < 510
 abbrev pub StaysInRows : {V : Type 0} → Parts V → RowTable → Type 0
 StaysInRows p r = AreClosed (2 ^ 32) (stands_by (λ (code : ℕ). code) (stands_for p)) r
 
--- so it is, or more than 128 states have a text
+-- so it is, or more than 123 states have a text
 abbrev pub StaysUnlessLarge : {V : Type 0} → Parts V → RowTable → Type 0
-StaysUnlessLarge p r = ClosesOrFills (2 ^ 32) (sees p) (stands_by (λ (code : ℕ). code) (stands_for p)) 128 r
+StaysUnlessLarge p r = ClosesOrFills (2 ^ 32) (sees p) (stands_by (λ (code : ℕ). code) (stands_for p)) 123 r
 
--- more than 128 states have a text of at most two such characters, or the elements are more than an entry of a row can tell
+-- more than 123 states have a text of at most two such characters, or the elements are more than an entry of a row can tell
 abbrev pub HasNoRoom : {V : Type 0} → Parts V → Type 0
-HasNoRoom p = AreTooMany (sees p) (stands_by (λ (code : ℕ). code) (stands_for p)) 2 128 ⊎ (2147418112 < count p)
+HasNoRoom p = AreTooMany (sees p) (stands_by (λ (code : ℕ). code) (stands_for p)) 2 123 ⊎ (2147418112 < count p)

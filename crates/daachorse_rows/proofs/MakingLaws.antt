@@ -86,10 +86,10 @@ IsSlotEntry-map P Q A B entry h there quiet = record {
 
 -- ---- the states of the rows
 
-pub fits_rows : (n w : ℕ) → n ≤ 65536 / w → n * w ≤ 65536
-fits_rows n w few = omega (arith, mul-le n w (65536 / w) w few (omega arith), div-mul-le_self 65536 w)
+pub fits_rows : (n w : ℕ) → n ≤ 63232 / w → n * w ≤ 63232
+fits_rows n w few = omega (arith, mul-le n w (63232 / w) w few (omega arith), div-mul-le_self 63232 w)
 
-pub Stands-small : (order : List ℕ) (width base x s : ℕ) → Stands order width base x s → 0 < width → length order * width ≤ 65536 → base + s < 2147483648 → x < 2147483648
+pub Stands-small : (order : List ℕ) (width base x s : ℕ) → Stands order width base x s → 0 < width → length order * width ≤ 63232 → base + s < 2147483648 → x < 2147483648
 Stands-small order width base x s (inl (k, below, is, at)) wide few fits = omega (arith, is, mul-add-lt k width 0 (length order) below wide)
 Stands-small order width base x s (inr (is, none)) wide few fits = omega (arith, is)
 
@@ -155,7 +155,7 @@ module _ {V : Type 0} (view : AutomatonView V) (order homes : List ℕ) (most : 
         taken : (k : ℕ) → k < length order → slice_index order k ≢ s
         taken k below same = omega (arith, none, ap (slice_index homes) same, (h.own k below).1, below, less, room)
 
-    pub AreChosen-small : (width s : ℕ) → length order * width ≤ 65536 → view.reached s → length order * width + s < 2 ^ 32
+    pub AreChosen-small : (width s : ℕ) → length order * width ≤ 63232 → view.reached s → length order * width + s < 2 ^ 32
     AreChosen-small width s few there = omega (arith, h.fits s there, few)
 
 -- ---- the slots of the rows
@@ -258,7 +258,7 @@ module _ {V : Type 0} (unit_width : ℕ → ℕ) (view : AutomatonView V) (stand
       let row = covered w begins shallow in
       (row.0, omega (arith, row.1, count_is), ap view.text (at_start row.0 row.1) ∙ row.2)
 
-  pub AreRows-made : (s : ℕ) → r.width ≡ length labels + 2 → AreSlots labels 510 r.classes → AreChosen view order r.homes (65536 / r.width)
+  pub AreRows-made : (s : ℕ) → r.width ≡ length labels + 2 → AreSlots labels 510 r.classes → AreChosen view order r.homes (63232 / r.width)
       → Stands order r.width (length order * r.width) r.root s → view.reached s → view.text s ≡ []
       → AreRows unit_width view stands r
   AreRows-made s is slots chosen place there empty = record {
@@ -269,7 +269,7 @@ module _ {V : Type 0} (unit_width : ℕ → ℕ) (view : AutomatonView V) (stand
     inside = λ label less. omega (arith, is, slot_inside labels label (slice_index r.classes label) (slots.right label less));
     right = λ k label more less. right k label (omega (arith, more, count_is)) less (slot_some labels label (slice_index r.classes label) (slots.right label less));
     homes = λ t within some. let home = chosen.homes t within some in (omega (arith, home.0, count_is), at_start (slice_index r.homes t) home.0 ∙ home.1);
-    small = λ t here. omega (arith, w.size, AreChosen-small view order r.homes (65536 / r.width) chosen r.width t (fits_rows (length order) r.width chosen.few) here);
+    small = λ t here. omega (arith, w.size, AreChosen-small view order r.homes (63232 / r.width) chosen r.width t (fits_rows (length order) r.width chosen.few) here);
     root_state = (s, stands_for r.root s place, there, empty);
   }
     where

@@ -208,5 +208,5 @@ AreTooMany-weaker view stands n m room least less fewer h = record {
 }
 
 -- so many rows fit in any case
-pub room_least : (labels least : ℕ) → least * (labels + 2) ≤ 65536 → least ≤ 65536 / (labels + 2)
+pub room_least : (labels least : ℕ) → least * (labels + 2) ≤ 63232 → least ≤ 63232 / (labels + 2)
 room_least labels least fits = (le-div_iff_mul-le (omega arith)).1 fits

@@ -136,7 +136,7 @@ module _ {V : Type 0} (unit_width : ℕ → ℕ) (view : AutomatonView V) (stand
   -- the rows are right
   pub record AreRows (r : RowTable) : Type 0 where
     pub size : length r.top ≡ r.count * r.width
-    pub few : length r.top ≤ 65536
+    pub few : length r.top ≤ 63232
     pub wide : 0 < r.width
     pub classes_size : length r.classes ≡ 510
     pub inside : (label : ℕ) → label < 510 → slice_index r.classes label < r.width

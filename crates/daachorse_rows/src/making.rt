@@ -14,8 +14,8 @@ use daachorse_search::walk::follow;
 use std::alloc::{AllocError, Allocator};
 use std::num::NonZeroU32;
 
-/// The most slots: 256 KiB.
-pub(crate) const SLOTS: u32 = 65_536;
+/// The most slots. With the slots of the labels and a table of what patterns begin with they take 256 KiB.
+pub(crate) const SLOTS: u32 = 63_232;
 
 /// In the table of the states' rows: the state has none.
 pub(crate) const NO_ROW: u16 = 65_535;
@@ -69,7 +69,7 @@ impl<L: Allocator> Chosen<L> {
     pub(crate) fn place(&self, base: u32, state: u32, width: u32) -> u32
         requires homes { AreHomes self.now.order.items self.now.homes.items }
         requires own { AreOwn self.now.order.items self.now.homes.items }
-        requires few { length self.now.order.items * width ≤ 65536 }
+        requires few { length self.now.order.items * width ≤ 63232 }
         requires fits { base + state < 2 ^ 32 }
         ensures { Stands self.now.order.items width base result state }
     {
@@ -84,7 +84,7 @@ impl<L: Allocator> Chosen<L> {
     fn entry(&self, base: u32, state: u32, position: Option<NonZeroU32>, width: u32) -> u32
         requires homes { AreHomes self.now.order.items self.now.homes.items }
         requires own { AreOwn self.now.order.items self.now.homes.items }
-        requires few { length self.now.order.items * width ≤ 65536 }
+        requires few { length self.now.order.items * width ≤ 63232 }
         requires wide { 0 < width }
         requires fits { base + state < 2147483648 }
         ensures { IsSlotEntry (λ x. Stands self.now.order.items width base x state) (position ≡ None) result }
@@ -282,7 +282,7 @@ pub(crate) fn write<V: Copy, A: Automaton<V>, L: Allocator + Copy>(
 where
     A::Label: RowLabel,
     requires labels { AreLabels (A.sees automaton.now).content (stands_by A.Label.number (A.labels automaton.now)) (map A.Label.number labels.now) }
-    requires chosen { AreChosen (A.sees automaton.now) chosen.now.order.items chosen.now.homes.items (65536 / width) }
+    requires chosen { AreChosen (A.sees automaton.now) chosen.now.order.items chosen.now.homes.items (63232 / width) }
     requires width { width ≡ length labels.now + 2 }
     ensures { IfOk result (λ top. AreWritten A.Unit.width (A.sees automaton.now) (stands_by A.Label.number (A.labels automaton.now))
         (map A.Label.number labels.now) chosen.now.order.items width (length chosen.now.order.items * width) (length chosen.now.order.items) 0 top.items) }
@@ -308,7 +308,7 @@ fn write_row<V: Copy, A: Automaton<V>, L: Allocator>(
 where
     A::Label: RowLabel,
     requires labels { AreLabels (A.sees automaton.now).content (stands_by A.Label.number (A.labels automaton.now)) (map A.Label.number labels.now) }
-    requires chosen { AreChosen (A.sees automaton.now) chosen.now.order.items chosen.now.homes.items (65536 / width) }
+    requires chosen { AreChosen (A.sees automaton.now) chosen.now.order.items chosen.now.homes.items (63232 / width) }
     requires width { width ≡ length labels.now + 2 }
     requires row { row < length chosen.now.order.items }
     requires written { AreWritten A.Unit.width (A.sees automaton.now) (stands_by A.Label.number (A.labels automaton.now))

@@ -1,8 +1,8 @@
 //! An automaton over bytes with rows of the states near its root, for faster searches.
 //!
 //! The layers above may rely on each search giving the whole list that the automaton's own search of
-//! its name gives, within the same bounds of the turns, of a standard search at most one for each byte
-//! where no step leaves the rows, and on a stepper telling the matches that that of its name tells.
+//! its name gives, with at most as many turns as are promised there, of a standard search at most one for
+//! each byte where no step leaves the rows, and on a stepper telling the matches that that of its name tells.
 
 ghost use Rattle.std.specs.Prelude.{◌≡◌, ◌≢◌, [], IfOk, IfSome, IfErr, take};
 ghost use Rattle.std.specs.Option.{option_to_list};
@@ -85,8 +85,8 @@ impl<V: Copy, A: Allocator + Copy> DoubleArrayAhoCorasick<V, A> {
     ///
     /// Each text of at most two bytes that begins a pattern has a row, and so have longer ones
     /// while there is room. The answer is `None` where those alone are more than there is room for:
-    /// a row has two slots and one for each byte that occurs in patterns, and there are 65,536
-    /// slots, which are at least 254 rows. Where at most 254 texts begin a pattern, each has a row, and
+    /// a row has two slots and one for each byte that occurs in patterns, and there are 63,232
+    /// slots, which are at least 245 rows. Where at most 245 texts begin a pattern, each has a row, and
     /// each standard search and stepper takes at most one turn for each byte.
     ///
     /// Use it where much is searched for up to some thousand words, and for a leftmost search up to
@@ -95,7 +95,7 @@ impl<V: Copy, A: Allocator + Copy> DoubleArrayAhoCorasick<V, A> {
     /// change little. `docs/SPEED.md` has what was measured.
     ///
     /// Of the patterns `ab` and `b` in the haystack `ab` the search
-    /// [`Accelerated::find_overlapping_iter`] finds `ab` from 0 to 2 and `b` from 1 to 2. Of 253
+    /// [`Accelerated::find_overlapping_iter`] finds `ab` from 0 to 2 and `b` from 1 to 2. Of 248
     /// patterns of one byte each and four of two of these bytes there are no rows
     /// (`daachorse_tests` runs both).
     ///
@@ -103,9 +103,9 @@ impl<V: Copy, A: Allocator + Copy> DoubleArrayAhoCorasick<V, A> {
     /// table of 8,192 bytes tells which four bytes patterns begin with. A search in a slice asks it
     /// where the filter passes.
     ///
-    /// It borrows the automaton, and takes at most 256 KiB for the slots of the rows, two bytes for
-    /// each element, 1,020 bytes, and that table. A walk over the patterns stands beside these while
-    /// it is made. The work grows with the elements and with the slots; it has no bound by proof.
+    /// It borrows the automaton, and takes at most 256 KiB and two bytes for each element. A walk over the
+    /// patterns stands beside these while it is made. The work grows with the elements and with the slots;
+    /// it has no bound by proof.
     ///
     /// # Errors
     ///

@@ -1,8 +1,8 @@
 //! An automaton over characters with rows of the states near its root, for faster searches.
 //!
 //! The layers above may rely on each search giving the whole list that the automaton's own search of
-//! its name gives, within the same bounds of the turns, and on a stepper telling the matches that
-//! that of its name tells.
+//! its name gives, with at most as many turns as are promised there, and on a stepper telling the matches
+//! that that of its name tells.
 
 ghost use Rattle.std.specs.Prelude.{◌≡◌, ◌≢◌, [], IfOk, IfSome, IfErr, encode_utf8_all, take};
 ghost use Rattle.std.specs.Option.{option_to_list};
@@ -84,7 +84,7 @@ impl<V: Copy, A: Allocator + Copy> CharwiseDoubleArrayAhoCorasick<V, A> {
     /// Each text of at most two characters that begins a pattern has a row, if both are among the
     /// 510 most frequent ones, and so have longer ones while there is room. The answer is `None`
     /// where those alone are more than there is room for: a row has two slots and one for each of
-    /// these characters, and there are 65,536 slots, which are at least 128 rows. Where at most 128
+    /// these characters, and there are 63,232 slots, which are at least 123 rows. Where at most 123
     /// texts begin a pattern, and no more than 510 characters occur, each has a row, and each standard
     /// search and stepper takes at most one turn for each character.
     ///
@@ -100,10 +100,9 @@ impl<V: Copy, A: Allocator + Copy> CharwiseDoubleArrayAhoCorasick<V, A> {
     /// table of 8,192 bytes tells which four bytes patterns begin with. A search in a text asks it
     /// where the filter passes.
     ///
-    /// It borrows the automaton, and takes at most 256 KiB for the slots of the rows, two bytes for
-    /// each element, 1,020 bytes, and that table. Beside these stand a list of the characters while
-    /// rows are made, and then a walk over the patterns. The work grows with the elements, the
-    /// characters and the slots; it has no bound by proof.
+    /// It borrows the automaton, and takes at most 256 KiB and two bytes for each element. Beside these
+    /// stand a list of the characters while rows are made, and then a walk over the patterns. The work grows
+    /// with the elements, the characters and the slots; it has no bound by proof.
     ///
     /// # Errors
     ///

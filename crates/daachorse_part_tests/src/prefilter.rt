@@ -74,7 +74,8 @@ const ROWS: &[Row] = &[
     (WORDS, Asked::FoldedBytes, "xxxarIAxxx", 5, 10),
     (WORDS, Asked::FoldedBytes, "XX@RIAXXXX", 0, 10),
     (WORDS, Asked::FoldedBytes, "XX[RISXXXX", 0, 10),
-    // A round reads sixteen pairs. Here one has two windows that pass, and another window ends behind one.
+    // A round reads sixteen pairs, or eight where case is disregarded. Here one has two windows that pass, and
+    // another window ends behind one.
     (WORDS, Asked::Bytes, "xxxariaxxxirisxxxxxxxxxx", 0, 3),
     (WORDS, Asked::Bytes, "xxxariaxxxirisxxxxxxxxxx", 4, 10),
     (WORDS, Asked::FoldedBytes, "XXXXXXXXXXXXXXARIAXXXXXX", 0, 14),

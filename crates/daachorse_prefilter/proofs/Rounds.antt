@@ -4,6 +4,7 @@ use Rattle.std.specs.Prelude.{◌==◌, ◌||◌, bit_and}
 use Rattle.std.specs.Int.{bit_at, bit_not, w32}
 use Rattle.std.specs.Int.Count.{count_leading_zeros}
 use Rattle.std.proofs.lemmas.Bool.{cases_eq, cases_lt, false≢true}
+use Rattle.std.proofs.Math.Pow.{pow_mono}
 use Rattle.std.proofs.lemmas.Nat.{leading_top, and_le_l}
 use Rattle.std.proofs.lemmas.Nat.Bits.{bit_at-zero, bit_at_cat_high, bit_at_clear_same, bit_at_clear_other}
 use Rattle.daachorse_model.specs.Filter.{is_clear, passes}
@@ -12,19 +13,23 @@ use Rattle.daachorse_prefilter.specs.Scans.{has_begun, AreRefused, HasEnded, IsF
 use Rattle.daachorse_prefilter.proofs.ClearBits.{is_clear-and, is_clear_not, is_clear_shifted, is_clear_shifted_below, is_clear_mask, is_clear_mask_above, clear_is_not_set, not_set_is_clear, is_clear_zero}
 use Rattle.daachorse_prefilter.proofs.Scanned.{entry_in, begins_behind, none_more, found}
 
--- the bits that tell of the windows of a round
-abbrev pub end_bits : ℕ → ℕ
-end_bits last = (65535 * 2 ^ last) % 2 ^ 32
+-- the bits that tell of the windows of a round of n pairs
+abbrev pub end_bits : ℕ → ℕ → ℕ
+end_bits last n = ((1 * 2 ^ n % 2 ^ 32 - 1) * 2 ^ last) % 2 ^ 32
 
 -- those of them that are 0 in the state
-abbrev pub passing_bits : ℕ → ℕ → ℕ
-passing_bits last r = bit_and (bit_not w32 r) (end_bits last)
+abbrev pub passing_bits : ℕ → ℕ → ℕ → ℕ
+passing_bits last n r = bit_and (bit_not w32 r) (end_bits last n)
 
-end_bit : (last d : ℕ) → last ≤ 7 → d < 16 → is_clear (end_bits last) (last + d) ≡ false
-end_bit last d small h = is_clear_shifted 65535 last d (omega arith) ∙ is_clear_mask 16 d h
+-- as many ones as there are pairs
+ones_is : (n : ℕ) → n ≤ 16 → 1 * 2 ^ n % 2 ^ 32 - 1 ≡ 2 ^ n - 1
+ones_is n few = let small : 2 ^ n ≤ 2 ^ 16 = pow_mono few in omega arith
 
-end_bit_above : (last d : ℕ) → last + d < 32 → 16 ≤ d → is_clear (end_bits last) (last + d) ≡ true
-end_bit_above last d small h = is_clear_shifted 65535 last d small ∙ is_clear_mask_above 16 d h
+end_bit : (last n d : ℕ) → last ≤ 7 → n ≤ 16 → d < n → is_clear (end_bits last n) (last + d) ≡ false
+end_bit last n d small few h = is_clear_shifted (1 * 2 ^ n % 2 ^ 32 - 1) last d (omega arith) ∙ ap (λ m. is_clear m d) (ones_is n few) ∙ is_clear_mask n d h
+
+end_bit_above : (last n d : ℕ) → last + d < 32 → n ≤ 16 → n ≤ d → is_clear (end_bits last n) (last + d) ≡ true
+end_bit_above last n d small few h = is_clear_shifted (1 * 2 ^ n % 2 ^ 32 - 1) last d small ∙ ap (λ m. is_clear m d) (ones_is n few) ∙ is_clear_mask_above n d h
 
 left_of : (x y : Bool) → y ≡ false → (x || y) ≡ x
 left_of true y e = refl
@@ -74,31 +79,31 @@ highest p some small =
     positive h = omega arith
 
 -- of the windows whose bit is set, the test refused those whose bit is left no more
-pub record IsLeft (tested : List ℕ → Bool) (text : List ℕ) (place passing left : ℕ) : Type 0 where
+pub record IsLeft (tested : List ℕ → Bool) (text : List ℕ) (e passing left : ℕ) : Type 0 where
   pub among : (b : ℕ) → is_clear left b ≡ false → is_clear passing b ≡ false
-  pub others : (b : ℕ) → is_clear passing b ≡ false → (is_clear left b ≡ false) ⊎ (tested (drop (place + 15 - b) text) ≡ false)
+  pub others : (b : ℕ) → is_clear passing b ≡ false → (is_clear left b ≡ false) ⊎ (tested (drop (e - b) text) ≡ false)
 
 -- a number with one of its bits less
 abbrev pub without : ℕ → ℕ → ℕ
 without left j = bit_and left (bit_not w32 (1 * 2 ^ j % 2 ^ 32))
 
-module _ (tested : List ℕ → Bool) (text : List ℕ) (place passing : ℕ) where
-  pub left_all : IsLeft tested text place passing passing
+module _ (tested : List ℕ → Bool) (text : List ℕ) (e passing : ℕ) where
+  pub left_all : IsLeft tested text e passing passing
   left_all = record { among = λ b set. set; others = λ b set. inl set }
 
-  pub left_less : (left j : ℕ) → left < 2 ^ 32 → IsHighest left j → tested (drop (place + 15 - j) text) ≡ false → IsLeft tested text place passing left → IsLeft tested text place passing (without left j)
+  pub left_less : (left j : ℕ) → left < 2 ^ 32 → IsHighest left j → tested (drop (e - j) text) ≡ false → IsLeft tested text e passing left → IsLeft tested text e passing (without left j)
   left_less left j small top refused is = record {
     among = λ b set. is.among b (left_false (is_clear left b) (is_clear (bit_not w32 (1 * 2 ^ j % 2 ^ 32)) b) (sym (is_clear-and left (bit_not w32 (1 * 2 ^ j % 2 ^ 32)) b) ∙ set));
     others = λ b set. by b (is.others b set) (cases_eq b j);
   }
     where
-      by : (b : ℕ) → (is_clear left b ≡ false) ⊎ (tested (drop (place + 15 - b) text) ≡ false) → (b ≡ j) ⊎ (b ≢ j) → (is_clear (without left j) b ≡ false) ⊎ (tested (drop (place + 15 - b) text) ≡ false)
+      by : (b : ℕ) → (is_clear left b ≡ false) ⊎ (tested (drop (e - b) text) ≡ false) → (b ≡ j) ⊎ (b ≢ j) → (is_clear (without left j) b ≡ false) ⊎ (tested (drop (e - b) text) ≡ false)
       by b (inr not) which = inr not
-      by b (inl set) (inl same) = inr (ap (λ i. tested (drop (place + 15 - i) text)) same ∙ refused)
+      by b (inl set) (inl same) = inr (ap (λ i. tested (drop (e - i) text)) same ∙ refused)
       by b (inl set) (inr other) = inl (ap (λ n. n == 0) (bit_at_clear_other w32 left j top.within b (set_within left b small set) other) ∙ set)
 
   -- the highest is the first window at which the test passes
-  pub accepted_first : (left j : ℕ) → IsHighest left j → IsLeft tested text place passing left → tested (drop (place + 15 - j) text) ≡ true → IsFirstAccepted tested text place passing (place + 15 - j)
+  pub accepted_first : (left j : ℕ) → IsHighest left j → IsLeft tested text e passing left → tested (drop (e - j) text) ≡ true → IsFirstAccepted tested text e passing (e - j)
   accepted_first left j top is passed = record {
     window = j;
     set = is.among j top.set;
@@ -107,14 +112,14 @@ module _ (tested : List ℕ → Bool) (text : List ℕ) (place passing : ℕ) wh
     earlier = λ b high set. by b high (is.others b set);
   }
     where
-      by : (b : ℕ) → suc j ≤ b → (is_clear left b ≡ false) ⊎ (tested (drop (place + 15 - b) text) ≡ false) → tested (drop (place + 15 - b) text) ≡ false
+      by : (b : ℕ) → suc j ≤ b → (is_clear left b ≡ false) ⊎ (tested (drop (e - b) text) ≡ false) → tested (drop (e - b) text) ≡ false
       by b high (inr not) = not
       by b high (inl set) = absurd (false≢true (sym set ∙ top.none b (omega arith)))
 
-  pub refused_all : (left : ℕ) → left ≡ 0 → IsLeft tested text place passing left → AreRefused tested text place passing 0
+  pub refused_all : (left : ℕ) → left ≡ 0 → IsLeft tested text e passing left → AreRefused tested text e passing 0
   refused_all left none is b low set = by (is.others b set)
     where
-      by : (is_clear left b ≡ false) ⊎ (tested (drop (place + 15 - b) text) ≡ false) → tested (drop (place + 15 - b) text) ≡ false
+      by : (is_clear left b ≡ false) ⊎ (tested (drop (e - b) text) ≡ false) → tested (drop (e - b) text) ≡ false
       by (inr not) = not
       by (inl still) = absurd (false≢true (sym still ∙ ap (λ n. is_clear n b) none ∙ is_clear_zero b))
 
@@ -128,90 +133,90 @@ less_left left j top =
     by least (inr other) = omega arith
 
 -- the round of the bytes behind a place ended in the state r
-module _ (tested : List ℕ → Bool) (entries h : List ℕ) (last pos place r : ℕ) (small : last ≤ 7) (hr : r < 2 ^ 32) (inside : place + 16 < length h) (ends : HasEnded entries h last pos (place + 1) 16 r) where
+module _ (tested : List ℕ → Bool) (entries h : List ℕ) (last n pos place r : ℕ) (small : last ≤ 7) (few : n ≤ 16) (hr : r < 2 ^ 32) (inside : place + n < length h) (ends : HasEnded entries h last pos (place + 1) n r) where
   -- the bit of window k tells whether it has begun
-  begun_is : (k i : ℕ) → k < 16 → i ≡ place + k + 2 → is_clear r (last + (15 - k)) ≡ has_begun entries h pos i last
+  begun_is : (k i : ℕ) → k < n → i ≡ place + k + 2 → is_clear r (last + (n - 1 - k)) ≡ has_begun entries h pos i last
   begun_is k i less e =
-      let at : place + 1 + 16 - (15 - k) ≡ i = omega arith in
-      ends.ends (15 - k) (omega arith) ∙ ap (λ p. has_begun entries h pos p last) at
+      let at : place + 1 + n - (n - 1 - k) ≡ i = omega arith in
+      ends.ends (n - 1 - k) (omega arith) ∙ ap (λ p. has_begun entries h pos p last) at
 
   -- a window that has begun is among those that pass
-  among_passing : (k : ℕ) → k < 16 → is_clear r (last + (15 - k)) ≡ true → is_clear (passing_bits last r) (last + (15 - k)) ≡ false
+  among_passing : (k : ℕ) → k < n → is_clear r (last + (n - 1 - k)) ≡ true → is_clear (passing_bits last n r) (last + (n - 1 - k)) ≡ false
   among_passing k less clear =
-      is_clear-and (bit_not w32 r) (end_bits last) (last + (15 - k))
-      ∙ left_of (is_clear (bit_not w32 r) (last + (15 - k))) (is_clear (end_bits last) (last + (15 - k))) (end_bit last (15 - k) small (omega arith))
-      ∙ is_clear_not r (last + (15 - k)) hr (omega arith)
-      ∙ clear_is_not_set r (last + (15 - k)) clear
+      is_clear-and (bit_not w32 r) (end_bits last n) (last + (n - 1 - k))
+      ∙ left_of (is_clear (bit_not w32 r) (last + (n - 1 - k))) (is_clear (end_bits last n) (last + (n - 1 - k))) (end_bit last n (n - 1 - k) small few (omega arith))
+      ∙ is_clear_not r (last + (n - 1 - k)) hr (omega arith)
+      ∙ clear_is_not_set r (last + (n - 1 - k)) clear
 
   -- where the bit of one that passes is
   record HasWindow (b : ℕ) : Type 0 where
     low : last ≤ b
-    high : b < last + 16
+    high : b < last + n
     begun : is_clear r b ≡ true
 
-  window_of : (b : ℕ) → is_clear (passing_bits last r) b ≡ false → HasWindow b
+  window_of : (b : ℕ) → is_clear (passing_bits last n r) b ≡ false → HasWindow b
   window_of b e =
-      let bit : is_clear (end_bits last) b ≡ false = right_false (is_clear (bit_not w32 r) b) (is_clear (end_bits last) b) (sym (is_clear-and (bit_not w32 r) (end_bits last) b) ∙ e) in
-      let unset : is_clear (bit_not w32 r) b ≡ false = left_false (is_clear (bit_not w32 r) b) (is_clear (end_bits last) b) (sym (is_clear-and (bit_not w32 r) (end_bits last) b) ∙ e) in
-      let within : b < 32 = set_within (end_bits last) b (omega arith) bit in
+      let bit : is_clear (end_bits last n) b ≡ false = right_false (is_clear (bit_not w32 r) b) (is_clear (end_bits last n) b) (sym (is_clear-and (bit_not w32 r) (end_bits last n) b) ∙ e) in
+      let unset : is_clear (bit_not w32 r) b ≡ false = left_false (is_clear (bit_not w32 r) b) (is_clear (end_bits last n) b) (sym (is_clear-and (bit_not w32 r) (end_bits last n) b) ∙ e) in
+      let within : b < 32 = set_within (end_bits last n) b (omega arith) bit in
       record {
         low = low bit within (cases_lt b last);
-        high = high bit within (cases_lt b (last + 16));
+        high = high bit within (cases_lt b (last + n));
         begun = not_set_is_clear r b (sym (is_clear_not r b hr within) ∙ unset);
       }
     where
-      low : is_clear (end_bits last) b ≡ false → b < 32 → (b < last) ⊎ (last ≤ b) → last ≤ b
-      low bit within (inl below) = let none = is_clear_shifted_below 65535 last b below within in absurd (cc)
+      low : is_clear (end_bits last n) b ≡ false → b < 32 → (b < last) ⊎ (last ≤ b) → last ≤ b
+      low bit within (inl below) = let none = is_clear_shifted_below (1 * 2 ^ n % 2 ^ 32 - 1) last b below within in absurd (cc)
       low bit within (inr h) = h
 
-      high : is_clear (end_bits last) b ≡ false → b < 32 → (b < last + 16) ⊎ (last + 16 ≤ b) → b < last + 16
+      high : is_clear (end_bits last n) b ≡ false → b < 32 → (b < last + n) ⊎ (last + n ≤ b) → b < last + n
       high bit within (inl h) = h
       high bit within (inr above) =
           let place : last + (b - last) ≡ b = omega arith in
-          let none : is_clear (end_bits last) b ≡ true = ap (λ n. is_clear (end_bits last) n) (sym place) ∙ end_bit_above last (b - last) (omega arith) (omega arith) in
+          let none : is_clear (end_bits last n) b ≡ true = ap (λ m. is_clear (end_bits last n) m) (sym place) ∙ end_bit_above last n (b - last) (omega arith) few (omega arith) in
           absurd (cc)
 
-  begun_at : (b : ℕ) → HasWindow b → has_begun entries h pos (place + 1 + (last + 15 - b) + 1) last ≡ true
+  begun_at : (b : ℕ) → HasWindow b → has_begun entries h pos (place + 1 + (last + n - 1 - b) + 1) last ≡ true
   begun_at b w =
       let low : last ≤ b = w.low in
-      let high : b < last + 16 = w.high in
-      let bit : last + (15 - (last + 15 - b)) ≡ b = omega arith in
-      sym (begun_is (last + 15 - b) (place + 1 + (last + 15 - b) + 1) (omega arith) (omega arith)) ∙ ap (λ n. is_clear r n) bit ∙ w.begun
+      let high : b < last + n = w.high in
+      let bit : last + (n - 1 - (last + n - 1 - b)) ≡ b = omega arith in
+      sym (begun_is (last + n - 1 - b) (place + 1 + (last + n - 1 - b) + 1) (omega arith) (omega arith)) ∙ ap (λ n. is_clear r n) bit ∙ w.begun
 
   -- so it begins within the text
-  pub begins_within : (b : ℕ) → is_clear (passing_bits last r) b ≡ false → b ≤ place + 15
+  pub begins_within : (b : ℕ) → is_clear (passing_bits last n r) b ≡ false → b ≤ place + n - 1
   begins_within b set =
       let w = window_of b set in
       let low : last ≤ b = w.low in
-      let high : b < last + 16 = w.high in
-      let behind = begins_behind entries h last pos (place + 1 + (last + 15 - b) + 1) (begun_at b w) in
+      let high : b < last + n = w.high in
+      let behind = begins_behind entries h last pos (place + 1 + (last + n - 1 - b) + 1) (begun_at b w) in
       omega arith
 
-  -- the test refuses each of the first n windows that pass
-  none_until : (n : ℕ) → n ≤ 16 → NonePasses tested entries h (last + 2) pos (place + 1) → AreRefused tested h place (passing_bits last r) (last + 16 - n) → NonePasses tested entries h (last + 2) pos (place + 1 + n)
-  none_until zero few none refuses = let same : place + 1 + zero ≡ place + 1 = omega arith in rw same none
-  none_until (suc n) few none refuses =
-      let before = none_until n (omega arith) none (λ b low set. refuses b (omega arith) set) in
-      let end : place + 1 + suc n ≡ place + 1 + n + 1 = omega arith in
-      let begins : place + 1 + n + 1 - (last + 2) ≡ place + 15 - (last + (15 - n)) = omega arith in
-      rw end (none_more tested entries h last pos (place + 1 + n) (omega arith)
-      (λ begun. ap (λ p. tested (drop p h)) begins ∙ refuses (last + (15 - n)) (omega arith) (among_passing n (omega arith) (begun_is n (place + 1 + n + 1) (omega arith) (omega arith) ∙ begun)))
+  -- the test refuses each of the first m windows that pass
+  none_until : (m : ℕ) → m ≤ n → NonePasses tested entries h (last + 2) pos (place + 1) → AreRefused tested h (place + n - 1) (passing_bits last n r) (last + n - m) → NonePasses tested entries h (last + 2) pos (place + 1 + m)
+  none_until zero part none refuses = let same : place + 1 + zero ≡ place + 1 = omega arith in rw same none
+  none_until (suc m) part none refuses =
+      let before = none_until m (omega arith) none (λ b low set. refuses b (omega arith) set) in
+      let end : place + 1 + suc m ≡ place + 1 + m + 1 = omega arith in
+      let begins : place + 1 + m + 1 - (last + 2) ≡ place + n - 1 - (last + (n - 1 - m)) = omega arith in
+      rw end (none_more tested entries h last pos (place + 1 + m) (omega arith)
+      (λ begun. ap (λ p. tested (drop p h)) begins ∙ refuses (last + (n - 1 - m)) (omega arith) (among_passing m (omega arith) (begun_is m (place + 1 + m + 1) (omega arith) (omega arith) ∙ begun)))
       before)
 
   -- it refuses each window of the round
-  pub none_in_round : NonePasses tested entries h (last + 2) pos (place + 1) → AreRefused tested h place (passing_bits last r) 0 → NonePasses tested entries h (last + 2) pos (place + 16 + 1)
+  pub none_in_round : NonePasses tested entries h (last + 2) pos (place + 1) → AreRefused tested h (place + n - 1) (passing_bits last n r) 0 → NonePasses tested entries h (last + 2) pos (place + n + 1)
   none_in_round none refuses =
-      let end : place + 16 + 1 ≡ place + 1 + 16 = omega arith in
-      rw end (none_until 16 (omega arith) none (λ b low set. refuses b (omega arith) set))
+      let end : place + n + 1 ≡ place + 1 + n = omega arith in
+      rw end (none_until n (omega arith) none (λ b low set. refuses b (omega arith) set))
 
   -- the first window of the round at which it passes is the first of all
-  pub found_in_round : (p : ℕ) → NonePasses tested entries h (last + 2) pos (place + 1) → IsFirstAccepted tested h place (passing_bits last r) p → IsFirstPlace (λ w. tested w && passes (entry_in entries) (last + 2) w) h pos p
+  pub found_in_round : (p : ℕ) → NonePasses tested entries h (last + 2) pos (place + 1) → IsFirstAccepted tested h (place + n - 1) (passing_bits last n r) p → IsFirstPlace (λ w. tested w && passes (entry_in entries) (last + 2) w) h pos p
   found_in_round p none is =
       let b = is.window in
       let w = window_of b is.set in
       let low : last ≤ b = w.low in
-      let high : b < last + 16 = w.high in
-      let k = last + 15 - b in
+      let high : b < last + n = w.high in
+      let k = last + n - 1 - b in
       let begins : p ≡ place + 1 + k + 1 - (last + 2) = omega (arith, is.begins) in
       rw begins (found tested entries h last pos (place + 1 + k) (omega arith) (begun_at b w)
       (ap (λ n. tested (drop n h)) (sym begins) ∙ is.accepted)

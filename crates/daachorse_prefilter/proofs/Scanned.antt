@@ -189,12 +189,12 @@ apart entries h w i s (suc k) (suc b) hb =
     ∙ ap (λ x. x && is_clear e (suc b)) (sym (is_clear-or ((s * 2 ^ k) % 2 ^ 32) (states entries h w i 0 k) b) ∙ apart entries h w i s k b (omega arith))
     ∙ sym (next_later (states entries h w i s k) e b (omega arith))
 
-pub ended_apart : (entries h : List ℕ) (last pos i s : ℕ) → last ≤ 7 → pos + 1 ≤ i → i + 16 ≤ length h → AreBits entries h last pos i s → HasEnded entries h last pos i 16 (bit_or ((s * 2 ^ 16) % 2 ^ 32) (states entries h (window_bits last) i 0 16))
-ended_apart entries h last pos i s small low l bits =
-    let all = ended entries h last pos i s 16 small low l (omega arith) bits in
+pub ended_apart : (entries h : List ℕ) (last pos i s n : ℕ) → last ≤ 7 → n ≤ 16 → pos + 1 ≤ i → i + n ≤ length h → AreBits entries h last pos i s → HasEnded entries h last pos i n (bit_or ((s * 2 ^ n) % 2 ^ 32) (states entries h (window_bits last) i 0 n))
+ended_apart entries h last pos i s n small few low l bits =
+    let all = ended entries h last pos i s n small low l few bits in
     record {
-      bits = λ b hb. apart entries h (window_bits last) i s 16 b (omega arith) ∙ all.bits b hb;
-      ends = λ d hd. apart entries h (window_bits last) i s 16 (last + d) (omega arith) ∙ all.ends d hd;
+      bits = λ b hb. apart entries h (window_bits last) i s n b (omega arith) ∙ all.bits b hb;
+      ends = λ d hd. apart entries h (window_bits last) i s n (last + d) (omega arith) ∙ all.ends d hd;
     }
 
 -- no state was made yet

@@ -21,15 +21,15 @@ abbrev pub NonePasses : (List ℕ → Bool) → List ℕ → List ℕ → ℕ �
 NonePasses tested entries text m pos i =
     (k : ℕ) → pos ≤ k → k + m ≤ i → (tested (drop k text) && passes (λ pair. slice_index entries pair) m (drop k text)) ≡ false
 
--- of the windows of a round that have a bit from n on and whose bit is set, the test refuses each: the window with bit b begins at place + 15 - b
+-- of the windows of a round that have a bit from n on and whose bit is set, the test refuses each: the window with bit b begins at e - b
 abbrev pub AreRefused : (List ℕ → Bool) → List ℕ → ℕ → ℕ → ℕ → Type 0
-AreRefused tested text place passing n =
-    (b : ℕ) → n ≤ b → is_clear passing b ≡ false → tested (drop (place + 15 - b) text) ≡ false
+AreRefused tested text e passing n =
+    (b : ℕ) → n ≤ b → is_clear passing b ≡ false → tested (drop (e - b) text) ≡ false
 
 -- of the windows of a round whose bit is set, the first at which the test passes begins at r: a window that begins before another has a higher bit
-pub record IsFirstAccepted (tested : List ℕ → Bool) (text : List ℕ) (place passing r : ℕ) : Type 0 where
+pub record IsFirstAccepted (tested : List ℕ → Bool) (text : List ℕ) (e passing r : ℕ) : Type 0 where
   pub window : ℕ
   pub set : is_clear passing window ≡ false
-  pub begins : r ≡ place + 15 - window
+  pub begins : r ≡ e - window
   pub accepted : tested (drop r text) ≡ true
-  pub earlier : AreRefused tested text place passing (suc window)
+  pub earlier : AreRefused tested text e passing (suc window)

@@ -16,6 +16,11 @@ pub trait ByteReading {
     /// The byte that is read.
     ghost as_read: { ℕ → ℕ };
 
+    /// How many pairs a scan reads in a round.
+    fn pairs_in_round() -> usize
+        ensures some { 1 ≤ result }
+        ensures few { result ≤ 16 };
+
     /// Reads the byte at a place and the next, and answers the number of their pair.
     fn pair(haystack: &[u8], place: usize) -> u16
         requires { place + 1 < length haystack.now }
@@ -43,6 +48,11 @@ impl ByteReading for AsItIs {
     ghost as_read = { λ b. b };
 
     #[inline(always)]
+    fn pairs_in_round() -> usize {
+        16
+    }
+
+    #[inline(always)]
     fn pair(haystack: &[u8], place: usize) -> u16 {
         // As one array both are loaded at once.
         let (pairs, _rest) = haystack[place..place + 2].as_chunks::<2>();
@@ -62,6 +72,12 @@ impl ByteReading for AsFolded {
     ghost use Rattle.daachorse_model.proofs.FoldLaws.{IsCharBoundary-folded};
 
     ghost as_read = { folded_unit };
+
+    #[inline(always)]
+    fn pairs_in_round() -> usize {
+        // With sixteen the folded bytes would not all stay in registers.
+        8
+    }
 
     #[inline(always)]
     fn pair(haystack: &[u8], place: usize) -> u16 {

@@ -12,16 +12,12 @@ use super::reading::ByteReading;
 use crate::place_test::PlaceTest;
 use std::alloc::Allocator;
 
-/// How many pairs are read in a round of the scan. The bits of their windows fit in the state, and so do
-/// those below.
-const NUM_IN_ROUND: usize = 16;
-
 /// The first place from `pos` on at which a window of what is read passes, and the test too, or the
 /// haystack's length.
 ///
-/// Bit j of the state is 0 where the last j + 1 pairs are those that a window begins with. A round reads
-/// sixteen pairs: the bit of a window's last pair goes on to the bits above it, so that one look tells of
-/// each of them. The test is asked only of the windows that pass.
+/// Bit j of the state is 0 where the last j + 1 pairs are those that a window begins with. A round reads many
+/// pairs: the bit of a window's last pair goes on to the bits above it, so that one look tells of each of
+/// them. The test is asked only of the windows that pass.
 #[inline(always)]
 pub(super) fn scan<R: ByteReading, A: Allocator, T: PlaceTest>(
     table: &PairTable<A>,
@@ -39,16 +35,17 @@ pub(super) fn scan<R: ByteReading, A: Allocator, T: PlaceTest>(
     }
     // The bit of a window's last pair.
     let last = window_len - 2;
-    let ends = 0xffffu32 << last;
+    let num_pairs = R::pairs_in_round();
+    let ends = ((1u32 << num_pairs) - 1) << last;
     let mut state = u32::MAX;
     // The place of the last byte that was read.
     let mut place = pos;
-    while haystack.len() - place > NUM_IN_ROUND {
-        state = read_round::<R, A>(table, last, haystack, place, state);
-        if let Some(found) = first_in_round::<R, T>(test, haystack, place, !state & ends) {
+    while haystack.len() - place > num_pairs {
+        state = read_round::<R, A>(table, last, haystack, place, num_pairs, state);
+        place += num_pairs;
+        if let Some(found) = first_in_round::<R, T>(test, haystack, place - 1, !state & ends) {
             return found;
         }
-        place += NUM_IN_ROUND;
     }
     scan_rest::<R, A, T>(table, test, last, haystack, pos, place, state)
 }
@@ -60,42 +57,44 @@ fn read_round<R: ByteReading, A: Allocator>(
     last: u8,
     haystack: &[u8],
     place: usize,
+    num_pairs: usize,
     state: u32,
 ) -> u32
     requires low { last ≤ 7 }
-    requires inside { place + 16 < length haystack.now }
+    requires few { num_pairs ≤ 16 }
+    requires inside { place + num_pairs < length haystack.now }
     ensures { (pos : ℕ) → pos ≤ place → AreBits table.now (map R.as_read haystack.now) last pos (place + 1) state
-        → HasEnded table.now (map R.as_read haystack.now) last pos (place + 1) 16 result }
+        → HasEnded table.now (map R.as_read haystack.now) last pos (place + 1) num_pairs result }
 {
     // No other bit of an entry may meet those above the last.
     let window = (2u32 << last) - 1;
     // It is made apart from the state before, so that only the last step waits for that.
     let mut read = 0u32;
-    for k in 0..NUM_IN_ROUND {
+    for k in 0..num_pairs {
         let entry = table.entry(R::pair(haystack, place + k));
         read = (read << 1) | (u32::from(entry) & window);
     }
-    (state << 16) | read
+    (state << num_pairs) | read
 }
 
 /// The place of the first window of a round at which the test passes, of those whose bit is set: the window
-/// with bit b begins at place + 15 - b, so that the first has the highest.
+/// with bit b begins at end - b, so that the first has the highest.
 #[inline(always)]
 fn first_in_round<R: ByteReading, T: PlaceTest>(
     test: &T,
     haystack: &[u8],
-    place: usize,
+    end: usize,
     passing: u32,
 ) -> Option<usize>
-    requires inside { place + 15 ≤ length haystack.now }
-    requires begun { (b : ℕ) → is_clear passing b ≡ false → b ≤ place + 15 }
-    ensures { MatchOption result (AreRefused (T.lets test.now) (map R.as_read haystack.now) place passing 0)
-        (IsFirstAccepted (T.lets test.now) (map R.as_read haystack.now) place passing) }
+    requires inside { end ≤ length haystack.now }
+    requires begun { (b : ℕ) → is_clear passing b ≡ false → b ≤ end }
+    ensures { MatchOption result (AreRefused (T.lets test.now) (map R.as_read haystack.now) end passing 0)
+        (IsFirstAccepted (T.lets test.now) (map R.as_read haystack.now) end passing) }
 {
     let mut left = passing;
     while left != 0 {
         let bit = 31 - left.leading_zeros();
-        let found = place + 15 - bit as usize;
+        let found = end - bit as usize;
         if R::test_passes(test, haystack, found) {
             return Some(found);
         }

@@ -11,7 +11,7 @@ overflow_sub-found g c =
 pub returns-then-test_passes : goal.returns-then-test_passes
 returns-then-test_passes g c =
     let top = highest c.loop-left.left c.loop-left-test.true (omega arith) in
-    accepted_first (g.T.PlaceTest.lets c.args.test.now) (map g.R.ByteReading.as_read c.args.haystack.now) c.args.place c.args.passing c.loop-left.left _ top.0 c.loop-left.invariant
+    accepted_first (g.T.PlaceTest.lets c.args.test.now) (map g.R.ByteReading.as_read c.args.haystack.now) c.args.end c.args.passing c.loop-left.left _ top.0 c.loop-left.invariant
     (sym c.test_passes.ensures ∙ c.if-test_passes.true)
 
 pub loop-left-smaller : goal.loop-left-smaller
@@ -22,5 +22,5 @@ loop-left-smaller g c =
 pub loop-left-preserved : goal.loop-left-preserved
 loop-left-preserved g c =
     let top = highest c.loop-left.left c.loop-left-test.true (omega arith) in
-    left_less (g.T.PlaceTest.lets c.args.test.now) (map g.R.ByteReading.as_read c.args.haystack.now) c.args.place c.args.passing c.loop-left.left _ (omega arith) top.0
+    left_less (g.T.PlaceTest.lets c.args.test.now) (map g.R.ByteReading.as_read c.args.haystack.now) c.args.end c.args.passing c.loop-left.left _ (omega arith) top.0
     (sym c.test_passes.ensures ∙ c.if-test_passes.false) c.loop-left.invariant

@@ -18,6 +18,6 @@ loop-k-preserved g c =
 pub returns : goal.returns
 returns g c pos low bits =
     let text = map g.R.ByteReading.as_read c.args.haystack.now in
-    let all : c.loop-k.k ≡ 16 = omega arith in
+    let all : c.loop-k.k ≡ c.args.num_pairs = omega arith in
     let size : length text ≡ length c.args.haystack.now = length-map c.args.haystack.now g.R.ByteReading.as_read in
-    rw (c.loop-k.invariant.read, all) (ended_apart c.args.table.now text c.args.last pos (c.args.place + 1) c.args.state c.requires.low (omega arith) (omega arith) bits)
+    rw (c.loop-k.invariant.read, all) (ended_apart c.args.table.now text c.args.last pos (c.args.place + 1) c.args.state c.args.num_pairs c.requires.low c.requires.few (omega arith) (omega arith) bits)

@@ -103,9 +103,9 @@ impl<V: Copy, A: Allocator + Copy> DoubleArrayAhoCorasick<V, A> {
     /// table of 8,192 bytes tells which four bytes patterns begin with. A search in a slice asks it
     /// where the filter passes.
     ///
-    /// It borrows the automaton, and takes at most 256 KiB and two bytes for each element. A walk over the
-    /// patterns stands beside these while it is made. The work grows with the elements and with the slots;
-    /// it has no bound by proof.
+    /// It borrows the automaton, and takes at most 256 KiB and two bytes for each element. While it is made,
+    /// a list of the states with rows stands beside these, and then a walk over the patterns. The work grows
+    /// with the elements and with the slots; it has no bound by proof.
     ///
     /// # Errors
     ///

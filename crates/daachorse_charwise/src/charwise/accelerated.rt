@@ -100,9 +100,9 @@ impl<V: Copy, A: Allocator + Copy> CharwiseDoubleArrayAhoCorasick<V, A> {
     /// table of 8,192 bytes tells which four bytes patterns begin with. A search in a text asks it
     /// where the filter passes.
     ///
-    /// It borrows the automaton, and takes at most 256 KiB and two bytes for each element. Beside these
-    /// stand a list of the characters while rows are made, and then a walk over the patterns. The work grows
-    /// with the elements, the characters and the slots; it has no bound by proof.
+    /// It borrows the automaton, and takes at most 256 KiB and two bytes for each element. While it is made,
+    /// lists of the characters and of the states with rows stand beside these, and then a walk over the
+    /// patterns. The work grows with the elements, the characters and the slots; it has no bound by proof.
     ///
     /// # Errors
     ///

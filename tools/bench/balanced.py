@@ -13,8 +13,16 @@ import sys
 
 # Of a mode with another name than its function.
 FUNCTIONS = {"longest": ("leftmost", "leftmost"), "first": ("leftmost", "leftmost"), "tokens": ("tokens", "leftmost")}
+WITH_ROWS = "rows_"
 OURS = re.compile(r"bench_c::over_(bytes|chars)::(\w+)")
 THEIRS = re.compile(r"_ZN6driver6theirs5(bytes|chars)\d+([a-z_]+)17h")
+
+
+def functions(mode):
+    """The functions of a mode, ours and theirs. With rows the Rust crate's is the one without."""
+    without = mode.removeprefix(WITH_ROWS)
+    ours, theirs = FUNCTIONS.get(without, (without, without))
+    return (f"{ours}_with_rows", theirs) if mode.startswith(WITH_ROWS) else (ours, theirs)
 
 
 def places(driver, unit):
@@ -47,7 +55,7 @@ def main():
     for number, link in enumerate(ratios(f"{work}/times"), 1):
         begins = places(f"{work}/driver-{number}", unit)
         for mode, ratio in link.items():
-            ours, theirs = FUNCTIONS.get(mode, (mode, mode))
+            ours, theirs = functions(mode)
             case = begins.get(("ours", ours)), begins.get(("theirs", theirs))
             if None not in case:
                 cases.setdefault(mode, {}).setdefault(case, []).append(ratio)

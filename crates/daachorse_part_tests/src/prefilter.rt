@@ -82,7 +82,7 @@ const ROWS: &[Row] = &[
     // A window has at most 9 bytes.
     (NAME, Asked::Bytes, "xxneovenezix", 0, 2),
     (NAME, Asked::Bytes, "xxneovenezxx", 0, 12),
-    (NAME, Asked::Bytes, "xxxxxxxxxxneovenezixxxxxxxxxxxxxxxxx", 0, 10),
+    (NAME, Asked::Bytes, "xxxxxxxxxxneovenezixxxxxxxxx", 0, 10),
     (WITHIN, Asked::Bytes, "あい", 0, 1),
     (WITHIN, Asked::Text, "あい", 0, 6),
     (KANA, Asked::Text, "xあえい", 0, 1),

@@ -24,7 +24,7 @@ rounds=${ROUNDS:-15}
 seeds=${SEEDS:-5}
 units=${UNITS:-bytes chars}
 searches="find overlapping no_suffix longest first tokens find_source overlapping_source no_suffix_source find_stepper overlapping_stepper"
-rows="rows_find rows_overlapping rows_no_suffix rows_longest rows_first"
+rows="rows_find rows_overlapping rows_no_suffix rows_longest rows_first rows_find_source rows_overlapping_source rows_no_suffix_source rows_find_stepper rows_overlapping_stepper"
 others="list depths write read_unchecked read accelerate"
 
 # The static library, over a copy of the repository's crates, and the driver, linked SEEDS times

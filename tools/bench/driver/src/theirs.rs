@@ -51,9 +51,14 @@ pub enum Mode {
     RowsNoSuffix,
     RowsLongest,
     RowsFirst,
+    RowsFindSource,
+    RowsOverlappingSource,
+    RowsNoSuffixSource,
+    RowsFindStepper,
+    RowsOverlappingStepper,
 }
 
-const MODES: [(Mode, &str); 22] = [
+const MODES: [(Mode, &str); 27] = [
     (Mode::Find, "find"),
     (Mode::Overlapping, "overlapping"),
     (Mode::NoSuffix, "no_suffix"),
@@ -76,6 +81,11 @@ const MODES: [(Mode, &str); 22] = [
     (Mode::RowsNoSuffix, "rows_no_suffix"),
     (Mode::RowsLongest, "rows_longest"),
     (Mode::RowsFirst, "rows_first"),
+    (Mode::RowsFindSource, "rows_find_source"),
+    (Mode::RowsOverlappingSource, "rows_overlapping_source"),
+    (Mode::RowsNoSuffixSource, "rows_no_suffix_source"),
+    (Mode::RowsFindStepper, "rows_find_stepper"),
+    (Mode::RowsOverlappingStepper, "rows_overlapping_stepper"),
 ];
 
 impl Mode {
@@ -211,11 +221,11 @@ macro_rules! rounds {
                     Mode::Overlapping | Mode::RowsOverlapping => overlapping(automaton, text),
                     Mode::NoSuffix | Mode::RowsNoSuffix => no_suffix(automaton, text),
                     Mode::Longest | Mode::First | Mode::Tokens | Mode::RowsLongest | Mode::RowsFirst => leftmost(automaton, text),
-                    Mode::FindSource => find_source(automaton, text),
-                    Mode::OverlappingSource => overlapping_source(automaton, text),
-                    Mode::NoSuffixSource => no_suffix_source(automaton, text),
-                    Mode::FindStepper => find_stepper(automaton, units),
-                    Mode::OverlappingStepper => overlapping_stepper(automaton, units),
+                    Mode::FindSource | Mode::RowsFindSource => find_source(automaton, text),
+                    Mode::OverlappingSource | Mode::RowsOverlappingSource => overlapping_source(automaton, text),
+                    Mode::NoSuffixSource | Mode::RowsNoSuffixSource => no_suffix_source(automaton, text),
+                    Mode::FindStepper | Mode::RowsFindStepper => find_stepper(automaton, units),
+                    Mode::OverlappingStepper | Mode::RowsOverlappingStepper => overlapping_stepper(automaton, units),
                     Mode::List => list(automaton),
                     Mode::Depths => depths(automaton),
                     Mode::Write => write(automaton),

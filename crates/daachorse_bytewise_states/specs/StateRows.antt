@@ -16,14 +16,14 @@ HasRows p r = AreRows byte_width (sees p) stands_for r
 abbrev pub CoversNear : {V : Type 0} → Parts V → RowTable → Type 0
 CoversNear p r = Covers (sees p) stands_for 2 r
 
--- the root and each slot lead to a row, so that a standard search takes one look for each byte
+-- the root has a row and no slot leads out of the rows, so that a standard search takes one look for each byte
 abbrev pub StaysInRows : RowTable → Type 0
 StaysInRows r = AreClosed 256 stands_for r
 
--- they do, or more than 245 states have a text
+-- they do, or more than 486 states have a text
 abbrev pub StaysUnlessLarge : {V : Type 0} → Parts V → RowTable → Type 0
-StaysUnlessLarge p r = ClosesOrFills 256 (sees p) stands_for 245 r
+StaysUnlessLarge p r = ClosesOrFills 256 (sees p) stands_for 486 r
 
--- more than 245 states have a text of at most two bytes, or the elements are more than an entry of a row can tell
+-- more than 486 states have a text of at most two bytes, or the elements are more than there are places
 abbrev pub HasNoRoom : {V : Type 0} → Parts V → Type 0
-HasNoRoom p = AreTooMany (sees p) stands_for 2 245 ⊎ (2147418112 < count p)
+HasNoRoom p = AreTooMany (sees p) stands_for 2 486 ⊎ (4294901760 < count p)

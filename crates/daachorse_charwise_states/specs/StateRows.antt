@@ -25,14 +25,14 @@ CoversNear p r = Covers (sees p) (stands_by (λ (code : ℕ). code) (stands_for 
 abbrev pub HasFewCodes : {V : Type 0} → Parts V → Type 0
 HasFewCodes p = (unit code : ℕ) → stands_for p code unit → code < 510
 
--- each code has a slot, and the root and each slot lead to a row, so that a standard search takes one look for each character
+-- each code has a slot, the root has a row and no slot leads out of the rows, so that a standard search takes one look for each character
 abbrev pub StaysInRows : {V : Type 0} → Parts V → RowTable → Type 0
 StaysInRows p r = AreClosed (2 ^ 32) (stands_by (λ (code : ℕ). code) (stands_for p)) r
 
--- so it is, or more than 123 states have a text
+-- so it is, or more than 245 states have a text
 abbrev pub StaysUnlessLarge : {V : Type 0} → Parts V → RowTable → Type 0
-StaysUnlessLarge p r = ClosesOrFills (2 ^ 32) (sees p) (stands_by (λ (code : ℕ). code) (stands_for p)) 123 r
+StaysUnlessLarge p r = ClosesOrFills (2 ^ 32) (sees p) (stands_by (λ (code : ℕ). code) (stands_for p)) 245 r
 
--- more than 123 states have a text of at most two such characters, or the elements are more than an entry of a row can tell
+-- more than 245 states have a text of at most two such characters, or the elements are more than there are places
 abbrev pub HasNoRoom : {V : Type 0} → Parts V → Type 0
-HasNoRoom p = AreTooMany (sees p) (stands_by (λ (code : ℕ). code) (stands_for p)) 2 123 ⊎ (2147418112 < count p)
+HasNoRoom p = AreTooMany (sees p) (stands_by (λ (code : ℕ). code) (stands_for p)) 2 245 ⊎ (4294901760 < count p)

@@ -23,7 +23,7 @@ impl<V: Copy, A: Allocator + Copy> States<V, A> {
     ///
     /// Each state has one whose text has at most two characters, all among these 510, and as many
     /// others as there is room for. Where those alone are more than there is room for, the answer is
-    /// `None`; 123 rows always fit. Where there are no more states, and no more characters, each has a
+    /// `None`; 245 rows always fit. Where there are no more states, and no more characters, each has a
     /// row, and a standard search takes one look for each character.
     ///
     /// They take at most 252,928 bytes of slots, two bytes for each element, and a table of 1,020 bytes.

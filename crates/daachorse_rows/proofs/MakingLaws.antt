@@ -1,9 +1,9 @@
 -- Rows as they are made: one slot after the other, and one state after the other.
-use Rattle.std.proofs.Common.{◌≡◌, ◌≢◌, ℕ, suc, ◌+◌, ◌*◌, ◌/◌, ◌%◌, ◌<◌, ◌≤◌, ◌^◌, ◌⊎◌, inl, inr, List, [], ◌∷◌, ◌++◌, length, sym, ap, ◌∙◌, subst, arith, length-append, map, get_or}
+use Rattle.std.proofs.Common.{◌≡◌, ◌≢◌, ℕ, zero, suc, ◌+◌, ◌*◌, ◌/◌, ◌%◌, ◌<◌, ◌≤◌, ◌^◌, ◌⊎◌, inl, inr, List, [], ◌∷◌, ◌++◌, length, refl, sym, ap, ◌∙◌, subst, arith, length-append, map, get_or}
 use Rattle.std.specs.Prelude.{slice_index, slice_set, Option, None}
 use Rattle.std.specs.declared.num.NonZeroU32.{NonZeroU32}
 use Rattle.std.proofs.Math.Seq.{get_or-append_seam}
-use Rattle.std.proofs.Math.Nat.{div-mul-le_self}
+use Rattle.std.proofs.Math.Nat.{div-mul-le_self, mul_assoc}
 use Rattle.std.proofs.lemmas.Nat.{mul-add-lt, mul-le}
 use Rattle.std.proofs.lemmas.Bool.{cases_eq}
 use Rattle.std.proofs.lemmas.List.{get_or_append_left, get_or-map, get_or-set_same, get_or-set_other, length-map, length-set}
@@ -13,8 +13,8 @@ use Rattle.daachorse_model.proofs.Steps.{IsLong-same}
 use Rattle.daachorse_model.proofs.Lists.{below_or_at}
 use Rattle.daachorse_search.specs.Views.{AutomatonView, HasFirst, Steps}
 use Rattle.daachorse_search.proofs.LookLaws.{StepEnds-long}
-use Rattle.daachorse_rows.specs.Rows.{state_at, RowTable, IsSlotEntry, StandsFor, IsSlotOf, AreSlots, StepLeads, AreLabels, AreRows, Stands, AreChosen, AreClosed, AreCovered, AreStepped, Covers, IsSlot, AreWritten, MayClose, stands_by}
-use Rattle.daachorse_rows.proofs.RowLaws.{place_behind, state_at-slot}
+use Rattle.daachorse_rows.specs.Rows.{state_at, RowTable, IsSlotEntry, StandsFor, IsSlotOf, AreSlots, StepLeads, AreLabels, AreRows, Stands, AreChosen, AreClosed, AreCovered, AreStepped, Covers, IsEntry, IsSlot, AreWritten, MayClose, TellsStep, row_places, stands_by}
+use Rattle.daachorse_rows.proofs.RowLaws.{place_behind, row_below, state_at-slot}
 
 -- what is read of a list to which one item was added
 pub read-old : (xs ys : List ℕ) (v i : ℕ) → ys ≡ xs ++ v ∷ [] → i < length xs → slice_index ys i ≡ slice_index xs i
@@ -65,37 +65,51 @@ AreSlots-more labels n xs ys v so_far is slot = record {
       ];
 }
 
-slot_inside : (labels : List ℕ) (label slot : ℕ) → IsSlotOf labels label slot → slot < length labels + 2
+slot_inside : (labels : List ℕ) (label slot : ℕ) → IsSlotOf labels label slot → slot < length labels + 3
 slot_inside labels label slot (inl (k, below, at, is)) = omega (arith, is, below)
 slot_inside labels label slot (inr (is, none)) = omega (arith, is)
 
+-- there is room for it in a row
+slot_fits : (labels : List ℕ) (label slot width : ℕ) → width ≡ row_places (length labels) → IsSlotOf labels label slot → slot < 2 * width
+slot_fits labels label slot width is at = omega (arith, is, slot_inside labels label slot at)
+
 -- a slot is behind the state's
-slot_some : (labels : List ℕ) (label slot : ℕ) → IsSlotOf labels label slot → (c : ℕ) × (slot ≡ suc c)
+slot_some : (labels : List ℕ) (label slot : ℕ) → IsSlotOf labels label slot → (c : ℕ) × (slot ≡ suc (suc c))
 slot_some labels label slot (inl (k, below, at, is)) = (suc k, omega (arith, is))
 slot_some labels label slot (inr (is, none)) = (0, omega (arith, is))
 
 -- ---- entries
 
-pub IsSlotEntry-map : (P Q : ℕ → Type 0) (A B : Type 0) (entry : ℕ) → IsSlotEntry P A entry → ((x : ℕ) → P x → Q x) → (A → B) → IsSlotEntry Q B entry
-IsSlotEntry-map P Q A B entry h there quiet = record {
+pub IsSlotEntry-map : (end : ℕ) (P Q : ℕ → Type 0) (A B : Type 0) (entry : ℕ) → IsSlotEntry end P A entry → ((x : ℕ) → P x → Q x) → (A → B) → IsSlotEntry end Q B entry
+IsSlotEntry-map end P Q A B entry h there quiet = record {
   place = h.place;
   stands_for = there h.place h.stands_for;
-  small = h.small;
+  inside = h.inside;
+  even = h.even;
   is = elim h.is [ inl low ↦ inl (low.0, quiet low.1) | inr high ↦ inr high ];
 }
+
+-- a row begins at an even place
+pub even_place : (k width half : ℕ) → width ≡ half * 2 → (h : ℕ) × (k * width ≡ h * 2)
+even_place k width half is = (k * half, ap (λ n. k * n) is ∙ sym (mul_assoc k half 2))
 
 -- ---- the states of the rows
 
 pub fits_rows : (n w : ℕ) → n ≤ 63232 / w → n * w ≤ 63232
 fits_rows n w few = omega (arith, mul-le n w (63232 / w) w few (omega arith), div-mul-le_self 63232 w)
 
-pub Stands-small : (order : List ℕ) (width base x s : ℕ) → Stands order width base x s → 0 < width → length order * width ≤ 63232 → base + s < 2147483648 → x < 2147483648
-Stands-small order width base x s (inl (k, below, is, at)) wide few fits = omega (arith, is, mul-add-lt k width 0 (length order) below wide)
-Stands-small order width base x s (inr (is, none)) wide few fits = omega (arith, is)
+-- a state has a row where its place is before the end of the rows, and its slot holds that place
+pub IsEntry-outside : (order : List ℕ) (width base x s : ℕ) (quiet : Type 0) → Stands order width base x s → base ≡ length order * width → 0 < width → base ≤ x → IsEntry order width base s quiet 65535
+IsEntry-outside order width base x s quiet (inl (k, below, is, at)) end wide behind = absurd (omega (arith, is, end, behind, mul-add-lt k width 0 (length order) below wide))
+IsEntry-outside order width base x s quiet (inr (is, none)) end wide behind = inl (refl, none)
+
+pub Stands-even : (order : List ℕ) (width base x s half : ℕ) → Stands order width base x s → width ≡ half * 2 → x < base → (h : ℕ) × (x ≡ h * 2)
+Stands-even order width base x s half (inl (k, below, is, at)) even before = let h = even_place k width half even in (h.0, is ∙ h.1)
+Stands-even order width base x s half (inr (is, none)) even before = absurd (omega (arith, is, before))
 
 module _ {V : Type 0} (view : AutomatonView V) (order homes : List ℕ) (most : ℕ) where
   -- there are none yet
-  pub AreChosen-none : order ≡ [] → ((s : ℕ) → s < length homes → slice_index homes s ≡ 65535) → ((s : ℕ) → view.reached s → s + 65536 < 2147483648) → AreChosen view order homes most
+  pub AreChosen-none : order ≡ [] → ((s : ℕ) → s < length homes → slice_index homes s ≡ 65535) → ((s : ℕ) → view.reached s → s + 65536 < 4294967296) → AreChosen view order homes most
   AreChosen-none none_chosen no_homes fits = record {
     states = λ k below. absurd (omega (arith, below, ap length none_chosen));
     homes = λ s below some. absurd (some (no_homes s below));
@@ -180,77 +194,93 @@ module _ {V : Type 0} (unit_width : ℕ → ℕ) (view : AutomatonView V) (stand
     size = omega (arith, h.size, next, ap length is, length-append top (v ∷ []));
     rows = λ k' c' above within.
         let P : ℕ → Type 0 = λ x. Slot k' c' x in
-        subst P (sym (read-old top top' v (k' * width + c') is (omega (arith, h.size, mul-add-lt k' width c' k above within)))) (h.rows k' c' above within);
+        subst P (sym (read-old top top' v (2 * (k' * width) + c') is (omega (arith, h.size, row_below k' k width c' above within)))) (h.rows k' c' above within);
     row = λ c' below.
         let P : ℕ → Type 0 = λ x. Slot k c' x in
         elim (below_or_at c' c (omega (arith, below, next))) [
-          | inl old ↦ subst P (sym (read-old top top' v (k * width + c') is (omega (arith, old, h.size)))) (h.row c' old)
+          | inl old ↦ subst P (sym (read-old top top' v (2 * (k * width) + c') is (omega (arith, old, h.size)))) (h.row c' old)
           | inr new ↦
               let Q : ℕ → Type 0 = λ x. Slot k x v in
-              subst P (sym (read-new top top' v (k * width + c') is (omega (arith, new, h.size)))) (subst Q (sym new) slot)
+              subst P (sym (read-new top top' v (2 * (k * width) + c') is (omega (arith, new, h.size)))) (subst Q (sym new) slot)
         ];
   }
 
-  next_row : (k w : ℕ) → (k + 1) * w ≡ k * w + w
-  next_row k w = omega arith
-
-  -- a whole row
-  pub AreWritten-next : (k c : ℕ) (top : List ℕ) → Written k c top → c ≡ width → Written (k + 1) 0 top
-  AreWritten-next k c top h whole = record {
-    size = omega (arith, h.size, whole, next_row k width);
+  -- a whole row: behind the slots of its labels nothing is told
+  pub AreWritten-next : (k c : ℕ) (top top' : List ℕ) → Written k c top → width ≡ row_places (length labels) → c ≡ 3 + length labels → length top' ≡ 2 * ((k + 1) * width) → ((i : ℕ) → i < length top → slice_index top' i ≡ slice_index top i) → Written (k + 1) 0 top'
+  AreWritten-next k c top top' h is all size same = record {
+    size = omega (arith, size);
     rows = λ k' c' above within.
         elim (below_or_at k' k above) [
-          | inl old ↦ h.rows k' c' old within
-          | inr new ↦ let P : ℕ → Type 0 = λ x. Slot x c' (slice_index top (x * width + c')) in subst P (sym new) (h.row c' (omega (arith, within, whole)))
+          | inl old ↦
+              let P : ℕ → Type 0 = λ x. Slot k' c' x in
+              subst P (sym (same (2 * (k' * width) + c') (omega (arith, h.size, row_below k' k width c' old within)))) (h.rows k' c' old within)
+          | inr new ↦ let P : ℕ → Type 0 = λ x. Slot x c' (slice_index top' (2 * (x * width) + c')) in subst P (sym new) (here c')
         ];
     row = λ c' below. absurd (omega (arith, below));
   }
+    where
+      here : (c' : ℕ) → Slot k c' (slice_index top' (2 * (k * width) + c'))
+      here zero = same (2 * (k * width) + 0) (omega (arith, h.size, all)) ∙ h.row 0 (omega (arith, all))
+      here (suc zero) = same (2 * (k * width) + 1) (omega (arith, h.size, all)) ∙ h.row 1 (omega (arith, all))
+      here (suc (suc c')) = λ label byte slot.
+          let before : suc (suc c') < c = omega (arith, all, slot_inside labels label (suc (suc c')) slot) in
+          let P : ℕ → Type 0 = λ x. Slot k (suc (suc c')) x in
+          subst P (sym (same (2 * (k * width) + suc (suc c')) (omega (arith, h.size, before)))) (h.row (suc (suc c')) before) label byte slot
 
   -- the entry of a state whose outputs begin at this position
-  entry_first : (s v : ℕ) (o : Option NonZeroU32) → IsSlotEntry (λ x. Stands order width base x s) (o ≡ None) v → HasFirst unit_width view s o → IsSlotEntry (λ x. Stands order width base x s) (HasFirst unit_width view s None) v
-  entry_first s v o entry at =
+  entry_first : (s v : ℕ) (o : Option NonZeroU32) → IsEntry order width base s (o ≡ None) v → HasFirst unit_width view s o → IsEntry order width base s (HasFirst unit_width view s None) v
+  entry_first s v o (inl outside) at = inl outside
+  entry_first s v o (inr entry) at =
       let P : Option NonZeroU32 → Type 0 = λ p. HasFirst unit_width view s p in
-      IsSlotEntry-map (λ x. Stands order width base x s) (λ x. Stands order width base x s) (o ≡ None) (HasFirst unit_width view s None) v entry (λ x there. there) (λ none. subst P none at)
+      inr (IsSlotEntry-map base (λ x. Stands order width base x s) (λ x. Stands order width base x s) (o ≡ None) (HasFirst unit_width view s None) v entry (λ x there. there) (λ none. subst P none at))
 
   module _ (named : AreLabels view.content stands labels) where
     foreign : (label unit : ℕ) → label < 510 → stands label unit → ((k : ℕ) → k < length labels → slice_index labels k ≢ label) → IsForeign view.content unit
     foreign label unit byte coded none = elim (named.all label unit byte coded) [ inl f ↦ f | inr at ↦ absurd (none at.0 at.1 at.2) ]
 
     -- the labels that are not listed lead to the root
-    pub slot_foreign : (k v s : ℕ) (o : Option NonZeroU32) → IsSlotEntry (λ x. Stands order width base x s) (o ≡ None) v → HasFirst unit_width view s o → view.reached s → view.text s ≡ [] → Slot k 1 v
-    slot_foreign k v s o entry at there empty = (s, entry_first s v o entry at, leads, λ _. empty)
+    pub slot_foreign : (k v s : ℕ) (o : Option NonZeroU32) → IsEntry order width base s (o ≡ None) v → HasFirst unit_width view s o → view.reached s → view.text s ≡ [] → Slot k 2 v
+    slot_foreign k v s o entry at there empty label byte slot = (s, entry_first s v o entry at, leads slot, λ _. empty)
       where
-        leads : (label : ℕ) → label < 510 → IsSlotOf labels label 1 → StepLeads view stands (slice_index order k) label s
-        leads label byte (inl (j, below, here, is)) = absurd (omega (arith, is))
-        leads label byte (inr (is, none)) = record { is_state = there; ends = λ unit coded. inl (foreign label unit byte coded none, empty) }
+        leads : IsSlotOf labels label 2 → StepLeads view stands (slice_index order k) label s
+        leads (inl (j, below, here, is)) = absurd (omega (arith, is))
+        leads (inr (is, none)) = record { is_state = there; ends = λ unit coded. inl (foreign label unit byte coded none, empty) }
 
     -- a listed label leads to where the step ends
-    pub slot_step : (k c j v t : ℕ) (o : Option NonZeroU32) → c ≡ 2 + j → IsSlotEntry (λ x. Stands order width base x t) (o ≡ None) v → HasFirst unit_width view t o → view.reached t
+    pub slot_step : (k c j v t : ℕ) (o : Option NonZeroU32) → c ≡ 3 + j → IsEntry order width base t (o ≡ None) v → HasFirst unit_width view t o → view.reached t
         → ((unit : ℕ) → stands (slice_index labels j) unit → Steps view (slice_index order k) unit t) → Slot k c v
-    slot_step k c j v t o at entry told there ends = let P : ℕ → Type 0 = λ x. Slot k x v in subst P (let e : suc (suc j) ≡ c = omega (arith, at) in e) (t, entry_first t v o entry told, leads, λ none. absurd (omega (arith, none)))
+    slot_step k c j v t o at entry told there ends = let P : ℕ → Type 0 = λ x. Slot k x v in subst P (let e : suc (suc (suc j)) ≡ c = omega (arith, at) in e) (λ label byte slot. (t, entry_first t v o entry told, leads label slot, λ two. absurd (omega (arith, two))))
       where
-        leads : (label : ℕ) → label < 510 → IsSlotOf labels label (suc (suc j)) → StepLeads view stands (slice_index order k) label t
-        leads label byte (inl (i, below, here, is)) =
+        leads : (label : ℕ) → IsSlotOf labels label (suc (suc (suc j))) → StepLeads view stands (slice_index order k) label t
+        leads label (inl (i, below, here, is)) =
             let same : i ≡ j = omega (arith, is) in
             let named_j : slice_index labels j ≡ label = ap (slice_index labels) (sym same) ∙ here in
             let Q : ℕ → Type 0 = λ l. (unit : ℕ) → stands l unit → Steps view (slice_index order k) unit t in
             record { is_state = there; ends = subst Q named_j ends }
-        leads label byte (inr (is, none)) = absurd (omega (arith, is))
+        leads label (inr (is, none)) = absurd (omega (arith, is))
 
 module _ {V : Type 0} (unit_width : ℕ → ℕ) (view : AutomatonView V) (stands : ℕ → ℕ → Type 0) (labels : List ℕ) (r : RowTable) (order : List ℕ)
     (count_is : r.count ≡ length order) (wide : 0 < r.width) (w : AreWritten unit_width view stands labels order r.width (length order * r.width) (length order) 0 r.top) where
-  at_start : (k : ℕ) → k < length order → slice_index r.top (k * r.width) ≡ slice_index order k
-  at_start k below = let e : k * r.width ≡ k * r.width + 0 = omega arith in ap (slice_index r.top) e ∙ w.rows k 0 below wide
+  at_start : (k : ℕ) → k < length order → state_at r.top (k * r.width) ≡ slice_index order k
+  at_start k below =
+      let e : 2 * (k * r.width) ≡ 2 * (k * r.width) + 0 = omega arith in
+      let low = ap (slice_index r.top) e ∙ w.rows k 0 below (omega (arith, wide)) in
+      let high = w.rows k 1 below (omega (arith, wide)) in
+      let whole : slice_index r.top (2 * (k * r.width)) + 65536 * slice_index r.top (2 * (k * r.width) + 1) ≡ slice_index order k = omega (arith, low, high) in
+      sym (state_at-slot r.top (k * r.width) (omega (arith, w.size, row_below k (length order) r.width 1 below (omega (arith, wide))))) ∙ whole
 
   stands_for : (x s : ℕ) → Stands order r.width (length order * r.width) x s → StandsFor r x s
   stands_for x s (inl (k, below, is, at)) = record {
     place = inl (k, omega (arith, below, count_is), is);
-    state = ap (state_at r.top) is ∙ (sym (state_at-slot r.top (k * r.width) (omega (arith, w.size, mul-add-lt k r.width 0 (length order) below wide))) ∙ (at_start k below ∙ at));
+    state = ap (state_at r.top) is ∙ (at_start k below ∙ at);
   }
   stands_for x s (inr (is, none)) =
-      let e : length r.top + s ≡ x = omega (arith, is, w.size) in
+      let e : r.count * r.width + s ≡ x = ap (λ n. n * r.width + s) count_is ∙ sym is in
       let P : ℕ → Type 0 = λ y. StandsFor r y s in
-      subst P e (place_behind r s)
+      subst P e (place_behind r s whole_size)
+    where
+      whole_size : length r.top ≡ 2 * (r.count * r.width)
+      whole_size = omega (arith, w.size, ap (λ n. n * r.width) count_is)
 
   -- what the rows' states cover, the rows cover
   pub Covers-made : (n : ℕ) → AreCovered view stands n order → Covers view stands n r
@@ -258,44 +288,54 @@ module _ {V : Type 0} (unit_width : ℕ → ℕ) (view : AutomatonView V) (stand
       let row = covered w begins shallow in
       (row.0, omega (arith, row.1, count_is), ap view.text (at_start row.0 row.1) ∙ row.2)
 
-  pub AreRows-made : (s : ℕ) → r.width ≡ length labels + 2 → AreSlots labels 510 r.classes → AreChosen view order r.homes (63232 / r.width)
+  end_is : length order * r.width ≡ r.count * r.width
+  end_is = ap (λ n. n * r.width) (sym count_is)
+
+  pub AreRows-made : (s : ℕ) → r.width ≡ row_places (length labels) → AreSlots labels 510 r.classes → AreChosen view order r.homes (63232 / r.width)
       → Stands order r.width (length order * r.width) r.root s → view.reached s → view.text s ≡ []
       → AreRows unit_width view stands r
   AreRows-made s is slots chosen place there empty = record {
-    size = omega (arith, w.size, ap (λ n. n * r.width) count_is);
-    few = omega (arith, w.size, fits_rows (length order) r.width chosen.few);
+    size = omega (arith, w.size, end_is);
+    few = omega (arith, end_is, fits_rows (length order) r.width chosen.few);
     wide = wide;
     classes_size = slots.size;
-    inside = λ label less. omega (arith, is, slot_inside labels label (slice_index r.classes label) (slots.right label less));
-    right = λ k label more less. right k label (omega (arith, more, count_is)) less (slot_some labels label (slice_index r.classes label) (slots.right label less));
+    inside = λ label less. slot_fits labels label (slice_index r.classes label) r.width is (slots.right label less);
+    right = λ k label more less some. right k label (omega (arith, more, count_is)) less some (slot_some labels label (slice_index r.classes label) (slots.right label less));
     homes = λ t within some. let home = chosen.homes t within some in (omega (arith, home.0, count_is), at_start (slice_index r.homes t) home.0 ∙ home.1);
-    small = λ t here. omega (arith, w.size, AreChosen-small view order r.homes (63232 / r.width) chosen r.width t (fits_rows (length order) r.width chosen.few) here);
+    small = λ t here. omega (arith, end_is, AreChosen-small view order r.homes (63232 / r.width) chosen r.width t (fits_rows (length order) r.width chosen.few) here);
     root_state = (s, stands_for r.root s place, there, empty);
   }
     where
-      right : (k label : ℕ) → k < length order → label < 510 → (c : ℕ) × (slice_index r.classes label ≡ suc c)
-          → (t : ℕ) × IsSlotEntry (λ x. StandsFor r x t) (HasFirst unit_width view t None) (slice_index r.top (k * r.width + slice_index r.classes label)) × StepLeads view stands (slice_index r.top (k * r.width)) label t
-      right k label more less (c, at) =
-          let slot : IsSlotOf labels label (slice_index r.classes label) = slots.right label less in
-          let P : ℕ → Type 0 = λ x. IsSlotOf labels label x in
-          let Q : ℕ → Type 0 = λ x. IsSlotEntry (λ y. StandsFor r y in_slot.0) (HasFirst unit_width view in_slot.0 None) (slice_index r.top (k * r.width + x)) in
-          let R : ℕ → Type 0 = λ x. StepLeads view stands x label in_slot.0 in
-          let entry : IsSlotEntry (λ y. StandsFor r y in_slot.0) (HasFirst unit_width view in_slot.0 None) (slice_index r.top (k * r.width + suc c)) =
-          IsSlotEntry-map (λ y. Stands order r.width (length order * r.width) y in_slot.0) (λ y. StandsFor r y in_slot.0) (HasFirst unit_width view in_slot.0 None) (HasFirst unit_width view in_slot.0 None) _ in_slot.1 (λ y there. stands_for y in_slot.0 there) (λ q. q) in
-          (in_slot.0, subst Q (sym at) entry, subst R (sym (at_start k more)) (in_slot.2 label less (subst P at slot)))
+      right : (k label : ℕ) → k < length order → label < 510 → slice_index r.top (2 * (k * r.width) + slice_index r.classes label) ≢ 65535 → (c : ℕ) × (slice_index r.classes label ≡ suc (suc c))
+          → (t : ℕ) × IsSlotEntry (r.count * r.width) (λ x. StandsFor r x t) (HasFirst unit_width view t None) (slice_index r.top (2 * (k * r.width) + slice_index r.classes label)) × StepLeads view stands (state_at r.top (k * r.width)) label t
+      right k label more less some (c, at) = (told.0, entry told.1, subst R (sym (at_start k more)) told.2)
         where
-          in_slot : IsSlot unit_width view stands labels order r.width (length order * r.width) k (suc c) (slice_index r.top (k * r.width + suc c))
-          in_slot = w.rows k (suc c) more (omega (arith, is, at, slot_inside labels label (slice_index r.classes label) (slots.right label less)))
+          told : TellsStep unit_width view stands labels order r.width (length order * r.width) k (slice_index r.classes label) (slice_index r.top (2 * (k * r.width) + slice_index r.classes label)) label
+          told =
+              let P : ℕ → Type 0 = λ x. IsSlot unit_width view stands labels order r.width (length order * r.width) k x (slice_index r.top (2 * (k * r.width) + x)) in
+              let Q : ℕ → Type 0 = λ x. IsSlotOf labels label x in
+              let T : ℕ → Type 0 = λ x. TellsStep unit_width view stands labels order r.width (length order * r.width) k x (slice_index r.top (2 * (k * r.width) + x)) label in
+              subst T (sym at) (subst P at (w.rows k (slice_index r.classes label) more (slot_fits labels label (slice_index r.classes label) r.width is (slots.right label less))) label less (subst Q at (slots.right label less)))
+
+          R : ℕ → Type 0
+          R x = StepLeads view stands x label told.0
+
+          entry : IsEntry order r.width (length order * r.width) told.0 (HasFirst unit_width view told.0 None) (slice_index r.top (2 * (k * r.width) + slice_index r.classes label))
+              → IsSlotEntry (r.count * r.width) (λ x. StandsFor r x told.0) (HasFirst unit_width view told.0 None) (slice_index r.top (2 * (k * r.width) + slice_index r.classes label))
+          entry (inl outside) = absurd (some outside.0)
+          entry (inr holds) =
+              let E : ℕ → Type 0 = λ n. IsSlotEntry n (λ x. StandsFor r x told.0) (HasFirst unit_width view told.0 None) (slice_index r.top (2 * (k * r.width) + slice_index r.classes label)) in
+              subst E end_is (IsSlotEntry-map (length order * r.width) (λ y. Stands order r.width (length order * r.width) y told.0) (λ y. StandsFor r y told.0) (HasFirst unit_width view told.0 None) (HasFirst unit_width view told.0 None) _ holds (λ y there'. stands_for y told.0 there') (λ q. q))
 
   -- a state with a row is told by it
-  row_place : (x t : ℕ) → Stands order r.width (length order * r.width) x t → (k : ℕ) × (k < length order) × (slice_index order k ≡ t) → x < length r.top
-  row_place x t (inl (k, below, is, at)) row = omega (arith, is, w.size, mul-add-lt k r.width 0 (length order) below wide)
+  row_place : (x t : ℕ) → Stands order r.width (length order * r.width) x t → (k : ℕ) × (k < length order) × (slice_index order k ≡ t) → x < r.count * r.width
+  row_place x t (inl (k, below, is, at)) row = omega (arith, is, end_is, mul-add-lt k r.width 0 (length order) below wide)
   row_place x t (inr (is, none)) row = absurd (none row.0 row.1 row.2)
 
   -- where each step from a row ends in a row, the rows are closed
-  pub AreClosed-made : (most s : ℕ) → r.width ≡ length labels + 2 → AreSlots labels 510 r.classes → AreLabels view.content stands labels → ((k : ℕ) → k < length order → view.reached (slice_index order k))
+  pub AreClosed-made : (most s : ℕ) → r.width ≡ row_places (length labels) → AreSlots labels 510 r.classes → AreLabels view.content stands labels → ((k : ℕ) → k < length order → view.reached (slice_index order k)) → length order * r.width ≤ 63232
       → Stands order r.width (length order * r.width) r.root s → view.reached s → view.text s ≡ [] → AreStepped view stands labels (length order) order → MayClose most view stands → AreClosed most stands r
-  AreClosed-made most s is slots named states place there empty stepped may = record {
+  AreClosed-made most s is slots named states few place there empty stepped may = record {
     slots = may.slots;
     root = row_place r.root s place (row_of_root s there empty);
     stays = λ k label more less. stays k label (omega (arith, more, count_is)) less (slot_some labels label (slice_index r.classes label) (slots.right label less));
@@ -304,32 +344,29 @@ module _ {V : Type 0} (unit_width : ℕ → ℕ) (view : AutomatonView V) (stand
       row_of_root : (t : ℕ) → view.reached t → view.text t ≡ [] → (k : ℕ) × (k < length order) × (slice_index order k ≡ t)
       row_of_root t here none = (0, stepped.root.0, may.single (slice_index order 0) t (states 0 stepped.root.0) here (stepped.root.1 ∙ sym none))
 
-      stays : (k label : ℕ) → k < length order → label < 510 → (c : ℕ) × (slice_index r.classes label ≡ suc c) → slice_index r.top (k * r.width + slice_index r.classes label) % 2147483648 < length r.top
+      stays : (k label : ℕ) → k < length order → label < 510 → (c : ℕ) × (slice_index r.classes label ≡ suc (suc c)) → slice_index r.top (2 * (k * r.width) + slice_index r.classes label) ≢ 65535
       stays k label more less (c, at) =
-          let P : ℕ → Type 0 = λ x. slice_index r.top (k * r.width + x) % 2147483648 < length r.top in
-          subst P (sym at) (within in_slot.1.is (row_place in_slot.1.place in_slot.0 in_slot.1.stands_for (row_of (subst Q at (slots.right label less)))))
+          let P : ℕ → Type 0 = λ x. slice_index r.top (2 * (k * r.width) + x) ≢ 65535 in
+          subst P (sym at) (in_row told.1 (row_of slot))
         where
-          Q : ℕ → Type 0
-          Q x = IsSlotOf labels label x
+          slot : IsSlotOf labels label (suc (suc c))
+          slot = let Q : ℕ → Type 0 = λ x. IsSlotOf labels label x in subst Q at (slots.right label less)
 
-          in_slot : IsSlot unit_width view stands labels order r.width (length order * r.width) k (suc c) (slice_index r.top (k * r.width + suc c))
-          in_slot = w.rows k (suc c) more (omega (arith, is, at, slot_inside labels label (slice_index r.classes label) (slots.right label less)))
+          told : TellsStep unit_width view stands labels order r.width (length order * r.width) k (suc (suc c)) (slice_index r.top (2 * (k * r.width) + suc (suc c))) label
+          told = w.rows k (suc (suc c)) more (slot_fits labels label (suc (suc c)) r.width is slot) label less slot
 
-          within : ((slice_index r.top (k * r.width + suc c) ≡ in_slot.1.place) × HasFirst unit_width view in_slot.0 None) ⊎ (slice_index r.top (k * r.width + suc c) ≡ in_slot.1.place + 2147483648) → in_slot.1.place < length r.top
-              → slice_index r.top (k * r.width + suc c) % 2147483648 < length r.top
-          within (inl (low, quiet)) inside = omega (arith, low, in_slot.1.small, inside)
-          within (inr high) inside = omega (arith, high, in_slot.1.small, inside)
+          in_row : IsEntry order r.width (length order * r.width) told.0 (HasFirst unit_width view told.0 None) (slice_index r.top (2 * (k * r.width) + suc (suc c))) → (j : ℕ) × (j < length order) × (slice_index order j ≡ told.0)
+              → slice_index r.top (2 * (k * r.width) + suc (suc c)) ≢ 65535
+          in_row (inl outside) row = absurd (outside.1 row.0 row.1 row.2)
+          in_row (inr holds) row = λ none. elim holds.is [ inl low ↦ omega (arith, low.0, holds.inside, few, none) | inr high ↦ omega (arith, high, holds.inside, few, none) ]
 
-          row_of : IsSlotOf labels label (suc c) → (j : ℕ) × (j < length order) × (slice_index order j ≡ in_slot.0)
-          row_of (inr (one, none)) =
-              let leads = in_slot.2 label less (inr (one, none)) in
-              row_of_root in_slot.0 leads.is_state (in_slot.3 (omega (arith, one)))
-          row_of (inl (j, below, here, slot)) =
-              let leads = in_slot.2 label less (inl (j, below, here, slot)) in
+          row_of : IsSlotOf labels label (suc (suc c)) → (j : ℕ) × (j < length order) × (slice_index order j ≡ told.0)
+          row_of (inr (two, none)) = row_of_root told.0 told.2.is_state (told.3 two)
+          row_of (inl (j, below, here, slot')) =
               let some = named.none_idle j below in
               let row = stepped.ends k j more below in
               let U : ℕ → Type 0 = λ l. stands l some.0 in
               let w' : List ℕ = view.text (slice_index order k) in
-              let own = StepEnds-long view w' (view.text in_slot.0) some.0 (leads.ends some.0 (subst U here some.1)) may.alive in
+              let own = StepEnds-long view w' (view.text told.0) some.0 (told.2.ends some.0 (subst U here some.1)) may.alive in
               let other = StepEnds-long view w' (view.text (slice_index order row.0)) some.0 (row.2 some.0 some.1) may.alive in
-              (row.0, row.1, may.single (slice_index order row.0) in_slot.0 (states row.0 row.1) leads.is_state (IsLong-same view.content (w' ++ some.0 ∷ []) (view.text (slice_index order row.0)) (view.text in_slot.0) other own))
+              (row.0, row.1, may.single (slice_index order row.0) told.0 (states row.0 row.1) told.2.is_state (IsLong-same view.content (w' ++ some.0 ∷ []) (view.text (slice_index order row.0)) (view.text told.0) other own))

@@ -2,136 +2,137 @@
 use Rattle.std.proofs.Common.{◌≡◌, ◌≢◌, ℕ, zero, suc, ◌+◌, ◌*◌, ◌-◌, ◌%◌, ◌^◌, ◌<◌, ◌≤◌, ◌⊎◌, inl, inr, List, [], ◌∷◌, length, refl, sym, ap, ◌∙◌, subst, arith}
 use Rattle.std.specs.Prelude.{slice_index, Option, None}
 use Rattle.std.specs.declared.num.NonZeroU32.{NonZeroU32}
-use Rattle.std.proofs.lemmas.Nat.{mul-add-lt}
+use Rattle.std.proofs.lemmas.Nat.{mul-le}
 use Rattle.daachorse_core.specs.Looks.{StepEnds}
 use Rattle.daachorse_core.specs.declared.turns.Look.TheVariants.{Next, Fail}
 use Rattle.daachorse_search.specs.Views.{AutomatonView, HasFirst, SeesLook, Steps}
 use Rattle.daachorse_rows.specs.Rows.{state_at, RowTable, IsPlace, IsSlotEntry, SharesText, StandsFor, AreClosed, AreRows, StepLeads, over_rows}
 
--- within the slots it is what is written there
-pub state_at-slot : (top : List ℕ) (x : ℕ) → x < length top → slice_index top x ≡ state_at top x
+-- a row is as long as it is wide
+pub next_row : (k w : ℕ) → (k + 1) * w ≡ k * w + w
+next_row k w = omega arith
+
+-- a slot of a row is before the end of the rows
+pub row_below : (k n w c : ℕ) → k < n → c < 2 * w → 2 * (k * w) + c < 2 * (n * w)
+row_below k n w c less narrow = omega (arith, narrow, next_row k w, mul-le (k + 1) w n w (omega (arith, less)) (omega arith))
+
+-- within the rows it is what is written there
+pub state_at-slot : (top : List ℕ) (x : ℕ) → 2 * x + 1 < length top → slice_index top (2 * x) + 65536 * slice_index top (2 * x + 1) ≡ state_at top x
 state_at-slot [] x h = absurd (omega arith)
-state_at-slot (s ∷ top) zero h = refl
-state_at-slot (s ∷ top) (suc x) h = state_at-slot top x (omega arith)
+state_at-slot (low ∷ []) x h = absurd (omega arith)
+state_at-slot (low ∷ high ∷ top) zero h = refl
+state_at-slot (low ∷ high ∷ top) (suc x) h =
+    let first : 2 * suc x ≡ suc (suc (2 * x)) = omega arith in
+    let second : 2 * suc x + 1 ≡ suc (suc (2 * x + 1)) = omega arith in
+    let a : slice_index (low ∷ high ∷ top) (2 * suc x) ≡ slice_index top (2 * x) = ap (slice_index (low ∷ high ∷ top)) first in
+    let b : slice_index (low ∷ high ∷ top) (2 * suc x + 1) ≡ slice_index top (2 * x + 1) = ap (slice_index (low ∷ high ∷ top)) second in
+    let e : slice_index (low ∷ high ∷ top) (2 * suc x) + 65536 * slice_index (low ∷ high ∷ top) (2 * suc x + 1) ≡ slice_index top (2 * x) + 65536 * slice_index top (2 * x + 1) = omega (arith, a, b) in
+    e ∙ state_at-slot top x (omega arith)
 
 -- behind them the states stand in order
-pub state_at-behind : (top : List ℕ) (s : ℕ) → state_at top (length top + s) ≡ s
-state_at-behind [] s = omega arith
-state_at-behind (t ∷ top) s = let e : length (t ∷ top) + s ≡ suc (length top + s) = omega arith in ap (state_at (t ∷ top)) e ∙ state_at-behind top s
+pub state_at-behind : (top : List ℕ) (end s : ℕ) → length top ≡ 2 * end → state_at top (end + s) ≡ s
+state_at-behind [] end s size = omega arith
+state_at-behind (low ∷ []) end s size = absurd (omega arith)
+state_at-behind (low ∷ high ∷ top) zero s size = absurd (omega arith)
+state_at-behind (low ∷ high ∷ top) (suc end) s size = let e : suc end + s ≡ suc (end + s) = omega arith in ap (state_at (low ∷ high ∷ top)) e ∙ state_at-behind top end s (omega arith)
 
-pub state_at-past : (top : List ℕ) (x : ℕ) → length top ≤ x → x - length top ≡ state_at top x
-state_at-past top x h = let e : x ≡ length top + (x - length top) = omega arith in sym (ap (state_at top) e ∙ state_at-behind top (x - length top))
+pub state_at-past : (top : List ℕ) (end x : ℕ) → length top ≡ 2 * end → end ≤ x → x - end ≡ state_at top x
+state_at-past top end x size h = let e : x ≡ end + (x - end) = omega arith in sym (ap (state_at top) e ∙ state_at-behind top end (x - end) size)
 
-pub place_behind : (r : RowTable) (s : ℕ) → StandsFor r (length r.top + s) s
-place_behind r s = record { place = inr (omega arith); state = state_at-behind r.top s }
+pub place_behind : (r : RowTable) (s : ℕ) → length r.top ≡ 2 * (r.count * r.width) → StandsFor r (r.count * r.width + s) s
+place_behind r s size = record { place = inr (omega arith); state = state_at-behind r.top (r.count * r.width) s size }
 
 -- the sum of the two fits
-pub place_past : (r : RowTable) (s x : ℕ) → x ≡ (length r.top + s) % 2 ^ 32 → length r.top + s < 2 ^ 32 → StandsFor r x s
-place_past r s x is fits =
-    let e : length r.top + s ≡ x = omega (arith, is) in let P : ℕ → Type 0 = λ y. StandsFor r y s in subst P e (place_behind r s)
+pub place_past : (r : RowTable) (s x : ℕ) → length r.top ≡ 2 * (r.count * r.width) → x ≡ (r.count * r.width + s) % 2 ^ 32 → r.count * r.width + s < 2 ^ 32 → StandsFor r x s
+place_past r s x size is fits =
+    let e : r.count * r.width + s ≡ x = omega (arith, is, fits) in let P : ℕ → Type 0 = λ y. StandsFor r y s in subst P e (place_behind r s size)
 
 module _ {V : Type 0} (unit_width : ℕ → ℕ) (view : AutomatonView V) (stands : ℕ → ℕ → Type 0) (most : ℕ) (r : RowTable) (h : AreRows unit_width view stands r) where
   abbrev rowed : AutomatonView V
   rowed = over_rows most view stands r
 
-  -- the beginning of a row is within the slots
-  pub row_within : (k c : ℕ) → k < r.count → c < r.width → k * r.width + c < length r.top
-  row_within k c less narrow = omega (arith, h.size, mul-add-lt k r.width c r.count less narrow)
-
   -- the place of a state that has a row
   pub place_home : (s : ℕ) → s < length r.homes → slice_index r.homes s ≢ 65535 → StandsFor r (slice_index r.homes s * r.width) s
   place_home s within some =
       let home = h.homes s within some in
-      let inside : slice_index r.homes s * r.width < length r.top = omega (arith, row_within (slice_index r.homes s) 0 home.0 h.wide) in
-      record {
-        place = inl (slice_index r.homes s, home.0, refl);
-        state = sym (state_at-slot r.top (slice_index r.homes s * r.width) inside) ∙ home.1;
-      }
+      record { place = inl (slice_index r.homes s, home.0, refl); state = home.1 }
 
   -- a slot of a row
-  pub slot_inside : (x label : ℕ) → IsPlace r x → x < length r.top → label < 510 → x + slice_index r.classes label < length r.top
+  pub slot_inside : (x label : ℕ) → IsPlace r x → x < r.count * r.width → label < 510 → 2 * x + slice_index r.classes label < length r.top
   slot_inside x label (inr behind) within byte = absurd (omega arith)
-  slot_inside x label (inl (k, less, is)) within byte = omega (arith, row_within k (slice_index r.classes label) less (h.inside label byte), is)
+  slot_inside x label (inl (k, less, is)) within byte = omega (arith, row_below k r.count r.width (slice_index r.classes label) less (h.inside label byte), h.size, is)
 
   -- the step by a label from the state of a row
   pub record IsRowStep (x label entry : ℕ) : Type 0 where
     pub state : ℕ
-    pub tells : IsSlotEntry (λ y. StandsFor r y state) (HasFirst unit_width view state None) entry
+    pub tells : IsSlotEntry (r.count * r.width) (λ y. StandsFor r y state) (HasFirst unit_width view state None) entry
     pub leads : StepLeads view stands (state_at r.top x) label state
 
-  pub row_step : (x label : ℕ) → IsPlace r x → x < length r.top → label < 510 → IsRowStep x label (slice_index r.top (x + slice_index r.classes label))
-  row_step x label (inr behind) within byte = absurd (omega arith)
-  row_step x label (inl (k, less, is)) within byte =
+  pub row_step : (x label : ℕ) → IsPlace r x → x < r.count * r.width → label < 510 → slice_index r.top (2 * x + slice_index r.classes label) ≢ 65535 → IsRowStep x label (slice_index r.top (2 * x + slice_index r.classes label))
+  row_step x label (inr behind) within byte some = absurd (omega arith)
+  row_step x label (inl (k, less, is)) within byte some =
       let class = slice_index r.classes label in
-      let row = h.right k label less byte in
-      let same : slice_index r.top (k * r.width + class) ≡ slice_index r.top (x + class) = ap (λ n. slice_index r.top (n + class)) (sym is) in
-      let P : ℕ → Type 0 = λ e. IsSlotEntry (λ y. StandsFor r y row.0) (HasFirst unit_width view row.0 None) e in
-      let here : slice_index r.top (k * r.width) ≡ state_at r.top x = ap (slice_index r.top) (sym is) ∙ state_at-slot r.top x within in
+      let same : slice_index r.top (2 * (k * r.width) + class) ≡ slice_index r.top (2 * x + class) = ap (λ n. slice_index r.top (2 * n + class)) (sym is) in
+      let row = h.right k label less byte (λ none. some (sym same ∙ none)) in
+      let P : ℕ → Type 0 = λ e. IsSlotEntry (r.count * r.width) (λ y. StandsFor r y row.0) (HasFirst unit_width view row.0 None) e in
+      let here : state_at r.top (k * r.width) ≡ state_at r.top x = ap (state_at r.top) (sym is) in
       let Q : ℕ → Type 0 = λ s. StepLeads view stands s label row.0 in
       record { state = row.0; tells = subst P same row.1; leads = subst Q here row.2 }
 
-  -- an entry below 2 ^ 31 is the place of a state with no output
-  quiet_entry : (x label entry : ℕ) (step : IsRowStep x label entry) → entry < 2147483648 → StandsFor r entry step.state × HasFirst unit_width view step.state None
-  quiet_entry x label entry step low = by step.tells.is
+  -- an even entry is the place of a state with no output
+  quiet_entry : (x label entry : ℕ) (step : IsRowStep x label entry) → entry % 2 ≡ 0 → StandsFor r entry step.state × HasFirst unit_width view step.state None × (entry < r.count * r.width)
+  quiet_entry x label entry step even = by step.tells.is
     where
-      by : ((entry ≡ step.tells.place) × HasFirst unit_width view step.state None) ⊎ (entry ≡ step.tells.place + 2147483648) → StandsFor r entry step.state × HasFirst unit_width view step.state None
-      by (inr is) = absurd (omega (arith, is, low))
-      by (inl (is, quiet)) = let P : ℕ → Type 0 = λ y. StandsFor r y step.state in (subst P (sym is) step.tells.stands_for, quiet)
+      by : ((entry ≡ step.tells.place) × HasFirst unit_width view step.state None) ⊎ (entry ≡ step.tells.place + 1) → StandsFor r entry step.state × HasFirst unit_width view step.state None × (entry < r.count * r.width)
+      by (inr is) = absurd (omega (arith, is, step.tells.even.1, even))
+      by (inl (is, quiet)) = let P : ℕ → Type 0 = λ y. StandsFor r y step.state in (subst P (sym is) step.tells.stands_for, quiet, omega (arith, is, step.tells.inside))
 
-  -- any other is the place of its state, and 2 ^ 31
-  loud_entry : (x label entry : ℕ) (step : IsRowStep x label entry) → 2147483648 ≤ entry → StandsFor r (entry - 2147483648) step.state
-  loud_entry x label entry step high = by step.tells.is
+  -- an odd one is the place of its state, and 1
+  loud_entry : (x label entry : ℕ) (step : IsRowStep x label entry) → entry % 2 ≢ 0 → StandsFor r (entry - 1) step.state × (entry - 1 < r.count * r.width)
+  loud_entry x label entry step odd = by step.tells.is
     where
-      by : ((entry ≡ step.tells.place) × HasFirst unit_width view step.state None) ⊎ (entry ≡ step.tells.place + 2147483648) → StandsFor r (entry - 2147483648) step.state
-      by (inl (is, quiet)) = absurd (omega (arith, is, step.tells.small, high))
+      by : ((entry ≡ step.tells.place) × HasFirst unit_width view step.state None) ⊎ (entry ≡ step.tells.place + 1) → StandsFor r (entry - 1) step.state × (entry - 1 < r.count * r.width)
+      by (inl (is, quiet)) = absurd (odd (omega (arith, is, step.tells.even.1)))
       by (inr is) =
           let P : ℕ → Type 0 = λ y. StandsFor r y step.state in
-          let same : step.tells.place ≡ entry - 2147483648 = omega (arith, is) in
-          subst P same step.tells.stands_for
+          let same : step.tells.place ≡ entry - 1 = omega (arith, is) in
+          (subst P same step.tells.stands_for, omega (arith, is, step.tells.inside))
 
-  -- a look at the row x by a label
-  module _ (x label : ℕ) (place : IsPlace r x) (within : x < length r.top) (byte : label < 510) where
+  -- a look at the row x by a label, where the slot tells the end of the step
+  module _ (x label : ℕ) (place : IsPlace r x) (within : x < r.count * r.width) (byte : label < 510) (some : slice_index r.top (2 * x + slice_index r.classes label) ≢ 65535) where
     abbrev entry : ℕ
-    entry = slice_index r.top (x + slice_index r.classes label)
+    entry = slice_index r.top (2 * x + slice_index r.classes label)
 
     step : IsRowStep x label entry
-    step = row_step x label place within byte
+    step = row_step x label place within byte some
 
-    -- closed rows lead to a row
-    stays : (x' : ℕ) → IsPlace r x' → x' < length r.top → AreClosed most stands r → slice_index r.top (x' + slice_index r.classes label) % 2147483648 < length r.top
-    stays x' (inr behind) within' closed = absurd (omega arith)
-    stays x' (inl (k, less, is)) within' closed =
-        let P : ℕ → Type 0 = λ n. slice_index r.top (n + slice_index r.classes label) % 2147483648 < length r.top in
-        subst P (sym is) (closed.stays k label less byte)
+    reached_step : (y : ℕ) → StandsFor r y step.state → y < r.count * r.width → rowed.reached y
+    reached_step y there inside = let P : ℕ → Type 0 = λ s. view.reached s in (there.place, subst P (sym there.state) step.leads.is_state, λ closed. inside)
 
-    small : entry < 4294967296
-    small = elim step.tells.is [ inl low ↦ omega (arith, low.0, step.tells.small) | inr high ↦ omega (arith, high, step.tells.small) ]
-
-    reached_step : (y : ℕ) → StandsFor r y step.state → y ≡ entry % 2147483648 → rowed.reached y
-    reached_step y there is =
-        let P : ℕ → Type 0 = λ s. view.reached s in
-        let Q : ℕ → Type 0 = λ s. s < length r.top in
-        (there.place, subst P (sym there.state) step.leads.is_state, λ closed. subst Q (sym is) (stays x place within closed))
-
-    look_step : (y : ℕ) → StandsFor r y step.state → y ≡ entry % 2147483648 → (unit : ℕ) → stands label unit → rowed.reached y × Steps rowed x unit y
-    look_step y there is unit coded =
+    look_step : (y : ℕ) → StandsFor r y step.state → y < r.count * r.width → (unit : ℕ) → stands label unit → rowed.reached y × Steps rowed x unit y
+    look_step y there inside unit coded =
         let P : ℕ → Type 0 = λ s. Steps view (state_at r.top x) unit s in
-        (reached_step y there is, subst P (sym there.state) (step.leads.ends unit coded))
+        (reached_step y there inside, subst P (sym there.state) (step.leads.ends unit coded))
 
-    pub look_quiet : entry < 2147483648 → (unit : ℕ) → stands label unit → rowed.reached entry × Steps rowed x unit entry
-    look_quiet low = look_step entry (quiet_entry x label entry step low).0 (omega (arith, low))
+    pub look_quiet : entry % 2 ≡ 0 → (unit : ℕ) → stands label unit → rowed.reached entry × Steps rowed x unit entry
+    look_quiet even = let quiet = quiet_entry x label entry step even in look_step entry quiet.0 quiet.2
 
-    pub output_quiet : entry < 2147483648 → HasFirst unit_width rowed entry None
-    output_quiet low =
-        let quiet = quiet_entry x label entry step low in
+    pub output_quiet : entry % 2 ≡ 0 → HasFirst unit_width rowed entry None
+    output_quiet even =
+        let quiet = quiet_entry x label entry step even in
         let P : ℕ → Type 0 = λ s. HasFirst unit_width view s None in
         subst P (sym quiet.0.state) quiet.1
 
-    pub reached_loud : 2147483648 ≤ entry → rowed.reached (entry - 2147483648)
-    reached_loud high = reached_step (entry - 2147483648) (loud_entry x label entry step high) (omega (arith, high, small))
+    pub reached_loud : entry % 2 ≢ 0 → rowed.reached (entry - 1)
+    reached_loud odd = let loud = loud_entry x label entry step odd in reached_step (entry - 1) loud.0 loud.1
 
-    pub look_loud : 2147483648 ≤ entry → (unit : ℕ) → stands label unit → rowed.reached (entry - 2147483648) × Steps rowed x unit (entry - 2147483648)
-    look_loud high = look_step (entry - 2147483648) (loud_entry x label entry step high) (omega (arith, high, small))
+    pub look_loud : entry % 2 ≢ 0 → (unit : ℕ) → stands label unit → rowed.reached (entry - 1) × Steps rowed x unit (entry - 1)
+    look_loud odd = let loud = loud_entry x label entry step odd in look_step (entry - 1) loud.0 loud.1
+
+  -- where the rows are closed, no slot of a row leads out of them
+  pub never_outside : (x label : ℕ) → IsPlace r x → x < r.count * r.width → label < 510 → AreClosed most stands r → slice_index r.top (2 * x + slice_index r.classes label) ≢ 65535
+  never_outside x label (inr behind) within byte closed = absurd (omega arith)
+  never_outside x label (inl (k, less, is)) within byte closed = λ none. closed.stays k label less byte (ap (λ n. slice_index r.top (2 * n + slice_index r.classes label)) (sym is) ∙ none)
 
   -- the root's place has the root's text
   pub shares_root : (s : ℕ) → view.text s ≡ [] → SharesText view r r.root s
@@ -143,7 +144,7 @@ module _ {V : Type 0} (unit_width : ℕ → ℕ) (view : AutomatonView V) (stand
 pub shares_state : {V : Type 0} (view : AutomatonView V) (r : RowTable) (x s : ℕ) → StandsFor r x s → view.reached s → SharesText view r x s
 shares_state view r x s there here = let P : ℕ → Type 0 = λ y. view.reached y in record { is_place = there.place; is_state = subst P (sym there.state) here; same = ap view.text there.state }
 
-module _ {V : Type 0} (view : AutomatonView V) (stands : ℕ → ℕ → Type 0) (most : ℕ) (r : RowTable) (from unit s x : ℕ) (closed : AreClosed most stands r → x < length r.top) where
+module _ {V : Type 0} (view : AutomatonView V) (stands : ℕ → ℕ → Type 0) (most : ℕ) (r : RowTable) (from unit s x : ℕ) (closed : AreClosed most stands r → x < r.count * r.width) where
   -- a look below the rows tells what the automaton's own tells, in places
   pub look_below : (o : Option NonZeroU32) → SharesText view r x s → SeesLook view (state_at r.top from) unit (Next s o) → SeesLook (over_rows most view stands r) from unit (Next x o)
   look_below o shares look =

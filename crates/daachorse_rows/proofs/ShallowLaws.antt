@@ -10,7 +10,7 @@ use Rattle.daachorse_model.specs.Prefixes.{IsPrefix, IsSuffix}
 use Rattle.daachorse_model.proofs.Steps.{IsPrefix-less}
 use Rattle.daachorse_model.proofs.Lists.{below_or_at, ends_in}
 use Rattle.daachorse_search.specs.Views.{AutomatonView, Steps}
-use Rattle.daachorse_rows.specs.Rows.{AreChosen, AreCovered, AreLabels, AreShallow, AreStepped, AreTooMany, EndsInRow, GoesOn, HasEnd, HasSlot, IsShallow}
+use Rattle.daachorse_rows.specs.Rows.{AreChosen, AreCovered, AreLabels, AreShallow, AreStepped, AreTooMany, EndsInRow, GoesOn, HasEnd, HasSlot, IsShallow, row_places}
 use Rattle.daachorse_rows.proofs.MakingLaws.{read-new, read-old}
 
 All-behind : {X : Type 0} (P : X → Type 0) (front back : List X) → All P (front ++ back) → All P back
@@ -208,5 +208,5 @@ AreTooMany-weaker view stands n m room least less fewer h = record {
 }
 
 -- so many rows fit in any case
-pub room_least : (labels least : ℕ) → least * (labels + 2) ≤ 63232 → least ≤ 63232 / (labels + 2)
+pub room_least : (labels least : ℕ) → least * row_places labels ≤ 63232 → least ≤ 63232 / row_places labels
 room_least labels least fits = (le-div_iff_mul-le (omega arith)).1 fits

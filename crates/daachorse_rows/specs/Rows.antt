@@ -1,5 +1,5 @@
--- Rows of the states near the root: of each label where the step ends. A place stands for a state: a row's first slot, in which the state is written, or behind all slots the states in order.
-use Rattle.std.specs.Prelude.{◌≡◌, ◌≢◌, ◌⊎◌, ℕ, zero, suc, ◌+◌, ◌*◌, ◌%◌, ◌<◌, ◌≤◌, ◌^◌, List, [], ◌∷◌, ◌++◌, length, slice_index, None}
+-- Rows of the states near the root: of each label where the step ends. A place stands for a state: the first two slots of a row, in which the state is written, or behind all rows the states in order. Places count slots by two.
+use Rattle.std.specs.Prelude.{◌≡◌, ◌≢◌, ◌⊎◌, ℕ, zero, suc, ◌+◌, ◌*◌, ◌/◌, ◌%◌, ◌<◌, ◌≤◌, ◌^◌, List, [], ◌∷◌, ◌++◌, length, slice_index, None}
 use Rattle.std.specs.List.{All}
 use Rattle.daachorse_core.specs.Looks.{IsForeign}
 use Rattle.daachorse_model.specs.Dictionary.{Dictionary}
@@ -14,13 +14,18 @@ exact_number a b same = same
 abbrev pub stands_by : {L : Type 0} → (L → ℕ) → (L → ℕ → Type 0) → ℕ → ℕ → Type 0
 stands_by {L} number stands n unit = (label : L) × (number label ≡ n) × stands label unit
 
--- the state that a place stands for
+-- the state that a place stands for: two slots hold it, the first its lower half
 abbrev pub state_at : List ℕ → ℕ → ℕ
 state_at [] x = x
-state_at (s ∷ top) zero = s
-state_at (s ∷ top) (suc x) = state_at top x
+state_at (low ∷ []) x = x
+state_at (low ∷ high ∷ top) zero = low + 65536 * high
+state_at (low ∷ high ∷ top) (suc x) = state_at top x
 
--- the slot of each label, the slots, the row of each state, how many rows of which width there are, and the place of the root
+-- the places of a row, of so many labels: slots for its state, for the labels that are not listed and for each that is, up to an even number of places
+abbrev pub row_places : ℕ → ℕ
+row_places labels = (labels + 6) / 4 * 2
+
+-- the slot of each label, the slots, the row of each state, how many rows of how many places there are, and the place of the root
 pub record RowTable : Type 0 where
   pub classes : List ℕ
   pub top : List ℕ
@@ -35,9 +40,9 @@ pub record Rowed (A : Type 0) : Type 0 where
   pub rows : RowTable
 
 module _ (r : RowTable) where
-  -- a row begins there, or it is behind the slots
+  -- a row begins there, or it is behind the rows
   abbrev pub IsPlace : ℕ → Type 0
-  IsPlace x = ((k : ℕ) × (k < r.count) × (x ≡ k * r.width)) ⊎ (length r.top ≤ x)
+  IsPlace x = ((k : ℕ) × (k < r.count) × (x ≡ k * r.width)) ⊎ (r.count * r.width ≤ x)
 
   -- it is a place, and stands for the state
   pub record StandsFor (x s : ℕ) : Type 0 where
@@ -50,32 +55,33 @@ pub record SharesText {V : Type 0} (view : AutomatonView V) (r : RowTable) (x s 
   pub is_state : view.reached (state_at r.top x)
   pub same : view.text (state_at r.top x) ≡ view.text s
 
--- each label below `most` has a slot, and the root and each slot lead to a row, so that no step leaves the rows
+-- each label below `most` has a slot, the root has a row, and no slot leads out of the rows
 pub record AreClosed (most : ℕ) (stands : ℕ → ℕ → Type 0) (r : RowTable) : Type 0 where
   pub slots : (label unit : ℕ) → label < most → stands label unit → label < 510
-  pub root : r.root < length r.top
-  pub stays : (k label : ℕ) → k < r.count → label < 510 → slice_index r.top (k * r.width + slice_index r.classes label) % 2147483648 < length r.top
+  pub root : r.root < r.count * r.width
+  pub stays : (k label : ℕ) → k < r.count → label < 510 → slice_index r.top (2 * (k * r.width) + slice_index r.classes label) ≢ 65535
 
 -- what a search sees over rows: places stand for the states, and where the rows are closed, each look ends its step
 abbrev pub over_rows : {V : Type 0} → ℕ → AutomatonView V → (ℕ → ℕ → Type 0) → RowTable → AutomatonView V
 over_rows most view stands r = record view {
-  reached = λ x. IsPlace r x × view.reached (state_at r.top x) × (AreClosed most stands r → x < length r.top);
+  reached = λ x. IsPlace r x × view.reached (state_at r.top x) × (AreClosed most stands r → x < r.count * r.width);
   text = λ x. view.text (state_at r.top x);
   ends_at_once = AreClosed most stands r;
 }
 
--- what a slot holds for a state: a place that stands for it, to which 2 ^ 31 is added, unless the state is quiet
-pub record IsSlotEntry (stands : ℕ → Type 0) (quiet : Type 0) (entry : ℕ) : Type 0 where
+-- what a slot holds for a state with a row: its place, which is even, and 1 more, unless the state is quiet; the rows end at `end`
+pub record IsSlotEntry (end : ℕ) (stands : ℕ → Type 0) (quiet : Type 0) (entry : ℕ) : Type 0 where
   pub place : ℕ
   pub stands_for : stands place
-  pub small : place < 2147483648
-  pub is : ((entry ≡ place) × quiet) ⊎ (entry ≡ place + 2147483648)
+  pub inside : place < end
+  pub even : (half : ℕ) × (place ≡ half * 2)
+  pub is : ((entry ≡ place) × quiet) ⊎ (entry ≡ place + 1)
 
 module _ (labels : List ℕ) where
   -- the label's slot: behind the state that of the labels that are not listed, and then those of the labels in order
   abbrev pub IsSlotOf : ℕ → ℕ → Type 0
   IsSlotOf label slot =
-      ((k : ℕ) × (k < length labels) × (slice_index labels k ≡ label) × (slot ≡ 2 + k)) ⊎ ((slot ≡ 1) × ((k : ℕ) → k < length labels → slice_index labels k ≢ label))
+      ((k : ℕ) × (k < length labels) × (slice_index labels k ≡ label) × (slot ≡ 3 + k)) ⊎ ((slot ≡ 2) × ((k : ℕ) → k < length labels → slice_index labels k ≢ label))
 
   -- a slot for each label below n
   pub record AreSlots (n : ℕ) (classes : List ℕ) : Type 0 where
@@ -114,7 +120,7 @@ pub record AreTooMany {V : Type 0} (view : AutomatonView V) (stands : ℕ → �
 
 -- each text of at most n units, each with a slot, that begins a key is that of a state with a row
 abbrev pub Covers : {V : Type 0} → AutomatonView V → (ℕ → ℕ → Type 0) → ℕ → RowTable → Type 0
-Covers view stands n r = (w : List ℕ) → IsPrefix view.content w → IsShallow stands n w → (k : ℕ) × (k < r.count) × (view.text (slice_index r.top (k * r.width)) ≡ w)
+Covers view stands n r = (w : List ℕ) → IsPrefix view.content w → IsShallow stands n w → (k : ℕ) × (k < r.count) × (view.text (state_at r.top (k * r.width)) ≡ w)
 
 -- no link is dead, states with the same text are the same, and each label below `most` has a slot
 pub record MayClose {V : Type 0} (most : ℕ) (view : AutomatonView V) (stands : ℕ → ℕ → Type 0) : Type 0 where
@@ -135,18 +141,20 @@ module _ {V : Type 0} (view : AutomatonView V) (stands : ℕ → ℕ → Type 0)
 module _ {V : Type 0} (unit_width : ℕ → ℕ) (view : AutomatonView V) (stands : ℕ → ℕ → Type 0) where
   -- the rows are right
   pub record AreRows (r : RowTable) : Type 0 where
-    pub size : length r.top ≡ r.count * r.width
-    pub few : length r.top ≤ 63232
+    pub size : length r.top ≡ 2 * (r.count * r.width)
+    pub few : r.count * r.width ≤ 63232
     pub wide : 0 < r.width
     pub classes_size : length r.classes ≡ 510
-    pub inside : (label : ℕ) → label < 510 → slice_index r.classes label < r.width
-    pub right : (k label : ℕ) → k < r.count → label < 510 → (t : ℕ) × IsSlotEntry (λ x. StandsFor r x t) (HasFirst unit_width view t None) (slice_index r.top (k * r.width + slice_index r.classes label)) × StepLeads view stands (slice_index r.top (k * r.width)) label t
+    pub inside : (label : ℕ) → label < 510 → slice_index r.classes label < 2 * r.width
+    -- a slot that holds 65,535 tells nothing
+    pub right : (k label : ℕ) → k < r.count → label < 510 → slice_index r.top (2 * (k * r.width) + slice_index r.classes label) ≢ 65535
+        → (t : ℕ) × IsSlotEntry (r.count * r.width) (λ x. StandsFor r x t) (HasFirst unit_width view t None) (slice_index r.top (2 * (k * r.width) + slice_index r.classes label)) × StepLeads view stands (state_at r.top (k * r.width)) label t
     -- in the table of the states' rows 65,535 stands for none
-    pub homes : (s : ℕ) → s < length r.homes → slice_index r.homes s ≢ 65535 → (slice_index r.homes s < r.count) × (slice_index r.top (slice_index r.homes s * r.width) ≡ s)
-    pub small : (s : ℕ) → view.reached s → length r.top + s < 2 ^ 32
+    pub homes : (s : ℕ) → s < length r.homes → slice_index r.homes s ≢ 65535 → (slice_index r.homes s < r.count) × (state_at r.top (slice_index r.homes s * r.width) ≡ s)
+    pub small : (s : ℕ) → view.reached s → r.count * r.width + s < 2 ^ 32
     pub root_state : (s : ℕ) × StandsFor r r.root s × view.reached s × (view.text s ≡ [])
 
--- ---- while they are made: `order` are the states of the rows, and `base` is where the slots end
+-- ---- while they are made: `order` are the states of the rows, and `base` is where the rows end
 
 module _ (order : List ℕ) (width base : ℕ) where
   -- the place stands for the state: its row's, where it has one
@@ -167,7 +175,7 @@ pub record AreChosen {V : Type 0} (view : AutomatonView V) (order table : List �
   pub homes : AreHomes order table
   pub own : AreOwn order table
   pub few : length order ≤ most
-  pub fits : (s : ℕ) → view.reached s → s + 65536 < 2147483648
+  pub fits : (s : ℕ) → view.reached s → s + 65536 < 4294967296
 
 -- the rows stay, and more may follow
 pub record GoesOn (old new : List ℕ) : Type 0 where
@@ -196,15 +204,24 @@ module _ {V : Type 0} (view : AutomatonView V) (stands : ℕ → ℕ → Type 0)
   abbrev pub AreCovered : ℕ → List ℕ → Type 0
   AreCovered n order = (w : List ℕ) → IsPrefix view.content w → IsShallow stands n w → (k : ℕ) × (k < length order) × (view.text (slice_index order k) ≡ w)
 
+module _ (order : List ℕ) (width base : ℕ) where
+  -- what a slot holds for a state: 65,535, where it has no row
+  abbrev pub IsEntry : ℕ → Type 0 → ℕ → Type 0
+  IsEntry t quiet v = ((v ≡ 65535) × ((k : ℕ) → k < length order → slice_index order k ≢ t)) ⊎ IsSlotEntry base (λ x. Stands order width base x t) quiet v
+
 module _ {V : Type 0} (unit_width : ℕ → ℕ) (view : AutomatonView V) (stands : ℕ → ℕ → Type 0) (labels order : List ℕ) (width base : ℕ) where
+  -- what the slot c of the row k holds for a label
+  abbrev pub TellsStep : ℕ → ℕ → ℕ → ℕ → Type 0
+  TellsStep k c v label = (t : ℕ) × IsEntry order width base t (HasFirst unit_width view t None) v × StepLeads view stands (slice_index order k) label t × (c ≡ 2 → view.text t ≡ [])
+
   -- the slot c of the row k
   abbrev pub IsSlot : ℕ → ℕ → ℕ → Type 0
-  IsSlot k zero v = v ≡ slice_index order k
-  IsSlot k (suc c) v =
-      (t : ℕ) × IsSlotEntry (λ x. Stands order width base x t) (HasFirst unit_width view t None) v × ((label : ℕ) → label < 510 → IsSlotOf labels label (suc c) → StepLeads view stands (slice_index order k) label t) × (c ≡ 0 → view.text t ≡ [])
+  IsSlot k zero v = v ≡ slice_index order k % 65536
+  IsSlot k (suc zero) v = v ≡ slice_index order k / 65536
+  IsSlot k (suc (suc c)) v = (label : ℕ) → label < 510 → IsSlotOf labels label (suc (suc c)) → TellsStep k (suc (suc c)) v label
 
   -- k rows were written, and c slots of the next
   pub record AreWritten (k c : ℕ) (top : List ℕ) : Type 0 where
-    pub size : length top ≡ k * width + c
-    pub rows : (k' c' : ℕ) → k' < k → c' < width → IsSlot k' c' (slice_index top (k' * width + c'))
-    pub row : (c' : ℕ) → c' < c → IsSlot k c' (slice_index top (k * width + c'))
+    pub size : length top ≡ 2 * (k * width) + c
+    pub rows : (k' c' : ℕ) → k' < k → c' < 2 * width → IsSlot k' c' (slice_index top (2 * (k' * width) + c'))
+    pub row : (c' : ℕ) → c' < c → IsSlot k c' (slice_index top (2 * (k * width) + c'))

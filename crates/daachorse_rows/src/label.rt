@@ -4,7 +4,7 @@
 
 ghost use Rattle.std.specs.Prelude.{◌≡◌, ◌<◌, ◌^◌, ℕ};
 
-/// Labels with a number below it have a slot in each row, so that there is room for 123 rows.
+/// Labels with a number below it have a slot in each row, so that there is room for 245 rows.
 pub const SLOTTED: u32 = 510;
 
 /// A label by which rows are looked at.

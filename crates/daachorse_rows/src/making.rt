@@ -4,8 +4,8 @@
 //! come to them. The layers above may rely on the rows being right, on each state to which at most
 //! two steps lead having one, and on no order.
 
-ghost use Rattle.std.specs.Prelude.{◌≡◌, ◌⊎◌, ◌*◌, ◌+◌, ◌/◌, ◌<◌, ◌≤◌, ◌^◌, ℕ, [], true, false, length, map, slice_index, IfOk, MatchOption, OnOk, None};
-ghost use Rattle.daachorse_rows.specs.Rows.{AreChosen, AreCovered, AreHomes, AreLabels, AreOwn, AreShallow, AreSlots, AreStepped, AreTooMany, AreWritten, EndsInRow, GoesOn, HasEnd, IsSlotEntry, IsShallow, IsSlotOf, Stands, stands_by};
+ghost use Rattle.std.specs.Prelude.{◌≡◌, ◌⊎◌, ◌*◌, ◌+◌, ◌/◌, ◌%◌, ◌<◌, ◌≤◌, ◌^◌, ℕ, [], true, false, length, map, slice_index, IfOk, MatchOption, OnOk, None};
+ghost use Rattle.daachorse_rows.specs.Rows.{AreChosen, AreCovered, AreHomes, AreLabels, AreOwn, AreShallow, AreSlots, AreStepped, AreTooMany, AreWritten, EndsInRow, GoesOn, HasEnd, IsEntry, IsShallow, IsSlotOf, Stands, row_places, stands_by};
 
 use crate::label::{RowLabel, SLOTTED};
 use daachorse_core::turns::Turns;
@@ -14,18 +14,18 @@ use daachorse_search::walk::follow;
 use std::alloc::{AllocError, Allocator};
 use std::num::NonZeroU32;
 
-/// The most slots. With the slots of the labels and a table of what patterns begin with they take 256 KiB.
-pub(crate) const SLOTS: u32 = 63_232;
+/// The most places in rows, of two slots each. With the slots of the labels and a table of what patterns
+/// begin with these take 256 KiB.
+pub(crate) const PLACES: u32 = 63_232;
 
 /// In the table of the states' rows: the state has none.
 pub(crate) const NO_ROW: u16 = 65_535;
 
-/// Is added to the place of a state that has outputs.
-pub(crate) const HAS_OUTPUTS: u32 = 2_147_483_648;
+/// In a slot: it tells nothing, since the step ends at a state that has no row.
+pub(crate) const OUTSIDE: u16 = 65_535;
 
-/// The most states of which some may have rows: behind all slots the places of the states are below
-/// `HAS_OUTPUTS`.
-const MOST_STATES: u32 = 2_147_418_112;
+/// The most states of which some may have rows: behind all rows the places of the states are below 2^32.
+const MOST_STATES: u32 = 4_294_901_760;
 
 /// The slot of the label of a number: behind the state first that of the labels that are not listed.
 fn slot_of<T: RowLabel>(labels: &[T], number: usize) -> u16
@@ -34,10 +34,10 @@ fn slot_of<T: RowLabel>(labels: &[T], number: usize) -> u16
 {
     for k in 0..labels.len() {
         if labels[k].index() == number {
-            return 2 + k as u16;
+            return 3 + k as u16;
         }
     }
-    1
+    2
 }
 
 /// The slot of each label, by its number.
@@ -65,7 +65,7 @@ pub(crate) struct Chosen<L: Allocator> {
 }
 
 impl<L: Allocator> Chosen<L> {
-    /// The place of a state, where the slots end at `base`.
+    /// The place of a state, where the rows end at `base`.
     pub(crate) fn place(&self, base: u32, state: u32, width: u32) -> u32
         requires homes { AreHomes self.now.order.items self.now.homes.items }
         requires own { AreOwn self.now.order.items self.now.homes.items }
@@ -80,25 +80,31 @@ impl<L: Allocator> Chosen<L> {
         base + state
     }
 
-    /// What a slot holds for a state whose outputs begin at this position.
-    fn entry(&self, base: u32, state: u32, position: Option<NonZeroU32>, width: u32) -> u32
+    /// What a slot holds for a state whose outputs begin at this position: its place, which is even, and 1
+    /// more where there are outputs.
+    fn entry(&self, base: u32, state: u32, position: Option<NonZeroU32>, width: u32) -> u16
         requires homes { AreHomes self.now.order.items self.now.homes.items }
         requires own { AreOwn self.now.order.items self.now.homes.items }
-        requires few { length self.now.order.items * width ≤ 63232 }
+        requires base { base ≡ length self.now.order.items * width }
+        requires few { base ≤ 63232 }
         requires wide { 0 < width }
-        requires fits { base + state < 2147483648 }
-        ensures { IsSlotEntry (λ x. Stands self.now.order.items width base x state) (position ≡ None) result }
+        requires even { (half : ℕ) × (width ≡ half * 2) }
+        requires fits { base + state < 2 ^ 32 }
+        ensures { IsEntry self.now.order.items width base state (position ≡ None) result }
     {
         let place = self.place(base, state, width);
+        if place >= base {
+            return OUTSIDE;
+        }
         match position {
-            None => place,
-            Some(_) => place + HAS_OUTPUTS,
+            None => place as u16,
+            Some(_) => place as u16 + 1,
         }
     }
 }
 
 /// The states that get rows, at most `most`: `None` where the states whose texts have at most two units
-/// with a slot are more, or where the states are too many for an entry.
+/// with a slot are more, or where the states are too many for a place.
 pub(crate) fn choose<V: Copy, A: Automaton<V>, L: Allocator + Copy>(
     alloc: L,
     automaton: &A,
@@ -113,7 +119,7 @@ where
     requires some { 0 < most }
     requires few { most < 65535 }
     ensures { IfOk result (λ chosen. MatchOption chosen
-        (AreTooMany (A.sees automaton.now) (stands_by A.Label.number (A.labels automaton.now)) 2 most ⊎ (2147418112 < count))
+        (AreTooMany (A.sees automaton.now) (stands_by A.Label.number (A.labels automaton.now)) 2 most ⊎ (4294901760 < count))
         (λ c. AreChosen (A.sees automaton.now) c.order.items c.homes.items most
         × AreCovered (A.sees automaton.now) (stands_by A.Label.number (A.labels automaton.now)) 2 c.order.items
         × (AreStepped (A.sees automaton.now) (stands_by A.Label.number (A.labels automaton.now)) (map A.Label.number labels.now) (length c.order.items) c.order.items
@@ -144,7 +150,7 @@ fn choose_root<V: Copy, A: Automaton<V>, L: Allocator + Copy>(
 where
     A::Label: RowLabel,
     requires count { (s : ℕ) → (A.sees automaton.now).reached s → s < count }
-    requires fits { count ≤ 2147418112 }
+    requires fits { count ≤ 4294901760 }
     requires some { 0 < most }
     ensures chosen { IfOk result (λ c. AreChosen (A.sees automaton.now) c.order.items c.homes.items most) }
     ensures size { IfOk result (λ c. length c.homes.items ≡ count) }
@@ -278,17 +284,17 @@ pub(crate) fn write<V: Copy, A: Automaton<V>, L: Allocator + Copy>(
     labels: &[A::Label],
     chosen: &Chosen<L>,
     width: u32,
-) -> Result<Vec<u32, L>, AllocError>
+) -> Result<Vec<u16, L>, AllocError>
 where
     A::Label: RowLabel,
     requires labels { AreLabels (A.sees automaton.now).content (stands_by A.Label.number (A.labels automaton.now)) (map A.Label.number labels.now) }
     requires chosen { AreChosen (A.sees automaton.now) chosen.now.order.items chosen.now.homes.items (63232 / width) }
-    requires width { width ≡ length labels.now + 2 }
+    requires width { width ≡ row_places (length labels.now) }
     ensures { IfOk result (λ top. AreWritten A.Unit.width (A.sees automaton.now) (stands_by A.Label.number (A.labels automaton.now))
         (map A.Label.number labels.now) chosen.now.order.items width (length chosen.now.order.items * width) (length chosen.now.order.items) 0 top.items) }
 {
     let base = chosen.order.len() as u32 * width;
-    let mut top = Vec::with_capacity(alloc, base as usize)?;
+    let mut top = Vec::with_capacity(alloc, 2 * base as usize)?;
     for row in 0..chosen.order.len() {
         write_row(automaton, labels, chosen, width, row, &mut top)?;
     }
@@ -296,20 +302,20 @@ where
 }
 
 /// Writes a row: its state, where the labels that are not listed lead, which is the root, and of each
-/// label in order where the step ends.
+/// label in order where the step ends. Behind them slots tell nothing, up to an even place.
 fn write_row<V: Copy, A: Automaton<V>, L: Allocator>(
     automaton: &A,
     labels: &[A::Label],
     chosen: &Chosen<L>,
     width: u32,
     row: usize,
-    top: &mut Vec<u32, L>,
+    top: &mut Vec<u16, L>,
 ) -> Result<(), AllocError>
 where
     A::Label: RowLabel,
     requires labels { AreLabels (A.sees automaton.now).content (stands_by A.Label.number (A.labels automaton.now)) (map A.Label.number labels.now) }
     requires chosen { AreChosen (A.sees automaton.now) chosen.now.order.items chosen.now.homes.items (63232 / width) }
-    requires width { width ≡ length labels.now + 2 }
+    requires width { width ≡ row_places (length labels.now) }
     requires row { row < length chosen.now.order.items }
     requires written { AreWritten A.Unit.width (A.sees automaton.now) (stands_by A.Label.number (A.labels automaton.now))
         (map A.Label.number labels.now) chosen.now.order.items width (length chosen.now.order.items * width) row 0 top.old.items }
@@ -319,12 +325,14 @@ where
     let base = chosen.order.len() as u32 * width;
     let state = chosen.order[row];
     let root = automaton.root();
-    top.push(state)?;
+    top.push((state % 65_536) as u16)?;
+    top.push((state / 65_536) as u16)?;
     top.push(chosen.entry(base, root, automaton.output_pos(root), width))?;
     let mut turns = Turns::new();
     for k in 0..labels.len() {
         let (next, position) = follow(automaton, state, labels[k], &mut turns);
         top.push(chosen.entry(base, next, position, width))?;
     }
+    top.resize(2 * (row + 1) * width as usize, OUTSIDE)?;
     Ok(())
 }

@@ -1,14 +1,14 @@
 //! What a search sees of an automaton with rows.
 //!
 //! The layers above may rely on [`RowView`] being an automaton of the same dictionary as the one
-//! below, on one look a unit where a row is looked at, which is everywhere where the rows are closed,
+//! below, on one look a unit where a row leads to a row, which is everywhere where the rows are closed,
 //! and on no call taking memory.
 
-ghost use Rattle.std.specs.Prelude.{◌≡◌, ◌+◌, ◌<◌, length, slice_index};
+ghost use Rattle.std.specs.Prelude.{◌≡◌, ◌+◌, ◌*◌, ◌<◌, slice_index};
 ghost use Rattle.daachorse_rows.specs.Rows.{AreRows, IsPlace, SharesText, StandsFor, stands_by, state_at};
 
 use crate::label::{RowLabel, SLOTTED};
-use crate::making::{HAS_OUTPUTS, NO_ROW};
+use crate::making::{NO_ROW, OUTSIDE};
 use daachorse_core::Output;
 use daachorse_core::turns::{Look, Turns};
 use daachorse_search::automaton::Automaton;
@@ -17,7 +17,8 @@ use std::num::NonZeroU32;
 
 /// An automaton, and rows of some of its states.
 ///
-/// A state is told by its place: that of its row, where it has one, or its number behind all slots.
+/// A state is told by its place: that of its row, where it has one, or its number behind all rows. Places
+/// count slots by two.
 #[derive(Drop)]
 pub struct RowView<'a, V: Copy, A: Automaton<V>>
 where
@@ -26,8 +27,8 @@ where
     automaton: A,
     // The slot of each label that has one, by its number.
     classes: &'a [u16],
-    // The slots. The first of a row is its state.
-    top: &'a [u32],
+    // The slots. The first two of a row hold its state.
+    top: &'a [u16],
     // The row of each state.
     homes: &'a [u16],
     // For contracts alone.
@@ -60,7 +61,7 @@ where
     pub(crate) fn new(
         automaton: A,
         classes: &'a [u16],
-        top: &'a [u32],
+        top: &'a [u16],
         homes: &'a [u16],
         count: u32,
         width: u32,
@@ -82,6 +83,15 @@ where
         }
     }
 
+    /// Where the rows end, and the places of states that have none begin. The rows are right.
+    #[inline(always)]
+    fn end(&self) -> usize
+        ensures end { result ≡ self.now.rows.count * self.now.rows.width }
+        ensures right { AreRows A.Unit.width (A.sees self.now.automaton) (stands_by A.Label.number (A.labels self.now.automaton)) self.now.rows }
+    {
+        self.top.len() / 2
+    }
+
     /// The state of a place.
     #[inline(always)]
     fn state(&self, place: u32) -> u32
@@ -89,10 +99,12 @@ where
         ensures { result ≡ state_at self.now.rows.top place }
     {
         let place = place as usize;
-        if place < self.top.len() {
-            return self.top[place];
+        if place < self.end() {
+            let low = self.top[2 * place];
+            let high = self.top[2 * place + 1];
+            return low as u32 + 65_536 * high as u32;
         }
-        (place - self.top.len()) as u32
+        (place - self.end()) as u32
     }
 
     /// The place of a state.
@@ -104,7 +116,7 @@ where
         if index < self.homes.len() && self.homes[index] != NO_ROW {
             return self.homes[index] as u32 * self.width;
         }
-        (self.top.len() as u32).wrapping_add(state)
+        (self.end() as u32).wrapping_add(state)
     }
 
     /// The slot of the label `number` in the row that begins at a place.
@@ -112,12 +124,12 @@ where
     #[inline(always)]
     fn slot(&self, place: usize, number: usize) -> u32
         requires place { IsPlace self.now.rows place }
-        requires inside { place < length self.now.rows.top }
+        requires inside { place < self.now.rows.count * self.now.rows.width }
         requires label { number < 510 }
-        ensures { result ≡ slice_index self.now.rows.top (place + slice_index self.now.rows.classes number) }
+        ensures { result ≡ slice_index self.now.rows.top (2 * place + slice_index self.now.rows.classes number) }
     {
         let column = &self.top[self.classes[number] as usize..];
-        column[place]
+        column[2 * place] as u32
     }
 
     /// The place of a state in which a look below the rows ends the step. But for the root it has no
@@ -129,7 +141,7 @@ where
         if state == self.automaton.root() {
             return self.root;
         }
-        (self.top.len() as u32).wrapping_add(state)
+        (self.end() as u32).wrapping_add(state)
     }
 }
 
@@ -168,14 +180,17 @@ where
     fn turn(&self, state: u32, label: A::Label, turns: &mut Turns) -> Look {
         let place = state as usize;
         let number = label.index();
-        if place < self.top.len() && number < SLOTTED as usize {
-            turns.tick();
+        if place < self.end() && number < SLOTTED as usize {
             let entry = self.slot(place, number);
-            if entry < HAS_OUTPUTS {
+            if entry % 2 == 0 {
+                turns.tick();
                 return Look::Next(entry, None);
             }
-            let next = entry - HAS_OUTPUTS;
-            return Look::Next(next, self.output_pos(next));
+            if entry != OUTSIDE as u32 {
+                turns.tick();
+                let next = entry - 1;
+                return Look::Next(next, self.output_pos(next));
+            }
         }
         match self.automaton.turn(self.state(state), label, turns) {
             Look::Next(next, position) => Look::Next(self.place_below(next), position),

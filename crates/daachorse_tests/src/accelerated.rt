@@ -7,11 +7,11 @@ use daachorse::{DoubleArrayAhoCorasick, MatchKind, Result};
 use std::alloc::Global;
 use std::test::Fail;
 
-/// Whether there is room for rows of 248 patterns of one byte each, and of so many of two of these
-/// bytes. A row has 250 slots, so that there are 252 rows.
+/// Whether there is room for rows of 255 patterns of one byte each, and of so many of two of these
+/// bytes. A row has 260 slots, so that there are 486 rows.
 fn has_room(alloc: Global, pairs: usize) -> Result<bool> {
     let mut bytes = Vec::new(alloc);
-    for byte in 0..248u8 {
+    for byte in 0..255u8 {
         bytes.push(byte)?;
     }
     let mut patvals: Vec<(&[u8], u32)> = Vec::new(alloc);
@@ -27,8 +27,8 @@ fn has_room(alloc: Global, pairs: usize) -> Result<bool> {
 
 #[test]
 fn rows_are_refused_past_their_room(rt: HostRuntime) -> Result<(), Fail> {
-    expect(&rt, has_room(rt.alloc(), 3)?, "252 states");
-    expect(&rt, !has_room(rt.alloc(), 4)?, "253 states");
+    expect(&rt, has_room(rt.alloc(), 230)?, "486 states");
+    expect(&rt, !has_room(rt.alloc(), 231)?, "487 states");
     Ok(())
 }
 

@@ -51,9 +51,9 @@ use std::marker::Model;
 
 /// An automaton over bytes, which it borrows, and rows of the states near its root.
 ///
-/// A row tells of each byte where the whole step ends, so that a search takes one look for each byte
-/// while it stands at a state with a row, and follows no link. Below these states it looks at the
-/// automaton as any search does. Where no step leads below them, each standard search and stepper
+/// A row tells of each byte where the whole step ends, if that is a state with a row, so that a search
+/// takes one look for each byte while it goes from row to row, and follows no link. Elsewhere it looks at
+/// the automaton as any search does. Where no step leads out of the rows, each standard search and stepper
 /// takes at most one turn for each byte. What is found is the same.
 ///
 /// It pays where much is searched and most bytes are read at states with rows: with some thousands
@@ -85,9 +85,9 @@ impl<V: Copy, A: Allocator + Copy> DoubleArrayAhoCorasick<V, A> {
     ///
     /// Each text of at most two bytes that begins a pattern has a row, and so have longer ones
     /// while there is room. The answer is `None` where those alone are more than there is room for:
-    /// a row has two slots and one for each byte that occurs in patterns, and there are 63,232
-    /// slots, which are at least 245 rows. Where at most 245 texts begin a pattern, each has a row, and
-    /// each standard search and stepper takes at most one turn for each byte.
+    /// a row has three slots and one for each byte that occurs in patterns, up to a multiple of four,
+    /// and there are 126,464 slots, which are at least 486 rows. Where at most 486 texts begin a pattern,
+    /// each has a row, and each standard search and stepper takes at most one turn for each byte.
     ///
     /// Use it where much is searched for up to some thousand words, and for a leftmost search up to
     /// about one thousand. With tens of thousands of words, rows cost more than they save in an
@@ -95,8 +95,8 @@ impl<V: Copy, A: Allocator + Copy> DoubleArrayAhoCorasick<V, A> {
     /// change little. `docs/SPEED.md` has what was measured.
     ///
     /// Of the patterns `ab` and `b` in the haystack `ab` the search
-    /// [`Accelerated::find_overlapping_iter`] finds `ab` from 0 to 2 and `b` from 1 to 2. Of 248
-    /// patterns of one byte each and four of two of these bytes there are no rows
+    /// [`Accelerated::find_overlapping_iter`] finds `ab` from 0 to 2 and `b` from 1 to 2. Of 255
+    /// patterns of one byte each and 231 of two of these bytes there are no rows
     /// (`daachorse_tests` runs both).
     ///
     /// Where the automaton has a filter, at least 8,192 states and no pattern of less than four bytes, a

@@ -49,10 +49,10 @@ use std::marker::Model;
 /// An automaton over characters, which it borrows, and rows of the states near its root.
 ///
 /// A row tells of each of the 510 most frequent characters of the patterns where the whole step
-/// ends, so that a search takes one look for such a character while it stands at a state with a
-/// row, and follows no link. For any other character, and below these states, it looks at the
-/// automaton as any search does. Where no step leads below them, each standard search and stepper
-/// takes at most one turn for each character. What is found is the same.
+/// ends, if that is a state with a row, so that a search takes one look for such a character while it
+/// goes from row to row, and follows no link. Elsewhere it looks at the automaton as any search does.
+/// Where no step leads out of the rows, each standard search and stepper takes at most one turn for each
+/// character. What is found is the same.
 ///
 /// [`CharwiseDoubleArrayAhoCorasick::accelerate`] makes it, and tells when to use it and what it
 /// takes.
@@ -83,10 +83,10 @@ impl<V: Copy, A: Allocator + Copy> CharwiseDoubleArrayAhoCorasick<V, A> {
     ///
     /// Each text of at most two characters that begins a pattern has a row, if both are among the
     /// 510 most frequent ones, and so have longer ones while there is room. The answer is `None`
-    /// where those alone are more than there is room for: a row has two slots and one for each of
-    /// these characters, and there are 63,232 slots, which are at least 123 rows. Where at most 123
-    /// texts begin a pattern, and no more than 510 characters occur, each has a row, and each standard
-    /// search and stepper takes at most one turn for each character.
+    /// where those alone are more than there is room for: a row has three slots and one for each of
+    /// these characters, up to a multiple of four, and there are 126,464 slots, which are at least 245
+    /// rows. Where at most 245 texts begin a pattern, and no more than 510 characters occur, each has a
+    /// row, and each standard search and stepper takes at most one turn for each character.
     ///
     /// Use it where much is searched for up to some thousand words of few different characters.
     /// With many characters, as in 1,000 Japanese words, there is no room for rows. `docs/SPEED.md`

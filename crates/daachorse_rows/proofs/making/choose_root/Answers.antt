@@ -9,7 +9,7 @@ use Rattle.daachorse_rows.proofs.MakingLaws.{AreChosen-more, AreChosen-none, rea
 use Rattle.daachorse_rows.proofs.ShallowLaws.{AreShallow-push, IsShallow-none}
 use Rattle.daachorse_rows.proofs.making.choose_root.Goals as goal
 
-AreChosen-one : {V : Type 0} (view : AutomatonView V) (none order homes : List ℕ) (count most s : ℕ) → none ≡ [] → order ≡ none ++ s ∷ [] → homes ≡ replicate count 65535 → ((x : ℕ) → view.reached x → x < count) → count ≤ 2147418112 → 0 < most → view.reached s → AreChosen view order (slice_set homes s 0) most
+AreChosen-one : {V : Type 0} (view : AutomatonView V) (none order homes : List ℕ) (count most s : ℕ) → none ≡ [] → order ≡ none ++ s ∷ [] → homes ≡ replicate count 65535 → ((x : ℕ) → view.reached x → x < count) → count ≤ 4294901760 → 0 < most → view.reached s → AreChosen view order (slice_set homes s 0) most
 AreChosen-one view none order homes count most s empty is same below small some there =
     let size : length homes ≡ count = ap length same ∙ length-replicate count 65535 in
     let no_homes : (x : ℕ) → x < length homes → slice_index homes x ≡ 65535 = λ x within. ap (λ l. slice_index l x) same ∙ get_or-replicate count x 65535 0 (omega (arith, within, size)) in

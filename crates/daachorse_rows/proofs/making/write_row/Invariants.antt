@@ -7,4 +7,4 @@ abbrev pub invariant-loop-k : goal.invariant-loop-k
 invariant-loop-k g l =
     let A = g.A.Automaton in let a = l.automaton in let order = l.chosen.order.items in
     AreWritten g.A.Unit.EdgeLabel.width (A.sees a) (stands_by g.A.Label.RowLabel.number (A.labels a))
-    (map g.A.Label.RowLabel.number l.labels) order l.width (length order * l.width) l.row (2 + l.k) l.top.items
+    (map g.A.Label.RowLabel.number l.labels) order l.width (length order * l.width) l.row (3 + l.k) l.top.items

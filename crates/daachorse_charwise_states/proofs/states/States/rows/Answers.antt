@@ -4,7 +4,7 @@ use Rattle.std.specs.Prelude.{◌^◌, IfSome, Option, Some, None, unwrap_or}
 use Rattle.daachorse_model.specs.declared.MatchKind.TheVariants.{Standard}
 use Rattle.daachorse_model.specs.Paths.{walk}
 use Rattle.daachorse_machine.proofs.MachineLaws.{Reached-inside}
-use Rattle.daachorse_rows.specs.Rows.{AreLabels, AreTooMany, ClosesOrFills, MayClose, RowTable, stands_by}
+use Rattle.daachorse_rows.specs.Rows.{AreLabels, AreTooMany, ClosesOrFills, MayClose, RowTable, row_places, stands_by}
 use Rattle.daachorse_rows.proofs.ListedLaws.{AreLabels-own}
 use Rattle.daachorse_rows.proofs.ShallowLaws.{AreTooMany-weaker, room_least}
 use Rattle.daachorse_charwise_states.specs.Parts.{Parts, child, content, count}
@@ -28,16 +28,16 @@ may_close p standard few = record {
 module _ {V : Type 0} (p q : Parts V) (same : q ≡ p) where
   -- the rows of one view stay where those of the parts do
   stays : (made : Option RowTable) (listed codes : List ℕ) → listed ≡ codes → length codes ≤ 510
-      → IfSome made (λ r. MayClose (2 ^ 32) (sees q) (coded q) → ClosesOrFills (2 ^ 32) (sees q) (coded q) (63232 / (length listed + 2)) r)
+      → IfSome made (λ r. MayClose (2 ^ 32) (sees q) (coded q) → ClosesOrFills (2 ^ 32) (sees q) (coded q) (63232 / row_places (length listed)) r)
       → IfSome made (λ r. p.kind ≡ Standard → HasFewCodes p → StaysUnlessLarge p r)
   stays None listed codes is few closed = tt
   stays (Some r) listed codes is few closed = λ standard coding.
       let P : Parts V → Type 0 = λ x. MayClose (2 ^ 32) (sees x) (coded x) in
       let Q : Parts V → Type 0 = λ x. StaysUnlessLarge x r in
-      let fits = room_least (length listed) 123 (omega (arith, ap length is, few)) in
+      let fits = room_least (length listed) 245 (omega (arith, ap length is, few)) in
       subst Q same (elim (closed (subst P (sym same) (may_close p standard coding))) [
         | inl all ↦ inl all
-        | inr many ↦ inr (many.0, AreTooMany-weaker (sees q) (coded q) many.0 many.0 (63232 / (length listed + 2)) 123 (omega arith) fits many.1)
+        | inr many ↦ inr (many.0, AreTooMany-weaker (sees q) (coded q) many.0 many.0 (63232 / row_places (length listed)) 245 (omega arith) fits many.1)
       ])
 
   labels_along : (codes listed : List ℕ) → listed ≡ codes → AreLabels (content p) (stands_for p) codes → AreLabels (content q) (stands_by (λ (code : ℕ). code) (stands_for q)) (map (λ (code : ℕ). code) listed)
@@ -52,10 +52,10 @@ module _ {V : Type 0} (p q : Parts V) (same : q ≡ p) where
       omega (arith, Reached-inside _ _ _ _ _ (valid_machine p valid) s (subst P same there), all)
 
   -- what leaves no room for rows of one view does so for the parts
-  no_room : (n : ℕ) (listed codes : List ℕ) → listed ≡ codes → length codes ≤ 510 → n ≡ count p → AreTooMany (sees q) (coded q) 2 (63232 / (length listed + 2)) ⊎ (2147418112 < n) → HasNoRoom p
+  no_room : (n : ℕ) (listed codes : List ℕ) → listed ≡ codes → length codes ≤ 510 → n ≡ count p → AreTooMany (sees q) (coded q) 2 (63232 / row_places (length listed)) ⊎ (4294901760 < n) → HasNoRoom p
   no_room n listed codes is few all (inl many) =
-      let P : Parts V → Type 0 = λ x. AreTooMany (sees x) (coded x) 2 123 in
-      inl (subst P same (AreTooMany-weaker (sees q) (coded q) 2 2 (63232 / (length listed + 2)) 123 (omega arith) (room_least (length listed) 123 (omega (arith, ap length is, few))) many))
+      let P : Parts V → Type 0 = λ x. AreTooMany (sees x) (coded x) 2 245 in
+      inl (subst P same (AreTooMany-weaker (sees q) (coded q) 2 2 (63232 / row_places (length listed)) 245 (omega arith) (room_least (length listed) 245 (omega (arith, ap length is, few))) many))
   no_room n listed codes is few all (inr past) = inr (omega (arith, past, all))
 
 pub new-requires-clause-labels : goal.new-requires-clause-labels

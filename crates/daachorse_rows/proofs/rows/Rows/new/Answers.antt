@@ -4,7 +4,7 @@ use Rattle.std.proofs.Math.Nat.{div-mul-le_self}
 use Rattle.std.proofs.lemmas.List.{length-map}
 use Rattle.std.proofs.lemmas.Result.{IfOk-from_err}
 use Rattle.std.proofs.lemmas.Option.{none-some, MatchOption-at_none, MatchOption-at_some}
-use Rattle.daachorse_rows.specs.Rows.{RowTable, Stands, stands_by}
+use Rattle.daachorse_rows.specs.Rows.{RowTable, Stands, row_places, stands_by}
 use Rattle.daachorse_rows.proofs.MakingLaws.{AreClosed-made, AreRows-made, Covers-made, fits_rows}
 use Rattle.daachorse_rows.proofs.ShallowLaws.{room_least}
 use Rattle.daachorse_rows.proofs.rows.Rows.new.Goals as goal
@@ -49,7 +49,7 @@ write-requires g c = record {
 
 pub place-root-requires : goal.place-root-requires
 place-root-requires g c =
-    let width = length c.args.labels.now + 2 in
+    let width = row_places (length c.args.labels.now) in
     let chosen = MatchOption-at_some _ _ c.in-Some.chosen c.in-Some.is c.in_ok-chosen.ensures in
     record {
       homes = chosen.0.homes;
@@ -63,7 +63,7 @@ place-root-requires g c =
 
 pub overflow_mul-count : goal.overflow_mul-count
 overflow_mul-count g c =
-    let width = length c.args.labels.now + 2 in
+    let width = row_places (length c.args.labels.now) in
     let chosen = MatchOption-at_some _ _ c.in-Some.chosen c.in-Some.is c.in_ok-chosen.ensures in
     let order = c.in-Some.chosen.order.items in
     let e : c.len-count.result ≡ length order = c.len-count.ensures ∙ c.in-Some.chosen.order.ok.0 in
@@ -71,7 +71,7 @@ overflow_mul-count g c =
 
 pub overflow_cast-count : goal.overflow_cast-count
 overflow_cast-count g c =
-    let width = length c.args.labels.now + 2 in
+    let width = row_places (length c.args.labels.now) in
     let chosen = MatchOption-at_some _ _ c.in-Some.chosen c.in-Some.is c.in_ok-chosen.ensures in
     let order = c.in-Some.chosen.order.items in
     let e : c.len-count.result ≡ length order = c.len-count.ensures ∙ c.in-Some.chosen.order.ok.0 in
@@ -80,7 +80,7 @@ overflow_cast-count g c =
 pub returns : goal.returns
 returns g c =
     let A = g.A.Automaton in let a = c.args.automaton.now in let order = c.in-Some.chosen.order.items in
-    let width = length c.args.labels.now + 2 in
+    let width = row_places (length c.args.labels.now) in
     let r : RowTable = record { classes = c.in_ok-classes.classes.items; top = c.in_ok-top.top.items; homes = c.in-Some.chosen.homes.items; count = c.len-count.result; width = width; root = c.place-root.result } in
     let S : ℕ → Type 0 = λ n. Stands order width (n * width) c.place-root.result c.root.result in
     let e : c.len-count.result ≡ length order = c.len-count.ensures ∙ c.in-Some.chosen.order.ok.0 in
@@ -89,12 +89,12 @@ returns g c =
     record {
       right =
           AreRows-made g.A.Unit.EdgeLabel.width (A.sees a) stands (map g.A.Label.RowLabel.number c.args.labels.now) r order e (omega arith) c.in_ok-top.ensures
-          c.root.result (ap (λ n. n + 2) (sym (length-map c.args.labels.now g.A.Label.RowLabel.number))) c.in_ok-classes.ensures chosen.0 (subst S e c.place-root.ensures) c.root.ensures.reached c.root.ensures.text;
+          c.root.result (ap row_places (sym (length-map c.args.labels.now g.A.Label.RowLabel.number))) c.in_ok-classes.ensures chosen.0 (subst S e c.place-root.ensures) c.root.ensures.reached c.root.ensures.text;
       covered = Covers-made g.A.Unit.EdgeLabel.width (A.sees a) stands (map g.A.Label.RowLabel.number c.args.labels.now) r order e (omega arith) c.in_ok-top.ensures 2 chosen.1;
       -- where each step ends in a row the rows are closed, and else there are too many states
       closed = λ may. elim chosen.2 [
         | inl stepped ↦ inl (AreClosed-made g.A.Unit.EdgeLabel.width (A.sees a) stands (map g.A.Label.RowLabel.number c.args.labels.now) r order e (omega arith) c.in_ok-top.ensures
-            g.A.Label.RowLabel.most c.root.result (ap (λ n. n + 2) (sym (length-map c.args.labels.now g.A.Label.RowLabel.number))) c.in_ok-classes.ensures c.requires.labels chosen.0.states (subst S e c.place-root.ensures) c.root.ensures.reached c.root.ensures.text stepped may)
+            g.A.Label.RowLabel.most c.root.result (ap row_places (sym (length-map c.args.labels.now g.A.Label.RowLabel.number))) c.in_ok-classes.ensures c.requires.labels chosen.0.states (fits_rows (length order) width chosen.0.few) (subst S e c.place-root.ensures) c.root.ensures.reached c.root.ensures.text stepped may)
         | inr many ↦ inr many
       ];
       none = λ none. absurd (none-some _ (sym none));
@@ -105,7 +105,7 @@ choose-requires g c = record {
   labels = c.requires.labels;
   count = c.requires.count;
   some = room_least (length c.args.labels.now) 1 (omega (arith, c.requires.few));
-  few = omega (arith, div-mul-le_self 63232 (length c.args.labels.now + 2));
+  few = omega (arith, div-mul-le_self 63232 (row_places (length c.args.labels.now)));
 }
 
 pub overflow_cast-width : goal.overflow_cast-width
@@ -115,4 +115,4 @@ pub overflow_add-width : goal.overflow_add-width
 overflow_add-width g c = omega (arith, c.requires.few)
 
 pub overflow_cast-width-2 : goal.overflow_cast-width-2
-overflow_cast-width-2 g c = omega (arith, div-mul-le_self 63232 (length c.args.labels.now + 2))
+overflow_cast-width-2 g c = omega (arith, div-mul-le_self 63232 (row_places (length c.args.labels.now)))

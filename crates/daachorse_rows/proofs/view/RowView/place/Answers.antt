@@ -1,5 +1,5 @@
--- The table of rows tells the row of each state that has one, and that row begins with the state; any other state stands behind all slots in order.
-use Rattle.std.proofs.Common.{subst, refl, length, ◌+◌, ◌*◌, ◌%◌, ◌^◌}
+-- The table of rows tells the row of each state that has one, and that row begins with the state; any other state stands behind all rows in order.
+use Rattle.std.proofs.Common.{subst, sym, ap, ◌∙◌, ◌+◌, ◌*◌, ◌%◌, ◌^◌}
 use Rattle.std.specs.Prelude.{slice_index}
 use Rattle.daachorse_rows.specs.Rows.{Rowed, StandsFor}
 use Rattle.daachorse_rows.proofs.RowLaws.{place_home, place_past}
@@ -14,5 +14,6 @@ returns-then-self-index g c =
 pub returns : goal.returns
 returns g c =
     let s = c.self.inside in
-    let P : Rowed g.row.A.Denot → Type 0 = λ p. (g.A.Automaton.sees p.automaton).reached c.args.state → StandsFor p.rows ((length s.top.now + c.args.state) % 2 ^ 32) c.args.state in
-    subst P c.self.view_is (λ there. place_past _ c.args.state ((length s.top.now + c.args.state) % 2 ^ 32) refl (c.self.invariant.small c.args.state there))
+    let P : Rowed g.row.A.Denot → Type 0 = λ p. (g.A.Automaton.sees p.automaton).reached c.args.state → StandsFor p.rows ((c.end.result + c.args.state) % 2 ^ 32) c.args.state in
+    let end = c.end.ensures.end ∙ sym (ap (λ (p : Rowed g.row.A.Denot). p.rows.count * p.rows.width) c.self.view_is) in
+    subst P c.self.view_is (λ there. place_past _ c.args.state _ c.self.invariant.size (ap (λ n. (n + c.args.state) % 2 ^ 32) end) (c.self.invariant.small c.args.state there))

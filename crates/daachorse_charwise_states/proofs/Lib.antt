@@ -11,5 +11,6 @@ pub mod WritingLaws
 pub mod WrittenLaws
 pub mod FormLaws
 pub mod BlockLaws
-pub mod CodeListLaws
+pub mod LabelLaws
+pub mod LabelListLaws
 mod StringLaws

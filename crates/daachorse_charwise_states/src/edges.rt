@@ -13,7 +13,7 @@ ghost use Rattle.daachorse_mapper.specs.Codings.{IsCoding};
 ghost use Rattle.daachorse_charwise_states.specs.Edges.{AreCharacters, IsLettered, character_at, character_of, edge_of};
 ghost use Rattle.daachorse_charwise_states.specs.Parts.{base_of, check_of, child, content, count};
 ghost use Rattle.daachorse_charwise_states.specs.Texts.{AreTexts};
-ghost use Rattle.daachorse_charwise_states.specs.Valid.{AreFew};
+ghost use Rattle.daachorse_charwise_states.specs.Valid.{AreFew, has_code};
 ghost use Rattle.daachorse_charwise_states.specs.Views.{parts_of};
 
 use crate::state::State;
@@ -114,6 +114,13 @@ impl<'a, V: Copy, A: Allocator> Elements<'a, V, A> {
         ensures { result ≡ character_of self.now code }
     {
         *self.characters.get(code)?
+    }
+
+    /// Whether a character has a code.
+    pub(crate) fn has_code(&self, character: char) -> bool
+        ensures { result ≡ has_code self.now.parts character }
+    {
+        self.mapper.get(character).is_some()
     }
 
     /// The element whose child an element is, and the character that leads to it; `None` where it is

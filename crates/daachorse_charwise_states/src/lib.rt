@@ -8,6 +8,7 @@
 pub mod edges;
 mod filters;
 mod folded;
+pub mod for_rows;
 mod packing;
 pub mod state;
 mod state_rows;

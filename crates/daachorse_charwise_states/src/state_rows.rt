@@ -3,7 +3,7 @@
 //! The layers above may rely on [`States::rows`] being right for both views of the states, and on the
 //! states near the root having rows.
 
-ghost use Rattle.std.specs.Prelude.{◌≡◌, ◌≤◌, length, IfOk, IfSome, IfErr};
+ghost use Rattle.std.specs.Prelude.{◌≡◌, ◌≤◌, false, length, true, IfOk, IfSome, IfErr};
 ghost use Rattle.daachorse_core.specs.Refusals.{IsOutOfMemory};
 ghost use Rattle.daachorse_model.specs.declared.MatchKind.TheVariants.{Standard};
 ghost use Rattle.daachorse_rows.specs.Rows.{AreLabels, IsListOf};
@@ -11,6 +11,7 @@ ghost use Rattle.daachorse_charwise_states.specs.Parts.{content};
 ghost use Rattle.daachorse_charwise_states.specs.StateRows.{CoversNear, HasFewCodes, HasNoRoom, HasRows, StaysUnlessLarge, IsUsed, stands_for};
 
 use crate::edges::Elements;
+use crate::for_rows::{ASCII, ForRows};
 use crate::states::States;
 use daachorse_core::MatchKind;
 use daachorse_core::errors::Result;
@@ -19,12 +20,13 @@ use daachorse_rows::rows::Rows;
 use std::alloc::Allocator;
 
 impl<V: Copy, A: Allocator + Copy> States<V, A> {
-    /// Rows of the states near the root, with the 510 most frequent characters of the patterns.
+    /// Rows of the states near the root, with the ASCII characters of the patterns and the others that are
+    /// among their 382 most frequent ones.
     ///
-    /// Each state has one whose text has at most two characters, all among these 510, and as many
-    /// others as there is room for. Where those alone are more than there is room for, the answer is
-    /// `None`; 245 rows always fit. Where there are no more states, and no more characters, each has a
-    /// row, and a standard search takes one look for each character.
+    /// Each state has one whose text has at most two characters, all among these, and as many others as
+    /// there is room for. Where those alone are more than there is room for, the answer is `None`; 245 rows
+    /// always fit. Where there are no more states, and no more characters, each has a row, and a standard
+    /// search takes one look for each character.
     ///
     /// They take at most 252,928 bytes of slots, two bytes for each element, and a table of 1,020 bytes.
     ///
@@ -38,34 +40,36 @@ impl<V: Copy, A: Allocator + Copy> States<V, A> {
         ensures none { IfOk result (λ rows. rows ≡ None → HasNoRoom self.now) }
         ensures err { IfErr result IsOutOfMemory }
     {
-        let codes = self.row_codes(alloc)?;
+        let labels = self.row_labels(alloc)?;
         let count = self.num_elements() as u32;
         // A field is read, so that the type's invariant is known here.
         let _num_states = self.num_states;
         match self.kind() {
             MatchKind::Standard => {
-                let view = self.standard();
-                Ok(Rows::new(alloc, &view, codes.as_slice(), count)?)
+                let view = ForRows::new(self.standard());
+                Ok(Rows::new(alloc, &view, labels.as_slice(), count)?)
             }
             MatchKind::LeftmostLongest | MatchKind::LeftmostFirst => {
-                let view = self.leftmost();
-                Ok(Rows::new(alloc, &view, codes.as_slice(), count)?)
+                let view = ForRows::new(self.leftmost());
+                Ok(Rows::new(alloc, &view, labels.as_slice(), count)?)
             }
         }
     }
 
-    /// The codes of characters that stand in rows, in order.
-    fn row_codes(&self, alloc: A) -> Result<Vec<u32, A>>
+    /// The labels of characters that stand in rows, in order.
+    fn row_labels(&self, alloc: A) -> Result<Vec<u32, A>>
         ensures few { IfOk result (λ v. length v.items ≤ 510) }
         ensures all { IfOk result (λ v. AreLabels (content self.now) (stands_for self.now) v.items) }
         ensures err { IfErr result IsOutOfMemory }
     {
+        // A field is read, so that the type's invariant is known here.
+        let _num_states = self.num_states;
         let elements = self.elements(alloc)?;
         list_used(alloc, &elements)
     }
 }
 
-/// The codes that may stand in rows and that some character has, in order.
+/// The labels that may stand in rows and that some character with a code has, in order.
 fn list_used<V: Copy, A: Allocator + Copy>(
     alloc: A,
     elements: &Elements<'_, V, A>,
@@ -73,11 +77,25 @@ fn list_used<V: Copy, A: Allocator + Copy>(
     ensures ok { IfOk result (λ v. IsListOf (IsUsed elements.now) 510 v.items) }
     ensures err { IfErr result IsOutOfMemory }
 {
-    let mut codes = Vec::new(alloc);
-    for code in 0..SLOTTED {
-        if elements.character(code as usize).is_some() {
-            codes.push(code)?;
+    let mut labels = Vec::new(alloc);
+    for label in 0..SLOTTED {
+        if is_used(elements, label) {
+            labels.push(label)?;
         }
     }
-    Ok(codes)
+    Ok(labels)
+}
+
+/// Whether some character with a code has the label.
+fn is_used<V: Copy, A: Allocator>(elements: &Elements<'_, V, A>, label: u32) -> bool
+    ensures yes { result ≡ true → IsUsed elements.now label }
+    ensures no { result ≡ false → IsUsed elements.now label → ⊥ }
+{
+    if label < ASCII {
+        return elements.has_code(char::from(label as u8));
+    }
+    match elements.character((label - ASCII) as usize) {
+        Some(character) => character as u32 >= ASCII,
+        None => false,
+    }
 }

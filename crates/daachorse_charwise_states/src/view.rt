@@ -3,7 +3,8 @@
 //! The layers above may rely on a [`View`] being the automaton of its parts, on `turn` looking at
 //! one element and its child alone and counting one turn, and on no call taking memory.
 
-ghost use Rattle.std.specs.Prelude.{◌≡◌};
+ghost use Rattle.std.specs.Prelude.{◌≡◌, ◌<◌, ℕ, Some};
+ghost use Rattle.daachorse_charwise_states.specs.Parts.{char_code};
 ghost use Rattle.daachorse_charwise_states.specs.Views.{IsFor, parts_of};
 
 use crate::state::State;
@@ -74,6 +75,14 @@ impl<'a, V: Copy, S: Searches> View<'a, V, S> {
             num_states,
             searches: PhantomData,
         }
+    }
+
+    /// Does nothing, and promises that no code is above 2,147,483,647.
+    #[inline(always)]
+    pub(crate) fn codes_fit(&self)
+        ensures { (unit code : ℕ) → char_code self.now.coding unit ≡ Some code → code < 2147483648 }
+    {
+        let _ = &self.states;
     }
 }
 

@@ -29,6 +29,7 @@ use crate::charwise::iter::accelerated::{
     FindSliceIterator, FindStepper, LeftmostFindIterator,
 };
 use crate::charwise::{CharwiseDoubleArrayAhoCorasick, states};
+use daachorse_charwise_states::for_rows::ForRows;
 use daachorse_core::errors::Result;
 use daachorse_folding::leftmost::leftmost_as_read;
 use daachorse_folding::matches::{
@@ -48,11 +49,11 @@ use std::marker::Model;
 
 /// An automaton over characters, which it borrows, and rows of the states near its root.
 ///
-/// A row tells of each of the 510 most frequent characters of the patterns where the whole step
-/// ends, if that is a state with a row, so that a search takes one look for such a character while it
-/// goes from row to row, and follows no link. Elsewhere it looks at the automaton as any search does.
-/// Where no step leads out of the rows, each standard search and stepper takes at most one turn for each
-/// character. What is found is the same.
+/// A row tells of each ASCII character, and of each other that is among the 382 most frequent characters of
+/// the patterns, where the whole step ends, if that is a state with a row, so that a search takes one look
+/// for such a character while it goes from row to row, and follows no link. Elsewhere it looks at the
+/// automaton as any search does. Where no step leads out of the rows, each standard search and stepper takes
+/// at most one turn for each character. What is found is the same.
 ///
 /// [`CharwiseDoubleArrayAhoCorasick::accelerate`] makes it, and tells when to use it and what it
 /// takes.
@@ -81,11 +82,11 @@ impl<'a, V: Copy, A: Allocator> Model for Accelerated<'a, V, A> {
 impl<V: Copy, A: Allocator + Copy> CharwiseDoubleArrayAhoCorasick<V, A> {
     /// Makes rows of the states near the root, for faster searches.
     ///
-    /// Each text of at most two characters that begins a pattern has a row, if both are among the
-    /// 510 most frequent ones, and so have longer ones while there is room. The answer is `None`
-    /// where those alone are more than there is room for: a row has three slots and one for each of
+    /// Each text of at most two characters that begins a pattern has a row, if these are ASCII or among the
+    /// 382 most frequent ones of the patterns, and so have longer ones while there is room. The answer is
+    /// `None` where those alone are more than there is room for: a row has three slots and one for each of
     /// these characters, up to a multiple of four, and there are 126,464 slots, which are at least 245
-    /// rows. Where at most 245 texts begin a pattern, and no more than 510 characters occur, each has a
+    /// rows. Where at most 245 texts begin a pattern, and no more than 382 characters occur, each has a
     /// row, and each standard search and stepper takes at most one turn for each character.
     ///
     /// Use it where much is searched for up to some thousand words of few different characters.
@@ -186,20 +187,20 @@ impl<'a, V: Copy, A: Allocator> Accelerated<'a, V, A> {
 
     /// What the standard searches see of the states and their rows.
     #[inline(always)]
-    fn standard<'s>(&'s self) -> RowView<'s, V, states::Standard<'s, V>>
+    fn standard<'s>(&'s self) -> RowView<'s, V, states::StandardForRows<'s, V>>
         requires { kind_of self.now.automaton ≡ Standard }
         ensures { result ≡ rowed_states self.entry.now }
     {
-        self.rows.view(self.automaton.standard())
+        self.rows.view(ForRows::new(self.automaton.standard()))
     }
 
     /// What the leftmost searches see of the states and their rows.
     #[inline(always)]
-    fn leftmost<'s>(&'s self) -> RowView<'s, V, states::Leftmost<'s, V>>
+    fn leftmost<'s>(&'s self) -> RowView<'s, V, states::LeftmostForRows<'s, V>>
         requires { kind_of self.now.automaton ≢ Standard }
         ensures { result ≡ rowed_states self.entry.now }
     {
-        self.rows.view(self.automaton.leftmost())
+        self.rows.view(ForRows::new(self.automaton.leftmost()))
     }
 
     /// What a search in a text asks: the filter of the automaton, if it has one, behind an open gate, and

@@ -3,7 +3,7 @@
 //!
 //! The layers above may rely on all that the searches of the same names over the automaton promise.
 
-use crate::charwise::states::{Leftmost, Standard};
+use crate::charwise::states::{LeftmostForRows, StandardForRows};
 use daachorse_folding::find_stepper::FindStepperAsRead;
 use daachorse_folding::leftmost::LeftmostMatchesAsRead;
 use daachorse_folding::matches::MatchesAsRead;
@@ -22,7 +22,7 @@ use std::alloc::Global;
 /// An iterator over non-overlapping matches in a text, each of which ends as early as possible.
 pub type FindSliceIterator<'a, V, A = Global> = MatchesAsRead<
     V,
-    FindWalk<V, RowView<'a, V, Standard<'a, V>>>,
+    FindWalk<V, RowView<'a, V, StandardForRows<'a, V>>>,
     Text<'a>,
     Skipping<'a, A, &'a Beginnings<A>>,
 >;
@@ -30,14 +30,14 @@ pub type FindSliceIterator<'a, V, A = Global> = MatchesAsRead<
 /// An iterator over non-overlapping matches in the text whose bytes a source yields.
 pub type FindIterator<'a, P, V> = MatchesFromAsRead<
     V,
-    FindWalk<V, RowView<'a, V, Standard<'a, V>>>,
+    FindWalk<V, RowView<'a, V, StandardForRows<'a, V>>>,
     Decoded<P>,
 >;
 
 /// An iterator over all matches in a text, by rising ends.
 pub type FindOverlappingSliceIterator<'a, V, A = Global> = MatchesAsRead<
     V,
-    OverlappingWalk<V, RowView<'a, V, Standard<'a, V>>>,
+    OverlappingWalk<V, RowView<'a, V, StandardForRows<'a, V>>>,
     Text<'a>,
     Skipping<'a, A, &'a Beginnings<A>>,
 >;
@@ -45,14 +45,14 @@ pub type FindOverlappingSliceIterator<'a, V, A = Global> = MatchesAsRead<
 /// An iterator over all matches in the text whose bytes a source yields.
 pub type FindOverlappingIterator<'a, P, V> = MatchesFromAsRead<
     V,
-    OverlappingWalk<V, RowView<'a, V, Standard<'a, V>>>,
+    OverlappingWalk<V, RowView<'a, V, StandardForRows<'a, V>>>,
     Decoded<P>,
 >;
 
 /// An iterator over the longest match at each end in a text.
 pub type FindOverlappingNoSuffixSliceIterator<'a, V, A = Global> = MatchesAsRead<
     V,
-    NoSuffixWalk<V, RowView<'a, V, Standard<'a, V>>>,
+    NoSuffixWalk<V, RowView<'a, V, StandardForRows<'a, V>>>,
     Text<'a>,
     Skipping<'a, A, &'a Beginnings<A>>,
 >;
@@ -60,28 +60,31 @@ pub type FindOverlappingNoSuffixSliceIterator<'a, V, A = Global> = MatchesAsRead
 /// An iterator over the longest match at each end in the text whose bytes a source yields.
 pub type FindOverlappingNoSuffixIterator<'a, P, V> = MatchesFromAsRead<
     V,
-    NoSuffixWalk<V, RowView<'a, V, Standard<'a, V>>>,
+    NoSuffixWalk<V, RowView<'a, V, StandardForRows<'a, V>>>,
     Decoded<P>,
 >;
 
 /// An iterator over non-overlapping matches in a text, each of which starts as early as possible.
 pub type LeftmostFindIterator<'a, V, A = Global> = LeftmostMatchesAsRead<
     V,
-    RowView<'a, V, Leftmost<'a, V>>,
+    RowView<'a, V, LeftmostForRows<'a, V>>,
     Text<'a>,
     Skipping<'a, A, &'a Beginnings<A>>,
 >;
 
 /// A search for non-overlapping matches that is given one character at a time. It tells no depths.
-pub type FindStepper<'a, V> = FindStepperAsRead<'a, V, RowView<'a, V, Standard<'a, V>>>;
+pub type FindStepper<'a, V> = FindStepperAsRead<'a, V, RowView<'a, V, StandardForRows<'a, V>>>;
 
 /// A search for all matches that is given one character at a time. It tells no depths.
 pub type FindOverlappingStepper<'a, V> = FindOverlappingStepperAsRead<
     'a,
     V,
-    RowView<'a, V, Standard<'a, V>>,
+    RowView<'a, V, StandardForRows<'a, V>>,
 >;
 
 /// An iterator over the matches that end with the characters that a stepper consumed, the longest first.
 /// It keeps its place while the stepper goes on.
-pub type FindOverlappingStepperIterator<'a, V> = EndingHere<V, RowView<'a, V, Standard<'a, V>>>;
+pub type FindOverlappingStepperIterator<'a, V> = EndingHere<
+    V,
+    RowView<'a, V, StandardForRows<'a, V>>,
+>;

@@ -1,0 +1,120 @@
+//! What a search with rows sees of the states.
+//!
+//! The layers above may rely on a [`ForRows`] being the automaton of its parts, with labels by which a
+//! row is looked at: an ASCII character is its own, whether some pattern has it or not, so that its slot
+//! is found with no look at the table of codes, and any other character has one behind these, by its code.
+
+ghost use Rattle.std.specs.Prelude.{◌≡◌};
+
+use crate::view::View;
+use daachorse_core::Output;
+use daachorse_core::turns::{Look, Turns};
+use daachorse_search::automaton::Automaton;
+use daachorse_search::view::{ForLeftmost, ForStandard, Searches};
+use std::marker::Model;
+use std::num::NonZeroU32;
+
+/// How many characters are ASCII.
+pub(crate) const ASCII: u32 = 128;
+
+/// The states as the standard searches with rows see them.
+pub type StandardForRows<'a, V> = ForRows<'a, V, ForStandard>;
+
+/// The states as the leftmost searches with rows see them.
+pub type LeftmostForRows<'a, V> = ForRows<'a, V, ForLeftmost>;
+
+/// The states as the searches `S` with rows see them.
+#[derive(Drop)]
+pub struct ForRows<'a, V: Copy, S: Searches> {
+    view: View<'a, V, S>,
+}
+
+impl<'a, V: Copy, S: Searches> Model for ForRows<'a, V, S> {
+    ghost use Rattle.daachorse_charwise_states.specs.Parts.{Parts};
+
+    ghost Value = { Parts V };
+
+    ghost view = { λ s. s.view };
+}
+
+impl<'a, V: Copy, S: Searches> ForRows<'a, V, S> {
+    /// The automaton of a view.
+    #[inline(always)]
+    pub fn new(view: View<'a, V, S>) -> Self
+        ensures { result ≡ view.entry }
+    {
+        Self { view }
+    }
+}
+
+impl<'a, V: Copy, S: Searches> Automaton<V> for ForRows<'a, V, S> {
+    ghost use Rattle.daachorse_charwise_states.specs.StateRows.{sees_ascii, stands_for};
+    ghost use Rattle.daachorse_charwise_states.specs.Valid.{no_output};
+
+    type Unit = char;
+
+    type Label = u32;
+
+    ghost sees = { sees_ascii };
+
+    ghost labels = { stands_for };
+
+    #[inline(always)]
+    fn root(&self) -> u32 {
+        self.view.root()
+    }
+
+    #[inline(always)]
+    fn is_root(&self, state: u32) -> bool {
+        self.view.is_root(state)
+    }
+
+    #[inline(always)]
+    fn label(&self, unit: char) -> Option<u32> {
+        let code_point = unit as u32;
+        if code_point < ASCII {
+            return Some(code_point);
+        }
+        match self.view.label(unit) {
+            Some(code) => {
+                self.view.codes_fit();
+                Some(ASCII + code)
+            }
+            None => None,
+        }
+    }
+
+    #[inline(always)]
+    fn turn(&self, state: u32, label: u32, turns: &mut Turns) -> Look {
+        if label >= ASCII {
+            return self.view.turn(state, label - ASCII, turns);
+        }
+        match self.view.label(char::from(label as u8)) {
+            Some(code) => self.view.turn(state, code, turns),
+            None => {
+                turns.tick();
+                let root = self.view.root();
+                Look::Next(root, self.view.output_pos(root))
+            }
+        }
+    }
+
+    #[inline(always)]
+    fn output_pos(&self, state: u32) -> Option<NonZeroU32> {
+        self.view.output_pos(state)
+    }
+
+    #[inline(always)]
+    fn output(&self, position: NonZeroU32) -> Output<V> {
+        self.view.output(position)
+    }
+
+    #[inline(always)]
+    fn again(&self) -> Self {
+        Self {
+            view: self.view.again(),
+        }
+    }
+
+    ghost no_output = { no_output };
+}

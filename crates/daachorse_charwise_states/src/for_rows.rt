@@ -75,13 +75,9 @@ impl<'a, V: Copy, S: Searches> Automaton<V> for ForRows<'a, V, S> {
         if code_point < ASCII {
             return Some(code_point);
         }
-        match self.view.label(unit) {
-            Some(code) => {
-                self.view.codes_fit();
-                Some(ASCII + code)
-            }
-            None => None,
-        }
+        let code = self.view.label(unit)?;
+        self.view.codes_fit();
+        Some(ASCII + code)
     }
 
     #[inline(always)]
@@ -89,6 +85,7 @@ impl<'a, V: Copy, S: Searches> Automaton<V> for ForRows<'a, V, S> {
         if label >= ASCII {
             return self.view.turn(state, label - ASCII, turns);
         }
+        // A character that no pattern has leads to the root, as a look there would tell.
         match self.view.label(char::from(label as u8)) {
             Some(code) => self.view.turn(state, code, turns),
             None => {

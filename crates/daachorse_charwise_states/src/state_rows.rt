@@ -1,7 +1,7 @@
 //! Rows of the states near the root.
 //!
-//! The layers above may rely on [`States::rows`] being right for both views of the states, and on the
-//! states near the root having rows.
+//! The layers above may rely on [`States::rows`] being right for the states as searches with rows see them
+//! ([`ForRows`]), of either kind, and on the states near the root having rows.
 
 ghost use Rattle.std.specs.Prelude.{◌≡◌, ◌≤◌, false, length, true, IfOk, IfSome, IfErr};
 ghost use Rattle.daachorse_core.specs.Refusals.{IsOutOfMemory};

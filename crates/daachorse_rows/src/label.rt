@@ -1,4 +1,4 @@
-//! Labels by which rows are looked at: bytes, or the codes of characters.
+//! Labels by which rows are looked at: bytes, or numbers of characters.
 //!
 //! The layers above may rely on a label's number telling it from each other one.
 

@@ -1,5 +1,5 @@
 -- Rows as they are made: one slot after the other, and one state after the other.
-use Rattle.std.proofs.Common.{◌≡◌, ◌≢◌, ℕ, zero, suc, ◌+◌, ◌*◌, ◌/◌, ◌%◌, ◌<◌, ◌≤◌, ◌^◌, ◌⊎◌, inl, inr, List, [], ◌∷◌, ◌++◌, length, refl, sym, ap, ◌∙◌, subst, arith, length-append, map, get_or}
+use Rattle.std.proofs.Common.{◌≡◌, ◌≢◌, ℕ, zero, suc, ◌+◌, ◌*◌, ◌/◌, ◌<◌, ◌≤◌, ◌^◌, inl, inr, List, [], ◌∷◌, ◌++◌, length, refl, sym, ap, ◌∙◌, subst, arith, length-append, map, get_or}
 use Rattle.std.specs.Prelude.{slice_index, slice_set, Option, None}
 use Rattle.std.specs.declared.num.NonZeroU32.{NonZeroU32}
 use Rattle.std.proofs.Math.Seq.{get_or-append_seam}
@@ -258,6 +258,26 @@ module _ {V : Type 0} (unit_width : ℕ → ℕ) (view : AutomatonView V) (stand
             let Q : ℕ → Type 0 = λ l. (unit : ℕ) → stands l unit → Steps view (slice_index order k) unit t in
             record { is_state = there; ends = subst Q named_j ends }
         leads label (inr (is, none)) = absurd (omega (arith, is))
+
+  -- where a look tells a link, the step ends as from there, so that the slot of the link's row serves
+  pub slot_link : (k j l c v : ℕ) → c ≡ 3 + l → Slot j c v → ((unit t : ℕ) → stands (slice_index labels l) unit → Steps view (slice_index order j) unit (t) → Steps view (slice_index order k) unit t) → Slot k c v
+  slot_link k j l c v at slot on =
+      let e : suc (suc (suc l)) ≡ c = omega (arith, at) in
+      let P : ℕ → Type 0 = λ x. Slot k x v in
+      let Q : ℕ → Type 0 = λ x. Slot j x v in
+      subst P e (go (subst Q (sym e) slot))
+    where
+      named : (label : ℕ) → IsSlotOf labels label (suc (suc (suc l))) → (unit : ℕ) → stands label unit → stands (slice_index labels l) unit
+      named label (inl (i, below, here, is)) unit coded =
+          let same : i ≡ l = omega (arith, is) in
+          let P : ℕ → Type 0 = λ n. stands n unit in
+          subst P (sym here ∙ ap (slice_index labels) same) coded
+      named label (inr (is, none)) unit coded = absurd (omega (arith, is))
+
+      go : Slot j (suc (suc (suc l))) v → Slot k (suc (suc (suc l))) v
+      go told_by = λ label byte here.
+          let told = told_by label byte here in
+          (told.0, told.1, record { is_state = told.2.is_state; ends = λ unit coded. on unit told.0 (named label here unit coded) (told.2.ends unit coded) }, told.3)
 
 module _ {V : Type 0} (unit_width : ℕ → ℕ) (view : AutomatonView V) (stands : ℕ → ℕ → Type 0) (labels : List ℕ) (r : RowTable) (order : List ℕ)
     (count_is : r.count ≡ length order) (wide : 0 < r.width) (w : AreWritten unit_width view stands labels order r.width (length order * r.width) (length order) 0 r.top) where

@@ -5,10 +5,10 @@
 //! two steps lead having one, and on no order.
 
 ghost use Rattle.std.specs.Prelude.{◌≡◌, ◌⊎◌, ◌*◌, ◌+◌, ◌/◌, ◌%◌, ◌<◌, ◌≤◌, ◌^◌, ℕ, [], true, false, length, map, slice_index, IfOk, MatchOption, OnOk, None};
-ghost use Rattle.daachorse_rows.specs.Rows.{AreChosen, AreCovered, AreHomes, AreLabels, AreOwn, AreShallow, AreSlots, AreStepped, AreTooMany, AreWritten, EndsInRow, GoesOn, HasEnd, IsEntry, IsShallow, IsSlotOf, Stands, row_places, stands_by};
+ghost use Rattle.daachorse_rows.specs.Rows.{AreChosen, AreCovered, AreHomes, AreLabels, AreOwn, AreShallow, AreSlots, AreStepped, AreTooMany, AreWritten, EndsInRow, GoesOn, HasEnd, IsEntry, IsShallow, IsSlot, IsSlotOf, Stands, row_places, stands_by};
 
 use crate::label::{RowLabel, SLOTTED};
-use daachorse_core::turns::Turns;
+use daachorse_core::turns::{Look, Turns};
 use daachorse_search::automaton::Automaton;
 use daachorse_search::walk::follow;
 use std::alloc::{AllocError, Allocator};
@@ -328,11 +328,46 @@ where
     top.push((state % 65_536) as u16)?;
     top.push((state / 65_536) as u16)?;
     top.push(chosen.entry(base, root, automaton.output_pos(root), width))?;
-    let mut turns = Turns::new();
     for k in 0..labels.len() {
-        let (next, position) = follow(automaton, state, labels[k], &mut turns);
-        top.push(chosen.entry(base, next, position, width))?;
+        let entry = step_entry(automaton, labels, chosen, width, row, k, top.as_slice());
+        top.push(entry)?;
     }
     top.resize(2 * (row + 1) * width as usize, OUTSIDE)?;
     Ok(())
+}
+
+/// What the slot of a listed label holds in a row: where the step from the row's state ends. Where a look
+/// tells a link whose row is written already, that is what this row holds, and no link is followed.
+fn step_entry<V: Copy, A: Automaton<V>, L: Allocator>(
+    automaton: &A,
+    labels: &[A::Label],
+    chosen: &Chosen<L>,
+    width: u32,
+    row: usize,
+    k: usize,
+    top: &[u16],
+) -> u16
+where
+    A::Label: RowLabel,
+    requires labels { AreLabels (A.sees automaton.now).content (stands_by A.Label.number (A.labels automaton.now)) (map A.Label.number labels.now) }
+    requires chosen { AreChosen (A.sees automaton.now) chosen.now.order.items chosen.now.homes.items (63232 / width) }
+    requires width { width ≡ row_places (length labels.now) }
+    requires row { row < length chosen.now.order.items }
+    requires k { k < length labels.now }
+    requires written { AreWritten A.Unit.width (A.sees automaton.now) (stands_by A.Label.number (A.labels automaton.now))
+        (map A.Label.number labels.now) chosen.now.order.items width (length chosen.now.order.items * width) row (3 + k) top.now }
+    ensures { IsSlot A.Unit.width (A.sees automaton.now) (stands_by A.Label.number (A.labels automaton.now))
+        (map A.Label.number labels.now) chosen.now.order.items width (length chosen.now.order.items * width) row (3 + k) result }
+{
+    let base = chosen.order.len() as u32 * width;
+    let state = chosen.order[row];
+    let mut turns = Turns::new();
+    if let Look::Fail(link) = automaton.turn(state, labels[k], &mut turns) {
+        let place = chosen.place(base, link, width);
+        if place < row as u32 * width {
+            return top[2 * place as usize + 3 + k];
+        }
+    }
+    let (next, position) = follow(automaton, state, labels[k], &mut turns);
+    chosen.entry(base, next, position, width)
 }

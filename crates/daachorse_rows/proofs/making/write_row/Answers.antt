@@ -4,8 +4,8 @@ use Rattle.std.specs.Prelude.{slice_index, None}
 use Rattle.std.proofs.Math.Nat.{mul_assoc}
 use Rattle.std.proofs.lemmas.Result.{IfOk-from_err}
 use Rattle.std.proofs.lemmas.List.{get_or_read, length-map}
-use Rattle.daachorse_rows.specs.Rows.{IsEntry, row_places, stands_by}
-use Rattle.daachorse_rows.proofs.MakingLaws.{AreWritten-next, AreWritten-push, ends_read, fits_rows, slot_foreign, slot_step, unit_read}
+use Rattle.daachorse_rows.specs.Rows.{AreWritten, IsEntry, row_places, stands_by}
+use Rattle.daachorse_rows.proofs.MakingLaws.{AreWritten-next, AreWritten-push, fits_rows, slot_foreign}
 use Rattle.daachorse_rows.proofs.RowLaws.{next_row}
 use Rattle.daachorse_rows.proofs.making.write_row.Goals as goal
 
@@ -26,28 +26,24 @@ loop-k-init g c =
     AreWritten-push g.A.Unit.EdgeLabel.width (A.sees a) stands labels order width base c.args.row 2 3 c.entry.result c.push-2.new.self.items c.push-3.new.self.items high c.in_ok-push-3.ensures.items
     (slot_foreign g.A.Unit.EdgeLabel.width (A.sees a) stands labels order width base c.requires.labels c.args.row c.entry.result c.root-root.result c.output_pos.result (subst S e c.entry.ensures) c.output_pos.ensures c.root-root.ensures.reached c.root-root.ensures.text) refl
 
-pub follow-next-requires : goal.follow-next-requires
-follow-next-requires g c = record {
-  reached =
-      let order = c.args.chosen.now.order.items in
-      let P : ℕ → Type 0 = λ s. (g.A.Automaton.sees c.args.automaton.now).reached s in
-      subst P (sym (row_state order c.args.row c.index-state.result.now c.requires.row c.index-state.ensures)) (c.requires.chosen.states c.args.row c.requires.row);
-  unit =
-      let A = g.A.Automaton in let a = c.args.automaton.now in
-      unit_read g.A.Label.RowLabel.number (A.sees a).content g.met.A.Label.RowLabel.exact (A.labels a) c.args.labels.now c.loop-k.k c.index-labels-k.result c.requires.labels c.loop-k-test.true c.index-labels-k.is;
+pub step_entry-entry-requires : goal.step_entry-entry-requires
+step_entry-entry-requires g c = record {
+  labels = c.requires.labels;
+  chosen = c.requires.chosen;
+  width = c.requires.width;
+  row = c.requires.row;
+  k = c.loop-k-test.true;
+  written =
+      let A = g.A.Automaton in let a = c.args.automaton.now in let order = c.args.chosen.now.order.items in
+      let P : List ℕ → Type 0 = λ top. AreWritten g.A.Unit.EdgeLabel.width (A.sees a) (stands_by g.A.Label.RowLabel.number (A.labels a)) (map g.A.Label.RowLabel.number c.args.labels.now) order c.args.width (length order * c.args.width) c.args.row (3 + c.loop-k.k) top in
+      subst P (sym c.as_slice.ensures.value) c.loop-k.invariant;
 }
 
 pub loop-k-preserved : goal.loop-k-preserved
 loop-k-preserved g c =
-    let A = g.A.Automaton in let a = c.args.automaton.now in let order = c.args.chosen.now.order.items in let labels = map g.A.Label.RowLabel.number c.args.labels.now in
-    let width = c.args.width in let base = length order * width in
-    let e : c.len.result ≡ length order = omega (arith, c.len.ensures, c.args.chosen.now.order.ok.0) in
-    let S : ℕ → Type 0 = λ n. IsEntry order width (n * width) c.follow-next.result.0 (c.follow-next.result.1 ≡ None) c.entry-in-loop-k.result in
-    let same = row_state order c.args.row c.index-state.result.now c.requires.row c.index-state.ensures in
-    let label = c.index-labels-k.result in
-    let ends = ends_read g.A.Label.RowLabel.number (A.sees a) g.met.A.Label.RowLabel.exact (A.labels a) c.args.labels.now c.loop-k.k label (slice_index order c.args.row) c.index-state.result.now c.follow-next.result.0 c.loop-k-test.true c.index-labels-k.is same c.follow-next.ensures.ends in
-    AreWritten-push g.A.Unit.EdgeLabel.width (A.sees a) (stands_by g.A.Label.RowLabel.number (A.labels a)) labels order width base c.args.row (3 + c.loop-k.k) (3 + (c.loop-k.k + 1)) c.entry-in-loop-k.result c.loop-k.top.items c.push-in-loop-k.new.self.items c.loop-k.invariant c.in_ok-push-4.ensures.items
-    (slot_step g.A.Unit.EdgeLabel.width (A.sees a) (stands_by g.A.Label.RowLabel.number (A.labels a)) labels order width base c.requires.labels c.args.row (3 + c.loop-k.k) c.loop-k.k c.entry-in-loop-k.result c.follow-next.result.0 c.follow-next.result.1 refl (subst S e c.entry-in-loop-k.ensures) c.follow-next.ensures.output c.follow-next.ensures.reached ends) (omega arith)
+    let A = g.A.Automaton in let a = c.args.automaton.now in let order = c.args.chosen.now.order.items in
+    AreWritten-push g.A.Unit.EdgeLabel.width (A.sees a) (stands_by g.A.Label.RowLabel.number (A.labels a)) (map g.A.Label.RowLabel.number c.args.labels.now) order c.args.width (length order * c.args.width) c.args.row (3 + c.loop-k.k) (3 + (c.loop-k.k + 1))
+    c.step_entry-entry.result c.loop-k.top.items c.push-in-loop-k.new.self.items c.loop-k.invariant c.in_ok-push-4.ensures.items c.step_entry-entry.ensures (omega arith)
 
 pub returns : goal.returns
 returns g c =
@@ -77,21 +73,6 @@ pub returns-in_err-push-3 : goal.returns-in_err-push-3
 returns-in_err-push-3 g c = IfOk-from_err c.from_residual-in_err-push-3.result _ c.from_residual-in_err-push-3.ensures.0
 
 -- the rows of all states end at the base, where each row takes an even number of places
-pub entry-requires-in-loop-k : goal.entry-requires-in-loop-k
-entry-requires-in-loop-k g c =
-    let order = c.args.chosen.now.order.items in
-    let base = ap (λ (n : ℕ). n * c.args.width) (c.len.ensures ∙ c.args.chosen.now.order.ok.0) in
-    let few = fits_rows (length order) c.args.width c.requires.chosen.few in
-    record {
-      homes = c.requires.chosen.homes;
-      own = c.requires.chosen.own;
-      base = base;
-      few = omega (arith, base, few);
-      wide = omega (arith, c.requires.width);
-      even = (_, c.requires.width);
-      fits = omega (arith, few, c.requires.chosen.fits c.follow-next.result.0 c.follow-next.ensures.reached, base);
-    }
-
 pub entry-requires : goal.entry-requires
 entry-requires g c =
     let order = c.args.chosen.now.order.items in

@@ -1,5 +1,5 @@
 -- A slot holds the end of its label's step, so one look at it tells what all looks of the automaton would; elsewhere the automaton looks itself, and its states are told as places.
-use Rattle.std.proofs.Common.{◌≡◌, ℕ, ◌+◌, ◌*◌, ◌-◌, ◌%◌, ◌<◌, List, refl, sym, ap, ◌∙◌, subst, arith}
+use Rattle.std.proofs.Common.{ℕ, ◌-◌, ◌%◌, List, refl, sym, ap, ◌∙◌, subst, arith}
 use Rattle.std.specs.Prelude.{None}
 use Rattle.daachorse_core.specs.Looks.{IsFirstOutput}
 use Rattle.daachorse_core.specs.declared.turns.Look.TheVariants.{Next, Fail}

@@ -23,7 +23,7 @@ HasRowsNear a = CoversNear (states_of a.automaton) a.rows
 abbrev pub IsAllRows : {V : Type 0} → Accelerated V → Type 0
 IsAllRows a = StaysInRows a.rows
 
--- it does, or more than 486 texts begin a pattern, the empty one among them
+-- it does, or more than 485 texts begin a pattern, the empty one among them
 abbrev pub IsAllRowsUnlessLarge : {V : Type 0} → Accelerated V → Type 0
 IsAllRowsUnlessLarge a = StaysUnlessLarge (states_of a.automaton) a.rows
 

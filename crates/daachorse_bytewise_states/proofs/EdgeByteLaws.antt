@@ -87,7 +87,7 @@ module _ {V : Type 0} (p : Parts V) where
                 absurd (cc)
           ]
 
-      by : (label unit : ℕ) → label < 510 → label ≡ unit → (b : Bool) → slice_index_or marks label false ≡ b → IsForeign (content p) unit ⊎ ((k : ℕ) × (k < length bytes) × (slice_index bytes k ≡ label))
+      by : (label unit : ℕ) → label < 638 → label ≡ unit → (b : Bool) → slice_index_or marks label false ≡ b → IsForeign (content p) unit ⊎ ((k : ℕ) × (k < length bytes) × (slice_index bytes k ≡ label))
       by label unit low same true is = elim (le_or_lt 256 label) [
         | inl past ↦
             let clash : true ≡ false = sym is ∙ get_or-eq_default marks false (omega (arith, past, edged.size)) in

@@ -20,10 +20,10 @@ CoversNear p r = Covers (sees p) stands_for 2 r
 abbrev pub StaysInRows : RowTable → Type 0
 StaysInRows r = AreClosed 256 stands_for r
 
--- they do, or more than 486 states have a text
+-- they do, or more than 485 states have a text
 abbrev pub StaysUnlessLarge : {V : Type 0} → Parts V → RowTable → Type 0
-StaysUnlessLarge p r = ClosesOrFills 256 (sees p) stands_for 486 r
+StaysUnlessLarge p r = ClosesOrFills 256 (sees p) stands_for 485 r
 
--- more than 486 states have a text of at most two bytes, or the elements are more than there are places
+-- more than 485 states have a text of at most two bytes, or the elements are more than there are places
 abbrev pub HasNoRoom : {V : Type 0} → Parts V → Type 0
-HasNoRoom p = AreTooMany (sees p) stands_for 2 486 ⊎ (4294901760 < count p)
+HasNoRoom p = AreTooMany (sees p) stands_for 2 485 ⊎ (4294901760 < count p)

@@ -21,10 +21,10 @@ impl<V: Copy, A: Allocator> States<V, A> {
     /// Rows of the states near the root.
     ///
     /// Each state has one whose text has at most two bytes, and as many others as there is room for.
-    /// Where those alone are more than there is room for, the answer is `None`; 486 rows always fit. Where
+    /// Where those alone are more than there is room for, the answer is `None`; 485 rows always fit. Where
     /// there are no more states, each has a row, and a standard search takes one look for each byte.
     ///
-    /// They take at most 252,928 bytes of slots, two bytes for each element, and a table of 1,020 bytes.
+    /// They take at most 252,672 bytes of slots, two bytes for each element, and a table of 1,276 bytes.
     ///
     /// # Errors
     ///

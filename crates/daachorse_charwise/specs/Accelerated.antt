@@ -15,7 +15,7 @@ pub record Accelerated (V : Type 0) : Type 0 where
 abbrev pub rowed_states : {V : Type 0} → Accelerated V → Rowed (Parts V)
 rowed_states a = record { automaton = states_of a.automaton; rows = a.rows }
 
--- each text of at most two characters, which are ASCII or have codes below 382, that begins a pattern is that of a state with a row
+-- each text of at most two characters, which are ASCII or have codes below 510, that begins a pattern is that of a state with a row
 abbrev pub HasRowsNear : {V : Type 0} → Accelerated V → Type 0
 HasRowsNear a = CoversNear (states_of a.automaton) a.rows
 
@@ -23,7 +23,7 @@ HasRowsNear a = CoversNear (states_of a.automaton) a.rows
 abbrev pub IsAllRows : {V : Type 0} → Accelerated V → Type 0
 IsAllRows a = StaysInRows (states_of a.automaton) a.rows
 
--- it does, or more than 245 texts begin a pattern, the empty one among them
+-- it does, or more than 196 texts begin a pattern, the empty one among them
 abbrev pub IsAllRowsUnlessLarge : {V : Type 0} → Accelerated V → Type 0
 IsAllRowsUnlessLarge a = StaysUnlessLarge (states_of a.automaton) a.rows
 

@@ -10,18 +10,18 @@ use Rattle.daachorse_charwise_states.specs.Valid.{IsValid, has_code}
 use Rattle.daachorse_charwise_states.proofs.CharLaws.{foreign_char}
 use Rattle.daachorse_charwise_states.proofs.Codes.{coded_inside}
 
-module _ {V : Type 0} (a : Lettered V) (valid : IsValid a.parts) (lettered : IsLettered a) (labels : List ℕ) (listed : IsListOf (IsUsed a) 510 labels) where
+module _ {V : Type 0} (a : Lettered V) (valid : IsValid a.parts) (lettered : IsLettered a) (labels : List ℕ) (listed : IsListOf (IsUsed a) 638 labels) where
   abbrev Listed : ℕ → Type 0
   Listed label = (k : ℕ) × (k < length labels) × (slice_index labels k ≡ label)
 
   -- an ASCII character is in no key, or has a code
-  ascii_listed : (o : Option ℕ) (label unit : ℕ) → char_code a.parts.coding unit ≡ o → label < 510 → unit < 128 → label ≡ unit → IsForeign (content a.parts) unit ⊎ Listed label
+  ascii_listed : (o : Option ℕ) (label unit : ℕ) → char_code a.parts.coding unit ≡ o → label < 638 → unit < 128 → label ≡ unit → IsForeign (content a.parts) unit ⊎ Listed label
   ascii_listed None label unit none low ascii is = inl (foreign_char a.parts valid unit none).1
   ascii_listed (Some code) label unit some low ascii is =
       let P : ℕ → Type 0 = λ u. (u < 128) × (has_code a.parts u ≡ true) in
       inr (listed.all label low (inl (subst P (sym is) (ascii, ap is_some some))))
 
-  all_listed : (label unit : ℕ) → label < 510 → stands_for a.parts label unit → IsForeign (content a.parts) unit ⊎ Listed label
+  all_listed : (label unit : ℕ) → label < 638 → stands_for a.parts label unit → IsForeign (content a.parts) unit ⊎ Listed label
   all_listed label unit low (inl (ascii, is)) = ascii_listed (char_code a.parts.coding unit) label unit refl low ascii is
   all_listed label unit low (inr (past, code, coded, is)) =
       inr (listed.all label low (inr (unit, code, past, lettered.letters.from_code unit code (coded_inside a.parts.coding unit code coded) coded, is)))
@@ -38,6 +38,6 @@ module _ {V : Type 0} (a : Lettered V) (valid : IsValid a.parts) (lettered : IsL
   }
 
 -- so they are where a list was made at all
-pub labels_of : {V A E : Type 0} (a : Lettered V) (made : Result (Vec ℕ A) E) → IsValid a.parts → IsLettered a → IfOk made (λ v. IsListOf (IsUsed a) 510 v.items) → IfOk made (λ v. AreLabels (content a.parts) (stands_for a.parts) v.items)
+pub labels_of : {V A E : Type 0} (a : Lettered V) (made : Result (Vec ℕ A) E) → IsValid a.parts → IsLettered a → IfOk made (λ v. IsListOf (IsUsed a) 638 v.items) → IfOk made (λ v. AreLabels (content a.parts) (stands_for a.parts) v.items)
 labels_of a (Ok v) valid lettered listed = used_labels a valid lettered v.items listed
 labels_of a (Err e) valid lettered listed = listed

@@ -22,22 +22,22 @@ IsUsed a label = ((label < 128) × (has_code a.parts label ≡ true)) ⊎ ((unit
 abbrev pub HasRows : {V : Type 0} → Parts V → RowTable → Type 0
 HasRows p r = AreRows char_width (sees_ascii p) (stands_by (λ (label : ℕ). label) (stands_for p)) r
 
--- each text of at most two characters, which are ASCII or have codes below 382, that begins a pattern is that of a state with a row
+-- each text of at most two characters, which are ASCII or have codes below 510, that begins a pattern is that of a state with a row
 abbrev pub CoversNear : {V : Type 0} → Parts V → RowTable → Type 0
 CoversNear p r = Covers (sees_ascii p) (stands_by (λ (label : ℕ). label) (stands_for p)) 2 r
 
--- each code is below 382, but for those of ASCII characters
+-- each code is below 510, but for those of ASCII characters
 abbrev pub HasFewCodes : {V : Type 0} → Parts V → Type 0
-HasFewCodes p = (unit code : ℕ) → 128 ≤ unit → char_code p.coding unit ≡ Some code → code < 382
+HasFewCodes p = (unit code : ℕ) → 128 ≤ unit → char_code p.coding unit ≡ Some code → code < 510
 
 -- each label has a slot, the root has a row and no slot leads out of the rows, so that a standard search takes one look for each character
 abbrev pub StaysInRows : {V : Type 0} → Parts V → RowTable → Type 0
 StaysInRows p r = AreClosed (2 ^ 32) (stands_by (λ (label : ℕ). label) (stands_for p)) r
 
--- so it is, or more than 245 states have a text
+-- so it is, or more than 196 states have a text
 abbrev pub StaysUnlessLarge : {V : Type 0} → Parts V → RowTable → Type 0
-StaysUnlessLarge p r = ClosesOrFills (2 ^ 32) (sees_ascii p) (stands_by (λ (label : ℕ). label) (stands_for p)) 245 r
+StaysUnlessLarge p r = ClosesOrFills (2 ^ 32) (sees_ascii p) (stands_by (λ (label : ℕ). label) (stands_for p)) 196 r
 
--- more than 245 states have a text of at most two such characters, or the elements are more than there are places
+-- more than 196 states have a text of at most two such characters, or the elements are more than there are places
 abbrev pub HasNoRoom : {V : Type 0} → Parts V → Type 0
-HasNoRoom p = AreTooMany (sees_ascii p) (stands_by (λ (label : ℕ). label) (stands_for p)) 2 245 ⊎ (4294901760 < count p)
+HasNoRoom p = AreTooMany (sees_ascii p) (stands_by (λ (label : ℕ). label) (stands_for p)) 2 196 ⊎ (4294901760 < count p)

@@ -21,14 +21,14 @@ use std::alloc::Allocator;
 
 impl<V: Copy, A: Allocator + Copy> States<V, A> {
     /// Rows of the states near the root, with the ASCII characters of the patterns and the others that are
-    /// among their 382 most frequent ones.
+    /// among their 510 most frequent ones.
     ///
     /// Each state has one whose text has at most two characters, all among these, and as many others as
-    /// there is room for. Where those alone are more than there is room for, the answer is `None`; 245 rows
+    /// there is room for. Where those alone are more than there is room for, the answer is `None`; 196 rows
     /// always fit. Where there are no more states, and no more characters, each has a row, and a standard
     /// search takes one look for each character.
     ///
-    /// They take at most 252,928 bytes of slots, two bytes for each element, and a table of 1,020 bytes.
+    /// They take at most 252,672 bytes of slots, two bytes for each element, and a table of 1,276 bytes.
     ///
     /// # Errors
     ///
@@ -58,7 +58,7 @@ impl<V: Copy, A: Allocator + Copy> States<V, A> {
 
     /// The labels of characters that stand in rows, in order.
     fn row_labels(&self, alloc: A) -> Result<Vec<u32, A>>
-        ensures few { IfOk result (λ v. length v.items ≤ 510) }
+        ensures few { IfOk result (λ v. length v.items ≤ 638) }
         ensures all { IfOk result (λ v. AreLabels (content self.now) (stands_for self.now) v.items) }
         ensures err { IfErr result IsOutOfMemory }
     {
@@ -74,7 +74,7 @@ fn list_used<V: Copy, A: Allocator + Copy>(
     alloc: A,
     elements: &Elements<'_, V, A>,
 ) -> Result<Vec<u32, A>>
-    ensures ok { IfOk result (λ v. IsListOf (IsUsed elements.now) 510 v.items) }
+    ensures ok { IfOk result (λ v. IsListOf (IsUsed elements.now) 638 v.items) }
     ensures err { IfErr result IsOutOfMemory }
 {
     let mut labels = Vec::new(alloc);

@@ -1,5 +1,5 @@
 -- Rows as they are made: one slot after the other, and one state after the other.
-use Rattle.std.proofs.Common.{◌≡◌, ◌≢◌, ℕ, zero, suc, ◌+◌, ◌*◌, ◌/◌, ◌<◌, ◌≤◌, ◌^◌, inl, inr, List, [], ◌∷◌, ◌++◌, length, refl, sym, ap, ◌∙◌, subst, arith, length-append, map, get_or}
+use Rattle.std.proofs.Common.{◌≡◌, ◌≢◌, ℕ, zero, suc, ◌+◌, ◌*◌, ◌/◌, ◌<◌, ◌≤◌, ◌^◌, ◌⊎◌, inl, inr, List, [], ◌∷◌, ◌++◌, length, refl, sym, ap, ◌∙◌, subst, arith, length-append, map, get_or}
 use Rattle.std.specs.Prelude.{slice_index, slice_set, Option, None}
 use Rattle.std.specs.declared.num.NonZeroU32.{NonZeroU32}
 use Rattle.std.proofs.Math.Seq.{get_or-append_seam}
@@ -11,8 +11,9 @@ use Rattle.daachorse_core.specs.Looks.{IsForeign}
 use Rattle.daachorse_model.specs.Dictionary.{Dictionary}
 use Rattle.daachorse_model.proofs.Steps.{IsLong-same}
 use Rattle.daachorse_model.proofs.Lists.{below_or_at}
-use Rattle.daachorse_search.specs.Views.{AutomatonView, HasFirst, Steps}
-use Rattle.daachorse_search.proofs.LookLaws.{StepEnds-long}
+use Rattle.daachorse_core.specs.declared.turns.Look.TheVariants.{Fail}
+use Rattle.daachorse_search.specs.Views.{AutomatonView, HasFirst, SeesLook, Steps}
+use Rattle.daachorse_search.proofs.LookLaws.{StepEnds-link, StepEnds-long}
 use Rattle.daachorse_rows.specs.Rows.{state_at, RowTable, IsSlotEntry, StandsFor, IsSlotOf, AreSlots, StepLeads, AreLabels, AreRows, Stands, AreChosen, AreClosed, AreCovered, AreStepped, Covers, IsEntry, IsSlot, AreWritten, MayClose, TellsStep, row_places, stands_by}
 use Rattle.daachorse_rows.proofs.RowLaws.{place_behind, row_below, state_at-slot}
 
@@ -47,6 +48,14 @@ module _ {L : Type 0} (number : L → ℕ) where
   ends_read view exact stands labels k label s state t less is same ends unit coded =
       let P : ℕ → Type 0 = λ x. Steps view x unit t in
       subst P same (ends unit (stands_own exact stands label (slice_index (map number labels) k) unit (number_read labels k label less is) coded))
+
+  -- where a look by it tells a link, the step ends as from there
+  pub link_read : {V : Type 0} (view : AutomatonView V) (exact : (a b : L) → number a ≡ number b → a ≡ b) (stands : L → ℕ → Type 0) (labels : List L) (k : ℕ) (label : L) (s state link : ℕ) → k < length labels
+      → label ≡ get_or labels k label → state ≡ s → ((unit : ℕ) → stands label unit → SeesLook view state unit (Fail link)) → (unit t : ℕ) → stands_by number stands (slice_index (map number labels) k) unit → Steps view link unit t → Steps view s unit t
+  link_read view exact stands labels k label s state link less is same looks unit t coded ends =
+      let look = looks unit (stands_own exact stands label (slice_index (map number labels) k) unit (number_read labels k label less is) coded) in
+      let P : ℕ → Type 0 = λ x. Steps view x unit t in
+      subst P same (StepEnds-link view _ _ (view.text t) unit look.1 look.2 look.3 ends)
 
 -- ---- the slots of labels
 
@@ -95,8 +104,8 @@ even_place k width half is = (k * half, ap (λ n. k * n) is ∙ sym (mul_assoc k
 
 -- ---- the states of the rows
 
-pub fits_rows : (n w : ℕ) → n ≤ 63232 / w → n * w ≤ 63232
-fits_rows n w few = omega (arith, mul-le n w (63232 / w) w few (omega arith), div-mul-le_self 63232 w)
+pub fits_rows : (n w : ℕ) → n ≤ 63168 / w → n * w ≤ 63168
+fits_rows n w few = omega (arith, mul-le n w (63168 / w) w few (omega arith), div-mul-le_self 63168 w)
 
 -- a state has a row where its place is before the end of the rows, and its slot holds that place
 pub IsEntry-outside : (order : List ℕ) (width base x s : ℕ) (quiet : Type 0) → Stands order width base x s → base ≡ length order * width → 0 < width → base ≤ x → IsEntry order width base s quiet 65535
@@ -169,7 +178,7 @@ module _ {V : Type 0} (view : AutomatonView V) (order homes : List ℕ) (most : 
         taken : (k : ℕ) → k < length order → slice_index order k ≢ s
         taken k below same = omega (arith, none, ap (slice_index homes) same, (h.own k below).1, below, less, room)
 
-    pub AreChosen-small : (width s : ℕ) → length order * width ≤ 63232 → view.reached s → length order * width + s < 2 ^ 32
+    pub AreChosen-small : (width s : ℕ) → length order * width ≤ 63168 → view.reached s → length order * width + s < 2 ^ 32
     AreChosen-small width s few there = omega (arith, h.fits s there, few)
 
 -- ---- the slots of the rows
@@ -235,7 +244,7 @@ module _ {V : Type 0} (unit_width : ℕ → ℕ) (view : AutomatonView V) (stand
       inr (IsSlotEntry-map base (λ x. Stands order width base x s) (λ x. Stands order width base x s) (o ≡ None) (HasFirst unit_width view s None) v entry (λ x there. there) (λ none. subst P none at))
 
   module _ (named : AreLabels view.content stands labels) where
-    foreign : (label unit : ℕ) → label < 510 → stands label unit → ((k : ℕ) → k < length labels → slice_index labels k ≢ label) → IsForeign view.content unit
+    foreign : (label unit : ℕ) → label < 638 → stands label unit → ((k : ℕ) → k < length labels → slice_index labels k ≢ label) → IsForeign view.content unit
     foreign label unit byte coded none = elim (named.all label unit byte coded) [ inl f ↦ f | inr at ↦ absurd (none at.0 at.1 at.2) ]
 
     -- the labels that are not listed lead to the root
@@ -311,7 +320,7 @@ module _ {V : Type 0} (unit_width : ℕ → ℕ) (view : AutomatonView V) (stand
   end_is : length order * r.width ≡ r.count * r.width
   end_is = ap (λ n. n * r.width) (sym count_is)
 
-  pub AreRows-made : (s : ℕ) → r.width ≡ row_places (length labels) → AreSlots labels 510 r.classes → AreChosen view order r.homes (63232 / r.width)
+  pub AreRows-made : (s : ℕ) → r.width ≡ row_places (length labels) → AreSlots labels 638 r.classes → AreChosen view order r.homes (63168 / r.width)
       → Stands order r.width (length order * r.width) r.root s → view.reached s → view.text s ≡ []
       → AreRows unit_width view stands r
   AreRows-made s is slots chosen place there empty = record {
@@ -320,15 +329,16 @@ module _ {V : Type 0} (unit_width : ℕ → ℕ) (view : AutomatonView V) (stand
     wide = wide;
     classes_size = slots.size;
     inside = λ label less. slot_fits labels label (slice_index r.classes label) r.width is (slots.right label less);
-    right = λ k label more less some. right k label (omega (arith, more, count_is)) less some (slot_some labels label (slice_index r.classes label) (slots.right label less));
+    right = λ k label more less. right k label (omega (arith, more, count_is)) less (slot_some labels label (slice_index r.classes label) (slots.right label less));
     homes = λ t within some. let home = chosen.homes t within some in (omega (arith, home.0, count_is), at_start (slice_index r.homes t) home.0 ∙ home.1);
-    small = λ t here. omega (arith, end_is, AreChosen-small view order r.homes (63232 / r.width) chosen r.width t (fits_rows (length order) r.width chosen.few) here);
+    small = λ t here. omega (arith, end_is, AreChosen-small view order r.homes (63168 / r.width) chosen r.width t (fits_rows (length order) r.width chosen.few) here);
     root_state = (s, stands_for r.root s place, there, empty);
   }
     where
-      right : (k label : ℕ) → k < length order → label < 510 → slice_index r.top (2 * (k * r.width) + slice_index r.classes label) ≢ 65535 → (c : ℕ) × (slice_index r.classes label ≡ suc (suc c))
-          → (t : ℕ) × IsSlotEntry (r.count * r.width) (λ x. StandsFor r x t) (HasFirst unit_width view t None) (slice_index r.top (2 * (k * r.width) + slice_index r.classes label)) × StepLeads view stands (state_at r.top (k * r.width)) label t
-      right k label more less some (c, at) = (told.0, entry told.1, subst R (sym (at_start k more)) told.2)
+      right : (k label : ℕ) → k < length order → label < 638 → (c : ℕ) × (slice_index r.classes label ≡ suc (suc c)) → (t : ℕ) × StepLeads view stands (state_at r.top (k * r.width)) label t
+          × (((slice_index r.top (2 * (k * r.width) + slice_index r.classes label) ≡ 65535) × ((j : ℕ) → j < r.count → state_at r.top (j * r.width) ≢ t))
+          ⊎ IsSlotEntry (r.count * r.width) (λ x. StandsFor r x t) (HasFirst unit_width view t None) (slice_index r.top (2 * (k * r.width) + slice_index r.classes label)))
+      right k label more less (c, at) = (told.0, subst R (sym (at_start k more)) told.2, entry told.1)
         where
           told : TellsStep unit_width view stands labels order r.width (length order * r.width) k (slice_index r.classes label) (slice_index r.top (2 * (k * r.width) + slice_index r.classes label)) label
           told =
@@ -341,11 +351,12 @@ module _ {V : Type 0} (unit_width : ℕ → ℕ) (view : AutomatonView V) (stand
           R x = StepLeads view stands x label told.0
 
           entry : IsEntry order r.width (length order * r.width) told.0 (HasFirst unit_width view told.0 None) (slice_index r.top (2 * (k * r.width) + slice_index r.classes label))
-              → IsSlotEntry (r.count * r.width) (λ x. StandsFor r x told.0) (HasFirst unit_width view told.0 None) (slice_index r.top (2 * (k * r.width) + slice_index r.classes label))
-          entry (inl outside) = absurd (some outside.0)
+              → ((slice_index r.top (2 * (k * r.width) + slice_index r.classes label) ≡ 65535) × ((j : ℕ) → j < r.count → state_at r.top (j * r.width) ≢ told.0))
+              ⊎ IsSlotEntry (r.count * r.width) (λ x. StandsFor r x told.0) (HasFirst unit_width view told.0 None) (slice_index r.top (2 * (k * r.width) + slice_index r.classes label))
+          entry (inl outside) = inl (outside.0, λ j below same. let row : j < length order = omega (arith, below, count_is) in outside.1 j row (sym (at_start j row) ∙ same))
           entry (inr holds) =
               let E : ℕ → Type 0 = λ n. IsSlotEntry n (λ x. StandsFor r x told.0) (HasFirst unit_width view told.0 None) (slice_index r.top (2 * (k * r.width) + slice_index r.classes label)) in
-              subst E end_is (IsSlotEntry-map (length order * r.width) (λ y. Stands order r.width (length order * r.width) y told.0) (λ y. StandsFor r y told.0) (HasFirst unit_width view told.0 None) (HasFirst unit_width view told.0 None) _ holds (λ y there'. stands_for y told.0 there') (λ q. q))
+              inr (subst E end_is (IsSlotEntry-map (length order * r.width) (λ y. Stands order r.width (length order * r.width) y told.0) (λ y. StandsFor r y told.0) (HasFirst unit_width view told.0 None) (HasFirst unit_width view told.0 None) _ holds (λ y there'. stands_for y told.0 there') (λ q. q)))
 
   -- a state with a row is told by it
   row_place : (x t : ℕ) → Stands order r.width (length order * r.width) x t → (k : ℕ) × (k < length order) × (slice_index order k ≡ t) → x < r.count * r.width
@@ -353,7 +364,7 @@ module _ {V : Type 0} (unit_width : ℕ → ℕ) (view : AutomatonView V) (stand
   row_place x t (inr (is, none)) row = absurd (none row.0 row.1 row.2)
 
   -- where each step from a row ends in a row, the rows are closed
-  pub AreClosed-made : (most s : ℕ) → r.width ≡ row_places (length labels) → AreSlots labels 510 r.classes → AreLabels view.content stands labels → ((k : ℕ) → k < length order → view.reached (slice_index order k)) → length order * r.width ≤ 63232
+  pub AreClosed-made : (most s : ℕ) → r.width ≡ row_places (length labels) → AreSlots labels 638 r.classes → AreLabels view.content stands labels → ((k : ℕ) → k < length order → view.reached (slice_index order k)) → length order * r.width ≤ 63168
       → Stands order r.width (length order * r.width) r.root s → view.reached s → view.text s ≡ [] → AreStepped view stands labels (length order) order → MayClose most view stands → AreClosed most stands r
   AreClosed-made most s is slots named states few place there empty stepped may = record {
     slots = may.slots;
@@ -364,7 +375,7 @@ module _ {V : Type 0} (unit_width : ℕ → ℕ) (view : AutomatonView V) (stand
       row_of_root : (t : ℕ) → view.reached t → view.text t ≡ [] → (k : ℕ) × (k < length order) × (slice_index order k ≡ t)
       row_of_root t here none = (0, stepped.root.0, may.single (slice_index order 0) t (states 0 stepped.root.0) here (stepped.root.1 ∙ sym none))
 
-      stays : (k label : ℕ) → k < length order → label < 510 → (c : ℕ) × (slice_index r.classes label ≡ suc (suc c)) → slice_index r.top (2 * (k * r.width) + slice_index r.classes label) ≢ 65535
+      stays : (k label : ℕ) → k < length order → label < 638 → (c : ℕ) × (slice_index r.classes label ≡ suc (suc c)) → slice_index r.top (2 * (k * r.width) + slice_index r.classes label) ≢ 65535
       stays k label more less (c, at) =
           let P : ℕ → Type 0 = λ x. slice_index r.top (2 * (k * r.width) + x) ≢ 65535 in
           subst P (sym at) (in_row told.1 (row_of slot))

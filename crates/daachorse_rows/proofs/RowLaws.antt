@@ -58,7 +58,7 @@ module _ {V : Type 0} (unit_width : ℕ → ℕ) (view : AutomatonView V) (stand
       record { place = inl (slice_index r.homes s, home.0, refl); state = home.1 }
 
   -- a slot of a row
-  pub slot_inside : (x label : ℕ) → IsPlace r x → x < r.count * r.width → label < 510 → 2 * x + slice_index r.classes label < length r.top
+  pub slot_inside : (x label : ℕ) → IsPlace r x → x < r.count * r.width → label < 638 → 2 * x + slice_index r.classes label < length r.top
   slot_inside x label (inr behind) within byte = absurd (omega arith)
   slot_inside x label (inl (k, less, is)) within byte = omega (arith, row_below k r.count r.width (slice_index r.classes label) less (h.inside label byte), h.size, is)
 
@@ -68,16 +68,16 @@ module _ {V : Type 0} (unit_width : ℕ → ℕ) (view : AutomatonView V) (stand
     pub tells : IsSlotEntry (r.count * r.width) (λ y. StandsFor r y state) (HasFirst unit_width view state None) entry
     pub leads : StepLeads view stands (state_at r.top x) label state
 
-  pub row_step : (x label : ℕ) → IsPlace r x → x < r.count * r.width → label < 510 → slice_index r.top (2 * x + slice_index r.classes label) ≢ 65535 → IsRowStep x label (slice_index r.top (2 * x + slice_index r.classes label))
+  pub row_step : (x label : ℕ) → IsPlace r x → x < r.count * r.width → label < 638 → slice_index r.top (2 * x + slice_index r.classes label) ≢ 65535 → IsRowStep x label (slice_index r.top (2 * x + slice_index r.classes label))
   row_step x label (inr behind) within byte some = absurd (omega arith)
   row_step x label (inl (k, less, is)) within byte some =
       let class = slice_index r.classes label in
       let same : slice_index r.top (2 * (k * r.width) + class) ≡ slice_index r.top (2 * x + class) = ap (λ n. slice_index r.top (2 * n + class)) (sym is) in
-      let row = h.right k label less byte (λ none. some (sym same ∙ none)) in
+      let row = h.right k label less byte in
       let P : ℕ → Type 0 = λ e. IsSlotEntry (r.count * r.width) (λ y. StandsFor r y row.0) (HasFirst unit_width view row.0 None) e in
       let here : state_at r.top (k * r.width) ≡ state_at r.top x = ap (state_at r.top) (sym is) in
       let Q : ℕ → Type 0 = λ s. StepLeads view stands s label row.0 in
-      record { state = row.0; tells = subst P same row.1; leads = subst Q here row.2 }
+      record { state = row.0; tells = elim row.2 [ inl outside ↦ absurd (some (sym same ∙ outside.0)) | inr told ↦ subst P same told ]; leads = subst Q here row.1 }
 
   -- an even entry is the place of a state with no output
   quiet_entry : (x label entry : ℕ) (step : IsRowStep x label entry) → entry % 2 ≡ 0 → StandsFor r entry step.state × HasFirst unit_width view step.state None × (entry < r.count * r.width)
@@ -99,7 +99,7 @@ module _ {V : Type 0} (unit_width : ℕ → ℕ) (view : AutomatonView V) (stand
           (subst P same step.tells.stands_for, omega (arith, is, step.tells.inside))
 
   -- a look at the row x by a label, where the slot tells the end of the step
-  module _ (x label : ℕ) (place : IsPlace r x) (within : x < r.count * r.width) (byte : label < 510) (some : slice_index r.top (2 * x + slice_index r.classes label) ≢ 65535) where
+  module _ (x label : ℕ) (place : IsPlace r x) (within : x < r.count * r.width) (byte : label < 638) (some : slice_index r.top (2 * x + slice_index r.classes label) ≢ 65535) where
     abbrev entry : ℕ
     entry = slice_index r.top (2 * x + slice_index r.classes label)
 
@@ -130,7 +130,7 @@ module _ {V : Type 0} (unit_width : ℕ → ℕ) (view : AutomatonView V) (stand
     look_loud odd = let loud = loud_entry x label entry step odd in look_step (entry - 1) loud.0 loud.1
 
   -- where the rows are closed, no slot of a row leads out of them
-  pub never_outside : (x label : ℕ) → IsPlace r x → x < r.count * r.width → label < 510 → AreClosed most stands r → slice_index r.top (2 * x + slice_index r.classes label) ≢ 65535
+  pub never_outside : (x label : ℕ) → IsPlace r x → x < r.count * r.width → label < 638 → AreClosed most stands r → slice_index r.top (2 * x + slice_index r.classes label) ≢ 65535
   never_outside x label (inr behind) within byte closed = absurd (omega arith)
   never_outside x label (inl (k, less, is)) within byte closed = λ none. closed.stays k label less byte (ap (λ n. slice_index r.top (2 * n + slice_index r.classes label)) (sym is) ∙ none)
 

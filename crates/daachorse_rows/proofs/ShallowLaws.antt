@@ -10,7 +10,7 @@ use Rattle.daachorse_model.specs.Prefixes.{IsPrefix, IsSuffix}
 use Rattle.daachorse_model.proofs.Steps.{IsPrefix-less}
 use Rattle.daachorse_model.proofs.Lists.{below_or_at, ends_in}
 use Rattle.daachorse_search.specs.Views.{AutomatonView, Steps}
-use Rattle.daachorse_rows.specs.Rows.{AreChosen, AreCovered, AreLabels, AreShallow, AreStepped, AreTooMany, EndsInRow, GoesOn, HasEnd, HasSlot, IsShallow, row_places}
+use Rattle.daachorse_rows.specs.Rows.{AreChosen, AreCovered, AreLabels, AreShallow, AreStepped, AreTooMany, EndsInRow, GoesOn, HasSlot, IsShallow, row_places}
 use Rattle.daachorse_rows.proofs.MakingLaws.{read-new, read-old}
 
 All-behind : {X : Type 0} (P : X → Type 0) (front back : List X) → All P (front ++ back) → All P back
@@ -105,10 +105,13 @@ pub state_shallow : {V : Type 0} (view : AutomatonView V) (stands : ℕ → ℕ 
 state_shallow view stands n old new k on below shallow = let P : ℕ → Type 0 = λ s. IsShallow stands n (view.text s) in subst P (sym (on.same k below)) (shallow k below)
 
 module _ {V : Type 0} (view : AutomatonView V) (stands : ℕ → ℕ → Type 0) where
+  -- where a step ends in a row and goes on, that row's state has the text that goes on
+  ended_on : (s label unit : ℕ) (order : List ℕ) → EndsInRow view stands s label order → stands label unit → IsPrefix view.content (view.text s ++ unit ∷ []) → (k : ℕ) × (k < length order) × (view.text (slice_index order k) ≡ view.text s ++ unit ∷ [])
+  ended_on s label unit order (k, below, ends) coded begins = (k, below, StepEnds-on view.content view.dead (view.text s) (view.text (slice_index order k)) unit (ends unit coded) begins)
+
   -- with the ends of all steps the rows cover the texts with one unit more
-  pub AreCovered-next : (n : ℕ) (old new : List ℕ) → GoesOn old new → ((k : ℕ) → k < length old → (label : ℕ) → label < 510 → HasEnd view stands (slice_index old k) label new) → AreCovered view stands n old
-      → AreCovered view stands (n + 1) new
-  AreCovered-next n old new on ends covered w begins shallow = by (ends_in w)
+  pub AreCovered-next : (labels : List ℕ) → AreLabels view.content stands labels → (n : ℕ) (old new : List ℕ) → GoesOn old new → AreStepped view stands labels (length old) new → AreCovered view stands n old → AreCovered view stands (n + 1) new
+  AreCovered-next labels named n old new on stepped covered w begins shallow = by (ends_in w)
     where
       by : (w ≡ []) ⊎ ((v : List ℕ) × (u : ℕ) × (w ≡ v ++ u ∷ [])) → (k : ℕ) × (k < length new) × (view.text (slice_index new k) ≡ w)
       by (inl none) = row_on view.text old new on w (covered w begins (IsShallow-none stands n w none))
@@ -118,14 +121,19 @@ module _ {V : Type 0} (view : AutomatonView V) (stands : ℕ → ℕ → Type 0)
           let last = IsShallow-last stands n v u (subst Q is shallow) in
           let at = covered v (IsPrefix-less view.content v (u ∷ []) (subst P is begins)) last.0 in
           let R : List ℕ → Type 0 = λ l. IsPrefix view.content (l ++ u ∷ []) in
-          let end = ends at.0 at.1 last.1.0 last.1.1 u last.1.2 (subst R (sym at.2) (subst P is begins)) in
-          (end.0, end.1, end.2 ∙ (ap (λ l. l ++ u ∷ []) at.2 ∙ sym is))
+          let row : view.text (slice_index new at.0) ≡ v = ap view.text (on.same at.0 at.1) ∙ at.2 in
+          let onward = subst R (sym row) (subst P is begins) in
+          -- the labels that are not listed lead nowhere
+          elim (named.all last.1.0 u last.1.1 last.1.2) [
+            | inl foreign ↦ absurd (foreign (view.text (slice_index new at.0)) onward)
+            | inr listed ↦
+                let S : ℕ → Type 0 = λ l. stands l u in
+                let end = ended_on (slice_index new at.0) (slice_index labels listed.0) u new (stepped.ends at.0 listed.0 at.1 listed.1) (subst S (sym listed.2) last.1.2) onward in
+                (end.0, end.1, end.2 ∙ (ap (λ l. l ++ u ∷ []) row ∙ sym is))
+          ]
 
   pub AreCovered-on : (n : ℕ) (old new : List ℕ) → GoesOn old new → AreCovered view stands n old → AreCovered view stands n new
   AreCovered-on n old new on covered w begins shallow = row_on view.text old new on w (covered w begins shallow)
-
-  pub HasEnd-on : (s label : ℕ) (old new : List ℕ) → GoesOn old new → HasEnd view stands s label old → HasEnd view stands s label new
-  HasEnd-on s label old new on ends unit coded begins = row_on view.text old new on (view.text s ++ unit ∷ []) (ends unit coded begins)
 
   pub EndsInRow-on : (s label : ℕ) (old new : List ℕ) → GoesOn old new → EndsInRow view stands s label old → EndsInRow view stands s label new
   EndsInRow-on s label old new on (k, below, ends) =
@@ -145,33 +153,31 @@ module _ {V : Type 0} (view : AutomatonView V) (stands : ℕ → ℕ → Type 0)
     pub AreStepped-fewer : (n m : ℕ) (order : List ℕ) → n ≤ m → AreStepped view stands labels m order → AreStepped view stands labels n order
     AreStepped-fewer n m order fewer h = record { root = h.root; ends = λ k j below. h.ends k j (omega (arith, below, fewer)) }
 
+    -- the ends of the steps stay where they are
+    pub AreStepped-on : (n : ℕ) (old new : List ℕ) → GoesOn old new → n ≤ length old → AreStepped view stands labels n old → AreStepped view stands labels n new
+    AreStepped-on n old new on inside h = record {
+      root = (omega (arith, h.root.0, on.more), ap view.text (on.same 0 h.root.0) ∙ h.root.1);
+      ends = λ k j below low.
+          let P : ℕ → Type 0 = λ x. EndsInRow view stands x (slice_index labels j) new in
+          subst P (sym (on.same k (omega (arith, below, inside)))) (EndsInRow-on (slice_index old k) (slice_index labels j) old new on (h.ends k j below low));
+    }
+
     -- the ends of the steps from one row more
     pub AreStepped-more : (n : ℕ) (old new : List ℕ) → GoesOn old new → n < length old → AreStepped view stands labels n old → ((j : ℕ) → j < length labels → EndsInRow view stands (slice_index old n) (slice_index labels j) new)
         → AreStepped view stands labels (n + 1) new
     AreStepped-more n old new on inside h here = record {
-      root = (omega (arith, h.root.0, on.more), ap view.text (on.same 0 h.root.0) ∙ h.root.1);
+      root = (AreStepped-on n old new on (omega (arith, inside)) h).root;
       ends = λ k j below low.
           let P : ℕ → Type 0 = λ x. EndsInRow view stands x (slice_index labels j) new in
           elim (below_or_at k n below) [
-            | inl before ↦ subst P (sym (on.same k (omega (arith, before, inside)))) (EndsInRow-on (slice_index old k) (slice_index labels j) old new on (h.ends k j before low))
+            | inl before ↦ (AreStepped-on n old new on (omega (arith, inside)) h).ends k j before low
             | inr same ↦ let Q : ℕ → Type 0 = λ i. P (slice_index new i) in subst Q (sym same) (subst P (sym (on.same n inside)) (here j low))
           ];
     }
 
-  -- the labels that are not listed lead nowhere
-  pub HasEnd-all : (labels : List ℕ) → AreLabels view.content stands labels → (s : ℕ) (order : List ℕ) → ((k : ℕ) → k < length labels → HasEnd view stands s (slice_index labels k) order) → (label : ℕ) → label < 510 → HasEnd view stands s label order
-  HasEnd-all labels named s order ends label low unit coded begins = elim (named.all label unit low coded) [
-    | inl foreign ↦ absurd (foreign (view.text s) begins)
-    | inr at ↦ let P : ℕ → Type 0 = λ l. HasEnd view stands s l order in subst P at.2 (ends at.0 at.1) unit coded begins
-  ]
-
   module _ (s label t : ℕ) (ends : (unit : ℕ) → stands label unit → Steps view s unit t) where
-    -- the state at which the step ends has a row
-    pub HasEnd-row : (order : List ℕ) → (k : ℕ) × (k < length order) × (slice_index order k ≡ t) → HasEnd view stands s label order
-    HasEnd-row order (k, below, is) unit coded begins = (k, below, ap view.text is ∙ StepEnds-on view.content view.dead (view.text s) (view.text t) unit (ends unit coded) begins)
-
     -- its text has at most one unit more
-    pub end_shallow : (n : ℕ) → label < 510 → (unit : ℕ) × stands label unit → IsShallow stands n (view.text s) → IsShallow stands (n + 1) (view.text t)
+    pub end_shallow : (n : ℕ) → label < 638 → (unit : ℕ) × stands label unit → IsShallow stands n (view.text s) → IsShallow stands (n + 1) (view.text t)
     end_shallow n low some shallow = StepEnds-shallow stands view.content view.dead n (view.text s) (view.text t) some.0 (ends some.0 some.1) shallow (label, low, some.1)
 
 -- ---- there is no room
@@ -208,5 +214,5 @@ AreTooMany-weaker view stands n m room least less fewer h = record {
 }
 
 -- so many rows fit in any case
-pub room_least : (labels least : ℕ) → least * row_places labels ≤ 63232 → least ≤ 63232 / row_places labels
+pub room_least : (labels least : ℕ) → least * row_places labels ≤ 63168 → least ≤ 63168 / row_places labels
 room_least labels least fits = (le-div_iff_mul-le (omega arith)).1 fits

@@ -57,9 +57,9 @@ pub record SharesText {V : Type 0} (view : AutomatonView V) (r : RowTable) (x s 
 
 -- each label below `most` has a slot, the root has a row, and no slot leads out of the rows
 pub record AreClosed (most : ℕ) (stands : ℕ → ℕ → Type 0) (r : RowTable) : Type 0 where
-  pub slots : (label unit : ℕ) → label < most → stands label unit → label < 510
+  pub slots : (label unit : ℕ) → label < most → stands label unit → label < 638
   pub root : r.root < r.count * r.width
-  pub stays : (k label : ℕ) → k < r.count → label < 510 → slice_index r.top (2 * (k * r.width) + slice_index r.classes label) ≢ 65535
+  pub stays : (k label : ℕ) → k < r.count → label < 638 → slice_index r.top (2 * (k * r.width) + slice_index r.classes label) ≢ 65535
 
 -- what a search sees over rows: places stand for the states, and where the rows are closed, each look ends its step
 abbrev pub over_rows : {V : Type 0} → ℕ → AutomatonView V → (ℕ → ℕ → Type 0) → RowTable → AutomatonView V
@@ -94,17 +94,17 @@ pub record IsListOf (holds : ℕ → Type 0) (n : ℕ) (listed : List ℕ) : Typ
   pub all : (x : ℕ) → x < n → holds x → (k : ℕ) × (k < length listed) × (slice_index listed k ≡ x)
   pub only : (k : ℕ) → k < length listed → (slice_index listed k < n) × holds (slice_index listed k)
 
--- the labels below 510 that some key has are listed, none from 510 on, and none that stands for nothing
+-- the labels below 638 that some key has are listed, none from 638 on, and none that stands for nothing
 pub record AreLabels {V : Type 0} (K : Dictionary V) (stands : ℕ → ℕ → Type 0) (labels : List ℕ) : Type 0 where
-  pub all : (label unit : ℕ) → label < 510 → stands label unit → IsForeign K unit ⊎ ((k : ℕ) × (k < length labels) × (slice_index labels k ≡ label))
-  pub below : (k : ℕ) → k < length labels → slice_index labels k < 510
+  pub all : (label unit : ℕ) → label < 638 → stands label unit → IsForeign K unit ⊎ ((k : ℕ) × (k < length labels) × (slice_index labels k ≡ label))
+  pub below : (k : ℕ) → k < length labels → slice_index labels k < 638
   pub none_idle : (k : ℕ) → k < length labels → (unit : ℕ) × stands (slice_index labels k) unit
 
 -- ---- the states near the root, which all have rows
 
--- some label below 510 stands for the unit
+-- some label below 638 stands for the unit
 abbrev pub HasSlot : (ℕ → ℕ → Type 0) → ℕ → Type 0
-HasSlot stands unit = (label : ℕ) × (label < 510) × stands label unit
+HasSlot stands unit = (label : ℕ) × (label < 638) × stands label unit
 
 -- at most n units, each with a slot
 pub record IsShallow (stands : ℕ → ℕ → Type 0) (n : ℕ) (w : List ℕ) : Type 0 where
@@ -126,7 +126,7 @@ Covers view stands n r = (w : List ℕ) → IsPrefix view.content w → IsShallo
 pub record MayClose {V : Type 0} (most : ℕ) (view : AutomatonView V) (stands : ℕ → ℕ → Type 0) : Type 0 where
   pub alive : IsStandard view
   pub single : (s t : ℕ) → view.reached s → view.reached t → view.text s ≡ view.text t → s ≡ t
-  pub slots : (label unit : ℕ) → label < most → stands label unit → label < 510
+  pub slots : (label unit : ℕ) → label < most → stands label unit → label < 638
 
 -- the rows are closed, or the texts of more than `room` different states have units with a slot alone
 abbrev pub ClosesOrFills : {V : Type 0} → ℕ → AutomatonView V → (ℕ → ℕ → Type 0) → ℕ → RowTable → Type 0
@@ -142,13 +142,14 @@ module _ {V : Type 0} (unit_width : ℕ → ℕ) (view : AutomatonView V) (stand
   -- the rows are right
   pub record AreRows (r : RowTable) : Type 0 where
     pub size : length r.top ≡ 2 * (r.count * r.width)
-    pub few : r.count * r.width ≤ 63232
+    pub few : r.count * r.width ≤ 63168
     pub wide : 0 < r.width
-    pub classes_size : length r.classes ≡ 510
-    pub inside : (label : ℕ) → label < 510 → slice_index r.classes label < 2 * r.width
-    -- a slot that holds 65,535 tells nothing
-    pub right : (k label : ℕ) → k < r.count → label < 510 → slice_index r.top (2 * (k * r.width) + slice_index r.classes label) ≢ 65535
-        → (t : ℕ) × IsSlotEntry (r.count * r.width) (λ x. StandsFor r x t) (HasFirst unit_width view t None) (slice_index r.top (2 * (k * r.width) + slice_index r.classes label)) × StepLeads view stands (state_at r.top (k * r.width)) label t
+    pub classes_size : length r.classes ≡ 638
+    pub inside : (label : ℕ) → label < 638 → slice_index r.classes label < 2 * r.width
+    -- a slot tells where the step ends, but for 65,535, where that is a state with no row
+    pub right : (k label : ℕ) → k < r.count → label < 638 → (t : ℕ) × StepLeads view stands (state_at r.top (k * r.width)) label t
+        × (((slice_index r.top (2 * (k * r.width) + slice_index r.classes label) ≡ 65535) × ((j : ℕ) → j < r.count → state_at r.top (j * r.width) ≢ t))
+        ⊎ IsSlotEntry (r.count * r.width) (λ x. StandsFor r x t) (HasFirst unit_width view t None) (slice_index r.top (2 * (k * r.width) + slice_index r.classes label)))
     -- in the table of the states' rows 65,535 stands for none
     pub homes : (s : ℕ) → s < length r.homes → slice_index r.homes s ≢ 65535 → (slice_index r.homes s < r.count) × (state_at r.top (slice_index r.homes s * r.width) ≡ s)
     pub small : (s : ℕ) → view.reached s → r.count * r.width + s < 2 ^ 32
@@ -187,10 +188,6 @@ module _ {V : Type 0} (view : AutomatonView V) (stands : ℕ → ℕ → Type 0)
   abbrev pub AreShallow : ℕ → List ℕ → Type 0
   AreShallow n order = (k : ℕ) → k < length order → IsShallow stands n (view.text (slice_index order k))
 
-  -- the state that the label leads to from the state s has a row, where that text begins a key
-  abbrev pub HasEnd : ℕ → ℕ → List ℕ → Type 0
-  HasEnd s label order = (unit : ℕ) → stands label unit → IsPrefix view.content (view.text s ++ unit ∷ []) → (k : ℕ) × (k < length order) × (view.text (slice_index order k) ≡ view.text s ++ unit ∷ [])
-
   -- the step by the label from the state s ends at the text of a row's state
   abbrev pub EndsInRow : ℕ → ℕ → List ℕ → Type 0
   EndsInRow s label order = (k : ℕ) × (k < length order) × ((unit : ℕ) → stands label unit → Steps view s unit (slice_index order k))
@@ -218,7 +215,7 @@ module _ {V : Type 0} (unit_width : ℕ → ℕ) (view : AutomatonView V) (stand
   abbrev pub IsSlot : ℕ → ℕ → ℕ → Type 0
   IsSlot k zero v = v ≡ slice_index order k % 65536
   IsSlot k (suc zero) v = v ≡ slice_index order k / 65536
-  IsSlot k (suc (suc c)) v = (label : ℕ) → label < 510 → IsSlotOf labels label (suc (suc c)) → TellsStep k (suc (suc c)) v label
+  IsSlot k (suc (suc c)) v = (label : ℕ) → label < 638 → IsSlotOf labels label (suc (suc c)) → TellsStep k (suc (suc c)) v label
 
   -- k rows were written, and c slots of the next
   pub record AreWritten (k c : ℕ) (top : List ℕ) : Type 0 where

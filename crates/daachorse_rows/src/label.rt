@@ -4,8 +4,8 @@
 
 ghost use Rattle.std.specs.Prelude.{◌≡◌, ◌<◌, ◌^◌, ℕ};
 
-/// Labels with a number below it have a slot in each row, so that there is room for 245 rows.
-pub const SLOTTED: u32 = 510;
+/// Labels with a number below it have a slot in each row, so that there is room for 196 rows.
+pub const SLOTTED: u32 = 638;
 
 /// A label by which rows are looked at.
 pub trait RowLabel: Copy + Drop {

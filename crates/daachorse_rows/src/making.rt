@@ -5,7 +5,7 @@
 //! two steps lead having one, and on no order.
 
 ghost use Rattle.std.specs.Prelude.{◌≡◌, ◌⊎◌, ◌*◌, ◌+◌, ◌/◌, ◌%◌, ◌<◌, ◌≤◌, ◌^◌, ℕ, [], true, false, length, map, slice_index, IfOk, MatchOption, OnOk, None};
-ghost use Rattle.daachorse_rows.specs.Rows.{AreChosen, AreCovered, AreHomes, AreLabels, AreOwn, AreShallow, AreSlots, AreStepped, AreTooMany, AreWritten, EndsInRow, GoesOn, HasEnd, IsEntry, IsShallow, IsSlot, IsSlotOf, Stands, row_places, stands_by};
+ghost use Rattle.daachorse_rows.specs.Rows.{AreChosen, AreCovered, AreHomes, AreLabels, AreOwn, AreShallow, AreSlots, AreStepped, AreTooMany, AreWritten, EndsInRow, GoesOn, IsEntry, IsShallow, IsSlot, IsSlotOf, Stands, StepLeads, row_places, stands_by};
 
 use crate::label::{RowLabel, SLOTTED};
 use daachorse_core::turns::{Look, Turns};
@@ -16,7 +16,7 @@ use std::num::NonZeroU32;
 
 /// The most places in rows, of two slots each. With the slots of the labels and a table of what patterns
 /// begin with these take 256 KiB.
-pub(crate) const PLACES: u32 = 63_232;
+pub(crate) const PLACES: u32 = 63_168;
 
 /// In the table of the states' rows: the state has none.
 pub(crate) const NO_ROW: u16 = 65_535;
@@ -29,7 +29,7 @@ const MOST_STATES: u32 = 4_294_901_760;
 
 /// The slot of the label of a number: behind the state first that of the labels that are not listed.
 fn slot_of<T: RowLabel>(labels: &[T], number: usize) -> u16
-    requires { length labels.now ≤ 510 }
+    requires { length labels.now ≤ 638 }
     ensures { IsSlotOf (map T.number labels.now) number result }
 {
     for k in 0..labels.len() {
@@ -45,8 +45,8 @@ pub(crate) fn slots_of<T: RowLabel, L: Allocator>(
     alloc: L,
     labels: &[T],
 ) -> Result<Vec<u16, L>, AllocError>
-    requires { length labels.now ≤ 510 }
-    ensures { IfOk result (λ v. AreSlots (map T.number labels.now) 510 v.items) }
+    requires { length labels.now ≤ 638 }
+    ensures { IfOk result (λ v. AreSlots (map T.number labels.now) 638 v.items) }
 {
     let mut slots = Vec::with_capacity(alloc, SLOTTED as usize)?;
     for number in 0..SLOTTED as usize {
@@ -69,7 +69,7 @@ impl<L: Allocator> Chosen<L> {
     pub(crate) fn place(&self, base: u32, state: u32, width: u32) -> u32
         requires homes { AreHomes self.now.order.items self.now.homes.items }
         requires own { AreOwn self.now.order.items self.now.homes.items }
-        requires few { length self.now.order.items * width ≤ 63232 }
+        requires few { length self.now.order.items * width ≤ 63168 }
         requires fits { base + state < 2 ^ 32 }
         ensures { Stands self.now.order.items width base result state }
     {
@@ -86,7 +86,7 @@ impl<L: Allocator> Chosen<L> {
         requires homes { AreHomes self.now.order.items self.now.homes.items }
         requires own { AreOwn self.now.order.items self.now.homes.items }
         requires base { base ≡ length self.now.order.items * width }
-        requires few { base ≤ 63232 }
+        requires few { base ≤ 63168 }
         requires wide { 0 < width }
         requires even { (half : ℕ) × (width ≡ half * 2) }
         requires fits { base + state < 2 ^ 32 }
@@ -180,11 +180,11 @@ where
     requires chosen { AreChosen (A.sees automaton.now) chosen.old.order.items chosen.old.homes.items most }
     requires count { (s : ℕ) → (A.sees automaton.now).reached s → s < length chosen.old.homes.items }
     requires few { most < 65535 }
+    requires root { (0 < length chosen.old.order.items) × ((A.sees automaton.now).text (slice_index chosen.old.order.items 0) ≡ []) }
     ensures chosen { OnOk result (AreChosen (A.sees automaton.now) chosen.new.order.items chosen.new.homes.items most) }
     ensures same { OnOk result (length chosen.new.homes.items ≡ length chosen.old.homes.items) }
     ensures on { OnOk result (GoesOn chosen.old.order.items chosen.new.order.items) }
-    ensures stepped { IfOk result (λ all. all ≡ true → (0 < length chosen.old.order.items) × ((A.sees automaton.now).text (slice_index chosen.old.order.items 0) ≡ [])
-        → AreStepped (A.sees automaton.now) (stands_by A.Label.number (A.labels automaton.now)) (map A.Label.number labels.now) (length chosen.old.order.items) chosen.new.order.items) }
+    ensures stepped { IfOk result (λ all. all ≡ true → AreStepped (A.sees automaton.now) (stands_by A.Label.number (A.labels automaton.now)) (map A.Label.number labels.now) (length chosen.old.order.items) chosen.new.order.items) }
     ensures shallow { OnOk result ((n : ℕ) → AreShallow (A.sees automaton.now) (stands_by A.Label.number (A.labels automaton.now)) n chosen.old.order.items
         → AreShallow (A.sees automaton.now) (stands_by A.Label.number (A.labels automaton.now)) (n + 1) chosen.new.order.items) }
     ensures all { IfOk result (λ all. all ≡ true → (n : ℕ) → AreCovered (A.sees automaton.now) (stands_by A.Label.number (A.labels automaton.now)) n chosen.old.order.items
@@ -215,10 +215,11 @@ where
     requires chosen { AreChosen (A.sees automaton.now) chosen.old.order.items chosen.old.homes.items most }
     requires count { (s : ℕ) → (A.sees automaton.now).reached s → s < length chosen.old.homes.items }
     requires few { most < 65535 }
+    requires from { from ≤ length chosen.old.order.items }
+    requires stepped { AreStepped (A.sees automaton.now) (stands_by A.Label.number (A.labels automaton.now)) (map A.Label.number labels.now) from chosen.old.order.items }
     ensures chosen { OnOk result (AreChosen (A.sees automaton.now) chosen.new.order.items chosen.new.homes.items most) }
     ensures on { OnOk result (GoesOn chosen.old.order.items chosen.new.order.items) }
     ensures stepped { OnOk result ((n : ℕ) → AreShallow (A.sees automaton.now) (stands_by A.Label.number (A.labels automaton.now)) n chosen.old.order.items
-        → AreStepped (A.sees automaton.now) (stands_by A.Label.number (A.labels automaton.now)) (map A.Label.number labels.now) from chosen.old.order.items
         → AreStepped (A.sees automaton.now) (stands_by A.Label.number (A.labels automaton.now)) (map A.Label.number labels.now) (length chosen.new.order.items) chosen.new.order.items
         ⊎ ((m : ℕ) × AreTooMany (A.sees automaton.now) (stands_by A.Label.number (A.labels automaton.now)) m most)) }
 {
@@ -233,7 +234,7 @@ where
 }
 
 /// Gives rows to the states at which the steps from the state of the row `at` end, while there is
-/// room. It tells whether there is room for all.
+/// room. It tells whether there is room for all. The rows before have the ends of their steps.
 fn choose_ends<V: Copy, A: Automaton<V>, L: Allocator>(
     automaton: &A,
     labels: &[A::Label],
@@ -248,25 +249,21 @@ where
     requires count { (s : ℕ) → (A.sees automaton.now).reached s → s < length chosen.old.homes.items }
     requires at { at < length chosen.old.order.items }
     requires few { most < 65535 }
+    requires stepped { AreStepped (A.sees automaton.now) (stands_by A.Label.number (A.labels automaton.now)) (map A.Label.number labels.now) at chosen.old.order.items }
     ensures chosen { OnOk result (AreChosen (A.sees automaton.now) chosen.new.order.items chosen.new.homes.items most) }
     ensures same { OnOk result (length chosen.new.homes.items ≡ length chosen.old.homes.items) }
     ensures on { OnOk result (GoesOn chosen.old.order.items chosen.new.order.items) }
     ensures shallow { OnOk result ((n : ℕ) → IsShallow (stands_by A.Label.number (A.labels automaton.now)) n ((A.sees automaton.now).text (slice_index chosen.old.order.items at))
         → AreShallow (A.sees automaton.now) (stands_by A.Label.number (A.labels automaton.now)) (n + 1) chosen.old.order.items
         → AreShallow (A.sees automaton.now) (stands_by A.Label.number (A.labels automaton.now)) (n + 1) chosen.new.order.items) }
-    ensures all { IfOk result (λ all. all ≡ true → (label : ℕ) → label < 510
-        → HasEnd (A.sees automaton.now) (stands_by A.Label.number (A.labels automaton.now)) (slice_index chosen.old.order.items at) label chosen.new.order.items) }
     ensures ends { IfOk result (λ all. all ≡ true → (j : ℕ) → j < length labels.now
         → EndsInRow (A.sees automaton.now) (stands_by A.Label.number (A.labels automaton.now)) (slice_index chosen.old.order.items at) (slice_index (map A.Label.number labels.now) j) chosen.new.order.items) }
     ensures full { IfOk result (λ all. all ≡ false → (n : ℕ) → IsShallow (stands_by A.Label.number (A.labels automaton.now)) n ((A.sees automaton.now).text (slice_index chosen.old.order.items at))
         → AreShallow (A.sees automaton.now) (stands_by A.Label.number (A.labels automaton.now)) (n + 1) chosen.old.order.items
         → AreTooMany (A.sees automaton.now) (stands_by A.Label.number (A.labels automaton.now)) (n + 1) most) }
 {
-    let state = chosen.order[at];
-    let mut turns = Turns::new();
     for k in 0..labels.len() {
-        let (next, _) = follow(automaton, state, labels[k], &mut turns);
-        if chosen.homes[next as usize] == NO_ROW {
+        if let Some(next) = end_outside(automaton, labels, chosen, at, k) {
             if chosen.order.len() == most {
                 return Ok(false);
             }
@@ -275,6 +272,42 @@ where
         }
     }
     Ok(true)
+}
+
+/// The state at which the step by a listed label from the state of the row `at` ends, if it has no row.
+/// Where a look tells a link with one of the rows before, the step ends as from there, which is in a row.
+fn end_outside<V: Copy, A: Automaton<V>, L: Allocator>(
+    automaton: &A,
+    labels: &[A::Label],
+    chosen: &Chosen<L>,
+    at: usize,
+    k: usize,
+) -> Option<u32>
+where
+    A::Label: RowLabel,
+    requires labels { AreLabels (A.sees automaton.now).content (stands_by A.Label.number (A.labels automaton.now)) (map A.Label.number labels.now) }
+    requires chosen { (most : ℕ) × AreChosen (A.sees automaton.now) chosen.now.order.items chosen.now.homes.items most }
+    requires count { (s : ℕ) → (A.sees automaton.now).reached s → s < length chosen.now.homes.items }
+    requires at { at < length chosen.now.order.items }
+    requires k { k < length labels.now }
+    requires stepped { AreStepped (A.sees automaton.now) (stands_by A.Label.number (A.labels automaton.now)) (map A.Label.number labels.now) at chosen.now.order.items }
+    ensures { MatchOption result
+        (EndsInRow (A.sees automaton.now) (stands_by A.Label.number (A.labels automaton.now)) (slice_index chosen.now.order.items at) (slice_index (map A.Label.number labels.now) k) chosen.now.order.items)
+        (λ next. StepLeads (A.sees automaton.now) (stands_by A.Label.number (A.labels automaton.now)) (slice_index chosen.now.order.items at) (slice_index (map A.Label.number labels.now) k) next
+        × (slice_index chosen.now.homes.items next ≡ 65535)) }
+{
+    let state = chosen.order[at];
+    let mut turns = Turns::new();
+    if let Look::Fail(link) = automaton.turn(state, labels[k], &mut turns) {
+        if (chosen.homes[link as usize] as usize) < at {
+            return None;
+        }
+    }
+    let (next, _) = follow(automaton, state, labels[k], &mut turns);
+    if chosen.homes[next as usize] == NO_ROW {
+        return Some(next);
+    }
+    None
 }
 
 /// The slots of the rows.
@@ -288,7 +321,7 @@ pub(crate) fn write<V: Copy, A: Automaton<V>, L: Allocator + Copy>(
 where
     A::Label: RowLabel,
     requires labels { AreLabels (A.sees automaton.now).content (stands_by A.Label.number (A.labels automaton.now)) (map A.Label.number labels.now) }
-    requires chosen { AreChosen (A.sees automaton.now) chosen.now.order.items chosen.now.homes.items (63232 / width) }
+    requires chosen { AreChosen (A.sees automaton.now) chosen.now.order.items chosen.now.homes.items (63168 / width) }
     requires width { width ≡ row_places (length labels.now) }
     ensures { IfOk result (λ top. AreWritten A.Unit.width (A.sees automaton.now) (stands_by A.Label.number (A.labels automaton.now))
         (map A.Label.number labels.now) chosen.now.order.items width (length chosen.now.order.items * width) (length chosen.now.order.items) 0 top.items) }
@@ -314,7 +347,7 @@ fn write_row<V: Copy, A: Automaton<V>, L: Allocator>(
 where
     A::Label: RowLabel,
     requires labels { AreLabels (A.sees automaton.now).content (stands_by A.Label.number (A.labels automaton.now)) (map A.Label.number labels.now) }
-    requires chosen { AreChosen (A.sees automaton.now) chosen.now.order.items chosen.now.homes.items (63232 / width) }
+    requires chosen { AreChosen (A.sees automaton.now) chosen.now.order.items chosen.now.homes.items (63168 / width) }
     requires width { width ≡ row_places (length labels.now) }
     requires row { row < length chosen.now.order.items }
     requires written { AreWritten A.Unit.width (A.sees automaton.now) (stands_by A.Label.number (A.labels automaton.now))
@@ -350,7 +383,7 @@ fn step_entry<V: Copy, A: Automaton<V>, L: Allocator>(
 where
     A::Label: RowLabel,
     requires labels { AreLabels (A.sees automaton.now).content (stands_by A.Label.number (A.labels automaton.now)) (map A.Label.number labels.now) }
-    requires chosen { AreChosen (A.sees automaton.now) chosen.now.order.items chosen.now.homes.items (63232 / width) }
+    requires chosen { AreChosen (A.sees automaton.now) chosen.now.order.items chosen.now.homes.items (63168 / width) }
     requires width { width ≡ row_places (length labels.now) }
     requires row { row < length chosen.now.order.items }
     requires k { k < length labels.now }

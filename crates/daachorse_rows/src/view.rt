@@ -125,7 +125,7 @@ where
     fn slot(&self, place: usize, number: usize) -> u32
         requires place { IsPlace self.now.rows place }
         requires inside { place < self.now.rows.count * self.now.rows.width }
-        requires label { number < 510 }
+        requires label { number < 638 }
         ensures { result ≡ slice_index self.now.rows.top (2 * place + slice_index self.now.rows.classes number) }
     {
         let column = &self.top[self.classes[number] as usize..];

@@ -8,7 +8,7 @@ use std::alloc::Global;
 use std::test::Fail;
 
 /// Whether there is room for rows of 255 patterns of one byte each, and of so many of two of these
-/// bytes. A row has 260 slots, so that there are 486 rows.
+/// bytes. A row has 260 slots, so that there are 485 rows.
 fn has_room(alloc: Global, pairs: usize) -> Result<bool> {
     let mut bytes = Vec::new(alloc);
     for byte in 0..255u8 {
@@ -27,8 +27,8 @@ fn has_room(alloc: Global, pairs: usize) -> Result<bool> {
 
 #[test]
 fn rows_are_refused_past_their_room(rt: HostRuntime) -> Result<(), Fail> {
-    expect(&rt, has_room(rt.alloc(), 230)?, "486 states");
-    expect(&rt, !has_room(rt.alloc(), 231)?, "487 states");
+    expect(&rt, has_room(rt.alloc(), 229)?, "485 states");
+    expect(&rt, !has_room(rt.alloc(), 230)?, "486 states");
     Ok(())
 }
 

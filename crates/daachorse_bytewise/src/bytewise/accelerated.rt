@@ -86,7 +86,7 @@ impl<V: Copy, A: Allocator + Copy> DoubleArrayAhoCorasick<V, A> {
     /// Each text of at most two bytes that begins a pattern has a row, and so have longer ones
     /// while there is room. The answer is `None` where those alone are more than there is room for:
     /// a row has three slots and one for each byte that occurs in patterns, up to a multiple of four,
-    /// and there are 126,464 slots, which are at least 486 rows. Where at most 486 texts begin a pattern,
+    /// and there are 126,336 slots, which are at least 485 rows. Where at most 485 texts begin a pattern,
     /// each has a row, and each standard search and stepper takes at most one turn for each byte.
     ///
     /// Use it where much is searched for up to some thousand words, and for a leftmost search up to
@@ -96,7 +96,7 @@ impl<V: Copy, A: Allocator + Copy> DoubleArrayAhoCorasick<V, A> {
     ///
     /// Of the patterns `ab` and `b` in the haystack `ab` the search
     /// [`Accelerated::find_overlapping_iter`] finds `ab` from 0 to 2 and `b` from 1 to 2. Of 255
-    /// patterns of one byte each and 231 of two of these bytes there are no rows
+    /// patterns of one byte each and 230 of two of these bytes there are no rows
     /// (`daachorse_tests` runs both).
     ///
     /// Where the automaton has a filter, at least 8,192 states and no pattern of less than four bytes, a

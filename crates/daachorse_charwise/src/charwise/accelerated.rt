@@ -49,7 +49,7 @@ use std::marker::Model;
 
 /// An automaton over characters, which it borrows, and rows of the states near its root.
 ///
-/// A row tells of each ASCII character, and of each other that is among the 382 most frequent characters of
+/// A row tells of each ASCII character, and of each other that is among the 510 most frequent characters of
 /// the patterns, where the whole step ends, if that is a state with a row, so that a search takes one look
 /// for such a character while it goes from row to row, and follows no link. Elsewhere it looks at the
 /// automaton as any search does. Where no step leads out of the rows, each standard search and stepper takes
@@ -83,10 +83,10 @@ impl<V: Copy, A: Allocator + Copy> CharwiseDoubleArrayAhoCorasick<V, A> {
     /// Makes rows of the states near the root, for faster searches.
     ///
     /// Each text of at most two characters that begins a pattern has a row, if these are ASCII or among the
-    /// 382 most frequent ones of the patterns, and so have longer ones while there is room. The answer is
+    /// 510 most frequent ones of the patterns, and so have longer ones while there is room. The answer is
     /// `None` where those alone are more than there is room for: a row has three slots and one for each of
-    /// these characters, up to a multiple of four, and there are 126,464 slots, which are at least 245
-    /// rows. Where at most 245 texts begin a pattern, and no more than 382 characters occur, each has a
+    /// these characters, up to a multiple of four, and there are 126,336 slots, which are at least 196
+    /// rows. Where at most 196 texts begin a pattern, and no more than 510 characters occur, each has a
     /// row, and each standard search and stepper takes at most one turn for each character.
     ///
     /// Use it where much is searched for up to some thousand words of few different characters.

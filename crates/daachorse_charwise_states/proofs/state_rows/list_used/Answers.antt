@@ -23,5 +23,5 @@ loop-label-preserved g c =
 pub returns-clause-ok : goal.returns-clause-ok
 returns-clause-ok g c =
     let P : ℕ → Type 0 = λ n. IsListOf (IsUsed c.args.elements.now) n c.loop-label.labels.items in
-    let all : c.loop-label.label ≡ 510 = omega (arith, c.loop-label.auto.label-end, c.loop-label-test.false) in
+    let all : c.loop-label.label ≡ 638 = omega (arith, c.loop-label.auto.label-end, c.loop-label-test.false) in
     subst P all c.loop-label.invariant

@@ -18,14 +18,11 @@ returns g c =
     let A = g.A.Automaton in let a = c.args.automaton.now in
     let one = c.in_ok-choose_next.ensures.all (c.if-not-branch.false) 0 c.in_ok-chosen.ensures.covered in
     let two = c.in_ok-choose_next-2.ensures.all (c.if-not-branch-2.false) 1 one in
-    let stands = stands_by g.A.Label.RowLabel.number (A.labels a) in let labels = map g.A.Label.RowLabel.number c.args.labels.now in
-    let first = c.in_ok-choose_next.ensures.stepped (c.if-not-branch.false) c.in_ok-chosen.ensures.root in
-    let next = c.in_ok-choose_next-2.ensures.stepped (c.if-not-branch-2.false) first.root in
-    let shallow = c.in_ok-choose_next-2.ensures.shallow 1 (c.in_ok-choose_next.ensures.shallow 0 c.in_ok-chosen.ensures.shallow) in
-    let near = AreStepped-fewer (A.sees a) stands labels c.len-near.result _ _ (omega (arith, c.len-near.ensures, c.choose_next.new.chosen.order.ok.0)) next in (
+    let stands = stands_by g.A.Label.RowLabel.number (A.labels a) in
+    let shallow = c.in_ok-choose_next-2.ensures.shallow 1 (c.in_ok-choose_next.ensures.shallow 0 c.in_ok-chosen.ensures.shallow) in (
       c.in_ok-choose_rest.ensures.chosen,
       AreCovered-on (A.sees a) stands 2 _ _ c.in_ok-choose_rest.ensures.on two,
-      c.in_ok-choose_rest.ensures.stepped 2 shallow near,
+      c.in_ok-choose_rest.ensures.stepped 2 shallow,
     )
 
 pub choose_root-requires-clause-count : goal.choose_root-requires-clause-count
@@ -43,6 +40,7 @@ choose_next-requires g c = record {
   chosen = c.in_ok-chosen.ensures.chosen;
   count = λ s there. omega (arith, c.requires.count s there, c.in_ok-chosen.ensures.size);
   few = c.requires.few;
+  root = c.in_ok-chosen.ensures.root;
 }
 
 pub returns-in_err-choose_next : goal.returns-in_err-choose_next
@@ -54,6 +52,7 @@ choose_next-requires-2 g c = record {
   chosen = c.in_ok-choose_next.ensures.chosen;
   count = λ s there. omega (arith, c.requires.count s there, c.in_ok-chosen.ensures.size, c.in_ok-choose_next.ensures.same);
   few = c.requires.few;
+  root = (c.in_ok-choose_next.ensures.stepped (c.if-not-branch.false)).root;
 }
 
 pub returns-in_err-choose_next-2 : goal.returns-in_err-choose_next-2
@@ -61,6 +60,10 @@ returns-in_err-choose_next-2 g c = IfOk-from_err c.from_residual-in_err-choose_n
 
 pub choose_rest-requires : goal.choose_rest-requires
 choose_rest-requires g c = record {
+  from = omega (arith, c.len-near.ensures, c.choose_next.new.chosen.order.ok.0, c.in_ok-choose_next-2.ensures.on.more);
+  stepped =
+      let A = g.A.Automaton in let a = c.args.automaton.now in
+      AreStepped-fewer (A.sees a) (stands_by g.A.Label.RowLabel.number (A.labels a)) (map g.A.Label.RowLabel.number c.args.labels.now) c.len-near.result _ _ (omega (arith, c.len-near.ensures, c.choose_next.new.chosen.order.ok.0)) (c.in_ok-choose_next-2.ensures.stepped (c.if-not-branch-2.false));
   labels = c.requires.labels;
   chosen = c.in_ok-choose_next-2.ensures.chosen;
   count = λ s there. omega (arith, c.requires.count s there, c.in_ok-chosen.ensures.size, c.in_ok-choose_next.ensures.same, c.in_ok-choose_next-2.ensures.same);

@@ -1,7 +1,7 @@
 -- The ends of the steps by the labels so far have rows, the rows that there were stay, and each that was added is that of a state at most one unit deeper than the one of the steps.
 use Rattle.std.proofs.Common.{◌≡◌, ◌+◌, ◌<◌, ℕ, length, map}
 use Rattle.std.specs.Prelude.{slice_index}
-use Rattle.daachorse_rows.specs.Rows.{AreChosen, AreShallow, EndsInRow, GoesOn, HasEnd, IsShallow, stands_by}
+use Rattle.daachorse_rows.specs.Rows.{AreChosen, AreShallow, EndsInRow, GoesOn, IsShallow, stands_by}
 use Rattle.daachorse_rows.proofs.making.choose_ends.Given as goal
 
 abbrev pub invariant-loop-k : goal.invariant-loop-k
@@ -14,5 +14,4 @@ invariant-loop-k g l =
       on : GoesOn old l.chosen.order.items;
       shallow : (n : ℕ) → IsShallow stands n ((A.sees a).text (slice_index old l.at)) → AreShallow (A.sees a) stands (n + 1) old → AreShallow (A.sees a) stands (n + 1) l.chosen.order.items;
       steps : (j : ℕ) → j < l.k → EndsInRow (A.sees a) stands (slice_index old l.at) (slice_index (map number l.labels) j) l.chosen.order.items;
-      ends : (j : ℕ) → j < l.k → HasEnd (A.sees a) stands (slice_index old l.at) (slice_index (map number l.labels) j) l.chosen.order.items;
     }

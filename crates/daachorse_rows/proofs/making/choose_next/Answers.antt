@@ -5,8 +5,8 @@ use Rattle.std.proofs.lemmas.Bool.{false≢true}
 use Rattle.std.proofs.lemmas.Result.{IfOk-from_err}
 use Rattle.std.proofs.lemmas.List.{length-map}
 use Rattle.daachorse_model.proofs.Lists.{below_or_at}
-use Rattle.daachorse_rows.specs.Rows.{HasEnd, stands_by}
-use Rattle.daachorse_rows.proofs.ShallowLaws.{AreCovered-next, AreStepped-fewer, AreStepped-more, AreStepped-none, GoesOn-same, GoesOn-through, HasEnd-on, IsShallow-weaker, state_shallow}
+use Rattle.daachorse_rows.specs.Rows.{stands_by}
+use Rattle.daachorse_rows.proofs.ShallowLaws.{AreCovered-next, AreStepped-fewer, AreStepped-more, AreStepped-none, GoesOn-same, GoesOn-through, IsShallow-weaker, state_shallow}
 use Rattle.daachorse_rows.proofs.making.choose_next.Goals as goal
 
 pub loop-at-preserved : goal.loop-at-preserved
@@ -15,18 +15,12 @@ loop-at-preserved g c =
     let old = c.args.chosen.now.order.items in let now = c.loop-at.chosen.order.items in let at = c.loop-at.at in
     let inside : at < length old = omega (arith, c.loop-at-test.true, c.loop-at.auto.at-end, c.len-at-end.ensures, c.args.chosen.now.order.ok.0) in
     let made = c.in_ok-choose_ends.ensures in let kept = c.loop-at.invariant in
-    let P : ℕ → Type 0 = λ s. (label : ℕ) → label < 510 → HasEnd (A.sees a) stands s label c.choose_ends.new.chosen.order.items in
-    let Q : ℕ → Type 0 = λ k. P (slice_index old k) in
     record {
       chosen = made.chosen;
       same = omega (arith, made.same, kept.same);
       on = GoesOn-through old now c.choose_ends.new.chosen.order.items kept.on made.on;
-      steps = λ root. AreStepped-more (A.sees a) stands (map g.A.Label.RowLabel.number c.args.labels.now) at now c.choose_ends.new.chosen.order.items made.on (omega (arith, inside, kept.on.more)) (kept.steps root) (λ j below. made.ends (c.if-not-branch.false) j (omega (arith, below, length-map c.args.labels.now g.A.Label.RowLabel.number)));
+      steps = AreStepped-more (A.sees a) stands (map g.A.Label.RowLabel.number c.args.labels.now) at now c.choose_ends.new.chosen.order.items made.on (omega (arith, inside, kept.on.more)) kept.steps (λ j below. made.ends (c.if-not-branch.false) j (omega (arith, below, length-map c.args.labels.now g.A.Label.RowLabel.number)));
       shallow = λ n shallow. made.shallow n (state_shallow (A.sees a) stands n old now at kept.on inside shallow) (kept.shallow n shallow);
-      ends = λ k below. elim (below_or_at k at below) [
-        | inl before ↦ λ label low. HasEnd-on (A.sees a) stands (slice_index old k) label now c.choose_ends.new.chosen.order.items made.on (kept.ends k before label low)
-        | inr same ↦ subst Q (sym same) (subst P (kept.on.same at inside) (made.all (c.if-not-branch.false)))
-      ];
     }
 
 pub loop-at-init : goal.loop-at-init
@@ -37,9 +31,8 @@ loop-at-init g c =
       chosen = c.requires.chosen;
       same = refl;
       on = GoesOn-same old;
-      steps = λ root. AreStepped-none (A.sees a) stands (map g.A.Label.RowLabel.number c.args.labels.now) old root;
+      steps = AreStepped-none (A.sees a) stands (map g.A.Label.RowLabel.number c.args.labels.now) old c.requires.root;
       shallow = λ n shallow k below. IsShallow-weaker stands n (n + 1) ((A.sees a).text (slice_index old k)) (omega arith) (shallow k below);
-      ends = λ k below label low unit coded begins. absurd (omega (arith, below));
     }
 
 pub choose_ends-requires : goal.choose_ends-requires
@@ -49,6 +42,7 @@ choose_ends-requires g c = record {
   count = λ s there. omega (arith, c.requires.count s there, c.loop-at.invariant.same);
   at = omega (arith, c.loop-at-test.true, c.loop-at.auto.at-end, c.len-at-end.ensures, c.args.chosen.now.order.ok.0, c.loop-at.invariant.on.more);
   few = c.requires.few;
+  stepped = c.loop-at.invariant.steps;
 }
 
 pub returns-in_err-choose_ends : goal.returns-in_err-choose_ends
@@ -80,19 +74,16 @@ returns-then-not-branch g c = record {
 }
 
 pub returns : goal.returns
-returns g c = record {
-  all = λ _ n covered.
-      let A = g.A.Automaton in let a = c.args.automaton.now in let stands = stands_by g.A.Label.RowLabel.number (A.labels a) in
-      let kept = c.loop-at.invariant in
-      AreCovered-next (A.sees a) stands n c.args.chosen.now.order.items c.loop-at.chosen.order.items kept.on
-      (λ k below. kept.ends k (omega (arith, below, c.loop-at-test.false, c.loop-at.auto.at-end, c.len-at-end.ensures, c.args.chosen.now.order.ok.0))) covered;
-  stepped = λ _ root.
-      let A = g.A.Automaton in let a = c.args.automaton.now in
-      AreStepped-fewer (A.sees a) (stands_by g.A.Label.RowLabel.number (A.labels a)) (map g.A.Label.RowLabel.number c.args.labels.now) (length c.args.chosen.now.order.items) c.loop-at.at c.loop-at.chosen.order.items
-      (omega (arith, c.loop-at-test.false, c.loop-at.auto.at-end, c.len-at-end.ensures, c.args.chosen.now.order.ok.0)) (c.loop-at.invariant.steps root);
-  chosen = c.loop-at.invariant.chosen;
-  same = c.loop-at.invariant.same;
-  on = c.loop-at.invariant.on;
-  shallow = c.loop-at.invariant.shallow;
-  full = λ e. absurd (false≢true (sym e));
-}
+returns g c =
+    let A = g.A.Automaton in let a = c.args.automaton.now in let stands = stands_by g.A.Label.RowLabel.number (A.labels a) in let labels = map g.A.Label.RowLabel.number c.args.labels.now in
+    let old = c.args.chosen.now.order.items in
+    let stepped = AreStepped-fewer (A.sees a) stands labels (length old) c.loop-at.at c.loop-at.chosen.order.items (omega (arith, c.loop-at-test.false, c.loop-at.auto.at-end, c.len-at-end.ensures, c.args.chosen.now.order.ok.0)) c.loop-at.invariant.steps in
+    record {
+      all = λ _ n covered. AreCovered-next (A.sees a) stands labels c.requires.labels n old c.loop-at.chosen.order.items c.loop-at.invariant.on stepped covered;
+      stepped = λ _. stepped;
+      chosen = c.loop-at.invariant.chosen;
+      same = c.loop-at.invariant.same;
+      on = c.loop-at.invariant.on;
+      shallow = c.loop-at.invariant.shallow;
+      full = λ e. absurd (false≢true (sym e));
+    }

@@ -1,7 +1,6 @@
 -- The steps from the rows so far end in rows, the rows that there were stay, and each that was added is that of a state at most one unit deeper than those.
-use Rattle.std.proofs.Common.{◌≡◌, ◌+◌, ◌<◌, ℕ, [], length, map}
-use Rattle.std.specs.Prelude.{slice_index}
-use Rattle.daachorse_rows.specs.Rows.{AreChosen, AreShallow, AreStepped, GoesOn, HasEnd, stands_by}
+use Rattle.std.proofs.Common.{◌≡◌, ◌+◌, ℕ, length, map}
+use Rattle.daachorse_rows.specs.Rows.{AreChosen, AreShallow, AreStepped, GoesOn, stands_by}
 use Rattle.daachorse_rows.proofs.making.choose_next.Given as goal
 
 abbrev pub invariant-loop-at : goal.invariant-loop-at
@@ -11,7 +10,6 @@ invariant-loop-at g l =
       chosen : AreChosen (A.sees a) l.chosen.order.items l.chosen.homes.items l.most;
       same : length l.chosen.homes.items ≡ length l.fn.chosen.homes.items;
       on : GoesOn l.fn.chosen.order.items l.chosen.order.items;
-      steps : (0 < length l.fn.chosen.order.items) × ((A.sees a).text (slice_index l.fn.chosen.order.items 0) ≡ []) → AreStepped (A.sees a) stands (map g.A.Label.RowLabel.number l.labels) l.at l.chosen.order.items;
+      steps : AreStepped (A.sees a) stands (map g.A.Label.RowLabel.number l.labels) l.at l.chosen.order.items;
       shallow : (n : ℕ) → AreShallow (A.sees a) stands n l.fn.chosen.order.items → AreShallow (A.sees a) stands (n + 1) l.chosen.order.items;
-      ends : (k : ℕ) → k < l.at → (label : ℕ) → label < 510 → HasEnd (A.sees a) stands (slice_index l.fn.chosen.order.items k) label l.chosen.order.items;
     }

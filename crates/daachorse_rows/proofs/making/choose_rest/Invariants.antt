@@ -11,7 +11,7 @@ invariant-loop-at g l =
       count : length l.chosen.homes.items ≡ length l.fn.chosen.homes.items;
       on : GoesOn l.fn.chosen.order.items l.chosen.order.items;
       shallow : (n : ℕ) → AreShallow (A.sees a) stands n l.fn.chosen.order.items → (m : ℕ) × AreShallow (A.sees a) stands m l.chosen.order.items;
-      steps : AreStepped (A.sees a) stands (map number l.labels) l.from l.fn.chosen.order.items → AreStepped (A.sees a) stands (map number l.labels) l.at l.chosen.order.items;
+      steps : AreStepped (A.sees a) stands (map number l.labels) l.at l.chosen.order.items;
     }
 
 abbrev pub decreases-loop-at : goal.decreases-loop-at

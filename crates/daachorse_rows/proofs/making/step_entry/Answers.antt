@@ -5,9 +5,8 @@ use Rattle.std.proofs.lemmas.Bool.{cases_lt}
 use Rattle.std.proofs.lemmas.List.{get_or_read}
 use Rattle.std.proofs.lemmas.Nat.{mul-le}
 use Rattle.daachorse_search.specs.Views.{Steps}
-use Rattle.daachorse_search.proofs.LookLaws.{StepEnds-link}
 use Rattle.daachorse_rows.specs.Rows.{IsEntry, IsSlot, Stands, stands_by}
-use Rattle.daachorse_rows.proofs.MakingLaws.{ends_read, fits_rows, number_read, slot_link, slot_step, stands_own, unit_read}
+use Rattle.daachorse_rows.proofs.MakingLaws.{ends_read, fits_rows, link_read, slot_link, slot_step, unit_read}
 use Rattle.daachorse_rows.proofs.making.step_entry.Goals as goal
 
 row_state : (order : List ℕ) (row s : ℕ) → row < length order → s ≡ get_or order row s → s ≡ slice_index order row
@@ -44,10 +43,8 @@ returns-then-place-row g c =
     let same = row_state order c.args.row c.index-state.result.now c.requires.row c.index-state.ensures in
     let on : (unit t : ℕ) → stands (slice_index labels k) unit → Steps view (slice_index order there.0) unit t → Steps view (slice_index order c.args.row) unit t =
     λ unit t coded ends.
-    let own = stands_own g.A.Label.RowLabel.number g.met.A.Label.RowLabel.exact (A.labels a) c.index-labels-k.result (slice_index labels k) unit (number_read g.A.Label.RowLabel.number c.args.labels.now k c.index-labels-k.result c.requires.k c.index-labels-k.is) coded in
-    let look = c.in-Fail.ensures.look unit own in
     let P : ℕ → Type 0 = λ s. Steps view s unit t in
-    subst P same (StepEnds-link view _ _ (view.text t) unit look.1 look.2 look.3 (subst P there.2 ends)) in
+    link_read g.A.Label.RowLabel.number view g.met.A.Label.RowLabel.exact (A.labels a) c.args.labels.now k c.index-labels-k.result (slice_index order c.args.row) c.index-state.result.now c.in-Fail.link c.requires.k c.index-labels-k.is same c.in-Fail.ensures.look unit t coded (subst P there.2 ends) in
     let at : 2 * (there.0 * width) + (3 + k) ≡ 2 * c.place-place.result + 3 + k = omega (arith, there.3) in
     let Q : ℕ → Type 0 = λ i. IsSlot g.A.Unit.EdgeLabel.width view stands labels order width (length order * width) c.args.row (3 + k) (slice_index c.args.top.now i) in
     subst Q at (slot_link g.A.Unit.EdgeLabel.width view stands labels order width (length order * width) c.args.row there.0 k (3 + k) _ refl (c.requires.written.rows there.0 (3 + k) there.1 (omega (arith, c.requires.k, c.requires.width))) on)

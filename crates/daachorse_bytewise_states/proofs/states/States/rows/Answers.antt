@@ -24,17 +24,17 @@ may_close p standard = record {
 module _ {V : Type 0} (p q : Parts V) (same : q ≡ p) where
   -- the rows of one view stay where those of the parts do
   stays : {E : Type 0} (made : Result (Option RowTable) E) (listed bytes : List ℕ) → listed ≡ bytes → length bytes ≤ 256
-      → IfOk made (λ rows. IfSome rows (λ r. MayClose 256 (sees q) stands_for → ClosesOrFills 256 (sees q) stands_for (63232 / row_places (length listed)) r))
+      → IfOk made (λ rows. IfSome rows (λ r. MayClose 256 (sees q) stands_for → ClosesOrFills 256 (sees q) stands_for (63168 / row_places (length listed)) r))
       → IfOk made (λ rows. IfSome rows (λ r. p.kind ≡ Standard → StaysUnlessLarge p r))
   stays (Err e) listed bytes is few closed = tt
   stays (Ok None) listed bytes is few closed = tt
   stays (Ok (Some r)) listed bytes is few closed = λ standard.
       let P : Parts V → Type 0 = λ x. MayClose 256 (sees x) stands_for in
       let Q : Parts V → Type 0 = λ x. StaysUnlessLarge x r in
-      let fits = room_least (length listed) 486 (omega (arith, ap length is, few)) in
+      let fits = room_least (length listed) 485 (omega (arith, ap length is, few)) in
       subst Q same (elim (closed (subst P (sym same) (may_close p standard))) [
         | inl all ↦ inl all
-        | inr many ↦ inr (many.0, AreTooMany-weaker (sees q) stands_for many.0 many.0 (63232 / row_places (length listed)) 486 (omega arith) fits many.1)
+        | inr many ↦ inr (many.0, AreTooMany-weaker (sees q) stands_for many.0 many.0 (63168 / row_places (length listed)) 485 (omega arith) fits many.1)
       ])
 
   labels_along : (bytes listed : List ℕ) → listed ≡ bytes → AreLabels (content p) (λ label unit. label ≡ unit) bytes → AreLabels (content q) (stands_by (λ (byte : ℕ). byte) (λ label unit. label ≡ unit)) (map (λ (byte : ℕ). byte) listed)
@@ -50,12 +50,12 @@ module _ {V : Type 0} (p q : Parts V) (same : q ≡ p) where
 
   -- what leaves no room for rows of one view does so for the parts
   no_room : {R E : Type 0} (made : Result (Option R) E) (n : ℕ) (listed bytes : List ℕ) → listed ≡ bytes → length bytes ≤ 256 → n ≡ count p
-      → IfOk made (λ rows. rows ≡ None → AreTooMany (sees q) stands_for 2 (63232 / row_places (length listed)) ⊎ (4294901760 < n)) → IfOk made (λ rows. rows ≡ None → HasNoRoom p)
+      → IfOk made (λ rows. rows ≡ None → AreTooMany (sees q) stands_for 2 (63168 / row_places (length listed)) ⊎ (4294901760 < n)) → IfOk made (λ rows. rows ≡ None → HasNoRoom p)
   no_room (Err e) n listed bytes is few all none = tt
   no_room (Ok rows) n listed bytes is few all none = λ at. elim (none at) [
     | inl many ↦
-        let P : Parts V → Type 0 = λ x. AreTooMany (sees x) stands_for 2 486 in
-        inl (subst P same (AreTooMany-weaker (sees q) stands_for 2 2 (63232 / row_places (length listed)) 486 (omega arith) (room_least (length listed) 486 (omega (arith, ap length is, few))) many))
+        let P : Parts V → Type 0 = λ x. AreTooMany (sees x) stands_for 2 485 in
+        inl (subst P same (AreTooMany-weaker (sees q) stands_for 2 2 (63168 / row_places (length listed)) 485 (omega arith) (room_least (length listed) 485 (omega (arith, ap length is, few))) many))
     | inr past ↦ inr (omega (arith, past, all))
   ]
 

@@ -25,23 +25,23 @@ may_close p standard few = record {
   slots = λ label unit below stands. slotted label unit stands.0 stands.1 stands.2;
 }
   where
-    slotted : (label unit own : ℕ) → own ≡ label → stands_for p own unit → label < 510
+    slotted : (label unit own : ℕ) → own ≡ label → stands_for p own unit → label < 638
     slotted label unit own is (inl (ascii, named)) = omega (arith, is, ascii, named)
     slotted label unit own is (inr (past, code, coded, named)) = omega (arith, is, named, few unit code past coded)
 
 module _ {V : Type 0} (p q : Parts V) (same : q ≡ p) where
   -- the rows of one view stay where those of the parts do
-  stays : (made : Option RowTable) (listed labels : List ℕ) → listed ≡ labels → length labels ≤ 510
-      → IfSome made (λ r. MayClose (2 ^ 32) (sees_ascii q) (coded q) → ClosesOrFills (2 ^ 32) (sees_ascii q) (coded q) (63232 / row_places (length listed)) r)
+  stays : (made : Option RowTable) (listed labels : List ℕ) → listed ≡ labels → length labels ≤ 638
+      → IfSome made (λ r. MayClose (2 ^ 32) (sees_ascii q) (coded q) → ClosesOrFills (2 ^ 32) (sees_ascii q) (coded q) (63168 / row_places (length listed)) r)
       → IfSome made (λ r. p.kind ≡ Standard → HasFewCodes p → StaysUnlessLarge p r)
   stays None listed labels is few closed = tt
   stays (Some r) listed labels is few closed = λ standard coding.
       let P : Parts V → Type 0 = λ x. MayClose (2 ^ 32) (sees_ascii x) (coded x) in
       let Q : Parts V → Type 0 = λ x. StaysUnlessLarge x r in
-      let fits = room_least (length listed) 245 (omega (arith, ap length is, few)) in
+      let fits = room_least (length listed) 196 (omega (arith, ap length is, few)) in
       subst Q same (elim (closed (subst P (sym same) (may_close p standard coding))) [
         | inl all ↦ inl all
-        | inr many ↦ inr (many.0, AreTooMany-weaker (sees_ascii q) (coded q) many.0 many.0 (63232 / row_places (length listed)) 245 (omega arith) fits many.1)
+        | inr many ↦ inr (many.0, AreTooMany-weaker (sees_ascii q) (coded q) many.0 many.0 (63168 / row_places (length listed)) 196 (omega arith) fits many.1)
       ])
 
   labels_along : (made listed : List ℕ) → listed ≡ made → AreLabels (content p) (stands_for p) made → AreLabels (content q) (stands_by (λ (label : ℕ). label) (stands_for q)) (map (λ (label : ℕ). label) listed)
@@ -56,10 +56,10 @@ module _ {V : Type 0} (p q : Parts V) (same : q ≡ p) where
       omega (arith, Reached-inside _ _ _ _ _ (valid_machine p valid) s (subst P same there), all)
 
   -- what leaves no room for rows of one view does so for the parts
-  no_room : (n : ℕ) (listed labels : List ℕ) → listed ≡ labels → length labels ≤ 510 → n ≡ count p → AreTooMany (sees_ascii q) (coded q) 2 (63232 / row_places (length listed)) ⊎ (4294901760 < n) → HasNoRoom p
+  no_room : (n : ℕ) (listed labels : List ℕ) → listed ≡ labels → length labels ≤ 638 → n ≡ count p → AreTooMany (sees_ascii q) (coded q) 2 (63168 / row_places (length listed)) ⊎ (4294901760 < n) → HasNoRoom p
   no_room n listed labels is few all (inl many) =
-      let P : Parts V → Type 0 = λ x. AreTooMany (sees_ascii x) (coded x) 2 245 in
-      inl (subst P same (AreTooMany-weaker (sees_ascii q) (coded q) 2 2 (63232 / row_places (length listed)) 245 (omega arith) (room_least (length listed) 245 (omega (arith, ap length is, few))) many))
+      let P : Parts V → Type 0 = λ x. AreTooMany (sees_ascii x) (coded x) 2 196 in
+      inl (subst P same (AreTooMany-weaker (sees_ascii q) (coded q) 2 2 (63168 / row_places (length listed)) 196 (omega arith) (room_least (length listed) 196 (omega (arith, ap length is, few))) many))
   no_room n listed labels is few all (inr past) = inr (omega (arith, past, all))
 
 pub new-requires-clause-labels : goal.new-requires-clause-labels

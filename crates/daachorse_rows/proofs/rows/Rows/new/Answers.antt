@@ -75,7 +75,7 @@ overflow_cast-count g c =
     let chosen = MatchOption-at_some _ _ c.in-Some.chosen c.in-Some.is c.in_ok-chosen.ensures in
     let order = c.in-Some.chosen.order.items in
     let e : c.len-count.result ≡ length order = c.len-count.ensures ∙ c.in-Some.chosen.order.ok.0 in
-    omega (arith, e, chosen.0.few, div-mul-le_self 63232 width)
+    omega (arith, e, chosen.0.few, div-mul-le_self 63168 width)
 
 pub returns : goal.returns
 returns g c =
@@ -105,7 +105,7 @@ choose-requires g c = record {
   labels = c.requires.labels;
   count = c.requires.count;
   some = room_least (length c.args.labels.now) 1 (omega (arith, c.requires.few));
-  few = omega (arith, div-mul-le_self 63232 (row_places (length c.args.labels.now)));
+  few = omega (arith, div-mul-le_self 63168 (row_places (length c.args.labels.now)));
 }
 
 pub overflow_cast-width : goal.overflow_cast-width
@@ -115,4 +115,4 @@ pub overflow_add-width : goal.overflow_add-width
 overflow_add-width g c = omega (arith, c.requires.few)
 
 pub overflow_cast-width-2 : goal.overflow_cast-width-2
-overflow_cast-width-2 g c = omega (arith, div-mul-le_self 63232 (row_places (length c.args.labels.now)))
+overflow_cast-width-2 g c = omega (arith, div-mul-le_self 63168 (row_places (length c.args.labels.now)))

@@ -3,6 +3,7 @@ pub mod NextPlaces
 pub mod PlaceLaws
 pub mod Scanned
 pub mod Rounds
+pub mod SideBySide
 pub mod Pairs
 pub mod Marking
 pub mod Tables

@@ -50,7 +50,7 @@ top_bit p j low high =
     let first : j - j ≡ 0 = omega arith in
     ap (λ n. is_clear n j) (sym whole) ∙ ap (λ b. b == 0) (bit_at_cat_high 1 j (p - 2 ^ j) j (omega arith) (omega arith) ∙ ap (λ n. bit_at 1 n) first)
 
-above_top : (p j b : ℕ) → p < 2 ^ suc j → j < b → is_clear p b ≡ true
+pub above_top : (p j b : ℕ) → p < 2 ^ suc j → j < b → is_clear p b ≡ true
 above_top p j b high h =
     let whole : 0 * 2 ^ suc j + p ≡ p = omega arith in
     ap (λ n. is_clear n b) (sym whole) ∙ ap (λ n. n == 0) (bit_at_cat_high 0 (suc j) p b high (omega arith) ∙ bit_at-zero (b - suc j))

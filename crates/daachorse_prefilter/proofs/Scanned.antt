@@ -55,10 +55,10 @@ begun_later entries h pos i b low l = by (cases_lt i (pos + b + 2))
 abbrev pub next_state : ℕ → ℕ → ℕ
 next_state s e = bit_or ((s * 2 ^ 1) % 2 ^ 32) e
 
-next_first : (s e : ℕ) → is_clear (next_state s e) 0 ≡ is_clear e 0
+pub next_first : (s e : ℕ) → is_clear (next_state s e) 0 ≡ is_clear e 0
 next_first s e = is_clear-or ((s * 2 ^ 1) % 2 ^ 32) e 0 ∙ ap (λ x. x && is_clear e 0) (is_clear_shifted_below s 1 0 (omega arith) (omega arith))
 
-next_later : (s e b : ℕ) → b < 31 → is_clear (next_state s e) (suc b) ≡ (is_clear s b && is_clear e (suc b))
+pub next_later : (s e b : ℕ) → b < 31 → is_clear (next_state s e) (suc b) ≡ (is_clear s b && is_clear e (suc b))
 next_later s e b h =
     let place : 1 + b ≡ suc b = omega arith in
     is_clear-or ((s * 2 ^ 1) % 2 ^ 32) e (suc b)
@@ -91,12 +91,12 @@ or_true : (x y : Bool) → y ≡ true → (x || y) ≡ true
 or_true true y e = refl
 or_true false y e = e
 
-within_window : (e last b : ℕ) → last ≤ 7 → b ≤ last → is_clear (bit_and e (window_bits last)) b ≡ is_clear e b
+pub within_window : (e last b : ℕ) → last ≤ 7 → b ≤ last → is_clear (bit_and e (window_bits last)) b ≡ is_clear e b
 within_window e last b small h =
     is_clear-and e (window_bits last) b
     ∙ or_false (is_clear e b) (is_clear (window_bits last) b) (ap (λ w. is_clear w b) (window_bits_is last small) ∙ is_clear_mask (suc last) b (omega arith))
 
-above_window : (e last b : ℕ) → last ≤ 7 → last < b → is_clear (bit_and e (window_bits last)) b ≡ true
+pub above_window : (e last b : ℕ) → last ≤ 7 → last < b → is_clear (bit_and e (window_bits last)) b ≡ true
 above_window e last b small h =
     is_clear-and e (window_bits last) b
     ∙ or_true (is_clear e b) (is_clear (window_bits last) b) (ap (λ w. is_clear w b) (window_bits_is last small) ∙ is_clear_mask_above (suc last) b (omega arith))

@@ -1,5 +1,5 @@
 -- What the state of a scan tells of the windows of a text.
-use Rattle.std.specs.Prelude.{◌≡◌, ℕ, suc, ◌+◌, ◌-◌, ◌<◌, ◌≤◌, Bool, true, false, nat_le, ◌&&◌, List, drop, slice_index}
+use Rattle.std.specs.Prelude.{◌≡◌, ℕ, suc, ◌+◌, ◌-◌, ◌*◌, ◌%◌, ◌^◌, ◌<◌, ◌≤◌, bit_or, Bool, true, false, nat_le, ◌&&◌, List, drop, slice_index}
 use Rattle.daachorse_model.specs.Filter.{is_clear, pairs_pass, passes}
 
 -- the last b + 1 pairs before place i, of those from pos on, are the first of a window that may pass
@@ -15,6 +15,10 @@ AreBits entries text last pos i state = (b : ℕ) → b ≤ last → is_clear st
 pub record HasEnded (entries text : List ℕ) (last pos i n state : ℕ) : Type 0 where
   pub bits : AreBits entries text last pos (i + n) state
   pub ends : (d : ℕ) → d < n → is_clear state (last + d) ≡ has_begun entries text pos (i + n - d) last
+
+-- behind any state that is right, shifted past n pairs, what these pairs make alone gives a state that knows of their places
+abbrev pub EndsRound : List ℕ → List ℕ → ℕ → ℕ → ℕ → ℕ → Type 0
+EndsRound entries text last i n read = (pos s : ℕ) → pos + 1 ≤ i → AreBits entries text last pos i s → HasEnded entries text last pos i n (bit_or ((s * 2 ^ n) % 2 ^ 32) read)
 
 -- no window that ends before place i passes, and the test with it
 abbrev pub NonePasses : (List ℕ → Bool) → List ℕ → List ℕ → ℕ → ℕ → ℕ → Type 0

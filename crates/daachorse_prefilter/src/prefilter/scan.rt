@@ -5,7 +5,7 @@
 ghost use Rattle.std.specs.Prelude.{◌≡◌, ℕ, ◌+◌, ◌-◌, ◌<◌, ◌≤◌, ◌&&◌, false, length, map, slice_index, MatchOption};
 ghost use Rattle.daachorse_model.specs.Filter.{is_clear, passes};
 ghost use Rattle.daachorse_prefilter.specs.Places.{IsFirstPlace};
-ghost use Rattle.daachorse_prefilter.specs.Scans.{AreBits, AreRefused, HasEnded, IsFirstAccepted, NonePasses};
+ghost use Rattle.daachorse_prefilter.specs.Scans.{AreBits, AreRefused, EndsRound, HasEnded, IsFirstAccepted, NonePasses};
 
 use super::pair_table::PairTable;
 use super::reading::ByteReading;
@@ -38,15 +38,17 @@ pub(super) fn scan<R: ByteReading, A: Allocator, T: PlaceTest>(
     let num_pairs = R::pairs_in_round();
     let ends = ((1u32 << num_pairs) - 1) << last;
     let mut state = u32::MAX;
-    // The place of the last byte that was read.
-    let mut place = pos;
-    while haystack.len() - place > num_pairs {
+    let rounds = (haystack.len() - pos - 1) / num_pairs;
+    for round in 0..rounds {
+        // The place of the last byte that was read.
+        let place = pos + round * num_pairs;
         state = read_round::<R, A>(table, last, haystack, place, num_pairs, state);
-        place += num_pairs;
-        if let Some(found) = first_in_round::<R, T>(test, haystack, place - 1, !state & ends) {
+        let end = place + num_pairs - 1;
+        if let Some(found) = first_in_round::<R, T>(test, haystack, end, !state & ends) {
             return found;
         }
     }
+    let place = pos + rounds * num_pairs;
     scan_rest::<R, A, T>(table, test, last, haystack, pos, place, state)
 }
 
@@ -66,15 +68,62 @@ fn read_round<R: ByteReading, A: Allocator>(
     ensures { (pos : ℕ) → pos ≤ place → AreBits table.now (map R.as_read haystack.now) last pos (place + 1) state
         → HasEnded table.now (map R.as_read haystack.now) last pos (place + 1) num_pairs result }
 {
+    // It is made apart from the state before, so that only the last step waits for that.
+    let read = if num_pairs == 16 {
+        read_sixteen::<R, A>(table, last, haystack, place)
+    } else {
+        read_pairs::<R, A>(table, last, haystack, place, num_pairs)
+    };
+    (state << num_pairs) | read
+}
+
+/// The state that the pairs of a round make alone.
+#[inline(always)]
+fn read_pairs<R: ByteReading, A: Allocator>(
+    table: &PairTable<A>,
+    last: u8,
+    haystack: &[u8],
+    place: usize,
+    num_pairs: usize,
+) -> u32
+    requires low { last ≤ 7 }
+    requires few { num_pairs ≤ 16 }
+    requires inside { place + num_pairs < length haystack.now }
+    ensures { EndsRound table.now (map R.as_read haystack.now) last (place + 1) num_pairs result }
+{
     // No other bit of an entry may meet those above the last.
     let window = (2u32 << last) - 1;
-    // It is made apart from the state before, so that only the last step waits for that.
     let mut read = 0u32;
     for k in 0..num_pairs {
         let entry = table.entry(R::pair(haystack, place + k));
         read = (read << 1) | (u32::from(entry) & window);
     }
-    (state << num_pairs) | read
+    read
+}
+
+/// The state that the sixteen pairs of a round make alone. Two that are eight apart are taken at once: their
+/// entries stand side by side.
+#[inline(always)]
+fn read_sixteen<R: ByteReading, A: Allocator>(
+    table: &PairTable<A>,
+    last: u8,
+    haystack: &[u8],
+    place: usize,
+) -> u32
+    requires low { last ≤ 7 }
+    requires inside { place + 16 < length haystack.now }
+    ensures { EndsRound table.now (map R.as_read haystack.now) last (place + 1) 16 result }
+{
+    let window = (2u32 << last) - 1;
+    let windows = (window << 8) | window;
+    let mut read = 0u32;
+    for k in 0..8 {
+        let first = table.entry(R::pair(haystack, place + k));
+        let second = table.entry(R::pair(haystack, place + 8 + k));
+        let both = (u32::from(first) << 8) | u32::from(second);
+        read = (read << 1) | (both & windows);
+    }
+    read
 }
 
 /// The place of the first window of a round at which the test passes, of those whose bit is set: the window

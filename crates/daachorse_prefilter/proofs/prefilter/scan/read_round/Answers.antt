@@ -1,23 +1,16 @@
--- Each pair more makes the next state.
-use Rattle.std.proofs.Common.{◌≡◌, ◌+◌, map, length, ◌∙◌, arith}
-use Rattle.std.proofs.lemmas.List.{length-map}
-use Rattle.daachorse_prefilter.proofs.Pairs.{entry_read}
-use Rattle.daachorse_prefilter.proofs.Scanned.{entry_in, pair_before, states_none, states_more, window_bits, ended_apart}
+-- However the pairs of the round are read, the state before is shifted past what they make alone.
+use Rattle.std.proofs.Common.{◌≡◌, ℕ, ◌+◌, ◌*◌, ◌%◌, ◌^◌, map, subst, sym, arith}
+use Rattle.std.specs.Prelude.{bit_or}
+use Rattle.daachorse_prefilter.specs.Scans.{HasEnded}
+use Rattle.daachorse_prefilter.proofs.prefilter.scan.read_round.Goals.{then-num_pairs-eq16, else-num_pairs-eq16}
 use Rattle.daachorse_prefilter.proofs.prefilter.scan.read_round.Goals as goal
-
-pub loop-k-init : goal.loop-k-init
-loop-k-init g c = record { read = states_none c.args.table.now (map g.R.ByteReading.as_read c.args.haystack.now) (window_bits c.args.last) (c.args.place + 1) 0 }
-
-pub loop-k-preserved : goal.loop-k-preserved
-loop-k-preserved g c =
-    let text = map g.R.ByteReading.as_read c.args.haystack.now in
-    let entry : c.from.result ≡ entry_in c.args.table.now (pair_before text (c.args.place + 1 + c.loop-k.k)) =
-    c.from.ensures ∙ entry_read c.args.table.now g.R.ByteReading.as_read c.args.haystack.now (c.args.place + c.loop-k.k) c.pair.result c.entry-entry.result (c.args.place + 1 + c.loop-k.k) (omega arith) (omega arith) c.pair.ensures.first c.pair.ensures.second c.entry-entry.ensures in
-    record { read = rw (entry, c.loop-k.invariant.read) (states_more c.args.table.now text (window_bits c.args.last) (c.args.place + 1) 0 c.loop-k.k) }
 
 pub returns : goal.returns
 returns g c pos low bits =
     let text = map g.R.ByteReading.as_read c.args.haystack.now in
-    let all : c.loop-k.k ≡ c.args.num_pairs = omega arith in
-    let size : length text ≡ length c.args.haystack.now = length-map c.args.haystack.now g.R.ByteReading.as_read in
-    rw (c.loop-k.invariant.read, all) (ended_apart c.args.table.now text c.args.last pos (c.args.place + 1) c.args.state c.args.num_pairs c.requires.low c.requires.few (omega arith) (omega arith) bits)
+    elim c.if-num_pairs-eq16.branch [
+      | then-num_pairs-eq16 w ↦
+          let P : ℕ → Type 0 = λ n. HasEnded c.args.table.now text c.args.last pos (c.args.place + 1) n (bit_or ((c.args.state * 2 ^ n) % 2 ^ 32) w.read_sixteen-read.result) in
+          rw w.read-is (subst P (sym w.if-num_pairs-eq16.true) (w.read_sixteen-read.ensures pos c.args.state (omega arith) bits))
+      | else-num_pairs-eq16 w ↦ rw w.read-is (w.read_pairs-read.ensures pos c.args.state (omega arith) bits)
+    ]

@@ -138,6 +138,10 @@ module _ {V : Type 0} (view : AutomatonView V) (stands : ℕ → ℕ → Type 0)
     pub is_state : view.reached t
     pub ends : (unit : ℕ) → stands label unit → Steps view s unit t
 
+  -- wherever the step by the label from the state r ends, that from the state s does
+  abbrev pub StepsAs : ℕ → ℕ → ℕ → Type 0
+  StepsAs s label r = (unit t : ℕ) → stands label unit → Steps view r unit t → Steps view s unit t
+
 module _ {V : Type 0} (unit_width : ℕ → ℕ) (view : AutomatonView V) (stands : ℕ → ℕ → Type 0) where
   -- the rows are right
   pub record AreRows (r : RowTable) : Type 0 where

@@ -4,8 +4,8 @@
 //! come to them. The layers above may rely on the rows being right, on each state to which at most
 //! two steps lead having one, and on no order.
 
-ghost use Rattle.std.specs.Prelude.{◌≡◌, ◌⊎◌, ◌*◌, ◌+◌, ◌/◌, ◌%◌, ◌<◌, ◌≤◌, ◌^◌, ℕ, [], true, false, length, map, slice_index, IfOk, MatchOption, OnOk, None};
-ghost use Rattle.daachorse_rows.specs.Rows.{AreChosen, AreCovered, AreHomes, AreLabels, AreOwn, AreShallow, AreSlots, AreStepped, AreTooMany, AreWritten, EndsInRow, GoesOn, IsEntry, IsShallow, IsSlot, IsSlotOf, Stands, StepLeads, row_places, stands_by};
+ghost use Rattle.std.specs.Prelude.{◌≡◌, ◌⊎◌, ◌*◌, ◌+◌, ◌/◌, ◌%◌, ◌<◌, ◌≤◌, ◌^◌, ℕ, [], true, false, length, map, slice_index, IfOk, IfSome, MatchOption, OnOk, None};
+ghost use Rattle.daachorse_rows.specs.Rows.{AreChosen, AreCovered, AreHomes, AreLabels, AreOwn, AreShallow, AreSlots, AreStepped, AreTooMany, AreWritten, EndsInRow, GoesOn, IsEntry, IsShallow, IsSlot, IsSlotOf, Stands, StepLeads, StepsAs, row_places, stands_by};
 
 use crate::label::{RowLabel, SLOTTED};
 use daachorse_core::turns::{Look, Turns};
@@ -275,7 +275,7 @@ where
 }
 
 /// The state at which the step by a listed label from the state of the row `at` ends, if it has no row.
-/// Where a look tells a link with one of the rows before, the step ends as from there, which is in a row.
+#[inline(always)]
 fn end_outside<V: Copy, A: Automaton<V>, L: Allocator>(
     automaton: &A,
     labels: &[A::Label],
@@ -296,16 +296,42 @@ where
         (λ next. StepLeads (A.sees automaton.now) (stands_by A.Label.number (A.labels automaton.now)) (slice_index chosen.now.order.items at) (slice_index (map A.Label.number labels.now) k) next
         × (slice_index chosen.now.homes.items next ≡ 65535)) }
 {
-    let state = chosen.order[at];
-    let mut turns = Turns::new();
-    if let Look::Fail(link) = automaton.turn(state, labels[k], &mut turns) {
-        if (chosen.homes[link as usize] as usize) < at {
-            return None;
-        }
+    if let Some(_before) = linked_row(automaton, labels, chosen, at, k) {
+        return None;
     }
-    let (next, _) = follow(automaton, state, labels[k], &mut turns);
+    let mut turns = Turns::new();
+    let (next, _) = follow(automaton, chosen.order[at], labels[k], &mut turns);
     if chosen.homes[next as usize] == NO_ROW {
         return Some(next);
+    }
+    None
+}
+
+/// The row of the link that a look tells at the state of a row by a listed label, if it is one of the rows
+/// before. The step ends as from there.
+#[inline(always)]
+fn linked_row<V: Copy, A: Automaton<V>, L: Allocator>(
+    automaton: &A,
+    labels: &[A::Label],
+    chosen: &Chosen<L>,
+    row: usize,
+    k: usize,
+) -> Option<usize>
+where
+    A::Label: RowLabel,
+    requires labels { AreLabels (A.sees automaton.now).content (stands_by A.Label.number (A.labels automaton.now)) (map A.Label.number labels.now) }
+    requires chosen { (most : ℕ) × AreChosen (A.sees automaton.now) chosen.now.order.items chosen.now.homes.items most }
+    requires row { row < length chosen.now.order.items }
+    requires k { k < length labels.now }
+    ensures { IfSome result (λ j. (j < row)
+        × StepsAs (A.sees automaton.now) (stands_by A.Label.number (A.labels automaton.now)) (slice_index chosen.now.order.items row) (slice_index (map A.Label.number labels.now) k) (slice_index chosen.now.order.items j)) }
+{
+    let mut turns = Turns::new();
+    if let Look::Fail(link) = automaton.turn(chosen.order[row], labels[k], &mut turns) {
+        let index = link as usize;
+        if index < chosen.homes.len() && (chosen.homes[index] as usize) < row {
+            return Some(chosen.homes[index] as usize);
+        }
     }
     None
 }
@@ -369,8 +395,9 @@ where
     Ok(())
 }
 
-/// What the slot of a listed label holds in a row: where the step from the row's state ends. Where a look
-/// tells a link whose row is written already, that is what this row holds, and no link is followed.
+/// What the slot of a listed label holds in a row: where the step from the row's state ends. Where it ends
+/// as from the state of a row before, that is what this row holds.
+#[inline(always)]
 fn step_entry<V: Copy, A: Automaton<V>, L: Allocator>(
     automaton: &A,
     labels: &[A::Label],
@@ -392,15 +419,12 @@ where
     ensures { IsSlot A.Unit.width (A.sees automaton.now) (stands_by A.Label.number (A.labels automaton.now))
         (map A.Label.number labels.now) chosen.now.order.items width (length chosen.now.order.items * width) row (3 + k) result }
 {
+    if let Some(before) = linked_row(automaton, labels, chosen, row, k) {
+        return top[2 * (before * width as usize) + 3 + k];
+    }
     let base = chosen.order.len() as u32 * width;
     let state = chosen.order[row];
     let mut turns = Turns::new();
-    if let Look::Fail(link) = automaton.turn(state, labels[k], &mut turns) {
-        let place = chosen.place(base, link, width);
-        if place < row as u32 * width {
-            return top[2 * place as usize + 3 + k];
-        }
-    }
     let (next, position) = follow(automaton, state, labels[k], &mut turns);
     chosen.entry(base, next, position, width)
 }

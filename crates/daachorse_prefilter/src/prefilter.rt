@@ -22,6 +22,7 @@ mod gate;
 mod pair_table;
 mod reading;
 mod scan;
+mod whole_window;
 mod window;
 
 use crate::place_test::{NoTest, PlaceTest};

@@ -25,6 +25,6 @@ packed_form p = number_form w32 (word_of p)
 abbrev pub take_packed : List ℕ → Taken U24nU8
 take_packed bytes = over packed_of (take_number w32 bytes)
 
--- what the refusal of a number past 24 bits prints
+-- the refusal of a number past 24 bits
 abbrev pub too_large_text : List ℕ
 too_large_text = codes "value must be smaller than 2^24"

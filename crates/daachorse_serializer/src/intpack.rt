@@ -3,7 +3,7 @@
 //! The layers above may rely on the word being `a * 256 + b`, and on either part staying as it was
 //! while the other is set. No call takes memory or branches on the parts.
 
-ghost use Rattle.std.specs.Prelude.{◌≡◌, ◌<◌, ◌≤◌, ◌^◌, ℕ, Some, MatchResult};
+ghost use Rattle.std.specs.Prelude.{◌≡◌, ◌<◌, ◌≤◌, ◌^◌, ℕ, MatchResult};
 ghost use Rattle.std.specs.Prelude.{IfErr, length};
 ghost use Rattle.std.specs.Int.{w32};
 ghost use Rattle.daachorse_core.specs.declared.errors.DaachorseError.TheVariants.{InvalidAutomaton};
@@ -14,8 +14,6 @@ ghost use Rattle.daachorse_serializer.specs.Packed.{upper, lower, too_large_text
 use crate::serializer::Serializable;
 use daachorse_core::errors::Result;
 use std::alloc::Allocator;
-use std::error::Error;
-use std::fmt;
 use std::marker::Model;
 
 /// A number of 24 bits.
@@ -53,33 +51,19 @@ impl U24 {
 
 /// Refuses a number past [`U24::MAX`], and no other.
 impl TryFrom<u32> for U24 {
-    type Error = TooLargeError;
+    type Error = &'static str;
 
-    ghost try_from_gives = { λ n r. MatchResult r (λ small. (small ≡ n) × (n < 2 ^ 24)) (λ _. 2 ^ 24 ≤ n) };
+    ghost try_from_gives = { λ n r. MatchResult r (λ small. (small ≡ n) × (n < 2 ^ 24)) (λ text. (2 ^ 24 ≤ n) × (text.now ≡ too_large_text)) };
 
     #[inline(always)]
     fn try_from(value: u32) -> Result<Self, Self::Error> {
         if value <= Self::MAX {
             Ok(Self { value })
         } else {
-            Err(TooLargeError)
+            Err("value must be smaller than 2^24")
         }
     }
 }
-
-/// A number is past [`U24::MAX`].
-#[derive(Clone, Copy, Debug, PartialEq, Eq)]
-pub struct TooLargeError;
-
-impl fmt::Display for TooLargeError {
-    ghost output = { λ _. Some too_large_text };
-
-    fn fmt<W: fmt::Write>(&self, f: &mut fmt::Formatter<W>) -> fmt::Result {
-        f.write_str("value must be smaller than 2^24")
-    }
-}
-
-impl Error for TooLargeError {}
 
 /// A number of 24 bits and one of 8 in one word, `a * 256 + b`. Both are 0 by default.
 ///

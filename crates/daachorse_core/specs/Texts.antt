@@ -1,5 +1,7 @@
--- What each error prints.
+-- What each error prints, and its kind as an error of input and output.
 use Rattle.std.specs.Prelude.{ℕ, List, ◌++◌, codes}
+use Rattle.std.specs.declared.io.ErrorKind.{ErrorKind}
+use Rattle.std.specs.declared.io.ErrorKind.TheVariants.{InvalidData, InvalidInput, OutOfMemory as NoMemory}
 use Rattle.daachorse_core.specs.declared.errors.Limit.{Limit}
 use Rattle.daachorse_core.specs.declared.errors.Limit.TheVariants.{PatternValues, StateId, NumElements, Outputs, OutputPos}
 use Rattle.daachorse_core.specs.declared.errors.DaachorseError.{DaachorseError}
@@ -38,3 +40,10 @@ error_text (AutomatonScale e) = scale_text e.limit
 error_text (InvalidConversion _) = conversion_text
 error_text (InvalidAutomaton _) = automaton_text
 error_text (OutOfMemory _) = memory_text
+
+abbrev pub io_kind : DaachorseError → ErrorKind
+io_kind (InvalidArgument _) = InvalidInput
+io_kind (AutomatonScale _) = InvalidInput
+io_kind (InvalidConversion _) = InvalidInput
+io_kind (InvalidAutomaton _) = InvalidData
+io_kind (OutOfMemory _) = NoMemory

@@ -4,12 +4,21 @@
 //! of an allocation into [`DaachorseError::OutOfMemory`].
 
 ghost use Rattle.std.specs.Prelude.{◌≡◌, Some, string_bytes};
-ghost use Rattle.daachorse_core.specs.Texts.{scale_text, argument_text, conversion_text, automaton_text, memory_text, duplicate_text, error_text};
+ghost use Rattle.std.specs.IoError.{error_kind};
+ghost use Rattle.daachorse_core.specs.Texts.{scale_text, argument_text, conversion_text, automaton_text, memory_text, duplicate_text, error_text, io_kind};
 ghost use Rattle.daachorse_core.specs.declared.errors.DaachorseError.TheVariants.{OutOfMemory};
 
 use std::alloc::{AllocError, AllocFailed, Allocator, Global};
 use std::error::Error;
-use std::{fmt, result};
+use std::{fmt, io, result};
+
+const ARGUMENT: &str = "InvalidArgumentError: pattern.len() must be <= 4294967295";
+
+const CONVERSION: &str = "InvalidConversionError: index cannot be converted to V";
+
+const AUTOMATON: &str = "InvalidAutomatonError: invalid serialized automaton";
+
+const MEMORY: &str = "OutOfMemoryError: memory allocation failed";
 
 /// A `Result` whose error is [`DaachorseError`] unless another is named.
 ///
@@ -18,9 +27,9 @@ pub type Result<T, E = DaachorseError> = result::Result<T, E>;
 
 /// The errors that the calls of daachorse return.
 ///
-/// Each type of error has `Display` and `Error`, so that `?` also works with `anyhow` and with
-/// `thiserror`, as in `quick_start`. An error holds no memory. `daachorse_part_tests` compares
-/// every text that is printed.
+/// Each type of error has `Display` and `Error`, so that `?` also works with `thiserror`. By `?` this
+/// error becomes an `io::Error` too, as in `quick_start`. An error holds no memory.
+/// `daachorse_part_tests` compares every text that is printed.
 #[derive(Clone, Copy, Debug, PartialEq, Eq)]
 pub enum DaachorseError {
     /// A pattern is too long.
@@ -124,6 +133,44 @@ impl DaachorseError {
     {
         DaachorseError::InvalidAutomaton(InvalidAutomatonError)
     }
+
+    fn text(self) -> &'static str
+        ensures { result.now ≡ error_text self }
+    {
+        match self {
+            DaachorseError::InvalidArgument(_) => ARGUMENT,
+            DaachorseError::AutomatonScale(e) => e.limit.text(),
+            DaachorseError::InvalidConversion(_) => CONVERSION,
+            DaachorseError::InvalidAutomaton(_) => AUTOMATON,
+            DaachorseError::OutOfMemory(_) => MEMORY,
+        }
+    }
+
+    fn io_kind(self) -> io::ErrorKind
+        ensures { result ≡ io_kind self }
+    {
+        match self {
+            DaachorseError::InvalidArgument(_)
+            | DaachorseError::AutomatonScale(_)
+            | DaachorseError::InvalidConversion(_) => io::ErrorKind::InvalidInput,
+            DaachorseError::InvalidAutomaton(_) => io::ErrorKind::InvalidData,
+            DaachorseError::OutOfMemory(_) => io::ErrorKind::OutOfMemory,
+        }
+    }
+}
+
+impl Limit {
+    fn text(self) -> &'static str
+        ensures { result.now ≡ scale_text self }
+    {
+        match self {
+            Limit::PatternValues => "AutomatonScaleError: patvals.len() must be <= 16777215",
+            Limit::StateId => "AutomatonScaleError: state_id must be <= 4294967295",
+            Limit::NumElements => "AutomatonScaleError: num_elements must be <= 4294967295",
+            Limit::Outputs => "AutomatonScaleError: outputs.len() must be <= 4294967295",
+            Limit::OutputPos => "AutomatonScaleError: output_pos must be <= 16777215",
+        }
+    }
 }
 
 impl From<AllocError> for DaachorseError {
@@ -142,11 +189,19 @@ impl<T: Drop> From<AllocFailed<T>> for DaachorseError {
     }
 }
 
+impl From<DaachorseError> for io::Error {
+    ghost from_gives = { λ refusal e. error_kind e ≡ io_kind refusal };
+
+    fn from(refusal: DaachorseError) -> io::Error {
+        io::Error::new(refusal.io_kind(), refusal.text())
+    }
+}
+
 impl fmt::Display for InvalidArgumentError {
     ghost output = { λ _. Some argument_text };
 
     fn fmt<W: fmt::Write>(&self, f: &mut fmt::Formatter<W>) -> fmt::Result {
-        f.write_str("InvalidArgumentError: pattern.len() must be <= 4294967295")
+        f.write_str(ARGUMENT)
     }
 }
 
@@ -154,13 +209,7 @@ impl fmt::Display for AutomatonScaleError {
     ghost output = { λ e. Some (scale_text e.limit) };
 
     fn fmt<W: fmt::Write>(&self, f: &mut fmt::Formatter<W>) -> fmt::Result {
-        f.write_str(match self.limit {
-            Limit::PatternValues => "AutomatonScaleError: patvals.len() must be <= 16777215",
-            Limit::StateId => "AutomatonScaleError: state_id must be <= 4294967295",
-            Limit::NumElements => "AutomatonScaleError: num_elements must be <= 4294967295",
-            Limit::Outputs => "AutomatonScaleError: outputs.len() must be <= 4294967295",
-            Limit::OutputPos => "AutomatonScaleError: output_pos must be <= 16777215",
-        })
+        f.write_str(self.limit.text())
     }
 }
 
@@ -168,7 +217,7 @@ impl fmt::Display for InvalidConversionError {
     ghost output = { λ _. Some conversion_text };
 
     fn fmt<W: fmt::Write>(&self, f: &mut fmt::Formatter<W>) -> fmt::Result {
-        f.write_str("InvalidConversionError: index cannot be converted to V")
+        f.write_str(CONVERSION)
     }
 }
 
@@ -176,7 +225,7 @@ impl fmt::Display for InvalidAutomatonError {
     ghost output = { λ _. Some automaton_text };
 
     fn fmt<W: fmt::Write>(&self, f: &mut fmt::Formatter<W>) -> fmt::Result {
-        f.write_str("InvalidAutomatonError: invalid serialized automaton")
+        f.write_str(AUTOMATON)
     }
 }
 
@@ -184,7 +233,7 @@ impl fmt::Display for OutOfMemoryError {
     ghost output = { λ _. Some memory_text };
 
     fn fmt<W: fmt::Write>(&self, f: &mut fmt::Formatter<W>) -> fmt::Result {
-        f.write_str("OutOfMemoryError: memory allocation failed")
+        f.write_str(MEMORY)
     }
 }
 
@@ -201,13 +250,7 @@ impl fmt::Display for DaachorseError {
     ghost output = { λ e. Some (error_text e) };
 
     fn fmt<W: fmt::Write>(&self, f: &mut fmt::Formatter<W>) -> fmt::Result {
-        match self {
-            DaachorseError::InvalidArgument(e) => e.fmt(f),
-            DaachorseError::AutomatonScale(e) => e.fmt(f),
-            DaachorseError::InvalidConversion(e) => e.fmt(f),
-            DaachorseError::InvalidAutomaton(e) => e.fmt(f),
-            DaachorseError::OutOfMemory(e) => e.fmt(f),
-        }
+        f.write_str(self.text())
     }
 }
 

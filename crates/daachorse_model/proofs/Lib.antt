@@ -29,3 +29,4 @@ pub mod BestMatches
 pub mod StandardEnds
 pub mod TextOrder
 pub mod FoldLaws
+pub mod AsRead

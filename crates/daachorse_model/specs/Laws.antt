@@ -1,7 +1,8 @@
 -- What the lists of matches promise, in the words of the subject.
-use Rattle.std.specs.Prelude.{◌≡◌, ◌≢◌, ℕ, ◌+◌, ◌≤◌, List, [], ◌∷◌, ◌++◌, length, Contains, ⊤, Some, find, slice_get}
+use Rattle.std.specs.Prelude.{◌≡◌, ◌≢◌, ℕ, Bool, ◌+◌, ◌≤◌, List, [], ◌∷◌, ◌++◌, length, Contains, ⊤, Some, find, slice_get}
 use Rattle.daachorse_model.specs.declared.Match.{Match}
 use Rattle.daachorse_model.specs.Units.{size}
+use Rattle.daachorse_model.specs.Folding.{as_read}
 use Rattle.daachorse_model.specs.Dictionary.{Dictionary, is_prefix}
 
 -- the haystack has a key where the match says, and the match has one of its values
@@ -13,6 +14,22 @@ pub record IsOccurrence {V : Type 0} (width : ℕ → ℕ) (K : Dictionary V) (h
   pub starts : m.start ≡ size width before
   pub ends : m.end ≡ size width before + size width key
   pub has : Contains (K key) m.value
+
+-- the match is an occurrence in the haystack as it is read, and the part of the haystack there is the key as it is read
+pub record IsReadOccurrence {V : Type 0} (folds : Bool) (width : ℕ → ℕ) (K : Dictionary V) (h : List ℕ) (m : Match V) : Type 0 where
+  pub occurs : IsOccurrence width K (as_read folds h) m
+  pub before : List ℕ
+  pub part : List ℕ
+  pub after : List ℕ
+  pub splits : h ≡ before ++ (part ++ after)
+  pub front : as_read folds before ≡ occurs.before
+  pub key : as_read folds part ≡ occurs.key
+
+-- the value was registered for a text that is w as it is read
+pub record IsRegistered {V : Type 0} (folds : Bool) (patterns : List (List ℕ × V)) (w : List ℕ) (v : V) : Type 0 where
+  pub text : List ℕ
+  pub reads : as_read folds text ≡ w
+  pub given : Contains patterns (text, v)
 
 -- no match starts before the one before it ends, the first not before s; none ends before it starts
 abbrev pub Follows : {V : Type 0} → ℕ → List (Match V) → Type 0

@@ -5,33 +5,35 @@
 //! known of all patterns and all haystacks. A call does nothing and takes no memory.
 //! `daachorse_part_tests` calls laws at a type.
 
-ghost use Rattle.std.specs.Prelude.{◌≡◌, ◌↔◌, ℕ, List, [], All, Contains, length, encode_utf8_all, option_to_list};
+ghost use Rattle.std.specs.Prelude.{◌≡◌, ◌↔◌, ℕ, Bool, List, [], All, Contains, length, encode_utf8_all, option_to_list};
 ghost use Rattle.std.specs.Str.{IsCharBoundary, IsUtf8, chars};
 ghost use Rattle.std.specs.Cmp.Lexicographic.{slice_cmp};
 ghost use Rattle.std.specs.Ordering.{nat_cmp};
 ghost use Rattle.daachorse_model.specs.declared.Match.{Match};
 ghost use Rattle.daachorse_model.specs.Units.{byte_width, char_width, size};
-ghost use Rattle.daachorse_model.specs.Folding.{folded};
+ghost use Rattle.daachorse_model.specs.Folding.{folded, as_read, texts_as_read};
 ghost use Rattle.daachorse_model.specs.Dictionary.{kept_registrations, dictionary, in_bytes};
 ghost use Rattle.daachorse_model.specs.Matches.{overlapping, no_suffix, standard, at_each_end, standard_after};
 ghost use Rattle.daachorse_model.specs.Leftmost.{leftmost};
-ghost use Rattle.daachorse_model.specs.Laws.{IsOccurrence, Follows, IsLongestAtStart, IsEarliestAtStart};
+ghost use Rattle.daachorse_model.specs.Laws.{IsOccurrence, IsReadOccurrence, IsRegistered, Follows, IsLongestAtStart, IsEarliestAtStart};
 
 use crate::MatchKind;
 
-/// Each match's part of the haystack is a kept pattern, registered with the match's value,
-/// and each such part is an overlapping match.
+/// Each match's part of the haystack is, as it is read, a kept pattern, which is a registered one as
+/// it is read, with the match's value; and each such part is an overlapping match.
 pub fn matches_occur<V: Copy>(kind: MatchKind)
-    ensures overlapping { (width : ℕ → ℕ) (patterns : List (List ℕ × V)) (h : List ℕ)
-        → let K = dictionary kind patterns in All (IsOccurrence width K h) (overlapping width K h) }
-    ensures no_suffix { (width : ℕ → ℕ) (patterns : List (List ℕ × V)) (h : List ℕ)
-        → let K = dictionary kind patterns in All (IsOccurrence width K h) (no_suffix width K h) }
-    ensures standard { (width : ℕ → ℕ) (patterns : List (List ℕ × V)) (h : List ℕ)
-        → let K = dictionary kind patterns in All (IsOccurrence width K h) (standard width K h) }
-    ensures leftmost { (width : ℕ → ℕ) (patterns : List (List ℕ × V)) (h : List ℕ)
-        → let K = dictionary kind patterns in All (IsOccurrence width K h) (leftmost width K h) }
-    ensures complete { (width : ℕ → ℕ) (patterns : List (List ℕ × V)) (h : List ℕ) (m : Match V)
-        → let K = dictionary kind patterns in IsOccurrence width K h m → Contains (overlapping width K h) m }
+    ensures overlapping { (folds : Bool) (width : ℕ → ℕ) (patterns : List (List ℕ × V)) (h : List ℕ)
+        → let K = dictionary kind (texts_as_read folds patterns) in All (IsReadOccurrence folds width K h) (overlapping width K (as_read folds h)) }
+    ensures no_suffix { (folds : Bool) (width : ℕ → ℕ) (patterns : List (List ℕ × V)) (h : List ℕ)
+        → let K = dictionary kind (texts_as_read folds patterns) in All (IsReadOccurrence folds width K h) (no_suffix width K (as_read folds h)) }
+    ensures standard { (folds : Bool) (width : ℕ → ℕ) (patterns : List (List ℕ × V)) (h : List ℕ)
+        → let K = dictionary kind (texts_as_read folds patterns) in All (IsReadOccurrence folds width K h) (standard width K (as_read folds h)) }
+    ensures leftmost { (folds : Bool) (width : ℕ → ℕ) (patterns : List (List ℕ × V)) (h : List ℕ)
+        → let K = dictionary kind (texts_as_read folds patterns) in All (IsReadOccurrence folds width K h) (leftmost width K (as_read folds h)) }
+    ensures complete { (folds : Bool) (width : ℕ → ℕ) (patterns : List (List ℕ × V)) (h : List ℕ) (m : Match V)
+        → let K = dictionary kind (texts_as_read folds patterns) in IsOccurrence width K (as_read folds h) m → Contains (overlapping width K (as_read folds h)) m }
+    ensures registered { (folds : Bool) (patterns : List (List ℕ × V)) (w : List ℕ)
+        → All (IsRegistered folds patterns w) (dictionary kind (texts_as_read folds patterns) w) }
 {}
 
 /// Matches of standard and leftmost searches do not overlap, and their places never fall.
@@ -57,16 +59,21 @@ pub fn leftmost_first_is_earliest<V: Copy>()
         ≡ leftmost width (dictionary MatchKind.LeftmostLongest (kept_registrations MatchKind.LeftmostFirst patterns)) h }
 {}
 
-/// On text, with text patterns none of which is empty, bytes and characters give the same matches.
+/// On text, with text patterns none of which is empty, bytes and characters give the same matches,
+/// with and without regard to the case of ASCII letters.
 pub fn same_on_text<V: Copy>(kind: MatchKind)
-    ensures overlapping { (patterns : List (List ℕ × V)) (h : List ℕ) → dictionary kind patterns [] ≡ []
-        → overlapping byte_width (dictionary kind (in_bytes patterns)) (encode_utf8_all h) ≡ overlapping char_width (dictionary kind patterns) h }
-    ensures no_suffix { (patterns : List (List ℕ × V)) (h : List ℕ) → dictionary kind patterns [] ≡ []
-        → no_suffix byte_width (dictionary kind (in_bytes patterns)) (encode_utf8_all h) ≡ no_suffix char_width (dictionary kind patterns) h }
-    ensures standard { (patterns : List (List ℕ × V)) (h : List ℕ) → dictionary kind patterns [] ≡ []
-        → standard byte_width (dictionary kind (in_bytes patterns)) (encode_utf8_all h) ≡ standard char_width (dictionary kind patterns) h }
-    ensures leftmost { (patterns : List (List ℕ × V)) (h : List ℕ) → dictionary kind patterns [] ≡ []
-        → leftmost byte_width (dictionary kind (in_bytes patterns)) (encode_utf8_all h) ≡ leftmost char_width (dictionary kind patterns) h }
+    ensures overlapping { (folds : Bool) (patterns : List (List ℕ × V)) (h : List ℕ) → dictionary kind (texts_as_read folds patterns) [] ≡ []
+        → overlapping byte_width (dictionary kind (texts_as_read folds (in_bytes patterns))) (as_read folds (encode_utf8_all h))
+        ≡ overlapping char_width (dictionary kind (texts_as_read folds patterns)) (as_read folds h) }
+    ensures no_suffix { (folds : Bool) (patterns : List (List ℕ × V)) (h : List ℕ) → dictionary kind (texts_as_read folds patterns) [] ≡ []
+        → no_suffix byte_width (dictionary kind (texts_as_read folds (in_bytes patterns))) (as_read folds (encode_utf8_all h))
+        ≡ no_suffix char_width (dictionary kind (texts_as_read folds patterns)) (as_read folds h) }
+    ensures standard { (folds : Bool) (patterns : List (List ℕ × V)) (h : List ℕ) → dictionary kind (texts_as_read folds patterns) [] ≡ []
+        → standard byte_width (dictionary kind (texts_as_read folds (in_bytes patterns))) (as_read folds (encode_utf8_all h))
+        ≡ standard char_width (dictionary kind (texts_as_read folds patterns)) (as_read folds h) }
+    ensures leftmost { (folds : Bool) (patterns : List (List ℕ × V)) (h : List ℕ) → dictionary kind (texts_as_read folds patterns) [] ≡ []
+        → leftmost byte_width (dictionary kind (texts_as_read folds (in_bytes patterns))) (as_read folds (encode_utf8_all h))
+        ≡ leftmost char_width (dictionary kind (texts_as_read folds patterns)) (as_read folds h) }
 {}
 
 /// Texts of characters have one order: by their characters, and by the bytes of their UTF-8.
@@ -83,12 +90,13 @@ pub fn standard_end_by_end<V: Copy>(kind: MatchKind)
         at_each_end (λ t. option_to_list (standard_after char_width K t)) [] h ≡ standard char_width K h }
 {}
 
-/// The texts without regard to the case of ASCII letters keep the sizes and the boundaries of texts, in bytes and in
-/// characters, and are their own.
+/// Texts as they are read, with or without regard to the case of ASCII letters, keep the sizes and the boundaries of
+/// texts, in bytes and in characters, and are read as they are.
 pub fn folding_keeps_places()
     ensures again { (w : List ℕ) → folded (folded w) ≡ folded w }
     ensures length { (w : List ℕ) → length (folded w) ≡ length w }
-    ensures size { (w : List ℕ) → size char_width (folded w) ≡ size char_width w }
+    ensures bytes { (folds : Bool) (w : List ℕ) → size byte_width (as_read folds w) ≡ size byte_width w }
+    ensures size { (folds : Bool) (w : List ℕ) → size char_width (as_read folds w) ≡ size char_width w }
     ensures spelled { (w : List ℕ) → encode_utf8_all (folded w) ≡ folded (encode_utf8_all w) }
     ensures characters { (bs : List ℕ) → IsUtf8 bs → chars (folded bs) ≡ folded (chars bs) }
     ensures boundaries { (bs : List ℕ) (i : ℕ) → IsCharBoundary (folded bs) i ↔ IsCharBoundary bs i }

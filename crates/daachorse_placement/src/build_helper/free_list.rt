@@ -196,22 +196,21 @@ impl<A: Allocator> FreeList<A> {
     }
 
     /// Adds a block of vacant elements at the end.
-    fn push_block(&mut self) -> Result<()>
+    fn add_block(&mut self) -> Result<()>
         requires { IsWhole self.old }
         ensures ok { OnOk result (IsWhole self.new) }
         ensures more { OnOk result (HasBlockMore self.old self.new) }
         ensures err { IfErr result
             (IsPlaceRefusal (2 ^ 32 ≤ element_count self.old + self.old.block_len)) }
     {
-        let old_len = self.num_elements();
-        if old_len > u32::MAX - self.block_len {
+        let first = self.num_elements();
+        let Some(end) = first.checked_add(self.block_len) else {
             return Err(DaachorseError::automaton_scale(Limit::NumElements));
-        }
-        let new_len = old_len + self.block_len;
-        self.used_index.resize(new_len as usize, false)?;
-        self.used_base.resize(new_len as usize, false)?;
-        for idx in old_len..new_len {
-            self.next.push(idx + 1)?;
+        };
+        self.used_index.resize(end as usize, false)?;
+        self.used_base.resize(end as usize, false)?;
+        for vacant in first..end {
+            self.next.push(vacant + 1)?;
         }
         self.num_blocks += 1;
         Ok(())
@@ -236,7 +235,7 @@ impl<A: Allocator> FreeList<A> {
             return Ok(base);
         }
         let first = self.num_elements();
-        self.push_block()?;
+        self.add_block()?;
         let (label, _) = children[0];
         Ok(first ^ label)
     }

@@ -9,18 +9,18 @@ use Rattle.daachorse_placement.proofs.build_helper.free_list.FreeList.find_base.
 pub returns-clause-found : goal.returns-clause-found
 returns-clause-found g c =
     let kept : HasFlagsOf c.args.self.now c.first_fit.new.self = c.first_fit.ensures.kept in
-    subst (λ (m : ℕ). IsPlaceFor c.push_block.new.self c.args.children.now (bit_xor m (label_of c.args.children.now 0))) (sym c.num_elements-first.ensures)
-    (fresh_place c.first_fit.new.self c.push_block.new.self c.args.children.now c.first_fit.ensures.whole (c.in_ok-push_block.ensures.ok) (c.in_ok-push_block.ensures.more) c.requires.some
+    subst (λ (m : ℕ). IsPlaceFor c.add_block.new.self c.args.children.now (bit_xor m (label_of c.args.children.now 0))) (sym c.num_elements-first.ensures)
+    (fresh_place c.first_fit.new.self c.add_block.new.self c.args.children.now c.first_fit.ensures.whole (c.in_ok-add_block.ensures.ok) (c.in_ok-add_block.ensures.more) c.requires.some
     (subst (λ (m : ℕ). FitInBlock m c.args.children.now) kept.block c.requires.labels))
 
-pub returns-in_err-push_block-clause-whole : goal.returns-in_err-push_block-clause-whole
-returns-in_err-push_block-clause-whole g c = IfOk-from_err c.from_residual.result _ c.from_residual.ensures.0
+pub returns-in_err-add_block-clause-whole : goal.returns-in_err-add_block-clause-whole
+returns-in_err-add_block-clause-whole g c = IfOk-from_err c.from_residual.result _ c.from_residual.ensures.0
 
-pub returns-in_err-push_block-clause-more : goal.returns-in_err-push_block-clause-more
-returns-in_err-push_block-clause-more g c = IfOk-from_err c.from_residual.result _ c.from_residual.ensures.0
+pub returns-in_err-add_block-clause-more : goal.returns-in_err-add_block-clause-more
+returns-in_err-add_block-clause-more g c = IfOk-from_err c.from_residual.result _ c.from_residual.ensures.0
 
-pub returns-in_err-push_block-clause-found : goal.returns-in_err-push_block-clause-found
-returns-in_err-push_block-clause-found g c = IfOk-from_err c.from_residual.result _ c.from_residual.ensures.0
+pub returns-in_err-add_block-clause-found : goal.returns-in_err-add_block-clause-found
+returns-in_err-add_block-clause-found g c = IfOk-from_err c.from_residual.result _ c.from_residual.ensures.0
 
-pub returns-in_err-push_block-clause-first : goal.returns-in_err-push_block-clause-first
-returns-in_err-push_block-clause-first g c = IfOk-from_err c.from_residual.result _ c.from_residual.ensures.0
+pub returns-in_err-add_block-clause-first : goal.returns-in_err-add_block-clause-first
+returns-in_err-add_block-clause-first g c = IfOk-from_err c.from_residual.result _ c.from_residual.ensures.0

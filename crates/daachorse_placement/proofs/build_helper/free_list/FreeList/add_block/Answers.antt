@@ -2,7 +2,7 @@
 use Rattle.std.proofs.lemmas.Result.{IfOk-from_err}
 use Rattle.std.proofs.Common.{arith}
 use Rattle.std.proofs.lemmas.Grind.{common_steps}
-use Rattle.daachorse_placement.proofs.build_helper.free_list.FreeList.push_block.Goals as goal
+use Rattle.daachorse_placement.proofs.build_helper.free_list.FreeList.add_block.Goals as goal
 
 pub returns-in_err-resize-clause-ok : goal.returns-in_err-resize-clause-ok
 returns-in_err-resize-clause-ok g c = IfOk-from_err c.from_residual.result _ c.from_residual.ensures.0
@@ -22,5 +22,5 @@ returns-in_err-push-clause-ok g c = IfOk-from_err c.from_residual-in_err-push.re
 pub returns-in_err-push-clause-more : goal.returns-in_err-push-clause-more
 returns-in_err-push-clause-more g c = IfOk-from_err c.from_residual-in_err-push.result _ c.from_residual-in_err-push.ensures.0
 
-pub loop-idx-preserved : goal.loop-idx-preserved
-loop-idx-preserved g c = grind (arith, common_steps)
+pub loop-vacant-preserved : goal.loop-vacant-preserved
+loop-vacant-preserved g c = grind (arith, common_steps)

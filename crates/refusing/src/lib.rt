@@ -1,4 +1,4 @@
-//! An allocator for tests, which refuses one request, chosen by its number.
+//! An allocator for tests, which refuses one request, chosen by its number, or all that are too large.
 //!
 //! A test runs a call over `Refusing::new(rt.alloc(), n)` for each `n` in turn, until a run meets
 //! no refusal: so each growth of the call is refused once, as [`each_request`] does. The allocator
@@ -9,11 +9,21 @@
 use std::alloc::{AllocError, Allocator, Global};
 use std::cell::Cell;
 
-/// An allocator that passes each request on to the inner one, but refuses one of them.
+/// Which requests are refused.
+#[derive(Clone, Copy)]
+enum Rule {
+    /// The one that so many others come before.
+    After(u64),
+    /// None any more.
+    Done,
+    /// Those for more bytes.
+    Above(usize),
+}
+
+/// An allocator that passes requests on to the inner one, but refuses some of them.
 pub struct Refusing<B: Allocator> {
     inner: B,
-    // How many requests come before the one to refuse. It wraps below 0 at that one.
-    left: Cell<u64>,
+    rule: Cell<Rule>,
 }
 
 impl<B: Allocator> Refusing<B> {
@@ -21,34 +31,51 @@ impl<B: Allocator> Refusing<B> {
     pub fn new(inner: B, number: u64) -> Refusing<B> {
         Refusing {
             inner,
-            left: Cell::new(number),
+            rule: Cell::new(Rule::After(number)),
         }
     }
 
-    /// Whether the chosen request came, and was refused.
+    /// Refuses each request for more than `most` bytes, and no other.
+    pub fn above(inner: B, most: usize) -> Refusing<B> {
+        Refusing {
+            inner,
+            rule: Cell::new(Rule::Above(most)),
+        }
+    }
+
+    /// Whether the request that was chosen by its number came, and was refused.
     pub fn has_refused(&self) -> bool {
-        self.left.get() > u64::MAX / 2
+        matches!(self.rule.get(), Rule::Done)
     }
 }
 
 impl<B: Allocator> Drop for Refusing<B> {
     fn drop(self) {
-        let Self { inner: _, left: _ } = self;
+        let Self { inner: _, rule: _ } = self;
     }
 }
 
-// Counts a request, and says whether it is the one to refuse.
-fn refuses(left: &Cell<u64>) -> bool {
-    let now = left.get();
-    left.set(now.wrapping_sub(1));
-    now == 0
+// Counts a request for so many bytes, and says whether it is one to refuse.
+fn refuses(rule: &Cell<Rule>, size: usize) -> bool {
+    match rule.get() {
+        Rule::After(0) => {
+            rule.set(Rule::Done);
+            true
+        }
+        Rule::After(left) => {
+            rule.set(Rule::After(left - 1));
+            false
+        }
+        Rule::Done => false,
+        Rule::Above(most) => size > most,
+    }
 }
 
 unsafe impl<B: Allocator> Allocator for Refusing<B> {
     ghost dealloc_token = { λ heap ty ptr. B.dealloc_token heap.inner ty ptr };
 
     fn allocate(&self, size: usize, align: usize) -> Result<*mut u8, AllocError> {
-        if refuses(&self.left) {
+        if refuses(&self.rule, size) {
             return Err(AllocError);
         }
         self.inner.allocate(size, align)

@@ -1,4 +1,4 @@
--- The leftmost links of a trie are the leftmost failure links of the dictionary that it holds.
+-- The links of a trie, standard and leftmost, are the failure links of the dictionary that it holds.
 use Rattle.std.proofs.Common.{◌≡◌, ◌≢◌, ℕ, Bool, true, false, cond, List, [], ◌∷◌, ◌++◌, length, map, get_or, Contains, Option, Some, None, is_some, refl, sym, ap, ◌∙◌, subst, inl, inr, arith}
 use Rattle.std.specs.Prelude.{option_map, not, ◌==◌}
 use Rattle.std.specs.List.{list_any}
@@ -7,19 +7,20 @@ use Rattle.std.specs.declared.cmp.Ordering.{Ordering}
 use Rattle.daachorse_model.specs.declared.MatchKind.{MatchKind}
 use Rattle.daachorse_model.specs.Units.{same_text}
 use Rattle.daachorse_model.specs.Dictionary.{Dictionary, dictionary, kept_registrations, values_of, is_prefix}
-use Rattle.daachorse_model.specs.Prefixes.{IsPrefix, IsLeftFail, key_begins, long_unless_key, left_fail}
+use Rattle.daachorse_model.specs.Prefixes.{IsPrefix, IsLink, IsLeftFail, long, key_begins, long_unless_key, left_fail}
 use Rattle.daachorse_model.specs.Paths.{walk, is_reached, Leads}
-use Rattle.daachorse_model.proofs.Links.{left_fail-is, IsDead-not}
+use Rattle.daachorse_model.proofs.Links.{link-is, left_fail-is, IsDead-not}
 use Rattle.daachorse_model.proofs.Earliest.{is_prefix-splits, is_prefix-append}
 use Rattle.daachorse_model.proofs.Listings.{value_later}
 use Rattle.daachorse_build.specs.declared.nfa_builder.NfaBuilderState.{NfaBuilderState}
 use Rattle.daachorse_build.specs.Tables.{child_in, child_of, edges_of, own_at, fails_of, stops_of, HoldTrie}
 use Rattle.daachorse_build.specs.Growth.{HasTrieOf}
-use Rattle.daachorse_build.specs.Orders.{IsBreadthFirst, HoldLeftLinks}
+use Rattle.daachorse_build.specs.Orders.{IsBreadthFirst, HoldLinks, HoldLeftLinks}
 use Rattle.std.specs.Cmp.{IsTotalOrder}
 use Rattle.daachorse_build.proofs.Walks.{walk-same, walk-bounds}
 use Rattle.daachorse_build.proofs.Queue.{all_in_order}
 use Rattle.daachorse_build.specs.Holds.{in_units, Holds}
+use Rattle.daachorse_build.specs.Trie.{IsFailOf, LinksTo}
 use Rattle.daachorse_build.specs.Left.{meets, long_unless_stop, left_link, IsStateOf, IsLeftFailOf, LinksLeft}
 use Rattle.daachorse_build.proofs.Registrations.{text_same}
 use Rattle.daachorse_build.proofs.Dropped.{value_first}
@@ -78,6 +79,23 @@ module _ {L V A : Type 0} (cmp : L → L → Ordering) (unit : L → ℕ) (width
       at true false h k = sym (known-back (kept_registrations kind (in_units unit rs)) (map unit w) (there (walk (child_of cmp states) 0 w) refl h)) ∙ k
       at false true h k = let s = holds.begins w (known-fore (kept_registrations kind (in_units unit rs)) (map unit w) k) in sym h ∙ ap is_some s.1
 
+  map_either : (b : Bool) (x y : List L) → map unit (cond b x y) ≡ cond b (map unit x) (map unit y)
+  map_either true x y = refl
+  map_either false x y = refl
+
+  long-test : (w : List L) → map unit (long (is_reached (child_of cmp states)) w) ≡ long test (map unit w)
+  long-test [] = refl
+  long-test (c ∷ w) =
+      map_either (is_reached (child_of cmp states) (c ∷ w)) (c ∷ w) (long (is_reached (child_of cmp states)) w)
+      ∙ ap (λ b. cond b (map unit (c ∷ w)) (map unit (long (is_reached (child_of cmp states)) w))) (same_test (c ∷ w))
+      ∙ ap (λ x. cond (test (map unit (c ∷ w))) (map unit (c ∷ w)) x) (long-test w)
+
+  -- the standard link of a text is that of its units
+  pub standard_link-is : (c : L) (w : List L) → IsLink keys (map unit (c ∷ w)) (map unit (long (is_reached (child_of cmp states)) w))
+  standard_link-is c w =
+      let P : List ℕ → Type 0 = λ x. IsLink keys (map unit (c ∷ w)) x in
+      subst P (sym (long-test w)) (link-is keys test (known-fore (kept_registrations kind (in_units unit rs))) (known-back (kept_registrations kind (in_units unit rs))) (unit c) (map unit w))
+
   map_cond : (a b : Bool) (w : List L) (o : Option (List L)) → option_map (map unit) (cond a (Some w) (cond b None o)) ≡ cond a (Some (map unit w)) (cond b None (option_map (map unit) o))
   map_cond true b w o = refl
   map_cond false true w o = refl
@@ -113,23 +131,29 @@ module _ {L V A : Type 0} (cmp : L → L → Ordering) (unit : L → ℕ) (width
       [ None ↦ λ is dead. inl (is, dead) | Some x ↦ λ is l. inr (x, is, l.0, IsDead-not keys (map unit (c ∷ w)) (map unit x) l.0 l.1) ]) h (left_link-is c w)
 
 -- ---- where the links are built
-module _ {L V A : Type 0} (cmp : L → L → Ordering) (total : IsTotalOrder cmp) (old new : List (NfaBuilderState L V A)) (table : HoldTrie cmp old) (kept_registrations' : HasTrieOf old new) (order : List ℕ) (links : HoldLeftLinks cmp true new order) where
+module _ {L V A : Type 0} (cmp : L → L → Ordering) (total : IsTotalOrder cmp) (old new : List (NfaBuilderState L V A)) (table : HoldTrie cmp old) (kept_registrations' : HasTrieOf old new) (order : List ℕ) (first : IsBreadthFirst (edges_of new) order) where
   -- a state but the root stands in the order
   in_order : (c : L) (w : List L) (t : ℕ) → Leads (child_of cmp old) (c ∷ w) t → Contains order t
   in_order c w t h =
       let b = walk-bounds (child_of cmp old) (length (edges_of old)) table.trie (c ∷ w) t h in
       let apart : t ≢ 0 = λ e. (let nil : c ∷ w ≡ [] = walk-same (child_of cmp old) (length (edges_of old)) table.trie (c ∷ w) [] 0 (h ∙ ap Some e) refl in cc) in
       let P : List (List (L × ℕ)) → Type 0 = λ es. IsBreadthFirst es order in
-      all_in_order cmp total (edges_of old) table order (subst P kept_registrations'.edges links.first) t (omega (arith, b.1, apart)) b.0
+      all_in_order cmp total (edges_of old) table order (subst P kept_registrations'.edges first) t (omega (arith, b.1, apart)) b.0
 
-  left_fail_of : (c : L) (w : List L) (t : ℕ) → Leads (child_of cmp old) (c ∷ w) t → IsLeftFailOf (child_of cmp old) (stops_of true old) t (get_or (fails_of new) t 0)
-  left_fail_of c w t h =
+  left_fail_of : HoldLeftLinks cmp true new order → (c : L) (w : List L) (t : ℕ) → Leads (child_of cmp old) (c ∷ w) t → IsLeftFailOf (child_of cmp old) (stops_of true old) t (get_or (fails_of new) t 0)
+  left_fail_of links c w t h =
       let E : List (List (L × ℕ)) → Type 0 = λ es. IsLeftFailOf (child_in cmp es) (stops_of true new) t (get_or (fails_of new) t 0) in
       let O : List (List (V × ℕ)) → Type 0 = λ os. IsLeftFailOf (child_of cmp old) (λ s. not (length (own_at os s) == 0)) t (get_or (fails_of new) t 0) in
       subst O kept_registrations'.outputs (subst E kept_registrations'.edges (links.linked t (in_order c w t h)))
 
   -- the links that were built are those of the dictionary
-  pub links_left_built : (unit : L → ℕ) (width : ℕ → ℕ) (kind : MatchKind) (rs : List (List L × V)) → Holds cmp unit width kind old rs → (w : List L) (t : ℕ) → w ≢ [] → Leads (child_of cmp old) w t → LinksLeft (dictionary kind (in_units unit rs)) unit (child_of cmp old) w (get_or (fails_of new) t 0)
-  links_left_built unit width kind rs holds [] t ne h = absurd (ne refl)
-  links_left_built unit width kind rs holds (c ∷ w) t ne h =
-      links_left cmp unit width kind old rs holds c w (get_or (fails_of new) t 0) (left_fail_of c w t h c w h)
+  pub links_standard_built : HoldLinks cmp new order → (unit : L → ℕ) (width : ℕ → ℕ) (kind : MatchKind) (rs : List (List L × V)) → Holds cmp unit width kind old rs → (w : List L) (t : ℕ) → w ≢ [] → Leads (child_of cmp old) w t → LinksTo (dictionary kind (in_units unit rs)) unit (child_of cmp old) w (get_or (fails_of new) t 0)
+  links_standard_built links unit width kind rs holds [] t ne h = absurd (ne refl)
+  links_standard_built links unit width kind rs holds (c ∷ w) t ne h =
+      let E : List (List (L × ℕ)) → Type 0 = λ es. IsFailOf (child_in cmp es) t (get_or (fails_of new) t 0) in
+      (long (is_reached (child_of cmp old)) w, subst E kept_registrations'.edges (links.linked t (in_order c w t h)) c w h, standard_link-is cmp unit width kind old rs holds c w)
+
+  pub links_left_built : HoldLeftLinks cmp true new order → (unit : L → ℕ) (width : ℕ → ℕ) (kind : MatchKind) (rs : List (List L × V)) → Holds cmp unit width kind old rs → (w : List L) (t : ℕ) → w ≢ [] → Leads (child_of cmp old) w t → LinksLeft (dictionary kind (in_units unit rs)) unit (child_of cmp old) w (get_or (fails_of new) t 0)
+  links_left_built links unit width kind rs holds [] t ne h = absurd (ne refl)
+  links_left_built links unit width kind rs holds (c ∷ w) t ne h =
+      links_left cmp unit width kind old rs holds c w (get_or (fails_of new) t 0) (left_fail_of links c w t h c w h)

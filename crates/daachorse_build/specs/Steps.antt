@@ -16,12 +16,19 @@ use Rattle.daachorse_build.specs.Left.{LinksLeft}
 use Rattle.daachorse_build.specs.Lists.{IsChainedAt}
 use Rattle.daachorse_build.specs.Orders.{HoldLinks, HoldLeftLinks}
 use Rattle.daachorse_build.specs.Tables.{child_of, fails_of, own_of, output_count, positions_of, HoldTrie}
+use Rattle.daachorse_build.specs.Trie.{LinksTo}
 
 -- new has the patterns of old: their kind, how many are kept, and their trie
 pub record KeepsPatterns {L V A : Type 0} (old new : Builder L V A) : Type 0 where
   pub kind : kind_of new ≡ kind_of old
   pub patterns : count_of new ≡ count_of old
   pub kept : HasTrieOf (states_of old) (states_of new)
+
+-- in the trie of `old` each nonempty text has its link in `new`, for the patterns that were registered
+abbrev pub AreStandard : {L V A : Type 0} → (L → L → Ordering) → (L → ℕ) → MatchKind → List (NfaBuilderState L V A) → List (NfaBuilderState L V A) → List (List L × V) → Type 0
+AreStandard {L} cmp unit kind old new rs =
+    (w : List L) (t : ℕ) → w ≢ [] → Leads (child_of cmp old) w t
+    → LinksTo (dictionary kind (in_units unit rs)) unit (child_of cmp old) w (slice_index (fails_of new) t)
 
 -- in the trie of `old` each nonempty text has its leftmost link in `new`, for the patterns that were registered
 abbrev pub AreLeft : {L V A : Type 0} → (L → L → Ordering) → (L → ℕ) → MatchKind → List (NfaBuilderState L V A) → List (NfaBuilderState L V A) → List (List L × V) → Type 0
@@ -51,7 +58,8 @@ module _ {L V A : Type 0} (cmp : L → L → Ordering) (unit : L → ℕ) (width
   pub record HasLinksOf (is_leftmost : Bool) (old new : Builder L V A) (order : List ℕ) : Type 0 where
     pub standard : is_leftmost ≡ false → HoldLinks cmp (states_of new) order
     pub leftmost : is_leftmost ≡ true → HoldLeftLinks cmp true (states_of new) order
-    -- leftmost links are those of the dictionary
+    -- the links are those of the dictionary
+    pub standard_links : is_leftmost ≡ false → (rs : List (List L × V)) → Registered cmp unit width old rs → AreStandard cmp unit (kind_of old) (states_of old) (states_of new) rs
     pub left : is_leftmost ≡ true → (rs : List (List L × V)) → Registered cmp unit width old rs → AreLeft cmp unit (kind_of old) (states_of old) (states_of new) rs
     pub root : slice_index (fails_of (states_of new)) 0 ≡ 0
 

@@ -2,9 +2,10 @@
 //!
 //! Most states have one edge or none, so a map takes memory from its second edge on. The layers
 //! above may rely on a map being the list of its edges by rising labels: `get` finds the id at a
-//! label, `insert` changes that id and no other, and the iterators give the edges in order.
+//! label, `insert` changes that id and no other and is never refused the first edge, and the
+//! iterators give the edges in order.
 
-ghost use Rattle.std.specs.Prelude.{◌≡◌, ◌↔◌, ℕ, ◌<◌, [], ◌∷◌, ◌++◌, None, length, IfOk, IfErr, OnOk, OnErr, IsTrue, MatchResult};
+ghost use Rattle.std.specs.Prelude.{◌≡◌, ◌≢◌, ◌↔◌, ℕ, ◌<◌, ◌≤◌, [], ◌∷◌, ◌++◌, None, length, IfOk, IfErr, OnOk, OnErr, IsTrue, MatchResult};
 ghost use Rattle.std.specs.Option.{option_copied, option_to_list};
 ghost use Rattle.std.specs.Map.{values_of};
 ghost use Rattle.std.specs.List.{HoldsAt};
@@ -15,7 +16,7 @@ ghost use Rattle.std.specs.Map.Iter.{TakesFirst, ShowsInOrder, deref, deref_pair
 ghost use Rattle.std.specs.Iterator.{at_most};
 ghost use Rattle.daachorse_core.specs.Refusals.{IsOutOfMemory};
 ghost use Rattle.daachorse_build.specs.EdgeMaps.{id_at, IsOrdered, Updates};
-ghost use Rattle.daachorse_build.specs.Few.{items_of};
+ghost use Rattle.daachorse_build.specs.Few.{items_of, SpillsFromTwo};
 
 use crate::few::Few;
 use daachorse_core::edge_label::EdgeLabel;
@@ -41,11 +42,11 @@ impl<L: EdgeLabel, A: Allocator> Model for EdgeMap<L, A> {
     ghost Value = { List (L × ℕ) };
 
     ghost use Rattle.daachorse_build.specs.EdgeMaps.{IsOrdered};
-    ghost use Rattle.daachorse_build.specs.Few.{items_of};
+    ghost use Rattle.daachorse_build.specs.Few.{items_of, SpillsFromTwo};
 
     ghost view = { λ m. items_of m.edges };
 
-    ghost invariant = { λ m. IsOrdered L.cmp (items_of m.edges) };
+    ghost invariant = { λ m. IsOrdered L.cmp (items_of m.edges) × SpillsFromTwo m.edges };
 }
 
 impl<L: EdgeLabel, A: Allocator> Default for EdgeMap<L, A> {
@@ -127,6 +128,7 @@ impl<L: EdgeLabel, A: Allocator + Copy> EdgeMap<L, A> {
         ensures ordered { IsOrdered L.cmp self.new }
         ensures unchanged { OnErr result (self.new ≡ self.old) }
         ensures absent { OnErr result (id_at L.cmp self.old label ≡ None) }
+        ensures second { OnErr result (self.old ≢ []) }
         ensures err { IfErr result IsOutOfMemory }
     {
         put(&mut self.edges, alloc, (label, id))
@@ -254,6 +256,7 @@ fn put_among<L: EdgeLabel, A: Allocator>(edges: &mut Vec<(L, u32), A>, edge: (L,
     ensures edges { OnOk result (edges.new.items ≡ insert_entry L.cmp edges.old.items edge.0 edge.1) }
     ensures unchanged { OnErr result (edges.new.items ≡ edges.old.items) }
     ensures absent { OnErr result (id_at L.cmp edges.old.items edge.0 ≡ None) }
+    ensures longer { length edges.old.items ≤ length edges.new.items }
     ensures err { IfErr result IsOutOfMemory }
 {
     match find(edges, &edge.0) {
@@ -269,10 +272,13 @@ fn put<L: EdgeLabel, A: Allocator + Copy>(
     alloc: A,
     edge: (L, u32),
 ) -> Result<()>
-    requires { IsOrdered L.cmp (items_of edges.old) }
+    requires ordered { IsOrdered L.cmp (items_of edges.old) }
+    requires spills { SpillsFromTwo edges.old }
     ensures edges { OnOk result (items_of edges.new ≡ insert_entry L.cmp (items_of edges.old) edge.0 edge.1) }
     ensures unchanged { OnErr result (items_of edges.new ≡ items_of edges.old) }
     ensures absent { OnErr result (id_at L.cmp (items_of edges.old) edge.0 ≡ None) }
+    ensures second { OnErr result (items_of edges.old ≢ []) }
+    ensures spills { SpillsFromTwo edges.new }
     ensures err { IfErr result IsOutOfMemory }
 {
     match edges {

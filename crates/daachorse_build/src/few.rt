@@ -8,7 +8,7 @@
 ghost use Rattle.std.specs.Prelude.{◌≡◌, ◌==◌, ◌<◌, ◌++◌, ◌∷◌, [], Some, length, IfOk, IfErr, OnOk, OnErr};
 ghost use Rattle.std.specs.List.{slice_get};
 ghost use Rattle.daachorse_core.specs.Refusals.{IsOutOfMemory};
-ghost use Rattle.daachorse_build.specs.Few.{items_of};
+ghost use Rattle.daachorse_build.specs.Few.{items_of, SpillsFromTwo};
 
 use daachorse_core::errors::Result;
 use std::alloc::Allocator;
@@ -18,7 +18,7 @@ use std::alloc::Allocator;
 pub(crate) enum Few<T: Copy, A: Allocator> {
     Empty,
     One(T),
-    // Two items or more.
+    // Two items or more, where `SpillsFromTwo` says so.
     Many(Box<Vec<T, A>, A>),
 }
 
@@ -58,6 +58,7 @@ impl<T: Copy, A: Allocator + Copy> Few<T, A> {
     /// Two items. It takes memory for the vector and for what points to it.
     pub(crate) fn two(alloc: A, first: T, second: T) -> Result<Self>
         ensures items { IfOk result (λ few. items_of few ≡ first ∷ second ∷ []) }
+        ensures spills { IfOk result SpillsFromTwo }
         ensures err { IfErr result IsOutOfMemory }
     {
         let mut items = Vec::with_capacity(alloc, 2)?;
@@ -83,6 +84,7 @@ impl<T: Copy, A: Allocator + Copy> Few<T, A> {
     /// A list of the same items, in memory of its own.
     pub(crate) fn clone(&self) -> Result<Self>
         ensures same { IfOk result (λ few. items_of few ≡ items_of self.now) }
+        ensures spills { IfOk result (λ few. SpillsFromTwo self.now → SpillsFromTwo few) }
         ensures err { IfErr result IsOutOfMemory }
     {
         match self {

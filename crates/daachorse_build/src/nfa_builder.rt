@@ -117,7 +117,7 @@ impl<L: EdgeLabel, V: Copy, A: Allocator + Copy> NfaBuilderState<L, V, A> {
     }
 }
 
-/// Builder of an Aho-Corasick automaton.
+/// A trie of patterns, from which an automaton is made.
 ///
 /// It is the trie of Aho and Corasick (1975): `add` makes the states, `build_fails` or
 /// `build_fails_leftmost` the links, and `build_outputs` the outputs, in this order.

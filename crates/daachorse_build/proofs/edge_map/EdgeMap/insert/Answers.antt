@@ -10,14 +10,17 @@ by_result : {T E P Q R : Type 0} (r : Result T E) → OnOk r P → OnErr r Q →
 by_result (Ok _) p q f h = f p
 by_result (Err _) p q f h = h q
 
-pub invariant_of-self : goal.invariant_of-self
-invariant_of-self g c =
+ordered_new : goal.returns-clause-ordered
+ordered_new g c =
     let cmp = g.L.Ord.cmp in
     let old = items_of c.self.inside.edges in
     let P : List (g.row.L.Denot × ℕ) → Type 0 = IsOrdered cmp in
     by_result c.put.result c.put.ensures.edges c.put.ensures.unchanged
-    (λ e. subst P (sym e) (ordered_put cmp g.met.L.Ord.total old c.args.label c.args.id c.self.invariant))
-    (λ e. subst P (sym e) c.self.invariant)
+    (λ e. subst P (sym e) (ordered_put cmp g.met.L.Ord.total old c.args.label c.args.id c.self.invariant.0))
+    (λ e. subst P (sym e) c.self.invariant.0)
+
+pub invariant_of-self : goal.invariant_of-self
+invariant_of-self g c = (ordered_new g c, c.put.ensures.spills)
 
 pub returns-clause-updates : goal.returns-clause-updates
 returns-clause-updates g c =
@@ -30,4 +33,4 @@ returns-clause-updates g c =
     c.put.ensures.edges
 
 pub returns-clause-ordered : goal.returns-clause-ordered
-returns-clause-ordered g c = invariant_of-self g c
+returns-clause-ordered g c = ordered_new g c

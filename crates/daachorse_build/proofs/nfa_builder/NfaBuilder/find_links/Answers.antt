@@ -7,10 +7,10 @@ use Rattle.std.specs.Cmp.{IsTotalOrder}
 use Rattle.daachorse_build.specs.declared.nfa_builder.NfaBuilderState.{NfaBuilderState}
 use Rattle.daachorse_build.specs.Builders.{Builder}
 use Rattle.daachorse_build.specs.Growth.{HasTrieOf}
-use Rattle.daachorse_build.specs.Orders.{HaveLinks, HoldLeftLinks}
+use Rattle.daachorse_build.specs.Orders.{HaveLinks, HoldLinks, HoldLeftLinks}
 use Rattle.daachorse_build.specs.Steps.{HasLinksOf}
 use Rattle.daachorse_build.specs.Tables.{edges_of, fails_of, stops_of, HoldTrie, IsTable}
-use Rattle.daachorse_build.proofs.Leftmost.{links_left_built}
+use Rattle.daachorse_build.proofs.Leftmost.{links_standard_built, links_left_built}
 use Rattle.daachorse_build.proofs.Queue.{linked_of_left}
 use Rattle.daachorse_build.proofs.nfa_builder.NfaBuilder.find_links.Goals as goal
 
@@ -20,11 +20,13 @@ links-built : {L V A : Type 0} (cmp : L → L → Ordering) (total : IsTotalOrde
 links-built {L} cmp total unit width b new order leftmost table kept linked =
     let E : List (List (L × ℕ)) → Type 0 = λ es. IsTable cmp es in
     let P : Bool → Type 0 = λ k. HoldLeftLinks cmp k new order in
+    let back : leftmost ≡ false → HoldLinks cmp new order = λ is. linked_of_left cmp total (edges_of new) (subst E (sym kept.edges) table) (stops_of false new) (λ s. refl) (fails_of new) order
+    (λ t h. (let at = linked.within t h in (at.0, omega (arith, at.1, length-map new (λ s. s.edges))))) (subst P is linked.links) in
     record {
-      standard = λ is. linked_of_left cmp total (edges_of new) (subst E (sym kept.edges) table) (stops_of false new) (λ s. refl) (fails_of new) order
-          (λ t h. (let at = linked.within t h in (at.0, omega (arith, at.1, length-map new (λ s. s.edges))))) (subst P is linked.links);
+      standard = back;
       leftmost = λ is. subst P is linked.links;
-      left = λ is rs reg w t some h. links_left_built cmp total b.states new table kept order (subst P is linked.links) unit width b.kind rs reg.holds w t some h;
+      standard_links = λ is rs reg w t some h. links_standard_built cmp total b.states new table kept order linked.links.first (back is) unit width b.kind rs reg.holds w t some h;
+      left = λ is rs reg w t some h. links_left_built cmp total b.states new table kept order linked.links.first (subst P is linked.links) unit width b.kind rs reg.holds w t some h;
       root = linked.root;
     }
 

@@ -2,6 +2,7 @@
 use Rattle.std.proofs.Common.{◌≡◌, ◌≢◌, Bool, true, false, cond, ℕ, ◌<◌, ◌/◌, ◌%◌, List, [], Option, Some, None, refl, sym, ap, ◌∙◌, subst, arith}
 use Rattle.std.specs.Prelude.{slice_index_or, unwrap_or}
 use Rattle.std.specs.declared.num.NonZeroU32.{NonZeroU32}
+use Rattle.daachorse_core.specs.Looks.{LooksOnce}
 use Rattle.daachorse_core.specs.Outputs.{number}
 use Rattle.daachorse_core.specs.declared.turns.Look.{Look}
 use Rattle.daachorse_core.specs.declared.turns.Look.TheVariants.{Next, Fail}
@@ -10,11 +11,11 @@ use Rattle.daachorse_model.specs.Kinds.{is_leftmost}
 use Rattle.daachorse_model.specs.Units.{byte_width}
 use Rattle.daachorse_machine.specs.Machines.{IsMachine}
 use Rattle.daachorse_machine.proofs.ChildLaws.{child_at-inside}
-use Rattle.daachorse_machine.proofs.MachineLaws.{Reached-inside, Reached-root, first-output, text-root, root-text, turn-next, turn-root, turn-dead, turn-link, standard-alive}
+use Rattle.daachorse_machine.proofs.MachineLaws.{LooksOnce-gives, Reached-inside, Reached-root, first-output, text-root, root-text, turn-next, turn-root, turn-dead, turn-link, standard-alive}
 use Rattle.daachorse_search.specs.Views.{HasFirst, SeesLook}
 use Rattle.daachorse_bytewise_states.specs.Elements.{output_in, vacant, vacant_left}
-use Rattle.daachorse_bytewise_states.specs.Parts.{Parts, base_of, check_of, child, count, fail_of, machine, output_of, word_at}
-use Rattle.daachorse_bytewise_states.specs.Valid.{IsRootTable, IsState, IsValid, sees, text}
+use Rattle.daachorse_bytewise_states.specs.Parts.{Parts, base_of, check_of, child, content, count, fail_of, machine, output_of, word_at}
+use Rattle.daachorse_bytewise_states.specs.Valid.{IsRootTable, IsState, IsValid, dead, sees, text}
 use Rattle.daachorse_bytewise_states.proofs.DeadLaws.{alive}
 
 below_256 : (b : Bool) (m n : ℕ) → cond b (m % 256) (n % 256) < 256
@@ -24,10 +25,12 @@ below_256 false m n = omega arith
 module _ {V : Type 0} (p : Parts V) where
   -- what a look at an element gives for a byte
   abbrev pub Gives : ℕ → ℕ → Look → Type 0
-  Gives i c look = SeesLook (sees p) i c look
+  Gives i c look = LooksOnce (content p) (IsState p) (text p) (dead p) (text p i) c look
 
-  pub gives_label : (i c : ℕ) (look : Look) → Gives i c look → (unit : ℕ) → c ≡ unit → Gives i unit look
-  gives_label i c look gives unit same = let P : ℕ → Type 0 = λ u. Gives i u look in subst P same gives
+  pub gives_label : (i c : ℕ) (look : Look) → Gives i c look → (unit : ℕ) → c ≡ unit → SeesLook (sees p) i unit look
+  gives_label i c look gives unit same =
+      let P : ℕ → Type 0 = λ u. SeesLook (sees p) i u look in
+      subst P same (LooksOnce-gives (content p) (IsState p) (text p) (dead p) (text p i) c look gives)
 
   pub valid_machine : IsValid p → IsMachine byte_width (machine p) (is_leftmost p.kind) (count p) 256
   valid_machine valid = record {

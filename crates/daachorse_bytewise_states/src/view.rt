@@ -1,7 +1,7 @@
 //! What a search sees of the states.
 //!
-//! The layers above may rely on a [`View`] being the automaton of its parts, on `turn` looking at
-//! one element and its child alone and counting one turn, and on no call taking memory.
+//! The layers above may rely on a [`View`] being the automaton of its parts, on `turn` following no
+//! link and counting one turn, and on no call taking memory.
 
 ghost use Rattle.std.specs.Prelude.{◌≡◌, ◌<◌, ◌/◌, ℕ, true, false, List, [], length, slice_index, slice_index_or, IfSome};
 ghost use Rattle.daachorse_core.specs.Outputs.{number};
@@ -151,8 +151,13 @@ impl<'a, V: Copy, S: Reads> View<'a, V, S> {
 }
 
 impl<'a, V: Copy, S: Reads> Automaton<V> for View<'a, V, S> {
-    ghost use Rattle.std.specs.Prelude.{◌≡◌};
-    ghost use Rattle.daachorse_bytewise_states.specs.Valid.{no_output, sees};
+    ghost use Rattle.std.specs.Prelude.{◌≡◌, ◌≢◌, ◌+◌, ℕ};
+    ghost use Rattle.daachorse_core.specs.Looks.{LooksOnce};
+    ghost use Rattle.daachorse_core.specs.declared.turns.Look.TheVariants.{Fail};
+    ghost use Rattle.daachorse_model.specs.Units.{byte_width};
+    ghost use Rattle.daachorse_search.specs.Views.{SeesLook, TellsFirst};
+    ghost use Rattle.daachorse_bytewise_states.specs.Parts.{content};
+    ghost use Rattle.daachorse_bytewise_states.specs.Valid.{IsState, dead, no_output, sees, text};
 
     type Unit = u8;
 
@@ -182,7 +187,14 @@ impl<'a, V: Copy, S: Reads> Automaton<V> for View<'a, V, S> {
     }
 
     #[inline(always)]
-    fn turn(&self, state: u32, label: u8, turns: &mut Turns) -> Look {
+    fn turn(&self, state: u32, label: u8, turns: &mut Turns) -> Look
+        requires { IsState self.now state }
+        ensures once { LooksOnce (content self.now) (IsState self.now) (text self.now) (dead self.now) (text self.now state) label result }
+        ensures look { (unit : ℕ) → label ≡ unit → SeesLook (sees self.now) state unit result }
+        ensures output { (unit : ℕ) → label ≡ unit → TellsFirst byte_width (sees self.now) result }
+        ensures counted { turns.new ≡ turns.old + 1 }
+        ensures single { (sees self.now).ends_at_once → (unit link : ℕ) → label ≡ unit → result ≢ Fail link }
+    {
         turns.tick();
         if state == ROOT_STATE_IDX {
             if let Some((child, word)) = S::from_root(self.beside, label) {

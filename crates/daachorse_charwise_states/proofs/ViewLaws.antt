@@ -7,18 +7,24 @@ use Rattle.std.proofs.lemmas.List.{get_or_default}
 use Rattle.daachorse_model.specs.Kinds.{is_leftmost}
 use Rattle.daachorse_model.specs.Units.{char_width}
 use Rattle.daachorse_machine.specs.Machines.{IsMachine}
-use Rattle.daachorse_core.specs.Looks.{IsForeign}
+use Rattle.daachorse_core.specs.Looks.{IsForeign, LooksOnce}
 use Rattle.daachorse_core.specs.Outputs.{number}
+use Rattle.daachorse_core.specs.declared.turns.Look.{Look}
 use Rattle.daachorse_machine.proofs.DeadLaws.{kind_standard, none_dead}
-use Rattle.daachorse_machine.proofs.MachineLaws.{Reached-inside, Reached-root, standard-alive}
+use Rattle.daachorse_machine.proofs.MachineLaws.{LooksOnce-gives, Reached-inside, Reached-root, standard-alive}
 use Rattle.daachorse_mapper.specs.Codings.{code_of}
+use Rattle.daachorse_search.specs.Views.{SeesLook}
 use Rattle.daachorse_charwise_states.specs.declared.state.State.{State}
 use Rattle.daachorse_charwise_states.specs.Elements.{base_in, check_in, fail_in, output_in, vacant}
 use Rattle.daachorse_charwise_states.specs.Parts.{Parts, char_code, child, child_among, child_by, content, count, fail_of, machine, output_of}
-use Rattle.daachorse_charwise_states.specs.Valid.{IsState, IsValid, has_code}
+use Rattle.daachorse_charwise_states.specs.Valid.{IsState, IsValid, dead, has_code, sees, text}
 use Rattle.daachorse_charwise_states.specs.Views.{IsFor, IsRootOutput}
 use Rattle.daachorse_charwise_states.proofs.CharLaws.{child_by_code, foreign_char, valid_machine}
 use Rattle.daachorse_charwise_states.proofs.Codes.{char_code-of}
+
+-- a look that follows no link gives what any look may
+pub look_gives : {V : Type 0} (p : Parts V) (i u : ℕ) (look : Look) → LooksOnce (content p) (IsState p) (text p) (dead p) (text p i) u look → SeesLook (sees p) i u look
+look_gives p i u look once = LooksOnce-gives (content p) (IsState p) (text p) (dead p) (text p i) u look once
 
 -- q is what is borrowed, and p what contracts see of it
 module _ {V : Type 0} (q p : Parts V) (leftmost : Bool) (is : q ≡ p) (kept : IsFor leftmost q) where

@@ -1,7 +1,7 @@
 //! What a search sees of the states.
 //!
-//! The layers above may rely on a [`View`] being the automaton of its parts, on `turn` looking at
-//! one element and its child alone and counting one turn, and on no call taking memory.
+//! The layers above may rely on a [`View`] being the automaton of its parts, on `turn` following no
+//! link and counting one turn, and on no call taking memory.
 
 ghost use Rattle.std.specs.Prelude.{◌≡◌, ◌<◌, ℕ, Some};
 ghost use Rattle.daachorse_charwise_states.specs.Parts.{char_code};
@@ -87,9 +87,13 @@ impl<'a, V: Copy, S: Searches> View<'a, V, S> {
 }
 
 impl<'a, V: Copy, S: Searches> Automaton<V> for View<'a, V, S> {
-    ghost use Rattle.std.specs.Prelude.{◌≡◌, Some};
-    ghost use Rattle.daachorse_charwise_states.specs.Parts.{char_code};
-    ghost use Rattle.daachorse_charwise_states.specs.Valid.{no_output, sees};
+    ghost use Rattle.std.specs.Prelude.{◌≡◌, ◌≢◌, ◌+◌, ℕ, Some};
+    ghost use Rattle.daachorse_core.specs.Looks.{LooksOnce};
+    ghost use Rattle.daachorse_core.specs.declared.turns.Look.TheVariants.{Fail};
+    ghost use Rattle.daachorse_model.specs.Units.{char_width};
+    ghost use Rattle.daachorse_search.specs.Views.{SeesLook, TellsFirst};
+    ghost use Rattle.daachorse_charwise_states.specs.Parts.{char_code, content};
+    ghost use Rattle.daachorse_charwise_states.specs.Valid.{IsState, dead, no_output, sees, text};
 
     type Unit = char;
 
@@ -119,7 +123,15 @@ impl<'a, V: Copy, S: Searches> Automaton<V> for View<'a, V, S> {
     }
 
     #[inline(always)]
-    fn turn(&self, state: u32, code: u32, turns: &mut Turns) -> Look {
+    fn turn(&self, state: u32, code: u32, turns: &mut Turns) -> Look
+        requires { IsState self.now state }
+        ensures once { (unit : ℕ) → char_code self.now.coding unit ≡ Some code
+            → LooksOnce (content self.now) (IsState self.now) (text self.now) (dead self.now) (text self.now state) unit result }
+        ensures look { (unit : ℕ) → char_code self.now.coding unit ≡ Some code → SeesLook (sees self.now) state unit result }
+        ensures output { (unit : ℕ) → char_code self.now.coding unit ≡ Some code → TellsFirst char_width (sees self.now) result }
+        ensures counted { turns.new ≡ turns.old + 1 }
+        ensures single { (sees self.now).ends_at_once → (unit link : ℕ) → char_code self.now.coding unit ≡ Some code → result ≢ Fail link }
+    {
         turns.tick();
         let element = &self.states[state as usize];
         if let Some((child, position)) = element.child_and_output(state, code, self.states) {

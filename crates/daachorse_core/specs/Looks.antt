@@ -30,6 +30,11 @@ module _ {V : Type 0} (K : Dictionary V) (reached : ℕ → Type 0) (text : ℕ 
   LookGives w u (Next t _) = reached t × StepEnds K dead w u (text t)
   LookGives w u (Fail t) = reached t × (¬ IsPrefix K (w ++ u ∷ [])) × (¬ dead w) × IsLink K w (text t)
 
+  -- what a look that follows no link gives: the end of a step that follows none, or else the link
+  abbrev pub LooksOnce : List ℕ → ℕ → Look → Type 0
+  LooksOnce w u (Next t _) = reached t × EndsAfter K dead 0 w u (text t)
+  LooksOnce w u (Fail t) = LookGives w u (Fail t)
+
 -- Of a state with text w: the outputs from the position on, none at position 0, are those of the keys that end with w, down to a dead link.
 module _ {V : Type 0} (width : ℕ → ℕ) (K : Dictionary V) (dead : List ℕ → Type 0) (has_output : ℕ → Type 0) (outputs : ℕ → List (V × ℕ)) (most : ℕ) where
   pub record IsFirstOutput (w : List ℕ) (position : Option NonZeroU32) : Type 0 where

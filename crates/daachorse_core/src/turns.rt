@@ -2,8 +2,8 @@
 //!
 //! Neither [`Turns`] nor [`Seen`] takes a byte at run time. The layers above may rely on the
 //! number of `Turns` growing by one with each tick, by the turns of another walk where these are
-//! added, and in no other way, and on `Seen` holding just what was pushed. Only a search makes
-//! either; a search learns where to go by looks alone.
+//! added, and in no other way, and on `Seen` holding just what was pushed. A search makes its own
+//! and learns where to go by looks alone. What makes rows drops the turns of each step it looks up.
 
 ghost use Rattle.std.specs.Prelude.{◌≡◌, ◌+◌, ◌++◌, ◌∷◌, []};
 ghost use Rattle.daachorse_core.specs.Seen.{unread};

@@ -6,18 +6,24 @@ use Rattle.std.specs.declared.num.NonZeroU32.{NonZeroU32}
 use Rattle.daachorse_core.specs.Outputs.{number, outputs_at}
 use Rattle.daachorse_core.specs.declared.turns.Look.{Look}
 use Rattle.daachorse_core.specs.declared.turns.Look.TheVariants.{Next, Fail}
+use Rattle.daachorse_model.specs.Dictionary.{Dictionary}
 use Rattle.daachorse_model.specs.Units.{size}
 use Rattle.daachorse_model.specs.Paths.{walk, is_reached, Leads}
 use Rattle.daachorse_model.specs.Prefixes.{IsPrefix, IsLink, IsLeftFail, long, left_fail}
 use Rattle.daachorse_model.specs.Outputs.{own_outputs, IsChain, at_root, at_dead, before_link}
 use Rattle.daachorse_model.proofs.Links.{IsDead-not, link-is, left_fail-is}
 use Rattle.daachorse_model.proofs.Paths.{walk-push}
-use Rattle.daachorse_core.specs.Looks.{IsFirstOutput, IsForeign, LookGives}
+use Rattle.daachorse_core.specs.Looks.{IsFirstOutput, IsForeign, LookGives, LooksOnce}
 use Rattle.daachorse_machine.specs.Texts.{text_of, IsReached}
 use Rattle.daachorse_machine.specs.Machines.{Machine, own, values_at, content, element_of, right_fail, dead_in, IsMachine}
 use Rattle.daachorse_machine.proofs.PathLaws.{walk-split, element_reached, reached_element, any_child, Leads-inside, Leads-length, text_of-Leads}
 use Rattle.daachorse_machine.proofs.ChainLaws.{outputs_at-own}
 use Rattle.daachorse_machine.proofs.OutputLaws.{outputs_few, outputs_some}
+
+-- a look that follows no link gives what any look may
+pub LooksOnce-gives : {V : Type 0} (K : Dictionary V) (reached : ℕ → Type 0) (text : ℕ → List ℕ) (dead : List ℕ → Type 0) (w : List ℕ) (u : ℕ) (look : Look) → LooksOnce K reached text dead w u look → LookGives K reached text dead w u look
+LooksOnce-gives K reached text dead w u (Next t o) (there, ends) = (there, inr (0, ends))
+LooksOnce-gives K reached text dead w u (Fail t) told = told
 
 module _ {V : Type 0} (width : ℕ → ℕ) (a : Machine V) (leftmost : Bool) (n m : ℕ) (h : IsMachine width a leftmost n m) where
   -- an element's text is what leads to it
@@ -178,17 +184,17 @@ module _ {V : Type 0} (width : ℕ → ℕ) (a : Machine V) (leftmost : Bool) (n
 
   -- what a look at an element for a unit gives
   abbrev Gives : ℕ → ℕ → Look → Type 0
-  Gives i c look = LookGives (content width a) (IsReached a.child m n) (text_of a.child m n) (dead_in width a leftmost) (text_of a.child m n i) c look
+  Gives i c look = LooksOnce (content width a) (IsReached a.child m n) (text_of a.child m n) (dead_in width a leftmost) (text_of a.child m n i) c look
 
   -- a child is the next element
   pub turn-next : (i c j : ℕ) → IsReached a.child m n i → a.child i c ≡ Some j → (o : Option NonZeroU32) → Gives i c (Next j o)
   turn-next i c j r e o =
       let leads : Leads a.child (text_of a.child m n i ++ c ∷ []) j = walk-push a.child 0 (text_of a.child m n i) c i r ∙ e in
-      (Reached-Leads _ j leads, inr (0, inl (fore _ (reached_element a.child _ j leads), text-Leads _ j leads)))
+      (Reached-Leads _ j leads, inl (fore _ (reached_element a.child _ j leads), text-Leads _ j leads))
 
   -- the root stays where it has no child
   pub turn-root : (i c : ℕ) → IsReached a.child m n i → a.child i c ≡ None → i ≡ 0 → (o : Option NonZeroU32) → Gives i c (Next 0 o)
-  turn-root i c r none root o = (Reached-root, inr (0, inr (not_prefix i c r none, inl (text-root i root), text-root 0 refl)))
+  turn-root i c r none root o = (Reached-root, inr (not_prefix i c r none, inl (text-root i root), text-root 0 refl))
 
   link_at : (i : ℕ) → IsReached a.child m n i → i ≢ 0 → LinkOf (text_of a.child m n i) (a.fail i)
   link_at i r other = elim (root_or i (text_of a.child m n i) r) [
@@ -200,7 +206,7 @@ module _ {V : Type 0} (width : ℕ → ℕ) (a : Machine V) (leftmost : Bool) (n
   -- a dead link leads to the root
   pub turn-dead : (i c : ℕ) → IsReached a.child m n i → a.child i c ≡ None → i ≢ 0 → a.fail i ≡ 1 → (o : Option NonZeroU32) → Gives i c (Next 0 o)
   turn-dead i c r none other one o = elim (link_at i r other) [
-    | to_dead dead is ↦ (Reached-root, inr (0, inr (not_prefix i c r none, inr dead, text-root 0 refl)))
+    | to_dead dead is ↦ (Reached-root, inr (not_prefix i c r none, inr dead, text-root 0 refl))
     | to_element link alive leads not_one ↦ absurd (not_one one)
   ]
 

@@ -7,7 +7,7 @@
 //! Where nothing is pending and the walk stands at the root, a filter that is open moves the haystack
 //! on, and the walk begins again there. No match depends on it.
 
-ghost use Rattle.std.specs.Prelude.{◌≡◌, ◌+◌, ◌*◌, ◌^◌, ◌<◌, ◌≤◌, ◌++◌, ℕ, true, IfNone, IfSome, None, IsTrue, List, [], length};
+ghost use Rattle.std.specs.Prelude.{◌≡◌, ◌≢◌, ◌+◌, ◌*◌, ◌^◌, ◌<◌, ◌≤◌, ◌++◌, ℕ, true, IfNone, IfSome, None, IsTrue, List, [], length};
 ghost use Rattle.daachorse_core.specs.Outputs.{number};
 ghost use Rattle.daachorse_model.specs.Units.{size};
 ghost use Rattle.daachorse_model.specs.Matches.{at_each_end};
@@ -135,9 +135,10 @@ impl<V: Copy, W: Stepwise<V>, H: Reread<W::Unit>, F: Filter<W::Unit, H>> Matches
 
     /// Does nothing, and promises that the turns are at most twice the units passed, at most as many as
     /// these where each look ends its step, and at least those of them that take a look and at which
-    /// the filter passes; the bounds of the walk for what it read since it last began at the root, and for all that was passed where the filter passes
-    /// everywhere; that there are none where a filter that was open passes nowhere; and that the haystack
-    /// begins with the units passed.
+    /// the filter passes; the bounds of the walk for what it read since it last began at the root, and for
+    /// all that was passed where the filter passes everywhere, as it does where a key is empty; that there
+    /// are none where a filter that was open passes nowhere; and that the haystack begins with the units
+    /// passed.
     #[inline(always)]
     pub fn turns_are_bounded(&self)
         ensures most { self.now.turns ≤ 2 * length self.now.passed }
@@ -146,6 +147,7 @@ impl<V: Copy, W: Stepwise<V>, H: Reread<W::Unit>, F: Filter<W::Unit, H>> Matches
         ensures behind { AreBoundedBehind W.bounds self.now.automaton self.now.passed self.now.since self.now.turns }
         ensures bounds { ((w : List ℕ) → F.passes self.now.filter w ≡ true)
             → W.bounds self.now.automaton self.now.passed self.now.turns }
+        ensures keyed { W.content self.now.automaton [] ≢ [] → W.bounds self.now.automaton self.now.passed self.now.turns }
         ensures idle { F.opened self.now.filter → PassesNowhere (F.passes self.now.filter) self.now.haystack → self.now.turns ≡ 0 }
         ensures passed { (rest : List ℕ) × (self.now.haystack ≡ self.now.passed ++ rest) }
     {

@@ -30,7 +30,8 @@ use std::alloc::Global;
 /// match at each boundary.
 ///
 /// The automaton's `find_iter` makes it. It takes no memory, and at most two turns, which are looks
-/// at one state, for each byte that it passed: `turns_are_bounded` promises it.
+/// at one state, for each byte that it passed, and none with an empty pattern: `turns_are_bounded`
+/// promises it.
 pub type FindSliceIterator<'a, V, A = Global> = MatchesAsRead<
     V,
     FindWalk<V, Standard<'a, V>>,
@@ -43,7 +44,8 @@ pub type FindSliceIterator<'a, V, A = Global> = MatchesAsRead<
 /// It takes no byte past the end of the match that it returns.
 ///
 /// The automaton's `find_iter_from_iter` makes it. It takes no memory, and at most two turns, which
-/// are looks at one state, for each byte that it passed: `turns_are_bounded` promises it.
+/// are looks at one state, for each byte that it passed, and none with an empty pattern:
+/// `turns_are_bounded` promises it.
 pub type FindIterator<'a, P, V> = MatchesFromAsRead<
     V,
     FindWalk<V, Standard<'a, V>>,
@@ -120,7 +122,8 @@ pub type LeftmostFindIterator<'a, V, A = Global> = LeftmostMatchesAsRead<
 /// A search for non-overlapping matches that is given one byte at a time.
 ///
 /// The automaton's `find_stepper` makes it. It takes no memory, and at most two turns, which are
-/// looks at one state, for each byte that it passed: `turns_are_bounded` promises it.
+/// looks at one state, for each byte that it passed, and none with an empty pattern:
+/// `turns_are_bounded` promises it.
 pub type FindStepper<'a, V> = FindStepperAsRead<'a, V, Standard<'a, V>>;
 
 /// A search for all matches that is given one byte at a time.

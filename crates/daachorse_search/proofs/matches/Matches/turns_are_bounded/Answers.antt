@@ -1,5 +1,5 @@
 -- The turns are those up to where the walk began, and those of the walk.
-use Rattle.std.proofs.Common.{◌≡◌, ◌+◌, ◌≤◌, ◌++◌, ℕ, true, List, length, refl, sym, ap, ◌∙◌, subst, append_assoc, arith}
+use Rattle.std.proofs.Common.{◌≡◌, ◌≢◌, [], ◌+◌, ◌≤◌, ◌++◌, ℕ, true, List, length, refl, sym, ap, ◌∙◌, subst, append_assoc, arith}
 use Rattle.std.proofs.lemmas.Grind.{common_steps}
 use Rattle.daachorse_search.specs.Skipping.{next_position}
 use Rattle.daachorse_search.specs.Filters.{count_passing}
@@ -43,6 +43,17 @@ returns-clause-bounds g c =
     let R : ℕ → Type 0 = λ n. W.bounds (W.automaton i.walk) (W.read i.walk) n in
     subst P c.self.view_is (λ everywhere.
     let plain = reading-plain g.W.Unit.EdgeLabel.width W.automaton W.read W.turns W.found W.content W.looks_at W.ends_at_once W.has_output W.given_from (F.passes i.first_filter.value) (F.opened i.first_filter.value) (rest i.whole.value) i.size (F.opened i.filter) i.walk (rest i.rest) (next_position i.first i.output) i.taken c.self.invariant.1 everywhere in
+    subst Q (sym plain.0) (subst R (sym plain.1) walked.bounds))
+
+-- where a key is empty, the filter passes everywhere
+pub returns-clause-keyed : goal.returns-clause-keyed
+returns-clause-keyed g c =
+    let W = g.W.Stepwise in let F = g.F.Filter in let rest = g.H.Haystack.rest in let i = c.self.inside in let walked = c.turns_are_bounded.ensures in let was = c.self.invariant.1 in
+    let P : Progress g.row.V.Denot g.row.W-Automaton.Denot g.row.F.Denot → Type 0 = λ s. W.content s.automaton [] ≢ [] → W.bounds s.automaton s.passed s.turns in
+    let Q : List ℕ → Type 0 = λ x. W.bounds (W.automaton i.walk) x (i.taken + W.turns i.walk) in
+    let R : ℕ → Type 0 = λ n. W.bounds (W.automaton i.walk) (W.read i.walk) n in
+    subst P c.self.view_is (λ keyed.
+    let plain = reading-plain g.W.Unit.EdgeLabel.width W.automaton W.read W.turns W.found W.content W.looks_at W.ends_at_once W.has_output W.given_from (F.passes i.first_filter.value) (F.opened i.first_filter.value) (rest i.whole.value) i.size (F.opened i.filter) i.walk (rest i.rest) (next_position i.first i.output) i.taken was (λ w. was.sound [] w keyed) in
     subst Q (sym plain.0) (subst R (sym plain.1) walked.bounds))
 
 -- what is left of the haystack comes after the units passed

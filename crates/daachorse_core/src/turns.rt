@@ -2,8 +2,9 @@
 //!
 //! Neither [`Turns`] nor [`Seen`] takes a byte at run time. The layers above may rely on the
 //! number of `Turns` growing by one with each tick, by the turns of another walk where these are
-//! added, and in no other way, and on `Seen` holding just what was pushed. A search makes its own
-//! and learns where to go by looks alone. What makes rows drops the turns of each step it looks up.
+//! added, and in no other way, and on `Seen` holding just what was pushed. Each search makes its
+//! own, and hands out neither to be changed. What makes rows drops the turns of each step it looks
+//! up. A search learns where to go by looks alone.
 
 ghost use Rattle.std.specs.Prelude.{◌≡◌, ◌+◌, ◌++◌, ◌∷◌, []};
 ghost use Rattle.daachorse_core.specs.Seen.{unread};
@@ -100,9 +101,9 @@ pub enum History {
 /// The units that a search has read, the place from which its state counts, the units that it
 /// looked up, and the number of matches that it gave. It takes no bytes.
 ///
-/// A walk keeps the units, and gives no match by itself. A search in a haystack, standard or
-/// leftmost, keeps one for the number alone: its units are those of its walk, or those of the
-/// haystack before the place where it goes on. A search in a source, and a stepper, keep no number.
+/// A walk keeps the units, and gives no match by itself. A search keeps one for the number alone:
+/// its units are those of its walk, or those of the haystack before the place where it goes on. A
+/// stepper keeps no number: it tells the matches that end there as often as it is asked, and gives none.
 #[derive(Drop)]
 pub struct Seen {
     history: Snapshot<History>,

@@ -51,6 +51,7 @@ module _ {V A S U : Type 0} (found : A → List ℕ → List (Match V)) (steps :
           read = gave.read ∙ ap (λ w. s.read ++ w) was.units;
           matches = ap (λ w. s.pending ++ past_each_end (found s.automaton) s.read w) (sym was.units) ∙ gave.matches;
           ends = gave.ends;
+          counted = gave.counted;
         },
       )
   GivesFrom-as_read s None t (xs, gave) =
@@ -62,5 +63,6 @@ module _ {V A S U : Type 0} (found : A → List ℕ → List (Match V)) (steps :
           read = gave.read ∙ ap (λ w. s.read ++ w) was.units;
           matches = ap (λ w. s.pending ++ past_each_end (found s.automaton) s.read w) (sym was.units) ∙ gave.matches;
           none = gave.none;
+          counted = gave.counted;
         },
       )

@@ -57,6 +57,7 @@ where
         ensures read { result.search.read ≡ [] }
         ensures pending { result.search.pending ≡ W.found (W.automaton walk) [] }
         ensures turns { result.search.turns ≡ W.turns walk }
+        ensures given { result.search.given ≡ 0 }
         ensures most { result.search.most ≡ W.most_found (W.automaton walk) }
     {
         let matches = if folds {

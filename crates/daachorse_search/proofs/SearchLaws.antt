@@ -17,13 +17,14 @@ fewer_left most had left new less fits = grind (arith, mul-le-mul_left most less
 
 module _ {V A W S U : Type 0} (automaton : W → A) (text : W → List ℕ) (turns : W → ℕ) (found : A → List ℕ → List (Match V)) (most : A → ℕ) (has_output : W → ℕ → Type 0) (given_from : W → ℕ → List (Match V)) (can : S → Type 0) (steps : S → Option U → S → Type 0) (left : S → Count) (unit : U → ℕ) (width : ℕ → ℕ) where
   -- what callers see of a search that stands so
-  abbrev pub progress_of : W → S → ℕ → SourceProgress V A S
-  progress_of walk source position = record {
+  abbrev pub progress_of : W → S → ℕ → ℕ → SourceProgress V A S
+  progress_of walk source position given = record {
     automaton = automaton walk;
     source = source;
     read = text walk;
     pending = given_from walk position;
     turns = turns walk;
+    given = given;
     most = most (automaton walk);
   }
 
@@ -39,8 +40,8 @@ module _ {V A W S U : Type 0} (automaton : W → A) (text : W → List ℕ) (tur
     pub fewer : length (given_from walk position) + most (automaton walk) * items_left left source ≤ length s.pending + s.most * items_left left s.source
 
   -- an output was pending
-  pub IsReached-pending : (walk : W) (source : S) (position : ℕ) → IsReady can steps left unit width source (size width (text walk)) → IsReached (progress_of walk source position) walk source position
-  IsReached-pending walk source position ready = record {
+  pub IsReached-pending : (walk : W) (source : S) (position given : ℕ) → IsReady can steps left unit width source (size width (text walk)) → IsReached (progress_of walk source position given) walk source position
+  IsReached-pending walk source position given ready = record {
     took = [];
     run = refl;
     same = refl;
@@ -52,12 +53,12 @@ module _ {V A W S U : Type 0} (automaton : W → A) (text : W → List ℕ) (tur
   }
 
   -- a scan led to outputs
-  pub IsReached-scan : (walk : W) (source : S) (position : NonZeroU32) (to : W) (rest : S) → given_from walk 0 ≡ []
+  pub IsReached-scan : (walk : W) (source : S) (given : ℕ) (position : NonZeroU32) (to : W) (rest : S) → given_from walk 0 ≡ []
       → ScanGives automaton text found steps left unit walk source (Some position) to rest
       → Stops automaton text found most has_output given_from to (Some position)
       → IsReady can steps left unit width rest (size width (text to))
-      → IsReached (progress_of walk source 0) to rest position.value
-  IsReached-scan walk source position to rest none (xs, last, before, x, over, step, less, same, read) stops ready =
+      → IsReached (progress_of walk source 0 given) to rest position.value
+  IsReached-scan walk source given position to rest none (xs, last, before, x, over, step, less, same, read) stops ready =
       let more : List ℕ = map unit xs in let u : ℕ = unit x in let f = found (automaton walk) in
       let all : map unit (xs ++ x ∷ []) ≡ more ++ u ∷ [] = map-append unit xs (x ∷ []) in
       let is : automaton to ≡ automaton walk = same ∙ over.same in
@@ -80,32 +81,32 @@ module _ {V A W S U : Type 0} (automaton : W → A) (text : W → List ℕ) (tur
       }
 
   -- the same for what callers see
-  pub IsReached-pending_at : (s : SourceProgress V A S) (walk : W) (source : S) (position : ℕ) → progress_of walk source position ≡ s → IsReady can steps left unit width s.source (size width s.read) → IsReached s walk source position
-  IsReached-pending_at s walk source position is ready =
+  pub IsReached-pending_at : (s : SourceProgress V A S) (walk : W) (source : S) (position given : ℕ) → progress_of walk source position given ≡ s → IsReady can steps left unit width s.source (size width s.read) → IsReached s walk source position
+  IsReached-pending_at s walk source position given is ready =
       let P : SourceProgress V A S → Type 0 = λ x. IsReached x walk source position in
       let Q : SourceProgress V A S → Type 0 = λ x. IsReady can steps left unit width x.source (size width x.read) in
-      subst P is (IsReached-pending walk source position (subst Q (sym is) ready))
+      subst P is (IsReached-pending walk source position given (subst Q (sym is) ready))
 
-  pub IsReached-scan_at : (s : SourceProgress V A S) (walk : W) (source : S) (was : ℕ) (position : NonZeroU32) (to : W) (rest : S) → progress_of walk source was ≡ s → was ≡ 0 → given_from walk 0 ≡ []
+  pub IsReached-scan_at : (s : SourceProgress V A S) (walk : W) (source : S) (was given : ℕ) (position : NonZeroU32) (to : W) (rest : S) → progress_of walk source was given ≡ s → was ≡ 0 → given_from walk 0 ≡ []
       → ScanGives automaton text found steps left unit walk source (Some position) to rest
       → Stops automaton text found most has_output given_from to (Some position)
       → IsReady can steps left unit width rest (size width (text to))
       → IsReached s to rest position.value
-  IsReached-scan_at s walk source was position to rest is zero none took stops ready =
+  IsReached-scan_at s walk source was given position to rest is zero none took stops ready =
       let P : SourceProgress V A S → Type 0 = λ x. IsReached x to rest position.value in
-      let Q : ℕ → Type 0 = λ n. IsReached (progress_of walk source n) to rest position.value in
-      subst P is (subst Q (sym zero) (IsReached-scan walk source position to rest none took stops ready))
+      let Q : ℕ → Type 0 = λ n. IsReached (progress_of walk source n given) to rest position.value in
+      subst P is (subst Q (sym zero) (IsReached-scan walk source given position to rest none took stops ready))
 
   -- A call gave the first of the outputs that it came to.
-  pub Gave-reached : (s : SourceProgress V A S) (walk : W) (source : S) (position next : ℕ) (m : Match V) → IsReached s walk source position
+  pub Gave-reached : (s : SourceProgress V A S) (walk : W) (source : S) (position next given : ℕ) (m : Match V) → given ≡ s.given + 1 → IsReached s walk source position
       → given_from walk position ≡ m ∷ given_from walk next → m.end ≡ size width (text walk)
-      → (xs : List U) × Gave found steps left unit width s xs m (progress_of walk source next)
-  Gave-reached s walk source position next m r first ends = (r.took, record { took = r.run; fewer = r.taken; same = r.same; read = r.read; matches = r.matches ∙ first; ends = ends })
+      → (xs : List U) × Gave found steps left unit width s xs m (progress_of walk source next given)
+  Gave-reached s walk source position next given m counted r first ends = (r.took, record { took = r.run; fewer = r.taken; same = r.same; read = r.read; matches = r.matches ∙ first; ends = ends; counted = counted })
 
-  pub progress-reached : (s : SourceProgress V A S) (walk : W) (source : S) (position next : ℕ) (m : Match V) → IsReached s walk source position
+  pub progress-reached : (s : SourceProgress V A S) (walk : W) (source : S) (position next given : ℕ) (m : Match V) → IsReached s walk source position
       → given_from walk position ≡ m ∷ given_from walk next
-      → MakesProgress (λ (x : SourceProgress V A S). IsReady can steps left unit width x.source (size width x.read)) (λ x. count_map (λ n. length x.pending + x.most * n) (left x.source)) s (Some m) (progress_of walk source next)
-  progress-reached s walk source position next m r first =
+      → MakesProgress (λ (x : SourceProgress V A S). IsReady can steps left unit width x.source (size width x.read)) (λ x. count_map (λ n. length x.pending + x.most * n) (left x.source)) s (Some m) (progress_of walk source next given)
+  progress-reached s walk source position next given m r first =
       let fewer : length (given_from walk position) ≡ length (given_from walk next) + 1 = omega (arith, ap length first) in
       record {
         on = λ _. (r.ready, r.ready.ends, omega (arith, fewer, r.fewer));

@@ -14,13 +14,14 @@ pub record BeginsWith {V A F : Type 0} (a : A) (units : List ℕ) (matches : Lis
   pub turns : s.turns ≡ 0
   pub given : s.given ≡ 0
 
--- in what a source gives: these matches end where nothing was read, and are still to come
+-- in what a source gives: these matches end where nothing was read, and are still to come, and none was given
 pub record BeginsFrom {V A S : Type 0} (a : A) (from : S) (matches : List (Match V)) (s : SourceProgress V A S) : Type 0 where
   pub automaton : s.automaton ≡ a
   pub source : s.source ≡ from
   pub pending : s.pending ≡ matches
   pub read : s.read ≡ []
   pub turns : s.turns ≡ 0
+  pub given : s.given ≡ 0
 
 -- in units that it is given one at a time, with these depths of the states
 pub record BeginsStepping {A : Type 0} (a : A) (table : List ℕ) (s : Stepped A) : Type 0 where

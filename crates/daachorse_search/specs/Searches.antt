@@ -8,13 +8,14 @@ use Rattle.std.specs.Option.{option_to_list}
 use Rattle.daachorse_search.specs.Sources.{past_each_end}
 use Rattle.daachorse_search.specs.Views.{AutomatonView}
 
--- what callers see of a search with an automaton A over a source S: the units that were read, the matches that end with them and are still to come, and the turns taken
+-- what callers see of a search with an automaton A over a source S: the units that were read, the matches that end with them and are still to come, the turns taken, and the number of matches given
 pub record SourceProgress (V A S : Type 0) : Type 0 where
   pub automaton : A
   pub source : S
   pub read : List ℕ
   pub pending : List (Match V)
   pub turns : ℕ
+  pub given : ℕ
   pub most : ℕ
 
 -- all matches that end with the units read
@@ -38,6 +39,7 @@ module _ {V A S U : Type 0} (found : A → List ℕ → List (Match V)) (steps :
     pub read : t.read ≡ s.read ++ map unit xs
     pub matches : s.pending ++ past_each_end (found s.automaton) s.read (map unit xs) ≡ m ∷ t.pending
     pub ends : m.end ≡ size width t.read
+    pub counted : t.given ≡ s.given + 1
 
   -- A call took the units xs, and then the source ended: nothing was pending, and no match ends with xs.
   pub record Ended (s : SourceProgress V A S) (xs : List U) (t : SourceProgress V A S) : Type 0 where
@@ -46,6 +48,7 @@ module _ {V A S U : Type 0} (found : A → List ℕ → List (Match V)) (steps :
     pub read : t.read ≡ s.read ++ map unit xs
     pub matches : s.pending ++ past_each_end (found s.automaton) s.read (map unit xs) ≡ []
     pub none : t.pending ≡ []
+    pub counted : t.given ≡ s.given
 
   -- what a call gives
   abbrev pub GivesFrom : SourceProgress V A S → Option (Match V) → SourceProgress V A S → Type 0

@@ -39,6 +39,7 @@ impl<V: Copy, W: Stepwise<V>, S: Source<W::Unit>> MatchesFrom<V, W, S> {
         ensures read { result.read ≡ [] }
         ensures pending { result.pending ≡ W.found (W.automaton walk) [] }
         ensures turns { result.turns ≡ W.turns walk }
+        ensures given { result.given ≡ 0 }
         ensures most { result.most ≡ W.most_found (W.automaton walk) }
     {
         Self {

@@ -10,6 +10,7 @@ use crate::scan::scan;
 use crate::source::Source;
 use crate::stepwise::Stepwise;
 use daachorse_core::Match;
+use daachorse_core::turns::Seen;
 use std::marker::{Model, PhantomData};
 use std::num::NonZeroU32;
 
@@ -24,6 +25,8 @@ pub struct Search<V: Copy, W: Stepwise<V>, S: Source<W::Unit>> {
     // The walk has it too. It stands here so that a field's type names what it borrows; no search
     // reads it.
     automaton: W::Automaton,
+    // It counts the matches given.
+    seen: Seen,
     of: PhantomData<V>,
 }
 
@@ -40,6 +43,7 @@ impl<V: Copy, W: Stepwise<V>, S: Source<W::Unit>> Model for Search<V, W, S> {
       read = W.read s.walk;
       pending = W.given_from s.walk (number s.output);
       turns = W.turns s.walk;
+      given = s.seen.given;
       most = W.most_found (W.automaton s.walk);
     } };
 
@@ -56,6 +60,7 @@ impl<V: Copy, W: Stepwise<V>, S: Source<W::Unit>> Search<V, W, S> {
         ensures read { result.read ≡ [] }
         ensures pending { result.pending ≡ W.found (W.automaton walk) [] }
         ensures turns { result.turns ≡ W.turns walk }
+        ensures given { result.given ≡ 0 }
         ensures most { result.most ≡ W.most_found (W.automaton walk) }
     {
         let output = walk.begin();
@@ -66,6 +71,7 @@ impl<V: Copy, W: Stepwise<V>, S: Source<W::Unit>> Search<V, W, S> {
             place: 0,
             output,
             automaton,
+            seen: Seen::new(),
             of: PhantomData,
         }
     }
@@ -101,6 +107,7 @@ impl<V: Copy, W: Stepwise<V>, S: Source<W::Unit>> Iterator for Search<V, W, S> {
         };
         let (found, next) = self.walk.give(position, self.place);
         self.output = next;
+        self.seen.give();
         Some(found)
     }
 }

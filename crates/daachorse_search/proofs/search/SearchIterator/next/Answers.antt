@@ -1,8 +1,10 @@
 -- Whether an output was pending or a scan came to one, what is given from its position on begins with the match that the call gives, and the others stay pending.
-use Rattle.std.proofs.Common.{◌≡◌, ◌+◌, ◌∷◌, ℕ, sym, ap, subst, arith}
+use Rattle.std.proofs.Common.{◌≡◌, ◌+◌, ◌∷◌, ℕ, refl, sym, ap, ◌∙◌, subst, arith}
 use Rattle.std.specs.declared.num.NonZeroU32.{NonZeroU32}
 use Rattle.daachorse_core.specs.Outputs.{number}
+use Rattle.daachorse_core.specs.Seen.{SeenUnits}
 use Rattle.daachorse_search.specs.declared.search.Search.TheInside.{Inside}
+use Rattle.daachorse_search.specs.Searches.{SourceProgress}
 use Rattle.daachorse_model.specs.Units.{size}
 use Rattle.daachorse_search.proofs.AfreshLaws.{unshifted}
 use Rattle.daachorse_search.proofs.SearchLaws.{IsReached, IsReached-pending_at, IsReached-scan_at, Gave-reached, progress-reached}
@@ -11,7 +13,7 @@ use Rattle.daachorse_search.proofs.search.SearchIterator.next.Goals as goal
 use Rattle.daachorse_search.proofs.search.SearchIterator.next.Goals.{in-Some, in-None+in_ok-position-in-None}
 
 -- the call came to outputs that are not all given
-reached : (g : given.Over) (c : goal.After-next-1 g) → IsReached g.W.Stepwise.automaton g.W.Stepwise.read g.W.Stepwise.turns g.W.Stepwise.found g.W.Stepwise.most_found g.W.Stepwise.has_output g.W.Stepwise.given_from g.S.Iterator.can_next g.S.Iterator.next_gives g.S.Iterator.remaining g.W.Unit.EdgeLabel.unit g.W.Unit.EdgeLabel.width c.args.self.now c.match-self.self-inside.walk c.match-self.self-inside.source c.match-self.position.value
+reached : (g : given.Over) (c : goal.After-give g) → IsReached g.W.Stepwise.automaton g.W.Stepwise.read g.W.Stepwise.turns g.W.Stepwise.found g.W.Stepwise.most_found g.W.Stepwise.has_output g.W.Stepwise.given_from g.S.Iterator.can_next g.S.Iterator.next_gives g.S.Iterator.remaining g.W.Unit.EdgeLabel.unit g.W.Unit.EdgeLabel.width c.args.self.now c.match-self.self-inside.walk c.match-self.self-inside.source c.match-self.position.value
 reached g c =
     let W = g.W.Stepwise in let S = g.S.Iterator in let unit = g.W.Unit.EdgeLabel in let was = c.self.inside in
     let I : Type 0 = Inside g.row.V.Denot g.row.W.Denot g.row.S.Denot g.row.W-Unit.Denot g.row.W-Automaton.Denot in
@@ -22,17 +24,17 @@ reached g c =
     elim c.match-self.branch [
       | in-Some w ↦
           subst P (sym w.self-inside-is) (subst (Q was) (sym w.position-is) (subst F (ap number w.in-Some.is)
-          (IsReached-pending_at W.automaton W.read W.turns W.found W.most_found W.has_output W.given_from S.can_next S.next_gives S.remaining unit.unit unit.width c.args.self.now was.walk was.source (number was.output) c.self.view_is c.requires)))
+          (IsReached-pending_at W.automaton W.read W.turns W.found W.most_found W.has_output W.given_from S.can_next S.next_gives S.remaining unit.unit unit.width c.args.self.now was.walk was.source (number was.output) was.seen.given c.self.view_is c.requires)))
       | in-None+in_ok-position-in-None w ↦
           let to = w.scan.new in let scanned = w.in_ok-position-in-None in
-          let after : I = record { walk = to.walk; source = to.source; place = to.place; output = was.output; automaton = was.automaton; of = was.of } in
+          let after : I = record { walk = to.walk; source = to.source; place = to.place; output = was.output; automaton = was.automaton; seen = was.seen; of = was.of } in
           subst P (sym w.self-inside-is) (subst (Q after) (sym w.position-is)
-          (IsReached-scan_at W.automaton W.read W.turns W.found W.most_found W.has_output W.given_from S.can_next S.next_gives S.remaining unit.unit unit.width c.args.self.now was.walk was.source (number was.output) scanned.position to.walk to.source
+          (IsReached-scan_at W.automaton W.read W.turns W.found W.most_found W.has_output W.given_from S.can_next S.next_gives S.remaining unit.unit unit.width c.args.self.now was.walk was.source (number was.output) was.seen.given scanned.position to.walk to.source
           c.self.view_is (ap number w.in-None.is) (g.met.W.Stepwise.no_output was.walk).1 scanned.ensures.took scanned.ensures.stops scanned.ensures.ready))
     ]
 
 -- the place is that after all units read
-here : (g : given.Over) (c : goal.After-next-1 g) → c.match-self.self-inside.place ≡ 0 + size g.W.Unit.EdgeLabel.width (g.W.Stepwise.read c.match-self.self-inside.walk)
+here : (g : given.Over) (c : goal.After-give g) → c.match-self.self-inside.place ≡ 0 + size g.W.Unit.EdgeLabel.width (g.W.Stepwise.read c.match-self.self-inside.walk)
 here g c =
     let W = g.W.Stepwise in let width = g.W.Unit.EdgeLabel.width in
     let H : Inside g.row.V.Denot g.row.W.Denot g.row.S.Denot g.row.W-Unit.Denot g.row.W-Automaton.Denot → Type 0 = λ i. i.place ≡ 0 + size width (W.read i.walk) in
@@ -42,8 +44,23 @@ here g c =
     ]
 
 -- what is given from the position on
-first : (g : given.Over) (c : goal.After-next-1 g) → g.W.Stepwise.given_from c.match-self.self-inside.walk c.match-self.position.value ≡ c.give-found.result.0 ∷ g.W.Stepwise.given_from c.match-self.self-inside.walk (number c.give-found.result.1)
+first : (g : given.Over) (c : goal.After-give g) → g.W.Stepwise.given_from c.match-self.self-inside.walk c.match-self.position.value ≡ c.give-found.result.0 ∷ g.W.Stepwise.given_from c.match-self.self-inside.walk (number c.give-found.result.1)
 first g c = unshifted _ _ c.give-found.result.0 (c.give-found.ensures.given 0 (here g c))
+
+-- no match was given up to there
+none_given : (g : given.Over) (c : goal.After-give g) → c.match-self.self-inside.seen ≡ c.self.inside.seen
+none_given g c =
+    let was = c.self.inside in
+    let H : Inside g.row.V.Denot g.row.W.Denot g.row.S.Denot g.row.W-Unit.Denot g.row.W-Automaton.Denot → Type 0 = λ i. i.seen ≡ was.seen in
+    elim c.match-self.branch [
+      | in-Some w ↦ subst H (sym w.self-inside-is) refl
+      | in-None+in_ok-position-in-None w ↦ subst H (sym w.self-inside-is) refl
+    ]
+
+counted : (g : given.Over) (c : goal.After-give g) → c.give.new.self.given ≡ c.args.self.now.given + 1
+counted g c =
+    ap (λ (x : SeenUnits). x.given) c.give.ensures ∙ ap (λ (x : SeenUnits). x.given + 1) (none_given g c)
+    ∙ ap (λ (s : SourceProgress g.row.V.Denot g.row.W-Automaton.Denot g.row.S.Denot). s.given + 1) c.self.view_is
 
 -- the source ended: nothing is pending
 pub invariant_of-self : goal.invariant_of-self
@@ -54,9 +71,9 @@ invariant_of-self g c =
 pub returns-clause-steps : goal.returns-clause-steps
 returns-clause-steps g c =
     let W = g.W.Stepwise in let S = g.S.Iterator in let unit = g.W.Unit.EdgeLabel in let now = c.match-self.self-inside in
-    Gave-reached W.automaton W.read W.turns W.found W.most_found W.has_output W.given_from S.can_next S.next_gives S.remaining unit.unit unit.width c.args.self.now now.walk now.source c.match-self.position.value (number c.give-found.result.1) c.give-found.result.0 (reached g c) (first g c) (omega (arith, c.give-found.ensures.ends, here g c))
+    Gave-reached W.automaton W.read W.turns W.found W.most_found W.has_output W.given_from S.can_next S.next_gives S.remaining unit.unit unit.width c.args.self.now now.walk now.source c.match-self.position.value (number c.give-found.result.1) c.give.new.self.given c.give-found.result.0 (counted g c) (reached g c) (first g c) (omega (arith, c.give-found.ensures.ends, here g c))
 
 pub returns-clause-goes : goal.returns-clause-goes
 returns-clause-goes g c =
     let W = g.W.Stepwise in let S = g.S.Iterator in let unit = g.W.Unit.EdgeLabel in let now = c.match-self.self-inside in
-    progress-reached W.automaton W.read W.turns W.found W.most_found W.has_output W.given_from S.can_next S.next_gives S.remaining unit.unit unit.width c.args.self.now now.walk now.source c.match-self.position.value (number c.give-found.result.1) c.give-found.result.0 (reached g c) (first g c)
+    progress-reached W.automaton W.read W.turns W.found W.most_found W.has_output W.given_from S.can_next S.next_gives S.remaining unit.unit unit.width c.args.self.now now.walk now.source c.match-self.position.value (number c.give-found.result.1) c.give.new.self.given c.give-found.result.0 (reached g c) (first g c)

@@ -11,7 +11,9 @@ use Rattle.daachorse_core.specs.contracts.turns.Turns as turns
 use Rattle.daachorse_core.specs.contracts.turns.Seen as seen
 use Rattle.daachorse_search.specs.contracts.walk.Standing as walk
 use Rattle.daachorse_search.specs.contracts.find_stepper.FindStanding as find
+use Rattle.daachorse_search.specs.contracts.find_stepper.FindStanding.TheInside as find_inside
 use Rattle.daachorse_search.specs.contracts.overlapping_stepper.OverlappingStanding as overlapping
+use Rattle.daachorse_search.specs.contracts.overlapping_stepper.OverlappingStanding.TheInside as overlapping_inside
 use Rattle.daachorse_bytewise.proofs.bytewise.DoubleArrayAhoCorasick.TheSendSync as bytewise
 use Rattle.daachorse_c.specs.contracts.automaton.Searcher as automaton
 use Rattle.daachorse_c.specs.contracts.automaton.Searcher.TheInside as inside
@@ -27,14 +29,18 @@ turns_send = let s = counter_send in search sendable depth 20
 seen_send : IsSend seen.the_row
 seen_send = let s = snapshot_send in search sendable depth 20
 
-walk_send : IsSend walk.the_field.row
+walk_send : IsSend walk.the_row
 walk_send = let t = turns_send in let s = seen_send in search sendable depth 20
 
-find_send : IsSend find.the_field.row
-find_send = let o = option.the_field_send _ nonzero.the_send in struct_send (shape find.the_type) (walk_send, (o, (search sendable, (o, tt))))
+find_send : IsSend find.the_row
+find_send =
+    let o = option.the_field_send _ nonzero.the_send in
+    view_send _ _ _ _ _ (recorded_send find_inside.the_field.row _ _ find_inside.the_type.to_one (struct_send (shape find_inside.the_type) (walk_send, (o, (search sendable, (o, tt))))))
 
-overlapping_send : IsSend overlapping.the_field.row
-overlapping_send = let o = option.the_field_send _ nonzero.the_send in struct_send (shape overlapping.the_type) (walk_send, (search sendable, (o, tt)))
+overlapping_send : IsSend overlapping.the_row
+overlapping_send =
+    let o = option.the_field_send _ nonzero.the_send in
+    view_send _ _ _ _ _ (recorded_send overlapping_inside.the_field.row _ _ overlapping_inside.the_type.to_one (struct_send (shape overlapping_inside.the_type) (walk_send, (search sendable, (o, tt)))))
 
 standing_send : IsSend standing.the_field.row
 standing_send = let f = find_send in let o = overlapping_send in search sendable depth 20

@@ -135,8 +135,8 @@ impl Standing {
         ensures { result ≡ length (read_by self.now) }
     {
         match self {
-            Standing::Find(standing) => standing.place,
-            Standing::Overlapping(standing) => standing.place,
+            Standing::Find(standing) => standing.place(),
+            Standing::Overlapping(standing) => standing.place(),
         }
     }
 }

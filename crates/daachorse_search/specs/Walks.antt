@@ -17,6 +17,12 @@ pub record Walked (A : Type 0) : Type 0 where
   pub seen : SeenUnits
   pub turns : ℕ
 
+-- where a walk stands, without the automaton: the state, the turns taken, and what was seen
+pub record Stood : Type 0 where
+  pub state : ℕ
+  pub turns : ℕ
+  pub seen : SeenUnits
+
 -- more units were read since, and looked up
 abbrev pub read_on : SeenUnits → List ℕ → SeenUnits
 read_on s more = record s { since = s.since ++ more; looked = s.looked ++ more }

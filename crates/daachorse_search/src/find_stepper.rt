@@ -42,14 +42,31 @@ pub struct FindStepper<'a, V: Copy, A: Automaton<V>> {
 /// Where a stepper stands, without the automaton. It borrows nothing.
 #[derive(Drop)]
 pub struct FindStanding {
-    /// Where its walk stands.
-    pub walk: Standing,
-    /// The outputs of the empty key, if there is one.
-    pub everywhere: Option<NonZeroU32>,
+    walk: Standing,
+    // The outputs of the empty key, if there is one.
+    everywhere: Option<NonZeroU32>,
+    // How many bytes were consumed.
+    place: usize,
+    // The output of the match that ends there.
+    found: Option<NonZeroU32>,
+}
+
+impl Model for FindStanding {
+    ghost use Rattle.daachorse_search.specs.Standings.{FindStood};
+
+    ghost Value = { FindStood };
+
+    ghost view = { λ s. record { walk = s.walk; everywhere = s.everywhere; place = s.place; found = s.found } };
+}
+
+impl FindStanding {
     /// How many bytes were consumed.
-    pub place: usize,
-    /// The output of the match that ends there.
-    pub found: Option<NonZeroU32>,
+    #[inline(always)]
+    pub fn place(&self) -> usize
+        ensures { result ≡ self.now.place }
+    {
+        self.place
+    }
 }
 
 impl<'a, V: Copy, A: Automaton<V>> Model for FindStepper<'a, V, A> {

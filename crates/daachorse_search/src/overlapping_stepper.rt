@@ -41,12 +41,29 @@ pub struct FindOverlappingStepper<'a, V: Copy, A: Automaton<V>> {
 /// Where a stepper stands, without the automaton. It borrows nothing.
 #[derive(Drop)]
 pub struct OverlappingStanding {
-    /// Where its walk stands.
-    pub walk: Standing,
+    walk: Standing,
+    // How many bytes were consumed.
+    place: usize,
+    // The first output of the matches that end there.
+    found: Option<NonZeroU32>,
+}
+
+impl Model for OverlappingStanding {
+    ghost use Rattle.daachorse_search.specs.Standings.{OverlappingStood};
+
+    ghost Value = { OverlappingStood };
+
+    ghost view = { λ s. record { walk = s.walk; place = s.place; found = s.found } };
+}
+
+impl OverlappingStanding {
     /// How many bytes were consumed.
-    pub place: usize,
-    /// The first output of the matches that end there.
-    pub found: Option<NonZeroU32>,
+    #[inline(always)]
+    pub fn place(&self) -> usize
+        ensures { result ≡ self.now.place }
+    {
+        self.place
+    }
 }
 
 impl<'a, V: Copy, A: Automaton<V>> Model for FindOverlappingStepper<'a, V, A> {

@@ -42,12 +42,17 @@ pub struct Walk<V: Copy, A: Automaton<V>> {
 /// Where a walk stands, without the automaton. It borrows nothing.
 #[derive(Drop)]
 pub struct Standing {
-    /// The state.
-    pub state: u32,
-    /// The turns so far.
-    pub turns: Turns,
-    /// What was read.
-    pub seen: Seen,
+    state: u32,
+    turns: Turns,
+    seen: Seen,
+}
+
+impl Model for Standing {
+    ghost use Rattle.daachorse_search.specs.Walks.{Stood};
+
+    ghost Value = { Stood };
+
+    ghost view = { λ s. record { state = s.state; turns = s.turns; seen = s.seen } };
 }
 
 impl<V: Copy, A: Automaton<V>> Model for Walk<V, A> {

@@ -5,7 +5,7 @@ use Rattle.daachorse_c.specs.Streams.{StandsIn}
 use Rattle.daachorse_c.proofs.stepper.Standing.place.Goals as goal
 
 pub returns-in-Find : goal.returns-in-Find
-returns-in-Find c = let stands = subst (StandsIn c.requires.0) c.in-Find.is c.requires.1 in rw c.in-Find.is (stands.stands ∙ size-bytes _)
+returns-in-Find c = let stands = subst (StandsIn c.requires.0) c.in-Find.is c.requires.1 in rw c.in-Find.is (c.place.ensures ∙ stands.stands ∙ size-bytes _)
 
 pub returns-in-Overlapping : goal.returns-in-Overlapping
-returns-in-Overlapping c = let stands = subst (StandsIn c.requires.0) c.in-Overlapping.is c.requires.1 in rw c.in-Overlapping.is (stands.stands ∙ size-bytes _)
+returns-in-Overlapping c = let stands = subst (StandsIn c.requires.0) c.in-Overlapping.is c.requires.1 in rw c.in-Overlapping.is (c.place-in-Overlapping.ensures ∙ stands.stands ∙ size-bytes _)

@@ -24,6 +24,8 @@ mod prefilter;
 #[cfg(test)]
 mod profile;
 #[cfg(test)]
+mod requests;
+#[cfg(test)]
 mod serializer;
 #[cfg(test)]
 mod texts;

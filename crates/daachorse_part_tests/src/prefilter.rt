@@ -5,7 +5,7 @@ use daachorse_core::errors::DaachorseError;
 use daachorse_prefilter::place_test::NoTest;
 use daachorse_prefilter::prefilter::{Prefilter, PrefilterBuilder, PrefilterGate};
 use daachorse_serializer::serializer::SerializableVec;
-use std::alloc::Global;
+use std::alloc::{AllocError, Global};
 use std::test::Fail;
 
 /// The filter of these patterns.
@@ -64,6 +64,7 @@ const ROWS: &[Row] = &[
     (WORDS, Asked::Bytes, "xxxariaxxx", 0, 3),
     (WORDS, Asked::Bytes, "xxxariaxxx", 3, 3),
     (WORDS, Asked::Bytes, "xxxariaxxx", 5, 10),
+    (WORDS, Asked::Bytes, "xxxariaxxx", 10, 10),
     (WORDS, Asked::Bytes, "xxxariaxxx", 11, 10),
     (WORDS, Asked::Bytes, "xxarisxxxx", 0, 2),
     (WORDS, Asked::Bytes, "xxarxrixia", 0, 10),
@@ -104,6 +105,51 @@ fn the_first_place_that_passes_is_found(rt: HostRuntime) -> Result<(), Fail> {
     }
     expect(&rt, Prefilter::<Global>::MIN_WINDOW_LEN == 2, "the least");
     expect(&rt, Prefilter::<Global>::MAX_WINDOW_LEN == 9, "the most");
+    Ok(())
+}
+
+/// A text of so many bytes that repeat a filling, a word, and twenty bytes more.
+fn text_of(alloc: Global, filling: &str, count: usize, word: &str) -> Result<String, AllocError> {
+    let mut text = String::new(alloc);
+    for character in filling.chars().cycle().take(count) {
+        text.push(character)?;
+    }
+    text.push_str(word)?;
+    text.push_str("xxxxxxxxxxxxxxxxxxxx")?;
+    Ok(text)
+}
+
+/// What is asked, what stands before a word, and the word. A round reads sixteen pairs, or eight; with no window
+/// in the first eight rounds of sixteen, the others read each second pair first.
+const LONG_ROWS: [(Asked, &str, &str); 5] = [
+    (Asked::Bytes, "x", "aria"),
+    // Each third pair begins a window here.
+    (Asked::Bytes, "arx", "iris"),
+    (Asked::FoldedBytes, "ArX", "iRiS"),
+    (Asked::Text, "x", "aria"),
+    (Asked::FoldedText, "X", "ARIA"),
+];
+
+/// Whether the first place of a text is that of the word behind so many bytes, from each of these on, and
+/// there is none behind it.
+fn is_first(filter: &Prefilter, asked: Asked, text: &str, count: usize) -> bool {
+    for from in [0, count / 2, count] {
+        if place_of(filter, asked, text, from) != count {
+            return false;
+        }
+    }
+    place_of(filter, asked, text, count.saturating_add(1)) == text.len()
+}
+
+#[test]
+fn a_word_is_found_at_each_place_of_a_round(rt: HostRuntime) -> Result<(), Fail> {
+    let filter = filter_of(rt.alloc(), WORDS)?.ok_or("no filter")?;
+    for (asked, filling, word) in &LONG_ROWS {
+        for count in 0..200usize {
+            let text = text_of(rt.alloc(), filling, count, word)?;
+            expect(&rt, is_first(&filter, *asked, &text, count), &text);
+        }
+    }
     Ok(())
 }
 

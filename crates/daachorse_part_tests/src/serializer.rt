@@ -2,10 +2,11 @@
 
 use crate::expect;
 use crate::forms::{has_form, has_list_form, is_refused};
+use daachorse_core::errors::DaachorseError;
 use daachorse_core::{Empty, MatchKind, Output};
 use daachorse_serializer::intpack::{U24, U24nU8};
 use daachorse_serializer::mode::SearchMode;
-use daachorse_serializer::serializer::Table;
+use daachorse_serializer::serializer::{Serializable, Table};
 use std::num::NonZeroU32;
 use std::test::Fail;
 
@@ -25,7 +26,9 @@ fn a_word_keeps_both_parts(rt: HostRuntime) -> Result<(), Fail> {
 fn numbers_have_their_forms(rt: HostRuntime) -> Result<(), Fail> {
     let alloc = rt.alloc();
     has_form(&rt, alloc, 1u8, &[1])?;
+    has_form(&rt, alloc, 1u16, &[1, 0])?;
     has_form(&rt, alloc, 0x0123u16, &[0x23, 0x01])?;
+    has_form(&rt, alloc, 1u32, &[1, 0, 0, 0])?;
     has_form(&rt, alloc, 0x0123_4567u32, &[0x67, 0x45, 0x23, 0x01])?;
     has_form(&rt, alloc, 1u64, &[1, 0, 0, 0, 0, 0, 0, 0])?;
     has_form(
@@ -40,6 +43,7 @@ fn numbers_have_their_forms(rt: HostRuntime) -> Result<(), Fail> {
 fn signed_numbers_have_their_forms(rt: HostRuntime) -> Result<(), Fail> {
     let alloc = rt.alloc();
     has_form(&rt, alloc, 1i8, &[1])?;
+    has_form(&rt, alloc, 1i16, &[1, 0])?;
     has_form(&rt, alloc, -2i16, &[0xfe, 0xff])?;
     has_form(&rt, alloc, 1i32, &[1, 0, 0, 0])?;
     has_form(&rt, alloc, 1i64, &[1, 0, 0, 0, 0, 0, 0, 0])?;
@@ -54,8 +58,13 @@ fn signed_numbers_have_their_forms(rt: HostRuntime) -> Result<(), Fail> {
 #[test]
 fn compounds_have_their_forms(rt: HostRuntime) -> Result<(), Fail> {
     let alloc = rt.alloc();
-    has_form(&rt, alloc, Some(0x0123u16), &[1, 0x23, 0x01])?;
+    let some = Some(0x0123_4567u32);
+    has_form(&rt, alloc, some, &[1, 0x67, 0x45, 0x23, 0x01])?;
     has_form(&rt, alloc, None::<u32>, &[0])?;
+    let bytes = [2, 0, 0, 0, 0];
+    let answer = <Option<u32>>::deserialize_from_slice(&bytes);
+    let refused = answer == Err(DaachorseError::invalid_automaton());
+    expect(&rt, refused, "neither a value nor none");
     has_form(&rt, alloc, NonZeroU32::new(1), &[1, 0, 0, 0])?;
     has_form(&rt, alloc, None::<NonZeroU32>, &[0, 0, 0, 0])?;
     has_form(&rt, alloc, Empty, &[])?;
@@ -77,13 +86,22 @@ fn a_mode_is_the_byte_of_its_kind_or_128_more(rt: HostRuntime) -> Result<(), Fai
     for (kind, folds, byte) in MODES {
         has_form(&rt, rt.alloc(), SearchMode { kind, folds }, &[byte])?;
     }
+    for byte in [3, 127, 131, 255] {
+        let bytes = [byte, 42];
+        let (read, rest) = SearchMode::deserialize_from_slice(&bytes)?;
+        let (kind, folds, _) = MODES[0];
+        expect(&rt, read == SearchMode { kind, folds }, "any other byte");
+        expect(&rt, rest == [42].as_slice(), "what is left");
+    }
     Ok(())
 }
 
 #[test]
 fn a_list_has_its_form(rt: HostRuntime) -> Result<(), Fail> {
-    let list = vec![in rt.alloc(); 0x0123_4567u32, 0x89ab_cdef]?;
-    let form = [2, 0, 0, 0, 0x67, 0x45, 0x23, 0x01, 0xef, 0xcd, 0xab, 0x89];
+    let list = vec![in rt.alloc(); 0x0123_4567u32, 0x89ab_cdef, 0x0246_8ace]?;
+    let form = [
+        3, 0, 0, 0, 0x67, 0x45, 0x23, 0x01, 0xef, 0xcd, 0xab, 0x89, 0xce, 0x8a, 0x46, 0x02,
+    ];
     has_list_form(&rt, rt.alloc(), &list, &form)?;
     let hostile = is_refused::<Vec<u32>>(rt.alloc(), &[255, 255, 255, 255, 1]);
     expect(&rt, hostile, "a count alone");

@@ -26,8 +26,13 @@ const BOUNDS: [(usize, char); 10] = [
     (26, '\u{10ffff}'),
 ];
 
+/// One character of each width, with their ends.
+const WIDTHS: [(usize, char); 4] = [(1, 'a'), (3, 'é'), (6, 'に'), (10, '\u{10000}')];
+
 #[test]
 fn characters_come_with_their_ends(rt: HostRuntime) -> Result<(), Fail> {
+    let pairs = characters_with_ends(rt.alloc(), "aéに\u{10000}")?;
+    expect(&rt, pairs.as_slice() == WIDTHS.as_slice(), "each width");
     let text = "\0\u{7f}\u{80}\u{7ff}\u{800}\u{d7ff}\u{e000}\u{ffff}\u{10000}\u{10ffff}";
     let pairs = characters_with_ends(rt.alloc(), text)?;
     expect(&rt, pairs.as_slice() == BOUNDS.as_slice(), "the pairs");

@@ -1,19 +1,21 @@
 -- A scan for the leftmost match, one unit further: the best of what was read, and what is final where the scan stops.
-use Rattle.std.proofs.Common.{◌≡◌, ◌≢◌, ℕ, ◌+◌, ◌<◌, ◌≤◌, inl, inr, Bool, cond, true, List, [], ◌∷◌, ◌++◌, length, take, Option, Some, None, refl, sym, ap, ◌∙◌, subst, append_assoc, append-nil, length-append, arith}
+use Rattle.std.proofs.Common.{◌≡◌, ◌≢◌, ℕ, ◌+◌, ◌-◌, ◌<◌, ◌≤◌, inl, inr, Bool, cond, true, List, [], ◌∷◌, ◌++◌, length, take, Option, Some, None, refl, sym, ap, ◌∙◌, subst, append_assoc, append-nil, length-append, arith}
 use Rattle.std.specs.Prelude.{count_by}
+use Rattle.std.proofs.lemmas.List.{take_at}
 use Rattle.std.proofs.lemmas.List.Sums.{sum_by-append, sum_by_push}
 use Rattle.daachorse_model.specs.Units.{size}
 use Rattle.daachorse_model.specs.Dictionary.{Dictionary}
-use Rattle.daachorse_model.specs.Prefixes.{IsPrefix, Occurs}
+use Rattle.daachorse_model.specs.Prefixes.{IsCut, IsPrefix, Occurs}
 use Rattle.daachorse_model.specs.Outputs.{IsChain}
 use Rattle.daachorse_model.specs.Best.{IsBest, IsBestSoFar, NoneStarts, IsSteady, LeftSteps}
 use Rattle.daachorse_model.proofs.Suffixes.{size-append, le_or_lt}
 use Rattle.daachorse_model.proofs.Links.{none_before}
+use Rattle.daachorse_model.proofs.Steps.{IsLong-same}
 use Rattle.daachorse_model.proofs.Occurrences.{split_after}
 use Rattle.daachorse_model.proofs.BestLaws.{IsSteady-nil, Told, Told-IsSteady, IsBestSoFar-keeps, IsBest-new}
 use Rattle.daachorse_model.proofs.Lists.{nil_of}
 use Rattle.daachorse_search.specs.declared.best.Found.{Found}
-use Rattle.daachorse_search.specs.BestScans.{HasNoLongerKey, IsOutputOf, IsTheBest, IsClear, IsFound, IsFoundSoFar, IsScanning}
+use Rattle.daachorse_search.specs.BestScans.{HasNoLongerKey, PendsBefore, IsOutputOf, IsTheBest, IsClear, IsFound, IsFoundSoFar, IsScanning}
 use Rattle.daachorse_search.specs.Views.{AutomatonView, IsLeftmostView}
 
 module _ {V : Type 0} (K : Dictionary V) where
@@ -24,6 +26,27 @@ module _ {V : Type 0} (K : Dictionary V) where
   -- what was read ends no further past an occurrence's start than a key is long
   near_occurrence : (w t : List ℕ) (m : ℕ) → HasNoLongerKey K m → IsSteady K w t → (a k b : List ℕ) → Occurs K w a k b → length w ≤ length a + m
   near_occurrence w t m bound steady a k b o = omega (arith, none_before K w t steady.none a k b o, IsPrefix-short t m bound steady.long.begins)
+
+  -- there is one cut
+  not_at_root : (w t : List ℕ) → IsCut K w t → t ≢ [] → ¬ IsCut K w []
+  not_at_root w t (inr at) going root = going at.0
+  not_at_root w t (inl at) going (inl root) = going (IsLong-same K w t [] at.0 root.0)
+  not_at_root w t (inl at) going (inr root) = at.1 (root.1 t at.0)
+
+  -- one more unit, behind which the search is not at the root
+  pub PendsBefore-more : (text seen more t : List ℕ) (u : ℕ) → text ≡ (seen ++ u ∷ []) ++ more → IsCut K (seen ++ u ∷ []) t → t ≢ [] → PendsBefore K (1 + (length text - length (u ∷ more))) text
+      → PendsBefore K (1 + (length text - length more)) text
+  PendsBefore-more text seen more t u parts cut going was k some below root =
+      let w = seen ++ u ∷ [] in
+      let sized : length text ≡ length w + length more = ap length parts ∙ length-append w more in
+      elim (le_or_lt k (length text - length (u ∷ more))) [
+        | inl before ↦ was k some (omega (arith, before)) root
+        | inr here ↦
+            let is : k ≡ length w = omega (arith, here, below, sized, length-append seen (u ∷ [])) in
+            let all : take k text ≡ w = ap (take k) parts ∙ take_at w more k (sym is) in
+            let P : List ℕ → Type 0 = λ x. IsCut K x [] in
+            not_at_root w t cut going (subst P all root)
+      ]
 
   -- a step that does not come to the root goes on
   pub steady_of : (w t : List ℕ) (u : ℕ) → LeftSteps K w u t → t ≢ [] → IsSteady K (w ++ u ∷ []) t
@@ -218,8 +241,8 @@ module _ {V : Type 0} (width : ℕ → ℕ) (view : AutomatonView V) (text : Lis
   no_empty_of w none = nil_of (K []) (λ key. none [] [] w (record { parts = refl; key = key }))
 
   -- the text ends while none is
-  pub IsClear-ends : (left t : List ℕ) (may_stop : Bool) (end before turns : ℕ) → Scanning left t None before turns → end ≡ size width text → left ≡ [] → IsClear width view text may_stop end before turns
-  IsClear-ends left t may_stop end before turns was ended none =
+  pub IsClear-ends : (left t : List ℕ) (may_stop : Bool) (end before turns : ℕ) → Scanning left t None before turns → end ≡ size width text → left ≡ [] → (may_stop ≡ true → PendsBefore K (1 + (length text - length left)) text) → IsClear width view text may_stop end before turns
+  IsClear-ends left t may_stop end before turns was ended none pends =
       let w = was.seen in
       let whole : text ≡ w = was.parts ∙ (ap (λ x. w ++ x) none ∙ append-nil w) in
       record {
@@ -231,6 +254,7 @@ module _ {V : Type 0} (width : ℕ → ℕ) (view : AutomatonView V) (text : Lis
         ends = ended ∙ ap (size width) whole;
         some = λ h. omega (arith, h, ap length whole);
         all = λ _. none;
+        first_root = λ may k some below. pends may k some (omega (arith, below, ap length was.parts, length-append w left));
         most = omega (arith, was.counted);
         least = was.least;
       }
@@ -238,9 +262,9 @@ module _ {V : Type 0} (width : ℕ → ℕ) (view : AutomatonView V) (text : Lis
   -- the scan comes to the root while none is
   pub IsClear-stops : (left t : List ℕ) (end before turns u : ℕ) (more r : List ℕ) (later : ℕ)
       → (was : Scanning left t None before turns) → end + size width more ≡ size width text → left ≡ u ∷ more → LeftSteps K was.seen u r → r ≡ []
-      → later + length r ≤ turns + length t + 2 → turns + cond (view.has_label u) 1 0 ≤ later
+      → later + length r ≤ turns + length t + 2 → turns + cond (view.has_label u) 1 0 ≤ later → PendsBefore K (1 + (length text - length left)) text
       → IsClear width view text true end before later
-  IsClear-stops left t end before turns u more r later was ended next steps empty most least =
+  IsClear-stops left t end before turns u more r later was ended next steps empty most least pends =
       let w = was.seen ++ u ∷ [] in
       let on = steady_none K was.seen r u steps empty was.found in
       let P : List ℕ → Type 0 = λ x. IsSteady K w x in
@@ -254,6 +278,7 @@ module _ {V : Type 0} (width : ℕ → ℕ) (view : AutomatonView V) (text : Lis
         ends = omega (arith, ended, ap (size width) whole, size-append width w more);
         some = λ h. omega (arith, length-append was.seen (u ∷ []));
         all = λ e. absurd (cc);
+        first_root = λ may k some below. pends k some (omega (arith, below, ap length was.parts, length-append was.seen left, length-append was.seen (u ∷ [])));
         most = omega (arith, was.counted, most, length-append was.seen (u ∷ []));
         least = omega (arith, was.least, least, labelled-push was.seen u);
       }

@@ -1,9 +1,9 @@
 -- A scan for the leftmost match from one place of a haystack: what it answers.
-use Rattle.std.specs.Prelude.{◌≡◌, ℕ, ◌+◌, ◌*◌, ◌≤◌, ◌<◌, Bool, false, List, [], ◌∷◌, ◌++◌, length, take, count_by, Option, None, Some, IfSome}
+use Rattle.std.specs.Prelude.{◌≡◌, ℕ, ◌+◌, ◌*◌, ◌≤◌, ◌<◌, Bool, true, false, List, [], ◌∷◌, ◌++◌, length, take, count_by, Option, None, Some, IfSome}
 use Rattle.std.specs.declared.num.NonZeroU32.{NonZeroU32}
 use Rattle.daachorse_model.specs.Units.{size}
 use Rattle.daachorse_model.specs.Dictionary.{Dictionary}
-use Rattle.daachorse_model.specs.Prefixes.{IsKey}
+use Rattle.daachorse_model.specs.Prefixes.{IsCut, IsKey}
 use Rattle.daachorse_model.specs.Best.{IsBest, IsBestSoFar, IsSteady, NoneStarts}
 use Rattle.daachorse_search.specs.declared.best.Scanned.{Scanned}
 use Rattle.daachorse_search.specs.declared.best.Scanned.TheVariants.{Best, Clear}
@@ -12,6 +12,10 @@ use Rattle.daachorse_search.specs.Views.{AutomatonView}
 -- no key has more than m units
 abbrev pub HasNoLongerKey : {V : Type 0} → Dictionary V → ℕ → Type 0
 HasNoLongerKey K m = (k : List ℕ) → IsKey K k → length k ≤ m
+
+-- a leftmost search is not at the root behind any of the first units of the text, up to n of them
+abbrev pub PendsBefore : {V : Type 0} → Dictionary V → ℕ → List ℕ → Type 0
+PendsBefore K n text = (k : ℕ) → 0 < k → k < n → ¬ IsCut K (take k text) []
 
 module _ {V : Type 0} (width : ℕ → ℕ) (view : AutomatonView V) where
   -- the outputs from the position on begin with the first value of the key
@@ -35,7 +39,7 @@ module _ {V : Type 0} (width : ℕ → ℕ) (view : AutomatonView V) where
     pub least : before + count_by view.has_label (front ++ key) ≤ turns
     pub first : before + count_by view.has_label (take 1 text) ≤ turns
 
-  -- nothing starts in the units of `text` before `rest`: in the first of them, and in all where the scan may not stop
+  -- Nothing starts in the units of `text` before `rest`: in the first of them, and in all where the scan may not stop. Where it may, it does so the first time that it is at the root.
   pub record IsClear (text : List ℕ) (may_stop : Bool) (end before turns : ℕ) : Type 0 where
     pub front : List ℕ
     pub rest : List ℕ
@@ -45,6 +49,7 @@ module _ {V : Type 0} (width : ℕ → ℕ) (view : AutomatonView V) where
     pub ends : end ≡ size width front
     pub some : 0 < length text → 0 < length front
     pub all : may_stop ≡ false → rest ≡ []
+    pub first_root : may_stop ≡ true → PendsBefore view.content (length front) text
     pub most : turns ≤ before + 2 * length front
     pub least : before + count_by view.has_label front ≤ turns
 

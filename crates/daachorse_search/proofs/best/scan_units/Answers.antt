@@ -1,5 +1,5 @@
 -- While no state has an output, nothing occurs in what was read, so the first output is that of the best so far, and at the root, where no key that began goes on, the scan may stop.
-use Rattle.std.proofs.Common.{◌≡◌, ℕ, Bool, List, [], ◌∷◌, ◌++◌, Option, Some, None, refl, sym, ap, ◌∙◌, subst, append_assoc, arith}
+use Rattle.std.proofs.Common.{◌≡◌, ◌≢◌, ℕ, ◌+◌, ◌-◌, length, Bool, List, [], ◌∷◌, ◌++◌, Option, Some, None, refl, sym, ap, ◌∙◌, subst, append_assoc, arith}
 use Rattle.std.specs.Iterator.{YieldsFirstBy}
 use Rattle.std.specs.declared.num.NonZeroU32.{NonZeroU32}
 use Rattle.daachorse_core.specs.Outputs.{number}
@@ -8,10 +8,11 @@ use Rattle.daachorse_model.specs.Best.{IsSteady}
 use Rattle.daachorse_model.specs.Units.{size}
 use Rattle.daachorse_model.proofs.BestLaws.{IsSteady-nil}
 use Rattle.daachorse_model.proofs.Suffixes.{size-append}
-use Rattle.daachorse_search.specs.BestScans.{IsClear}
+use Rattle.daachorse_search.specs.BestScans.{IsClear, PendsBefore}
 use Rattle.daachorse_search.specs.Views.{HasFirst}
-use Rattle.daachorse_search.proofs.BestScanLaws.{IsScanning-first, IsScanning-more, IsBehind-now, IsFound-new, IsFound-none, IsFound-keeps, IsClear-ends, IsClear-stops, steady_so_far}
+use Rattle.daachorse_search.proofs.BestScanLaws.{IsScanning-first, IsScanning-more, IsBehind-now, IsFound-new, IsFound-none, IsFound-keeps, IsClear-ends, IsClear-stops, PendsBefore-more, steady_so_far}
 use Rattle.daachorse_search.proofs.best.scan_units.Goals as goal
+use Rattle.daachorse_search.proofs.best.scan_units.Goals.{else-may_stop-via-then-may_stop+else-is_root, else-may_stop-via-else-may_stop}
 
 -- the empty key is found at once
 pub returns-in-Some-clause-scans : goal.returns-in-Some-clause-scans
@@ -41,6 +42,7 @@ units-init g c =
       scanning = IsScanning-first width view text text t None c.args.turns.now refl c.requires.root
           (IsFound-none width view text c.requires.kind t c.requires.root
           (subst C (ap (λ o. view.outputs (number o)) c.in_default.is ∙ (g.met.A.Automaton.no_output c.args.automaton.now).1) c.output_pos.ensures.chain));
+      pends = λ may k some below. absurd (omega (arith, some, below));
     }
 
 -- the haystack ends
@@ -55,7 +57,7 @@ returns-in_default-next-clause-scans g c =
       some = tt;
       none = λ _ end ended.
           IsClear-ends width view text (rest c.units.source) (view.text c.units.state) c.args.may_stop end c.args.turns.now c.units.turns c.units.invariant.scanning
-          (omega (arith, ended, ap (size width) over.1)) over.0;
+          (omega (arith, ended, ap (size width) over.1)) over.0 c.units.invariant.pends;
     }
 
 -- a match ends
@@ -92,7 +94,7 @@ returns-then-is_root-clause-scans g c =
       none = λ _ end ended.
           let B : Bool → Type 0 = λ b. IsClear width view text b end c.args.turns.now c.step-next.new.turns in
           subst B (sym c.if-may_stop.true) (IsClear-stops width view text (rest c.units.source) (view.text c.units.state) end c.args.turns.now c.units.turns u (rest c.next.new.self) (view.text c.step-next.result.0) c.step-next.new.turns
-          was ended next (c.step-next.ensures.leftmost c.requires.kind was.seen was.steady) (c.if-is_root.ensures.0 refl) c.step-next.ensures.most c.step-next.ensures.least);
+          was ended next (c.step-next.ensures.leftmost c.requires.kind was.seen was.steady) (c.if-is_root.ensures.0 refl) c.step-next.ensures.most c.step-next.ensures.least (c.units.invariant.pends c.if-may_stop.true));
     }
 
 -- one more unit, and nothing occurs so far
@@ -109,4 +111,14 @@ units-preserved g c =
       scanning = IsScanning-more width view text (rest c.units.source) (view.text c.units.state) None c.args.turns.now c.units.turns u (rest c.next.new.self) t None c.step-next.new.turns
           was (g.met.H.Haystack.gives _ _ _ c.in-Some-next.ensures.steps) c.step-next.ensures.most c.step-next.ensures.least steady
           (IsFound-keeps width view text c.requires.kind was.seen t u None steady chain was.found);
+      pends = λ may.
+          let more = rest c.next.new.self in
+          let next : rest c.units.source ≡ u ∷ more = g.met.H.Haystack.gives _ _ _ c.in-Some-next.ensures.steps in
+          let parts : text ≡ (was.seen ++ u ∷ []) ++ more = was.parts ∙ (ap (λ x. was.seen ++ x) next ∙ sym (append_assoc was.seen (u ∷ []) more)) in
+          let P : ℕ → Type 0 = λ n. PendsBefore view.content (1 + (length text - n)) text in
+          let going : t ≢ [] = elim c.else-may_stop.branch [
+            | else-may_stop-via-then-may_stop+else-is_root w ↦ λ empty. let at_root = w.if-is_root.ensures.1 empty in cc
+            | else-may_stop-via-else-may_stop w ↦ let not = w.if-may_stop.false in cc
+          ] in
+          PendsBefore-more view.content text was.seen more t u parts (c.step-next.ensures.cut c.requires.kind was.seen was.steady) going (subst P (ap length next) (c.units.invariant.pends may));
     }

@@ -1,6 +1,6 @@
--- Nothing occurs in the units read so far, the state's text is the longest end of them that begins a key, and each round takes one unit off the source.
-use Rattle.std.proofs.Common.{length, None}
-use Rattle.daachorse_search.specs.BestScans.{IsScanning}
+-- Nothing occurs in the units read so far, a scan that may stop was at the root behind none of them, the state's text is the longest end of them that begins a key, and each round takes one unit off the source.
+use Rattle.std.proofs.Common.{◌≡◌, ◌+◌, ◌-◌, true, length, None}
+use Rattle.daachorse_search.specs.BestScans.{IsScanning, PendsBefore}
 use Rattle.daachorse_search.proofs.best.scan_units.Given as goal
 
 abbrev pub invariant-units : goal.invariant-units
@@ -9,6 +9,7 @@ invariant-units g l =
     record {
       reached : view.reached l.state;
       scanning : IsScanning g.A.Unit.EdgeLabel.width view (rest l.fn.source) (rest l.source) (view.text l.state) None l.fn.turns l.turns;
+      pends : l.may_stop ≡ true → PendsBefore view.content (1 + (length (rest l.fn.source) - length (rest l.source))) (rest l.fn.source);
     }
 
 abbrev pub decreases-units : goal.decreases-units

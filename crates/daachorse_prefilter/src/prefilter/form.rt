@@ -3,9 +3,11 @@
 //! The layers above may rely on a filter written and read being the same filter, and on no bytes
 //! giving anything but a filter with a window of 2 to 9 bytes and an entry for each pair.
 
-ghost use Rattle.std.specs.Prelude.{◌≡◌, length};
+ghost use Rattle.std.specs.Prelude.{◌≡◌, ◌≤◌, IfErr, length};
+ghost use Rattle.daachorse_core.specs.Refusals.{IsOutOfMemory};
 ghost use Rattle.daachorse_prefilter.specs.FilterForms.{filter_form, filter_law, take_filter};
 ghost use Rattle.daachorse_prefilter.specs.Filters.{Filter, IsFilter};
+ghost use Rattle.daachorse_serializer.specs.Forms.{GivesView, IsReadRefusal};
 
 use super::pair_table::{NUM_PAIRS, PairTable};
 use super::{MAX_WINDOW_LEN, MIN_WINDOW_LEN, Prefilter};
@@ -39,7 +41,11 @@ impl<A: Allocator> SerializableVec for Prefilter<A> {
     }
 
     #[tactic(auto, unfolding(crate::specs::FilterForms::take_filter))]
-    fn deserialize_from_slice<'a>(alloc: A, src: &'a [u8]) -> Result<(Self, &'a [u8])> {
+    fn deserialize_from_slice<'a>(alloc: A, src: &'a [u8]) -> Result<(Self, &'a [u8])>
+        ensures given { GivesView (λ f. f) result (take_filter src.now) }
+        ensures err { IfErr result (IsReadRefusal (λ _. ⊥)) }
+        ensures room { IfErr result (λ e. IsOutOfMemory e → 65537 ≤ length src.now) }
+    {
         let [window_len, bytes @ ..] = src else {
             return Err(DaachorseError::invalid_automaton());
         };

@@ -3,14 +3,15 @@
 -- behind them.
 use Rattle.std.specs.Prelude.{ℕ, Bool, ◌+◌, ◌*◌, ◌<◌, ◌^◌, List, [], ◌++◌, length, All, Option, Some, None, IfSome, refl}
 use Rattle.std.specs.Int.{w32}
+use Rattle.daachorse_core.specs.declared.errors.DaachorseError.{DaachorseError}
 use Rattle.daachorse_core.specs.declared.outputs.Empty.{Empty}
 use Rattle.daachorse_checker.specs.Reads.{AreInHand, BeginsWithParts}
 use Rattle.daachorse_prefilter.specs.Filters.{Filter, IsFilter}
 use Rattle.daachorse_prefilter.specs.FilterForms.{filter_form, filter_law, take_filter}
 use Rattle.daachorse_serializer.specs.Endings.{Ending, ending_form, ending_law, ending_most, take_ending}
-use Rattle.daachorse_serializer.specs.Forms.{IsForm, Taken, list_form, number_form, over, take_list, take_number, take_pair}
+use Rattle.daachorse_serializer.specs.Forms.{IsAfter, IsForm, IsOfList, IsOfValue, Taken, list_form, number_form, over, take_list, take_number, take_pair}
 use Rattle.daachorse_serializer.specs.Laws.{empty_law, law_through, list_law, number_law, pair_law}
-use Rattle.daachorse_serializer.specs.Outputs.{IsOutput}
+use Rattle.daachorse_serializer.specs.Outputs.{IsOutput, take_output}
 use Rattle.daachorse_serializer.specs.declared.mode.SearchMode.{SearchMode}
 use Rattle.daachorse_bytewise_states.specs.declared.state.State.{State}
 use Rattle.daachorse_bytewise_states.specs.declared.states.form.Lists.{Lists}
@@ -59,6 +60,13 @@ module _ {V : Type 0} where
       (take_pair (take_list (take_state (take_number w32)))
       (take_pair (take_list (take_state take_nothing)) (take_pair (take_list (take_number w32)) (take_ending take_value take_filter)))
       bytes)
+
+  -- errors of its own by which a read refuses bytes: the lists of elements and links are taken, and then some outputs,
+  -- and of what is left the read of a value takes nothing and returns the error
+  abbrev pub IsOfParts : (List ℕ → Taken V) → (List ℕ → DaachorseError → Type 0) → List ℕ → DaachorseError → Type 0
+  IsOfParts take_value own =
+      IsAfter (take_list (take_state (take_number w32)))
+      (λ _. IsAfter (take_list (take_state take_nothing)) (λ _. IsAfter (take_list (take_number w32)) (λ _. IsOfList (take_output take_value) (IsOfValue take_value own))))
 
   -- a number of 32 bits counts each list
   pub record AreCounted (p : Parts V) : Type 0 where

@@ -9,7 +9,7 @@ ghost use Rattle.daachorse_core.specs.declared.errors.Limit.TheVariants.{OutputP
 ghost use Rattle.std.specs.Int.{w32};
 ghost use Rattle.daachorse_core.specs.Outputs.{number};
 ghost use Rattle.daachorse_core.specs.Refusals.{IsOutOfMemory};
-ghost use Rattle.daachorse_serializer.specs.Forms.{Begins, number_form};
+ghost use Rattle.daachorse_serializer.specs.Forms.{Begins, IsAfter, number_form, take_number};
 ghost use Rattle.daachorse_serializer.specs.Packed.{packed_form};
 ghost use Rattle.daachorse_bytewise_states.specs.Elements.{base_in, check_in, fail_in, output_in, word_in};
 ghost use Rattle.daachorse_bytewise_states.specs.Children.{TellsChild};
@@ -233,7 +233,7 @@ impl<F: Link> Serializable for State<F> {
 
     ghost form_len = { F.form_len + 8 };
 
-    ghost own_refusal = { F.own_refusal };
+    ghost own_refusal = { IsAfter (take_number w32) (λ _. F.own_refusal) };
 
     fn serialize_to_vec<A: Allocator>(&self, dst: &mut Vec<u8, A>) -> Result<()> {
         self.fail.append_element(self.base, self.packed, dst)

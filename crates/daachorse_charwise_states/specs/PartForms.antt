@@ -2,15 +2,16 @@
 -- its filter, if it has one. And what bytes give: nothing, or parts, that option, a filter that there may be, and the bytes
 -- behind them.
 use Rattle.std.specs.Prelude.{ℕ, Bool, ◌+◌, ◌*◌, ◌<◌, ◌^◌, List, ◌++◌, length, All, Option, Some, None, IfSome, refl}
+use Rattle.daachorse_core.specs.declared.errors.DaachorseError.{DaachorseError}
 use Rattle.daachorse_checker.specs.Reads.{AreInHand, BeginsWithParts}
 use Rattle.daachorse_mapper.specs.Codings.{Coding}
 use Rattle.daachorse_mapper.specs.Written.{AreNumbers as AreCodes, IsCountable, coding_form, coding_law, coding_len, take_coding}
 use Rattle.daachorse_prefilter.specs.Filters.{Filter, IsFilter}
 use Rattle.daachorse_prefilter.specs.FilterForms.{filter_form, filter_law, take_filter}
 use Rattle.daachorse_serializer.specs.Endings.{Ending, ending_form, ending_law, ending_most, take_ending}
-use Rattle.daachorse_serializer.specs.Forms.{IsForm, Taken, list_form, over, take_list, take_pair}
+use Rattle.daachorse_serializer.specs.Forms.{IsAfter, IsForm, IsOfList, IsOfValue, Taken, list_form, over, take_list, take_pair}
 use Rattle.daachorse_serializer.specs.Laws.{law_through, list_law, pair_law}
-use Rattle.daachorse_serializer.specs.Outputs.{IsOutput}
+use Rattle.daachorse_serializer.specs.Outputs.{IsOutput, take_output}
 use Rattle.daachorse_serializer.specs.declared.mode.SearchMode.{SearchMode}
 use Rattle.daachorse_charwise_states.specs.declared.state.State.{State}
 use Rattle.daachorse_charwise_states.specs.declared.states.form.Lists.{Lists}
@@ -46,6 +47,12 @@ module _ {V : Type 0} where
   unfoldable pub take_parts : (List ℕ → Taken V) → List ℕ → Taken (Parts V × (Bool × Option Filter))
   take_parts take_value bytes =
       over of_row (take_pair (take_list take_element) (take_pair take_coding (take_ending take_value take_filter)) bytes)
+
+  -- errors of its own by which a read refuses bytes: the elements and the codes are taken, and then some outputs, and of
+  -- what is left the read of a value takes nothing and returns the error
+  abbrev pub IsOfParts : (List ℕ → Taken V) → (List ℕ → DaachorseError → Type 0) → List ℕ → DaachorseError → Type 0
+  IsOfParts take_value own =
+      IsAfter (take_list take_element) (λ _. IsAfter take_coding (λ _. IsOfList (take_output take_value) (IsOfValue take_value own)))
 
   -- a number of 32 bits counts each list
   pub record AreCounted (p : Parts V) : Type 0 where

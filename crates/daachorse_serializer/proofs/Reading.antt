@@ -1,5 +1,5 @@
 -- Bytes that begin with a form: a read gives what was written and what follows it, or it is refused for want of memory.
-use Rattle.std.proofs.Common.{◌≡◌, ◌⊎◌, ℕ, List, ◌++◌, Some, None, sym, ap, ◌∙◌, inl, inr, refl}
+use Rattle.std.proofs.Common.{◌≡◌, ℕ, List, ◌++◌, Some, None, sym, ap, ◌∙◌, refl}
 use Rattle.daachorse_core.specs.Refusals.{IsOutOfMemory}
 use Rattle.daachorse_core.specs.declared.errors.DaachorseError.{DaachorseError}
 use Rattle.daachorse_core.specs.declared.errors.DaachorseError.TheVariants.{InvalidArgument, AutomatonScale, InvalidConversion, InvalidAutomaton, OutOfMemory}
@@ -13,17 +13,21 @@ refuses-given (InvalidConversion x) t p some none = cc
 refuses-given (InvalidAutomaton x) t p some none = cc
 refuses-given (OutOfMemory x) t p some r = refl
 
--- where a second part refuses by nothing of its own
-only-first : {P : Type 0} → P ⊎ ⊥ → P
-only-first (inl h) = h
-only-first (inr h) = absurd h
+-- where each error of the one's own is one of the other's
+pub IsReadRefusal-weaker : (own more : DaachorseError → Type 0) → ((x : DaachorseError) → own x → more x) → (e : DaachorseError) → IsReadRefusal own e → IsReadRefusal more e
+IsReadRefusal-weaker own more f (InvalidArgument x) r = f (InvalidArgument x) r
+IsReadRefusal-weaker own more f (AutomatonScale x) r = f (AutomatonScale x) r
+IsReadRefusal-weaker own more f (InvalidConversion x) r = f (InvalidConversion x) r
+IsReadRefusal-weaker own more f (InvalidAutomaton x) r = tt
+IsReadRefusal-weaker own more f (OutOfMemory x) r = tt
 
-pub IsReadRefusal-first : (own : DaachorseError → Type 0) (e : DaachorseError) → IsReadRefusal (λ x. own x ⊎ ⊥) e → IsReadRefusal own e
-IsReadRefusal-first own (InvalidArgument x) r = only-first r
-IsReadRefusal-first own (AutomatonScale x) r = only-first r
-IsReadRefusal-first own (InvalidConversion x) r = only-first r
-IsReadRefusal-first own (InvalidAutomaton x) r = tt
-IsReadRefusal-first own (OutOfMemory x) r = tt
+-- an error of its own comes where nothing is taken
+pub refuses-value : {X : Type 0} (t : Taken X) (own : DaachorseError → Type 0) (e : DaachorseError) → Refuses e t → IsReadRefusal own e → IsReadRefusal (λ x. (t ≡ None) × own x) e
+refuses-value t own (InvalidArgument x) none r = (none, r)
+refuses-value t own (AutomatonScale x) none r = (none, r)
+refuses-value t own (InvalidConversion x) none r = (none, r)
+refuses-value t own (InvalidAutomaton x) none r = tt
+refuses-value t own (OutOfMemory x) none r = tt
 
 -- what there is, if something was taken
 taken_or : {X : Type 0} → X × List ℕ → Taken X → X × List ℕ

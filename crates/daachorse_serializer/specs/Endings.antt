@@ -1,10 +1,11 @@
 -- What the forms of both automata end with: the outputs as a list, how it searches, the number of states, and the filter, if there is one.
-use Rattle.std.specs.Prelude.{ℕ, ◌+◌, ◌*◌, ◌<◌, ◌≤◌, ◌^◌, List, ◌++◌, length, All, Option, IfSome}
+use Rattle.std.specs.Prelude.{ℕ, ◌+◌, ◌*◌, ◌<◌, ◌≤◌, ◌^◌, ◌⊎◌, List, ◌++◌, length, All, Option, IfSome}
 use Rattle.std.specs.Int.{w32}
 use Rattle.std.proofs.Common.{arith}
+use Rattle.daachorse_core.specs.declared.errors.DaachorseError.{DaachorseError}
 use Rattle.daachorse_core.specs.declared.outputs.Output.{Output}
 use Rattle.daachorse_serializer.specs.declared.mode.SearchMode.{SearchMode}
-use Rattle.daachorse_serializer.specs.Forms.{Taken, IsForm, take_pair, number_form, take_number, option_form, option_most, take_option, list_form, take_list}
+use Rattle.daachorse_serializer.specs.Forms.{Taken, IsAfter, IsForm, IsOfList, IsOfPayload, IsOfValue, take_pair, number_form, take_number, option_form, option_most, take_option, list_form, take_list}
 use Rattle.daachorse_serializer.specs.Laws.{list_law, mode_law, number_law, option_vec_law, output_law, pair_law}
 use Rattle.daachorse_serializer.specs.Modes.{mode_form, take_mode}
 use Rattle.daachorse_serializer.specs.Outputs.{IsOutput, output_form, take_output}
@@ -33,6 +34,12 @@ module _ {V F : Type 0} where
   -- how long the form with these outputs and this filter is at most, where a value takes at most n bytes
   abbrev pub ending_most : ℕ → (F → ℕ) → List (Output V) → Option F → ℕ
   ending_most n most outputs filter = (n + 8) * length outputs + 4 + 5 + option_most most filter
+
+-- errors of its own by which a read of an ending refuses bytes: those of a value of some output, or of the filter
+abbrev pub IsOfEnding : {V : Type 0} → (List ℕ → Taken V) → (List ℕ → DaachorseError → Type 0) → (List ℕ → DaachorseError → Type 0) → List ℕ → DaachorseError → Type 0
+IsOfEnding take_value own own_of_filter bytes e =
+    IsOfList (take_output take_value) (IsOfValue take_value own) bytes e
+    ⊎ IsAfter (take_list (take_output take_value)) (λ _. IsAfter take_mode (λ _. IsAfter (take_number w32) (λ _. IsOfPayload own_of_filter))) bytes e
 
 -- the law of a form, where less is promised
 law_for : {X : Type 0} {P Q : X → Type 0} {form : X → List ℕ} {taken : List ℕ → Taken X} {most : X → ℕ} (more : X → ℕ)

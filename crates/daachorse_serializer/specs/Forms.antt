@@ -1,5 +1,5 @@
 -- Written forms, and what is taken off the front of bytes: nothing, or a value and the bytes behind it.
-use Rattle.std.specs.Prelude.{ℕ, Bool, zero, suc, ◌+◌, ◌≤◌, ◌≡◌, ◌==◌, nat_lt, if◌then◌else◌, ℤ, List, [], ◌∷◌, ◌++◌, length, take, drop, Option, Some, None, Result, Ok, Err}
+use Rattle.std.specs.Prelude.{ℕ, Bool, zero, suc, ◌+◌, ◌<◌, ◌≤◌, ◌≡◌, ◌==◌, nat_lt, if◌then◌else◌, ℤ, List, [], ◌∷◌, ◌++◌, length, take, drop, Option, Some, None, Result, Ok, Err}
 use Rattle.std.specs.Borrow.{Bor}
 use Rattle.std.specs.List.{flat_map}
 use Rattle.std.specs.Int.{Width, w32, byte_len, to_le_bytes, from_le_bytes, cast_unsigned, cast_signed}
@@ -122,3 +122,30 @@ list_form f xs = number_form w32 (length xs) ++ flat_map f xs
 
 unfoldable pub take_list : {X : Type 0} → (List ℕ → Taken X) → List ℕ → Taken (List X)
 take_list t bytes = then_take (take_number w32 bytes) (take_items t)
+
+-- ---- errors of its own by which a read refuses bytes, from those of their parts
+
+module _ {X : Type 0} (t : List ℕ → Taken X) where
+  -- a value is taken, and what is left is refused so
+  pub record IsAfter (own : X → List ℕ → DaachorseError → Type 0) (bytes : List ℕ) (e : DaachorseError) : Type 0 where
+    pub value : X
+    pub left : List ℕ
+    pub taken : t bytes ≡ Some (value, left)
+    pub refused : own value left e
+
+  -- nothing is taken, and the read of a value refuses the bytes so
+  abbrev pub IsOfValue : (List ℕ → DaachorseError → Type 0) → List ℕ → DaachorseError → Type 0
+  IsOfValue own bytes e = (t bytes ≡ None) × own bytes e
+
+module _ {X : Type 0} (t : List ℕ → Taken X) (own : List ℕ → DaachorseError → Type 0) where
+  -- fewer than so many items are taken, and the next is refused so
+  abbrev pub IsOfItem : ℕ → List ℕ → DaachorseError → Type 0
+  IsOfItem n bytes e = (k : ℕ) × ((k < n) × IsAfter (take_items t k) (λ _. own) bytes e)
+
+  -- an item of a list is refused so
+  abbrev pub IsOfList : List ℕ → DaachorseError → Type 0
+  IsOfList = IsAfter (take_number w32) IsOfItem
+
+-- the value of an option is refused so
+abbrev pub IsOfPayload : (List ℕ → DaachorseError → Type 0) → List ℕ → DaachorseError → Type 0
+IsOfPayload own bytes e = (rest : List ℕ) × ((bytes ≡ 1 ∷ rest) × own rest e)

@@ -110,11 +110,11 @@ number_law w = record {
 
 -- ---- one form for another, and one after the other
 
-over_is_some : {X Y : Type 0} (f : X → Y) (t : Taken X) (y : Y) (rest : List ℕ) → over f t ≡ Some (y, rest) → (x : X) × (t ≡ Some (x, rest))
+pub over_is_some : {X Y : Type 0} (f : X → Y) (t : Taken X) (y : Y) (rest : List ℕ) → over f t ≡ Some (y, rest) → (x : X) × (t ≡ Some (x, rest))
 over_is_some f None y rest e = cc
 over_is_some f (Some p) y rest e = let same : p.1 ≡ rest = ap rest_of e in (p.0, ap (λ zs. Some (p.0, zs)) same)
 
-then_take_is_some : {X Y : Type 0} (t : Taken X) (next : X → List ℕ → Taken Y) (y : Y) (rest : List ℕ) → then_take t next ≡ Some (y, rest)
+pub then_take_is_some : {X Y : Type 0} (t : Taken X) (next : X → List ℕ → Taken Y) (y : Y) (rest : List ℕ) → then_take t next ≡ Some (y, rest)
     → (x : X) × ((mid : List ℕ) × ((t ≡ Some (x, mid)) × (next x mid ≡ Some (y, rest))))
 then_take_is_some None next y rest e = cc
 then_take_is_some (Some p) next y rest e = (p.0, (p.1, (refl, e)))

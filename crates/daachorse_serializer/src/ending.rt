@@ -4,9 +4,9 @@
 //! The layers above may rely on a read giving what the bytes give, and on the law of the form,
 //! which follows from those of a value and of a filter.
 
-ghost use Rattle.std.specs.Prelude.{◌≡◌, ◌⊎◌, ◌+◌, ◌-◌, ◌<◌, ◌^◌, ◌++◌, length, min, vec_len, IfErr, IfOk, IfSome, OnOk};
+ghost use Rattle.std.specs.Prelude.{◌≡◌, ◌+◌, ◌-◌, ◌<◌, ◌^◌, ◌++◌, length, min, vec_len, IfErr, IfOk, IfSome, OnOk};
 ghost use Rattle.daachorse_core.specs.Refusals.{IsOutOfMemory};
-ghost use Rattle.daachorse_serializer.specs.Endings.{ending_form, ending_most, take_ending};
+ghost use Rattle.daachorse_serializer.specs.Endings.{IsOfEnding, ending_form, ending_most, take_ending};
 ghost use Rattle.daachorse_serializer.specs.Forms.{Begins, GivesView, IsReadRefusal, option_shape};
 
 use crate::mode::SearchMode;
@@ -71,7 +71,7 @@ pub fn read_ending<
         result (take_ending V.taken F.taken src.now) }
     ensures few { IfOk result (λ r. vec_len r.0.outputs < 2 ^ 32) }
     ensures again { IfOk result (λ r. IfSome (option_shape F.shape r.0.filter) F.can_write) }
-    ensures err { IfErr result (IsReadRefusal (λ e. V.own_refusal e ⊎ F.own_refusal e)) }
+    ensures err { IfErr result (IsReadRefusal (IsOfEnding V.taken V.own_refusal F.own_refusal src.now)) }
 {
     let (outputs, rest) = <Vec<Output<V>, A>>::deserialize_from_slice(alloc, src)?;
     let (mode, rest) = SearchMode::deserialize_from_slice(rest)?;

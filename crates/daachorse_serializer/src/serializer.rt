@@ -11,7 +11,7 @@ ghost use Rattle.daachorse_core.specs.Outputs.{number};
 ghost use Rattle.daachorse_core.specs.Refusals.{IsOutOfMemory};
 ghost use Rattle.daachorse_core.specs.declared.errors.DaachorseError.{DaachorseError};
 ghost use Rattle.daachorse_core.specs.declared.errors.DaachorseError.TheVariants.{InvalidAutomaton};
-ghost use Rattle.daachorse_serializer.specs.Forms.{Begins, Gives, GivesView, IsForm, IsReadRefusal, list_form, number_form, option_form, option_most, option_shape, take_items, take_list, signed_form, take_number, take_option, take_signed};
+ghost use Rattle.daachorse_serializer.specs.Forms.{Begins, Gives, GivesView, IsForm, IsOfItem, IsOfList, IsOfPayload, IsOfValue, IsReadRefusal, list_form, number_form, option_form, option_most, option_shape, take_items, take_list, signed_form, take_number, take_option, take_signed};
 ghost use Rattle.daachorse_serializer.specs.Kinds.{kind_form, take_kind};
 ghost use Rattle.daachorse_serializer.specs.Laws.{empty_law, kind_law, list_law, number_law, position_law, option_law, option_vec_law, table_law, output_law, signed_law};
 ghost use Rattle.daachorse_serializer.specs.Outputs.{IsOutput, output_form, take_output};
@@ -42,8 +42,8 @@ pub trait Serializable: Sized + Drop {
     /// The greatest length of a form.
     ghost form_len: { ℕ };
 
-    /// The errors of a read besides an invalid automaton and a failed allocation.
-    ghost own_refusal: { DaachorseError → Type 0 } = { λ _. ⊥ };
+    /// The errors of a read of these bytes besides an invalid automaton and a failed allocation.
+    ghost own_refusal: { List ℕ → DaachorseError → Type 0 } = { λ _ _. ⊥ };
 
     /// Appends the bytes of the value.
     ///
@@ -60,7 +60,7 @@ pub trait Serializable: Sized + Drop {
     /// Bytes that give no value, or out of memory.
     fn deserialize_from_slice(src: &[u8]) -> Result<(Self, &[u8])>
         ensures given { Gives result (taken src.now) }
-        ensures err { IfErr result (IsReadRefusal own_refusal) };
+        ensures err { IfErr result (IsReadRefusal (own_refusal src.now)) };
 
     /// The greatest length of a form, in bytes, or `usize::MAX` where it is more.
     fn serialized_bytes() -> usize
@@ -600,7 +600,7 @@ impl<V: Serializable + Copy> Serializable for Output<V> {
 
     ghost form_len = { V.form_len + 8 };
 
-    ghost own_refusal = { V.own_refusal };
+    ghost own_refusal = { IsOfValue V.taken V.own_refusal };
 
     fn serialize_to_vec<A: Allocator>(&self, dst: &mut Vec<u8, A>) -> Result<()> {
         self.value().serialize_to_vec(dst)?;
@@ -638,7 +638,7 @@ impl<S: Serializable> Serializable for Option<S> {
 
     ghost form_len = { S.form_len + 1 };
 
-    ghost own_refusal = { S.own_refusal };
+    ghost own_refusal = { IsOfPayload S.own_refusal };
 
     fn serialize_to_vec<A: Allocator>(&self, dst: &mut Vec<u8, A>) -> Result<()> {
         match self {
@@ -701,8 +701,8 @@ pub trait SerializableVec: Sized {
     /// The greatest length of a form of this value.
     ghost form_len: { Shape → ℕ };
 
-    /// The errors of a read besides an invalid automaton and a failed allocation.
-    ghost own_refusal: { DaachorseError → Type 0 } = { λ _. ⊥ };
+    /// The errors of a read of these bytes besides an invalid automaton and a failed allocation.
+    ghost own_refusal: { List ℕ → DaachorseError → Type 0 } = { λ _ _. ⊥ };
 
     /// Appends the bytes of the value.
     ///
@@ -721,7 +721,7 @@ pub trait SerializableVec: Sized {
     fn deserialize_from_slice<'a>(alloc: Self::Alloc, src: &'a [u8]) -> Result<(Self, &'a [u8])>
         ensures given { GivesView shape result (taken src.now) }
         ensures again { IfOk result (λ r. can_write (shape r.0)) }
-        ensures err { IfErr result (IsReadRefusal own_refusal) };
+        ensures err { IfErr result (IsReadRefusal (own_refusal src.now)) };
 
     /// The greatest length of the value's form, in bytes, or `usize::MAX` where it is more.
     fn serialized_bytes(&self) -> usize
@@ -756,7 +756,7 @@ fn read_items<'a, S: Serializable, A: Allocator>(
 ) -> Result<(Vec<S, A>, &'a [u8])>
     ensures given { GivesView (λ v. v.items) result (take_items S.taken count src.now) }
     ensures full { IfOk result (λ r. vec_len r.0 ≡ count) }
-    ensures err { IfErr result (IsReadRefusal S.own_refusal) }
+    ensures err { IfErr result (IsReadRefusal (IsOfItem S.taken S.own_refusal count src.now)) }
 {
     let fitting = src.len() / S::serialized_bytes().max(1);
     let mut items = Vec::with_capacity(alloc, count.min(fitting))?;
@@ -796,7 +796,7 @@ impl<S: Serializable, A: Allocator> SerializableVec for Vec<S, A> {
 
     ghost form_len = { λ xs. S.form_len * length xs + 4 };
 
-    ghost own_refusal = { S.own_refusal };
+    ghost own_refusal = { IsOfList S.taken S.own_refusal };
 
     fn serialize_to_vec<B: Allocator>(&self, dst: &mut Vec<u8, B>) -> Result<()> {
         (self.len() as u32).serialize_to_vec(dst)?;
@@ -852,7 +852,7 @@ impl<S: Serializable, const N: usize, A: Allocator> SerializableVec for Table<S,
 
     ghost form_len = { λ _. S.form_len * N };
 
-    ghost own_refusal = { S.own_refusal };
+    ghost own_refusal = { IsOfItem S.taken S.own_refusal N };
 
     fn serialize_to_vec<B: Allocator>(&self, dst: &mut Vec<u8, B>) -> Result<()> {
         write_items(&self.items, dst)
@@ -893,7 +893,7 @@ impl<S: SerializableVec + Drop> SerializableVec for Option<S> {
 
     ghost form_len = { option_most S.form_len };
 
-    ghost own_refusal = { S.own_refusal };
+    ghost own_refusal = { IsOfPayload S.own_refusal };
 
     fn serialize_to_vec<B: Allocator>(&self, dst: &mut Vec<u8, B>) -> Result<()> {
         match self {

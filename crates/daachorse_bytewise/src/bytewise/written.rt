@@ -9,6 +9,7 @@ ghost use Rattle.daachorse_core.specs.Refusals.{IsOutOfMemory};
 ghost use Rattle.daachorse_bytewise.specs.Automata.{Automaton};
 ghost use Rattle.daachorse_serializer.specs.Forms.{IsReadRefusal};
 ghost use Rattle.daachorse_bytewise.specs.ReadForms.{GivesAutomaton, GivesNoAutomaton};
+ghost use Rattle.daachorse_bytewise_states.specs.PartForms.{IsOfParts};
 ghost use Rattle.daachorse_bytewise.specs.WrittenForms.{BeginsWithAutomaton, IsAutomaton, without_depths, written_form};
 
 use super::DoubleArrayAhoCorasick;
@@ -51,15 +52,16 @@ impl<V: Serializable + Copy, A: Allocator + Copy> DoubleArrayAhoCorasick<V, A> {
     /// # Errors
     ///
     /// Bytes that give no automaton, told as
-    /// [`InvalidAutomaton`](daachorse_core::errors::DaachorseError::InvalidAutomaton) or by the read
-    /// of a value, or out of memory. Bytes with a filter that does not pass at the beginning of some
+    /// [`InvalidAutomaton`](daachorse_core::errors::DaachorseError::InvalidAutomaton), or by another
+    /// error of a value's own read where that takes nothing of the bytes that it comes to, or out of
+    /// memory. Bytes with a filter that does not pass at the beginning of some
     /// pattern give none, and nor do bytes with one of A to Z in some pattern where the searches are
     /// to disregard the case of ASCII letters.
     pub fn deserialize(alloc: A, source: &[u8]) -> Result<(Self, &[u8])>
         ensures given { IfOk result (λ r. GivesAutomaton V.taken source.now r.0 r.1.now) }
         ensures depths { IfOk result (λ r. r.0.depths ≡ []) }
         ensures err { IfErr result (λ e. IsOutOfMemory e ⊎ GivesNoAutomaton V.taken source.now) }
-        ensures cause { IfErr result (IsReadRefusal V.own_refusal) }
+        ensures cause { IfErr result (IsReadRefusal (IsOfParts V.taken V.own_refusal source.now)) }
         // Of what was written.
         ensures back { IfOk result (λ r. (a : Automaton V) (rest : List ℕ) → IsAutomaton V.is_value a → source.now ≡ written_form V.form a ++ rest
             → (r.0 ≡ without_depths a) × (r.1.now ≡ rest)) }

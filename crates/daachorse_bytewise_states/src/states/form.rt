@@ -9,7 +9,7 @@ ghost use Rattle.daachorse_core.specs.Refusals.{IsOutOfMemory};
 ghost use Rattle.daachorse_prefilter.specs.Filters.{Filter};
 ghost use Rattle.daachorse_serializer.specs.Forms.{GivesView, IsReadRefusal};
 ghost use Rattle.daachorse_checker.specs.Reads.{HasNoParts};
-ghost use Rattle.daachorse_bytewise_states.specs.PartForms.{AreCounted, AreNumbers, BeginsWithAutomaton, IsAutomaton, parts_form, parts_in, parts_most, take_parts};
+ghost use Rattle.daachorse_bytewise_states.specs.PartForms.{AreCounted, AreNumbers, BeginsWithAutomaton, IsAutomaton, IsOfParts, parts_form, parts_in, parts_most, take_parts};
 ghost use Rattle.daachorse_bytewise_states.specs.Parts.{Parts};
 ghost use Rattle.daachorse_bytewise_states.specs.Valid.{IsValid};
 
@@ -46,7 +46,7 @@ fn read_lists<V: Serializable + Copy, A: Allocator + Copy>(
 ) -> Result<(Lists<V, A>, &[u8])>
     ensures given { GivesView parts_in result (take_parts V.taken src.now) }
     ensures again { IfOk result (λ r. AreCounted (parts_in r.0).0) }
-    ensures err { IfErr result (IsReadRefusal V.own_refusal) }
+    ensures err { IfErr result (IsReadRefusal (IsOfParts V.taken V.own_refusal src.now)) }
 {
     let (standard, rest) = <Vec<State<u32>, A>>::deserialize_from_slice(alloc, src)?;
     let (leftmost, rest) = <Vec<State<Empty>, A>>::deserialize_from_slice(alloc, rest)?;
@@ -192,7 +192,7 @@ impl<V: Serializable + Copy, A: Allocator + Copy> States<V, A> {
         ensures given { IfOk result (λ r. take_parts V.taken src.now ≡ Some ((r.0.0, (r.0.1, r.0.2)), r.1.now)) }
         ensures valid { IfOk result (λ r. IsValid r.0.0) }
         ensures err { IfErr result (λ e. IsOutOfMemory e ⊎ HasNoParts IsValid (take_parts V.taken src.now)) }
-        ensures cause { IfErr result (IsReadRefusal V.own_refusal) }
+        ensures cause { IfErr result (IsReadRefusal (IsOfParts V.taken V.own_refusal src.now)) }
     {
         let (lists, rest) = read_lists(alloc, src)?;
         if !lists.is_valid(alloc)? {

@@ -86,15 +86,22 @@ pub fn read_ending<
     Ok((ending, rest))
 }
 
-/// The greatest length of an ending, in bytes, or `usize::MAX` where it is more.
-pub fn ending_bytes<V: Serializable + Copy, F: SerializableVec + Drop, A: Allocator>(
+/// The room for the form of a value that is made beforehand, in bytes: that of the greatest number, with a flag.
+///
+/// A type whose bound is far past its usual forms asks for little room so. A longer form makes the bytes grow.
+pub const VALUE_ROOM: usize = 17;
+
+/// The greatest length of an ending, in bytes, where no value takes more than [`VALUE_ROOM`], or `usize::MAX` where it
+/// is more.
+#[tactic(auto, using(crate::proofs::Sizes::product_saturates))]
+pub fn ending_room<V: Serializable + Copy, F: SerializableVec + Drop, A: Allocator>(
     outputs: &Vec<Output<V>, A>,
     filter: &Option<F>,
 ) -> usize
-    ensures { result ≡ min (ending_most V.form_len F.form_len outputs.now.items (option_shape F.shape filter.now)) (2 ^ 64 - 1) }
+    ensures { result ≡ min (ending_most (min V.form_len VALUE_ROOM) F.form_len outputs.now.items (option_shape F.shape filter.now)) (2 ^ 64 - 1) }
 {
-    outputs
-        .serialized_bytes()
-        .saturating_add(5)
+    (V::serialized_bytes().min(VALUE_ROOM) + 8)
+        .saturating_mul(outputs.len())
+        .saturating_add(9)
         .saturating_add(filter.serialized_bytes())
 }

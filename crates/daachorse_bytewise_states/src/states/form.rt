@@ -20,7 +20,7 @@ use crate::unchecked::are_lists;
 use daachorse_core::Empty;
 use daachorse_core::errors::{DaachorseError, Result};
 use daachorse_prefilter::prefilter::Prefilter;
-use daachorse_serializer::ending::{Ending, ending_bytes, read_ending, write_ending};
+use daachorse_serializer::ending::{Ending, VALUE_ROOM, ending_room, read_ending, write_ending};
 use daachorse_serializer::mode::SearchMode;
 use daachorse_serializer::serializer::{Serializable, SerializableVec};
 use std::alloc::Allocator;
@@ -109,20 +109,21 @@ impl<V: Serializable + Copy, A: Allocator> States<V, A> {
     {
         self.in_range();
         filter.in_range();
-        let mut bytes = Vec::with_capacity(alloc, self.serialized_bytes(filter))?;
+        let mut bytes = Vec::with_capacity(alloc, self.room(filter))?;
         self.write(folds, filter, &mut bytes)?;
         Ok(bytes)
     }
 
-    /// How long the form is at most, in bytes, or `usize::MAX` where it is more.
-    fn serialized_bytes(&self, filter: &Option<Prefilter<A>>) -> usize
-        ensures { result ≡ min (parts_most V.form_len self.now filter.now) (2 ^ 64 - 1) }
+    /// How long the form is at most, in bytes, where no value takes more than [`VALUE_ROOM`], or `usize::MAX` where it
+    /// is more.
+    fn room(&self, filter: &Option<Prefilter<A>>) -> usize
+        ensures { result ≡ min (parts_most (min V.form_len VALUE_ROOM) self.now filter.now) (2 ^ 64 - 1) }
     {
         self.standard
             .serialized_bytes()
             .saturating_add(self.leftmost.serialized_bytes())
             .saturating_add(self.fails.serialized_bytes())
-            .saturating_add(ending_bytes(&self.outputs, filter))
+            .saturating_add(ending_room(&self.outputs, filter))
     }
 
     /// Appends the form.

@@ -676,7 +676,8 @@ impl<S: Serializable> Serializable for Option<S> {
 
 /// Lists and tables with a written form, of which contracts see the shape.
 ///
-/// Vectors, tables and filters have one. `daachorse_part_tests` compares forms.
+/// Vectors, tables and filters have one. `daachorse_part_tests` compares forms. A list of items with
+/// empty forms may read a count of 4,294,967,295 from four bytes, and then has so many items.
 pub trait SerializableVec: Sized {
     /// Where the memory of a value comes from that is read.
     type Alloc: Allocator;

@@ -19,7 +19,7 @@ impl<V: Copy, A: Allocator> DoubleArrayAhoCorasick<V, A> {
     ///
     /// It is the first match that [`Self::find_iter`] yields where the kind is
     /// [`MatchKind::Standard`], and the first that [`Self::leftmost_find_iter`] yields where it is
-    /// another. Nothing behind what that one match needs is read, and no memory is taken. Of the
+    /// another. In the code it is one call of that iterator's `next`, and no memory is taken. Of the
     /// patterns `ab` and `abcd` in the haystack `xabcd`, a standard automaton finds `ab` from 1 to 3,
     /// and one for [`MatchKind::LeftmostLongest`] finds `abcd` from 1 to 5.
     ///
@@ -38,9 +38,9 @@ impl<V: Copy, A: Allocator> DoubleArrayAhoCorasick<V, A> {
 
     /// Returns whether some pattern that the automaton holds occurs in the haystack.
     ///
-    /// It stops at the first match, whatever the automaton's kind, and takes no memory. The patterns
-    /// `ab` and `cd` occur in the haystack `xcdx`, and neither occurs in `acbd`. An empty pattern
-    /// occurs in every haystack, the empty one included.
+    /// In the code it is a call of [`Self::find`], whatever the automaton's kind, and no memory is
+    /// taken. The patterns `ab` and `cd` occur in the haystack `xcdx`, and neither occurs in `acbd`.
+    /// An empty pattern occurs in every haystack, the empty one included.
     ///
     /// It costs what [`Self::find`] costs. `daachorse_tests` runs it.
     pub fn is_match(&self, haystack: &[u8]) -> bool

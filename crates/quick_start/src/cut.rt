@@ -4,11 +4,11 @@ ghost use Rattle.std.specs.Prelude.{◌≡◌, IfOk};
 ghost use Rattle.daachorse_model.specs.declared.MatchKind.TheVariants.{LeftmostLongest};
 ghost use Rattle.daachorse_charwise.specs.Automata.{kind_of};
 
-use anyhow::Result;
 use daachorse::errors::DaachorseError;
 use daachorse::{CharwiseDoubleArrayAhoCorasick, CharwiseDoubleArrayAhoCorasickBuilder, MatchKind};
 use daactok::{Token, Tokenizer};
 use std::alloc::Global;
+use std::io;
 
 /// The dictionary of three words.
 fn dictionary(alloc: Global) -> Result<CharwiseDoubleArrayAhoCorasick<u32>, DaachorseError>
@@ -20,7 +20,7 @@ fn dictionary(alloc: Global) -> Result<CharwiseDoubleArrayAhoCorasick<u32>, Daac
 }
 
 /// Writes the text, the start, the end and the value of a token on a line.
-fn write(rt: &HostRuntime, token: &Token<'_, u32>) -> Result<()> {
+fn write(rt: &HostRuntime, token: &Token<'_, u32>) -> io::Result<()> {
     println!(rt;
         "{} {} {} {:?}",
         token.text, token.start, token.end, token.value
@@ -29,9 +29,9 @@ fn write(rt: &HostRuntime, token: &Token<'_, u32>) -> Result<()> {
 }
 
 /// Writes each token of a text on a line.
-pub fn cut(rt: &HostRuntime) -> Result<()> {
+pub fn cut(rt: &HostRuntime) -> io::Result<()> {
     let words = dictionary(rt.alloc())?;
-    let tokenizer = Tokenizer::new(&words)?;
+    let tokenizer = Tokenizer::new(&words).map_err(|_| io::ErrorKind::InvalidInput)?;
     for token in tokenizer.tokens("東京都に") {
         write(rt, &token)?;
     }

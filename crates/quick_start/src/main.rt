@@ -3,10 +3,10 @@
 
 mod cut;
 
-use anyhow::Result;
 use daachorse::DoubleArrayAhoCorasick;
+use std::io;
 
-fn main(rt: HostRuntime) -> Result<()> {
+fn main(rt: HostRuntime) -> io::Result<()> {
     let words = [b"ab".as_slice(), b"abcd", b"bc", b"cd"];
     let automaton: DoubleArrayAhoCorasick<u32> = DoubleArrayAhoCorasick::new(rt.alloc(), words)?;
     for found in automaton.find_overlapping_iter(b"abcd") {

@@ -21,7 +21,6 @@ use crate::mode::Mode;
 use crate::sink::{Sink, SinkError, write_whole};
 use daachorse::errors::DaachorseError;
 use daachorse::{DoubleArrayAhoCorasick, DoubleArrayAhoCorasickBuilder, Match, MatchKind};
-use itoa::write_digits;
 use std::alloc::{AllocError, Allocator};
 use thiserror::Error;
 
@@ -190,6 +189,15 @@ fn render_number(n: u64, mark: u8, line: &mut [u8], end: usize) -> usize
     ensures start { result + length (decimal n) + 1 ≡ end }
     ensures written { drop result line.new ≡ decimal n ++ mark ∷ drop end line.old }
 {
-    line[end - 1] = mark;
-    write_digits(n, line, end - 1)
+    let mut at = end - 1;
+    line[at] = mark;
+    let mut left = n;
+    while left >= 10 {
+        at -= 1;
+        line[at] = b'0' + (left % 10) as u8;
+        left /= 10;
+    }
+    at -= 1;
+    line[at] = b'0' + left as u8;
+    at
 }

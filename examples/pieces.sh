@@ -1,11 +1,11 @@
 #!/bin/sh
-# pieces.sh DAACFIND PATTERNS HAYSTACK BYTES [JOBS]
+# pieces.sh DAACINDEX PATTERNS HAYSTACK BYTES [JOBS]
 #
-# Writes what `DAACFIND overlapping PATTERNS HAYSTACK` writes, from pieces of the haystack of BYTES bytes
+# Writes what `daacfind overlapping PATTERNS HAYSTACK` writes, from pieces of the haystack of BYTES bytes
 # each, of which JOBS (as many as there are processors) are searched at once: by GNU parallel where it is
-# installed, else by xargs. The automaton of the patterns is built and written once, and read for each piece.
-# Each piece is searched with the longest pattern's bytes less one in front of it, and a match is counted in
-# the piece in which it ends.
+# installed, else by xargs. The program `daacindex` writes the automaton of the patterns once, and searches
+# each piece by it. Each piece is searched with the longest pattern's bytes less one in front of it, and a
+# match is counted in the piece in which it ends.
 set -eu
 export LC_ALL=C
 
@@ -22,7 +22,7 @@ search_piece() {
     [ "$start" -ge 0 ] || start=0
     piece="$PIECES_WORK/piece.$1"
     tail -c "+$((start + 1))" "$PIECES_HAYSTACK" | head -c "$((at - start + PIECES_BYTES))" > "$piece"
-    "$PIECES_DAACFIND" read overlapping "$PIECES_WORK/automaton" "$piece" > "$piece.found"
+    "$PIECES_DAACINDEX" search overlapping "$PIECES_WORK/automaton" "$piece" > "$piece.found"
     # What the first piece finds is all its own, also where an empty pattern matches at place 0.
     awk -v start="$start" -v carried="$((at - start))" -v first="$1" \
         'first == 0 || $2 > carried { printf "%.0f %.0f %s\n", $1 + start, $2 + start, $3 }' \
@@ -35,14 +35,14 @@ if [ "$1" = --piece ]; then
     exit
 fi
 
-PIECES_DAACFIND=$1 PIECES_PATTERNS=$2 PIECES_HAYSTACK=$3 PIECES_BYTES=$4
+PIECES_DAACINDEX=$1 PIECES_PATTERNS=$2 PIECES_HAYSTACK=$3 PIECES_BYTES=$4
 jobs=${5:-$(getconf _NPROCESSORS_ONLN)}
 longest=$(longest_line "$PIECES_PATTERNS")
 PIECES_CARRIED=$((longest > 0 ? longest - 1 : 0))
 PIECES_WORK=$(mktemp -d)
 trap 'rm -rf "$PIECES_WORK"' EXIT
-export PIECES_DAACFIND PIECES_HAYSTACK PIECES_BYTES PIECES_CARRIED PIECES_WORK
-"$PIECES_DAACFIND" write overlapping "$PIECES_PATTERNS" > "$PIECES_WORK/automaton"
+export PIECES_DAACINDEX PIECES_HAYSTACK PIECES_BYTES PIECES_CARRIED PIECES_WORK
+"$PIECES_DAACINDEX" write overlapping "$PIECES_PATTERNS" > "$PIECES_WORK/automaton"
 
 size=$(wc -c < "$PIECES_HAYSTACK")
 count=$(((size + PIECES_BYTES - 1) / PIECES_BYTES))

@@ -1,6 +1,5 @@
 //! Finds many patterns in a file at once, and writes each match on a line: its start, its end and
-//! the number of its pattern. It can write the automaton of the patterns too, and search by one
-//! that was written.
+//! the number of its pattern.
 #![tactic(auto)]
 
 use daacfind_command::command::run_program;

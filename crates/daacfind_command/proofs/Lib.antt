@@ -1,4 +1,3 @@
 pub mod Built
 pub mod Gives
 pub mod Pieces
-pub mod WrittenLaws

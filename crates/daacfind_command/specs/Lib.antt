@@ -1,5 +1,5 @@
+pub mod Commands
 pub mod Failures
 pub mod Modes
 pub mod Runs
 pub mod Sinks
-pub mod Written

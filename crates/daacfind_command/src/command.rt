@@ -1,26 +1,28 @@
 //! The command: from arguments to a status, and to a line on standard error where it fails.
+//!
+//! The layers above may rely on [`command`] returning the status that its ending has.
+
+ghost use Rattle.std.specs.Prelude.{◌≡◌, None, IfSome};
+ghost use Rattle.daacfind_command.specs.Commands.{Ask, AskNothing, EndsBy, status_of, words_of};
 
 use crate::inputs::{Arguments, Inputs};
 use crate::mode::Mode;
 use crate::run::{RunError, run};
-use crate::sink::{Sink, write_whole};
-use crate::written::{WrittenError, run_written, write};
+use crate::sink::{Sink, SinkText};
 use std::alloc::{AllocError, Allocator, Global};
-use std::fmt::{self, Write};
+use std::fmt::Write;
 use std::rt::Env;
 use thiserror::Error;
 
 /// Why a command failed. Its text is the line for standard error.
 #[derive(Debug, Drop, Error)]
 enum CommandError<'a> {
-    #[error("usage: daacfind [MODE PATTERNS HAYSTACK | write MODE PATTERNS | read MODE AUTOMATON HAYSTACK], MODE overlapping, nosuffix, find, longest or first")]
+    #[error("usage: daacfind overlapping|nosuffix|find|longest|first PATTERNS HAYSTACK")]
     Usage,
     #[error("daacfind: cannot read {0}")]
     Read(&'a str),
     #[error(transparent)]
-    Run(#[from] RunError),
-    #[error(transparent)]
-    Written(#[from] WrittenError),
+    Run(RunError),
 }
 
 /// Runs the command with the program's arguments, as [`command`] does, and returns its status.
@@ -43,27 +45,27 @@ pub fn run_program<R: Env, I: Inputs, S: Sink, E: Sink>(
 /// Runs the command, and returns its status.
 ///
 /// The arguments are a mode and the names of two files: of the patterns, one a line, and of the
-/// haystack. The matches go to `out`. Behind `write` they are a mode and the name of the file of
-/// patterns, and the automaton goes to `out`; behind `read` a mode and the names of two files, of an
-/// automaton that was written and of the haystack. An argument that is not UTF-8 is `None`. Status 0
-/// says that all was written. Otherwise a line on `err` tells the cause: the usage, with status 2,
-/// where the arguments are none of these, and nothing was read then; else, with status 1, a file
-/// that could not be read, the refusal of a build or of an automaton, or a failure to write. A
-/// failure of `err` is passed over.
+/// haystack. An argument that is not UTF-8 is `None`. The matches go to `out`. Where not all of them
+/// were written, a line on `err` tells the cause: the usage, where the arguments are no such three; else
+/// a file that could not be read, the refusal of a build, or a failure to write. A failure of `err` is
+/// passed over.
 pub fn command<A: Allocator + Copy, I: Inputs, S: Sink, E: Sink>(
     alloc: A,
     args: &[Option<&str>],
     files: &mut I,
     out: &mut S,
     err: &mut E,
-) -> u8 {
+) -> u8
+    ensures ends { EndsBy (words_of args.now) (I.given files.old) (S.taken out.old) (S.taken out.new) (S.failures out.old) (S.failures out.new) result }
+    ensures untouched { result ≡ 2 → (files.new ≡ files.old) × (out.new ≡ out.old) }
+{
     match attempt(alloc, args, files, out) {
         Ok(()) => 0,
         Err(error) => {
             let _ = writeln!(SinkText { sink: err }, "{error}");
             match error {
                 CommandError::Usage => 2,
-                CommandError::Read(_) | CommandError::Run(_) | CommandError::Written(_) => 1,
+                CommandError::Read(_) | CommandError::Run(_) => 1,
             }
         }
     }
@@ -74,50 +76,34 @@ fn attempt<'a, A: Allocator + Copy, I: Inputs, S: Sink>(
     args: &[Option<&'a str>],
     files: &mut I,
     out: &mut S,
-) -> Result<(), CommandError<'a>> {
-    match *args {
-        [Some("write"), Some(mode), Some(patterns)] => {
-            let mode = mode_of(mode)?;
-            let patterns = bytes_of(files, patterns)?;
-            write(alloc, mode, &patterns, out)?;
-        }
-        [Some("read"), Some(mode), Some(automaton), Some(haystack)] => {
-            let mode = mode_of(mode)?;
-            let automaton = bytes_of(files, automaton)?;
-            let haystack = bytes_of(files, haystack)?;
-            run_written(alloc, mode, &automaton, &haystack, out)?;
-        }
-        [Some(mode), Some(patterns), Some(haystack)] => {
-            let mode = mode_of(mode)?;
-            let patterns = bytes_of(files, patterns)?;
-            let haystack = bytes_of(files, haystack)?;
-            run(alloc, mode, &patterns, &haystack, out)?;
-        }
-        _ => return Err(CommandError::Usage),
+) -> Result<(), CommandError<'a>>
+    ensures ends { EndsBy (words_of args.now) (I.given files.old) (S.taken out.old) (S.taken out.new) (S.failures out.old) (S.failures out.new) (status_of result) }
+    ensures untouched { status_of result ≡ 2 → (files.new ≡ files.old) × (out.new ≡ out.old) }
+{
+    let Some((mode, patterns, haystack)) = asked(args) else {
+        return Err(CommandError::Usage);
+    };
+    let Some(lines) = files.read(patterns) else {
+        return Err(CommandError::Read(patterns));
+    };
+    let Some(bytes) = files.read(haystack) else {
+        return Err(CommandError::Read(haystack));
+    };
+    match run(alloc, mode, &lines, &bytes, out) {
+        Ok(()) => Ok(()),
+        Err(error) => Err(CommandError::Run(error)),
     }
-    Ok(())
 }
 
-fn mode_of<'a>(word: &'a str) -> Result<Mode, CommandError<'a>> {
-    Mode::from_word(word).ok_or(CommandError::Usage)
-}
-
-fn bytes_of<'a, I: Inputs>(files: &mut I, name: &'a str) -> Result<Vec<u8>, CommandError<'a>> {
-    files.read(name).ok_or(CommandError::Read(name))
-}
-
-// A sink that takes formatted text.
-#[derive(Drop)]
-struct SinkText<'a, S: Sink> {
-    sink: &'a mut S,
-}
-
-impl<S: Sink> fmt::Write for SinkText<'_, S> {
-    ghost use Rattle.std.specs.Io.KnownBytes.{Appends};
-
-    ghost write_str_gives = { λ old text new. Appends (S.taken old.sink.now) (S.taken new.sink.now) text };
-
-    fn write_str(&mut self, text: &str) -> fmt::Result {
-        write_whole(self.sink, text.as_bytes()).map_err(|_| fmt::Error)
+// The mode and the names of the two files.
+fn asked<'a>(args: &[Option<&'a str>]) -> Option<(Mode, &'a str, &'a str)>
+    ensures asked { IfSome result (λ r. Ask (words_of args.now) r.0 r.1.now r.2.now) }
+    ensures nothing { result ≡ None → AskNothing (words_of args.now) }
+{
+    match *args {
+        [Some(mode), Some(patterns), Some(haystack)] => {
+            Some((Mode::from_word(mode)?, patterns, haystack))
+        }
+        _ => None,
     }
 }

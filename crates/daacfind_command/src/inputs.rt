@@ -1,17 +1,26 @@
 //! What the command is given: the bytes of its files, and its arguments.
 
+ghost use Rattle.std.specs.Prelude.{◌≡◌, ℕ, List, None, Option};
+ghost use Rattle.std.specs.Option.{option_map};
+ghost use Rattle.daacfind_command.specs.Commands.{Tells};
+
 use std::alloc::{AllocError, Global};
 use std::env::FillError;
 use std::fs;
 use std::rt::{Env, Files};
 
-// Five arguments are enough to know that there are neither three nor four.
+// Five arguments are enough to know that there are more than a command takes.
 const MOST_ARGUMENTS: usize = 5;
 
 /// Files by their names.
 pub trait Inputs {
+    // What the files give by their names, where they tell it: the bytes, or none where a file cannot be read.
+    ghost given: { Self → Option (List ℕ → Option (List ℕ)) };
+
     /// Reads the bytes of a file. It is `None` where the file cannot be read for any cause.
-    fn read(&mut self, name: &str) -> Option<Vec<u8>>;
+    fn read(&mut self, name: &str) -> Option<Vec<u8>>
+        ensures told { Tells (given self.old) name.now (option_map (λ bytes. bytes.items) result) }
+        ensures same { given self.new ≡ given self.old };
 }
 
 /// The files of the system.
@@ -28,6 +37,9 @@ impl<'a, R: Files + AllocGlobal> FileInputs<'a, R> {
 }
 
 impl<R: Files + AllocGlobal> Inputs for FileInputs<'_, R> {
+    // No contract can say what a file has.
+    ghost given = { λ _. None };
+
     fn read(&mut self, name: &str) -> Option<Vec<u8>> {
         fs::read(self.rt, name).ok()
     }

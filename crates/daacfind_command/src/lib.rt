@@ -1,5 +1,5 @@
 //! The command of the program `daacfind`: it finds the lines of one file in another, and writes each
-//! match on a line. It can write the automaton of the lines too, and search by one that was written.
+//! match on a line.
 //!
 //! The program above is `main` alone, and calls [`command::run_program`] with its own arguments, files
 //! and streams. It may rely on what is written being the text of the list of the mode's search, and
@@ -11,4 +11,3 @@ pub mod inputs;
 pub mod mode;
 pub mod run;
 pub mod sink;
-pub mod written;

@@ -87,8 +87,12 @@ pub fn run<S: Sink, A: Allocator + Copy>(
     Ok(())
 }
 
-// The automaton of the lines of a pattern file.
-pub(crate) fn build<A: Allocator + Copy>(
+/// Builds the automaton of the patterns, which are the lines of `file`, each with its number as its value.
+///
+/// # Errors
+///
+/// The build refused the patterns, or memory was refused.
+pub fn build<A: Allocator + Copy>(
     alloc: A,
     kind: MatchKind,
     file: &[u8],
@@ -130,8 +134,12 @@ fn pieces<A: Allocator>(alloc: A, file: &[u8]) -> Result<Vec<&[u8], A>, AllocErr
     file.split(|b| *b == b'\n').collect(alloc)
 }
 
-// Writes what the mode finds in the haystack.
-pub(crate) fn write_mode<S: Sink, A: Allocator + Copy>(
+/// Writes what the mode finds in the haystack, each match on a line. The sink is not flushed.
+///
+/// # Errors
+///
+/// The sink failed, and a beginning of the text was written.
+pub fn write_mode<S: Sink, A: Allocator + Copy>(
     mode: Mode,
     automaton: &DoubleArrayAhoCorasick<u32, A>,
     haystack: &[u8],

@@ -9,6 +9,7 @@ ghost use Rattle.daachorse_bytewise.specs.Replaced.{AppendsBeginning};
 ghost use Rattle.daacfind_command.specs.Failures.{failures_after_write, failures_after_flush};
 
 use daachorse::counter::Counter;
+use std::fmt;
 use std::io::Write;
 use std::marker::Model;
 
@@ -124,4 +125,21 @@ pub fn write_whole<S: Sink>(out: &mut S, bytes: &[u8]) -> Result<(), SinkError>
         }
     }
     Ok(())
+}
+
+/// A sink that takes formatted text.
+#[derive(Drop)]
+pub struct SinkText<'a, S: Sink> {
+    /// The sink.
+    pub sink: &'a mut S,
+}
+
+impl<S: Sink> fmt::Write for SinkText<'_, S> {
+    ghost use Rattle.std.specs.Io.KnownBytes.{Appends};
+
+    ghost write_str_gives = { λ old text new. Appends (S.taken old.sink.now) (S.taken new.sink.now) text };
+
+    fn write_str(&mut self, text: &str) -> fmt::Result {
+        write_whole(self.sink, text.as_bytes()).map_err(|_| fmt::Error)
+    }
 }

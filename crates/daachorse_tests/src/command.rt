@@ -1,14 +1,16 @@
-//! `daacfind`, where no clause speaks: the statuses and texts of the command, its arguments, a writer that fails
-//! in the middle of a line, that the sink is flushed once, at the end, and that a written automaton
-//! is searched as one that was built.
+//! `daacfind`, where no clause speaks: the texts of the command, its arguments, a writer that fails
+//! in the middle of a line, and that the sink is flushed once, at the end.
+
+ghost use Rattle.std.specs.Prelude.{None};
 
 use crate::expect;
-use daacfind_command::command::run_program;
+use daacfind_command::command::{command, run_program};
 use daacfind_command::inputs::{Arguments, Inputs};
 use daacfind_command::mode::Mode;
 use daacfind_command::run::{RunError, run};
 use daacfind_command::sink::WriterSink;
 use daachorse::errors::{DaachorseError, Limit};
+use refusing::Refusing;
 use std::alloc::{AllocError, Global};
 use std::env::FillError;
 use std::io::{self, Write};
@@ -18,20 +20,21 @@ use std::test::Fail;
 // The name of a file that has the patterns.
 const LONG: &[u8] = &[b'p'; 300];
 
-const USAGE: &[u8] =
-    b"usage: daacfind [MODE PATTERNS HAYSTACK | write MODE PATTERNS | read MODE AUTOMATON HAYSTACK], MODE overlapping, nosuffix, find, longest or first\n";
+const USAGE: &[u8] = b"usage: daacfind overlapping|nosuffix|find|longest|first PATTERNS HAYSTACK\n";
 
 const PATTERNS: &[u8] = b"bcd\nab\na\n";
 
-// A few files, one of which is the automaton, and the number of attempts to read one.
+/// A few files, one of which is the automaton, and the number of attempts to read one.
 #[derive(Drop)]
-struct Memory<'a> {
-    alloc: Global,
-    reads: u64,
-    automaton: &'a [u8],
+pub struct Memory<'a> {
+    pub alloc: Global,
+    pub reads: u64,
+    pub automaton: &'a [u8],
 }
 
 impl Inputs for Memory<'_> {
+    ghost given = { λ _. None };
+
     fn read(&mut self, name: &str) -> Option<Vec<u8>> {
         self.reads = self.reads.wrapping_add(1);
         match name {
@@ -48,10 +51,10 @@ impl Inputs for Memory<'_> {
     }
 }
 
-// The words of a command line behind the program's name.
+/// The words of a command line behind the program's name.
 #[derive(Drop)]
-struct Words<'a> {
-    words: &'a [&'a [u8]],
+pub struct Words<'a> {
+    pub words: &'a [&'a [u8]],
 }
 
 impl Env for Words<'_> {
@@ -92,6 +95,19 @@ struct Halting {
     taken: Vec<u8>,
     can_flush: bool,
     flushes: Vec<usize>,
+}
+
+impl Halting {
+    // Takes so many bytes, and then fails.
+    fn new(alloc: Global, left: usize) -> Halting {
+        Halting {
+            left,
+            halt: Halt::Fails,
+            taken: Vec::new(alloc),
+            can_flush: true,
+            flushes: Vec::new(alloc),
+        }
+    }
 }
 
 impl Write for Halting {
@@ -162,20 +178,20 @@ const ROWS: &[Row] = &[
         reads: 0,
     },
     Row {
-        shows: "an automaton for no mode",
-        words: &[b"write", b"shortest", b"patterns"],
+        shows: "no mode of this program",
+        words: &[b"write", b"find", b"patterns"],
         status: 2,
         written: b"",
         told: USAGE,
         reads: 0,
     },
     Row {
-        shows: "no automaton",
-        words: &[b"read", b"find", b"lost", b"haystack"],
-        status: 1,
+        shows: "four arguments, of which the first is no mode",
+        words: &[b"read", b"find", b"automaton", b"haystack"],
+        status: 2,
         written: b"",
-        told: b"daacfind: cannot read lost\n",
-        reads: 1,
+        told: USAGE,
+        reads: 0,
     },
     Row {
         shows: "no text",
@@ -275,32 +291,22 @@ const ROWS: &[Row] = &[
     },
 ];
 
-// How the program ends: its status, what it writes, what it tells, and how often it reads a file.
-type End = (u8, Vec<u8>, Vec<u8>, u64);
-
-// How it ends over these words where a file is this automaton.
-fn end_of(alloc: Global, automaton: &[u8], words: &[&[u8]]) -> Result<End, AllocError> {
+// Whether the program ends as the row says.
+fn ends_so(alloc: Global, row: &Row) -> Result<bool, AllocError> {
     let mut files = Memory {
         alloc,
         reads: 0,
-        automaton,
+        automaton: b"",
     };
     let mut out = WriterSink::new(Vec::new(alloc));
     let mut err = WriterSink::new(Vec::new(alloc));
-    let status = run_program(&Words { words }, alloc, &mut files, &mut out, &mut err)?;
-    let written = Vec::from_slice(alloc, out.writer())?;
-    let told = Vec::from_slice(alloc, err.writer())?;
-    Ok((status, written, told, files.reads))
-}
-
-// Whether it ends as the row says.
-fn ends_so(alloc: Global, row: &Row) -> Result<bool, AllocError> {
-    let (status, written, told, reads) = end_of(alloc, b"", row.words)?;
+    let words = Words { words: row.words };
+    let status = run_program(&words, alloc, &mut files, &mut out, &mut err)?;
     Ok(
         status == row.status
-            && written.as_slice() == row.written
-            && told.as_slice() == row.told
-            && reads == row.reads,
+            && out.writer().as_slice() == row.written
+            && err.writer().as_slice() == row.told
+            && files.reads == row.reads,
     )
 }
 
@@ -312,54 +318,97 @@ fn the_program_tells_its_status_and_its_cause(rt: HostRuntime) -> Result<(), Fai
     Ok(())
 }
 
-// A mode, the file of patterns, what is found in the haystack, and a mode of another kind.
-type WrittenRow = (&'static [u8], &'static [u8], &'static [u8], &'static [u8]);
-
-const WRITTEN_ROWS: &[WrittenRow] = &[
-    (b"overlapping", b"patterns", WRITTEN, b"longest"),
-    (b"nosuffix", b"patterns", WRITTEN, b"first"),
-    (b"find", b"patterns", b"0 1 2\n1 4 0\n", b"first"),
-    (b"longest", b"chain", b"0 4 2\n", b"first"),
-    (b"first", b"chain", b"0 2 0\n", b"find"),
-];
-
-// Whether a search by the automaton of a file finds this, or tells this cause.
-fn reads_so(
-    alloc: Global,
-    automaton: &[u8],
-    mode: &[u8],
-    found: &[u8],
-    cause: &[u8],
-) -> Result<bool, AllocError> {
-    let words = [b"read".as_slice(), mode, b"automaton", b"haystack"];
-    let (status, written, told, _reads) = end_of(alloc, automaton, &words)?;
-    let is_status = (status == 0) == cause.is_empty();
-    Ok(is_status && written.as_slice() == found && told.as_slice() == cause)
+// The words of a command line, how many bytes the output and standard error take before they fail, the number of the
+// request for memory that is refused, and how the command ends: its status, and what it tells.
+#[derive(Clone, Copy)]
+struct Failing {
+    shows: &'static str,
+    words: &'static [Option<&'static str>],
+    takes: usize,
+    tells: usize,
+    refused: u64,
+    status: u8,
+    told: &'static [u8],
 }
 
-const NO_AUTOMATON: &[u8] = b"InvalidAutomatonError: invalid serialized automaton\n";
+const RUN: &[Option<&str>] = &[Some("overlapping"), Some("patterns"), Some("haystack")];
 
-const OTHER_KIND: &[u8] = b"daacfind: the automaton is for another kind of search\n";
+const FAILING: &[Failing] = &[
+    Failing {
+        shows: "an output that fails at once",
+        words: RUN,
+        takes: 0,
+        tells: 99,
+        refused: u64::MAX,
+        status: 1,
+        told: b"daacfind: cannot write\n",
+    },
+    Failing {
+        shows: "an output that fails later",
+        words: RUN,
+        takes: 7,
+        tells: 99,
+        refused: u64::MAX,
+        status: 1,
+        told: b"daacfind: cannot write\n",
+    },
+    Failing {
+        shows: "no memory for the build",
+        words: RUN,
+        takes: 99,
+        tells: 99,
+        refused: 3,
+        status: 1,
+        told: b"OutOfMemoryError: memory allocation failed\n",
+    },
+    Failing {
+        shows: "the usage, which cannot be told",
+        words: &[],
+        takes: 99,
+        tells: 0,
+        refused: u64::MAX,
+        status: 2,
+        told: b"",
+    },
+    Failing {
+        shows: "a cause that cannot be told whole",
+        words: &[Some("find"), Some("lost"), Some("haystack")],
+        takes: 99,
+        tells: 8,
+        refused: u64::MAX,
+        status: 1,
+        told: b"daacfind",
+    },
+    Failing {
+        shows: "nothing to tell",
+        words: RUN,
+        takes: 99,
+        tells: 0,
+        refused: u64::MAX,
+        status: 0,
+        told: b"",
+    },
+];
 
-// Whether the automaton of a row is written and searched, refused where its first byte is missing, and refused for another kind.
-fn is_searched(alloc: Global, row: &WrittenRow) -> Result<bool, AllocError> {
-    let (mode, patterns, found, other) = *row;
-    let (status, automaton, _told, _reads) = end_of(alloc, b"", &[b"write", mode, patterns])?;
-    let rest = automaton.get(1..).unwrap_or(b"");
-    Ok(
-        status == 0
-            && reads_so(alloc, &automaton, mode, found, b"")?
-            && reads_so(alloc, rest, mode, b"", NO_AUTOMATON)?
-            && reads_so(alloc, &automaton, other, b"", OTHER_KIND)?,
-    )
+// Whether the command ends as the row says.
+fn fails_so(alloc: Global, row: &Failing) -> bool {
+    let refusing = Refusing::new(alloc, row.refused);
+    let mut files = Memory {
+        alloc,
+        reads: 0,
+        automaton: b"",
+    };
+    let mut out = WriterSink::new(Halting::new(alloc, row.takes));
+    let mut err = WriterSink::new(Halting::new(alloc, row.tells));
+    let status = command(&refusing, row.words, &mut files, &mut out, &mut err);
+    status == row.status && err.writer().taken.as_slice() == row.told
 }
 
 #[test]
-fn a_written_automaton_is_searched(rt: HostRuntime) -> Result<(), Fail> {
-    for row in WRITTEN_ROWS {
-        expect(&rt, is_searched(rt.alloc(), row)?, "a row");
+fn a_command_that_fails_tells_its_status(rt: HostRuntime) {
+    for row in FAILING {
+        expect(&rt, fails_so(rt.alloc(), row), row.shows);
     }
-    Ok(())
 }
 
 // Whether a lone argument is read whole.

@@ -22,6 +22,8 @@ mod edge_map;
 #[cfg(test)]
 mod finding;
 #[cfg(test)]
+mod index;
+#[cfg(test)]
 mod listing;
 #[cfg(test)]
 mod paths;

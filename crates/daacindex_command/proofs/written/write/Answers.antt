@@ -10,43 +10,43 @@ use Rattle.daachorse_model.specs.Program.{pattern_lines}
 use Rattle.daachorse_bytewise.specs.Building.{IsBuildRefusal}
 use Rattle.daachorse_bytewise.specs.Replaced.{AppendsBeginning}
 use Rattle.daacfind_command.specs.declared.mode.Mode.{Mode}
-use Rattle.daacfind_command.specs.declared.run.RunError.{RunError}
-use Rattle.daacfind_command.specs.declared.run.RunError.TheVariants.{Build, Write}
+use Rattle.daacindex_command.specs.declared.written.IndexError.{IndexError}
+use Rattle.daacindex_command.specs.declared.written.IndexError.TheVariants.{Refused, Write}
 use Rattle.daacfind_command.specs.Modes.{kind_of_mode}
-use Rattle.daacfind_command.specs.Runs.{IfBuild, OnWrite, value_gives}
-use Rattle.daacfind_command.specs.Written.{IsFormOf}
-use Rattle.daacfind_command.proofs.WrittenLaws.{form_of_built, all_begun}
-use Rattle.daacfind_command.proofs.written.write.Goals as goal
+use Rattle.daacfind_command.specs.Runs.{value_gives}
+use Rattle.daacindex_command.specs.Written.{IfRefused, IsFormOf, OnFailure, OnRefusal}
+use Rattle.daacindex_command.proofs.WrittenLaws.{form_of_built, all_begun}
+use Rattle.daacindex_command.proofs.written.write.Goals as goal
 
 -- where writing failed, a beginning of the form was written
-begun : {T : Type 0} (r : Result T RunError) (mode : Mode) (patterns : List ℕ) (old new : Option (List ℕ)) (bytes : List ℕ) → IsErrAnd r (λ e. e ≡ Write) → IsFormOf mode patterns bytes → AppendsBeginning old new bytes
-    → IfErr r (λ e. OnWrite e ((b : List ℕ) × IsFormOf mode patterns b × AppendsBeginning old new b))
-begun r mode patterns old new bytes is form to = at_error r Write (λ e. OnWrite e ((b : List ℕ) × IsFormOf mode patterns b × AppendsBeginning old new b)) is (bytes, form, to)
+begun : {T : Type 0} (r : Result T IndexError) (mode : Mode) (patterns : List ℕ) (old new : Option (List ℕ)) (bytes : List ℕ) → IsErrAnd r (λ e. e ≡ Write) → IsFormOf (kind_of_mode mode) patterns bytes → AppendsBeginning old new bytes
+    → IfErr r (λ e. OnFailure e ((b : List ℕ) × IsFormOf (kind_of_mode mode) patterns b × AppendsBeginning old new b))
+begun r mode patterns old new bytes is form to = at_error r Write (λ e. OnFailure e ((b : List ℕ) × IsFormOf (kind_of_mode mode) patterns b × AppendsBeginning old new b)) is (bytes, form, to)
 
 pub returns-in_err-automaton-clause-refusal : goal.returns-in_err-automaton-clause-refusal
 returns-in_err-automaton-clause-refusal g c =
     let P : MatchKind → Type 0 = λ k. IsBuildRefusal value_gives k (pattern_lines c.args.patterns.now) c.in_err-automaton.field-0.0 in
-    at_error c.from_residual.result (Build c.in_err-automaton.field-0.0) (λ e. IfBuild e (IsBuildRefusal value_gives (kind_of_mode c.args.mode) (pattern_lines c.args.patterns.now))) c.from_residual.ensures.1 (subst P c.match_kind.ensures c.in_err-automaton.ensures.err)
+    at_error c.from_residual.result (Refused c.in_err-automaton.field-0.0) (λ e. IfRefused e (IsBuildRefusal value_gives (kind_of_mode c.args.mode) (pattern_lines c.args.patterns.now))) c.from_residual.ensures.1 (subst P c.match_kind.ensures c.in_err-automaton.ensures.err)
 
 pub returns-in_err-automaton-clause-unwritten : goal.returns-in_err-automaton-clause-unwritten
 returns-in_err-automaton-clause-unwritten g c =
     let old = g.S.Sink.taken c.args.out.now in
-    at_error c.from_residual.result (Build c.in_err-automaton.field-0.0) (λ e. IfBuild e (λ _. Keeps old old)) c.from_residual.ensures.1 (Keeps-refl old)
+    at_error c.from_residual.result (Refused c.in_err-automaton.field-0.0) (λ e. OnRefusal e (Keeps old old)) c.from_residual.ensures.1 (Keeps-refl old)
 
 pub returns-in_err-automaton-clause-untried : goal.returns-in_err-automaton-clause-untried
 returns-in_err-automaton-clause-untried g c =
     let old = g.S.Sink.failures c.args.out.now in
-    at_error c.from_residual.result (Build c.in_err-automaton.field-0.0) (λ e. IfBuild e (λ _. old ≡ old)) c.from_residual.ensures.1 refl
+    at_error c.from_residual.result (Refused c.in_err-automaton.field-0.0) (λ e. OnRefusal e (old ≡ old)) c.from_residual.ensures.1 refl
 
 pub returns-in_err-bytes-clause-unwritten : goal.returns-in_err-bytes-clause-unwritten
 returns-in_err-bytes-clause-unwritten g c =
     let old = g.S.Sink.taken c.args.out.now in
-    at_error c.from_residual-in_err-bytes.result (Build c.in_err-bytes.field-0.0) (λ e. IfBuild e (λ _. Keeps old old)) c.from_residual-in_err-bytes.ensures.1 (Keeps-refl old)
+    at_error c.from_residual-in_err-bytes.result (Refused c.in_err-bytes.field-0.0) (λ e. OnRefusal e (Keeps old old)) c.from_residual-in_err-bytes.ensures.1 (Keeps-refl old)
 
 pub returns-in_err-bytes-clause-untried : goal.returns-in_err-bytes-clause-untried
 returns-in_err-bytes-clause-untried g c =
     let old = g.S.Sink.failures c.args.out.now in
-    at_error c.from_residual-in_err-bytes.result (Build c.in_err-bytes.field-0.0) (λ e. IfBuild e (λ _. old ≡ old)) c.from_residual-in_err-bytes.ensures.1 refl
+    at_error c.from_residual-in_err-bytes.result (Refused c.in_err-bytes.field-0.0) (λ e. OnRefusal e (old ≡ old)) c.from_residual-in_err-bytes.ensures.1 refl
 
 pub returns-in_err-write_whole-clause-beginning : goal.returns-in_err-write_whole-clause-beginning
 returns-in_err-write_whole-clause-beginning g c =
@@ -56,7 +56,7 @@ returns-in_err-write_whole-clause-beginning g c =
 
 pub returns-in_err-write_whole-clause-failed : goal.returns-in_err-write_whole-clause-failed
 returns-in_err-write_whole-clause-failed g c =
-    at_error c.from_residual-in_err-write_whole.result Write (λ e. OnWrite e (g.S.Sink.failures c.write_whole.new.out ≡ g.S.Sink.failures c.args.out.now + 1)) c.from_residual-in_err-write_whole.ensures.1 c.in_err-write_whole.ensures.failed
+    at_error c.from_residual-in_err-write_whole.result Write (λ e. OnFailure e (g.S.Sink.failures c.write_whole.new.out ≡ g.S.Sink.failures c.args.out.now + 1)) c.from_residual-in_err-write_whole.ensures.1 c.in_err-write_whole.ensures.failed
 
 pub returns-in_err-flush-clause-beginning : goal.returns-in_err-flush-clause-beginning
 returns-in_err-flush-clause-beginning g c =
@@ -68,7 +68,7 @@ returns-in_err-flush-clause-beginning g c =
 
 pub returns-in_err-flush-clause-failed : goal.returns-in_err-flush-clause-failed
 returns-in_err-flush-clause-failed g c =
-    at_error c.from_residual-in_err-flush.result Write (λ e. OnWrite e (g.S.Sink.failures c.flush.new.self ≡ g.S.Sink.failures c.args.out.now + 1)) c.from_residual-in_err-flush.ensures.1 (c.in_err-flush.ensures.failures ∙ ap (λ n. n + 1) c.in_ok-write_whole.ensures.unfailed)
+    at_error c.from_residual-in_err-flush.result Write (λ e. OnFailure e (g.S.Sink.failures c.flush.new.self ≡ g.S.Sink.failures c.args.out.now + 1)) c.from_residual-in_err-flush.ensures.1 (c.in_err-flush.ensures.failures ∙ ap (λ n. n + 1) c.in_ok-write_whole.ensures.unfailed)
 
 pub returns-clause-written : goal.returns-clause-written
 returns-clause-written g c = (

@@ -1,0 +1,97 @@
+//! The command: from arguments to a status, and to a line on standard error where it fails.
+
+use crate::written::{IndexError, run_written, write};
+use daacfind_command::inputs::{Arguments, Inputs};
+use daacfind_command::mode::Mode;
+use daacfind_command::sink::{Sink, SinkText};
+use std::alloc::{AllocError, Allocator, Global};
+use std::fmt::Write;
+use std::rt::Env;
+use thiserror::Error;
+
+/// Why a command failed. Its text is the line for standard error.
+#[derive(Debug, Drop, Error)]
+enum CommandError<'a> {
+    #[error("usage: daacindex write MODE PATTERNS | search MODE AUTOMATON HAYSTACK, MODE overlapping, nosuffix, find, longest or first")]
+    Usage,
+    #[error("daacindex: cannot read {0}")]
+    Read(&'a str),
+    #[error(transparent)]
+    Index(#[from] IndexError),
+}
+
+/// Runs the command with the program's arguments, as [`command`] does, and returns its status.
+///
+/// # Errors
+///
+/// An allocation failed while the arguments were read.
+pub fn run_program<R: Env, I: Inputs, S: Sink, E: Sink>(
+    env: &R,
+    alloc: Global,
+    files: &mut I,
+    out: &mut S,
+    err: &mut E,
+) -> Result<u8, AllocError> {
+    let arguments = Arguments::read(env, alloc)?;
+    let texts = arguments.texts(alloc)?;
+    Ok(command(alloc, &texts, files, out, err))
+}
+
+/// Runs the command, and returns its status.
+///
+/// The arguments are `write`, a mode and the name of a file of patterns, one a line, and the automaton
+/// goes to `out`; or `search`, a mode and the names of two files, of an automaton that was written and of
+/// the haystack, and the matches go to `out`. An argument that is not UTF-8 is `None`. Status 0 says that
+/// all was written. Otherwise a line on `err` tells the cause: the usage, with status 2, where the
+/// arguments are none of these, and nothing was read then; else, with status 1, a file that could not be
+/// read, the refusal of a build or of an automaton, or a failure to write. A failure of `err` is passed
+/// over.
+pub fn command<A: Allocator + Copy, I: Inputs, S: Sink, E: Sink>(
+    alloc: A,
+    args: &[Option<&str>],
+    files: &mut I,
+    out: &mut S,
+    err: &mut E,
+) -> u8 {
+    match attempt(alloc, args, files, out) {
+        Ok(()) => 0,
+        Err(error) => {
+            let _ = writeln!(SinkText { sink: err }, "{error}");
+            match error {
+                CommandError::Usage => 2,
+                CommandError::Read(_) | CommandError::Index(_) => 1,
+            }
+        }
+    }
+}
+
+fn attempt<'a, A: Allocator + Copy, I: Inputs, S: Sink>(
+    alloc: A,
+    args: &[Option<&'a str>],
+    files: &mut I,
+    out: &mut S,
+) -> Result<(), CommandError<'a>> {
+    match *args {
+        [Some("write"), Some(mode), Some(patterns)] => {
+            let mode = mode_of(mode)?;
+            let patterns = bytes_of(files, patterns)?;
+            write(alloc, mode, &patterns, out)?;
+        }
+        [Some("search"), Some(mode), Some(automaton), Some(haystack)] => {
+            let mode = mode_of(mode)?;
+            let automaton = bytes_of(files, automaton)?;
+            let haystack = bytes_of(files, haystack)?;
+            run_written(alloc, mode, &automaton, &haystack, out)?;
+        }
+        _ => return Err(CommandError::Usage),
+    }
+    Ok(())
+}
+
+fn mode_of<'a>(word: &'a str) -> Result<Mode, CommandError<'a>> {
+    Mode::from_word(word).ok_or(CommandError::Usage)
+}
+
+fn bytes_of<'a, I: Inputs>(files: &mut I, name: &'a str) -> Result<Vec<u8>, CommandError<'a>> {
+    files.read(name).ok_or(CommandError::Read(name))
+}

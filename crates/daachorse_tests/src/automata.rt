@@ -3,6 +3,7 @@
 
 use crate::finding::Found;
 use crate::rows::{Read, Search, Way};
+use daachorse::errors::DaachorseError;
 use daachorse::{CharwiseDoubleArrayAhoCorasick, DoubleArrayAhoCorasick, Match, MatchKind, Result};
 use daachorse_model::slow::Width;
 use std::alloc::{Allocator, Global};
@@ -31,6 +32,7 @@ pub enum Plainly {
     New,
     WithValues,
     Build,
+    BuildByCorpus,
 }
 
 /// Patterns by their units, with their values.
@@ -109,6 +111,10 @@ pub trait Automaton: Searched + PartialEq + Hash + Drop + Sized {
     /// Caches the depths, if it is for the standard searches.
     fn cache(&mut self) -> Result<()>;
 
+    /// Whether these are the patterns that it lists. Where one of them is refused, those before it came as they are,
+    /// it is the last, and that error is returned.
+    fn lists(&self, alloc: Self::Alloc, expected: &[(&str, u32)]) -> Result<bool>;
+
     /// The patterns that it lists.
     fn listed(&self, alloc: Self::Alloc) -> Result<Listed<Self::Alloc>>;
 
@@ -136,6 +142,11 @@ pub trait Automaton: Searched + PartialEq + Hash + Drop + Sized {
 
     /// Writes what [`Self::replaced`] returns.
     fn replaces_into<W: Write>(&self, text: &str, out: &mut W) -> io::Result<()>;
+}
+
+/// The error of a listing where it was the last, and else that the listing is wrong.
+pub fn refused(error: DaachorseError, is_last: bool) -> Result<bool> {
+    if is_last { Err(error) } else { Ok(false) }
 }
 
 /// The automaton of these patterns that comes about this way.

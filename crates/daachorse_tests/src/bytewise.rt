@@ -1,45 +1,68 @@
 //! The automaton over bytes, as it is and with rows of its states.
 
-use crate::automata::{Automaton, Bytewise, Listed, PATVALS, Plainly, Searched, finds};
+use crate::automata::{Automaton, Bytewise, Listed, PATVALS, Plainly, Searched, finds, refused};
 use crate::finding::{Found, are, are_found, are_found_overlapping, gives, gives_leftmost};
 use crate::replaced::instead;
-use crate::rows::{Search, Way};
+use crate::rows::{BY_CORPUS, Search, Way};
 use daachorse::bytewise::Accelerated;
 use daachorse::{DoubleArrayAhoCorasick, DoubleArrayAhoCorasickBuilder, Match, MatchKind, Result};
 use daachorse_model::slow::Width;
 use std::alloc::{AllocError, Allocator};
 use std::io::{self, Write};
 
+/// Whether a search in bytes as a whole finds just these matches. It is a leftmost search where the automaton is
+/// for these.
+pub fn finds_in_bytes<A: Allocator + Copy>(
+    automaton: &Bytewise<A>,
+    search: Search,
+    haystack: &[u8],
+    expected: &[Found],
+) -> bool {
+    if !automaton.match_kind().is_standard() {
+        return gives_leftmost(automaton.leftmost_find_iter(haystack), expected);
+    }
+    match search {
+        Search::Overlapping => gives(automaton.find_overlapping_iter(haystack), expected),
+        Search::NoSuffix => gives(
+            automaton.find_overlapping_no_suffix_iter(haystack),
+            expected,
+        ),
+        Search::Standard => gives(automaton.find_iter(haystack), expected),
+        Search::Leftmost(_) => false,
+    }
+}
+
+/// Whether a search over bytes one by one does, if there is one.
+pub fn finds_in_source_of_bytes<A: Allocator + Copy>(
+    automaton: &Bytewise<A>,
+    search: Search,
+    haystack: &[u8],
+    expected: &[Found],
+) -> bool {
+    if !automaton.match_kind().is_standard() {
+        return true;
+    }
+    let source = haystack.iter().copied();
+    match search {
+        Search::Overlapping => are(automaton.find_overlapping_iter_from_iter(source), expected),
+        Search::NoSuffix => are(
+            automaton.find_overlapping_no_suffix_iter_from_iter(source),
+            expected,
+        ),
+        Search::Standard => are(automaton.find_iter_from_iter(source), expected),
+        Search::Leftmost(_) => false,
+    }
+}
+
 impl<A: Allocator + Copy> Searched for Bytewise<A> {
     type Alloc = A;
 
     fn finds_in_slice(&self, search: Search, text: &str, expected: &[Found]) -> bool {
-        let haystack = text.as_bytes();
-        if !self.match_kind().is_standard() {
-            return gives_leftmost(self.leftmost_find_iter(haystack), expected);
-        }
-        match search {
-            Search::Overlapping => gives(self.find_overlapping_iter(haystack), expected),
-            Search::NoSuffix => gives(self.find_overlapping_no_suffix_iter(haystack), expected),
-            Search::Standard => gives(self.find_iter(haystack), expected),
-            Search::Leftmost(_) => false,
-        }
+        finds_in_bytes(self, search, text.as_bytes(), expected)
     }
 
     fn finds_in_source(&self, search: Search, text: &str, expected: &[Found]) -> bool {
-        if !self.match_kind().is_standard() {
-            return true;
-        }
-        let source = text.as_bytes().iter().copied();
-        match search {
-            Search::Overlapping => are(self.find_overlapping_iter_from_iter(source), expected),
-            Search::NoSuffix => are(
-                self.find_overlapping_no_suffix_iter_from_iter(source),
-                expected,
-            ),
-            Search::Standard => are(self.find_iter_from_iter(source), expected),
-            Search::Leftmost(_) => false,
-        }
+        finds_in_source_of_bytes(self, search, text.as_bytes(), expected)
     }
 
     fn finds_by_steps(
@@ -154,6 +177,16 @@ fn builder<A: Allocator + Copy>(
     Ok(builder)
 }
 
+/// The automaton of these patterns of bytes as this way builds it.
+pub fn built_of_bytes<A: Allocator + Copy>(
+    alloc: A,
+    way: Way,
+    kind: MatchKind,
+    patvals: &[(&[u8], u32)],
+) -> Result<Bytewise<A>> {
+    builder(alloc, way, kind)?.build_with_values(alloc, patvals.iter().copied())
+}
+
 /// The numbers of bytes.
 fn numbers<A: Allocator>(alloc: A, bytes: &[u8]) -> Result<Vec<u32, A>> {
     let mut numbers = Vec::new(alloc);
@@ -185,8 +218,7 @@ impl<A: Allocator + Copy> Automaton for Bytewise<A> {
     }
 
     fn built(alloc: A, way: Way, kind: MatchKind, patvals: &[(&str, u32)]) -> Result<Self> {
-        let patvals = in_bytes(alloc, patvals)?;
-        builder(alloc, way, kind)?.build_with_values(alloc, patvals.iter().copied())
+        built_of_bytes(alloc, way, kind, &in_bytes(alloc, patvals)?)
     }
 
     fn built_plainly(alloc: A, how: Plainly) -> Result<Self> {
@@ -197,6 +229,9 @@ impl<A: Allocator + Copy> Automaton for Bytewise<A> {
                 DoubleArrayAhoCorasick::with_values(alloc, patvals.iter().copied())
             }
             Plainly::Build => DoubleArrayAhoCorasickBuilder::default().build(alloc, PATTERNS),
+            Plainly::BuildByCorpus => {
+                builder(alloc, BY_CORPUS, MatchKind::Standard)?.build(alloc, PATTERNS)
+            }
         }
     }
 
@@ -229,6 +264,22 @@ impl<A: Allocator + Copy> Automaton for Bytewise<A> {
             return self.cache_depths();
         }
         Ok(())
+    }
+
+    fn lists(&self, alloc: A, expected: &[(&str, u32)]) -> Result<bool> {
+        let mut patterns = self.iter(alloc)?;
+        for (text, number) in expected {
+            match patterns.next() {
+                Some(Ok((pattern, value))) => {
+                    if pattern.as_slice() != text.as_bytes() || value != *number {
+                        return Ok(false);
+                    }
+                }
+                Some(Err(error)) => return refused(error, patterns.next().is_none()),
+                None => return Ok(false),
+            }
+        }
+        Ok(patterns.next().is_none())
     }
 
     fn listed(&self, alloc: A) -> Result<Listed<A>> {

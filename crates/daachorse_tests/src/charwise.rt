@@ -1,9 +1,11 @@
 //! The automaton over characters, as it is and with rows of its states.
 
-use crate::automata::{Automaton, Charwise, Listed, PATTERNS, PATVALS, Plainly, Searched, finds};
+use crate::automata::{
+    Automaton, Charwise, Listed, PATTERNS, PATVALS, Plainly, Searched, finds, refused,
+};
 use crate::finding::{Found, are, are_found, are_found_overlapping, gives, gives_leftmost};
 use crate::replaced::instead_of_text;
-use crate::rows::{Search, Way};
+use crate::rows::{BY_CORPUS, Search, Way};
 use daachorse::charwise::Accelerated;
 use daachorse::{
     CharwiseDoubleArrayAhoCorasick, CharwiseDoubleArrayAhoCorasickBuilder, Match, MatchKind, Result,
@@ -192,6 +194,9 @@ impl<A: Allocator + Copy> Automaton for Charwise<A> {
             Plainly::Build => CharwiseDoubleArrayAhoCorasickBuilder::default().build(
                 alloc, PATTERNS,
             ),
+            Plainly::BuildByCorpus => {
+                builder(alloc, BY_CORPUS, MatchKind::Standard)?.build(alloc, PATTERNS)
+            }
         }
     }
 
@@ -224,6 +229,22 @@ impl<A: Allocator + Copy> Automaton for Charwise<A> {
             return self.cache_depths();
         }
         Ok(())
+    }
+
+    fn lists(&self, alloc: A, expected: &[(&str, u32)]) -> Result<bool> {
+        let mut patterns = self.iter(alloc)?;
+        for (text, number) in expected {
+            match patterns.next() {
+                Some(Ok((pattern, value))) => {
+                    if pattern.as_str() != *text || value != *number {
+                        return Ok(false);
+                    }
+                }
+                Some(Err(error)) => return refused(error, patterns.next().is_none()),
+                None => return Ok(false),
+            }
+        }
+        Ok(patterns.next().is_none())
     }
 
     fn listed(&self, alloc: A) -> Result<Listed<A>> {

@@ -59,6 +59,12 @@ fn expect(rt: &impl Abort, holds: bool, what: &str) {
     assert!(rt; holds, "{what}");
 }
 
+/// Ends the test with what went wrong at which byte, unless `holds`.
+#[cfg(test)]
+fn expect_at(rt: &impl Abort, holds: bool, what: &str, place: usize, byte: u8) {
+    assert!(rt; holds, "{what}: byte {place} ({byte})");
+}
+
 #[cfg(test)]
 fn hash_of<T: Hash>(value: &T) -> u64 {
     let mut state = DefaultHasher::new();

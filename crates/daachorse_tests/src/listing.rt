@@ -1,32 +1,21 @@
 //! The listing of the patterns, the number of states, equality and hashes, and the ways to build.
 
 use crate::automata::{Automaton, Bytewise, Charwise, KINDS, PATVALS, Plainly};
-use crate::rows::{BUILT, Patvals, UNFILTERED};
+use crate::rows::{BUILT, FOLDING, Patvals, UNFILTERED, Way};
 use crate::{expect, hash_of};
 use daachorse::{MatchKind, Result};
 use std::alloc::Global;
+use std::process::Abort;
 use std::test::Fail;
 
-/// Whether these are the patterns that an automaton lists.
-pub fn lists<S: Automaton>(
-    alloc: S::Alloc,
-    automaton: &S,
-    expected: &[(&str, u32)],
-) -> Result<bool> {
-    let patterns = automaton.listed(alloc)?;
-    for ((pattern, value), (text, number)) in patterns.iter().zip(expected) {
-        if *pattern != S::units(alloc, text)? || *value != *number {
-            return Ok(false);
-        }
-    }
-    Ok(patterns.len() == expected.len())
-}
-
-/// A kind, patterns, the listing of them, and the numbers of states over bytes and over characters.
-type Row = (MatchKind, Patvals, Patvals, usize, usize);
+/// What a row shows, a way, a kind, patterns, the listing of them, and the numbers of states over bytes and over
+/// characters.
+type Row = (&'static str, Way, MatchKind, Patvals, Patvals, usize, usize);
 
 const ROWS: &[Row] = &[
     (
+        "beginnings before what they begin",
+        BUILT,
         MatchKind::Standard,
         &[("é", 0), ("a\0", 1), ("\0", 2), ("\0é", 3)],
         &[("\0", 2), ("\0é", 3), ("a\0", 1), ("é", 0)],
@@ -34,6 +23,8 @@ const ROWS: &[Row] = &[
         6,
     ),
     (
+        "equal patterns in order of registration",
+        BUILT,
         MatchKind::Standard,
         &[("ab", 0), ("a", 1), ("ab", 2)],
         &[("a", 1), ("ab", 0), ("ab", 2)],
@@ -41,6 +32,8 @@ const ROWS: &[Row] = &[
         3,
     ),
     (
+        "not in order of registration",
+        BUILT,
         MatchKind::Standard,
         &[("ab", 0), ("a", 1)],
         &[("a", 1), ("ab", 0)],
@@ -48,6 +41,8 @@ const ROWS: &[Row] = &[
         3,
     ),
     (
+        "a pattern that extends an earlier one is left out",
+        BUILT,
         MatchKind::LeftmostFirst,
         &[("ab", 0), ("a", 1), ("abcd", 2)],
         &[("a", 1), ("ab", 0)],
@@ -55,6 +50,8 @@ const ROWS: &[Row] = &[
         3,
     ),
     (
+        "an empty pattern",
+        BUILT,
         MatchKind::LeftmostLongest,
         &[("b", 7), ("", 8)],
         &[("", 8), ("b", 7)],
@@ -62,14 +59,26 @@ const ROWS: &[Row] = &[
         2,
     ),
     (
+        "states that are shared",
+        BUILT,
         MatchKind::Standard,
         &[("abba", 0), ("baaba", 1), ("ababa", 2)],
         &[("ababa", 2), ("abba", 0), ("baaba", 1)],
         13,
         13,
     ),
-    (MatchKind::LeftmostLongest, &[], &[], 1, 1),
     (
+        "no pattern",
+        BUILT,
+        MatchKind::LeftmostLongest,
+        &[],
+        &[],
+        1,
+        1,
+    ),
+    (
+        "characters of three bytes",
+        BUILT,
         MatchKind::Standard,
         &[("世界", 0), ("界", 1)],
         &[("世界", 0), ("界", 1)],
@@ -77,54 +86,181 @@ const ROWS: &[Row] = &[
         4,
     ),
     (
+        "equal words",
+        BUILT,
         MatchKind::Standard,
         &[("世界", 0), ("に", 1), ("世界", 2), ("ab", 3)],
         &[("ab", 3), ("に", 1), ("世界", 0), ("世界", 2)],
         12,
         6,
     ),
+    (
+        "words of Japanese",
+        BUILT,
+        MatchKind::Standard,
+        &[("全世界", 0), ("世界", 1), ("に", 2)],
+        &[("に", 2), ("世界", 1), ("全世界", 0)],
+        19,
+        7,
+    ),
+    (
+        "capital letters are folded",
+        FOLDING,
+        MatchKind::Standard,
+        &[("AB", 0), ("b", 1)],
+        &[("ab", 0), ("b", 1)],
+        4,
+        4,
+    ),
+    (
+        "patterns that are equal but for case",
+        FOLDING,
+        MatchKind::Standard,
+        &[("Ab", 0), ("aB", 1)],
+        &[("ab", 0), ("ab", 1)],
+        3,
+        3,
+    ),
+    (
+        "a pattern that extends an earlier one but for case is left out",
+        FOLDING,
+        MatchKind::LeftmostFirst,
+        &[("a", 0), ("AB", 1)],
+        &[("a", 0)],
+        2,
+        2,
+    ),
 ];
 
 /// Whether a row holds, of automata with so many states.
 fn holds<S: Automaton>(alloc: S::Alloc, row: &Row, num_states: usize) -> Result<bool> {
-    let (kind, patvals, listed, _, _) = *row;
-    let automaton = S::built(alloc, BUILT, kind, patvals)?;
-    Ok(automaton.count_states() == num_states && lists(alloc, &automaton, listed)?)
+    let (_, way, kind, patvals, listed, _, _) = *row;
+    let automaton = S::built(alloc, way, kind, patvals)?;
+    Ok(automaton.count_states() == num_states && automaton.lists(alloc, listed)?)
 }
 
 #[test]
 fn patterns_are_listed_in_byte_order(rt: HostRuntime) -> Result<(), Fail> {
     for row in ROWS {
-        expect(&rt, holds::<Bytewise>(rt.alloc(), row, row.3)?, "bytes");
-        expect(
-            &rt,
-            holds::<Charwise>(rt.alloc(), row, row.4)?,
-            "characters",
-        );
+        expect(&rt, holds::<Bytewise>(rt.alloc(), row, row.5)?, row.0);
+        expect(&rt, holds::<Charwise>(rt.alloc(), row, row.6)?, row.0);
     }
     Ok(())
 }
 
-/// A kind, texts, and the number of elements over characters.
-type Length = (MatchKind, Patvals, usize);
+/// What a row shows, a kind, texts, and the number of elements over characters.
+type Length = (&'static str, MatchKind, Patvals, usize);
 
 const LENGTHS: &[Length] = &[
-    (MatchKind::Standard, &[], 2),
+    ("no pattern", MatchKind::Standard, &[], 2),
     (
+        "three characters",
         MatchKind::Standard,
         &[("ＡＡ", 0), ("ＡＣ", 1), ("ＢＣ", 2), ("Ｃ", 3)],
         12,
     ),
     // The second pattern is left out, and its characters still have codes.
-    (MatchKind::LeftmostFirst, &[("a", 0), ("abcdefgh", 1)], 8),
+    (
+        "a pattern that is left out",
+        MatchKind::LeftmostFirst,
+        &[("a", 0), ("abcdefgh", 1)],
+        8,
+    ),
 ];
 
 #[test]
 fn blocks_are_as_long_as_the_alphabet(rt: HostRuntime) -> Result<(), Fail> {
-    for (kind, patvals, num_elements) in LENGTHS {
+    for (shows, kind, patvals, num_elements) in LENGTHS {
         let automaton = Charwise::built(rt.alloc(), BUILT, *kind, patvals)?;
-        let same = automaton.num_elements() == *num_elements;
-        expect(&rt, same, "the elements");
+        expect(&rt, automaton.num_elements() == *num_elements, shows);
+    }
+    Ok(())
+}
+
+/// A beginning, and the last of the characters that follow it, of which U+0000 is the first.
+type Group = (&'static str, char);
+
+/// What a row shows, groups of patterns, the numbers of elements and of states, and bases by element.
+type Layout = (
+    &'static str,
+    &'static [Group],
+    usize,
+    usize,
+    &'static [(usize, u32)],
+);
+
+const LAYOUTS: [Layout; 3] = [
+    (
+        "one block is nearly full",
+        &[("", '\u{7d}')],
+        128,
+        127,
+        &[(0, 0x7e)],
+    ),
+    (
+        "the children stand behind the first block",
+        &[("", '\u{7e}')],
+        256,
+        128,
+        &[(0, 0x80)],
+    ),
+    (
+        "the children of a child stand behind its block",
+        &[("", '\u{7f}'), ("\0", '\u{7e}')],
+        384,
+        256,
+        &[(0, 0x80), (0x80, 0x100)],
+    ),
+];
+
+/// The patterns of these groups.
+fn patterns_of(alloc: Global, groups: &[Group]) -> Result<Vec<String>> {
+    let mut patterns = Vec::new(alloc);
+    for (beginning, last) in groups {
+        for character in ('\0'..=*last).into_iter() {
+            let mut pattern = String::from_str(alloc, beginning)?;
+            pattern.push(character)?;
+            patterns.push(pattern)?;
+        }
+    }
+    Ok(patterns)
+}
+
+/// The automaton over characters of these patterns, each with the value 0.
+fn built_of(alloc: Global, patterns: &[String]) -> Result<Charwise> {
+    let mut patvals = Vec::new(alloc);
+    for pattern in patterns {
+        patvals.push((pattern.as_str(), 0))?;
+    }
+    Charwise::built(alloc, BUILT, MatchKind::Standard, &patvals)
+}
+
+/// Whether elements have these bases in the bytes of an automaton: element i stands behind 4 + 16 * i bytes.
+fn have_bases(bytes: &[u8], bases: &[(usize, u32)]) -> bool {
+    for (element, base) in bases {
+        let behind = bytes.iter().copied().skip(4).skip(16 * (element % 1000));
+        if !behind.take(4).eq(base.to_le_bytes()) {
+            return false;
+        }
+    }
+    true
+}
+
+/// Whether an automaton has the numbers of elements and of states of a row, and its bases.
+fn is_laid_out(alloc: Global, row: &Layout) -> Result<bool> {
+    let (_, groups, num_elements, num_states, bases) = *row;
+    let automaton = built_of(alloc, &patterns_of(alloc, groups)?)?;
+    Ok(
+        automaton.num_elements() == num_elements
+            && automaton.num_states() == num_states
+            && have_bases(&automaton.serialize(alloc)?, bases),
+    )
+}
+
+#[test]
+fn siblings_share_blocks(rt: HostRuntime) -> Result<(), Fail> {
+    for row in &LAYOUTS {
+        expect(&rt, is_laid_out(rt.alloc(), row)?, row.0);
     }
     Ok(())
 }
@@ -173,20 +309,37 @@ fn are_apart<S: Automaton>(alloc: S::Alloc) -> Result<bool> {
     )
 }
 
+/// Three patterns, not in the order of their units.
+const AS_GIVEN: [(&str, u32); 3] = [("abba", 1), ("baaba", 2), ("ababa", 0)];
+
+/// The same in order.
+const IN_ORDER: [(&str, u32); 3] = [("ababa", 0), ("abba", 1), ("baaba", 2)];
+
+/// Whether the order of patterns leaves an automaton as it is.
+fn is_ordered<S: Automaton>(alloc: S::Alloc) -> Result<bool> {
+    let one = S::built(alloc, BUILT, MatchKind::Standard, &AS_GIVEN)?;
+    let other = S::built(alloc, BUILT, MatchKind::Standard, &IN_ORDER)?;
+    Ok(are_same(&one, &other))
+}
+
 /// Whether copies are the same, and so are automata that are built alike; others are not.
-fn are_told_apart<S: Automaton<Alloc = Global>>(alloc: Global) -> Result<bool> {
+fn are_told_apart<S: Automaton<Alloc = Global>>(
+    rt: &impl Abort,
+    alloc: Global,
+    over: &str,
+) -> Result<()> {
     for kind in KINDS {
-        if !is_copied::<S>(alloc, kind)? {
-            return Ok(false);
-        }
+        expect(rt, is_copied::<S>(alloc, kind)?, over);
     }
-    Ok(are_built_alike::<S>(alloc)? && are_apart::<S>(alloc)?)
+    expect(rt, are_built_alike::<S>(alloc)?, over);
+    expect(rt, is_ordered::<S>(alloc)?, over);
+    expect(rt, are_apart::<S>(alloc)?, over);
+    Ok(())
 }
 
 #[test]
 fn automata_are_told_apart(rt: HostRuntime) -> Result<(), Fail> {
-    expect(&rt, are_told_apart::<Bytewise>(rt.alloc())?, "over bytes");
-    let holds = are_told_apart::<Charwise>(rt.alloc())?;
-    expect(&rt, holds, "over characters");
+    are_told_apart::<Bytewise>(&rt, rt.alloc(), "over bytes")?;
+    are_told_apart::<Charwise>(&rt, rt.alloc(), "over characters")?;
     Ok(())
 }

@@ -3,7 +3,6 @@
 
 use crate::automata::{Automaton, Bytewise, Charwise, PATVALS, Plainly, made};
 use crate::expect;
-use crate::listing::lists;
 use crate::rows::{BUILT, BY_CORPUS, Patvals, READ_BACK, READ_UNCHECKED, Search, Way};
 use daachorse::errors::DaachorseError;
 use daachorse::{MatchKind, Result};
@@ -26,10 +25,14 @@ enum Request {
 }
 
 /// The calls, each for a kind.
-const REQUESTS: [(MatchKind, Request); 17] = [
+const REQUESTS: [(MatchKind, Request); 18] = [
     (MatchKind::Standard, Request::Plainly(Plainly::New)),
     (MatchKind::Standard, Request::Plainly(Plainly::WithValues)),
     (MatchKind::Standard, Request::Plainly(Plainly::Build)),
+    (
+        MatchKind::Standard,
+        Request::Plainly(Plainly::BuildByCorpus),
+    ),
     (MatchKind::Standard, Request::Made(BUILT)),
     (MatchKind::Standard, Request::Made(BY_CORPUS)),
     (MatchKind::Standard, Request::Made(READ_BACK)),
@@ -100,10 +103,10 @@ fn gives_of_built<S: Automaton>(
 /// Whether a call gives what it should.
 fn gives<S: Automaton>(alloc: S::Alloc, kind: MatchKind, request: Request) -> Result<bool> {
     match request {
-        Request::Plainly(how) => lists(alloc, &S::built_plainly(alloc, how)?, LISTED),
+        Request::Plainly(how) => S::built_plainly(alloc, how)?.lists(alloc, LISTED),
         Request::Made(way) => {
             let automaton: S = made(alloc, way, kind, &PATVALS)?;
-            lists(alloc, &automaton, LISTED)
+            automaton.lists(alloc, LISTED)
         }
         Request::ManyCharacters => {
             let automaton = S::built(alloc, BUILT, kind, MANY_CHARACTERS)?;

@@ -5,7 +5,7 @@ use crate::automata::{Bytewise, Charwise};
 use crate::expect;
 use daachorse::{
     CharwiseDoubleArrayAhoCorasickBuilder, DoubleArrayAhoCorasick, DoubleArrayAhoCorasickBuilder,
-    Result,
+    Empty, Result, Serializable,
 };
 use std::alloc::{AllocError, Global};
 use std::test::Fail;
@@ -45,7 +45,7 @@ type Element = (u32, u32, u32, u32);
 /// automaton is written as: of 256 elements those that are not vacant, the outputs, and the number of states.
 #[derive(Clone, Copy)]
 pub struct Row {
-    shows: &'static str,
+    pub shows: &'static str,
     patvals: &'static [(&'static [u8], u32)],
     corpora: &'static [&'static [&'static [u8]]],
     elements: &'static [Element],
@@ -86,16 +86,30 @@ pub const TWO: Row = Row {
     num_states: 4,
 };
 
-const ROWS: [Row; 9] = [
-    Row {
-        shows: "no pattern",
-        patvals: &[],
-        corpora: &[],
-        elements: &[],
-        outputs: &[],
-        num_states: 1,
-    },
+/// No pattern over bytes.
+pub const NONE: Row = Row {
+    shows: "no pattern",
+    patvals: &[],
+    corpora: &[],
+    elements: &[],
+    outputs: &[],
+    num_states: 1,
+};
+
+/// The pattern A.
+pub const CAPITAL: Row = Row {
+    shows: "a capital letter",
+    patvals: &[(b"A", 0)],
+    corpora: &[],
+    elements: &[(0, 67, 0, 0), (2, 0, 0, 321)],
+    outputs: &[[0, 1, 0]],
+    num_states: 2,
+};
+
+const ROWS: [Row; 10] = [
+    NONE,
     TWO,
+    CAPITAL,
     Row {
         shows: "vacant elements are nobody's children",
         patvals: &[
@@ -232,6 +246,19 @@ pub const TWO_TEXTS: TextRow = TextRow {
     num_states: 4,
 };
 
+/// The pattern A over characters, whose element is 2.
+pub const CAPITAL_TEXT: TextRow = TextRow {
+    shows: "a capital letter",
+    patvals: &[("A", 0)],
+    corpora: &[],
+    elements: &[[2, 1, 0, 0], [0, 1, 1, 0], [0, 0, 0, 1], [0, 1, 1, 0]],
+    num_codes: 66,
+    codes: &[(65, 0)],
+    alphabet_size: 1,
+    outputs: &[[0, 1, 0]],
+    num_states: 2,
+};
+
 /// Patterns whose last units have two groups. The root has the children a at 4 and c at 6.
 const TWO_GROUPS: TextRow = TextRow {
     shows: "two groups of one weight",
@@ -254,9 +281,10 @@ const TWO_GROUPS: TextRow = TextRow {
     num_states: 5,
 };
 
-const TEXT_ROWS: [TextRow; 7] = [
+const TEXT_ROWS: [TextRow; 8] = [
     NO_CHARACTERS,
     TWO_TEXTS,
+    CAPITAL_TEXT,
     TextRow {
         shows: "codes by how often characters occur",
         patvals: &[("ＡＡ", 0), ("ＡＣ", 1), ("ＢＣ", 2), ("Ｃ", 3)],
@@ -357,27 +385,65 @@ fn automata_over_characters_have_their_bytes(rt: HostRuntime) -> Result<(), Fail
     Ok(())
 }
 
-/// The bytes of an automaton over bytes of two words, with a filter if it is wanted.
-pub fn bytes_of_words(alloc: Global, filtered: bool) -> Result<Vec<u8>> {
-    let words: Bytewise = DoubleArrayAhoCorasickBuilder::new()
+/// An automaton over bytes of two words, with a filter if it is wanted.
+fn automaton_of_words(alloc: Global, filtered: bool) -> Result<Bytewise> {
+    DoubleArrayAhoCorasickBuilder::new()
         .use_prefilter(filtered)
-        .build(alloc, [b"aria".as_slice(), b"iris"])?;
-    words.serialize(alloc)
+        .build(alloc, [b"aria".as_slice(), b"iris"])
 }
 
-/// The bytes of an automaton of three letters with values of a byte.
-fn bytes_of_small(alloc: Global) -> Result<Vec<u8>> {
-    let letters = [b"a".as_slice(), b"b", b"c"];
-    DoubleArrayAhoCorasick::<u8>::new(alloc, letters)?.serialize(alloc)
+/// The bytes of an automaton over bytes of two words, with a filter if it is wanted.
+pub fn bytes_of_words(alloc: Global, filtered: bool) -> Result<Vec<u8>> {
+    automaton_of_words(alloc, filtered)?.serialize(alloc)
+}
+
+/// Whether an automaton is written in so many bytes, and each read of them gives it again and leaves a byte
+/// that stands behind them.
+fn is_read_again<V: Serializable + Copy + PartialEq + Drop>(
+    alloc: Global,
+    automaton: &DoubleArrayAhoCorasick<V>,
+    len: usize,
+) -> Result<bool> {
+    let mut bytes = automaton.serialize(alloc)?;
+    let is_long = bytes.len() == len;
+    bytes.push(42)?;
+    let (checked, rest) = DoubleArrayAhoCorasick::deserialize(alloc, &bytes)?;
+    let (unchecked, left) = DoubleArrayAhoCorasick::deserialize_unchecked(alloc, &bytes)?;
+    let is_left = matches!(rest, [42]) && matches!(left, [42]);
+    Ok(is_long && is_left && checked == *automaton && unchecked == *automaton)
+}
+
+/// Three letters.
+const LETTERS: [&[u8]; 3] = [b"a", b"b", b"c"];
+
+/// Whether automata of three letters are read again whose values take no byte, one byte, or one byte and nine.
+fn are_small_read_again(alloc: Global) -> Result<bool> {
+    let bytes = DoubleArrayAhoCorasick::<u8>::new(alloc, LETTERS)?;
+    let nothing = DoubleArrayAhoCorasick::<Empty>::new(alloc, LETTERS)?;
+    let patvals = [
+        (b"a".as_slice(), Some(1u64)),
+        (b"b".as_slice(), None),
+        (b"c".as_slice(), Some(3u64)),
+    ];
+    let options = DoubleArrayAhoCorasick::with_values(alloc, patvals)?;
+    Ok(
+        is_read_again(alloc, &bytes, 3121)?
+            && is_read_again(alloc, &nothing, 3118)?
+            && is_read_again(alloc, &options, 3137)?,
+    )
 }
 
 #[test]
 fn elements_outputs_and_filter_take_their_bytes(rt: HostRuntime) -> Result<(), Fail> {
-    let plain = bytes_of_words(rt.alloc(), false)?;
-    expect(&rt, plain.len() == 3118, "without a filter");
-    let filtered = bytes_of_words(rt.alloc(), true)?;
-    expect(&rt, filtered.len() == 68655, "with a filter");
-    let small = bytes_of_small(rt.alloc())?;
-    expect(&rt, small.len() == 3121, "values of a byte");
+    let alloc = rt.alloc();
+    let plain = automaton_of_words(alloc, false)?;
+    expect(&rt, is_read_again(alloc, &plain, 3118)?, "without a filter");
+    let filtered = automaton_of_words(alloc, true)?;
+    expect(
+        &rt,
+        is_read_again(alloc, &filtered, 68655)?,
+        "with a filter",
+    );
+    expect(&rt, are_small_read_again(alloc)?, "values of few bytes");
     Ok(())
 }

@@ -30,6 +30,8 @@ mod paths;
 #[cfg(test)]
 mod plain;
 #[cfg(test)]
+mod raw_bytes;
+#[cfg(test)]
 mod replaced;
 #[cfg(test)]
 mod requests;

@@ -1,0 +1,104 @@
+//! Patterns and haystacks that are no text: what is found, and the listing of the patterns.
+
+use crate::automata::Bytewise;
+use crate::bytewise::{built_of_bytes, finds_in_bytes, finds_in_source_of_bytes};
+use crate::expect;
+use crate::finding::Found;
+use crate::rows::{Search, WAYS, Way};
+use daachorse::{MatchKind, Result};
+use std::alloc::Global;
+use std::test::Fail;
+
+/// Patterns of bytes with their values.
+type BytePatvals = &'static [(&'static [u8], u32)];
+
+/// What a row shows, the search, the patterns, the listing of them, the haystack and the matches in it.
+type Row = (
+    &'static str,
+    Search,
+    BytePatvals,
+    BytePatvals,
+    &'static [u8],
+    &'static [Found],
+);
+
+const ROWS: &[Row] = &[
+    (
+        "zero and the greatest byte",
+        Search::Overlapping,
+        &[(b"\xff", 0), (b"a\0", 1), (b"\0", 2), (b"\0\xff", 3)],
+        &[(b"\0", 2), (b"\0\xff", 3), (b"a\0", 1), (b"\xff", 0)],
+        b"a\0\xff",
+        &[(0, 2, 1), (1, 2, 2), (1, 3, 3), (2, 3, 0)],
+    ),
+    (
+        "parts of characters",
+        Search::Standard,
+        &[(b"\xc3(", 0), (b"\x80", 1)],
+        &[(b"\x80", 1), (b"\xc3(", 0)],
+        b"\x80\xc3(\xc3",
+        &[(0, 1, 1), (1, 3, 0)],
+    ),
+    (
+        "the longest at each end",
+        Search::NoSuffix,
+        &[(b"\xe3\x81\x82", 0), (b"\x81\x82", 1)],
+        &[(b"\x81\x82", 1), (b"\xe3\x81\x82", 0)],
+        b"\xe3\x81\x82\x81\x82",
+        &[(0, 3, 0), (3, 5, 1)],
+    ),
+    (
+        "the longest of one start",
+        Search::Leftmost(MatchKind::LeftmostLongest),
+        &[(b"\xff\xfe", 0), (b"\xff\xfe\0", 1), (b"\xfe", 2)],
+        &[(b"\xfe", 2), (b"\xff\xfe", 0), (b"\xff\xfe\0", 1)],
+        b"\xff\xfe\0\xff\xfe",
+        &[(0, 3, 1), (3, 5, 0)],
+    ),
+    (
+        "a filter over bytes of no character",
+        Search::Standard,
+        &[(b"\x80\xff", 0), (b"\xc3(\xff", 1)],
+        &[(b"\x80\xff", 0), (b"\xc3(\xff", 1)],
+        b"\x80\x80\x80\x80\x80\x80\x80\x80\x80\x80\x80\x80\x80\x80\x80\x80\x80\x80\x80\x80\xff\xc3(\xff",
+        &[(19, 21, 0), (21, 24, 1)],
+    ),
+];
+
+/// Whether these are the patterns that an automaton lists.
+fn lists(alloc: Global, automaton: &Bytewise, expected: BytePatvals) -> Result<bool> {
+    let mut patterns = automaton.iter(alloc)?;
+    for (bytes, number) in expected {
+        match patterns.next() {
+            Some(item) => {
+                let (pattern, value) = item?;
+                if pattern.as_slice() != *bytes || value != *number {
+                    return Ok(false);
+                }
+            }
+            None => return Ok(false),
+        }
+    }
+    Ok(patterns.next().is_none())
+}
+
+/// Whether a row holds of an automaton that comes about this way.
+fn holds(alloc: Global, way: Way, row: &Row) -> Result<bool> {
+    let (_, search, patvals, listed, haystack, expected) = *row;
+    let automaton = built_of_bytes(alloc, way, search.kind(), patvals)?;
+    Ok(
+        lists(alloc, &automaton, listed)?
+            && finds_in_bytes(&automaton, search, haystack, expected)
+            && finds_in_source_of_bytes(&automaton, search, haystack, expected),
+    )
+}
+
+#[test]
+fn bytes_of_no_text_are_searched(rt: HostRuntime) -> Result<(), Fail> {
+    for row in ROWS {
+        for way in WAYS {
+            expect(&rt, holds(rt.alloc(), way, row)?, row.0);
+        }
+    }
+    Ok(())
+}

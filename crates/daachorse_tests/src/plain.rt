@@ -162,6 +162,24 @@ fn a_long_pattern_is_found_as_by_the_plain_searches(rt: HostRuntime) -> Result<(
     Ok(())
 }
 
+#[test]
+fn words_far_apart_are_found_as_by_the_plain_searches(rt: HostRuntime) -> Result<(), Fail> {
+    let mut text = String::new(rt.alloc());
+    for part in ["x", "aria", "xarx", "iriris", "x"] {
+        for _ in 0..150u32 {
+            text.push('x')?;
+        }
+        text.push_str(part)?;
+    }
+    let patvals = [("aria", 0), ("iris", 1)];
+    let texts = [text.as_str()];
+    let holds = are_found::<Bytewise>(rt.alloc(), &patvals, &texts)?;
+    expect(&rt, holds, "over bytes");
+    let holds = are_found::<Charwise>(rt.alloc(), &patvals, &texts)?;
+    expect(&rt, holds, "over characters");
+    Ok(())
+}
+
 /// Whether the plain search of a row finds just the row's matches.
 fn is_found_slowly<S: Automaton<Alloc = Global>>(alloc: Global, row: &Row) -> Result<bool> {
     let (_, search, patvals, text, expected) = *row;

@@ -4,9 +4,11 @@ use crate::automata::{Automaton, Bytewise, Charwise, finds, made};
 use crate::expect;
 use crate::finding::Found;
 use crate::rows::{
-    BUILT, FOLDED_ROWS, FOLDING_WAYS, Patvals, ROWS, ROWS_OF_CHARACTERS, Row, Search, WAYS, Way,
+    BUILT, FOLDED_ROWS, FOLDING, FOLDING_READ_BACK, FOLDING_WAYS, Patvals, READ_BACK, ROWS,
+    ROWS_OF_CHARACTERS, Row, Search, WAYS, Way,
 };
 use daachorse::{Match, MatchKind, Result};
+use std::alloc::Global;
 use std::test::Fail;
 
 /// Whether this is the first of the expected matches, or there is none as expected.
@@ -95,14 +97,36 @@ fn rows_hold_over_characters(rt: HostRuntime) -> Result<(), Fail> {
     Ok(())
 }
 
-/// Whether searches of a row that are dropped past some of its matches leave the automaton as it was. One
-/// is dropped behind the first match that is not expected.
+/// Whether each form of a search, dropped behind the first match that is not one of these, finds another, and leaves
+/// the automaton as it was. A leftmost search has one form, and a search for one match at each end no stepper.
+fn is_left_behind<S: Automaton>(
+    alloc: S::Alloc,
+    automaton: &S,
+    before: &S,
+    search: Search,
+    text: &str,
+    expected: &[Found],
+) -> Result<bool> {
+    let is_told = matches!(search, Search::Leftmost(_));
+    let is_stepped = matches!(search, Search::Overlapping | Search::Standard);
+    Ok(
+        !automaton.finds_in_slice(search, text, expected)
+            && *automaton == *before
+            && automaton.finds_in_source(search, text, expected) == is_told
+            && *automaton == *before
+            && automaton.finds_by_steps(alloc, search, text, expected, &[])? != is_stepped
+            && *automaton == *before,
+    )
+}
+
+/// Whether searches of a row that are dropped past some of its matches leave the automaton as it was.
 fn is_left<S: Automaton>(alloc: S::Alloc, row: &Row) -> Result<bool> {
     let (_, search, patvals, text, expected) = *row;
     let automaton: S = made(alloc, BUILT, search.kind(), patvals)?;
     let before = automaton.cloned()?;
     for count in 0..expected.len() {
-        if automaton.finds_in_slice(search, text, &expected[..count]) || automaton != before {
+        let expected = &expected[..count];
+        if !is_left_behind(alloc, &automaton, &before, search, text, expected)? {
             return Ok(false);
         }
     }
@@ -199,5 +223,70 @@ fn depths_are_those_of_the_states(rt: HostRuntime) -> Result<(), Fail> {
     }
     let row = DEPTH_ROW_OF_CHARACTERS;
     expect(&rt, has_depths::<Charwise>(rt.alloc(), &row)?, row.0);
+    Ok(())
+}
+
+/// A search, patterns, what a text repeats before a word, and the word, which is the pattern with the value 0.
+type LongRow = (Search, Patvals, &'static str, &'static str);
+
+const TWO_WORDS: Patvals = &[("aria", 0), ("iris", 1)];
+
+const LONG_ROWS: [LongRow; 6] = [
+    (Search::Overlapping, TWO_WORDS, "x", "aria"),
+    (Search::NoSuffix, TWO_WORDS, "x", "aria"),
+    (Search::Standard, TWO_WORDS, "x", "aria"),
+    // Each third pair of bytes begins a window of the filter.
+    (Search::Standard, TWO_WORDS, "arx", "aria"),
+    (
+        Search::Leftmost(MatchKind::LeftmostLongest),
+        TWO_WORDS,
+        "x",
+        "aria",
+    ),
+    (
+        Search::Leftmost(MatchKind::LeftmostFirst),
+        TWO_WORDS,
+        "arx",
+        "aria",
+    ),
+];
+
+/// A text of so many bytes that repeat a filling, a word, and twenty bytes more.
+fn long_text(alloc: Global, filling: &str, count: usize, word: &str) -> Result<String> {
+    let mut text = String::new(alloc);
+    for character in filling.chars().cycle().take(count) {
+        text.push(character)?;
+    }
+    text.push_str(word)?;
+    text.push_str("xxxxxxxxxxxxxxxxxxxx")?;
+    Ok(text)
+}
+
+/// Whether a word is found behind each number of bytes below two hundred, so that it stands at each place of the
+/// rounds in which a filter reads.
+fn is_found_far<S: Automaton<Alloc = Global>>(
+    alloc: Global,
+    way: Way,
+    row: &LongRow,
+) -> Result<bool> {
+    let (search, patvals, filling, word) = *row;
+    let automaton: S = made(alloc, way, search.kind(), patvals)?;
+    for count in 0..200usize {
+        let text = long_text(alloc, filling, count, word)?;
+        if !finds(alloc, &automaton, search, &text, &[(count, count + 4, 0)])? {
+            return Ok(false);
+        }
+    }
+    Ok(true)
+}
+
+#[test]
+fn a_word_is_found_at_each_place_of_a_round(rt: HostRuntime) -> Result<(), Fail> {
+    for row in &LONG_ROWS {
+        for way in [BUILT, READ_BACK, FOLDING, FOLDING_READ_BACK] {
+            expect(&rt, is_found_far::<Bytewise>(rt.alloc(), way, row)?, row.2);
+            expect(&rt, is_found_far::<Charwise>(rt.alloc(), way, row)?, row.2);
+        }
+    }
     Ok(())
 }

@@ -1,4 +1,5 @@
-//! Clones of steppers, matches that stay while a stepper goes on, and steppers that go on where others stood.
+//! Clones of steppers, matches that stay while a stepper goes on, steppers that go on where others stood, and how
+//! much of a source is read.
 
 ghost use Rattle.std.specs.Prelude.{◌≡◌, IfOk};
 ghost use Rattle.daachorse_model.specs.declared.MatchKind.TheVariants.{Standard};
@@ -7,7 +8,7 @@ use crate::automata::Bytewise;
 use crate::expect;
 use crate::finding::are;
 use daachorse::bytewise::Accelerated;
-use daachorse::{DoubleArrayAhoCorasick, Result};
+use daachorse::{DoubleArrayAhoCorasick, Match, Result};
 use std::alloc::{AllocError, Global};
 use std::test::Fail;
 
@@ -103,15 +104,16 @@ fn is_cloned_overlapping(automaton: &Bytewise) -> Result<bool, AllocError>
     Ok(are(stepper.clone()?.matches(), &[(0, 1, 1)]))
 }
 
-/// Whether the matches that end with a byte stay while the stepper goes on.
-fn stays(automaton: &Bytewise) -> bool
+/// Whether the matches that end with each of two bytes stay while the stepper goes on.
+fn stay(automaton: &Bytewise) -> bool
     requires { automaton.now.parts.kind ≡ Standard }
 {
     let mut stepper = automaton.find_overlapping_stepper();
-    stepper.consume(b'b');
+    stepper.consume(b'a');
     let first = stepper.matches();
     stepper.consume(b'b');
-    are(first, &[(0, 1, 1)])
+    let second = stepper.matches();
+    are(first, &[(0, 1, 0)]) && are(second, &[(0, 2, 1)])
 }
 
 #[test]
@@ -119,6 +121,30 @@ fn steppers_are_cloned_and_their_matches_stay(rt: HostRuntime) -> Result<(), Fai
     let automaton = automaton(rt.alloc())?;
     expect(&rt, is_cloned(&automaton)?, "without overlaps");
     expect(&rt, is_cloned_overlapping(&automaton)?, "all matches");
-    expect(&rt, stays(&automaton), "the first matches");
+    let automaton = DoubleArrayAhoCorasick::new(rt.alloc(), [b"a".as_slice(), b"ab"])?;
+    expect(&rt, stay(&automaton), "the matches of each byte");
+    Ok(())
+}
+
+/// The first match in a source of bytes, and how many of them are left to the source behind it.
+fn first_of(automaton: &Bytewise, bytes: &[u8]) -> (Option<Match<u32>>, usize)
+    requires { automaton.now.parts.kind ≡ Standard }
+{
+    let mut source = bytes.iter().copied();
+    let first = automaton.find_iter_from_iter(&mut source).next();
+    (first, source.len())
+}
+
+#[test]
+fn a_source_is_read_to_the_end_of_the_match(rt: HostRuntime) -> Result<(), Fail> {
+    let automaton = DoubleArrayAhoCorasick::new(rt.alloc(), [b"ab".as_slice()])?;
+    let (first, left) = first_of(&automaton, b"abab");
+    let wanted = Match {
+        start: 0,
+        end: 2,
+        value: 0,
+    };
+    expect(&rt, first == Some(wanted), "the match");
+    expect(&rt, left == 2, "two bytes are left of four");
     Ok(())
 }

@@ -115,7 +115,7 @@ where
 }
 
 /// Whether a stepper that has consumed nothing tells just these matches and these depths, before the
-/// units and behind each of the first thousand.
+/// units and behind each of the first thousand. It consumes none behind the first that is not expected.
 pub fn are_found<A: Automaton<u32>>(
     stepper: &mut FindStepperAsRead<'_, u32, A>,
     units: &[A::Unit],
@@ -130,6 +130,9 @@ where
     expected.take_depth(stepper.depth());
     expected.take_all(stepper.matches().into_iter());
     for place in 0..units.len().min(1000) {
+        if !expected.holds {
+            return false;
+        }
         let unit = units[place];
         unit.in_range();
         stepper.consume(unit);
@@ -141,7 +144,7 @@ where
 }
 
 /// Whether a stepper for all matches that has consumed nothing tells just these matches and these depths,
-/// before the units and behind each of the first thousand.
+/// before the units and behind each of the first thousand. It consumes none behind the first that is not expected.
 pub fn are_found_overlapping<A: Automaton<u32>>(
     stepper: &mut FindOverlappingStepperAsRead<'_, u32, A>,
     units: &[A::Unit],
@@ -156,6 +159,9 @@ where
     expected.take_depth(stepper.depth());
     expected.take_all(stepper.matches());
     for place in 0..units.len().min(1000) {
+        if !expected.holds {
+            return false;
+        }
         let unit = units[place];
         unit.in_range();
         stepper.consume(unit);

@@ -5,7 +5,7 @@
 //! first, then the patterns are added in order, and the limit on their number is tested last; the
 //! first refusal ends the build.
 
-ghost use Rattle.std.specs.Prelude.{◌≡◌, ◌⊎◌, false, true, [], length, IfOk, IfErr, IsSomeAnd, map};
+ghost use Rattle.std.specs.Prelude.{◌≡◌, ◌⊎◌, false, true, None, [], length, IfOk, IfErr, IsSomeAnd, map};
 ghost use Rattle.std.specs.Iterator.{IsFinite};
 ghost use Rattle.std.specs.Iterator.Runs.{WholeRun};
 ghost use Rattle.std.specs.Ordering.{nat_cmp};
@@ -60,10 +60,10 @@ impl<A: Allocator> Model for DoubleArrayAhoCorasickBuilder<A> {
 }
 
 impl<A: Allocator> Default for DoubleArrayAhoCorasickBuilder<A> {
-    ghost use Rattle.std.specs.Prelude.{◌≡◌, false, true};
+    ghost use Rattle.std.specs.Prelude.{◌≡◌, false, true, None};
     ghost use Rattle.daachorse_model.specs.declared.MatchKind.TheVariants.{Standard};
 
-    ghost is_default = { λ b. (b.match_kind ≡ Standard) × (b.use_prefilter ≡ true) × (b.ascii_case_insensitive ≡ false) };
+    ghost is_default = { λ b. (b.match_kind ≡ Standard) × (b.use_prefilter ≡ true) × (b.corpus ≡ None) × (b.ascii_case_insensitive ≡ false) };
 
     /// Makes the builder that [`DoubleArrayAhoCorasickBuilder::new`] makes.
     fn default() -> Self {
@@ -72,12 +72,13 @@ impl<A: Allocator> Default for DoubleArrayAhoCorasickBuilder<A> {
 }
 
 impl<A: Allocator> DoubleArrayAhoCorasickBuilder<A> {
-    /// Makes a builder of automata for the standard searches, with a filter.
+    /// Makes a builder of automata for the standard searches, with a filter and without a corpus.
     ///
     /// It takes no memory.
     pub fn new() -> Self
         ensures kind { result.match_kind ≡ Standard }
         ensures filter { result.use_prefilter ≡ true }
+        ensures corpus { result.corpus ≡ None }
         ensures folds { result.ascii_case_insensitive ≡ false }
     {
         Self {

@@ -8,7 +8,7 @@ use Rattle.daachorse_charwise_states.specs.Valid.{IsValid}
 
 -- the lists of valid parts can be counted
 valid-counted : {V : Type 0} (p : Parts V) → IsValid p → AreCounted p
-valid-counted p valid = record { states = valid.few.elements; coding = valid.few.codes; outputs = valid.few.outputs }
+valid-counted p valid = record { states = valid.few.elements; outputs = valid.few.outputs }
 
 -- the parts of an automaton in hand are read back from their form, whatever follows it
 pub automaton_law : {V : Type 0} {P : V → Type 0} {value : V → List ℕ} {take_value : List ℕ → Taken V} {n : ℕ} → IsForm P value take_value (λ _. n)

@@ -18,7 +18,6 @@ use Rattle.daachorse_build.specs.Tables.{child_in, edges_of, fails_of, positions
 use Rattle.daachorse_machine.specs.Copies.{IsCopy}
 use Rattle.daachorse_machine.proofs.CopyLaws.{content-same, copy-counted, copy-right}
 use Rattle.daachorse_mapper.specs.Codings.{Coding, IsCoding}
-use Rattle.daachorse_mapper.specs.Written.{IsCountable}
 use Rattle.daachorse_packing.specs.Settled.{trie_of}
 use Rattle.daachorse_packing.proofs.BuiltLaws.{built-count, built-holds, built-text}
 use Rattle.daachorse_packing.proofs.Held.{held-in_range, settled-states}
@@ -69,8 +68,8 @@ module _ {V A : Type 0} (kind : MatchKind) (b : NfaBuilder ℕ V A) (K : Diction
         (omega (arith, range.base, size), omega (arith, range.fail, size), range.output)
 
     -- they are those of an automaton
-    pub built-valid : IsNextPowerOfTwo (max 2 coding.alphabet_size) block → block < 4294967296 → length es < 2 ^ 32 → IsCountable coding → IsValid (parts (length (states_of b) - 1))
-    built-valid least fits few codes =
+    pub built-valid : IsNextPowerOfTwo (max 2 coding.alphabet_size) block → block < 4294967296 → length es < 2 ^ 32 → IsValid (parts (length (states_of b) - 1))
+    built-valid least fits few =
         let trie = trie_of (edges_of (states_of b)) (fails_of (states_of b)) (positions_of (states_of b)) in
         let n = length (states_of b) - 1 in
         let size : length es ≡ p.layout.blocks * block = p.held.size ∙ p.settled.sizes.elements in
@@ -81,7 +80,7 @@ module _ {V A : Type 0} (kind : MatchKind) (b : NfaBuilder ℕ V A) (K : Diction
             bases = λ i low. (inside_at n i low).0;
             codes = is;
           };
-          few = record { elements = few; outputs = omega (arith, built.few_outputs); codes = codes };
+          few = record { elements = few; outputs = omega (arith, built.few_outputs) };
           sound = record {
             ranges = record { links = λ i low. (inside_at n i low).1; positions = λ i low. (inside_at n i low).2 };
             parents_fall = (built-holds char_width None kind b K built).parents_fall;

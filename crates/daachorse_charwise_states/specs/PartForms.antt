@@ -5,7 +5,7 @@ use Rattle.std.specs.Prelude.{ℕ, Bool, ◌+◌, ◌*◌, ◌<◌, ◌^◌, Lis
 use Rattle.daachorse_core.specs.declared.errors.DaachorseError.{DaachorseError}
 use Rattle.daachorse_checker.specs.Reads.{AreInHand, BeginsWithParts}
 use Rattle.daachorse_mapper.specs.Codings.{Coding}
-use Rattle.daachorse_mapper.specs.Written.{AreNumbers as AreCodes, IsCountable, coding_form, coding_law, coding_len, take_coding}
+use Rattle.daachorse_mapper.specs.Written.{AreNumbers as AreCodes, coding_form, coding_law, coding_len, take_coding}
 use Rattle.daachorse_prefilter.specs.Filters.{Filter, IsFilter}
 use Rattle.daachorse_prefilter.specs.FilterForms.{filter_form, filter_law, take_filter}
 use Rattle.daachorse_serializer.specs.Endings.{Ending, ending_form, ending_law, ending_most, take_ending}
@@ -54,10 +54,9 @@ module _ {V : Type 0} where
   IsOfParts take_value own =
       IsAfter (take_list take_element) (λ _. IsAfter take_coding (λ _. IsOfList (take_output take_value) (IsOfValue take_value own)))
 
-  -- a number of 32 bits counts each list
+  -- a number of 32 bits counts the elements, and one the outputs
   pub record AreCounted (p : Parts V) : Type 0 where
     pub states : length p.states < 2 ^ 32
-    pub coding : IsCountable p.coding
     pub outputs : length p.outputs < 2 ^ 32
 
   -- each number is one of 32 bits, and each value is of its type
@@ -86,7 +85,7 @@ pub parts_law : {V : Type 0} {P : V → Type 0} {value : V → List ℕ} {take_v
 unfolding parts_form take_parts
 parts_law {P = P} value_law =
     law_through of_row row_of (λ w. AreCounted w.0 × (AreNumbers P w.0 × IfSome w.1.1 IsFilter))
-    (λ w h. ((h.0.states, h.1.0.states), ((h.0.coding, h.1.0.coding), ((h.0.outputs, both w.1.1), (h.1.0.outputs, h.1.0.num_states, h.1.1)))))
+    (λ w h. ((h.0.states, h.1.0.states), ((tt, h.1.0.coding), ((h.0.outputs, both w.1.1), (h.1.0.outputs, h.1.0.num_states, h.1.1)))))
     (λ w h. refl)
     (pair_law (list_law element_law) (pair_law coding_law (ending_law value_law filter_law)))
   where

@@ -7,17 +7,15 @@ use Rattle.daachorse_model.specs.Units.{char_width}
 use Rattle.daachorse_machine.specs.Machines.{dead_in}
 use Rattle.daachorse_machine.specs.Texts.{IsReached, text_of}
 use Rattle.daachorse_checker.specs.Sound.{IsSoundArray}
-use Rattle.daachorse_mapper.specs.Written.{IsCountable}
 use Rattle.daachorse_search.specs.Views.{AutomatonView, HasNone}
 use Rattle.daachorse_charwise_states.specs.Grouped.{IsGrouped}
 use Rattle.daachorse_charwise_states.specs.Parts.{Parts, char_code, child, content, count, machine}
 
 module _ {V : Type 0} (p : Parts V) where
-  -- a number of 32 bits counts the elements, one the outputs, and one the entries of the table of codes
+  -- a number of 32 bits counts the elements, and one the outputs
   pub record AreFew : Type 0 where
     pub elements : count p < 2 ^ 32
     pub outputs : length p.outputs < 2 ^ 32
-    pub codes : IsCountable p.coding
 
   -- elements that may be looked at, and are a sound array
   pub record IsValid : Type 0 where

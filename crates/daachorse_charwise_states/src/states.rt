@@ -14,7 +14,6 @@ ghost use Rattle.daachorse_model.specs.Prefixes.{HasPrefixes, PassesAt};
 ghost use Rattle.daachorse_build.specs.Builders.{states_of};
 ghost use Rattle.daachorse_build.specs.Groups.{IsProfileOf};
 ghost use Rattle.daachorse_mapper.specs.Codings.{IsCoding};
-ghost use Rattle.daachorse_mapper.specs.Written.{IsCountable};
 ghost use Rattle.daachorse_charwise_states.specs.Edges.{IsLettered};
 ghost use Rattle.daachorse_charwise_states.specs.Packing.{AreCoded, IsBuiltFor, NeedsManyBlocks};
 ghost use Rattle.daachorse_charwise_states.specs.Parts.{child, content, count};
@@ -74,8 +73,8 @@ impl<V: Copy, A: Allocator> Model for States<V, A> {
 
 impl<V: Copy, A: Allocator + Copy> States<V, A> {
     /// The automaton of a builder whose links and outputs are built, for searches of this kind. The
-    /// mapper has a code for each character of a pattern, and at most 4,294,967,295 entries. The
-    /// profile, if it has counts, decides where the states stand, and nothing else.
+    /// mapper has a code for each character of a pattern. The profile, if it has counts, decides
+    /// where the states stand, and nothing else.
     ///
     /// # Errors
     ///
@@ -93,7 +92,6 @@ impl<V: Copy, A: Allocator + Copy> States<V, A> {
         requires built { (K : Dictionary V) × IsBuiltFor kind nfa K × AreCoded mapper K }
         requires profile { IsProfileOf (length (states_of nfa)) profile.now }
         requires coding { IsCoding mapper }
-        requires codes { IsCountable mapper }
         requires block { mapper.alphabet_size ≤ 2 ^ 31 }
         ensures ok { IfOk result (λ s. (K : Dictionary V) → IsBuiltFor kind nfa K → (w : List ℕ) → content s w ≡ K w) }
         ensures kind { IfOk result (λ s. s.kind ≡ kind) }

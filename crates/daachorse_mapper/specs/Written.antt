@@ -5,13 +5,11 @@ use Rattle.daachorse_serializer.specs.Forms.{Taken, IsForm, over, take_pair, lis
 use Rattle.daachorse_serializer.specs.Laws.{law_through, list_law, number_law, pair_law}
 use Rattle.daachorse_mapper.specs.Codings.{Coding}
 
--- each entry and the size are numbers of 32 bits
-abbrev pub AreNumbers : Coding → Type 0
-AreNumbers m = All (λ n. n < 2 ^ 32) m.table × (m.alphabet_size < 2 ^ 32)
-
--- the entries can be counted by a number of 32 bits
-abbrev pub IsCountable : Coding → Type 0
-IsCountable m = length m.table < 2 ^ 32
+-- each entry, how many there are, and the size are numbers of 32 bits
+pub record AreNumbers (m : Coding) : Type 0 where
+  pub entries : All (λ n. n < 2 ^ 32) m.table
+  pub count : length m.table < 2 ^ 32
+  pub alphabet_size : m.alphabet_size < 2 ^ 32
 
 abbrev pub fields_of : Coding → List ℕ × ℕ
 fields_of m = (m.table, m.alphabet_size)
@@ -30,7 +28,7 @@ abbrev pub coding_len : Coding → ℕ
 coding_len m = 4 * length m.table + 4 + 4
 
 -- A coding is read back from its form.
-pub coding_law : IsForm (λ m. IsCountable m × AreNumbers m) coding_form take_coding coding_len
+pub coding_law : IsForm (λ m. Unit {0} × AreNumbers m) coding_form take_coding coding_len
 coding_law =
-    law_through coding_from fields_of _ (λ m h. ((h.0, h.1.0), h.1.1)) (λ m h. refl)
+    law_through coding_from fields_of _ (λ m h. ((h.1.count, h.1.entries), h.1.alphabet_size)) (λ m h. refl)
     (pair_law (list_law (number_law w32)) (number_law w32))

@@ -13,7 +13,7 @@ ghost use Rattle.std.proofs.Common.{rules};
 ghost use Rattle.daachorse_core.specs.Refusals.{IsOutOfMemory};
 ghost use Rattle.daachorse_mapper.specs.Codings.{Coding, IsCoding, IsCodingOf, code_of, entry_code};
 ghost use Rattle.daachorse_mapper.specs.Ranks.{HaveOneRank, AreRanked, IsFilled, index_at, used_in};
-ghost use Rattle.daachorse_mapper.specs.Written.{AreNumbers, IsCountable, coding_form, coding_law, coding_len, coding_from, take_coding};
+ghost use Rattle.daachorse_mapper.specs.Written.{AreNumbers, coding_form, coding_law, coding_len, coding_from, take_coding};
 
 use daachorse_core::errors::Result;
 use daachorse_serializer::serializer::{Serializable, SerializableVec};
@@ -42,6 +42,8 @@ impl<A: Allocator> Model for CodeMapper<A> {
     ghost Value = { Coding };
 
     ghost view = { λ m. record { table = m.table.items; alphabet_size = m.alphabet_size } };
+
+    ghost invariant = { λ m. length m.table.items < 2 ^ 32 };
 }
 
 impl<A: Allocator + Copy> CodeMapper<A> {
@@ -163,8 +165,7 @@ impl<A: Allocator> Hash for CodeMapper<A> {
     }
 }
 
-/// The table as a list, then the alphabet size. A mapper whose table has more than 4294967295
-/// entries may not be written. A read accepts any table and any size.
+/// The table as a list, then the alphabet size. A read accepts any table and any size.
 impl<A: Allocator> SerializableVec for CodeMapper<A> {
     type Alloc = A;
 
@@ -174,7 +175,7 @@ impl<A: Allocator> SerializableVec for CodeMapper<A> {
 
     ghost is_value = { AreNumbers };
 
-    ghost can_write = { IsCountable };
+    ghost can_write = { λ _. Unit {0} };
 
     ghost form = { coding_form };
 

@@ -71,7 +71,7 @@ invariant_of-result g c =
     let coded = edges-coded c.args.kind c.args.nfa c.requires.built.0 c.requires.built.1 c.args.mapper c.requires.built.2 in
     let P : List (Output g.row.V.Denot) → Type 0 = λ os. IsValid (record { kind = c.args.kind; states = es; coding = c.args.mapper; outputs = os; num_states = length c.states.result.now - 1 }) in
     let N : ℕ → Type 0 = λ n. IsValid (record { kind = c.args.kind; states = es; coding = c.args.mapper; outputs = outputs_of c.args.nfa; num_states = n - 1 }) in
-    subst P (sym c.into_parts-states.ensures.outputs) (subst N (sym (ap length c.states.ensures)) (built-valid c.args.kind c.args.nfa c.requires.built.0 c.requires.built.1 c.args.mapper block c.requires.coding coded es c.in_ok-states.ensures.ok least fits c.in_ok-states.ensures.few c.requires.codes))
+    subst P (sym c.into_parts-states.ensures.outputs) (subst N (sym (ap length c.states.ensures)) (built-valid c.args.kind c.args.nfa c.requires.built.0 c.requires.built.1 c.args.mapper block c.requires.coding coded es c.in_ok-states.ensures.ok least fits c.in_ok-states.ensures.few))
 
 pub returns-clause-ok : goal.returns-clause-ok
 returns-clause-ok g c K built w =

@@ -6,6 +6,7 @@
 
 pub mod highlight;
 pub mod lookup;
+pub mod rating;
 pub mod redact;
 pub mod redactor;
 pub mod rules;

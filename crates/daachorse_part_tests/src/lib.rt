@@ -26,6 +26,8 @@ mod profile;
 #[cfg(test)]
 mod requests;
 #[cfg(test)]
+mod room;
+#[cfg(test)]
 mod serializer;
 #[cfg(test)]
 mod texts;

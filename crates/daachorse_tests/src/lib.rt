@@ -26,6 +26,8 @@ mod index;
 #[cfg(test)]
 mod listing;
 #[cfg(test)]
+mod own_values;
+#[cfg(test)]
 mod paths;
 #[cfg(test)]
 mod plain;
@@ -35,6 +37,8 @@ mod raw_bytes;
 mod replaced;
 #[cfg(test)]
 mod requests;
+#[cfg(test)]
+mod room;
 #[cfg(test)]
 mod rows;
 #[cfg(test)]

@@ -15,7 +15,7 @@ ghost use Rattle.daachorse_c.specs.Listing.{IsNotListed, HasListed, arrays};
 ghost use Rattle.daachorse_c.specs.Searches.{ServesKind, found_by};
 ghost use Rattle.daachorse_c.specs.Streaming.{HasBegun, HasConsumed, IsIdleCause};
 ghost use Rattle.daachorse_c.specs.Writes.{Writes};
-ghost use Rattle.daachorse_c.specs.Written.{IsNotWritten, StandsInFront, form_of};
+ghost use Rattle.daachorse_c.specs.Written.{IsNotWritten, IsWhole, StandsInFront, form_of};
 
 use crate::found::{CMatch, fill};
 use crate::listing::Listing;
@@ -101,6 +101,7 @@ impl Searcher {
         out: &mut [u8],
         size: &mut usize,
     ) -> Result<(), Refusal>
+        ensures whole { OnOk result (IsWhole self.now.searches) }
         ensures written { OnOk result (StandsInFront (form_of self.now.searches) out.old out.new) }
         ensures size { OnOk result (size.new ≡ length (form_of self.now.searches)) }
         ensures err { IfErr result (IsNotWritten self.now.searches out.old size.new) }

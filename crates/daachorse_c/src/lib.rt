@@ -17,7 +17,7 @@ ghost use Rattle.daachorse_c.specs.Listing.{IsListCause, HasListed, arrays};
 ghost use Rattle.daachorse_c.specs.Refusals.{IsDoneOr};
 ghost use Rattle.daachorse_c.specs.Searches.{IsSearchOf, IsUseCause};
 ghost use Rattle.daachorse_c.specs.Streaming.{HasBegun, IsBeginCause, IsConsumption};
-ghost use Rattle.daachorse_c.specs.Written.{IsRead, IsReadCause, IsWriteCause, StandsInFront, form_of};
+ghost use Rattle.daachorse_c.specs.Written.{IsRead, IsReadCause, IsWhole, IsWriteCause, StandsInFront, form_of};
 
 use crate::building::build;
 use crate::found::CMatch;
@@ -277,6 +277,7 @@ pub extern "C" fn daachorse_write(
     size: &mut usize,
 ) -> u32
     ensures kept { handle.new.automaton ≡ handle.old.automaton }
+    ensures whole { result ≡ 0 → IsSomeAnd handle.old.automaton (λ a. IsWhole a.searches) }
     ensures written { result ≡ 0 → IsSomeAnd handle.old.automaton (λ a. StandsInFront (form_of a.searches) out.old out.new × (size.new ≡ length (form_of a.searches))) }
     ensures refused { IsDoneOr (IsWriteCause handle.old.automaton out.old size.new) result }
     ensures unwritten { result ≢ 0 → out.new ≡ out.old }
@@ -333,7 +334,8 @@ pub extern "C" fn daachorse_list(
 
 /// Fills the handle with the automaton that any bytes begin with, and writes to `taken` how many of them it takes.
 ///
-/// What the handle had is freed.
+/// What [`daachorse_write`] wrote is read back, whatever stands behind it, unless memory lacks. What the handle had is
+/// freed.
 ///
 /// # Errors
 ///

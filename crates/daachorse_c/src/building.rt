@@ -7,7 +7,7 @@ ghost use Rattle.std.specs.Prelude.{◌≡◌, ◌≢◌, None, IfErr, IfOk, Mat
 ghost use Rattle.daachorse_model.specs.declared.MatchKind.{MatchKind};
 ghost use Rattle.daachorse_model.specs.Dictionary.{registrations_of};
 ghost use Rattle.daachorse_model.specs.Kinds.{byte_of_kind};
-ghost use Rattle.daachorse_patterns.specs.Folding.{all_as_read, texts_as_read};
+ghost use Rattle.daachorse_model.specs.Folding.{all_as_read, texts_as_read};
 ghost use Rattle.daachorse_bytewise.specs.Automata.{kind_of};
 ghost use Rattle.daachorse_bytewise.specs.Building.{HoldsPatterns, IsRefusalOf, kept_filter};
 ghost use Rattle.daachorse_c.specs.Building.{IsBuildCause, IsBuiltFrom};

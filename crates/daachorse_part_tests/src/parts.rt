@@ -88,5 +88,6 @@ fn laws_stand_at_a_type() {
     laws::leftmost_first_is_earliest::<u32>();
     laws::same_on_text::<u32>(MatchKind::LeftmostFirst);
     laws::ordered_by_bytes();
+    laws::folding_keeps_places();
     laws::standard_end_by_end::<u32>(MatchKind::Standard);
 }

@@ -5,10 +5,9 @@ use Rattle.std.proofs.lemmas.List.{map_push}
 use Rattle.std.proofs.lemmas.List.Elements.{All-cons, All-nil}
 use Rattle.daachorse_model.specs.declared.MatchKind.{MatchKind}
 use Rattle.daachorse_model.specs.Dictionary.{dictionary}
-use Rattle.daachorse_model.specs.Folding.{folded}
+use Rattle.daachorse_model.specs.Folding.{folded, folded_texts}
 use Rattle.daachorse_model.specs.Prefixes.{IsKey}
 use Rattle.daachorse_model.proofs.FoldLaws.{folded-again}
-use Rattle.daachorse_patterns.specs.Folding.{folded_texts}
 use Rattle.daachorse_patterns.specs.Patterns.{texts_of}
 use Rattle.daachorse_patterns.proofs.FilterLaws.{key_holds}
 use Rattle.daachorse_patterns.proofs.RefusalLaws.{texts_more}

@@ -7,11 +7,10 @@ use Rattle.daachorse_core.specs.declared.errors.DaachorseError.{DaachorseError}
 use Rattle.daachorse_core.specs.declared.errors.DaachorseError.TheVariants.{InvalidConversion}
 use Rattle.daachorse_model.specs.declared.MatchKind.{MatchKind}
 use Rattle.daachorse_model.specs.Dictionary.{dictionary}
-use Rattle.daachorse_model.specs.Folding.{folded}
+use Rattle.daachorse_model.specs.Folding.{folded, all_as_read, folded_texts, texts_as_read}
 use Rattle.daachorse_model.specs.Prefixes.{IsKey}
 use Rattle.daachorse_model.proofs.FoldLaws.{folded-again}
 use Rattle.daachorse_patterns.specs.Building.{IsBuildRefusalWithin, Limits}
-use Rattle.daachorse_patterns.specs.Folding.{all_as_read, folded_texts, texts_as_read}
 use Rattle.daachorse_patterns.specs.Patterns.{AreIndexed, HasNoValue}
 use Rattle.daachorse_patterns.proofs.FoldingLaws.{folded_keys}
 use Rattle.daachorse_patterns.proofs.IndexLaws.{AreIndexed-texts, values_refused}

@@ -4,4 +4,3 @@ pub mod Patterns
 pub mod Building
 pub mod Documents
 pub mod Filters
-pub mod Folding

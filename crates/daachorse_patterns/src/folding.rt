@@ -7,7 +7,7 @@ ghost use Rattle.std.specs.Prelude.{◌≡◌, IfOk, IfErr};
 ghost use Rattle.std.specs.Str.{chars};
 ghost use Rattle.std.specs.String.{string_bytes};
 ghost use Rattle.daachorse_core.specs.Refusals.{IsOutOfMemory};
-ghost use Rattle.daachorse_patterns.specs.Folding.{folded_texts};
+ghost use Rattle.daachorse_model.specs.Folding.{folded_texts};
 ghost use Rattle.daachorse_patterns.specs.Patterns.{texts_of};
 
 use daachorse_core::errors::Result;

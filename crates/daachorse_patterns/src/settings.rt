@@ -6,8 +6,8 @@
 
 ghost use Rattle.std.specs.Prelude.{◌≡◌, true, false, None, option_map};
 ghost use Rattle.daachorse_model.specs.declared.MatchKind.TheVariants.{Standard};
+ghost use Rattle.daachorse_model.specs.Folding.{all_as_read};
 ghost use Rattle.daachorse_patterns.specs.Documents.{documents_of};
-ghost use Rattle.daachorse_patterns.specs.Folding.{all_as_read};
 
 use crate::corpus::Corpus;
 use daachorse_core::MatchKind;

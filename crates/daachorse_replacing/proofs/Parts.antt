@@ -1,14 +1,14 @@
 -- The haystack up to a match and the match's replacement, put behind what came of the matches before it.
-use Rattle.std.proofs.Common.{◌≡◌, ℕ, ◌-◌, ◌≤◌, List, [], ◌∷◌, ◌++◌, length, take, drop, Option, Some, None, refl, sym, ap, ◌∙◌, append_assoc, append-nil, take-append-drop}
+use Rattle.std.proofs.Common.{◌≡◌, ℕ, ◌-◌, ◌≤◌, List, [], ◌∷◌, ◌++◌, length, map, take, drop, Option, Some, None, refl, sym, ap, ◌∙◌, subst, append_assoc, append-nil, take-append-drop, arith}
 use Rattle.std.proofs.iter.Next.{Yields-more}
 use Rattle.std.proofs.lemmas.Iterator.{items_from_drains}
 use Rattle.std.proofs.lemmas.Iterator.Consumers.{YieldsList-so_far}
-use Rattle.std.proofs.lemmas.List.{map-id, take_rest}
+use Rattle.std.proofs.lemmas.List.{length-map, map-append, map-id, take_rest}
 use Rattle.std.specs.Iterator.{AlwaysYields, Yields}
 use Rattle.std.specs.Prelude.{slice_range}
 use Rattle.daachorse_model.specs.declared.Match.{Match}
 use Rattle.daachorse_model.specs.Matches.{last_end}
-use Rattle.daachorse_replacing.specs.Replaced.{AreParts, with_replacements, with_replacements_from}
+use Rattle.daachorse_replacing.specs.Replaced.{AreGiven, AreParts, IsGiven, with_pieces, with_pieces_from, with_replacements_from}
 
 -- ---- what an iterator gives
 
@@ -59,30 +59,92 @@ module _ {V : Type 0} (with : Match V → List ℕ) (bytes : List ℕ) where
   replaced_before s [] = []
   replaced_before s (m ∷ ms) = slice_range bytes s m.start ++ (with m ++ replaced_before m.end ms)
 
-  pub replaced_before-next : (s : ℕ) (xs : List (Match V)) (x : Match V) (place : ℕ) → place ≡ last_end s xs
-      → replaced_before s (xs ++ x ∷ []) ≡ (replaced_before s xs ++ slice_range bytes place x.start) ++ with x
-  replaced_before-next s [] x place at = ap (λ n. slice_range bytes n x.start ++ (with x ++ [])) (sym at) ∙ ap (λ l. slice_range bytes place x.start ++ l) (append-nil (with x))
-  replaced_before-next s (m ∷ ms) x place at =
-      ap (λ l. slice_range bytes s m.start ++ (with m ++ l)) (replaced_before-next m.end ms x place at) ∙ simp append_assoc refl
-
   pub with_replacements-split : (s : ℕ) (xs ys : List (Match V)) → with_replacements_from with bytes s (xs ++ ys) ≡ replaced_before s xs ++ with_replacements_from with bytes (last_end s xs) ys
   with_replacements-split s [] ys = refl
   with_replacements-split s (m ∷ ms) ys = ap (λ l. slice_range bytes s m.start ++ (with m ++ l)) (with_replacements-split m.end ms ys) ∙ simp append_assoc refl
 
+module _ {V : Type 0} (bytes : List ℕ) where
+  -- what comes of the bytes from s up to the end of the last of these matches, with these pieces in their place
+  abbrev pub pieces_before : ℕ → List (Match V) → List (List ℕ) → List ℕ
+  pieces_before s [] ps = []
+  pieces_before s (m ∷ ms) [] = []
+  pieces_before s (m ∷ ms) (p ∷ ps) = slice_range bytes s m.start ++ (p ++ pieces_before m.end ms ps)
+
+  with_pieces-split : (s : ℕ) (xs ys : List (Match V)) (ps qs : List (List ℕ)) → length ps ≡ length xs
+      → with_pieces_from bytes s (xs ++ ys) (ps ++ qs) ≡ pieces_before s xs ps ++ with_pieces_from bytes (last_end s xs) ys qs
+  with_pieces-split s [] ys [] qs e = refl
+  with_pieces-split s [] ys (p ∷ ps) qs e = absurd (omega (arith, e))
+  with_pieces-split s (m ∷ ms) ys [] qs e = absurd (omega (arith, e))
+  with_pieces-split s (m ∷ ms) ys (p ∷ ps) qs e =
+      ap (λ l. slice_range bytes s m.start ++ (p ++ l)) (with_pieces-split m.end ms ys ps qs (omega (arith, e))) ∙ simp append_assoc refl
+
+  pub pieces_before-next : (s : ℕ) (xs : List (Match V)) (x : Match V) (ps : List (List ℕ)) (p : List ℕ) (place : ℕ) → length ps ≡ length xs → place ≡ last_end s xs
+      → pieces_before s (xs ++ x ∷ []) (ps ++ p ∷ []) ≡ (pieces_before s xs ps ++ slice_range bytes place x.start) ++ p
+  pieces_before-next s [] x [] p place e at = ap (λ n. slice_range bytes n x.start ++ (p ++ [])) (sym at) ∙ ap (λ l. slice_range bytes place x.start ++ l) (append-nil p)
+  pieces_before-next s [] x (q ∷ ps) p place e at = absurd (omega (arith, e))
+  pieces_before-next s (m ∷ ms) x [] p place e at = absurd (omega (arith, e))
+  pieces_before-next s (m ∷ ms) x (q ∷ ps) p place e at =
+      ap (λ l. slice_range bytes s m.start ++ (q ++ l)) (pieces_before-next m.end ms x ps p place (omega (arith, e)) at) ∙ simp append_assoc refl
+
+module _ {V P : Type 0} (bytes : P → List ℕ) (haystack : List ℕ) where
+  abbrev pub before : List (Match V) → List P → List ℕ
+  before ms given = pieces_before haystack 0 ms (map bytes given)
+
+  abbrev text : List (Match V) → List P → List ℕ
+  text ms given = with_pieces haystack ms (map bytes given)
+
+  one_each : (xs : List (Match V)) (given : List P) → length given ≡ length xs → length (map bytes given) ≡ length xs
+  one_each xs given e = length-map given bytes ∙ e
+
+  split : (xs ys : List (Match V)) (given more : List P) → length given ≡ length xs
+      → text (xs ++ ys) (given ++ more) ≡ before xs given ++ with_pieces_from haystack (last_end 0 xs) ys (map bytes more)
+  split xs ys given more e =
+      ap (with_pieces haystack (xs ++ ys)) (map-append bytes given more)
+      ∙ with_pieces-split haystack 0 xs ys (map bytes given) (map bytes more) (one_each xs given e)
+
+  pub before-next : (xs : List (Match V)) (x : Match V) (given : List P) (p : P) (place : ℕ) → length given ≡ length xs → place ≡ last_end 0 xs
+      → before (xs ++ x ∷ []) (given ++ p ∷ []) ≡ (before xs given ++ slice_range haystack place x.start) ++ bytes p
+  before-next xs x given p place e at =
+      ap (pieces_before haystack 0 (xs ++ x ∷ [])) (map-append bytes given (p ∷ []))
+      ∙ pieces_before-next haystack 0 xs x (map bytes given) (bytes p) place (one_each xs given e) at
+
   -- the last piece is what is left
-  pub replaced_whole : (xs all : List (Match V)) (place end : ℕ) → all ≡ xs → place ≡ last_end 0 xs → end ≡ length bytes → with_replacements with bytes all ≡ replaced_before 0 xs ++ slice_range bytes place end
-  replaced_whole xs all place end is at e =
-      ap (λ l. with_replacements_from with bytes 0 l) (is ∙ sym (append-nil xs)) ∙ with_replacements-split 0 xs []
-      ∙ ap (λ l. replaced_before 0 xs ++ l) (ap (λ n. drop n bytes) (sym at) ∙ sym (take_rest bytes place) ∙ ap (λ n. take (n - place) (drop place bytes)) (sym e))
+  pub replaced_whole : (xs all : List (Match V)) (given : List P) (place end : ℕ) → all ≡ xs → length given ≡ length xs → place ≡ last_end 0 xs → end ≡ length haystack
+      → text all given ≡ before xs given ++ slice_range haystack place end
+  replaced_whole xs all given place end is n at e =
+      ap (λ l. text l given) (is ∙ sym (append-nil xs)) ∙ ap (text (xs ++ [])) (sym (append-nil given)) ∙ split xs [] given [] n
+      ∙ ap (λ l. before xs given ++ l) (ap (λ k. drop k haystack) (sym at) ∙ sym (take_rest haystack place) ∙ ap (λ k. take (k - place) (drop place haystack)) (sym e))
 
-  -- the piece up to the next match, the match's replacement, and what comes behind
-  pub replaced_next : (xs : List (Match V)) (x : Match V) (rest all : List (Match V)) (place : ℕ) → all ≡ xs ++ x ∷ rest → place ≡ last_end 0 xs
-      → with_replacements with bytes all ≡ replaced_before 0 xs ++ (slice_range bytes place x.start ++ (with x ++ with_replacements_from with bytes x.end rest))
-  replaced_next xs x rest all place is at =
-      ap (λ l. with_replacements_from with bytes 0 l) is ∙ with_replacements-split 0 xs (x ∷ rest)
-      ∙ ap (λ n. replaced_before 0 xs ++ (slice_range bytes n x.start ++ (with x ++ with_replacements_from with bytes x.end rest))) (sym at)
+  -- the piece up to the next match, for which nothing was given yet
+  pub replaced_next : (xs : List (Match V)) (x : Match V) (rest all : List (Match V)) (given : List P) (place : ℕ) → all ≡ xs ++ x ∷ rest → length given ≡ length xs → place ≡ last_end 0 xs
+      → text all given ≡ before xs given ++ (slice_range haystack place x.start ++ [])
+  replaced_next xs x rest all given place is n at =
+      ap (λ l. text l given) is ∙ ap (text (xs ++ x ∷ rest)) (sym (append-nil given)) ∙ split xs (x ∷ rest) given [] n
+      ∙ ap (λ l. before xs given ++ l) (ap (λ k. slice_range haystack k x.start) (sym at) ∙ sym (append-nil (slice_range haystack place x.start)))
 
-  -- the same, where the piece up to the match went out
-  pub replaced_found : (xs : List (Match V)) (x : Match V) (rest all : List (Match V)) (place : ℕ) → all ≡ xs ++ x ∷ rest → place ≡ last_end 0 xs
-      → with_replacements with bytes all ≡ (replaced_before 0 xs ++ slice_range bytes place x.start) ++ (with x ++ with_replacements_from with bytes x.end rest)
-  replaced_found xs x rest all place is at = replaced_next xs x rest all place is at ∙ sym (append_assoc (replaced_before 0 xs) (slice_range bytes place x.start) _)
+  -- the same, where the piece up to the match went out, and what was given for it is next
+  pub replaced_found : (xs : List (Match V)) (x : Match V) (rest all : List (Match V)) (given : List P) (p : P) (place : ℕ) → all ≡ xs ++ x ∷ rest → length given ≡ length xs → place ≡ last_end 0 xs
+      → text all (given ++ p ∷ []) ≡ (before xs given ++ slice_range haystack place x.start) ++ (bytes p ++ with_pieces_from haystack x.end rest [])
+  replaced_found xs x rest all given p place is n at =
+      ap (λ l. text l (given ++ p ∷ [])) is ∙ split xs (x ∷ rest) given (p ∷ []) n
+      ∙ ap (λ k. before xs given ++ (slice_range haystack k x.start ++ (bytes p ++ with_pieces_from haystack x.end rest []))) (sym at)
+      ∙ sym (append_assoc (before xs given) (slice_range haystack place x.start) (bytes p ++ with_pieces_from haystack x.end rest []))
+
+  module _ (gives : Match V → P → P → Type 0) where
+    pub given_more : (xs ys all : List (Match V)) (given : List P) → all ≡ xs ++ ys → AreGiven bytes haystack gives xs given → AreGiven bytes haystack gives all given
+    given_more xs ys all given is are = subst (λ (l : List (Match V)). AreGiven bytes haystack gives l given) (sym is) (of xs given are)
+      where
+        of : (xs : List (Match V)) (given : List P) → AreGiven bytes haystack gives xs given → AreGiven bytes haystack gives (xs ++ ys) given
+        of xs [] are = tt
+        of [] (p ∷ given) are = absurd are
+        of (x ∷ xs) (p ∷ given) are = (are.0, of xs given are.1)
+
+    pub given_next : (xs : List (Match V)) (x : Match V) (rest all : List (Match V)) (given : List P) (p : P) → all ≡ xs ++ x ∷ rest → length given ≡ length xs
+        → AreGiven bytes haystack gives xs given → IsGiven bytes haystack gives x p → AreGiven bytes haystack gives all (given ++ p ∷ [])
+    given_next xs x rest all given p is n are one = subst (λ (l : List (Match V)). AreGiven bytes haystack gives l (given ++ p ∷ [])) (sym is) (of xs given n are)
+      where
+        of : (xs : List (Match V)) (given : List P) → length given ≡ length xs → AreGiven bytes haystack gives xs given → AreGiven bytes haystack gives (xs ++ x ∷ rest) (given ++ p ∷ [])
+        of [] [] n are = (one, tt)
+        of [] (q ∷ given) n are = absurd are
+        of (y ∷ xs) [] n are = absurd (omega (arith, n))
+        of (y ∷ xs) (q ∷ given) n are = (are.0, of xs given (omega (arith, n)) are.1)

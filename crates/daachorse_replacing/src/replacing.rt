@@ -1,13 +1,13 @@
 //! The loop that replaces matches.
 //!
-//! The layers above may rely on the output growing by the haystack with each match replaced, and
-//! where it refuses, by a beginning of it.
+//! The layers above may rely on the output growing by the haystack with each match replaced by what
+//! the replacement gave for it, and where it refuses, by a beginning of it.
 
 ghost use Rattle.std.specs.Prelude.{◌≡◌, ◌≤◌, ℕ, List, OnErr, OnOk, length};
 ghost use Rattle.std.specs.Iterator.{AlwaysYields, IsFinite};
 ghost use Rattle.std.specs.Io.KnownBytes.{Appends};
 ghost use Rattle.daachorse_model.specs.declared.Match.{Match};
-ghost use Rattle.daachorse_replacing.specs.Replaced.{AppendsBeginning, AreParts, OfReplaced};
+ghost use Rattle.daachorse_replacing.specs.Replaced.{AppendsBeginning, AreParts, OfReplaced, OfReplacedSoFar};
 
 use crate::appending::Appending;
 use crate::piece::Piece;
@@ -40,7 +40,7 @@ pub fn replace<
     ensures whole { OnOk result ((all : List (Match V)) → AlwaysYields I.next_gives (λ m. m) matches all
         → OfReplaced P.bytes (P.bytes haystack) (F.post replacement.now) all (Appends (A.taken out.old) (A.taken out.new))) }
     ensures beginning { OnErr result ((all : List (Match V)) → AlwaysYields I.next_gives (λ m. m) matches all
-        → OfReplaced P.bytes (P.bytes haystack) (F.post replacement.now) all (AppendsBeginning (A.taken out.old) (A.taken out.new))) }
+        → OfReplacedSoFar P.bytes (P.bytes haystack) (F.post replacement.now) all (AppendsBeginning (A.taken out.old) (A.taken out.new))) }
 {
     let mut place = 0;
     for found in matches {

@@ -14,9 +14,9 @@ ghost use Rattle.daachorse_build.specs.Builders.{states_of};
 ghost use Rattle.daachorse_build.specs.Counts.{LinksLeadBack};
 ghost use Rattle.daachorse_build.specs.Groups.{IsProfileOf};
 ghost use Rattle.daachorse_patterns.specs.Documents.{documents_of};
-ghost use Rattle.daachorse_patterns.specs.Folding.{all_as_read, texts_as_read};
 ghost use Rattle.daachorse_model.specs.declared.MatchKind.TheVariants.{Standard};
 ghost use Rattle.daachorse_model.specs.Dictionary.{registrations_of};
+ghost use Rattle.daachorse_model.specs.Folding.{all_as_read, texts_as_read};
 ghost use Rattle.daachorse_bytewise.specs.Automata.{kind_of};
 ghost use Rattle.daachorse_bytewise.specs.Building.{HoldsPatterns, IsBuildRefusal, IsBuiltOf, IsRefusalOf, kept_filter};
 

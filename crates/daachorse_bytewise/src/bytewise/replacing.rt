@@ -9,7 +9,7 @@ ghost use Rattle.daachorse_core.specs.Refusals.{IsOutOfMemory};
 ghost use Rattle.daachorse_model.specs.Folding.{as_read};
 ghost use Rattle.daachorse_model.specs.Units.{byte_width};
 ghost use Rattle.daachorse_replacing.specs.ByKind.{non_overlapping};
-ghost use Rattle.daachorse_replacing.specs.Replaced.{AppendsBeginning, OfReplaced};
+ghost use Rattle.daachorse_replacing.specs.Replaced.{AppendsBeginning, OfReplaced, OfReplacedSoFar};
 ghost use Rattle.daachorse_bytewise.specs.Automata.{dictionary_of, kind_of};
 
 use super::DoubleArrayAhoCorasick;
@@ -80,7 +80,7 @@ impl<V: Copy, A: Allocator> DoubleArrayAhoCorasick<V, A> {
         requires callable { F.IsAlwaysCallable replacement }
         ensures whole { OnOk result (OfReplaced (λ s. s.now) haystack.now (F.post replacement) (non_overlapping (kind_of self.now) byte_width (dictionary_of self.now) (as_read self.now.folds haystack.now))
             (Appends (W.contents out.old) (W.contents out.new))) }
-        ensures beginning { OnErr result (OfReplaced (λ s. s.now) haystack.now (F.post replacement) (non_overlapping (kind_of self.now) byte_width (dictionary_of self.now) (as_read self.now.folds haystack.now))
+        ensures beginning { OnErr result (OfReplacedSoFar (λ s. s.now) haystack.now (F.post replacement) (non_overlapping (kind_of self.now) byte_width (dictionary_of self.now) (as_read self.now.folds haystack.now))
             (AppendsBeginning (W.contents out.old) (W.contents out.new))) }
     {
         self.replace_by_kind::<F, W, ToWriter>(haystack, &replacement, out)
@@ -96,7 +96,7 @@ impl<V: Copy, A: Allocator> DoubleArrayAhoCorasick<V, A> {
         requires callable { F.IsAlwaysCallable replacement.now }
         ensures whole { OnOk result (OfReplaced (λ s. s.now) haystack.now (F.post replacement.now) (non_overlapping (kind_of self.now) byte_width (dictionary_of self.now) (as_read self.now.folds haystack.now))
             (Appends (T.taken out.old) (T.taken out.new))) }
-        ensures beginning { OnErr result (OfReplaced (λ s. s.now) haystack.now (F.post replacement.now) (non_overlapping (kind_of self.now) byte_width (dictionary_of self.now) (as_read self.now.folds haystack.now))
+        ensures beginning { OnErr result (OfReplacedSoFar (λ s. s.now) haystack.now (F.post replacement.now) (non_overlapping (kind_of self.now) byte_width (dictionary_of self.now) (as_read self.now.folds haystack.now))
             (AppendsBeginning (T.taken out.old) (T.taken out.new))) }
     {
         match self.match_kind() {

@@ -5,7 +5,7 @@
 //! order of its refusals: all indexes are converted first, then the patterns are added in order, and
 //! the limits on the outputs and on the elements are tested last; the first refusal ends the build.
 
-ghost use Rattle.std.specs.Prelude.{◌≡◌, ◌⊎◌, false, true, [], length, map, IfOk, IfErr, IsSomeAnd};
+ghost use Rattle.std.specs.Prelude.{◌≡◌, ◌⊎◌, false, true, None, [], length, map, IfOk, IfErr, IsSomeAnd};
 ghost use Rattle.std.specs.Iterator.{IsFinite};
 ghost use Rattle.std.specs.Iterator.Runs.{WholeRun};
 ghost use Rattle.std.specs.Ordering.{nat_cmp};
@@ -14,8 +14,8 @@ ghost use Rattle.daachorse_build.specs.Builders.{states_of};
 ghost use Rattle.daachorse_build.specs.Counts.{LinksLeadBack};
 ghost use Rattle.daachorse_build.specs.Groups.{IsProfileOf};
 ghost use Rattle.daachorse_patterns.specs.Documents.{documents_of};
-ghost use Rattle.daachorse_patterns.specs.Folding.{all_as_read, texts_as_read};
 ghost use Rattle.daachorse_model.specs.declared.MatchKind.TheVariants.{Standard};
+ghost use Rattle.daachorse_model.specs.Folding.{all_as_read, texts_as_read};
 ghost use Rattle.daachorse_charwise.specs.Automata.{kind_of};
 ghost use Rattle.daachorse_charwise.specs.Building.{HoldsPatterns, IsBuildRefusal, IsBuiltOf, IsRefusalOf, kept_filter, registrations_of_strings, texts_of_strings};
 
@@ -58,10 +58,10 @@ impl<A: Allocator> Model for CharwiseDoubleArrayAhoCorasickBuilder<A> {
 }
 
 impl<A: Allocator> Default for CharwiseDoubleArrayAhoCorasickBuilder<A> {
-    ghost use Rattle.std.specs.Prelude.{◌≡◌, false, true};
+    ghost use Rattle.std.specs.Prelude.{◌≡◌, false, true, None};
     ghost use Rattle.daachorse_model.specs.declared.MatchKind.TheVariants.{Standard};
 
-    ghost is_default = { λ b. (b.match_kind ≡ Standard) × (b.use_prefilter ≡ true) × (b.ascii_case_insensitive ≡ false) };
+    ghost is_default = { λ b. (b.match_kind ≡ Standard) × (b.use_prefilter ≡ true) × (b.corpus ≡ None) × (b.ascii_case_insensitive ≡ false) };
 
     /// Makes the builder that [`CharwiseDoubleArrayAhoCorasickBuilder::new`] makes.
     fn default() -> Self {
@@ -70,12 +70,13 @@ impl<A: Allocator> Default for CharwiseDoubleArrayAhoCorasickBuilder<A> {
 }
 
 impl<A: Allocator> CharwiseDoubleArrayAhoCorasickBuilder<A> {
-    /// Makes a builder of automata for the standard searches, with a filter.
+    /// Makes a builder of automata for the standard searches, with a filter and without a corpus.
     ///
     /// It takes no memory.
     pub fn new() -> Self
         ensures kind { result.match_kind ≡ Standard }
         ensures filter { result.use_prefilter ≡ true }
+        ensures corpus { result.corpus ≡ None }
         ensures folds { result.ascii_case_insensitive ≡ false }
     {
         Self {

@@ -5,7 +5,7 @@ use Rattle.std.specs.Borrow.{Bor}
 use Rattle.daachorse_model.specs.declared.MatchKind.{MatchKind}
 use Rattle.daachorse_model.specs.Dictionary.{registrations_of}
 use Rattle.daachorse_model.specs.Kinds.{byte_of_kind}
-use Rattle.daachorse_patterns.specs.Folding.{all_as_read, texts_as_read}
+use Rattle.daachorse_model.specs.Folding.{all_as_read, texts_as_read}
 use Rattle.daachorse_bytewise.specs.Building.{HoldsPatterns, kept_filter}
 use Rattle.daachorse_c.specs.Building.{IsBuiltFrom}
 use Rattle.daachorse_c.specs.Held.{Held}

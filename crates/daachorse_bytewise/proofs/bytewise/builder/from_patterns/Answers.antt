@@ -3,7 +3,7 @@ use Rattle.std.proofs.Common.{◌≡◌, ◌∙◌, ℕ, Bool, List, map, refl, 
 use Rattle.std.specs.Borrow.{Bor}
 use Rattle.std.proofs.lemmas.Result.{IfOk-weaker}
 use Rattle.daachorse_model.specs.Dictionary.{registrations_of}
-use Rattle.daachorse_patterns.specs.Folding.{all_as_read, texts_as_read}
+use Rattle.daachorse_model.specs.Folding.{all_as_read, texts_as_read}
 use Rattle.daachorse_patterns.specs.Patterns.{texts_of}
 use Rattle.daachorse_patterns.proofs.FilterLaws.{texts-first}
 use Rattle.daachorse_patterns.proofs.TextLaws.{first-as_read, lent_read, read_stands}

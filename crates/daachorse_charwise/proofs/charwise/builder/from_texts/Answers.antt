@@ -4,7 +4,7 @@ use Rattle.std.proofs.lemmas.Result.{IfOk-weaker, IfErr-weaker, err_from_is_err_
 use Rattle.std.specs.Borrow.{Bor}
 use Rattle.std.specs.Str.{chars}
 use Rattle.daachorse_model.specs.Units.{char_width}
-use Rattle.daachorse_patterns.specs.Folding.{all_as_read, texts_as_read}
+use Rattle.daachorse_model.specs.Folding.{all_as_read, texts_as_read}
 use Rattle.daachorse_patterns.specs.Patterns.{AreIndexed}
 use Rattle.daachorse_patterns.proofs.IndexLaws.{AreIndexed-map, AreIndexed-texts}
 use Rattle.daachorse_patterns.proofs.FilterLaws.{texts-first}

@@ -164,7 +164,7 @@ impl<V: Copy, A: Allocator> States<V, A> {
     }
 
     /// The elements, whichever list they stand in.
-    pub fn elements(&self) -> Elements<'_, V>
+    pub(crate) fn elements(&self) -> Elements<'_, V>
         ensures parts { result ≡ self.entry.now }
         ensures valid { IsValid result }
         ensures few { result.num_states < 2 ^ 32 }

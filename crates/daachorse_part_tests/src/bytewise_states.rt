@@ -8,7 +8,6 @@ use crate::expect;
 use daachorse_bytewise_states::states::States;
 use daachorse_core::errors::Result;
 use daachorse_core::{Match, MatchKind};
-use daachorse_listing::edges::Edges;
 use daachorse_patterns::trie::build_trie;
 use daachorse_placement::build_helper::Profile;
 use daachorse_search::find_stepper::FindStepper;
@@ -28,7 +27,7 @@ fn built(alloc: Global, patvals: &[(&[u8], u32)]) -> Result<States<u32>>
 type Group<'a> = (&'a [u8], u8, u8);
 
 /// A group of patterns for each row, the numbers of elements and of states, and bases by element.
-type Layout<'a> = (&'a [Group<'a>], usize, u32, &'a [(usize, usize)]);
+type Layout<'a> = (&'a [Group<'a>], usize, u32, &'a [(u32, u32)]);
 
 const LAYOUTS: [Layout<'static>; 4] = [
     (&[(b"", 0, 0xfd)], 256, 255, &[(0, 0xfe)]),
@@ -81,15 +80,17 @@ fn built_of(alloc: Global, groups: &[Group<'_>]) -> Result<States<u32>> {
     built(alloc, &patvals)
 }
 
-/// Whether these elements have these bases.
-fn have_bases(states: &States<u32>, bases: &[(usize, usize)]) -> bool {
-    let elements = states.elements();
+/// Whether these elements are written with these bases.
+fn have_bases(alloc: Global, states: &States<u32>, bases: &[(u32, u32)]) -> Result<bool> {
+    let bytes = states.serialize(alloc, false, &None)?;
     for (element, base) in bases {
-        if *element >= elements.num_elements() || elements.group(*element) != Some(*base) {
-            return false;
+        // Behind the count each element takes 12 bytes, and begins with its base.
+        let place = 4 + 12 * *element as usize;
+        if place >= bytes.len() || !bytes[place..].starts_with(&base.to_le_bytes()) {
+            return Ok(false);
         }
     }
-    true
+    Ok(true)
 }
 
 #[test]
@@ -98,7 +99,7 @@ fn siblings_share_blocks(rt: HostRuntime) -> Result<(), Fail> {
         let states = built_of(rt.alloc(), groups)?;
         expect(&rt, states.num_elements() == num_elements, "the elements");
         expect(&rt, states.num_states() == num_states, "the states");
-        expect(&rt, have_bases(&states, bases), "the bases");
+        expect(&rt, have_bases(rt.alloc(), &states, bases)?, "the bases");
     }
     Ok(())
 }

@@ -118,7 +118,8 @@ impl<A: Allocator> CodeMapper<A> {
     /// The entry of each code point: its code, or [`INVALID_CODE`].
     #[inline(always)]
     pub fn table(&self) -> &[u32]
-        ensures { result.now ≡ self.now.table }
+        ensures is { result.now ≡ self.now.table }
+        ensures few { length result.now < 2 ^ 32 }
     {
         &self.table
     }

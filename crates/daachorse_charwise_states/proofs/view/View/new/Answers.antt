@@ -6,6 +6,6 @@ use Rattle.daachorse_charwise_states.proofs.view.View.new.Goals as goal
 
 pub invariant_of-result : goal.invariant_of-result
 invariant_of-result g c = (
-  rw (c.table.ensures, c.alphabet_size.ensures) c.requires,
+  rw (c.table.ensures.is, c.alphabet_size.ensures) c.requires,
   c.output_pos-root_output.ensures ∙ ap output_in (get_or_default c.args.states.now 0 _ vacant c.requires.valid.grouped.some),
 )

@@ -1,6 +1,6 @@
 -- The codes are those of all patterns, so each character of a key has one; a refusal of the elements comes last. Patterns that stand as they are read have folded keys where they are folded, and the filter passes at each key.
 use Rattle.std.specs.Prelude.{encode_utf8_all}
-use Rattle.std.proofs.Common.{◌≡◌, ◌∙◌, ℕ, List, length, map, ap, sym, subst, arith, None}
+use Rattle.std.proofs.Common.{◌≡◌, ◌∙◌, ℕ, List, map, sym, subst, None}
 use Rattle.daachorse_core.proofs.Refusals.{at_error}
 use Rattle.daachorse_model.specs.Dictionary.{Dictionary, dictionary}
 use Rattle.daachorse_model.specs.Units.{char_width}
@@ -23,11 +23,6 @@ build-requires-clause-built g c =
     let P : List ℕ → Type 0 = λ freqs. IsCodingOf freqs c.in_ok-mapper.mapper in
     let codes = subst P c.deref.ensures.value c.in_ok-mapper.ensures.ok in
     (K, c.in_ok-nfa.ensures.ok.built, coded_keys c.args.patterns.now c.in_ok-freqs.freqs.items c.in_ok-mapper.mapper c.in_ok-freqs.ensures.ok codes c.in_ok-freqs.ensures.texts c.args.settings.now.match_kind)
-
-pub build-requires-clause-codes : goal.build-requires-clause-codes
-build-requires-clause-codes g c =
-    let entries = c.in_ok-mapper.ensures.ok.entries in let few = c.in_ok-freqs.ensures.ok.few in
-    omega (arith, entries, few, ap length c.deref.ensures.value)
 
 pub returns-in_err-states-clause-err : goal.returns-in_err-states-clause-err
 returns-in_err-states-clause-err g c =

@@ -38,25 +38,31 @@ const OUTPUTS: [u8; 26] = [
     2, 0, 0, 0, 0x23, 0x01, 1, 2, 0, 0, 0, 0, 0, 0, 0, 7, 0, 3, 2, 0, 0, 0, 0, 0, 0, 0,
 ];
 
+/// Whether an automaton over bytes is written with these outputs, and read again by both reads.
+fn are_read_over_bytes(alloc: Global) -> Result<bool> {
+    let words = over_bytes(alloc)?;
+    let bytes = words.serialize(alloc)?;
+    let are_written = bytes.get(3084..3110) == Some(OUTPUTS.as_slice());
+    let (checked, _rest) = OverBytes::deserialize(alloc, &bytes)?;
+    let (unchecked, _rest) = OverBytes::deserialize_unchecked(alloc, &bytes)?;
+    Ok(are_written && checked == words && unchecked == words)
+}
+
+/// The same over characters.
+fn are_read_over_characters(alloc: Global) -> Result<bool> {
+    let words = over_characters(alloc)?;
+    let bytes = words.serialize(alloc)?;
+    let are_written = bytes.get(544..570) == Some(OUTPUTS.as_slice());
+    let (checked, _rest) = OverCharacters::deserialize(alloc, &bytes)?;
+    let (unchecked, _rest) = OverCharacters::deserialize_unchecked(alloc, &bytes)?;
+    Ok(are_written && checked == words && unchecked == words)
+}
+
 #[test]
 fn ratings_are_written_and_read(rt: HostRuntime) -> Result<(), Fail> {
     let alloc = rt.alloc();
-    let words = over_bytes(alloc)?;
-    let bytes = words.serialize(alloc)?;
-    let same = bytes.get(3084..3110) == Some(OUTPUTS.as_slice());
-    expect(&rt, same, "the outputs over bytes");
-    let (checked, _rest) = OverBytes::deserialize(alloc, &bytes)?;
-    let (unchecked, _rest) = OverBytes::deserialize_unchecked(alloc, &bytes)?;
-    let same = checked == words && unchecked == words;
-    expect(&rt, same, "what is read over bytes");
-    let words = over_characters(alloc)?;
-    let bytes = words.serialize(alloc)?;
-    let same = bytes.get(544..570) == Some(OUTPUTS.as_slice());
-    expect(&rt, same, "the outputs over characters");
-    let (checked, _rest) = OverCharacters::deserialize(alloc, &bytes)?;
-    let (unchecked, _rest) = OverCharacters::deserialize_unchecked(alloc, &bytes)?;
-    let same = checked == words && unchecked == words;
-    expect(&rt, same, "what is read over characters");
+    expect(&rt, are_read_over_bytes(alloc)?, "over bytes");
+    expect(&rt, are_read_over_characters(alloc)?, "over characters");
     Ok(())
 }
 

@@ -1,11 +1,11 @@
 #!/usr/bin/env python3
-"""costs.py [--record RECORD] [FILE] [NAME..]: runs the gate, and tells what each crate costs.
+"""costs.py [--record RECORD] [NAME..]: runs the gate, and says what each crate costs.
 
 It runs `rt ci NAME..` at the top of the repository and passes on what that prints. From this output it
 takes how many functions, tests and wrong bodies each crate has, and from the processes that the gate
-starts how many processor seconds each crate's proof, tests and wrong bodies took. It prints a table
-at the end and, where FILE (a name that ends in .md) is given, writes it there between the lines
-`<!-- costs -->` and `<!-- end of costs -->`. Its exit status is the gate's.
+starts how many processor seconds each crate's proof, tests and wrong bodies took. It prints a table at the
+end. Where the gate passed with no NAME, or with a RECORD, it also writes the table to COSTS.md beside this
+file, between the lines `<!-- costs -->` and `<!-- end of costs -->`. Its exit status is the gate's.
 
 The gate does again only what is not kept from an earlier run on the machine. With RECORD, a file that this
 program makes, the table is of all runs with the same RECORD: what a run did counts in place of what the record
@@ -23,7 +23,9 @@ import sys
 import threading
 import time
 
-TOP = os.path.dirname(os.path.dirname(os.path.dirname(os.path.abspath(__file__))))
+HERE = os.path.dirname(os.path.abspath(__file__))
+TOP = os.path.dirname(os.path.dirname(HERE))
+COSTS = os.path.join(HERE, "COSTS.md")
 BEGIN, END = "<!-- costs -->", "<!-- end of costs -->"
 TICKS = os.sysconf("SC_CLK_TCK")
 
@@ -147,23 +149,22 @@ def table(counts, sums):
     return "\n".join(rows), sum(seconds)
 
 
-def put(file, text):
-    """Writes the table between the two lines of a file."""
-    with open(file) as it:
+def put(text):
+    """Writes the table between the two lines of COSTS.md."""
+    with open(COSTS) as it:
         before, begin, rest = it.read().partition(BEGIN)
     _, end, after = rest.partition(END)
     if not begin or not end:
-        sys.exit(f"{file} lacks the lines {BEGIN} and {END}")
-    with open(file, "w") as it:
+        sys.exit(f"{COSTS} lacks the lines {BEGIN} and {END}")
+    with open(COSTS, "w") as it:
         it.write(f"{before}{BEGIN}\n{text}\n{END}{after}")
 
 
 def main(words):
     record = words[1] if words[:1] == ["--record"] else None
-    words = words[2:] if record else words
-    files = [it for it in words if it.endswith(".md")]
+    names = words[2:] if record else words
     began, lines, taken = time.monotonic(), [], {}
-    gate = subprocess.Popen(["rt", "ci", *(it for it in words if it not in files)], cwd=TOP, stdout=subprocess.PIPE, stderr=subprocess.STDOUT, text=True, errors="replace")
+    gate = subprocess.Popen(["rt", "ci", *names], cwd=TOP, stdout=subprocess.PIPE, stderr=subprocess.STDOUT, text=True, errors="replace")
     watcher = threading.Thread(target=watch, args=(gate, taken))
     watcher.start()
     for line in gate.stdout:
@@ -182,8 +183,8 @@ def main(words):
         wall, processors = time.monotonic() - began, len(os.sched_getaffinity(0))
         text += f"\n\nThe whole took {used.ru_utime + used.ru_stime:.0f} processor seconds, and {wall:.0f} s on {processors} processors."
     print(f"\n{text}")
-    for file in files[:1]:
-        put(file, text)
+    if status == 0 and (record or not names):
+        put(text)
     return status
 
 

@@ -8,7 +8,7 @@ use std::process::Abort;
 use std::test::Fail;
 
 /// Whether these bytes are refused for what they are.
-fn lacks_bytes<S: Serializable>(bytes: &[u8]) -> bool {
+pub fn lacks_bytes<S: Serializable>(bytes: &[u8]) -> bool {
     match S::deserialize_from_slice(bytes) {
         Ok(_) => false,
         Err(error) => error == DaachorseError::invalid_automaton(),

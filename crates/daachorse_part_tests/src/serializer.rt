@@ -1,7 +1,7 @@
 //! What no clause says: that each call succeeds where memory is ample, and the worked rows.
 
 use crate::expect;
-use crate::forms::{has_form, has_list_form, is_refused};
+use crate::forms::{has_form, has_list_form, is_refused, lacks_bytes};
 use daachorse_core::errors::DaachorseError;
 use daachorse_core::{Empty, MatchKind, Output};
 use daachorse_serializer::intpack::{U24, U24nU8};
@@ -70,6 +70,33 @@ fn compounds_have_their_forms(rt: HostRuntime) -> Result<(), Fail> {
     has_form(&rt, alloc, Empty, &[])?;
     let output = Output::new(7u8, 2, NonZeroU32::new(5));
     has_form(&rt, alloc, output, &[7, 2, 0, 0, 0, 5, 0, 0, 0])
+}
+
+#[test]
+fn values_of_parts_have_their_forms(rt: HostRuntime) -> Result<(), Fail> {
+    let alloc = rt.alloc();
+    has_form(&rt, alloc, true, &[1])?;
+    has_form(&rt, alloc, false, &[0])?;
+    has_form(&rt, alloc, 'é', &[0xe9, 0, 0, 0])?;
+    has_form(&rt, alloc, '\u{10ffff}', &[0xff, 0xff, 0x10, 0])?;
+    has_form(
+        &rt,
+        alloc,
+        0x0123_4567usize,
+        &[0x67, 0x45, 0x23, 0x01, 0, 0, 0, 0],
+    )?;
+    has_form(&rt, alloc, (0x0123u16, -2i16), &[0x23, 0x01, 0xfe, 0xff])?;
+    has_form(&rt, alloc, (7u8, true, 0x0123u16), &[7, 1, 0x23, 0x01])?;
+    has_form(&rt, alloc, Some(('a', (1u8, 2u8))), &[1, 97, 0, 0, 0, 1, 2])?;
+    expect(&rt, lacks_bytes::<bool>(&[2]), "no truth value");
+    expect(&rt, lacks_bytes::<(u8, bool)>(&[7, 2]), "no second value");
+    expect(&rt, lacks_bytes::<char>(&[0, 0xd8, 0, 0]), "a surrogate");
+    expect(
+        &rt,
+        lacks_bytes::<char>(&[0, 0, 0x11, 0]),
+        "past the last character",
+    );
+    Ok(())
 }
 
 /// Kinds, whether case is disregarded, and the bytes of both.

@@ -1,6 +1,8 @@
 -- The law of each form from the laws of its parts: numbers by what their bytes are worth, pairs, options and lists by joining what each part takes back.
 use Rattle.std.specs.Prelude.{ℕ, zero, suc, ◌+◌, ◌-◌, ◌*◌, ◌/◌, ◌%◌, ◌≤◌, ◌<◌, ◌^◌, ◌≡◌, ◌==◌, nat_lt, Bool, cond, FitsSigned, List, [], ◌∷◌, ◌++◌, length, take, drop, slice_index, Option, Some, None, IfSome, refl, false, true}
 use Rattle.std.specs.List.{flat_map, All, AllByRecursion}
+use Rattle.std.specs.Char.{IsScalar}
+use Rattle.std.proofs.Math.Utf8.{scalar, scalar_fits}
 use Rattle.std.specs.Int.{Width, w8, w16, w32, w64, w128, byte_len, byte_at, byte_worth, bytes_low_first, sum_through, from_le_bytes, cast_unsigned, cast_signed}
 use Rattle.std.proofs.Common.{subst, ap, ◌∙◌, sym, arith, length-append, append_assoc, zero-add}
 use Rattle.std.proofs.Math.Nat.{add-mul, div-div-eq-div-mul, div-eq_of_lt, mul_assoc, pow-suc}
@@ -22,6 +24,7 @@ use Rattle.daachorse_serializer.specs.Outputs.{fields_of, output_from, IsOutput,
 use Rattle.daachorse_serializer.specs.declared.intpack.U24nU8.{U24nU8}
 use Rattle.daachorse_serializer.specs.Packed.{word_of, packed_of, packed_form, take_packed}
 use Rattle.daachorse_serializer.specs.Positions.{position_from, position_back, position_form, take_position}
+use Rattle.daachorse_serializer.specs.Values.{bool_form, take_bool, char_form, take_char, triple_form, take_triple}
 use Rattle.daachorse_serializer.specs.Forms.{Taken, Ends, IsForm, over, then_take, take_if, pair_form, take_pair, number_form, take_number, signed_form, take_signed, option_form, option_most, take_option, take_items, list_form, take_list}
 
 -- ---- numbers
@@ -336,3 +339,35 @@ position_law = law_through position_from number _ (λ v h. h) (λ v h. position_
 
 pub packed_law : IsForm (λ (p : U24nU8). word_of p < 2 ^ 32) packed_form take_packed (λ _. 4)
 packed_law = law_through packed_of word_of _ (λ p h. h) (λ p h. refl) (number_law w32)
+
+pub bool_law : IsForm (λ (b : Bool). Unit {0}) bool_form take_bool (λ _. 1)
+bool_law = record { reads_back = reads_back; leaves_end = leaves_end; fits = fits }
+  where
+    reads_back : (b : Bool) (rest : List ℕ) → Unit {0} → take_bool (bool_form b ++ rest) ≡ Some (b, rest)
+    reads_back false rest h = refl
+    reads_back true rest h = refl
+
+    flagged : (zero_flag one_flag : Bool) (bytes : List ℕ) (b : Bool) (rest : List ℕ)
+        → cond {A = Taken Bool} zero_flag (Some (false, bytes)) (cond one_flag (Some (true, bytes)) None) ≡ Some (b, rest) → bytes ≡ rest
+    flagged true one_flag bytes b rest e = ap rest_of e
+    flagged false true bytes b rest e = ap rest_of e
+    flagged false false bytes b rest e = cc
+
+    leaves_end : (bytes : List ℕ) (b : Bool) (rest : List ℕ) → take_bool bytes ≡ Some (b, rest) → Ends rest bytes
+    leaves_end [] b rest e = cc
+    leaves_end (flag ∷ bytes) b rest e = (flag ∷ [], ap (λ zs. flag ∷ zs) (flagged (flag == 0) (flag == 1) bytes b rest e))
+
+    fits : (b : Bool) → Unit {0} → length (bool_form b) ≤ 1
+    fits false h = omega arith
+    fits true h = omega arith
+
+pub char_law : IsForm IsScalar char_form take_char (λ _. 4)
+char_law = law_if scalar IsScalar scalar_fits (λ c h. h) (number_law w32)
+
+-- the law of a triple, from those of its parts
+pub triple_law : {X Y Z : Type 0} {P : X → Type 0} {Q : Y → Type 0} {R : Z → Type 0}
+    {f : X → List ℕ} {g : Y → List ℕ} {h : Z → List ℕ} {t : List ℕ → Taken X} {u : List ℕ → Taken Y} {v : List ℕ → Taken Z} {l m n : ℕ}
+    → IsForm P f t (λ _. l) → IsForm Q g u (λ _. m) → IsForm R h v (λ _. n)
+    → IsForm (λ p. P p.0 × Q p.1 × R p.2) (triple_form f g h) (take_triple t u v) (λ _. l + (m + n))
+triple_law first second third =
+    law_through (λ p. (p.0, p.1.0, p.1.1)) (λ p. (p.0, (p.1, p.2))) _ (λ p h. (h.0, (h.1, h.2))) (λ p h. refl) (pair_law first (pair_law second third))

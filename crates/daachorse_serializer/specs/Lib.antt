@@ -6,3 +6,4 @@ pub mod Modes
 pub mod Outputs
 pub mod Packed
 pub mod Positions
+pub mod Values

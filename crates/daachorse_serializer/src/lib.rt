@@ -11,4 +11,5 @@ pub mod ending;
 pub mod intpack;
 pub mod mode;
 pub mod serializer;
+pub mod values;
 pub mod words;

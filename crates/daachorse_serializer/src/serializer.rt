@@ -25,10 +25,11 @@ use std::num::NonZeroU32;
 
 /// Values with a written form. Reading one takes no allocator.
 ///
-/// Integers, signed and not, [`Option<NonZeroU32>`](std::num::NonZeroU32), [`Empty`],
-/// [`MatchKind`], [`Output`] and an option of such a value have one. A number is written by its
-/// bytes, the lowest first: 0x01234567 is `67 45 23 01` (`daachorse_part_tests` compares forms). A
-/// type of one's own that proves the laws can be the value type of an automaton that is written.
+/// Integers, signed and not, [`bool`], [`char`], [`Option<NonZeroU32>`](std::num::NonZeroU32),
+/// [`Empty`], [`MatchKind`], [`Output`], an option of such a value, and two or three of them
+/// together have one. A number is written by its bytes, the lowest first: 0x01234567 is
+/// `67 45 23 01`. A type of one's own that proves the laws can be the value type of an automaton
+/// that is written.
 pub trait Serializable: Sized + Drop {
     /// Which values are of the type.
     ghost is_value: { Self → Type 0 };

@@ -1,5 +1,5 @@
-//! Tests that cross the crates, by the paths of `daachorse`: each public path, worked rows of what is
-//! built and of what the searches find, refusals and their texts, and each growth refused in turn.
+//! Tests of the automata, by the paths of `daachorse`: worked rows of what is built and of what the
+//! searches find, what is written and read, refusals, and each growth refused in turn.
 //!
 //! Functions are short, and each search is begun in one place: that is what keeps the proof of this
 //! crate short.
@@ -16,19 +16,11 @@ mod changed;
 #[cfg(test)]
 mod charwise;
 #[cfg(test)]
-mod command;
-#[cfg(test)]
 mod edge_map;
 #[cfg(test)]
 mod finding;
 #[cfg(test)]
-mod index;
-#[cfg(test)]
 mod listing;
-#[cfg(test)]
-mod own_values;
-#[cfg(test)]
-mod paths;
 #[cfg(test)]
 mod plain;
 #[cfg(test)]
@@ -45,12 +37,6 @@ mod rows;
 mod searches;
 #[cfg(test)]
 mod steppers;
-#[cfg(test)]
-mod tokens;
-#[cfg(test)]
-mod uses;
-#[cfg(test)]
-mod values;
 #[cfg(test)]
 mod written;
 

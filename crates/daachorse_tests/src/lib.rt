@@ -16,8 +16,6 @@ mod changed;
 #[cfg(test)]
 mod charwise;
 #[cfg(test)]
-mod edge_map;
-#[cfg(test)]
 mod finding;
 #[cfg(test)]
 mod listing;

@@ -6,9 +6,8 @@ use crate::expect;
 use crate::rows::{BUILT, BY_CORPUS, Patvals, READ_BACK, READ_UNCHECKED, Search, Way};
 use daachorse::errors::DaachorseError;
 use daachorse::{MatchKind, Result};
-use daachorse_patterns::trie::build_trie;
 use refusing::{Answer, Call, Refusing, each_request};
-use std::alloc::{Allocator, Global};
+use std::alloc::Global;
 
 /// A call that asks for memory, behind the build that it needs.
 #[derive(Clone, Copy)]
@@ -142,29 +141,6 @@ impl Call for OverCharacters {
     }
 }
 
-/// `PATVALS`, over bytes.
-const PATVALS_IN_BYTES: [(&[u8], u32); 3] = [(b"bcd", 0), (b"abc", 1), (b"ab", 2)];
-
-/// Whether each state of a trie is copied.
-fn are_copied<A: Allocator + Copy>(alloc: A) -> Result<bool> {
-    let trie = build_trie(alloc, MatchKind::Standard, None, &PATVALS_IN_BYTES)?;
-    let mut holds = true;
-    for state in trie.states() {
-        let copy = state.clone()?;
-        holds = holds && copy.edges().len() == state.edges().len();
-    }
-    Ok(holds)
-}
-
-/// A trie, and a copy of each of its states.
-struct CopiedStates;
-
-impl Call for CopiedStates {
-    fn answer(&self, heap: &Refusing<Global>) -> Answer {
-        answer_of(&are_copied(heap))
-    }
-}
-
 #[test]
 fn each_request_may_be_refused(rt: HostRuntime) {
     for (kind, request) in REQUESTS {
@@ -173,6 +149,4 @@ fn each_request_may_be_refused(rt: HostRuntime) {
         let call = OverCharacters { kind, request };
         expect(&rt, each_request(rt.alloc(), &call), "over characters");
     }
-    let copies = each_request(rt.alloc(), &CopiedStates);
-    expect(&rt, copies, "the states of a trie");
 }

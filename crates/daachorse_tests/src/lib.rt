@@ -49,6 +49,12 @@ fn expect(rt: &impl Abort, holds: bool, what: &str) {
     assert!(rt; holds, "{what}");
 }
 
+/// Ends the test with what went wrong and over what units, unless `holds`.
+#[cfg(test)]
+fn expect_over(rt: &impl Abort, holds: bool, what: &str, units: &str) {
+    assert!(rt; holds, "{what}, over {units}");
+}
+
 /// Ends the test with what went wrong at which byte, unless `holds`.
 #[cfg(test)]
 fn expect_at(rt: &impl Abort, holds: bool, what: &str, place: usize, byte: u8) {

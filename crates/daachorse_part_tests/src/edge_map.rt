@@ -1,8 +1,7 @@
 //! Edges by labels: one edge takes no memory, and each growth is refused in turn.
 
 use crate::expect;
-use daachorse::Result;
-use daachorse::edge_map::EdgeMap;
+use daachorse_build::edge_map::EdgeMap;
 use refusing::{Answer, Call, Refusing, each_request};
 use std::alloc::Global;
 use std::test::Fail;

@@ -66,18 +66,14 @@ fn ratings_are_written_and_read(rt: HostRuntime) -> Result<(), Fail> {
     Ok(())
 }
 
-/// Places over bytes and over characters, a byte that stands there in place of its own, and whether the
-/// error is the one of the values. Else it is the one of the automaton.
-const CHANGES: [(usize, usize, u8, bool); 5] = [
-    // The level of ab.
-    (3090, 550, 0, true),
-    (3090, 550, 4, true),
-    // The level of cd.
-    (3101, 561, 255, true),
-    // The length of the window.
-    (3116, 576, 3, false),
-    // The entry of a and b, which begin a pattern.
-    (28047, 25507, 255, false),
+/// What a row shows, places over bytes and over characters, a byte that stands there in place of its own, and
+/// whether the error is the one of the values. Else it is the one of the automaton.
+const CHANGES: [(&str, usize, usize, u8, bool); 5] = [
+    ("the level of ab is 0", 3090, 550, 0, true),
+    ("the level of ab is 4", 3090, 550, 4, true),
+    ("the level of cd is 255", 3101, 561, 255, true),
+    ("the length of the window is 3", 3116, 576, 3, false),
+    ("the entry of a and b is 255", 28047, 25507, 255, false),
 ];
 
 /// Puts a byte at a place.
@@ -90,7 +86,7 @@ fn put(bytes: &mut [u8], place: usize, byte: u8) {
 #[test]
 fn a_bad_rating_has_its_own_error(rt: HostRuntime) -> Result<(), Fail> {
     let alloc = rt.alloc();
-    for (place, place_of_text, byte, is_own) in CHANGES {
+    for (shows, place, place_of_text, byte, is_own) in CHANGES {
         let expected = if is_own {
             DaachorseError::invalid_conversion()
         } else {
@@ -99,11 +95,11 @@ fn a_bad_rating_has_its_own_error(rt: HostRuntime) -> Result<(), Fail> {
         let mut bytes = over_bytes(alloc)?.serialize(alloc)?;
         put(&mut bytes, place, byte);
         let error = OverBytes::deserialize(alloc, &bytes).err();
-        expect(&rt, error == Some(expected), "over bytes");
+        expect(&rt, error == Some(expected), shows);
         let mut bytes = over_characters(alloc)?.serialize(alloc)?;
         put(&mut bytes, place_of_text, byte);
         let error = OverCharacters::deserialize(alloc, &bytes).err();
-        expect(&rt, error == Some(expected), "over characters");
+        expect(&rt, error == Some(expected), shows);
     }
     Ok(())
 }

@@ -2,7 +2,7 @@
 use Rattle.std.proofs.Common.{[], refl}
 use Rattle.daachorse_model.specs.declared.MatchKind.TheVariants.{Standard}
 use Rattle.daachorse_model.specs.Dictionary.{dictionary}
-use Rattle.daachorse_tests.proofs.paths.states_of_characters.Goals as goal
+use Rattle.daachorse_program_tests.proofs.paths.states_of_characters.Goals as goal
 
 pub build-requires-clause-built : goal.build-requires-clause-built
 build-requires-clause-built c =

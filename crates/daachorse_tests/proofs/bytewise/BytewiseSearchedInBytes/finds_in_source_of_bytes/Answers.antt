@@ -1,7 +1,7 @@
 -- Nothing of the source was read.
 use Rattle.std.proofs.Common.{rules}
 use Rattle.daachorse_tests.proofs.FirstReads.{from_first}
-use Rattle.daachorse_tests.proofs.bytewise.finds_in_source_of_bytes.Goals as goal
+use Rattle.daachorse_tests.proofs.bytewise.BytewiseSearchedInBytes.finds_in_source_of_bytes.Goals as goal
 
 pub are-requires-clause-can : goal.are-requires-clause-can
 are-requires-clause-can g c =

@@ -119,8 +119,7 @@ fn text_of(alloc: Global, filling: &str, count: usize, word: &str) -> Result<Str
     Ok(text)
 }
 
-/// What is asked, what stands before a word, and the word. A round reads sixteen pairs, or eight; with no window
-/// in the first eight rounds of sixteen, the others read each second pair first.
+/// What is asked, what stands before a word, and the word. A round reads sixteen pairs, or eight.
 const LONG_ROWS: [(Asked, &str, &str); 5] = [
     (Asked::Bytes, "x", "aria"),
     // Each third pair begins a window here.

@@ -22,7 +22,6 @@ mod gate;
 mod pair_table;
 mod reading;
 mod scan;
-mod whole_window;
 mod window;
 
 use crate::place_test::{NoTest, PlaceTest};

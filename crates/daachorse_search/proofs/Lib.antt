@@ -15,4 +15,4 @@ pub mod BeginningLaws
 pub mod AfreshLaws
 pub mod SkipLaws
 pub mod GivenLaws
-pub mod Pieces
+pub mod PieceLaws

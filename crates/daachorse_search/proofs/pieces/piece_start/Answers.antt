@@ -1,6 +1,6 @@
 -- The piece carries the longest key's bytes less one, or all that stands before it.
 use Rattle.std.proofs.Common.{arith}
-use Rattle.daachorse_search.proofs.Pieces.{cut_at_place}
+use Rattle.daachorse_search.proofs.PieceLaws.{cut_at_place}
 use Rattle.daachorse_search.proofs.pieces.piece_start.Goals as goal
 
 pub returns-clause-matches : goal.returns-clause-matches

@@ -8,8 +8,6 @@ pub use Rattle.daachorse_bytewise_states.specs.StateRows
 pub use Rattle.daachorse_core.specs.Refusals
 pub use Rattle.daachorse_core.specs.Seen
 pub use Rattle.daachorse_core.specs.declared.errors.DaachorseError
-pub use Rattle.daachorse_folding.specs.SourceSearches
-pub use Rattle.daachorse_folding.specs.Steppers
 pub use Rattle.daachorse_array.specs.Listing
 pub use Rattle.daachorse_patterns.specs.Patterns
 pub use Rattle.daachorse_patterns.specs.declared.settings.Settings
@@ -21,6 +19,7 @@ pub use Rattle.daachorse_search.specs.BestScans
 pub use Rattle.daachorse_search.specs.Filters
 pub use Rattle.daachorse_search.specs.LeftmostSearches
 pub use Rattle.daachorse_search.specs.Matches
+pub use Rattle.daachorse_search.specs.Readings
 pub use Rattle.daachorse_search.specs.Searches
 pub use Rattle.daachorse_search.specs.Stepwise
 pub use Rattle.daachorse_serializer.specs.Forms

@@ -4,21 +4,19 @@
 //! search giving the whole list of matches that the definitions give for that dictionary, in the
 //! haystack as the automaton's option reads it.
 
-ghost use Rattle.std.specs.Prelude.{◌≡◌, ◌≢◌, ◌⊎◌, ℕ, false, true, List, [], IfOk, IfErr, OnOk, OnErr, map, take};
+ghost use Rattle.std.specs.Prelude.{◌≡◌, ◌≢◌, ◌⊎◌, ℕ, false, true, List, [], IfOk, IfErr, OnOk, OnErr, length, map, take};
 ghost use Rattle.std.specs.Iterator.{IsFinite};
 ghost use Rattle.std.specs.Iterator.Runs.{WholeRun};
 ghost use Rattle.std.specs.Option.{option_to_list};
 ghost use Rattle.daachorse_core.specs.Refusals.{IsOutOfMemory};
 ghost use Rattle.daachorse_model.specs.declared.MatchKind.TheVariants.{Standard};
 ghost use Rattle.daachorse_model.specs.Units.{byte_width};
-ghost use Rattle.daachorse_folding.specs.SourceSearches.{BeginsFromAsRead};
-ghost use Rattle.daachorse_folding.specs.Steppers.{BeginsSteppingAsRead};
 ghost use Rattle.daachorse_model.specs.Dictionary.{registrations_of};
 ghost use Rattle.daachorse_model.specs.Folding.{as_read};
 ghost use Rattle.daachorse_model.specs.Leftmost.{leftmost};
 ghost use Rattle.daachorse_model.specs.Matches.{matches_after, no_suffix, overlapping, standard, standard_after};
 ghost use Rattle.daachorse_model.specs.Prefixes.{HasPrefixes, IsListing};
-ghost use Rattle.daachorse_search.specs.Beginnings.{BeginsWith};
+ghost use Rattle.daachorse_search.specs.Beginnings.{BeginsFrom, BeginsStepping, BeginsWith};
 ghost use Rattle.daachorse_search.specs.Filters.{IsSoundFor};
 ghost use Rattle.daachorse_prefilter.specs.Places.{untested};
 ghost use Rattle.daachorse_skipping.specs.Asked.{BeginsAsking, lets_pass};
@@ -45,16 +43,15 @@ use crate::bytewise::iter::{
 use crate::bytewise::states::States;
 use daachorse_core::MatchKind;
 use daachorse_core::errors::Result;
-use daachorse_folding::leftmost::leftmost_as_read;
-use daachorse_folding::matches::{
-    find_as_read, find_overlapping_as_read, find_overlapping_no_suffix_as_read,
-};
-use daachorse_folding::matches_from::MatchesFromAsRead;
 use daachorse_prefilter::prefilter::{Prefilter, clone_filter};
-use daachorse_search::find::FindWalk;
+use daachorse_search::find::{FindWalk, find_in};
 use daachorse_search::find_stepper::FindStanding;
 use daachorse_search::haystack::Bytes;
-use daachorse_search::overlapping::{NoSuffixWalk, OverlappingWalk};
+use daachorse_search::leftmost::LeftmostMatches;
+use daachorse_search::matches_from::MatchesFrom;
+use daachorse_search::overlapping::{
+    NoSuffixWalk, OverlappingWalk, find_overlapping_in, find_overlapping_no_suffix_in,
+};
 use daachorse_search::overlapping_stepper::OverlappingStanding;
 use daachorse_search::source;
 use daachorse_skipping::skipping::Skipping;
@@ -367,11 +364,10 @@ impl<V: Copy, A: Allocator> DoubleArrayAhoCorasick<V, A> {
             (standard byte_width (dictionary_of self.entry.now) (as_read self.entry.now.folds haystack.entry.now)) result }
         ensures asks { BeginsAsking self.entry.now.filter result.filter }
     {
-        find_as_read(
+        find_in(
             self.states.standard(),
-            Bytes::new(haystack),
+            Bytes::new(haystack, self.folds),
             self.skipping(),
-            self.folds,
         )
     }
 
@@ -395,10 +391,10 @@ impl<V: Copy, A: Allocator> DoubleArrayAhoCorasick<V, A> {
         haystack: P,
     ) -> FindIterator<'a, P, V>
         requires { kind_of self.now ≡ Standard }
-        ensures { BeginsFromAsRead (states_of self.entry.now) haystack
+        ensures { BeginsFrom (states_of self.entry.now) haystack
             (option_to_list (standard_after byte_width (dictionary_of self.entry.now) [])) self.entry.now.folds result }
     {
-        MatchesFromAsRead::new(
+        MatchesFrom::new(
             FindWalk::new(self.states.standard()),
             source::Bytes::new(haystack),
             self.folds,
@@ -431,11 +427,10 @@ impl<V: Copy, A: Allocator> DoubleArrayAhoCorasick<V, A> {
             (overlapping byte_width (dictionary_of self.entry.now) (as_read self.entry.now.folds haystack.entry.now)) result }
         ensures asks { BeginsAsking self.entry.now.filter result.filter }
     {
-        find_overlapping_as_read(
+        find_overlapping_in(
             self.states.standard(),
-            Bytes::new(haystack),
+            Bytes::new(haystack, self.folds),
             self.skipping(),
-            self.folds,
         )
     }
 
@@ -459,10 +454,10 @@ impl<V: Copy, A: Allocator> DoubleArrayAhoCorasick<V, A> {
         haystack: P,
     ) -> FindOverlappingIterator<'a, P, V>
         requires { kind_of self.now ≡ Standard }
-        ensures { BeginsFromAsRead (states_of self.entry.now) haystack
+        ensures { BeginsFrom (states_of self.entry.now) haystack
             (matches_after byte_width (dictionary_of self.entry.now) []) self.entry.now.folds result }
     {
-        MatchesFromAsRead::new(
+        MatchesFrom::new(
             OverlappingWalk::new(self.states.standard()),
             source::Bytes::new(haystack),
             self.folds,
@@ -495,11 +490,10 @@ impl<V: Copy, A: Allocator> DoubleArrayAhoCorasick<V, A> {
             (no_suffix byte_width (dictionary_of self.entry.now) (as_read self.entry.now.folds haystack.entry.now)) result }
         ensures asks { BeginsAsking self.entry.now.filter result.filter }
     {
-        find_overlapping_no_suffix_as_read(
+        find_overlapping_no_suffix_in(
             self.states.standard(),
-            Bytes::new(haystack),
+            Bytes::new(haystack, self.folds),
             self.skipping(),
-            self.folds,
         )
     }
 
@@ -523,10 +517,10 @@ impl<V: Copy, A: Allocator> DoubleArrayAhoCorasick<V, A> {
         haystack: P,
     ) -> FindOverlappingNoSuffixIterator<'a, P, V>
         requires { kind_of self.now ≡ Standard }
-        ensures { BeginsFromAsRead (states_of self.entry.now) haystack
+        ensures { BeginsFrom (states_of self.entry.now) haystack
             (take 1 (matches_after byte_width (dictionary_of self.entry.now) [])) self.entry.now.folds result }
     {
-        MatchesFromAsRead::new(
+        MatchesFrom::new(
             NoSuffixWalk::new(self.states.standard()),
             source::Bytes::new(haystack),
             self.folds,
@@ -560,11 +554,10 @@ impl<V: Copy, A: Allocator> DoubleArrayAhoCorasick<V, A> {
             (leftmost byte_width (dictionary_of self.entry.now) (as_read self.entry.now.folds haystack.entry.now)) result }
         ensures asks { BeginsAsking self.entry.now.filter result.filter }
     {
-        leftmost_as_read(
+        LeftmostMatches::with_filter(
             self.states.leftmost(),
-            Bytes::new(haystack),
+            Bytes::new(haystack, self.folds),
             self.skipping(),
-            self.folds,
         )
     }
 
@@ -582,7 +575,8 @@ impl<V: Copy, A: Allocator> DoubleArrayAhoCorasick<V, A> {
     #[tactic(auto, using(daachorse_bytewise_states::proofs::DeadLaws::alive))]
     pub fn find_stepper<'a>(&'a self) -> FindStepper<'a, V>
         requires { kind_of self.now ≡ Standard }
-        ensures { BeginsSteppingAsRead (states_of self.entry.now) self.entry.now.depths self.entry.now.folds result }
+        ensures { BeginsStepping (states_of self.entry.now) self.entry.now.depths self.entry.now.folds
+            (option_to_list (standard_after byte_width (dictionary_of self.entry.now) [])) result }
     {
         FindStepper::new(self.states.standard(), &self.depths, self.folds)
     }
@@ -601,7 +595,8 @@ impl<V: Copy, A: Allocator> DoubleArrayAhoCorasick<V, A> {
     #[tactic(auto, using(daachorse_bytewise_states::proofs::DeadLaws::alive))]
     pub fn find_overlapping_stepper<'a>(&'a self) -> FindOverlappingStepper<'a, V>
         requires { kind_of self.now ≡ Standard }
-        ensures { BeginsSteppingAsRead (states_of self.entry.now) self.entry.now.depths self.entry.now.folds result }
+        ensures { BeginsStepping (states_of self.entry.now) self.entry.now.depths self.entry.now.folds
+            (matches_after byte_width (dictionary_of self.entry.now) []) result }
     {
         FindOverlappingStepper::new(self.states.standard(), &self.depths, self.folds)
     }
@@ -623,6 +618,7 @@ impl<V: Copy, A: Allocator> DoubleArrayAhoCorasick<V, A> {
         ensures folds { result.folds ≡ self.entry.now.folds }
         ensures read { result.read ≡ units standing.walk.seen }
         ensures turns { result.turns ≡ standing.walk.turns }
+        ensures given { result.given ≡ length (standard byte_width (dictionary_of self.entry.now) (units standing.walk.seen)) }
     {
         FindStepper::resume(self.states.standard(), &self.depths, standing, self.folds)
     }
@@ -648,6 +644,7 @@ impl<V: Copy, A: Allocator> DoubleArrayAhoCorasick<V, A> {
         ensures folds { result.folds ≡ self.entry.now.folds }
         ensures read { result.read ≡ units standing.walk.seen }
         ensures turns { result.turns ≡ standing.walk.turns }
+        ensures given { result.given ≡ length (overlapping byte_width (dictionary_of self.entry.now) (units standing.walk.seen)) }
     {
         FindOverlappingStepper::resume(self.states.standard(), &self.depths, standing, self.folds)
     }

@@ -14,13 +14,11 @@ ghost use Rattle.std.specs.Str.{chars};
 ghost use Rattle.daachorse_core.specs.Refusals.{IsOutOfMemory};
 ghost use Rattle.daachorse_model.specs.declared.MatchKind.TheVariants.{Standard};
 ghost use Rattle.daachorse_model.specs.Units.{char_width};
-ghost use Rattle.daachorse_folding.specs.SourceSearches.{BeginsFromAsRead};
-ghost use Rattle.daachorse_folding.specs.Steppers.{BeginsSteppingAsRead};
 ghost use Rattle.daachorse_model.specs.Folding.{as_read};
 ghost use Rattle.daachorse_model.specs.Leftmost.{leftmost};
 ghost use Rattle.daachorse_model.specs.Matches.{matches_after, no_suffix, overlapping, standard, standard_after};
 ghost use Rattle.daachorse_model.specs.Prefixes.{HasPrefixes, IsListing};
-ghost use Rattle.daachorse_search.specs.Beginnings.{BeginsWith};
+ghost use Rattle.daachorse_search.specs.Beginnings.{BeginsFrom, BeginsStepping, BeginsWith};
 ghost use Rattle.daachorse_search.specs.Filters.{IsSoundFor};
 ghost use Rattle.daachorse_prefilter.specs.Places.{untested};
 ghost use Rattle.daachorse_skipping.specs.Asked.{BeginsAsking, lets_pass};
@@ -48,14 +46,13 @@ use crate::charwise::iter::{
 use crate::charwise::states::States;
 use daachorse_core::MatchKind;
 use daachorse_core::errors::Result;
-use daachorse_folding::leftmost::leftmost_as_read;
-use daachorse_folding::matches::{
-    find_as_read, find_overlapping_as_read, find_overlapping_no_suffix_as_read,
-};
-use daachorse_folding::matches_from::MatchesFromAsRead;
 use daachorse_prefilter::prefilter::{Prefilter, clone_filter};
-use daachorse_search::find::FindWalk;
-use daachorse_search::overlapping::{NoSuffixWalk, OverlappingWalk};
+use daachorse_search::find::{FindWalk, find_in};
+use daachorse_search::leftmost::LeftmostMatches;
+use daachorse_search::matches_from::MatchesFrom;
+use daachorse_search::overlapping::{
+    NoSuffixWalk, OverlappingWalk, find_overlapping_in, find_overlapping_no_suffix_in,
+};
 use daachorse_skipping::skipping::Skipping;
 use daachorse_text::decoding::Decoded;
 use daachorse_text::text::Text;
@@ -384,11 +381,10 @@ impl<V: Copy, A: Allocator> CharwiseDoubleArrayAhoCorasick<V, A> {
             (standard char_width (dictionary_of self.entry.now) (as_read self.entry.now.folds (chars haystack.entry.now))) result }
         ensures asks { BeginsAsking self.entry.now.filter result.filter }
     {
-        find_as_read(
+        find_in(
             self.states.standard(),
-            Text::new(haystack),
+            Text::new(haystack, self.folds),
             self.skipping(),
-            self.folds,
         )
     }
 
@@ -412,10 +408,10 @@ impl<V: Copy, A: Allocator> CharwiseDoubleArrayAhoCorasick<V, A> {
         haystack: P,
     ) -> FindIterator<'a, P, V>
         requires { kind_of self.now ≡ Standard }
-        ensures { BeginsFromAsRead (states_of self.entry.now) haystack
+        ensures { BeginsFrom (states_of self.entry.now) haystack
             (option_to_list (standard_after char_width (dictionary_of self.entry.now) [])) self.entry.now.folds result }
     {
-        MatchesFromAsRead::new(
+        MatchesFrom::new(
             FindWalk::new(self.states.standard()),
             Decoded::new(haystack),
             self.folds,
@@ -448,11 +444,10 @@ impl<V: Copy, A: Allocator> CharwiseDoubleArrayAhoCorasick<V, A> {
             (overlapping char_width (dictionary_of self.entry.now) (as_read self.entry.now.folds (chars haystack.entry.now))) result }
         ensures asks { BeginsAsking self.entry.now.filter result.filter }
     {
-        find_overlapping_as_read(
+        find_overlapping_in(
             self.states.standard(),
-            Text::new(haystack),
+            Text::new(haystack, self.folds),
             self.skipping(),
-            self.folds,
         )
     }
 
@@ -476,10 +471,10 @@ impl<V: Copy, A: Allocator> CharwiseDoubleArrayAhoCorasick<V, A> {
         haystack: P,
     ) -> FindOverlappingIterator<'a, P, V>
         requires { kind_of self.now ≡ Standard }
-        ensures { BeginsFromAsRead (states_of self.entry.now) haystack
+        ensures { BeginsFrom (states_of self.entry.now) haystack
             (matches_after char_width (dictionary_of self.entry.now) []) self.entry.now.folds result }
     {
-        MatchesFromAsRead::new(
+        MatchesFrom::new(
             OverlappingWalk::new(self.states.standard()),
             Decoded::new(haystack),
             self.folds,
@@ -512,11 +507,10 @@ impl<V: Copy, A: Allocator> CharwiseDoubleArrayAhoCorasick<V, A> {
             (no_suffix char_width (dictionary_of self.entry.now) (as_read self.entry.now.folds (chars haystack.entry.now))) result }
         ensures asks { BeginsAsking self.entry.now.filter result.filter }
     {
-        find_overlapping_no_suffix_as_read(
+        find_overlapping_no_suffix_in(
             self.states.standard(),
-            Text::new(haystack),
+            Text::new(haystack, self.folds),
             self.skipping(),
-            self.folds,
         )
     }
 
@@ -540,10 +534,10 @@ impl<V: Copy, A: Allocator> CharwiseDoubleArrayAhoCorasick<V, A> {
         haystack: P,
     ) -> FindOverlappingNoSuffixIterator<'a, P, V>
         requires { kind_of self.now ≡ Standard }
-        ensures { BeginsFromAsRead (states_of self.entry.now) haystack
+        ensures { BeginsFrom (states_of self.entry.now) haystack
             (take 1 (matches_after char_width (dictionary_of self.entry.now) [])) self.entry.now.folds result }
     {
-        MatchesFromAsRead::new(
+        MatchesFrom::new(
             NoSuffixWalk::new(self.states.standard()),
             Decoded::new(haystack),
             self.folds,
@@ -577,11 +571,10 @@ impl<V: Copy, A: Allocator> CharwiseDoubleArrayAhoCorasick<V, A> {
             (leftmost char_width (dictionary_of self.entry.now) (as_read self.entry.now.folds (chars haystack.entry.now))) result }
         ensures asks { BeginsAsking self.entry.now.filter result.filter }
     {
-        leftmost_as_read(
+        LeftmostMatches::with_filter(
             self.states.leftmost(),
-            Text::new(haystack),
+            Text::new(haystack, self.folds),
             self.skipping(),
-            self.folds,
         )
     }
 
@@ -599,7 +592,8 @@ impl<V: Copy, A: Allocator> CharwiseDoubleArrayAhoCorasick<V, A> {
     #[tactic(auto, using(daachorse_charwise_states::proofs::DeadLaws::alive))]
     pub fn find_stepper<'a>(&'a self) -> FindStepper<'a, V>
         requires { kind_of self.now ≡ Standard }
-        ensures { BeginsSteppingAsRead (states_of self.entry.now) self.entry.now.depths self.entry.now.folds result }
+        ensures { BeginsStepping (states_of self.entry.now) self.entry.now.depths self.entry.now.folds
+            (option_to_list (standard_after char_width (dictionary_of self.entry.now) [])) result }
     {
         FindStepper::new(self.states.standard(), &self.depths, self.folds)
     }
@@ -618,7 +612,8 @@ impl<V: Copy, A: Allocator> CharwiseDoubleArrayAhoCorasick<V, A> {
     #[tactic(auto, using(daachorse_charwise_states::proofs::DeadLaws::alive))]
     pub fn find_overlapping_stepper<'a>(&'a self) -> FindOverlappingStepper<'a, V>
         requires { kind_of self.now ≡ Standard }
-        ensures { BeginsSteppingAsRead (states_of self.entry.now) self.entry.now.depths self.entry.now.folds result }
+        ensures { BeginsStepping (states_of self.entry.now) self.entry.now.depths self.entry.now.folds
+            (matches_after char_width (dictionary_of self.entry.now) []) result }
     {
         FindOverlappingStepper::new(self.states.standard(), &self.depths, self.folds)
     }

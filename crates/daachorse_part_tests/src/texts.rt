@@ -1,7 +1,7 @@
 //! What no clause says of texts: that each call runs, and the characters of a few of them.
 
 use crate::expect;
-use daachorse_search::haystack::{Bytes, Reread};
+use daachorse_search::haystack::{Bytes, Haystack};
 use daachorse_text::decoding::CharWithEndOffsetIterator;
 use daachorse_text::text::Text;
 use std::alloc::{AllocError, Global};
@@ -9,7 +9,7 @@ use std::test::Fail;
 
 /// The characters of a string with their ends, by way of its bytes.
 fn characters_with_ends(alloc: Global, text: &str) -> Result<Vec<(usize, char)>, AllocError> {
-    CharWithEndOffsetIterator::new(Bytes::new(text.as_bytes())).collect(alloc)
+    CharWithEndOffsetIterator::new(Bytes::new(text.as_bytes(), false)).collect(alloc)
 }
 
 /// The first and the last character of each width and those beside the surrogates, with their ends.
@@ -36,7 +36,7 @@ fn characters_come_with_their_ends(rt: HostRuntime) -> Result<(), Fail> {
     let text = "\0\u{7f}\u{80}\u{7ff}\u{800}\u{d7ff}\u{e000}\u{ffff}\u{10000}\u{10ffff}";
     let pairs = characters_with_ends(rt.alloc(), text)?;
     expect(&rt, pairs.as_slice() == BOUNDS.as_slice(), "the pairs");
-    let mut later = Text::new(text);
+    let mut later = Text::new(text, false);
     for (end, character) in &BOUNDS {
         expect(&rt, later.next() == Some(*character), "the character");
         expect(&rt, later.left() == 26 - end, "what is left");

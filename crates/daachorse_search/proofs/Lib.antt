@@ -1,6 +1,8 @@
 pub mod LookLaws
 pub mod WalkLaws
 pub mod SourceLaws
+pub mod ReadingLaws
+pub mod Cuts
 pub mod SearchLaws
 pub mod OverlappingLaws
 pub mod FindLaws

@@ -1,5 +1,5 @@
 -- How a search begins: nothing was read, and no turn was taken.
-use Rattle.std.specs.Prelude.{◌≡◌, ℕ, List, [], length}
+use Rattle.std.specs.Prelude.{◌≡◌, ℕ, Bool, List, [], length}
 use Rattle.daachorse_model.specs.declared.Match.{Match}
 use Rattle.daachorse_search.specs.Matches.{Progress}
 use Rattle.daachorse_search.specs.Searches.{SourceProgress}
@@ -14,19 +14,21 @@ pub record BeginsWith {V A F : Type 0} (a : A) (units : List ℕ) (matches : Lis
   pub turns : s.turns ≡ 0
   pub given : s.given ≡ 0
 
--- in what a source gives: these matches end where nothing was read, and are still to come, and none was given
-pub record BeginsFrom {V A S : Type 0} (a : A) (from : S) (matches : List (Match V)) (s : SourceProgress V A S) : Type 0 where
+-- in what a source gives, each unit folded or as it is: these matches end where nothing was read, and are still to come, and none was given
+pub record BeginsFrom {V A S : Type 0} (a : A) (from : S) (matches : List (Match V)) (option : Bool) (s : SourceProgress V A S) : Type 0 where
   pub automaton : s.automaton ≡ a
   pub source : s.source ≡ from
+  pub folds : s.folds ≡ option
   pub pending : s.pending ≡ matches
   pub read : s.read ≡ []
   pub turns : s.turns ≡ 0
   pub given : s.given ≡ 0
 
--- in units that it is given one at a time, with these depths of the states: these matches end where nothing was read, and they were given
-pub record BeginsStepping {V A : Type 0} (a : A) (table : List ℕ) (matches : List (Match V)) (s : Stepped A) : Type 0 where
+-- in units that it is given one at a time, each folded or as it is, with these depths of the states: these matches end where nothing was read, and they were given
+pub record BeginsStepping {V A : Type 0} (a : A) (table : List ℕ) (option : Bool) (matches : List (Match V)) (s : Stepped A) : Type 0 where
   pub automaton : s.automaton ≡ a
   pub depths : s.depths ≡ table
+  pub folds : s.folds ≡ option
   pub read : s.read ≡ []
   pub turns : s.turns ≡ 0
   pub given : s.given ≡ length matches

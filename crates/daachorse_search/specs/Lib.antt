@@ -3,7 +3,7 @@ pub mod Walks
 pub mod Nothing
 pub mod Sources
 pub mod ByteSources
-pub mod FoldedSources
+pub mod Readings
 pub mod Stepwise
 pub mod Searches
 pub mod Finds

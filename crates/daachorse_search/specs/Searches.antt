@@ -1,17 +1,19 @@
 -- A search over a source of units, for what `found` gives of each beginning of what was read: all matches that end there, the first of them, or the standard search's.
-use Rattle.std.specs.Prelude.{◌≡◌, ℕ, ◌+◌, ◌≤◌, List, [], ◌∷◌, ◌++◌, map, length, take, Option, Some, None}
+use Rattle.std.specs.Prelude.{◌≡◌, ℕ, Bool, ◌+◌, ◌≤◌, List, [], ◌∷◌, ◌++◌, map, length, take, Option, Some, None}
 use Rattle.std.specs.Iterator.{Count, Yields, YieldsThen, items_left}
 use Rattle.daachorse_model.specs.declared.Match.{Match}
 use Rattle.daachorse_model.specs.Units.{size}
 use Rattle.daachorse_model.specs.Matches.{matches_after, standard_after}
 use Rattle.std.specs.Option.{option_to_list}
+use Rattle.daachorse_search.specs.Readings.{unit_as_read}
 use Rattle.daachorse_search.specs.Sources.{past_each_end}
 use Rattle.daachorse_search.specs.Views.{AutomatonView}
 
--- what callers see of a search with an automaton A over a source S: the units that were read, the matches that end with them and are still to come, the turns taken, and the number of matches given
+-- what callers see of a search with an automaton A over a source S: whether units are folded, the units as they were read, the matches that end with them and are still to come, the turns taken, and the number of matches given
 pub record SourceProgress (V A S : Type 0) : Type 0 where
   pub automaton : A
   pub source : S
+  pub folds : Bool
   pub read : List ℕ
   pub pending : List (Match V)
   pub turns : ℕ
@@ -50,7 +52,13 @@ module _ {V A S U : Type 0} (found : A → List ℕ → List (Match V)) (steps :
     pub none : t.pending ≡ []
     pub counted : t.given ≡ s.given
 
-  -- what a call gives
-  abbrev pub GivesFrom : SourceProgress V A S → Option (Match V) → SourceProgress V A S → Type 0
-  GivesFrom s (Some m) t = (xs : List U) × Gave s xs m t
-  GivesFrom s None t = (xs : List U) × Ended s xs t
+  -- what a call gives, where each item is read as its unit
+  abbrev pub GivesNext : SourceProgress V A S → Option (Match V) → SourceProgress V A S → Type 0
+  GivesNext s (Some m) t = (xs : List U) × Gave s xs m t
+  GivesNext s None t = (xs : List U) × Ended s xs t
+
+module _ {V A S U : Type 0} (found : A → List ℕ → List (Match V)) (steps : S → Option U → S → Type 0) (left : S → Count) (unit : U → ℕ) (width : ℕ → ℕ) where
+  -- What a call gives. What it took of the source are the items that the source gave, and each was read as it is, or folded.
+  pub record GivesFrom (s : SourceProgress V A S) (r : Option (Match V)) (t : SourceProgress V A S) : Type 0 where
+    pub folds : t.folds ≡ s.folds
+    pub gives : GivesNext found steps left (unit_as_read s.folds unit) width s r t

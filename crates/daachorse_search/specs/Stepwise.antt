@@ -12,10 +12,11 @@ use Rattle.daachorse_search.specs.Views.{AutomatonView}
 abbrev pub StandsAt : (ℕ → ℕ) → List ℕ → ℕ → Type 0
 StandsAt width read place = place ≡ size width read
 
--- what callers see of a stepper: the automaton, the depths of its states if they are kept, the units consumed, the turns taken, and the number of matches given: those that end where it stood, at its beginning and after each unit
+-- what callers see of a stepper: the automaton, the depths of its states if they are kept, whether units are folded, the units consumed as they were read, the turns taken, and the number of matches given: those that end where it stood, at its beginning and after each unit
 pub record Stepped (A : Type 0) : Type 0 where
   pub automaton : A
   pub depths : List ℕ
+  pub folds : Bool
   pub read : List ℕ
   pub turns : ℕ
   pub given : ℕ

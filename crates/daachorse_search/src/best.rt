@@ -11,7 +11,7 @@ ghost use Rattle.daachorse_search.specs.BestScans.{IsBestScan, IsScanning, IsThe
 ghost use Rattle.daachorse_search.specs.Views.{IsLeftmostView};
 
 use crate::automaton::Automaton;
-use crate::haystack::Reread;
+use crate::haystack::Haystack;
 use crate::walk::step;
 use daachorse_core::edge_label::EdgeLabel;
 use daachorse_core::turns::Turns;
@@ -48,7 +48,7 @@ struct Mark<H> {
 /// The match with the least start of all in the haystack, and of those the longest. A scan that
 /// may stop does so at the root, where no match is pending. `FOLDED` is that of the search that it is compiled for.
 #[inline(always)]
-pub fn scan_best<V: Copy, A: Automaton<V>, H: Reread<A::Unit>, const FOLDED: bool>(
+pub fn scan_best<V: Copy, A: Automaton<V>, H: Haystack<A::Unit>, const FOLDED: bool>(
     automaton: &A,
     haystack: &H,
     may_stop: bool,
@@ -71,29 +71,7 @@ pub fn scan_best<V: Copy, A: Automaton<V>, H: Reread<A::Unit>, const FOLDED: boo
 /// Reads on from the root while nothing occurs, and answers the position of the first output of the
 /// match that ends first; `None` where the haystack ends, or at the root where the scan may stop.
 #[inline(always)]
-fn scan_to_match<V: Copy, A: Automaton<V>, H: Reread<A::Unit>, const FOLDED: bool>(
-    automaton: &A,
-    source: &mut H,
-    state: &mut u32,
-    may_stop: bool,
-    turns: &mut Turns,
-) -> Option<NonZeroU32>
-    requires kind { IsLeftmostView (A.sees automaton.now) }
-    requires reached { (A.sees automaton.now).reached state.old }
-    requires root { (A.sees automaton.now).text state.old ≡ [] }
-    ensures reached { (A.sees automaton.now).reached state.new }
-    ensures scans { ScansToMatch A.Unit.width (A.sees automaton.now) (H.rest source.old) (H.rest source.new) ((A.sees automaton.now).text state.new) may_stop result turns.old turns.new }
-{
-    // It is asked ahead of the loop, which is compiled for each answer and asks no more.
-    if may_stop {
-        return scan_units(automaton, source, state, may_stop, turns);
-    }
-    scan_units(automaton, source, state, may_stop, turns)
-}
-
-/// Does the work of [`scan_to_match`], one unit at a time.
-#[inline(always)]
-fn scan_units<V: Copy, A: Automaton<V>, H: Reread<A::Unit>>(
+fn scan_to_match<V: Copy, A: Automaton<V>, H: Haystack<A::Unit>, const FOLDED: bool>(
     automaton: &A,
     source: &mut H,
     state: &mut u32,
@@ -126,7 +104,7 @@ fn scan_units<V: Copy, A: Automaton<V>, H: Reread<A::Unit>>(
 
 /// Reads on from the end of a match, and answers the best of all that is still to come.
 #[inline(always)]
-fn scan_on<V: Copy, A: Automaton<V>, H: Reread<A::Unit>>(
+fn scan_on<V: Copy, A: Automaton<V>, H: Haystack<A::Unit>>(
     automaton: &A,
     haystack: &H,
     source: H,
@@ -165,7 +143,7 @@ fn scan_on<V: Copy, A: Automaton<V>, H: Reread<A::Unit>>(
 
 /// The match of a mark, with its end counted from the beginning of the haystack.
 #[inline(always)]
-fn found_at<U: EdgeLabel, H: Reread<U>>(mark: &Mark<H>, haystack: &H) -> Found
+fn found_at<U: EdgeLabel, H: Haystack<U>>(mark: &Mark<H>, haystack: &H) -> Found
     requires { size U.width (H.rest mark.now.behind) ≤ size U.width (H.rest haystack.now) }
     ensures position { result.position ≡ mark.now.position }
     ensures end { result.end + size U.width (H.rest mark.now.behind) ≡ size U.width (H.rest haystack.now) }

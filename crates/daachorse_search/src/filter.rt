@@ -4,14 +4,14 @@
 //! that passes, or to the end, and on it passing at the same places ever after. They ask it only
 //! where it said that it is worth asking.
 
-ghost use Rattle.std.specs.Prelude.{◌≡◌, ℕ, Bool, true, List, IsTrue};
+ghost use Rattle.std.specs.Prelude.{◌≡◌, ℕ, Bool, List, IsTrue};
 ghost use Rattle.daachorse_search.specs.Filters.{IsNextPassing};
 
-use crate::haystack::Reread;
+use crate::haystack::Haystack;
 use daachorse_core::edge_label::EdgeLabel;
 
 /// A filter of the places of a haystack.
-pub trait Filter<U: EdgeLabel, H: Reread<U>>: Drop {
+pub trait Filter<U: EdgeLabel, H: Haystack<U>>: Drop {
     /// Whether it passes where these units are all that is still to come.
     ghost passes: { Self → List ℕ → Bool };
 
@@ -31,24 +31,4 @@ pub trait Filter<U: EdgeLabel, H: Reread<U>>: Drop {
         requires { may_ask self.old }
         ensures passes { (w : List ℕ) → passes self.new w ≡ passes self.old w }
         ensures goes { IsNextPassing (passes self.old) (H.rest rest.old) (H.rest rest.new) };
-}
-
-/// The filter that passes everywhere, and is never worth asking.
-#[derive(Clone, Copy, Debug, PartialEq, Eq)]
-pub struct NoFilter;
-
-impl<U: EdgeLabel, H: Reread<U>> Filter<U, H> for NoFilter {
-    ghost passes = { λ s w. true };
-
-    ghost opened = { λ s. ⊥ };
-
-    ghost may_ask = { λ s. Unit {0} };
-
-    #[inline(always)]
-    fn is_open(&self) -> bool {
-        false
-    }
-
-    #[inline(always)]
-    fn skip(&mut self, _rest: &mut H) {}
 }

@@ -18,7 +18,7 @@ ghost use Rattle.daachorse_search.specs.Nothing.{HasPlace-none, first_from-none}
 
 use crate::automaton::Automaton;
 use crate::filter::Filter;
-use crate::haystack::Reread;
+use crate::haystack::Haystack;
 use crate::matches::Matches;
 use crate::stepwise::Stepwise;
 use crate::walk::{Standing, Walk};
@@ -223,7 +223,7 @@ impl<V: Copy, A: Automaton<V>> Clone for FindWalk<V, A> {
 
 /// The matches of the standard search in a haystack. It asks the filter at the root.
 #[inline(always)]
-pub fn find_in<V: Copy, A: Automaton<V>, H: Reread<A::Unit>, F: Filter<A::Unit, H>>(
+pub fn find_in<V: Copy, A: Automaton<V>, H: Haystack<A::Unit>, F: Filter<A::Unit, H>>(
     automaton: A,
     haystack: H,
     filter: F,

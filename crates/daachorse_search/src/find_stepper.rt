@@ -1,9 +1,11 @@
-//! The standard search, one unit at a time.
+//! The standard search, one unit at a time, with each unit read as it is or folded.
 //!
 //! The layers above may rely on a stepper telling the match of the standard search that ends with
-//! what was consumed, if there is one, on the depth of its state, and on the number of matches given.
+//! what was consumed as it was read, if there is one, on the depth of its state, and on the number of
+//! matches given.
 
 ghost use Rattle.std.specs.Prelude.{◌≡◌, ◌≢◌, ◌<◌, ◌^◌, ◌+◌, ℕ, List, [], ◌∷◌, ◌++◌, length, Some, None};
+ghost use Rattle.daachorse_model.specs.Folding.{as_read};
 ghost use Rattle.daachorse_model.specs.Matches.{standard, standard_after, IsSinceMatch};
 ghost use Rattle.daachorse_model.specs.Prefixes.{IsLong};
 ghost use Rattle.daachorse_model.specs.Units.{size};
@@ -15,15 +17,18 @@ ghost use Rattle.daachorse_search.specs.Views.{HasDepths, IsStandard};
 
 use crate::automaton::Automaton;
 use crate::find::FindWalk;
+use crate::step_unit::StepUnit;
 use crate::stepwise::Stepwise;
 use crate::walk::Standing;
 use daachorse_core::Match;
+use daachorse_core::ascii_fold::AsciiFold;
 use daachorse_core::edge_label::EdgeLabel;
 use std::alloc::AllocError;
 use std::marker::Model;
 use std::num::NonZeroU32;
 
-/// The search for matches that do not overlap, one unit at a time.
+/// The search for matches that do not overlap, one unit at a time, with or without regard to the case
+/// of ASCII letters.
 ///
 /// An automaton's `find_stepper` begins it. It borrows the automaton, and takes no memory. After each
 /// unit it tells what ends there, so that a caller can read from anywhere, and leave off anywhere.
@@ -36,6 +41,8 @@ pub struct FindStepper<'a, V: Copy, A: Automaton<V>> {
     place: usize,
     // By state the length of its text in units; empty if they are not kept.
     depths: &'a [u32],
+    // Whether each unit is folded.
+    folds: bool,
     // The output of the match that ends where the walk stands.
     found: Option<NonZeroU32>,
 }
@@ -83,6 +90,7 @@ impl<'a, V: Copy, A: Automaton<V>> Model for FindStepper<'a, V, A> {
     ghost view = { λ s. record {
       automaton = s.walk.automaton;
       depths = s.depths.now;
+      folds = s.folds;
       read = units s.walk.seen;
       turns = s.walk.turns;
       given = length (standard A.Unit.width (A.sees s.walk.automaton).content (units s.walk.seen));
@@ -93,14 +101,18 @@ impl<'a, V: Copy, A: Automaton<V>> Model for FindStepper<'a, V, A> {
         × HasDepths (A.sees s.walk.automaton) s.depths.now };
 }
 
-impl<'a, V: Copy, A: Automaton<V>> FindStepper<'a, V, A> {
+impl<'a, V: Copy, A: Automaton<V>> FindStepper<'a, V, A>
+where
+    A::Unit: StepUnit,
+{
     /// A stepper that has consumed nothing. The depths are those of the automaton's states, or none.
     #[inline(always)]
-    pub fn new(automaton: A, depths: &'a [u32]) -> Self
+    pub fn new(automaton: A, depths: &'a [u32], folds: bool) -> Self
         requires alive { IsStandard (A.sees automaton) }
         requires depths { HasDepths (A.sees automaton) depths.now }
         ensures automaton { result.automaton ≡ automaton }
         ensures depths { result.depths ≡ depths.entry.now }
+        ensures folds { result.folds ≡ folds }
         ensures read { result.read ≡ [] }
         ensures turns { result.turns ≡ 0 }
         ensures given { result.given ≡ length (standard_found A.Unit.width A.sees automaton []) }
@@ -111,6 +123,7 @@ impl<'a, V: Copy, A: Automaton<V>> FindStepper<'a, V, A> {
             walk,
             place: 0,
             depths,
+            folds,
             found,
         }
     }
@@ -124,6 +137,25 @@ impl<'a, V: Copy, A: Automaton<V>> FindStepper<'a, V, A> {
         requires { size A.Unit.width self.old.read + A.Unit.width (A.Unit.unit unit) < 2 ^ 64 }
         ensures automaton { self.new.automaton ≡ self.old.automaton }
         ensures depths { self.new.depths ≡ self.old.depths }
+        ensures folds { self.new.folds ≡ self.old.folds }
+        ensures read { self.new.read ≡ self.old.read ++ as_read self.old.folds (A.Unit.unit unit ∷ []) }
+        ensures given { self.new.given ≡ self.old.given + length (standard_found A.Unit.width A.sees self.new.automaton self.new.read) }
+    {
+        if unit.finds_apart() && self.folds {
+            self.advance(unit.folded());
+            return;
+        }
+        let read = if self.folds { unit.folded() } else { unit };
+        self.advance(read);
+    }
+
+    /// Consumes one unit as it is.
+    #[inline(always)]
+    fn advance(&mut self, unit: A::Unit)
+        requires { size A.Unit.width self.old.read + A.Unit.width (A.Unit.unit unit) < 2 ^ 64 }
+        ensures automaton { self.new.automaton ≡ self.old.automaton }
+        ensures depths { self.new.depths ≡ self.old.depths }
+        ensures folds { self.new.folds ≡ self.old.folds }
         ensures read { self.new.read ≡ self.old.read ++ A.Unit.unit unit ∷ [] }
         ensures given { self.new.given ≡ self.old.given + length (standard_found A.Unit.width A.sees self.new.automaton self.new.read) }
     {
@@ -173,6 +205,7 @@ impl<'a, V: Copy, A: Automaton<V>> FindStepper<'a, V, A> {
             walk,
             place,
             depths: _depths,
+            folds: _folds,
             found,
         } = self;
         let (walk, everywhere) = walk.into_standing();
@@ -185,13 +218,14 @@ impl<'a, V: Copy, A: Automaton<V>> FindStepper<'a, V, A> {
     }
 
     /// A stepper that goes on where one over the same automaton stood. The depths are those of the
-    /// automaton's states, or none.
+    /// automaton's states, or none. What was consumed before stays as it was read.
     #[inline(always)]
-    pub fn resume(automaton: A, depths: &'a [u32], standing: FindStanding) -> Self
+    pub fn resume(automaton: A, depths: &'a [u32], standing: FindStanding, folds: bool) -> Self
         requires stands { IsFindStanding A.Unit.width A.sees automaton standing }
         requires depths { HasDepths (A.sees automaton) depths.now }
         ensures automaton { result.automaton ≡ automaton }
         ensures depths { result.depths ≡ depths.entry.now }
+        ensures folds { result.folds ≡ folds }
         ensures read { result.read ≡ units standing.walk.seen }
         ensures turns { result.turns ≡ standing.walk.turns }
         ensures given { result.given ≡ length (standard A.Unit.width (A.sees automaton).content (units standing.walk.seen)) }
@@ -206,6 +240,7 @@ impl<'a, V: Copy, A: Automaton<V>> FindStepper<'a, V, A> {
             walk: FindWalk::resume(automaton, walk, everywhere),
             place,
             depths,
+            folds,
             found,
         }
     }
@@ -230,6 +265,7 @@ impl<'a, V: Copy, A: Automaton<V>> Clone for FindStepper<'a, V, A> {
             walk: self.walk.clone()?,
             place: self.place,
             depths: self.depths,
+            folds: self.folds,
             found: self.found,
         })
     }

@@ -1,26 +1,35 @@
 //! Haystacks that are known as a whole: sources whose state shows the units to come.
 //!
-//! The layers above may rely on a haystack giving just the units that it shows, in order, and on its
-//! count of the bytes that they take.
+//! A haystack is read as it is or folded, and shows its units as they are read. The layers above may
+//! rely on it giving just the units that it shows, in order, and on its count of the bytes that they
+//! take.
 
 ghost use Rattle.std.specs.Prelude.{◌≡◌, ◌<◌, ◌^◌, ◌++◌, ℕ, List, Option, length};
 ghost use Rattle.std.specs.Iterator.{IsFinite, YieldsFirstBy};
+ghost use Rattle.daachorse_model.specs.Folding.{as_read};
 ghost use Rattle.daachorse_model.specs.Units.{size, byte_width};
 
+use daachorse_core::ascii_fold::AsciiFold;
 use daachorse_core::edge_label::EdgeLabel;
 use std::marker::Model;
 
-/// A source of units that is known as a whole.
-pub trait Haystack<U: EdgeLabel>: Iterator<Item = U> {
-    /// The units that are still to come.
+/// A source of units that is known as a whole, and can be read again from any of its places on.
+pub trait Haystack<U: EdgeLabel>: Iterator<Item = U> + Drop {
+    /// The units that are still to come, as they are read.
     ghost rest: { Self → List ℕ };
 
     /// Whether each unit is folded. It is for speed alone: whoever reads on may ask once, ahead of a loop,
     /// and no clause rests on the answer.
-    #[inline(always)]
-    fn is_folded(&self) -> bool {
-        false
-    }
+    fn is_folded(&self) -> bool;
+
+    /// The haystack without its first `bytes` bytes, which are whole units.
+    fn after(&self, bytes: usize) -> Self
+        requires { (front : List ℕ) × (back : List ℕ) × (Self.rest self.now ≡ front ++ back) × (bytes ≡ size U.width front) }
+        ensures { (front back : List ℕ) → Self.rest self.now ≡ front ++ back → bytes ≡ size U.width front → Self.rest result ≡ back };
+
+    /// How many bytes are still to come.
+    fn left(&self) -> usize
+        ensures { result ≡ size U.width (Self.rest self.now) };
 
     // It gives the units that it shows, may be called at any time, and ends.
     ghost gives: { (s : Self) (r : Option U) (t : Self) → Self.next_gives s r t → YieldsFirstBy U.unit rest s r t };
@@ -30,56 +39,48 @@ pub trait Haystack<U: EdgeLabel>: Iterator<Item = U> {
     ghost ends: { (s : Self) → IsFinite (Self.remaining s) };
 }
 
-/// A haystack that can be read again from any of its places on.
-pub trait Reread<U: EdgeLabel>: Haystack<U> + Drop {
-    /// The haystack without its first `bytes` bytes, which are whole units.
-    fn after(&self, bytes: usize) -> Self
-        requires { (front : List ℕ) × (back : List ℕ) × (Self.rest self.now ≡ front ++ back) × (bytes ≡ size U.width front) }
-        ensures { (front back : List ℕ) → Self.rest self.now ≡ front ++ back → bytes ≡ size U.width front → Self.rest result ≡ back };
-
-    /// How many bytes are still to come.
-    fn left(&self) -> usize
-        ensures { result ≡ size U.width (Self.rest self.now) };
-}
-
-/// The bytes of a slice.
+/// The bytes of a slice, each read as it is or folded.
 #[derive(Drop)]
 pub struct Bytes<'a> {
     bytes: &'a [u8],
     // How many of them were given.
     given: usize,
+    // Whether each byte is folded.
+    folds: bool,
 }
 
 impl<'a> Model for Bytes<'a> {
     ghost use Rattle.std.specs.Prelude.{List, ℕ, ◌≤◌, drop, length};
+    ghost use Rattle.daachorse_model.specs.Folding.{as_read};
 
     ghost Value = { List ℕ };
 
-    ghost view = { λ s. drop s.given s.bytes.now };
+    ghost view = { λ s. as_read s.folds (drop s.given s.bytes.now) };
 
     ghost invariant = { λ s. s.given ≤ length s.bytes.now };
 }
 
 impl<'a> Bytes<'a> {
-    /// All bytes of the slice.
+    /// All bytes of the slice, each folded where `folds` says so.
     #[inline(always)]
-    pub fn new(haystack: &'a [u8]) -> Self
-        ensures bytes { result ≡ haystack.now }
-        ensures fits { size byte_width haystack.now < 2 ^ 64 }
+    pub fn new(haystack: &'a [u8], folds: bool) -> Self
+        ensures bytes { result ≡ as_read folds haystack.now }
+        ensures fits { size byte_width result < 2 ^ 64 }
     {
         let _len = haystack.len();
         Bytes {
             bytes: haystack,
             given: 0,
+            folds,
         }
     }
 
-    /// The bytes that are still to come.
+    /// The bytes that are still to come, as they are, and whether each is folded.
     #[inline(always)]
-    pub fn bytes(&self) -> &'a [u8]
-        ensures { result.now ≡ self.now }
+    pub fn unread(&self) -> (&'a [u8], bool)
+        ensures { as_read result.1 result.0.now ≡ self.now }
     {
-        &self.bytes[self.given..]
+        (&self.bytes[self.given..], self.folds)
     }
 }
 
@@ -99,6 +100,9 @@ impl<'a> Iterator for Bytes<'a> {
         }
         let byte = self.bytes[self.given];
         self.given += 1;
+        if self.folds {
+            return Some(byte.folded());
+        }
         Some(byte)
     }
 }
@@ -106,19 +110,17 @@ impl<'a> Iterator for Bytes<'a> {
 impl<'a> Haystack<u8> for Bytes<'a> {
     ghost rest = { λ s. s };
 
-    ghost gives = { λ s r t h. h };
+    #[inline(always)]
+    fn is_folded(&self) -> bool {
+        self.folds
+    }
 
-    ghost callable = { λ s. tt };
-
-    ghost ends = { λ s. tt };
-}
-
-impl<'a> Reread<u8> for Bytes<'a> {
     #[inline(always)]
     fn after(&self, bytes: usize) -> Self {
         Bytes {
             bytes: self.bytes,
             given: self.given + bytes,
+            folds: self.folds,
         }
     }
 
@@ -126,4 +128,10 @@ impl<'a> Reread<u8> for Bytes<'a> {
     fn left(&self) -> usize {
         self.bytes.len() - self.given
     }
+
+    ghost gives = { λ s r t h. h };
+
+    ghost callable = { λ s. tt };
+
+    ghost ends = { λ s. tt };
 }

@@ -20,8 +20,8 @@ ghost use Rattle.daachorse_search.specs.Views.{IsLeftmostView};
 
 use crate::automaton::Automaton;
 use crate::best::{Scanned, scan_best};
-use crate::filter::{Filter, NoFilter};
-use crate::haystack::Reread;
+use crate::filter::Filter;
+use crate::haystack::Haystack;
 use daachorse_core::Match;
 use daachorse_core::edge_label::EdgeLabel;
 use daachorse_core::turns::{Seen, Turns};
@@ -33,12 +33,7 @@ use std::snapshot::Snapshot;
 /// The leftmost search of an automaton is of this type. A call of `next` may read past the match
 /// that it gives, and the next one reads those units again; no call takes memory.
 #[derive(Drop)]
-pub struct LeftmostMatches<
-    V: Copy,
-    A: Automaton<V>,
-    H: Reread<A::Unit>,
-    F: Filter<A::Unit, H> = NoFilter,
-> {
+pub struct LeftmostMatches<V: Copy, A: Automaton<V>, H: Haystack<A::Unit>, F: Filter<A::Unit, H>> {
     automaton: A,
     filter: F,
     // The filter and the whole haystack as the search began, for contracts alone.
@@ -57,7 +52,7 @@ pub struct LeftmostMatches<
     of: PhantomData<V>,
 }
 
-impl<V: Copy, A: Automaton<V>, H: Reread<A::Unit>, F: Filter<A::Unit, H>> Model
+impl<V: Copy, A: Automaton<V>, H: Haystack<A::Unit>, F: Filter<A::Unit, H>> Model
     for LeftmostMatches<V, A, H, F> {
     ghost use Rattle.std.specs.Prelude.{◌≡◌, ℕ, List, []};
     ghost use Rattle.daachorse_search.specs.Matches.{Progress};
@@ -82,24 +77,7 @@ impl<V: Copy, A: Automaton<V>, H: Reread<A::Unit>, F: Filter<A::Unit, H>> Model
         × Spans A.Unit.width s.size (H.rest s.whole.value) };
 }
 
-impl<V: Copy, A: Automaton<V>, H: Reread<A::Unit>> LeftmostMatches<V, A, H, NoFilter> {
-    /// A search from the beginning of the haystack.
-    #[inline(always)]
-    pub fn new(automaton: A, haystack: H) -> Self
-        requires kind { IsLeftmostView (A.sees automaton) }
-        requires fits { size A.Unit.width (H.rest haystack) < 2 ^ 64 }
-        ensures automaton { result.automaton ≡ automaton }
-        ensures haystack { result.haystack ≡ H.rest haystack }
-        ensures left { result.left ≡ leftmost A.Unit.width (A.sees automaton).content (H.rest haystack) }
-        ensures passed { result.passed ≡ [] }
-        ensures turns { result.turns ≡ 0 }
-        ensures given { result.given ≡ 0 }
-    {
-        Self::with_filter(automaton, haystack, NoFilter)
-    }
-}
-
-impl<V: Copy, A: Automaton<V>, H: Reread<A::Unit>, F: Filter<A::Unit, H>> LeftmostMatches<
+impl<V: Copy, A: Automaton<V>, H: Haystack<A::Unit>, F: Filter<A::Unit, H>> LeftmostMatches<
     V,
     A,
     H,
@@ -194,7 +172,7 @@ impl<V: Copy, A: Automaton<V>, H: Reread<A::Unit>, F: Filter<A::Unit, H>> Leftmo
     }
 }
 
-impl<V: Copy, A: Automaton<V>, H: Reread<A::Unit>, F: Filter<A::Unit, H>> Iterator
+impl<V: Copy, A: Automaton<V>, H: Haystack<A::Unit>, F: Filter<A::Unit, H>> Iterator
     for LeftmostMatches<V, A, H, F> {
     ghost use Rattle.std.specs.Iterator.{item_count};
 
@@ -216,7 +194,7 @@ impl<V: Copy, A: Automaton<V>, H: Reread<A::Unit>, F: Filter<A::Unit, H>> Iterat
 
 /// Moves on to the first place that passes, if the filter is open, and answers whether it is.
 #[inline(always)]
-fn skip_places<U: EdgeLabel, H: Reread<U>, F: Filter<U, H>>(filter: &mut F, rest: &mut H) -> bool
+fn skip_places<U: EdgeLabel, H: Haystack<U>, F: Filter<U, H>>(filter: &mut F, rest: &mut H) -> bool
     ensures passes { (w : List ℕ) → F.passes filter.new w ≡ F.passes filter.old w }
     ensures skipped { IsSkipped (F.passes filter.old) (F.opened filter.old) (H.rest rest.old) (H.rest rest.new) }
 {
@@ -229,7 +207,7 @@ fn skip_places<U: EdgeLabel, H: Reread<U>, F: Filter<U, H>>(filter: &mut F, rest
 
 /// Takes one unit off the haystack, and answers whether there was none.
 #[inline(always)]
-fn skip_unit<U: EdgeLabel, H: Reread<U>>(rest: &mut H) -> bool
+fn skip_unit<U: EdgeLabel, H: Haystack<U>>(rest: &mut H) -> bool
     ensures { SkipsUnit (H.rest rest.old) (H.rest rest.new) result }
 {
     rest.next().is_none()

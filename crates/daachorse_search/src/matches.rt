@@ -15,8 +15,8 @@ ghost use Rattle.daachorse_search.specs.Filters.{IsSoundFor, PassesNowhere, coun
 ghost use Rattle.daachorse_search.specs.Matches.{AreBoundedBehind, ReadsOn};
 ghost use Rattle.daachorse_search.specs.Skipping.{next_position, ComesTo, HasNoPlace, SkipsTo};
 
-use crate::filter::{Filter, NoFilter};
-use crate::haystack::{Haystack, Reread};
+use crate::filter::Filter;
+use crate::haystack::Haystack;
 use crate::stepwise::Stepwise;
 use daachorse_core::Match;
 use daachorse_core::turns::{Seen, Turns};
@@ -29,7 +29,7 @@ use std::snapshot::Snapshot;
 /// The searches of an automaton in a slice or a text are of this type. Each call of `next` reads on
 /// to the next match, and no call takes memory.
 #[derive(Drop)]
-pub struct Matches<V: Copy, W: Stepwise<V>, H: Reread<W::Unit>, F: Filter<W::Unit, H> = NoFilter> {
+pub struct Matches<V: Copy, W: Stepwise<V>, H: Haystack<W::Unit>, F: Filter<W::Unit, H>> {
     walk: W,
     filter: F,
     // The filter and the whole haystack as the search began, for contracts alone.
@@ -55,7 +55,7 @@ pub struct Matches<V: Copy, W: Stepwise<V>, H: Reread<W::Unit>, F: Filter<W::Uni
     of: PhantomData<V>,
 }
 
-impl<V: Copy, W: Stepwise<V>, H: Reread<W::Unit>, F: Filter<W::Unit, H>> Model
+impl<V: Copy, W: Stepwise<V>, H: Haystack<W::Unit>, F: Filter<W::Unit, H>> Model
     for Matches<V, W, H, F> {
     ghost use Rattle.std.specs.Prelude.{◌≡◌, ◌+◌, ◌++◌, ℕ, List, IfSome, None};
     ghost use Rattle.daachorse_search.specs.LeftmostSearches.{before_rest};
@@ -81,24 +81,7 @@ impl<V: Copy, W: Stepwise<V>, H: Reread<W::Unit>, F: Filter<W::Unit, H>> Model
         × IfSome s.first (λ _. W.everywhere s.walk × (s.output ≡ None)) };
 }
 
-impl<V: Copy, W: Stepwise<V>, H: Reread<W::Unit>> Matches<V, W, H, NoFilter> {
-    /// A search from the beginning of the haystack.
-    #[inline(always)]
-    pub fn new(walk: W, haystack: H) -> Self
-        requires begins { W.read walk ≡ [] }
-        requires fits { size W.Unit.width (H.rest haystack) < 2 ^ 64 }
-        ensures automaton { result.automaton ≡ W.automaton walk }
-        ensures haystack { result.haystack ≡ H.rest haystack }
-        ensures left { result.left ≡ at_each_end (W.found (W.automaton walk)) [] (H.rest haystack) }
-        ensures passed { result.passed ≡ [] }
-        ensures turns { result.turns ≡ W.turns walk }
-        ensures given { result.given ≡ 0 }
-    {
-        Self::with_filter(walk, haystack, NoFilter)
-    }
-}
-
-impl<V: Copy, W: Stepwise<V>, H: Reread<W::Unit>, F: Filter<W::Unit, H>> Matches<V, W, H, F> {
+impl<V: Copy, W: Stepwise<V>, H: Haystack<W::Unit>, F: Filter<W::Unit, H>> Matches<V, W, H, F> {
     /// A search from the beginning of the haystack, which asks a filter at the root.
     #[inline(always)]
     pub fn with_filter(walk: W, haystack: H, filter: F) -> Self
@@ -155,7 +138,7 @@ impl<V: Copy, W: Stepwise<V>, H: Reread<W::Unit>, F: Filter<W::Unit, H>> Matches
     }
 }
 
-impl<V: Copy, W: Stepwise<V>, H: Reread<W::Unit>, F: Filter<W::Unit, H>> Iterator
+impl<V: Copy, W: Stepwise<V>, H: Haystack<W::Unit>, F: Filter<W::Unit, H>> Iterator
     for Matches<V, W, H, F> {
     ghost use Rattle.std.specs.Iterator.{item_count};
     ghost use Rattle.daachorse_search.specs.Matches.{GivesFirst, StandsAtEnd};
@@ -206,7 +189,7 @@ fn place_first<V: Copy, W: Stepwise<V>>(walk: &W) -> (Option<NonZeroU32>, Option
 /// reading on. It answers its position; `None` where the haystack ends first.
 // Neither this function nor the next is marked to be compiled into its caller, as the others here are. Both are, but
 // with the mark they make `next` so large that the mark of that is dropped.
-fn go_on<V: Copy, W: Stepwise<V>, H: Reread<W::Unit>, F: Filter<W::Unit, H>>(
+fn go_on<V: Copy, W: Stepwise<V>, H: Haystack<W::Unit>, F: Filter<W::Unit, H>>(
     walk: &mut W,
     taken: &mut Turns,
     rest: &mut H,
@@ -237,7 +220,7 @@ fn go_on<V: Copy, W: Stepwise<V>, H: Reread<W::Unit>, F: Filter<W::Unit, H>>(
 /// Reads on until there is something to give, past what a filter that is open passes over, and
 /// answers the position of the first output; `None` where the haystack ends first. The filter is asked at
 /// the root, until it closes.
-fn read_past<V: Copy, W: Stepwise<V>, H: Reread<W::Unit>, F: Filter<W::Unit, H>>(
+fn read_past<V: Copy, W: Stepwise<V>, H: Haystack<W::Unit>, F: Filter<W::Unit, H>>(
     walk: &mut W,
     taken: &mut Turns,
     rest: &mut H,
@@ -268,7 +251,7 @@ fn read_past<V: Copy, W: Stepwise<V>, H: Reread<W::Unit>, F: Filter<W::Unit, H>>
 /// Where the walk stands at the root, moves on to the first place that passes, or to the end, and
 /// begins again there.
 #[inline(always)]
-fn skip_at_root<V: Copy, W: Stepwise<V>, H: Reread<W::Unit>, F: Filter<W::Unit, H>>(
+fn skip_at_root<V: Copy, W: Stepwise<V>, H: Haystack<W::Unit>, F: Filter<W::Unit, H>>(
     walk: &mut W,
     taken: &mut Turns,
     rest: &mut H,

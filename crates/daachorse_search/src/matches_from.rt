@@ -1,4 +1,5 @@
-//! A search over a source, with what its source needs as its only condition.
+//! A search over a source, whose units are read as they are or folded, with what its source needs as its
+//! only condition.
 //!
 //! The layers above may rely on a search yielding, for each prefix of what its source gives, all the
 //! matches that it finds at that prefix's end, each of them before it takes a unit past the match's
@@ -10,6 +11,7 @@ use crate::search::Search;
 use crate::source::Source;
 use crate::stepwise::Stepwise;
 use daachorse_core::Match;
+use daachorse_core::ascii_fold::AsciiFold;
 use std::marker::Model;
 
 /// What a search that goes one unit at a time finds in what a source gives, in order.
@@ -17,11 +19,17 @@ use std::marker::Model;
 /// The searches of an automaton in a source are of this type. Each call of `next` takes units up to
 /// the end of the next match and none behind it, and no call takes memory.
 #[derive(Drop)]
-pub struct MatchesFrom<V: Copy, W: Stepwise<V>, S: Source<W::Unit>> {
+pub struct MatchesFrom<V: Copy, W: Stepwise<V>, S: Source<W::Unit>>
+where
+    W::Unit: AsciiFold,
+{
     search: Search<V, W, S>,
 }
 
-impl<V: Copy, W: Stepwise<V>, S: Source<W::Unit>> Model for MatchesFrom<V, W, S> {
+impl<V: Copy, W: Stepwise<V>, S: Source<W::Unit>> Model for MatchesFrom<V, W, S>
+where
+    W::Unit: AsciiFold,
+{
     ghost use Rattle.daachorse_search.specs.Searches.{SourceProgress};
 
     ghost Value = { SourceProgress V W.Automaton S };
@@ -29,13 +37,17 @@ impl<V: Copy, W: Stepwise<V>, S: Source<W::Unit>> Model for MatchesFrom<V, W, S>
     ghost view = { λ s. s.search };
 }
 
-impl<V: Copy, W: Stepwise<V>, S: Source<W::Unit>> MatchesFrom<V, W, S> {
-    /// A search that has read nothing.
+impl<V: Copy, W: Stepwise<V>, S: Source<W::Unit>> MatchesFrom<V, W, S>
+where
+    W::Unit: AsciiFold,
+{
+    /// A search that has read nothing. It folds each unit where `folds` says so.
     #[inline(always)]
-    pub fn new(walk: W, source: S) -> Self
+    pub fn new(walk: W, source: S, folds: bool) -> Self
         requires { W.read walk ≡ [] }
         ensures automaton { result.automaton ≡ W.automaton walk }
         ensures source { result.source ≡ source }
+        ensures folds { result.folds ≡ folds }
         ensures read { result.read ≡ [] }
         ensures pending { result.pending ≡ W.found (W.automaton walk) [] }
         ensures turns { result.turns ≡ W.turns walk }
@@ -43,7 +55,7 @@ impl<V: Copy, W: Stepwise<V>, S: Source<W::Unit>> MatchesFrom<V, W, S> {
         ensures most { result.most ≡ W.most_found (W.automaton walk) }
     {
         Self {
-            search: Search::new(walk, source),
+            search: Search::new(walk, source, folds),
         }
     }
 
@@ -56,13 +68,17 @@ impl<V: Copy, W: Stepwise<V>, S: Source<W::Unit>> MatchesFrom<V, W, S> {
     }
 }
 
-impl<V: Copy, W: Stepwise<V>, S: Source<W::Unit>> Iterator for MatchesFrom<V, W, S> {
+impl<V: Copy, W: Stepwise<V>, S: Source<W::Unit>> Iterator for MatchesFrom<V, W, S>
+where
+    W::Unit: AsciiFold,
+{
     ghost use Rattle.std.specs.Iterator.{count_map};
+    ghost use Rattle.daachorse_search.specs.Readings.{MayReadAsRead};
     ghost use Rattle.daachorse_search.specs.Searches.{GivesFrom};
 
     type Item = Match<V>;
 
-    ghost can_next = { λ s. S.may_read s.source s.read };
+    ghost can_next = { λ s. MayReadAsRead S.may_read s.folds s.source s.read };
 
     ghost next_gives = { GivesFrom W.found S.next_gives S.remaining W.Unit.unit W.Unit.width };
 

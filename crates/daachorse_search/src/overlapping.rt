@@ -16,7 +16,7 @@ ghost use Rattle.daachorse_search.specs.Nothing.{HasPlace-none, matches_from-non
 
 use crate::automaton::Automaton;
 use crate::filter::Filter;
-use crate::haystack::Reread;
+use crate::haystack::Haystack;
 use crate::matches::Matches;
 use crate::stepwise::Stepwise;
 use crate::walk::{Standing, Walk};
@@ -320,7 +320,7 @@ impl<V: Copy, A: Automaton<V>> Stepwise<V> for NoSuffixWalk<V, A> {
 
 /// All matches in a haystack, also those that overlap. The search asks the filter at the root.
 #[inline(always)]
-pub fn find_overlapping_in<V: Copy, A: Automaton<V>, H: Reread<A::Unit>, F: Filter<A::Unit, H>>(
+pub fn find_overlapping_in<V: Copy, A: Automaton<V>, H: Haystack<A::Unit>, F: Filter<A::Unit, H>>(
     automaton: A,
     haystack: H,
     filter: F,
@@ -344,7 +344,7 @@ pub fn find_overlapping_in<V: Copy, A: Automaton<V>, H: Reread<A::Unit>, F: Filt
 pub fn find_overlapping_no_suffix_in<
     V: Copy,
     A: Automaton<V>,
-    H: Reread<A::Unit>,
+    H: Haystack<A::Unit>,
     F: Filter<A::Unit, H>,
 >(automaton: A, haystack: H, filter: F) -> Matches<V, NoSuffixWalk<V, A>, H, F>
     requires alive { IsStandard (A.sees automaton) }

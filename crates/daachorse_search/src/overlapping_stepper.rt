@@ -1,9 +1,10 @@
-//! The search for all matches, one unit at a time.
+//! The search for all matches, one unit at a time, with each unit read as it is or folded.
 //!
-//! The layers above may rely on a stepper telling all matches that end with what was consumed, on the
-//! depth of its state, and on the number of matches given.
+//! The layers above may rely on a stepper telling all matches that end with what was consumed as it
+//! was read, on the depth of its state, and on the number of matches given.
 
 ghost use Rattle.std.specs.Prelude.{◌≡◌, ◌≢◌, ◌<◌, ◌^◌, ◌+◌, ℕ, List, [], ◌∷◌, ◌++◌, length, Some, None};
+ghost use Rattle.daachorse_model.specs.Folding.{as_read};
 ghost use Rattle.daachorse_model.specs.Matches.{matches_after, overlapping};
 ghost use Rattle.daachorse_model.specs.Prefixes.{IsLong};
 ghost use Rattle.daachorse_model.specs.Units.{size};
@@ -16,14 +17,17 @@ ghost use Rattle.daachorse_search.specs.Views.{HasDepths, IsStandard};
 use crate::automaton::Automaton;
 use crate::ending_here::EndingHere;
 use crate::overlapping::OverlappingWalk;
+use crate::step_unit::StepUnit;
 use crate::stepwise::Stepwise;
 use crate::walk::Standing;
+use daachorse_core::ascii_fold::AsciiFold;
 use daachorse_core::edge_label::EdgeLabel;
 use std::alloc::AllocError;
 use std::marker::Model;
 use std::num::NonZeroU32;
 
-/// The search for all matches, one unit at a time.
+/// The search for all matches, one unit at a time, with or without regard to the case of ASCII
+/// letters.
 ///
 /// An automaton's `find_overlapping_stepper` begins it. It borrows the automaton, and takes no
 /// memory. After each unit it tells what ends there, so that a caller can read from anywhere, and
@@ -35,6 +39,8 @@ pub struct FindOverlappingStepper<'a, V: Copy, A: Automaton<V>> {
     place: usize,
     // By state the length of its text in units; empty if they are not kept.
     depths: &'a [u32],
+    // Whether each unit is folded.
+    folds: bool,
     // The first output of the matches that end where the walk stands.
     found: Option<NonZeroU32>,
 }
@@ -80,6 +86,7 @@ impl<'a, V: Copy, A: Automaton<V>> Model for FindOverlappingStepper<'a, V, A> {
     ghost view = { λ s. record {
       automaton = s.walk.automaton;
       depths = s.depths.now;
+      folds = s.folds;
       read = units s.walk.seen;
       turns = s.walk.turns;
       given = length (overlapping A.Unit.width (A.sees s.walk.automaton).content (units s.walk.seen));
@@ -90,14 +97,18 @@ impl<'a, V: Copy, A: Automaton<V>> Model for FindOverlappingStepper<'a, V, A> {
         × HasDepths (A.sees s.walk.automaton) s.depths.now };
 }
 
-impl<'a, V: Copy, A: Automaton<V>> FindOverlappingStepper<'a, V, A> {
+impl<'a, V: Copy, A: Automaton<V>> FindOverlappingStepper<'a, V, A>
+where
+    A::Unit: StepUnit,
+{
     /// A stepper that has consumed nothing. The depths are those of the automaton's states, or none.
     #[inline(always)]
-    pub fn new(automaton: A, depths: &'a [u32]) -> Self
+    pub fn new(automaton: A, depths: &'a [u32], folds: bool) -> Self
         requires alive { IsStandard (A.sees automaton) }
         requires depths { HasDepths (A.sees automaton) depths.now }
         ensures automaton { result.automaton ≡ automaton }
         ensures depths { result.depths ≡ depths.entry.now }
+        ensures folds { result.folds ≡ folds }
         ensures read { result.read ≡ [] }
         ensures turns { result.turns ≡ 0 }
         ensures given { result.given ≡ length (all_found A.Unit.width A.sees automaton []) }
@@ -108,6 +119,7 @@ impl<'a, V: Copy, A: Automaton<V>> FindOverlappingStepper<'a, V, A> {
             walk,
             place: 0,
             depths,
+            folds,
             found,
         }
     }
@@ -121,19 +133,28 @@ impl<'a, V: Copy, A: Automaton<V>> FindOverlappingStepper<'a, V, A> {
         requires { size A.Unit.width self.old.read + A.Unit.width (A.Unit.unit unit) < 2 ^ 64 }
         ensures automaton { self.new.automaton ≡ self.old.automaton }
         ensures depths { self.new.depths ≡ self.old.depths }
-        ensures read { self.new.read ≡ self.old.read ++ A.Unit.unit unit ∷ [] }
+        ensures folds { self.new.folds ≡ self.old.folds }
+        ensures read { self.new.read ≡ self.old.read ++ as_read self.old.folds (A.Unit.unit unit ∷ []) }
         ensures given { self.new.given ≡ self.old.given + length (all_found A.Unit.width A.sees self.new.automaton self.new.read) }
     {
-        self.consume_wide(unit, unit.num_bytes());
+        // A folded unit takes as many bytes, so they are counted whether it folds or not.
+        let bytes = unit.num_bytes();
+        if unit.finds_overlapping_apart() && self.folds {
+            self.advance(unit.folded(), bytes);
+            return;
+        }
+        let read = if self.folds { unit.folded() } else { unit };
+        self.advance(read, bytes);
     }
 
-    /// Consumes one unit, as [`Self::consume`] does, of which it is known that it takes `bytes` bytes.
+    /// Consumes one unit as it is, of which it is known that it takes `bytes` bytes.
     #[inline(always)]
-    pub fn consume_wide(&mut self, unit: A::Unit, bytes: usize)
+    fn advance(&mut self, unit: A::Unit, bytes: usize)
         requires fits { size A.Unit.width self.old.read + A.Unit.width (A.Unit.unit unit) < 2 ^ 64 }
         requires bytes { bytes ≡ A.Unit.width (A.Unit.unit unit) }
         ensures automaton { self.new.automaton ≡ self.old.automaton }
         ensures depths { self.new.depths ≡ self.old.depths }
+        ensures folds { self.new.folds ≡ self.old.folds }
         ensures read { self.new.read ≡ self.old.read ++ A.Unit.unit unit ∷ [] }
         ensures given { self.new.given ≡ self.old.given + length (all_found A.Unit.width A.sees self.new.automaton self.new.read) }
     {
@@ -179,6 +200,7 @@ impl<'a, V: Copy, A: Automaton<V>> FindOverlappingStepper<'a, V, A> {
             walk,
             place,
             depths: _depths,
+            folds: _folds,
             found,
         } = self;
         let walk = walk.into_standing();
@@ -186,13 +208,19 @@ impl<'a, V: Copy, A: Automaton<V>> FindOverlappingStepper<'a, V, A> {
     }
 
     /// A stepper that goes on where one over the same automaton stood. The depths are those of the
-    /// automaton's states, or none.
+    /// automaton's states, or none. What was consumed before stays as it was read.
     #[inline(always)]
-    pub fn resume(automaton: A, depths: &'a [u32], standing: OverlappingStanding) -> Self
+    pub fn resume(
+        automaton: A,
+        depths: &'a [u32],
+        standing: OverlappingStanding,
+        folds: bool,
+    ) -> Self
         requires stands { IsOverlappingStanding A.Unit.width A.sees automaton standing }
         requires depths { HasDepths (A.sees automaton) depths.now }
         ensures automaton { result.automaton ≡ automaton }
         ensures depths { result.depths ≡ depths.entry.now }
+        ensures folds { result.folds ≡ folds }
         ensures read { result.read ≡ units standing.walk.seen }
         ensures turns { result.turns ≡ standing.walk.turns }
         ensures given { result.given ≡ length (overlapping A.Unit.width (A.sees automaton).content (units standing.walk.seen)) }
@@ -202,6 +230,7 @@ impl<'a, V: Copy, A: Automaton<V>> FindOverlappingStepper<'a, V, A> {
             walk: OverlappingWalk::resume(automaton, walk),
             place,
             depths,
+            folds,
             found,
         }
     }
@@ -226,6 +255,7 @@ impl<'a, V: Copy, A: Automaton<V>> Clone for FindOverlappingStepper<'a, V, A> {
             walk: self.walk.clone()?,
             place: self.place,
             depths: self.depths,
+            folds: self.folds,
             found: self.found,
         })
     }

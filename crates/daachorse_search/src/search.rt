@@ -5,20 +5,27 @@
 //! end.
 
 ghost use Rattle.std.specs.Prelude.{◌≡◌, ◌+◌, ◌*◌, ℕ, [], length};
+ghost use Rattle.daachorse_search.specs.Readings.{unit_as_read};
 
 use crate::scan::scan;
 use crate::source::Source;
 use crate::stepwise::Stepwise;
 use daachorse_core::Match;
+use daachorse_core::ascii_fold::AsciiFold;
 use daachorse_core::turns::Seen;
 use std::marker::{Model, PhantomData};
 use std::num::NonZeroU32;
 
 /// What a search that goes one unit at a time finds in what a source gives, in order.
 #[derive(Drop)]
-pub struct Search<V: Copy, W: Stepwise<V>, S: Source<W::Unit>> {
+pub struct Search<V: Copy, W: Stepwise<V>, S: Source<W::Unit>>
+where
+    W::Unit: AsciiFold,
+{
     walk: W,
     source: S,
+    // Whether each unit is folded.
+    folds: bool,
     // How many bytes were read.
     place: usize,
     output: Option<NonZeroU32>,
@@ -30,7 +37,10 @@ pub struct Search<V: Copy, W: Stepwise<V>, S: Source<W::Unit>> {
     of: PhantomData<V>,
 }
 
-impl<V: Copy, W: Stepwise<V>, S: Source<W::Unit>> Model for Search<V, W, S> {
+impl<V: Copy, W: Stepwise<V>, S: Source<W::Unit>> Model for Search<V, W, S>
+where
+    W::Unit: AsciiFold,
+{
     ghost use Rattle.daachorse_core.specs.Outputs.{number};
     ghost use Rattle.daachorse_search.specs.Searches.{SourceProgress};
     ghost use Rattle.daachorse_search.specs.Stepwise.{StandsAt};
@@ -40,6 +50,7 @@ impl<V: Copy, W: Stepwise<V>, S: Source<W::Unit>> Model for Search<V, W, S> {
     ghost view = { λ s. record {
       automaton = W.automaton s.walk;
       source = s.source;
+      folds = s.folds;
       read = W.read s.walk;
       pending = W.given_from s.walk (number s.output);
       turns = W.turns s.walk;
@@ -50,13 +61,17 @@ impl<V: Copy, W: Stepwise<V>, S: Source<W::Unit>> Model for Search<V, W, S> {
     ghost invariant = { λ s. W.has_output s.walk (number s.output) × StandsAt W.Unit.width (W.read s.walk) s.place };
 }
 
-impl<V: Copy, W: Stepwise<V>, S: Source<W::Unit>> Search<V, W, S> {
-    /// A search that has read nothing.
+impl<V: Copy, W: Stepwise<V>, S: Source<W::Unit>> Search<V, W, S>
+where
+    W::Unit: AsciiFold,
+{
+    /// A search that has read nothing. It folds each unit where `folds` says so.
     #[inline(always)]
-    pub fn new(walk: W, source: S) -> Self
+    pub fn new(walk: W, source: S, folds: bool) -> Self
         requires { W.read walk ≡ [] }
         ensures automaton { result.automaton ≡ W.automaton walk }
         ensures source { result.source ≡ source }
+        ensures folds { result.folds ≡ folds }
         ensures read { result.read ≡ [] }
         ensures pending { result.pending ≡ W.found (W.automaton walk) [] }
         ensures turns { result.turns ≡ W.turns walk }
@@ -68,6 +83,7 @@ impl<V: Copy, W: Stepwise<V>, S: Source<W::Unit>> Search<V, W, S> {
         Search {
             walk,
             source,
+            folds,
             place: 0,
             output,
             automaton,
@@ -85,7 +101,10 @@ impl<V: Copy, W: Stepwise<V>, S: Source<W::Unit>> Search<V, W, S> {
     }
 }
 
-impl<V: Copy, W: Stepwise<V>, S: Source<W::Unit>> Iterator for Search<V, W, S> {
+impl<V: Copy, W: Stepwise<V>, S: Source<W::Unit>> Iterator for Search<V, W, S>
+where
+    W::Unit: AsciiFold,
+{
     ghost use Rattle.std.specs.Iterator.{count_map};
     ghost use Rattle.daachorse_model.specs.Units.{size};
     ghost use Rattle.daachorse_search.specs.Sources.{IsReady};
@@ -93,7 +112,7 @@ impl<V: Copy, W: Stepwise<V>, S: Source<W::Unit>> Iterator for Search<V, W, S> {
 
     type Item = Match<V>;
 
-    ghost can_next = { λ s. IsReady S.can_next S.next_gives S.remaining W.Unit.unit W.Unit.width s.source (size W.Unit.width s.read) };
+    ghost can_next = { λ s. IsReady S.can_next S.next_gives S.remaining (unit_as_read s.folds W.Unit.unit) W.Unit.width s.source (size W.Unit.width s.read) };
 
     ghost next_gives = { GivesFrom W.found S.next_gives S.remaining W.Unit.unit W.Unit.width };
 
@@ -103,7 +122,12 @@ impl<V: Copy, W: Stepwise<V>, S: Source<W::Unit>> Iterator for Search<V, W, S> {
     fn next(&mut self) -> Option<Match<V>> {
         let position = match self.output {
             Some(position) => position,
-            None => scan(&mut self.walk, &mut self.source, &mut self.place)?,
+            None => scan(
+                &mut self.walk,
+                &mut self.source,
+                &mut self.place,
+                self.folds,
+            )?,
         };
         let (found, next) = self.walk.give(position, self.place);
         self.output = next;

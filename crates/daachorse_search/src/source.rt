@@ -1,42 +1,47 @@
 //! Sources of units, which are known only as they give them.
 //!
-//! The layers above may rely on a source that may be read being ready for a search: it may be
-//! called, ends, and ends at a place that fits; and on it staying so while it is read.
+//! A search tells its source of each unit whether to fold it. The layers above may rely on a source that
+//! may be read being ready for a search: it may be called, ends, and ends at a place that fits; and on it
+//! staying so while it is read.
 
 ghost use Rattle.std.specs.Prelude.{◌≡◌, ◌+◌, ◌≤◌, ℕ, List, ◌++◌, Option, MatchOption, length, map};
 ghost use Rattle.std.specs.Iterator.{MakesProgress, Yields, items_left};
 ghost use Rattle.daachorse_model.specs.Units.{size};
+ghost use Rattle.daachorse_search.specs.Readings.{GivesAsRead};
 ghost use Rattle.daachorse_search.specs.Sources.{IsReady};
 
-use daachorse_core::edge_label::EdgeLabel;
+use daachorse_core::ascii_fold::AsciiFold;
 use std::marker::Model;
 
 /// A source of units that a search may read to its end.
-pub trait Source<U: EdgeLabel>: Iterator<Item = U> {
+pub trait Source<U: AsciiFold>: Iterator<Item = U> {
     /// A search that read these units may go on with the source.
     ghost may_read: { Self → List ℕ → Type 0 };
 
-    /// Takes the next unit, and moves a place to the end of that unit.
+    /// Takes the next unit, gives it folded where `folds` says so, and moves a place to its end.
     #[inline(always)]
-    fn next_at(&mut self, place: &mut usize) -> Option<U>
-        requires ready { IsReady Self.can_next Self.next_gives Self.remaining U.unit U.width self.old place.old }
-        ensures steps { Self.next_gives self.old result self.new }
+    fn next_at(&mut self, place: &mut usize, folds: bool) -> Option<U>
+        requires ready { IsReady Self.can_next Self.next_gives Self.remaining U.EdgeLabel.unit U.EdgeLabel.width self.old place.old }
+        ensures steps { GivesAsRead U.fold Self.next_gives folds self.old result self.new }
         ensures goes { MakesProgress Self.can_next Self.remaining self.old result self.new }
-        ensures place { MatchOption result (place.new ≡ place.old) (λ unit. place.new ≡ place.old + U.width (U.unit unit)) }
+        ensures place { MatchOption result (place.new ≡ place.old) (λ unit. place.new ≡ place.old + U.EdgeLabel.width (U.EdgeLabel.unit unit)) }
     {
         let unit = self.next()?;
         *place += unit.num_bytes();
+        if folds {
+            return Some(unit.folded());
+        }
         Some(unit)
     }
 
     ghost ready: { (s : Self) (read : List ℕ) → may_read s read
-        → IsReady Self.can_next Self.next_gives Self.remaining U.unit U.width s (size U.width read) };
+        → IsReady Self.can_next Self.next_gives Self.remaining U.EdgeLabel.unit U.EdgeLabel.width s (size U.EdgeLabel.width read) };
 
     // It stays so where it gave more units.
     ghost kept: { (s : Self) (read : List ℕ) (xs : List U) (t : Self) → may_read s read → Yields Self.next_gives s xs t
         → length xs + items_left Self.remaining t ≤ items_left Self.remaining s
-        → IsReady Self.can_next Self.next_gives Self.remaining U.unit U.width t (size U.width (read ++ map U.unit xs))
-        → may_read t (read ++ map U.unit xs) };
+        → IsReady Self.can_next Self.next_gives Self.remaining U.EdgeLabel.unit U.EdgeLabel.width t (size U.EdgeLabel.width (read ++ map U.EdgeLabel.unit xs))
+        → may_read t (read ++ map U.EdgeLabel.unit xs) };
 }
 
 /// The bytes that an iterator gives.

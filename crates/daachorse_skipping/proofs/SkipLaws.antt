@@ -7,7 +7,9 @@ use Rattle.std.proofs.Math.Utf8.{encodes}
 use Rattle.std.specs.Prelude.{IsSome, option_map}
 use Rattle.std.specs.Str.{chars, IsUtf8, IsCharBoundary}
 use Rattle.daachorse_core.specs.CharForms.{char_wide}
+use Rattle.daachorse_model.specs.Folding.{as_read}
 use Rattle.daachorse_model.specs.Units.{size, byte_width, char_width}
+use Rattle.daachorse_model.proofs.FoldLaws.{IsUtf8-folded, chars-folded}
 use Rattle.daachorse_model.proofs.Occurrences.{split_after}
 use Rattle.daachorse_model.proofs.Suffixes.{size-append, size-bytes}
 use Rattle.daachorse_prefilter.specs.Filters.{Filter}
@@ -20,6 +22,15 @@ use Rattle.daachorse_text.proofs.TextLaws.{seam, size-chars}
 
 dropped : (h a b : List ℕ) → h ≡ a ++ b → drop (length a) h ≡ b
 dropped h a b parts = ap (drop (length a)) parts ∙ drop_at a b (length a) refl
+
+-- a text that is folded is one too, and its characters are folded
+pub IsUtf8-as_read : (folds : Bool) (bs : List ℕ) → IsUtf8 bs → IsUtf8 (as_read folds bs)
+IsUtf8-as_read true bs u = IsUtf8-folded bs u
+IsUtf8-as_read false bs u = u
+
+pub chars-as_read : (folds : Bool) (bs : List ℕ) → IsUtf8 bs → chars (as_read folds bs) ≡ as_read folds (chars bs)
+chars-as_read true bs u = chars-folded bs u
+chars-as_read false bs u = refl
 
 -- where a text is cut at a boundary, its characters are
 pub chars_cut : (bs : List ℕ) (r : ℕ) → IsUtf8 bs → IsCharBoundary bs r → chars bs ≡ chars (take r bs) ++ chars (drop r bs)

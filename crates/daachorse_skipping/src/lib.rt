@@ -1,9 +1,8 @@
 //! The filter over pairs of bytes, as the searches in a haystack ask it.
 //!
 //! The layers above may rely on [`skipping::Skipping`] passing where its filter and its test do, over the
-//! bytes of a slice and over the UTF-8 form of a text, on it being worth asking until something was
-//! recorded at its gate, and on it handing out its filter and its test and recording its runs for a layer
-//! that asks it otherwise. [`places`] finds the first place at which both pass, and [`beginnings`] has a
+//! bytes of a slice and over the UTF-8 form of a text, as they are read, and on it being worth asking until
+//! something was recorded at its gate. [`places`] finds the first place at which both pass, and [`beginnings`] has a
 //! test: whether some pattern begins with the next four bytes. A test that has nothing to tell
 //! ([`telling`]) is not asked.
 #![tactic(auto)]

@@ -1,17 +1,35 @@
 //! The first place of a haystack at which a filter passes, and a test with it.
 //!
 //! The layers above may rely on that place being the first of all, or of the boundaries of a text, in
-//! what is read of the haystack.
+//! the haystack as it is read: as it is, or without regard to the case of ASCII letters.
 
 ghost use Rattle.std.specs.Prelude.{◌&&◌};
+ghost use Rattle.daachorse_model.specs.Folding.{as_read};
 ghost use Rattle.daachorse_prefilter.specs.Filters.{admits};
 ghost use Rattle.daachorse_prefilter.specs.Places.{IsFirstBoundary, IsFirstPlace};
 
 use crate::telling::Telling;
 use daachorse_prefilter::place_test::NoTest;
 use daachorse_prefilter::prefilter::Prefilter;
-use daachorse_prefilter::prefilter::reading::ByteReading;
+use daachorse_prefilter::prefilter::reading::{AsFolded, AsItIs, ByteReading};
 use std::alloc::Allocator;
+
+/// The first place of the slice, folded where `folds` says so, at which the filter and the test pass,
+/// or its length.
+#[inline(always)]
+pub fn first_place<A: Allocator, T: Telling>(
+    filter: &Prefilter<A>,
+    test: &T,
+    haystack: &[u8],
+    folds: bool,
+) -> usize
+    ensures { IsFirstPlace (λ w. T.lets test.now w && admits filter.now w) (as_read folds haystack.now) 0 result }
+{
+    if folds {
+        return find_place::<AsFolded, A, T>(filter, test, haystack);
+    }
+    find_place::<AsItIs, A, T>(filter, test, haystack)
+}
 
 /// The first place of what is read of the slice at which the filter and the test pass, or its length.
 ///
@@ -19,7 +37,7 @@ use std::alloc::Allocator;
 /// its registers: a search calls it once for a whole run of bytes.
 #[cold]
 #[inline(never)]
-pub fn first_place<R: ByteReading, A: Allocator, T: Telling>(
+fn find_place<R: ByteReading, A: Allocator, T: Telling>(
     filter: &Prefilter<A>,
     test: &T,
     haystack: &[u8],
@@ -33,13 +51,30 @@ pub fn first_place<R: ByteReading, A: Allocator, T: Telling>(
     filter.first_place::<R, T>(test, haystack, 0)
 }
 
+/// The first boundary of the text, folded where `folds` says so, at which the filter and the test pass,
+/// or its length in bytes.
+#[inline(always)]
+pub fn first_boundary<A: Allocator, T: Telling>(
+    filter: &Prefilter<A>,
+    test: &T,
+    haystack: &str,
+    folds: bool,
+) -> usize
+    ensures { IsFirstBoundary (λ w. T.lets test.now w && admits filter.now w) (as_read folds haystack.now) 0 result }
+{
+    if folds {
+        return find_boundary::<AsFolded, A, T>(filter, test, haystack);
+    }
+    find_boundary::<AsItIs, A, T>(filter, test, haystack)
+}
+
 /// The first boundary of what is read of the text at which the filter and the test pass, or its length
 /// in bytes.
 ///
-/// It stands by itself and is marked cold for the same reason as [`first_place`].
+/// It stands by itself and is marked cold for the same reason as [`find_place`].
 #[cold]
 #[inline(never)]
-pub fn first_boundary<R: ByteReading, A: Allocator, T: Telling>(
+fn find_boundary<R: ByteReading, A: Allocator, T: Telling>(
     filter: &Prefilter<A>,
     test: &T,
     haystack: &str,

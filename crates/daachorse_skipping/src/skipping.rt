@@ -1,10 +1,11 @@
 //! A filter with a gate and a test, which moves a haystack on to the next place where a pattern may begin.
 //!
 //! The layers above may rely on the filter being asked where there is one and its gate is open, from
-//! the place of the haystack on, on the test being asked where the filter passes, and on the gate
-//! recording of each run just the bytes that it skipped. No search's answer rests on the gate.
+//! the place of the haystack on and over its units as they are read, on the test being asked where the
+//! filter passes, and on the gate recording of each run just the bytes that it skipped. No search's
+//! answer rests on the gate.
 
-ghost use Rattle.std.specs.Prelude.{◌≡◌, ℕ, List, [], ◌∷◌, ◌++◌, option_map, encode_utf8_all, IsTrue};
+ghost use Rattle.std.specs.Prelude.{◌≡◌, ℕ, List, [], option_map, encode_utf8_all, IsTrue};
 ghost use Rattle.daachorse_prefilter.specs.Gates.{HasRecorded};
 ghost use Rattle.daachorse_search.specs.Filters.{IsNextPassing};
 ghost use Rattle.daachorse_model.specs.Units.{byte_width, char_width};
@@ -13,10 +14,9 @@ ghost use Rattle.daachorse_skipping.specs.Asked.{HasRecordedSkip, IsOpenWhilePay
 use crate::places::{first_boundary, first_place};
 use crate::telling::Telling;
 use daachorse_prefilter::place_test::NoTest;
-use daachorse_prefilter::prefilter::reading::AsItIs;
 use daachorse_prefilter::prefilter::{Prefilter, PrefilterGate};
 use daachorse_search::filter::Filter;
-use daachorse_search::haystack::{Bytes, Reread};
+use daachorse_search::haystack::{Bytes, Haystack};
 use daachorse_text::text::Text;
 use std::alloc::{Allocator, Global};
 use std::marker::Model;
@@ -69,33 +69,6 @@ impl<'a, A: Allocator> Skipping<'a, A> {
 }
 
 impl<'a, A: Allocator, T: Telling> Skipping<'a, A, T> {
-    /// The filter, if there is one.
-    #[inline(always)]
-    pub fn filter(&self) -> Option<&'a Prefilter<A>>
-        ensures { self.now.filter ≡ option_map (λ f. f.now) result }
-    {
-        self.filter
-    }
-
-    /// The test.
-    #[inline(always)]
-    pub fn test(&self) -> &T
-        ensures { result.now ≡ self.now.test }
-    {
-        &self.test
-    }
-
-    /// Records at the gate that a run of the filter skipped `gain` bytes.
-    #[inline(always)]
-    pub fn record(&mut self, gain: usize)
-        ensures filter { self.new.filter ≡ self.old.filter }
-        ensures test { self.new.test ≡ self.old.test }
-        ensures gate { (gains : List ℕ) →
-            HasRecorded self.old.gate gains → HasRecorded self.new.gate (gains ++ gain ∷ []) }
-    {
-        self.gate.record(gain);
-    }
-
     /// Whether there is a filter behind an open gate.
     #[inline(always)]
     fn is_worth(&self) -> bool
@@ -130,7 +103,8 @@ impl<'a, 'h, A: Allocator, T: Telling> Filter<u8, Bytes<'h>> for Skipping<'a, A,
         ensures records { HasRecordedSkip byte_width self.old rest.old rest.new self.new }
     {
         if let Some(filter) = self.filter {
-            let gain = first_place::<AsItIs, A, T>(filter, &self.test, rest.bytes());
+            let (bytes, folds) = rest.unread();
+            let gain = first_place(filter, &self.test, bytes, folds);
             self.gate.record(gain);
             *rest = rest.after(gain);
         }
@@ -160,7 +134,8 @@ impl<'a, 'h, A: Allocator, T: Telling> Filter<char, Text<'h>> for Skipping<'a, A
         ensures records { HasRecordedSkip char_width self.old rest.old rest.new self.new }
     {
         if let Some(filter) = self.filter {
-            let gain = first_boundary::<AsItIs, A, T>(filter, &self.test, rest.text());
+            let (text, folds) = rest.unread();
+            let gain = first_boundary(filter, &self.test, text, folds);
             self.gate.record(gain);
             *rest = rest.after(gain);
         }

@@ -6,16 +6,15 @@ ghost use Rattle.std.specs.Iterator.{IsFinite};
 ghost use Rattle.std.specs.Prelude.{◌≡◌, []};
 
 use daachorse::Match;
-use daachorse_core::ascii_fold::AsciiFold;
 use daachorse_core::edge_label::EdgeLabel;
-use daachorse_folding::filter::FoldingFilter;
-use daachorse_folding::find_stepper::FindStepperAsRead;
-use daachorse_folding::leftmost::LeftmostMatchesAsRead;
-use daachorse_folding::matches::MatchesAsRead;
-use daachorse_folding::overlapping_stepper::FindOverlappingStepperAsRead;
-use daachorse_folding::step_unit::StepUnit;
 use daachorse_search::automaton::Automaton;
-use daachorse_search::folded::FoldHaystack;
+use daachorse_search::filter::Filter;
+use daachorse_search::find_stepper::FindStepper;
+use daachorse_search::haystack::Haystack;
+use daachorse_search::leftmost::LeftmostMatches;
+use daachorse_search::matches::Matches;
+use daachorse_search::overlapping_stepper::FindOverlappingStepper;
+use daachorse_search::step_unit::StepUnit;
 use daachorse_search::stepwise::Stepwise;
 use std::slice::Iter;
 
@@ -86,13 +85,10 @@ pub fn are<I: Iterator<Item = Match<u32>> + Drop>(matches: I, expected: &[Found]
 
 /// Whether a search in a haystack gives the expected matches, in this order. It is dropped behind the
 /// first match that is not expected.
-pub fn gives<W: Stepwise<u32>, H: FoldHaystack<W::Unit>, F: FoldingFilter<W::Unit, H>>(
-    mut search: MatchesAsRead<u32, W, H, F>,
+pub fn gives<W: Stepwise<u32>, H: Haystack<W::Unit>, F: Filter<W::Unit, H>>(
+    mut search: Matches<u32, W, H, F>,
     expected: &[Found],
-) -> bool
-where
-    W::Unit: AsciiFold,
-{
+) -> bool {
     let mut expected = Expected::new(expected, &[]);
     expected.take_all(&mut search);
     search.turns_are_bounded();
@@ -101,13 +97,10 @@ where
 
 /// Whether a leftmost search in a haystack gives the expected matches, in this order. It is dropped behind
 /// the first match that is not expected.
-pub fn gives_leftmost<A: Automaton<u32>, H: FoldHaystack<A::Unit>, F: FoldingFilter<A::Unit, H>>(
-    mut search: LeftmostMatchesAsRead<u32, A, H, F>,
+pub fn gives_leftmost<A: Automaton<u32>, H: Haystack<A::Unit>, F: Filter<A::Unit, H>>(
+    mut search: LeftmostMatches<u32, A, H, F>,
     expected: &[Found],
-) -> bool
-where
-    A::Unit: AsciiFold,
-{
+) -> bool {
     let mut expected = Expected::new(expected, &[]);
     expected.take_all(&mut search);
     search.turns_are_bounded();
@@ -117,7 +110,7 @@ where
 /// Whether a stepper that has consumed nothing tells just these matches and these depths, before the
 /// units and behind each of the first thousand. It consumes none behind the first that is not expected.
 pub fn are_found<A: Automaton<u32>>(
-    stepper: &mut FindStepperAsRead<'_, u32, A>,
+    stepper: &mut FindStepper<'_, u32, A>,
     units: &[A::Unit],
     expected: &[Found],
     depths: &[u32],
@@ -146,7 +139,7 @@ where
 /// Whether a stepper for all matches that has consumed nothing tells just these matches and these depths,
 /// before the units and behind each of the first thousand. It consumes none behind the first that is not expected.
 pub fn are_found_overlapping<A: Automaton<u32>>(
-    stepper: &mut FindOverlappingStepperAsRead<'_, u32, A>,
+    stepper: &mut FindOverlappingStepper<'_, u32, A>,
     units: &[A::Unit],
     expected: &[Found],
     depths: &[u32],

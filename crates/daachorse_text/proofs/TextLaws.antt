@@ -8,11 +8,10 @@ use Rattle.std.proofs.Math.Utf8.{scalars, encode, encodes}
 use Rattle.std.specs.Char.{len_utf8}
 use Rattle.daachorse_model.proofs.SlowLaws.{drop-next}
 use Rattle.std.specs.Iterator.{YieldsFirst}
-use Rattle.std.specs.Option.{option_map}
 use Rattle.std.specs.Str.{chars, IsUtf8, IsCharBoundary}
 use Rattle.std.specs.Str.Iter.{chars_rest, chars_steps}
 use Rattle.std.specs.declared.str.Chars.{Chars}
-use Rattle.daachorse_model.specs.Folding.{folded_unit}
+use Rattle.daachorse_model.specs.Folding.{as_read, folded, folded_unit}
 use Rattle.daachorse_model.specs.Units.{size, char_width}
 use Rattle.daachorse_model.proofs.FoldLaws.{folded_unit-ascii, folded_unit-past_ascii}
 use Rattle.daachorse_model.proofs.SameOnText.{scalars-back}
@@ -95,12 +94,13 @@ first_past bs (c ∷ cs) b rest are is high = by (cases_lt c 128)
 pub begins_past : (bs : List ℕ) (given first : ℕ) → given < length bs → IsUtf8 (drop given bs) → first ≡ get_or bs given 0 → 128 ≤ first → BeginsPastAscii (chars (drop given bs))
 begins_past bs given first h u is high = first_past (drop given bs) (chars (drop given bs)) first (drop (given + 1) bs) (encodes-chars (drop given bs) u) (drop-next bs given h ∙ ap (λ b. b ∷ drop (given + 1) bs) (sym is)) high
 
--- a character past ASCII is folded to itself
-pub past_folded : (w : List ℕ) (r : Option ℕ) (t : List ℕ) → BeginsPastAscii w → YieldsFirst (λ (x : List ℕ). x) w r t → r ≡ option_map folded_unit r
-past_folded w None t past first = refl
-past_folded w (Some c) t past first =
+-- a character past ASCII is read as it is
+pub past_as_read : (folds : Bool) (w : List ℕ) (r : Option ℕ) (t : List ℕ) → BeginsPastAscii w → YieldsFirst (λ (x : List ℕ). x) w r t → YieldsFirst (λ (x : List ℕ). x) (as_read folds w) r (as_read folds t)
+past_as_read false w r t past first = first
+past_as_read true w None t past first = (ap folded first.0, ap folded first.1)
+past_as_read true w (Some c) t past first =
     let high : 128 ≤ c = subst BeginsPastAscii first past in
-    ap Some (sym (folded_unit-past_ascii c high))
+    ap folded first ∙ ap (λ u. u ∷ folded t) (folded_unit-past_ascii c high)
 
 -- `first` is what the byte is read as, folded or not
 abbrev pub IsByteAsRead : Bool → ℕ → ℕ → Type 0
@@ -123,13 +123,12 @@ past_ascii-byte folds byte first (inl is) high = by (cases_lt byte 128)
     by (inr h) = h
 past_ascii-byte folds byte first (inr is) high = omega (arith, high, is.1)
 
-pub byte-as_it_is : (folds : Bool) (byte first : ℕ) → IsByteAsRead folds byte first → folds ≡ false → first ≡ byte
-byte-as_it_is folds byte first (inl is) not = absurd (false≢true (sym not ∙ is.0))
-byte-as_it_is folds byte first (inr is) not = is.1
-
-pub byte-folded : (folds : Bool) (byte first : ℕ) → IsByteAsRead folds byte first → folds ≡ true → first ≡ folded_unit byte
-byte-folded folds byte first (inl is) so = is.1
-byte-folded folds byte first (inr is) so = absurd (false≢true (sym is.0 ∙ so))
+-- a text that begins with the byte begins, as it is read, with what the byte is read as
+pub first_as_read : (folds : Bool) (byte first : ℕ) (w : List ℕ) → IsByteAsRead folds byte first → as_read folds (byte ∷ w) ≡ first ∷ as_read folds w
+first_as_read true byte first w (inl is) = ap (λ b. b ∷ folded w) (sym is.1)
+first_as_read true byte first w (inr is) = absurd (false≢true (sym is.0))
+first_as_read false byte first w (inl is) = absurd (false≢true is.0)
+first_as_read false byte first w (inr is) = ap (λ b. b ∷ w) (sym is.1)
 
 -- a call of the string's characters takes the first one off, and what they leave is behind it
 pub past_steps : (bs seen : List ℕ) (given : ℕ) (s t : Chars) (r : Option ℕ) (left : List ℕ) → given ≤ length bs → IsUtf8 (drop given bs) → chars (drop given bs) ≡ seen → chars_rest s ≡ drop given bs → chars_steps s r t → left ≡ chars_rest t

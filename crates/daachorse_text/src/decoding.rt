@@ -11,7 +11,6 @@ ghost use Rattle.daachorse_text.specs.Midway.{IsMidway, TakesInner};
 ghost use Rattle.daachorse_text.specs.TextSources.{IsText, GivesCharacter};
 
 use daachorse_core::ascii_fold::AsciiFold;
-use daachorse_search::folded::FoldSource;
 use daachorse_search::source::Source;
 use std::marker::Model;
 
@@ -104,28 +103,19 @@ impl<P: Iterator<Item = u8>> Source<char> for Decoded<P> {
     ghost may_read = { λ s read. IsTextFrom P.can_next P.next_gives P.remaining s (size char_width read) };
 
     #[inline(always)]
-    fn next_at(&mut self, place: &mut usize) -> Option<char> {
+    fn next_at(&mut self, place: &mut usize, folds: bool) -> Option<char> {
         let (character, bytes) = self.take_character()?;
         *place += bytes;
+        // Only a character of one byte is ASCII, so the decoder's own test serves for the fold too.
+        if folds && bytes == 1 {
+            return Some(character.folded());
+        }
         Some(character)
     }
 
     ghost ready = { IsTextFrom-ready P.can_next P.next_gives P.remaining };
 
     ghost kept = { λ s read xs t may took fewer ready. IsTextFrom-kept P.can_next P.next_gives P.remaining s read xs t may took ready.callable };
-}
-
-impl<P: Iterator<Item = u8>> FoldSource<char> for Decoded<P> {
-    // Only a character of one byte is ASCII, so the decoder's own test serves for the fold too.
-    #[inline(always)]
-    fn next_folded_at(&mut self, place: &mut usize) -> Option<char> {
-        let (character, bytes) = self.take_character()?;
-        *place += bytes;
-        if bytes > 1 {
-            return Some(character);
-        }
-        Some(character.folded())
-    }
 }
 
 /// The characters of the bytes that an iterator gives, each behind the place where it ends.

@@ -1,90 +1,61 @@
-//! A string as a haystack: its units are its characters.
+//! A string as a haystack: its units are its characters, each read as it is or folded.
 //!
-//! The layers above may rely on a text being the list of its characters that are still to come,
-//! and on what follows whole characters being found in constant time.
+//! The layers above may rely on a text being the list of its characters that are still to come, as they
+//! are read, and on what follows whole characters being found in constant time.
 
-ghost use Rattle.std.specs.Prelude.{◌≡◌, ◌<◌, ◌^◌, true, false};
-ghost use Rattle.std.specs.Iterator.{YieldsFirst};
-ghost use Rattle.std.specs.Str.{chars};
-ghost use Rattle.daachorse_model.specs.Folding.{folded_unit};
+ghost use Rattle.std.specs.Prelude.{◌≡◌, ◌<◌, ◌^◌};
+ghost use Rattle.std.specs.Str.{chars, IsUtf8};
+ghost use Rattle.daachorse_model.specs.Folding.{as_read};
 ghost use Rattle.daachorse_model.specs.Units.{size, char_width};
-ghost use Rattle.daachorse_search.specs.FoldedSources.{GivesFolded};
 
 use daachorse_core::ascii_fold::AsciiFold;
-use daachorse_search::folded::FoldHaystack;
-use daachorse_search::haystack::{Haystack, Reread};
+use daachorse_search::haystack::Haystack;
 use std::marker::Model;
 
-/// The characters of a string.
+/// The characters of a string, each read as it is or folded.
 #[derive(Drop)]
 pub struct Text<'a> {
     text: &'a str,
     // How many of its bytes were given, as whole characters.
     given: usize,
+    // Whether each character is folded.
+    folds: bool,
 }
 
 impl<'a> Model for Text<'a> {
     ghost use Rattle.std.specs.Prelude.{List, ℕ, ◌≤◌, drop, length};
     ghost use Rattle.std.specs.Str.{IsUtf8, chars};
+    ghost use Rattle.daachorse_model.specs.Folding.{as_read};
 
     ghost Value = { List ℕ };
 
-    ghost view = { λ s. chars (drop s.given s.text.now) };
+    ghost view = { λ s. as_read s.folds (chars (drop s.given s.text.now)) };
 
     ghost invariant = { λ s. (s.given ≤ length s.text.now) × IsUtf8 (drop s.given s.text.now) };
 }
 
 impl<'a> Text<'a> {
-    /// All characters of the string.
+    /// All characters of the string, each folded where `folds` says so.
     #[inline(always)]
-    pub fn new(haystack: &'a str) -> Self
-        ensures characters { result ≡ chars haystack.now }
+    pub fn new(haystack: &'a str, folds: bool) -> Self
+        ensures characters { result ≡ as_read folds (chars haystack.now) }
         ensures fits { size char_width result < 2 ^ 64 }
     {
         let _len = haystack.len();
         Text {
             text: haystack,
             given: 0,
+            folds,
         }
     }
 
-    /// The text that is still to come.
+    /// The text that is still to come, as it is, and whether each character is folded.
     #[inline(always)]
-    pub fn text(&self) -> &'a str
-        ensures { chars result.now ≡ self.now }
+    pub fn unread(&self) -> (&'a str, bool)
+        ensures units { as_read result.1 (chars result.0.now) ≡ self.now }
+        ensures utf8 { IsUtf8 result.0.now }
     {
-        &self.text[self.given..]
-    }
-
-    /// Takes the next character, folded where `folds` says so.
-    #[inline(always)]
-    fn take(&mut self, folds: bool) -> Option<char>
-        ensures as_it_is { folds ≡ false → YieldsFirst (λ w. w) self.old result self.new }
-        ensures folded { folds ≡ true → GivesFolded folded_unit (YieldsFirst (λ w. w)) self.old result self.new }
-    {
-        if self.given == self.text.len() {
-            return None;
-        }
-        let byte = self.text.as_bytes()[self.given];
-        // A byte past ASCII is folded to itself, as a character past ASCII is.
-        let first = if folds { byte.folded() } else { byte };
-        // An ASCII character is its byte, and takes no more work.
-        if first < 0x80 {
-            self.given += 1;
-            return Some(char::from(first));
-        }
-        self.take_character()
-    }
-
-    /// Takes the next character, however many bytes it has.
-    #[inline(always)]
-    fn take_character(&mut self) -> Option<char>
-        ensures { YieldsFirst (λ w. w) self.old result self.new }
-    {
-        let mut rest = self.text[self.given..].chars();
-        let character = rest.next();
-        self.given = self.text.len() - rest.as_str().len();
-        character
+        (&self.text[self.given..], self.folds)
     }
 }
 
@@ -99,26 +70,38 @@ impl<'a> Iterator for Text<'a> {
 
     #[inline(always)]
     fn next(&mut self) -> Option<char> {
-        self.take(false)
+        if self.given == self.text.len() {
+            return None;
+        }
+        let byte = self.text.as_bytes()[self.given];
+        // A byte past ASCII is folded to itself, as a character past ASCII is.
+        let first = if self.folds { byte.folded() } else { byte };
+        // An ASCII character is its byte, and takes no more work.
+        if first < 0x80 {
+            self.given += 1;
+            return Some(char::from(first));
+        }
+        let mut rest = self.text[self.given..].chars();
+        let character = rest.next();
+        self.given = self.text.len() - rest.as_str().len();
+        character
     }
 }
 
 impl<'a> Haystack<char> for Text<'a> {
     ghost rest = { λ s. s };
 
-    ghost gives = { λ s r t h. h };
+    #[inline(always)]
+    fn is_folded(&self) -> bool {
+        self.folds
+    }
 
-    ghost callable = { λ s. tt };
-
-    ghost ends = { λ s. tt };
-}
-
-impl<'a> Reread<char> for Text<'a> {
     #[inline(always)]
     fn after(&self, bytes: usize) -> Self {
         Text {
             text: self.text,
             given: self.given + bytes,
+            folds: self.folds,
         }
     }
 
@@ -126,11 +109,10 @@ impl<'a> Reread<char> for Text<'a> {
     fn left(&self) -> usize {
         self.text.len() - self.given
     }
-}
 
-impl<'a> FoldHaystack<char> for Text<'a> {
-    #[inline(always)]
-    fn next_folded(&mut self) -> Option<char> {
-        self.take(true)
-    }
+    ghost gives = { λ s r t h. h };
+
+    ghost callable = { λ s. tt };
+
+    ghost ends = { λ s. tt };
 }

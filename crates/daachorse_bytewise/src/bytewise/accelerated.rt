@@ -4,7 +4,7 @@
 //! its name gives, with at most as many turns as are promised there, of a standard search at most one for
 //! each byte where no step leaves the rows, and on a stepper telling the matches that that of its name tells.
 
-ghost use Rattle.std.specs.Prelude.{◌≡◌, ◌≢◌, [], IfOk, IfSome, IfErr, take};
+ghost use Rattle.std.specs.Prelude.{◌≡◌, ◌≢◌, [], IfOk, IfSome, IfErr, length, take};
 ghost use Rattle.std.specs.Option.{option_to_list};
 ghost use Rattle.daachorse_core.specs.Refusals.{IsOutOfMemory};
 ghost use Rattle.daachorse_model.specs.declared.MatchKind.TheVariants.{Standard};
@@ -12,9 +12,7 @@ ghost use Rattle.daachorse_model.specs.Folding.{as_read};
 ghost use Rattle.daachorse_model.specs.Leftmost.{leftmost};
 ghost use Rattle.daachorse_model.specs.Matches.{matches_after, no_suffix, overlapping, standard, standard_after};
 ghost use Rattle.daachorse_model.specs.Units.{byte_width};
-ghost use Rattle.daachorse_folding.specs.SourceSearches.{BeginsFromAsRead};
-ghost use Rattle.daachorse_folding.specs.Steppers.{BeginsSteppingAsRead};
-ghost use Rattle.daachorse_search.specs.Beginnings.{BeginsWith};
+ghost use Rattle.daachorse_search.specs.Beginnings.{BeginsFrom, BeginsStepping, BeginsWith};
 ghost use Rattle.daachorse_search.specs.Filters.{IsSoundFor};
 ghost use Rattle.daachorse_skipping.specs.Asked.{BeginsAsking, lets_pass};
 ghost use Rattle.daachorse_skipping.specs.Beginnings.{MayTell, may_begin};
@@ -31,17 +29,16 @@ use crate::bytewise::iter::accelerated::{
 };
 use crate::bytewise::{DoubleArrayAhoCorasick, states};
 use daachorse_core::errors::Result;
-use daachorse_folding::leftmost::leftmost_as_read;
-use daachorse_folding::matches::{
-    find_as_read, find_overlapping_as_read, find_overlapping_no_suffix_as_read,
-};
-use daachorse_folding::matches_from::MatchesFromAsRead;
 use daachorse_rows::rows::Rows;
 use daachorse_rows::view::RowView;
-use daachorse_search::find::FindWalk;
+use daachorse_search::find::{FindWalk, find_in};
 use daachorse_search::find_stepper::FindStanding;
 use daachorse_search::haystack::Bytes;
-use daachorse_search::overlapping::{NoSuffixWalk, OverlappingWalk};
+use daachorse_search::leftmost::LeftmostMatches;
+use daachorse_search::matches_from::MatchesFrom;
+use daachorse_search::overlapping::{
+    NoSuffixWalk, OverlappingWalk, find_overlapping_in, find_overlapping_no_suffix_in,
+};
 use daachorse_search::overlapping_stepper::OverlappingStanding;
 use daachorse_search::source;
 use daachorse_skipping::beginnings::{BEGINNING, Beginnings, FEW_STATES};
@@ -239,11 +236,10 @@ impl<'a, V: Copy, A: Allocator> Accelerated<'a, V, A> {
         ensures asks { BeginsAsking self.entry.now.automaton.filter result.filter }
         ensures test { result.filter.test.now ≡ self.entry.now.beginnings }
     {
-        find_as_read(
+        find_in(
             self.standard(),
-            Bytes::new(haystack),
+            Bytes::new(haystack, self.automaton().is_ascii_case_insensitive()),
             self.skipping(),
-            self.automaton().is_ascii_case_insensitive(),
         )
     }
 
@@ -268,10 +264,10 @@ impl<'a, V: Copy, A: Allocator> Accelerated<'a, V, A> {
         haystack: P,
     ) -> FindIterator<'s, P, V>
         requires { kind_of self.now.automaton ≡ Standard }
-        ensures { BeginsFromAsRead (rowed_states self.entry.now) haystack
+        ensures { BeginsFrom (rowed_states self.entry.now) haystack
             (option_to_list (standard_after byte_width (dictionary_of self.entry.now.automaton) [])) self.entry.now.automaton.folds result }
     {
-        MatchesFromAsRead::new(
+        MatchesFrom::new(
             FindWalk::new(self.standard()),
             source::Bytes::new(haystack),
             self.automaton().is_ascii_case_insensitive(),
@@ -306,11 +302,10 @@ impl<'a, V: Copy, A: Allocator> Accelerated<'a, V, A> {
         ensures asks { BeginsAsking self.entry.now.automaton.filter result.filter }
         ensures test { result.filter.test.now ≡ self.entry.now.beginnings }
     {
-        find_overlapping_as_read(
+        find_overlapping_in(
             self.standard(),
-            Bytes::new(haystack),
+            Bytes::new(haystack, self.automaton().is_ascii_case_insensitive()),
             self.skipping(),
-            self.automaton().is_ascii_case_insensitive(),
         )
     }
 
@@ -335,10 +330,10 @@ impl<'a, V: Copy, A: Allocator> Accelerated<'a, V, A> {
         haystack: P,
     ) -> FindOverlappingIterator<'s, P, V>
         requires { kind_of self.now.automaton ≡ Standard }
-        ensures { BeginsFromAsRead (rowed_states self.entry.now) haystack
+        ensures { BeginsFrom (rowed_states self.entry.now) haystack
             (matches_after byte_width (dictionary_of self.entry.now.automaton) []) self.entry.now.automaton.folds result }
     {
-        MatchesFromAsRead::new(
+        MatchesFrom::new(
             OverlappingWalk::new(self.standard()),
             source::Bytes::new(haystack),
             self.automaton().is_ascii_case_insensitive(),
@@ -373,11 +368,10 @@ impl<'a, V: Copy, A: Allocator> Accelerated<'a, V, A> {
         ensures asks { BeginsAsking self.entry.now.automaton.filter result.filter }
         ensures test { result.filter.test.now ≡ self.entry.now.beginnings }
     {
-        find_overlapping_no_suffix_as_read(
+        find_overlapping_no_suffix_in(
             self.standard(),
-            Bytes::new(haystack),
+            Bytes::new(haystack, self.automaton().is_ascii_case_insensitive()),
             self.skipping(),
-            self.automaton().is_ascii_case_insensitive(),
         )
     }
 
@@ -402,10 +396,10 @@ impl<'a, V: Copy, A: Allocator> Accelerated<'a, V, A> {
         haystack: P,
     ) -> FindOverlappingNoSuffixIterator<'s, P, V>
         requires { kind_of self.now.automaton ≡ Standard }
-        ensures { BeginsFromAsRead (rowed_states self.entry.now) haystack
+        ensures { BeginsFrom (rowed_states self.entry.now) haystack
             (take 1 (matches_after byte_width (dictionary_of self.entry.now.automaton) [])) self.entry.now.automaton.folds result }
     {
-        MatchesFromAsRead::new(
+        MatchesFrom::new(
             NoSuffixWalk::new(self.standard()),
             source::Bytes::new(haystack),
             self.automaton().is_ascii_case_insensitive(),
@@ -440,11 +434,10 @@ impl<'a, V: Copy, A: Allocator> Accelerated<'a, V, A> {
         ensures asks { BeginsAsking self.entry.now.automaton.filter result.filter }
         ensures test { result.filter.test.now ≡ self.entry.now.beginnings }
     {
-        leftmost_as_read(
+        LeftmostMatches::with_filter(
             self.leftmost(),
-            Bytes::new(haystack),
+            Bytes::new(haystack, self.automaton().is_ascii_case_insensitive()),
             self.skipping(),
-            self.automaton().is_ascii_case_insensitive(),
         )
     }
 
@@ -463,7 +456,8 @@ impl<'a, V: Copy, A: Allocator> Accelerated<'a, V, A> {
     #[tactic(auto, using(daachorse_bytewise_states::proofs::DeadLaws::alive))]
     pub fn find_stepper<'s>(&'s self) -> FindStepper<'s, V>
         requires { kind_of self.now.automaton ≡ Standard }
-        ensures { BeginsSteppingAsRead (rowed_states self.entry.now) [] self.entry.now.automaton.folds result }
+        ensures { BeginsStepping (rowed_states self.entry.now) [] self.entry.now.automaton.folds
+            (option_to_list (standard_after byte_width (dictionary_of self.entry.now.automaton) [])) result }
     {
         let folds = self.automaton().is_ascii_case_insensitive();
         FindStepper::new(self.standard(), &[], folds)
@@ -484,7 +478,8 @@ impl<'a, V: Copy, A: Allocator> Accelerated<'a, V, A> {
     #[tactic(auto, using(daachorse_bytewise_states::proofs::DeadLaws::alive))]
     pub fn find_overlapping_stepper<'s>(&'s self) -> FindOverlappingStepper<'s, V>
         requires { kind_of self.now.automaton ≡ Standard }
-        ensures { BeginsSteppingAsRead (rowed_states self.entry.now) [] self.entry.now.automaton.folds result }
+        ensures { BeginsStepping (rowed_states self.entry.now) [] self.entry.now.automaton.folds
+            (matches_after byte_width (dictionary_of self.entry.now.automaton) []) result }
     {
         let folds = self.automaton().is_ascii_case_insensitive();
         FindOverlappingStepper::new(self.standard(), &[], folds)
@@ -510,6 +505,7 @@ impl<'a, V: Copy, A: Allocator> Accelerated<'a, V, A> {
         ensures folds { result.folds ≡ self.entry.now.automaton.folds }
         ensures read { result.read ≡ units standing.walk.seen }
         ensures turns { result.turns ≡ standing.walk.turns }
+        ensures given { result.given ≡ length (standard byte_width (dictionary_of self.entry.now.automaton) (units standing.walk.seen)) }
     {
         let folds = self.automaton().is_ascii_case_insensitive();
         FindStepper::resume(self.standard(), &[], standing, folds)
@@ -539,6 +535,7 @@ impl<'a, V: Copy, A: Allocator> Accelerated<'a, V, A> {
         ensures folds { result.folds ≡ self.entry.now.automaton.folds }
         ensures read { result.read ≡ units standing.walk.seen }
         ensures turns { result.turns ≡ standing.walk.turns }
+        ensures given { result.given ≡ length (overlapping byte_width (dictionary_of self.entry.now.automaton) (units standing.walk.seen)) }
     {
         let folds = self.automaton().is_ascii_case_insensitive();
         FindOverlappingStepper::resume(self.standard(), &[], standing, folds)

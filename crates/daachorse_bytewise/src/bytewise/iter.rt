@@ -12,15 +12,13 @@ pub mod accelerated;
 
 use crate::bytewise::states::{Leftmost, Standard};
 pub use daachorse_bytewise_states::patterns::PatternIterator;
-use daachorse_folding::find_stepper::FindStepperAsRead;
-use daachorse_folding::leftmost::LeftmostMatchesAsRead;
-use daachorse_folding::matches::MatchesAsRead;
-use daachorse_folding::matches_from::MatchesFromAsRead;
-use daachorse_folding::overlapping_stepper::FindOverlappingStepperAsRead;
 use daachorse_search::ending_here::EndingHere;
 use daachorse_search::find::FindWalk;
+use daachorse_search::leftmost::LeftmostMatches;
+use daachorse_search::matches::Matches;
+use daachorse_search::matches_from::MatchesFrom;
 use daachorse_search::overlapping::{NoSuffixWalk, OverlappingWalk};
-use daachorse_search::{haystack, source};
+use daachorse_search::{find_stepper, haystack, overlapping_stepper, source};
 use daachorse_skipping::skipping::Skipping;
 use std::alloc::Global;
 
@@ -32,7 +30,7 @@ use std::alloc::Global;
 /// The automaton's `find_iter` makes it. It takes no memory, and at most two turns, which are looks
 /// at one state, for each byte that it passed, and none with an empty pattern: `turns_are_bounded`
 /// promises it.
-pub type FindSliceIterator<'a, V, A = Global> = MatchesAsRead<
+pub type FindSliceIterator<'a, V, A = Global> = Matches<
     V,
     FindWalk<V, Standard<'a, V>>,
     haystack::Bytes<'a>,
@@ -46,11 +44,7 @@ pub type FindSliceIterator<'a, V, A = Global> = MatchesAsRead<
 /// The automaton's `find_iter_from_iter` makes it. It takes no memory, and at most two turns, which
 /// are looks at one state, for each byte that it passed, and none with an empty pattern:
 /// `turns_are_bounded` promises it.
-pub type FindIterator<'a, P, V> = MatchesFromAsRead<
-    V,
-    FindWalk<V, Standard<'a, V>>,
-    source::Bytes<P>,
->;
+pub type FindIterator<'a, P, V> = MatchesFrom<V, FindWalk<V, Standard<'a, V>>, source::Bytes<P>>;
 
 /// An iterator over all matches in a slice, by rising ends.
 ///
@@ -58,7 +52,7 @@ pub type FindIterator<'a, P, V> = MatchesFromAsRead<
 ///
 /// The automaton's `find_overlapping_iter` makes it. It takes no memory, and at most two turns,
 /// which are looks at one state, for each byte that it passed: `turns_are_bounded` promises it.
-pub type FindOverlappingSliceIterator<'a, V, A = Global> = MatchesAsRead<
+pub type FindOverlappingSliceIterator<'a, V, A = Global> = Matches<
     V,
     OverlappingWalk<V, Standard<'a, V>>,
     haystack::Bytes<'a>,
@@ -72,7 +66,7 @@ pub type FindOverlappingSliceIterator<'a, V, A = Global> = MatchesAsRead<
 /// The automaton's `find_overlapping_iter_from_iter` makes it. It takes no memory, and at most two
 /// turns, which are looks at one state, for each byte that it passed: `turns_are_bounded` promises
 /// it.
-pub type FindOverlappingIterator<'a, P, V> = MatchesFromAsRead<
+pub type FindOverlappingIterator<'a, P, V> = MatchesFrom<
     V,
     OverlappingWalk<V, Standard<'a, V>>,
     source::Bytes<P>,
@@ -85,7 +79,7 @@ pub type FindOverlappingIterator<'a, P, V> = MatchesFromAsRead<
 /// The automaton's `find_overlapping_no_suffix_iter` makes it. It takes no memory, and at most two
 /// turns, which are looks at one state, for each byte that it passed: `turns_are_bounded` promises
 /// it.
-pub type FindOverlappingNoSuffixSliceIterator<'a, V, A = Global> = MatchesAsRead<
+pub type FindOverlappingNoSuffixSliceIterator<'a, V, A = Global> = Matches<
     V,
     NoSuffixWalk<V, Standard<'a, V>>,
     haystack::Bytes<'a>,
@@ -99,7 +93,7 @@ pub type FindOverlappingNoSuffixSliceIterator<'a, V, A = Global> = MatchesAsRead
 /// The automaton's `find_overlapping_no_suffix_iter_from_iter` makes it. It takes no memory, and at
 /// most two turns, which are looks at one state, for each byte that it passed: `turns_are_bounded`
 /// promises it.
-pub type FindOverlappingNoSuffixIterator<'a, P, V> = MatchesFromAsRead<
+pub type FindOverlappingNoSuffixIterator<'a, P, V> = MatchesFrom<
     V,
     NoSuffixWalk<V, Standard<'a, V>>,
     source::Bytes<P>,
@@ -112,7 +106,7 @@ pub type FindOverlappingNoSuffixIterator<'a, P, V> = MatchesFromAsRead<
 /// The automaton's `leftmost_find_iter` makes it. It takes no memory. After `g` matches it has
 /// taken at most two turns, which are looks at one state, for each byte that it passed, and four
 /// times the bytes of the longest pattern for each match: `turns_are_bounded` promises it.
-pub type LeftmostFindIterator<'a, V, A = Global> = LeftmostMatchesAsRead<
+pub type LeftmostFindIterator<'a, V, A = Global> = LeftmostMatches<
     V,
     Leftmost<'a, V>,
     haystack::Bytes<'a>,
@@ -124,13 +118,17 @@ pub type LeftmostFindIterator<'a, V, A = Global> = LeftmostMatchesAsRead<
 /// The automaton's `find_stepper` makes it. It takes no memory, and at most two turns, which are
 /// looks at one state, for each byte that it passed, and none with an empty pattern:
 /// `turns_are_bounded` promises it.
-pub type FindStepper<'a, V> = FindStepperAsRead<'a, V, Standard<'a, V>>;
+pub type FindStepper<'a, V> = find_stepper::FindStepper<'a, V, Standard<'a, V>>;
 
 /// A search for all matches that is given one byte at a time.
 ///
 /// The automaton's `find_overlapping_stepper` makes it. It takes no memory, and at most two turns,
 /// which are looks at one state, for each byte that it passed: `turns_are_bounded` promises it.
-pub type FindOverlappingStepper<'a, V> = FindOverlappingStepperAsRead<'a, V, Standard<'a, V>>;
+pub type FindOverlappingStepper<'a, V> = overlapping_stepper::FindOverlappingStepper<
+    'a,
+    V,
+    Standard<'a, V>,
+>;
 
 /// An iterator over the matches that end with the bytes that a stepper consumed, the longest first.
 /// It keeps its place while the stepper goes on.

@@ -13,14 +13,13 @@ mod patterns;
 
 pub use crate::charwise::iter::patterns::PatternIterator;
 use crate::charwise::states::{Leftmost, Standard};
-use daachorse_folding::find_stepper::FindStepperAsRead;
-use daachorse_folding::leftmost::LeftmostMatchesAsRead;
-use daachorse_folding::matches::MatchesAsRead;
-use daachorse_folding::matches_from::MatchesFromAsRead;
-use daachorse_folding::overlapping_stepper::FindOverlappingStepperAsRead;
 use daachorse_search::ending_here::EndingHere;
 use daachorse_search::find::FindWalk;
+use daachorse_search::leftmost::LeftmostMatches;
+use daachorse_search::matches::Matches;
+use daachorse_search::matches_from::MatchesFrom;
 use daachorse_search::overlapping::{NoSuffixWalk, OverlappingWalk};
+use daachorse_search::{find_stepper, overlapping_stepper};
 use daachorse_skipping::skipping::Skipping;
 pub use daachorse_text::decoding::{CharWithEndOffsetIterator, Decoded};
 use daachorse_text::text::Text;
@@ -34,7 +33,7 @@ use std::alloc::Global;
 /// The automaton's `find_iter` makes it. It takes no memory, and at most two turns, which are looks
 /// at one state, for each character that it passed, and none with an empty pattern: `turns_are_bounded`
 /// promises it.
-pub type FindSliceIterator<'a, V, A = Global> = MatchesAsRead<
+pub type FindSliceIterator<'a, V, A = Global> = Matches<
     V,
     FindWalk<V, Standard<'a, V>>,
     Text<'a>,
@@ -48,7 +47,7 @@ pub type FindSliceIterator<'a, V, A = Global> = MatchesAsRead<
 /// The automaton's `find_iter_from_iter` makes it. It takes no memory, and at most two turns, which
 /// are looks at one state, for each character that it passed, and none with an empty pattern:
 /// `turns_are_bounded` promises it.
-pub type FindIterator<'a, P, V> = MatchesFromAsRead<V, FindWalk<V, Standard<'a, V>>, Decoded<P>>;
+pub type FindIterator<'a, P, V> = MatchesFrom<V, FindWalk<V, Standard<'a, V>>, Decoded<P>>;
 
 /// An iterator over all matches in a text, by rising ends.
 ///
@@ -57,7 +56,7 @@ pub type FindIterator<'a, P, V> = MatchesFromAsRead<V, FindWalk<V, Standard<'a, 
 /// The automaton's `find_overlapping_iter` makes it. It takes no memory, and at most two turns,
 /// which are looks at one state, for each character that it passed: `turns_are_bounded` promises
 /// it.
-pub type FindOverlappingSliceIterator<'a, V, A = Global> = MatchesAsRead<
+pub type FindOverlappingSliceIterator<'a, V, A = Global> = Matches<
     V,
     OverlappingWalk<V, Standard<'a, V>>,
     Text<'a>,
@@ -71,7 +70,7 @@ pub type FindOverlappingSliceIterator<'a, V, A = Global> = MatchesAsRead<
 /// The automaton's `find_overlapping_iter_from_iter` makes it. It takes no memory, and at most two
 /// turns, which are looks at one state, for each character that it passed: `turns_are_bounded`
 /// promises it.
-pub type FindOverlappingIterator<'a, P, V> = MatchesFromAsRead<
+pub type FindOverlappingIterator<'a, P, V> = MatchesFrom<
     V,
     OverlappingWalk<V, Standard<'a, V>>,
     Decoded<P>,
@@ -84,7 +83,7 @@ pub type FindOverlappingIterator<'a, P, V> = MatchesFromAsRead<
 /// The automaton's `find_overlapping_no_suffix_iter` makes it. It takes no memory, and at most two
 /// turns, which are looks at one state, for each character that it passed: `turns_are_bounded`
 /// promises it.
-pub type FindOverlappingNoSuffixSliceIterator<'a, V, A = Global> = MatchesAsRead<
+pub type FindOverlappingNoSuffixSliceIterator<'a, V, A = Global> = Matches<
     V,
     NoSuffixWalk<V, Standard<'a, V>>,
     Text<'a>,
@@ -98,7 +97,7 @@ pub type FindOverlappingNoSuffixSliceIterator<'a, V, A = Global> = MatchesAsRead
 /// The automaton's `find_overlapping_no_suffix_iter_from_iter` makes it. It takes no memory, and at
 /// most two turns, which are looks at one state, for each character that it passed:
 /// `turns_are_bounded` promises it.
-pub type FindOverlappingNoSuffixIterator<'a, P, V> = MatchesFromAsRead<
+pub type FindOverlappingNoSuffixIterator<'a, P, V> = MatchesFrom<
     V,
     NoSuffixWalk<V, Standard<'a, V>>,
     Decoded<P>,
@@ -112,7 +111,7 @@ pub type FindOverlappingNoSuffixIterator<'a, P, V> = MatchesFromAsRead<
 /// taken at most two turns, which are looks at one state, for each character that it passed, and
 /// four times the characters of the longest pattern for each match: `turns_are_bounded` promises
 /// it.
-pub type LeftmostFindIterator<'a, V, A = Global> = LeftmostMatchesAsRead<
+pub type LeftmostFindIterator<'a, V, A = Global> = LeftmostMatches<
     V,
     Leftmost<'a, V>,
     Text<'a>,
@@ -124,14 +123,18 @@ pub type LeftmostFindIterator<'a, V, A = Global> = LeftmostMatchesAsRead<
 /// The automaton's `find_stepper` makes it. It takes no memory, and at most two turns, which are
 /// looks at one state, for each character that it passed, and none with an empty pattern:
 /// `turns_are_bounded` promises it.
-pub type FindStepper<'a, V> = FindStepperAsRead<'a, V, Standard<'a, V>>;
+pub type FindStepper<'a, V> = find_stepper::FindStepper<'a, V, Standard<'a, V>>;
 
 /// A search for all matches that is given one character at a time.
 ///
 /// The automaton's `find_overlapping_stepper` makes it. It takes no memory, and at most two turns,
 /// which are looks at one state, for each character that it passed: `turns_are_bounded` promises
 /// it.
-pub type FindOverlappingStepper<'a, V> = FindOverlappingStepperAsRead<'a, V, Standard<'a, V>>;
+pub type FindOverlappingStepper<'a, V> = overlapping_stepper::FindOverlappingStepper<
+    'a,
+    V,
+    Standard<'a, V>,
+>;
 
 /// An iterator over the matches that end with the characters that a stepper consumed, the longest
 /// first. It keeps its place while the stepper goes on.

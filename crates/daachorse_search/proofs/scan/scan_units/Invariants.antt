@@ -2,6 +2,7 @@
 use Rattle.std.proofs.Common.{◌≡◌, List}
 use Rattle.std.specs.Iterator.{items_left}
 use Rattle.daachorse_model.specs.Units.{size}
+use Rattle.daachorse_search.specs.Readings.{unit_as_read}
 use Rattle.daachorse_search.specs.Sources.{IsReady, ScansOver}
 use Rattle.daachorse_search.proofs.scan.scan_units.Given as goal
 
@@ -9,8 +10,8 @@ abbrev pub invariant-units : goal.invariant-units
 invariant-units g l =
     let S = g.S.Iterator in let W = g.W.Stepwise in let unit = g.W.Unit.EdgeLabel in
     record {
-      over : (xs : List g.row.W-Unit.Denot) × ScansOver W.automaton W.read W.found S.next_gives S.remaining unit.unit l.fn.walk l.fn.source xs l.walk l.source;
-      ready : IsReady S.can_next S.next_gives S.remaining unit.unit unit.width l.source (size unit.width (W.read l.walk));
+      over : (xs : List g.row.W-Unit.Denot) × ScansOver W.automaton W.read W.found S.next_gives S.remaining (unit_as_read l.folds unit.unit) l.fn.walk l.fn.source xs l.walk l.source;
+      ready : IsReady S.can_next S.next_gives S.remaining (unit_as_read l.folds unit.unit) unit.width l.source (size unit.width (W.read l.walk));
       here : l.place ≡ size unit.width (W.read l.walk);
     }
 

@@ -6,4 +6,4 @@ use Rattle.daachorse_tests.proofs.steppers.first_of.Goals as goal
 pub next-first-requires : goal.next-first-requires
 next-first-requires c =
     let begun = c.find_iter_from_iter in
-    from_first _ begun.result.folds begun.result.search.source begun.result.search.read begun.ensures.begins.read (search rules)
+    from_first _ begun.result.folds begun.result.source begun.result.read begun.ensures.read (search rules)

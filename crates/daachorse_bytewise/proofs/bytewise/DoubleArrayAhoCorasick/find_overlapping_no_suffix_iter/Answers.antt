@@ -11,18 +11,18 @@ use Rattle.daachorse_bytewise_states.specs.Parts.{Parts, content}
 use Rattle.daachorse_bytewise.proofs.bytewise.DoubleArrayAhoCorasick.find_overlapping_no_suffix_iter.Goals as goal
 
 -- the filter is sound for the states' dictionary
-pub find_overlapping_no_suffix_as_read-requires-clause-sound : goal.find_overlapping_no_suffix_as_read-requires-clause-sound
-find_overlapping_no_suffix_as_read-requires-clause-sound g c =
+pub find_overlapping_no_suffix_in-requires-clause-sound : goal.find_overlapping_no_suffix_in-requires-clause-sound
+find_overlapping_no_suffix_in-requires-clause-sound g c =
     let P : Parts g.row.V.Denot → Type 0 = λ p. IsSoundFor (λ w. lets_pass untested c.skipping.result.filter w) (content p) in
     subst P (sym (c.standard.ensures ∙ ap (λ a. a.parts) c.self.view_is)) c.skipping.ensures.sound
 
 pub returns : goal.returns
 returns g c = record {
   begins =
-      let e = c.find_overlapping_no_suffix_as_read.ensures in
-      BeginsWith-along (λ (p : Parts g.row.V.Denot). no_suffix byte_width (content p)) _ _ _ _ _ (c.standard.ensures ∙ ap (λ a. a.parts) c.self.view_is) (ap (as_read c.self.inside.folds) c.new.ensures.bytes ∙ ap (λ a. as_read a.folds c.args.haystack.now) c.self.view_is)
+      let e = c.find_overlapping_no_suffix_in.ensures in
+      BeginsWith-along (λ (p : Parts g.row.V.Denot). no_suffix byte_width (content p)) _ _ _ _ _ (c.standard.ensures ∙ ap (λ a. a.parts) c.self.view_is) (c.new.ensures.bytes ∙ ap (λ a. as_read a.folds c.args.haystack.now) c.self.view_is)
       (record { automaton = e.automaton; haystack = e.haystack; left = e.left; passed = e.passed; turns = e.turns; given = e.given });
   asks =
       let P : Asked _ → Type 0 = λ s. BeginsAsking c.args.self.now.filter s in
-      subst P (sym c.find_overlapping_no_suffix_as_read.ensures.filter) c.skipping.ensures.asks;
+      subst P (sym c.find_overlapping_no_suffix_in.ensures.filter) c.skipping.ensures.asks;
 }

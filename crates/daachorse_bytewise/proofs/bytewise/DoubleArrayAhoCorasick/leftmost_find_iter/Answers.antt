@@ -10,18 +10,18 @@ use Rattle.daachorse_skipping.specs.Asked.{Asked, BeginsAsking, lets_pass}
 use Rattle.daachorse_bytewise_states.specs.Parts.{Parts, content}
 use Rattle.daachorse_bytewise.proofs.bytewise.DoubleArrayAhoCorasick.leftmost_find_iter.Goals as goal
 
-pub leftmost_as_read-requires-clause-sound : goal.leftmost_as_read-requires-clause-sound
-leftmost_as_read-requires-clause-sound g c =
+pub with_filter-requires-clause-sound : goal.with_filter-requires-clause-sound
+with_filter-requires-clause-sound g c =
     let P : Parts g.row.V.Denot → Type 0 = λ p. IsSoundFor (λ w. lets_pass untested c.skipping.result.filter w) (content p) in
     subst P (sym (c.leftmost.ensures ∙ ap (λ a. a.parts) c.self.view_is)) c.skipping.ensures.sound
 
 pub returns : goal.returns
 returns g c = record {
   begins =
-      let e = c.leftmost_as_read.ensures in
-      BeginsWith-along (λ (p : Parts g.row.V.Denot). leftmost byte_width (content p)) _ _ _ _ _ (c.leftmost.ensures ∙ ap (λ a. a.parts) c.self.view_is) (ap (as_read c.self.inside.folds) c.new.ensures.bytes ∙ ap (λ a. as_read a.folds c.args.haystack.now) c.self.view_is)
+      let e = c.with_filter.ensures in
+      BeginsWith-along (λ (p : Parts g.row.V.Denot). leftmost byte_width (content p)) _ _ _ _ _ (c.leftmost.ensures ∙ ap (λ a. a.parts) c.self.view_is) (c.new.ensures.bytes ∙ ap (λ a. as_read a.folds c.args.haystack.now) c.self.view_is)
       (record { automaton = e.automaton; haystack = e.haystack; left = e.left; passed = e.passed; turns = e.turns; given = e.given });
   asks =
       let P : Asked _ → Type 0 = λ s. BeginsAsking c.args.self.now.filter s in
-      subst P (sym c.leftmost_as_read.ensures.filter) c.skipping.ensures.asks;
+      subst P (sym c.with_filter.ensures.filter) c.skipping.ensures.asks;
 }

@@ -16,7 +16,7 @@ pub after-requires : goal.after-requires
 after-requires g c =
     let h = c.args.rest.now in let r : ℕ = c.first_place-gain.result in
     let P : List ℕ → Type 0 = λ w. r ≤ length w in
-    (take r h, drop r h, sym (take-append-drop r h), bytes_sized h r (subst P c.bytes.ensures c.first_place-gain.ensures.inside))
+    (take r h, drop r h, sym (take-append-drop r h), bytes_sized h r (subst P c.unread-folds.ensures c.first_place-gain.ensures.inside))
 
 pub returns-in-Some-clause-goes : goal.returns-in-Some-clause-goes
 returns-in-Some-clause-goes g c =
@@ -25,7 +25,7 @@ returns-in-Some-clause-goes g c =
     let P : List ℕ → Type 0 = λ w. IsFirstPlace (λ v. lets c.self.inside.test v && admits f v) w 0 r in
     let Q : Asked _ → Type 0 = λ s. IsFirstPlace (λ v. lets s.test v && admits f v) h 0 r in
     let shown : c.args.self.now.filter ≡ Some f = sym (ap (λ (s : Asked _). s.filter) c.self.view_is) ∙ ap (option_map (λ (x : Bor Filter). x.now)) c.in-Some.is in
-    let first = subst Q c.self.view_is (subst P c.bytes.ensures c.first_place-gain.ensures) in
+    let first = subst Q c.self.view_is (subst P c.unread-folds.ensures c.first_place-gain.ensures) in
     let R : Option Filter → Type 0 = λ o. IsNextPassing (λ w. lets_pass (lets test) o w) h later in
     subst R (sym shown) (skipped_bytes (λ v. lets test v && admits f v) h later r first (c.after.ensures (take r h) (drop r h) (sym (take-append-drop r h)) (bytes_sized h r first.inside)))
 
@@ -33,7 +33,7 @@ pub returns-in-Some-clause-records : goal.returns-in-Some-clause-records
 returns-in-Some-clause-records g c = λ gains before.
     let f = c.in-Some.filter.now in let h = c.args.rest.now in let r : ℕ = c.first_place-gain.result in let later = c.after.result in
     let P : List ℕ → Type 0 = λ w. r ≤ length w in
-    let inside = subst P c.bytes.ensures c.first_place-gain.ensures.inside in
+    let inside = subst P c.unread-folds.ensures c.first_place-gain.ensures.inside in
     let shown : c.args.self.now.filter ≡ Some f = sym (ap (λ (s : Asked _). s.filter) c.self.view_is) ∙ ap (option_map (λ (x : Bor Filter). x.now)) c.in-Some.is in
     let G : PrefilterGate → Type 0 = λ gate. HasRecorded gate gains in
     let recorded = c.record.ensures gains (subst G (sym (ap (λ (s : Asked _). s.gate) c.self.view_is)) before) in

@@ -1,5 +1,5 @@
 -- The view has the states and their rows, and the haystack has the bytes of the slice. The filter is sound for the states' dictionary.
-use Rattle.std.proofs.Common.{ap, ◌∙◌}
+use Rattle.std.proofs.Common.{refl, ap, ◌∙◌}
 use Rattle.daachorse_model.specs.Units.{byte_width}
 use Rattle.daachorse_model.specs.Matches.{no_suffix}
 use Rattle.daachorse_rows.proofs.RowedLaws.{begins_rowed}
@@ -10,12 +10,12 @@ use Rattle.daachorse_bytewise.specs.Accelerated.{rowed_states}
 use Rattle.daachorse_bytewise.proofs.RowedLaws.{sound_rowed}
 use Rattle.daachorse_bytewise.proofs.bytewise.accelerated.Accelerated.find_overlapping_no_suffix_iter.Goals as goal
 
-pub find_overlapping_no_suffix_as_read-requires-clause-sound : goal.find_overlapping_no_suffix_as_read-requires-clause-sound
-find_overlapping_no_suffix_as_read-requires-clause-sound g c = sound_rowed c.args.self.now c.standard.result (λ w. lets_pass (may_begin c.skipping.result.test.now) c.skipping.result.filter w) c.standard.ensures c.skipping.ensures.sound
+pub find_overlapping_no_suffix_in-requires-clause-sound : goal.find_overlapping_no_suffix_in-requires-clause-sound
+find_overlapping_no_suffix_in-requires-clause-sound g c = sound_rowed c.args.self.now c.standard.result (λ w. lets_pass (may_begin c.skipping.result.test.now) c.skipping.result.filter w) c.standard.ensures c.skipping.ensures.sound
 
 pub returns-clause-begins : goal.returns-clause-begins
 returns-clause-begins g c =
-    let e = c.find_overlapping_no_suffix_as_read.ensures in
-    begins_rowed content (no_suffix byte_width) (rowed_states c.args.self.now) c.standard.result c.is_ascii_case_insensitive.result c.args.self.now.automaton.folds _ c.args.haystack.now c.find_overlapping_no_suffix_as_read.result c.standard.ensures
-    (c.is_ascii_case_insensitive.ensures ∙ ap (λ x. x.folds) c.automaton.ensures) c.new.ensures.bytes
-    (record { automaton = e.automaton; haystack = e.haystack; left = e.left; passed = e.passed; turns = e.turns; given = e.given })
+    let e = c.find_overlapping_no_suffix_in.ensures in
+    begins_rowed content (no_suffix byte_width) (rowed_states c.args.self.now) c.standard.result c.is_ascii_case_insensitive.result c.args.self.now.automaton.folds _ c.args.haystack.now c.find_overlapping_no_suffix_in.result c.standard.ensures
+    (c.is_ascii_case_insensitive.ensures ∙ ap (λ x. x.folds) c.automaton.ensures) refl
+    (record { automaton = e.automaton; haystack = e.haystack ∙ c.new.ensures.bytes; left = e.left ∙ ap (no_suffix byte_width (content c.standard.result.automaton)) c.new.ensures.bytes; passed = e.passed; turns = e.turns; given = e.given })

@@ -1,4 +1,0 @@
-pub mod Haystacks
-pub mod Readings
-pub mod Steppers
-pub mod SourceSearches

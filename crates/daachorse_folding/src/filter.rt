@@ -8,6 +8,7 @@ ghost use Rattle.daachorse_search.specs.Filters.{IsNextPassing};
 ghost use Rattle.daachorse_model.specs.Folding.{folded};
 ghost use Rattle.daachorse_model.specs.Units.{byte_width, char_width};
 ghost use Rattle.daachorse_skipping.specs.Asked.{HasRecordedSkip, lets_pass};
+ghost use Rattle.daachorse_skipping.specs.Beginnings.{may_begin};
 
 use crate::reading::AsRead;
 use daachorse_core::ascii_fold::AsciiFold;
@@ -17,7 +18,6 @@ use daachorse_search::folded::{FoldHaystack, Folded};
 use daachorse_search::haystack::{Bytes, Reread};
 use daachorse_skipping::places::{first_boundary, first_place};
 use daachorse_skipping::skipping::Skipping;
-use daachorse_skipping::telling::Telling;
 use daachorse_text::text::Text;
 use std::alloc::Allocator;
 use std::marker::Model;
@@ -36,32 +36,36 @@ impl<U: AsciiFold, H: Reread<U>> FoldingFilter<U, H> for NoFilter {
     fn skip_folded(&mut self, _rest: &mut Folded<H>) {}
 }
 
-impl<'a, 'h, A: Allocator, T: Telling> FoldingFilter<u8, Bytes<'h>> for Skipping<'a, A, T> {
+impl<'a, 'h, A: Allocator> FoldingFilter<u8, Bytes<'h>> for Skipping<'a, A> {
     #[inline(always)]
     fn skip_folded(&mut self, rest: &mut Folded<Bytes<'h>>)
-        ensures passes { (w : List ℕ) → lets_pass (T.lets self.new.test) self.new.filter w ≡ lets_pass (T.lets self.old.test) self.old.filter w }
-        ensures goes { IsNextPassing (λ w. lets_pass (T.lets self.old.test) self.old.filter w) (folded rest.old) (folded rest.new) }
+        ensures passes { (w : List ℕ) → lets_pass (may_begin self.new.beginnings) self.new.filter w ≡ lets_pass (may_begin self.old.beginnings) self.old.filter w }
+        ensures goes { IsNextPassing (λ w. lets_pass (may_begin self.old.beginnings) self.old.filter w) (folded rest.old) (folded rest.new) }
         ensures records { HasRecordedSkip byte_width self.old (folded rest.old) (folded rest.new) self.new }
     {
         if let Some(filter) = self.filter() {
-            let gain = first_place::<AsFolded, A, T>(filter, self.test(), rest.unfolded().bytes());
+            let gain = first_place::<AsFolded, A>(
+                filter,
+                self.beginnings(),
+                rest.unfolded().bytes(),
+            );
             self.record(gain);
             *rest = rest.after(gain);
         }
     }
 }
 
-impl<'a, 'h, A: Allocator, T: Telling> FoldingFilter<char, Text<'h>> for Skipping<'a, A, T> {
+impl<'a, 'h, A: Allocator> FoldingFilter<char, Text<'h>> for Skipping<'a, A> {
     #[inline(always)]
     fn skip_folded(&mut self, rest: &mut Folded<Text<'h>>)
-        ensures passes { (w : List ℕ) → lets_pass (T.lets self.new.test) self.new.filter (encode_utf8_all w) ≡ lets_pass (T.lets self.old.test) self.old.filter (encode_utf8_all w) }
-        ensures goes { IsNextPassing (λ w. lets_pass (T.lets self.old.test) self.old.filter (encode_utf8_all w)) (folded rest.old) (folded rest.new) }
+        ensures passes { (w : List ℕ) → lets_pass (may_begin self.new.beginnings) self.new.filter (encode_utf8_all w) ≡ lets_pass (may_begin self.old.beginnings) self.old.filter (encode_utf8_all w) }
+        ensures goes { IsNextPassing (λ w. lets_pass (may_begin self.old.beginnings) self.old.filter (encode_utf8_all w)) (folded rest.old) (folded rest.new) }
         ensures records { HasRecordedSkip char_width self.old (folded rest.old) (folded rest.new) self.new }
     {
         if let Some(filter) = self.filter() {
-            let gain = first_boundary::<AsFolded, A, T>(
+            let gain = first_boundary::<AsFolded, A>(
                 filter,
-                self.test(),
+                self.beginnings(),
                 rest.unfolded().text(),
             );
             self.record(gain);

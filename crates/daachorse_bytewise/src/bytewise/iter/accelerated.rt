@@ -14,7 +14,6 @@ use daachorse_search::ending_here::EndingHere;
 use daachorse_search::find::FindWalk;
 use daachorse_search::overlapping::{NoSuffixWalk, OverlappingWalk};
 use daachorse_search::{haystack, source};
-use daachorse_skipping::beginnings::Beginnings;
 use daachorse_skipping::skipping::Skipping;
 use std::alloc::Global;
 
@@ -23,7 +22,7 @@ pub type FindSliceIterator<'a, V, A = Global> = MatchesAsRead<
     V,
     FindWalk<V, RowView<'a, V, Standard<'a, V>>>,
     haystack::Bytes<'a>,
-    Skipping<'a, A, &'a Beginnings<A>>,
+    Skipping<'a, A>,
 >;
 
 /// An iterator over non-overlapping matches in the bytes that a source yields.
@@ -38,7 +37,7 @@ pub type FindOverlappingSliceIterator<'a, V, A = Global> = MatchesAsRead<
     V,
     OverlappingWalk<V, RowView<'a, V, Standard<'a, V>>>,
     haystack::Bytes<'a>,
-    Skipping<'a, A, &'a Beginnings<A>>,
+    Skipping<'a, A>,
 >;
 
 /// An iterator over all matches in the bytes that a source yields.
@@ -53,7 +52,7 @@ pub type FindOverlappingNoSuffixSliceIterator<'a, V, A = Global> = MatchesAsRead
     V,
     NoSuffixWalk<V, RowView<'a, V, Standard<'a, V>>>,
     haystack::Bytes<'a>,
-    Skipping<'a, A, &'a Beginnings<A>>,
+    Skipping<'a, A>,
 >;
 
 /// An iterator over the longest match at each end in the bytes that a source yields.
@@ -68,7 +67,7 @@ pub type LeftmostFindIterator<'a, V, A = Global> = LeftmostMatchesAsRead<
     V,
     RowView<'a, V, Leftmost<'a, V>>,
     haystack::Bytes<'a>,
-    Skipping<'a, A, &'a Beginnings<A>>,
+    Skipping<'a, A>,
 >;
 
 /// A search for non-overlapping matches that is given one byte at a time. It tells no depths.

@@ -13,7 +13,6 @@ use daachorse_rows::view::RowView;
 use daachorse_search::ending_here::EndingHere;
 use daachorse_search::find::FindWalk;
 use daachorse_search::overlapping::{NoSuffixWalk, OverlappingWalk};
-use daachorse_skipping::beginnings::Beginnings;
 use daachorse_skipping::skipping::Skipping;
 use daachorse_text::decoding::Decoded;
 use daachorse_text::text::Text;
@@ -24,7 +23,7 @@ pub type FindSliceIterator<'a, V, A = Global> = MatchesAsRead<
     V,
     FindWalk<V, RowView<'a, V, StandardForRows<'a, V>>>,
     Text<'a>,
-    Skipping<'a, A, &'a Beginnings<A>>,
+    Skipping<'a, A>,
 >;
 
 /// An iterator over non-overlapping matches in the text whose bytes a source yields.
@@ -39,7 +38,7 @@ pub type FindOverlappingSliceIterator<'a, V, A = Global> = MatchesAsRead<
     V,
     OverlappingWalk<V, RowView<'a, V, StandardForRows<'a, V>>>,
     Text<'a>,
-    Skipping<'a, A, &'a Beginnings<A>>,
+    Skipping<'a, A>,
 >;
 
 /// An iterator over all matches in the text whose bytes a source yields.
@@ -54,7 +53,7 @@ pub type FindOverlappingNoSuffixSliceIterator<'a, V, A = Global> = MatchesAsRead
     V,
     NoSuffixWalk<V, RowView<'a, V, StandardForRows<'a, V>>>,
     Text<'a>,
-    Skipping<'a, A, &'a Beginnings<A>>,
+    Skipping<'a, A>,
 >;
 
 /// An iterator over the longest match at each end in the text whose bytes a source yields.
@@ -69,7 +68,7 @@ pub type LeftmostFindIterator<'a, V, A = Global> = LeftmostMatchesAsRead<
     V,
     RowView<'a, V, LeftmostForRows<'a, V>>,
     Text<'a>,
-    Skipping<'a, A, &'a Beginnings<A>>,
+    Skipping<'a, A>,
 >;
 
 /// A search for non-overlapping matches that is given one character at a time. It tells no depths.

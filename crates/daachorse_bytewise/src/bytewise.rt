@@ -267,7 +267,7 @@ impl<V: Copy, A: Allocator + Copy> DoubleArrayAhoCorasick<V, A> {
 /// depths included.
 impl<V: Copy + PartialEq, A: Allocator> PartialEq for DoubleArrayAhoCorasick<V, A> {
     ghost use Rattle.daachorse_bytewise_states.specs.Equality.{parts_per};
-    ghost use Rattle.daachorse_listing.specs.Automata.{automaton_per};
+    ghost use Rattle.daachorse_array.specs.Automata.{automaton_per};
     ghost use Rattle.daachorse_prefilter.specs.Equality.{filter_equiv};
     ghost use Rattle.daachorse_bytewise.specs.Automata.{automaton_eq};
 
@@ -284,7 +284,7 @@ impl<V: Copy + PartialEq, A: Allocator> PartialEq for DoubleArrayAhoCorasick<V, 
 
 impl<V: Copy + Eq, A: Allocator> Eq for DoubleArrayAhoCorasick<V, A> {
     ghost use Rattle.daachorse_bytewise_states.specs.Equality.{parts_equiv};
-    ghost use Rattle.daachorse_listing.specs.Automata.{automaton_equiv};
+    ghost use Rattle.daachorse_array.specs.Automata.{automaton_equiv};
     ghost use Rattle.daachorse_prefilter.specs.Equality.{filter_equiv};
 
     ghost laws = { automaton_equiv filter_equiv (parts_equiv V.Eq.laws) };
@@ -292,7 +292,7 @@ impl<V: Copy + Eq, A: Allocator> Eq for DoubleArrayAhoCorasick<V, A> {
 
 impl<V: Copy + Hash, A: Allocator> Hash for DoubleArrayAhoCorasick<V, A> {
     ghost use Rattle.daachorse_bytewise_states.specs.Equality.{parts_alike};
-    ghost use Rattle.daachorse_listing.specs.Automata.{automaton_alike};
+    ghost use Rattle.daachorse_array.specs.Automata.{automaton_alike};
     ghost use Rattle.daachorse_prefilter.specs.Equality.{filter_alike};
     ghost use Rattle.daachorse_bytewise.specs.Automata.{automaton_input};
 

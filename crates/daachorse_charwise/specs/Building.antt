@@ -8,7 +8,7 @@ use Rattle.daachorse_core.specs.declared.errors.Limit.TheVariants.{NumElements}
 use Rattle.daachorse_model.specs.declared.MatchKind.{MatchKind}
 use Rattle.daachorse_model.specs.Dictionary.{dictionary, kept_registrations}
 use Rattle.daachorse_model.specs.Units.{char_width}
-use Rattle.daachorse_mapper.specs.Codings.{Coding, IsCodingOf}
+use Rattle.daachorse_charwise_states.specs.Codings.{Coding, IsCodingOf}
 use Rattle.daachorse_patterns.specs.Building.{Fit, IsBuildRefusalWithin, IsRefusalWithin, Limits}
 use Rattle.daachorse_patterns.specs.Filters.{kept_filter as filter_kept}
 use Rattle.daachorse_patterns.specs.Patterns.{AreIndexed, texts_of}

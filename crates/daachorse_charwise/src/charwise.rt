@@ -273,7 +273,7 @@ impl<V: Copy, A: Allocator + Copy> CharwiseDoubleArrayAhoCorasick<V, A> {
 /// depths included.
 impl<V: Copy + PartialEq, A: Allocator> PartialEq for CharwiseDoubleArrayAhoCorasick<V, A> {
     ghost use Rattle.daachorse_charwise_states.specs.Equality.{parts_per};
-    ghost use Rattle.daachorse_listing.specs.Automata.{automaton_per};
+    ghost use Rattle.daachorse_array.specs.Automata.{automaton_per};
     ghost use Rattle.daachorse_prefilter.specs.Equality.{filter_equiv};
     ghost use Rattle.daachorse_charwise.specs.Automata.{automaton_eq};
 
@@ -290,7 +290,7 @@ impl<V: Copy + PartialEq, A: Allocator> PartialEq for CharwiseDoubleArrayAhoCora
 
 impl<V: Copy + Eq, A: Allocator> Eq for CharwiseDoubleArrayAhoCorasick<V, A> {
     ghost use Rattle.daachorse_charwise_states.specs.Equality.{parts_equiv};
-    ghost use Rattle.daachorse_listing.specs.Automata.{automaton_equiv};
+    ghost use Rattle.daachorse_array.specs.Automata.{automaton_equiv};
     ghost use Rattle.daachorse_prefilter.specs.Equality.{filter_equiv};
 
     ghost laws = { automaton_equiv filter_equiv (parts_equiv V.Eq.laws) };
@@ -298,7 +298,7 @@ impl<V: Copy + Eq, A: Allocator> Eq for CharwiseDoubleArrayAhoCorasick<V, A> {
 
 impl<V: Copy + Hash, A: Allocator> Hash for CharwiseDoubleArrayAhoCorasick<V, A> {
     ghost use Rattle.daachorse_charwise_states.specs.Equality.{parts_alike};
-    ghost use Rattle.daachorse_listing.specs.Automata.{automaton_alike};
+    ghost use Rattle.daachorse_array.specs.Automata.{automaton_alike};
     ghost use Rattle.daachorse_prefilter.specs.Equality.{filter_alike};
     ghost use Rattle.daachorse_charwise.specs.Automata.{automaton_input};
 

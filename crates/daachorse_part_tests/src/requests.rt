@@ -2,7 +2,7 @@
 
 use crate::expect;
 use daachorse_core::errors::{DaachorseError, Result};
-use daachorse_mapper::mapper::CodeMapper;
+use daachorse_charwise_states::mapper::CodeMapper;
 use daachorse_prefilter::prefilter::{Prefilter, PrefilterBuilder};
 use daachorse_serializer::serializer::SerializableVec;
 use refusing::{Answer, Call, Refusing, each_request};

@@ -14,3 +14,4 @@ pub mod DepthLaws
 pub mod BeginningLaws
 pub mod AfreshLaws
 pub mod SkipLaws
+pub mod PieceLaws

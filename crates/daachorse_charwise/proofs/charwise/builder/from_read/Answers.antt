@@ -7,7 +7,7 @@ use Rattle.daachorse_model.specs.Units.{char_width}
 use Rattle.daachorse_prefilter.proofs.KeyLaws.{passes_along}
 use Rattle.daachorse_patterns.proofs.LinksBack.{links_back}
 use Rattle.daachorse_patterns.proofs.TextLaws.{keys-as_read}
-use Rattle.daachorse_mapper.specs.Codings.{Coding, IsCodingOf}
+use Rattle.daachorse_charwise_states.specs.Codings.{Coding, IsCodingOf}
 use Rattle.daachorse_charwise_states.specs.Parts.{Parts, content}
 use Rattle.daachorse_charwise.specs.Building.{AreCodesOf, registrations_of_strings}
 use Rattle.daachorse_charwise.proofs.BuildLaws.{codes_of, coded_keys, elements_refused}

@@ -1,5 +1,5 @@
 -- What callers see of an automaton over bytes with rows: the automaton, the rows of its states near the root, and the marks of what its patterns begin with, if there are any.
-use Rattle.std.specs.Prelude.{Bool, List}
+use Rattle.std.specs.Prelude.{Bool, List, Option}
 use Rattle.daachorse_rows.specs.Rows.{RowTable, Rowed}
 use Rattle.daachorse_bytewise_states.specs.Parts.{Parts}
 use Rattle.daachorse_bytewise_states.specs.StateRows.{CoversNear, StaysInRows, StaysUnlessLarge}
@@ -9,7 +9,7 @@ use Rattle.daachorse_bytewise.specs.Automata.{Automaton, dictionary_of, states_o
 pub record Accelerated (V : Type 0) : Type 0 where
   pub automaton : Automaton V
   pub rows : RowTable
-  pub beginnings : List Bool
+  pub beginnings : Option (List Bool)
 
 -- its states with their rows, through which its searches go
 abbrev pub rowed_states : {V : Type 0} → Accelerated V → Rowed (Parts V)

@@ -18,8 +18,8 @@ ghost use Rattle.daachorse_model.specs.Matches.{matches_after, no_suffix, overla
 ghost use Rattle.daachorse_model.specs.Prefixes.{HasPrefixes, IsListing};
 ghost use Rattle.daachorse_search.specs.Beginnings.{BeginsFrom, BeginsStepping, BeginsWith};
 ghost use Rattle.daachorse_search.specs.Filters.{IsSoundFor};
-ghost use Rattle.daachorse_prefilter.specs.Places.{untested};
 ghost use Rattle.daachorse_skipping.specs.Asked.{BeginsAsking, lets_pass};
+ghost use Rattle.daachorse_skipping.specs.Beginnings.{may_begin};
 ghost use Rattle.daachorse_bytewise.specs.Automata.{HasDepths, MayFold, MayHaveFilter, dictionary_of, kind_of, states_of};
 ghost use Rattle.daachorse_core.specs.Seen.{units};
 ghost use Rattle.daachorse_bytewise.specs.Standings.{IsFindStandingIn, IsOverlappingStandingIn};
@@ -336,7 +336,7 @@ impl<V: Copy, A: Allocator> DoubleArrayAhoCorasick<V, A> {
     #[inline(always)]
     fn skipping<'a>(&'a self) -> Skipping<'a, A>
         ensures asks { BeginsAsking self.entry.now.filter result }
-        ensures sound { IsSoundFor (λ w. lets_pass untested result.filter w) (dictionary_of self.entry.now) }
+        ensures sound { IsSoundFor (λ w. lets_pass (may_begin result.beginnings) result.filter w) (dictionary_of self.entry.now) }
     {
         Skipping::new(self.filter.as_ref())
     }

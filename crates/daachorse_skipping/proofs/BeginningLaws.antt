@@ -1,5 +1,5 @@
 -- Marks that the keys of a listing leave are those of their beginnings, and a test by them is sound for the dictionary.
-use Rattle.std.proofs.Common.{◌≡◌, ◌≢◌, ◌⊎◌, ℕ, ◌<◌, ◌≤◌, Bool, true, false, cond, Option, List, [], ◌∷◌, ◌++◌, length, refl, sym, ap, ◌∙◌, subst, inl, inr, arith, length-append}
+use Rattle.std.proofs.Common.{◌≡◌, ◌≢◌, ◌⊎◌, ℕ, ◌<◌, ◌≤◌, Bool, true, false, cond, Option, Some, None, List, [], ◌∷◌, ◌++◌, length, refl, sym, ap, ◌∙◌, subst, inl, inr, arith, length-append}
 use Rattle.std.specs.Prelude.{nat_le, set, slice_index, slice_index_or}
 use Rattle.std.specs.Int.{from_le_bytes, w32}
 use Rattle.std.proofs.lemmas.Bool.{cases_eq, false≢true}
@@ -11,7 +11,6 @@ use Rattle.daachorse_model.specs.Prefixes.{IsKey, IsListing}
 use Rattle.daachorse_model.specs.Units.{same_text}
 use Rattle.daachorse_model.proofs.Booleans.{both-true}
 use Rattle.daachorse_prefilter.specs.Filters.{Filter}
-use Rattle.daachorse_prefilter.specs.Places.{untested}
 use Rattle.daachorse_prefilter.proofs.PlaceLaws.{both_pass}
 use Rattle.daachorse_search.specs.Filters.{IsSoundFor}
 use Rattle.daachorse_skipping.specs.Beginnings.{AreBeginnings, MayTell, beginning_of, hash_of, has_mark, may_begin}
@@ -43,10 +42,6 @@ mark-append marks w r e =
     let long : 4 ≤ length w = long_enough 4 (length w) parts.0 in
     both_pass (nat_le 4 (length (w ++ r))) (slice_index_or marks (beginning_of (w ++ r)) false) (is_long 4 (length (w ++ r)) (omega (arith, long, length-append w r))) (ap (λ h. slice_index_or marks h false) (beginning-append w r long) ∙ parts.1)
 
-marked_begins : (marks : List Bool) (w : List ℕ) → has_mark marks w ≡ true → may_begin marks w ≡ true
-marked_begins [] w e = refl
-marked_begins (m ∷ marks) w e = e
-
 -- a mark that is set is no other's loss
 mark-set : (marks : List Bool) (h i : ℕ) → h < length marks → slice_index_or marks i false ≡ true → slice_index_or (set marks h true) i false ≡ true
 mark-set marks h i inside e = elim (cases_eq i h) [
@@ -76,16 +71,16 @@ first_some false v vs e = absurd (false≢true e)
 
 module _ {V : Type 0} (spell : List ℕ → List ℕ) (K : Dictionary V) where
   -- a test by marks that may tell is sound
-  pub sound_beginnings : ((v w : List ℕ) → spell (v ++ w) ≡ spell v ++ spell w) → (marks : List Bool) → MayTell spell K marks → IsSoundFor (λ w. may_begin marks (spell w)) K
-  sound_beginnings joined marks (inl none) = λ key rest is_key. ap (λ m. may_begin m (spell (key ++ rest))) none
-  sound_beginnings joined marks (inr are) = λ key rest is_key.
-      ap (may_begin marks) (joined key rest) ∙ marked_begins marks (spell key ++ spell rest) (mark-append marks (spell key) (spell rest) (are.marked key is_key))
+  pub sound_beginnings : ((v w : List ℕ) → spell (v ++ w) ≡ spell v ++ spell w) → (marks : Option (List Bool)) → MayTell spell K marks → IsSoundFor (λ w. may_begin marks (spell w)) K
+  sound_beginnings joined None none = λ key rest is_key. refl
+  sound_beginnings joined (Some marks) are = λ key rest is_key.
+      ap (has_mark marks) (joined key rest) ∙ mark-append marks (spell key) (spell rest) (are.marked key is_key)
 
   -- a filter that is asked with such a test is sound for what is the same dictionary
-  pub sound_asked : ((v w : List ℕ) → spell (v ++ w) ≡ spell v ++ spell w) → (marks others : List Bool) (filter asked : Option Filter) (L : Dictionary V) → MayTell spell K marks → IsSoundFor (λ w. lets_pass untested filter (spell w)) K → others ≡ marks → asked ≡ filter → K ≡ L
+  pub sound_asked : ((v w : List ℕ) → spell (v ++ w) ≡ spell v ++ spell w) → (marks others : Option (List Bool)) (filter asked : Option Filter) (L : Dictionary V) → MayTell spell K marks → IsSoundFor (λ w. lets_pass (may_begin None) filter (spell w)) K → others ≡ marks → asked ≡ filter → K ≡ L
       → IsSoundFor (λ w. lets_pass (may_begin others) asked (spell w)) L
   sound_asked joined marks others filter asked L told sound same_marks same_filter same =
-      let P : List Bool → Type 0 = λ m. IsSoundFor (λ w. lets_pass (may_begin m) asked (spell w)) L in
+      let P : Option (List Bool) → Type 0 = λ m. IsSoundFor (λ w. lets_pass (may_begin m) asked (spell w)) L in
       let Q : Option Filter → Type 0 = λ f. IsSoundFor (λ w. lets_pass (may_begin marks) f (spell w)) L in
       let R : Dictionary V → Type 0 = λ d. IsSoundFor (λ w. lets_pass (may_begin marks) filter (spell w)) d in
       subst P (sym same_marks) (subst Q (sym same_filter) (subst R same (sound_tested K (may_begin marks) spell filter (sound_beginnings joined marks told) sound)))

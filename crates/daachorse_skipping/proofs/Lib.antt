@@ -1,4 +1,3 @@
-pub mod PlaceLaws
 pub mod SkipLaws
 pub mod Soundness
 pub mod BeginningLaws

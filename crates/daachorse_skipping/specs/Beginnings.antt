@@ -1,5 +1,5 @@
 -- Which four bytes the patterns of a dictionary begin with, by marks of their hashes.
-use Rattle.std.specs.Prelude.{◌≡◌, ◌⊎◌, ℕ, ◌*◌, ◌/◌, ◌%◌, ◌^◌, nat_le, Bool, true, false, ◌&&◌, List, [], ◌∷◌, length, slice_index, slice_index_or}
+use Rattle.std.specs.Prelude.{◌≡◌, ℕ, ◌*◌, ◌/◌, ◌%◌, ◌^◌, nat_le, Bool, true, false, ◌&&◌, List, [], ◌∷◌, length, slice_index, slice_index_or, Option, Some, None, IfSome}
 use Rattle.std.specs.Int.{from_le_bytes, w32}
 use Rattle.daachorse_model.specs.Dictionary.{Dictionary}
 use Rattle.daachorse_model.specs.Prefixes.{IsKey}
@@ -17,9 +17,9 @@ abbrev pub has_mark : List Bool → List ℕ → Bool
 has_mark marks w = nat_le 4 (length w) && slice_index_or marks (beginning_of w) false
 
 -- some pattern may begin w: where there are no marks, any may
-abbrev pub may_begin : List Bool → List ℕ → Bool
-may_begin [] w = true
-may_begin (m ∷ marks) w = has_mark (m ∷ marks) w
+abbrev pub may_begin : Option (List Bool) → List ℕ → Bool
+may_begin None w = true
+may_begin (Some marks) w = has_mark marks w
 
 module _ {V : Type 0} (spell : List ℕ → List ℕ) (K : Dictionary V) where
   -- the beginnings of the keys are marked, and no others: `spell` gives the bytes of a text
@@ -28,5 +28,5 @@ module _ {V : Type 0} (spell : List ℕ → List ℕ) (K : Dictionary V) where
     pub no_others : (h : ℕ) → slice_index_or marks h false ≡ true → (k : List ℕ) × IsKey K k × (beginning_of (spell k) ≡ h)
 
   -- there are no marks, or those of the beginnings of the keys
-  abbrev pub MayTell : List Bool → Type 0
-  MayTell marks = (marks ≡ []) ⊎ AreBeginnings marks
+  abbrev pub MayTell : Option (List Bool) → Type 0
+  MayTell marks = IfSome marks AreBeginnings

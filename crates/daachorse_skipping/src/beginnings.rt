@@ -1,15 +1,13 @@
 //! Which four bytes patterns begin with.
 //!
 //! The layers above may rely on a table telling where some pattern of those that were added may begin:
-//! where the next four bytes have a hash that is marked. A table with no marks tells nothing, and passes
-//! everywhere.
+//! where the next four bytes have a hash that is marked.
 
-ghost use Rattle.std.specs.Prelude.{◌≡◌, ◌<◌, ◌≤◌, ℕ, [], true, false, set, length, slice_index_or, IfOk, IfErr};
+ghost use Rattle.std.specs.Prelude.{◌≡◌, ◌<◌, ◌≤◌, ℕ, true, false, set, length, slice_index_or, IfOk, IfErr};
 ghost use Rattle.daachorse_core.specs.Refusals.{IsOutOfMemory};
-ghost use Rattle.daachorse_skipping.specs.Beginnings.{beginning_of, hash_of, may_begin};
+ghost use Rattle.daachorse_skipping.specs.Beginnings.{beginning_of, has_mark, hash_of};
 ghost use Rattle.std.specs.Int.{from_le_bytes, w32};
 
-use crate::telling::Telling;
 use daachorse_core::ascii_fold::AsciiFold;
 use daachorse_core::errors::Result;
 use daachorse_prefilter::place_test::PlaceTest;
@@ -29,30 +27,21 @@ const NUM_MARKS: usize = 8192;
 /// A table of what patterns begin with, by a hash of four bytes. It takes 8,192 bytes.
 #[derive(Drop)]
 pub struct Beginnings<A: Allocator = Global> {
-    // Whether each hash is that of a pattern's beginning, or nothing.
+    // Whether each hash is that of a pattern's beginning.
     marks: Vec<bool, A>,
 }
 
 impl<A: Allocator> Model for Beginnings<A> {
-    ghost use Rattle.std.specs.Prelude.{List, Bool, ◌≢◌, ◌≡◌, [], length};
+    ghost use Rattle.std.specs.Prelude.{List, Bool, ◌≡◌, length};
 
     ghost Value = { List Bool };
 
     ghost view = { λ s. s.marks.items };
 
-    ghost invariant = { λ s. s.marks.items ≢ [] → length s.marks.items ≡ 8192 };
+    ghost invariant = { λ s. length s.marks.items ≡ 8192 };
 }
 
 impl<A: Allocator> Beginnings<A> {
-    /// A table that tells nothing. It takes no memory.
-    pub fn none(alloc: A) -> Self
-        ensures { result ≡ [] }
-    {
-        Self {
-            marks: Vec::new(alloc),
-        }
-    }
-
     /// A table with no mark set.
     ///
     /// # Errors
@@ -70,7 +59,6 @@ impl<A: Allocator> Beginnings<A> {
 
     /// Sets the mark of what a pattern begins with.
     pub fn add(&mut self, pattern: &[u8])
-        requires sized { length self.old ≡ 8192 }
         requires long { 4 ≤ length pattern.now }
         ensures { self.new ≡ set self.old (beginning_of pattern.now) true }
     {
@@ -81,7 +69,6 @@ impl<A: Allocator> Beginnings<A> {
     /// Whether the mark of these four bytes is set.
     #[inline(always)]
     fn is_marked(&self, beginning: [u8; BEGINNING]) -> bool
-        requires { length self.now ≡ 8192 }
         ensures { result ≡ slice_index_or self.now (hash_of (from_le_bytes w32 beginning)) false }
     {
         self.marks[hash(beginning)]
@@ -89,13 +76,10 @@ impl<A: Allocator> Beginnings<A> {
 }
 
 impl<'a, A: Allocator> PlaceTest for &'a Beginnings<A> {
-    ghost lets = { λ s. may_begin s.now };
+    ghost lets = { λ s. has_mark s.now };
 
     #[inline(always)]
     fn passes(&self, bytes: &[u8]) -> bool {
-        if self.marks.is_empty() {
-            return true;
-        }
         if bytes.len() < BEGINNING {
             return false;
         }
@@ -106,9 +90,6 @@ impl<'a, A: Allocator> PlaceTest for &'a Beginnings<A> {
 
     #[inline(always)]
     fn passes_folded(&self, bytes: &[u8]) -> bool {
-        if self.marks.is_empty() {
-            return true;
-        }
         bytes.len() >= BEGINNING
             && self.is_marked([
                 bytes[0].folded(),
@@ -116,13 +97,6 @@ impl<'a, A: Allocator> PlaceTest for &'a Beginnings<A> {
                 bytes[2].folded(),
                 bytes[3].folded(),
             ])
-    }
-}
-
-impl<'a, A: Allocator> Telling for &'a Beginnings<A> {
-    #[inline(always)]
-    fn tells(&self) -> bool {
-        !self.marks.is_empty()
     }
 }
 

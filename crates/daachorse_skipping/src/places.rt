@@ -1,14 +1,15 @@
-//! The first place of a haystack at which a filter passes, and a test with it.
+//! The first place of a haystack at which a filter passes, and the test of what patterns begin with.
 //!
 //! The layers above may rely on that place being the first of all, or of the boundaries of a text, in
 //! the haystack as it is read: as it is, or without regard to the case of ASCII letters.
 
-ghost use Rattle.std.specs.Prelude.{◌&&◌};
+ghost use Rattle.std.specs.Prelude.{◌&&◌, option_map};
 ghost use Rattle.daachorse_model.specs.Folding.{as_read};
 ghost use Rattle.daachorse_prefilter.specs.Filters.{admits};
 ghost use Rattle.daachorse_prefilter.specs.Places.{IsFirstBoundary, IsFirstPlace};
+ghost use Rattle.daachorse_skipping.specs.Beginnings.{may_begin};
 
-use crate::telling::Telling;
+use crate::beginnings::Beginnings;
 use daachorse_prefilter::place_test::NoTest;
 use daachorse_prefilter::prefilter::Prefilter;
 use daachorse_prefilter::prefilter::reading::{AsFolded, AsItIs, ByteReading};
@@ -17,18 +18,18 @@ use std::alloc::Allocator;
 /// The first place of the slice, folded where `folds` says so, at which the filter and the test pass,
 /// or its length.
 #[inline(always)]
-pub fn first_place<A: Allocator, T: Telling>(
+pub fn first_place<A: Allocator>(
     filter: &Prefilter<A>,
-    test: &T,
+    beginnings: Option<&Beginnings<A>>,
     haystack: &[u8],
     folds: bool,
 ) -> usize
-    ensures { IsFirstPlace (λ w. T.lets test.now w && admits filter.now w) (as_read folds haystack.now) 0 result }
+    ensures { IsFirstPlace (λ w. may_begin (option_map (λ b. b.now) beginnings.entry) w && admits filter.now w) (as_read folds haystack.now) 0 result }
 {
     if folds {
-        return find_place::<AsFolded, A, T>(filter, test, haystack);
+        return find_place::<AsFolded, A>(filter, beginnings, haystack);
     }
-    find_place::<AsItIs, A, T>(filter, test, haystack)
+    find_place::<AsItIs, A>(filter, beginnings, haystack)
 }
 
 /// The first place of what is read of the slice at which the filter and the test pass, or its length.
@@ -37,35 +38,35 @@ pub fn first_place<A: Allocator, T: Telling>(
 /// its registers: a search calls it once for a whole run of bytes.
 #[cold]
 #[inline(never)]
-fn find_place<R: ByteReading, A: Allocator, T: Telling>(
+fn find_place<R: ByteReading, A: Allocator>(
     filter: &Prefilter<A>,
-    test: &T,
+    beginnings: Option<&Beginnings<A>>,
     haystack: &[u8],
 ) -> usize
-    ensures { IsFirstPlace (λ w. T.lets test.now w && admits filter.now w) (R.read haystack.now) 0 result }
+    ensures { IsFirstPlace (λ w. may_begin (option_map (λ b. b.now) beginnings.entry) w && admits filter.now w) (R.read haystack.now) 0 result }
 {
     // A scan that asks no test is shorter.
-    if !test.tells() {
-        return filter.first_place::<R, NoTest>(&NoTest, haystack, 0);
+    match beginnings {
+        Some(test) => filter.first_place::<R, &Beginnings<A>>(&test, haystack, 0),
+        None => filter.first_place::<R, NoTest>(&NoTest, haystack, 0),
     }
-    filter.first_place::<R, T>(test, haystack, 0)
 }
 
 /// The first boundary of the text, folded where `folds` says so, at which the filter and the test pass,
 /// or its length in bytes.
 #[inline(always)]
-pub fn first_boundary<A: Allocator, T: Telling>(
+pub fn first_boundary<A: Allocator>(
     filter: &Prefilter<A>,
-    test: &T,
+    beginnings: Option<&Beginnings<A>>,
     haystack: &str,
     folds: bool,
 ) -> usize
-    ensures { IsFirstBoundary (λ w. T.lets test.now w && admits filter.now w) (as_read folds haystack.now) 0 result }
+    ensures { IsFirstBoundary (λ w. may_begin (option_map (λ b. b.now) beginnings.entry) w && admits filter.now w) (as_read folds haystack.now) 0 result }
 {
     if folds {
-        return find_boundary::<AsFolded, A, T>(filter, test, haystack);
+        return find_boundary::<AsFolded, A>(filter, beginnings, haystack);
     }
-    find_boundary::<AsItIs, A, T>(filter, test, haystack)
+    find_boundary::<AsItIs, A>(filter, beginnings, haystack)
 }
 
 /// The first boundary of what is read of the text at which the filter and the test pass, or its length
@@ -74,15 +75,15 @@ pub fn first_boundary<A: Allocator, T: Telling>(
 /// It stands by itself and is marked cold for the same reason as [`find_place`].
 #[cold]
 #[inline(never)]
-fn find_boundary<R: ByteReading, A: Allocator, T: Telling>(
+fn find_boundary<R: ByteReading, A: Allocator>(
     filter: &Prefilter<A>,
-    test: &T,
+    beginnings: Option<&Beginnings<A>>,
     haystack: &str,
 ) -> usize
-    ensures { IsFirstBoundary (λ w. T.lets test.now w && admits filter.now w) (R.read haystack.now) 0 result }
+    ensures { IsFirstBoundary (λ w. may_begin (option_map (λ b. b.now) beginnings.entry) w && admits filter.now w) (R.read haystack.now) 0 result }
 {
-    if !test.tells() {
-        return filter.first_boundary::<R, NoTest>(&NoTest, haystack, 0);
+    match beginnings {
+        Some(test) => filter.first_boundary::<R, &Beginnings<A>>(&test, haystack, 0),
+        None => filter.first_boundary::<R, NoTest>(&NoTest, haystack, 0),
     }
-    filter.first_boundary::<R, T>(test, haystack, 0)
 }

@@ -1,19 +1,19 @@
 //! A filter with a gate and a test, which moves a haystack on to the next place where a pattern may begin.
 //!
 //! The layers above may rely on the filter being asked where there is one and its gate is open, from
-//! the place of the haystack on and over its units as they are read, on the test being asked where the
-//! filter passes, and on the gate recording of each run just the bytes that it skipped. No search's
-//! answer rests on the gate.
+//! the place of the haystack on and over its units as they are read, on the test, if there is one, being asked where the filter passes, and
+//! on the gate recording of each run just the bytes that it skipped. No search's answer rests on the
+//! gate.
 
-ghost use Rattle.std.specs.Prelude.{◌≡◌, ℕ, List, [], option_map, encode_utf8_all, IsTrue};
+ghost use Rattle.std.specs.Prelude.{◌≡◌, ℕ, List, [], None, option_map, encode_utf8_all, IsTrue};
 ghost use Rattle.daachorse_prefilter.specs.Gates.{HasRecorded};
 ghost use Rattle.daachorse_search.specs.Filters.{IsNextPassing};
 ghost use Rattle.daachorse_model.specs.Units.{byte_width, char_width};
 ghost use Rattle.daachorse_skipping.specs.Asked.{HasRecordedSkip, IsOpenWhilePaying, IsUnused, IsWorthAsking, lets_pass};
+ghost use Rattle.daachorse_skipping.specs.Beginnings.{may_begin};
 
+use crate::beginnings::Beginnings;
 use crate::places::{first_boundary, first_place};
-use crate::telling::Telling;
-use daachorse_prefilter::place_test::NoTest;
 use daachorse_prefilter::prefilter::{Prefilter, PrefilterGate};
 use daachorse_search::filter::Filter;
 use daachorse_search::haystack::{Bytes, Haystack};
@@ -21,22 +21,22 @@ use daachorse_text::text::Text;
 use std::alloc::{Allocator, Global};
 use std::marker::Model;
 
-/// The filter of an automaton, if it has one, for the time of one search, and a test that is asked where it
-/// passes.
+/// The filter of an automaton, if it has one, for the time of one search, and what its patterns begin
+/// with, if that is asked where the filter passes.
 #[derive(Drop)]
-pub struct Skipping<'a, A: Allocator = Global, T: Telling = NoTest> {
+pub struct Skipping<'a, A: Allocator = Global> {
     filter: Option<&'a Prefilter<A>>,
-    test: T,
+    beginnings: Option<&'a Beginnings<A>>,
     gate: PrefilterGate,
 }
 
-impl<'a, A: Allocator, T: Telling> Model for Skipping<'a, A, T> {
+impl<'a, A: Allocator> Model for Skipping<'a, A> {
     ghost use Rattle.std.specs.Prelude.{option_map};
     ghost use Rattle.daachorse_skipping.specs.Asked.{Asked};
 
-    ghost Value = { Asked T };
+    ghost Value = { Asked };
 
-    ghost view = { λ s. record { filter = option_map (λ f. f.now) s.filter; test = s.test; gate = s.gate } };
+    ghost view = { λ s. record { filter = option_map (λ f. f.now) s.filter; beginnings = option_map (λ b. b.now) s.beginnings; gate = s.gate } };
 }
 
 impl<'a, A: Allocator> Skipping<'a, A> {
@@ -44,31 +44,30 @@ impl<'a, A: Allocator> Skipping<'a, A> {
     #[inline(always)]
     pub fn new(filter: Option<&'a Prefilter<A>>) -> Self
         ensures filter { result.filter ≡ option_map (λ f. f.now) filter.entry }
+        ensures alone { result.beginnings ≡ None }
         ensures gate { HasRecorded result.gate [] }
     {
         Self {
             filter,
-            test: NoTest,
+            beginnings: None,
             gate: PrefilterGate::new(),
         }
     }
 
-    /// The same filter behind the same gate, and a test that is asked where it passes.
+    /// The same filter behind the same gate, with these beginnings, if any, asked where it passes.
     #[inline(always)]
-    pub fn with_test<T: Telling>(self, test: T) -> Skipping<'a, A, T>
+    pub fn with_beginnings(self, beginnings: Option<&'a Beginnings<A>>) -> Self
         ensures filter { result.filter ≡ self.entry.filter }
-        ensures test { result.test ≡ test }
+        ensures beginnings { result.beginnings ≡ option_map (λ b. b.now) beginnings.entry }
         ensures gate { result.gate ≡ self.entry.gate }
     {
-        Skipping {
+        Self {
             filter: self.filter,
-            test,
+            beginnings,
             gate: self.gate,
         }
     }
-}
 
-impl<'a, A: Allocator, T: Telling> Skipping<'a, A, T> {
     /// Whether there is a filter behind an open gate.
     #[inline(always)]
     fn is_worth(&self) -> bool
@@ -80,8 +79,8 @@ impl<'a, A: Allocator, T: Telling> Skipping<'a, A, T> {
     }
 }
 
-impl<'a, 'h, A: Allocator, T: Telling> Filter<u8, Bytes<'h>> for Skipping<'a, A, T> {
-    ghost passes = { λ s w. lets_pass (T.lets s.test) s.filter w };
+impl<'a, 'h, A: Allocator> Filter<u8, Bytes<'h>> for Skipping<'a, A> {
+    ghost passes = { λ s w. lets_pass (may_begin s.beginnings) s.filter w };
 
     ghost opened = { λ s. IsUnused s };
 
@@ -98,21 +97,21 @@ impl<'a, 'h, A: Allocator, T: Telling> Filter<u8, Bytes<'h>> for Skipping<'a, A,
 
     #[inline(always)]
     fn skip(&mut self, rest: &mut Bytes<'h>)
-        ensures passes { (w : List ℕ) → lets_pass (T.lets self.new.test) self.new.filter w ≡ lets_pass (T.lets self.old.test) self.old.filter w }
-        ensures goes { IsNextPassing (λ w. lets_pass (T.lets self.old.test) self.old.filter w) rest.old rest.new }
+        ensures passes { (w : List ℕ) → lets_pass (may_begin self.new.beginnings) self.new.filter w ≡ lets_pass (may_begin self.old.beginnings) self.old.filter w }
+        ensures goes { IsNextPassing (λ w. lets_pass (may_begin self.old.beginnings) self.old.filter w) rest.old rest.new }
         ensures records { HasRecordedSkip byte_width self.old rest.old rest.new self.new }
     {
         if let Some(filter) = self.filter {
             let (bytes, folds) = rest.unread();
-            let gain = first_place(filter, &self.test, bytes, folds);
+            let gain = first_place(filter, self.beginnings, bytes, folds);
             self.gate.record(gain);
             *rest = rest.after(gain);
         }
     }
 }
 
-impl<'a, 'h, A: Allocator, T: Telling> Filter<char, Text<'h>> for Skipping<'a, A, T> {
-    ghost passes = { λ s w. lets_pass (T.lets s.test) s.filter (encode_utf8_all w) };
+impl<'a, 'h, A: Allocator> Filter<char, Text<'h>> for Skipping<'a, A> {
+    ghost passes = { λ s w. lets_pass (may_begin s.beginnings) s.filter (encode_utf8_all w) };
 
     ghost opened = { λ s. IsUnused s };
 
@@ -129,13 +128,13 @@ impl<'a, 'h, A: Allocator, T: Telling> Filter<char, Text<'h>> for Skipping<'a, A
 
     #[inline(always)]
     fn skip(&mut self, rest: &mut Text<'h>)
-        ensures passes { (w : List ℕ) → lets_pass (T.lets self.new.test) self.new.filter (encode_utf8_all w) ≡ lets_pass (T.lets self.old.test) self.old.filter (encode_utf8_all w) }
-        ensures goes { IsNextPassing (λ w. lets_pass (T.lets self.old.test) self.old.filter (encode_utf8_all w)) rest.old rest.new }
+        ensures passes { (w : List ℕ) → lets_pass (may_begin self.new.beginnings) self.new.filter (encode_utf8_all w) ≡ lets_pass (may_begin self.old.beginnings) self.old.filter (encode_utf8_all w) }
+        ensures goes { IsNextPassing (λ w. lets_pass (may_begin self.old.beginnings) self.old.filter (encode_utf8_all w)) rest.old rest.new }
         ensures records { HasRecordedSkip char_width self.old rest.old rest.new self.new }
     {
         if let Some(filter) = self.filter {
             let (text, folds) = rest.unread();
-            let gain = first_boundary(filter, &self.test, text, folds);
+            let gain = first_boundary(filter, self.beginnings, text, folds);
             self.gate.record(gain);
             *rest = rest.after(gain);
         }

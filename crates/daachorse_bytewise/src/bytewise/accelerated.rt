@@ -14,7 +14,7 @@ ghost use Rattle.daachorse_model.specs.Matches.{matches_after, no_suffix, overla
 ghost use Rattle.daachorse_model.specs.Units.{byte_width};
 ghost use Rattle.daachorse_search.specs.Beginnings.{BeginsFrom, BeginsStepping, BeginsWith};
 ghost use Rattle.daachorse_search.specs.Filters.{IsSoundFor};
-ghost use Rattle.daachorse_skipping.specs.Asked.{BeginsAsking, lets_pass};
+ghost use Rattle.daachorse_skipping.specs.Asked.{BeginsAskingBoth, lets_pass};
 ghost use Rattle.daachorse_skipping.specs.Beginnings.{MayTell, may_begin};
 ghost use Rattle.daachorse_bytewise_states.specs.StateRows.{HasNoRoom};
 ghost use Rattle.daachorse_bytewise.specs.Accelerated.{HasRowsNear, IsAllRowsUnlessLarge, MayTellBeginnings, rowed_states};
@@ -61,7 +61,7 @@ pub struct Accelerated<'a, V: Copy, A: Allocator = Global> {
     automaton: &'a DoubleArrayAhoCorasick<V, A>,
     rows: Rows<A>,
     // What the patterns begin with, which a search in a slice asks where the filter passes.
-    beginnings: Beginnings<A>,
+    beginnings: Option<Beginnings<A>>,
 }
 
 impl<'a, V: Copy, A: Allocator> Model for Accelerated<'a, V, A> {
@@ -134,22 +134,22 @@ impl<V: Copy, A: Allocator + Copy> DoubleArrayAhoCorasick<V, A> {
     /// # Errors
     ///
     /// An allocation failed.
-    fn beginnings(&self, alloc: A) -> Result<Beginnings<A>>
+    fn beginnings(&self, alloc: A) -> Result<Option<Beginnings<A>>>
         ensures told { IfOk result (MayTell (λ w. w) (dictionary_of self.now)) }
         ensures err { IfErr result IsOutOfMemory }
     {
         if self.filter.is_none() || self.num_states() < FEW_STATES {
-            return Ok(Beginnings::none(alloc));
+            return Ok(None);
         }
         let mut beginnings = Beginnings::new(alloc)?;
         for item in self.iter(alloc)? {
             let (pattern, _value) = item?;
             if pattern.len() < BEGINNING {
-                return Ok(Beginnings::none(alloc));
+                return Ok(None);
             }
             beginnings.add(&pattern);
         }
-        Ok(beginnings)
+        Ok(Some(beginnings))
     }
 }
 
@@ -204,12 +204,13 @@ impl<'a, V: Copy, A: Allocator> Accelerated<'a, V, A> {
     /// What a search in a slice asks: the filter of the automaton, if it has one, behind an open gate, and
     /// where it passes what the patterns begin with.
     #[inline(always)]
-    fn skipping<'s>(&'s self) -> Skipping<'s, A, &'s Beginnings<A>>
-        ensures asks { BeginsAsking self.entry.now.automaton.filter result }
-        ensures test { result.test.now ≡ self.entry.now.beginnings }
-        ensures sound { IsSoundFor (λ w. lets_pass (may_begin result.test.now) result.filter w) (dictionary_of self.entry.now.automaton) }
+    fn skipping<'s>(&'s self) -> Skipping<'s, A>
+        ensures asks { BeginsAskingBoth self.entry.now.beginnings self.entry.now.automaton.filter result }
+        ensures sound { IsSoundFor (λ w. lets_pass (may_begin result.beginnings) result.filter w) (dictionary_of self.entry.now.automaton) }
     {
-        self.automaton.skipping().with_test(&self.beginnings)
+        self.automaton
+            .skipping()
+            .with_beginnings(self.beginnings.as_ref())
     }
 
     /// Finds non-overlapping matches in a haystack, each of which ends as early as possible.
@@ -233,8 +234,7 @@ impl<'a, V: Copy, A: Allocator> Accelerated<'a, V, A> {
         requires { kind_of self.now.automaton ≡ Standard }
         ensures begins { BeginsWith (rowed_states self.entry.now) (as_read self.entry.now.automaton.folds haystack.entry.now)
             (standard byte_width (dictionary_of self.entry.now.automaton) (as_read self.entry.now.automaton.folds haystack.entry.now)) result }
-        ensures asks { BeginsAsking self.entry.now.automaton.filter result.filter }
-        ensures test { result.filter.test.now ≡ self.entry.now.beginnings }
+        ensures asks { BeginsAskingBoth self.entry.now.beginnings self.entry.now.automaton.filter result.filter }
     {
         find_in(
             self.standard(),
@@ -299,8 +299,7 @@ impl<'a, V: Copy, A: Allocator> Accelerated<'a, V, A> {
         requires { kind_of self.now.automaton ≡ Standard }
         ensures begins { BeginsWith (rowed_states self.entry.now) (as_read self.entry.now.automaton.folds haystack.entry.now)
             (overlapping byte_width (dictionary_of self.entry.now.automaton) (as_read self.entry.now.automaton.folds haystack.entry.now)) result }
-        ensures asks { BeginsAsking self.entry.now.automaton.filter result.filter }
-        ensures test { result.filter.test.now ≡ self.entry.now.beginnings }
+        ensures asks { BeginsAskingBoth self.entry.now.beginnings self.entry.now.automaton.filter result.filter }
     {
         find_overlapping_in(
             self.standard(),
@@ -365,8 +364,7 @@ impl<'a, V: Copy, A: Allocator> Accelerated<'a, V, A> {
         requires { kind_of self.now.automaton ≡ Standard }
         ensures begins { BeginsWith (rowed_states self.entry.now) (as_read self.entry.now.automaton.folds haystack.entry.now)
             (no_suffix byte_width (dictionary_of self.entry.now.automaton) (as_read self.entry.now.automaton.folds haystack.entry.now)) result }
-        ensures asks { BeginsAsking self.entry.now.automaton.filter result.filter }
-        ensures test { result.filter.test.now ≡ self.entry.now.beginnings }
+        ensures asks { BeginsAskingBoth self.entry.now.beginnings self.entry.now.automaton.filter result.filter }
     {
         find_overlapping_no_suffix_in(
             self.standard(),
@@ -431,8 +429,7 @@ impl<'a, V: Copy, A: Allocator> Accelerated<'a, V, A> {
         requires { kind_of self.now.automaton ≢ Standard }
         ensures begins { BeginsWith (rowed_states self.entry.now) (as_read self.entry.now.automaton.folds haystack.entry.now)
             (leftmost byte_width (dictionary_of self.entry.now.automaton) (as_read self.entry.now.automaton.folds haystack.entry.now)) result }
-        ensures asks { BeginsAsking self.entry.now.automaton.filter result.filter }
-        ensures test { result.filter.test.now ≡ self.entry.now.beginnings }
+        ensures asks { BeginsAskingBoth self.entry.now.beginnings self.entry.now.automaton.filter result.filter }
     {
         LeftmostMatches::with_filter(
             self.leftmost(),

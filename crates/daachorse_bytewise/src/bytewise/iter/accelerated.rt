@@ -12,7 +12,6 @@ use daachorse_search::matches::Matches;
 use daachorse_search::matches_from::MatchesFrom;
 use daachorse_search::overlapping::{NoSuffixWalk, OverlappingWalk};
 use daachorse_search::{find_stepper, haystack, overlapping_stepper, source};
-use daachorse_skipping::beginnings::Beginnings;
 use daachorse_skipping::skipping::Skipping;
 use std::alloc::Global;
 
@@ -21,7 +20,7 @@ pub type FindSliceIterator<'a, V, A = Global> = Matches<
     V,
     FindWalk<V, RowView<'a, V, Standard<'a, V>>>,
     haystack::Bytes<'a>,
-    Skipping<'a, A, &'a Beginnings<A>>,
+    Skipping<'a, A>,
 >;
 
 /// An iterator over non-overlapping matches in the bytes that a source yields.
@@ -36,7 +35,7 @@ pub type FindOverlappingSliceIterator<'a, V, A = Global> = Matches<
     V,
     OverlappingWalk<V, RowView<'a, V, Standard<'a, V>>>,
     haystack::Bytes<'a>,
-    Skipping<'a, A, &'a Beginnings<A>>,
+    Skipping<'a, A>,
 >;
 
 /// An iterator over all matches in the bytes that a source yields.
@@ -51,7 +50,7 @@ pub type FindOverlappingNoSuffixSliceIterator<'a, V, A = Global> = Matches<
     V,
     NoSuffixWalk<V, RowView<'a, V, Standard<'a, V>>>,
     haystack::Bytes<'a>,
-    Skipping<'a, A, &'a Beginnings<A>>,
+    Skipping<'a, A>,
 >;
 
 /// An iterator over the longest match at each end in the bytes that a source yields.
@@ -66,7 +65,7 @@ pub type LeftmostFindIterator<'a, V, A = Global> = LeftmostMatches<
     V,
     RowView<'a, V, Leftmost<'a, V>>,
     haystack::Bytes<'a>,
-    Skipping<'a, A, &'a Beginnings<A>>,
+    Skipping<'a, A>,
 >;
 
 /// A search for non-overlapping matches that is given one byte at a time. It tells no depths.

@@ -12,7 +12,6 @@ use daachorse_search::matches::Matches;
 use daachorse_search::matches_from::MatchesFrom;
 use daachorse_search::overlapping::{NoSuffixWalk, OverlappingWalk};
 use daachorse_search::{find_stepper, overlapping_stepper};
-use daachorse_skipping::beginnings::Beginnings;
 use daachorse_skipping::skipping::Skipping;
 use daachorse_text::decoding::Decoded;
 use daachorse_text::text::Text;
@@ -23,7 +22,7 @@ pub type FindSliceIterator<'a, V, A = Global> = Matches<
     V,
     FindWalk<V, RowView<'a, V, StandardForRows<'a, V>>>,
     Text<'a>,
-    Skipping<'a, A, &'a Beginnings<A>>,
+    Skipping<'a, A>,
 >;
 
 /// An iterator over non-overlapping matches in the text whose bytes a source yields.
@@ -38,7 +37,7 @@ pub type FindOverlappingSliceIterator<'a, V, A = Global> = Matches<
     V,
     OverlappingWalk<V, RowView<'a, V, StandardForRows<'a, V>>>,
     Text<'a>,
-    Skipping<'a, A, &'a Beginnings<A>>,
+    Skipping<'a, A>,
 >;
 
 /// An iterator over all matches in the text whose bytes a source yields.
@@ -53,7 +52,7 @@ pub type FindOverlappingNoSuffixSliceIterator<'a, V, A = Global> = Matches<
     V,
     NoSuffixWalk<V, RowView<'a, V, StandardForRows<'a, V>>>,
     Text<'a>,
-    Skipping<'a, A, &'a Beginnings<A>>,
+    Skipping<'a, A>,
 >;
 
 /// An iterator over the longest match at each end in the text whose bytes a source yields.
@@ -68,7 +67,7 @@ pub type LeftmostFindIterator<'a, V, A = Global> = LeftmostMatches<
     V,
     RowView<'a, V, LeftmostForRows<'a, V>>,
     Text<'a>,
-    Skipping<'a, A, &'a Beginnings<A>>,
+    Skipping<'a, A>,
 >;
 
 /// A search for non-overlapping matches that is given one character at a time. It tells no depths.

@@ -1,5 +1,5 @@
 -- Each pattern that the automaton gives is marked.
-use Rattle.std.proofs.Common.{◌≡◌, ℕ, ◌≤◌, Bool, List, ◌∷◌, length, sym, ap, ◌∙◌, subst, inr, arith}
+use Rattle.std.proofs.Common.{◌≡◌, ℕ, ◌≤◌, Bool, List, ◌∷◌, length, sym, ap, ◌∙◌, subst, arith}
 use Rattle.daachorse_model.specs.Prefixes.{IsListing}
 use Rattle.daachorse_skipping.proofs.BeginningLaws.{AreMarkedSoFar, beginning_inside, marked_all, marked_more, marked_none}
 use Rattle.daachorse_bytewise.specs.Automata.{dictionary_of}
@@ -24,4 +24,4 @@ pub returns-clause-told : goal.returns-clause-told
 returns-clause-told g c =
     let K = dictionary_of c.args.self.now in
     let P : List (List ℕ × g.row.V.Denot) → Type 0 = λ left. AreMarkedSoFar (λ x. x) K left c.loop-item.beginnings in
-    inr (marked_all (λ x. x) K c.loop-item.beginnings (subst P c.in-None.ensures.steps.0 c.loop-item.invariant.so_far))
+    marked_all (λ x. x) K c.loop-item.beginnings (subst P c.in-None.ensures.steps.0 c.loop-item.invariant.so_far)

@@ -1,5 +1,5 @@
 -- Each pattern that the automaton gives is marked.
-use Rattle.std.proofs.Common.{◌≡◌, ℕ, ◌≤◌, Bool, true, List, ◌∷◌, length, sym, ap, ◌∙◌, subst, inr, arith}
+use Rattle.std.proofs.Common.{◌≡◌, ℕ, ◌≤◌, Bool, true, List, ◌∷◌, length, sym, ap, ◌∙◌, subst, arith}
 use Rattle.std.proofs.lemmas.Str.{encodes-chars}
 use Rattle.std.specs.Prelude.{encode_utf8_all, set}
 use Rattle.std.specs.Str.{chars}
@@ -30,4 +30,4 @@ pub returns-clause-told : goal.returns-clause-told
 returns-clause-told g c =
     let K = dictionary_of c.args.self.now in
     let P : List (List ℕ × g.row.V.Denot) → Type 0 = λ left. AreMarkedSoFar encode_utf8_all K left c.loop-item.beginnings in
-    inr (marked_all encode_utf8_all K c.loop-item.beginnings (subst P c.in-None.ensures.steps.0 c.loop-item.invariant.so_far))
+    marked_all encode_utf8_all K c.loop-item.beginnings (subst P c.in-None.ensures.steps.0 c.loop-item.invariant.so_far)

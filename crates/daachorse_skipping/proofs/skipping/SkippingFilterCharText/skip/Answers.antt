@@ -10,6 +10,7 @@ use Rattle.daachorse_prefilter.specs.Gates.{HasRecorded}
 use Rattle.daachorse_prefilter.specs.Filters.{Filter, admits}
 use Rattle.daachorse_search.specs.Filters.{IsNextPassing}
 use Rattle.daachorse_skipping.specs.Asked.{Asked, lets_pass}
+use Rattle.daachorse_skipping.specs.Beginnings.{may_begin}
 use Rattle.daachorse_prefilter.specs.Places.{IsFirstBoundary}
 use Rattle.daachorse_skipping.proofs.SkipLaws.{IsUtf8-as_read, chars-as_read, chars_cut, chars_sized, recorded_skip, skipped_chars}
 use Rattle.daachorse_skipping.proofs.skipping.SkippingFilterCharText.skip.Goals as goal
@@ -24,23 +25,23 @@ pub returns-in-Some-clause-goes : goal.returns-in-Some-clause-goes
 returns-in-Some-clause-goes g c =
     let text = c.unread-folds.result.0.now in let folds = c.unread-folds.result.1 in let u = IsUtf8-as_read folds text c.unread-folds.ensures.utf8 in let whole : chars (as_read folds text) ≡ c.args.rest.now = chars-as_read folds text c.unread-folds.ensures.utf8 ∙ c.unread-folds.ensures.units in
     let f = c.in-Some.filter.now in let bs = as_read folds text in let r : ℕ = c.first_boundary-gain.result in let later = c.after.result in
-    let test = c.args.self.now.test in let lets = g.T.PlaceTest.lets in
-    let S : Asked _ → Type 0 = λ s. IsFirstBoundary (λ v. lets s.test v && admits f v) bs 0 r in
+    let marks = c.args.self.now.beginnings in
+    let S : Asked → Type 0 = λ s. IsFirstBoundary (λ v. may_begin s.beginnings v && admits f v) bs 0 r in
     let next = subst S c.self.view_is c.first_boundary-gain.ensures in
-    let shown : c.args.self.now.filter ≡ Some f = sym (ap (λ (s : Asked _). s.filter) c.self.view_is) ∙ ap (option_map (λ (x : Bor Filter). x.now)) c.in-Some.is in
-    let P : Option Filter → Type 0 = λ o. IsNextPassing (λ w. lets_pass (lets test) o (encode_utf8_all w)) c.args.rest.now later in
-    let Q : List ℕ → Type 0 = λ h. IsNextPassing (λ w. lets_pass (lets test) (Some f) (encode_utf8_all w)) h later in
+    let shown : c.args.self.now.filter ≡ Some f = sym (ap (λ (s : Asked). s.filter) c.self.view_is) ∙ ap (option_map (λ (x : Bor Filter). x.now)) c.in-Some.is in
+    let P : Option Filter → Type 0 = λ o. IsNextPassing (λ w. lets_pass (may_begin marks) o (encode_utf8_all w)) c.args.rest.now later in
+    let Q : List ℕ → Type 0 = λ h. IsNextPassing (λ w. lets_pass (may_begin marks) (Some f) (encode_utf8_all w)) h later in
     let behind : later ≡ chars (drop r bs) = c.after.ensures (chars (take r bs)) (chars (drop r bs)) (sym whole ∙ chars_cut bs r u next.told) (chars_sized bs r u next.told) in
-    subst P (sym shown) (subst Q whole (skipped_chars (λ v. lets test v && admits f v) bs later r u next behind))
+    subst P (sym shown) (subst Q whole (skipped_chars (λ v. may_begin marks v && admits f v) bs later r u next behind))
 
 pub returns-in-Some-clause-records : goal.returns-in-Some-clause-records
 returns-in-Some-clause-records g c = λ gains before.
     let text = c.unread-folds.result.0.now in let folds = c.unread-folds.result.1 in let u = IsUtf8-as_read folds text c.unread-folds.ensures.utf8 in let whole : chars (as_read folds text) ≡ c.args.rest.now = chars-as_read folds text c.unread-folds.ensures.utf8 ∙ c.unread-folds.ensures.units in
     let f = c.in-Some.filter.now in let h = c.args.rest.now in let bs = as_read folds text in let r : ℕ = c.first_boundary-gain.result in let later = c.after.result in
     let boundary = c.first_boundary-gain.ensures.told in
-    let shown : c.args.self.now.filter ≡ Some f = sym (ap (λ (s : Asked _). s.filter) c.self.view_is) ∙ ap (option_map (λ (x : Bor Filter). x.now)) c.in-Some.is in
+    let shown : c.args.self.now.filter ≡ Some f = sym (ap (λ (s : Asked). s.filter) c.self.view_is) ∙ ap (option_map (λ (x : Bor Filter). x.now)) c.in-Some.is in
     let P : PrefilterGate → Type 0 = λ gate. HasRecorded gate gains in
-    let recorded = c.record.ensures gains (subst P (sym (ap (λ (s : Asked _). s.gate) c.self.view_is)) before) in
+    let recorded = c.record.ensures gains (subst P (sym (ap (λ (s : Asked). s.gate) c.self.view_is)) before) in
     let cut : h ≡ chars (take r bs) ++ chars (drop r bs) = sym whole ∙ chars_cut bs r u boundary in
     let sized = chars_sized bs r u boundary in
     let behind : later ≡ chars (drop r bs) = c.after.ensures (chars (take r bs)) (chars (drop r bs)) cut sized in

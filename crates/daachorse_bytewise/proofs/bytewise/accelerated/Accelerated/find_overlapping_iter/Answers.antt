@@ -11,7 +11,7 @@ use Rattle.daachorse_bytewise.proofs.RowedLaws.{sound_rowed}
 use Rattle.daachorse_bytewise.proofs.bytewise.accelerated.Accelerated.find_overlapping_iter.Goals as goal
 
 pub find_overlapping_in-requires-clause-sound : goal.find_overlapping_in-requires-clause-sound
-find_overlapping_in-requires-clause-sound g c = sound_rowed c.args.self.now c.standard.result (λ w. lets_pass (may_begin c.skipping.result.test.now) c.skipping.result.filter w) c.standard.ensures c.skipping.ensures.sound
+find_overlapping_in-requires-clause-sound g c = sound_rowed c.args.self.now c.standard.result (λ w. lets_pass (may_begin c.skipping.result.beginnings) c.skipping.result.filter w) c.standard.ensures c.skipping.ensures.sound
 
 pub returns-clause-begins : goal.returns-clause-begins
 returns-clause-begins g c =

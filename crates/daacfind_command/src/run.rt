@@ -97,9 +97,7 @@ pub fn build<A: Allocator + Copy>(
     kind: MatchKind,
     file: &[u8],
 ) -> Result<DoubleArrayAhoCorasick<u32, A>, DaachorseError>
-    ensures built { IfOk result (IsBuiltOf value_gives kind (pattern_lines file.now)) }
-    ensures kind { IfOk result (λ a. kind_of a ≡ kind) }
-    ensures folds { IfOk result (λ a. a.folds ≡ false) }
+    ensures built { IfOk result (IsBuiltOf value_gives kind false (pattern_lines file.now)) }
     ensures err { IfErr result (IsBuildRefusal value_gives kind (pattern_lines file.now)) }
 {
     let patterns = lines(alloc, file)?;

@@ -4,8 +4,8 @@ use Rattle.std.specs.Hash.{HashWrites}
 use Rattle.daachorse_model.specs.declared.MatchKind.{MatchKind}
 use Rattle.daachorse_model.specs.Dictionary.{Dictionary}
 use Rattle.daachorse_checker.specs.Folded.{HasFoldedKeys}
-use Rattle.daachorse_listing.specs.Automata.{Automaton as Kept, MayHaveDepths as MayHave, automaton_eq as kept_eq, automaton_input as kept_input}
-use Rattle.daachorse_listing.specs.Depths.{IsDepthTable}
+use Rattle.daachorse_array.specs.Automata.{Automaton as Kept, MayHaveDepths as MayHave, automaton_eq as kept_eq, automaton_input as kept_input}
+use Rattle.daachorse_array.specs.Depths.{IsDepthTable}
 use Rattle.daachorse_prefilter.specs.Equality.{filter_eq, filter_input}
 use Rattle.daachorse_prefilter.specs.Filters.{Filter, PassesKeys}
 use Rattle.daachorse_bytewise_states.specs.Equality.{parts_eq, parts_input}

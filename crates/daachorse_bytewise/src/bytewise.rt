@@ -25,7 +25,7 @@ ghost use Rattle.daachorse_skipping.specs.Asked.{BeginsAsking, lets_pass};
 ghost use Rattle.daachorse_bytewise.specs.Automata.{HasDepths, MayFold, MayHaveFilter, dictionary_of, kind_of, states_of};
 ghost use Rattle.daachorse_core.specs.Seen.{units};
 ghost use Rattle.daachorse_bytewise.specs.Standings.{IsFindStandingIn, IsOverlappingStandingIn};
-ghost use Rattle.daachorse_bytewise.specs.Building.{HoldsPatterns, IsBuildRefusal, IsBuiltOf, IsRefusalOf, kept_filter};
+ghost use Rattle.daachorse_bytewise.specs.Building.{IsBuildRefusal, IsBuiltOf, IsBuiltWith, IsRefusalOf, kept_filter};
 
 pub mod accelerated;
 pub mod builder;
@@ -118,12 +118,9 @@ impl<V: Copy, A: Allocator + Copy> DoubleArrayAhoCorasick<V, A> {
         V::Error: Drop,
         requires { (it : P.IntoIter) → P.into_iter_gives patterns it → P.IntoIter.can_next it × IsFinite (P.IntoIter.remaining it) }
         ensures ok { IfOk result (λ a. (it : P.IntoIter) × P.into_iter_gives patterns it
-            × WholeRun P.IntoIter.next_gives it (λ p. IsBuiltOf V.try_from_gives Standard (map (λ t. t.now) p.items) a)) }
-        ensures kind { IfOk result (λ a. kind_of a ≡ Standard) }
-        ensures folds { IfOk result (λ a. a.folds ≡ false) }
+            × WholeRun P.IntoIter.next_gives it (λ p. IsBuiltOf V.try_from_gives Standard false (map (λ t. t.now) p.items) a)) }
         ensures filter { IfOk result (λ a. (it : P.IntoIter) × P.into_iter_gives patterns it
             × WholeRun P.IntoIter.next_gives it (λ p. a.filter ≡ kept_filter true (map (λ t. t.now) p.items))) }
-        ensures depths { IfOk result (λ a. a.depths ≡ []) }
         ensures err { IfErr result (λ e. IsOutOfMemory e ⊎ ((it : P.IntoIter) × P.into_iter_gives patterns it
             × WholeRun P.IntoIter.next_gives it (λ p. IsBuildRefusal V.try_from_gives Standard (map (λ t. t.now) p.items) e))) }
     {
@@ -154,12 +151,9 @@ impl<V: Copy, A: Allocator + Copy> DoubleArrayAhoCorasick<V, A> {
         P::IntoIter: Drop,
         requires { (it : P.IntoIter) → P.into_iter_gives patvals it → P.IntoIter.can_next it × IsFinite (P.IntoIter.remaining it) }
         ensures ok { IfOk result (λ a. (it : P.IntoIter) × P.into_iter_gives patvals it
-            × WholeRun P.IntoIter.next_gives it (λ p. HoldsPatterns Standard (registrations_of p.items) a)) }
-        ensures kind { IfOk result (λ a. kind_of a ≡ Standard) }
-        ensures folds { IfOk result (λ a. a.folds ≡ false) }
+            × WholeRun P.IntoIter.next_gives it (λ p. IsBuiltWith Standard false (registrations_of p.items) a)) }
         ensures filter { IfOk result (λ a. (it : P.IntoIter) × P.into_iter_gives patvals it
             × WholeRun P.IntoIter.next_gives it (λ p. a.filter ≡ kept_filter true (map (λ t. t.0.now) p.items))) }
-        ensures depths { IfOk result (λ a. a.depths ≡ []) }
         ensures err { IfErr result (λ e. IsOutOfMemory e ⊎ ((it : P.IntoIter) × P.into_iter_gives patvals it
             × WholeRun P.IntoIter.next_gives it (λ p. IsRefusalOf Standard (registrations_of p.items) e))) }
     {
@@ -267,7 +261,7 @@ impl<V: Copy, A: Allocator + Copy> DoubleArrayAhoCorasick<V, A> {
 /// depths included.
 impl<V: Copy + PartialEq, A: Allocator> PartialEq for DoubleArrayAhoCorasick<V, A> {
     ghost use Rattle.daachorse_bytewise_states.specs.Equality.{parts_per};
-    ghost use Rattle.daachorse_listing.specs.Automata.{automaton_per};
+    ghost use Rattle.daachorse_array.specs.Automata.{automaton_per};
     ghost use Rattle.daachorse_prefilter.specs.Equality.{filter_equiv};
     ghost use Rattle.daachorse_bytewise.specs.Automata.{automaton_eq};
 
@@ -284,7 +278,7 @@ impl<V: Copy + PartialEq, A: Allocator> PartialEq for DoubleArrayAhoCorasick<V, 
 
 impl<V: Copy + Eq, A: Allocator> Eq for DoubleArrayAhoCorasick<V, A> {
     ghost use Rattle.daachorse_bytewise_states.specs.Equality.{parts_equiv};
-    ghost use Rattle.daachorse_listing.specs.Automata.{automaton_equiv};
+    ghost use Rattle.daachorse_array.specs.Automata.{automaton_equiv};
     ghost use Rattle.daachorse_prefilter.specs.Equality.{filter_equiv};
 
     ghost laws = { automaton_equiv filter_equiv (parts_equiv V.Eq.laws) };
@@ -292,7 +286,7 @@ impl<V: Copy + Eq, A: Allocator> Eq for DoubleArrayAhoCorasick<V, A> {
 
 impl<V: Copy + Hash, A: Allocator> Hash for DoubleArrayAhoCorasick<V, A> {
     ghost use Rattle.daachorse_bytewise_states.specs.Equality.{parts_alike};
-    ghost use Rattle.daachorse_listing.specs.Automata.{automaton_alike};
+    ghost use Rattle.daachorse_array.specs.Automata.{automaton_alike};
     ghost use Rattle.daachorse_prefilter.specs.Equality.{filter_alike};
     ghost use Rattle.daachorse_bytewise.specs.Automata.{automaton_input};
 

@@ -8,8 +8,8 @@ use Rattle.daachorse_build.specs.declared.nfa_builder.NfaBuilder.{NfaBuilder}
 use Rattle.daachorse_build.specs.Builders.{outputs_of, states_of}
 use Rattle.daachorse_build.specs.Tables.{fails_of, positions_of}
 use Rattle.daachorse_patterns.specs.Prefixes.{HasMoreProperPrefixes}
-use Rattle.daachorse_packing.specs.Settled.{HasManyGroups}
-use Rattle.daachorse_packing.proofs.BuiltLaws.{built-count, built-holds, built-links as links, built-many as many-built, built-positions}
+use Rattle.daachorse_patterns.specs.Settled.{HasManyGroups}
+use Rattle.daachorse_patterns.proofs.ReadyToPack.{built-count, built-holds, built-links as links, built-many as many-built, built-positions}
 use Rattle.daachorse_bytewise_states.specs.declared.state.State.{State}
 use Rattle.daachorse_bytewise_states.specs.Parts.{content, parts_of}
 use Rattle.daachorse_bytewise_states.specs.Valid.{IsValid}

@@ -9,9 +9,9 @@ use Rattle.daachorse_core.specs.declared.turns.Look.TheVariants.{Next, Fail}
 use Rattle.daachorse_model.specs.declared.MatchKind.TheVariants.{Standard}
 use Rattle.daachorse_model.specs.Kinds.{is_leftmost}
 use Rattle.daachorse_model.specs.Units.{byte_width}
-use Rattle.daachorse_machine.specs.Machines.{IsMachine}
-use Rattle.daachorse_machine.proofs.ChildLaws.{child_at-inside}
-use Rattle.daachorse_machine.proofs.MachineLaws.{LooksOnce-gives, Reached-inside, Reached-root, first-output, text-root, root-text, turn-next, turn-root, turn-dead, turn-link, standard-alive}
+use Rattle.daachorse_array.specs.Machines.{IsMachine}
+use Rattle.daachorse_array.proofs.ChildLaws.{child_at-inside}
+use Rattle.daachorse_array.proofs.MachineLaws.{LooksOnce-gives, Reached-inside, Reached-root, first-output, text-root, root-text, turn-next, turn-root, turn-dead, turn-link, standard-alive}
 use Rattle.daachorse_search.specs.Views.{HasFirst, SeesLook}
 use Rattle.daachorse_bytewise_states.specs.Elements.{output_in, vacant, vacant_left}
 use Rattle.daachorse_bytewise_states.specs.Parts.{Parts, base_of, check_of, child, content, count, fail_of, machine, output_of, word_at}

@@ -2,7 +2,7 @@
 use Rattle.std.proofs.Common.{◌≡◌, ℕ, ◌*◌, ◌/◌, ◌%◌, ◌<◌, bit_xor, List, length, refl, sym, ap, ◌∙◌, arith, slice_index_or}
 use Rattle.std.proofs.lemmas.List.{get_or_default}
 use Rattle.daachorse_core.proofs.Xor.{xor_inside}
-use Rattle.daachorse_machine.proofs.ChildLaws.{child_at-same}
+use Rattle.daachorse_array.proofs.ChildLaws.{child_at-same}
 use Rattle.daachorse_bytewise_states.specs.declared.state.State.{State}
 use Rattle.daachorse_bytewise_states.specs.Elements.{base_in, check_in}
 use Rattle.daachorse_bytewise_states.specs.Parts.{child_by, child_among}

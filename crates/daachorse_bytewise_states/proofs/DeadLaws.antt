@@ -2,7 +2,7 @@
 use Rattle.std.proofs.Common.{◌≡◌, ◌≢◌}
 use Rattle.daachorse_model.specs.declared.MatchKind.TheVariants.{Standard}
 use Rattle.daachorse_model.specs.Units.{byte_width}
-use Rattle.daachorse_machine.proofs.DeadLaws.{dead_leftmost, none_dead}
+use Rattle.daachorse_array.proofs.DeadLaws.{dead_leftmost, none_dead}
 use Rattle.daachorse_search.specs.Views.{IsLeftmostView, IsStandard}
 use Rattle.daachorse_bytewise_states.specs.Parts.{Parts, machine}
 use Rattle.daachorse_bytewise_states.specs.Valid.{sees}

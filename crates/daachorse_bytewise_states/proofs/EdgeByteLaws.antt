@@ -9,8 +9,8 @@ use Rattle.daachorse_core.specs.declared.outputs.Empty.{Empty}
 use Rattle.daachorse_core.specs.Looks.{IsForeign}
 use Rattle.daachorse_model.specs.Kinds.{is_leftmost}
 use Rattle.daachorse_model.specs.Units.{byte_width}
-use Rattle.daachorse_machine.proofs.ChildLaws.{child_at-from, child_at-inside}
-use Rattle.daachorse_machine.proofs.MachineLaws.{foreign}
+use Rattle.daachorse_array.proofs.ChildLaws.{child_at-from, child_at-inside}
+use Rattle.daachorse_array.proofs.MachineLaws.{foreign}
 use Rattle.daachorse_rows.specs.Rows.{AreLabels, IsListOf}
 use Rattle.daachorse_bytewise_states.specs.declared.state.State.{State}
 use Rattle.daachorse_bytewise_states.specs.Elements.{base_in, vacant, vacant_left}

@@ -4,9 +4,9 @@ use Rattle.std.proofs.lemmas.Option.{same_Some}
 use Rattle.daachorse_core.proofs.Xor.{xor_back}
 use Rattle.daachorse_model.specs.Kinds.{is_leftmost}
 use Rattle.daachorse_model.specs.Units.{byte_width}
-use Rattle.daachorse_machine.proofs.ChildLaws.{child_at-from, child_at-inside, child_at-some}
-use Rattle.daachorse_listing.specs.Edges.{IsTree, TellChildren}
-use Rattle.daachorse_listing.proofs.MachineTrees.{machine_tree}
+use Rattle.daachorse_array.proofs.ChildLaws.{child_at-from, child_at-inside, child_at-some}
+use Rattle.daachorse_array.specs.Edges.{IsTree, TellChildren}
+use Rattle.daachorse_array.proofs.MachineTrees.{machine_tree}
 use Rattle.daachorse_bytewise_states.specs.Parts.{Parts, base_of, check_of, child, child_by, count, machine}
 use Rattle.daachorse_bytewise_states.specs.Valid.{IsValid}
 use Rattle.daachorse_bytewise_states.specs.Edges.{nonzero, group_of, edge_of}

@@ -3,8 +3,8 @@ use Rattle.std.proofs.Common.{ℕ, ◌<◌, List}
 use Rattle.daachorse_model.specs.Kinds.{is_leftmost}
 use Rattle.daachorse_model.specs.Prefixes.{IsListing}
 use Rattle.daachorse_model.specs.Units.{byte_width}
-use Rattle.daachorse_listing.specs.Listing.{HasPatterns, IsPatterns, own_end}
-use Rattle.daachorse_listing.proofs.MachineListings.{machine_listing, machine_patterns}
+use Rattle.daachorse_array.specs.Listing.{HasPatterns, IsPatterns, own_end}
+use Rattle.daachorse_array.proofs.MachineListings.{machine_listing, machine_patterns}
 use Rattle.daachorse_bytewise_states.specs.Parts.{Parts, child, content, count, fail_of, machine, output_of}
 use Rattle.daachorse_bytewise_states.specs.Valid.{IsValid}
 use Rattle.daachorse_bytewise_states.specs.Edges.{group_of, edge_of}

@@ -8,13 +8,13 @@ use Rattle.daachorse_model.specs.declared.MatchKind.{MatchKind}
 use Rattle.daachorse_model.specs.declared.MatchKind.TheVariants.{Standard, LeftmostLongest, LeftmostFirst}
 use Rattle.daachorse_placement.specs.declared.build_helper.SiblingGroup.{SiblingGroup}
 use Rattle.daachorse_placement.specs.Layout.{Layout}
-use Rattle.daachorse_machine.specs.Copies.{IsCopy}
+use Rattle.daachorse_array.specs.Copies.{IsCopy}
 use Rattle.daachorse_bytewise_states.specs.declared.state.State.{State}
 use Rattle.daachorse_bytewise_states.specs.Elements.{base_in, check_in, fail_in, output_in, vacant, vacant_left}
 use Rattle.daachorse_bytewise_states.specs.Parts.{base_of, check_of, child, child_by_check, count, fail_of, machine, output_of, parts_of, without_link}
 use Rattle.daachorse_bytewise_states.specs.Packing.{element_at, ArePacked}
-use Rattle.daachorse_packing.specs.Settled.{trie_of}
-use Rattle.daachorse_packing.proofs.Held.{held-IsCopy}
+use Rattle.daachorse_patterns.specs.Settled.{trie_of}
+use Rattle.daachorse_patterns.proofs.Held.{held-IsCopy}
 use Rattle.daachorse_bytewise_states.proofs.PackedTrie.{element_at-child, element_at-states}
 
 -- ---- what the parts say of an element

@@ -10,9 +10,9 @@ use Rattle.daachorse_placement.specs.declared.build_helper.SiblingGroup.{Sibling
 use Rattle.daachorse_placement.specs.Layout.{AreAllSet, IsLeastUnused, Layout}
 use Rattle.daachorse_placement.specs.Placement.{children_of, group_parent, child_id}
 use Rattle.daachorse_build.specs.Tables.{child_in as edge_to}
-use Rattle.daachorse_packing.specs.Settled.{AreSettled, HoldStates as HoldPlaced, IsVacantAt}
-use Rattle.daachorse_packing.proofs.Looks.{look, look_none, look_some}
-use Rattle.daachorse_packing.proofs.Places.{base_from, base_inside, edge-at, place_from, state_from, xor_below}
+use Rattle.daachorse_patterns.specs.Settled.{AreSettled, HoldStates as HoldPlaced, IsVacantAt}
+use Rattle.daachorse_patterns.proofs.Looks.{look, look_none, look_some}
+use Rattle.daachorse_patterns.proofs.Places.{base_from, base_inside, edge-at, place_from, state_from, xor_below}
 use Rattle.daachorse_bytewise_states.specs.declared.state.State.{State}
 use Rattle.daachorse_bytewise_states.specs.Elements.{base_in, check_in, fail_in, output_in}
 use Rattle.daachorse_bytewise_states.specs.Parts.{child_by_check}

@@ -13,18 +13,18 @@ use Rattle.daachorse_model.specs.Paths.{Leads}
 use Rattle.daachorse_placement.specs.declared.build_helper.SiblingGroup.{SiblingGroup}
 use Rattle.daachorse_placement.specs.Layout.{Layout}
 use Rattle.daachorse_build.specs.Tables.{child_in as edge_to}
-use Rattle.daachorse_machine.specs.Machines.{IsCounted, IsRight}
-use Rattle.daachorse_machine.specs.Copies.{HoldsDictionary, IsCopy}
-use Rattle.daachorse_machine.proofs.CopyLaws.{content-same, copy-counted, copy-right}
+use Rattle.daachorse_array.specs.Machines.{IsCounted, IsRight}
+use Rattle.daachorse_array.specs.Copies.{HoldsDictionary, IsCopy}
+use Rattle.daachorse_array.proofs.CopyLaws.{content-same, copy-counted, copy-right}
 use Rattle.daachorse_bytewise_states.specs.declared.state.State.{State}
 use Rattle.daachorse_bytewise_states.specs.Elements.{base_in, fail_in, output_in}
 use Rattle.daachorse_bytewise_states.specs.Parts.{Parts, base_of, content, count, fail_of, machine, output_of, parts_of, without_link}
 use Rattle.daachorse_bytewise_states.specs.Packing.{element_at, ArePacked}
 use Rattle.daachorse_bytewise_states.specs.Grouped.{HasShape}
 use Rattle.daachorse_bytewise_states.specs.Valid.{IsValid}
-use Rattle.daachorse_packing.specs.Settled.{trie_of}
-use Rattle.daachorse_packing.proofs.Held.{held-in_range, settled-states}
-use Rattle.daachorse_packing.proofs.Places.{some-elements}
+use Rattle.daachorse_patterns.specs.Settled.{trie_of}
+use Rattle.daachorse_patterns.proofs.Held.{held-in_range, settled-states}
+use Rattle.daachorse_patterns.proofs.Places.{some-elements}
 use Rattle.daachorse_bytewise_states.proofs.PackedTrie.{element_at-states}
 use Rattle.std.proofs.Math.Nat.{mul-mod_left}
 use Rattle.daachorse_bytewise_states.proofs.PackedParts.{packed-IsCopy, parts-base, parts-count, parts-fail, parts-kind, parts-num_states, parts-output, parts-outputs}

@@ -5,8 +5,8 @@ use Rattle.daachorse_core.specs.Outputs.{outputs_at}
 use Rattle.daachorse_core.specs.declared.outputs.Output.{Output}
 use Rattle.daachorse_model.specs.declared.MatchKind.TheVariants.{Standard, LeftmostLongest}
 use Rattle.daachorse_model.specs.Units.{byte_width}
-use Rattle.daachorse_machine.specs.Machines.{right_fail}
-use Rattle.daachorse_machine.specs.Texts.{text_of}
+use Rattle.daachorse_array.specs.Machines.{right_fail}
+use Rattle.daachorse_array.specs.Texts.{text_of}
 use Rattle.daachorse_bytewise_states.specs.declared.state.State.{State}
 use Rattle.daachorse_bytewise_states.specs.Parts.{Parts, child, content, fail_of, machine, parts_of}
 use Rattle.daachorse_bytewise_states.specs.Valid.{text}

@@ -4,8 +4,8 @@ use Rattle.std.specs.declared.num.NonZeroU32.{NonZeroU32}
 use Rattle.daachorse_core.specs.Outputs.{number}
 use Rattle.daachorse_core.specs.declared.turns.Look.TheVariants.{Next}
 use Rattle.daachorse_model.specs.Kinds.{is_leftmost}
-use Rattle.daachorse_machine.proofs.ChildLaws.{child_at-same}
-use Rattle.daachorse_machine.proofs.DeadLaws.{kind_standard}
+use Rattle.daachorse_array.proofs.ChildLaws.{child_at-same}
+use Rattle.daachorse_array.proofs.DeadLaws.{kind_standard}
 use Rattle.daachorse_bytewise_states.specs.Children.{child_from}
 use Rattle.daachorse_bytewise_states.specs.declared.state.State.{State}
 use Rattle.daachorse_bytewise_states.specs.Elements.{base_in, check_in, output_in}

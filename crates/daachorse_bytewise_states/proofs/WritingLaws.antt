@@ -13,8 +13,8 @@ use Rattle.daachorse_bytewise_states.specs.declared.state.State.{State}
 use Rattle.daachorse_bytewise_states.specs.Elements.{base_in, check_in, fail_in, output_in, vacant}
 use Rattle.daachorse_bytewise_states.specs.Packing.{IsVacant, element_at}
 use Rattle.daachorse_bytewise_states.specs.Writing.{HasWritten, HasVacants}
-use Rattle.daachorse_packing.specs.Settled.{HavePlaces}
-use Rattle.daachorse_packing.proofs.Written.{written_at}
+use Rattle.daachorse_patterns.specs.Settled.{HavePlaces}
+use Rattle.daachorse_patterns.proofs.Written.{written_at}
 use Rattle.std.proofs.lemmas.Nat.{xor_shr}
 use Rattle.std.specs.Int.Bits.{xor_self}
 use Rattle.daachorse_model.proofs.Lists.{below_or_at}

@@ -16,7 +16,7 @@ use Rattle.daachorse_core.specs.contracts.outputs.EmptyHash.TheImpl.Laws.{respec
 use Rattle.daachorse_core.specs.contracts.outputs.EmptyPartialEq.TheImpl.{ghosts as nothing}
 use Rattle.daachorse_core.specs.contracts.outputs.EmptyPartialEq.TheImpl.Laws.{laws-law as nothing_per}
 use Rattle.daachorse_core.specs.contracts.outputs.EmptyEq.TheImpl.Laws.{laws-law as nothing_equiv}
-use Rattle.daachorse_listing.specs.EqualOutputs.{output_eq, output_input, output_per, output_equiv, output_alike}
+use Rattle.daachorse_array.specs.EqualOutputs.{output_eq, output_input, output_per, output_equiv, output_alike}
 use Rattle.daachorse_bytewise_states.specs.declared.state.State.{State}
 use Rattle.daachorse_bytewise_states.specs.Elements.{base_in, fail_in}
 use Rattle.daachorse_bytewise_states.specs.Parts.{Parts}

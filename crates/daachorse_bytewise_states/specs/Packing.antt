@@ -11,7 +11,7 @@ use Rattle.daachorse_model.specs.declared.MatchKind.{MatchKind}
 use Rattle.daachorse_model.specs.Dictionary.{Dictionary}
 use Rattle.daachorse_model.specs.Units.{byte_width}
 use Rattle.daachorse_patterns.specs.Tries.{IsBuilt}
-use Rattle.daachorse_packing.specs.Settled.{AreGroupsOf, AreSettled}
+use Rattle.daachorse_patterns.specs.Settled.{AreGroupsOf, AreSettled}
 use Rattle.daachorse_bytewise_states.specs.declared.state.State.{State}
 use Rattle.daachorse_bytewise_states.specs.Elements.{base_in, check_in, fail_in, output_in, vacant}
 

@@ -5,8 +5,8 @@ use Rattle.daachorse_core.specs.Outputs.{outputs_at}
 use Rattle.daachorse_model.specs.declared.MatchKind.TheVariants.{Standard}
 use Rattle.daachorse_model.specs.Kinds.{is_leftmost}
 use Rattle.daachorse_model.specs.Units.{byte_width}
-use Rattle.daachorse_machine.specs.Machines.{dead_in}
-use Rattle.daachorse_machine.specs.Texts.{IsReached, text_of}
+use Rattle.daachorse_array.specs.Machines.{dead_in}
+use Rattle.daachorse_array.specs.Texts.{IsReached, text_of}
 use Rattle.daachorse_checker.specs.Sound.{IsSoundArray}
 use Rattle.daachorse_search.specs.Views.{AutomatonView, HasNone}
 use Rattle.daachorse_bytewise_states.specs.Grouped.{IsGrouped}

@@ -16,7 +16,7 @@ ghost use Rattle.daachorse_build.specs.Groups.{IsProfileOf};
 ghost use Rattle.daachorse_build.specs.Tables.{HoldTrie, edges_of, fails_of, positions_of};
 ghost use Rattle.daachorse_bytewise_states.specs.Elements.{base_in, check_in, fail_in, output_in};
 ghost use Rattle.daachorse_bytewise_states.specs.Writing.{AreLabelled, AreVacant, HasWritten, HasVacants};
-ghost use Rattle.daachorse_packing.specs.Settled.{HavePlaces, HasManyGroups};
+ghost use Rattle.daachorse_patterns.specs.Settled.{HavePlaces, HasManyGroups};
 
 use crate::state::State;
 use daachorse_build::edge_map::EdgeMap;

@@ -11,7 +11,7 @@ use crate::edges::Elements;
 use crate::for_kinds::ForKinds;
 use crate::states::States;
 use daachorse_core::errors::Result;
-use daachorse_listing::patterns::PatternWalk;
+use daachorse_array::patterns::PatternWalk;
 use daachorse_search::view::{ForLeftmost, ForStandard};
 use std::alloc::{Allocator, Global};
 use std::marker::Model;
@@ -54,7 +54,7 @@ impl<'a, V: Copy, A: Allocator> Model for PatternIterator<'a, V, A> {
 
 impl<'a, V: Copy, A: Allocator + Copy> Iterator for PatternIterator<'a, V, A> {
     ghost use Rattle.std.specs.Iterator.{item_count};
-    ghost use Rattle.daachorse_listing.specs.Listing.{GivesPattern};
+    ghost use Rattle.daachorse_array.specs.Listing.{GivesPattern};
 
     type Item = Result<(Vec<u8, A>, V)>;
 

@@ -13,7 +13,7 @@ ghost use Rattle.daachorse_bytewise_states.specs.StateRows.{CoversNear, HasNoRoo
 use crate::edges::Elements;
 use crate::states::States;
 use daachorse_core::MatchKind;
-use daachorse_listing::edges::Edges;
+use daachorse_array::edges::Edges;
 use daachorse_rows::rows::Rows;
 use std::alloc::{AllocError, Allocator};
 

@@ -28,7 +28,7 @@ use crate::view::{Leftmost, Standard, View};
 use daachorse_build::nfa_builder::NfaBuilder;
 use daachorse_core::errors::Result;
 use daachorse_core::{Empty, MatchKind, Output, ROOT_STATE_IDX};
-use daachorse_listing::edges::Edges;
+use daachorse_array::edges::Edges;
 use daachorse_placement::build_helper::Profile;
 use std::alloc::{Allocator, Global};
 use std::hash::{Hash, Hasher};
@@ -215,7 +215,7 @@ impl<V: Copy, A: Allocator> States<V, A> {
 
     /// What the leftmost searches see.
     #[inline(always)]
-    #[tactic(auto, using(daachorse_machine::proofs::DeadLaws::leftmost_kind))]
+    #[tactic(auto, using(daachorse_array::proofs::DeadLaws::leftmost_kind))]
     pub fn leftmost(&self) -> Leftmost<'_, V>
         requires { self.now.kind ≢ Standard }
         ensures { result ≡ self.entry.now }

@@ -4,8 +4,8 @@ use Rattle.daachorse_core.specs.declared.errors.DaachorseError.{DaachorseError}
 use Rattle.daachorse_model.specs.declared.MatchKind.{MatchKind}
 use Rattle.daachorse_model.specs.Kinds.{byte_of_kind}
 use Rattle.daachorse_model.specs.Folding.{all_as_read, texts_as_read}
-use Rattle.daachorse_bytewise.specs.Automata.{Automaton, kind_of}
-use Rattle.daachorse_bytewise.specs.Building.{HoldsPatterns, IsRefusalOf, kept_filter}
+use Rattle.daachorse_bytewise.specs.Automata.{Automaton}
+use Rattle.daachorse_bytewise.specs.Building.{IsBuiltWith, IsRefusalOf, kept_filter}
 use Rattle.daachorse_c.specs.declared.refusal.Refusal.{Refusal}
 use Rattle.daachorse_c.specs.declared.refusal.Refusal.TheVariants.{OutOfMemory, UnknownKind, WrongPatterns}
 use Rattle.daachorse_c.specs.Patterns.{ArePatterns, registrations}
@@ -16,12 +16,12 @@ module _ (number : ℕ) (folds : Bool) (bytes ends values : List ℕ) where
   abbrev pub patterns_read : List (List ℕ × ℕ)
   patterns_read = texts_as_read folds (registrations bytes 0 ends values)
 
-  -- the automaton holds these patterns as they are read, reads haystacks so too, and keeps a filter where it is wanted
+  -- the automaton is built of these patterns for the kind of this number, and keeps a filter where it is wanted
   pub record IsBuiltFrom (use_prefilter : Bool) (a : Automaton ℕ) : Type 0 where
-    pub kind : byte_of_kind (kind_of a) ≡ number
+    pub its_kind : MatchKind
+    pub kind : byte_of_kind its_kind ≡ number
     pub right : ArePatterns bytes ends values
-    pub folded : a.folds ≡ folds
-    pub holds : HoldsPatterns (kind_of a) patterns_read a
+    pub built : IsBuiltWith its_kind folds (registrations bytes 0 ends values) a
     pub filter : a.filter ≡ kept_filter use_prefilter (all_as_read folds (map (λ r. r.0) (registrations bytes 0 ends values)))
 
   -- the library refuses the patterns by this error

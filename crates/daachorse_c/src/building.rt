@@ -8,8 +8,7 @@ ghost use Rattle.daachorse_model.specs.declared.MatchKind.{MatchKind};
 ghost use Rattle.daachorse_model.specs.Dictionary.{registrations_of};
 ghost use Rattle.daachorse_model.specs.Kinds.{byte_of_kind};
 ghost use Rattle.daachorse_model.specs.Folding.{all_as_read, texts_as_read};
-ghost use Rattle.daachorse_bytewise.specs.Automata.{kind_of};
-ghost use Rattle.daachorse_bytewise.specs.Building.{HoldsPatterns, IsRefusalOf, kept_filter};
+ghost use Rattle.daachorse_bytewise.specs.Building.{IsBuiltWith, IsRefusalOf, kept_filter};
 ghost use Rattle.daachorse_c.specs.Building.{IsBuildCause, IsBuiltFrom};
 ghost use Rattle.daachorse_c.specs.declared.refusal.Refusal.TheVariants.{UnknownKind};
 
@@ -72,9 +71,7 @@ fn build_of(
     ascii_case_insensitive: bool,
     patterns: &[(&[u8], u32)],
 ) -> Result<DoubleArrayAhoCorasick<u32, Global>, DaachorseError>
-    ensures built { IfOk result (HoldsPatterns kind (texts_as_read ascii_case_insensitive (registrations_of patterns.now))) }
-    ensures kind { IfOk result (λ a. kind_of a ≡ kind) }
-    ensures folded { IfOk result (λ a. a.folds ≡ ascii_case_insensitive) }
+    ensures built { IfOk result (IsBuiltWith kind ascii_case_insensitive (registrations_of patterns.now)) }
     ensures filter { IfOk result (λ a. a.filter ≡ kept_filter use_prefilter (all_as_read ascii_case_insensitive (map (λ p. p.0.now) patterns.now))) }
     ensures err { IfErr result (IsRefusalOf kind (texts_as_read ascii_case_insensitive (registrations_of patterns.now))) }
 {

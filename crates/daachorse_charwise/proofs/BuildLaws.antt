@@ -11,7 +11,7 @@ use Rattle.daachorse_core.specs.Refusals.{IsRefusal}
 use Rattle.daachorse_model.specs.declared.MatchKind.{MatchKind}
 use Rattle.daachorse_model.specs.Dictionary.{dictionary, kept_registrations}
 use Rattle.daachorse_model.specs.Units.{char_width}
-use Rattle.daachorse_mapper.specs.Codings.{Coding, IsCodingOf}
+use Rattle.daachorse_charwise_states.specs.Codings.{Coding, IsCodingOf}
 use Rattle.daachorse_patterns.specs.Building.{Fit}
 use Rattle.daachorse_patterns.specs.Patterns.{AreIndexed}
 use Rattle.daachorse_patterns.proofs.IndexLaws.{refused_build}

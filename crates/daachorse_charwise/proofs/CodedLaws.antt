@@ -9,8 +9,8 @@ use Rattle.daachorse_model.specs.declared.MatchKind.{MatchKind}
 use Rattle.daachorse_model.specs.declared.MatchKind.TheVariants.{Standard, LeftmostLongest, LeftmostFirst}
 use Rattle.daachorse_model.specs.Dictionary.{dictionary, is_proper_prefix, kept_registrations, values_of, without_extensions}
 use Rattle.daachorse_model.specs.Units.{same_text}
-use Rattle.daachorse_mapper.specs.Codings.{Coding, IsCodingOf}
-use Rattle.daachorse_packing.proofs.Keys.{of_key}
+use Rattle.daachorse_charwise_states.specs.Codings.{Coding, IsCodingOf}
+use Rattle.daachorse_patterns.proofs.Keys.{of_key}
 use Rattle.daachorse_charwise_states.specs.Packing.{AreCoded}
 use Rattle.daachorse_charwise_states.specs.Texts.{AreTexts}
 use Rattle.daachorse_charwise_states.proofs.Codes.{char_code-of}

@@ -1,5 +1,5 @@
 -- What a build over characters promises: the dictionary of its patterns and the codes of their characters, or the first refusal in the order of its work.
-use Rattle.std.specs.Prelude.{◌≡◌, ◌≤◌, ◌⊎◌, ℕ, Bool, List, Option, encode_utf8_all, length, map, Result, None}
+use Rattle.std.specs.Prelude.{◌≡◌, ◌≤◌, ◌⊎◌, ℕ, Bool, List, [], Option, encode_utf8_all, length, map, Result, None}
 use Rattle.std.specs.Borrow.{Bor}
 use Rattle.std.specs.Str.{chars}
 use Rattle.daachorse_core.specs.declared.errors.DaachorseError.{DaachorseError}
@@ -7,14 +7,15 @@ use Rattle.daachorse_core.specs.declared.errors.DaachorseError.TheVariants.{Auto
 use Rattle.daachorse_core.specs.declared.errors.Limit.TheVariants.{NumElements}
 use Rattle.daachorse_model.specs.declared.MatchKind.{MatchKind}
 use Rattle.daachorse_model.specs.Dictionary.{dictionary, kept_registrations}
+use Rattle.daachorse_model.specs.Folding.{texts_as_read}
 use Rattle.daachorse_model.specs.Units.{char_width}
-use Rattle.daachorse_mapper.specs.Codings.{Coding, IsCodingOf}
+use Rattle.daachorse_charwise_states.specs.Codings.{Coding, IsCodingOf}
 use Rattle.daachorse_patterns.specs.Building.{Fit, IsBuildRefusalWithin, IsRefusalWithin, Limits}
 use Rattle.daachorse_patterns.specs.Filters.{kept_filter as filter_kept}
 use Rattle.daachorse_patterns.specs.Patterns.{AreIndexed, texts_of}
 use Rattle.daachorse_prefilter.specs.Filters.{Filter}
 use Rattle.daachorse_charwise_states.specs.Packing.{NeedsManyBlocks}
-use Rattle.daachorse_charwise.specs.Automata.{Automaton, coding_of, dictionary_of}
+use Rattle.daachorse_charwise.specs.Automata.{Automaton, coding_of, dictionary_of, kind_of}
 use Rattle.daachorse_charwise.specs.Frequencies.{AreFrequencies}
 
 -- the texts that strings stand for
@@ -56,11 +57,18 @@ module _ {V : Type 0} (kind : MatchKind) (rs : List (List ℕ × V)) where
   abbrev pub IsRefusalOf : DaachorseError → Type 0
   IsRefusalOf e = IsRefusalWithin char_width char_limits kind rs e ⊎ RunsOut e
 
-module _ {V E : Type 0} (gives : ℕ → Result V E → Type 0) (kind : MatchKind) (texts : List (List ℕ)) where
-  -- the automaton holds the texts, each with the value of its index
-  abbrev pub IsBuiltOf : Automaton V → Type 0
-  IsBuiltOf a = (rs : List (List ℕ × V)) × AreIndexed gives 0 texts rs × HoldsPatterns kind rs a
+-- what a build of these patterns with their values makes: an automaton of this kind and with this option that holds them, as the option reads them, and has no depths cached
+pub record IsBuiltWith {V : Type 0} (its_kind : MatchKind) (insensitive : Bool) (rs : List (List ℕ × V)) (a : Automaton V) : Type 0 where
+  pub holds : HoldsPatterns its_kind (texts_as_read insensitive rs) a
+  pub kind : kind_of a ≡ its_kind
+  pub folds : a.folds ≡ insensitive
+  pub depths : a.depths ≡ []
+
+module _ {V E : Type 0} (gives : ℕ → Result V E → Type 0) where
+  -- the automaton is built of the texts, each with the value of its index
+  abbrev pub IsBuiltOf : MatchKind → Bool → List (List ℕ) → Automaton V → Type 0
+  IsBuiltOf kind insensitive texts a = (rs : List (List ℕ × V)) × AreIndexed gives 0 texts rs × IsBuiltWith kind insensitive rs a
 
   -- why a build of texts refuses, each of which gets the value of its index
-  abbrev pub IsBuildRefusal : DaachorseError → Type 0
-  IsBuildRefusal e = IsBuildRefusalWithin gives char_width char_limits kind texts e ⊎ ((rs : List (List ℕ × V)) × AreIndexed gives 0 texts rs × RunsOut kind rs e)
+  abbrev pub IsBuildRefusal : MatchKind → List (List ℕ) → DaachorseError → Type 0
+  IsBuildRefusal kind texts e = IsBuildRefusalWithin gives char_width char_limits kind texts e ⊎ ((rs : List (List ℕ × V)) × AreIndexed gives 0 texts rs × RunsOut kind rs e)

@@ -25,7 +25,7 @@ ghost use Rattle.daachorse_search.specs.Filters.{IsSoundFor};
 ghost use Rattle.daachorse_prefilter.specs.Places.{untested};
 ghost use Rattle.daachorse_skipping.specs.Asked.{BeginsAsking, lets_pass};
 ghost use Rattle.daachorse_charwise.specs.Automata.{HasDepths, MayFold, MayHaveFilter, dictionary_of, element_count, kind_of, states_of};
-ghost use Rattle.daachorse_charwise.specs.Building.{HoldsPatterns, IsBuildRefusal, IsBuiltOf, IsRefusalOf, kept_filter, registrations_of_strings, texts_of_strings};
+ghost use Rattle.daachorse_charwise.specs.Building.{IsBuildRefusal, IsBuiltOf, IsBuiltWith, IsRefusalOf, kept_filter, registrations_of_strings, texts_of_strings};
 ghost use Rattle.daachorse_charwise_states.specs.Texts.{AreTexts};
 
 pub mod accelerated;
@@ -120,12 +120,9 @@ impl<V: Copy, A: Allocator + Copy> CharwiseDoubleArrayAhoCorasick<V, A> {
         V::Error: Drop,
         requires { (it : P.IntoIter) → P.into_iter_gives patterns it → P.IntoIter.can_next it × IsFinite (P.IntoIter.remaining it) }
         ensures ok { IfOk result (λ a. (it : P.IntoIter) × P.into_iter_gives patterns it
-            × WholeRun P.IntoIter.next_gives it (λ p. IsBuiltOf V.try_from_gives Standard (texts_of_strings p.items) a)) }
-        ensures kind { IfOk result (λ a. kind_of a ≡ Standard) }
-        ensures folds { IfOk result (λ a. a.folds ≡ false) }
+            × WholeRun P.IntoIter.next_gives it (λ p. IsBuiltOf V.try_from_gives Standard false (texts_of_strings p.items) a)) }
         ensures filter { IfOk result (λ a. (it : P.IntoIter) × P.into_iter_gives patterns it
             × WholeRun P.IntoIter.next_gives it (λ p. a.filter ≡ kept_filter true (texts_of_strings p.items))) }
-        ensures depths { IfOk result (λ a. a.depths ≡ []) }
         ensures err { IfErr result (λ e. IsOutOfMemory e ⊎ ((it : P.IntoIter) × P.into_iter_gives patterns it
             × WholeRun P.IntoIter.next_gives it (λ p. IsBuildRefusal V.try_from_gives Standard (texts_of_strings p.items) e))) }
     {
@@ -156,12 +153,9 @@ impl<V: Copy, A: Allocator + Copy> CharwiseDoubleArrayAhoCorasick<V, A> {
         P::IntoIter: Drop,
         requires { (it : P.IntoIter) → P.into_iter_gives patvals it → P.IntoIter.can_next it × IsFinite (P.IntoIter.remaining it) }
         ensures ok { IfOk result (λ a. (it : P.IntoIter) × P.into_iter_gives patvals it
-            × WholeRun P.IntoIter.next_gives it (λ p. HoldsPatterns Standard (registrations_of_strings p.items) a)) }
-        ensures kind { IfOk result (λ a. kind_of a ≡ Standard) }
-        ensures folds { IfOk result (λ a. a.folds ≡ false) }
+            × WholeRun P.IntoIter.next_gives it (λ p. IsBuiltWith Standard false (registrations_of_strings p.items) a)) }
         ensures filter { IfOk result (λ a. (it : P.IntoIter) × P.into_iter_gives patvals it
             × WholeRun P.IntoIter.next_gives it (λ p. a.filter ≡ kept_filter true (map (λ r. r.0) (registrations_of_strings p.items)))) }
-        ensures depths { IfOk result (λ a. a.depths ≡ []) }
         ensures err { IfErr result (λ e. IsOutOfMemory e ⊎ ((it : P.IntoIter) × P.into_iter_gives patvals it
             × WholeRun P.IntoIter.next_gives it (λ p. IsRefusalOf Standard (registrations_of_strings p.items) e))) }
     {
@@ -273,7 +267,7 @@ impl<V: Copy, A: Allocator + Copy> CharwiseDoubleArrayAhoCorasick<V, A> {
 /// depths included.
 impl<V: Copy + PartialEq, A: Allocator> PartialEq for CharwiseDoubleArrayAhoCorasick<V, A> {
     ghost use Rattle.daachorse_charwise_states.specs.Equality.{parts_per};
-    ghost use Rattle.daachorse_listing.specs.Automata.{automaton_per};
+    ghost use Rattle.daachorse_array.specs.Automata.{automaton_per};
     ghost use Rattle.daachorse_prefilter.specs.Equality.{filter_equiv};
     ghost use Rattle.daachorse_charwise.specs.Automata.{automaton_eq};
 
@@ -290,7 +284,7 @@ impl<V: Copy + PartialEq, A: Allocator> PartialEq for CharwiseDoubleArrayAhoCora
 
 impl<V: Copy + Eq, A: Allocator> Eq for CharwiseDoubleArrayAhoCorasick<V, A> {
     ghost use Rattle.daachorse_charwise_states.specs.Equality.{parts_equiv};
-    ghost use Rattle.daachorse_listing.specs.Automata.{automaton_equiv};
+    ghost use Rattle.daachorse_array.specs.Automata.{automaton_equiv};
     ghost use Rattle.daachorse_prefilter.specs.Equality.{filter_equiv};
 
     ghost laws = { automaton_equiv filter_equiv (parts_equiv V.Eq.laws) };
@@ -298,7 +292,7 @@ impl<V: Copy + Eq, A: Allocator> Eq for CharwiseDoubleArrayAhoCorasick<V, A> {
 
 impl<V: Copy + Hash, A: Allocator> Hash for CharwiseDoubleArrayAhoCorasick<V, A> {
     ghost use Rattle.daachorse_charwise_states.specs.Equality.{parts_alike};
-    ghost use Rattle.daachorse_listing.specs.Automata.{automaton_alike};
+    ghost use Rattle.daachorse_array.specs.Automata.{automaton_alike};
     ghost use Rattle.daachorse_prefilter.specs.Equality.{filter_alike};
     ghost use Rattle.daachorse_charwise.specs.Automata.{automaton_input};
 

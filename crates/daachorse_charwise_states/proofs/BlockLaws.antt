@@ -4,7 +4,7 @@ use Rattle.std.specs.Prelude.{max}
 use Rattle.std.specs.Int.{IsNextPowerOfTwo}
 use Rattle.std.proofs.Math.Pow.{pow_mono}
 use Rattle.std.proofs.lemmas.Bool.{cases_lt}
-use Rattle.daachorse_mapper.specs.Codings.{Coding}
+use Rattle.daachorse_charwise_states.specs.Codings.{Coding}
 use Rattle.daachorse_charwise_states.specs.Grouped.{HasBlocks}
 
 -- a power whose half is below n is no more than one that is at least n

@@ -7,11 +7,11 @@ use Rattle.daachorse_model.specs.Paths.{walk}
 use Rattle.daachorse_model.specs.Prefixes.{IsKey}
 use Rattle.daachorse_model.specs.Units.{char_width}
 use Rattle.daachorse_core.specs.Looks.{IsForeign}
-use Rattle.daachorse_machine.specs.Machines.{IsMachine, values_at}
-use Rattle.daachorse_machine.proofs.PathLaws.{and_then_inv}
-use Rattle.daachorse_machine.proofs.MachineLaws.{foreign}
-use Rattle.daachorse_machine.proofs.ChildLaws.{child_at-inside}
-use Rattle.daachorse_mapper.specs.Codings.{Coding}
+use Rattle.daachorse_array.specs.Machines.{IsMachine, values_at}
+use Rattle.daachorse_array.proofs.PathLaws.{and_then_inv}
+use Rattle.daachorse_array.proofs.MachineLaws.{foreign}
+use Rattle.daachorse_array.proofs.ChildLaws.{child_at-inside}
+use Rattle.daachorse_charwise_states.specs.Codings.{Coding}
 use Rattle.daachorse_charwise_states.specs.declared.state.State.{State}
 use Rattle.daachorse_charwise_states.specs.Elements.{base_in, check_in, vacant}
 use Rattle.daachorse_charwise_states.specs.Parts.{Parts, char_code, child, child_among, coded_child, content, count, machine}

@@ -3,7 +3,7 @@ use Rattle.std.proofs.Common.{◌≡◌, ◌≢◌, ℕ, suc, ◌<◌, ◌==◌,
 use Rattle.std.proofs.Math.Utf8.{scalar}
 use Rattle.std.proofs.lemmas.Option.{same_Some}
 use Rattle.std.proofs.lemmas.List.{get_or-set_same, get_or-set_other, length-set}
-use Rattle.daachorse_mapper.specs.Codings.{Coding, IsCoding, code_of}
+use Rattle.daachorse_charwise_states.specs.Codings.{Coding, IsCoding, code_of}
 use Rattle.daachorse_charwise_states.specs.Edges.{AreCharacters, character_at}
 use Rattle.daachorse_charwise_states.specs.Parts.{char_code}
 use Rattle.daachorse_charwise_states.proofs.Codes.{char_code-is, char_code-of}

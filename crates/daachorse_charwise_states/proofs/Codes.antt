@@ -7,8 +7,8 @@ use Rattle.std.proofs.Math.Utf8.{scalar}
 use Rattle.std.proofs.lemmas.Option.{same_Some, slice_get_within}
 use Rattle.std.specs.Ordering.{nat_cmp}
 use Rattle.daachorse_build.specs.Tables.{child_in}
-use Rattle.daachorse_mapper.specs.Codings.{Coding, IsCoding, code_of}
-use Rattle.daachorse_mapper.proofs.Taken.{entry_some}
+use Rattle.daachorse_charwise_states.specs.Codings.{Coding, IsCoding, code_of}
+use Rattle.daachorse_charwise_states.proofs.Taken.{entry_some}
 use Rattle.daachorse_charwise_states.specs.Packing.{AreEdgesCoded, code_in}
 use Rattle.daachorse_charwise_states.specs.Parts.{char_code}
 

@@ -6,10 +6,10 @@ use Rattle.std.proofs.lemmas.Nat.{xor_comm}
 use Rattle.daachorse_core.proofs.Xor.{xor_back}
 use Rattle.daachorse_model.specs.Kinds.{is_leftmost}
 use Rattle.daachorse_model.specs.Units.{char_width}
-use Rattle.daachorse_machine.proofs.ChildLaws.{child_at-from, child_at-inside, child_at-some}
-use Rattle.daachorse_machine.proofs.PathLaws.{and_then_inv}
-use Rattle.daachorse_listing.specs.Edges.{IsTree, TellChildren}
-use Rattle.daachorse_listing.proofs.MachineTrees.{machine_tree}
+use Rattle.daachorse_array.proofs.ChildLaws.{child_at-from, child_at-inside, child_at-some}
+use Rattle.daachorse_array.proofs.PathLaws.{and_then_inv}
+use Rattle.daachorse_array.specs.Edges.{IsTree, TellChildren}
+use Rattle.daachorse_array.proofs.MachineTrees.{machine_tree}
 use Rattle.daachorse_charwise_states.specs.declared.state.State.{State}
 use Rattle.daachorse_charwise_states.specs.Edges.{AreCharacters, Lettered, character_of, edge_between, edge_of}
 use Rattle.daachorse_charwise_states.specs.Elements.{base_in, check_in, vacant}

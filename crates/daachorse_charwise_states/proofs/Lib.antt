@@ -14,3 +14,7 @@ pub mod BlockLaws
 pub mod LabelLaws
 pub mod LabelListLaws
 mod StringLaws
+pub mod Coded
+pub mod Ranking
+pub mod Entries
+pub mod Taken

@@ -9,8 +9,8 @@ use Rattle.daachorse_model.specs.Kinds.{is_leftmost}
 use Rattle.daachorse_model.specs.Prefixes.{IsListing}
 use Rattle.daachorse_model.specs.Units.{char_width, same_text}
 use Rattle.daachorse_model.proofs.Listings.{value_later}
-use Rattle.daachorse_listing.specs.Listing.{HasPatterns, IsPatterns, own_end}
-use Rattle.daachorse_listing.proofs.MachineListings.{machine_listing, machine_patterns}
+use Rattle.daachorse_array.specs.Listing.{HasPatterns, IsPatterns, own_end}
+use Rattle.daachorse_array.proofs.MachineListings.{machine_listing, machine_patterns}
 use Rattle.daachorse_charwise_states.specs.Edges.{AreCharacters, Lettered, edge_of}
 use Rattle.daachorse_charwise_states.specs.Parts.{Parts, child, content, count, fail_of, machine, output_of}
 use Rattle.daachorse_charwise_states.specs.Texts.{AreTexts}

@@ -8,12 +8,12 @@ use Rattle.daachorse_model.specs.declared.MatchKind.{MatchKind}
 use Rattle.daachorse_placement.specs.declared.build_helper.SiblingGroup.{SiblingGroup}
 use Rattle.daachorse_placement.specs.Layout.{Layout}
 use Rattle.daachorse_build.specs.Tables.{child_in}
-use Rattle.daachorse_machine.specs.Copies.{IsCopy}
-use Rattle.daachorse_mapper.specs.Codings.{Coding, IsCoding, code_of}
-use Rattle.daachorse_packing.specs.Settled.{AreSettled, trie_of}
-use Rattle.daachorse_packing.proofs.Held.{held-IsCopy}
-use Rattle.daachorse_packing.proofs.Looks.{look, look_none, look_some}
-use Rattle.daachorse_packing.proofs.Places.{edge-at, place-alive, place-apart, place-inside, place_from, state_from}
+use Rattle.daachorse_array.specs.Copies.{IsCopy}
+use Rattle.daachorse_charwise_states.specs.Codings.{Coding, IsCoding, code_of}
+use Rattle.daachorse_patterns.specs.Settled.{AreSettled, trie_of}
+use Rattle.daachorse_patterns.proofs.Held.{held-IsCopy}
+use Rattle.daachorse_patterns.proofs.Looks.{look, look_none, look_some}
+use Rattle.daachorse_patterns.proofs.Places.{edge-at, place-alive, place-apart, place-inside, place_from, state_from}
 use Rattle.daachorse_charwise_states.specs.declared.state.State.{State}
 use Rattle.daachorse_charwise_states.specs.Elements.{check_in}
 use Rattle.daachorse_charwise_states.specs.Parts.{Parts, char_code, child_among, coded_child, machine}

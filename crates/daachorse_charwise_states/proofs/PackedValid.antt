@@ -15,13 +15,13 @@ use Rattle.daachorse_model.proofs.Paths.{walk-push}
 use Rattle.daachorse_build.specs.declared.nfa_builder.NfaBuilder.{NfaBuilder}
 use Rattle.daachorse_build.specs.Builders.{outputs_of, states_of}
 use Rattle.daachorse_build.specs.Tables.{child_in, edges_of, fails_of, positions_of}
-use Rattle.daachorse_machine.specs.Copies.{IsCopy}
-use Rattle.daachorse_machine.proofs.CopyLaws.{content-same, copy-counted, copy-right}
-use Rattle.daachorse_mapper.specs.Codings.{Coding, IsCoding}
-use Rattle.daachorse_packing.specs.Settled.{trie_of}
-use Rattle.daachorse_packing.proofs.BuiltLaws.{built-count, built-holds, built-text}
-use Rattle.daachorse_packing.proofs.Held.{held-in_range, settled-states}
-use Rattle.daachorse_packing.proofs.Places.{place-dead, place-inside, some-elements}
+use Rattle.daachorse_array.specs.Copies.{IsCopy}
+use Rattle.daachorse_array.proofs.CopyLaws.{content-same, copy-counted, copy-right}
+use Rattle.daachorse_charwise_states.specs.Codings.{Coding, IsCoding}
+use Rattle.daachorse_patterns.specs.Settled.{trie_of}
+use Rattle.daachorse_patterns.proofs.ReadyToPack.{built-count, built-holds, built-text}
+use Rattle.daachorse_patterns.proofs.Held.{held-in_range, settled-states}
+use Rattle.daachorse_patterns.proofs.Places.{place-dead, place-inside, some-elements}
 use Rattle.daachorse_charwise_states.specs.declared.state.State.{State}
 use Rattle.daachorse_charwise_states.specs.Packing.{AreCoded, AreEdgesCoded, ArePackedOf, IsBuiltFor}
 use Rattle.daachorse_charwise_states.specs.Parts.{Parts, base_of, char_code, content, fail_of, machine, output_of}

@@ -6,13 +6,13 @@ use Rattle.std.specs.declared.num.NonZeroU32.{NonZeroU32}
 use Rattle.std.proofs.lemmas.List.{get_or_default}
 use Rattle.daachorse_model.specs.Kinds.{is_leftmost}
 use Rattle.daachorse_model.specs.Units.{char_width}
-use Rattle.daachorse_machine.specs.Machines.{IsMachine}
+use Rattle.daachorse_array.specs.Machines.{IsMachine}
 use Rattle.daachorse_core.specs.Looks.{IsForeign, LooksOnce}
 use Rattle.daachorse_core.specs.Outputs.{number}
 use Rattle.daachorse_core.specs.declared.turns.Look.{Look}
-use Rattle.daachorse_machine.proofs.DeadLaws.{kind_standard, none_dead}
-use Rattle.daachorse_machine.proofs.MachineLaws.{LooksOnce-gives, Reached-inside, Reached-root, standard-alive}
-use Rattle.daachorse_mapper.specs.Codings.{code_of}
+use Rattle.daachorse_array.proofs.DeadLaws.{kind_standard, none_dead}
+use Rattle.daachorse_array.proofs.MachineLaws.{LooksOnce-gives, Reached-inside, Reached-root, standard-alive}
+use Rattle.daachorse_charwise_states.specs.Codings.{code_of}
 use Rattle.daachorse_search.specs.Views.{SeesLook}
 use Rattle.daachorse_charwise_states.specs.declared.state.State.{State}
 use Rattle.daachorse_charwise_states.specs.Elements.{base_in, check_in, fail_in, output_in, vacant}

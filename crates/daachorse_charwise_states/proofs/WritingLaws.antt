@@ -6,8 +6,8 @@ use Rattle.std.proofs.lemmas.List.{get_or-set_other, get_or-set_same, length-set
 use Rattle.daachorse_model.proofs.Lists.{below_or_at}
 use Rattle.daachorse_placement.specs.declared.build_helper.SiblingGroup.{SiblingGroup}
 use Rattle.daachorse_placement.specs.Placement.{children_of, group_parent}
-use Rattle.daachorse_packing.specs.Settled.{HavePlaces}
-use Rattle.daachorse_packing.proofs.Written.{written_at}
+use Rattle.daachorse_patterns.specs.Settled.{HavePlaces}
+use Rattle.daachorse_patterns.proofs.Written.{written_at}
 use Rattle.daachorse_charwise_states.specs.declared.state.State.{State}
 use Rattle.daachorse_charwise_states.specs.Elements.{base_in, check_in, fail_in, output_in, vacant}
 use Rattle.daachorse_charwise_states.specs.Packing.{element_at}

@@ -7,8 +7,8 @@ use Rattle.std.proofs.lemmas.List.{get_or-replicate, get_or_past, length-replica
 use Rattle.daachorse_placement.specs.declared.build_helper.SiblingGroup.{SiblingGroup}
 use Rattle.daachorse_placement.specs.Layout.{Layout}
 use Rattle.daachorse_placement.specs.Placement.{AreIds, child_id, children_of, group_parent}
-use Rattle.daachorse_packing.specs.Settled.{AreSettled}
-use Rattle.daachorse_packing.proofs.Places.{edge-at, place-apart, place-inside}
+use Rattle.daachorse_patterns.specs.Settled.{AreSettled}
+use Rattle.daachorse_patterns.proofs.Places.{edge-at, place-apart, place-inside}
 use Rattle.daachorse_charwise_states.specs.declared.state.State.{State}
 use Rattle.daachorse_charwise_states.specs.Elements.{base_in, check_in, fail_in, output_in, vacant}
 use Rattle.daachorse_charwise_states.specs.Packing.{HoldElements, element_at}

@@ -1,7 +1,7 @@
 -- The edges of a double array over characters: an element's check is its parent, and the parent's base leads to it by the code of their character.
 use Rattle.std.specs.Prelude.{◌≡◌, ℕ, ◌<◌, ◌==◌, bit_xor, cond, List, length, slice_index_or, Option, Some, None, option_map}
 use Rattle.std.proofs.Math.Utf8.{scalar}
-use Rattle.daachorse_mapper.specs.Codings.{Coding}
+use Rattle.daachorse_charwise_states.specs.Codings.{Coding}
 use Rattle.daachorse_charwise_states.specs.Parts.{Parts, base_of, char_code, check_of}
 use Rattle.daachorse_charwise_states.specs.Valid.{AreFew}
 

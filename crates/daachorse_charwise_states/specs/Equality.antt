@@ -11,8 +11,8 @@ use Rattle.daachorse_model.specs.contracts.MatchKindPartialEq.TheImpl.Laws.{laws
 use Rattle.daachorse_model.specs.contracts.MatchKindEq.TheImpl.Laws.{laws-law as kinds_equiv}
 use Rattle.daachorse_model.specs.contracts.MatchKindHash.TheImpl.{ghosts as kind_inputs}
 use Rattle.daachorse_model.specs.contracts.MatchKindHash.TheImpl.Laws.{respects_eq-law as kinds_alike}
-use Rattle.daachorse_mapper.specs.Codings.{Coding}
-use Rattle.daachorse_listing.specs.EqualOutputs.{output_eq, output_input, output_per, output_equiv, output_alike}
+use Rattle.daachorse_charwise_states.specs.Codings.{Coding}
+use Rattle.daachorse_array.specs.EqualOutputs.{output_eq, output_input, output_per, output_equiv, output_alike}
 use Rattle.daachorse_charwise_states.specs.declared.state.State.{State}
 use Rattle.daachorse_charwise_states.specs.Elements.{base_in, check_in, fail_in, output_in}
 use Rattle.daachorse_charwise_states.specs.Parts.{Parts}

@@ -1,7 +1,7 @@
 -- Which elements may be looked at, whatever else the parts are.
 use Rattle.std.specs.Prelude.{◌≡◌, ℕ, ◌<◌, ◌%◌, max, List, length, slice_index_or}
 use Rattle.std.specs.Int.{IsNextPowerOfTwo}
-use Rattle.daachorse_mapper.specs.Codings.{Coding, IsCoding}
+use Rattle.daachorse_charwise_states.specs.Codings.{Coding, IsCoding}
 use Rattle.daachorse_charwise_states.specs.declared.state.State.{State}
 use Rattle.daachorse_charwise_states.specs.Elements.{base_in, vacant}
 

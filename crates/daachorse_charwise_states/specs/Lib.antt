@@ -12,3 +12,6 @@ pub mod Writing
 pub mod Written
 pub mod PartForms
 pub mod StateRows
+pub mod Codings
+pub mod Ranks
+pub mod CodingForms

@@ -11,10 +11,10 @@ use Rattle.daachorse_model.specs.declared.MatchKind.{MatchKind}
 use Rattle.daachorse_model.specs.Dictionary.{Dictionary}
 use Rattle.daachorse_model.specs.Prefixes.{IsKey}
 use Rattle.daachorse_model.specs.Units.{char_width}
-use Rattle.daachorse_mapper.specs.Codings.{Coding, code_of}
+use Rattle.daachorse_charwise_states.specs.Codings.{Coding, code_of}
 use Rattle.daachorse_patterns.specs.Prefixes.{HasMoreProperPrefixes}
 use Rattle.daachorse_patterns.specs.Tries.{IsBuilt}
-use Rattle.daachorse_packing.specs.Settled.{AreSettled, HoldStates, IsVacantAt}
+use Rattle.daachorse_patterns.specs.Settled.{AreSettled, HoldStates, IsVacantAt}
 use Rattle.daachorse_charwise_states.specs.declared.state.State.{State}
 use Rattle.daachorse_charwise_states.specs.Elements.{base_in, check_in, fail_in, output_in, vacant}
 use Rattle.daachorse_charwise_states.specs.Parts.{char_code}

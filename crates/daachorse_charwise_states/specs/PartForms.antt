@@ -4,8 +4,8 @@
 use Rattle.std.specs.Prelude.{ℕ, Bool, ◌+◌, ◌*◌, ◌<◌, ◌^◌, List, ◌++◌, length, All, Option, Some, None, IfSome, refl}
 use Rattle.daachorse_core.specs.declared.errors.DaachorseError.{DaachorseError}
 use Rattle.daachorse_checker.specs.Reads.{AreInHand, BeginsWithParts}
-use Rattle.daachorse_mapper.specs.Codings.{Coding}
-use Rattle.daachorse_mapper.specs.Written.{AreNumbers as AreCodes, coding_form, coding_law, coding_len, take_coding}
+use Rattle.daachorse_charwise_states.specs.Codings.{Coding}
+use Rattle.daachorse_charwise_states.specs.CodingForms.{AreNumbers as AreCodes, coding_form, coding_law, coding_len, take_coding}
 use Rattle.daachorse_prefilter.specs.Filters.{Filter, IsFilter}
 use Rattle.daachorse_prefilter.specs.FilterForms.{filter_form, filter_law, take_filter}
 use Rattle.daachorse_serializer.specs.Endings.{Ending, ending_form, ending_law, ending_most, take_ending}

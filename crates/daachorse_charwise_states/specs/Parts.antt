@@ -5,8 +5,8 @@ use Rattle.daachorse_core.specs.declared.outputs.Output.{Output}
 use Rattle.daachorse_model.specs.declared.MatchKind.{MatchKind}
 use Rattle.daachorse_model.specs.Units.{char_width}
 use Rattle.daachorse_model.specs.Dictionary.{Dictionary}
-use Rattle.daachorse_machine.specs.Machines.{Machine, content as machine_content}
-use Rattle.daachorse_mapper.specs.Codings.{Coding, code_of}
+use Rattle.daachorse_array.specs.Machines.{Machine, content as machine_content}
+use Rattle.daachorse_charwise_states.specs.Codings.{Coding, code_of}
 use Rattle.daachorse_charwise_states.specs.declared.state.State.{State}
 use Rattle.daachorse_charwise_states.specs.Elements.{base_in, check_in, fail_in, output_in, vacant}
 

@@ -4,8 +4,8 @@ use Rattle.std.proofs.Common.{arith, refl}
 use Rattle.daachorse_core.specs.Outputs.{outputs_at}
 use Rattle.daachorse_model.specs.Kinds.{is_leftmost}
 use Rattle.daachorse_model.specs.Units.{char_width}
-use Rattle.daachorse_machine.specs.Machines.{dead_in}
-use Rattle.daachorse_machine.specs.Texts.{IsReached, text_of}
+use Rattle.daachorse_array.specs.Machines.{dead_in}
+use Rattle.daachorse_array.specs.Texts.{IsReached, text_of}
 use Rattle.daachorse_checker.specs.Sound.{IsSoundArray}
 use Rattle.daachorse_search.specs.Views.{AutomatonView, HasNone}
 use Rattle.daachorse_charwise_states.specs.Grouped.{IsGrouped}

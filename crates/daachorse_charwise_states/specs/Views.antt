@@ -5,7 +5,7 @@ use Rattle.daachorse_core.specs.Outputs.{number}
 use Rattle.daachorse_core.specs.declared.outputs.Output.{Output}
 use Rattle.daachorse_model.specs.declared.MatchKind.{MatchKind}
 use Rattle.daachorse_model.specs.Kinds.{is_leftmost}
-use Rattle.daachorse_mapper.specs.Codings.{Coding}
+use Rattle.daachorse_charwise_states.specs.Codings.{Coding}
 use Rattle.daachorse_charwise_states.specs.declared.state.State.{State}
 use Rattle.daachorse_charwise_states.specs.Elements.{output_in, vacant}
 use Rattle.daachorse_charwise_states.specs.Parts.{Parts}

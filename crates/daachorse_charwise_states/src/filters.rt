@@ -12,7 +12,7 @@ use crate::edges::Elements;
 use crate::states::States;
 use daachorse_checker::filters::{Spelled, passes_all};
 use daachorse_core::errors::Result;
-use daachorse_listing::patterns::Outputs;
+use daachorse_array::patterns::Outputs;
 use daachorse_prefilter::prefilter::{Prefilter, Window};
 use std::alloc::Allocator;
 

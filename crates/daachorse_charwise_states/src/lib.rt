@@ -9,6 +9,7 @@ pub mod edges;
 mod filters;
 mod folded;
 pub mod for_rows;
+pub mod mapper;
 mod packing;
 pub mod state;
 mod state_rows;

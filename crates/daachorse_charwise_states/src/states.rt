@@ -13,7 +13,7 @@ ghost use Rattle.daachorse_model.specs.Paths.{is_reached};
 ghost use Rattle.daachorse_model.specs.Prefixes.{HasPrefixes, PassesAt};
 ghost use Rattle.daachorse_build.specs.Builders.{states_of};
 ghost use Rattle.daachorse_build.specs.Groups.{IsProfileOf};
-ghost use Rattle.daachorse_mapper.specs.Codings.{IsCoding};
+ghost use Rattle.daachorse_charwise_states.specs.Codings.{IsCoding};
 ghost use Rattle.daachorse_charwise_states.specs.Edges.{IsLettered};
 ghost use Rattle.daachorse_charwise_states.specs.Packing.{AreCoded, IsBuiltFor, NeedsManyBlocks};
 ghost use Rattle.daachorse_charwise_states.specs.Parts.{child, content, count};
@@ -28,7 +28,7 @@ use crate::view::{Leftmost, Standard, View};
 use daachorse_build::nfa_builder::NfaBuilder;
 use daachorse_core::errors::Result;
 use daachorse_core::{MatchKind, Output};
-use daachorse_mapper::mapper::CodeMapper;
+use daachorse_charwise_states::mapper::CodeMapper;
 use daachorse_placement::build_helper::Profile;
 use daachorse_search::view::Searches;
 use std::alloc::{Allocator, Global};
@@ -159,7 +159,7 @@ impl<V: Copy, A: Allocator> States<V, A> {
 
     /// What the leftmost searches see.
     #[inline(always)]
-    #[tactic(auto, using(daachorse_machine::proofs::DeadLaws::leftmost_kind))]
+    #[tactic(auto, using(daachorse_array::proofs::DeadLaws::leftmost_kind))]
     pub fn leftmost(&self) -> Leftmost<'_, V>
         requires { self.now.kind ≢ Standard }
         ensures { result ≡ self.entry.now }

@@ -14,7 +14,7 @@ use crate::edges::Elements;
 use crate::state::State;
 use daachorse_checker::checker::is_sound;
 use daachorse_core::errors::Result;
-use daachorse_mapper::mapper::CodeMapper;
+use daachorse_charwise_states::mapper::CodeMapper;
 use std::alloc::Allocator;
 use std::num::NonZeroU32;
 

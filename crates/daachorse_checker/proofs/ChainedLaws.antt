@@ -3,8 +3,8 @@ use Rattle.std.proofs.Common.{◌≡◌, ◌≢◌, ℕ, zero, suc, ◌<◌, ◌
 use Rattle.std.proofs.lemmas.Bool.{cases_Bool, false≢true}
 use Rattle.std.proofs.lemmas.Option.{none-some, same_Some}
 use Rattle.daachorse_model.specs.Paths.{Leads}
-use Rattle.daachorse_machine.specs.Machines.{Machine, content, own, own_from, values_at}
-use Rattle.daachorse_listing.proofs.SortLaws.{no_some}
+use Rattle.daachorse_array.specs.Machines.{Machine, content, own, own_from, values_at}
+use Rattle.daachorse_array.proofs.SortLaws.{no_some}
 use Rattle.daachorse_checker.specs.Places.{HasOnePath, ArePlaces}
 use Rattle.daachorse_checker.specs.Runs.{has_values}
 use Rattle.daachorse_checker.specs.Sizes.{AreSizes}

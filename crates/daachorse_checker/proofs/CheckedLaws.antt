@@ -1,9 +1,9 @@
 -- What the checks of places, chains and links say of the machine, both ways.
 use Rattle.std.proofs.Common.{◌≡◌, ℕ, ◌<◌, Bool, false, cond, List, [], length, Option, Some, ap, ◌∙◌, arith, get_or}
 use Rattle.daachorse_model.specs.Paths.{is_reached}
-use Rattle.daachorse_listing.specs.Edges.{TellChildren}
-use Rattle.daachorse_machine.specs.Machines.{Machine, IsCounted, IsRight, own_from}
-use Rattle.daachorse_links.specs.Places.{IsTrieOfPlaces, HasLinks}
+use Rattle.daachorse_array.specs.Edges.{TellChildren}
+use Rattle.daachorse_array.specs.Machines.{Machine, IsCounted, IsRight, own_from}
+use Rattle.daachorse_array.specs.Places.{IsTrieOfPlaces, HasLinks}
 use Rattle.daachorse_checker.specs.Places.{HasOnePath, ArePlaces}
 use Rattle.daachorse_checker.specs.Runs.{has_values}
 use Rattle.daachorse_checker.specs.Sizes.{AreSizes}

@@ -8,7 +8,7 @@ use Rattle.std.proofs.lemmas.Slice.Eq.{bytes_eq-Decides}
 use Rattle.daachorse_model.specs.Units.{same_text}
 use Rattle.daachorse_model.specs.Paths.{is_reached}
 use Rattle.daachorse_model.specs.Prefixes.{PassesAt}
-use Rattle.daachorse_machine.proofs.ReachedCount.{reached-counted}
+use Rattle.daachorse_array.proofs.ReachedCount.{reached-counted}
 use Rattle.daachorse_checker.specs.Places.{HasOnePath, ArePlaces}
 use Rattle.daachorse_checker.proofs.PlaceLaws.{same_place}
 use Rattle.daachorse_checker.proofs.TreeLaws.{text_at, found}

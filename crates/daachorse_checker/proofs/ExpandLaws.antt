@@ -4,7 +4,7 @@ use Rattle.std.proofs.lemmas.List.{length-set, length_push, get_or_push}
 use Rattle.std.proofs.lemmas.Option.{none-some}
 use Rattle.std.proofs.lemmas.Bool.{cases_lt, cases_eq}
 use borrow.Author.Count.{below_more}
-use Rattle.daachorse_listing.specs.Edges.{TellChildren, is_in, members}
+use Rattle.daachorse_array.specs.Edges.{TellChildren, is_in, members}
 use Rattle.daachorse_checker.specs.Places.{ArePlaces, HasOnePath, HasPlaces, HasEntry, IsClosed, IsPlaceWalk}
 use Rattle.daachorse_checker.proofs.MemberLaws.{IsLast, below-none, below-cons, label, one_unit, member_child, child_member}
 use Rattle.daachorse_checker.proofs.PlaceLaws.{old_at, few, places_push, entry_push, entry_new, closed_push, parents_push}

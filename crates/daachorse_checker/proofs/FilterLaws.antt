@@ -6,11 +6,11 @@ use Rattle.std.proofs.lemmas.Grind.{flat_map-append}
 use Rattle.std.proofs.lemmas.List.{flat_map_more, length-take-le, length_push}
 use Rattle.std.proofs.lemmas.List.Elements.{All-append, All-contains, All-nil, All-push, Contains-append_left, Contains-append_right}
 use Rattle.std.proofs.lemmas.Option.{none-some, same_Some}
-use Rattle.daachorse_listing.specs.Edges.{TellChildren, is_in, members}
+use Rattle.daachorse_array.specs.Edges.{TellChildren, is_in, members}
 use Rattle.daachorse_model.specs.Paths.{Leads, walk}
 use Rattle.daachorse_model.proofs.Paths.{push-parts, walk-push}
 use Rattle.daachorse_model.proofs.Lists.{last_of}
-use Rattle.daachorse_machine.proofs.PathLaws.{Leads-inside, Leads-length, walk-split}
+use Rattle.daachorse_array.proofs.PathLaws.{Leads-inside, Leads-length, walk-split}
 use Rattle.daachorse_prefilter.specs.Filters.{Filter, admits}
 use Rattle.daachorse_prefilter.specs.Windows.{HasRead}
 use Rattle.daachorse_prefilter.specs.declared.prefilter.window.Window.{Window}

@@ -4,9 +4,9 @@ use Rattle.daachorse_model.specs.Folding.{folded, folded_unit}
 use Rattle.daachorse_model.specs.Paths.{walk, Leads}
 use Rattle.daachorse_model.specs.Prefixes.{IsPrefix}
 use Rattle.daachorse_model.proofs.Paths.{walk-push}
-use Rattle.daachorse_machine.specs.Machines.{Machine, IsMachine, content, values_at}
-use Rattle.daachorse_machine.proofs.MachineLaws.{fore}
-use Rattle.daachorse_machine.proofs.PathLaws.{and_then_inv, reached_element}
+use Rattle.daachorse_array.specs.Machines.{Machine, IsMachine, content, values_at}
+use Rattle.daachorse_array.proofs.MachineLaws.{fore}
+use Rattle.daachorse_array.proofs.PathLaws.{and_then_inv, reached_element}
 use Rattle.daachorse_checker.specs.Folded.{HasFoldedKeys, HasFoldedUnits}
 
 -- a unit in a text that is folded

@@ -1,7 +1,7 @@
 -- Each child that a text leads to has a place, where its unit is the label.
 use Rattle.std.proofs.Common.{◌≡◌, ℕ, ◌<◌, List, length, Option, Some, sym, ap, ◌∙◌, arith, get_or}
 use Rattle.daachorse_model.specs.Folding.{folded_unit}
-use Rattle.daachorse_listing.specs.Edges.{TellChildren}
+use Rattle.daachorse_array.specs.Edges.{TellChildren}
 use Rattle.daachorse_checker.specs.Folded.{HasFoldedUnits, IsUnfoldedAt}
 use Rattle.daachorse_checker.specs.Places.{ArePlaces}
 use Rattle.daachorse_checker.proofs.MemberLaws.{label, one_unit}

@@ -4,10 +4,10 @@ use Rattle.std.specs.Prelude.{is_some, option_map, option_and_then}
 use Rattle.std.proofs.lemmas.Option.{none-some, same_Some}
 use Rattle.daachorse_model.specs.Paths.{walk, is_reached, Leads}
 use Rattle.daachorse_model.proofs.Lists.{some_of_map}
-use Rattle.daachorse_listing.proofs.SortLaws.{no_some}
-use Rattle.daachorse_links.specs.Places.{IsTrieOfPlaces, child as kid}
-use Rattle.daachorse_links.proofs.ChildLaws.{edge, back}
-use Rattle.daachorse_links.proofs.TextLaws.{one_text, walk_later}
+use Rattle.daachorse_array.proofs.SortLaws.{no_some}
+use Rattle.daachorse_array.specs.Places.{IsTrieOfPlaces, child as kid}
+use Rattle.daachorse_array.proofs.ChildByLabel.{edge, back}
+use Rattle.daachorse_array.proofs.TextLaws.{one_text, walk_later}
 use Rattle.daachorse_checker.specs.Places.{HasOnePath, HasPlaces, ArePlaces}
 use Rattle.daachorse_checker.proofs.PlaceLaws.{same_place}
 

@@ -3,9 +3,9 @@ use Rattle.std.proofs.Common.{◌≡◌, ℕ, Bool, true, List, Some, None, refl
 use Rattle.std.specs.Prelude.{flat_map}
 use Rattle.daachorse_model.specs.Paths.{walk}
 use Rattle.daachorse_model.specs.Prefixes.{IsKey}
-use Rattle.daachorse_machine.specs.Machines.{Machine, IsMachine, content, values_at}
-use Rattle.daachorse_listing.specs.Listing.{has_own}
-use Rattle.daachorse_listing.proofs.MachineListings.{key_at}
+use Rattle.daachorse_array.specs.Machines.{Machine, IsMachine, content, values_at}
+use Rattle.daachorse_array.specs.Listing.{has_own}
+use Rattle.daachorse_array.proofs.MachineListings.{key_at}
 use Rattle.daachorse_prefilter.specs.Filters.{Filter, admits}
 use Rattle.daachorse_checker.specs.Filters.{PassesAll}
 use Rattle.daachorse_checker.proofs.ChainedLaws.{some_values, values_some}

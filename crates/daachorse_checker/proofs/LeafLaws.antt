@@ -2,7 +2,7 @@
 use Rattle.std.proofs.Common.{◌≡◌, ℕ, Bool, false, cond, List, [], ◌∷◌, ◌++◌, length, ap, ◌∙◌, inl, inr, arith, get_or}
 use Rattle.std.proofs.lemmas.List.{length_push, get_or_push, get_or_append_left}
 use Rattle.std.proofs.lemmas.Bool.{cases_lt}
-use Rattle.daachorse_machine.specs.Machines.{Machine, own_from}
+use Rattle.daachorse_array.specs.Machines.{Machine, own_from}
 use Rattle.daachorse_checker.specs.Runs.{has_values}
 use Rattle.daachorse_checker.specs.Chains.{AreStopsAt}
 

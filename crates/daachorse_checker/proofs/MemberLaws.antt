@@ -1,10 +1,10 @@
 -- The members of a group are the children of an element, the last first.
 use Rattle.std.proofs.Common.{◌≡◌, ◌≢◌, ℕ, zero, suc, ◌<◌, Bool, true, List, [], ◌∷◌, length, Option, Some, sym, ap, ◌∙◌, inl, inr, arith}
 use Rattle.std.proofs.lemmas.Bool.{cases_Bool}
-use Rattle.daachorse_listing.specs.Edges.{TellChildren, below, is_in}
-use Rattle.daachorse_listing.specs.Listing.{unit_of}
-use Rattle.daachorse_listing.proofs.SortLaws.{below-has, edge-in, in-edge}
-use Rattle.daachorse_listing.proofs.WalkLaws.{unit-is}
+use Rattle.daachorse_array.specs.Edges.{TellChildren, below, is_in}
+use Rattle.daachorse_array.specs.Listing.{unit_of}
+use Rattle.daachorse_array.proofs.SortLaws.{below-has, edge-in, in-edge}
+use Rattle.daachorse_array.proofs.WalkLaws.{unit-is}
 
 module _ (test : ℕ → Bool) where
   -- none below n passes

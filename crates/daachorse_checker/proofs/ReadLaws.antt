@@ -3,7 +3,7 @@ use Rattle.std.proofs.Common.{◌≡◌, ◌⊎◌, inl, inr, ℕ, Bool, List, [
 use Rattle.std.proofs.lemmas.Option.{same_Some}
 use Rattle.daachorse_core.specs.Refusals.{IsOutOfMemory}
 use Rattle.daachorse_core.specs.declared.errors.DaachorseError.{DaachorseError}
-use Rattle.daachorse_listing.specs.Automata.{Automaton}
+use Rattle.daachorse_array.specs.Automata.{Automaton}
 use Rattle.daachorse_serializer.specs.Forms.{IsForm, Refuses, Taken}
 use Rattle.daachorse_serializer.proofs.Reading.{refuses-written, takes-same, takes-written}
 use Rattle.daachorse_checker.specs.Reads.{AreInHand, GivesAutomaton, GivesNoAutomaton, HasNoParts, IsInHand, Whole, without_depths}

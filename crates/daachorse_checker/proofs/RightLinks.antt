@@ -4,12 +4,12 @@ use Rattle.std.specs.Prelude.{option_map}
 use Rattle.std.proofs.lemmas.Option.{same_Some}
 use Rattle.daachorse_model.specs.Paths.{walk, is_reached, Leads}
 use Rattle.daachorse_model.specs.Prefixes.{is_key, left_fail, long}
-use Rattle.daachorse_machine.specs.Machines.{Machine, content, element_of, own, right_fail, values_at}
-use Rattle.daachorse_links.specs.Links.{IsPlaceOf, keys, left_link, value_at}
-use Rattle.daachorse_links.specs.Places.{HasLinks, child as kid, stop}
-use Rattle.daachorse_links.proofs.LeftLaws.{value_at-stops}
-use Rattle.daachorse_links.proofs.StandardLaws.{left_fail-same, left_fail-none}
-use Rattle.daachorse_links.proofs.TextLaws.{walk_later}
+use Rattle.daachorse_array.specs.Machines.{Machine, content, element_of, own, right_fail, values_at}
+use Rattle.daachorse_array.specs.Links.{IsPlaceOf, keys, left_link, value_at}
+use Rattle.daachorse_array.specs.Places.{HasLinks, child as kid, stop}
+use Rattle.daachorse_array.proofs.LeftLaws.{value_at-stops}
+use Rattle.daachorse_array.proofs.StandardLaws.{left_fail-same, left_fail-none}
+use Rattle.daachorse_array.proofs.TextLaws.{walk_later}
 use Rattle.daachorse_checker.specs.Places.{HasOnePath, ArePlaces}
 use Rattle.daachorse_checker.specs.Links.{IsLinkPlace, IsNoPlace}
 use Rattle.daachorse_checker.specs.Runs.{has_values}

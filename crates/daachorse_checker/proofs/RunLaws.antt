@@ -6,7 +6,7 @@ use Rattle.std.proofs.lemmas.List.{length_push, get_or_push, get_or_append_left}
 use Rattle.std.proofs.lemmas.Option.{same_Some}
 use Rattle.daachorse_core.specs.declared.outputs.Output.{Output}
 use Rattle.daachorse_core.specs.Outputs.{length_of, parent_of, ParentsFall}
-use Rattle.daachorse_machine.specs.Machines.{own_next, own_step, own_from}
+use Rattle.daachorse_array.specs.Machines.{own_next, own_step, own_from}
 use Rattle.daachorse_checker.specs.Runs.{AreRuns, has_values}
 
 module _ {V : Type 0} (outputs : List (Output V)) where

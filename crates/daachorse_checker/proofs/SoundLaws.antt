@@ -1,7 +1,7 @@
 -- Whether an array is sound may be asked with its kind, its outputs and its count of texts told apart from it.
 use Rattle.std.proofs.Common.{◌≡◌, ℕ, Bool, List, sym, subst}
 use Rattle.daachorse_core.specs.declared.outputs.Output.{Output}
-use Rattle.daachorse_machine.specs.Machines.{Machine}
+use Rattle.daachorse_array.specs.Machines.{Machine}
 use Rattle.daachorse_checker.specs.Sound.{IsSoundArray}
 
 abbrev IsSoundWith : {V : Type 0} → (ℕ → ℕ) → Machine V → ℕ → Bool → List (Output V) → ℕ → Type 0

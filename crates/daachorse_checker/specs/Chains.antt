@@ -1,7 +1,7 @@
 -- The chains of outputs of the elements at places.
 use Rattle.std.specs.Prelude.{◌≡◌, ◌≢◌, ℕ, ◌<◌, ◌==◌, Bool, true, false, cond, List, length, Option, slice_index, slice_index_or}
 use Rattle.daachorse_core.specs.declared.outputs.Output.{Output}
-use Rattle.daachorse_machine.specs.Machines.{Machine, own_from}
+use Rattle.daachorse_array.specs.Machines.{Machine, own_from}
 use Rattle.daachorse_checker.specs.Runs.{has_values}
 
 -- an array as a machine

@@ -1,7 +1,7 @@
 -- The links of an array as links between places.
 use Rattle.std.specs.Prelude.{◌≡◌, ◌≢◌, ℕ, ◌<◌, ◌⊎◌, Bool, true, List, ◌∷◌, Some, length, slice_index}
 use Rattle.daachorse_model.specs.Paths.{Leads}
-use Rattle.daachorse_machine.specs.Machines.{Machine, right_fail}
+use Rattle.daachorse_array.specs.Machines.{Machine, right_fail}
 
 -- r stands for the link f: the number of places for a dead one, else the place of the element f
 abbrev pub IsLinkPlace : List ℕ → ℕ → ℕ → Type 0

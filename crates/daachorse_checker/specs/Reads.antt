@@ -1,6 +1,6 @@
 -- What bytes give of an automaton, whatever its parts are: parts, whether it finds ASCII letters without regard to case, a filter that there may be, and the bytes behind them. And which automata are written.
 use Rattle.std.specs.Prelude.{◌≡◌, ℕ, Bool, List, [], Option, Some, IfSome}
-use Rattle.daachorse_listing.specs.Automata.{Automaton}
+use Rattle.daachorse_array.specs.Automata.{Automaton}
 use Rattle.daachorse_serializer.specs.Forms.{Begins, Taken}
 
 -- what is written of an automaton: its parts, the option, and a filter that there may be

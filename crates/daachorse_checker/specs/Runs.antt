@@ -3,7 +3,7 @@ use Rattle.std.specs.Prelude.{◌≡◌, ℕ, suc, ◌<◌, Bool, List, [], leng
 use Rattle.daachorse_core.specs.declared.outputs.Output.{Output}
 use Rattle.daachorse_core.specs.Outputs.{length_of}
 use Rattle.daachorse_model.specs.Prefixes.{is_key}
-use Rattle.daachorse_machine.specs.Machines.{own_from}
+use Rattle.daachorse_array.specs.Machines.{own_from}
 
 -- whether there is a value
 abbrev pub has_values : {V : Type 0} → List V → Bool

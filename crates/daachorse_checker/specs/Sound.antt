@@ -1,7 +1,7 @@
 -- An array that is sound: all that it names is there, and it is a right machine.
 use Rattle.std.specs.Prelude.{ℕ, ◌<◌, ◌≤◌, Bool, length}
 use Rattle.daachorse_core.specs.Outputs.{ParentsFall}
-use Rattle.daachorse_machine.specs.Machines.{Machine, IsCounted, IsRight}
+use Rattle.daachorse_array.specs.Machines.{Machine, IsCounted, IsRight}
 
 -- of each of n elements the link is an element, and the position that of one of k outputs
 pub record IsInRange (fail first : ℕ → ℕ) (n k : ℕ) : Type 0 where

@@ -5,7 +5,7 @@
 
 ghost use Rattle.std.specs.Prelude.{◌≡◌, ◌<◌, ◌≤◌, ◌^◌, ℕ};
 
-use daachorse_listing::links::Links;
+use daachorse_array::links::Links;
 
 /// Elements with children, links and outputs, and with units that take bytes.
 pub trait Array: Links {

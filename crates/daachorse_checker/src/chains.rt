@@ -5,7 +5,7 @@
 
 ghost use Rattle.std.specs.Prelude.{◌≡◌, ◌<◌, ◌≤◌, ◌^◌, ℕ, Some, true, false, length, slice_index, IfOk, IfErr};
 ghost use Rattle.daachorse_core.specs.Refusals.{IsOutOfMemory};
-ghost use Rattle.daachorse_listing.specs.Listing.{unit_of};
+ghost use Rattle.daachorse_array.specs.Listing.{unit_of};
 ghost use Rattle.daachorse_checker.specs.Chains.{AreLeavesOf, IsChained, machine_of};
 ghost use Rattle.daachorse_checker.specs.Places.{HasOnePath, ArePlaces};
 ghost use Rattle.daachorse_checker.specs.Runs.{AreRuns};

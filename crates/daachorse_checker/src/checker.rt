@@ -6,9 +6,9 @@
 ghost use Rattle.std.specs.Prelude.{◌≡◌, ◌≢◌, ◌<◌, ◌≤◌, ◌^◌, ℕ, Some, true, false, cond, length, slice_index, slice_index_or, IfOk, IfErr};
 ghost use Rattle.daachorse_core.specs.Outputs.{ParentsFall};
 ghost use Rattle.daachorse_core.specs.Refusals.{IsOutOfMemory};
-ghost use Rattle.daachorse_listing.specs.Edges.{TellChildren};
-ghost use Rattle.daachorse_listing.specs.Listing.{unit_of};
-ghost use Rattle.daachorse_machine.specs.Machines.{IsCounted, IsRight, own_from};
+ghost use Rattle.daachorse_array.specs.Edges.{TellChildren};
+ghost use Rattle.daachorse_array.specs.Listing.{unit_of};
+ghost use Rattle.daachorse_array.specs.Machines.{IsCounted, IsRight, own_from};
 ghost use Rattle.daachorse_checker.specs.Chains.{HaveRightChains, AreLeavesOf, AreStopsAt, machine_of};
 ghost use Rattle.daachorse_checker.specs.Links.{HasRightLinks};
 ghost use Rattle.daachorse_checker.specs.Places.{HasOnePath, ArePlaces};
@@ -24,7 +24,7 @@ use crate::ranges::ranges_hold;
 use crate::runs::{has_own, parents_fall, rest_at, runs};
 use daachorse_core::Output;
 use daachorse_core::errors::Result;
-use daachorse_links::trie::Trie;
+use daachorse_array::trie::Trie;
 use std::alloc::Allocator;
 
 /// Whether the chain of each element that has a place is right.

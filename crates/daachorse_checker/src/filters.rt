@@ -6,15 +6,15 @@
 
 ghost use Rattle.std.specs.Prelude.{◌≡◌, ◌++◌, ◌<◌, ℕ, List, [], All, Some, true, false, length, slice_index_or, IfOk, IfErr, IfSome, IfNone};
 ghost use Rattle.daachorse_core.specs.Refusals.{IsOutOfMemory};
-ghost use Rattle.daachorse_listing.specs.Edges.{TellChildren, members};
-ghost use Rattle.daachorse_listing.specs.Listing.{has_own, unit_of};
+ghost use Rattle.daachorse_array.specs.Edges.{TellChildren, members};
+ghost use Rattle.daachorse_array.specs.Listing.{has_own, unit_of};
 ghost use Rattle.daachorse_prefilter.specs.Windows.{HasRead};
 ghost use Rattle.daachorse_checker.specs.Filters.{HasRefused, IsNextOf, IsPushed, PassesAll};
 ghost use Rattle.daachorse_checker.specs.Places.{HasOnePath};
 
 use daachorse_core::errors::Result;
-use daachorse_listing::links::{Links, has_own};
-use daachorse_listing::siblings::Siblings;
+use daachorse_array::links::{Links, has_own};
+use daachorse_array::siblings::Siblings;
 use daachorse_prefilter::prefilter::{Prefilter, Window};
 use std::alloc::Allocator;
 

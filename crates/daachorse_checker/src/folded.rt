@@ -6,14 +6,14 @@
 ghost use Rattle.std.specs.Prelude.{◌≡◌, ◌<◌, ◌^◌, ℕ, Some, true, false, length, slice_index, IfOk, IfErr};
 ghost use Rattle.daachorse_core.specs.Refusals.{IsOutOfMemory};
 ghost use Rattle.daachorse_model.specs.Folding.{folded_unit};
-ghost use Rattle.daachorse_listing.specs.Edges.{TellChildren};
-ghost use Rattle.daachorse_listing.specs.Listing.{unit_of};
+ghost use Rattle.daachorse_array.specs.Edges.{TellChildren};
+ghost use Rattle.daachorse_array.specs.Listing.{unit_of};
 ghost use Rattle.daachorse_checker.specs.Folded.{HasFoldedUnits, IsUnfoldedAt};
 ghost use Rattle.daachorse_checker.specs.Places.{ArePlaces, HasOnePath};
 
 use crate::places::Places;
 use daachorse_core::errors::Result;
-use daachorse_listing::edges::Edges;
+use daachorse_array::edges::Edges;
 use std::alloc::Allocator;
 
 /// Whether each unit that leads from an element of a tree is folded.

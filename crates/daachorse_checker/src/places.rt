@@ -6,13 +6,13 @@
 
 ghost use Rattle.std.specs.Prelude.{◌≡◌, ◌+◌, ◌<◌, ◌^◌, ℕ, [], true, false, length, slice_index_or, IfOk, IfErr, IfSome, IfNone};
 ghost use Rattle.daachorse_core.specs.Refusals.{IsOutOfMemory};
-ghost use Rattle.daachorse_listing.specs.Edges.{TellChildren, members};
-ghost use Rattle.daachorse_listing.specs.Listing.{unit_of};
+ghost use Rattle.daachorse_array.specs.Edges.{TellChildren, members};
+ghost use Rattle.daachorse_array.specs.Listing.{unit_of};
 ghost use Rattle.daachorse_checker.specs.Places.{HasOnePath, ArePlaces, IsPlaceWalk};
 
 use daachorse_core::errors::Result;
-use daachorse_listing::edges::Edges;
-use daachorse_listing::siblings::Siblings;
+use daachorse_array::edges::Edges;
+use daachorse_array::siblings::Siblings;
 use std::alloc::{Allocator, Global};
 
 /// The elements that texts lead to, the root at place 0.

@@ -6,7 +6,7 @@
 ghost use Rattle.std.specs.Prelude.{◌≡◌, ◌<◌, ◌≤◌, ◌^◌, true, false, Some, length, slice_get, IfOk, IfErr};
 ghost use Rattle.daachorse_core.specs.Outputs.{ParentsFall, parent_of};
 ghost use Rattle.daachorse_core.specs.Refusals.{IsOutOfMemory};
-ghost use Rattle.daachorse_machine.specs.Machines.{own_from};
+ghost use Rattle.daachorse_array.specs.Machines.{own_from};
 ghost use Rattle.daachorse_checker.specs.Runs.{AreRuns, has_values};
 
 use daachorse_core::Output;

@@ -11,10 +11,11 @@ ghost use Rattle.daachorse_skipping.specs.Asked.{HasRecordedSkip, lets_pass};
 
 use crate::reading::AsRead;
 use daachorse_core::ascii_fold::AsciiFold;
+use daachorse_prefilter::prefilter::reading::AsFolded;
 use daachorse_search::filter::{Filter, NoFilter};
 use daachorse_search::folded::{FoldHaystack, Folded};
 use daachorse_search::haystack::{Bytes, Reread};
-use daachorse_skipping::places::{AsFolded, first_boundary, first_place};
+use daachorse_skipping::places::{first_boundary, first_place};
 use daachorse_skipping::skipping::Skipping;
 use daachorse_skipping::telling::Telling;
 use daachorse_text::text::Text;

@@ -1,14 +1,16 @@
 //! The standard search, one unit at a time, with each unit read as it is or folded.
 //!
 //! The layers above may rely on a stepper telling the match of the standard search that ends with
-//! what was consumed as it was read, if there is one, and on the depth of its state.
+//! what was consumed as it was read, if there is one, on the depth of its state, and on the number of
+//! matches given.
 
 ghost use Rattle.std.specs.Prelude.{◌≡◌, ◌≢◌, ◌<◌, ◌^◌, ◌+◌, ℕ, List, [], ◌∷◌, ◌++◌, length, Some, None};
 ghost use Rattle.daachorse_model.specs.Folding.{as_read};
-ghost use Rattle.daachorse_model.specs.Matches.{standard_after, IsSinceMatch};
+ghost use Rattle.daachorse_model.specs.Matches.{standard, standard_after, IsSinceMatch};
 ghost use Rattle.daachorse_model.specs.Prefixes.{IsLong};
 ghost use Rattle.daachorse_model.specs.Units.{size};
 ghost use Rattle.daachorse_core.specs.Seen.{units};
+ghost use Rattle.daachorse_search.specs.Searches.{standard_found};
 ghost use Rattle.daachorse_search.specs.Standings.{IsFindStanding};
 ghost use Rattle.daachorse_search.specs.Stepwise.{AreBoundedSince};
 ghost use Rattle.daachorse_search.specs.Views.{HasDepths, IsStandard};
@@ -38,7 +40,7 @@ impl<'a, V: Copy, A: Automaton<V>> Model for FindStepperAsRead<'a, V, A> {
 
     ghost Value = { SteppedAsRead A };
 
-    ghost view = { λ s. record { automaton = s.stepper.automaton; depths = s.stepper.depths; folds = s.folds; read = s.stepper.read; turns = s.stepper.turns } };
+    ghost view = { λ s. record { automaton = s.stepper.automaton; depths = s.stepper.depths; folds = s.folds; read = s.stepper.read; turns = s.stepper.turns; given = s.stepper.given } };
 }
 
 impl<'a, V: Copy, A: Automaton<V>> FindStepperAsRead<'a, V, A>
@@ -55,6 +57,7 @@ where
         ensures folds { result.folds ≡ folds }
         ensures read { result.read ≡ [] }
         ensures turns { result.turns ≡ 0 }
+        ensures given { result.given ≡ length (standard_found A.Unit.width A.sees automaton []) }
     {
         FindStepperAsRead {
             stepper: FindStepper::new(automaton, depths),
@@ -73,6 +76,7 @@ where
         ensures depths { self.new.depths ≡ self.old.depths }
         ensures folds { self.new.folds ≡ self.old.folds }
         ensures read { self.new.read ≡ self.old.read ++ as_read self.old.folds (A.Unit.unit unit ∷ []) }
+        ensures given { self.new.given ≡ self.old.given + length (standard_found A.Unit.width A.sees self.new.automaton self.new.read) }
     {
         if unit.finds_apart() && self.folds {
             self.stepper.consume(unit.folded());
@@ -111,6 +115,7 @@ where
         ensures stands { IsFindStanding A.Unit.width A.sees self.entry.automaton result }
         ensures read { units result.walk.seen ≡ self.entry.read }
         ensures turns { result.walk.turns ≡ self.entry.turns }
+        ensures given { length (standard A.Unit.width (A.sees self.entry.automaton).content (units result.walk.seen)) ≡ self.entry.given }
     {
         let FindStepperAsRead {
             stepper,
@@ -130,6 +135,7 @@ where
         ensures folds { result.folds ≡ folds }
         ensures read { result.read ≡ units standing.walk.seen }
         ensures turns { result.turns ≡ standing.walk.turns }
+        ensures given { result.given ≡ length (standard A.Unit.width (A.sees automaton).content (units standing.walk.seen)) }
     {
         FindStepperAsRead {
             stepper: FindStepper::resume(automaton, depths, standing),

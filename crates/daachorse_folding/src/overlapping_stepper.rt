@@ -1,14 +1,15 @@
 //! The search for all matches, one unit at a time, with each unit read as it is or folded.
 //!
 //! The layers above may rely on a stepper telling all matches that end with what was consumed as it
-//! was read, and on the depth of its state.
+//! was read, on the depth of its state, and on the number of matches given.
 
 ghost use Rattle.std.specs.Prelude.{◌≡◌, ◌≢◌, ◌<◌, ◌^◌, ◌+◌, ℕ, List, [], ◌∷◌, ◌++◌, length, Some, None};
 ghost use Rattle.daachorse_model.specs.Folding.{as_read};
-ghost use Rattle.daachorse_model.specs.Matches.{matches_after};
+ghost use Rattle.daachorse_model.specs.Matches.{matches_after, overlapping};
 ghost use Rattle.daachorse_model.specs.Prefixes.{IsLong};
 ghost use Rattle.daachorse_model.specs.Units.{size};
 ghost use Rattle.daachorse_core.specs.Seen.{units};
+ghost use Rattle.daachorse_search.specs.Searches.{all_found};
 ghost use Rattle.daachorse_search.specs.Standings.{IsOverlappingStanding};
 ghost use Rattle.daachorse_search.specs.Stepwise.{AreBounded};
 ghost use Rattle.daachorse_search.specs.Views.{HasDepths, IsStandard};
@@ -38,7 +39,7 @@ impl<'a, V: Copy, A: Automaton<V>> Model for FindOverlappingStepperAsRead<'a, V,
 
     ghost Value = { SteppedAsRead A };
 
-    ghost view = { λ s. record { automaton = s.stepper.automaton; depths = s.stepper.depths; folds = s.folds; read = s.stepper.read; turns = s.stepper.turns } };
+    ghost view = { λ s. record { automaton = s.stepper.automaton; depths = s.stepper.depths; folds = s.folds; read = s.stepper.read; turns = s.stepper.turns; given = s.stepper.given } };
 }
 
 impl<'a, V: Copy, A: Automaton<V>> FindOverlappingStepperAsRead<'a, V, A>
@@ -55,6 +56,7 @@ where
         ensures folds { result.folds ≡ folds }
         ensures read { result.read ≡ [] }
         ensures turns { result.turns ≡ 0 }
+        ensures given { result.given ≡ length (all_found A.Unit.width A.sees automaton []) }
     {
         FindOverlappingStepperAsRead {
             stepper: FindOverlappingStepper::new(automaton, depths),
@@ -73,6 +75,7 @@ where
         ensures depths { self.new.depths ≡ self.old.depths }
         ensures folds { self.new.folds ≡ self.old.folds }
         ensures read { self.new.read ≡ self.old.read ++ as_read self.old.folds (A.Unit.unit unit ∷ []) }
+        ensures given { self.new.given ≡ self.old.given + length (all_found A.Unit.width A.sees self.new.automaton self.new.read) }
     {
         // A folded unit takes as many bytes, so they are counted whether it folds or not.
         let bytes = unit.num_bytes();
@@ -114,6 +117,7 @@ where
         ensures stands { IsOverlappingStanding A.Unit.width A.sees self.entry.automaton result }
         ensures read { units result.walk.seen ≡ self.entry.read }
         ensures turns { result.walk.turns ≡ self.entry.turns }
+        ensures given { length (overlapping A.Unit.width (A.sees self.entry.automaton).content (units result.walk.seen)) ≡ self.entry.given }
     {
         let FindOverlappingStepperAsRead {
             stepper,
@@ -138,6 +142,7 @@ where
         ensures folds { result.folds ≡ folds }
         ensures read { result.read ≡ units standing.walk.seen }
         ensures turns { result.turns ≡ standing.walk.turns }
+        ensures given { result.given ≡ length (overlapping A.Unit.width (A.sees automaton).content (units standing.walk.seen)) }
     {
         FindOverlappingStepperAsRead {
             stepper: FindOverlappingStepper::resume(automaton, depths, standing),

@@ -6,6 +6,8 @@
 #[cfg(test)]
 mod bytewise_states;
 #[cfg(test)]
+mod edge_map;
+#[cfg(test)]
 mod elements;
 #[cfg(test)]
 mod errors;

@@ -2,7 +2,7 @@
 
 use crate::expect;
 use crate::forms::has_list_form;
-use daachorse_mapper::mapper::{CodeMapper, INVALID_CODE, code_in};
+use daachorse_charwise_states::mapper::{CodeMapper, INVALID_CODE, code_in};
 use std::test::Fail;
 
 /// The codes of the characters of these frequencies.

@@ -3,6 +3,7 @@
 use crate::expect;
 use daachorse_core::errors::DaachorseError;
 use daachorse_prefilter::place_test::NoTest;
+use daachorse_prefilter::prefilter::reading::{AsFolded, AsItIs};
 use daachorse_prefilter::prefilter::{Prefilter, PrefilterBuilder, PrefilterGate};
 use daachorse_serializer::serializer::SerializableVec;
 use std::alloc::{AllocError, Global};
@@ -37,12 +38,13 @@ fn place_of(filter: &Prefilter, asked: Asked, text: &str, from: usize) -> usize 
 }
 
 /// The same by the calls that take a test, with the one that passes everywhere.
-fn place_where(filter: &Prefilter, asked: Asked, text: &str, from: usize) -> Option<usize> {
+fn place_where(filter: &Prefilter, asked: Asked, text: &str, from: usize) -> usize {
     let bytes = text.as_bytes();
     match asked {
-        Asked::Bytes => Some(filter.next_position_where(&NoTest, bytes, from)),
-        Asked::FoldedBytes => Some(filter.next_position_folded_where(&NoTest, bytes, from)),
-        Asked::Text | Asked::FoldedText => None,
+        Asked::Bytes => filter.first_place::<AsItIs, NoTest>(&NoTest, bytes, from),
+        Asked::FoldedBytes => filter.first_place::<AsFolded, NoTest>(&NoTest, bytes, from),
+        Asked::Text => filter.first_boundary::<AsItIs, NoTest>(&NoTest, text, from),
+        Asked::FoldedText => filter.first_boundary::<AsFolded, NoTest>(&NoTest, text, from),
     }
 }
 
@@ -101,7 +103,7 @@ fn the_first_place_that_passes_is_found(rt: HostRuntime) -> Result<(), Fail> {
         let found = place_of(&filter, *asked, text, *from);
         expect(&rt, found == *place, text);
         let tested = place_where(&filter, *asked, text, *from);
-        expect(&rt, tested.is_none_or(|tested| tested == *place), text);
+        expect(&rt, tested == *place, text);
     }
     expect(&rt, Prefilter::<Global>::MIN_WINDOW_LEN == 2, "the least");
     expect(&rt, Prefilter::<Global>::MAX_WINDOW_LEN == 9, "the most");
@@ -119,8 +121,7 @@ fn text_of(alloc: Global, filling: &str, count: usize, word: &str) -> Result<Str
     Ok(text)
 }
 
-/// What is asked, what stands before a word, and the word. A round reads sixteen pairs, or eight; with no window
-/// in the first eight rounds of sixteen, the others read each second pair first.
+/// What is asked, what stands before a word, and the word. A round reads sixteen pairs, or eight.
 const LONG_ROWS: [(Asked, &str, &str); 5] = [
     (Asked::Bytes, "x", "aria"),
     // Each third pair begins a window here.

@@ -28,7 +28,7 @@ use Rattle.daachorse_build.proofs.Fitting.{state_of}
 use Rattle.daachorse_build.proofs.Queue.{all_in_order}
 use Rattle.daachorse_build.proofs.Registrations.{holds_twin}
 use Rattle.daachorse_build.proofs.Walks.{walk-bounds, walk-same}
-use Rattle.daachorse_machine.specs.Copies.{HoldsDictionary, IsLinkedTo, LinkedTrie, next_output}
+use Rattle.daachorse_array.specs.Copies.{HoldsDictionary, IsLinkedTo, LinkedTrie, next_output}
 use Rattle.daachorse_patterns.specs.Tries.{HasTexts, IsBuilt, LeadsByUnit, trie_by}
 use Rattle.daachorse_patterns.proofs.UnitTries.{long-units, text_of_units, walk-units}
 

@@ -6,3 +6,11 @@ pub mod LinksBack
 pub mod FilterLaws
 pub mod FoldingLaws
 pub mod TextLaws
+pub mod Places
+pub mod Held
+pub mod Counted
+pub mod ReadyToPack
+pub mod Groups
+pub mod Looks
+pub mod Keys
+pub mod Written

@@ -6,7 +6,7 @@ use Rattle.daachorse_core.specs.declared.errors.DaachorseError.TheVariants.{Inva
 use Rattle.daachorse_core.specs.declared.errors.Limit.{Limit}
 use Rattle.daachorse_core.specs.declared.errors.Limit.TheVariants.{PatternValues, StateId, NumElements, Outputs, OutputPos}
 use Rattle.daachorse_model.specs.declared.MatchKind.{MatchKind}
-use Rattle.daachorse_model.specs.Dictionary.{Dictionary, dictionary, kept_registrations}
+use Rattle.daachorse_model.specs.Dictionary.{dictionary, kept_registrations}
 use Rattle.daachorse_model.specs.Units.{size}
 use Rattle.daachorse_build.specs.declared.nfa_builder.NfaBuilder.{NfaBuilder}
 use Rattle.daachorse_build.specs.Holds.{HasMorePrefixes}
@@ -60,20 +60,15 @@ module _ {V : Type 0} (width : ℕ → ℕ) (limits : Limits) (kind : MatchKind)
   IsRefusalWithin (InvalidAutomaton _) = ⊥
   IsRefusalWithin (OutOfMemory _) = ⊤
 
-module _ {V E : Type 0} (gives : ℕ → Result V E → Type 0) where
-  -- K is the dictionary of the texts, each with the value of its index
-  abbrev pub IsDictionaryOf : MatchKind → List (List ℕ) → Dictionary V → Type 0
-  IsDictionaryOf kind texts K = (rs : List (List ℕ × V)) × AreIndexed gives 0 texts rs × ((w : List ℕ) → K w ≡ dictionary kind rs w)
+module _ {V E : Type 0} (gives : ℕ → Result V E → Type 0) (width : ℕ → ℕ) (limits : Limits) where
+  -- all indexes have values, and the build of the texts with these refuses
+  abbrev pub IsRefusedWithValues : MatchKind → List (List ℕ) → DaachorseError → Type 0
+  IsRefusedWithValues kind texts e = (rs : List (List ℕ × V)) × AreIndexed gives 0 texts rs × IsRefusalWithin width limits kind rs e
 
-  module _ (width : ℕ → ℕ) (limits : Limits) where
-    -- all indexes have values, and the build of the texts with these refuses
-    abbrev pub IsRefusedWithValues : MatchKind → List (List ℕ) → DaachorseError → Type 0
-    IsRefusedWithValues kind texts e = (rs : List (List ℕ × V)) × AreIndexed gives 0 texts rs × IsRefusalWithin width limits kind rs e
-
-    -- why a build of texts refuses, each of which gets the value of its index
-    abbrev pub IsBuildRefusalWithin : MatchKind → List (List ℕ) → DaachorseError → Type 0
-    IsBuildRefusalWithin kind texts (InvalidConversion _) = HasNoValue gives texts
-    IsBuildRefusalWithin kind texts (InvalidArgument e) = IsRefusedWithValues kind texts (InvalidArgument e)
-    IsBuildRefusalWithin kind texts (AutomatonScale e) = IsRefusedWithValues kind texts (AutomatonScale e)
-    IsBuildRefusalWithin kind texts (InvalidAutomaton _) = ⊥
-    IsBuildRefusalWithin kind texts (OutOfMemory _) = ⊤
+  -- why a build of texts refuses, each of which gets the value of its index
+  abbrev pub IsBuildRefusalWithin : MatchKind → List (List ℕ) → DaachorseError → Type 0
+  IsBuildRefusalWithin kind texts (InvalidConversion _) = HasNoValue gives texts
+  IsBuildRefusalWithin kind texts (InvalidArgument e) = IsRefusedWithValues kind texts (InvalidArgument e)
+  IsBuildRefusalWithin kind texts (AutomatonScale e) = IsRefusedWithValues kind texts (AutomatonScale e)
+  IsBuildRefusalWithin kind texts (InvalidAutomaton _) = ⊥
+  IsBuildRefusalWithin kind texts (OutOfMemory _) = ⊤

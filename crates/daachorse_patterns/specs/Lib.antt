@@ -4,3 +4,4 @@ pub mod Patterns
 pub mod Building
 pub mod Documents
 pub mod Filters
+pub mod Settled

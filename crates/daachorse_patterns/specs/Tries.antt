@@ -9,7 +9,7 @@ use Rattle.daachorse_build.specs.declared.nfa_builder.NfaBuilder.{NfaBuilder}
 use Rattle.daachorse_build.specs.Builders.{Registered, outputs_of, states_of}
 use Rattle.daachorse_build.specs.Holds.{in_units}
 use Rattle.daachorse_build.specs.Tables.{HoldTrie, child_in, edges_of, fails_of, positions_of}
-use Rattle.daachorse_machine.specs.Copies.{HoldsDictionary, LinkedTrie}
+use Rattle.daachorse_array.specs.Copies.{HoldsDictionary, LinkedTrie}
 
 -- a unit leads where its label does, and a unit of no label leads nowhere
 pub record LeadsByUnit {L : Type 0} (cmp : L → L → Ordering) (unit : L → ℕ) (edges : List (List (L × ℕ))) (child : ℕ → ℕ → Option ℕ) : Type 0 where

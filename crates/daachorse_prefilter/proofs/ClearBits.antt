@@ -25,10 +25,6 @@ in_width n i h =
     let whole : n / 4294967296 * 2 ^ 32 + n % 4294967296 ≡ n = omega arith in
     sym (bit_at_cat_low (n / 4294967296) 32 (n % 4294967296) i h) ∙ ap (λ m. bit_at m i) whole
 
--- a number of 32 bits has the bits below
-pub is_clear_within : (n i : ℕ) → i < 32 → is_clear (n % 2 ^ 32) i ≡ is_clear n i
-is_clear_within n i h = ap (λ b. b == 0) (in_width n i h)
-
 bit_at_shifted_below : (n k i : ℕ) → i < k → bit_at (n * 2 ^ k) i ≡ 0
 bit_at_shifted_below n k i h =
     let none : n * 2 ^ k + 0 ≡ n * 2 ^ k = omega arith in

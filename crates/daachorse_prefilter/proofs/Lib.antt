@@ -4,7 +4,6 @@ pub mod PlaceLaws
 pub mod Scanned
 pub mod Rounds
 pub mod SideBySide
-pub mod Skims
 pub mod Pairs
 pub mod Marking
 pub mod Tables

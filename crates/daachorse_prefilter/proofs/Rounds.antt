@@ -25,21 +25,21 @@ passing_bits last n r = bit_and (bit_not w32 r) (end_bits last n)
 ones_is : (n : ℕ) → n ≤ 16 → 1 * 2 ^ n % 2 ^ 32 - 1 ≡ 2 ^ n - 1
 ones_is n few = let small : 2 ^ n ≤ 2 ^ 16 = pow_mono few in omega arith
 
-pub end_bit : (last n d : ℕ) → last ≤ 7 → n ≤ 16 → d < n → is_clear (end_bits last n) (last + d) ≡ false
+end_bit : (last n d : ℕ) → last ≤ 7 → n ≤ 16 → d < n → is_clear (end_bits last n) (last + d) ≡ false
 end_bit last n d small few h = is_clear_shifted (1 * 2 ^ n % 2 ^ 32 - 1) last d (omega arith) ∙ ap (λ m. is_clear m d) (ones_is n few) ∙ is_clear_mask n d h
 
-pub end_bit_above : (last n d : ℕ) → last + d < 32 → n ≤ 16 → n ≤ d → is_clear (end_bits last n) (last + d) ≡ true
+end_bit_above : (last n d : ℕ) → last + d < 32 → n ≤ 16 → n ≤ d → is_clear (end_bits last n) (last + d) ≡ true
 end_bit_above last n d small few h = is_clear_shifted (1 * 2 ^ n % 2 ^ 32 - 1) last d small ∙ ap (λ m. is_clear m d) (ones_is n few) ∙ is_clear_mask_above n d h
 
 left_of : (x y : Bool) → y ≡ false → (x || y) ≡ x
 left_of true y e = refl
 left_of false y e = e
 
-pub left_false : (x y : Bool) → (x || y) ≡ false → x ≡ false
+left_false : (x y : Bool) → (x || y) ≡ false → x ≡ false
 left_false false y e = refl
 left_false true y e = absurd (cc)
 
-pub right_false : (x y : Bool) → (x || y) ≡ false → y ≡ false
+right_false : (x y : Bool) → (x || y) ≡ false → y ≡ false
 right_false false y e = e
 right_false true y e = absurd (cc)
 
@@ -56,30 +56,12 @@ above_top p j b high h =
     ap (λ n. is_clear n b) (sym whole) ∙ ap (λ n. n == 0) (bit_at_cat_high 0 (suc j) p b high (omega arith) ∙ bit_at-zero (b - suc j))
 
 -- where a bit of a number of 32 bits is that is set
-pub set_within : (p b : ℕ) → p < 2 ^ 32 → is_clear p b ≡ false → b < 32
+set_within : (p b : ℕ) → p < 2 ^ 32 → is_clear p b ≡ false → b < 32
 set_within p b small set = by (cases_lt b 32)
   where
     by : (b < 32) ⊎ (32 ≤ b) → b < 32
     by (inl less) = less
     by (inr above) = absurd (false≢true (sym set ∙ above_top p 31 b small (omega arith)))
-
--- the bits of the windows that end in the round
-pub within_ends : (last n b : ℕ) → last ≤ 7 → n ≤ 16 → is_clear (end_bits last n) b ≡ false → (last ≤ b) × (b < last + n)
-within_ends last n b small few bit = (low (cases_lt b last), high (cases_lt b (last + n)))
-  where
-    within : b < 32
-    within = set_within (end_bits last n) b (omega arith) bit
-
-    low : (b < last) ⊎ (last ≤ b) → last ≤ b
-    low (inl below) = let none = is_clear_shifted_below (1 * 2 ^ n % 2 ^ 32 - 1) last b below within in absurd (cc)
-    low (inr h) = h
-
-    high : (b < last + n) ⊎ (last + n ≤ b) → b < last + n
-    high (inl h) = h
-    high (inr above) =
-        let place : last + (b - last) ≡ b = omega (arith, above) in
-        let none : is_clear (end_bits last n) b ≡ true = ap (λ m. is_clear (end_bits last n) m) (sym place) ∙ end_bit_above last n (b - last) (omega (arith, place, within)) few (omega (arith, above)) in
-        absurd (cc)
 
 -- the highest bit of a number that is not 0
 pub record IsHighest (p j : ℕ) : Type 0 where
@@ -159,7 +141,7 @@ module _ (tested : List ℕ → Bool) (entries h : List ℕ) (last n pos place r
       ends.ends (n - 1 - k) (omega arith) ∙ ap (λ p. has_begun entries h pos p last) at
 
   -- a window that has begun is among those that pass
-  pub among_passing : (k : ℕ) → k < n → is_clear r (last + (n - 1 - k)) ≡ true → is_clear (passing_bits last n r) (last + (n - 1 - k)) ≡ false
+  among_passing : (k : ℕ) → k < n → is_clear r (last + (n - 1 - k)) ≡ true → is_clear (passing_bits last n r) (last + (n - 1 - k)) ≡ false
   among_passing k less clear =
       is_clear-and (bit_not w32 r) (end_bits last n) (last + (n - 1 - k))
       ∙ left_of (is_clear (bit_not w32 r) (last + (n - 1 - k))) (is_clear (end_bits last n) (last + (n - 1 - k))) (end_bit last n (n - 1 - k) small few (omega arith))
@@ -167,18 +149,32 @@ module _ (tested : List ℕ → Bool) (entries h : List ℕ) (last n pos place r
       ∙ clear_is_not_set r (last + (n - 1 - k)) clear
 
   -- where the bit of one that passes is
-  pub record HasWindow (b : ℕ) : Type 0 where
-    pub low : last ≤ b
-    pub high : b < last + n
-    pub begun : is_clear r b ≡ true
+  record HasWindow (b : ℕ) : Type 0 where
+    low : last ≤ b
+    high : b < last + n
+    begun : is_clear r b ≡ true
 
-  pub window_of : (b : ℕ) → is_clear (passing_bits last n r) b ≡ false → HasWindow b
+  window_of : (b : ℕ) → is_clear (passing_bits last n r) b ≡ false → HasWindow b
   window_of b e =
       let bit : is_clear (end_bits last n) b ≡ false = right_false (is_clear (bit_not w32 r) b) (is_clear (end_bits last n) b) (sym (is_clear-and (bit_not w32 r) (end_bits last n) b) ∙ e) in
       let unset : is_clear (bit_not w32 r) b ≡ false = left_false (is_clear (bit_not w32 r) b) (is_clear (end_bits last n) b) (sym (is_clear-and (bit_not w32 r) (end_bits last n) b) ∙ e) in
       let within : b < 32 = set_within (end_bits last n) b (omega arith) bit in
-      let bounds = within_ends last n b small few bit in
-      record { low = bounds.0; high = bounds.1; begun = not_set_is_clear r b (sym (is_clear_not r b hr within) ∙ unset) }
+      record {
+        low = low bit within (cases_lt b last);
+        high = high bit within (cases_lt b (last + n));
+        begun = not_set_is_clear r b (sym (is_clear_not r b hr within) ∙ unset);
+      }
+    where
+      low : is_clear (end_bits last n) b ≡ false → b < 32 → (b < last) ⊎ (last ≤ b) → last ≤ b
+      low bit within (inl below) = let none = is_clear_shifted_below (1 * 2 ^ n % 2 ^ 32 - 1) last b below within in absurd (cc)
+      low bit within (inr h) = h
+
+      high : is_clear (end_bits last n) b ≡ false → b < 32 → (b < last + n) ⊎ (last + n ≤ b) → b < last + n
+      high bit within (inl h) = h
+      high bit within (inr above) =
+          let place : last + (b - last) ≡ b = omega arith in
+          let none : is_clear (end_bits last n) b ≡ true = ap (λ m. is_clear (end_bits last n) m) (sym place) ∙ end_bit_above last n (b - last) (omega arith) few (omega arith) in
+          absurd (cc)
 
   begun_at : (b : ℕ) → HasWindow b → has_begun entries h pos (place + 1 + (last + n - 1 - b) + 1) last ≡ true
   begun_at b w =

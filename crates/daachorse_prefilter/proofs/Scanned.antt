@@ -6,7 +6,7 @@ use Rattle.std.proofs.Math.Pow.{pow_mono}
 use Rattle.std.proofs.lemmas.List.{get_or-drop, length-drop}
 use Rattle.daachorse_model.specs.Filter.{is_clear, pairs_pass, passes}
 use Rattle.daachorse_prefilter.specs.Places.{IsFirstPlace}
-use Rattle.daachorse_prefilter.specs.Scans.{has_begun, window_bits, AreBits, HasEnded, NonePasses}
+use Rattle.daachorse_prefilter.specs.Scans.{has_begun, AreBits, HasEnded, NonePasses}
 use Rattle.daachorse_prefilter.proofs.ClearBits.{is_clear-and, is_clear-or, is_clear_shifted, is_clear_shifted_below, is_clear_mask, is_clear_mask_above}
 use Rattle.daachorse_prefilter.proofs.NextPlaces.{pairs_pass_more, passes_short}
 use Rattle.daachorse_prefilter.proofs.PlaceLaws.{both_pass, refused}
@@ -73,6 +73,10 @@ bits_next entries h last pos i s e small low l same bits (suc b) hb =
     ∙ ap (λ x. x && is_clear e (suc b)) (bits b (omega arith))
     ∙ ap (λ x. has_begun entries h pos i b && x) (same (suc b) hb)
     ∙ begun_later entries h pos i b low l
+
+-- the bits from the first to that of a window's last pair
+abbrev pub window_bits : ℕ → ℕ
+window_bits last = (2 * 2 ^ last) % 2 ^ 32 - 1
 
 window_bits_is : (last : ℕ) → last ≤ 7 → window_bits last ≡ 2 ^ (suc last) - 1
 window_bits_is last h =
@@ -200,7 +204,7 @@ bits_start entries h last pos small b l =
     rw short (is_clear_mask 32 b (omega arith))
 
 -- whether the window that ends before i passes
-pub passes_is : (entries h : List ℕ) (last pos i k : ℕ) → i ≤ length h → pos ≤ k → k + (last + 2) ≡ i → passes (entry_in entries) (last + 2) (drop k h) ≡ has_begun entries h pos i last
+passes_is : (entries h : List ℕ) (last pos i k : ℕ) → i ≤ length h → pos ≤ k → k + (last + 2) ≡ i → passes (entry_in entries) (last + 2) (drop k h) ≡ has_begun entries h pos i last
 passes_is entries h last pos i k inside from end =
     let size = length-drop k h in
     let fits : nat_le (last + 2) (length (drop k h)) ≡ true = le-leb (last + 2) (length (drop k h)) (omega arith) in

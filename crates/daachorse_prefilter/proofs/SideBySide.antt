@@ -4,10 +4,10 @@ use Rattle.std.specs.Prelude.{◌||◌, bit_and, bit_or}
 use Rattle.std.proofs.lemmas.Bool.{cases_lt}
 use Rattle.std.proofs.Math.Pow.{pow_mono}
 use Rattle.daachorse_model.specs.Filter.{is_clear}
-use Rattle.daachorse_prefilter.specs.Scans.{EndsRound, window_bits}
+use Rattle.daachorse_prefilter.specs.Scans.{EndsRound}
 use Rattle.daachorse_prefilter.proofs.ClearBits.{is_clear-and, is_clear-or, is_clear_shifted, is_clear_shifted_below}
 use Rattle.daachorse_prefilter.proofs.Rounds.{above_top}
-use Rattle.daachorse_prefilter.proofs.Scanned.{above_window, apart, ended_apart, next_first, next_later, next_state, states, states_more, states_none, entry_in, pair_before}
+use Rattle.daachorse_prefilter.proofs.Scanned.{above_window, apart, ended_apart, next_first, next_later, next_state, states, states_more, states_none, window_bits, entry_in, pair_before}
 
 -- two entries in one number
 abbrev pub side_by_side : ℕ → ℕ → ℕ
@@ -17,14 +17,14 @@ side_by_side x y = bit_or ((x * 2 ^ 8) % 2 ^ 32) y
 abbrev pub SameBits : ℕ → ℕ → Type 0
 SameBits x y = (b : ℕ) → b < 32 → is_clear x b ≡ is_clear y b
 
-pub low_bit : (x y b : ℕ) → b < 8 → is_clear (side_by_side x y) b ≡ is_clear y b
+low_bit : (x y b : ℕ) → b < 8 → is_clear (side_by_side x y) b ≡ is_clear y b
 low_bit x y b h = is_clear-or ((x * 2 ^ 8) % 2 ^ 32) y b ∙ ap (λ v. v && is_clear y b) (is_clear_shifted_below x 8 b h (omega arith))
 
-pub high_bit : (x y c : ℕ) → 8 + c < 32 → is_clear (side_by_side x y) (8 + c) ≡ (is_clear x c && is_clear y (8 + c))
+high_bit : (x y c : ℕ) → 8 + c < 32 → is_clear (side_by_side x y) (8 + c) ≡ (is_clear x c && is_clear y (8 + c))
 high_bit x y c h = is_clear-or ((x * 2 ^ 8) % 2 ^ 32) y (8 + c) ∙ ap (λ v. v && is_clear y (8 + c)) (is_clear_shifted x 8 c h)
 
 -- a bit is below the eighth, or so many above it
-pub low_or_high : (b : ℕ) → (b < 8) ⊎ ((c : ℕ) × (b ≡ 8 + c))
+low_or_high : (b : ℕ) → (b < 8) ⊎ ((c : ℕ) × (b ≡ 8 + c))
 low_or_high b = elim (cases_lt b 8) [ inl low ↦ inl low | inr high ↦ inr (b - 8, omega (arith, high)) ]
 
 swap : (p q r : Bool) → (q && (p && r)) ≡ (p && (q && r))
@@ -42,7 +42,7 @@ with_true false y e = refl
 
 module _ (last : ℕ) (small : last ≤ 7) where
   -- the bits of a window are taken of both at once
-  pub window_of_both : (x y : ℕ) → y < 2 ^ 8 → SameBits (bit_and (side_by_side x y) (side_by_side (window_bits last) (window_bits last))) (side_by_side (bit_and x (window_bits last)) (bit_and y (window_bits last)))
+  window_of_both : (x y : ℕ) → y < 2 ^ 8 → SameBits (bit_and (side_by_side x y) (side_by_side (window_bits last) (window_bits last))) (side_by_side (bit_and x (window_bits last)) (bit_and y (window_bits last)))
   window_of_both x y byte b within = by (low_or_high b)
     where
       w : ℕ

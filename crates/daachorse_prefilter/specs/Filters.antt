@@ -1,9 +1,9 @@
 -- What callers see of a filter: how long its window is, and its entry for each pair of bytes.
-use Rattle.std.specs.Prelude.{◌≡◌, ℕ, ◌<◌, ◌≤◌, Bool, true, false, List, length, drop, All, slice_index, Option, IfSome}
-use Rattle.std.specs.Str.{IsCharBoundary}
+use Rattle.std.specs.Prelude.{◌≡◌, ℕ, ◌≤◌, Bool, true, List, length, All, slice_index, Option, IfSome}
 use Rattle.daachorse_model.specs.Dictionary.{Dictionary}
 use Rattle.daachorse_model.specs.Filter.{passes, next_position}
 use Rattle.daachorse_model.specs.Prefixes.{IsKey}
+use Rattle.daachorse_prefilter.specs.Places.{IsFirstBoundary}
 
 pub record Filter : Type 0 where
   pub window : ℕ
@@ -36,8 +36,5 @@ abbrev pub PassesKeys : {V : Type 0} → (List ℕ → List ℕ) → Dictionary 
 PassesKeys spell K filter = IfSome filter (λ f. (k : List ℕ) → IsKey K k → admits f (spell k) ≡ true)
 
 -- r is the first boundary of the text's characters from a place on at which the filter passes, or the end
-pub record IsNextBoundary (f : Filter) (text : List ℕ) (from r : ℕ) : Type 0 where
-  pub inside : r ≤ length text
-  pub boundary : IsCharBoundary text r
-  pub found : r < length text → (from ≤ r) × (admits f (drop r text) ≡ true)
-  pub first : (k : ℕ) → from ≤ k → k < r → IsCharBoundary text k → admits f (drop k text) ≡ false
+abbrev pub IsNextBoundary : Filter → List ℕ → ℕ → ℕ → Type 0
+IsNextBoundary f text from r = IsFirstBoundary (admits f) text from r

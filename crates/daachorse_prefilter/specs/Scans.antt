@@ -1,5 +1,5 @@
 -- What the state of a scan tells of the windows of a text.
-use Rattle.std.specs.Prelude.{◌≡◌, ℕ, suc, ◌+◌, ◌-◌, ◌*◌, ◌%◌, ◌^◌, ◌<◌, ◌≤◌, bit_or, Bool, true, false, nat_le, ◌&&◌, List, bit_and, drop, slice_index}
+use Rattle.std.specs.Prelude.{◌≡◌, ℕ, suc, ◌+◌, ◌-◌, ◌*◌, ◌%◌, ◌^◌, ◌<◌, ◌≤◌, bit_or, Bool, true, false, nat_le, ◌&&◌, List, drop, slice_index}
 use Rattle.daachorse_model.specs.Filter.{is_clear, pairs_pass, passes}
 
 -- the last b + 1 pairs before place i, of those from pos on, are the first of a window that may pass
@@ -19,17 +19,6 @@ pub record HasEnded (entries text : List ℕ) (last pos i n state : ℕ) : Type 
 -- behind any state that is right, shifted past n pairs, what these pairs make alone gives a state that knows of their places
 abbrev pub EndsRound : List ℕ → List ℕ → ℕ → ℕ → ℕ → ℕ → Type 0
 EndsRound entries text last i n read = (pos s : ℕ) → pos + 1 ≤ i → AreBits entries text last pos i s → HasEnded entries text last pos i n (bit_or ((s * 2 ^ n) % 2 ^ 32) read)
-
--- of the entry of the pair that byte i ends the bits of a window
-abbrev pub window_bits : ℕ → ℕ
-window_bits last = (2 * 2 ^ last) % 2 ^ 32 - 1
-
-abbrev pub window_entry : List ℕ → List ℕ → ℕ → ℕ → ℕ
-window_entry entries text last i = bit_and (slice_index entries (slice_index text (i - 1) * 256 + slice_index text i)) (window_bits last)
-
--- of eight pairs, each two behind the one before, of which byte i ends the first: a bit is 0 where each has a 0 that the steps between it and the last move there
-abbrev pub AreSeconds : List ℕ → List ℕ → ℕ → ℕ → ℕ → Type 0
-AreSeconds entries text last i read = (b : ℕ) → b < 32 → ((j c : ℕ) → j < 8 → b ≡ c + (14 - 2 * j) → is_clear (window_entry entries text last (i + 2 * j)) c ≡ true) → is_clear read b ≡ true
 
 -- no window that ends before place i passes, and the test with it
 abbrev pub NonePasses : (List ℕ → Bool) → List ℕ → List ℕ → ℕ → ℕ → ℕ → Type 0

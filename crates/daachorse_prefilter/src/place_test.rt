@@ -2,7 +2,7 @@
 //!
 //! The layers above may rely on the test of no place passing everywhere.
 
-ghost use Rattle.std.specs.Prelude.{◌≡◌, ℕ, Bool, List, IsTrue, true};
+ghost use Rattle.std.specs.Prelude.{◌≡◌, ℕ, Bool, List};
 ghost use Rattle.daachorse_model.specs.Folding.{folded};
 
 /// A test that is asked at the places at which a filter passes.
@@ -17,14 +17,6 @@ pub trait PlaceTest: Drop {
     /// What [`Self::passes`] is of the bytes with a to z for A to Z.
     fn passes_folded(&self, bytes: &[u8]) -> bool
         ensures { result ≡ lets self.now (folded bytes.now) };
-
-    /// Whether each test of this kind passes everywhere.
-    #[inline(always)]
-    fn tests_nothing() -> bool
-        ensures { IsTrue result → (test : Self) (w : List ℕ) → lets test w ≡ true }
-    {
-        false
-    }
 }
 
 /// The test of no place: it passes everywhere.
@@ -43,11 +35,6 @@ impl PlaceTest for NoTest {
 
     #[inline(always)]
     fn passes_folded(&self, _bytes: &[u8]) -> bool {
-        true
-    }
-
-    #[inline(always)]
-    fn tests_nothing() -> bool {
         true
     }
 }

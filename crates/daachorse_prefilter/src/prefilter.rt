@@ -4,25 +4,24 @@
 //! neighbouring bytes of its window stands at the same place in some pattern. The method is known
 //! as shift-or with q-grams. The layers above may rely on a filter passing at each occurrence of
 //! its patterns, on [`Prefilter::next_position`] being the first place that passes, on
-//! [`Prefilter::next_position_where`] being the first at which a test passes too, and on a gate that
+//! [`Prefilter::first_place`] being the first at which a test passes too, and on a gate that
 //! closes by what was recorded alone.
 
-ghost use Rattle.std.specs.Prelude.{◌≡◌, ◌++◌, ℕ, ◌<◌, ◌≤◌, ◌&&◌, List, map, drop, true, IfOk, IfErr};
+ghost use Rattle.std.specs.Prelude.{◌≡◌, ◌++◌, ℕ, ◌<◌, ◌≤◌, ◌&&◌, List, drop, true, IfOk, IfErr};
 ghost use Rattle.std.specs.Cmp.Rules.{comparing};
 ghost use Rattle.std.proofs.Common.{rules};
 ghost use Rattle.daachorse_core.specs.Refusals.{IsOutOfMemory};
 ghost use Rattle.daachorse_model.specs.Folding.{folded};
 ghost use Rattle.daachorse_prefilter.specs.Equality.{filter_alike, filter_eq, filter_input};
 ghost use Rattle.daachorse_prefilter.specs.Filters.{Filter, IsFilter, IsNextBoundary, admits, next_place};
-ghost use Rattle.daachorse_prefilter.specs.Places.{IsFirstPlace};
+ghost use Rattle.daachorse_prefilter.specs.Places.{IsFirstBoundary, IsFirstPlace};
 
 mod builder;
 mod form;
 mod gate;
 mod pair_table;
-mod reading;
+pub mod reading;
 mod scan;
-mod whole_window;
 mod window;
 
 use crate::place_test::{NoTest, PlaceTest};
@@ -95,33 +94,6 @@ impl<A: Allocator> Prefilter<A> {
         self.first_place::<AsFolded, NoTest>(&NoTest, haystack, pos)
     }
 
-    /// The first place from `pos` on at which the filter passes and the test too, or the haystack's length.
-    ///
-    /// It takes no memory. The test is asked only at places at which the filter passes.
-    /// `daachorse_part_tests` runs it.
-    #[inline(always)]
-    pub fn next_position_where<T: PlaceTest>(&self, test: &T, haystack: &[u8], pos: usize) -> usize
-        ensures { IsFirstPlace (λ w. T.lets test.now w && admits self.now w) haystack.now pos result }
-    {
-        self.first_place::<AsItIs, T>(test, haystack, pos)
-    }
-
-    /// What [`Self::next_position_where`] is of the haystack without regard to the case of ASCII letters:
-    /// of the haystack with a to z for A to Z.
-    ///
-    /// `daachorse_part_tests` runs it.
-    #[inline(always)]
-    pub fn next_position_folded_where<T: PlaceTest>(
-        &self,
-        test: &T,
-        haystack: &[u8],
-        pos: usize,
-    ) -> usize
-        ensures { IsFirstPlace (λ w. T.lets test.now w && admits self.now w) (folded haystack.now) pos result }
-    {
-        self.first_place::<AsFolded, T>(test, haystack, pos)
-    }
-
     /// The first boundary of the text's characters from `pos` on at which the filter passes, or
     /// the text's length.
     ///
@@ -130,7 +102,7 @@ impl<A: Allocator> Prefilter<A> {
     pub fn next_position_at_char_boundary(&self, haystack: &str, pos: usize) -> usize
         ensures { IsNextBoundary self.now haystack.now pos result }
     {
-        self.first_boundary::<AsItIs>(haystack, pos)
+        self.first_boundary::<AsItIs, NoTest>(&NoTest, haystack, pos)
     }
 
     /// What [`Self::next_position_at_char_boundary`] is of the text without regard to the case of ASCII
@@ -141,30 +113,43 @@ impl<A: Allocator> Prefilter<A> {
     pub fn next_position_folded_at_char_boundary(&self, haystack: &str, pos: usize) -> usize
         ensures { IsNextBoundary self.now (folded haystack.now) pos result }
     {
-        self.first_boundary::<AsFolded>(haystack, pos)
+        self.first_boundary::<AsFolded, NoTest>(&NoTest, haystack, pos)
     }
 
-    /// The first place from `pos` on at which the filter and the test pass in what is read of the haystack.
+    /// The first place from `pos` on at which the filter and the test pass in what is read of the
+    /// haystack, or the haystack's length.
+    ///
+    /// It takes no memory. The test is asked only at places at which the filter passes.
+    /// `daachorse_part_tests` runs it.
     #[inline(always)]
-    fn first_place<R: ByteReading, T: PlaceTest>(
+    pub fn first_place<R: ByteReading, T: PlaceTest>(
         &self,
         test: &T,
         haystack: &[u8],
         pos: usize,
     ) -> usize
-        ensures { IsFirstPlace (λ w. T.lets test.now w && admits self.now w) (map R.as_read haystack.now) pos result }
+        ensures { IsFirstPlace (λ w. T.lets test.now w && admits self.now w) (R.read haystack.now) pos result }
     {
         scan::<R, A, T>(&self.table, test, self.window_len, haystack, pos)
     }
 
-    /// The first boundary from `pos` on at which the filter passes in what is read of the text.
+    /// The first boundary of the text's characters from `pos` on at which both pass in what is read of
+    /// the text, or the text's length.
+    ///
+    /// It takes no memory. The test is asked only at places at which the filter passes.
+    /// `daachorse_part_tests` runs it.
     #[inline(always)]
-    fn first_boundary<R: ByteReading>(&self, haystack: &str, pos: usize) -> usize
-        ensures { IsNextBoundary self.now (map R.as_read haystack.now) pos result }
+    pub fn first_boundary<R: ByteReading, T: PlaceTest>(
+        &self,
+        test: &T,
+        haystack: &str,
+        pos: usize,
+    ) -> usize
+        ensures { IsFirstBoundary (λ w. T.lets test.now w && admits self.now w) (R.read haystack.now) pos result }
     {
         let mut from = pos;
         'places: loop {
-            let place = self.first_place::<R, NoTest>(&NoTest, haystack.as_bytes(), from);
+            let place = self.first_place::<R, T>(test, haystack.as_bytes(), from);
             if haystack.is_char_boundary(place) {
                 return place;
             }

@@ -14,3 +14,5 @@ pub mod DepthLaws
 pub mod BeginningLaws
 pub mod AfreshLaws
 pub mod SkipLaws
+pub mod GivenLaws
+pub mod PieceLaws

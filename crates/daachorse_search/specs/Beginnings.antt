@@ -1,5 +1,5 @@
 -- How a search begins: nothing was read, and no turn was taken.
-use Rattle.std.specs.Prelude.{◌≡◌, ℕ, List, []}
+use Rattle.std.specs.Prelude.{◌≡◌, ℕ, List, [], length}
 use Rattle.daachorse_model.specs.declared.Match.{Match}
 use Rattle.daachorse_search.specs.Matches.{Progress}
 use Rattle.daachorse_search.specs.Searches.{SourceProgress}
@@ -23,9 +23,10 @@ pub record BeginsFrom {V A S : Type 0} (a : A) (from : S) (matches : List (Match
   pub turns : s.turns ≡ 0
   pub given : s.given ≡ 0
 
--- in units that it is given one at a time, with these depths of the states
-pub record BeginsStepping {A : Type 0} (a : A) (table : List ℕ) (s : Stepped A) : Type 0 where
+-- in units that it is given one at a time, with these depths of the states: these matches end where nothing was read, and they were given
+pub record BeginsStepping {V A : Type 0} (a : A) (table : List ℕ) (matches : List (Match V)) (s : Stepped A) : Type 0 where
   pub automaton : s.automaton ≡ a
   pub depths : s.depths ≡ table
   pub read : s.read ≡ []
   pub turns : s.turns ≡ 0
+  pub given : s.given ≡ length matches

@@ -15,3 +15,4 @@ pub mod Beginnings
 pub mod Afresh
 pub mod Skipping
 pub mod Standings
+pub mod Pieces

@@ -12,12 +12,13 @@ use Rattle.daachorse_search.specs.Views.{AutomatonView}
 abbrev pub StandsAt : (ℕ → ℕ) → List ℕ → ℕ → Type 0
 StandsAt width read place = place ≡ size width read
 
--- what callers see of a stepper: the automaton, the depths of its states if they are kept, the units consumed, and the turns taken
+-- what callers see of a stepper: the automaton, the depths of its states if they are kept, the units consumed, the turns taken, and the number of matches given: those that end where it stood, at its beginning and after each unit
 pub record Stepped (A : Type 0) : Type 0 where
   pub automaton : A
   pub depths : List ℕ
   pub read : List ℕ
   pub turns : ℕ
+  pub given : ℕ
 
 module _ {V A W : Type 0} (automaton : W → A) (read : W → List ℕ) (found : A → List ℕ → List (Match V)) (most : A → ℕ) (has_output : W → ℕ → Type 0) (given_from : W → ℕ → List (Match V)) where
   -- the position of the first output, or `None`, where the walk stands

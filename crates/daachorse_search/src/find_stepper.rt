@@ -1,13 +1,14 @@
 //! The standard search, one unit at a time.
 //!
 //! The layers above may rely on a stepper telling the match of the standard search that ends with
-//! what was consumed, if there is one, and on the depth of its state.
+//! what was consumed, if there is one, on the depth of its state, and on the number of matches given.
 
 ghost use Rattle.std.specs.Prelude.{◌≡◌, ◌≢◌, ◌<◌, ◌^◌, ◌+◌, ℕ, List, [], ◌∷◌, ◌++◌, length, Some, None};
-ghost use Rattle.daachorse_model.specs.Matches.{standard_after, IsSinceMatch};
+ghost use Rattle.daachorse_model.specs.Matches.{standard, standard_after, IsSinceMatch};
 ghost use Rattle.daachorse_model.specs.Prefixes.{IsLong};
 ghost use Rattle.daachorse_model.specs.Units.{size};
 ghost use Rattle.daachorse_core.specs.Seen.{units};
+ghost use Rattle.daachorse_search.specs.Searches.{standard_found};
 ghost use Rattle.daachorse_search.specs.Standings.{IsFindStanding};
 ghost use Rattle.daachorse_search.specs.Stepwise.{AreBoundedSince};
 ghost use Rattle.daachorse_search.specs.Views.{HasDepths, IsStandard};
@@ -70,14 +71,22 @@ impl FindStanding {
 }
 
 impl<'a, V: Copy, A: Automaton<V>> Model for FindStepper<'a, V, A> {
+    ghost use Rattle.std.specs.Prelude.{length};
     ghost use Rattle.daachorse_core.specs.Seen.{units};
+    ghost use Rattle.daachorse_model.specs.Matches.{standard};
     ghost use Rattle.daachorse_search.specs.Views.{HasDepths};
     ghost use Rattle.daachorse_search.specs.Finds.{HasFound};
     ghost use Rattle.daachorse_search.specs.Stepwise.{Stepped, StandsAt};
 
     ghost Value = { Stepped A };
 
-    ghost view = { λ s. record { automaton = s.walk.automaton; depths = s.depths.now; read = units s.walk.seen; turns = s.walk.turns } };
+    ghost view = { λ s. record {
+      automaton = s.walk.automaton;
+      depths = s.depths.now;
+      read = units s.walk.seen;
+      turns = s.walk.turns;
+      given = length (standard A.Unit.width (A.sees s.walk.automaton).content (units s.walk.seen));
+    } };
 
     ghost invariant = { λ s. StandsAt A.Unit.width (units s.walk.seen) s.place
         × HasFound A.Unit.width A.sees s.walk s.found
@@ -94,6 +103,7 @@ impl<'a, V: Copy, A: Automaton<V>> FindStepper<'a, V, A> {
         ensures depths { result.depths ≡ depths.entry.now }
         ensures read { result.read ≡ [] }
         ensures turns { result.turns ≡ 0 }
+        ensures given { result.given ≡ length (standard_found A.Unit.width A.sees automaton []) }
     {
         let walk = FindWalk::new(automaton);
         let found = walk.begin();
@@ -115,6 +125,7 @@ impl<'a, V: Copy, A: Automaton<V>> FindStepper<'a, V, A> {
         ensures automaton { self.new.automaton ≡ self.old.automaton }
         ensures depths { self.new.depths ≡ self.old.depths }
         ensures read { self.new.read ≡ self.old.read ++ A.Unit.unit unit ∷ [] }
+        ensures given { self.new.given ≡ self.old.given + length (standard_found A.Unit.width A.sees self.new.automaton self.new.read) }
     {
         self.place += unit.num_bytes();
         self.found = self.walk.advance(unit);
@@ -156,6 +167,7 @@ impl<'a, V: Copy, A: Automaton<V>> FindStepper<'a, V, A> {
         ensures stands { IsFindStanding A.Unit.width A.sees self.entry.automaton result }
         ensures read { units result.walk.seen ≡ self.entry.read }
         ensures turns { result.walk.turns ≡ self.entry.turns }
+        ensures given { length (standard A.Unit.width (A.sees self.entry.automaton).content (units result.walk.seen)) ≡ self.entry.given }
     {
         let FindStepper {
             walk,
@@ -182,6 +194,7 @@ impl<'a, V: Copy, A: Automaton<V>> FindStepper<'a, V, A> {
         ensures depths { result.depths ≡ depths.entry.now }
         ensures read { result.read ≡ units standing.walk.seen }
         ensures turns { result.turns ≡ standing.walk.turns }
+        ensures given { result.given ≡ length (standard A.Unit.width (A.sees automaton).content (units standing.walk.seen)) }
     {
         let FindStanding {
             walk,

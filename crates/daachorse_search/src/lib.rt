@@ -21,6 +21,7 @@ pub mod matches;
 pub mod matches_from;
 pub mod overlapping;
 pub mod overlapping_stepper;
+pub mod pieces;
 pub mod scan;
 pub mod search;
 pub mod source;

@@ -1,13 +1,14 @@
 //! The search for all matches, one unit at a time.
 //!
-//! The layers above may rely on a stepper telling all matches that end with what was consumed, and
-//! on the depth of its state.
+//! The layers above may rely on a stepper telling all matches that end with what was consumed, on the
+//! depth of its state, and on the number of matches given.
 
 ghost use Rattle.std.specs.Prelude.{◌≡◌, ◌≢◌, ◌<◌, ◌^◌, ◌+◌, ℕ, List, [], ◌∷◌, ◌++◌, length, Some, None};
-ghost use Rattle.daachorse_model.specs.Matches.{matches_after};
+ghost use Rattle.daachorse_model.specs.Matches.{matches_after, overlapping};
 ghost use Rattle.daachorse_model.specs.Prefixes.{IsLong};
 ghost use Rattle.daachorse_model.specs.Units.{size};
 ghost use Rattle.daachorse_core.specs.Seen.{units};
+ghost use Rattle.daachorse_search.specs.Searches.{all_found};
 ghost use Rattle.daachorse_search.specs.Standings.{IsOverlappingStanding};
 ghost use Rattle.daachorse_search.specs.Stepwise.{AreBounded};
 ghost use Rattle.daachorse_search.specs.Views.{HasDepths, IsStandard};
@@ -67,14 +68,22 @@ impl OverlappingStanding {
 }
 
 impl<'a, V: Copy, A: Automaton<V>> Model for FindOverlappingStepper<'a, V, A> {
+    ghost use Rattle.std.specs.Prelude.{length};
     ghost use Rattle.daachorse_core.specs.Seen.{units};
+    ghost use Rattle.daachorse_model.specs.Matches.{overlapping};
     ghost use Rattle.daachorse_search.specs.Views.{HasDepths};
     ghost use Rattle.daachorse_search.specs.Stepwise.{Stepped, StandsAt};
     ghost use Rattle.daachorse_search.specs.Walks.{HasAll};
 
     ghost Value = { Stepped A };
 
-    ghost view = { λ s. record { automaton = s.walk.automaton; depths = s.depths.now; read = units s.walk.seen; turns = s.walk.turns } };
+    ghost view = { λ s. record {
+      automaton = s.walk.automaton;
+      depths = s.depths.now;
+      read = units s.walk.seen;
+      turns = s.walk.turns;
+      given = length (overlapping A.Unit.width (A.sees s.walk.automaton).content (units s.walk.seen));
+    } };
 
     ghost invariant = { λ s. StandsAt A.Unit.width (units s.walk.seen) s.place
         × HasAll A.Unit.width A.sees s.walk s.found
@@ -91,6 +100,7 @@ impl<'a, V: Copy, A: Automaton<V>> FindOverlappingStepper<'a, V, A> {
         ensures depths { result.depths ≡ depths.entry.now }
         ensures read { result.read ≡ [] }
         ensures turns { result.turns ≡ 0 }
+        ensures given { result.given ≡ length (all_found A.Unit.width A.sees automaton []) }
     {
         let walk = OverlappingWalk::new(automaton);
         let found = walk.begin();
@@ -112,6 +122,7 @@ impl<'a, V: Copy, A: Automaton<V>> FindOverlappingStepper<'a, V, A> {
         ensures automaton { self.new.automaton ≡ self.old.automaton }
         ensures depths { self.new.depths ≡ self.old.depths }
         ensures read { self.new.read ≡ self.old.read ++ A.Unit.unit unit ∷ [] }
+        ensures given { self.new.given ≡ self.old.given + length (all_found A.Unit.width A.sees self.new.automaton self.new.read) }
     {
         self.consume_wide(unit, unit.num_bytes());
     }
@@ -124,6 +135,7 @@ impl<'a, V: Copy, A: Automaton<V>> FindOverlappingStepper<'a, V, A> {
         ensures automaton { self.new.automaton ≡ self.old.automaton }
         ensures depths { self.new.depths ≡ self.old.depths }
         ensures read { self.new.read ≡ self.old.read ++ A.Unit.unit unit ∷ [] }
+        ensures given { self.new.given ≡ self.old.given + length (all_found A.Unit.width A.sees self.new.automaton self.new.read) }
     {
         self.place += bytes;
         self.found = self.walk.advance(unit);
@@ -161,6 +173,7 @@ impl<'a, V: Copy, A: Automaton<V>> FindOverlappingStepper<'a, V, A> {
         ensures stands { IsOverlappingStanding A.Unit.width A.sees self.entry.automaton result }
         ensures read { units result.walk.seen ≡ self.entry.read }
         ensures turns { result.walk.turns ≡ self.entry.turns }
+        ensures given { length (overlapping A.Unit.width (A.sees self.entry.automaton).content (units result.walk.seen)) ≡ self.entry.given }
     {
         let FindOverlappingStepper {
             walk,
@@ -182,6 +195,7 @@ impl<'a, V: Copy, A: Automaton<V>> FindOverlappingStepper<'a, V, A> {
         ensures depths { result.depths ≡ depths.entry.now }
         ensures read { result.read ≡ units standing.walk.seen }
         ensures turns { result.turns ≡ standing.walk.turns }
+        ensures given { result.given ≡ length (overlapping A.Unit.width (A.sees automaton).content (units standing.walk.seen)) }
     {
         let OverlappingStanding { walk, place, found } = standing;
         FindOverlappingStepper {

@@ -10,9 +10,10 @@ ghost use Rattle.daachorse_search.specs.Filters.{IsNextPassing};
 ghost use Rattle.daachorse_model.specs.Units.{byte_width, char_width};
 ghost use Rattle.daachorse_skipping.specs.Asked.{HasRecordedSkip, IsOpenWhilePaying, IsUnused, IsWorthAsking, lets_pass};
 
-use crate::places::{AsItIs, first_boundary, first_place};
+use crate::places::{first_boundary, first_place};
 use crate::telling::Telling;
 use daachorse_prefilter::place_test::NoTest;
+use daachorse_prefilter::prefilter::reading::AsItIs;
 use daachorse_prefilter::prefilter::{Prefilter, PrefilterGate};
 use daachorse_search::filter::Filter;
 use daachorse_search::haystack::{Bytes, Reread};

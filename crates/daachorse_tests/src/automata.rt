@@ -61,6 +61,38 @@ pub trait Searched {
     ) -> Result<bool>;
 }
 
+/// What is searched for matches in bytes, which need not be those of a text.
+pub trait SearchedInBytes {
+    /// Whether a search in bytes as a whole finds just these matches. It is a leftmost search where the automaton is
+    /// for these.
+    fn finds_in_bytes(&self, search: Search, haystack: &[u8], expected: &[Found]) -> bool;
+
+    /// Whether a search over bytes one by one does, if there is one.
+    fn finds_in_source_of_bytes(&self, search: Search, haystack: &[u8], expected: &[Found]) -> bool;
+
+    /// Whether a stepper does that is given these bytes, if there is one, and tells these depths before the first
+    /// byte and behind each, or none.
+    fn finds_by_steps_of_bytes(
+        &self,
+        search: Search,
+        haystack: &[u8],
+        expected: &[Found],
+        depths: &[u32],
+    ) -> bool;
+}
+
+/// Whether each form of a search finds just these matches in bytes.
+pub fn finds_of_bytes<S: SearchedInBytes>(
+    searched: &S,
+    search: Search,
+    haystack: &[u8],
+    expected: &[Found],
+) -> bool {
+    searched.finds_in_bytes(search, haystack, expected)
+        && searched.finds_in_source_of_bytes(search, haystack, expected)
+        && searched.finds_by_steps_of_bytes(search, haystack, expected, &[])
+}
+
 /// Whether each form of a search finds just these matches in a text.
 pub fn finds<S: Searched>(
     alloc: S::Alloc,

@@ -1,6 +1,8 @@
 //! The automaton over bytes, as it is and with rows of its states.
 
-use crate::automata::{Automaton, Bytewise, Listed, PATVALS, Plainly, Searched, finds, refused};
+use crate::automata::{
+    Automaton, Bytewise, Listed, PATVALS, Plainly, Searched, SearchedInBytes, finds, refused,
+};
 use crate::finding::{Found, are, are_found, are_found_overlapping, gives, gives_leftmost};
 use crate::replaced::instead;
 use crate::rows::{BY_CORPUS, Search, Way};
@@ -10,93 +12,9 @@ use daachorse_model::slow::Width;
 use std::alloc::{AllocError, Allocator};
 use std::io::{self, Write};
 
-/// Whether a search in bytes as a whole finds just these matches. It is a leftmost search where the automaton is
-/// for these.
-pub fn finds_in_bytes<A: Allocator + Copy>(
-    automaton: &Bytewise<A>,
-    search: Search,
-    haystack: &[u8],
-    expected: &[Found],
-) -> bool {
-    if !automaton.match_kind().is_standard() {
-        return gives_leftmost(automaton.leftmost_find_iter(haystack), expected);
-    }
-    match search {
-        Search::Overlapping => gives(automaton.find_overlapping_iter(haystack), expected),
-        Search::NoSuffix => gives(
-            automaton.find_overlapping_no_suffix_iter(haystack),
-            expected,
-        ),
-        Search::Standard => gives(automaton.find_iter(haystack), expected),
-        Search::Leftmost(_) => false,
-    }
-}
-
-/// Whether a search over bytes one by one does, if there is one.
-pub fn finds_in_source_of_bytes<A: Allocator + Copy>(
-    automaton: &Bytewise<A>,
-    search: Search,
-    haystack: &[u8],
-    expected: &[Found],
-) -> bool {
-    if !automaton.match_kind().is_standard() {
-        return true;
-    }
-    let source = haystack.iter().copied();
-    match search {
-        Search::Overlapping => are(automaton.find_overlapping_iter_from_iter(source), expected),
-        Search::NoSuffix => are(
-            automaton.find_overlapping_no_suffix_iter_from_iter(source),
-            expected,
-        ),
-        Search::Standard => are(automaton.find_iter_from_iter(source), expected),
-        Search::Leftmost(_) => false,
-    }
-}
-
-impl<A: Allocator + Copy> Searched for Bytewise<A> {
-    type Alloc = A;
-
-    fn finds_in_slice(&self, search: Search, text: &str, expected: &[Found]) -> bool {
-        finds_in_bytes(self, search, text.as_bytes(), expected)
-    }
-
-    fn finds_in_source(&self, search: Search, text: &str, expected: &[Found]) -> bool {
-        finds_in_source_of_bytes(self, search, text.as_bytes(), expected)
-    }
-
-    fn finds_by_steps(
-        &self,
-        _alloc: A,
-        search: Search,
-        text: &str,
-        expected: &[Found],
-        depths: &[u32],
-    ) -> Result<bool> {
+impl<A: Allocator + Copy> SearchedInBytes for Bytewise<A> {
+    fn finds_in_bytes(&self, search: Search, haystack: &[u8], expected: &[Found]) -> bool {
         if !self.match_kind().is_standard() {
-            return Ok(true);
-        }
-        let units = text.as_bytes();
-        match search {
-            Search::Overlapping => {
-                let mut stepper = self.find_overlapping_stepper();
-                Ok(are_found_overlapping(&mut stepper, units, expected, depths))
-            }
-            Search::Standard => {
-                let mut stepper = self.find_stepper();
-                Ok(are_found(&mut stepper, units, expected, depths))
-            }
-            _ => Ok(true),
-        }
-    }
-}
-
-impl<A: Allocator + Copy> Searched for Accelerated<'_, u32, A> {
-    type Alloc = A;
-
-    fn finds_in_slice(&self, search: Search, text: &str, expected: &[Found]) -> bool {
-        let haystack = text.as_bytes();
-        if !self.automaton().match_kind().is_standard() {
             return gives_leftmost(self.leftmost_find_iter(haystack), expected);
         }
         match search {
@@ -107,11 +25,16 @@ impl<A: Allocator + Copy> Searched for Accelerated<'_, u32, A> {
         }
     }
 
-    fn finds_in_source(&self, search: Search, text: &str, expected: &[Found]) -> bool {
-        if !self.automaton().match_kind().is_standard() {
+    fn finds_in_source_of_bytes(
+        &self,
+        search: Search,
+        haystack: &[u8],
+        expected: &[Found],
+    ) -> bool {
+        if !self.match_kind().is_standard() {
             return true;
         }
-        let source = text.as_bytes().iter().copied();
+        let source = haystack.iter().copied();
         match search {
             Search::Overlapping => are(self.find_overlapping_iter_from_iter(source), expected),
             Search::NoSuffix => are(
@@ -123,6 +46,99 @@ impl<A: Allocator + Copy> Searched for Accelerated<'_, u32, A> {
         }
     }
 
+    fn finds_by_steps_of_bytes(
+        &self,
+        search: Search,
+        haystack: &[u8],
+        expected: &[Found],
+        depths: &[u32],
+    ) -> bool {
+        if !self.match_kind().is_standard() {
+            return true;
+        }
+        match search {
+            Search::Overlapping => {
+                let mut stepper = self.find_overlapping_stepper();
+                are_found_overlapping(&mut stepper, haystack, expected, depths)
+            }
+            Search::Standard => {
+                let mut stepper = self.find_stepper();
+                are_found(&mut stepper, haystack, expected, depths)
+            }
+            _ => true,
+        }
+    }
+}
+
+impl<A: Allocator + Copy> SearchedInBytes for Accelerated<'_, u32, A> {
+    fn finds_in_bytes(&self, search: Search, haystack: &[u8], expected: &[Found]) -> bool {
+        if !self.automaton().match_kind().is_standard() {
+            return gives_leftmost(self.leftmost_find_iter(haystack), expected);
+        }
+        match search {
+            Search::Overlapping => gives(self.find_overlapping_iter(haystack), expected),
+            Search::NoSuffix => gives(self.find_overlapping_no_suffix_iter(haystack), expected),
+            Search::Standard => gives(self.find_iter(haystack), expected),
+            Search::Leftmost(_) => false,
+        }
+    }
+
+    fn finds_in_source_of_bytes(
+        &self,
+        search: Search,
+        haystack: &[u8],
+        expected: &[Found],
+    ) -> bool {
+        if !self.automaton().match_kind().is_standard() {
+            return true;
+        }
+        let source = haystack.iter().copied();
+        match search {
+            Search::Overlapping => are(self.find_overlapping_iter_from_iter(source), expected),
+            Search::NoSuffix => are(
+                self.find_overlapping_no_suffix_iter_from_iter(source),
+                expected,
+            ),
+            Search::Standard => are(self.find_iter_from_iter(source), expected),
+            Search::Leftmost(_) => false,
+        }
+    }
+
+    fn finds_by_steps_of_bytes(
+        &self,
+        search: Search,
+        haystack: &[u8],
+        expected: &[Found],
+        depths: &[u32],
+    ) -> bool {
+        if !self.automaton().match_kind().is_standard() {
+            return true;
+        }
+        match search {
+            Search::Overlapping => {
+                let mut stepper = self.find_overlapping_stepper();
+                are_found_overlapping(&mut stepper, haystack, expected, depths)
+            }
+            Search::Standard => {
+                let mut stepper = self.find_stepper();
+                are_found(&mut stepper, haystack, expected, depths)
+            }
+            _ => true,
+        }
+    }
+}
+
+impl<A: Allocator + Copy> Searched for Bytewise<A> {
+    type Alloc = A;
+
+    fn finds_in_slice(&self, search: Search, text: &str, expected: &[Found]) -> bool {
+        self.finds_in_bytes(search, text.as_bytes(), expected)
+    }
+
+    fn finds_in_source(&self, search: Search, text: &str, expected: &[Found]) -> bool {
+        self.finds_in_source_of_bytes(search, text.as_bytes(), expected)
+    }
+
     fn finds_by_steps(
         &self,
         _alloc: A,
@@ -131,21 +147,30 @@ impl<A: Allocator + Copy> Searched for Accelerated<'_, u32, A> {
         expected: &[Found],
         depths: &[u32],
     ) -> Result<bool> {
-        if !self.automaton().match_kind().is_standard() {
-            return Ok(true);
-        }
-        let units = text.as_bytes();
-        match search {
-            Search::Overlapping => {
-                let mut stepper = self.find_overlapping_stepper();
-                Ok(are_found_overlapping(&mut stepper, units, expected, depths))
-            }
-            Search::Standard => {
-                let mut stepper = self.find_stepper();
-                Ok(are_found(&mut stepper, units, expected, depths))
-            }
-            _ => Ok(true),
-        }
+        Ok(self.finds_by_steps_of_bytes(search, text.as_bytes(), expected, depths))
+    }
+}
+
+impl<A: Allocator + Copy> Searched for Accelerated<'_, u32, A> {
+    type Alloc = A;
+
+    fn finds_in_slice(&self, search: Search, text: &str, expected: &[Found]) -> bool {
+        self.finds_in_bytes(search, text.as_bytes(), expected)
+    }
+
+    fn finds_in_source(&self, search: Search, text: &str, expected: &[Found]) -> bool {
+        self.finds_in_source_of_bytes(search, text.as_bytes(), expected)
+    }
+
+    fn finds_by_steps(
+        &self,
+        _alloc: A,
+        search: Search,
+        text: &str,
+        expected: &[Found],
+        depths: &[u32],
+    ) -> Result<bool> {
+        Ok(self.finds_by_steps_of_bytes(search, text.as_bytes(), expected, depths))
     }
 }
 
@@ -188,7 +213,7 @@ pub fn built_of_bytes<A: Allocator + Copy>(
 }
 
 /// The numbers of bytes.
-fn numbers<A: Allocator>(alloc: A, bytes: &[u8]) -> Result<Vec<u32, A>> {
+pub fn numbers<A: Allocator>(alloc: A, bytes: &[u8]) -> Result<Vec<u32, A>> {
     let mut numbers = Vec::new(alloc);
     for byte in bytes {
         numbers.push(u32::from(*byte))?;

@@ -1,5 +1,5 @@
-//! Tests that cross the crates, by the paths of `daachorse`: each public path, worked rows of what is
-//! built and of what the searches find, refusals and their texts, and each growth refused in turn.
+//! Tests of the automata, by the paths of `daachorse`: worked rows of what is built and of what the
+//! searches find, what is written and read, refusals, and each growth refused in turn.
 //!
 //! Functions are short, and each search is begun in one place: that is what keeps the proof of this
 //! crate short.
@@ -16,19 +16,9 @@ mod changed;
 #[cfg(test)]
 mod charwise;
 #[cfg(test)]
-mod command;
-#[cfg(test)]
-mod edge_map;
-#[cfg(test)]
 mod finding;
 #[cfg(test)]
-mod index;
-#[cfg(test)]
 mod listing;
-#[cfg(test)]
-mod own_values;
-#[cfg(test)]
-mod paths;
 #[cfg(test)]
 mod plain;
 #[cfg(test)]
@@ -46,12 +36,6 @@ mod searches;
 #[cfg(test)]
 mod steppers;
 #[cfg(test)]
-mod tokens;
-#[cfg(test)]
-mod uses;
-#[cfg(test)]
-mod values;
-#[cfg(test)]
 mod written;
 
 #[cfg(test)]
@@ -63,6 +47,12 @@ use std::process::Abort;
 #[cfg(test)]
 fn expect(rt: &impl Abort, holds: bool, what: &str) {
     assert!(rt; holds, "{what}");
+}
+
+/// Ends the test with what went wrong and over what units, unless `holds`.
+#[cfg(test)]
+fn expect_over(rt: &impl Abort, holds: bool, what: &str, units: &str) {
+    assert!(rt; holds, "{what}, over {units}");
 }
 
 /// Ends the test with what went wrong at which byte, unless `holds`.

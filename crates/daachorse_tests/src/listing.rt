@@ -1,8 +1,8 @@
 //! The listing of the patterns, the number of states, equality and hashes, and the ways to build.
 
-use crate::automata::{Automaton, Bytewise, Charwise, KINDS, PATVALS, Plainly};
+use crate::automata::{Automaton, Bytewise, Charwise, PATVALS, Plainly};
 use crate::rows::{BUILT, FOLDING, Patvals, UNFILTERED, Way};
-use crate::{expect, hash_of};
+use crate::{expect, expect_over, hash_of};
 use daachorse::{MatchKind, Result};
 use std::alloc::Global;
 use std::process::Abort;
@@ -284,29 +284,30 @@ fn is_copied<S: Automaton>(alloc: S::Alloc, kind: MatchKind) -> Result<bool> {
     )
 }
 
-/// Whether each way to build gives the same for the standard searches.
-fn are_built_alike<S: Automaton>(alloc: S::Alloc) -> Result<bool> {
+/// Whether a way to build gives what a builder does with the same patterns and values.
+fn is_built_alike<S: Automaton>(alloc: S::Alloc, how: Plainly) -> Result<bool> {
     let automaton = S::built(alloc, BUILT, MatchKind::Standard, &PATVALS)?;
-    for how in [Plainly::New, Plainly::WithValues, Plainly::Build] {
-        if S::built_plainly(alloc, how)? != automaton {
-            return Ok(false);
-        }
-    }
-    Ok(true)
+    Ok(S::built_plainly(alloc, how)? == automaton)
 }
 
-/// Whether an automaton that has no filter, or caches its depths, is another, with another hash.
-fn are_apart<S: Automaton>(alloc: S::Alloc) -> Result<bool> {
+/// Whether two automata are not the same, and have other hashes.
+fn are_others<S: Automaton>(one: &S, other: &S) -> bool {
+    one != other && hash_of(one) != hash_of(other)
+}
+
+/// Whether an automaton that has no filter is another.
+fn is_other_unfiltered<S: Automaton>(alloc: S::Alloc) -> Result<bool> {
     let automaton = S::built(alloc, BUILT, MatchKind::Standard, &PATVALS)?;
     let unfiltered = S::built(alloc, UNFILTERED, MatchKind::Standard, &PATVALS)?;
+    Ok(are_others(&automaton, &unfiltered))
+}
+
+/// Whether an automaton that caches its depths is another.
+fn is_other_cached<S: Automaton>(alloc: S::Alloc) -> Result<bool> {
+    let automaton = S::built(alloc, BUILT, MatchKind::Standard, &PATVALS)?;
     let mut cached = automaton.cloned()?;
     cached.cache()?;
-    Ok(
-        automaton != unfiltered
-            && hash_of(&automaton) != hash_of(&unfiltered)
-            && automaton != cached
-            && hash_of(&automaton) != hash_of(&cached),
-    )
+    Ok(are_others(&automaton, &cached))
 }
 
 /// Three patterns, not in the order of their units.
@@ -322,24 +323,41 @@ fn is_ordered<S: Automaton>(alloc: S::Alloc) -> Result<bool> {
     Ok(are_same(&one, &other))
 }
 
-/// Whether copies are the same, and so are automata that are built alike; others are not.
+/// The kinds of automata that are copied.
+const COPIED: [(&str, MatchKind); 3] = [
+    ("copies for the standard searches", MatchKind::Standard),
+    ("copies for the longest", MatchKind::LeftmostLongest),
+    ("copies for the first", MatchKind::LeftmostFirst),
+];
+
+/// The ways to build that are told no more than the patterns, or these with their values.
+const BUILT_ALIKE: [(&str, Plainly); 3] = [
+    ("new", Plainly::New),
+    ("with_values", Plainly::WithValues),
+    ("build", Plainly::Build),
+];
+
+/// Asserts that copies are the same, that so are automata that are built alike, and that others are not.
 fn are_told_apart<S: Automaton<Alloc = Global>>(
     rt: &impl Abort,
     alloc: Global,
-    over: &str,
+    units: &str,
 ) -> Result<()> {
-    for kind in KINDS {
-        expect(rt, is_copied::<S>(alloc, kind)?, over);
+    for (shows, kind) in COPIED {
+        expect_over(rt, is_copied::<S>(alloc, kind)?, shows, units);
     }
-    expect(rt, are_built_alike::<S>(alloc)?, over);
-    expect(rt, is_ordered::<S>(alloc)?, over);
-    expect(rt, are_apart::<S>(alloc)?, over);
+    for (shows, how) in BUILT_ALIKE {
+        expect_over(rt, is_built_alike::<S>(alloc, how)?, shows, units);
+    }
+    expect_over(rt, is_ordered::<S>(alloc)?, "patterns in order", units);
+    expect_over(rt, is_other_unfiltered::<S>(alloc)?, "no filter", units);
+    expect_over(rt, is_other_cached::<S>(alloc)?, "cached depths", units);
     Ok(())
 }
 
 #[test]
 fn automata_are_told_apart(rt: HostRuntime) -> Result<(), Fail> {
-    are_told_apart::<Bytewise>(&rt, rt.alloc(), "over bytes")?;
-    are_told_apart::<Charwise>(&rt, rt.alloc(), "over characters")?;
+    are_told_apart::<Bytewise>(&rt, rt.alloc(), "bytes")?;
+    are_told_apart::<Charwise>(&rt, rt.alloc(), "characters")?;
     Ok(())
 }

@@ -7,35 +7,45 @@ use crate::finding::Found;
 use crate::rows::{BUILT, ROWS, ROWS_OF_CHARACTERS, Row, Search, UNFILTERED};
 use daachorse::{MatchKind, Result};
 use daachorse_model::slow::{
-    leftmost_slowly, no_suffix_slowly, overlapping_slowly, standard_slowly,
+    Width, leftmost_slowly, no_suffix_slowly, overlapping_slowly, standard_slowly,
 };
 use std::alloc::Global;
 use std::test::Fail;
 
-/// What a plain search finds of patterns in a text, over the units of an automaton.
-fn slowly<S: Automaton<Alloc = Global>>(
+/// What a plain search finds of patterns in a haystack, each by its units, which are so wide.
+pub fn slowly(
     alloc: Global,
+    width: Width,
     search: Search,
     patterns: &[(Vec<u32>, u32)],
-    text: &str,
+    haystack: &[u32],
 ) -> Result<Vec<Found>> {
-    let text = S::units(alloc, text)?;
     let mut by_units = Vec::new(alloc);
     for (units, value) in patterns {
         by_units.push((units.as_slice(), *value))?;
     }
-    let width = S::width();
     let matches = match search {
-        Search::Overlapping => overlapping_slowly(alloc, width, &by_units, &text)?,
-        Search::NoSuffix => no_suffix_slowly(alloc, width, &by_units, &text)?,
-        Search::Standard => standard_slowly(alloc, width, &by_units, &text)?,
-        Search::Leftmost(kind) => leftmost_slowly(alloc, kind, width, &by_units, &text)?,
+        Search::Overlapping => overlapping_slowly(alloc, width, &by_units, haystack)?,
+        Search::NoSuffix => no_suffix_slowly(alloc, width, &by_units, haystack)?,
+        Search::Standard => standard_slowly(alloc, width, &by_units, haystack)?,
+        Search::Leftmost(kind) => leftmost_slowly(alloc, kind, width, &by_units, haystack)?,
     };
     let mut found = Vec::new(alloc);
     for one in &matches {
         found.push((one.start, one.end, one.value))?;
     }
     Ok(found)
+}
+
+/// What a plain search finds of patterns in a text, over the units of an automaton.
+fn slowly_in_text<S: Automaton<Alloc = Global>>(
+    alloc: Global,
+    search: Search,
+    patterns: &[(Vec<u32>, u32)],
+    text: &str,
+) -> Result<Vec<Found>> {
+    let units = S::units(alloc, text)?;
+    slowly(alloc, S::width(), search, patterns, &units)
 }
 
 /// Whether these searches find in the texts what the plain ones find for these patterns: in slices, and if
@@ -50,7 +60,7 @@ fn are_plain<S: Automaton<Alloc = Global>>(
 ) -> Result<bool> {
     for search in searches {
         for text in texts {
-            let expected = slowly::<S>(alloc, *search, patterns, text)?;
+            let expected = slowly_in_text::<S>(alloc, *search, patterns, text)?;
             let holds = if in_each_form {
                 finds(alloc, automaton, *search, text, &expected)?
             } else {
@@ -184,7 +194,7 @@ fn words_far_apart_are_found_as_by_the_plain_searches(rt: HostRuntime) -> Result
 fn is_found_slowly<S: Automaton<Alloc = Global>>(alloc: Global, row: &Row) -> Result<bool> {
     let (_, search, patvals, text, expected) = *row;
     let patterns = in_units::<S>(alloc, patvals)?;
-    Ok(slowly::<S>(alloc, search, &patterns, text)?.as_slice() == expected)
+    Ok(slowly_in_text::<S>(alloc, search, &patterns, text)?.as_slice() == expected)
 }
 
 #[test]

@@ -1,11 +1,14 @@
-//! Patterns and haystacks that are no text: what is found, and the listing of the patterns.
+//! Patterns and haystacks that are no text: what is found in each form, as it is and with rows of the states, and
+//! the listing of the patterns.
 
-use crate::automata::Bytewise;
-use crate::bytewise::{built_of_bytes, finds_in_bytes, finds_in_source_of_bytes};
+use crate::automata::{Bytewise, finds_of_bytes};
+use crate::bytewise::{built_of_bytes, numbers};
 use crate::expect;
 use crate::finding::Found;
-use crate::rows::{Search, WAYS, Way};
+use crate::plain::slowly;
+use crate::rows::{BUILT, Search, WAYS, Way};
 use daachorse::{MatchKind, Result};
+use daachorse_model::slow::Width;
 use std::alloc::Global;
 use std::test::Fail;
 
@@ -38,6 +41,14 @@ const ROWS: &[Row] = &[
         &[(b"\x80", 1), (b"\xc3(", 0)],
         b"\x80\xc3(\xc3",
         &[(0, 1, 1), (1, 3, 0)],
+    ),
+    (
+        "all parts of characters",
+        Search::Overlapping,
+        &[(b"\xe3\x81\x82", 0), (b"\x81\x82", 1)],
+        &[(b"\x81\x82", 1), (b"\xe3\x81\x82", 0)],
+        b"\xe3\x81\x82\x81\x82",
+        &[(0, 3, 0), (1, 3, 1), (3, 5, 1)],
     ),
     (
         "the longest at each end",
@@ -86,11 +97,17 @@ fn lists(alloc: Global, automaton: &Bytewise, expected: BytePatvals) -> Result<b
 fn holds(alloc: Global, way: Way, row: &Row) -> Result<bool> {
     let (_, search, patvals, listed, haystack, expected) = *row;
     let automaton = built_of_bytes(alloc, way, search.kind(), patvals)?;
-    Ok(
-        lists(alloc, &automaton, listed)?
-            && finds_in_bytes(&automaton, search, haystack, expected)
-            && finds_in_source_of_bytes(&automaton, search, haystack, expected),
-    )
+    Ok(lists(alloc, &automaton, listed)? && finds_of_bytes(&automaton, search, haystack, expected))
+}
+
+/// Whether a row holds of an automaton with rows of its states.
+fn holds_with_rows(alloc: Global, row: &Row) -> Result<bool> {
+    let (_, search, patvals, _, haystack, expected) = *row;
+    let automaton = built_of_bytes(alloc, BUILT, search.kind(), patvals)?;
+    match automaton.accelerate(alloc)? {
+        Some(accelerated) => Ok(finds_of_bytes(&accelerated, search, haystack, expected)),
+        None => Ok(false),
+    }
 }
 
 #[test]
@@ -99,6 +116,27 @@ fn bytes_of_no_text_are_searched(rt: HostRuntime) -> Result<(), Fail> {
         for way in WAYS {
             expect(&rt, holds(rt.alloc(), way, row)?, row.0);
         }
+        expect(&rt, holds_with_rows(rt.alloc(), row)?, row.0);
+    }
+    Ok(())
+}
+
+/// Whether the plain search of a row finds just the row's matches.
+fn is_found_slowly(alloc: Global, row: &Row) -> Result<bool> {
+    let (_, search, patvals, _, haystack, expected) = *row;
+    let mut patterns = Vec::new(alloc);
+    for (pattern, value) in patvals {
+        patterns.push((numbers(alloc, pattern)?, *value))?;
+    }
+    let haystack = numbers(alloc, haystack)?;
+    let found = slowly(alloc, Width::Bytes, search, &patterns, &haystack)?;
+    Ok(found.as_slice() == expected)
+}
+
+#[test]
+fn the_plain_searches_find_what_the_rows_of_bytes_say(rt: HostRuntime) -> Result<(), Fail> {
+    for row in ROWS {
+        expect(&rt, is_found_slowly(rt.alloc(), row)?, row.0);
     }
     Ok(())
 }

@@ -2,13 +2,12 @@
 //! what stands afterwards is as it was.
 
 use crate::automata::{Automaton, Bytewise, Charwise, PATVALS, Plainly, made};
-use crate::expect;
+use crate::expect_over;
 use crate::rows::{BUILT, BY_CORPUS, Patvals, READ_BACK, READ_UNCHECKED, Search, Way};
 use daachorse::errors::DaachorseError;
 use daachorse::{MatchKind, Result};
-use daachorse_patterns::trie::build_trie;
 use refusing::{Answer, Call, Refusing, each_request};
-use std::alloc::{Allocator, Global};
+use std::alloc::Global;
 
 /// A call that asks for memory, behind the build that it needs.
 #[derive(Clone, Copy)]
@@ -24,29 +23,78 @@ enum Request {
     Replace,
 }
 
-/// The calls, each for a kind.
-const REQUESTS: [(MatchKind, Request); 18] = [
-    (MatchKind::Standard, Request::Plainly(Plainly::New)),
-    (MatchKind::Standard, Request::Plainly(Plainly::WithValues)),
-    (MatchKind::Standard, Request::Plainly(Plainly::Build)),
+/// The calls, each by its name for a kind.
+const REQUESTS: [(&str, MatchKind, Request); 18] = [
+    ("new", MatchKind::Standard, Request::Plainly(Plainly::New)),
     (
+        "with_values",
+        MatchKind::Standard,
+        Request::Plainly(Plainly::WithValues),
+    ),
+    (
+        "build",
+        MatchKind::Standard,
+        Request::Plainly(Plainly::Build),
+    ),
+    (
+        "build by a corpus",
         MatchKind::Standard,
         Request::Plainly(Plainly::BuildByCorpus),
     ),
-    (MatchKind::Standard, Request::Made(BUILT)),
-    (MatchKind::Standard, Request::Made(BY_CORPUS)),
-    (MatchKind::Standard, Request::Made(READ_BACK)),
-    (MatchKind::Standard, Request::Made(READ_UNCHECKED)),
-    (MatchKind::Standard, Request::ManyCharacters),
-    (MatchKind::Standard, Request::Clone),
-    (MatchKind::Standard, Request::CacheDepths),
-    (MatchKind::Standard, Request::Accelerate),
-    (MatchKind::Standard, Request::Replace),
-    (MatchKind::LeftmostLongest, Request::Made(READ_BACK)),
-    (MatchKind::LeftmostLongest, Request::Made(READ_UNCHECKED)),
-    (MatchKind::LeftmostLongest, Request::ManyCharacters),
-    (MatchKind::LeftmostFirst, Request::Made(READ_BACK)),
-    (MatchKind::LeftmostFirst, Request::Made(READ_UNCHECKED)),
+    (
+        "build_with_values",
+        MatchKind::Standard,
+        Request::Made(BUILT),
+    ),
+    (
+        "build_with_values by a corpus",
+        MatchKind::Standard,
+        Request::Made(BY_CORPUS),
+    ),
+    (
+        "a write and a read",
+        MatchKind::Standard,
+        Request::Made(READ_BACK),
+    ),
+    (
+        "a write and a read that does not check",
+        MatchKind::Standard,
+        Request::Made(READ_UNCHECKED),
+    ),
+    (
+        "a build with many characters",
+        MatchKind::Standard,
+        Request::ManyCharacters,
+    ),
+    ("a clone", MatchKind::Standard, Request::Clone),
+    ("cache_depths", MatchKind::Standard, Request::CacheDepths),
+    ("accelerate", MatchKind::Standard, Request::Accelerate),
+    ("replace_all", MatchKind::Standard, Request::Replace),
+    (
+        "a read for the longest",
+        MatchKind::LeftmostLongest,
+        Request::Made(READ_BACK),
+    ),
+    (
+        "a read for the longest that does not check",
+        MatchKind::LeftmostLongest,
+        Request::Made(READ_UNCHECKED),
+    ),
+    (
+        "a build for the longest with many characters",
+        MatchKind::LeftmostLongest,
+        Request::ManyCharacters,
+    ),
+    (
+        "a read for the first",
+        MatchKind::LeftmostFirst,
+        Request::Made(READ_BACK),
+    ),
+    (
+        "a read for the first that does not check",
+        MatchKind::LeftmostFirst,
+        Request::Made(READ_UNCHECKED),
+    ),
 ];
 
 /// The answer of a call that gave this.
@@ -142,37 +190,12 @@ impl Call for OverCharacters {
     }
 }
 
-/// `PATVALS`, over bytes.
-const PATVALS_IN_BYTES: [(&[u8], u32); 3] = [(b"bcd", 0), (b"abc", 1), (b"ab", 2)];
-
-/// Whether each state of a trie is copied.
-fn are_copied<A: Allocator + Copy>(alloc: A) -> Result<bool> {
-    let trie = build_trie(alloc, MatchKind::Standard, None, &PATVALS_IN_BYTES)?;
-    let mut holds = true;
-    for state in trie.states() {
-        let copy = state.clone()?;
-        holds = holds && copy.edges().len() == state.edges().len();
-    }
-    Ok(holds)
-}
-
-/// A trie, and a copy of each of its states.
-struct CopiedStates;
-
-impl Call for CopiedStates {
-    fn answer(&self, heap: &Refusing<Global>) -> Answer {
-        answer_of(&are_copied(heap))
-    }
-}
-
 #[test]
 fn each_request_may_be_refused(rt: HostRuntime) {
-    for (kind, request) in REQUESTS {
-        let call = OverBytes { kind, request };
-        expect(&rt, each_request(rt.alloc(), &call), "over bytes");
-        let call = OverCharacters { kind, request };
-        expect(&rt, each_request(rt.alloc(), &call), "over characters");
+    for (shows, kind, request) in REQUESTS {
+        let holds = each_request(rt.alloc(), &OverBytes { kind, request });
+        expect_over(&rt, holds, shows, "bytes");
+        let holds = each_request(rt.alloc(), &OverCharacters { kind, request });
+        expect_over(&rt, holds, shows, "characters");
     }
-    let copies = each_request(rt.alloc(), &CopiedStates);
-    expect(&rt, copies, "the states of a trie");
 }

@@ -26,11 +26,11 @@ pub all_begun : (old new : Option (List ℕ)) (bytes : List ℕ) → Appends old
 all_begun old new bytes whole = (bytes, [], sym (append-nil bytes), whole)
 
 -- the bytes of an automaton that was built of the lines
-pub form_of_built : (mode : Mode) (patterns : List ℕ) (kind : MatchKind) (a : Searches ℕ) (bytes : List ℕ) → kind ≡ kind_of_mode mode → IsBuiltOf value_gives kind (pattern_lines patterns) a → kind_of a ≡ kind → a.folds ≡ false
+pub form_of_built : (mode : Mode) (patterns : List ℕ) (kind : MatchKind) (a : Searches ℕ) (bytes : List ℕ) → kind ≡ kind_of_mode mode → IsBuiltOf value_gives kind false (pattern_lines patterns) a
     → IsAutomaton (λ v. v < 2 ^ 32) a → bytes ≡ written_form (number_form w32) a → IsFormOf (kind_of_mode mode) patterns bytes
-form_of_built mode patterns kind a bytes is built of_kind folds is_one form =
-    let P : MatchKind → Type 0 = λ k. IsBuiltOf value_gives k (pattern_lines patterns) a in
-    record { automaton = a; built = subst P is built; is_kind = of_kind ∙ is; folds = folds; is_one = is_one; form = form }
+form_of_built mode patterns kind a bytes is built is_one form =
+    let P : MatchKind → Type 0 = λ k. IsBuiltOf value_gives k false (pattern_lines patterns) a in
+    record { automaton = a; built = subst P is built; is_one = is_one; form = form }
 
 module _ (mode : Mode) (patterns bytes : List ℕ) (begun : BeginsWithForm mode patterns bytes) where
   abbrev wrote : Searches ℕ
@@ -49,10 +49,10 @@ module _ (mode : Mode) (patterns bytes : List ℕ) (begun : BeginsWithForm mode 
 
   -- it is of the mode's kind
   pub kind_is_right : IsOfAnotherKind mode bytes → ⊥
-  kind_is_right other = other.kind (ap kind_of (gives_same other.automaton other.rest other.given) ∙ begun.is_form.is_kind)
+  kind_is_right other = other.kind (ap kind_of (gives_same other.automaton other.rest other.given) ∙ begun.is_form.built.2.kind)
 
   -- the mode finds with it what the pattern file asks for
   pub finds_same : (haystack text : List ℕ) → IsTextBy mode bytes haystack text → text ≡ text_of_mode mode patterns haystack
   finds_same haystack text read =
       let text_by : Searches ℕ → List ℕ = λ a. match_text (found_by mode (dictionary_of a) (as_read a.folds haystack)) in
-      read.found ∙ ap text_by (gives_same read.automaton read.rest read.given) ∙ text_of_built mode patterns haystack wrote (kind_of_mode mode) refl begun.is_form.folds begun.is_form.built
+      read.found ∙ ap text_by (gives_same read.automaton read.rest read.given) ∙ text_of_built mode patterns haystack wrote (kind_of_mode mode) refl begun.is_form.built

@@ -19,9 +19,7 @@ use Rattle.daacfind_command.specs.Runs.{value_gives}
 -- the bytes are the written form of an automaton of the lines of a pattern file, for searches of the kind
 pub record IsFormOf (kind : MatchKind) (patterns bytes : List ℕ) : Type 0 where
   pub automaton : Searches ℕ
-  pub built : IsBuiltOf value_gives kind (pattern_lines patterns) automaton
-  pub is_kind : kind_of automaton ≡ kind
-  pub folds : automaton.folds ≡ false
+  pub built : IsBuiltOf value_gives kind false (pattern_lines patterns) automaton
   pub is_one : IsAutomaton (λ v. v < 2 ^ 32) automaton
   pub form : bytes ≡ written_form (number_form w32) automaton
 

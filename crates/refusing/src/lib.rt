@@ -2,8 +2,9 @@
 //!
 //! A test runs a call over `Refusing::new(rt.alloc(), n)` for each `n` in turn, until a run meets
 //! no refusal: so each growth of the call is refused once, as [`each_request`] does. The allocator
-//! is shared as a reference, `&Refusing<Global>`, which is `Copy`. That the blocks are those of the inner allocator is proved;
-//! which request is refused is shown by a test of `daachorse_tests`, since no contract can say what a cell holds.
+//! is shared as a reference, `&Refusing<Global>`, which is `Copy`. That the blocks are those of the
+//! inner allocator is proved. Which request is refused is tested, since no contract can say what a
+//! cell holds.
 #![tactic(auto)]
 
 use std::alloc::{AllocError, Allocator, Global};

@@ -5,7 +5,7 @@
 //! first, then the patterns are added in order, and the limit on their number is tested last; the
 //! first refusal ends the build.
 
-ghost use Rattle.std.specs.Prelude.{◌≡◌, ◌⊎◌, false, true, None, [], length, IfOk, IfErr, IsSomeAnd, map};
+ghost use Rattle.std.specs.Prelude.{◌≡◌, ◌⊎◌, false, true, None, length, IfOk, IfErr, IsSomeAnd, map};
 ghost use Rattle.std.specs.Iterator.{IsFinite};
 ghost use Rattle.std.specs.Iterator.Runs.{WholeRun};
 ghost use Rattle.std.specs.Ordering.{nat_cmp};
@@ -17,8 +17,7 @@ ghost use Rattle.daachorse_patterns.specs.Documents.{documents_of};
 ghost use Rattle.daachorse_model.specs.declared.MatchKind.TheVariants.{Standard};
 ghost use Rattle.daachorse_model.specs.Dictionary.{registrations_of};
 ghost use Rattle.daachorse_model.specs.Folding.{all_as_read, texts_as_read};
-ghost use Rattle.daachorse_bytewise.specs.Automata.{kind_of};
-ghost use Rattle.daachorse_bytewise.specs.Building.{HoldsPatterns, IsBuildRefusal, IsBuiltOf, IsRefusalOf, kept_filter};
+ghost use Rattle.daachorse_bytewise.specs.Building.{IsBuildRefusal, IsBuiltOf, IsBuiltWith, IsRefusalOf, kept_filter};
 
 use crate::bytewise::DoubleArrayAhoCorasick;
 use crate::bytewise::states::States;
@@ -196,12 +195,9 @@ impl<A: Allocator + Copy> DoubleArrayAhoCorasickBuilder<A> {
         P::IntoIter: Drop,
         requires { (it : P.IntoIter) → P.into_iter_gives patterns it → P.IntoIter.can_next it × IsFinite (P.IntoIter.remaining it) }
         ensures ok { IfOk result (λ a. (it : P.IntoIter) × P.into_iter_gives patterns it
-            × WholeRun P.IntoIter.next_gives it (λ p. IsBuiltOf V.try_from_gives self.match_kind (all_as_read self.ascii_case_insensitive (map (λ t. t.now) p.items)) a)) }
-        ensures kind { IfOk result (λ a. kind_of a ≡ self.match_kind) }
-        ensures folds { IfOk result (λ a. a.folds ≡ self.ascii_case_insensitive) }
+            × WholeRun P.IntoIter.next_gives it (λ p. IsBuiltOf V.try_from_gives self.match_kind self.ascii_case_insensitive (map (λ t. t.now) p.items) a)) }
         ensures filter { IfOk result (λ a. (it : P.IntoIter) × P.into_iter_gives patterns it
             × WholeRun P.IntoIter.next_gives it (λ p. a.filter ≡ kept_filter self.use_prefilter (all_as_read self.ascii_case_insensitive (map (λ t. t.now) p.items)))) }
-        ensures depths { IfOk result (λ a. a.depths ≡ []) }
         ensures err { IfErr result (λ e. IsOutOfMemory e ⊎ ((it : P.IntoIter) × P.into_iter_gives patterns it
             × WholeRun P.IntoIter.next_gives it (λ p. IsBuildRefusal V.try_from_gives self.match_kind (all_as_read self.ascii_case_insensitive (map (λ t. t.now) p.items)) e))) }
     {
@@ -239,12 +235,9 @@ impl<A: Allocator + Copy> DoubleArrayAhoCorasickBuilder<A> {
         P::IntoIter: Drop,
         requires { (it : P.IntoIter) → P.into_iter_gives patvals it → P.IntoIter.can_next it × IsFinite (P.IntoIter.remaining it) }
         ensures ok { IfOk result (λ a. (it : P.IntoIter) × P.into_iter_gives patvals it
-            × WholeRun P.IntoIter.next_gives it (λ p. HoldsPatterns self.match_kind (texts_as_read self.ascii_case_insensitive (registrations_of p.items)) a)) }
-        ensures kind { IfOk result (λ a. kind_of a ≡ self.match_kind) }
-        ensures folds { IfOk result (λ a. a.folds ≡ self.ascii_case_insensitive) }
+            × WholeRun P.IntoIter.next_gives it (λ p. IsBuiltWith self.match_kind self.ascii_case_insensitive (registrations_of p.items) a)) }
         ensures filter { IfOk result (λ a. (it : P.IntoIter) × P.into_iter_gives patvals it
             × WholeRun P.IntoIter.next_gives it (λ p. a.filter ≡ kept_filter self.use_prefilter (all_as_read self.ascii_case_insensitive (map (λ t. t.0.now) p.items)))) }
-        ensures depths { IfOk result (λ a. a.depths ≡ []) }
         ensures err { IfErr result (λ e. IsOutOfMemory e ⊎ ((it : P.IntoIter) × P.into_iter_gives patvals it
             × WholeRun P.IntoIter.next_gives it (λ p. IsRefusalOf self.match_kind (texts_as_read self.ascii_case_insensitive (registrations_of p.items)) e))) }
     {
@@ -262,11 +255,8 @@ fn from_texts<V: Copy + TryFrom<usize>, A: Allocator + Copy>(
 ) -> Result<DoubleArrayAhoCorasick<V, A>>
 where
     V::Error: Drop,
-    ensures ok { IfOk result (λ a. IsBuiltOf V.try_from_gives settings.now.match_kind (all_as_read settings.now.ascii_case_insensitive (map (λ t. t.now) texts.now)) a) }
-    ensures kind { IfOk result (λ a. kind_of a ≡ settings.now.match_kind) }
-    ensures folds { IfOk result (λ a. a.folds ≡ settings.now.ascii_case_insensitive) }
+    ensures ok { IfOk result (λ a. IsBuiltOf V.try_from_gives settings.now.match_kind settings.now.ascii_case_insensitive (map (λ t. t.now) texts.now) a) }
     ensures filter { IfOk result (λ a. a.filter ≡ kept_filter settings.now.use_prefilter (all_as_read settings.now.ascii_case_insensitive (map (λ t. t.now) texts.now))) }
-    ensures depths { IfOk result (λ a. a.depths ≡ []) }
     ensures err { IfErr result (IsBuildRefusal V.try_from_gives settings.now.match_kind (all_as_read settings.now.ascii_case_insensitive (map (λ t. t.now) texts.now))) }
 {
     let patterns = indexed(alloc, texts)?;
@@ -279,11 +269,8 @@ fn from_patterns<V: Copy, A: Allocator + Copy>(
     settings: &Settings<u8, A>,
     patterns: &[(&[u8], V)],
 ) -> Result<DoubleArrayAhoCorasick<V, A>>
-    ensures ok { IfOk result (HoldsPatterns settings.now.match_kind (texts_as_read settings.now.ascii_case_insensitive (registrations_of patterns.now))) }
-    ensures kind { IfOk result (λ a. kind_of a ≡ settings.now.match_kind) }
-    ensures folds { IfOk result (λ a. a.folds ≡ settings.now.ascii_case_insensitive) }
+    ensures ok { IfOk result (IsBuiltWith settings.now.match_kind settings.now.ascii_case_insensitive (registrations_of patterns.now)) }
     ensures filter { IfOk result (λ a. a.filter ≡ kept_filter settings.now.use_prefilter (all_as_read settings.now.ascii_case_insensitive (map (λ p. p.0.now) patterns.now))) }
-    ensures depths { IfOk result (λ a. a.depths ≡ []) }
     ensures err { IfErr result (IsRefusalOf settings.now.match_kind (texts_as_read settings.now.ascii_case_insensitive (registrations_of patterns.now))) }
 {
     if !settings.ascii_case_insensitive {
@@ -301,11 +288,8 @@ fn from_read<V: Copy, A: Allocator + Copy>(
     patterns: &[(&[u8], V)],
 ) -> Result<DoubleArrayAhoCorasick<V, A>>
     requires { texts_as_read settings.now.ascii_case_insensitive (registrations_of patterns.now) ≡ registrations_of patterns.now }
-    ensures ok { IfOk result (HoldsPatterns settings.now.match_kind (registrations_of patterns.now)) }
-    ensures kind { IfOk result (λ a. kind_of a ≡ settings.now.match_kind) }
-    ensures folds { IfOk result (λ a. a.folds ≡ settings.now.ascii_case_insensitive) }
+    ensures ok { IfOk result (IsBuiltWith settings.now.match_kind settings.now.ascii_case_insensitive (registrations_of patterns.now)) }
     ensures filter { IfOk result (λ a. a.filter ≡ kept_filter settings.now.use_prefilter (map (λ p. p.0.now) patterns.now)) }
-    ensures depths { IfOk result (λ a. a.depths ≡ []) }
     ensures err { IfErr result (IsRefusalOf settings.now.match_kind (registrations_of patterns.now)) }
 {
     let kind = settings.match_kind;

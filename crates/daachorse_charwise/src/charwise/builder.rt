@@ -5,7 +5,7 @@
 //! order of its refusals: all indexes are converted first, then the patterns are added in order, and
 //! the limits on the outputs and on the elements are tested last; the first refusal ends the build.
 
-ghost use Rattle.std.specs.Prelude.{◌≡◌, ◌⊎◌, false, true, None, [], length, map, IfOk, IfErr, IsSomeAnd};
+ghost use Rattle.std.specs.Prelude.{◌≡◌, ◌⊎◌, false, true, None, length, map, IfOk, IfErr, IsSomeAnd};
 ghost use Rattle.std.specs.Iterator.{IsFinite};
 ghost use Rattle.std.specs.Iterator.Runs.{WholeRun};
 ghost use Rattle.std.specs.Ordering.{nat_cmp};
@@ -16,8 +16,7 @@ ghost use Rattle.daachorse_build.specs.Groups.{IsProfileOf};
 ghost use Rattle.daachorse_patterns.specs.Documents.{documents_of};
 ghost use Rattle.daachorse_model.specs.declared.MatchKind.TheVariants.{Standard};
 ghost use Rattle.daachorse_model.specs.Folding.{all_as_read, texts_as_read};
-ghost use Rattle.daachorse_charwise.specs.Automata.{kind_of};
-ghost use Rattle.daachorse_charwise.specs.Building.{HoldsPatterns, IsBuildRefusal, IsBuiltOf, IsRefusalOf, kept_filter, registrations_of_strings, texts_of_strings};
+ghost use Rattle.daachorse_charwise.specs.Building.{IsBuildRefusal, IsBuiltOf, IsBuiltWith, IsRefusalOf, kept_filter, registrations_of_strings, texts_of_strings};
 
 use crate::charwise::CharwiseDoubleArrayAhoCorasick;
 use crate::charwise::frequencies::frequencies;
@@ -195,12 +194,9 @@ impl<A: Allocator + Copy> CharwiseDoubleArrayAhoCorasickBuilder<A> {
         P::IntoIter: Drop,
         requires { (it : P.IntoIter) → P.into_iter_gives patterns it → P.IntoIter.can_next it × IsFinite (P.IntoIter.remaining it) }
         ensures ok { IfOk result (λ a. (it : P.IntoIter) × P.into_iter_gives patterns it
-            × WholeRun P.IntoIter.next_gives it (λ p. IsBuiltOf V.try_from_gives self.match_kind (all_as_read self.ascii_case_insensitive (texts_of_strings p.items)) a)) }
-        ensures kind { IfOk result (λ a. kind_of a ≡ self.match_kind) }
-        ensures folds { IfOk result (λ a. a.folds ≡ self.ascii_case_insensitive) }
+            × WholeRun P.IntoIter.next_gives it (λ p. IsBuiltOf V.try_from_gives self.match_kind self.ascii_case_insensitive (texts_of_strings p.items) a)) }
         ensures filter { IfOk result (λ a. (it : P.IntoIter) × P.into_iter_gives patterns it
             × WholeRun P.IntoIter.next_gives it (λ p. a.filter ≡ kept_filter self.use_prefilter (all_as_read self.ascii_case_insensitive (texts_of_strings p.items)))) }
-        ensures depths { IfOk result (λ a. a.depths ≡ []) }
         ensures err { IfErr result (λ e. IsOutOfMemory e ⊎ ((it : P.IntoIter) × P.into_iter_gives patterns it
             × WholeRun P.IntoIter.next_gives it (λ p. IsBuildRefusal V.try_from_gives self.match_kind (all_as_read self.ascii_case_insensitive (texts_of_strings p.items)) e))) }
     {
@@ -239,12 +235,9 @@ impl<A: Allocator + Copy> CharwiseDoubleArrayAhoCorasickBuilder<A> {
         P::IntoIter: Drop,
         requires { (it : P.IntoIter) → P.into_iter_gives patvals it → P.IntoIter.can_next it × IsFinite (P.IntoIter.remaining it) }
         ensures ok { IfOk result (λ a. (it : P.IntoIter) × P.into_iter_gives patvals it
-            × WholeRun P.IntoIter.next_gives it (λ p. HoldsPatterns self.match_kind (texts_as_read self.ascii_case_insensitive (registrations_of_strings p.items)) a)) }
-        ensures kind { IfOk result (λ a. kind_of a ≡ self.match_kind) }
-        ensures folds { IfOk result (λ a. a.folds ≡ self.ascii_case_insensitive) }
+            × WholeRun P.IntoIter.next_gives it (λ p. IsBuiltWith self.match_kind self.ascii_case_insensitive (registrations_of_strings p.items) a)) }
         ensures filter { IfOk result (λ a. (it : P.IntoIter) × P.into_iter_gives patvals it
             × WholeRun P.IntoIter.next_gives it (λ p. a.filter ≡ kept_filter self.use_prefilter (map (λ r. r.0) (texts_as_read self.ascii_case_insensitive (registrations_of_strings p.items))))) }
-        ensures depths { IfOk result (λ a. a.depths ≡ []) }
         ensures err { IfErr result (λ e. IsOutOfMemory e ⊎ ((it : P.IntoIter) × P.into_iter_gives patvals it
             × WholeRun P.IntoIter.next_gives it (λ p. IsRefusalOf self.match_kind (texts_as_read self.ascii_case_insensitive (registrations_of_strings p.items)) e))) }
     {
@@ -262,11 +255,8 @@ fn from_texts<V: Copy + TryFrom<usize>, A: Allocator + Copy>(
 ) -> Result<CharwiseDoubleArrayAhoCorasick<V, A>>
 where
     V::Error: Drop,
-    ensures ok { IfOk result (λ a. IsBuiltOf V.try_from_gives settings.now.match_kind (all_as_read settings.now.ascii_case_insensitive (texts_of_strings texts.now)) a) }
-    ensures kind { IfOk result (λ a. kind_of a ≡ settings.now.match_kind) }
-    ensures folds { IfOk result (λ a. a.folds ≡ settings.now.ascii_case_insensitive) }
+    ensures ok { IfOk result (λ a. IsBuiltOf V.try_from_gives settings.now.match_kind settings.now.ascii_case_insensitive (texts_of_strings texts.now) a) }
     ensures filter { IfOk result (λ a. a.filter ≡ kept_filter settings.now.use_prefilter (all_as_read settings.now.ascii_case_insensitive (texts_of_strings texts.now))) }
-    ensures depths { IfOk result (λ a. a.depths ≡ []) }
     ensures err { IfErr result (IsBuildRefusal V.try_from_gives settings.now.match_kind (all_as_read settings.now.ascii_case_insensitive (texts_of_strings texts.now))) }
 {
     let patterns = indexed(alloc, texts)?;
@@ -279,11 +269,8 @@ fn from_patterns<V: Copy, A: Allocator + Copy>(
     settings: &Settings<char, A>,
     patterns: &[(&str, V)],
 ) -> Result<CharwiseDoubleArrayAhoCorasick<V, A>>
-    ensures ok { IfOk result (HoldsPatterns settings.now.match_kind (texts_as_read settings.now.ascii_case_insensitive (registrations_of_strings patterns.now))) }
-    ensures kind { IfOk result (λ a. kind_of a ≡ settings.now.match_kind) }
-    ensures folds { IfOk result (λ a. a.folds ≡ settings.now.ascii_case_insensitive) }
+    ensures ok { IfOk result (IsBuiltWith settings.now.match_kind settings.now.ascii_case_insensitive (registrations_of_strings patterns.now)) }
     ensures filter { IfOk result (λ a. a.filter ≡ kept_filter settings.now.use_prefilter (map (λ r. r.0) (texts_as_read settings.now.ascii_case_insensitive (registrations_of_strings patterns.now)))) }
-    ensures depths { IfOk result (λ a. a.depths ≡ []) }
     ensures err { IfErr result (IsRefusalOf settings.now.match_kind (texts_as_read settings.now.ascii_case_insensitive (registrations_of_strings patterns.now))) }
 {
     if !settings.ascii_case_insensitive {
@@ -301,11 +288,8 @@ fn from_read<V: Copy, A: Allocator + Copy>(
     patterns: &[(&str, V)],
 ) -> Result<CharwiseDoubleArrayAhoCorasick<V, A>>
     requires { texts_as_read settings.now.ascii_case_insensitive (registrations_of_strings patterns.now) ≡ registrations_of_strings patterns.now }
-    ensures ok { IfOk result (HoldsPatterns settings.now.match_kind (registrations_of_strings patterns.now)) }
-    ensures kind { IfOk result (λ a. kind_of a ≡ settings.now.match_kind) }
-    ensures folds { IfOk result (λ a. a.folds ≡ settings.now.ascii_case_insensitive) }
+    ensures ok { IfOk result (IsBuiltWith settings.now.match_kind settings.now.ascii_case_insensitive (registrations_of_strings patterns.now)) }
     ensures filter { IfOk result (λ a. a.filter ≡ kept_filter settings.now.use_prefilter (map (λ r. r.0) (registrations_of_strings patterns.now))) }
-    ensures depths { IfOk result (λ a. a.depths ≡ []) }
     ensures err { IfErr result (IsRefusalOf settings.now.match_kind (registrations_of_strings patterns.now)) }
 {
     let kind = settings.match_kind;

@@ -2,4 +2,4 @@
 //!
 //! The layers above may rely on the contract of [`CodeMapper`].
 
-pub use daachorse_mapper::mapper::{CodeMapper, INVALID_CODE};
+pub use daachorse_charwise_states::mapper::{CodeMapper, INVALID_CODE};

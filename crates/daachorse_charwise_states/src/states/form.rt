@@ -18,7 +18,7 @@ use crate::edges::Elements;
 use crate::state::State;
 use crate::unchecked::are_grouped;
 use daachorse_core::errors::{DaachorseError, Result};
-use daachorse_mapper::mapper::CodeMapper;
+use daachorse_charwise_states::mapper::CodeMapper;
 use daachorse_prefilter::prefilter::Prefilter;
 use daachorse_serializer::ending::{Ending, VALUE_ROOM, ending_room, read_ending, write_ending};
 use daachorse_serializer::mode::SearchMode;

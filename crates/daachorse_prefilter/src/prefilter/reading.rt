@@ -1,8 +1,8 @@
-//! How a scan reads the bytes of a haystack: as they are, or without regard to the case of ASCII
+//! How a filter reads the bytes of a haystack: as they are, or without regard to the case of ASCII
 //! letters.
 //!
-//! The scan may rely on each byte being read by itself, and on the boundaries of a text's characters
-//! staying where they are.
+//! The filter and the layers above may rely on each byte being read by itself, and on the boundaries
+//! of a text's characters staying where they are.
 
 ghost use Rattle.std.specs.Prelude.{◌≡◌, ◌↔◌, ◌+◌, ◌/◌, ◌%◌, ◌<◌, ◌≤◌, ℕ, List, drop, length, map, slice_index};
 ghost use Rattle.std.specs.Str.{IsCharBoundary};
@@ -15,6 +15,9 @@ use daachorse_core::ascii_fold::AsciiFold;
 pub trait ByteReading {
     /// The byte that is read.
     ghost as_read: { ℕ → ℕ };
+
+    /// What is read of a text.
+    ghost read: { List ℕ → List ℕ };
 
     /// How many pairs a scan reads in a round.
     fn pairs_in_round() -> usize
@@ -32,8 +35,11 @@ pub trait ByteReading {
         requires { place ≤ length haystack.now }
         ensures { result ≡ T.lets test.now (drop place (map Self.as_read haystack.now)) };
 
+    // Each byte is read by itself.
+    ghost reads_each: { (text : List ℕ) → read text ≡ map as_read text };
+
     // The text that is read has its boundaries at the same places.
-    ghost same_boundaries: { (text : List ℕ) (place : ℕ) → IsCharBoundary (map as_read text) place ↔ IsCharBoundary text place };
+    ghost same_boundaries: { (text : List ℕ) (place : ℕ) → IsCharBoundary (read text) place ↔ IsCharBoundary text place };
 }
 
 /// Each byte as it is.
@@ -43,9 +49,11 @@ pub struct AsItIs;
 pub struct AsFolded;
 
 impl ByteReading for AsItIs {
-    ghost use Rattle.daachorse_prefilter.specs.Readings.{same_as_it_is};
+    ghost use Rattle.daachorse_prefilter.specs.Readings.{reads_as_it_is, same_as_it_is};
 
     ghost as_read = { λ b. b };
+
+    ghost read = { λ text. text };
 
     #[inline(always)]
     fn pairs_in_round() -> usize {
@@ -64,14 +72,19 @@ impl ByteReading for AsItIs {
         test.passes(&haystack[place..])
     }
 
+    ghost reads_each = { reads_as_it_is };
+
     ghost same_boundaries = { same_as_it_is };
 }
 
 impl ByteReading for AsFolded {
-    ghost use Rattle.daachorse_model.specs.Folding.{folded_unit};
+    ghost use Rattle.daachorse_model.specs.Folding.{folded, folded_unit};
     ghost use Rattle.daachorse_model.proofs.FoldLaws.{IsCharBoundary-folded};
+    ghost use Rattle.daachorse_prefilter.specs.Readings.{reads_folded};
 
     ghost as_read = { folded_unit };
+
+    ghost read = { folded };
 
     #[inline(always)]
     fn pairs_in_round() -> usize {
@@ -88,6 +101,8 @@ impl ByteReading for AsFolded {
     fn test_passes<T: PlaceTest>(test: &T, haystack: &[u8], place: usize) -> bool {
         test.passes_folded(&haystack[place..])
     }
+
+    ghost reads_each = { reads_folded };
 
     ghost same_boundaries = { IsCharBoundary-folded };
 }

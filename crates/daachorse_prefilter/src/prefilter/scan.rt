@@ -2,28 +2,22 @@
 //!
 //! A filter may rely on the scan answering that place, or the haystack's length.
 
-ghost use Rattle.std.specs.Prelude.{◌≡◌, ℕ, ◌+◌, ◌-◌, ◌*◌, ◌<◌, ◌≤◌, ◌&&◌, List, false, true, length, map, slice_index, MatchOption};
+ghost use Rattle.std.specs.Prelude.{◌≡◌, ℕ, ◌+◌, ◌-◌, ◌<◌, ◌≤◌, ◌&&◌, false, length, map, slice_index, MatchOption};
 ghost use Rattle.daachorse_model.specs.Filter.{is_clear, passes};
-ghost use Rattle.daachorse_prefilter.specs.Places.{IsFirstPlace, untested};
-ghost use Rattle.daachorse_prefilter.specs.Scans.{AreBits, AreRefused, AreSeconds, EndsRound, HasEnded, IsFirstAccepted, NonePasses};
+ghost use Rattle.daachorse_prefilter.specs.Places.{IsFirstPlace};
+ghost use Rattle.daachorse_prefilter.specs.Scans.{AreBits, AreRefused, EndsRound, HasEnded, IsFirstAccepted, NonePasses};
 
 use super::pair_table::PairTable;
 use super::reading::ByteReading;
-use super::whole_window::WholeWindow;
-use crate::place_test::{NoTest, PlaceTest};
+use crate::place_test::PlaceTest;
 use std::alloc::Allocator;
-
-/// In so many rounds from where a scan begins all pairs are read, since windows that pass stand close together
-/// in many texts, and skimming pays where they do not.
-const NEAR_ROUNDS: usize = 8;
 
 /// The first place from `pos` on at which a window of what is read passes, and the test too, or the
 /// haystack's length.
 ///
 /// Bit j of the state is 0 where the last j + 1 pairs are those that a window begins with. A round reads many
 /// pairs: the bit of a window's last pair goes on to the bits above it, so that one look tells of each of
-/// them. The test is asked only of the windows that pass. Where none is asked, and no window passed for some
-/// rounds, the scan goes on by [`skim`].
+/// them. The test is asked only of the windows that pass.
 #[inline(always)]
 pub(super) fn scan<R: ByteReading, A: Allocator, T: PlaceTest>(
     table: &PairTable<A>,
@@ -44,8 +38,7 @@ pub(super) fn scan<R: ByteReading, A: Allocator, T: PlaceTest>(
     let num_pairs = R::pairs_in_round();
     let ends = ((1u32 << num_pairs) - 1) << last;
     let mut state = u32::MAX;
-    let all_rounds = (haystack.len() - pos - 1) / num_pairs;
-    let rounds = near_rounds::<T>(num_pairs, all_rounds);
+    let rounds = (haystack.len() - pos - 1) / num_pairs;
     for round in 0..rounds {
         // The place of the last byte that was read.
         let place = pos + round * num_pairs;
@@ -55,23 +48,8 @@ pub(super) fn scan<R: ByteReading, A: Allocator, T: PlaceTest>(
             return found;
         }
     }
-    if rounds < all_rounds {
-        return skim::<R, A>(table, last, haystack, pos, rounds, all_rounds, state);
-    }
     let place = pos + rounds * num_pairs;
     scan_rest::<R, A, T>(table, test, last, haystack, pos, place, state)
-}
-
-/// Of how many rounds of a scan all pairs are read. Behind these it skims, where no test is asked.
-#[inline(always)]
-fn near_rounds<T: PlaceTest>(num_pairs: usize, all_rounds: usize) -> usize
-    ensures few { result ≤ all_rounds }
-    ensures far { result < all_rounds → (num_pairs ≡ 16) × (1 ≤ result) × ((test : T) (w : List ℕ) → T.lets test w ≡ true) }
-{
-    if num_pairs == 16 && all_rounds > NEAR_ROUNDS && T::tests_nothing() {
-        return NEAR_ROUNDS;
-    }
-    all_rounds
 }
 
 /// The state after the pairs of a round, which begin with the bytes from a place on.
@@ -172,74 +150,6 @@ fn first_in_round<R: ByteReading, T: PlaceTest>(
         left &= !(1 << bit);
     }
     None
-}
-
-/// What [`scan`] answers with no test, of so many rounds of sixteen pairs, where none of the first `near` has a
-/// window that passes. Of each other round only each second pair is read while these let no window pass, and
-/// else the others too. A window that all allow is looked at as a whole, since of one that began in another round
-/// not all were read.
-#[inline(always)]
-fn skim<R: ByteReading, A: Allocator>(
-    table: &PairTable<A>,
-    last: u8,
-    haystack: &[u8],
-    pos: usize,
-    near: usize,
-    rounds: usize,
-    state: u32,
-) -> usize
-    requires low { last ≤ 7 }
-    requires begun { 1 ≤ near }
-    requires few { near ≤ rounds }
-    requires inside { pos + rounds * 16 < length haystack.now }
-    requires bits { AreBits table.now (map R.as_read haystack.now) last pos (pos + near * 16 + 1) state }
-    requires none { NonePasses untested table.now (map R.as_read haystack.now) (last + 2) pos (pos + near * 16 + 1) }
-    ensures { IsFirstPlace (passes (λ pair. slice_index table.now pair) (last + 2)) (map R.as_read haystack.now) pos result }
-{
-    let window = WholeWindow::new(table, last);
-    let ends = 65_535u32 << last;
-    let mut state = state;
-    for round in near..rounds {
-        let place = pos + round * 16;
-        state = (state << 16) | (read_seconds::<R, A>(table, last, haystack, place) << 1);
-        let open = !state & ends;
-        if open != 0 {
-            let passing = open & !read_seconds::<R, A>(table, last, haystack, place + 1);
-            let end = place + 15;
-            if let Some(found) = first_in_round::<R, WholeWindow<A>>(
-                &window, haystack, end, passing,
-            ) {
-                return found;
-            }
-        }
-    }
-    let behind = pos + rounds * 16 - last as usize;
-    scan_rest::<R, A, NoTest>(table, &NoTest, last, haystack, behind, behind, u32::MAX)
-}
-
-/// Of the state that sixteen pairs make alone the bits of each second one, of which the first begins at the place,
-/// a bit lower.
-#[inline(always)]
-fn read_seconds<R: ByteReading, A: Allocator>(
-    table: &PairTable<A>,
-    last: u8,
-    haystack: &[u8],
-    place: usize,
-) -> u32
-    requires low { last ≤ 7 }
-    requires inside { place + 15 < length haystack.now }
-    ensures { AreSeconds table.now (map R.as_read haystack.now) last (place + 1) result }
-{
-    let window = (2u32 << last) - 1;
-    let windows = (window << 8) | window;
-    let mut read = 0u32;
-    for k in 0..4 {
-        let first = table.entry(R::pair(haystack, place + 2 * k));
-        let second = table.entry(R::pair(haystack, place + 8 + 2 * k));
-        let both = (u32::from(first) << 8) | u32::from(second);
-        read = (read << 2) | (both & windows);
-    }
-    read
 }
 
 /// What [`scan`] answers, where fewer pairs are left than a round reads.

@@ -1,5 +1,5 @@
 -- What is built of a vector's items is built of the lines that they are.
-use Rattle.std.proofs.Common.{ℕ, List, map, ◌∙◌, ap, sym, subst, inl, inr}
+use Rattle.std.proofs.Common.{ℕ, false, List, map, ◌∙◌, ap, sym, subst, inl, inr}
 use Rattle.std.proofs.lemmas.Result.{IfOk-weaker, IfErr-weaker}
 use Rattle.std.specs.Borrow.{Bor}
 use Rattle.daachorse_bytewise.specs.Building.{IsBuiltOf, IsBuildRefusal}
@@ -15,7 +15,7 @@ returns-clause-built g c =
     let copied = c.copied.ensures.runs r.2.0 r.2.0.seen (r.2.1 ∙ r.1) in
     let read = c.iter.ensures.runs copied.0 copied.0.seen in
     let items = copied.2.2 ∙ read.4 (copied.2.0 ∙ r.2.2) ∙ ap (λ it. it.rest.now) copied.1 ∙ c.iter.ensures.rest ∙ c.deref.ensures.value in
-    let P : List (List ℕ) → Type 0 = λ ts. IsBuiltOf value_gives c.args.kind ts a in
+    let P : List (List ℕ) → Type 0 = λ ts. IsBuiltOf value_gives c.args.kind false ts a in
     subst P (ap (map (λ (t : Bor (List ℕ)). t.now)) items ∙ c.in_ok-patterns.ensures) (rw (c.match_kind-builder.ensures, c.new.ensures.folds) at r.2.3))
     c.build.ensures.ok
 

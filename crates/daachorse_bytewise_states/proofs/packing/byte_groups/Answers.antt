@@ -1,6 +1,6 @@
 -- The code of a byte is the byte.
 use Rattle.daachorse_build.specs.Builders.{states_of}
-use Rattle.daachorse_packing.proofs.Groups.{groups-of}
+use Rattle.daachorse_patterns.proofs.Groups.{groups-of}
 use Rattle.daachorse_bytewise_states.proofs.packing.byte_groups.Goals as goal
 
 pub returns-clause-ok : goal.returns-clause-ok

@@ -15,9 +15,9 @@ use Rattle.daachorse_build.specs.Builders.{states_of}
 use Rattle.daachorse_build.specs.declared.nfa_builder.NfaBuilderState.{NfaBuilderState}
 use Rattle.daachorse_build.specs.Tables.{HoldTrie, edge_map, edges_of, fails_of, positions_of}
 use Rattle.daachorse_bytewise_states.specs.Packing.{AreByteGroups, ElementsHoldTrie}
-use Rattle.daachorse_packing.specs.Settled.{HavePlaces, AreSettled, HasManyGroups}
-use Rattle.daachorse_packing.proofs.Groups.{settled-of}
-use Rattle.daachorse_packing.proofs.Places.{settled-places}
+use Rattle.daachorse_patterns.specs.Settled.{HavePlaces, AreSettled, HasManyGroups}
+use Rattle.daachorse_patterns.proofs.Groups.{settled-of}
+use Rattle.daachorse_patterns.proofs.Places.{settled-places}
 use Rattle.daachorse_bytewise_states.specs.declared.state.State.{State}
 use Rattle.daachorse_bytewise_states.proofs.packing.pack.Goals as goal
 

@@ -1,7 +1,7 @@
 -- Each state is written where no other stands.
 use Rattle.std.proofs.Common.{◌≡◌, ◌<◌, ◌^◌, ℕ, length, ◌∙◌, ap, subst, sym, arith}
 use Rattle.std.specs.Prelude.{slice_index}
-use Rattle.daachorse_packing.proofs.Written.{link_at, position_at}
+use Rattle.daachorse_patterns.proofs.Written.{link_at, position_at}
 use Rattle.daachorse_build.specs.Tables.{fails_of, positions_of}
 use Rattle.daachorse_bytewise_states.specs.Writing.{HasWritten}
 use Rattle.daachorse_bytewise_states.proofs.WritingLaws.{placed_dead, placed_more}

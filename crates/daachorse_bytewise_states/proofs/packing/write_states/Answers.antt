@@ -3,7 +3,7 @@ use Rattle.std.proofs.Common.{◌≡◌, ℕ, ◌<◌, List, length, ◌∙◌, 
 use Rattle.std.proofs.lemmas.List.{length-map}
 use Rattle.std.proofs.lemmas.Result.{err_from_is_err_and}
 use Rattle.daachorse_build.specs.Tables.{edge_map, edges_of, fails_of, positions_of}
-use Rattle.daachorse_packing.specs.Settled.{HavePlaces}
+use Rattle.daachorse_patterns.specs.Settled.{HavePlaces}
 use Rattle.daachorse_bytewise_states.specs.declared.state.State.{State}
 use Rattle.daachorse_bytewise_states.specs.Packing.{ElementsHoldTrie}
 use Rattle.daachorse_bytewise_states.specs.Writing.{HasWritten}

@@ -4,7 +4,7 @@ use Rattle.std.specs.Prelude.{unwrap_or}
 use Rattle.std.proofs.Math.Seq.{get_or-append_seam}
 use Rattle.std.proofs.lemmas.List.{get_or_append_left, get_or_default}
 use Rattle.daachorse_model.proofs.Lists.{below_or_at}
-use Rattle.daachorse_machine.proofs.ChildLaws.{child_at-inside}
+use Rattle.daachorse_array.proofs.ChildLaws.{child_at-inside}
 use Rattle.daachorse_bytewise_states.specs.declared.state.State.{State}
 use Rattle.daachorse_bytewise_states.specs.Elements.{base_in, check_in, vacant, word_in}
 use Rattle.daachorse_bytewise_states.specs.Parts.{child_among, child_by}

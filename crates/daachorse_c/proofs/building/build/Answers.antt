@@ -2,11 +2,9 @@
 use Rattle.std.proofs.Common.{◌≡◌, ℕ, List, map, sym, ap, ◌∙◌, subst}
 use Rattle.std.proofs.lemmas.Simd.{map-map}
 use Rattle.std.specs.Borrow.{Bor}
-use Rattle.daachorse_model.specs.declared.MatchKind.{MatchKind}
 use Rattle.daachorse_model.specs.Dictionary.{registrations_of}
-use Rattle.daachorse_model.specs.Kinds.{byte_of_kind}
-use Rattle.daachorse_model.specs.Folding.{all_as_read, texts_as_read}
-use Rattle.daachorse_bytewise.specs.Building.{HoldsPatterns, kept_filter}
+use Rattle.daachorse_model.specs.Folding.{all_as_read}
+use Rattle.daachorse_bytewise.specs.Building.{IsBuiltWith, kept_filter}
 use Rattle.daachorse_c.specs.Building.{IsBuiltFrom}
 use Rattle.daachorse_c.specs.Held.{Held}
 use Rattle.daachorse_c.specs.Patterns.{registrations}
@@ -20,12 +18,10 @@ returns-clause-built c =
     let texts : map (λ (p : Bor (List ℕ) × ℕ). p.0.now) patterns ≡ map (λ (r : List ℕ × ℕ). r.0) rs =
     sym (map-map (λ (r : List ℕ × ℕ). r.0) (λ (p : Bor (List ℕ) × ℕ). (p.0.now, p.1)) patterns) ∙ ap (map (λ (r : List ℕ × ℕ). r.0)) all in
     let built : IsBuiltFrom c.args.kind folds c.args.bytes.now c.args.ends.now c.args.values.now c.args.use_prefilter s = record {
-      kind = ap byte_of_kind c.in_ok-searches.ensures.kind ∙ c.in_ok-kind.ensures;
+      its_kind = c.in_ok-kind.kind;
+      kind = c.in_ok-kind.ensures;
       right = c.in_ok-patterns.ensures.right;
-      folded = c.in_ok-searches.ensures.folded;
-      holds =
-          subst (λ (k : MatchKind). HoldsPatterns k (texts_as_read folds rs) s) (sym c.in_ok-searches.ensures.kind)
-          (subst (λ (l : List (List ℕ × ℕ)). HoldsPatterns c.in_ok-kind.kind (texts_as_read folds l) s) all c.in_ok-searches.ensures.built);
+      built = subst (λ (l : List (List ℕ × ℕ)). IsBuiltWith c.in_ok-kind.kind folds l s) all c.in_ok-searches.ensures.built;
       filter = c.in_ok-searches.ensures.filter ∙ ap (λ (l : List (List ℕ)). kept_filter c.args.use_prefilter (all_as_read folds l)) texts;
     } in
     subst (IsBuiltFrom c.args.kind folds c.args.bytes.now c.args.ends.now c.args.values.now c.args.use_prefilter) (sym (ap (λ (a : Held). a.searches) c.in_ok-new.ensures.ok ∙ c.new.ensures.searches)) built

@@ -2,7 +2,7 @@
 
 use daachorse_charwise_states::edges::Elements;
 use daachorse_core::errors::Result;
-use daachorse_listing::patterns::PatternWalk;
+use daachorse_array::patterns::PatternWalk;
 use std::alloc::{Allocator, Global};
 use std::marker::Model;
 
@@ -32,7 +32,7 @@ impl<'a, V: Copy, A: Allocator + Copy> Iterator for PatternIterator<'a, V, A> {
     ghost use Rattle.std.specs.Iterator.{item_count};
     ghost use Rattle.std.specs.Str.{chars};
     ghost use Rattle.std.specs.String.{string_bytes};
-    ghost use Rattle.daachorse_listing.specs.Listing.{GivesPattern};
+    ghost use Rattle.daachorse_array.specs.Listing.{GivesPattern};
 
     type Item = Result<(String<A>, V)>;
 

@@ -1,7 +1,7 @@
 -- A code point with a code is written at the code.
 use Rattle.std.proofs.Common.{◌≡◌, ℕ, ◌+◌, ◌<◌, ◌∙◌, suc, List, Option, length, set, slice_index, sym, ap, subst, arith}
 use Rattle.daachorse_charwise_states.specs.Edges.{AreCharacters}
-use Rattle.daachorse_mapper.proofs.Entries.{code_read, none_read}
+use Rattle.daachorse_charwise_states.proofs.Entries.{code_read, none_read}
 use Rattle.daachorse_charwise_states.proofs.CharacterLaws.{character_left, character_written}
 use Rattle.daachorse_charwise_states.proofs.edges.characters.Goals.{then-code, else-code}
 use Rattle.daachorse_charwise_states.proofs.edges.characters.Goals as goal

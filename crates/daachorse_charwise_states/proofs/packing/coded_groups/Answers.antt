@@ -1,7 +1,7 @@
 -- The code of a label is the mapper's.
 use Rattle.daachorse_build.specs.Builders.{states_of}
 use Rattle.daachorse_build.specs.Tables.{edges_of}
-use Rattle.daachorse_packing.proofs.Groups.{groups-of}
+use Rattle.daachorse_patterns.proofs.Groups.{groups-of}
 use Rattle.daachorse_charwise_states.specs.Packing.{code_in}
 use Rattle.daachorse_charwise_states.proofs.Codes.{code_apart, code_given}
 use Rattle.std.proofs.Common.{ℕ}

@@ -12,8 +12,8 @@ use Rattle.daachorse_placement.specs.Placement.{AreGroups, HasSizes}
 use Rattle.daachorse_build.specs.Builders.{states_of}
 use Rattle.daachorse_build.specs.declared.nfa_builder.NfaBuilderState.{NfaBuilderState}
 use Rattle.daachorse_build.specs.Tables.{edge_map, edges_of, fails_of, positions_of}
-use Rattle.daachorse_packing.specs.Settled.{AreSettled, HasManyGroups}
-use Rattle.daachorse_packing.proofs.Groups.{settled-of}
+use Rattle.daachorse_patterns.specs.Settled.{AreSettled, HasManyGroups}
+use Rattle.daachorse_patterns.proofs.Groups.{settled-of}
 use Rattle.daachorse_charwise_states.specs.Packing.{HoldElements, code_in}
 use Rattle.daachorse_charwise_states.proofs.packing.pack.Goals as goal
 

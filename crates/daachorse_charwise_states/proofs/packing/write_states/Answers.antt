@@ -5,8 +5,8 @@ use Rattle.std.proofs.lemmas.List.{length-map}
 use Rattle.std.proofs.lemmas.Result.{err_from_is_err_and}
 use Rattle.daachorse_placement.specs.Placement.{AreIds, children_of, group_parent}
 use Rattle.daachorse_build.specs.Tables.{edge_map, edges_of, fails_of, positions_of}
-use Rattle.daachorse_packing.specs.Settled.{HavePlaces}
-use Rattle.daachorse_packing.proofs.Places.{settled-places}
+use Rattle.daachorse_patterns.specs.Settled.{HavePlaces}
+use Rattle.daachorse_patterns.proofs.Places.{settled-places}
 use Rattle.daachorse_charwise_states.specs.declared.state.State.{State}
 use Rattle.daachorse_charwise_states.specs.Packing.{HoldElements}
 use Rattle.daachorse_charwise_states.specs.Writing.{AreGroupsApart, HasWritten, HaveChecks}

@@ -3,7 +3,7 @@ use Rattle.std.proofs.Common.{◌≡◌, ℕ, ◌<◌, false, length, refl, sym,
 use Rattle.std.proofs.lemmas.List.{get_or_read}
 use Rattle.std.proofs.lemmas.Bool.{false≢true}
 use borrow.Author.Count.{below_more}
-use Rattle.daachorse_machine.specs.Machines.{own_from}
+use Rattle.daachorse_array.specs.Machines.{own_from}
 use Rattle.daachorse_checker.specs.Chains.{IsChained, machine_of}
 use Rattle.daachorse_checker.proofs.checker.chains_hold.Goals as goal
 

@@ -3,7 +3,7 @@ use Rattle.std.proofs.Common.{rules, ◌≡◌, length, sym, ap, ◌∙◌, subs
 use Rattle.std.proofs.lemmas.Result.{IfOk-from_err}
 use Rattle.std.proofs.lemmas.Bool.{false≢true}
 use Rattle.daachorse_core.proofs.Refusals.{at_error}
-use Rattle.daachorse_machine.specs.Machines.{IsCounted}
+use Rattle.daachorse_array.specs.Machines.{IsCounted}
 use Rattle.daachorse_checker.specs.Chains.{AreLeavesOf, machine_of}
 use Rattle.daachorse_checker.specs.Runs.{AreRuns}
 use Rattle.daachorse_checker.specs.Sizes.{AreSizes}

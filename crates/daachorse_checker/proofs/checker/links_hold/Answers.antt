@@ -1,6 +1,6 @@
 -- The places are a trie with the same texts and keys as the array, so the trie's links are right just where those of the array are, and a link that leads to no place never is.
 use Rattle.std.proofs.Common.{rules, ◌≡◌, length, sym, subst, arith}
-use Rattle.daachorse_links.specs.Places.{IsTrieOfPlaces}
+use Rattle.daachorse_array.specs.Places.{IsTrieOfPlaces}
 use Rattle.daachorse_checker.specs.Chains.{machine_of}
 use Rattle.daachorse_checker.specs.Links.{AreLinkPlaces, LeadsToNoPlace}
 use Rattle.daachorse_checker.proofs.PlaceLaws.{few}

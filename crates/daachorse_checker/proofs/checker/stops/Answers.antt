@@ -3,7 +3,7 @@ use Rattle.std.proofs.Common.{rules, ◌≡◌, ◌+◌, ◌<◌, Bool, List, []
 use Rattle.std.proofs.lemmas.List.{get_or_read, length_push}
 use Rattle.std.proofs.lemmas.Result.{IfOk-from_err}
 use Rattle.std.proofs.lemmas.Grind.{elements}
-use Rattle.daachorse_machine.specs.Machines.{own_from}
+use Rattle.daachorse_array.specs.Machines.{own_from}
 use Rattle.daachorse_core.proofs.Refusals.{at_any_error}
 use Rattle.daachorse_checker.specs.Chains.{AreStopsAt, machine_of}
 use Rattle.daachorse_checker.specs.Runs.{has_values}

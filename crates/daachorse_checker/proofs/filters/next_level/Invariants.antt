@@ -1,6 +1,6 @@
 -- The first entries of the level are done.
 use Rattle.std.proofs.Common.{◌≤◌, ◌-◌, length}
-use Rattle.daachorse_listing.specs.Listing.{has_own}
+use Rattle.daachorse_array.specs.Listing.{has_own}
 use Rattle.daachorse_checker.specs.Filters.{IsNextOf}
 use Rattle.daachorse_checker.proofs.filters.next_level.Given as goal
 

@@ -3,7 +3,7 @@ use Rattle.std.proofs.Common.{rules, ◌≡◌, ◌<◌, ℕ, ◌+◌, List, [],
 use Rattle.std.specs.Prelude.{All}
 use Rattle.std.proofs.lemmas.Grind.{common_steps}
 use Rattle.daachorse_prefilter.specs.declared.prefilter.window.Window.{Window}
-use Rattle.daachorse_listing.specs.Listing.{has_own}
+use Rattle.daachorse_array.specs.Listing.{has_own}
 use Rattle.daachorse_checker.specs.Filters.{HasRefused, IsNextOf}
 use Rattle.daachorse_checker.proofs.FilterLaws.{level_inside, level_last, level_next, level_none, level_refused, level_start}
 use Rattle.daachorse_checker.proofs.filters.passes_all.Goals as goal

@@ -1,5 +1,5 @@
 -- The level of the texts of so many units is at hand.
-use Rattle.daachorse_listing.specs.Listing.{has_own}
+use Rattle.daachorse_array.specs.Listing.{has_own}
 use Rattle.daachorse_checker.specs.Filters.{IsLevel}
 use Rattle.daachorse_checker.proofs.filters.passes_all.Given as goal
 

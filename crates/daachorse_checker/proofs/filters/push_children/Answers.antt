@@ -1,6 +1,6 @@
 -- Each member of the group is a child, and its entry is put behind the others.
 use Rattle.std.proofs.Common.{◌≡◌, sym, ◌∙◌}
-use Rattle.daachorse_listing.specs.Edges.{members}
+use Rattle.daachorse_array.specs.Edges.{members}
 use Rattle.daachorse_checker.proofs.FilterLaws.{pushed_none, pushing_done, pushing_in, pushing_next, pushing_start}
 use Rattle.daachorse_checker.proofs.filters.push_children.Goals as goal
 

@@ -4,7 +4,7 @@ use Rattle.std.proofs.lemmas.List.{length_push}
 use Rattle.std.proofs.lemmas.Result.{IfOk-from_err}
 use Rattle.std.proofs.lemmas.Grind.{common_steps}
 use Rattle.daachorse_core.specs.Outputs.{length_of, parent_of}
-use Rattle.daachorse_machine.specs.Machines.{own_from}
+use Rattle.daachorse_array.specs.Machines.{own_from}
 use Rattle.daachorse_core.proofs.Refusals.{at_any_error}
 use Rattle.daachorse_checker.specs.Runs.{AreRuns}
 use Rattle.daachorse_checker.proofs.RunLaws.{runs_push}

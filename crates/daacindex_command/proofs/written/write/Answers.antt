@@ -51,7 +51,7 @@ returns-in_err-bytes-clause-untried g c =
 pub returns-in_err-write_whole-clause-beginning : goal.returns-in_err-write_whole-clause-beginning
 returns-in_err-write_whole-clause-beginning g c =
     begun c.from_residual-in_err-write_whole.result c.args.mode c.args.patterns.now (g.S.Sink.taken c.args.out.now) (g.S.Sink.taken c.write_whole.new.out) c.deref.result.now c.from_residual-in_err-write_whole.ensures.1
-    (form_of_built c.args.mode c.args.patterns.now c.match_kind.result c.in_ok-automaton.automaton c.deref.result.now c.match_kind.ensures c.in_ok-automaton.ensures.built c.in_ok-automaton.ensures.kind c.in_ok-automaton.ensures.folds c.in_ok-bytes.ensures.automaton (c.deref.ensures.value ∙ c.in_ok-bytes.ensures.ok))
+    (form_of_built c.args.mode c.args.patterns.now c.match_kind.result c.in_ok-automaton.automaton c.deref.result.now c.match_kind.ensures c.in_ok-automaton.ensures.built c.in_ok-bytes.ensures.automaton (c.deref.ensures.value ∙ c.in_ok-bytes.ensures.ok))
     c.in_err-write_whole.ensures.beginning
 
 pub returns-in_err-write_whole-clause-failed : goal.returns-in_err-write_whole-clause-failed
@@ -63,7 +63,7 @@ returns-in_err-flush-clause-beginning g c =
     let old = g.S.Sink.taken c.args.out.now in
     let new = g.S.Sink.taken c.flush.new.self in
     begun c.from_residual-in_err-flush.result c.args.mode c.args.patterns.now old new c.deref.result.now c.from_residual-in_err-flush.ensures.1
-    (form_of_built c.args.mode c.args.patterns.now c.match_kind.result c.in_ok-automaton.automaton c.deref.result.now c.match_kind.ensures c.in_ok-automaton.ensures.built c.in_ok-automaton.ensures.kind c.in_ok-automaton.ensures.folds c.in_ok-bytes.ensures.automaton (c.deref.ensures.value ∙ c.in_ok-bytes.ensures.ok))
+    (form_of_built c.args.mode c.args.patterns.now c.match_kind.result c.in_ok-automaton.automaton c.deref.result.now c.match_kind.ensures c.in_ok-automaton.ensures.built c.in_ok-bytes.ensures.automaton (c.deref.ensures.value ∙ c.in_ok-bytes.ensures.ok))
     (all_begun old new c.deref.result.now (Appends-kept old (g.S.Sink.taken c.write_whole.new.out) new c.deref.result.now c.in_ok-write_whole.ensures.whole c.in_err-flush.ensures.taken))
 
 pub returns-in_err-flush-clause-failed : goal.returns-in_err-flush-clause-failed
@@ -73,7 +73,7 @@ returns-in_err-flush-clause-failed g c =
 pub returns-clause-written : goal.returns-clause-written
 returns-clause-written g c = (
   c.deref.result.now,
-  form_of_built c.args.mode c.args.patterns.now c.match_kind.result c.in_ok-automaton.automaton c.deref.result.now c.match_kind.ensures c.in_ok-automaton.ensures.built c.in_ok-automaton.ensures.kind c.in_ok-automaton.ensures.folds c.in_ok-bytes.ensures.automaton (c.deref.ensures.value ∙ c.in_ok-bytes.ensures.ok),
+  form_of_built c.args.mode c.args.patterns.now c.match_kind.result c.in_ok-automaton.automaton c.deref.result.now c.match_kind.ensures c.in_ok-automaton.ensures.built c.in_ok-bytes.ensures.automaton (c.deref.ensures.value ∙ c.in_ok-bytes.ensures.ok),
   Appends-kept (g.S.Sink.taken c.args.out.now) (g.S.Sink.taken c.write_whole.new.out) (g.S.Sink.taken c.flush.new.self) c.deref.result.now c.in_ok-write_whole.ensures.whole c.in_ok-flush.ensures.taken,
 )
 

@@ -1,6 +1,6 @@
 -- The cached depths are those of the states that the view shows.
 use Rattle.std.proofs.Common.{ℕ, List, sym, subst}
-use Rattle.daachorse_listing.proofs.DepthLaws.{table_tells}
+use Rattle.daachorse_array.proofs.DepthLaws.{table_tells}
 use Rattle.daachorse_search.specs.Views.{HasDepths}
 use Rattle.daachorse_bytewise_states.specs.Parts.{Parts, child, count}
 use Rattle.daachorse_bytewise_states.specs.Valid.{sees}

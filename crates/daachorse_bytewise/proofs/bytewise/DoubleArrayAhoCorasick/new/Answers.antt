@@ -9,6 +9,3 @@ returns-clause-err g c = rw (c.new.ensures.kind, c.new.ensures.folds) at c.build
 
 pub returns-clause-filter : goal.returns-clause-filter
 returns-clause-filter g c = rw (c.new.ensures.filter, c.new.ensures.folds) at c.build.ensures.filter
-
-pub returns-clause-folds : goal.returns-clause-folds
-returns-clause-folds g c = rw c.new.ensures.folds at c.build.ensures.folds

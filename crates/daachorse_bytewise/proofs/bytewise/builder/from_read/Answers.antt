@@ -11,7 +11,7 @@ use Rattle.daachorse_patterns.proofs.FilterLaws.{texts-first}
 use Rattle.daachorse_patterns.proofs.LinksBack.{links_back}
 use Rattle.daachorse_patterns.proofs.RefusalLaws.{elements_refused, refused_before}
 use Rattle.daachorse_patterns.proofs.TextLaws.{keys-as_read}
-use Rattle.daachorse_bytewise.specs.Building.{byte_limits, kept_filter}
+use Rattle.daachorse_bytewise.specs.Building.{HoldsPatterns, byte_limits, kept_filter}
 use Rattle.daachorse_bytewise.proofs.bytewise.builder.from_read.Goals as goal
 
 pub returns-in_err-nfa-clause-err : goal.returns-in_err-nfa-clause-err
@@ -48,6 +48,14 @@ returns-clause-filter g c =
 
 pub returns-clause-ok : goal.returns-clause-ok
 returns-clause-ok g c =
-    let K = dictionary c.args.settings.now.match_kind (registrations_of c.args.patterns.now) in
+    let kind = c.args.settings.now.match_kind in
+    let rs = registrations_of c.args.patterns.now in
+    let K = dictionary kind rs in
     let P : Parts g.row.V.Denot → Type 0 = λ p. (w : List ℕ) → content p w ≡ K w in
-    subst P (sym c.of_states.ensures.states) (c.in_ok-states.ensures.ok K c.in_ok-nfa.ensures.ok.built)
+    let H : List (List ℕ × g.row.V.Denot) → Type 0 = λ l. HoldsPatterns kind l c.of_states.result in
+    record {
+      holds = subst H (sym c.requires) (subst P (sym c.of_states.ensures.states) (c.in_ok-states.ensures.ok K c.in_ok-nfa.ensures.ok.built));
+      kind = ap (λ p. p.kind) c.of_states.ensures.states ∙ c.in_ok-states.ensures.kind;
+      folds = c.of_states.ensures.folds;
+      depths = c.of_states.ensures.depths;
+    }

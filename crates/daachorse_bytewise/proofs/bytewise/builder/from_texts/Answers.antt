@@ -4,7 +4,7 @@ use Rattle.std.proofs.lemmas.Result.{IfOk-weaker, IfErr-weaker, err_from_is_err_
 use Rattle.std.specs.Borrow.{Bor}
 use Rattle.daachorse_model.specs.Dictionary.{registrations_of}
 use Rattle.daachorse_model.specs.Units.{byte_width}
-use Rattle.daachorse_model.specs.Folding.{all_as_read, texts_as_read}
+use Rattle.daachorse_model.specs.Folding.{all_as_read}
 use Rattle.daachorse_patterns.specs.Patterns.{AreIndexed}
 use Rattle.daachorse_patterns.proofs.IndexLaws.{AreIndexed-map, AreIndexed-texts, refused_build}
 use Rattle.daachorse_patterns.proofs.TextLaws.{AreIndexed-as_read, values_refused-as_read}
@@ -26,9 +26,7 @@ returns-clause-ok g c =
     let all : List (List ℕ) = map now c.args.texts.now in
     let P : List (Bor (List ℕ) × g.row.V.Denot) → Type 0 = λ ps. AreIndexed gives 0 all (registrations_of ps) in
     let indexed = subst P (sym c.deref.ensures.value) (AreIndexed-texts gives now 0 c.args.texts.now c.in_ok-patterns.patterns.items c.in_ok-patterns.ensures.ok) in
-    IfOk-weaker c.from_patterns.result _ (IsBuiltOf gives c.args.settings.now.match_kind (all_as_read folds all))
-    (λ a built. (texts_as_read folds (registrations_of c.deref.result.now), AreIndexed-as_read gives folds 0 all (registrations_of c.deref.result.now) indexed, built))
-    c.from_patterns.ensures.ok
+    IfOk-weaker c.from_patterns.result _ (IsBuiltOf gives c.args.settings.now.match_kind folds all) (λ a built. (registrations_of c.deref.result.now, indexed, built)) c.from_patterns.ensures.ok
 
 pub returns-clause-err : goal.returns-clause-err
 returns-clause-err g c =

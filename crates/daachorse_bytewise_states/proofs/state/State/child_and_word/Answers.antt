@@ -2,7 +2,7 @@
 use Rattle.std.proofs.Common.{◌≡◌, ◌≢◌, ◌<◌, ◌∙◌, ap, bit_xor, length, slice_index_or, sym, arith}
 use Rattle.std.proofs.lemmas.List.{get_or_default}
 use Rattle.daachorse_bytewise_states.specs.Elements.{base_in, check_in, word_in}
-use Rattle.daachorse_machine.proofs.ChildLaws.{child_at-some}
+use Rattle.daachorse_array.proofs.ChildLaws.{child_at-some}
 use Rattle.daachorse_bytewise_states.proofs.ChildLaws.{moved_inside}
 use Rattle.daachorse_bytewise_states.proofs.state.State.child_and_word.Goals as goal
 

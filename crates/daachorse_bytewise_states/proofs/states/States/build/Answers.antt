@@ -10,7 +10,7 @@ use Rattle.daachorse_model.specs.Dictionary.{Dictionary}
 use Rattle.daachorse_build.specs.Builders.{outputs_of, states_of}
 use Rattle.daachorse_bytewise_states.specs.Parts.{Parts, content, parts_of}
 use Rattle.daachorse_bytewise_states.specs.Packing.{IsBuiltFor}
-use Rattle.daachorse_packing.specs.Settled.{HasManyGroups}
+use Rattle.daachorse_patterns.specs.Settled.{HasManyGroups}
 use Rattle.daachorse_patterns.specs.Prefixes.{HasMoreProperPrefixes}
 use Rattle.daachorse_bytewise_states.specs.Valid.{IsValid}
 use Rattle.daachorse_bytewise_states.proofs.BuiltLaws.{built-content, built-links, built-many, built-outputs, built-valid}

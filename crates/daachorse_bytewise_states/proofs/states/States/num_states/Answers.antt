@@ -1,6 +1,6 @@
 -- The texts that lead to an element are the prefixes of the keys.
 use Rattle.daachorse_model.specs.Units.{byte_width}
-use Rattle.daachorse_machine.proofs.CountLaws.{counted-prefixes}
+use Rattle.daachorse_array.proofs.CountLaws.{counted-prefixes}
 use Rattle.daachorse_bytewise_states.proofs.ByteLaws.{valid_machine}
 use Rattle.daachorse_bytewise_states.proofs.states.States.num_states.Goals as goal
 

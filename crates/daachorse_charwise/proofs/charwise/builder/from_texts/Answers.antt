@@ -4,7 +4,7 @@ use Rattle.std.proofs.lemmas.Result.{IfOk-weaker, IfErr-weaker, err_from_is_err_
 use Rattle.std.specs.Borrow.{Bor}
 use Rattle.std.specs.Str.{chars}
 use Rattle.daachorse_model.specs.Units.{char_width}
-use Rattle.daachorse_model.specs.Folding.{all_as_read, texts_as_read}
+use Rattle.daachorse_model.specs.Folding.{all_as_read}
 use Rattle.daachorse_patterns.specs.Patterns.{AreIndexed}
 use Rattle.daachorse_patterns.proofs.IndexLaws.{AreIndexed-map, AreIndexed-texts}
 use Rattle.daachorse_patterns.proofs.FilterLaws.{texts-first}
@@ -23,10 +23,9 @@ returns-in_err-patterns-clause-err g c =
 pub returns-clause-ok : goal.returns-clause-ok
 returns-clause-ok g c =
     let gives = g.V.TryFrom.try_from_gives in
-    let folds = c.args.settings.now.ascii_case_insensitive in
     let P : List (Bor (List ℕ) × g.row.V.Denot) → Type 0 = λ ps. AreIndexed gives 0 (texts_of_strings c.args.texts.now) (registrations_of_strings ps) in
     let indexed = subst P (sym c.deref.ensures.value) (AreIndexed-texts gives (λ (s : Bor (List ℕ)). chars s.now) 0 c.args.texts.now _ c.in_ok-patterns.ensures.ok) in
-    IfOk-weaker c.from_patterns.result _ _ (λ a held. (texts_as_read folds (registrations_of_strings c.deref.result.now), AreIndexed-as_read gives folds 0 (texts_of_strings c.args.texts.now) (registrations_of_strings c.deref.result.now) indexed, held)) c.from_patterns.ensures.ok
+    IfOk-weaker c.from_patterns.result _ _ (λ a built. (registrations_of_strings c.deref.result.now, indexed, built)) c.from_patterns.ensures.ok
 
 pub returns-clause-err : goal.returns-clause-err
 returns-clause-err g c =

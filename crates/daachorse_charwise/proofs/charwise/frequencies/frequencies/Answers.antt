@@ -5,7 +5,7 @@ use Rattle.std.specs.Prelude.{IsTrue}
 use Rattle.std.specs.List.{AllByRecursion}
 use Rattle.std.specs.Str.{all_scalars, chars}
 use Rattle.std.proofs.lemmas.List.{map_push, take_all, take_more}
-use Rattle.daachorse_packing.proofs.Keys.{all-push}
+use Rattle.daachorse_patterns.proofs.Keys.{all-push}
 use Rattle.daachorse_charwise.specs.Frequencies.{AreFrequencies, HasCounted, concatenation}
 use Rattle.daachorse_charwise.proofs.CountLaws.{counted_both, concatenation-push, none_counted}
 use Rattle.daachorse_charwise.proofs.charwise.frequencies.frequencies.Goals as goal

@@ -7,8 +7,8 @@ use Rattle.daachorse_core.proofs.Refusals.{IsRefusal-weaker}
 use Rattle.daachorse_model.specs.Dictionary.{Dictionary}
 use Rattle.daachorse_model.specs.Units.{char_width}
 use Rattle.daachorse_build.specs.Builders.{outputs_of, states_of}
-use Rattle.daachorse_packing.specs.Settled.{HasManyGroups}
-use Rattle.daachorse_packing.proofs.BuiltLaws.{built-links, built-many}
+use Rattle.daachorse_patterns.specs.Settled.{HasManyGroups}
+use Rattle.daachorse_patterns.proofs.ReadyToPack.{built-links, built-many}
 use Rattle.daachorse_charwise_states.specs.Packing.{IsBuiltFor, NeedsManyBlocks, code_in}
 use Rattle.daachorse_charwise_states.specs.Parts.{content}
 use Rattle.daachorse_charwise_states.specs.Valid.{IsValid}

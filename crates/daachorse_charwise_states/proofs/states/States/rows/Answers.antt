@@ -3,7 +3,7 @@ use Rattle.std.proofs.Common.{◌≡◌, ◌⊎◌, ◌/◌, ◌<◌, ◌≤◌,
 use Rattle.std.specs.Prelude.{◌^◌, IfSome, Option, Some, None, unwrap_or}
 use Rattle.daachorse_model.specs.declared.MatchKind.TheVariants.{Standard}
 use Rattle.daachorse_model.specs.Paths.{walk}
-use Rattle.daachorse_machine.proofs.MachineLaws.{Reached-inside}
+use Rattle.daachorse_array.proofs.MachineLaws.{Reached-inside}
 use Rattle.daachorse_rows.specs.Rows.{AreLabels, AreTooMany, ClosesOrFills, MayClose, RowTable, row_places, stands_by}
 use Rattle.daachorse_rows.proofs.ListedLaws.{AreLabels-own}
 use Rattle.daachorse_rows.proofs.ShallowLaws.{AreTooMany-weaker, room_least}

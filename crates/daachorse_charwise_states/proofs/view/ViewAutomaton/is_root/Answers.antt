@@ -1,6 +1,6 @@
 -- The empty text leads to element 0 and to no other, so a state's text is empty just where the state is 0.
 use Rattle.std.proofs.Common.{◌≡◌, rules}
-use Rattle.daachorse_machine.proofs.MachineLaws.{root-text, text-root}
+use Rattle.daachorse_array.proofs.MachineLaws.{root-text, text-root}
 use Rattle.daachorse_charwise_states.proofs.ViewLaws.{view_machine}
 use Rattle.daachorse_charwise_states.proofs.view.ViewAutomaton.is_root.Goals as goal
 

@@ -1,6 +1,6 @@
 -- Positions count from 1 and fall along a chain, so the outputs from a position on are the one that stands there and those from its parent on.
 use Rattle.std.proofs.Common.{◌≡◌, ◌<◌, ◌-◌, ◌∙◌, ap, arith, get_or}
-use Rattle.daachorse_machine.proofs.OutputLaws.{output_read}
+use Rattle.daachorse_array.proofs.OutputLaws.{output_read}
 use Rattle.daachorse_charwise_states.proofs.ViewLaws.{view_valid}
 use Rattle.daachorse_charwise_states.proofs.view.ViewAutomaton.output.Goals as goal
 

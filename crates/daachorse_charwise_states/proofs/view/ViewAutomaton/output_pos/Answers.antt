@@ -1,6 +1,6 @@
 -- A state's position is that of its element, which for the root was read once when the view was made, and in valid parts a state's chain of outputs begins there.
 use Rattle.std.proofs.Common.{◌≡◌, ◌∙◌, ap, sym}
-use Rattle.daachorse_machine.proofs.MachineLaws.{first-output}
+use Rattle.daachorse_array.proofs.MachineLaws.{first-output}
 use Rattle.daachorse_charwise_states.specs.Elements.{element}
 use Rattle.daachorse_charwise_states.specs.Parts.{output_of}
 use Rattle.daachorse_charwise_states.proofs.ViewLaws.{view_inside, view_machine, view_output, view_root_output}

@@ -1,6 +1,6 @@
 -- The empty text leads to element 0, so that is a state, and its text is empty.
 use Rattle.std.proofs.Common.{refl}
-use Rattle.daachorse_machine.proofs.MachineLaws.{Reached-root, text-root}
+use Rattle.daachorse_array.proofs.MachineLaws.{Reached-root, text-root}
 use Rattle.daachorse_charwise_states.proofs.ViewLaws.{view_machine}
 use Rattle.daachorse_charwise_states.proofs.view.ViewAutomaton.root.Goals as goal
 

@@ -1,7 +1,7 @@
 -- The element's child ends the step, and without one the root does if the look is at the root or at a dead link; else the link is told. In valid parts child and link are those of the dictionary.
 use Rattle.std.proofs.Common.{◌≡◌, ◌≢◌, ◌∙◌, None, ap, rules, subst, sym}
 use Rattle.daachorse_core.specs.declared.turns.Look.TheVariants.{Next, Fail}
-use Rattle.daachorse_machine.proofs.MachineLaws.{Reached-root, first-output, turn-dead, turn-link, turn-next, turn-root}
+use Rattle.daachorse_array.proofs.MachineLaws.{Reached-root, first-output, turn-dead, turn-link, turn-next, turn-root}
 use Rattle.daachorse_charwise_states.specs.Elements.{element, vacant}
 use Rattle.daachorse_charwise_states.specs.Parts.{output_of}
 use Rattle.daachorse_charwise_states.specs.Views.{IsRootOutput}

@@ -1,6 +1,6 @@
 -- All children of the elements at the places before `next` have places, and each place but the root's is one of theirs; no element has two, so `next` rises to at most the number of elements.
 use Rattle.std.proofs.Common.{◌-◌}
-use Rattle.daachorse_listing.specs.Listing.{unit_of}
+use Rattle.daachorse_array.specs.Listing.{unit_of}
 use Rattle.daachorse_checker.specs.Places.{IsPlaceWalk}
 use Rattle.daachorse_checker.proofs.places.Places.new.Given as goal
 

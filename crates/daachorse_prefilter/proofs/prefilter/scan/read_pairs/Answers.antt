@@ -2,8 +2,7 @@
 use Rattle.std.proofs.Common.{◌≡◌, ◌+◌, map, length, ◌∙◌, arith}
 use Rattle.std.proofs.lemmas.List.{length-map}
 use Rattle.daachorse_prefilter.proofs.Pairs.{entry_read}
-use Rattle.daachorse_prefilter.specs.Scans.{window_bits}
-use Rattle.daachorse_prefilter.proofs.Scanned.{entry_in, pair_before, states_none, states_more, ended_apart}
+use Rattle.daachorse_prefilter.proofs.Scanned.{entry_in, pair_before, states_none, states_more, window_bits, ended_apart}
 use Rattle.daachorse_prefilter.proofs.prefilter.scan.read_pairs.Goals as goal
 
 pub loop-k-init : goal.loop-k-init

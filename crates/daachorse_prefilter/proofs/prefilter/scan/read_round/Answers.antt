@@ -1,5 +1,5 @@
 -- However the pairs of the round are read, the state before is shifted past what they make alone.
-use Rattle.std.proofs.Common.{◌≡◌, ℕ, ◌+◌, ◌*◌, ◌%◌, ◌^◌, map, subst, sym, arith}
+use Rattle.std.proofs.Common.{ℕ, ◌+◌, ◌*◌, ◌%◌, ◌^◌, map, subst, sym, arith}
 use Rattle.std.specs.Prelude.{bit_or}
 use Rattle.daachorse_prefilter.specs.Scans.{HasEnded}
 use Rattle.daachorse_prefilter.proofs.prefilter.scan.read_round.Goals.{then-num_pairs-eq16, else-num_pairs-eq16}

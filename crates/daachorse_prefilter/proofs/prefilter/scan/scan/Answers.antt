@@ -1,5 +1,5 @@
 -- Each round moves the state by its pairs, and answers the first of its windows that passes, if the test does.
-use Rattle.std.proofs.Common.{◌≡◌, ℕ, ◌+◌, ◌-◌, ◌*◌, ◌/◌, ◌^◌, ◌<◌, ◌≤◌, length, map, subst, sym, arith}
+use Rattle.std.proofs.Common.{◌≡◌, ℕ, ◌+◌, ◌-◌, ◌*◌, ◌/◌, ◌^◌, ◌<◌, length, map, subst, sym, arith}
 use Rattle.std.proofs.Math.Nat.{div-mul-le_self}
 use Rattle.std.proofs.lemmas.List.{length-map}
 use Rattle.std.proofs.lemmas.Nat.{mul-le}
@@ -29,14 +29,14 @@ pub first_in_round-requires-clause-begun : goal.first_in_round-requires-clause-b
 first_in_round-requires-clause-begun g c =
     let text = map g.R.ByteReading.as_read c.args.haystack.now in let l = c.loop-round in let n = c.pairs_in_round-num_pairs.result in let place = c.args.pos + l.round * n in
     begins_within (g.T.PlaceTest.lets c.args.test.now) c.args.table.now text (c.args.window_len - 2) n c.args.pos place c.read_round-state.result (omega arith) c.pairs_in_round-num_pairs.ensures.few c.read_round-state.type_inv
-    (omega (arith, round_inside c.args.pos (length c.args.haystack.now) n l.round (omega arith) (omega (arith, c.loop-round-test.true, c.near_rounds-rounds.ensures.few)), length-map c.args.haystack.now g.R.ByteReading.as_read)) (c.read_round-state.ensures c.args.pos (omega arith) l.invariant.bits)
+    (omega (arith, round_inside c.args.pos (length c.args.haystack.now) n l.round (omega arith) c.loop-round-test.true, length-map c.args.haystack.now g.R.ByteReading.as_read)) (c.read_round-state.ensures c.args.pos (omega arith) l.invariant.bits)
 
 pub returns-in-Some : goal.returns-in-Some
 returns-in-Some g c =
     let text = map g.R.ByteReading.as_read c.args.haystack.now in let l = c.loop-round in let n = c.pairs_in_round-num_pairs.result in let place = c.args.pos + l.round * n in
     let whole : c.args.window_len - 2 + 2 ≡ c.args.window_len = omega arith in
     rw whole at (found_in_round (g.T.PlaceTest.lets c.args.test.now) c.args.table.now text (c.args.window_len - 2) n c.args.pos place c.read_round-state.result (omega arith) c.pairs_in_round-num_pairs.ensures.few c.read_round-state.type_inv
-    (omega (arith, round_inside c.args.pos (length c.args.haystack.now) n l.round (omega arith) (omega (arith, c.loop-round-test.true, c.near_rounds-rounds.ensures.few)), length-map c.args.haystack.now g.R.ByteReading.as_read)) (c.read_round-state.ensures c.args.pos (omega arith) l.invariant.bits) c.in-Some.found l.invariant.none c.in-Some.ensures)
+    (omega (arith, round_inside c.args.pos (length c.args.haystack.now) n l.round (omega arith) c.loop-round-test.true, length-map c.args.haystack.now g.R.ByteReading.as_read)) (c.read_round-state.ensures c.args.pos (omega arith) l.invariant.bits) c.in-Some.found l.invariant.none c.in-Some.ensures)
 
 pub loop-round-preserved : goal.loop-round-preserved
 loop-round-preserved g c =
@@ -50,7 +50,7 @@ loop-round-preserved g c =
     record {
       bits = subst P read_on ends.bits;
       none = subst Q round_on (none_in_round (g.T.PlaceTest.lets c.args.test.now) c.args.table.now text (c.args.window_len - 2) n c.args.pos place c.read_round-state.result (omega arith) c.pairs_in_round-num_pairs.ensures.few c.read_round-state.type_inv
-          (omega (arith, round_inside c.args.pos (length c.args.haystack.now) n l.round (omega arith) (omega (arith, c.loop-round-test.true, c.near_rounds-rounds.ensures.few)), length-map c.args.haystack.now g.R.ByteReading.as_read)) ends l.invariant.none c.in_default.ensures);
+          (omega (arith, round_inside c.args.pos (length c.args.haystack.now) n l.round (omega arith) c.loop-round-test.true, length-map c.args.haystack.now g.R.ByteReading.as_read)) ends l.invariant.none c.in_default.ensures);
     }
 
 pub returns : goal.returns

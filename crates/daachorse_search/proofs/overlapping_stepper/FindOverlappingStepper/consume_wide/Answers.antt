@@ -1,9 +1,13 @@
--- The place counts one unit more.
-use Rattle.std.proofs.Common.{ap, subst, sym, arith}
+-- The place counts one unit more, and the matches given those that end with it.
+use Rattle.std.proofs.Common.{ℕ, ◌+◌, List, length, ap, ◌∙◌, subst, sym, arith}
 use Rattle.daachorse_core.specs.Seen.{units}
 use Rattle.daachorse_model.specs.Units.{size}
+use Rattle.daachorse_model.specs.Matches.{overlapping}
 use Rattle.daachorse_model.proofs.Suffixes.{size-push}
+use Rattle.daachorse_search.specs.Searches.{all_found}
+use Rattle.daachorse_search.specs.Stepwise.{Stepped}
 use Rattle.daachorse_search.specs.Views.{HasDepths}
+use Rattle.daachorse_search.proofs.GivenLaws.{length-overlapping}
 use Rattle.daachorse_search.proofs.overlapping_stepper.FindOverlappingStepper.consume_wide.Goals as goal
 
 pub invariant_of-self : goal.invariant_of-self
@@ -14,3 +18,14 @@ invariant_of-self g c =
       record { place = stepped.stops.place; matches = stepped.stops.matches },
       subst P (sym stepped.automaton) c.self.invariant.2,
     )
+
+pub returns-clause-given : goal.returns-clause-given
+returns-clause-given g c =
+    let A = g.A.Automaton in let unit = g.A.Unit.EdgeLabel in let was = c.self.inside.walk in let now = c.advance-self-inside.new.self in let stepped = c.advance-self-inside.ensures in
+    let given : List ℕ → ℕ = λ t. length (overlapping unit.width (A.sees now.automaton).content t) in
+    let here : ℕ = length (all_found unit.width A.sees now.automaton (units now.seen)) in
+    ap given stepped.read
+    ∙ length-overlapping unit.width (A.sees now.automaton).content (units was.seen) (unit.unit c.args.unit)
+    ∙ ap (λ t. given (units was.seen) + length (all_found unit.width A.sees now.automaton t)) (sym stepped.read)
+    ∙ ap (λ (a : g.row.A.Denot). length (overlapping unit.width (A.sees a).content (units was.seen)) + here) stepped.automaton
+    ∙ ap (λ (s : Stepped g.row.A.Denot). s.given + here) c.self.view_is

@@ -1,0 +1,13 @@
+-- Each depth is known or not asked for yet, and those of the elements that were passed are known; the path is empty.
+use Rattle.std.proofs.Common.{◌≡◌, ◌≢◌, ◌<◌, ◌≤◌, ℕ, []}
+use Rattle.std.specs.Prelude.{slice_index, vec_capacity}
+use Rattle.daachorse_array.specs.Climbs.{AreKnown}
+use Rattle.daachorse_array.proofs.climbs.depths_by_parents.Given as goal
+
+abbrev pub invariant-loop-element : goal.invariant-loop-element
+invariant-loop-element g l = record {
+  known : AreKnown (g.E.Edges.child l.edges) (g.E.Edges.count l.edges) (g.E.Edges.units l.edges) [] l.depths.items;
+  passed : (i : ℕ) → 0 < i → i < l.element → slice_index l.depths.items i ≢ 0;
+  empty : l.path.items ≡ [];
+  room : g.E.Edges.count l.edges ≤ vec_capacity l.path;
+}

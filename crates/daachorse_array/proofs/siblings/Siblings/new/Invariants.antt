@@ -1,0 +1,11 @@
+-- The elements that were passed stand in the lists of their groups, and there is room for all.
+use Rattle.std.proofs.Common.{◌≤◌}
+use Rattle.std.specs.Prelude.{vec_capacity}
+use Rattle.daachorse_array.proofs.LinkedLaws.{IsGrouped}
+use Rattle.daachorse_array.proofs.siblings.Siblings.new.Given as goal
+
+abbrev pub invariant-loop-element : goal.invariant-loop-element
+invariant-loop-element g l = record {
+  grouped : IsGrouped (g.E.Edges.edge l.edges) (g.E.Edges.count l.edges) l.element l.first.items l.next.items;
+  room : g.E.Edges.count l.edges ≤ vec_capacity l.next;
+}

@@ -1,0 +1,16 @@
+pub mod Texts
+pub mod Machines
+pub mod Copies
+pub mod Links
+pub mod Places
+pub mod Near
+pub mod Tours
+pub mod Following
+pub mod Linked
+pub mod Edges
+pub mod Trees
+pub mod Depths
+pub mod Climbs
+pub mod Automata
+pub mod Listing
+pub mod EqualOutputs

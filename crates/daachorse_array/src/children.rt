@@ -1,0 +1,104 @@
+//! The children of one element, in the order of their units.
+
+ghost use Rattle.std.specs.Prelude.{◌≡◌, ◌≢◌, ◌<◌, ℕ, [], ◌∷◌, Some, length, map, reverse, slice_index_or, IfErr, IfSome, OnOk};
+ghost use Rattle.daachorse_core.specs.Refusals.{IsOutOfMemory};
+ghost use Rattle.daachorse_array.specs.Edges.{TellChildren, children_below, members, put_before};
+ghost use Rattle.daachorse_array.specs.Trees.{elements_of};
+
+use crate::edges::Edges;
+use crate::siblings::Siblings;
+use daachorse_core::errors::Result;
+use std::alloc::Allocator;
+
+/// Puts the children of an element aside behind their depth, the one with the greatest unit first.
+///
+/// # Errors
+///
+/// An allocation failed. Without children there is none.
+pub(crate) fn put_aside<E: Edges, A: Allocator>(
+    edges: &E,
+    groups: &Siblings<A>,
+    element: usize,
+    depth: u32,
+    list: &mut Vec<(u32, u32), A>,
+    aside: &mut Vec<(u32, u32), A>,
+) -> Result<()>
+    requires inside { (i c j : ℕ) → E.child edges.now i c ≡ Some j → (j < E.count edges.now) × (c < E.units edges.now) }
+    requires tell { TellChildren (E.child edges.now) (E.group edges.now) (E.edge edges.now) (E.count edges.now) }
+    requires groups { (g : ℕ) → g < E.count edges.now
+        → slice_index_or groups.now g [] ≡ members (E.edge edges.now) g (E.count edges.now) }
+    requires each { length groups.now ≡ E.count edges.now }
+    requires element { element < E.count edges.now }
+    ensures ok { OnOk result (reverse aside.new.items ≡ put_before (map (λ j. (depth, j)) (children_below (E.child edges.now) element (E.units edges.now))) (reverse aside.old.items)) }
+    ensures err { IfErr result IsOutOfMemory }
+    ensures some { IfErr result (λ _. children_below (E.child edges.now) element (E.units edges.now) ≢ []) }
+{
+    if let Some(child) = only_child(edges, groups, element) {
+        aside.push((depth, child))?;
+        return Ok(());
+    }
+    list_children(edges, groups, element, list)?;
+    while let Some((_unit, child)) = list.pop() {
+        aside.push((depth, child))?;
+    }
+    Ok(())
+}
+
+/// The child of an element; `None` where it has none or several.
+fn only_child<E: Edges, A: Allocator>(
+    edges: &E,
+    groups: &Siblings<A>,
+    element: usize,
+) -> Option<u32>
+    requires inside { (i c j : ℕ) → E.child edges.now i c ≡ Some j → (j < E.count edges.now) × (c < E.units edges.now) }
+    requires tell { TellChildren (E.child edges.now) (E.group edges.now) (E.edge edges.now) (E.count edges.now) }
+    requires groups { (g : ℕ) → g < E.count edges.now
+        → slice_index_or groups.now g [] ≡ members (E.edge edges.now) g (E.count edges.now) }
+    requires each { length groups.now ≡ E.count edges.now }
+    requires element { element < E.count edges.now }
+    ensures { IfSome result (λ child. children_below (E.child edges.now) element (E.units edges.now) ≡ child ∷ []) }
+{
+    let group = edges.group(element)?;
+    let mut members = groups.members(group);
+    let first = members.next()?;
+    match members.next() {
+        None => Some(first),
+        Some(_second) => None,
+    }
+}
+
+/// Lists the children of an element with their units, the least unit first.
+///
+/// # Errors
+///
+/// An allocation failed. Without children there is none.
+fn list_children<E: Edges, A: Allocator>(
+    edges: &E,
+    groups: &Siblings<A>,
+    element: usize,
+    list: &mut Vec<(u32, u32), A>,
+) -> Result<()>
+    requires inside { (i c j : ℕ) → E.child edges.now i c ≡ Some j → (j < E.count edges.now) × (c < E.units edges.now) }
+    requires tell { TellChildren (E.child edges.now) (E.group edges.now) (E.edge edges.now) (E.count edges.now) }
+    requires groups { (g : ℕ) → g < E.count edges.now
+        → slice_index_or groups.now g [] ≡ members (E.edge edges.now) g (E.count edges.now) }
+    requires each { length groups.now ≡ E.count edges.now }
+    requires element { element < E.count edges.now }
+    ensures ok { OnOk result (elements_of list.new.items ≡ children_below (E.child edges.now) element (E.units edges.now)) }
+    ensures err { IfErr result IsOutOfMemory }
+    ensures some { IfErr result (λ _. children_below (E.child edges.now) element (E.units edges.now) ≢ []) }
+{
+    list.clear();
+    let Some(group) = edges.group(element) else {
+        return Ok(());
+    };
+    for member in groups.members(group) {
+        if let Some((_group, unit)) = edges.edge(member as usize) {
+            list.push((unit as u32, member))?;
+        }
+    }
+    if list.len() > 1 {
+        list.sort_unstable();
+    }
+    Ok(())
+}

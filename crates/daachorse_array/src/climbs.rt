@@ -1,0 +1,107 @@
+//! The depths of the elements of an array that tell their parents.
+//!
+//! The layers above may rely on the same table as that of [`crate::depths::depths`]. It is made without groups: from each
+//! element whose depth is not known a climb goes up to the first one whose depth is, and those that it passed are given
+//! theirs on the way back. So each element and its parent are looked at once, which mostly stand near each other.
+
+ghost use Rattle.std.specs.Prelude.{◌≡◌, ◌≢◌, ◌+◌, ◌<◌, ◌≤◌, ◌^◌, ℕ, Some, [], length, reverse, slice_index, vec_capacity, IfOk, IfErr, IfSome, MatchOption};
+ghost use Rattle.std.specs.List.{AllByRecursion};
+ghost use Rattle.daachorse_core.specs.Refusals.{IsOutOfMemory};
+ghost use Rattle.daachorse_array.specs.Texts.{IsReached};
+ghost use Rattle.daachorse_array.specs.Climbs.{AreKnown, IsPathBelow, depths_along};
+ghost use Rattle.daachorse_array.specs.Edges.{IsTree, TellChildren};
+ghost use Rattle.daachorse_array.specs.Depths.{IsDepthTable};
+ghost use Rattle.daachorse_array.specs.Trees.{IsAmong};
+
+use crate::depths::NOT_REACHED;
+use crate::edges::Edges;
+use daachorse_core::ROOT_STATE_IDX;
+use daachorse_core::errors::Result;
+use std::alloc::Allocator;
+
+/// The depth of an element that no climb has come to yet, and that of the root.
+const NOT_KNOWN: u32 = 0;
+
+/// Of each element how many units its text has; 4,294,967,295 of one that no text leads to. The number of an element is
+/// that of its children's group.
+///
+/// # Errors
+///
+/// An allocation failed.
+pub fn depths_by_parents<E: Edges, A: Allocator + Copy>(alloc: A, edges: &E) -> Result<Vec<u32, A>>
+    requires tree { IsTree (E.child edges.now) (E.count edges.now) (E.units edges.now) }
+    requires tell { TellChildren (E.child edges.now) (λ i. Some i) (E.edge edges.now) (E.count edges.now) }
+    ensures ok { IfOk result (λ v. IsDepthTable (E.child edges.now) (E.units edges.now) (E.count edges.now) v.items) }
+    ensures err { IfErr result IsOutOfMemory }
+{
+    let count = edges.num_elements();
+    let mut depths = vec![in alloc; NOT_KNOWN; count]?;
+    let mut path = Vec::with_capacity(alloc, count)?;
+    for element in 0..count {
+        match climb(edges, element, &mut depths, &mut path) {
+            Some(depth) => descend(depth, &mut depths, &mut path),
+            None => path.clear(),
+        }
+    }
+    Ok(depths)
+}
+
+/// Puts an element and those above it on the path, up to the first whose depth is known, and tells that depth; `None`
+/// where no text leads to them.
+#[inline(always)]
+fn climb<E: Edges, A: Allocator>(
+    edges: &E,
+    element: usize,
+    depths: &mut Vec<u32, A>,
+    path: &mut Vec<u32, A>,
+) -> Option<u32>
+    requires tree { IsTree (E.child edges.now) (E.count edges.now) (E.units edges.now) }
+    requires tell { TellChildren (E.child edges.now) (λ i. Some i) (E.edge edges.now) (E.count edges.now) }
+    requires few { E.count edges.now < 2 ^ 32 }
+    requires element { element < E.count edges.now }
+    requires known { AreKnown (E.child edges.now) (E.count edges.now) (E.units edges.now) [] depths.old.items }
+    requires empty { path.old.items ≡ [] }
+    requires room { E.count edges.now ≤ vec_capacity path.old }
+    ensures known { AreKnown (E.child edges.now) (E.count edges.now) (E.units edges.now) (reverse path.new.items) depths.new.items }
+    ensures above { MatchOption result
+        ((i : ℕ) → IsAmong (reverse path.new.items) i → ¬ IsReached (E.child edges.now) (E.units edges.now) (E.count edges.now) i)
+        (λ depth. IsPathBelow (E.child edges.now) (E.count edges.now) (E.units edges.now) depth (reverse path.new.items)) }
+    ensures few { IfSome result (λ depth. depth + length path.new.items < 2 ^ 32) }
+    ensures passed { 0 < element → slice_index depths.new.items element ≢ 0 }
+    ensures kept { (i : ℕ) → slice_index depths.old.items i ≢ 0 → slice_index depths.new.items i ≢ 0 }
+    ensures capacity { vec_capacity path.new ≡ vec_capacity path.old }
+{
+    let mut above = element;
+    'up: while above != ROOT_STATE_IDX as usize {
+        let depth = depths[above];
+        if depth == NOT_REACHED {
+            return None;
+        }
+        if depth != NOT_KNOWN {
+            return Some(depth);
+        }
+        depths[above] = NOT_REACHED;
+        path.push_reserved(above as u32);
+        let Some((parent, _unit)) = edges.edge(above) else {
+            return None;
+        };
+        above = parent;
+    }
+    Some(NOT_KNOWN)
+}
+
+/// Gives the elements of the path their depths, the last one that which is one more than this, and empties it.
+#[inline(always)]
+fn descend<A: Allocator>(depth: u32, depths: &mut Vec<u32, A>, path: &mut Vec<u32, A>)
+    requires inside { AllByRecursion (λ i. i < length depths.old.items) (reverse path.old.items) }
+    requires few { depth + length path.old.items < 2 ^ 32 }
+    ensures depths { depths.new.items ≡ depths_along depth (reverse path.old.items) depths.old.items }
+    ensures empty { path.new.items ≡ [] }
+    ensures capacity { vec_capacity path.new ≡ vec_capacity path.old }
+{
+    let mut deepest = depth;
+    'down: while let Some(element) = path.pop() {
+        deepest += 1;
+        depths[element as usize] = deepest;
+    }
+}

@@ -1,0 +1,76 @@
+//! The depths of the elements of an array with children.
+//!
+//! The layers above may rely on the whole table: of each element how many units lead to it. The
+//! elements are entered in the order in which they were reached, so that no children are sorted.
+
+ghost use Rattle.std.specs.Prelude.{◌≡◌, ◌+◌, ◌<◌, ◌≤◌, ℕ, [], Some, length, slice_index, slice_index_or, vec_capacity, IfOk, IfErr};
+ghost use Rattle.daachorse_core.specs.Refusals.{IsOutOfMemory};
+ghost use Rattle.daachorse_array.specs.Edges.{IsTree, TellChildren, members};
+ghost use Rattle.daachorse_array.specs.Depths.{IsDepthTable};
+ghost use Rattle.daachorse_array.specs.Trees.{IsNoting};
+
+use crate::edges::Edges;
+use crate::siblings::Siblings;
+use daachorse_core::errors::Result;
+use std::alloc::Allocator;
+
+/// The depth of an element that is not reached.
+pub(crate) const NOT_REACHED: u32 = u32::MAX;
+
+/// Of each element how many units its text has; 4,294,967,295 of one that no text leads to.
+///
+/// # Errors
+///
+/// An allocation failed.
+pub fn depths<E: Edges, A: Allocator + Copy>(alloc: A, edges: &E) -> Result<Vec<u32, A>>
+    requires tree { IsTree (E.child edges.now) (E.count edges.now) (E.units edges.now) }
+    requires tell { TellChildren (E.child edges.now) (E.group edges.now) (E.edge edges.now) (E.count edges.now) }
+    ensures ok { IfOk result (λ v. IsDepthTable (E.child edges.now) (E.units edges.now) (E.count edges.now) v.items) }
+    ensures err { IfErr result IsOutOfMemory }
+{
+    let groups = Siblings::new(alloc, edges)?;
+    let count = edges.num_elements();
+    let mut depths = vec![in alloc; NOT_REACHED; count]?;
+    depths[0] = 0;
+    let mut reached = Vec::with_capacity(alloc, count)?;
+    reached.push_reserved(0);
+    let mut entered = 0;
+    'elements: while entered < reached.len() {
+        let element = reached[entered] as usize;
+        entered += 1;
+        note_children(edges, &groups, element, &mut depths, &mut reached);
+    }
+    Ok(depths)
+}
+
+/// Notes the depth of each child of an element, and that it is reached.
+fn note_children<E: Edges, A: Allocator>(
+    edges: &E,
+    groups: &Siblings<A>,
+    element: usize,
+    depths: &mut Vec<u32, A>,
+    reached: &mut Vec<u32, A>,
+)
+    requires inside { (i c j : ℕ) → E.child edges.now i c ≡ Some j → (j < E.count edges.now) × (c < E.units edges.now) }
+    requires tell { TellChildren (E.child edges.now) (E.group edges.now) (E.edge edges.now) (E.count edges.now) }
+    requires groups { (g : ℕ) → g < E.count edges.now
+        → slice_index_or groups.now g [] ≡ members (E.edge edges.now) g (E.count edges.now) }
+    requires each { length groups.now ≡ E.count edges.now }
+    requires element { element < E.count edges.now }
+    requires size { length depths.old.items ≡ E.count edges.now }
+    requires shallow { slice_index depths.old.items element < 4294967295 }
+    requires room { (g : ℕ) → E.group edges.now element ≡ Some g
+        → length reached.old.items + length (members (E.edge edges.now) g (E.count edges.now)) ≤ vec_capacity reached.old }
+    ensures noted { IsNoting (E.child edges.now element) (slice_index depths.old.items element + 1)
+        reached.old.items depths.old.items reached.new.items depths.new.items }
+    ensures capacity { vec_capacity reached.new ≡ vec_capacity reached.old }
+{
+    let Some(group) = edges.group(element) else {
+        return;
+    };
+    let depth = depths[element] + 1;
+    for child in groups.members(group) {
+        depths[child as usize] = depth;
+        reached.push_reserved(child);
+    }
+}

@@ -1,0 +1,253 @@
+//! The patterns of an array with outputs, one by one, in the order of their texts.
+//!
+//! The layers above may rely on a walk giving each pattern with each of its values, the values in
+//! order; and on one error, and then the end, where memory is refused.
+//!
+//! The text of an element begins with that of its parent, and so does each text from there to its
+//! own in their order. So a walk keeps one text, of which it writes the last unit of each element
+//! that it comes to. Its lists grow as they are needed: they hold little more than the children on
+//! the way to one element. An element without children has outputs, so that where memory is refused
+//! on the way to it, a pattern is left in whose place the error is given.
+
+ghost use Rattle.std.specs.Prelude.{◌≡◌, ◌<◌, ◌≤◌, ◌+◌, ◌-◌, ◌++◌, ◌⊎◌, ◌≢◌, ℕ, List, [], ◌∷◌, Some, length, map, reverse, slice_get, slice_index_or, take, IfOk, IfErr, OnOk};
+ghost use Rattle.daachorse_core.specs.Refusals.{IsOutOfMemory};
+ghost use Rattle.daachorse_core.specs.declared.outputs.Output.{Output};
+ghost use Rattle.daachorse_array.specs.Edges.{TellChildren, children_below, members, put_before};
+ghost use Rattle.daachorse_array.specs.Listing.{HasPatterns, IsPatterns, own_end, unit_of};
+
+use crate::children::put_aside;
+use crate::links::{Links, own_end};
+use crate::siblings::Siblings;
+use daachorse_core::Output;
+use daachorse_core::errors::Result;
+use std::alloc::{Allocator, Global};
+use std::marker::{Model, PhantomData};
+use std::num::NonZeroU32;
+
+/// Edges whose elements have outputs.
+pub trait Outputs<V: Copy>: Links {
+    /// A unit of a text.
+    type Unit: Copy;
+
+    /// The number of a unit.
+    ghost number: { Self.Unit → ℕ };
+
+    /// All outputs.
+    ghost outputs: { Self → List (Output V) };
+
+    /// The unit that leads to an element.
+    fn unit(&self, element: usize) -> Self::Unit
+        requires { element < Self.count self.now }
+        ensures { number result ≡ unit_of (Self.edge self.now element) };
+
+    /// The output at a position.
+    fn output(&self, position: usize) -> Output<V>
+        requires some { 0 < position }
+        requires inside { position ≤ length (outputs self.now) }
+        ensures { slice_get (outputs self.now) (position - 1) ≡ Some result };
+}
+
+/// Outputs whose texts are given as keys, in memory of an allocator.
+pub trait Keys<V: Copy, A: Allocator>: Outputs<V> {
+    /// A text in memory of its own.
+    type Key;
+
+    /// The numbers of the units of a key.
+    ghost units_of: { Self.Key → List ℕ };
+
+    /// Makes the key of these units.
+    ///
+    /// # Errors
+    ///
+    /// An allocation failed.
+    fn key(&self, alloc: A, units: &[Self::Unit]) -> Result<Self::Key>
+        ensures ok { IfOk result (λ key. units_of key ≡ map Self.number units.now) }
+        ensures err { IfErr result IsOutOfMemory };
+}
+
+/// The patterns of an array, one by one: in the order of their texts, and those of one text in the
+/// order of its values.
+#[derive(Drop)]
+pub struct PatternWalk<V: Copy, E: Outputs<V>, A: Allocator = Global> {
+    elements: E,
+    groups: Siblings<A>,
+    // The elements that were put aside, the next one last, each behind the length of its text.
+    aside: Vec<(u32, u32), A>,
+    // Room for the children of one element.
+    children: Vec<(u32, u32), A>,
+    // The text of the element that was taken last.
+    text: Vec<E::Unit, A>,
+    // What is left of its own outputs: those from a position until another.
+    position: usize,
+    stop: usize,
+    values: PhantomData<V>,
+}
+
+impl<V: Copy, E: Outputs<V>, A: Allocator> Model for PatternWalk<V, E, A> {
+    ghost use Rattle.std.specs.Prelude.{List, ℕ, map};
+    ghost use Rattle.daachorse_array.specs.Listing.{IsListingWalk, left_of, own_end};
+    ghost use Rattle.daachorse_array.specs.Trees.{elements_of};
+
+    ghost Value = { List (List ℕ × V) };
+
+    ghost view = { λ s. left_of (E.child s.elements) (E.count s.elements) (E.units s.elements)
+        (E.outputs s.elements) (E.first s.elements) (own_end (E.fail s.elements) (E.first s.elements))
+        (map E.number s.text.items) (elements_of s.aside.items) s.stop s.position };
+
+    ghost invariant = { λ s. IsListingWalk (E.child s.elements) (E.group s.elements) (E.edge s.elements) (E.count s.elements) (E.units s.elements)
+        (E.outputs s.elements) (E.first s.elements) (own_end (E.fail s.elements) (E.first s.elements))
+        s.groups s.aside.items (map E.number s.text.items) s.position };
+}
+
+impl<V: Copy, E: Outputs<V> + Drop, A: Allocator + Copy> PatternWalk<V, E, A> {
+    /// A walk over all patterns.
+    ///
+    /// # Errors
+    ///
+    /// An allocation failed.
+    pub fn new(alloc: A, elements: E) -> Result<Self>
+        requires { HasPatterns (E.child elements) (E.group elements) (E.edge elements) (E.count elements) (E.units elements) (E.outputs elements) (E.first elements) (own_end (E.fail elements) (E.first elements)) }
+        ensures ok { IfOk result (λ walk. IsPatterns (E.child elements) (E.count elements) (E.units elements) (E.outputs elements) (E.first elements) (own_end (E.fail elements) (E.first elements)) walk) }
+        ensures err { IfErr result IsOutOfMemory }
+    {
+        let groups = Siblings::new(alloc, &elements)?;
+        let mut aside = Vec::new(alloc);
+        aside.push((0, 0))?;
+        Ok(PatternWalk {
+            elements,
+            groups,
+            aside,
+            children: Vec::new(alloc),
+            text: Vec::new(alloc),
+            position: 0,
+            stop: 0,
+            values: PhantomData,
+        })
+    }
+}
+
+impl<V: Copy, E: Outputs<V>, A: Allocator> PatternWalk<V, E, A> {
+    /// Leaves out all patterns that were not given yet.
+    pub fn end(&mut self)
+        ensures { self.new ≡ [] }
+    {
+        self.position = 0;
+        self.aside.clear();
+    }
+}
+
+impl<V: Copy, E: Keys<V, A> + Drop, A: Allocator + Copy> Iterator for PatternWalk<V, E, A> {
+    ghost use Rattle.std.specs.Iterator.{item_count};
+    ghost use Rattle.daachorse_array.specs.Listing.{GivesPattern};
+
+    type Item = Result<(E::Key, V)>;
+
+    ghost next_gives = { GivesPattern E.units_of };
+
+    ghost remaining = { item_count (λ left. left) };
+
+    fn next(&mut self) -> Option<Result<(E::Key, V)>> {
+        while self.position == self.stop || self.position == 0 {
+            let Some((depth, next)) = self.aside.pop() else {
+                return None;
+            };
+            let element = next as usize;
+            let entered = enter(
+                &self.elements,
+                &self.groups,
+                element,
+                depth,
+                &mut self.text,
+                &mut self.children,
+                &mut self.aside,
+            );
+            if let Err(error) = entered {
+                // The two steps of `end`, which takes no walk that stopped on its way to an element.
+                self.position = 0;
+                self.aside.clear();
+                return Some(Err(error));
+            }
+            let (position, stop) = own_outputs(&self.elements, element);
+            self.position = position;
+            self.stop = stop;
+        }
+        let output = self.elements.output(self.position);
+        let alloc = *self.text.allocator();
+        match self.elements.key(alloc, &self.text) {
+            Ok(key) => {
+                self.position = output.parent().map_or(0, NonZeroU32::get) as usize;
+                Some(Ok((key, output.value())))
+            }
+            Err(error) => {
+                self.end();
+                Some(Err(error))
+            }
+        }
+    }
+}
+
+/// Writes the text of an element that has `depth` units, and puts its children aside.
+///
+/// # Errors
+///
+/// An allocation failed. For the root without children there is none.
+fn enter<V: Copy, E: Outputs<V>, A: Allocator>(
+    elements: &E,
+    groups: &Siblings<A>,
+    element: usize,
+    depth: u32,
+    text: &mut Vec<E::Unit, A>,
+    children: &mut Vec<(u32, u32), A>,
+    aside: &mut Vec<(u32, u32), A>,
+) -> Result<()>
+    requires inside { (i c j : ℕ) → E.child elements.now i c ≡ Some j → (j < E.count elements.now) × (c < E.units elements.now) }
+    requires tell { TellChildren (E.child elements.now) (E.group elements.now) (E.edge elements.now) (E.count elements.now) }
+    requires groups { (g : ℕ) → g < E.count elements.now
+        → slice_index_or groups.now g [] ≡ members (E.edge elements.now) g (E.count elements.now) }
+    requires each { length groups.now ≡ E.count elements.now }
+    requires element { element < E.count elements.now }
+    requires depth { depth < 4294967295 }
+    ensures none { OnOk result (depth ≡ 0 → text.new.items ≡ []) }
+    ensures text { OnOk result (0 < depth
+        → map E.number text.new.items ≡ take (depth - 1) (map E.number text.old.items) ++ unit_of (E.edge elements.now element) ∷ []) }
+    ensures aside { OnOk result (reverse aside.new.items ≡ put_before (map (λ j. (depth + 1, j)) (children_below (E.child elements.now) element (E.units elements.now))) (reverse aside.old.items)) }
+    ensures err { IfErr result IsOutOfMemory }
+    ensures some { IfErr result (λ _. (0 < depth) ⊎ (children_below (E.child elements.now) element (E.units elements.now) ≢ [])) }
+{
+    write_last(text, depth as usize, elements.unit(element))?;
+    put_aside(elements, groups, element, depth + 1, children, aside)
+}
+
+/// Makes a text `depth` units long: all but the last stay, and the last is this one.
+///
+/// # Errors
+///
+/// An allocation failed. Without units there is none.
+fn write_last<U: Copy, A: Allocator>(text: &mut Vec<U, A>, depth: usize, unit: U) -> Result<()>
+    ensures none { OnOk result (depth ≡ 0 → text.new.items ≡ []) }
+    ensures ok { OnOk result (0 < depth → text.new.items ≡ take (depth - 1) text.old.items ++ unit ∷ []) }
+    ensures err { IfErr result IsOutOfMemory }
+    ensures some { IfErr result (λ _. 0 < depth) }
+{
+    if depth == 0 {
+        text.clear();
+        return Ok(());
+    }
+    text.truncate(depth - 1);
+    text.push(unit)?;
+    Ok(())
+}
+
+/// The position of an element's first output, and that where its own outputs end, which is read only
+/// where there is an output.
+fn own_outputs<E: Links>(elements: &E, element: usize) -> (usize, usize)
+    requires { element < E.count elements.now }
+    ensures first { result.0 ≡ E.first elements.now element }
+    ensures stop { 0 < result.0 → result.1 ≡ own_end (E.fail elements.now) (E.first elements.now) element }
+{
+    let first = elements.first(element);
+    if first == 0 {
+        return (0, 0);
+    }
+    (first as usize, own_end(elements, element) as usize)
+}

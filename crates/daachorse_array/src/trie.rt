@@ -1,0 +1,266 @@
+//! A trie with links that may be wrong, and their check.
+//!
+//! The links are followed as a build follows them, so long as that takes few steps: they lead to the places of short
+//! texts, which are together at the front. Some tries would take the square of their size so. Of these a tour tells,
+//! which takes more time a place, since it goes all over them, but no more steps than there are places and labels.
+//!
+//! The given links are a forest, wrong or not, once each leads to an earlier place. A tour goes
+//! through it: each place comes after its link, and the link of the next place is on the way back from
+//! the one before. At each place it keeps, of each label, the child by it of the nearest place on the way
+//! back. The link of a child is what is near above its parent.
+
+ghost use Rattle.std.specs.Prelude.{◌≡◌, ℕ, ◌<◌, ◌≤◌, ◌^◌, length, cond, true, false, IfOk, IfErr};
+ghost use Rattle.daachorse_core.specs.Refusals.{IsOutOfMemory};
+ghost use Rattle.daachorse_array.specs.Places.{IsOrder, IsTrieOfPlaces, HasLinks, LinksFall, AreStarts, stop};
+ghost use Rattle.daachorse_array.specs.Near.{up, near, top, above, root_value, or_top, IsAbove, AreNear, IsChecked, IsSaved};
+ghost use Rattle.daachorse_array.specs.Tours.{IsTour};
+
+mod following;
+
+use daachorse_core::errors::Result;
+use std::alloc::{Allocator, Global};
+
+/// A trie whose places stand breadth first, the root at place 0, with links that may be wrong.
+#[derive(Drop)]
+pub struct Trie<A: Allocator = Global> {
+    /// The place of each place's parent; not read for the root.
+    pub parents: Vec<u32, A>,
+    /// The label by which each place's parent leads to it; not read for the root.
+    pub labels: Vec<u32, A>,
+    /// The place of each place's link, or the number of places for a dead link; not read for the root.
+    pub fails: Vec<u32, A>,
+    /// Whether each place ends a key.
+    pub stops: Vec<bool, A>,
+}
+
+impl<A: Allocator + Copy> Trie<A> {
+    /// Whether each place but the root links to an earlier one.
+    fn links_fall(&self) -> bool
+        requires few { length self.now.fails.items < 2 ^ 32 }
+        ensures yes { result ≡ true → LinksFall self.now.fails.items }
+        ensures no { result ≡ false → LinksFall self.now.fails.items → ⊥ }
+    {
+        let mut m: u32 = 1;
+        while (m as usize) < self.fails.len() {
+            let fail = self.fails[m as usize];
+            if fail >= m {
+                if fail as usize != self.fails.len() {
+                    return false;
+                }
+            }
+            m += 1;
+        }
+        true
+    }
+
+    /// The link of place p; the number of places for the root.
+    fn above(&self, p: u32) -> u32
+        requires few { length self.now.fails.items < 2 ^ 32 }
+        requires within { p < length self.now.fails.items }
+        ensures { result ≡ up self.now.fails.items p }
+    {
+        if p == 0 {
+            return self.fails.len() as u32;
+        }
+        self.fails[p as usize]
+    }
+
+    /// Where the children of each place begin, and those of the place before end.
+    fn starts(&self, alloc: A) -> Result<Vec<u32, A>>
+        requires order { IsOrder self.now.parents.items }
+        requires few { length self.now.parents.items < 2 ^ 32 }
+        ensures ok { IfOk result (λ starts. AreStarts self.now.parents.items starts.items) }
+        ensures err { IfErr result IsOutOfMemory }
+    {
+        let count = self.parents.len() as u32;
+        let mut starts = Vec::with_capacity(alloc, self.parents.len())?;
+        let mut m: u32 = 1;
+        while m < count {
+            let parent = self.parents[m as usize];
+            while starts.len() <= parent as usize {
+                starts.push(m)?;
+            }
+            m += 1;
+        }
+        while starts.len() <= count as usize {
+            starts.push(count)?;
+        }
+        Ok(starts)
+    }
+
+    /// The places in an order in which each stands after its link, and its link is on the link path of the one before it:
+    /// of each place the next, and the first at the end.
+    fn tour(&self, alloc: A) -> Result<Vec<u32, A>>
+        requires few { length self.now.fails.items < 2 ^ 32 }
+        requires fall { LinksFall self.now.fails.items }
+        ensures ok { IfOk result (λ next. IsTour (up self.now.fails.items) (length self.now.fails.items) next.items (length self.now.fails.items)) }
+        ensures err { IfErr result IsOutOfMemory }
+    {
+        let count = self.fails.len() as u32;
+        let mut next = vec![in alloc; count; self.fails.len() + 1]?;
+        let mut m: u32 = 0;
+        while m < count {
+            let above = self.above(m);
+            next[m as usize] = next[above as usize];
+            next[above as usize] = m;
+            m += 1;
+        }
+        Ok(next)
+    }
+
+    /// What a link is where nothing is near: the root, unless it stops; none on the tree of links of another place.
+    fn root_value(&self, p: u32) -> u32
+        requires few { length self.now.fails.items < 2 ^ 32 }
+        requires some { 0 < length self.now.stops.items }
+        ensures { result ≡ root_value self.now.stops.items (length self.now.fails.items) p }
+    {
+        if p == 0 {
+            if !self.stops[0] {
+                return 0;
+            }
+        }
+        self.fails.len() as u32
+    }
+
+    /// The link of place m, where `found` is near above its parent, or `other` is right.
+    fn right_link(&self, m: u32, found: u32, other: u32) -> u32
+        requires few { length self.now.fails.items < 2 ^ 32 }
+        requires within { m < length self.now.stops.items }
+        ensures { result ≡ cond (stop self.now.stops.items m) (length self.now.fails.items) (or_top found other) }
+    {
+        if self.stops[m as usize] {
+            return self.fails.len() as u32;
+        }
+        if found == 0 {
+            return other;
+        }
+        found
+    }
+
+    /// Comes to place p from its link: whether the children of p have the right links. They are near then, and what was is saved.
+    fn enter(
+        &self,
+        starts: &[u32],
+        near: &mut Vec<u32, A>,
+        saved: &mut Vec<u32, A>,
+        p: u32,
+        other: u32,
+    ) -> bool
+        requires trie { IsTrieOfPlaces self.now.parents.items self.now.labels.items (length near.old.items) }
+        requires each { length self.now.fails.items ≡ length self.now.parents.items }
+        requires stops { length self.now.stops.items ≡ length self.now.parents.items }
+        requires few { length self.now.parents.items < 2 ^ 32 }
+        requires fall { LinksFall self.now.fails.items }
+        requires starts { AreStarts self.now.parents.items starts.now }
+        requires within { p < length self.now.parents.items }
+        requires near { AreNear self.now.parents.items self.now.labels.items self.now.fails.items near.old.items (up self.now.fails.items p) }
+        requires other { other ≡ top self.now.stops.items self.now.fails.items p }
+        requires size { length saved.old.items ≡ length self.now.parents.items }
+        ensures same { length near.new.items ≡ length near.old.items }
+        ensures size { length saved.new.items ≡ length saved.old.items }
+        ensures checked { result ≡ true → IsChecked self.now.parents.items self.now.labels.items self.now.stops.items self.now.fails.items p }
+        ensures near { result ≡ true → AreNear self.now.parents.items self.now.labels.items self.now.fails.items near.new.items p }
+        ensures saved { result ≡ true → IsSaved self.now.parents.items self.now.labels.items self.now.fails.items saved.new.items p }
+        ensures kept { result ≡ true → (q : ℕ) → IsSaved self.now.parents.items self.now.labels.items self.now.fails.items saved.old.items q → IsSaved self.now.parents.items self.now.labels.items self.now.fails.items saved.new.items q }
+        ensures no { result ≡ false → IsChecked self.now.parents.items self.now.labels.items self.now.stops.items self.now.fails.items p → ⊥ }
+    {
+        let end = starts[p as usize + 1];
+        let mut m = starts[p as usize];
+        while m < end {
+            let label = self.labels[m as usize] as usize;
+            let found = near[label];
+            if self.right_link(m, found, other) != self.fails[m as usize] {
+                return false;
+            }
+            saved[m as usize] = found;
+            near[label] = m;
+            m += 1;
+        }
+        true
+    }
+
+    /// Goes back from place p to its link.
+    fn leave(&self, starts: &[u32], near: &mut Vec<u32, A>, saved: &[u32], p: u32)
+        requires trie { IsTrieOfPlaces self.now.parents.items self.now.labels.items (length near.old.items) }
+        requires each { length self.now.fails.items ≡ length self.now.parents.items }
+        requires few { length self.now.parents.items < 2 ^ 32 }
+        requires fall { LinksFall self.now.fails.items }
+        requires starts { AreStarts self.now.parents.items starts.now }
+        requires within { p < length self.now.parents.items }
+        requires size { length saved.now ≡ length self.now.parents.items }
+        requires saved { IsSaved self.now.parents.items self.now.labels.items self.now.fails.items saved.now p }
+        requires near { AreNear self.now.parents.items self.now.labels.items self.now.fails.items near.old.items p }
+        ensures same { length near.new.items ≡ length near.old.items }
+        ensures near { AreNear self.now.parents.items self.now.labels.items self.now.fails.items near.new.items (up self.now.fails.items p) }
+    {
+        let end = starts[p as usize + 1];
+        let mut m = starts[p as usize];
+        while m < end {
+            near[self.labels[m as usize] as usize] = saved[m as usize];
+            m += 1;
+        }
+    }
+
+    /// Goes back from place `from` to the place `to` on its link path.
+    fn retreat(&self, starts: &[u32], near: &mut Vec<u32, A>, saved: &[u32], from: u32, to: u32)
+        requires trie { IsTrieOfPlaces self.now.parents.items self.now.labels.items (length near.old.items) }
+        requires each { length self.now.fails.items ≡ length self.now.parents.items }
+        requires few { length self.now.parents.items < 2 ^ 32 }
+        requires fall { LinksFall self.now.fails.items }
+        requires starts { AreStarts self.now.parents.items starts.now }
+        requires within { from ≤ length self.now.parents.items }
+        requires size { length saved.now ≡ length self.now.parents.items }
+        requires saved { (j : ℕ) → IsSaved self.now.parents.items self.now.labels.items self.now.fails.items saved.now (above (up self.now.fails.items) j from) }
+        requires above { IsAbove (up self.now.fails.items) to from }
+        requires near { AreNear self.now.parents.items self.now.labels.items self.now.fails.items near.old.items from }
+        ensures same { length near.new.items ≡ length near.old.items }
+        ensures near { AreNear self.now.parents.items self.now.labels.items self.now.fails.items near.new.items to }
+    {
+        let mut here = from;
+        while here != to {
+            self.leave(starts, near, saved, here);
+            here = self.above(here);
+        }
+    }
+
+    /// Whether each place has the right leftmost link.
+    pub fn has_links(&self, alloc: A, alphabet: u32) -> Result<bool>
+        requires stops { length self.now.stops.items ≡ length self.now.parents.items }
+        requires trie { IsTrieOfPlaces self.now.parents.items self.now.labels.items alphabet }
+        requires each { length self.now.fails.items ≡ length self.now.parents.items }
+        requires few { length self.now.parents.items < 2 ^ 32 }
+        ensures yes { IfOk result (λ valid. valid ≡ true → HasLinks self.now.parents.items self.now.labels.items self.now.stops.items self.now.fails.items) }
+        ensures no { IfOk result (λ valid. valid ≡ false → HasLinks self.now.parents.items self.now.labels.items self.now.stops.items self.now.fails.items → ⊥) }
+        ensures err { IfErr result IsOutOfMemory }
+    {
+        if !self.links_fall() {
+            return Ok(false);
+        }
+        let count = self.fails.len() as u32;
+        let starts = self.starts(alloc)?;
+        if let Some(valid) = self.follows(&starts) {
+            return Ok(valid);
+        }
+        let tour = self.tour(alloc)?;
+        let mut near = vec![in alloc; 0; alphabet as usize]?;
+        let mut saved = vec![in alloc; 0; self.fails.len()]?;
+        let mut other = count;
+        let mut here = count;
+        let mut next = tour[count as usize];
+        let mut k: u32 = 0;
+        while k < count {
+            let above = self.above(next);
+            self.retreat(&starts, &mut near, &saved, here, above);
+            if above == count {
+                other = self.root_value(next);
+            }
+            if !self.enter(&starts, &mut near, &mut saved, next, other) {
+                return Ok(false);
+            }
+            here = next;
+            next = tour[next as usize];
+            k += 1;
+        }
+        Ok(true)
+    }
+}

@@ -1,0 +1,114 @@
+//! The check of links by following them, from the link of each place's parent on.
+//!
+//! [`Trie::has_links`] may rely on the answer being right where there is one, and on few steps being
+//! taken of all places together: where they are not enough, there is no answer.
+
+ghost use Rattle.std.specs.Prelude.{◌≡◌, ◌<◌, ◌≤◌, ◌^◌, length, slice_index, true, false, IfSome};
+ghost use Rattle.daachorse_array.specs.Places.{IsLabelled, HasLinks, LinksFall, AreStarts, child};
+ghost use Rattle.daachorse_array.specs.Near.{pick, right};
+
+use crate::trie::Trie;
+use std::alloc::Allocator;
+
+/// How many steps may be taken a place.
+const STEPS: usize = 32;
+
+impl<A: Allocator + Copy> Trie<A> {
+    /// Whether place m is the child of place p by a label.
+    fn is_child(&self, m: u32, p: u32, label: u32) -> bool
+        requires each { length self.now.labels.items ≡ length self.now.parents.items }
+        ensures { result ≡ true → (0 < m) × (m < length self.now.parents.items) × (slice_index self.now.parents.items m ≡ p) × (slice_index self.now.labels.items m ≡ label) }
+    {
+        if m == 0 {
+            return false;
+        }
+        if m as usize >= self.parents.len() {
+            return false;
+        }
+        if self.parents[m as usize] != p {
+            return false;
+        }
+        self.labels[m as usize] == label
+    }
+
+    /// The child of place p by a label, 0 for none. It looks at the children of p in turn.
+    fn child(&self, starts: &[u32], p: u32, label: u32) -> u32
+        requires trie { IsLabelled self.now.parents.items self.now.labels.items }
+        requires few { length self.now.parents.items < 2 ^ 32 }
+        requires starts { AreStarts self.now.parents.items starts.now }
+        requires within { p < length self.now.parents.items }
+        ensures { result ≡ pick (child self.now.parents.items self.now.labels.items p label) 0 }
+    {
+        let end = starts[p as usize + 1];
+        let mut m = starts[p as usize];
+        while m < end {
+            if self.labels[m as usize] == label {
+                return m;
+            }
+            m += 1;
+        }
+        0
+    }
+
+    /// The link that place m has to have, where no more steps than are left lead to it.
+    fn followed(&self, starts: &[u32], m: u32, left: &mut usize) -> Option<u32>
+        requires trie { IsLabelled self.now.parents.items self.now.labels.items }
+        requires each { length self.now.fails.items ≡ length self.now.parents.items }
+        requires stops { length self.now.stops.items ≡ length self.now.parents.items }
+        requires few { length self.now.parents.items < 2 ^ 32 }
+        requires fall { LinksFall self.now.fails.items }
+        requires starts { AreStarts self.now.parents.items starts.now }
+        requires some { 0 < m }
+        requires within { m < length self.now.parents.items }
+        ensures { IfSome result (λ link. link ≡ right self.now.parents.items self.now.labels.items self.now.stops.items self.now.fails.items (slice_index self.now.parents.items m) m (slice_index self.now.labels.items m)) }
+    {
+        let count = self.fails.len() as u32;
+        let label = self.labels[m as usize];
+        let given = self.fails[m as usize];
+        let mut below = self.parents[m as usize];
+        let mut here = self.above(below);
+        while here != count {
+            if self.is_child(given, here, label) {
+                return Some(self.right_link(m, given, 0));
+            }
+            let children = starts[here as usize + 1].saturating_sub(starts[here as usize]) as usize;
+            if *left <= children {
+                return None;
+            }
+            *left -= children + 1;
+            let found = self.child(starts, here, label);
+            if found > 0 {
+                return Some(self.right_link(m, found, 0));
+            }
+            below = here;
+            here = self.above(here);
+        }
+        Some(self.right_link(m, 0, self.root_value(below)))
+    }
+
+    /// Whether each place has the right leftmost link; none where too many steps would tell.
+    pub(super) fn follows(&self, starts: &[u32]) -> Option<bool>
+        requires trie { IsLabelled self.now.parents.items self.now.labels.items }
+        requires each { length self.now.fails.items ≡ length self.now.parents.items }
+        requires stops { length self.now.stops.items ≡ length self.now.parents.items }
+        requires few { length self.now.parents.items < 2 ^ 32 }
+        requires fall { LinksFall self.now.fails.items }
+        requires starts { AreStarts self.now.parents.items starts.now }
+        ensures yes { IfSome result (λ valid. valid ≡ true → HasLinks self.now.parents.items self.now.labels.items self.now.stops.items self.now.fails.items) }
+        ensures no { IfSome result (λ valid. valid ≡ false → HasLinks self.now.parents.items self.now.labels.items self.now.stops.items self.now.fails.items → ⊥) }
+    {
+        let count = self.fails.len() as u32;
+        let mut left = STEPS * self.fails.len();
+        let mut m: u32 = 1;
+        while m < count {
+            let Some(link) = self.followed(starts, m, &mut left) else {
+                return None;
+            };
+            if link != self.fails[m as usize] {
+                return Some(false);
+            }
+            m += 1;
+        }
+        Some(true)
+    }
+}

@@ -1,5 +1,0 @@
-pub mod Links
-pub mod Places
-pub mod Near
-pub mod Tours
-pub mod Following

@@ -1,4 +1,0 @@
-pub mod Coded
-pub mod Ranking
-pub mod Entries
-pub mod Taken

@@ -1,7 +1,0 @@
--- The codes of the code points so far are marked.
-use Rattle.daachorse_mapper.specs.Written.{coding_from}
-use Rattle.daachorse_mapper.proofs.Taken.{AreTaken}
-use Rattle.daachorse_mapper.proofs.mapper.are_codes.Given as goal
-
-abbrev pub invariant-loop-code : goal.invariant-loop-code
-invariant-loop-code g l = record { taken : AreTaken (coding_from (l.table, l.alphabet_size)) l.code-index l.taken.items }

@@ -1,7 +1,0 @@
--- The list has the indexes so far whose frequency is above 0, each with its frequency.
-use Rattle.std.proofs.Common.{◌≡◌, take}
-use Rattle.daachorse_mapper.specs.Ranks.{used_in}
-use Rattle.daachorse_mapper.proofs.mapper.used.Given as goal
-
-abbrev pub invariant-loop-index : goal.invariant-loop-index
-invariant-loop-index g l = l.used.items ≡ used_in (take l.index l.freqs)

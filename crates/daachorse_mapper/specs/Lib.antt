@@ -1,3 +1,0 @@
-pub mod Codings
-pub mod Ranks
-pub mod Written

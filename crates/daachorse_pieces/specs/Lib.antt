@@ -1,2 +1,0 @@
-pub mod Pieces
-pub use Rattle.daachorse_search.specs.BestScans

@@ -1,0 +1,27 @@
+//! Tests of the programs, and of what stands on the facade `daachorse`: its public paths, values of
+//! one's own, and the callers of `daachorse_uses`.
+#![tactic(auto)]
+
+#[cfg(test)]
+mod command;
+#[cfg(test)]
+mod index;
+#[cfg(test)]
+mod own_values;
+#[cfg(test)]
+mod paths;
+#[cfg(test)]
+mod tokens;
+#[cfg(test)]
+mod uses;
+#[cfg(test)]
+mod values;
+
+#[cfg(test)]
+use std::process::Abort;
+
+/// Ends the test with what went wrong, unless `holds`. A call is proved faster than an assertion.
+#[cfg(test)]
+fn expect(rt: &impl Abort, holds: bool, what: &str) {
+    assert!(rt; holds, "{what}");
+}

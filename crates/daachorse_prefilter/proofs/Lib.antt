@@ -12,7 +12,7 @@ pub mod Density
 pub mod Soundness
 pub mod Boundaries
 pub mod GateSteps
-pub mod Skipping
+pub mod SkippedWindows
 pub mod Counting
 pub mod WindowLaws
 pub mod KeyLaws

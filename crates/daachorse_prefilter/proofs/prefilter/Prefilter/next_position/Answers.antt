@@ -1,6 +1,6 @@
 -- The first place at which the filter passes is its next, and no pattern begins before it.
 use Rattle.daachorse_prefilter.proofs.PlaceLaws.{next_of_first}
-use Rattle.daachorse_prefilter.proofs.Skipping.{skips_none}
+use Rattle.daachorse_prefilter.proofs.SkippedWindows.{skips_none}
 use Rattle.daachorse_prefilter.proofs.prefilter.Prefilter.next_position.Goals as goal
 
 pub returns-clause-first : goal.returns-clause-first

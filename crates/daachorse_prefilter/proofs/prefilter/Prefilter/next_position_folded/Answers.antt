@@ -1,7 +1,7 @@
 -- What is read is the folded haystack.
 use Rattle.daachorse_model.specs.Folding.{folded}
 use Rattle.daachorse_prefilter.proofs.PlaceLaws.{next_of_first}
-use Rattle.daachorse_prefilter.proofs.Skipping.{skips_none}
+use Rattle.daachorse_prefilter.proofs.SkippedWindows.{skips_none}
 use Rattle.daachorse_prefilter.proofs.prefilter.Prefilter.next_position_folded.Goals as goal
 
 pub returns-clause-first : goal.returns-clause-first

@@ -24,4 +24,4 @@ pub use Rattle.daachorse_search.specs.Searches
 pub use Rattle.daachorse_search.specs.Stepwise
 pub use Rattle.daachorse_serializer.specs.Forms
 pub use Rattle.daachorse_serializer.specs.Laws
-pub use Rattle.daachorse_skipping.specs.Asked
+pub use Rattle.daachorse_prefilter.specs.Asked

@@ -18,8 +18,8 @@ ghost use Rattle.daachorse_model.specs.Matches.{matches_after, no_suffix, overla
 ghost use Rattle.daachorse_model.specs.Prefixes.{HasPrefixes, IsListing};
 ghost use Rattle.daachorse_search.specs.Beginnings.{BeginsFrom, BeginsStepping, BeginsWith};
 ghost use Rattle.daachorse_search.specs.Filters.{IsSoundFor};
-ghost use Rattle.daachorse_skipping.specs.Asked.{BeginsAsking, lets_pass};
-ghost use Rattle.daachorse_skipping.specs.Beginnings.{may_begin};
+ghost use Rattle.daachorse_prefilter.specs.Asked.{BeginsAsking, lets_pass};
+ghost use Rattle.daachorse_prefilter.specs.Beginnings.{may_begin};
 ghost use Rattle.daachorse_bytewise.specs.Automata.{HasDepths, MayFold, MayHaveFilter, dictionary_of, kind_of, states_of};
 ghost use Rattle.daachorse_core.specs.Seen.{units};
 ghost use Rattle.daachorse_bytewise.specs.Standings.{IsFindStandingIn, IsOverlappingStandingIn};
@@ -54,7 +54,7 @@ use daachorse_search::overlapping::{
 };
 use daachorse_search::overlapping_stepper::OverlappingStanding;
 use daachorse_search::source;
-use daachorse_skipping::skipping::Skipping;
+use daachorse_prefilter::skipping::Skipping;
 use std::alloc::{Allocator, Global};
 use std::hash::{Hash, Hasher};
 use std::marker::Model;

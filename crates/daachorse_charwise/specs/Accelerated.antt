@@ -3,7 +3,7 @@ use Rattle.std.specs.Prelude.{Bool, List, Option, encode_utf8_all}
 use Rattle.daachorse_rows.specs.Rows.{RowTable, Rowed}
 use Rattle.daachorse_charwise_states.specs.Parts.{Parts}
 use Rattle.daachorse_charwise_states.specs.StateRows.{CoversNear, StaysInRows, StaysUnlessLarge}
-pub use Rattle.daachorse_skipping.specs.Beginnings.{MayTell, may_begin}
+pub use Rattle.daachorse_prefilter.specs.Beginnings.{MayTell, may_begin}
 use Rattle.daachorse_charwise.specs.Automata.{Automaton, dictionary_of, states_of}
 
 pub record Accelerated (V : Type 0) : Type 0 where

@@ -20,8 +20,8 @@ ghost use Rattle.daachorse_model.specs.Matches.{matches_after, no_suffix, overla
 ghost use Rattle.daachorse_model.specs.Prefixes.{HasPrefixes, IsListing};
 ghost use Rattle.daachorse_search.specs.Beginnings.{BeginsFrom, BeginsStepping, BeginsWith};
 ghost use Rattle.daachorse_search.specs.Filters.{IsSoundFor};
-ghost use Rattle.daachorse_skipping.specs.Asked.{BeginsAsking, lets_pass};
-ghost use Rattle.daachorse_skipping.specs.Beginnings.{may_begin};
+ghost use Rattle.daachorse_prefilter.specs.Asked.{BeginsAsking, lets_pass};
+ghost use Rattle.daachorse_prefilter.specs.Beginnings.{may_begin};
 ghost use Rattle.daachorse_charwise.specs.Automata.{HasDepths, MayFold, MayHaveFilter, dictionary_of, element_count, kind_of, states_of};
 ghost use Rattle.daachorse_charwise.specs.Building.{IsBuildRefusal, IsBuiltOf, IsBuiltWith, IsRefusalOf, kept_filter, registrations_of_strings, texts_of_strings};
 ghost use Rattle.daachorse_charwise_states.specs.Texts.{AreTexts};
@@ -53,7 +53,7 @@ use daachorse_search::matches_from::MatchesFrom;
 use daachorse_search::overlapping::{
     NoSuffixWalk, OverlappingWalk, find_overlapping_in, find_overlapping_no_suffix_in,
 };
-use daachorse_skipping::skipping::Skipping;
+use daachorse_prefilter::skipping::Skipping;
 use daachorse_text::decoding::Decoded;
 use daachorse_text::text::Text;
 use std::alloc::{Allocator, Global};

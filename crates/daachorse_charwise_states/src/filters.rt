@@ -10,9 +10,9 @@ ghost use Rattle.daachorse_charwise_states.specs.Parts.{content};
 
 use crate::edges::Elements;
 use crate::states::States;
+use daachorse_array::patterns::Outputs;
 use daachorse_checker::filters::{Spelled, passes_all};
 use daachorse_core::errors::Result;
-use daachorse_array::patterns::Outputs;
 use daachorse_prefilter::prefilter::{Prefilter, Window};
 use std::alloc::Allocator;
 

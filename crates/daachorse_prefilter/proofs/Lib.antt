@@ -16,3 +16,6 @@ pub mod SkippedWindows
 pub mod Counting
 pub mod WindowLaws
 pub mod KeyLaws
+pub mod SkipLaws
+pub mod SoundFilters
+pub mod BeginningLaws

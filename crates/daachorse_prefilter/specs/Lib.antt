@@ -9,3 +9,5 @@ pub mod Equality
 pub mod Readings
 pub mod Scans
 pub mod Places
+pub mod Asked
+pub mod Beginnings

@@ -14,8 +14,8 @@ ghost use Rattle.daachorse_model.specs.Matches.{matches_after, no_suffix, overla
 ghost use Rattle.daachorse_model.specs.Units.{byte_width};
 ghost use Rattle.daachorse_search.specs.Beginnings.{BeginsFrom, BeginsStepping, BeginsWith};
 ghost use Rattle.daachorse_search.specs.Filters.{IsSoundFor};
-ghost use Rattle.daachorse_skipping.specs.Asked.{BeginsAskingBoth, lets_pass};
-ghost use Rattle.daachorse_skipping.specs.Beginnings.{MayTell, may_begin};
+ghost use Rattle.daachorse_prefilter.specs.Asked.{BeginsAskingBoth, lets_pass};
+ghost use Rattle.daachorse_prefilter.specs.Beginnings.{MayTell, may_begin};
 ghost use Rattle.daachorse_bytewise_states.specs.StateRows.{HasNoRoom};
 ghost use Rattle.daachorse_bytewise.specs.Accelerated.{HasRowsNear, IsAllRowsUnlessLarge, MayTellBeginnings, rowed_states};
 ghost use Rattle.daachorse_core.specs.Seen.{units};
@@ -41,8 +41,8 @@ use daachorse_search::overlapping::{
 };
 use daachorse_search::overlapping_stepper::OverlappingStanding;
 use daachorse_search::source;
-use daachorse_skipping::beginnings::{BEGINNING, Beginnings, FEW_STATES};
-use daachorse_skipping::skipping::Skipping;
+use daachorse_prefilter::beginnings::{BEGINNING, Beginnings, FEW_STATES};
+use daachorse_prefilter::skipping::Skipping;
 use std::alloc::{Allocator, Global};
 use std::marker::Model;
 
@@ -67,7 +67,7 @@ pub struct Accelerated<'a, V: Copy, A: Allocator = Global> {
 impl<'a, V: Copy, A: Allocator> Model for Accelerated<'a, V, A> {
     ghost use Rattle.daachorse_bytewise.specs.Accelerated.{Accelerated};
     ghost use Rattle.daachorse_bytewise_states.specs.StateRows.{HasRows};
-    ghost use Rattle.daachorse_skipping.specs.Beginnings.{MayTell};
+    ghost use Rattle.daachorse_prefilter.specs.Beginnings.{MayTell};
     ghost use Rattle.daachorse_bytewise.specs.Automata.{dictionary_of};
 
     ghost Value = { Accelerated V };

@@ -15,8 +15,8 @@ ghost use Rattle.daachorse_model.specs.Matches.{matches_after, no_suffix, overla
 ghost use Rattle.daachorse_model.specs.Units.{char_width};
 ghost use Rattle.daachorse_search.specs.Beginnings.{BeginsFrom, BeginsStepping, BeginsWith};
 ghost use Rattle.daachorse_search.specs.Filters.{IsSoundFor};
-ghost use Rattle.daachorse_skipping.specs.Asked.{BeginsAskingBoth, lets_pass};
-ghost use Rattle.daachorse_skipping.specs.Beginnings.{MayTell, may_begin};
+ghost use Rattle.daachorse_prefilter.specs.Asked.{BeginsAskingBoth, lets_pass};
+ghost use Rattle.daachorse_prefilter.specs.Beginnings.{MayTell, may_begin};
 ghost use Rattle.daachorse_charwise_states.specs.StateRows.{HasFewCodes, HasNoRoom};
 ghost use Rattle.daachorse_charwise.specs.Accelerated.{HasRowsNear, IsAllRowsUnlessLarge, MayTellBeginnings, rowed_states};
 ghost use Rattle.daachorse_charwise.specs.Automata.{dictionary_of, kind_of, states_of};
@@ -37,8 +37,8 @@ use daachorse_search::matches_from::MatchesFrom;
 use daachorse_search::overlapping::{
     NoSuffixWalk, OverlappingWalk, find_overlapping_in, find_overlapping_no_suffix_in,
 };
-use daachorse_skipping::beginnings::{BEGINNING, Beginnings, FEW_STATES};
-use daachorse_skipping::skipping::Skipping;
+use daachorse_prefilter::beginnings::{BEGINNING, Beginnings, FEW_STATES};
+use daachorse_prefilter::skipping::Skipping;
 use daachorse_text::decoding::Decoded;
 use daachorse_text::text::Text;
 use std::alloc::{Allocator, Global};
@@ -65,7 +65,7 @@ pub struct Accelerated<'a, V: Copy, A: Allocator = Global> {
 impl<'a, V: Copy, A: Allocator> Model for Accelerated<'a, V, A> {
     ghost use Rattle.daachorse_charwise.specs.Accelerated.{Accelerated};
     ghost use Rattle.daachorse_charwise_states.specs.StateRows.{HasRows};
-    ghost use Rattle.daachorse_skipping.specs.Beginnings.{MayTell};
+    ghost use Rattle.daachorse_prefilter.specs.Beginnings.{MayTell};
     ghost use Rattle.daachorse_charwise.specs.Automata.{dictionary_of};
     ghost use Rattle.std.specs.Prelude.{encode_utf8_all};
 

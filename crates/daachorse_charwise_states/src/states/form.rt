@@ -15,10 +15,10 @@ ghost use Rattle.daachorse_charwise_states.specs.Valid.{IsValid};
 
 use super::States;
 use crate::edges::Elements;
+use crate::mapper::CodeMapper;
 use crate::state::State;
 use crate::unchecked::are_grouped;
 use daachorse_core::errors::{DaachorseError, Result};
-use daachorse_charwise_states::mapper::CodeMapper;
 use daachorse_prefilter::prefilter::Prefilter;
 use daachorse_serializer::ending::{Ending, VALUE_ROOM, ending_room, read_ending, write_ending};
 use daachorse_serializer::mode::SearchMode;

@@ -12,7 +12,7 @@ use daachorse_search::matches::Matches;
 use daachorse_search::matches_from::MatchesFrom;
 use daachorse_search::overlapping::{NoSuffixWalk, OverlappingWalk};
 use daachorse_search::{find_stepper, haystack, overlapping_stepper, source};
-use daachorse_skipping::skipping::Skipping;
+use daachorse_prefilter::skipping::Skipping;
 use std::alloc::Global;
 
 /// An iterator over non-overlapping matches in a slice, each of which ends as early as possible.

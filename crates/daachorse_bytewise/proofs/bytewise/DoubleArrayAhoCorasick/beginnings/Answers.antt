@@ -1,7 +1,7 @@
 -- Each pattern that the automaton gives is marked.
 use Rattle.std.proofs.Common.{◌≡◌, ℕ, ◌≤◌, Bool, List, ◌∷◌, length, sym, ap, ◌∙◌, subst, arith}
 use Rattle.daachorse_model.specs.Prefixes.{IsListing}
-use Rattle.daachorse_skipping.proofs.BeginningLaws.{AreMarkedSoFar, beginning_inside, marked_all, marked_more, marked_none}
+use Rattle.daachorse_prefilter.proofs.BeginningLaws.{AreMarkedSoFar, beginning_inside, marked_all, marked_more, marked_none}
 use Rattle.daachorse_bytewise.specs.Automata.{dictionary_of}
 use Rattle.daachorse_bytewise.proofs.bytewise.DoubleArrayAhoCorasick.beginnings.Goals as goal
 

@@ -1,5 +1,5 @@
 -- The patterns that are left are to be marked still, and those before them are marked.
-use Rattle.daachorse_skipping.proofs.BeginningLaws.{AreMarkedSoFar}
+use Rattle.daachorse_prefilter.proofs.BeginningLaws.{AreMarkedSoFar}
 use Rattle.daachorse_bytewise.specs.Automata.{dictionary_of}
 use Rattle.daachorse_bytewise.proofs.bytewise.DoubleArrayAhoCorasick.beginnings.Given as goal
 

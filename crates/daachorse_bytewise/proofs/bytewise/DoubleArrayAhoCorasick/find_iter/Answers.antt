@@ -4,8 +4,8 @@ use Rattle.daachorse_model.specs.Folding.{as_read}
 use Rattle.daachorse_model.specs.Units.{byte_width}
 use Rattle.daachorse_model.specs.Matches.{standard}
 use Rattle.daachorse_search.specs.Filters.{IsSoundFor}
-use Rattle.daachorse_skipping.specs.Asked.{Asked, BeginsAsking, lets_pass}
-use Rattle.daachorse_skipping.specs.Beginnings.{may_begin}
+use Rattle.daachorse_prefilter.specs.Asked.{Asked, BeginsAsking, lets_pass}
+use Rattle.daachorse_prefilter.specs.Beginnings.{may_begin}
 use Rattle.daachorse_search.proofs.BeginningLaws.{BeginsWith-along}
 use Rattle.daachorse_bytewise_states.specs.Parts.{Parts, content}
 use Rattle.daachorse_bytewise.proofs.bytewise.DoubleArrayAhoCorasick.find_iter.Goals as goal

@@ -2,9 +2,9 @@
 use Rattle.std.proofs.Common.{Bool, List, Option, None, sym, ◌∙◌, subst}
 use Rattle.daachorse_prefilter.specs.Filters.{Filter}
 use Rattle.daachorse_search.specs.Filters.{IsSoundFor}
-use Rattle.daachorse_skipping.specs.Asked.{BeginsAsking, lets_pass}
-use Rattle.daachorse_skipping.specs.Beginnings.{may_begin}
-use Rattle.daachorse_skipping.proofs.Soundness.{sound_bytes}
+use Rattle.daachorse_prefilter.specs.Asked.{BeginsAsking, lets_pass}
+use Rattle.daachorse_prefilter.specs.Beginnings.{may_begin}
+use Rattle.daachorse_prefilter.proofs.SoundFilters.{sound_bytes}
 use Rattle.daachorse_bytewise_states.specs.Parts.{content}
 use Rattle.daachorse_bytewise.specs.Automata.{Automaton}
 use Rattle.daachorse_bytewise.proofs.bytewise.DoubleArrayAhoCorasick.skipping.Goals as goal

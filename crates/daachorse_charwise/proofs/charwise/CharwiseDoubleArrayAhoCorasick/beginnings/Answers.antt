@@ -4,8 +4,8 @@ use Rattle.std.proofs.lemmas.Str.{encodes-chars}
 use Rattle.std.specs.Prelude.{encode_utf8_all, set}
 use Rattle.std.specs.Str.{chars}
 use Rattle.daachorse_model.specs.Prefixes.{IsListing}
-use Rattle.daachorse_skipping.specs.Beginnings.{beginning_of}
-use Rattle.daachorse_skipping.proofs.BeginningLaws.{AreMarkedSoFar, beginning_inside, marked_all, marked_more, marked_none}
+use Rattle.daachorse_prefilter.specs.Beginnings.{beginning_of}
+use Rattle.daachorse_prefilter.proofs.BeginningLaws.{AreMarkedSoFar, beginning_inside, marked_all, marked_more, marked_none}
 use Rattle.daachorse_charwise.specs.Automata.{dictionary_of}
 use Rattle.daachorse_charwise.proofs.charwise.CharwiseDoubleArrayAhoCorasick.beginnings.Goals as goal
 

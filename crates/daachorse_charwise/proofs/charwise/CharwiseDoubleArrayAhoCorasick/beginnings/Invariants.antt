@@ -1,6 +1,6 @@
 -- The patterns that are left are to be marked still, and those before them are marked.
 use Rattle.std.specs.Prelude.{encode_utf8_all}
-use Rattle.daachorse_skipping.proofs.BeginningLaws.{AreMarkedSoFar}
+use Rattle.daachorse_prefilter.proofs.BeginningLaws.{AreMarkedSoFar}
 use Rattle.daachorse_charwise.specs.Automata.{dictionary_of}
 use Rattle.daachorse_charwise.proofs.charwise.CharwiseDoubleArrayAhoCorasick.beginnings.Given as goal
 

@@ -6,8 +6,8 @@ use Rattle.daachorse_model.specs.Folding.{as_read}
 use Rattle.daachorse_model.specs.Units.{char_width}
 use Rattle.daachorse_model.specs.Matches.{no_suffix}
 use Rattle.daachorse_search.specs.Filters.{IsSoundFor}
-use Rattle.daachorse_skipping.specs.Asked.{Asked, BeginsAsking, lets_pass}
-use Rattle.daachorse_skipping.specs.Beginnings.{may_begin}
+use Rattle.daachorse_prefilter.specs.Asked.{Asked, BeginsAsking, lets_pass}
+use Rattle.daachorse_prefilter.specs.Beginnings.{may_begin}
 use Rattle.daachorse_search.proofs.BeginningLaws.{BeginsWith-along}
 use Rattle.daachorse_charwise_states.specs.Parts.{Parts, content}
 use Rattle.daachorse_charwise.proofs.charwise.CharwiseDoubleArrayAhoCorasick.find_overlapping_no_suffix_iter.Goals as goal

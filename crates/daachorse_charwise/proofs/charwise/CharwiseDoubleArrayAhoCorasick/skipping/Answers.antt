@@ -3,9 +3,9 @@ use Rattle.std.proofs.Common.{Bool, List, Option, None, sym, ◌∙◌, subst}
 use Rattle.std.specs.Prelude.{encode_utf8_all}
 use Rattle.daachorse_prefilter.specs.Filters.{Filter}
 use Rattle.daachorse_search.specs.Filters.{IsSoundFor}
-use Rattle.daachorse_skipping.specs.Asked.{BeginsAsking, lets_pass}
-use Rattle.daachorse_skipping.specs.Beginnings.{may_begin}
-use Rattle.daachorse_skipping.proofs.Soundness.{sound_chars}
+use Rattle.daachorse_prefilter.specs.Asked.{BeginsAsking, lets_pass}
+use Rattle.daachorse_prefilter.specs.Beginnings.{may_begin}
+use Rattle.daachorse_prefilter.proofs.SoundFilters.{sound_chars}
 use Rattle.daachorse_charwise_states.specs.Parts.{content}
 use Rattle.daachorse_charwise.specs.Automata.{Automaton}
 use Rattle.daachorse_charwise.proofs.charwise.CharwiseDoubleArrayAhoCorasick.skipping.Goals as goal

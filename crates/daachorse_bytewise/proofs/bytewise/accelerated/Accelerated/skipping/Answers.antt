@@ -1,9 +1,9 @@
 -- The filter is sound for the patterns, and so are the marks of their beginnings.
 use Rattle.std.proofs.Common.{◌≡◌, Bool, List, Option, refl, ap, ◌∙◌, subst}
 use Rattle.daachorse_search.specs.Filters.{IsSoundFor}
-use Rattle.daachorse_skipping.specs.Asked.{BeginsAskingBoth, lets_pass}
-use Rattle.daachorse_skipping.specs.Beginnings.{may_begin}
-use Rattle.daachorse_skipping.proofs.BeginningLaws.{sound_asked}
+use Rattle.daachorse_prefilter.specs.Asked.{BeginsAskingBoth, lets_pass}
+use Rattle.daachorse_prefilter.specs.Beginnings.{may_begin}
+use Rattle.daachorse_prefilter.proofs.BeginningLaws.{sound_asked}
 use Rattle.daachorse_bytewise.specs.Accelerated.{Accelerated}
 use Rattle.daachorse_bytewise.specs.Automata.{dictionary_of}
 use Rattle.daachorse_bytewise.proofs.bytewise.accelerated.Accelerated.skipping.Goals as goal

@@ -4,8 +4,8 @@ use Rattle.std.specs.Prelude.{encode_utf8_all}
 use Rattle.daachorse_model.specs.Units.{char_width}
 use Rattle.daachorse_model.specs.Matches.{no_suffix}
 use Rattle.daachorse_rows.proofs.RowedLaws.{begins_rowed}
-use Rattle.daachorse_skipping.specs.Asked.{lets_pass}
-use Rattle.daachorse_skipping.specs.Beginnings.{may_begin}
+use Rattle.daachorse_prefilter.specs.Asked.{lets_pass}
+use Rattle.daachorse_prefilter.specs.Beginnings.{may_begin}
 use Rattle.daachorse_charwise_states.specs.Parts.{content}
 use Rattle.daachorse_charwise.specs.Accelerated.{rowed_states}
 use Rattle.daachorse_charwise.proofs.RowedLaws.{sound_rowed}

@@ -3,9 +3,9 @@ use Rattle.std.proofs.Common.{◌≡◌, Bool, List, Option, ap, ◌∙◌, subs
 use Rattle.std.proofs.lemmas.Str.{encodes-append}
 use Rattle.std.specs.Prelude.{encode_utf8_all}
 use Rattle.daachorse_search.specs.Filters.{IsSoundFor}
-use Rattle.daachorse_skipping.specs.Asked.{BeginsAskingBoth, lets_pass}
-use Rattle.daachorse_skipping.specs.Beginnings.{may_begin}
-use Rattle.daachorse_skipping.proofs.BeginningLaws.{sound_asked}
+use Rattle.daachorse_prefilter.specs.Asked.{BeginsAskingBoth, lets_pass}
+use Rattle.daachorse_prefilter.specs.Beginnings.{may_begin}
+use Rattle.daachorse_prefilter.proofs.BeginningLaws.{sound_asked}
 use Rattle.daachorse_charwise.specs.Accelerated.{Accelerated}
 use Rattle.daachorse_charwise.specs.Automata.{dictionary_of}
 use Rattle.daachorse_charwise.proofs.charwise.accelerated.Accelerated.skipping.Goals as goal

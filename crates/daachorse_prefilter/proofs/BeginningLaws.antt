@@ -13,9 +13,9 @@ use Rattle.daachorse_model.proofs.Booleans.{both-true}
 use Rattle.daachorse_prefilter.specs.Filters.{Filter}
 use Rattle.daachorse_prefilter.proofs.PlaceLaws.{both_pass}
 use Rattle.daachorse_search.specs.Filters.{IsSoundFor}
-use Rattle.daachorse_skipping.specs.Beginnings.{AreBeginnings, MayTell, beginning_of, hash_of, has_mark, may_begin}
-use Rattle.daachorse_skipping.specs.Asked.{lets_pass}
-use Rattle.daachorse_skipping.proofs.Soundness.{sound_tested}
+use Rattle.daachorse_prefilter.specs.Beginnings.{AreBeginnings, MayTell, beginning_of, hash_of, has_mark, may_begin}
+use Rattle.daachorse_prefilter.specs.Asked.{lets_pass}
+use Rattle.daachorse_prefilter.proofs.SoundFilters.{sound_tested}
 
 long_enough : (n m : ℕ) → nat_le n m ≡ true → n ≤ m
 long_enough n m e = grind (arith, nat_tests)

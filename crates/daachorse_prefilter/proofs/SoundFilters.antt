@@ -7,8 +7,8 @@ use Rattle.daachorse_prefilter.specs.Filters.{Filter, PassesKeys, admits}
 use Rattle.daachorse_prefilter.proofs.KeyLaws.{passes_before}
 use Rattle.daachorse_prefilter.proofs.PlaceLaws.{both_pass}
 use Rattle.daachorse_search.specs.Filters.{IsSoundFor}
-use Rattle.daachorse_skipping.specs.Asked.{lets_pass}
-use Rattle.daachorse_skipping.specs.Beginnings.{may_begin}
+use Rattle.daachorse_prefilter.specs.Asked.{lets_pass}
+use Rattle.daachorse_prefilter.specs.Beginnings.{may_begin}
 
 module _ {V : Type 0} (K : Dictionary V) where
   -- of what passes at each beginning, both the test and the filter do

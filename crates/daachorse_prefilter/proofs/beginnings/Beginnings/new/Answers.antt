@@ -3,7 +3,7 @@ use Rattle.std.proofs.Common.{◌≡◌, ℕ, false, ap, ◌∙◌, inl, inr, ar
 use Rattle.std.proofs.lemmas.Bool.{cases_lt}
 use Rattle.std.proofs.lemmas.List.{get_or-replicate, get_or_past, length-replicate}
 use Rattle.std.specs.Prelude.{replicate, slice_index_or}
-use Rattle.daachorse_skipping.proofs.beginnings.Beginnings.new.Goals as goal
+use Rattle.daachorse_prefilter.proofs.beginnings.Beginnings.new.Goals as goal
 
 copies_of : (n h : ℕ) → slice_index_or (replicate n false) h false ≡ false
 copies_of n h = elim (cases_lt h n) [

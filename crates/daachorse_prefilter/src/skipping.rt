@@ -9,12 +9,12 @@ ghost use Rattle.std.specs.Prelude.{◌≡◌, ℕ, List, [], None, option_map, 
 ghost use Rattle.daachorse_prefilter.specs.Gates.{HasRecorded};
 ghost use Rattle.daachorse_search.specs.Filters.{IsNextPassing};
 ghost use Rattle.daachorse_model.specs.Units.{byte_width, char_width};
-ghost use Rattle.daachorse_skipping.specs.Asked.{HasRecordedSkip, IsOpenWhilePaying, IsUnused, IsWorthAsking, lets_pass};
-ghost use Rattle.daachorse_skipping.specs.Beginnings.{may_begin};
+ghost use Rattle.daachorse_prefilter.specs.Asked.{HasRecordedSkip, IsOpenWhilePaying, IsUnused, IsWorthAsking, lets_pass};
+ghost use Rattle.daachorse_prefilter.specs.Beginnings.{may_begin};
 
 use crate::beginnings::Beginnings;
 use crate::places::{first_boundary, first_place};
-use daachorse_prefilter::prefilter::{Prefilter, PrefilterGate};
+use crate::prefilter::{Prefilter, PrefilterGate};
 use daachorse_search::filter::Filter;
 use daachorse_search::haystack::{Bytes, Haystack};
 use daachorse_text::text::Text;
@@ -32,7 +32,7 @@ pub struct Skipping<'a, A: Allocator = Global> {
 
 impl<'a, A: Allocator> Model for Skipping<'a, A> {
     ghost use Rattle.std.specs.Prelude.{option_map};
-    ghost use Rattle.daachorse_skipping.specs.Asked.{Asked};
+    ghost use Rattle.daachorse_prefilter.specs.Asked.{Asked};
 
     ghost Value = { Asked };
 

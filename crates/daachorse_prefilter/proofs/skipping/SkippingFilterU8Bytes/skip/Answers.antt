@@ -7,11 +7,11 @@ use Rattle.daachorse_prefilter.specs.declared.prefilter.gate.PrefilterGate.{Pref
 use Rattle.daachorse_prefilter.specs.Gates.{HasRecorded}
 use Rattle.daachorse_prefilter.specs.Filters.{Filter, admits}
 use Rattle.daachorse_search.specs.Filters.{IsNextPassing}
-use Rattle.daachorse_skipping.specs.Asked.{Asked, lets_pass}
-use Rattle.daachorse_skipping.specs.Beginnings.{may_begin}
+use Rattle.daachorse_prefilter.specs.Asked.{Asked, lets_pass}
+use Rattle.daachorse_prefilter.specs.Beginnings.{may_begin}
 use Rattle.daachorse_prefilter.specs.Places.{IsFirstPlace}
-use Rattle.daachorse_skipping.proofs.SkipLaws.{bytes_sized, recorded_skip, skipped_bytes}
-use Rattle.daachorse_skipping.proofs.skipping.SkippingFilterU8Bytes.skip.Goals as goal
+use Rattle.daachorse_prefilter.proofs.SkipLaws.{bytes_sized, recorded_skip, skipped_bytes}
+use Rattle.daachorse_prefilter.proofs.skipping.SkippingFilterU8Bytes.skip.Goals as goal
 
 pub after-requires : goal.after-requires
 after-requires g c =

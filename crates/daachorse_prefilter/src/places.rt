@@ -7,12 +7,12 @@ ghost use Rattle.std.specs.Prelude.{◌&&◌, option_map};
 ghost use Rattle.daachorse_model.specs.Folding.{as_read};
 ghost use Rattle.daachorse_prefilter.specs.Filters.{admits};
 ghost use Rattle.daachorse_prefilter.specs.Places.{IsFirstBoundary, IsFirstPlace};
-ghost use Rattle.daachorse_skipping.specs.Beginnings.{may_begin};
+ghost use Rattle.daachorse_prefilter.specs.Beginnings.{may_begin};
 
 use crate::beginnings::Beginnings;
-use daachorse_prefilter::place_test::NoTest;
-use daachorse_prefilter::prefilter::Prefilter;
-use daachorse_prefilter::prefilter::reading::{AsFolded, AsItIs, ByteReading};
+use crate::place_test::NoTest;
+use crate::prefilter::Prefilter;
+use crate::prefilter::reading::{AsFolded, AsItIs, ByteReading};
 use std::alloc::Allocator;
 
 /// The first place of the slice, folded where `folds` says so, at which the filter and the test pass,

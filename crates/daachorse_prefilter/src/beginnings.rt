@@ -5,12 +5,12 @@
 
 ghost use Rattle.std.specs.Prelude.{◌≡◌, ◌<◌, ◌≤◌, ℕ, true, false, set, length, slice_index_or, IfOk, IfErr};
 ghost use Rattle.daachorse_core.specs.Refusals.{IsOutOfMemory};
-ghost use Rattle.daachorse_skipping.specs.Beginnings.{beginning_of, has_mark, hash_of};
+ghost use Rattle.daachorse_prefilter.specs.Beginnings.{beginning_of, has_mark, hash_of};
 ghost use Rattle.std.specs.Int.{from_le_bytes, w32};
 
+use crate::place_test::PlaceTest;
 use daachorse_core::ascii_fold::AsciiFold;
 use daachorse_core::errors::Result;
-use daachorse_prefilter::place_test::PlaceTest;
 use std::alloc::{Allocator, Global};
 use std::marker::Model;
 

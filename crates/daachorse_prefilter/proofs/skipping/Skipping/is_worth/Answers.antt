@@ -3,9 +3,9 @@ use Rattle.std.proofs.Common.{[], sym, ap, ◌∙◌, subst, arith}
 use Rattle.std.specs.Prelude.{IsSome}
 use Rattle.daachorse_prefilter.specs.Gates.{HasRecorded}
 use Rattle.daachorse_prefilter.specs.declared.prefilter.gate.PrefilterGate.{PrefilterGate}
-use Rattle.daachorse_skipping.specs.Asked.{Asked}
-use Rattle.daachorse_skipping.proofs.SkipLaws.{still_some}
-use Rattle.daachorse_skipping.proofs.skipping.Skipping.is_worth.Goals as goal
+use Rattle.daachorse_prefilter.specs.Asked.{Asked}
+use Rattle.daachorse_prefilter.proofs.SkipLaws.{still_some}
+use Rattle.daachorse_prefilter.proofs.skipping.Skipping.is_worth.Goals as goal
 
 pub returns-then-is_some-clause-unused : goal.returns-then-is_some-clause-unused
 returns-then-is_some-clause-unused g c = λ unused.

@@ -9,11 +9,11 @@ use Rattle.daachorse_prefilter.specs.declared.prefilter.gate.PrefilterGate.{Pref
 use Rattle.daachorse_prefilter.specs.Gates.{HasRecorded}
 use Rattle.daachorse_prefilter.specs.Filters.{Filter, admits}
 use Rattle.daachorse_search.specs.Filters.{IsNextPassing}
-use Rattle.daachorse_skipping.specs.Asked.{Asked, lets_pass}
-use Rattle.daachorse_skipping.specs.Beginnings.{may_begin}
+use Rattle.daachorse_prefilter.specs.Asked.{Asked, lets_pass}
+use Rattle.daachorse_prefilter.specs.Beginnings.{may_begin}
 use Rattle.daachorse_prefilter.specs.Places.{IsFirstBoundary}
-use Rattle.daachorse_skipping.proofs.SkipLaws.{IsUtf8-as_read, chars-as_read, chars_cut, chars_sized, recorded_skip, skipped_chars}
-use Rattle.daachorse_skipping.proofs.skipping.SkippingFilterCharText.skip.Goals as goal
+use Rattle.daachorse_prefilter.proofs.SkipLaws.{IsUtf8-as_read, chars-as_read, chars_cut, chars_sized, recorded_skip, skipped_chars}
+use Rattle.daachorse_prefilter.proofs.skipping.SkippingFilterCharText.skip.Goals as goal
 
 pub after-requires : goal.after-requires
 after-requires g c =

@@ -16,7 +16,7 @@ use Rattle.daachorse_prefilter.specs.Filters.{Filter}
 use Rattle.daachorse_prefilter.specs.Gates.{HasRecorded}
 use Rattle.daachorse_prefilter.specs.declared.prefilter.gate.PrefilterGate.{PrefilterGate}
 use Rattle.daachorse_search.specs.Filters.{IsNextPassing}
-use Rattle.daachorse_skipping.specs.Asked.{run_of}
+use Rattle.daachorse_prefilter.specs.Asked.{run_of}
 use Rattle.daachorse_prefilter.specs.Places.{IsFirstBoundary, IsFirstPlace}
 use Rattle.daachorse_text.proofs.TextLaws.{seam, size-chars}
 

@@ -1,3 +1,0 @@
-pub mod SkipLaws
-pub mod Soundness
-pub mod BeginningLaws

@@ -1,9 +1,4 @@
 //! The edges of a state of a trie: a map from labels to the ids of the children.
-//!
-//! Most states have one edge or none, so a map takes memory from its second edge on. The layers
-//! above may rely on a map being the list of its edges by rising labels: `get` finds the id at a
-//! label, `insert` changes that id and no other and is never refused the first edge, and the
-//! iterators give the edges in order.
 
 ghost use Rattle.std.specs.Prelude.{◌≡◌, ◌≢◌, ◌↔◌, ℕ, ◌<◌, ◌≤◌, [], ◌∷◌, ◌++◌, None, length, IfOk, IfErr, OnOk, OnErr, IsTrue, MatchResult};
 ghost use Rattle.std.specs.Option.{option_copied, option_to_list};
@@ -28,8 +23,8 @@ use std::slice;
 
 /// A map from labels to the ids of states.
 ///
-/// One edge stands in the map itself and takes no memory (`daachorse_tests` runs this); more edges
-/// stand in a sorted vector. `daachorse_part_tests` lists the edges of a map.
+/// Most states have one edge or none. So one edge is kept in the map itself, and takes no memory;
+/// more are kept in a sorted vector.
 #[derive(Drop)]
 pub struct EdgeMap<L: EdgeLabel, A: Allocator = Global> {
     // By rising labels.
@@ -58,11 +53,7 @@ impl<L: EdgeLabel, A: Allocator> Default for EdgeMap<L, A> {
 }
 
 impl<L: EdgeLabel, A: Allocator> EdgeMap<L, A> {
-    /// The id at a label.
-    ///
-    /// It takes a number of comparisons that is logarithmic in the edges. With the edges `a`, `c`,
-    /// `m` and `x`, the last with the id 4, it returns 4 for `x` (`daachorse_part_tests` runs
-    /// this).
+    /// The id at a label, found by binary search.
     #[inline]
     pub fn get(&self, label: &L) -> Option<&u32>
         ensures { option_copied result ≡ id_at L.cmp self.now label.now }
@@ -114,14 +105,10 @@ impl<L: EdgeLabel, A: Allocator> EdgeMap<L, A> {
 }
 
 impl<L: EdgeLabel, A: Allocator + Copy> EdgeMap<L, A> {
-    /// Gives a label this id, in place of the one that it may have. The second edge is the first
-    /// that takes memory.
+    /// Gives a label this id, in place of the one that it may have.
     ///
-    /// A new label moves the edges behind it.
-    ///
-    /// # Errors
-    ///
-    /// An allocation failed. Only a new label is refused, and the map is then as it was.
+    /// A new label moves the edges after it, and from the second edge on may take memory. If that
+    /// is refused, the map stays as it was.
     pub fn insert(&mut self, alloc: A, label: L, id: u32) -> Result<()>
         ensures edges { OnOk result (self.new ≡ insert_entry L.cmp self.old label id) }
         ensures updates { OnOk result (Updates L.cmp self.old self.new label id) }
@@ -134,11 +121,7 @@ impl<L: EdgeLabel, A: Allocator + Copy> EdgeMap<L, A> {
         put(&mut self.edges, alloc, (label, id))
     }
 
-    /// A map with the same edges, in memory of its own.
-    ///
-    /// # Errors
-    ///
-    /// An allocation failed.
+    /// Copies the map. Fails if an allocation does.
     pub fn clone(&self) -> Result<Self>
         ensures same { IfOk result (λ map. map ≡ self.now) }
         ensures err { IfErr result IsOutOfMemory }
@@ -149,11 +132,9 @@ impl<L: EdgeLabel, A: Allocator + Copy> EdgeMap<L, A> {
 }
 
 /// The edges of a map, by rising labels.
-///
-/// It borrows the map and takes no memory. `daachorse_part_tests` lists the edges of a map.
 #[derive(Drop)]
 pub struct Iter<'a, L: EdgeLabel> {
-    // One edge more, before the others.
+    // An edge before the others.
     first: Option<&'a (L, u32)>,
     edges: slice::Iter<'a, (L, u32)>,
 }
@@ -198,8 +179,6 @@ impl<'a, L: EdgeLabel> Iterator for Iter<'a, L> {
 }
 
 /// The ids of a map, by rising labels.
-///
-/// It borrows the map and takes no memory. `daachorse_part_tests` lists the ids of a map.
 #[derive(Drop)]
 pub struct Values<'a, L: EdgeLabel> {
     edges: Iter<'a, L>,
@@ -228,7 +207,7 @@ impl<'a, L: EdgeLabel> Iterator for Values<'a, L> {
     }
 }
 
-/// Where a label stands among edges, or the place that it would take.
+/// Where a label is among edges, or where it would be inserted.
 #[inline]
 fn find<L: EdgeLabel>(edges: &[(L, u32)], label: &L) -> Result<usize, usize>
     requires { IsOrdered L.cmp edges.now }
@@ -250,7 +229,7 @@ fn get_among<'a, L: EdgeLabel>(edges: &'a [(L, u32)], label: &L) -> Option<&'a u
     }
 }
 
-/// Puts an edge among two or more, or gives the one with its label the new id.
+/// Inserts an edge among two or more, or gives the one with its label the new id.
 fn put_among<L: EdgeLabel, A: Allocator>(edges: &mut Vec<(L, u32), A>, edge: (L, u32)) -> Result<()>
     requires { IsOrdered L.cmp edges.old.items }
     ensures edges { OnOk result (edges.new.items ≡ insert_entry L.cmp edges.old.items edge.0 edge.1) }
@@ -266,7 +245,7 @@ fn put_among<L: EdgeLabel, A: Allocator>(edges: &mut Vec<(L, u32), A>, edge: (L,
     Ok(())
 }
 
-/// Puts an edge among edges, or gives the one with its label the new id.
+/// Inserts an edge, or gives the one with its label the new id.
 fn put<L: EdgeLabel, A: Allocator + Copy>(
     edges: &mut Few<(L, u32), A>,
     alloc: A,

@@ -1,9 +1,7 @@
-//! A list of few items, kept in two words where an item takes one.
+//! A list that keeps one item in itself, and more of them in a vector behind a pointer.
 //!
-//! A trie has a state for nearly each byte of its patterns, and most of these have one edge and no
-//! output. So a list keeps one item in itself, and more of them in a vector behind a pointer. The
-//! modules of this crate may rely on a list being its items in order, on `push` adding one behind
-//! the others, and on a list that was refused memory being as it was.
+//! A trie has a state for nearly every byte of its patterns, and most of these have one edge and no
+//! output.
 
 ghost use Rattle.std.specs.Prelude.{◌≡◌, ◌==◌, ◌<◌, ◌++◌, ◌∷◌, [], Some, length, IfOk, IfErr, OnOk, OnErr};
 ghost use Rattle.std.specs.List.{slice_get};
@@ -18,12 +16,11 @@ use std::alloc::Allocator;
 pub(crate) enum Few<T: Copy, A: Allocator> {
     Empty,
     One(T),
-    // Two items or more, where `SpillsFromTwo` says so.
+    // Two items or more, if `SpillsFromTwo` holds.
     Many(Box<Vec<T, A>, A>),
 }
 
 impl<T: Copy, A: Allocator> Few<T, A> {
-    /// How many items there are.
     pub(crate) fn len(&self) -> usize
         ensures { result ≡ length (items_of self.now) }
     {
@@ -34,7 +31,6 @@ impl<T: Copy, A: Allocator> Few<T, A> {
         }
     }
 
-    /// Whether there is no item.
     pub(crate) fn is_empty(&self) -> bool
         ensures { result ≡ (length (items_of self.now) == 0) }
     {
@@ -55,7 +51,7 @@ impl<T: Copy, A: Allocator> Few<T, A> {
 }
 
 impl<T: Copy, A: Allocator + Copy> Few<T, A> {
-    /// Two items. It takes memory for the vector and for what points to it.
+    /// A list of two items. It takes memory for a vector and for the box around it.
     pub(crate) fn two(alloc: A, first: T, second: T) -> Result<Self>
         ensures items { IfOk result (λ few. items_of few ≡ first ∷ second ∷ []) }
         ensures spills { IfOk result SpillsFromTwo }
@@ -67,7 +63,7 @@ impl<T: Copy, A: Allocator + Copy> Few<T, A> {
         Ok(Few::Many(Box::new(alloc, items)?))
     }
 
-    /// Puts an item behind the others. The second is the first that takes memory.
+    /// Appends an item. The first takes no memory.
     pub(crate) fn push(&mut self, alloc: A, item: T) -> Result<()>
         ensures items { OnOk result (items_of self.new ≡ items_of self.old ++ item ∷ []) }
         ensures unchanged { OnErr result (items_of self.new ≡ items_of self.old) }
@@ -81,7 +77,7 @@ impl<T: Copy, A: Allocator + Copy> Few<T, A> {
         Ok(())
     }
 
-    /// A list of the same items, in memory of its own.
+    /// Copies the list.
     pub(crate) fn clone(&self) -> Result<Self>
         ensures same { IfOk result (λ few. items_of few ≡ items_of self.now) }
         ensures spills { IfOk result (λ few. SpillsFromTwo self.now → SpillsFromTwo few) }

@@ -1,7 +1,4 @@
-//! What the builders of Aho-Corasick automata over bytes and over characters stand on.
-//!
-//! The layers above may rely on the trie of [`nfa_builder`]: it holds just the patterns that were
-//! added, and its links and outputs are those of the dictionary.
+//! The trie of patterns from which automata over bytes and over characters are made.
 #![tactic(auto)]
 
 pub mod edge_map;

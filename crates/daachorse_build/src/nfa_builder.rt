@@ -1,13 +1,4 @@
 //! The trie of the patterns, with its failure links and its lists of outputs.
-//!
-//! A builder has a state for each beginning of a pattern that counts. The layers above may rely on
-//! six things: after `add` the trie holds the patterns that were registered, after `build_fails`
-//! the link of each state is that of the longest proper suffix which is a state's text, after
-//! `build_fails_leftmost` it is dead instead where a key starts before that suffix does, after
-//! `build_outputs` the list at a state's position has the values of its text and of each of its
-//! suffixes, the longest first, as far as the links go: it is the state's own outputs, and then
-//! goes on at the position of the link; `profile_haystack` ends for every document, and no count
-//! falls; and `sibling_groups` has each state with edges once, with its children.
 
 ghost use Rattle.std.specs.Prelude.{◌≡◌, true, false, Some, ◌+◌, ◌<◌, ◌≤◌, [], length, map, IfOk, IfErr, OnOk};
 ghost use Rattle.daachorse_model.specs.Units.{size};
@@ -44,16 +35,14 @@ pub const ROOT_STATE_ID: u32 = 0;
 /// The id of the dead state, which no text leads to.
 pub const DEAD_STATE_ID: u32 = 1;
 
-/// A state of the trie.
-///
-/// It takes memory of its own from its second edge and its second output on.
+/// A state of the trie. It takes memory of its own from its second edge or its second output on.
 #[derive(Drop)]
 pub struct NfaBuilderState<L: EdgeLabel, V: Copy, A: Allocator = Global> {
     edges: EdgeMap<L, A>,
     output: Few<(V, u32), A>,
     // The two numbers stand together, since fields are laid out in order.
     fail: u32,
-    // 0 stands for none, since an `Option<NonZeroU32>` would take twice the bytes.
+    // 0 stands for none: an `Option<NonZeroU32>` would take twice the bytes.
     output_pos: u32,
 }
 
@@ -65,7 +54,7 @@ impl<L: EdgeLabel, V: Copy, A: Allocator> NfaBuilderState<L, V, A> {
         &self.edges
     }
 
-    /// The id of the state's failure link, the root until the links are built.
+    /// The id of the state that the failure link leads to, the root until the links are built.
     pub fn fail(&self) -> u32
         ensures { result ≡ link_of self.now }
     {
@@ -81,7 +70,7 @@ impl<L: EdgeLabel, V: Copy, A: Allocator> NfaBuilderState<L, V, A> {
 }
 
 impl<L: EdgeLabel, V: Copy, A: Allocator + Copy> NfaBuilderState<L, V, A> {
-    /// A state with no edges and no outputs. It takes no memory.
+    /// A state with no edges and no outputs.
     pub fn new(alloc: A) -> Self
         ensures edges { edge_map result ≡ [] }
         ensures fail { link_of result ≡ 0 }
@@ -96,11 +85,7 @@ impl<L: EdgeLabel, V: Copy, A: Allocator + Copy> NfaBuilderState<L, V, A> {
         }
     }
 
-    /// A state with the same edges, link, outputs and position.
-    ///
-    /// # Errors
-    ///
-    /// An allocation failed.
+    /// Copies the state. Fails if an allocation does.
     pub fn clone(&self) -> Result<Self>
         ensures edges { IfOk result (λ state. edge_map state ≡ edge_map self.now) }
         ensures fail { IfOk result (λ state. link_of state ≡ link_of self.now) }
@@ -119,9 +104,8 @@ impl<L: EdgeLabel, V: Copy, A: Allocator + Copy> NfaBuilderState<L, V, A> {
 
 /// A trie of patterns, from which an automaton is made.
 ///
-/// It is the trie of Aho and Corasick (1975): `add` makes the states, `build_fails` or
-/// `build_fails_leftmost` the links, and `build_outputs` the outputs, in this order.
-/// `daachorse_part_tests` builds tries and compares states, links and outputs.
+/// It is that of Aho and Corasick (1975). `add` makes the states, then `build_fails` or
+/// `build_fails_leftmost` the links, and then `build_outputs` the outputs.
 #[derive(Drop)]
 pub struct NfaBuilder<L: EdgeLabel, V: Copy, A: Allocator = Global> {
     states: Vec<NfaBuilderState<L, V, A>, A>,
@@ -142,7 +126,7 @@ impl<L: EdgeLabel, V: Copy, A: Allocator> Model for NfaBuilder<L, V, A> {
 }
 
 impl<L: EdgeLabel, V: Copy, A: Allocator> NfaBuilder<L, V, A> {
-    /// The states: the root, the dead state, and one for each other beginning of a pattern.
+    /// The states: the root, the dead state, and one for each nonempty prefix of a kept pattern.
     pub fn states(&self) -> &[NfaBuilderState<L, V, A>]
         ensures { result.now ≡ states_of self.now }
     {
@@ -174,13 +158,7 @@ impl<L: EdgeLabel, V: Copy, A: Allocator> NfaBuilder<L, V, A> {
 }
 
 impl<L: EdgeLabel, V: Copy, A: Allocator + Copy> NfaBuilder<L, V, A> {
-    /// A builder with no pattern, for this kind of matches.
-    ///
-    /// It takes memory for the root and the dead state.
-    ///
-    /// # Errors
-    ///
-    /// An allocation failed.
+    /// A builder with no pattern. It takes memory for the root and the dead state, which may fail.
     pub fn new(alloc: A, kind: MatchKind) -> Result<Self>
         ensures kind { IfOk result (λ builder. kind_of builder ≡ kind) }
         ensures outputs { IfOk result (λ builder. outputs_of builder ≡ []) }
@@ -199,16 +177,14 @@ impl<L: EdgeLabel, V: Copy, A: Allocator + Copy> NfaBuilder<L, V, A> {
         })
     }
 
-    /// Adds a pattern with its value. After an error the builder is of no use. A pattern that was
-    /// added is short enough, and each state has an id of 32 bits, where each had one before.
+    /// Adds a pattern with its value. After an error the builder is of no use.
     ///
-    /// Under `LeftmostFirst` a pattern that extends one that was added before can never be found:
-    /// it is left out, and no state is made for it.
+    /// Under `LeftmostFirst` a pattern that extends an earlier one can never be found: it is left
+    /// out, and no state is made for it.
     ///
     /// # Errors
-    ///
-    /// A pattern of more than 4,294,967,295 bytes is refused, and so is one that needs the
-    /// state id 4,294,967,296.
+    /// A pattern of more than 4,294,967,295 bytes or one that needs the state id 4,294,967,296 is
+    /// refused; or out of memory.
     pub fn add(&mut self, pattern: &[L], value: V) -> Result<()>
         ensures kind { kind_of self.new ≡ kind_of self.old }
         ensures outputs { outputs_of self.new ≡ outputs_of self.old }
@@ -219,7 +195,7 @@ impl<L: EdgeLabel, V: Copy, A: Allocator + Copy> NfaBuilder<L, V, A> {
         if self.kind.is_leftmost_first() && adding::extends_key(&self.states, pattern) {
             return Ok(());
         }
-        // No growth is refused here, and none will be: to add 2^64 patterns takes centuries.
+        // Not reached: it takes centuries to add 2^64 patterns.
         let Some(len) = self.len.checked_add(1) else {
             return Err(DaachorseError::OutOfMemory(OutOfMemoryError));
         };
@@ -228,16 +204,11 @@ impl<L: EdgeLabel, V: Copy, A: Allocator + Copy> NfaBuilder<L, V, A> {
         Ok(())
     }
 
-    /// Sets the failure link of each state, that of the root to the root, and returns the ids of
-    /// the states but the root, breadth-first.
+    /// Sets the failure links, and returns the ids of all states but the root, breadth-first.
     ///
-    /// The links are those of Aho and Corasick (1975): the link of a state is the state of the
-    /// longest proper end of its text that begins a pattern. Of `bcd`, `ab`, `a`, `b` and `b` only
-    /// the link of `ab` is not the root: it is the state of `b` (`daachorse_part_tests` runs this).
-    ///
-    /// # Errors
-    ///
-    /// It fails where an allocation does.
+    /// The link of a state leads to the state of the longest proper suffix of its text that is a
+    /// prefix of a pattern (Aho and Corasick 1975); that of the root leads to the root. Fails if an
+    /// allocation does.
     pub fn build_fails(&mut self, alloc: A) -> Result<Vec<u32, A>>
         ensures kept { KeepsPatterns self.old self.new }
         ensures outputs { outputs_of self.new ≡ outputs_of self.old }
@@ -247,13 +218,10 @@ impl<L: EdgeLabel, V: Copy, A: Allocator + Copy> NfaBuilder<L, V, A> {
         self.find_links(alloc, false)
     }
 
-    /// Gives each state its leftmost link, as leftmost searches want, and returns the states but
-    /// the root, those nearer to it first. The link is that of `build_fails`, but dead where a key
-    /// occurs in the state's text and starts before the link does. The root's link is the root.
+    /// Sets the leftmost links, and returns the ids of all states but the root, breadth-first.
     ///
-    /// # Errors
-    ///
-    /// An allocation failed.
+    /// A link is that of [`Self::build_fails`], but dead if a key in the state's text starts before
+    /// the text of the link does. Fails if an allocation does.
     pub fn build_fails_leftmost(&mut self, alloc: A) -> Result<Vec<u32, A>>
         ensures kept { KeepsPatterns self.old self.new }
         ensures outputs { outputs_of self.new ≡ outputs_of self.old }
@@ -272,20 +240,17 @@ impl<L: EdgeLabel, V: Copy, A: Allocator + Copy> NfaBuilder<L, V, A> {
         links::link_states(alloc, &mut self.states, leftmost)
     }
 
-    /// Makes the lists of outputs: that of the root is its own outputs, and that of each other
-    /// state is its own, and then the list of its link, unless that is dead. So there are as many
-    /// outputs as patterns that are kept, and no more than a `u32` counts. Those that were made
-    /// before are dropped.
+    /// Makes the lists of outputs, and drops those made before.
     ///
-    /// An output takes 8 bytes beside its value. `daachorse_part_tests` compares lists of outputs.
+    /// The list of a state is its own outputs and then the list of its link, unless that is dead;
+    /// the list of the root is its own outputs. There is one output, of 8 bytes and a value, for
+    /// each kept pattern.
     ///
     /// # Conditions
-    ///
     /// `order` is what [`Self::build_fails`] or [`Self::build_fails_leftmost`] returned.
     ///
     /// # Errors
-    ///
-    /// More than 4,294,967,295 outputs are refused.
+    /// More than 4,294,967,295 outputs are refused; or out of memory.
     pub fn build_outputs(&mut self, order: &[u32]) -> Result<()>
         requires { HoldEitherLinks L.cmp (states_of self.old) order.now }
         ensures kept { KeepsPatterns self.old self.new }
@@ -298,27 +263,20 @@ impl<L: EdgeLabel, V: Copy, A: Allocator + Copy> NfaBuilder<L, V, A> {
         outputs::put_lists(&mut self.states, &mut self.outputs, order)
     }
 
-    /// Counts into the profile what a search over a document reads. The search begins at the root
-    /// and takes one label after the other.
+    /// Counts into the profile what a search over a document reads, from the root on.
     ///
-    /// A label that `has_label` denies leads to the root, and nothing is counted. Where
-    /// `dense_root` says that a table tells what each label leads to from the root, nothing is
-    /// counted there. At any other state a visit of it is counted, and then a visit of the child
-    /// that the label leads to; where the state has edges but not this one, a probe of the state.
-    /// The label is sought again from the state's link: the step ends at the root where the root
-    /// has no such child, and where a link is dead.
+    /// At each state that is looked at for a label a visit is counted, and then a visit of its
+    /// child by the label; if it has edges but not this one, a probe. Without a child the label is
+    /// looked up at the link next, until the root has no child or the link is dead. With
+    /// `dense_root` nothing is counted at the root, and a label that `has_label` denies leads to
+    /// the root uncounted.
     ///
-    /// A leftmost search remembers the place behind the last label that led to a state with
-    /// outputs, but for the root. Where a label leads to the root, it begins again at that place
-    /// and forgets it.
-    ///
-    /// A count stays at the greatest number. It takes no memory.
-    ///
-    /// `daachorse_part_tests` compares the counts of documents over bytes and over characters.
+    /// A leftmost search keeps the place after the last label that led to a state with outputs,
+    /// other than the root. When a label leads to the root, it goes on from that place, and forgets
+    /// it. Counts saturate.
     ///
     /// # Conditions
-    ///
-    /// The links are built, and the profile was given a count of each kind for each state.
+    /// The links are built, and the profile has both counts for each state.
     pub fn profile_haystack<H: Fn(L) -> bool + Drop>(
         &self,
         haystack: &[L],
@@ -342,23 +300,15 @@ impl<L: EdgeLabel, V: Copy, A: Allocator + Copy> NfaBuilder<L, V, A> {
         );
     }
 
-    /// The groups of siblings: for each state with edges its children, in order of labels, each as
-    /// what `map_label` gives for its label and its id.
+    /// The groups of siblings: for each state with edges its children by rising labels, each as
+    /// `map_label` of its label and its id. Fails if an allocation does.
     ///
-    /// A group's weight is the probes of the parent and the visits of the children, and 0 where the
-    /// profile is empty. The groups stand by falling weight, and those of one weight in the order
-    /// of a stack that begins with the root: a state is taken off, and its children are put on in
-    /// order of labels.
-    ///
-    /// `daachorse_part_tests` compares groups, their order and their weights.
+    /// The weight of a group is the probes of the parent and the visits of the children, or 0 if
+    /// the profile is empty. Groups come by falling weight. Those of one weight come in the order
+    /// of a stack that begins with the root: popping a state pushes its children by rising labels.
     ///
     /// # Conditions
-    ///
     /// The profile is of this builder's states, and `map_label` may be called with any label.
-    ///
-    /// # Errors
-    ///
-    /// It fails where an allocation does.
     pub fn sibling_groups<F: Fn(L) -> u32 + Drop>(
         &self,
         alloc: A,
@@ -390,7 +340,7 @@ fn child<L: EdgeLabel, V: Copy, A: Allocator>(
     states[id as usize].edges.get(&label).copied()
 }
 
-/// Whether links end at a state: at each with an own output, if matches are leftmost.
+/// Whether links end at a state: with `leftmost`, at each with an output of its own.
 fn stops<L: EdgeLabel, V: Copy, A: Allocator>(
     states: &[NfaBuilderState<L, V, A>],
     leftmost: bool,

@@ -1,14 +1,11 @@
 //! Labels without regard to the case of ASCII letters.
-//!
-//! The layers above may rely on a folded label being that of the folded unit, which takes as many
-//! bytes, and on its form being the label's, folded byte by byte.
 
 ghost use Rattle.std.specs.Prelude.{◌≡◌, ℕ};
 ghost use Rattle.daachorse_model.specs.Folding.{folded_unit, folded};
 
 use crate::edge_label::EdgeLabel;
 
-/// A label that can be folded: A to Z become a to z, and every other label stays.
+/// A label that can be folded: A to Z become a to z, and any other label stays.
 pub trait AsciiFold: EdgeLabel {
     /// The folded label.
     ghost fold: { Self → Self };
@@ -17,17 +14,16 @@ pub trait AsciiFold: EdgeLabel {
     fn folded(&self) -> Self
         ensures { result ≡ fold self.now };
 
-    // Its unit is the folded unit, which is as wide.
+    // Folding a label folds its unit, and keeps the width.
     ghost folds: { (a : Self) → Self.EdgeLabel.unit (fold a) ≡ folded_unit (Self.EdgeLabel.unit a) };
 
     ghost as_wide: { (u : ℕ) → Self.EdgeLabel.width (folded_unit u) ≡ Self.EdgeLabel.width u };
 
-    // Its form is that of the label, folded byte by byte.
+    // Folding a label folds each of its bytes.
     ghost spelled: { (a : Self) → Self.EdgeLabel.form (fold a) ≡ folded (Self.EdgeLabel.form a) };
 }
 
-// Each byte, folded. A fold by a sum takes five instructions where a byte is read off by one, and no
-// branch depends on the byte in either.
+// A table: one load for five instructions, and no branch on the byte.
 static FOLDED: [u8; 256] = *b"\
     \x00\x01\x02\x03\x04\x05\x06\x07\x08\x09\x0a\x0b\x0c\x0d\x0e\x0f\
     \x10\x11\x12\x13\x14\x15\x16\x17\x18\x19\x1a\x1b\x1c\x1d\x1e\x1f\

@@ -1,7 +1,4 @@
-//! A count that contracts alone see, and that takes no byte at run time.
-//!
-//! The layers above may rely on a [`Counter`] growing by one with each increment, by another count
-//! where that is added, and in no other way.
+//! A count for contracts alone, which takes no byte at run time.
 
 ghost use Rattle.std.specs.Prelude.{◌≡◌, ◌+◌};
 
@@ -9,7 +6,7 @@ use std::alloc::AllocError;
 use std::marker::Model;
 use std::snapshot::Snapshot;
 
-/// How a count came to be. Only snapshots of it are kept, which take no bytes.
+/// The history of a count. Only snapshots of it are kept, which take no bytes.
 #[derive(Drop)]
 pub enum Count {
     /// Nothing was counted.
@@ -22,7 +19,7 @@ pub enum Count {
     Sum(Snapshot<Snapshot<Count>>, Snapshot<Snapshot<Count>>),
 }
 
-/// A number that contracts alone see. It takes no byte, and has no greatest value.
+/// A natural number for contracts alone. It takes no byte, and has no greatest value.
 #[derive(Drop)]
 pub struct Counter {
     count: Snapshot<Count>,
@@ -39,7 +36,7 @@ impl Model for Counter {
 }
 
 impl Counter {
-    /// Makes a counter that has counted nothing.
+    /// Starts at zero.
     pub fn new() -> Counter
         ensures { result ≡ 0 }
     {
@@ -48,7 +45,7 @@ impl Counter {
         }
     }
 
-    /// Counts one more.
+    /// Adds one.
     pub fn increment(&mut self)
         ensures { self.new ≡ self.old + 1 }
     {
@@ -56,7 +53,7 @@ impl Counter {
         self.count = Snapshot::of(&more);
     }
 
-    /// Counts as many more as another counter did.
+    /// Adds the count of another counter.
     pub fn add(&mut self, other: &Counter)
         ensures { self.new ≡ self.old + other.now }
     {

@@ -1,7 +1,4 @@
 //! Labels of edges: the units of patterns and haystacks, which are bytes or characters.
-//!
-//! The layers above may rely on a label being one unit: its number tells it from each other one
-//! and gives their order, and its byte form has the length that places count by.
 
 ghost use Rattle.std.specs.Prelude.{◌≡◌, ℕ, ◌<◌, ◌≤◌, ◌^◌, ◌++◌, List, length};
 ghost use Rattle.std.specs.Ordering.{nat_cmp};
@@ -9,48 +6,48 @@ ghost use Rattle.std.specs.Cmp.Lexicographic.{slice_cmp};
 
 /// A label of an edge: a byte or a character.
 pub trait EdgeLabel: Copy + Ord + Drop {
-    /// The values that are labels: 0 to 255, or the scalar values.
+    /// The values that are labels: 0 to 255, or the Unicode scalar values.
     ghost is_label: { Self → Type 0 };
 
-    /// The unit that the label is, as a number.
+    /// The label's unit, as a number.
     ghost unit: { Self → ℕ };
 
-    /// How many bytes a unit of this kind takes in a haystack.
+    /// How many bytes a unit takes in a haystack.
     ghost width: { ℕ → ℕ };
 
-    /// The bytes of the label.
+    /// The bytes of the label: the byte itself, or the UTF-8 of the character.
     ghost form: { Self → List ℕ };
 
     /// Returns how many bytes the label takes: 1 to 4.
     fn num_bytes(&self) -> usize
         ensures { result ≡ width (unit self.now) };
 
-    /// Returns the unit as a number.
+    /// Returns the label's unit.
     fn code(&self) -> u32
         ensures { result ≡ unit self.now };
 
-    /// Does nothing, and promises that a label in hand is one of the values that are labels.
+    /// Does nothing. Its contract says that a label in hand is in range.
     fn in_range(&self)
         ensures { is_label self.now };
 
-    // Two labels of one unit are the same.
+    // Labels of the same unit are equal.
     ghost exact: { (a b : Self) → unit a ≡ unit b → a ≡ b };
 
-    // The order of labels is that of their units.
+    // Labels are ordered by their units.
     ghost by_unit: { (a b : Self) → Self.Ord.cmp a b ≡ nat_cmp (unit a) (unit b) };
 
-    // Each unit takes some bytes, so a place tells how many units stand before it.
+    // Every unit takes at least one byte, so a byte offset says how many units precede it.
     ghost wide: { (u : ℕ) → 1 ≤ width u };
 
-    // A form is as long as the unit is wide, 1 to 4 bytes.
+    // A form has as many bytes as the unit is wide, 1 to 4.
     ghost sized: { (a : Self) → is_label a → length (form a) ≡ width (unit a) };
 
     ghost short: { (a : Self) → is_label a → (1 ≤ width (unit a)) × (width (unit a) ≤ 4) };
 
-    // No form begins another.
+    // Forms are prefix-free.
     ghost apart: { (a b : Self) (x y : List ℕ) → is_label a → is_label b → form a ++ x ≡ form b ++ y → a ≡ b };
 
-    // The order of labels is the order of their forms, byte by byte.
+    // Labels are ordered as their forms are, byte by byte.
     ghost ordered: { (a b : Self) → is_label a → is_label b → Self.Ord.cmp a b ≡ slice_cmp nat_cmp (form a) (form b) };
 }
 
@@ -107,8 +104,7 @@ impl EdgeLabel for char {
 
     ghost form = { encode_utf8 };
 
-    // It is `len_utf8`. The loops of the standard searches count places by it, so ASCII is asked for
-    // first, and the longer ones by a sum of tests.
+    // `len_utf8` for the search loops: ASCII first, and no branch for the rest.
     fn num_bytes(&self) -> usize {
         let code = *self as u32;
         if code < 0x80 {

@@ -1,7 +1,4 @@
 //! The errors, and the exact text of each.
-//!
-//! The layers above may rely on the text that `Display` writes, and on `?` turning each failure
-//! of an allocation into [`DaachorseError::OutOfMemory`].
 
 ghost use Rattle.std.specs.Prelude.{◌≡◌, Some, string_bytes};
 ghost use Rattle.std.specs.IoError.{error_kind};
@@ -20,21 +17,17 @@ const AUTOMATON: &str = "InvalidAutomatonError: invalid serialized automaton";
 
 const MEMORY: &str = "OutOfMemoryError: memory allocation failed";
 
-/// A `Result` whose error is [`DaachorseError`] unless another is named.
-///
-/// `?` turns a failed allocation into [`DaachorseError::OutOfMemory`].
+/// A `Result` whose error is [`DaachorseError`] unless another is named. `?` turns a failed
+/// allocation into [`DaachorseError::OutOfMemory`].
 pub type Result<T, E = DaachorseError> = result::Result<T, E>;
 
-/// The errors that the calls of daachorse return.
-///
-/// Each type of error has `Display` and `Error`, so that `?` also works with `thiserror`. By `?` this
-/// error becomes an `io::Error` too, as in `quick_start`. An error holds no memory.
-/// `daachorse_part_tests` compares every text that is printed.
+/// The errors that the calls of daachorse return. `?` turns this type into an `io::Error` too. It
+/// owns no memory.
 #[derive(Clone, Copy, Debug, PartialEq, Eq)]
 pub enum DaachorseError {
     /// A pattern is too long.
     InvalidArgument(InvalidArgumentError),
-    /// The automaton would pass a limit.
+    /// The automaton would exceed a limit.
     AutomatonScale(AutomatonScaleError),
     /// The index of a pattern has no value of the type asked for.
     InvalidConversion(InvalidConversionError),
@@ -44,12 +37,10 @@ pub enum DaachorseError {
     OutOfMemory(OutOfMemoryError),
 }
 
-/// A limit that an automaton may not exceed.
-///
-/// [`AutomatonScaleError`] has it, and its text names it.
+/// A limit of an automaton. [`AutomatonScaleError`] names it.
 #[derive(Clone, Copy, Debug, PartialEq, Eq)]
 pub enum Limit {
-    /// 16,777,215 patterns that are kept, over bytes.
+    /// 16,777,215 kept patterns, in a bytewise automaton.
     PatternValues,
     /// The state id 4,294,967,295.
     StateId,
@@ -57,48 +48,36 @@ pub enum Limit {
     NumElements,
     /// 4,294,967,295 outputs.
     Outputs,
-    /// The output position 16,777,215, over bytes.
+    /// The output position 16,777,215, in a bytewise automaton.
     OutputPos,
 }
 
-/// A pattern has more than 4,294,967,295 bytes.
-///
-/// A build returns it for the first pattern, in the order of registration, that is too long.
+/// A pattern has more than 4,294,967,295 bytes. A build returns it for the first such pattern.
 #[derive(Clone, Copy, Debug, PartialEq, Eq)]
 pub struct InvalidArgumentError;
 
-/// The automaton would pass a limit.
-///
-/// A build returns it for the first limit that its work would pass.
+/// The automaton would exceed a limit. A build returns it for the first limit that it would exceed.
 #[derive(Clone, Copy, Debug, PartialEq, Eq)]
 pub struct AutomatonScaleError {
-    /// The limit that would be passed.
+    /// The limit that would be exceeded.
     pub limit: Limit,
 }
 
 /// The index of a pattern has no value of the type asked for.
 ///
-/// A build that numbers its patterns returns it before it adds the first. With 257 patterns and
-/// values of type `u8` the index 256 has none (`daachorse_tests` runs this).
+/// A build returns it before it adds any pattern. The index 256 has no value of type `u8`.
 #[derive(Clone, Copy, Debug, PartialEq, Eq)]
 pub struct InvalidConversionError;
 
-/// The bytes are not those of an automaton.
-///
-/// A checked read, `deserialize`, returns it. `daachorse_tests` reads such bytes.
+/// The bytes are not those of an automaton. The checked read, `deserialize`, returns it.
 #[derive(Clone, Copy, Debug, PartialEq, Eq)]
 pub struct InvalidAutomatonError;
 
-/// An allocation failed.
-///
-/// What a call had taken until then is freed again. `daachorse_tests` refuses each request of a
-/// build, a write and a read in turn.
+/// An allocation failed. All that the call had allocated is freed.
 #[derive(Clone, Copy, Debug, PartialEq, Eq)]
 pub struct OutOfMemoryError;
 
-/// A pattern was registered twice. No call returns this error.
-///
-/// It stands here since the Rust crate has it: equal patterns are all kept.
+/// A pattern was registered twice. No call returns this error: equal patterns are all kept.
 #[derive(Debug, Drop)]
 pub struct DuplicatePatternError<A: Allocator = Global> {
     /// The pattern.
@@ -113,7 +92,7 @@ impl DaachorseError {
         DaachorseError::InvalidArgument(InvalidArgumentError)
     }
 
-    /// Makes the error for an automaton that would pass a limit.
+    /// Makes the error for an automaton that would exceed a limit.
     pub fn automaton_scale(limit: Limit) -> DaachorseError
         ensures { result ≡ DaachorseError.AutomatonScale (record { limit = limit }) }
     {

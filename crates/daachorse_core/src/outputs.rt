@@ -1,6 +1,4 @@
-//! Outputs: the values of a state, chained from the longest key to the shortest.
-//!
-//! The layers above may rely on an output keeping its value, its length and its parent.
+//! Outputs: the values of a state, chained from the longest pattern to the shortest.
 
 ghost use Rattle.std.specs.Prelude.{◌≡◌, ◌-◌, ◌≤◌, IsOk};
 ghost use Rattle.daachorse_core.specs.Outputs.{value_of, length_of, parent_of, number};
@@ -9,21 +7,18 @@ use daachorse_model::Match;
 use std::convert::Infallible;
 use std::num::NonZeroU32;
 
-/// One output of a state: a value, the length of its pattern in bytes, and the position of the
-/// next output of the state, counted from 1.
-///
-/// It takes 8 bytes beside its value. An automaton keeps one for each pattern; it has them in a
-/// list, and a state tells where its first output stands.
+/// An output of a state: a value, the length of its pattern in bytes, and the position of the
+/// state's next output, counted from 1. It takes 8 bytes and its value.
 #[derive(Clone, Copy, Debug, PartialEq, Eq, Hash)]
 pub struct Output<V> {
     value: V,
     length: u32,
-    // 0 stands for none, since an `Option<NonZeroU32>` would take twice the bytes.
+    // 0 stands for none: an `Option<NonZeroU32>` would take twice the bytes.
     parent: u32,
 }
 
 impl<V: Copy> Output<V> {
-    /// Makes an output of these parts.
+    /// Makes an output of its parts.
     pub fn new(value: V, length: u32, parent: Option<NonZeroU32>) -> Self
         ensures value { value_of result ≡ value }
         ensures length { length_of result ≡ length }
@@ -57,14 +52,7 @@ impl<V: Copy> Output<V> {
         NonZeroU32::new(self.parent)
     }
 
-    /// Returns the output as a match that ends at `end`, a place in bytes.
-    ///
-    /// An output of length 2 and the end 3 give the match from 1 to 3 (`daachorse_part_tests` runs
-    /// this).
-    ///
-    /// # Conditions
-    ///
-    /// `end` is at least the length of the pattern.
+    /// Returns the match that ends at byte `end`, which is at least the length of the pattern.
     pub fn to_match(&self, end: usize) -> Match<V>
         requires { length_of self.now ≤ end }
         ensures { result ≡ record { start = end - length_of self.now; end = end; value = value_of self.now } }
@@ -77,9 +65,7 @@ impl<V: Copy> Output<V> {
     }
 }
 
-/// A value type of no size, for automata whose matches need no value. Every index converts to it.
-///
-/// An output then takes no byte for its value. `daachorse_tests` builds such an automaton.
+/// A value type of size zero, for automata whose matches need no value. Every index converts to it.
 #[derive(Clone, Copy, Debug, Default, PartialEq, Eq, Hash)]
 pub struct Empty;
 

@@ -1,10 +1,7 @@
 //! What a search did, for contracts alone: how many turns it took, and which units it read.
 //!
-//! Neither [`Turns`] nor [`Seen`] takes a byte at run time. The layers above may rely on the
-//! number of `Turns` growing by one with each tick, by the turns of another walk where these are
-//! added, and in no other way, and on `Seen` holding just what was pushed. Each search makes its
-//! own, and hands out neither to be changed. What makes rows drops the turns of each step it looks
-//! up. A search learns where to go by looks alone.
+//! A turn is a look at one state. A search keeps its own [`Turns`] and [`Seen`], which take no byte
+//! at run time.
 
 ghost use Rattle.std.specs.Prelude.{◌≡◌, ◌+◌, ◌++◌, ◌∷◌, []};
 ghost use Rattle.daachorse_core.specs.Seen.{unread};
@@ -18,17 +15,13 @@ use std::snapshot::Snapshot;
 /// What a look at one state returns.
 #[derive(Clone, Copy, Debug, PartialEq, Eq)]
 pub enum Look {
-    /// The step ends at this state, however many links lead there. Its first output, if it has one,
-    /// is at this position.
+    /// The step ends at this state, whose first output, if any, is at this position.
     Next(u32, Option<NonZeroU32>),
-    /// The failure link leads to this state, which is to be looked at next.
+    /// The failure link leads to this state, which is looked at next.
     Fail(u32),
 }
 
-/// How many looks at a state a search took. It takes no bytes, and has no greatest value.
-///
-/// Contracts speak of it where they bound the work of a search: `count_each` of `daachorse_uses`
-/// counts by rule with at most two turns for each byte.
+/// How many turns a search took. Contracts bound its work by them.
 #[derive(Drop)]
 pub struct Turns {
     count: Counter,
@@ -43,7 +36,7 @@ impl Model for Turns {
 }
 
 impl Turns {
-    /// Makes a count of no turns. It is for a search's own use.
+    /// Starts at no turns.
     pub fn new() -> Turns
         ensures { result ≡ 0 }
     {
@@ -52,14 +45,14 @@ impl Turns {
         }
     }
 
-    /// Counts one turn. It is for `turn`'s own use.
+    /// Counts one turn.
     pub fn tick(&mut self)
         ensures { self.new ≡ self.old + 1 }
     {
         self.count.increment();
     }
 
-    /// Counts the turns of another walk too. It is for a search's own use.
+    /// Counts the turns of another walk too.
     pub fn add(&mut self, other: &Turns)
         ensures { self.new ≡ self.old + other.now }
     {
@@ -81,29 +74,28 @@ impl Clone for Turns {
     }
 }
 
-/// How a search went. Only snapshots of it are kept, which take no bytes.
+/// The history of a search. Only snapshots of it are kept, which take no bytes.
 #[derive(Drop)]
 pub enum History {
     /// Nothing happened.
     Start,
     /// As before.
     Same(Snapshot<Snapshot<History>>),
-    /// One more unit was read, and looked up.
+    /// A unit was read and looked up.
     Read(Snapshot<Snapshot<History>>, u32),
-    /// One more unit was read and not looked up; the search begins again at the root behind it.
+    /// A unit was read and not looked up; the search restarts after it.
     Skip(Snapshot<Snapshot<History>>, u32),
-    /// The search began again at the root.
+    /// The search restarted at the root.
     Restart(Snapshot<Snapshot<History>>),
-    /// One more match was given.
+    /// A match was returned.
     Give(Snapshot<Snapshot<History>>),
 }
 
 /// The units that a search has read, the place from which its state counts, the units that it
-/// looked up, and the number of matches that it gave. It takes no bytes.
+/// looked up, and the number of matches that it returned.
 ///
-/// A walk keeps the units, and gives no match by itself. A search keeps one for the number alone:
-/// its units are those of its walk, or those of the haystack before the place where it goes on. A
-/// stepper keeps no number: it tells the matches that end there as often as it is asked, and gives none.
+/// A walk keeps the units, and a search the number alone. A stepper counts no matches, since it
+/// reports those at an end as often as it is asked.
 #[derive(Drop)]
 pub struct Seen {
     history: Snapshot<History>,
@@ -120,7 +112,7 @@ impl Model for Seen {
 }
 
 impl Seen {
-    /// Makes the record of a search that has read nothing. It is for a search's own use.
+    /// The record of a search that has read nothing.
     pub fn new() -> Seen
         ensures { result ≡ unread }
     {
@@ -129,7 +121,7 @@ impl Seen {
         }
     }
 
-    /// Notes that one more unit was read, and looked up.
+    /// Records a unit that was read and looked up.
     pub fn push(&mut self, unit: u32)
         ensures { self.new ≡ record self.old { since = self.old.since ++ unit ∷ []; looked = self.old.looked ++ unit ∷ [] } }
     {
@@ -137,8 +129,7 @@ impl Seen {
         self.history = Snapshot::of(&read);
     }
 
-    /// Notes that one more unit was read and not looked up: the search begins again at the root
-    /// behind it.
+    /// Records a unit that was read and not looked up; the search restarts after it.
     pub fn skip(&mut self, unit: u32)
         ensures { self.new ≡ record self.old { before = (self.old.before ++ self.old.since) ++ unit ∷ []; since = [] } }
     {
@@ -146,7 +137,7 @@ impl Seen {
         self.history = Snapshot::of(&skip);
     }
 
-    /// Notes that the search begins again at the root: its state counts from here on.
+    /// Records that the search restarts at the root: its state counts from here on.
     pub fn restart(&mut self)
         ensures { self.new ≡ record self.old { before = self.old.before ++ self.old.since; since = [] } }
     {
@@ -154,7 +145,7 @@ impl Seen {
         self.history = Snapshot::of(&restart);
     }
 
-    /// Notes that one more match was given.
+    /// Records that a match was returned.
     pub fn give(&mut self)
         ensures { self.new ≡ record self.old { given = self.old.given + 1 } }
     {

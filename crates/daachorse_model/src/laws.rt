@@ -1,9 +1,7 @@
-//! What the lists of matches and of patterns promise: functions that do nothing, for their contracts.
-//! A haystack and a pattern are lists of units; `width` is `byte_width` or `char_width`, or any other.
+//! Laws of matches and patterns: functions that do nothing, called for their contracts.
 //!
-//! A caller who proves something calls a law where it is needed: behind the call its clauses are
-//! known of all patterns and all haystacks. A call does nothing and takes no memory.
-//! `daachorse_part_tests` calls laws at a type.
+//! After a call its clauses are known of all patterns and all haystacks. These are lists of units;
+//! `width` is `byte_width`, `char_width` or any other width.
 
 ghost use Rattle.std.specs.Prelude.{◌≡◌, ◌↔◌, ℕ, Bool, List, [], All, Contains, length, encode_utf8_all, option_to_list};
 ghost use Rattle.std.specs.Str.{IsCharBoundary, IsUtf8, chars};
@@ -19,8 +17,8 @@ ghost use Rattle.daachorse_model.specs.Laws.{IsOccurrence, IsReadOccurrence, IsR
 
 use crate::MatchKind;
 
-/// Each match's part of the haystack is, as it is read, a kept pattern, which is a registered one as
-/// it is read, with the match's value; and each such part is an overlapping match.
+/// Every match is an occurrence of a registered pattern with its value, and every occurrence of a
+/// kept pattern is an overlapping match. With `folds`, ASCII case is disregarded.
 pub fn matches_occur<V: Copy>(kind: MatchKind)
     ensures overlapping { (folds : Bool) (width : ℕ → ℕ) (patterns : List (List ℕ × V)) (h : List ℕ)
         → let K = dictionary kind (texts_as_read folds patterns) in All (IsReadOccurrence folds width K h) (overlapping width K (as_read folds h)) }
@@ -36,21 +34,21 @@ pub fn matches_occur<V: Copy>(kind: MatchKind)
         → All (IsRegistered folds patterns w) (dictionary kind (texts_as_read folds patterns) w) }
 {}
 
-/// Matches of standard and leftmost searches do not overlap, and their places never fall.
+/// Standard and leftmost matches do not overlap, and come in the order of their places.
 pub fn matches_follow<V: Copy>(kind: MatchKind)
     ensures standard { (width : ℕ → ℕ) (patterns : List (List ℕ × V)) (h : List ℕ) → Follows 0 (standard width (dictionary kind patterns) h) }
     ensures leftmost { (width : ℕ → ℕ) (patterns : List (List ℕ × V)) (h : List ℕ) → Follows 0 (leftmost width (dictionary kind patterns) h) }
 {}
 
-/// Each leftmost match is the longest kept pattern that occurs at its start, with the value that
-/// was registered first for it. `LeftmostLongest` keeps every pattern.
+/// A leftmost match is the longest kept pattern that occurs at its start, with the value that was
+/// registered first for it. `LeftmostLongest` keeps every pattern.
 pub fn leftmost_is_longest<V: Copy>(kind: MatchKind)
     ensures { (width : ℕ → ℕ) (patterns : List (List ℕ × V)) (h : List ℕ)
         → let K = dictionary kind patterns in All (IsLongestAtStart width K h) (leftmost width K h) }
 {}
 
-/// `LeftmostFirst` reports at a start the earliest registered pattern that occurs there,
-/// and its answers are those of `LeftmostLongest` over the list without the dropped ones.
+/// A match of `LeftmostFirst` is the earliest registered pattern that occurs at its start. The
+/// matches are those of `LeftmostLongest` over the kept patterns.
 pub fn leftmost_first_is_earliest<V: Copy>()
     ensures earliest { (width : ℕ → ℕ) (patterns : List (List ℕ × V)) (h : List ℕ)
         → All (IsEarliestAtStart width patterns h) (leftmost width (dictionary MatchKind.LeftmostFirst patterns) h) }
@@ -59,8 +57,8 @@ pub fn leftmost_first_is_earliest<V: Copy>()
         ≡ leftmost width (dictionary MatchKind.LeftmostLongest (kept_registrations MatchKind.LeftmostFirst patterns)) h }
 {}
 
-/// On text, with text patterns none of which is empty, bytes and characters give the same matches,
-/// with and without regard to the case of ASCII letters.
+/// On text and nonempty patterns of text, bytes and characters give the same matches, with or
+/// without regard to ASCII case.
 pub fn same_on_text<V: Copy>(kind: MatchKind)
     ensures overlapping { (folds : Bool) (patterns : List (List ℕ × V)) (h : List ℕ) → dictionary kind (texts_as_read folds patterns) [] ≡ []
         → overlapping byte_width (dictionary kind (texts_as_read folds (in_bytes patterns))) (as_read folds (encode_utf8_all h))
@@ -76,13 +74,12 @@ pub fn same_on_text<V: Copy>(kind: MatchKind)
         ≡ leftmost char_width (dictionary kind (texts_as_read folds patterns)) (as_read folds h) }
 {}
 
-/// Texts of characters have one order: by their characters, and by the bytes of their UTF-8.
+/// Texts have one order, by their characters or by the bytes of their UTF-8.
 pub fn ordered_by_bytes()
     ensures { (v w : List ℕ) → slice_cmp nat_cmp v w ≡ slice_cmp nat_cmp (encode_utf8_all v) (encode_utf8_all w) }
 {}
 
-/// The standard matches are, in order, those that the search over each beginning of the haystack
-/// ends with.
+/// The standard matches, in order, are those found at the end of each prefix of the haystack.
 pub fn standard_end_by_end<V: Copy>(kind: MatchKind)
     ensures bytes { (patterns : List (List ℕ × V)) (h : List ℕ) → let K = dictionary kind patterns in
         at_each_end (λ t. option_to_list (standard_after byte_width K t)) [] h ≡ standard byte_width K h }
@@ -90,8 +87,8 @@ pub fn standard_end_by_end<V: Copy>(kind: MatchKind)
         at_each_end (λ t. option_to_list (standard_after char_width K t)) [] h ≡ standard char_width K h }
 {}
 
-/// Texts as they are read, with or without regard to the case of ASCII letters, keep the sizes and the boundaries of
-/// texts, in bytes and in characters, and are read as they are.
+/// Folding the case of ASCII letters keeps the sizes and boundaries of texts, and commutes with
+/// UTF-8.
 pub fn folding_keeps_places()
     ensures again { (w : List ℕ) → folded (folded w) ≡ folded w }
     ensures length { (w : List ℕ) → length (folded w) ≡ length w }

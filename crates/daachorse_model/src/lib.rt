@@ -1,8 +1,4 @@
 //! What the searches mean: the definitions, in `specs/`, and plain slow searches that compute them.
-//!
-//! The layers above take from here the words of their contracts (which values a text has, which
-//! matches a haystack has, what the states of an automaton are) and the lemmas about them, in
-//! `proofs/`.
 #![tactic(auto)]
 
 ghost use Rattle.std.specs.Prelude.{◌≡◌};
@@ -10,19 +6,18 @@ ghost use Rattle.daachorse_model.specs.Kinds.{is_standard, is_leftmost, is_leftm
 
 /// How matches are found.
 ///
-/// An automaton is built for one kind. Of the patterns `ab`, `abcd` and `bc`, in this order, in the
-/// haystack `xabcd` the first match is `ab` for `Standard`, `abcd` for `LeftmostLongest`, and `ab`
-/// for `LeftmostFirst` (`daachorse_tests` runs this).
+/// An automaton is built for one kind. With the patterns `ab`, `abcd` and `bc`, in this order, the
+/// first match in `xabcd` is `ab` for `Standard`, `abcd` for `LeftmostLongest`, and `ab` for
+/// `LeftmostFirst`.
 #[derive(Clone, Copy, Debug, PartialEq, Eq, Hash)]
 pub enum MatchKind {
-    /// Finds non-overlapping matches, each of which ends as early as possible; of those that end
-    /// there it finds the longest.
+    /// Non-overlapping matches, each ending as early as possible and the longest that ends there.
     Standard,
-    /// Finds non-overlapping matches, each of which starts as early as possible; of those that
-    /// start there it finds the longest.
+    /// Non-overlapping matches, each starting as early as possible and the longest that starts
+    /// there.
     LeftmostLongest,
-    /// Finds non-overlapping matches, each of which starts as early as possible; of those that
-    /// start there it finds the one whose pattern was registered first.
+    /// Non-overlapping matches, each starting as early as possible; of the patterns that start
+    /// there, the one that was registered first.
     LeftmostFirst,
 }
 
@@ -49,7 +44,7 @@ impl MatchKind {
     }
 }
 
-/// The kind of a byte: 1 and 2 stand for the leftmost kinds, each other byte for `Standard`.
+/// The kind of a byte: 1 is `LeftmostLongest`, 2 `LeftmostFirst`, and any other byte `Standard`.
 impl From<u8> for MatchKind {
     ghost from_gives = { λ byte kind. kind ≡ kind_of_byte byte };
 
@@ -75,12 +70,10 @@ impl From<MatchKind> for u8 {
     }
 }
 
-/// A match: the part of the haystack from `start` to `end` is a pattern that has `value`.
-/// Both places are byte offsets.
+/// A match: a pattern with `value` occurs in the haystack from `start` to `end`, in bytes.
 ///
-/// The parts can be read as fields and by calls. A match holds nothing of the haystack: it is two
-/// places and the value. Where `bc` has the value 2, its match in the haystack `abcd` has `start`
-/// 1, `end` 3 and `value` 2 (`quick_start` prints it).
+/// A match borrows nothing from the haystack. If `bc` has the value 2, its match in `abcd` starts
+/// at 1, ends at 3 and has the value 2.
 #[derive(Clone, Copy, Debug, PartialEq, Eq, Hash)]
 pub struct Match<V> {
     /// Where the match starts, in bytes.

@@ -1,7 +1,7 @@
 //! Plain searches that compare every part of the haystack with every pattern.
 //!
-//! A text is a slice of its units: bytes, or the codes of characters. The results are the
-//! definitions themselves, so a test may hold any faster search against them.
+//! A text is a slice of its units: bytes, or the codes of characters. The searches compute the
+//! definitions themselves, so that tests can compare faster searches with them.
 
 ghost use Rattle.std.specs.Prelude.{◌≡◌, ◌+◌, ◌++◌, [], take, OnOk, IfOk, slice_get};
 ghost use Rattle.daachorse_model.specs.Units.{size};
@@ -51,7 +51,7 @@ impl Width {
     }
 }
 
-/// What is looked for at each end.
+/// Which matches are reported at an end.
 #[derive(Clone, Copy)]
 enum AtEnd {
     /// Every match.
@@ -84,7 +84,7 @@ fn push_values<V: Copy, A: Allocator>(
     Ok(())
 }
 
-/// Appends the matches at the ends of `text`, which stands from `start` to `end`.
+/// Appends the matches of the suffixes of `text`, which runs from `start` to `end`.
 fn push_ending_at<V: Copy, A: Allocator>(
     found: &mut Vec<Match<V>, A>,
     width: Width,
@@ -104,7 +104,7 @@ fn push_ending_at<V: Copy, A: Allocator>(
     push_values(found, patterns, &[], end, end)
 }
 
-/// The first match at the ends of `text`, which stands from `start` to `end`.
+/// The first match of a suffix of `text`, which runs from `start` to `end`.
 fn first_ending_at<V: Copy, A: Allocator + Copy>(
     alloc: A,
     width: Width,
@@ -121,7 +121,7 @@ fn first_ending_at<V: Copy, A: Allocator + Copy>(
     Ok(found.first().copied())
 }
 
-/// Appends that first match.
+/// Appends the match of [`first_ending_at`], if there is one.
 fn push_first_ending_at<V: Copy, A: Allocator + Copy>(
     found: &mut Vec<Match<V>, A>,
     width: Width,
@@ -140,7 +140,7 @@ fn push_first_ending_at<V: Copy, A: Allocator + Copy>(
     Ok(())
 }
 
-/// Appends the matches that are looked for at the end of `text`, the haystack so far.
+/// Appends the matches to report at the end of `text`, the haystack so far.
 fn push_at_end<V: Copy, A: Allocator + Copy>(
     found: &mut Vec<Match<V>, A>,
     at_end: AtEnd,
@@ -158,7 +158,7 @@ fn push_at_end<V: Copy, A: Allocator + Copy>(
     }
 }
 
-/// The matches that are looked for, at each end in turn.
+/// The matches to report, end by end.
 fn search_each_end<V: Copy, A: Allocator + Copy>(
     alloc: A,
     at_end: AtEnd,
@@ -176,13 +176,8 @@ fn search_each_end<V: Copy, A: Allocator + Copy>(
     Ok(found)
 }
 
-/// Finds every match of the patterns in the haystack, also those that overlap.
-///
-/// Matches come by rising ends, and at one end the longest pattern comes first.
-///
-/// # Errors
-///
-/// An allocation failed.
+/// Finds every match of the patterns in the haystack, overlapping ones too: by rising ends, and at
+/// each end the longest first. Fails if an allocation does.
 pub fn overlapping_slowly<V: Copy, A: Allocator + Copy>(
     alloc: A,
     width: Width,
@@ -194,11 +189,7 @@ pub fn overlapping_slowly<V: Copy, A: Allocator + Copy>(
     search_each_end(alloc, AtEnd::Every, width, patterns, haystack)
 }
 
-/// Finds the match of the longest pattern at each end.
-///
-/// # Errors
-///
-/// An allocation failed.
+/// Finds the match of the longest pattern at each end. Fails if an allocation does.
 pub fn no_suffix_slowly<V: Copy, A: Allocator + Copy>(
     alloc: A,
     width: Width,
@@ -222,8 +213,7 @@ fn first_value<V: Copy>(patterns: &[(&[u32], V)], text: &[u32]) -> Option<V>
     None
 }
 
-/// From the end of the last match the first end, and there the longest pattern: where none is
-/// empty.
+/// Standard matches if no pattern is empty: after each match the first end, and the longest there.
 fn search_nonempty<V: Copy, A: Allocator + Copy>(
     alloc: A,
     width: Width,
@@ -246,13 +236,9 @@ fn search_nonempty<V: Copy, A: Allocator + Copy>(
     Ok(found)
 }
 
-/// Finds non-overlapping matches, each of which ends as early as possible, and there the longest.
+/// Finds non-overlapping matches, each of which ends as early as possible and is the longest there.
 ///
-/// With an empty pattern there is one empty match at each boundary.
-///
-/// # Errors
-///
-/// An allocation failed.
+/// With an empty pattern there is one empty match at each boundary. Fails if an allocation does.
 pub fn standard_slowly<V: Copy, A: Allocator + Copy>(
     alloc: A,
     width: Width,

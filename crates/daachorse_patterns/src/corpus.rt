@@ -1,8 +1,4 @@
-//! The documents by which the states of an automaton are laid out, and what searches over them
-//! read of a trie.
-//!
-//! The layers above may rely on a copy of each document being kept, folded where it is asked for,
-//! and on there being counts for each state where there is a document.
+//! The documents by which states are laid out, and what searches over them read of a trie.
 
 ghost use Rattle.std.specs.Prelude.{◌≡◌, [], length, map, IfOk, IfErr};
 ghost use Rattle.daachorse_build.specs.Builders.{states_of};
@@ -27,11 +23,7 @@ pub struct Corpus<L: EdgeLabel, A: Allocator> {
 }
 
 impl<L: EdgeLabel, A: Allocator + Copy> Corpus<L, A> {
-    /// Copies documents.
-    ///
-    /// # Errors
-    ///
-    /// An allocation failed.
+    /// Copies the documents. Fails if an allocation does.
     pub fn copy_of<P: Pattern<L>>(alloc: A, documents: &[P]) -> Result<Self>
         ensures ok { IfOk result (λ corpus. documents_of L.unit corpus ≡ map P.units documents.now) }
         ensures err { IfErr result IsOutOfMemory }
@@ -45,11 +37,8 @@ impl<L: EdgeLabel, A: Allocator + Copy> Corpus<L, A> {
         Ok(Self { documents: copies })
     }
 
-    /// What searches over the documents read of a trie: nothing is counted without a document.
-    ///
-    /// # Errors
-    ///
-    /// An allocation failed.
+    /// What searches over the documents read of a trie. It is empty if there is no document. Fails
+    /// if an allocation does.
     pub fn profile<V: Copy, H: Fn(L) -> bool>(
         &self,
         alloc: A,
@@ -74,7 +63,7 @@ impl<L: EdgeLabel, A: Allocator + Copy> Corpus<L, A> {
 }
 
 impl<L: AsciiFold, A: Allocator> Corpus<L, A> {
-    /// Folds the documents: A to Z become a to z, and every other label stays. It takes no memory.
+    /// Folds the documents: A to Z become a to z, and any other label stays.
     pub fn fold(&mut self)
         ensures { documents_of L.EdgeLabel.unit self.new ≡ map folded (documents_of L.EdgeLabel.unit self.old) }
     {
@@ -84,7 +73,6 @@ impl<L: AsciiFold, A: Allocator> Corpus<L, A> {
     }
 }
 
-/// Folds each label.
 fn fold_labels<L: AsciiFold>(labels: &mut [L])
     ensures { map L.EdgeLabel.unit labels.new ≡ folded (map L.EdgeLabel.unit labels.old) }
 {
@@ -93,7 +81,7 @@ fn fold_labels<L: AsciiFold>(labels: &mut [L])
     }
 }
 
-/// Counts searches over documents.
+/// Counts searches over the documents.
 fn count_all<L: EdgeLabel, V: Copy, A: Allocator + Copy, H: Fn(L) -> bool>(
     nfa: &NfaBuilder<L, V, A>,
     documents: &[Vec<L, A>],

@@ -1,7 +1,4 @@
-//! The filter of patterns.
-//!
-//! The layers above may rely on the filter being that of all patterns, those too that a kind leaves
-//! out, and so on its passing at each key of their dictionary.
+//! The prefilter of patterns, those too that a kind leaves out.
 
 ghost use Rattle.std.specs.Prelude.{◌≡◌, map, IfOk, IfErr};
 ghost use Rattle.daachorse_core.specs.Refusals.{IsOutOfMemory};
@@ -17,11 +14,7 @@ use daachorse_core::errors::Result;
 use daachorse_prefilter::prefilter::{Prefilter, PrefilterBuilder};
 use std::alloc::Allocator;
 
-/// The filter of these patterns, if one is wanted and worth its run.
-///
-/// # Errors
-///
-/// An allocation failed.
+/// The prefilter of these patterns, if wanted and worth its run. Fails if an allocation does.
 pub fn build_filter<L: EdgeLabel, P: Pattern<L>, V: Copy, A: Allocator>(
     alloc: A,
     wanted: bool,

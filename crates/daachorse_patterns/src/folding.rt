@@ -1,7 +1,4 @@
 //! Patterns without regard to the case of ASCII letters.
-//!
-//! The layers above may rely on what copies lend being the patterns that were copied, in order, each
-//! with its text folded and with its value.
 
 ghost use Rattle.std.specs.Prelude.{◌≡◌, IfOk, IfErr};
 ghost use Rattle.std.specs.Str.{chars};
@@ -13,11 +10,7 @@ ghost use Rattle.daachorse_patterns.specs.Patterns.{texts_of};
 use daachorse_core::errors::Result;
 use std::alloc::Allocator;
 
-/// Copies patterns of bytes, and folds each copy.
-///
-/// # Errors
-///
-/// An allocation failed.
+/// Copies patterns of bytes, and folds each copy. Fails if an allocation does.
 pub fn fold_bytes<V: Copy, A: Allocator + Copy>(
     alloc: A,
     patterns: &[(&[u8], V)],
@@ -34,11 +27,7 @@ pub fn fold_bytes<V: Copy, A: Allocator + Copy>(
     Ok(copies)
 }
 
-/// The patterns that copies of bytes stand for, as they are to be built from.
-///
-/// # Errors
-///
-/// An allocation failed.
+/// Lends copies of bytes as patterns. Fails if an allocation does.
 pub fn lend_bytes<'c, V: Copy, A: Allocator + Copy>(
     alloc: A,
     copies: &'c [(Vec<u8, A>, V)],
@@ -53,11 +42,7 @@ pub fn lend_bytes<'c, V: Copy, A: Allocator + Copy>(
     Ok(lent)
 }
 
-/// Copies patterns of characters, and folds each copy.
-///
-/// # Errors
-///
-/// An allocation failed.
+/// Copies patterns of text, and folds each copy. Fails if an allocation does.
 pub fn fold_strings<V: Copy, A: Allocator + Copy>(
     alloc: A,
     patterns: &[(&str, V)],
@@ -74,11 +59,7 @@ pub fn fold_strings<V: Copy, A: Allocator + Copy>(
     Ok(copies)
 }
 
-/// The patterns that copies of strings stand for, as they are to be built from.
-///
-/// # Errors
-///
-/// An allocation failed.
+/// Lends copies of text as patterns. Fails if an allocation does.
 pub fn lend_strings<'c, V: Copy, A: Allocator + Copy>(
     alloc: A,
     copies: &'c [(String<A>, V)],

@@ -1,7 +1,4 @@
 //! The items of an iterator, and the value of each item's index.
-//!
-//! The layers above may rely on all items being there in order, each with the value that its index
-//! is converted to.
 
 ghost use Rattle.std.specs.Prelude.{◌≡◌, ◌⊎◌, IfOk, IfErr};
 ghost use Rattle.std.specs.Iterator.{IsFinite};
@@ -12,12 +9,10 @@ ghost use Rattle.daachorse_patterns.specs.Patterns.{AreIndexed, HasNoValue};
 use daachorse_core::errors::{DaachorseError, Result};
 use std::alloc::Allocator;
 
-/// All that an iterator gives. Room is made as it comes, and not by the iterator's own estimate,
-/// so that each refused growth is an error.
+/// All items of an iterator. Fails if an allocation does.
 ///
-/// # Errors
-///
-/// An allocation failed.
+/// Room is made as they come, not by the iterator's own estimate, so that every refused growth is
+/// an error.
 pub fn gather<T: Copy, I: Iterator<Item = T> + Drop, A: Allocator>(
     alloc: A,
     items: I,
@@ -34,11 +29,10 @@ pub fn gather<T: Copy, I: Iterator<Item = T> + Drop, A: Allocator>(
     Ok(all)
 }
 
-/// The items, each with the value that its index, counted from 0, is converted to.
+/// The items, each with the value that its index, counted from 0, converts to.
 ///
 /// # Errors
-///
-/// `InvalidConversion` where an index has no value, and out of memory.
+/// `InvalidConversion` if an index has no value, or out of memory.
 pub fn indexed<T: Copy, V: Copy + TryFrom<usize>, A: Allocator + Copy>(
     alloc: A,
     items: &[T],

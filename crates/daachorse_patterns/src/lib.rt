@@ -1,9 +1,7 @@
-//! Building from patterns, once for automata over bytes and over characters: the patterns that an
-//! iterator gives, their values, and the trie of them, with its links and outputs.
+//! From patterns to a trie, once for automata over bytes and over characters.
 //!
-//! The layers above may rely on the trie holding just the dictionary of the patterns, and on the
-//! order of the refusals: all indexes are converted first, then the patterns are added in order,
-//! and the limit on their number is tested last; the first refusal ends the build.
+//! The first refusal ends a build. All indexes are converted first, then the patterns are added in
+//! order, and the limit on their number is tested last.
 #![tactic(auto)]
 
 pub mod corpus;

@@ -1,7 +1,4 @@
-//! Patterns of an automaton.
-//!
-//! The layers above may rely on the labels of a pattern being those of its units, and on its bytes
-//! being those of the text of its units.
+//! The patterns of an automaton: bytes or text.
 
 ghost use Rattle.std.specs.Prelude.{◌≡◌, ℕ, List, IfOk, IfErr, map};
 ghost use Rattle.daachorse_core.specs.Refusals.{IsOutOfMemory};
@@ -18,11 +15,8 @@ pub trait Pattern<L: EdgeLabel>: Copy {
     /// The bytes of a text of units.
     ghost spell: { List ℕ → List ℕ };
 
-    /// The labels of the pattern. They may be put into the buffer, which loses what it held.
-    ///
-    /// # Errors
-    ///
-    /// An allocation failed.
+    /// The labels of the pattern, if need be in the buffer, which loses what it held. Fails if an
+    /// allocation does.
     fn labels<'b, A: Allocator>(&'b self, buffer: &'b mut Vec<L, A>) -> Result<&'b [L]>
         ensures ok { IfOk result (λ labels. map L.unit labels.now ≡ units self.now) }
         ensures err { IfErr result IsOutOfMemory };

@@ -1,8 +1,4 @@
-//! What the builders of both automata are told.
-//!
-//! The layers above may rely on settings that nothing was told being for the standard searches,
-//! with a filter, no corpus and every text as it is, and taking no memory; and on a build's
-//! documents being folded where its patterns are.
+//! The settings of the builders of both automata.
 
 ghost use Rattle.std.specs.Prelude.{◌≡◌, true, false, None, option_map};
 ghost use Rattle.daachorse_model.specs.declared.MatchKind.TheVariants.{Standard};
@@ -15,21 +11,21 @@ use daachorse_core::ascii_fold::AsciiFold;
 use daachorse_core::edge_label::EdgeLabel;
 use std::alloc::Allocator;
 
-/// What a builder was told of the automata that it builds, over labels of type `L`.
+/// The settings of a builder of automata over labels of type `L`.
 #[derive(Drop)]
 pub struct Settings<L: EdgeLabel, A: Allocator> {
     /// The kind of searches that an automaton is built for.
     pub match_kind: MatchKind,
-    /// Whether an automaton gets a filter, where its patterns allow one.
+    /// Whether an automaton gets a prefilter, if its patterns allow one.
     pub use_prefilter: bool,
-    /// The documents by which the states of an automaton are laid out, if there are any.
+    /// The documents by which states are laid out, if there are any.
     pub corpus: Option<Corpus<L, A>>,
     /// Whether an automaton searches without regard to the case of ASCII letters.
     pub ascii_case_insensitive: bool,
 }
 
 impl<L: EdgeLabel, A: Allocator> Settings<L, A> {
-    /// Makes the settings of a builder that was told nothing.
+    /// The default settings.
     pub fn new() -> Self
         ensures kind { result.match_kind ≡ Standard }
         ensures filter { result.use_prefilter ≡ true }
@@ -46,9 +42,7 @@ impl<L: EdgeLabel, A: Allocator> Settings<L, A> {
 }
 
 impl<L: AsciiFold, A: Allocator> Settings<L, A> {
-    /// The same settings, with their documents as a build reads them: folded where patterns are.
-    ///
-    /// It takes no memory.
+    /// The same settings, with the documents folded if patterns are.
     pub fn with_documents_as_read(mut self) -> Self
         ensures kind { result.match_kind ≡ self.match_kind }
         ensures filter { result.use_prefilter ≡ self.use_prefilter }

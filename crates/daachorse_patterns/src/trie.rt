@@ -1,7 +1,4 @@
 //! The trie of patterns with values, its links and its outputs.
-//!
-//! The layers above may rely on its dictionary being that of the patterns for the kind of searches,
-//! and on each refusal being the first in the order of the work.
 
 ghost use Rattle.std.specs.Prelude.{◌≡◌, ◌≤◌, [], None, ◌<◌, IfOk, IfErr, IfSome, IsSomeAnd, OnOk, length};
 ghost use Rattle.daachorse_core.specs.Refusals.{IsOutOfMemory};
@@ -20,15 +17,15 @@ use daachorse_core::edge_label::EdgeLabel;
 use daachorse_core::errors::{DaachorseError, Limit, Result};
 use std::alloc::Allocator;
 
-/// The trie of these patterns and values, with the links of searches of this kind and its outputs.
-/// `max_patterns` limits the patterns that are kept; with `None` only the limit on outputs holds.
+/// The trie of these patterns and values, with links for searches of this kind, and with outputs.
+///
+/// `max_patterns` limits the kept patterns; with `None` only the limit on outputs holds.
 ///
 /// # Errors
-///
-/// The patterns are added in order: `InvalidArgument` for one of more than 4,294,967,295 bytes,
-/// and `AutomatonScale` for one with which there are more than 4,294,967,295 texts that begin a
-/// pattern. After the last, `AutomatonScale` for more patterns than may be kept; without a limit
-/// of their own, for more than 4,294,967,295 outputs. `OutOfMemory` where an allocation fails.
+/// As the patterns are added in order, `InvalidArgument` for one of more than 4,294,967,295 bytes,
+/// and `AutomatonScale` for one with which more than 4,294,967,295 texts begin a pattern. After the
+/// last, `AutomatonScale` for more kept patterns than the limit or, without one, for more than
+/// 4,294,967,295 outputs. `OutOfMemory` if an allocation fails.
 pub fn build_trie<L: EdgeLabel, P: Pattern<L>, V: Copy, A: Allocator + Copy>(
     alloc: A,
     kind: MatchKind,
@@ -82,7 +79,7 @@ fn check_count(num_patterns: usize, max_patterns: Option<usize>) -> Result<()>
     Ok(())
 }
 
-/// Sets the links of a trie's states, and answers their order.
+/// Sets the links of a trie's states, and returns their order.
 fn build_links<L: EdgeLabel, V: Copy, A: Allocator + Copy>(
     alloc: A,
     kind: MatchKind,

@@ -1,8 +1,4 @@
 //! The placement of groups of siblings in a double array.
-//!
-//! The layers above may rely on the contract of [`BuildHelper::new`]: under its base each group
-//! stands in elements of its own, all in one block. The exact places are no promise of the
-//! contract; the tests fix them.
 
 ghost use Rattle.std.specs.Prelude.{◌≡◌, ℕ, ◌+◌, ◌*◌, ◌<◌, ◌≤◌, ◌^◌, ◌||◌, List, [], ◌∷◌, length, slice_index_or, false, IfOk, IfErr, IfSome, IfNone, OnOk};
 ghost use Rattle.std.specs.Int.{IsPowerOfTwo};
@@ -22,26 +18,23 @@ pub use profile::Profile;
 use std::alloc::{Allocator, Global};
 use std::marker::Model;
 
-/// A parent's children, which are placed together.
-///
-/// A child is its label and its state id. The weight says how often searches are thought to read
-/// the group: the builder puts the heaviest first.
+/// A parent and its children, which are placed together. A child is its label and its state id.
 #[derive(Drop)]
 pub struct SiblingGroup<A: Allocator = Global> {
     /// The id of the parent.
     pub parent: u32,
-    /// For each child its label, a byte or a character's code, and its id.
+    /// Each child's label, a byte or a character's code, and its id.
     pub children: Vec<(u32, u32), A>,
-    /// How often a search would read the block of the group. The helper asks whether it is 0.
+    /// How often searches are expected to read the group. The placement asks only whether it is 0.
     pub weight: usize,
 }
 
-/// Where the groups of siblings stand in a double array.
+/// Where the groups of siblings are placed in a double array.
 ///
-/// A child stands at the exclusive or of its parent's base and its label. The array consists of
-/// blocks of one length, a power of two above each label, so that the children of one parent
-/// share a block. The layout is described by Kanda, Akabe and Oda in "Engineering faster
-/// double-array Aho-Corasick automata" (arXiv 2207.13870).
+/// The element of a child is the exclusive or of its parent's base and its label. Blocks have one
+/// length, a power of two above every label, so that siblings share a block. The layout is that of
+/// Kanda, Akabe and Oda, "Engineering faster double-array Aho-Corasick automata" (arXiv
+/// 2207.13870).
 #[derive(Drop)]
 pub struct BuildHelper<A: Allocator = Global> {
     elements: FreeList<A>,
@@ -58,27 +51,21 @@ impl<A: Allocator> Model for BuildHelper<A> {
 }
 
 impl<A: Allocator + Copy> BuildHelper<A> {
-    /// Places the groups in the order given, each at the first place that fits.
+    /// Places the groups in the order given, each under the first base that fits.
     ///
-    /// A place for a group fits where the base isn't 0 and isn't a base taken before, if
-    /// `track_bases` asks for that, and where the element of each child is vacant. Vacant elements
-    /// are tried for the first child in rising order, from the first group of weight 0 on those of
-    /// the last 16 blocks alone; where none fits, a block is added at the end.
-    ///
-    /// It takes memory for each element and for each state. `daachorse_part_tests` compares the
-    /// places of groups.
+    /// A base fits if it isn't 0, isn't taken (only with `track_bases`), and gives each child a
+    /// vacant element. The vacant elements are tried for the first child in rising order; from the
+    /// first group of weight 0 on, only those of the last 16 blocks. If none fits, a block is added
+    /// at the end. Memory grows with the elements and the states.
     ///
     /// # Conditions
-    ///
-    /// `block_len` is a power of two and at least 2, and there are at least 2 states. Each group has a child.
-    /// The labels of its children are below `block_len`, and no two of them are alike. Parents and children
-    /// are states, children past the first two; no state is the parent of two groups, and none is twice a
-    /// child.
+    /// `block_len` is a power of two of at least 2, and there are at least 2 states. Each group has
+    /// a child; its labels are distinct and below `block_len`. Parents and children are states, and
+    /// the first two states are no children. No state is the parent of two groups or twice a child.
     ///
     /// # Errors
-    ///
-    /// [`Limit::NumElements`](daachorse_core::errors::Limit::NumElements) where a block more would
-    /// pass 4,294,967,295 elements, and out of memory.
+    /// [`Limit::NumElements`](daachorse_core::errors::Limit::NumElements) if there would be more
+    /// than 4,294,967,295 elements, or out of memory.
     pub fn new(
         alloc: A,
         groups: &[SiblingGroup<A>],
@@ -111,32 +98,28 @@ impl<A: Allocator + Copy> BuildHelper<A> {
 }
 
 impl<A: Allocator> BuildHelper<A> {
-    /// By state id its element: 0 for the root, 1 for each other state that is no child.
+    /// The element of each state, by id: 0 for the root, 1 for any other state that is no child.
     pub fn idx_map(&self) -> &[u32]
         ensures { result.now ≡ self.now.idx }
     {
         self.idx_map.as_slice()
     }
 
-    /// By state id its base, 0 for a state that is no parent.
+    /// The base of each state, by id: 0 for a state that is no parent.
     pub fn bases(&self) -> &[u32]
         ensures { result.now ≡ self.now.bases }
     {
         self.bases.as_slice()
     }
 
-    /// How many elements there are, in whole blocks.
+    /// The number of elements, in whole blocks.
     pub fn num_elements(&self) -> u32
         ensures { result ≡ length self.now.used }
     {
         self.elements.num_elements()
     }
 
-    /// Whether the base is taken. Where bases aren't tracked, none is.
-    ///
-    /// # Conditions
-    ///
-    /// The base is below [`Self::num_elements`].
+    /// Whether a base below [`Self::num_elements`] is taken. Without tracking, none is.
     pub fn is_used_base(&self, base: u32) -> bool
         requires { base < length self.now.used }
         ensures { result ≡ slice_index_or self.now.marks base false }
@@ -144,13 +127,7 @@ impl<A: Allocator> BuildHelper<A> {
         self.elements.is_used_base(base)
     }
 
-    /// Whether the element holds the root, the dead state or a child.
-    ///
-    /// `daachorse_part_tests` compares the elements that are used.
-    ///
-    /// # Conditions
-    ///
-    /// The element is below [`Self::num_elements`].
+    /// Whether an element below [`Self::num_elements`] holds the root, the dead state or a child.
     pub fn is_used_index(&self, idx: u32) -> bool
         requires { idx < length self.now.used }
         ensures { result ≡ slice_index_or self.now.used idx false }
@@ -158,14 +135,8 @@ impl<A: Allocator> BuildHelper<A> {
         self.elements.is_used_index(idx)
     }
 
-    /// The least base of the block that isn't taken. Where there is none, the block has no vacant
+    /// The least base of an existing block that isn't taken. A block without one has no vacant
     /// element.
-    ///
-    /// It looks at each base of the block at most once, and takes no memory.
-    ///
-    /// # Conditions
-    ///
-    /// There is such a block.
     pub fn unused_base_in_block(&self, block_idx: u32) -> Option<u32>
         requires { block_idx < self.now.blocks }
         ensures found { IfSome result (IsLeastUnused self.now.marks self.now.block block_idx) }
@@ -175,12 +146,7 @@ impl<A: Allocator> BuildHelper<A> {
         least_unused(&self.elements, block_idx)
     }
 
-    /// The vacant elements in rising order: all of them, or those of the last 16 blocks where a
-    /// group has weight 0.
-    ///
-    /// Each step takes no memory. After one child of label 1 and one of label 0, placed in blocks
-    /// of 4 under bases that are tracked, the vacant elements are 3, 5, 6 and 7
-    /// (`daachorse_part_tests` runs this).
+    /// All vacant elements in rising order, or those of the last 16 blocks if a group has weight 0.
     pub fn vacant_iter(&self) -> VacantIter<'_, A>
         ensures { result ≡ vacants self.now }
     {
@@ -192,8 +158,6 @@ impl<A: Allocator> BuildHelper<A> {
 }
 
 /// An iterator over the vacant elements from one on, in rising order.
-///
-/// It borrows the helper and takes no memory.
 #[derive(Drop)]
 pub struct VacantIter<'a, A: Allocator = Global> {
     elements: &'a FreeList<A>,

@@ -1,25 +1,23 @@
-//! Tests of the places at which a filter passes.
-//!
-//! The layers above may rely on the test of no place passing everywhere.
+//! Tests that verify the candidates of a prefilter.
 
 ghost use Rattle.std.specs.Prelude.{◌≡◌, ℕ, Bool, List};
 ghost use Rattle.daachorse_model.specs.Folding.{folded};
 
-/// A test that is asked at the places at which a filter passes.
+/// A test that verifies the candidates of a prefilter.
 pub trait PlaceTest: Drop {
-    /// Whether it passes where these bytes are all that is still to come.
+    /// Whether it passes before these bytes, the rest of the haystack.
     ghost lets: { Self → List ℕ → Bool };
 
-    /// Whether it passes where these bytes are all that is still to come.
+    /// Returns whether it passes before these bytes, the rest of the haystack.
     fn passes(&self, bytes: &[u8]) -> bool
         ensures { result ≡ lets self.now bytes.now };
 
-    /// What [`Self::passes`] is of the bytes with a to z for A to Z.
+    /// Like [`Self::passes`], with ASCII letters of the bytes read as lower case.
     fn passes_folded(&self, bytes: &[u8]) -> bool
         ensures { result ≡ lets self.now (folded bytes.now) };
 }
 
-/// The test of no place: it passes everywhere.
+/// The test that passes everywhere.
 #[derive(Clone, Copy, Debug, PartialEq, Eq)]
 pub struct NoTest;
 

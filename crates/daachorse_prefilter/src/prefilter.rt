@@ -1,11 +1,8 @@
-//! A filter over pairs of bytes, which passes over places where no pattern can begin.
+//! A prefilter over pairs of bytes, which skips places where no pattern can begin.
 //!
-//! A window is as long as the shortest pattern, at most 9 bytes. A place passes where each pair of
-//! neighbouring bytes of its window stands at the same place in some pattern. The method is known
-//! as shift-or with q-grams. The layers above may rely on a filter passing at each occurrence of
-//! its patterns, on [`Prefilter::next_position`] being the first place that passes, on
-//! [`Prefilter::first_place`] being the first at which a test passes too, and on a gate that
-//! closes by what was recorded alone.
+//! A window is as long as the shortest pattern, at most 9 bytes. A place is a candidate if each
+//! pair of neighbouring bytes of its window is at the same offset in some pattern. The method is
+//! known as shift-or with q-grams.
 
 ghost use Rattle.std.specs.Prelude.{◌≡◌, ◌++◌, ℕ, ◌<◌, ◌≤◌, ◌&&◌, List, drop, true, IfOk, IfErr};
 ghost use Rattle.std.specs.Cmp.Rules.{comparing};
@@ -40,15 +37,11 @@ const MIN_WINDOW_LEN: u8 = 2;
 
 const MAX_WINDOW_LEN: u8 = 9;
 
-/// A filter of the places at which some pattern may begin.
-///
-/// It takes 65,536 bytes: a byte for each pair of bytes. It is made by [`PrefilterBuilder`].
-/// `daachorse_part_tests` makes filters and compares where they pass.
+/// A prefilter, made by [`PrefilterBuilder`]. It takes 65,536 bytes, one for each pair of bytes.
 #[derive(Drop)]
 pub struct Prefilter<A: Allocator = Global> {
     window_len: u8,
-    // For each pair of bytes the places of a window at which it may not stand: bit j is 0 where
-    // some pattern has the pair at place j.
+    // Bit j of a pair's entry is 0 if some pattern has the pair at offset j.
     table: PairTable<A>,
 }
 
@@ -61,17 +54,16 @@ impl<A: Allocator> Model for Prefilter<A> {
 }
 
 impl<A: Allocator> Prefilter<A> {
-    /// The least length of a window, which has one pair at least.
+    /// The least length of a window, that of one pair.
     pub const MIN_WINDOW_LEN: usize = MIN_WINDOW_LEN as usize;
 
-    /// The greatest length of a window: a byte has a bit for each of its pairs.
+    /// The greatest length of a window: an entry has a bit for each of its pairs.
     pub const MAX_WINDOW_LEN: usize = MAX_WINDOW_LEN as usize;
 
-    /// The first place from `pos` on at which the filter passes, or the haystack's length. So no
-    /// pattern of the filter begins between the two.
+    /// The first candidate from `pos` on, or the haystack's length. No pattern begins in between.
     ///
-    /// It takes no memory. Of the patterns `aria` and `iris`, in the haystack `xxxariaxxx`, the
-    /// first place from 0 on is 3, and from 5 on 10, the end (`daachorse_part_tests` runs this).
+    /// With the patterns `aria` and `iris`, in the haystack `xxxariaxxx`, it is 3 from 0 on, and
+    /// 10, the end, from 5 on.
     #[inline(always)]
     pub fn next_position(&self, haystack: &[u8], pos: usize) -> usize
         ensures first { result ≡ next_place self.now haystack.now pos }
@@ -81,10 +73,7 @@ impl<A: Allocator> Prefilter<A> {
         self.first_place::<AsItIs, NoTest>(&NoTest, haystack, pos)
     }
 
-    /// What [`Self::next_position`] is of the haystack without regard to the case of ASCII letters: of
-    /// the haystack with a to z for A to Z.
-    ///
-    /// `daachorse_part_tests` runs it.
+    /// Like [`Self::next_position`], with ASCII letters of the haystack read as lower case.
     #[inline(always)]
     pub fn next_position_folded(&self, haystack: &[u8], pos: usize) -> usize
         ensures first { result ≡ next_place self.now (folded haystack.now) pos }
@@ -94,10 +83,7 @@ impl<A: Allocator> Prefilter<A> {
         self.first_place::<AsFolded, NoTest>(&NoTest, haystack, pos)
     }
 
-    /// The first boundary of the text's characters from `pos` on at which the filter passes, or
-    /// the text's length.
-    ///
-    /// It takes no memory. `daachorse_part_tests` compares such places in Japanese text.
+    /// The first candidate from `pos` on that is a character boundary, or the text's length.
     #[inline(always)]
     pub fn next_position_at_char_boundary(&self, haystack: &str, pos: usize) -> usize
         ensures { IsNextBoundary self.now haystack.now pos result }
@@ -105,10 +91,7 @@ impl<A: Allocator> Prefilter<A> {
         self.first_boundary::<AsItIs, NoTest>(&NoTest, haystack, pos)
     }
 
-    /// What [`Self::next_position_at_char_boundary`] is of the text without regard to the case of ASCII
-    /// letters: of the text with a to z for A to Z.
-    ///
-    /// `daachorse_part_tests` runs it.
+    /// Like [`Self::next_position_at_char_boundary`], with ASCII letters read as lower case.
     #[inline(always)]
     pub fn next_position_folded_at_char_boundary(&self, haystack: &str, pos: usize) -> usize
         ensures { IsNextBoundary self.now (folded haystack.now) pos result }
@@ -116,11 +99,8 @@ impl<A: Allocator> Prefilter<A> {
         self.first_boundary::<AsFolded, NoTest>(&NoTest, haystack, pos)
     }
 
-    /// The first place from `pos` on at which the filter and the test pass in what is read of the
-    /// haystack, or the haystack's length.
-    ///
-    /// It takes no memory. The test is asked only at places at which the filter passes.
-    /// `daachorse_part_tests` runs it.
+    /// The first candidate from `pos` on that passes the test, or the haystack's length. The
+    /// haystack is read as `R` says, and the test is asked only at candidates.
     #[inline(always)]
     pub fn first_place<R: ByteReading, T: PlaceTest>(
         &self,
@@ -133,11 +113,7 @@ impl<A: Allocator> Prefilter<A> {
         scan::<R, A, T>(&self.table, test, self.window_len, haystack, pos)
     }
 
-    /// The first boundary of the text's characters from `pos` on at which both pass in what is read of
-    /// the text, or the text's length.
-    ///
-    /// It takes no memory. The test is asked only at places at which the filter passes.
-    /// `daachorse_part_tests` runs it.
+    /// Like [`Self::first_place`], with only the boundaries of the text's characters as candidates.
     #[inline(always)]
     pub fn first_boundary<R: ByteReading, T: PlaceTest>(
         &self,
@@ -159,13 +135,7 @@ impl<A: Allocator> Prefilter<A> {
 }
 
 impl<A: Allocator + Copy> Prefilter<A> {
-    /// A filter with the same window and the same table.
-    ///
-    /// It takes 65,536 bytes.
-    ///
-    /// # Errors
-    ///
-    /// An allocation failed.
+    /// Copies the prefilter. Fails if an allocation does.
     pub fn clone(&self) -> Result<Self>
         ensures same { IfOk result (λ filter. filter ≡ self.now) }
         ensures err { IfErr result IsOutOfMemory }
@@ -177,11 +147,7 @@ impl<A: Allocator + Copy> Prefilter<A> {
     }
 }
 
-/// The same filter, if there is one.
-///
-/// # Errors
-///
-/// An allocation failed.
+/// Copies the prefilter, if there is one. Fails if an allocation does.
 pub fn clone_filter<A: Allocator + Copy>(
     filter: &Option<Prefilter<A>>,
 ) -> Result<Option<Prefilter<A>>>

@@ -1,7 +1,4 @@
 //! Where pieces go: to the end of a vector or a string, or into a writer.
-//!
-//! The layers above may rely on an output growing by the piece, and where it refuses, by a beginning
-//! of it.
 
 ghost use Rattle.std.specs.Prelude.{◌≡◌, ℕ, List, Option, Some, OnErr, OnOk, length};
 ghost use Rattle.std.specs.Io.KnownBytes.{Appends};
@@ -12,25 +9,21 @@ use crate::piece::Piece;
 use std::alloc::{AllocError, Allocator};
 use std::io::{self, ErrorKind, Write};
 
-/// A way to put pieces `P` at the end of an output `O`.
+/// A way to append pieces `P` to an output `O`.
 pub trait Appending<P: Piece, O> {
-    /// What the output holds, where that is known.
+    /// What the output holds, if that is known.
     ghost taken: { O → Option (List ℕ) };
 
     /// Why an output refuses.
     type Error;
 
-    /// Puts the piece at the end of the output.
-    ///
-    /// # Errors
-    ///
-    /// The output refused: it took a beginning of the piece.
+    /// Appends the piece. An output that refuses has taken a prefix of it.
     fn append(out: &mut O, piece: P) -> Result<(), Self::Error>
         ensures whole { OnOk result (Appends (taken out.old) (taken out.new) (P.bytes piece)) }
         ensures beginning { OnErr result (AppendsBeginning (taken out.old) (taken out.new) (P.bytes piece)) };
 }
 
-/// Bytes go to the end of a vector, which refuses where there is no memory.
+/// Appends bytes to a vector.
 pub struct ToVec;
 
 impl<'a, A: Allocator> Appending<&'a [u8], Vec<u8, A>> for ToVec {
@@ -44,7 +37,7 @@ impl<'a, A: Allocator> Appending<&'a [u8], Vec<u8, A>> for ToVec {
     }
 }
 
-/// Text goes to the end of a string, which refuses where there is no memory.
+/// Appends text to a string.
 pub struct ToText;
 
 impl<'a, A: Allocator> Appending<&'a str, String<A>> for ToText {
@@ -58,7 +51,7 @@ impl<'a, A: Allocator> Appending<&'a str, String<A>> for ToText {
     }
 }
 
-/// Bytes and text go into a writer, which refuses by an error of its own.
+/// Writes bytes or text into a writer.
 pub struct ToWriter;
 
 impl<P: Piece, W: Write> Appending<P, W> for ToWriter {
@@ -72,12 +65,8 @@ impl<P: Piece, W: Write> Appending<P, W> for ToWriter {
     }
 }
 
-/// Writes all of the bytes, in as many writes as the writer needs.
-///
-/// # Errors
-///
-/// The writer's first error, and [`ErrorKind::WriteZero`] where it takes none of some bytes. What it
-/// took then is a beginning of the bytes.
+/// Writes all bytes, in as many writes as the writer needs. Fails with its first error, or with
+/// [`ErrorKind::WriteZero`] if it takes none of some bytes, after a prefix was written.
 pub fn write_whole<W: Write>(out: &mut W, bytes: &[u8]) -> io::Result<()>
     ensures whole { OnOk result (Appends (W.contents out.old) (W.contents out.new) bytes.now) }
     ensures beginning { OnErr result (AppendsBeginning (W.contents out.old) (W.contents out.new) bytes.now) }

@@ -1,6 +1,4 @@
 //! What a haystack is cut into: bytes or text.
-//!
-//! The layers above may rely on a piece being just the bytes between its two places.
 
 ghost use Rattle.std.specs.Prelude.{◌≡◌, ◌≤◌, ℕ, List, length, slice_range};
 ghost use Rattle.std.specs.Str.{IsCharBoundary};
@@ -10,14 +8,14 @@ pub trait Piece: Copy {
     /// Its bytes.
     ghost bytes: { Self → List ℕ };
 
-    /// It may be cut at this place.
+    /// Whether it may be cut at this place.
     ghost may_cut: { Self → ℕ → Type 0 };
 
     /// Its bytes.
     fn as_bytes(&self) -> &[u8]
         ensures { result.now ≡ bytes self.now };
 
-    /// Where it ends: how many bytes it has.
+    /// Its length in bytes.
     fn end(&self) -> usize
         ensures end { result ≡ length (bytes self.now) }
         ensures cut { may_cut self.now result };
@@ -29,7 +27,7 @@ pub trait Piece: Copy {
         requires ends { may_cut self end }
         ensures { bytes result ≡ slice_range (bytes self) start end };
 
-    // It is cut within.
+    // A cut is within the piece.
     ghost within: { (s : Self) (i : ℕ) → may_cut s i → i ≤ length (bytes s) };
 }
 

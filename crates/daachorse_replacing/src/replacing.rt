@@ -1,7 +1,4 @@
 //! The loop that replaces matches.
-//!
-//! The layers above may rely on the output growing by the haystack with each match replaced by what
-//! the replacement gave for it, and where it refuses, by a beginning of it.
 
 ghost use Rattle.std.specs.Prelude.{◌≡◌, ◌≤◌, ℕ, List, OnErr, OnOk, length};
 ghost use Rattle.std.specs.Iterator.{AlwaysYields, IsFinite};
@@ -13,17 +10,12 @@ use crate::appending::Appending;
 use crate::piece::Piece;
 use daachorse_model::Match;
 
-/// Puts out the haystack with each of the matches replaced by what `replacement` returns for it and
-/// for the part of the haystack that it is.
+/// Puts out the haystack, each match replaced by what `replacement` returns for it and its text. If
+/// the output refuses, it has taken a prefix of that.
 ///
 /// # Conditions
-///
 /// The matches come to an end, follow one another, and start and end where the haystack may be cut.
 /// The replacement may be called at any match.
-///
-/// # Errors
-///
-/// The output refused: it took a beginning of what was to be put out.
 #[inline]
 pub fn replace<
     V: Copy,

@@ -1,18 +1,16 @@
-//! Labels by which rows are looked at: bytes, or numbers of characters.
-//!
-//! The layers above may rely on a label's number telling it from each other one.
+//! Labels by which rows are looked up: bytes, or numbers of characters.
 
 ghost use Rattle.std.specs.Prelude.{◌≡◌, ◌<◌, ◌^◌, ℕ};
 
-/// Labels with a number below it have a slot in each row, so that there is room for 196 rows.
+/// Labels with a number below this have slots in the rows. That leaves room for 196 rows at least.
 pub const SLOTTED: u32 = 638;
 
-/// A label by which rows are looked at.
+/// A label by which rows are looked up.
 pub trait RowLabel: Copy + Drop {
     /// The number of a label.
     ghost number: { Self → ℕ };
 
-    /// No label in hand has it, or a larger one.
+    /// The number of any label is below it.
     ghost most: { ℕ };
 
     /// Returns the number of the label.
@@ -20,7 +18,7 @@ pub trait RowLabel: Copy + Drop {
         ensures is { result ≡ number self }
         ensures below { number self < most };
 
-    // A number is that of one label alone.
+    // Labels of the same number are equal.
     ghost exact: { (a b : Self) → number a ≡ number b → a ≡ b };
 }
 

@@ -1,8 +1,7 @@
-//! A faster look at the states near the root: for each of them a row that tells where the step ends.
+//! A faster look at the states near the root: each has a row with the end of every step.
 //!
-//! [`rows::Rows`] keeps the rows of an automaton's states, and [`view::RowView`] is an automaton over
-//! them. Their labels are bytes, or numbers of characters ([`label::RowLabel`]). The layers above may rely
-//! on its dictionary being that of the automaton below, so that every search finds the same.
+//! [`rows::Rows`] keeps the rows of an automaton's states, and [`view::RowView`] is an automaton of
+//! the same dictionary over them.
 #![tactic(auto)]
 
 pub mod label;

@@ -1,8 +1,6 @@
 //! How rows are made: which states have one, and what is written into it.
 //!
-//! The states are those to which the fewest steps lead from the root, in the order in which steps
-//! come to them. The layers above may rely on the rows being right, on each state to which at most
-//! two steps lead having one, and on no order.
+//! The states are those nearest to the root, breadth-first.
 
 ghost use Rattle.std.specs.Prelude.{◌≡◌, ◌⊎◌, ◌*◌, ◌+◌, ◌/◌, ◌%◌, ◌<◌, ◌≤◌, ◌^◌, ℕ, [], true, false, length, map, slice_index, IfOk, IfSome, MatchOption, OnOk, None};
 ghost use Rattle.daachorse_rows.specs.Rows.{AreChosen, AreCovered, AreHomes, AreLabels, AreOwn, AreShallow, AreSlots, AreStepped, AreTooMany, AreWritten, EndsInRow, GoesOn, IsEntry, IsShallow, IsSlot, IsSlotOf, Stands, StepLeads, StepsAs, row_places, stands_by};
@@ -14,20 +12,20 @@ use daachorse_search::walk::follow;
 use std::alloc::{AllocError, Allocator};
 use std::num::NonZeroU32;
 
-/// The most places in rows, of two slots each. With the slots of the labels and a table of what patterns
-/// begin with these take 256 KiB.
+/// The most places in rows, of two slots each. With the slots of the labels and a table of what
+/// patterns begin with, rows take 256 KiB.
 pub(crate) const PLACES: u32 = 63_168;
 
-/// In the table of the states' rows: the state has none.
+/// In place of the row of a state that has none.
 pub(crate) const NO_ROW: u16 = 65_535;
 
-/// In a slot: it tells nothing, since the step ends at a state that has no row.
+/// The slot of a step that leaves the rows.
 pub(crate) const OUTSIDE: u16 = 65_535;
 
-/// The most states of which some may have rows: behind all rows the places of the states are below 2^32.
+/// An automaton of more states gets no rows, since each place has to be below 2^32.
 const MOST_STATES: u32 = 4_294_901_760;
 
-/// The slot of the label of a number: behind the state first that of the labels that are not listed.
+/// The slot, in a row, of the label of a number: 2 for all labels that are not listed.
 fn slot_of<T: RowLabel>(labels: &[T], number: usize) -> u16
     requires { length labels.now ≤ 638 }
     ensures { IsSlotOf (map T.number labels.now) number result }
@@ -60,12 +58,12 @@ pub(crate) fn slots_of<T: RowLabel, L: Allocator>(
 pub(crate) struct Chosen<L: Allocator> {
     // In the order of their rows.
     pub(crate) order: Vec<u32, L>,
-    // The row of each state.
+    // The row of each state, or `NO_ROW`.
     pub(crate) homes: Vec<u16, L>,
 }
 
 impl<L: Allocator> Chosen<L> {
-    /// The place of a state, where the rows end at `base`.
+    /// The place of a state, if the rows end at `base`.
     pub(crate) fn place(&self, base: u32, state: u32, width: u32) -> u32
         requires homes { AreHomes self.now.order.items self.now.homes.items }
         requires own { AreOwn self.now.order.items self.now.homes.items }
@@ -80,8 +78,8 @@ impl<L: Allocator> Chosen<L> {
         base + state
     }
 
-    /// What a slot holds for a state whose outputs begin at this position: its place, which is even, and 1
-    /// more where there are outputs.
+    /// The slot of a step to this state, whose outputs begin at `position`: its place, which is
+    /// even, plus 1 if there are outputs.
     fn entry(&self, base: u32, state: u32, position: Option<NonZeroU32>, width: u32) -> u16
         requires homes { AreHomes self.now.order.items self.now.homes.items }
         requires own { AreOwn self.now.order.items self.now.homes.items }
@@ -103,8 +101,8 @@ impl<L: Allocator> Chosen<L> {
     }
 }
 
-/// The states that get rows, at most `most`: `None` where the states whose texts have at most two units
-/// with a slot are more, or where the states are too many for a place.
+/// The states that get rows, at most `most`. `None` if the states are too many, or those whose
+/// texts have at most two units with a slot.
 pub(crate) fn choose<V: Copy, A: Automaton<V>, L: Allocator + Copy>(
     alloc: L,
     automaton: &A,
@@ -140,7 +138,7 @@ where
     Ok(Some(chosen))
 }
 
-/// Gives a row to the root.
+/// Adds the row of the root.
 fn choose_root<V: Copy, A: Automaton<V>, L: Allocator + Copy>(
     alloc: L,
     automaton: &A,
@@ -166,8 +164,7 @@ where
     Ok(Chosen { order, homes })
 }
 
-/// Gives rows to the states at which the steps from the states that have rows end. It tells whether
-/// there is room for all.
+/// Adds rows for the successors of all states that have rows. Returns whether there was room.
 fn choose_next<V: Copy, A: Automaton<V>, L: Allocator>(
     automaton: &A,
     labels: &[A::Label],
@@ -200,8 +197,7 @@ where
     Ok(true)
 }
 
-/// Gives rows to further states, those first to which fewer steps lead, while there is room. The
-/// rows before `from` have the ends of their steps.
+/// Adds rows breadth-first while there is room. All successors of rows before `from` have one.
 fn choose_rest<V: Copy, A: Automaton<V>, L: Allocator>(
     automaton: &A,
     labels: &[A::Label],
@@ -233,8 +229,8 @@ where
     Ok(())
 }
 
-/// Gives rows to the states at which the steps from the state of the row `at` end, while there is
-/// room. It tells whether there is room for all. The rows before have the ends of their steps.
+/// Adds rows for the successors of row `at` while there is room, and returns whether there was. All
+/// successors of earlier rows have one.
 fn choose_ends<V: Copy, A: Automaton<V>, L: Allocator>(
     automaton: &A,
     labels: &[A::Label],
@@ -274,7 +270,7 @@ where
     Ok(true)
 }
 
-/// The state at which the step by a listed label from the state of the row `at` ends, if it has no row.
+/// The state at which the step by a listed label from row `at` ends, if it has no row.
 #[inline(always)]
 fn end_outside<V: Copy, A: Automaton<V>, L: Allocator>(
     automaton: &A,
@@ -307,8 +303,8 @@ where
     None
 }
 
-/// The row of the link that a look tells at the state of a row by a listed label, if it is one of the rows
-/// before. The step ends as from there.
+/// The row of the link at a listed label from a row's state, if it is an earlier row. The step ends
+/// as from there.
 #[inline(always)]
 fn linked_row<V: Copy, A: Automaton<V>, L: Allocator>(
     automaton: &A,
@@ -360,8 +356,8 @@ where
     Ok(top)
 }
 
-/// Writes a row: its state, where the labels that are not listed lead, which is the root, and of each
-/// label in order where the step ends. Behind them slots tell nothing, up to an even place.
+/// Writes a row: its state, the root for labels that are not listed, and the end of the step by
+/// each listed label. The rest of its places is filled up.
 fn write_row<V: Copy, A: Automaton<V>, L: Allocator>(
     automaton: &A,
     labels: &[A::Label],
@@ -395,8 +391,8 @@ where
     Ok(())
 }
 
-/// What the slot of a listed label holds in a row: where the step from the row's state ends. Where it ends
-/// as from the state of a row before, that is what this row holds.
+/// The slot of a listed label in a row: the end of the step from the row's state. If it ends as
+/// from an earlier row, the slot of that row is copied.
 #[inline(always)]
 fn step_entry<V: Copy, A: Automaton<V>, L: Allocator>(
     automaton: &A,

@@ -1,8 +1,4 @@
-//! What a search sees of an automaton with rows.
-//!
-//! The layers above may rely on [`RowView`] being an automaton of the same dictionary as the one
-//! below, on one look a unit where a row leads to a row, which is everywhere where the rows are closed,
-//! and on no call taking memory.
+//! An automaton with rows, as searches see it.
 
 ghost use Rattle.std.specs.Prelude.{◌≡◌, ◌+◌, ◌*◌, ◌<◌, slice_index};
 ghost use Rattle.daachorse_rows.specs.Rows.{AreRows, IsPlace, SharesText, StandsFor, stands_by, state_at};
@@ -17,8 +13,8 @@ use std::num::NonZeroU32;
 
 /// An automaton, and rows of some of its states.
 ///
-/// A state is told by its place: that of its row, where it has one, or its number behind all rows. Places
-/// count slots by two.
+/// A state is given by its place, in units of two slots: that of its row, if it has one, or its
+/// number after all rows.
 #[derive(Drop)]
 pub struct RowView<'a, V: Copy, A: Automaton<V>>
 where
@@ -83,7 +79,8 @@ where
         }
     }
 
-    /// Where the rows end, and the places of states that have none begin. The rows are right.
+    /// Where the rows end and the places of other states begin. Its contract says that the rows are
+    /// right.
     #[inline(always)]
     fn end(&self) -> usize
         ensures end { result ≡ self.now.rows.count * self.now.rows.width }
@@ -120,7 +117,7 @@ where
     }
 
     /// The slot of the label `number` in the row that begins at a place.
-    // The label's column is found first: a search waits for the place, and then for this one load alone.
+    // The column is found first, so that one load alone waits for the place.
     #[inline(always)]
     fn slot(&self, place: usize, number: usize) -> u32
         requires place { IsPlace self.now.rows place }
@@ -132,8 +129,8 @@ where
         column[2 * place] as u32
     }
 
-    /// The place of a state in which a look below the rows ends the step. But for the root it has no
-    /// row, since each state that has one is led to by a state that has one.
+    /// The place of a state at which a look outside the rows ends a step. No row is looked for: the
+    /// states with rows, but for the root, are reached from rows.
     #[inline(always)]
     fn place_below(&self, state: u32) -> u32
         ensures { (A.sees self.now.automaton).reached state → SharesText (A.sees self.now.automaton) self.now.rows result state }

@@ -1,8 +1,5 @@
 //! What the written forms of both automata end with: the outputs, how it searches, the number of
-//! states, and the filter, if there is one.
-//!
-//! The layers above may rely on a read giving what the bytes give, and on the law of the form,
-//! which follows from those of a value and of a filter.
+//! states, and the prefilter, if there is one.
 
 ghost use Rattle.std.specs.Prelude.{◌≡◌, ◌+◌, ◌-◌, ◌<◌, ◌^◌, ◌++◌, length, min, vec_len, IfErr, IfOk, IfSome, OnOk};
 ghost use Rattle.daachorse_core.specs.Refusals.{IsOutOfMemory};
@@ -15,7 +12,7 @@ use daachorse_core::Output;
 use daachorse_core::errors::Result;
 use std::alloc::{Allocator, Global};
 
-/// What an ending holds.
+/// The end of an automaton's written form.
 #[derive(Drop)]
 pub struct Ending<V, F, A: Allocator = Global> {
     /// The outputs.
@@ -24,19 +21,17 @@ pub struct Ending<V, F, A: Allocator = Global> {
     pub mode: SearchMode,
     /// The number of states.
     pub num_states: u32,
-    /// The filter, if there is one.
+    /// The prefilter, if there is one.
     pub filter: Option<F>,
 }
 
 /// Appends an ending.
 ///
 /// # Conditions
-///
-/// There are at most 4,294,967,295 outputs, and the filter may be written.
+/// There are at most 4,294,967,295 outputs, and the prefilter may be written.
 ///
 /// # Errors
-///
-/// An allocation failed; `dst` then still begins with what it held.
+/// Out of memory; `dst` then still begins with what it held.
 pub fn write_ending<V: Serializable + Copy, F: SerializableVec + Drop, A: Allocator, B: Allocator>(
     outputs: &Vec<Output<V>, A>,
     mode: SearchMode,
@@ -57,11 +52,10 @@ pub fn write_ending<V: Serializable + Copy, F: SerializableVec + Drop, A: Alloca
     filter.serialize_to_vec(dst)
 }
 
-/// Reads an ending, and returns it with the bytes behind it. What was read may be written.
+/// Reads an ending, and returns it with the bytes after it. What was read may be written.
 ///
 /// # Errors
-///
-/// Bytes that give no ending, or out of memory.
+/// Bytes that hold no ending, or out of memory.
 pub fn read_ending<
     V: Serializable + Copy,
     F: SerializableVec<Alloc = A> + Drop,
@@ -86,13 +80,12 @@ pub fn read_ending<
     Ok((ending, rest))
 }
 
-/// The room for the form of a value that is made beforehand, in bytes: that of the greatest number, with a flag.
-///
-/// A type whose bound is far past its usual forms asks for little room so. A longer form makes the bytes grow.
+/// How many bytes are reserved for a value's form at most: those of the greatest number, with a
+/// flag. A longer form makes the vector grow.
 pub const VALUE_ROOM: usize = 17;
 
-/// The greatest length of an ending, in bytes, where no value takes more than [`VALUE_ROOM`], or `usize::MAX` where it
-/// is more.
+/// The greatest length of an ending, in bytes, if no value takes more than [`VALUE_ROOM`]; capped
+/// at `usize::MAX`.
 #[tactic(auto, using(crate::proofs::Sizes::product_saturates))]
 pub fn ending_room<V: Serializable + Copy, F: SerializableVec + Drop, A: Allocator>(
     outputs: &Vec<Output<V>, A>,

@@ -1,7 +1,4 @@
-//! Two small numbers in one word: an output position of 24 bits and a byte.
-//!
-//! The layers above may rely on the word being `a * 256 + b`, and on either part staying as it was
-//! while the other is set. No call takes memory or branches on the parts.
+//! A number of 24 bits and a byte in one word, which is read and set without branches.
 
 ghost use Rattle.std.specs.Prelude.{◌≡◌, ◌<◌, ◌≤◌, ◌^◌, ℕ, MatchResult};
 ghost use Rattle.std.specs.Prelude.{IfErr, length};
@@ -16,10 +13,7 @@ use daachorse_core::errors::Result;
 use std::alloc::Allocator;
 use std::marker::Model;
 
-/// A number of 24 bits.
-///
-/// `U24::try_from` makes it of a `u32` and refuses 2^24 and more (`daachorse_part_tests` runs
-/// this).
+/// A number of 24 bits. `U24::try_from` makes it of a `u32`, and refuses 2^24 and more.
 #[derive(Clone, Copy, Debug, Default, PartialEq, Eq, Hash)]
 pub struct U24 {
     value: u32,
@@ -66,8 +60,6 @@ impl TryFrom<u32> for U24 {
 }
 
 /// A number of 24 bits and one of 8 in one word, `a * 256 + b`. Both are 0 by default.
-///
-/// It takes four bytes. `daachorse_part_tests` sets each part and reads both.
 #[derive(Clone, Copy, Debug, Default, PartialEq, Eq, Hash)]
 pub struct U24nU8 {
     word: u32,

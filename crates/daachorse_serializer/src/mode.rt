@@ -1,7 +1,4 @@
-//! How an automaton searches, in one byte.
-//!
-//! The layers above may rely on the law of the form, and on a kind alone having the byte that it has
-//! by itself, so that what was written of an automaton that heeds case stays as it was.
+//! How an automaton searches, in one byte: that of its kind alone, if case matters.
 
 ghost use Rattle.std.specs.Prelude.{◌≡◌, IfErr};
 ghost use Rattle.daachorse_core.specs.declared.errors.DaachorseError.TheVariants.{InvalidAutomaton};
@@ -23,8 +20,8 @@ pub struct SearchMode {
     pub folds: bool,
 }
 
-/// The mode of a byte: 128, 129 and 130 stand for the kinds without regard to case, each other byte
-/// for the kind that it stands for by itself.
+/// The mode of a byte: 128, 129 and 130 are the kinds without regard to case; any other byte is a
+/// kind.
 impl From<u8> for SearchMode {
     ghost from_gives = { λ byte mode. mode ≡ mode_of_byte byte };
 
@@ -38,7 +35,7 @@ impl From<u8> for SearchMode {
     }
 }
 
-/// The byte of a mode: that of the kind, and 128 more without regard to case.
+/// The byte of a mode: that of its kind, plus 128 if case is disregarded.
 impl From<SearchMode> for u8 {
     ghost from_gives = { λ mode byte. byte ≡ byte_of_mode mode };
 

@@ -1,8 +1,4 @@
-//! Written forms of values: what a value's bytes are, and which value is read back from them.
-//!
-//! The layers above may rely on the law of each type, which its `impl` proves: what was written is
-//! read back, whatever follows it, what is left is an end of the bytes, and no form is longer than
-//! the type says. The law of an option, a list, a table or an output follows from that of its parts.
+//! Written forms of values: the bytes of a value, and the value that is read back from bytes.
 
 ghost use Rattle.std.specs.Prelude.{◌≡◌, ℕ, ℤ, ◌+◌, ◌-◌, ◌*◌, ◌<◌, ◌≤◌, ◌^◌, ◌++◌, ◌∷◌, [], List, Option, Some, None, length, take, drop, min, IfErr, IfSome, IfOk, OnOk, MatchResult, FitsSigned, All, vec_len, refl};
 ghost use Rattle.std.specs.List.{flat_map};
@@ -25,11 +21,10 @@ use std::num::NonZeroU32;
 
 /// Values with a written form. Reading one takes no allocator.
 ///
-/// Integers, signed and not, [`bool`], [`char`], [`Option<NonZeroU32>`](std::num::NonZeroU32),
-/// [`Empty`], [`MatchKind`], [`Output`], an option of such a value, and two or three of them
-/// together have one. A number is written by its bytes, the lowest first: 0x01234567 is
-/// `67 45 23 01`. A type of one's own that proves the laws can be the value type of an automaton
-/// that is written.
+/// Integers, [`bool`], [`char`], [`Option<NonZeroU32>`](std::num::NonZeroU32), [`Empty`],
+/// [`MatchKind`], [`Output`], and options, pairs and triples of such values have one. A number is
+/// written by its bytes, the lowest first: 0x01234567 is `67 45 23 01`. Any type that proves the
+/// laws can be the value type of a written automaton.
 pub trait Serializable: Sized + Drop {
     /// Which values are of the type.
     ghost is_value: { Self → Type 0 };
@@ -37,13 +32,13 @@ pub trait Serializable: Sized + Drop {
     /// The bytes of a value.
     ghost form: { Self → List ℕ };
 
-    /// What bytes give: nothing, or a value and the bytes behind it.
+    /// What bytes are read as: nothing, or a value and the bytes after it.
     ghost taken: { List ℕ → Option (Self × List ℕ) };
 
     /// The greatest length of a form.
     ghost form_len: { ℕ };
 
-    /// The errors of a read of these bytes besides an invalid automaton and a failed allocation.
+    /// The errors of a read of these bytes besides an invalid automaton and out of memory.
     ghost own_refusal: { List ℕ → DaachorseError → Type 0 } = { λ _ _. ⊥ };
 
     /// Appends the bytes of the value.
@@ -55,23 +50,23 @@ pub trait Serializable: Sized + Drop {
         ensures kept { Begins dst.old.items dst.new.items }
         ensures err { IfErr result IsOutOfMemory };
 
-    /// Reads a value, and returns it with the bytes behind it.
+    /// Reads a value, and returns it with the bytes after it.
     ///
     /// # Errors
-    /// Bytes that give no value, or out of memory.
+    /// Bytes that hold no value, or out of memory.
     fn deserialize_from_slice(src: &[u8]) -> Result<(Self, &[u8])>
         ensures given { Gives result (taken src.now) }
         ensures err { IfErr result (IsReadRefusal (own_refusal src.now)) };
 
-    /// The greatest length of a form, in bytes, or `usize::MAX` where it is more.
+    /// The greatest length of a form, in bytes, capped at `usize::MAX`.
     fn serialized_bytes() -> usize
         ensures { result ≡ min form_len (2 ^ 64 - 1) };
 
-    /// Does nothing, and promises that a value in hand is of the type.
+    /// Does nothing. Its contract says that a value in hand is of the type.
     fn in_range(&self)
         ensures { is_value self.now };
 
-    // What was written is read back, what is left is an end, and no form is longer than `form_len`.
+    // What was written is read back, a read leaves a suffix, and no form is longer than `form_len`.
     ghost law: { IsForm is_value form taken (λ _. form_len) };
 }
 
@@ -675,12 +670,11 @@ impl<S: Serializable> Serializable for Option<S> {
     ghost law = { option_law S.law };
 }
 
-/// Lists and tables with a written form, of which contracts see the shape.
+/// Values with a written form, of which contracts see the shape: vectors, tables and prefilters.
 ///
-/// Vectors, tables and filters have one. `daachorse_part_tests` compares forms. A list of items with
-/// empty forms may read a count of 4,294,967,295 from four bytes, and then has so many items.
+/// If the items of a list have empty forms, four bytes may hold 4,294,967,295 of them.
 pub trait SerializableVec: Sized {
-    /// Where the memory of a value comes from that is read.
+    /// The allocator of a value that is read.
     type Alloc: Allocator;
 
     /// What contracts see of a value.
@@ -697,13 +691,13 @@ pub trait SerializableVec: Sized {
     /// The bytes of a value.
     ghost form: { Shape → List ℕ };
 
-    /// What bytes give: nothing, or a value and the bytes behind it.
+    /// What bytes are read as: nothing, or a value and the bytes after it.
     ghost taken: { List ℕ → Option (Shape × List ℕ) };
 
     /// The greatest length of a form of this value.
     ghost form_len: { Shape → ℕ };
 
-    /// The errors of a read of these bytes besides an invalid automaton and a failed allocation.
+    /// The errors of a read of these bytes besides an invalid automaton and out of memory.
     ghost own_refusal: { List ℕ → DaachorseError → Type 0 } = { λ _ _. ⊥ };
 
     /// Appends the bytes of the value.
@@ -716,24 +710,24 @@ pub trait SerializableVec: Sized {
         ensures kept { Begins dst.old.items dst.new.items }
         ensures err { IfErr result IsOutOfMemory };
 
-    /// Reads a value, and returns it with the bytes behind it. What was read may be written.
+    /// Reads a value, and returns it with the bytes after it. What was read may be written.
     ///
     /// # Errors
-    /// Bytes that give no value, or out of memory.
+    /// Bytes that hold no value, or out of memory.
     fn deserialize_from_slice<'a>(alloc: Self::Alloc, src: &'a [u8]) -> Result<(Self, &'a [u8])>
         ensures given { GivesView shape result (taken src.now) }
         ensures again { IfOk result (λ r. can_write (shape r.0)) }
         ensures err { IfErr result (IsReadRefusal (own_refusal src.now)) };
 
-    /// The greatest length of the value's form, in bytes, or `usize::MAX` where it is more.
+    /// The greatest length of the value's form, in bytes, capped at `usize::MAX`.
     fn serialized_bytes(&self) -> usize
         ensures { result ≡ min (form_len (shape self.now)) (2 ^ 64 - 1) };
 
-    /// Does nothing, and promises that a value in hand is of the type.
+    /// Does nothing. Its contract says that a value in hand is of the type.
     fn in_range(&self)
         ensures { is_value (shape self.now) };
 
-    // What was written is read back, what is left is an end, and no form is longer than `form_len`.
+    // What was written is read back, a read leaves a suffix, and no form is longer than `form_len`.
     ghost law: { IsForm (λ v. can_write v × is_value v) form taken form_len };
 }
 
@@ -749,8 +743,8 @@ fn write_items<S: Serializable, A: Allocator>(items: &[S], dst: &mut Vec<u8, A>)
     Ok(())
 }
 
-/// Reads `count` items. Room is made at first for as many as the bytes can hold, so that a count alone
-/// asks for none.
+/// Reads `count` items. At first room is made only for as many as the bytes can hold, so that a
+/// count alone takes no memory.
 fn read_items<'a, S: Serializable, A: Allocator>(
     alloc: A,
     src: &'a [u8],
@@ -771,7 +765,7 @@ fn read_items<'a, S: Serializable, A: Allocator>(
     Ok((items, rest))
 }
 
-/// Promises that each item in hand is of the type.
+/// Does nothing. Its contract says that each item in hand is of the type.
 fn items_in_range<S: Serializable>(items: &[S])
     ensures { All S.is_value items.now }
 {
@@ -780,7 +774,7 @@ fn items_in_range<S: Serializable>(items: &[S])
     }
 }
 
-/// A count as a `u32`, then the items. A list of more than 4294967295 items may not be written.
+/// A count as a `u32`, then the items. A list of more than 4,294,967,295 items may not be written.
 impl<S: Serializable, A: Allocator> SerializableVec for Vec<S, A> {
     type Alloc = A;
 
@@ -825,9 +819,7 @@ impl<S: Serializable, A: Allocator> SerializableVec for Vec<S, A> {
     ghost law = { list_law S.law };
 }
 
-/// A list whose length its type tells, so that it is written without a count.
-///
-/// `daachorse_part_tests` writes one and reads it.
+/// A list whose length is part of its type, so that it is written without a count.
 #[derive(Drop)]
 #[derive_where(Debug, PartialEq, Eq, Hash; S)]
 pub struct Table<S, const N: usize, A: Allocator = Global> {

@@ -1,5 +1,4 @@
-//! Written forms of values that have parts: pairs and triples; and of `bool`, `char` and
-//! `usize`.
+//! Written forms of pairs and triples, and of `bool`, `char` and `usize`.
 
 ghost use Rattle.std.specs.Prelude.{◌<◌, ◌^◌, ◌+◌};
 ghost use Rattle.std.specs.Char.{IsScalar};

@@ -1,7 +1,4 @@
-//! The bytes of several numbers of 32 bits together, so that they are appended at once.
-//!
-//! The layers above may rely on the bytes being the forms of the numbers, one behind the other. To
-//! append them tests the room once, which a list of a million elements feels.
+//! The bytes of several numbers of 32 bits together, so that appending them checks the room once.
 
 ghost use Rattle.std.specs.Prelude.{◌≡◌, ◌++◌};
 ghost use Rattle.std.specs.Int.{w32};

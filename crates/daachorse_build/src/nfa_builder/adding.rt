@@ -1,8 +1,4 @@
-//! What one more pattern adds to a trie.
-//!
-//! The layer above may rely on the states of the pattern's beginnings, which are new where there were
-//! none, on its value behind those that its text had, and on each other text keeping its state and
-//! its values.
+//! Adding a pattern to a trie.
 
 ghost use Rattle.std.specs.Prelude.{◌≡◌, ◌≢◌, ◌<◌, ◌≤◌, None, true, map, vec_len, IfOk, IfErr, OnOk, OnErr};
 ghost use Rattle.daachorse_model.specs.Units.{size};
@@ -34,7 +30,7 @@ pub(super) fn pattern_size<L: EdgeLabel>(pattern: &[L]) -> Result<u32>
     Ok(size as u32)
 }
 
-/// The child of a state by a label, which is made where there is none.
+/// The child of a state by a label, made if there is none.
 fn child_or_new<L: EdgeLabel, V: Copy, A: Allocator + Copy>(
     states: &mut Vec<NfaBuilderState<L, V, A>, A>,
     id: u32,
@@ -62,7 +58,7 @@ fn child_or_new<L: EdgeLabel, V: Copy, A: Allocator + Copy>(
     Ok(fresh)
 }
 
-/// Whether a key, shorter than the pattern, begins it.
+/// Whether a shorter key is a prefix of the pattern.
 pub(super) fn extends_key<L: EdgeLabel, V: Copy, A: Allocator>(
     states: &[NfaBuilderState<L, V, A>],
     pattern: &[L],

@@ -1,8 +1,4 @@
 //! The failure links of a trie's states, standard or leftmost.
-//!
-//! The layer above may rely on each state having its link, on the trie being kept, and on the order
-//! that is returned: it is breadth-first, and in it the link of a state is dead, or the root, or
-//! stands before the state.
 
 ghost use Rattle.std.specs.Prelude.{◌≡◌, ◌+◌, ◌<◌, ℕ, false, [], List, Some, length, take, vec_len, IfOk, IfErr, OnOk};
 ghost use Rattle.daachorse_core.specs.Refusals.{IsOutOfMemory};
@@ -18,8 +14,7 @@ use daachorse_core::edge_label::EdgeLabel;
 use daachorse_core::errors::Result;
 use std::alloc::Allocator;
 
-/// Gives each state its link, that of the root to the root, and returns the ids of the states but
-/// the root, breadth-first. Where links are leftmost, a state with an own output ends them.
+/// Sets all links, that of the root to the root, and returns the other ids, breadth-first.
 pub(super) fn link_states<L: EdgeLabel, V: Copy, A: Allocator + Copy>(
     alloc: A,
     states: &mut [NfaBuilderState<L, V, A>],
@@ -63,13 +58,13 @@ struct BreadthFirstTraversal<A: Allocator> {
     links: Vec<u32, A>,
     order: Vec<u32, A>,
     next: usize,
-    // Whether a state with an own output ends the links.
+    // Whether a state with an output of its own ends the links.
     leftmost: bool,
     root_children: RootChildren,
 }
 
 impl<A: Allocator + Copy> BreadthFirstTraversal<A> {
-    /// The traversal that has left the root.
+    /// A traversal whose queue has the root's children.
     fn new<L: EdgeLabel, V: Copy>(
         alloc: A,
         states: &[NfaBuilderState<L, V, A>],
@@ -99,8 +94,8 @@ impl<A: Allocator + Copy> BreadthFirstTraversal<A> {
 }
 
 impl<A: Allocator> BreadthFirstTraversal<A> {
-    /// The state that `label` leads to from `start` or the first of the links after it with such
-    /// an edge: the root where none has one, and the dead state behind a dead link.
+    /// The child by `label` of `start`, or of the first state along its links that has one: the
+    /// root if none has, and the dead state after a dead link.
     fn follow<L: EdgeLabel, V: Copy>(
         &self,
         states: &[NfaBuilderState<L, V, A>],

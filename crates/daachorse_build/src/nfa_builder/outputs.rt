@@ -1,7 +1,4 @@
-//! The lists of outputs of a trie's states, which share their ends.
-//!
-//! The layer above may rely on the list at a state's position: its own outputs, and then the list of
-//! its link, unless that is dead.
+//! The lists of outputs of a trie's states, which share their tails.
 
 ghost use Rattle.std.specs.Prelude.{◌≡◌, ◌≢◌, ◌+◌, ◌<◌, ◌≤◌, ◌++◌, ℕ, Bool, [], List, length, slice_index, vec_len, IfOk, IfErr, OnOk};
 ghost use Rattle.daachorse_core.specs.Outputs.{ParentsFall};
@@ -22,8 +19,7 @@ use daachorse_core::errors::{DaachorseError, Limit, Result};
 use std::alloc::Allocator;
 use std::num::NonZeroU32;
 
-/// Puts a state's own outputs in front of the list at a position, and returns where the new list
-/// begins.
+/// Puts a state's own outputs before the list at a position, and returns where the new list begins.
 fn push_chain<V: Copy, A: Allocator>(
     outputs: &mut Vec<Output<V>, A>,
     own: &Few<(V, u32), A>,
@@ -50,7 +46,7 @@ fn push_chain<V: Copy, A: Allocator>(
     Ok(last)
 }
 
-/// Gives a state its own outputs and then the list at `parent`.
+/// Gives a state its own outputs, followed by the list at `parent`.
 fn put_list<L: EdgeLabel, V: Copy, A: Allocator>(
     states: &mut [NfaBuilderState<L, V, A>],
     outputs: &mut Vec<Output<V>, A>,
@@ -73,7 +69,7 @@ fn put_list<L: EdgeLabel, V: Copy, A: Allocator>(
     Ok(())
 }
 
-/// The position of the list of a state's link, 0 where that is dead.
+/// The position of the list of a state's link, or 0 if the link is dead.
 fn fail_position<L: EdgeLabel, V: Copy, A: Allocator>(
     states: &[NfaBuilderState<L, V, A>],
     id: u32,
@@ -89,7 +85,7 @@ fn fail_position<L: EdgeLabel, V: Copy, A: Allocator>(
     states[fail as usize].output_pos
 }
 
-/// Makes the lists of outputs, of the root and then in order.
+/// Makes the lists of outputs: that of the root, and then the others in order.
 pub(super) fn put_lists<L: EdgeLabel, V: Copy, A: Allocator>(
     states: &mut [NfaBuilderState<L, V, A>],
     outputs: &mut Vec<Output<V>, A>,

@@ -1,7 +1,4 @@
 //! What a search over a document reads of a trie, counted by state.
-//!
-//! The layer above may rely on the search ending for every document, on no count falling, and on
-//! both lists of the profile keeping their lengths.
 
 ghost use Rattle.std.specs.Prelude.{◌≡◌, ◌≢◌, ◌<◌, ◌≤◌, [], length, vec_len, IfSome};
 ghost use Rattle.daachorse_build.specs.Tables.{HoldTrie};
@@ -34,9 +31,8 @@ pub(super) fn count_document<L: EdgeLabel, V: Copy, A: Allocator, H: Fn(L) -> bo
     }
 }
 
-/// Counts a search from the root to the end of the document, or to where a label leads back to the
-/// root behind a match of a leftmost search. Then the search begins again behind that match, after
-/// as many labels as are answered.
+/// Counts a search from the root to the end of the document, or to where a leftmost search comes
+/// back to the root with a match. Returns where that match ends, from where the search goes on.
 fn count_run<L: EdgeLabel, V: Copy, A: Allocator, H: Fn(L) -> bool>(
     states: &[NfaBuilderState<L, V, A>],
     is_leftmost: bool,
@@ -67,7 +63,7 @@ fn count_run<L: EdgeLabel, V: Copy, A: Allocator, H: Fn(L) -> bool>(
     None
 }
 
-/// Whether a search is at a match, which the root doesn't count as.
+/// Whether a state has outputs and is not the root.
 fn is_match<L: EdgeLabel, V: Copy, A: Allocator>(
     states: &[NfaBuilderState<L, V, A>],
     id: u32,
@@ -77,8 +73,8 @@ fn is_match<L: EdgeLabel, V: Copy, A: Allocator>(
     id != ROOT_STATE_ID && states[id as usize].output_pos != 0
 }
 
-/// The state to which a search goes by a label, with what it reads on the way counted. By a label
-/// that `has_label` denies it goes to the root, and reads nothing.
+/// Counts a step by a label, and returns the state that it leads to. A label that `has_label`
+/// denies leads to the root, and nothing is counted.
 fn count_label<L: EdgeLabel, V: Copy, A: Allocator, H: Fn(L) -> bool>(
     states: &[NfaBuilderState<L, V, A>],
     start: u32,
@@ -103,7 +99,7 @@ fn count_label<L: EdgeLabel, V: Copy, A: Allocator, H: Fn(L) -> bool>(
     count_step(states, start, label, profile, dense_root)
 }
 
-/// The state to which a search goes by a label, with what it reads on the way counted.
+/// Counts a step by a label, and returns the state that it leads to.
 fn count_step<L: EdgeLabel, V: Copy, A: Allocator>(
     states: &[NfaBuilderState<L, V, A>],
     start: u32,
@@ -137,8 +133,8 @@ fn count_step<L: EdgeLabel, V: Copy, A: Allocator>(
     }
 }
 
-/// Counts a visit of a state, and of the child that a label leads to or, where the state has edges
-/// to other children, a probe. Nothing is counted where a table stands for the state, the root.
+/// Counts a visit of a state, and of its child `next` or, if it has only other edges, a probe. The
+/// root is left out if a table stands for it.
 fn count_reads<L: EdgeLabel, V: Copy, A: Allocator>(
     states: &[NfaBuilderState<L, V, A>],
     profile: &mut Profile<A>,
@@ -162,7 +158,7 @@ fn count_reads<L: EdgeLabel, V: Copy, A: Allocator>(
     }
 }
 
-/// Adds one to a count, which stays at the greatest number.
+/// Adds one to a count, which saturates.
 fn count<A: Allocator>(counts: &mut Vec<usize, A>, id: u32)
     requires { id < vec_len counts.old }
     ensures { HaveGrown counts.old.items counts.new.items }

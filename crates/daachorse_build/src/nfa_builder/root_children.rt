@@ -1,7 +1,7 @@
 //! The root's children by labels with small numbers.
 //!
-//! Most ways along failure links end at the root, which has more edges than any other state, so
-//! that a search among them takes longest. The layer above may rely on `child_or_root`: it answers
+//! Most chains of failure links end at the root, which has more edges than any other state, so that
+//! a search among them takes longest.
 //! as a search among the root's edges does.
 
 ghost use Rattle.std.specs.Prelude.{◌≡◌, unwrap_or};
@@ -20,7 +20,6 @@ pub(super) struct RootChildren {
 }
 
 impl RootChildren {
-    /// The children of the root of these states.
     pub(super) fn of<L: EdgeLabel, V: Copy, A: Allocator>(
         states: &[NfaBuilderState<L, V, A>],
     ) -> Self
@@ -37,7 +36,7 @@ impl RootChildren {
         Self { ids }
     }
 
-    /// The root's child by a label, and the root where there is none.
+    /// The root's child by a label, or the root if there is none.
     #[inline]
     pub(super) fn child_or_root<L: EdgeLabel, V: Copy, A: Allocator>(
         &self,

@@ -1,7 +1,4 @@
 //! The groups of siblings of a trie: each parent with its children.
-//!
-//! The layer above may rely on one group for each state with an edge, in the order in which a
-//! stack of states gives them.
 
 ghost use Rattle.std.specs.Prelude.{◌≡◌, ℕ, ◌<◌, ◌++◌, List, length, filter, IfOk, IfErr, OnOk};
 ghost use Rattle.std.specs.Map.{values_of};
@@ -16,9 +13,9 @@ use daachorse_core::errors::Result;
 use daachorse_placement::build_helper::{Profile, SiblingGroup};
 use std::alloc::Allocator;
 
-/// The groups of the states that have edges, as a stack gives them that begins with the root: where
-/// a state is taken off, its children are put on in order of labels, so that the last comes off
-/// first. A state is read once, for its children and for its group.
+/// The groups of the states with edges, in the order of a stack that begins with the root: popping
+/// a state pushes its children by rising labels. A state is read once, for its children and for its
+/// group.
 pub(super) fn groups_of<L: EdgeLabel, V: Copy, A: Allocator + Copy, F: Fn(L) -> u32>(
     alloc: A,
     states: &[NfaBuilderState<L, V, A>],
@@ -47,7 +44,7 @@ pub(super) fn groups_of<L: EdgeLabel, V: Copy, A: Allocator + Copy, F: Fn(L) -> 
     Ok(groups)
 }
 
-/// Puts the children of a state on the stack, in order of labels.
+/// Pushes the children of a state, by rising labels.
 fn put_children<L: EdgeLabel, A: Allocator>(
     stack: &mut Vec<u32, A>,
     edges: &EdgeMap<L, A>,
@@ -86,7 +83,7 @@ fn group_of<L: EdgeLabel, A: Allocator + Copy, F: Fn(L) -> u32>(
     })
 }
 
-/// The probes of a parent and the visits of its children, as far as they can be counted.
+/// The probes of a parent and the visits of its children, saturating.
 fn weight_of<L: EdgeLabel, V: Copy, A: Allocator>(
     states: &[NfaBuilderState<L, V, A>],
     profile: &Profile<A>,

@@ -1,4 +1,4 @@
-//! The plain leftmost search: at each place the longest of the patterns that count.
+//! The plain leftmost search: at each start the longest of the patterns that count.
 
 ghost use Rattle.std.specs.Prelude.{◌≡◌, ◌+◌, ◌≤◌, ◌++◌, [], length, take, drop, OnOk, IfOk, IfSome, slice_get, option_map};
 ghost use Rattle.std.specs.Option.{option_or};
@@ -38,7 +38,7 @@ fn extends_any<V: Copy>(earlier: &[(&[u32], V)], text: &[u32]) -> bool
     false
 }
 
-/// The patterns, less each that extends an earlier one.
+/// The patterns without those that extend an earlier one.
 fn drop_extensions<'a, V: Copy, A: Allocator>(
     alloc: A,
     patterns: &[(&'a [u32], V)],
@@ -54,7 +54,7 @@ fn drop_extensions<'a, V: Copy, A: Allocator>(
     Ok(rest)
 }
 
-/// What the pattern `part`, the beginning of the text, makes of the longest one so far.
+/// The longest pattern so far, once the prefix `part` of the text is looked at too.
 fn longer<V: Copy>(
     patterns: &[(&[u32], V)],
     part: &[u32],
@@ -71,7 +71,7 @@ fn longer<V: Copy>(
     }
 }
 
-/// The longest pattern that the text begins with.
+/// The longest pattern that is a prefix of the text.
 fn longest_at<V: Copy>(patterns: &[(&[u32], V)], text: &[u32]) -> Option<Longest<V>>
     ensures key { key_found text.now result ≡ longest_key (values_of (registrations_of patterns.now)) [] text.now }
     ensures within { IfSome result (λ best. best.units ≤ length text.now) }
@@ -83,7 +83,7 @@ fn longest_at<V: Copy>(patterns: &[(&[u32], V)], text: &[u32]) -> Option<Longest
     longer(patterns, text, best)
 }
 
-/// Appends the match of the longest pattern at `read`: an empty one not right after a nonempty match.
+/// Appends the match at `read`, unless it is empty and right after a nonempty match.
 fn push_given<V: Copy, A: Allocator>(
     found: &mut Vec<Match<V>, A>,
     width: Width,
@@ -116,14 +116,14 @@ fn units_after_first<V: Copy>(best: Option<Longest<V>>) -> usize
     best.map_or(0, |best| best.units.saturating_sub(1))
 }
 
-/// Whether a nonempty match comes right before the next place that is looked at.
+/// Whether a nonempty match ends right before the next start.
 fn is_after_match<V: Copy>(after: bool, best: Option<Longest<V>>) -> bool
     ensures { result ≡ after_of after best }
 {
     best.map_or(after, |best| best.units > 0)
 }
 
-/// From the end of the last match the first start, and there the longest pattern.
+/// Leftmost matches: after each match the first start, and the longest pattern there.
 fn search_starts<V: Copy, A: Allocator>(
     alloc: A,
     width: Width,
@@ -152,13 +152,9 @@ fn search_starts<V: Copy, A: Allocator>(
     Ok(found)
 }
 
-/// Finds non-overlapping matches, each of which starts as early as possible, and there the longest.
+/// Finds non-overlapping matches, each starting as early as possible and the longest there.
 ///
-/// By `kind` some patterns do not count: under `LeftmostFirst` each that extends an earlier one.
-///
-/// # Errors
-///
-/// An allocation failed.
+/// `LeftmostFirst` leaves out patterns that extend an earlier one. Fails if an allocation does.
 pub fn leftmost_slowly<V: Copy, A: Allocator + Copy>(
     alloc: A,
     kind: MatchKind,

@@ -1,7 +1,4 @@
 //! The elements of a double array: which are used, and in which order the vacant ones are tried.
-//!
-//! The parent module may rely on [`FreeList::place`] giving each child a vacant element under a
-//! free base, and on all other elements and bases staying as they were.
 
 ghost use Rattle.std.specs.Prelude.{◌≡◌, ℕ, ◌+◌, ◌*◌, ◌<◌, ◌≤◌, ◌^◌, ◌⊎◌, ◌||◌, length, bit_xor, nat_eq, slice_set, true, false, Some, None, MatchOption, IfOk, IfErr, OnOk};
 ghost use Rattle.std.specs.Int.{IsPowerOfTwo};
@@ -12,18 +9,18 @@ ghost use Rattle.daachorse_placement.specs.FreeLists.{LeadsOverUsed, IsWhole, Is
 use daachorse_core::errors::{DaachorseError, Limit, Result};
 use std::alloc::Allocator;
 
-/// How many blocks at the end are searched, once there is a window.
+/// How many blocks, the last ones, are tried once the list is windowed.
 const NUM_FREE_BLOCKS: u32 = 16;
 
 #[derive(Drop)]
 pub(crate) struct FreeList<A: Allocator> {
-    /// By element one after it, with no vacant element between.
+    /// For each element a later one, with no vacant element between them.
     pub(crate) next: Vec<u32, A>,
     pub(crate) used_index: Vec<bool, A>,
     pub(crate) used_base: Vec<bool, A>,
     pub(crate) block_len: u32,
     pub(crate) num_blocks: u32,
-    /// No vacant element of the blocks that are searched stands before this one.
+    /// In the blocks that are tried, no element before this one is vacant.
     pub(crate) first: u32,
     pub(crate) windowed: bool,
 }
@@ -58,7 +55,6 @@ impl<A: Allocator + Copy> FreeList<A> {
 }
 
 impl<A: Allocator> FreeList<A> {
-    /// How many elements there are.
     pub(crate) fn num_elements(&self) -> u32
         requires { IsWhole self.now }
         ensures { result ≡ element_count self.now }
@@ -66,7 +62,7 @@ impl<A: Allocator> FreeList<A> {
         self.num_blocks * self.block_len
     }
 
-    /// Where the blocks begin that are searched.
+    /// The first element of the blocks that are tried.
     pub(crate) fn boundary(&self) -> u32
         requires { IsWhole self.now }
         ensures { result ≡ boundary_of self.now }
@@ -78,7 +74,6 @@ impl<A: Allocator> FreeList<A> {
         }
     }
 
-    /// Whether the element holds the root, the dead state or a child.
     pub(crate) fn is_used_index(&self, idx: u32) -> bool
         requires { idx < element_count self.now }
         ensures { result ≡ is_used self.now idx }
@@ -86,7 +81,7 @@ impl<A: Allocator> FreeList<A> {
         self.used_index[idx as usize]
     }
 
-    /// Whether the base was taken, where that is tracked.
+    /// Whether the base is taken. Without tracking, none is.
     pub(crate) fn is_used_base(&self, base: u32) -> bool
         requires whole { IsWhole self.now }
         requires inside { base < element_count self.now }
@@ -158,7 +153,7 @@ impl<A: Allocator> FreeList<A> {
         }
     }
 
-    /// Notes that no vacant element stands between `idx` and `next`.
+    /// Records that no element between `idx` and `next` is vacant.
     fn link(&mut self, idx: u32, next: u32)
         requires whole { IsWhole self.old }
         requires order { (idx < next) × (next ≤ element_count self.old) }
@@ -169,8 +164,8 @@ impl<A: Allocator> FreeList<A> {
         self.next[idx as usize] = next;
     }
 
-    /// The first base under which each child has a vacant element, trying the vacant elements in
-    /// rising order for the first child.
+    /// The first base that fits. The vacant elements are tried for the first child, in rising
+    /// order.
     fn first_fit(&mut self, children: &[(u32, u32)]) -> Option<u32>
         requires whole { IsWhole self.old }
         requires some { 0 < length children.now }
@@ -216,8 +211,7 @@ impl<A: Allocator> FreeList<A> {
         Ok(())
     }
 
-    /// A free base with a vacant element for each child, the first that there is; a block is added
-    /// where there is none.
+    /// The first base that fits. If none does, a block is added.
     pub(crate) fn find_base(&mut self, children: &[(u32, u32)]) -> Result<u32>
         requires whole { IsWhole self.old }
         requires some { 0 < length children.now }
@@ -240,7 +234,6 @@ impl<A: Allocator> FreeList<A> {
         Ok(first ^ label)
     }
 
-    /// Uses the element.
     fn use_index(&mut self, idx: u32)
         requires whole { IsWhole self.old }
         requires inside { idx < element_count self.old }
@@ -272,7 +265,7 @@ impl<A: Allocator> FreeList<A> {
         }
     }
 
-    /// Notes that the base is taken, where that is tracked.
+    /// Marks the base as taken, if bases are tracked.
     pub(crate) fn use_base(&mut self, base: u32, tracked: bool)
         requires whole { IsWhole self.old }
         requires inside { base < element_count self.old }
@@ -284,7 +277,7 @@ impl<A: Allocator> FreeList<A> {
         }
     }
 
-    /// Finds a base for the children, gives each of them its element and notes the base.
+    /// Places the children under the first base that fits, and returns it.
     pub(crate) fn place(
         &mut self,
         children: &[(u32, u32)],
@@ -312,7 +305,7 @@ impl<A: Allocator> FreeList<A> {
         Ok(base)
     }
 
-    /// From the first group of weight 0 on, only the last blocks are searched.
+    /// Leaves only the last blocks to be tried, from the first weight 0 on.
     pub(crate) fn weigh(&mut self, weight: usize)
         requires { IsWhole self.old }
         ensures whole { IsWhole self.new }

@@ -1,7 +1,4 @@
 //! How often a corpus visits each state, by which groups of siblings are weighed.
-//!
-//! The layers above may rely on both lists having the length that was asked for, and on nothing
-//! being changed where memory is refused.
 
 ghost use Rattle.std.specs.Prelude.{◌≡◌, [], ◌↔◌, IsTrue, OnOk, OnErr, IfErr};
 ghost use Rattle.daachorse_core.specs.declared.errors.DaachorseError.TheVariants.{OutOfMemory};
@@ -10,20 +7,17 @@ ghost use Rattle.daachorse_placement.specs.Profiles.{first_counts};
 use daachorse_core::errors::Result;
 use std::alloc::{Allocator, Global};
 
-/// Counts by state id, of what a search over a corpus reads.
-///
-/// It has two lists, and takes two numbers of 64 bits for each state. `daachorse_part_tests`
-/// resizes one.
+/// What searches over a corpus read, counted by state id: two numbers of 64 bits for each state.
 #[derive(Drop)]
 pub struct Profile<A: Allocator = Global> {
-    /// How often the state itself was read, as the state that a step began or ended with.
+    /// How often a step began or ended with the state.
     pub visits: Vec<usize, A>,
     /// How often a step from the state found no child by its label.
     pub probes: Vec<usize, A>,
 }
 
 impl<A: Allocator + Copy> Profile<A> {
-    /// The profile of no corpus. It takes no memory.
+    /// The profile of no corpus.
     pub fn new(alloc: A) -> Self
         ensures visits { result.visits.items ≡ [] }
         ensures probes { result.probes.items ≡ [] }
@@ -36,18 +30,14 @@ impl<A: Allocator + Copy> Profile<A> {
 }
 
 impl<A: Allocator> Profile<A> {
-    /// Whether there is no count of a visit, as before the first corpus.
+    /// Whether there are no counts, as without a corpus.
     pub fn is_empty(&self) -> bool
         ensures { IsTrue result ↔ (self.now.visits.items ≡ []) }
     {
         self.visits.is_empty()
     }
 
-    /// Gives both lists `len` counts, new ones 0.
-    ///
-    /// # Errors
-    ///
-    /// An allocation failed, and nothing is changed.
+    /// Gives both lists `len` counts, new ones 0. If an allocation fails, nothing changes.
     pub fn resize(&mut self, len: usize) -> Result<()>
         ensures visits { OnOk result (self.new.visits.items ≡ first_counts self.old.visits.items len) }
         ensures probes { OnOk result (self.new.probes.items ≡ first_counts self.old.probes.items len) }

@@ -1,7 +1,4 @@
-//! The builder of a filter, to which the patterns are shown one by one.
-//!
-//! The layers above may rely on the filter being that of all patterns that were added, and on
-//! there being none exactly where it would not be worth its run.
+//! The builder of a prefilter, to which the patterns are shown one by one.
 
 ghost use Rattle.std.specs.Prelude.{◌≡◌, ℕ, ◌+◌, ◌-◌, ◌*◌, ◌<◌, ◌≤◌, ◌∷◌, [], ◌++◌, ◌||◌, List, length, vec_len, IfOk, IfErr, IfSome, slice_index};
 ghost use Rattle.daachorse_core.specs.Refusals.{IsOutOfMemory};
@@ -14,17 +11,14 @@ use super::{MAX_WINDOW_LEN, MIN_WINDOW_LEN, Prefilter};
 use daachorse_core::errors::Result;
 use std::alloc::{Allocator, Global};
 
-/// A builder of [`Prefilter`]. It keeps no pattern.
-///
-/// It keeps the table of the filter, 65,536 bytes. `daachorse_part_tests` builds filters, and finds
-/// where there is none.
+/// A builder of [`Prefilter`]. It keeps no pattern, only the table of 65,536 bytes.
 #[derive(Drop)]
 pub struct PrefilterBuilder<A: Allocator = Global> {
     // The length of the shortest pattern, at most 9.
     window_len: u8,
     is_empty: bool,
     table: PairTable<A>,
-    // For each place of a window, how many pairs may stand at it.
+    // For each offset in a window, how many pairs may be there.
     counts: [u32; 8],
     ghost short: { window_len ≤ 9 },
     ghost sized: { length table ≡ 65536 },
@@ -34,11 +28,7 @@ pub struct PrefilterBuilder<A: Allocator = Global> {
 impl<A: Allocator> PrefilterBuilder<A> {
     ghost use Rattle.daachorse_prefilter.specs.Builders.{HasAdded};
 
-    /// A builder with no pattern, which takes the memory of the filter's table: 65,536 bytes.
-    ///
-    /// # Errors
-    ///
-    /// An allocation failed.
+    /// A builder with no pattern. It takes the memory of the table, and fails if that is refused.
     pub fn new(alloc: A) -> Result<Self>
         ensures added { IfOk result (λ b. HasAdded b []) }
         ensures err { IfErr result IsOutOfMemory }
@@ -51,7 +41,7 @@ impl<A: Allocator> PrefilterBuilder<A> {
         })
     }
 
-    /// Adds a pattern. It takes no memory.
+    /// Adds a pattern.
     pub fn add(&mut self, pattern: &[u8])
         ensures { (patterns : List (List ℕ)) →
             HasAdded self.old patterns → HasAdded self.new (patterns ++ pattern.now ∷ []) }
@@ -62,11 +52,11 @@ impl<A: Allocator> PrefilterBuilder<A> {
         clear_pairs(&mut self.table, &mut self.counts, &pattern[..window_len]);
     }
 
-    /// The filter of the patterns that were added: none where there is no pattern or one of fewer
-    /// than 2 bytes, or where too many places would pass. It takes no memory.
+    /// The prefilter of the patterns that were added, if it is worth its run.
     ///
-    /// With k pairs in a window, too many would pass where the counts of the pairs that may stand
-    /// at each place have a product above 2^(16 k - 4), one in sixteen of all.
+    /// There is none without a pattern, with one of fewer than 2 bytes, or if too many places would
+    /// be candidates. With k pairs in a window these are too many if the numbers of pairs that may
+    /// be at each offset have a product above 2^(16 k - 4), one in sixteen of all.
     pub fn build(self) -> Option<Prefilter<A>>
         ensures made { (patterns : List (List ℕ)) → HasAdded self patterns → result ≡ built_filter patterns }
         ensures sound { (patterns : List (List ℕ)) →
@@ -86,7 +76,7 @@ impl<A: Allocator> PrefilterBuilder<A> {
     }
 }
 
-/// Lets each pair of the window stand at its place, and counts those that are new there.
+/// Allows each pair of the window at its offset, and counts those that are new there.
 fn clear_pairs<A: Allocator>(table: &mut PairTable<A>, counts: &mut [u32], window: &[u8])
     requires sized { length table.old ≡ 65536 }
     requires places { length counts.old ≡ 8 }
@@ -106,7 +96,7 @@ fn clear_pairs<A: Allocator>(table: &mut PairTable<A>, counts: &mut [u32], windo
     }
 }
 
-/// Whether at most one in sixteen of all ways to choose this many pairs would pass.
+/// Whether at most one in sixteen of all windows of this many pairs would be a candidate.
 fn is_sparse(counts: &[u32], num_pairs: u8) -> bool
     requires places { length counts.now ≡ 8 }
     requires low { 1 ≤ num_pairs }

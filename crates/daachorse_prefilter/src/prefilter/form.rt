@@ -1,7 +1,4 @@
-//! The written form of a filter.
-//!
-//! The layers above may rely on a filter written and read being the same filter, and on no bytes
-//! giving anything but a filter with a window of 2 to 9 bytes and an entry for each pair.
+//! The written form of a prefilter.
 
 ghost use Rattle.std.specs.Prelude.{◌≡◌, ◌≤◌, IfErr, length};
 ghost use Rattle.daachorse_core.specs.Refusals.{IsOutOfMemory};
@@ -64,7 +61,7 @@ impl<A: Allocator> SerializableVec for Prefilter<A> {
         ensures is { result ≡ 65537 }
         ensures exact { length (filter_form self.now) ≡ result }
     {
-        // Each pair has an entry, which is known where the table is read.
+        // A table that is read is known to have an entry for each pair.
         let _ = &self.table;
         1 + NUM_PAIRS
     }

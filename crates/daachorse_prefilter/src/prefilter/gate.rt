@@ -1,21 +1,16 @@
-//! The gate that closes a filter which does not pay.
-//!
-//! The layers above may rely on a gate closing for good after a group of 64 runs that skipped
-//! fewer than 512 bytes, and at no other time.
+//! The gate that turns off a prefilter that does not pay.
 
 ghost use Rattle.std.specs.Prelude.{ℕ, ◌↔◌, ◌++◌, ◌∷◌, [], List, IsTrue};
 ghost use Rattle.daachorse_prefilter.specs.Gates.{IsPaying};
 
-/// The number of runs of a group.
+/// The number of runs in a group.
 const NUM_RUNS: u32 = 64;
 
 /// A group of runs that skips fewer bytes than this closes the gate.
 const MIN_SKIPPED: usize = 512;
 
-/// A gate before a filter, which closes for good where runs of the filter skip too little.
-///
-/// A search has one of its own, so that a filter that does not pay costs one search little.
-/// `daachorse_part_tests` closes a gate, and keeps one open.
+/// A gate before a prefilter, which closes for good if runs of the prefilter skip too little. Each
+/// search has one of its own.
 #[derive(Clone, Drop)]
 pub struct PrefilterGate {
     // The runs since the last whole group, and the bytes that they skipped.
@@ -46,7 +41,7 @@ impl PrefilterGate {
         self.is_enabled
     }
 
-    /// Records that a run of the filter skipped `gain` bytes.
+    /// Records that a run of the prefilter skipped `gain` bytes.
     #[inline(always)]
     pub fn record(&mut self, gain: usize)
         ensures { (gains : List ℕ) →

@@ -1,8 +1,7 @@
 //! A byte for each pair of bytes.
 //!
-//! The filter may rely on a table being the list of its entries in the order of the written form, where
-//! that of bytes a and b has the number 256 a + b. In memory it has the number a + 256 b, which is
-//! what the processor makes of both in one load of two bytes.
+//! The entry of bytes a and b has the number 256 a + b in the written form. In memory it has the
+//! number a + 256 b, which a load of two bytes gives at once.
 
 ghost use Rattle.std.specs.Prelude.{◌≡◌, ◌+◌, ◌*◌, ◌++◌, ◌<◌, ◌^◌, ℕ, List, length, nat_eq, set, slice_index, IfOk, IfErr};
 ghost use Rattle.std.specs.Cmp.Lexicographic.{pointwise};
@@ -25,7 +24,7 @@ const NUM_BYTES: usize = 256;
 /// How many pairs of bytes there are.
 pub(super) const NUM_PAIRS: usize = 65536;
 
-/// An entry for each pair of bytes. It takes 65,536 bytes.
+/// An entry for each pair of bytes, which takes 65,536 bytes.
 #[derive(Drop)]
 pub struct PairTable<A: Allocator = Global> {
     // The entry of bytes a and b at a + 256 b.
@@ -41,11 +40,7 @@ impl<A: Allocator> Model for PairTable<A> {
 }
 
 impl<A: Allocator> PairTable<A> {
-    /// A table in whose entries all bits are set.
-    ///
-    /// # Errors
-    ///
-    /// An allocation failed.
+    /// A table with all bits of its entries set. Fails if an allocation does.
     pub fn new(alloc: A) -> Result<Self>
         ensures sized { IfOk result (λ table. length table ≡ 65536) }
         ensures full { IfOk result (AllClonesOf (λ x y. y ≡ x) 255) }
@@ -56,11 +51,7 @@ impl<A: Allocator> PairTable<A> {
         })
     }
 
-    /// The table of these entries.
-    ///
-    /// # Errors
-    ///
-    /// An allocation failed.
+    /// The table of these entries, in the order of the written form. Fails if an allocation does.
     pub fn from_entries(alloc: A, entries: &[u8]) -> Result<Self>
         requires { length entries.now ≡ 65536 }
         ensures same { IfOk result (λ table. table ≡ entries.now) }
@@ -71,11 +62,7 @@ impl<A: Allocator> PairTable<A> {
         Ok(Self { items })
     }
 
-    /// Appends all entries.
-    ///
-    /// # Errors
-    ///
-    /// An allocation failed.
+    /// Appends all entries, in the order of the written form. Fails if an allocation does.
     pub fn push_to<B: Allocator>(&self, dst: &mut Vec<u8, B>) -> Result<()>
         ensures appends { IfOk result (λ _. dst.new.items ≡ dst.old.items ++ self.now) }
         ensures kept { Begins dst.old.items dst.new.items }
@@ -92,7 +79,7 @@ impl<A: Allocator> PairTable<A> {
         self.items[pair as usize]
     }
 
-    /// Puts an entry in the place of that of the pair.
+    /// Sets the entry of a pair.
     #[inline(always)]
     pub fn set_entry(&mut self, pair: u16, entry: u8)
         ensures { self.new ≡ set self.old (turn pair) entry }
@@ -100,7 +87,7 @@ impl<A: Allocator> PairTable<A> {
         self.items[pair as usize] = entry;
     }
 
-    /// Does nothing. It promises that a table has an entry for each pair, and that these are bytes.
+    /// Does nothing. Its contract says that a table has 65,536 entries, each of them a byte.
     #[inline(always)]
     pub fn in_range(&self)
         ensures sized { length self.now ≡ 65536 }
@@ -111,11 +98,7 @@ impl<A: Allocator> PairTable<A> {
 }
 
 impl<A: Allocator + Copy> PairTable<A> {
-    /// A table with the same entries.
-    ///
-    /// # Errors
-    ///
-    /// An allocation failed.
+    /// Copies the table. Fails if an allocation does.
     pub fn clone(&self) -> Result<Self>
         ensures same { IfOk result (λ table. table ≡ self.now) }
         ensures err { IfErr result IsOutOfMemory }
@@ -140,7 +123,7 @@ impl<A: Allocator> Eq for PairTable<A> {
     ghost laws = { Prim.search (comparing, rules) depth 9 };
 }
 
-/// The entries are hashed in the order in which they stand in memory.
+/// The entries are hashed in the order of memory.
 impl<A: Allocator> Hash for PairTable<A> {
     ghost hash_input = { table_input };
 
@@ -159,7 +142,7 @@ pub fn pair_of(first: u8, second: u8) -> u16
     u16::from_le_bytes([first, second])
 }
 
-/// Appends the entries, with each pair's bytes in the other order.
+/// Appends the entries, with the bytes of each pair in the other order.
 fn push_turned<B: Allocator>(dst: &mut Vec<u8, B>, entries: &[u8]) -> Result<()>
     requires { length entries.now ≡ 65536 }
     ensures appends { IfOk result (λ _. dst.new.items ≡ dst.old.items ++ turned entries.now) }
@@ -172,7 +155,7 @@ fn push_turned<B: Allocator>(dst: &mut Vec<u8, B>, entries: &[u8]) -> Result<()>
     Ok(())
 }
 
-/// The entries of the pairs whose second byte, by their numbers in `entries`, is `byte`.
+/// The entries of the pairs whose second byte is `byte`, by their numbers in `entries`.
 #[inline(always)]
 fn entries_behind(entries: &[u8], byte: usize) -> [u8; NUM_BYTES]
     requires sized { length entries.now ≡ 65536 }
@@ -186,7 +169,7 @@ fn entries_behind(entries: &[u8], byte: usize) -> [u8; NUM_BYTES]
     row
 }
 
-/// Does nothing. It promises that what is at hand is bytes.
+/// Does nothing. Its contract says that what is in hand is bytes.
 #[inline(always)]
 fn bytes_in_range(_bytes: &[u8])
     ensures { (place : ℕ) → slice_index _bytes.now place < 2 ^ 8 }

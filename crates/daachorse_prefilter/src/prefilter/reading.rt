@@ -1,8 +1,4 @@
-//! How a filter reads the bytes of a haystack: as they are, or without regard to the case of ASCII
-//! letters.
-//!
-//! The filter and the layers above may rely on each byte being read by itself, and on the boundaries
-//! of a text's characters staying where they are.
+//! How a prefilter reads a haystack: as it is, or without regard to the case of ASCII letters.
 
 ghost use Rattle.std.specs.Prelude.{◌≡◌, ◌↔◌, ◌+◌, ◌/◌, ◌%◌, ◌<◌, ◌≤◌, ℕ, List, drop, length, map, slice_index};
 ghost use Rattle.std.specs.Str.{IsCharBoundary};
@@ -13,7 +9,7 @@ use daachorse_core::ascii_fold::AsciiFold;
 
 /// A way to read bytes.
 pub trait ByteReading {
-    /// The byte that is read.
+    /// What is read for a byte.
     ghost as_read: { ℕ → ℕ };
 
     /// What is read of a text.
@@ -24,13 +20,13 @@ pub trait ByteReading {
         ensures some { 1 ≤ result }
         ensures few { result ≤ 16 };
 
-    /// Reads the byte at a place and the next, and answers the number of their pair.
+    /// Reads the byte at a place and the next, and returns the number of their pair.
     fn pair(haystack: &[u8], place: usize) -> u16
         requires { place + 1 < length haystack.now }
         ensures first { result % 256 ≡ Self.as_read (slice_index haystack.now place) }
         ensures second { result / 256 ≡ Self.as_read (slice_index haystack.now (place + 1)) };
 
-    /// Whether the test passes at a place in what is read.
+    /// Whether the test passes at a place of what is read.
     fn test_passes<T: PlaceTest>(test: &T, haystack: &[u8], place: usize) -> bool
         requires { place ≤ length haystack.now }
         ensures { result ≡ T.lets test.now (drop place (map Self.as_read haystack.now)) };
@@ -38,7 +34,7 @@ pub trait ByteReading {
     // Each byte is read by itself.
     ghost reads_each: { (text : List ℕ) → read text ≡ map as_read text };
 
-    // The text that is read has its boundaries at the same places.
+    // Character boundaries stay where they are.
     ghost same_boundaries: { (text : List ℕ) (place : ℕ) → IsCharBoundary (read text) place ↔ IsCharBoundary text place };
 }
 
@@ -62,7 +58,7 @@ impl ByteReading for AsItIs {
 
     #[inline(always)]
     fn pair(haystack: &[u8], place: usize) -> u16 {
-        // As one array both are loaded at once.
+        // As one array both bytes are loaded at once.
         let (pairs, _rest) = haystack[place..place + 2].as_chunks::<2>();
         u16::from_le_bytes(pairs[0])
     }

@@ -1,6 +1,4 @@
-//! The scan of a haystack for the first place at which a filter passes, and a test with it.
-//!
-//! A filter may rely on the scan answering that place, or the haystack's length.
+//! The scan of a haystack for the first candidate that passes a test.
 
 ghost use Rattle.std.specs.Prelude.{◌≡◌, ℕ, ◌+◌, ◌-◌, ◌<◌, ◌≤◌, ◌&&◌, false, length, map, slice_index, MatchOption};
 ghost use Rattle.daachorse_model.specs.Filter.{is_clear, passes};
@@ -12,12 +10,11 @@ use super::reading::ByteReading;
 use crate::place_test::PlaceTest;
 use std::alloc::Allocator;
 
-/// The first place from `pos` on at which a window of what is read passes, and the test too, or the
-/// haystack's length.
+/// The first candidate from `pos` on that passes the test, or the haystack's length.
 ///
-/// Bit j of the state is 0 where the last j + 1 pairs are those that a window begins with. A round reads many
-/// pairs: the bit of a window's last pair goes on to the bits above it, so that one look tells of each of
-/// them. The test is asked only of the windows that pass.
+/// Bit j of the state is 0 if the last j + 1 pairs may begin a window. A round reads many pairs:
+/// the bit of a window's last pair moves on to the bits above it, so that one look finds all
+/// windows that ended in the round. Only these are tested.
 #[inline(always)]
 pub(super) fn scan<R: ByteReading, A: Allocator, T: PlaceTest>(
     table: &PairTable<A>,
@@ -52,7 +49,7 @@ pub(super) fn scan<R: ByteReading, A: Allocator, T: PlaceTest>(
     scan_rest::<R, A, T>(table, test, last, haystack, pos, place, state)
 }
 
-/// The state after the pairs of a round, which begin with the bytes from a place on.
+/// The state after the round whose first pair is at `place`.
 #[inline(always)]
 fn read_round<R: ByteReading, A: Allocator>(
     table: &PairTable<A>,
@@ -68,7 +65,7 @@ fn read_round<R: ByteReading, A: Allocator>(
     ensures { (pos : ℕ) → pos ≤ place → AreBits table.now (map R.as_read haystack.now) last pos (place + 1) state
         → HasEnded table.now (map R.as_read haystack.now) last pos (place + 1) num_pairs result }
 {
-    // It is made apart from the state before, so that only the last step waits for that.
+    // Independent of `state`, so that the loads of a round need not wait for it.
     let read = if num_pairs == 16 {
         read_sixteen::<R, A>(table, last, haystack, place)
     } else {
@@ -77,7 +74,7 @@ fn read_round<R: ByteReading, A: Allocator>(
     (state << num_pairs) | read
 }
 
-/// The state that the pairs of a round make alone.
+/// What the pairs of a round alone add to the state.
 #[inline(always)]
 fn read_pairs<R: ByteReading, A: Allocator>(
     table: &PairTable<A>,
@@ -91,7 +88,7 @@ fn read_pairs<R: ByteReading, A: Allocator>(
     requires inside { place + num_pairs < length haystack.now }
     ensures { EndsRound table.now (map R.as_read haystack.now) last (place + 1) num_pairs result }
 {
-    // No other bit of an entry may meet those above the last.
+    // Masked, so that no bit of an entry is above that of a window's last pair.
     let window = (2u32 << last) - 1;
     let mut read = 0u32;
     for k in 0..num_pairs {
@@ -101,8 +98,8 @@ fn read_pairs<R: ByteReading, A: Allocator>(
     read
 }
 
-/// The state that the sixteen pairs of a round make alone. Two that are eight apart are taken at once: their
-/// entries stand side by side.
+/// What the sixteen pairs of a round alone add to the state. The entries of two that are eight
+/// apart are taken side by side.
 #[inline(always)]
 fn read_sixteen<R: ByteReading, A: Allocator>(
     table: &PairTable<A>,
@@ -126,8 +123,8 @@ fn read_sixteen<R: ByteReading, A: Allocator>(
     read
 }
 
-/// The place of the first window of a round at which the test passes, of those whose bit is set: the window
-/// with bit b begins at end - b, so that the first has the highest.
+/// The first candidate of a round that passes the test. The one of bit b begins at `end - b`, so
+/// the first has the highest bit.
 #[inline(always)]
 fn first_in_round<R: ByteReading, T: PlaceTest>(
     test: &T,
@@ -152,7 +149,7 @@ fn first_in_round<R: ByteReading, T: PlaceTest>(
     None
 }
 
-/// What [`scan`] answers, where fewer pairs are left than a round reads.
+/// Ends a [`scan`], when fewer pairs are left than a round reads.
 #[inline(always)]
 fn scan_rest<R: ByteReading, A: Allocator, T: PlaceTest>(
     table: &PairTable<A>,

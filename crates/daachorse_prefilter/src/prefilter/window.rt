@@ -1,7 +1,4 @@
-//! The window of a filter over the beginning of a text that is read byte by byte.
-//!
-//! The layers above may rely on a window telling, of all that was read, whether the filter passes
-//! at its beginning.
+//! The window of a prefilter over the beginning of a text that is read byte by byte.
 
 ghost use Rattle.std.specs.Prelude.{◌≡◌, ◌++◌, ◌∷◌, [], ℕ, List};
 ghost use Rattle.daachorse_prefilter.specs.Filters.{Filter, admits};
@@ -10,14 +7,14 @@ use super::Prefilter;
 use super::pair_table::pair_of;
 use std::alloc::Allocator;
 
-/// What a filter keeps of the beginning of a text, of which some bytes were read.
+/// What a prefilter keeps of the beginning of a text that is read byte by byte.
 #[derive(Clone, Copy, Drop)]
 pub struct Window {
     // How many bytes of the window were read.
     len: u8,
     // The last of them.
     last: u8,
-    // Whether each pair of them may stand at its place.
+    // Whether each pair of them may be at its offset.
     passes: bool,
 }
 
@@ -39,7 +36,7 @@ impl Window {
 impl<A: Allocator> Prefilter<A> {
     ghost use Rattle.daachorse_prefilter.specs.Windows.{HasRead};
 
-    /// The window after these bytes more.
+    /// The window after some more bytes.
     pub fn read(&self, window: Window, bytes: &[u8]) -> Window
         ensures { (text : List ℕ) → HasRead self.now text window → HasRead self.now (text ++ bytes.now) result }
     {
@@ -50,7 +47,7 @@ impl<A: Allocator> Prefilter<A> {
         window
     }
 
-    /// The window after a byte more.
+    /// The window after one more byte.
     #[inline(always)]
     fn read_byte(&self, window: Window, byte: u8) -> Window
         ensures { (text : List ℕ) → HasRead self.now text window → HasRead self.now (text ++ byte ∷ []) result }
@@ -70,7 +67,7 @@ impl<A: Allocator> Prefilter<A> {
         }
     }
 
-    /// Whether the filter passes at the beginning of what was read.
+    /// Whether what was read begins with a candidate.
     pub fn admits(&self, window: Window) -> bool
         ensures { (text : List ℕ) → HasRead self.now text window → result ≡ admits self.now text }
     {

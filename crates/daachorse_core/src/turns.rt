@@ -94,8 +94,8 @@ pub enum History {
 /// The units that a search has read, the place from which its state counts, the units that it
 /// looked up, and the number of matches that it returned.
 ///
-/// A walk keeps the units, and a search the number alone. A stepper counts no matches, since it
-/// reports those at an end as often as it is asked.
+/// A walk keeps the units, and a search the number alone. A stepper needs no number: the units of
+/// its walk say how many matches it gave.
 #[derive(Drop)]
 pub struct Seen {
     history: Snapshot<History>,

@@ -5,7 +5,7 @@ ghost use Rattle.daachorse_core.specs.Refusals.{IsOutOfMemory};
 ghost use Rattle.daachorse_array.specs.Edges.{TellChildren, children_below, members, put_before};
 ghost use Rattle.daachorse_array.specs.Trees.{elements_of};
 
-use crate::edges::Edges;
+use crate::array::Array;
 use crate::siblings::Siblings;
 use daachorse_core::errors::Result;
 use std::alloc::Allocator;
@@ -15,7 +15,7 @@ use std::alloc::Allocator;
 /// # Errors
 ///
 /// An allocation failed. Without children there is none.
-pub(crate) fn put_aside<E: Edges, A: Allocator>(
+pub(crate) fn put_aside<E: Array, A: Allocator>(
     edges: &E,
     groups: &Siblings<A>,
     element: usize,
@@ -45,7 +45,7 @@ pub(crate) fn put_aside<E: Edges, A: Allocator>(
 }
 
 /// The child of an element; `None` where it has none or several.
-fn only_child<E: Edges, A: Allocator>(
+fn only_child<E: Array, A: Allocator>(
     edges: &E,
     groups: &Siblings<A>,
     element: usize,
@@ -72,7 +72,7 @@ fn only_child<E: Edges, A: Allocator>(
 /// # Errors
 ///
 /// An allocation failed. Without children there is none.
-fn list_children<E: Edges, A: Allocator>(
+fn list_children<E: Array, A: Allocator>(
     edges: &E,
     groups: &Siblings<A>,
     element: usize,

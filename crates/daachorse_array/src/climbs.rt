@@ -13,8 +13,8 @@ ghost use Rattle.daachorse_array.specs.Edges.{IsTree, TellChildren};
 ghost use Rattle.daachorse_array.specs.Depths.{IsDepthTable};
 ghost use Rattle.daachorse_array.specs.Trees.{IsAmong};
 
+use crate::array::Array;
 use crate::depths::NOT_REACHED;
-use crate::edges::Edges;
 use daachorse_core::ROOT_STATE_IDX;
 use daachorse_core::errors::Result;
 use std::alloc::Allocator;
@@ -28,7 +28,7 @@ const NOT_KNOWN: u32 = 0;
 /// # Errors
 ///
 /// An allocation failed.
-pub fn depths_by_parents<E: Edges, A: Allocator + Copy>(alloc: A, edges: &E) -> Result<Vec<u32, A>>
+pub fn depths_by_parents<E: Array, A: Allocator + Copy>(alloc: A, edges: &E) -> Result<Vec<u32, A>>
     requires tree { IsTree (E.child edges.now) (E.count edges.now) (E.units edges.now) }
     requires tell { TellChildren (E.child edges.now) (λ i. Some i) (E.edge edges.now) (E.count edges.now) }
     ensures ok { IfOk result (λ v. IsDepthTable (E.child edges.now) (E.units edges.now) (E.count edges.now) v.items) }
@@ -49,7 +49,7 @@ pub fn depths_by_parents<E: Edges, A: Allocator + Copy>(alloc: A, edges: &E) -> 
 /// Puts an element and those above it on the path, up to the first whose depth is known, and tells that depth; `None`
 /// where no text leads to them.
 #[inline(always)]
-fn climb<E: Edges, A: Allocator>(
+fn climb<E: Array, A: Allocator>(
     edges: &E,
     element: usize,
     depths: &mut Vec<u32, A>,

@@ -9,7 +9,7 @@ ghost use Rattle.daachorse_array.specs.Edges.{IsTree, TellChildren, members};
 ghost use Rattle.daachorse_array.specs.Depths.{IsDepthTable};
 ghost use Rattle.daachorse_array.specs.Trees.{IsNoting};
 
-use crate::edges::Edges;
+use crate::array::Array;
 use crate::siblings::Siblings;
 use daachorse_core::errors::Result;
 use std::alloc::Allocator;
@@ -22,7 +22,7 @@ pub(crate) const NOT_REACHED: u32 = u32::MAX;
 /// # Errors
 ///
 /// An allocation failed.
-pub fn depths<E: Edges, A: Allocator + Copy>(alloc: A, edges: &E) -> Result<Vec<u32, A>>
+pub fn depths<E: Array, A: Allocator + Copy>(alloc: A, edges: &E) -> Result<Vec<u32, A>>
     requires tree { IsTree (E.child edges.now) (E.count edges.now) (E.units edges.now) }
     requires tell { TellChildren (E.child edges.now) (E.group edges.now) (E.edge edges.now) (E.count edges.now) }
     ensures ok { IfOk result (λ v. IsDepthTable (E.child edges.now) (E.units edges.now) (E.count edges.now) v.items) }
@@ -44,7 +44,7 @@ pub fn depths<E: Edges, A: Allocator + Copy>(alloc: A, edges: &E) -> Result<Vec<
 }
 
 /// Notes the depth of each child of an element, and that it is reached.
-fn note_children<E: Edges, A: Allocator>(
+fn note_children<E: Array, A: Allocator>(
     edges: &E,
     groups: &Siblings<A>,
     element: usize,

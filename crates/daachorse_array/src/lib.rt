@@ -8,11 +8,10 @@
 //! time and memory linear in the places of the trie and the alphabet.
 #![tactic(auto)]
 
+pub mod array;
 mod children;
 pub mod climbs;
 pub mod depths;
-pub mod edges;
-pub mod links;
 pub mod patterns;
 pub mod siblings;
 pub mod trie;

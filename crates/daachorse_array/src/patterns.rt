@@ -15,8 +15,8 @@ ghost use Rattle.daachorse_core.specs.declared.outputs.Output.{Output};
 ghost use Rattle.daachorse_array.specs.Edges.{TellChildren, children_below, members, put_before};
 ghost use Rattle.daachorse_array.specs.Listing.{HasPatterns, IsPatterns, own_end, unit_of};
 
+use crate::array::{Array, own_end};
 use crate::children::put_aside;
-use crate::links::{Links, own_end};
 use crate::siblings::Siblings;
 use daachorse_core::Output;
 use daachorse_core::errors::Result;
@@ -24,13 +24,19 @@ use std::alloc::{Allocator, Global};
 use std::marker::{Model, PhantomData};
 use std::num::NonZeroU32;
 
-/// Edges whose elements have outputs.
-pub trait Outputs<V: Copy>: Links {
+/// Elements with outputs whose texts are given as keys, in memory of an allocator.
+pub trait Keys<V: Copy, A: Allocator>: Array {
     /// A unit of a text.
     type Unit: Copy;
 
+    /// A text in memory of its own.
+    type Key;
+
     /// The number of a unit.
     ghost number: { Self.Unit → ℕ };
+
+    /// The numbers of the units of a key.
+    ghost units_of: { Self.Key → List ℕ };
 
     /// All outputs.
     ghost outputs: { Self → List (Output V) };
@@ -45,15 +51,6 @@ pub trait Outputs<V: Copy>: Links {
         requires some { 0 < position }
         requires inside { position ≤ length (outputs self.now) }
         ensures { slice_get (outputs self.now) (position - 1) ≡ Some result };
-}
-
-/// Outputs whose texts are given as keys, in memory of an allocator.
-pub trait Keys<V: Copy, A: Allocator>: Outputs<V> {
-    /// A text in memory of its own.
-    type Key;
-
-    /// The numbers of the units of a key.
-    ghost units_of: { Self.Key → List ℕ };
 
     /// Makes the key of these units.
     ///
@@ -61,14 +58,14 @@ pub trait Keys<V: Copy, A: Allocator>: Outputs<V> {
     ///
     /// An allocation failed.
     fn key(&self, alloc: A, units: &[Self::Unit]) -> Result<Self::Key>
-        ensures ok { IfOk result (λ key. units_of key ≡ map Self.number units.now) }
+        ensures ok { IfOk result (λ key. units_of key ≡ map number units.now) }
         ensures err { IfErr result IsOutOfMemory };
 }
 
 /// The patterns of an array, one by one: in the order of their texts, and those of one text in the
 /// order of its values.
 #[derive(Drop)]
-pub struct PatternWalk<V: Copy, E: Outputs<V>, A: Allocator = Global> {
+pub struct PatternWalk<V: Copy, E: Keys<V, A>, A: Allocator = Global> {
     elements: E,
     groups: Siblings<A>,
     // The elements that were put aside, the next one last, each behind the length of its text.
@@ -83,7 +80,7 @@ pub struct PatternWalk<V: Copy, E: Outputs<V>, A: Allocator = Global> {
     values: PhantomData<V>,
 }
 
-impl<V: Copy, E: Outputs<V>, A: Allocator> Model for PatternWalk<V, E, A> {
+impl<V: Copy, E: Keys<V, A>, A: Allocator> Model for PatternWalk<V, E, A> {
     ghost use Rattle.std.specs.Prelude.{List, ℕ, map};
     ghost use Rattle.daachorse_array.specs.Listing.{IsListingWalk, left_of, own_end};
     ghost use Rattle.daachorse_array.specs.Trees.{elements_of};
@@ -99,7 +96,7 @@ impl<V: Copy, E: Outputs<V>, A: Allocator> Model for PatternWalk<V, E, A> {
         s.groups s.aside.items (map E.number s.text.items) s.position };
 }
 
-impl<V: Copy, E: Outputs<V> + Drop, A: Allocator + Copy> PatternWalk<V, E, A> {
+impl<V: Copy, E: Keys<V, A> + Drop, A: Allocator + Copy> PatternWalk<V, E, A> {
     /// A walk over all patterns.
     ///
     /// # Errors
@@ -126,7 +123,7 @@ impl<V: Copy, E: Outputs<V> + Drop, A: Allocator + Copy> PatternWalk<V, E, A> {
     }
 }
 
-impl<V: Copy, E: Outputs<V>, A: Allocator> PatternWalk<V, E, A> {
+impl<V: Copy, E: Keys<V, A>, A: Allocator> PatternWalk<V, E, A> {
     /// Leaves out all patterns that were not given yet.
     pub fn end(&mut self)
         ensures { self.new ≡ [] }
@@ -191,7 +188,7 @@ impl<V: Copy, E: Keys<V, A> + Drop, A: Allocator + Copy> Iterator for PatternWal
 /// # Errors
 ///
 /// An allocation failed. For the root without children there is none.
-fn enter<V: Copy, E: Outputs<V>, A: Allocator>(
+fn enter<V: Copy, E: Keys<V, A>, A: Allocator>(
     elements: &E,
     groups: &Siblings<A>,
     element: usize,
@@ -240,7 +237,7 @@ fn write_last<U: Copy, A: Allocator>(text: &mut Vec<U, A>, depth: usize, unit: U
 
 /// The position of an element's first output, and that where its own outputs end, which is read only
 /// where there is an output.
-fn own_outputs<E: Links>(elements: &E, element: usize) -> (usize, usize)
+fn own_outputs<E: Array>(elements: &E, element: usize) -> (usize, usize)
     requires { element < E.count elements.now }
     ensures first { result.0 ≡ E.first elements.now element }
     ensures stop { 0 < result.0 → result.1 ≡ own_end (E.fail elements.now) (E.first elements.now) element }

@@ -8,7 +8,7 @@ ghost use Rattle.daachorse_core.specs.Refusals.{IsOutOfMemory};
 ghost use Rattle.daachorse_array.specs.Edges.{members};
 ghost use Rattle.daachorse_array.specs.Linked.{IsPut};
 
-use crate::edges::Edges;
+use crate::array::Array;
 use daachorse_core::errors::Result;
 use std::alloc::{Allocator, Global};
 use std::marker::Model;
@@ -40,7 +40,7 @@ impl<A: Allocator + Copy> Siblings<A> {
     ///
     /// An allocation failed.
     #[inline(always)]
-    pub fn new<E: Edges>(alloc: A, edges: &E) -> Result<Self>
+    pub fn new<E: Array>(alloc: A, edges: &E) -> Result<Self>
         ensures ok { IfOk result (λ groups. (g : ℕ) → g < E.count edges.now
             → slice_index_or groups g [] ≡ members (E.edge edges.now) g (E.count edges.now)) }
         ensures size { IfOk result (λ groups. length groups ≡ E.count edges.now) }
@@ -72,7 +72,7 @@ impl<A: Allocator> Siblings<A> {
 
 /// Puts an element before the others of its group. Answers the link to these, or 0 where it has no
 /// group.
-fn put_first<E: Edges, A: Allocator>(edges: &E, element: usize, first: &mut Vec<u32, A>) -> u32
+fn put_first<E: Array, A: Allocator>(edges: &E, element: usize, first: &mut Vec<u32, A>) -> u32
     requires element { element < E.count edges.now }
     requires few { E.count edges.now < 2 ^ 32 }
     requires size { length first.old.items ≡ E.count edges.now }

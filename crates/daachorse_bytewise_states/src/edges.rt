@@ -15,13 +15,11 @@ ghost use Rattle.daachorse_bytewise_states.specs.Parts.{base_of, check_of, child
 use crate::for_kinds::{ByKind, ForKinds};
 use crate::state::State;
 use crate::states::States;
-use daachorse_checker::array::Array;
+use daachorse_array::array::Array;
+use daachorse_array::depths::depths;
+use daachorse_array::patterns::Keys;
 use daachorse_core::errors::Result;
 use daachorse_core::{Empty, MatchKind, Output};
-use daachorse_array::depths::depths;
-use daachorse_array::edges::Edges;
-use daachorse_array::links::Links;
-use daachorse_array::patterns::{Keys, Outputs};
 use daachorse_search::view::{ForLeftmost, ForStandard};
 use std::alloc::Allocator;
 use std::marker::{Model, PhantomData};
@@ -106,10 +104,13 @@ impl<'a, V: Copy, K: ForKinds> Elements<'a, V, K> {
     }
 }
 
-/// The elements of a group are those that the bytes lead to from one base.
-impl<'a, V: Copy, K: ForKinds> Edges for Elements<'a, V, K> {
+/// The elements of a group are those that the bytes lead to from one base. A unit is a byte, which
+/// spells itself.
+impl<'a, V: Copy, K: ForKinds> Array for Elements<'a, V, K> {
+    ghost use Rattle.std.specs.Prelude.{[], ◌∷◌};
+    ghost use Rattle.daachorse_model.specs.Units.{byte_width};
     ghost use Rattle.daachorse_bytewise_states.specs.Edges.{edge_of, group_of};
-    ghost use Rattle.daachorse_bytewise_states.specs.Parts.{child, count};
+    ghost use Rattle.daachorse_bytewise_states.specs.Parts.{child, count, fail_of, output_of};
 
     ghost count = { count };
 
@@ -121,12 +122,26 @@ impl<'a, V: Copy, K: ForKinds> Edges for Elements<'a, V, K> {
 
     ghost edge = { edge_of };
 
+    ghost fail = { fail_of };
+
+    ghost first = { output_of };
+
+    ghost width = { λ p. byte_width };
+
+    ghost bytes = { λ byte. byte ∷ [] };
+
     fn num_elements(&self) -> usize {
         if K::is_leftmost(self.kind) {
             self.leftmost.len()
         } else {
             self.standard.len()
         }
+    }
+
+    fn num_units(&self) -> usize {
+        // A field is read, so that the type's invariant is known here.
+        let _ = self.num_states;
+        256
     }
 
     fn group(&self, element: usize) -> Option<usize> {
@@ -138,14 +153,6 @@ impl<'a, V: Copy, K: ForKinds> Edges for Elements<'a, V, K> {
         let check = self.check_at(element) as usize;
         Some((element ^ check, check))
     }
-}
-
-impl<'a, V: Copy, K: ForKinds> Links for Elements<'a, V, K> {
-    ghost use Rattle.daachorse_bytewise_states.specs.Parts.{fail_of, output_of};
-
-    ghost fail = { fail_of };
-
-    ghost first = { output_of };
 
     fn fail(&self, element: usize) -> u32 {
         if K::is_leftmost(self.kind) {
@@ -162,13 +169,29 @@ impl<'a, V: Copy, K: ForKinds> Links for Elements<'a, V, K> {
             output_at(self.standard, element)
         }
     }
+
+    fn width(&self, unit: u32) -> usize {
+        // A field is read, so that the type's invariant is known here.
+        let _ = self.num_states;
+        let _ = unit;
+        1
+    }
+
+    fn spell<'b>(&self, element: usize, buffer: &'b mut [u8; 4]) -> &'b [u8] {
+        *buffer = [self.check_at(element), 0, 0, 0];
+        &buffer[..1]
+    }
 }
 
-/// A unit is a byte.
-impl<'a, V: Copy, K: ForKinds> Outputs<V> for Elements<'a, V, K> {
+/// A key is the bytes of a text.
+impl<'a, V: Copy, A: Allocator, K: ForKinds> Keys<V, A> for Elements<'a, V, K> {
     type Unit = u8;
 
+    type Key = Vec<u8, A>;
+
     ghost number = { λ byte. byte };
+
+    ghost units_of = { λ key. key.items };
 
     ghost outputs = { λ p. p.outputs };
 
@@ -180,36 +203,9 @@ impl<'a, V: Copy, K: ForKinds> Outputs<V> for Elements<'a, V, K> {
         let outputs = self.outputs;
         outputs[position - 1]
     }
-}
-
-/// A key is the bytes of a text.
-impl<'a, V: Copy, A: Allocator, K: ForKinds> Keys<V, A> for Elements<'a, V, K> {
-    type Key = Vec<u8, A>;
-
-    ghost units_of = { λ key. key.items };
 
     fn key(&self, alloc: A, units: &[u8]) -> Result<Vec<u8, A>> {
         Ok(Vec::from_slice(alloc, units)?)
-    }
-}
-
-/// Each byte is a unit, and takes one.
-impl<'a, V: Copy, K: ForKinds> Array for Elements<'a, V, K> {
-    ghost use Rattle.daachorse_model.specs.Units.{byte_width};
-
-    ghost width = { λ p. byte_width };
-
-    fn num_units(&self) -> usize {
-        // A field is read, so that the type's invariant is known here.
-        let _ = self.num_states;
-        256
-    }
-
-    fn width(&self, unit: u32) -> usize {
-        // A field is read, so that the type's invariant is known here.
-        let _ = self.num_states;
-        let _ = unit;
-        1
     }
 }
 

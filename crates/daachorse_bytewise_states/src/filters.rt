@@ -7,24 +7,11 @@ ghost use Rattle.daachorse_core.specs.Refusals.{IsOutOfMemory};
 ghost use Rattle.daachorse_prefilter.specs.Filters.{PassesKeys};
 ghost use Rattle.daachorse_bytewise_states.specs.Parts.{content};
 
-use crate::edges::Elements;
-use crate::for_kinds::ForKinds;
 use crate::states::States;
-use daachorse_checker::filters::{Spelled, passes_all};
+use daachorse_checker::filters::passes_all;
 use daachorse_core::errors::Result;
-use daachorse_prefilter::prefilter::{Prefilter, Window};
+use daachorse_prefilter::prefilter::Prefilter;
 use std::alloc::Allocator;
-
-/// A unit is a byte, which spells itself.
-impl<'a, V: Copy, K: ForKinds> Spelled for Elements<'a, V, K> {
-    ghost use Rattle.std.specs.Prelude.{[], ◌∷◌};
-
-    ghost bytes = { λ byte. byte ∷ [] };
-
-    fn read<B: Allocator>(&self, element: usize, filter: &Prefilter<B>, window: Window) -> Window {
-        filter.read(window, &[self.check_at(element)])
-    }
-}
 
 impl<V: Copy, A: Allocator + Copy> States<V, A> {
     /// Whether a filter, if there is one, passes at the beginning of each pattern.

@@ -12,8 +12,8 @@ ghost use Rattle.daachorse_bytewise_states.specs.StateRows.{CoversNear, HasNoRoo
 
 use crate::edges::Elements;
 use crate::states::States;
+use daachorse_array::array::Array;
 use daachorse_core::MatchKind;
-use daachorse_array::edges::Edges;
 use daachorse_rows::rows::Rows;
 use std::alloc::{AllocError, Allocator};
 

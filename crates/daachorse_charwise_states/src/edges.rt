@@ -20,11 +20,9 @@ use crate::mapper::{CodeMapper, INVALID_CODE};
 use crate::state::State;
 use crate::states::States;
 use crate::strings::text_of;
+use daachorse_array::array::Array;
 use daachorse_array::climbs::depths_by_parents;
-use daachorse_array::edges::Edges;
-use daachorse_array::links::Links;
-use daachorse_array::patterns::{Keys, Outputs, PatternWalk};
-use daachorse_checker::array::Array;
+use daachorse_array::patterns::{Keys, PatternWalk};
 use daachorse_core::errors::Result;
 use daachorse_core::{MatchKind, Output};
 use std::alloc::{Allocator, Global};
@@ -141,10 +139,15 @@ impl<'a, V: Copy, A: Allocator> Elements<'a, V, A> {
 
 /// The children of an element are a group of their own, whose number is the element's. That group is
 /// empty where there are none, so that an element's group is known without a look at the element.
-impl<'a, V: Copy, A: Allocator> Edges for Elements<'a, V, A> {
+///
+/// A unit is a character, which its UTF-8 spells. A number that is no character takes bytes too, as
+/// the definitions have it.
+impl<'a, V: Copy, A: Allocator> Array for Elements<'a, V, A> {
+    ghost use Rattle.std.specs.Char.{encode_utf8};
     ghost use Rattle.std.specs.Prelude.{length};
+    ghost use Rattle.daachorse_model.specs.Units.{char_width};
     ghost use Rattle.daachorse_charwise_states.specs.Edges.{edge_of};
-    ghost use Rattle.daachorse_charwise_states.specs.Parts.{child, count};
+    ghost use Rattle.daachorse_charwise_states.specs.Parts.{child, count, fail_of, output_of};
 
     ghost count = { λ a. count a.parts };
 
@@ -156,8 +159,20 @@ impl<'a, V: Copy, A: Allocator> Edges for Elements<'a, V, A> {
 
     ghost edge = { edge_of };
 
+    ghost fail = { λ a. fail_of a.parts };
+
+    ghost first = { λ a. output_of a.parts };
+
+    ghost width = { λ a. char_width };
+
+    ghost bytes = { encode_utf8 };
+
     fn num_elements(&self) -> usize {
         self.states.len()
+    }
+
+    fn num_units(&self) -> usize {
+        self.mapper.table().len()
     }
 
     fn group(&self, element: usize) -> Option<usize> {
@@ -168,14 +183,6 @@ impl<'a, V: Copy, A: Allocator> Edges for Elements<'a, V, A> {
         let (parent, character) = self.parent(element)?;
         Some((parent, character as usize))
     }
-}
-
-impl<'a, V: Copy, A: Allocator> Links for Elements<'a, V, A> {
-    ghost use Rattle.daachorse_charwise_states.specs.Parts.{fail_of, output_of};
-
-    ghost fail = { λ a. fail_of a.parts };
-
-    ghost first = { λ a. output_of a.parts };
 
     fn fail(&self, element: usize) -> u32 {
         let states = self.states;
@@ -188,13 +195,35 @@ impl<'a, V: Copy, A: Allocator> Links for Elements<'a, V, A> {
             None => 0,
         }
     }
+
+    fn width(&self, unit: u32) -> usize {
+        // A field is read, so that the type's invariant is known here.
+        let _ = self.num_states;
+        match unit {
+            0..=0x7f => 1,
+            0x80..=0x7ff => 2,
+            0x800..=0xffff => 3,
+            _ => 4,
+        }
+    }
+
+    fn spell<'b>(&self, element: usize, buffer: &'b mut [u8; 4]) -> &'b [u8] {
+        self.unit(element).encode_utf8(buffer).as_bytes()
+    }
 }
 
-/// A unit is a character.
-impl<'a, V: Copy, A: Allocator> Outputs<V> for Elements<'a, V, A> {
+/// A key is the string of a text.
+impl<'a, V: Copy, A: Allocator> Keys<V, A> for Elements<'a, V, A> {
+    ghost use Rattle.std.specs.Str.{chars};
+    ghost use Rattle.std.specs.String.{string_bytes};
+
     type Unit = char;
 
+    type Key = String<A>;
+
     ghost number = { λ character. character };
+
+    ghost units_of = { λ key. chars (string_bytes key) };
 
     ghost outputs = { λ a. a.parts.outputs };
 
@@ -209,41 +238,9 @@ impl<'a, V: Copy, A: Allocator> Outputs<V> for Elements<'a, V, A> {
         let outputs = self.outputs;
         outputs[position - 1]
     }
-}
-
-/// A key is the string of a text.
-impl<'a, V: Copy, A: Allocator> Keys<V, A> for Elements<'a, V, A> {
-    ghost use Rattle.std.specs.Str.{chars};
-    ghost use Rattle.std.specs.String.{string_bytes};
-
-    type Key = String<A>;
-
-    ghost units_of = { λ key. chars (string_bytes key) };
 
     fn key(&self, alloc: A, units: &[char]) -> Result<String<A>> {
         text_of(alloc, units)
-    }
-}
-
-/// A number that is no character takes bytes too, as the definitions have it.
-impl<'a, V: Copy, A: Allocator> Array for Elements<'a, V, A> {
-    ghost use Rattle.daachorse_model.specs.Units.{char_width};
-
-    ghost width = { λ a. char_width };
-
-    fn num_units(&self) -> usize {
-        self.mapper.table().len()
-    }
-
-    fn width(&self, unit: u32) -> usize {
-        // A field is read, so that the type's invariant is known here.
-        let _ = self.num_states;
-        match unit {
-            0..=0x7f => 1,
-            0x80..=0x7ff => 2,
-            0x800..=0xffff => 3,
-            _ => 4,
-        }
     }
 }
 

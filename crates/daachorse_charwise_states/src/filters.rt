@@ -8,26 +8,11 @@ ghost use Rattle.daachorse_core.specs.Refusals.{IsOutOfMemory};
 ghost use Rattle.daachorse_prefilter.specs.Filters.{PassesKeys};
 ghost use Rattle.daachorse_charwise_states.specs.Parts.{content};
 
-use crate::edges::Elements;
 use crate::states::States;
-use daachorse_array::patterns::Outputs;
-use daachorse_checker::filters::{Spelled, passes_all};
+use daachorse_checker::filters::passes_all;
 use daachorse_core::errors::Result;
-use daachorse_prefilter::prefilter::{Prefilter, Window};
+use daachorse_prefilter::prefilter::Prefilter;
 use std::alloc::Allocator;
-
-/// A unit is a character, which its UTF-8 spells.
-impl<'a, V: Copy, A: Allocator> Spelled for Elements<'a, V, A> {
-    ghost use Rattle.std.specs.Char.{encode_utf8};
-
-    ghost bytes = { encode_utf8 };
-
-    fn read<B: Allocator>(&self, element: usize, filter: &Prefilter<B>, window: Window) -> Window {
-        let mut buffer = [0; 4];
-        let text = self.unit(element).encode_utf8(&mut buffer);
-        filter.read(window, text.as_bytes())
-    }
-}
 
 impl<V: Copy, A: Allocator + Copy> States<V, A> {
     /// Whether a filter, if there is one, passes at the beginning of the UTF-8 of each pattern.

@@ -23,6 +23,7 @@ ghost use Rattle.daachorse_charwise_states.specs.Writing.{AreGroupsApart, HasWri
 use crate::mapper::CodeMapper;
 use crate::state::State;
 use daachorse_build::nfa_builder::{EdgeLabel, NfaBuilder, NfaBuilderState};
+use daachorse_charwise_states::mapper::CodeMapper;
 use daachorse_core::DEAD_STATE_IDX;
 use daachorse_core::errors::Result;
 use daachorse_placement::build_helper::{BuildHelper, Profile, SiblingGroup};

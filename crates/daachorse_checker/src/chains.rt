@@ -11,9 +11,9 @@ ghost use Rattle.daachorse_checker.specs.Places.{HasOnePath, ArePlaces};
 ghost use Rattle.daachorse_checker.specs.Runs.{AreRuns};
 ghost use Rattle.daachorse_checker.specs.Sizes.{AreSizes};
 
-use crate::array::Array;
 use crate::places::Places;
 use crate::runs::{has_own, rest_at};
+use daachorse_array::array::Array;
 use daachorse_core::errors::Result;
 use daachorse_core::{DEAD_STATE_IDX, Output};
 use std::alloc::Allocator;

@@ -16,15 +16,15 @@ ghost use Rattle.daachorse_checker.specs.Runs.{AreRuns};
 ghost use Rattle.daachorse_checker.specs.Sizes.{AreSizes};
 ghost use Rattle.daachorse_checker.specs.Sound.{IsSoundArray};
 
-use crate::array::Array;
 use crate::chains::{chain_holds, leaves, sizes};
 use crate::links::link_places;
 use crate::places::Places;
 use crate::ranges::ranges_hold;
 use crate::runs::{has_own, parents_fall, rest_at, runs};
+use daachorse_array::array::Array;
+use daachorse_array::trie::Trie;
 use daachorse_core::Output;
 use daachorse_core::errors::Result;
-use daachorse_array::trie::Trie;
 use std::alloc::Allocator;
 
 /// Whether the chain of each element that has a place is right.

@@ -12,23 +12,11 @@ ghost use Rattle.daachorse_prefilter.specs.Windows.{HasRead};
 ghost use Rattle.daachorse_checker.specs.Filters.{HasRefused, IsNextOf, IsPushed, PassesAll};
 ghost use Rattle.daachorse_checker.specs.Places.{HasOnePath};
 
-use daachorse_core::errors::Result;
-use daachorse_array::links::{Links, has_own};
+use daachorse_array::array::{Array, has_own};
 use daachorse_array::siblings::Siblings;
+use daachorse_core::errors::Result;
 use daachorse_prefilter::prefilter::{Prefilter, Window};
 use std::alloc::Allocator;
-
-/// Elements whose units are spelled in bytes. Those with outputs of their own are keys: their texts have values.
-pub trait Spelled: Links {
-    /// The bytes of a unit.
-    ghost bytes: { ℕ → List ℕ };
-
-    /// The window of a filter after the unit that leads to an element.
-    fn read<B: Allocator>(&self, element: usize, filter: &Prefilter<B>, window: Window) -> Window
-        requires { element < Self.count self.now }
-        ensures { (text : List ℕ) → HasRead filter.now text window
-            → HasRead filter.now (text ++ bytes (unit_of (Self.edge self.now element))) result };
-}
 
 /// Whether a filter passes at the beginning of each key of a tree.
 ///
@@ -38,7 +26,7 @@ pub trait Spelled: Links {
 /// # Errors
 ///
 /// An allocation failed.
-pub fn passes_all<E: Spelled, A: Allocator + Copy, B: Allocator>(
+pub fn passes_all<E: Array, A: Allocator + Copy, B: Allocator>(
     alloc: A,
     array: &E,
     filter: &Prefilter<B>,
@@ -72,7 +60,7 @@ pub fn passes_all<E: Spelled, A: Allocator + Copy, B: Allocator>(
 /// # Errors
 ///
 /// An allocation failed.
-fn next_level<E: Spelled, A: Allocator + Copy, B: Allocator>(
+fn next_level<E: Array, A: Allocator + Copy, B: Allocator>(
     alloc: A,
     array: &E,
     groups: &Siblings<A>,
@@ -109,7 +97,7 @@ fn next_level<E: Spelled, A: Allocator + Copy, B: Allocator>(
 /// # Errors
 ///
 /// An allocation failed.
-fn push_children<E: Spelled, A: Allocator, B: Allocator>(
+fn push_children<E: Array, A: Allocator, B: Allocator>(
     array: &E,
     groups: &Siblings<A>,
     filter: &Prefilter<B>,
@@ -129,8 +117,23 @@ fn push_children<E: Spelled, A: Allocator, B: Allocator>(
         return Ok(());
     };
     for member in groups.members(group) {
-        let window = array.read(member as usize, filter, entry.1);
+        let window = read(array, member as usize, filter, entry.1);
         next.push((member, window))?;
     }
     Ok(())
+}
+
+/// The window of a filter after the unit that leads to an element.
+fn read<E: Array, B: Allocator>(
+    array: &E,
+    element: usize,
+    filter: &Prefilter<B>,
+    window: Window,
+) -> Window
+    requires { element < E.count array.now }
+    ensures { (text : List ℕ) → HasRead filter.now text window
+        → HasRead filter.now (text ++ E.bytes (unit_of (E.edge array.now element))) result }
+{
+    let mut buffer = [0; 4];
+    filter.read(window, array.spell(element, &mut buffer))
 }

@@ -12,8 +12,8 @@ ghost use Rattle.daachorse_checker.specs.Folded.{HasFoldedUnits, IsUnfoldedAt};
 ghost use Rattle.daachorse_checker.specs.Places.{ArePlaces, HasOnePath};
 
 use crate::places::Places;
+use daachorse_array::array::Array;
 use daachorse_core::errors::Result;
-use daachorse_array::edges::Edges;
 use std::alloc::Allocator;
 
 /// Whether each unit that leads from an element of a tree is folded.
@@ -21,7 +21,7 @@ use std::alloc::Allocator;
 /// # Errors
 ///
 /// An allocation failed.
-pub fn is_folded<E: Edges, A: Allocator + Copy>(alloc: A, array: &E) -> Result<bool>
+pub fn is_folded<E: Array, A: Allocator + Copy>(alloc: A, array: &E) -> Result<bool>
     requires inside { (i c j : ℕ) → E.child array.now i c ≡ Some j → (j < E.count array.now) × (c < E.units array.now) }
     requires tell { TellChildren (E.child array.now) (E.group array.now) (E.edge array.now) (E.count array.now) }
     requires some { 0 < E.count array.now }
@@ -38,7 +38,7 @@ pub fn is_folded<E: Edges, A: Allocator + Copy>(alloc: A, array: &E) -> Result<b
 }
 
 /// The same, where the elements have places. The array is named in the contract alone.
-fn has_folded_labels<E: Edges, A: Allocator>(_array: &E, places: &Places<A>) -> bool
+fn has_folded_labels<E: Array, A: Allocator>(_array: &E, places: &Places<A>) -> bool
     requires tell { TellChildren (E.child _array.now) (E.group _array.now) (E.edge _array.now) (E.count _array.now) }
     requires places { ArePlaces (E.child _array.now) (λ j. unit_of (E.edge _array.now j)) (E.count _array.now) places.now.order.items places.now.parents.items places.now.labels.items places.now.marks.items }
     ensures yes { result ≡ true → HasFoldedUnits (E.child _array.now) }

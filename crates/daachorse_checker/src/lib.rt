@@ -5,7 +5,6 @@
 //! linear in its elements, its outputs and its units, whoever wrote it.
 #![tactic(auto)]
 
-pub mod array;
 pub mod chains;
 pub mod checker;
 pub mod filters;

@@ -9,8 +9,8 @@ ghost use Rattle.daachorse_array.specs.Listing.{unit_of};
 ghost use Rattle.daachorse_checker.specs.Links.{AreLinkPlaces, LeadsToNoPlace, IsLinkPlace, IsNoPlace};
 ghost use Rattle.daachorse_checker.specs.Places.{ArePlaces};
 
-use crate::array::Array;
 use crate::places::Places;
+use daachorse_array::array::Array;
 use daachorse_core::errors::Result;
 use daachorse_core::{DEAD_STATE_IDX, ROOT_STATE_IDX};
 use std::alloc::Allocator;

@@ -10,9 +10,9 @@ ghost use Rattle.daachorse_array.specs.Edges.{TellChildren, members};
 ghost use Rattle.daachorse_array.specs.Listing.{unit_of};
 ghost use Rattle.daachorse_checker.specs.Places.{HasOnePath, ArePlaces, IsPlaceWalk};
 
-use daachorse_core::errors::Result;
-use daachorse_array::edges::Edges;
+use daachorse_array::array::Array;
 use daachorse_array::siblings::Siblings;
+use daachorse_core::errors::Result;
 use std::alloc::{Allocator, Global};
 
 /// The elements that texts lead to, the root at place 0.
@@ -35,7 +35,7 @@ impl<A: Allocator + Copy> Places<A> {
     ///
     /// An allocation failed.
     #[inline(always)]
-    pub fn new<E: Edges>(alloc: A, array: &E) -> Result<Option<Self>>
+    pub fn new<E: Array>(alloc: A, array: &E) -> Result<Option<Self>>
         requires inside { (i c j : ℕ) → E.child array.now i c ≡ Some j → (j < E.count array.now) × (c < E.units array.now) }
         requires tell { TellChildren (E.child array.now) (E.group array.now) (E.edge array.now) (E.count array.now) }
         requires some { 0 < E.count array.now }
@@ -68,7 +68,7 @@ impl<A: Allocator + Copy> Places<A> {
     /// Gives the children of the element at a place places of their own; false where one has a place
     /// already, or is dead.
     #[inline(always)]
-    fn expand<E: Edges>(&mut self, array: &E, groups: &Siblings<A>, place: u32) -> Result<bool>
+    fn expand<E: Array>(&mut self, array: &E, groups: &Siblings<A>, place: u32) -> Result<bool>
         requires inside { (i c j : ℕ) → E.child array.now i c ≡ Some j → (j < E.count array.now) × (c < E.units array.now) }
         requires tell { TellChildren (E.child array.now) (E.group array.now) (E.edge array.now) (E.count array.now) }
         requires groups { (g : ℕ) → g < E.count array.now
@@ -102,7 +102,7 @@ impl<A: Allocator + Copy> Places<A> {
 }
 
 /// The unit that leads to an element.
-fn unit_at<E: Edges>(array: &E, element: u32) -> u32
+fn unit_at<E: Array>(array: &E, element: u32) -> u32
     requires { element < E.count array.now }
     ensures { result ≡ unit_of (E.edge array.now element) }
 {

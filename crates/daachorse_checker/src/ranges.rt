@@ -5,7 +5,7 @@
 ghost use Rattle.std.specs.Prelude.{◌≡◌, ◌<◌, true, false};
 ghost use Rattle.daachorse_checker.specs.Sound.{IsInRange};
 
-use crate::array::Array;
+use daachorse_array::array::Array;
 
 /// Whether each link is an element, and each position is that of one of `num_outputs` outputs, or none.
 pub fn ranges_hold<E: Array>(array: &E, num_outputs: usize) -> bool

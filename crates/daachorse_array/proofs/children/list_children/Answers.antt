@@ -11,14 +11,14 @@ use Rattle.daachorse_array.proofs.children.list_children.Goals as goal
 
 pub returns-in_default-clause-ok : goal.returns-in_default-clause-ok
 returns-in_default-clause-ok g c =
-    let none = no-children (g.E.Edges.child c.args.edges.now) c.args.element (g.E.Edges.units c.args.edges.now)
+    let none = no-children (g.E.Array.child c.args.edges.now) c.args.element (g.E.Array.units c.args.edges.now)
     (λ u. c.requires.tell.alone c.args.element u c.requires.element (sym c.in_default.ensures)) in
     ap elements_of c.clear.ensures.items ∙ sym none
 
 pub loop-member-init : goal.loop-member-init
 loop-member-init g c =
-    let edge = g.E.Edges.edge c.args.edges.now in
-    let count = g.E.Edges.count c.args.edges.now in
+    let edge = g.E.Array.edge c.args.edges.now in
+    let count = g.E.Array.count c.args.edges.now in
     let is : c.into_iter-member-iterator.result ≡ members edge c.in-Some.group count =
     c.into_iter-member-iterator.ensures.into_iter_gives ∙ c.members-member-items.ensures ∙ c.requires.groups c.in-Some.group (c.requires.tell.inside c.args.element c.in-Some.group c.requires.element (sym c.in-Some.ensures)) in
     record {
@@ -34,8 +34,8 @@ returns-in_err-push-clause-some g c =
 
 pub returns-then-len-gt1-clause-ok : goal.returns-then-len-gt1-clause-ok
 returns-then-len-gt1-clause-ok g c =
-    let edge = g.E.Edges.edge c.args.edges.now in
-    let count = g.E.Edges.count c.args.edges.now in
+    let edge = g.E.Array.edge c.args.edges.now in
+    let count = g.E.Array.count c.args.edges.now in
     let all : c.loop-member.list.items ≡ map (kid_of edge) (members edge c.in-Some.group count) =
     sym (append-nil c.loop-member.list.items) ∙ (ap (λ l. c.loop-member.list.items ++ map (kid_of edge) l) (sym c.in-None.ensures.steps.0) ∙ c.loop-member.invariant.done) in
     sorted-children c.requires.tell c.requires.inside c.args.element c.in-Some.group c.requires.element (sym c.in-Some.ensures) c.loop-member.list.items c.sort_unstable.new.self.items all
@@ -43,8 +43,8 @@ returns-then-len-gt1-clause-ok g c =
 
 pub returns-else-len-gt1-clause-ok : goal.returns-else-len-gt1-clause-ok
 returns-else-len-gt1-clause-ok g c =
-    let edge = g.E.Edges.edge c.args.edges.now in
-    let count = g.E.Edges.count c.args.edges.now in
+    let edge = g.E.Array.edge c.args.edges.now in
+    let count = g.E.Array.count c.args.edges.now in
     let list = c.loop-member.list.items in
     let all : list ≡ map (kid_of edge) (members edge c.in-Some.group count) =
     sym (append-nil list) ∙ (ap (λ l. list ++ map (kid_of edge) l) (sym c.in-None.ensures.steps.0) ∙ c.loop-member.invariant.done) in

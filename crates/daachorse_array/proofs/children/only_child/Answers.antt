@@ -7,8 +7,8 @@ use Rattle.daachorse_array.proofs.children.only_child.Goals as goal
 
 pub returns-in-None : goal.returns-in-None
 returns-in-None g c =
-    let edge = g.E.Edges.edge c.args.edges.now in
-    let count = g.E.Edges.count c.args.edges.now in
+    let edge = g.E.Array.edge c.args.edges.now in
+    let count = g.E.Array.count c.args.edges.now in
     let group = c.in_ok-group.group in
     let first = c.in_ok-first.first in
     let own = sym c.group.ensures ∙ c.in_ok-group.was in

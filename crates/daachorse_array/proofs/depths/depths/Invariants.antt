@@ -6,9 +6,9 @@ use Rattle.daachorse_array.proofs.depths.depths.Given as goal
 
 abbrev pub invariant-elements : goal.invariant-elements
 invariant-elements g l = record {
-  reaching : IsReaching (g.E.Edges.child l.edges) (g.E.Edges.count l.edges) (g.E.Edges.units l.edges) l.reached.items l.entered l.depths.items;
-  room : g.E.Edges.count l.edges ≤ vec_capacity l.reached;
+  reaching : IsReaching (g.E.Array.child l.edges) (g.E.Array.count l.edges) (g.E.Array.units l.edges) l.reached.items l.entered l.depths.items;
+  room : g.E.Array.count l.edges ≤ vec_capacity l.reached;
 }
 
 abbrev pub decreases-elements : goal.decreases-elements
-decreases-elements g l = g.E.Edges.count l.edges - l.entered
+decreases-elements g l = g.E.Array.count l.edges - l.entered

@@ -6,7 +6,7 @@ use Rattle.daachorse_array.proofs.patterns.enter.Goals as goal
 
 pub returns-clause-text : goal.returns-clause-text
 returns-clause-text g c =
-    let number = g.E.Outputs.number in
+    let number = g.E.Keys.number in
     let d = c.args.depth in
     let old = c.args.text.now.items in
     on_ok_weaker c.put_aside.result

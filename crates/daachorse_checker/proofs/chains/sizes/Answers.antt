@@ -58,14 +58,14 @@ loop-place-preserved g c =
     let value : s ≡ get_or sizes (get_or p.parents.items m 0) 0 + g.E.Array.width a (get_or p.labels.items m 0) = omega (arith, size, from, unit) in
     let items : c.push-in-loop-place.new.self.items ≡ sizes ++ s ∷ [] = search rules in
     let fits : s ≤ 4 * m = omega (arith, size, inv.short c.index.result.now in', c.width.ensures.short, parent, up) in
-    let are : AreSizes (g.E.Edges.child a) (g.E.Array.width a) p.order.items (sizes ++ s ∷ []) =
+    let are : AreSizes (g.E.Array.child a) (g.E.Array.width a) p.order.items (sizes ++ s ∷ []) =
     size_push c.requires.places c.requires.tree (g.E.Array.width a) sizes m s inv.low lt inv.each inv.are value in
     record {
       low = omega (arith, inv.low);
       within = omega (arith, lt);
       each = ap length items ∙ length_push sizes s ∙ ap (λ n. n + 1) inv.each;
       short = subst (λ (xs : List ℕ). (k : ℕ) → k < length xs → get_or xs k 0 ≤ 4 * k) (sym items) (short_push sizes m s inv.each inv.short fits);
-      are = subst (λ (xs : List ℕ). AreSizes (g.E.Edges.child a) (g.E.Array.width a) p.order.items xs) (sym items) are;
+      are = subst (λ (xs : List ℕ). AreSizes (g.E.Array.child a) (g.E.Array.width a) p.order.items xs) (sym items) are;
     }
 
 pub returns-in_err-sizes : goal.returns-in_err-sizes

@@ -13,7 +13,7 @@ use Rattle.daachorse_checker.proofs.checker.is_right.Goals as goal
 pub returns-then-len-num_states-clause-no : goal.returns-then-len-num_states-clause-no
 returns-then-len-num_states-clause-no g c e right counted =
     let arr = c.args.array.now in
-    let a = machine_of (g.E.Edges.child arr) (g.E.Links.fail arr) (g.E.Links.first arr) c.args.outputs.now in
+    let a = machine_of (g.E.Array.child arr) (g.E.Array.fail arr) (g.E.Array.first arr) c.args.outputs.now in
     let both = rw c.in-Some.is at c.in_ok-places.ensures.yes in
     c.if-len-num_states.true (omega (arith, c.len.ensures, same_count (g.E.Array.width arr) a c.requires.tell both.1 both.0 c.args.num_states counted))
 
@@ -21,7 +21,7 @@ pub returns-then-not-chains_hold-clause-no : goal.returns-then-not-chains_hold-c
 returns-then-not-chains_hold-clause-no g c e right counted =
     let arr = c.args.array.now in
     let parents = c.in-Some.places.parents.items in
-    let a = machine_of (g.E.Edges.child arr) (g.E.Links.fail arr) (g.E.Links.first arr) c.args.outputs.now in
+    let a = machine_of (g.E.Array.child arr) (g.E.Array.fail arr) (g.E.Array.first arr) c.args.outputs.now in
     let both = rw c.in-Some.is at c.in_ok-places.ensures.yes in
     let leafy : AreLeavesOf parents c.in_ok-leaves.leaves.items (length parents) = rw c.deref.ensures.value at c.in_ok-leaves.ensures.ok in
     let chained = chained_from (g.E.Array.width arr) a c.requires.tell both.1 both.0 c.in_ok-sizes.sizes.items
@@ -32,7 +32,7 @@ pub returns-clause-yes : goal.returns-clause-yes
 returns-clause-yes g c e =
     let arr = c.args.array.now in
     let p = c.in-Some.places in
-    let a = machine_of (g.E.Edges.child arr) (g.E.Links.fail arr) (g.E.Links.first arr) c.args.outputs.now in
+    let a = machine_of (g.E.Array.child arr) (g.E.Array.fail arr) (g.E.Array.first arr) c.args.outputs.now in
     let both = rw c.in-Some.is at c.in_ok-places.ensures.yes in
     let leafy : AreLeavesOf p.parents.items c.in_ok-leaves.leaves.items (length p.parents.items) = rw c.deref.ensures.value at c.in_ok-leaves.ensures.ok in
     let chained = rw (c.deref-3.ensures.value, c.deref-4.ensures.value) at (c.if-not-chains_hold.ensures.yes refl) in
@@ -52,7 +52,7 @@ returns-in_default-clause-yes g c e = absurd (false≢true e)
 pub returns-in_default-clause-no : goal.returns-in_default-clause-no
 returns-in_default-clause-no g c e right counted =
     let arr = c.args.array.now in
-    let a = machine_of (g.E.Edges.child arr) (g.E.Links.fail arr) (g.E.Links.first arr) c.args.outputs.now in
+    let a = machine_of (g.E.Array.child arr) (g.E.Array.fail arr) (g.E.Array.first arr) c.args.outputs.now in
     (rw c.in_default.is at c.in_ok-places.ensures.no) (path_of (g.E.Array.width arr) a c.args.leftmost right)
 
 pub returns-then-len-num_states-clause-yes : goal.returns-then-len-num_states-clause-yes
@@ -91,7 +91,7 @@ pub links_hold-requires : goal.links_hold-requires
 links_hold-requires g c = assumption (
   c.requires,
   rw c.in-Some.is at c.in_ok-places.ensures.yes,
-  subst (AreSizes (g.E.Edges.child c.args.array.now) (g.E.Array.width c.args.array.now) c.in-Some.places.order.items) (sym c.deref-5.ensures.value) c.in_ok-sizes.ensures.ok,
+  subst (AreSizes (g.E.Array.child c.args.array.now) (g.E.Array.width c.args.array.now) c.in-Some.places.order.items) (sym c.deref-5.ensures.value) c.in_ok-sizes.ensures.ok,
   ap length c.deref-5.ensures.value ∙ c.in_ok-sizes.ensures.each,
 )
 

@@ -4,4 +4,4 @@ use Rattle.daachorse_checker.specs.Filters.{IsLevel}
 use Rattle.daachorse_checker.proofs.filters.passes_all.Given as goal
 
 abbrev pub invariant-loop-depth : goal.invariant-loop-depth
-invariant-loop-depth g l = IsLevel (g.E.Edges.child l.array) g.E.Spelled.bytes l.filter (has_own (g.E.Links.fail l.array) (g.E.Links.first l.array)) l._depth l.level.items
+invariant-loop-depth g l = IsLevel (g.E.Array.child l.array) g.E.Array.bytes l.filter (has_own (g.E.Array.fail l.array) (g.E.Array.first l.array)) l._depth l.level.items

@@ -10,7 +10,7 @@ returns-in_default-clause-ok g c = pushed_none c.requires.tell c.requires.elemen
 pub loop-member-init : goal.loop-member-init
 loop-member-init g c =
     let a = c.args.array.now in
-    let is : c.into_iter-member-iterator.result ≡ members (g.E.Edges.edge a) c.in-Some.group (g.E.Edges.count a) =
+    let is : c.into_iter-member-iterator.result ≡ members (g.E.Array.edge a) c.in-Some.group (g.E.Array.count a) =
     c.into_iter-member-iterator.ensures.into_iter_gives ∙ c.members-member-items.ensures ∙ c.requires.groups c.in-Some.group (c.requires.tell.inside c.args.entry.0 c.in-Some.group c.requires.element (sym c.in-Some.ensures)) in
     pushing_start c.requires.tell c.requires.element (sym c.in-Some.ensures) c.into_iter-member-iterator.result c.args.next.now.items is
     (λ u t to. (c.requires.inside c.args.entry.0 u t to).0)

@@ -4,4 +4,4 @@ use Rattle.daachorse_checker.proofs.filters.push_children.Given as goal
 
 abbrev pub invariant-loop-member : goal.invariant-loop-member
 invariant-loop-member g l =
-    IsPushing (g.E.Edges.child l.array) g.E.Spelled.bytes l.filter (g.E.Edges.edge l.array) (g.E.Edges.count l.array) l.group l.entry l.member-iterator l.fn.next.items l.next.items
+    IsPushing (g.E.Array.child l.array) g.E.Array.bytes l.filter (g.E.Array.edge l.array) (g.E.Array.count l.array) l.group l.entry l.member-iterator l.fn.next.items l.next.items

@@ -11,8 +11,8 @@ pub returns-in_default-clause-steps : goal.returns-in_default-clause-steps
 returns-in_default-clause-steps g c =
     let s = c.loop-self.self-inside in
     let w = c.loop-self.invariant.walking in
-    let stop = own_end (g.E.Links.fail s.elements) (g.E.Links.first s.elements) in
-    let text = map g.E.Outputs.number s.text.items in
+    let stop = own_end (g.E.Array.fail s.elements) (g.E.Array.first s.elements) in
+    let text = map g.E.Keys.number s.text.items in
     let end : (s.position ≡ s.stop) ⊎ (s.position ≡ 0) = elim c.if-self.branch [ then-self v ↦ inl v.if-self.true | else-self+then-self-eq0 v ↦ inr v.if-self-eq0.true ] in
     let none : length s.aside.items ≡ 0 = omega (arith, c.in_default.ensures.cases.0, s.aside.ok) in
     let still : length c.pop.new.self.items ≡ 0 = omega (arith, none, ap length c.in_default.ensures.items, length-append c.pop.new.self.items []) in
@@ -39,8 +39,8 @@ pub loop-self-preserved : goal.loop-self-preserved
 loop-self-preserved g c =
     let s = c.loop-self.self-inside in
     let w = c.loop-self.invariant.walking in
-    let stop = own_end (g.E.Links.fail s.elements) (g.E.Links.first s.elements) in
-    let number = g.E.Outputs.number in
+    let stop = own_end (g.E.Array.fail s.elements) (g.E.Array.first s.elements) in
+    let number = g.E.Keys.number in
     let end : (s.position ≡ s.stop) ⊎ (s.position ≡ 0) = elim c.if-self.branch [ then-self v ↦ inl v.if-self.true | else-self+then-self-eq0 v ↦ inr v.if-self-eq0.true ] in
     let d = c.in-Some.depth in
     let x = c.in-Some.next in
@@ -61,10 +61,10 @@ pub returns-in-Ok-clause-steps : goal.returns-in-Ok-clause-steps
 returns-in-Ok-clause-steps g c =
     let s = c.loop-self.self-inside in
     let w = c.loop-self.invariant.walking in
-    let stop = own_end (g.E.Links.fail s.elements) (g.E.Links.first s.elements) in
-    let text = map g.E.Outputs.number s.text.items in
+    let stop = own_end (g.E.Array.fail s.elements) (g.E.Array.first s.elements) in
+    let text = map g.E.Keys.number s.text.items in
     let position : c.map_or.result ≡ parent_of c.output-output.result = search rules in
-    let key : g.E.Keys.units_of c.in-Ok.key ≡ text = c.in-Ok.ensures.ok ∙ ap (map g.E.Outputs.number) c.deref.ensures.value in
+    let key : g.E.Keys.units_of c.in-Ok.key ≡ text = c.in-Ok.ensures.ok ∙ ap (map g.E.Keys.number) c.deref.ensures.value in
     rw (position, c.value.ensures, key) (sym c.loop-self.invariant.left
     ∙ left-of-value w.patterns text (elements_of s.aside.items) s.stop s.position c.output-output.result c.if-self.false c.if-self-eq0.false c.output-output.ensures)
 
@@ -75,12 +75,12 @@ pub returns-in-Err-clause-steps : goal.returns-in-Err-clause-steps
 returns-in-Err-clause-steps g c =
     let s = c.loop-self.self-inside in
     let w = c.loop-self.invariant.walking in
-    let text = map g.E.Outputs.number s.text.items in
+    let text = map g.E.Keys.number s.text.items in
     let end : (s.position ≡ s.stop) ⊎ (s.position ≡ 0) = elim c.if-self.branch [ then-self v ↦ inl v.if-self.true | else-self+then-self-eq0 v ↦ inr v.if-self-eq0.true ] in
     let some = next-some w c.pop.new.self.items c.in-Some.depth c.in-Some.next c.in-Some.ensures.items c.in-Err.ensures.some in (
       c.in-Err.ensures.err,
       λ none. some (sym (left-of-rest w.patterns text (elements_of s.aside.items) s.stop s.position end) ∙ (c.loop-self.invariant.left ∙ none)),
-      left-of-none w.patterns (map g.E.Outputs.number c.enter-entered.new.text.items) c.clear.new.self.items s.stop 0 (inr refl) (ap length c.clear.ensures.items),
+      left-of-none w.patterns (map g.E.Keys.number c.enter-entered.new.text.items) c.clear.new.self.items s.stop 0 (inr refl) (ap length c.clear.ensures.items),
     )
 
 pub returns-in-Err-clause-goes : goal.returns-in-Err-clause-goes
@@ -90,8 +90,8 @@ pub returns-in-Err-key-clause-steps : goal.returns-in-Err-key-clause-steps
 returns-in-Err-key-clause-steps g c =
     let s = c.loop-self.self-inside in
     let w = c.loop-self.invariant.walking in
-    let stop = own_end (g.E.Links.fail s.elements) (g.E.Links.first s.elements) in
-    let text = map g.E.Outputs.number s.text.items in
+    let stop = own_end (g.E.Array.fail s.elements) (g.E.Array.first s.elements) in
+    let text = map g.E.Keys.number s.text.items in
     let given = sym c.loop-self.invariant.left
     ∙ left-of-value w.patterns text (elements_of s.aside.items) s.stop s.position c.output-output.result c.if-self.false c.if-self-eq0.false c.output-output.ensures in
     (search rules, (λ none. let bad = sym none ∙ given in cc), c.end.ensures)
@@ -113,7 +113,7 @@ invariant_of-self-in-Ok g c =
     let s = c.loop-self.self-inside in
     let w = c.loop-self.invariant.walking in
     let position : c.map_or.result ≡ parent_of c.output-output.result = search rules in
-    let inside : c.map_or.result ≤ length (g.E.Outputs.outputs s.elements) = omega (arith, position, w.patterns.falls (s.position - 1) c.output-output.result c.output-output.ensures, w.inside) in
+    let inside : c.map_or.result ≤ length (g.E.Keys.outputs s.elements) = omega (arith, position, w.patterns.falls (s.position - 1) c.output-output.result c.output-output.ensures, w.inside) in
     assumption (inside, w)
 
 pub invariant_of-self-in-Err-key : goal.invariant_of-self-in-Err-key

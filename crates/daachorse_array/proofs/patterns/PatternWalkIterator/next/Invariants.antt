@@ -9,14 +9,14 @@ invariant-loop-self g l =
     let s = l.self-inside in
     let elements = s.elements in
     record {
-      walking : IsListingWalk (g.E.Edges.child elements) (g.E.Edges.group elements) (g.E.Edges.edge elements) (g.E.Edges.count elements) (g.E.Edges.units elements) (g.E.Outputs.outputs elements) (g.E.Links.first elements) (own_end (g.E.Links.fail elements) (g.E.Links.first elements))
-          s.groups s.aside.items (map g.E.Outputs.number s.text.items) s.position;
-      left : left_of (g.E.Edges.child elements) (g.E.Edges.count elements) (g.E.Edges.units elements) (g.E.Outputs.outputs elements) (g.E.Links.first elements) (own_end (g.E.Links.fail elements) (g.E.Links.first elements))
-          (map g.E.Outputs.number s.text.items) (elements_of s.aside.items) s.stop s.position ≡ l.fn.self;
+      walking : IsListingWalk (g.E.Array.child elements) (g.E.Array.group elements) (g.E.Array.edge elements) (g.E.Array.count elements) (g.E.Array.units elements) (g.E.Keys.outputs elements) (g.E.Array.first elements) (own_end (g.E.Array.fail elements) (g.E.Array.first elements))
+          s.groups s.aside.items (map g.E.Keys.number s.text.items) s.position;
+      left : left_of (g.E.Array.child elements) (g.E.Array.count elements) (g.E.Array.units elements) (g.E.Keys.outputs elements) (g.E.Array.first elements) (own_end (g.E.Array.fail elements) (g.E.Array.first elements))
+          (map g.E.Keys.number s.text.items) (elements_of s.aside.items) s.stop s.position ≡ l.fn.self;
     }
 
 abbrev pub decreases-loop-self : goal.decreases-loop-self
 decreases-loop-self g l =
     let s = l.self-inside in
-    let count = g.E.Edges.count s.elements in
-    length (taken_from (g.E.Edges.child s.elements) count (g.E.Edges.units s.elements) count (elements_of s.aside.items))
+    let count = g.E.Array.count s.elements in
+    length (taken_from (g.E.Array.child s.elements) count (g.E.Array.units s.elements) count (elements_of s.aside.items))

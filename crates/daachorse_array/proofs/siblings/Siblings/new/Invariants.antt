@@ -6,6 +6,6 @@ use Rattle.daachorse_array.proofs.siblings.Siblings.new.Given as goal
 
 abbrev pub invariant-loop-element : goal.invariant-loop-element
 invariant-loop-element g l = record {
-  grouped : IsGrouped (g.E.Edges.edge l.edges) (g.E.Edges.count l.edges) l.element l.first.items l.next.items;
-  room : g.E.Edges.count l.edges ≤ vec_capacity l.next;
+  grouped : IsGrouped (g.E.Array.edge l.edges) (g.E.Array.count l.edges) l.element l.first.items l.next.items;
+  room : g.E.Array.count l.edges ≤ vec_capacity l.next;
 }

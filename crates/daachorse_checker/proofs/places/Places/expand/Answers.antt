@@ -12,7 +12,7 @@ pub returns-in_default-clause-yes : goal.returns-in_default-clause-yes
 returns-in_default-clause-yes g c e =
     let order = c.args.self.now.order.items in
     let at : c.index-element.result.now ≡ get_or order c.args.place 0 = get_or_read order c.args.place c.index-element.result.now c.requires.more c.index-element.ensures 0 in
-    expand_none c.requires.tell c.args.place c.requires.walk c.requires.more (ap (g.E.Edges.group c.args.array.now) (sym at) ∙ sym c.in_default.ensures)
+    expand_none c.requires.tell c.args.place c.requires.walk c.requires.more (ap (g.E.Array.group c.args.array.now) (sym at) ∙ sym c.in_default.ensures)
 
 pub returns-then-member-le1-clause-no : goal.returns-then-member-le1-clause-no
 returns-then-member-le1-clause-no g c e =
@@ -63,7 +63,7 @@ loop-member-preserved g c =
     let next = expand_next c.requires.tell inv.group_of c.in-Some-member.ensures.steps inv.left (omega (arith, c.if-member-le1.false)) none c.unit_at.result c.unit_at.ensures in
     record {
       left = rw (order', parents', labels', len) next;
-      group_of = ap (λ (xs : List ℕ). g.E.Edges.group c.args.array.now (get_or xs c.args.place 0)) order' ∙ (ap (g.E.Edges.group c.args.array.now) (old_at t.order.items x c.args.place inv.left.walk.here) ∙ inv.group_of);
+      group_of = ap (λ (xs : List ℕ). g.E.Array.group c.args.array.now (get_or xs c.args.place 0)) order' ∙ (ap (g.E.Array.group c.args.array.now) (old_at t.order.items x c.args.place inv.left.walk.here) ∙ inv.group_of);
     }
 
 pub returns-clause-yes : goal.returns-clause-yes

@@ -1,7 +1,4 @@
-//! What a search sees of an automaton: one look at a state at a time, and outputs.
-//!
-//! The layers above may rely on nothing but the contracts of [`Automaton`]. The layers below give it of
-//! their states, and each search goes over any of these.
+//! Automata as searches see them.
 
 ghost use Rattle.std.specs.Prelude.{◌≡◌, ◌≢◌, ◌↔◌, ◌+◌, ℕ, false, true, [], ◌∷◌, MatchOption, IsTrue};
 ghost use Rattle.daachorse_core.specs.Outputs.{value_of, length_of, parent_of};
@@ -14,9 +11,9 @@ use daachorse_core::edge_label::EdgeLabel;
 use daachorse_core::turns::{Look, Turns};
 use std::num::NonZeroU32;
 
-/// An automaton, as a search sees it: states that are looked at one at a time, and outputs.
+/// An automaton as searches see it: one look at a state at a time, and outputs.
 ///
-/// A search holds it by value, so it is a few references to tables and no table.
+/// A search holds it by value, so it is a few references to tables.
 pub trait Automaton<V: Copy>: Drop {
     /// The units of patterns and haystacks: bytes or characters.
     type Unit: EdgeLabel;
@@ -35,7 +32,7 @@ pub trait Automaton<V: Copy>: Drop {
         ensures reached { (sees self.now).reached result }
         ensures text { (sees self.now).text result ≡ [] };
 
-    /// Whether it is that state.
+    /// Whether the state is the root.
     fn is_root(&self, state: u32) -> bool
         requires { (sees self.now).reached state }
         ensures { IsTrue result ↔ ((sees self.now).text state ≡ []) };
@@ -45,8 +42,8 @@ pub trait Automaton<V: Copy>: Drop {
         ensures { MatchOption result (((sees self.now).has_label (Self.Unit.unit unit) ≡ false) × IsForeign (sees self.now).content (Self.Unit.unit unit))
             (λ label. labels self.now label (Self.Unit.unit unit) × ((sees self.now).has_label (Self.Unit.unit unit) ≡ true)) };
 
-    /// Looks at one state: it tells the end of the step, however many links lead there, or the link.
-    /// Where the step ends, it tells the first output of the state there.
+    /// Looks at one state. Returns the end of the step, however many links lead there, with the
+    /// first output at that state; or the failure link to look at next.
     fn turn(&self, state: u32, label: Self::Label, turns: &mut Turns) -> Look
         requires { (sees self.now).reached state }
         ensures look { (unit : ℕ) → labels self.now label unit → SeesLook (sees self.now) state unit result }
@@ -54,14 +51,13 @@ pub trait Automaton<V: Copy>: Drop {
         ensures counted { turns.new ≡ turns.old + 1 }
         ensures single { (sees self.now).ends_at_once → (unit link : ℕ) → labels self.now label unit → result ≢ Fail link };
 
-    /// Whether the first look of a step stands ahead of the loop along the links. The step is the
-    /// same either way; which is faster was measured for each automaton.
+    /// Whether a step takes its first look before its loop along failure links, for speed.
     #[inline(always)]
     fn looks_ahead(&self) -> bool {
         true
     }
 
-    /// The position of a state's first output.
+    /// The position of the state's first output.
     fn output_pos(&self, state: u32) -> Option<NonZeroU32>
         requires { (sees self.now).reached state }
         ensures { HasFirst Self.Unit.width (sees self.now) state result };
@@ -72,11 +68,10 @@ pub trait Automaton<V: Copy>: Drop {
         ensures parent { (sees self.now).has_output (parent_of result) }
         ensures value { (sees self.now).outputs position.value ≡ (value_of result, length_of result) ∷ (sees self.now).outputs (parent_of result) };
 
-    /// The same automaton, for another search beside this one. It borrows its tables, so that no
-    /// memory is taken.
+    /// The same automaton for another search. It borrows the same tables.
     fn again(&self) -> Self
         ensures { result ≡ self.now };
 
-    // From position 0 on there is no output.
+    // Position 0 stands for no output.
     ghost no_output: { (a : Self) → HasNone (sees a) };
 }

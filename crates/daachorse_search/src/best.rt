@@ -1,9 +1,4 @@
-//! The scan of a leftmost search: from one place the match that starts first, and
-//! there the longest.
-//!
-//! The layers above may rely on a scan finding the best of all that is still to come, and on its
-//! turns: at most twice the units to come, and no more than lead one unit further past the start of
-//! the match than the longest pattern has units.
+//! The scan of a leftmost search for the match that starts first, and of those the longest.
 
 ghost use Rattle.std.specs.Prelude.{◌≡◌, ◌+◌, ◌<◌, ◌≤◌, ◌^◌, ℕ, [], Some};
 ghost use Rattle.daachorse_model.specs.Units.{size};
@@ -22,17 +17,17 @@ use std::num::NonZeroU32;
 pub struct Found {
     /// The position of its output.
     pub position: NonZeroU32,
-    /// Where it ends, in bytes from where the scan began.
+    /// Its end, in bytes from where the scan began.
     pub end: usize,
 }
 
-/// What a scan found.
+/// The result of a scan.
 #[derive(Clone, Copy, Debug, PartialEq, Eq)]
 pub enum Scanned {
     /// The best match.
     Best(Found),
-    /// No match starts in this many bytes: the whole rest of the haystack, or what the scan read before it
-    /// stopped at the root.
+    /// No match starts in this many bytes: the whole haystack, or what was read up to the root,
+    /// where the scan stopped.
     Clear(usize),
 }
 
@@ -41,12 +36,13 @@ pub enum Scanned {
 struct Mark<H> {
     // The position of its output.
     position: NonZeroU32,
-    // The haystack behind it.
+    // The haystack after it.
     behind: H,
 }
 
-/// The match with the least start of all in the haystack, and of those the longest. A scan that
-/// may stop does so at the root, where no match is pending. `FOLDED` is that of the search that it is compiled for.
+/// Finds the match that starts first, and of those the longest. With `may_stop` the scan gives up
+/// at the root, so that the caller can ask its filter. `FOLDED` only makes a second copy of the
+/// loop.
 #[inline(always)]
 pub fn scan_best<V: Copy, A: Automaton<V>, H: Haystack<A::Unit>, const FOLDED: bool>(
     automaton: &A,
@@ -68,8 +64,8 @@ pub fn scan_best<V: Copy, A: Automaton<V>, H: Haystack<A::Unit>, const FOLDED: b
     }
 }
 
-/// Reads on from the root while nothing occurs, and answers the position of the first output of the
-/// match that ends first; `None` where the haystack ends, or at the root where the scan may stop.
+/// Reads on from the root to the first end of a match, and returns the position of its first
+/// output. Returns `None` at the end of the haystack, or at the root if the scan may stop.
 #[inline(always)]
 fn scan_to_match<V: Copy, A: Automaton<V>, H: Haystack<A::Unit>, const FOLDED: bool>(
     automaton: &A,
@@ -102,7 +98,7 @@ fn scan_to_match<V: Copy, A: Automaton<V>, H: Haystack<A::Unit>, const FOLDED: b
     }
 }
 
-/// Reads on from the end of a match, and answers the best of all that is still to come.
+/// Reads on from the end of a match for a better one, and returns the best.
 #[inline(always)]
 fn scan_on<V: Copy, A: Automaton<V>, H: Haystack<A::Unit>>(
     automaton: &A,

@@ -1,7 +1,4 @@
 //! The matches that end at one place.
-//!
-//! The layers above may rely on the list of the matches that are left, which each call takes the
-//! first off, and on it holding the automaton and no part of the walk that it came from.
 
 ghost use Rattle.std.specs.Prelude.{◌≡◌};
 ghost use Rattle.daachorse_core.specs.Outputs.{number};
@@ -12,9 +9,9 @@ use daachorse_core::Match;
 use std::marker::{Model, PhantomData};
 use std::num::NonZeroU32;
 
-/// The matches that end at a place, the longest first.
+/// The matches that end at one place, the longest first.
 ///
-/// Each call of `next` takes one output, and no memory.
+/// They borrow the automaton, and not the stepper that returned them.
 #[derive(Drop)]
 pub struct EndingHere<V: Copy, A: Automaton<V>> {
     automaton: A,
@@ -38,7 +35,7 @@ impl<V: Copy, A: Automaton<V>> Model for EndingHere<V, A> {
 }
 
 impl<V: Copy, A: Automaton<V>> EndingHere<V, A> {
-    /// The matches of the outputs from a position on.
+    /// The matches of the outputs from `output` on.
     #[inline(always)]
     pub fn new(automaton: A, place: usize, output: Option<NonZeroU32>) -> Self
         requires place { (A.sees automaton).has_output (number output) }

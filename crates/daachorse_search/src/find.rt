@@ -1,7 +1,4 @@
 //! The standard search: matches that do not overlap, each as early as it can end.
-//!
-//! The layers above may rely on [`FindWalk`] telling the standard search's match that ends where
-//! it stands, if there is one, and on it taking no turn where some key is empty.
 
 ghost use Rattle.std.specs.Prelude.{◌≡◌, ◌≢◌, Some, None, length, ◌<◌, ◌≤◌, ◌^◌, ◌+◌, ◌*◌, ℕ, List, [], ◌∷◌, ◌++◌, IsTrue, count_by, map, take};
 ghost use Rattle.std.specs.Bool.{OnTrue};
@@ -28,12 +25,11 @@ use std::alloc::AllocError;
 use std::marker::Model;
 use std::num::NonZeroU32;
 
-/// A walk that begins again at the root behind each match.
+/// A walk that begins again at the root after each match.
 #[derive(Drop)]
 pub struct FindWalk<V: Copy, A: Automaton<V>> {
     walk: Walk<V, A>,
-    // The outputs of the empty key, if there is one: it matches at every boundary, so nothing is
-    // looked up.
+    // The output of the empty pattern, if there is one. It matches at every boundary, with no look.
     everywhere: Option<NonZeroU32>,
 }
 
@@ -64,8 +60,8 @@ impl<V: Copy, A: Automaton<V>> FindWalk<V, A> {
         FindWalk { walk, everywhere }
     }
 
-    /// The depth of the state: how many of the units read since the last match begin a key. With an
-    /// empty key it is 0, and `None` if no depths are kept.
+    /// How many of the last units read begin a pattern: the depth of the state. Units up to the
+    /// last match do not count. It is 0 with an empty pattern, and `None` if no depths are kept.
     #[inline(always)]
     pub fn depth(&self, depths: &[u32]) -> Option<u32>
         requires { HasDepths (A.sees self.now.automaton) depths.now }
@@ -85,7 +81,7 @@ impl<V: Copy, A: Automaton<V>> FindWalk<V, A> {
         self.walk.output(position)
     }
 
-    /// Where the walk stands, and the outputs of the empty key, for [`Self::resume`].
+    /// Where the walk stands, and the output of the empty pattern, for [`Self::resume`].
     #[inline(always)]
     pub fn into_standing(self) -> (Standing, Option<NonZeroU32>)
         ensures walks { IsWalking (A.sees self.automaton) result.0.seen result.0.state result.0.turns }
@@ -97,7 +93,7 @@ impl<V: Copy, A: Automaton<V>> FindWalk<V, A> {
         (walk.into_standing(), everywhere)
     }
 
-    /// A walk that goes on where one through the same automaton stood.
+    /// A walk that goes on from where another over the same automaton stood.
     #[inline(always)]
     pub fn resume(automaton: A, standing: Standing, everywhere: Option<NonZeroU32>) -> Self
         requires walks { IsWalking (A.sees automaton) standing.seen standing.state standing.turns }
@@ -221,7 +217,7 @@ impl<V: Copy, A: Automaton<V>> Clone for FindWalk<V, A> {
     }
 }
 
-/// The matches of the standard search in a haystack. It asks the filter at the root.
+/// The matches of the standard search in a haystack. The filter is asked at the root.
 #[inline(always)]
 pub fn find_in<V: Copy, A: Automaton<V>, H: Haystack<A::Unit>, F: Filter<A::Unit, H>>(
     automaton: A,

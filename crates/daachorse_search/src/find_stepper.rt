@@ -1,8 +1,4 @@
-//! The standard search, one unit at a time, with each unit read as it is or folded.
-//!
-//! The layers above may rely on a stepper telling the match of the standard search that ends with
-//! what was consumed as it was read, if there is one, on the depth of its state, and on the number of
-//! matches given.
+//! The standard search, one unit at a time.
 
 ghost use Rattle.std.specs.Prelude.{◌≡◌, ◌≢◌, ◌<◌, ◌^◌, ◌+◌, ℕ, List, [], ◌∷◌, ◌++◌, length, Some, None};
 ghost use Rattle.daachorse_model.specs.Folding.{as_read};
@@ -27,23 +23,20 @@ use std::alloc::AllocError;
 use std::marker::Model;
 use std::num::NonZeroU32;
 
-/// The search for matches that do not overlap, one unit at a time, with or without regard to the case
-/// of ASCII letters.
+/// The search for matches that do not overlap, one unit at a time, with or without regard to the
+/// case of ASCII letters.
 ///
-/// An automaton's `find_stepper` begins it. It borrows the automaton, and takes no memory. After each
-/// unit it tells what ends there, so that a caller can read from anywhere, and leave off anywhere.
-/// `daachorse_tests` and `daachorse_part_tests` run steppers, and `daachorse_uses` marks a
-/// stream by one.
+/// The caller reads the units from anywhere, and may stop and resume after any of them.
 #[derive(Drop)]
 pub struct FindStepper<'a, V: Copy, A: Automaton<V>> {
     walk: FindWalk<V, A>,
-    // How many bytes were consumed.
+    // The number of bytes consumed.
     place: usize,
-    // By state the length of its text in units; empty if they are not kept.
+    // The depth of each state in units, or empty if none are kept.
     depths: &'a [u32],
     // Whether each unit is folded.
     folds: bool,
-    // The output of the match that ends where the walk stands.
+    // The output of the match that ends here.
     found: Option<NonZeroU32>,
 }
 
@@ -51,9 +44,9 @@ pub struct FindStepper<'a, V: Copy, A: Automaton<V>> {
 #[derive(Drop)]
 pub struct FindStanding {
     walk: Standing,
-    // The outputs of the empty key, if there is one.
+    // The output of the empty pattern, if there is one.
     everywhere: Option<NonZeroU32>,
-    // How many bytes were consumed.
+    // The number of bytes consumed.
     place: usize,
     // The output of the match that ends there.
     found: Option<NonZeroU32>,
@@ -68,7 +61,7 @@ impl Model for FindStanding {
 }
 
 impl FindStanding {
-    /// How many bytes were consumed.
+    /// The number of bytes consumed.
     #[inline(always)]
     pub fn place(&self) -> usize
         ensures { result ≡ self.now.place }
@@ -105,7 +98,8 @@ impl<'a, V: Copy, A: Automaton<V>> FindStepper<'a, V, A>
 where
     A::Unit: StepUnit,
 {
-    /// A stepper that has consumed nothing. The depths are those of the automaton's states, or none.
+    /// A stepper that has consumed nothing. `depths` has the depth of each state, or is empty if
+    /// none are kept.
     #[inline(always)]
     pub fn new(automaton: A, depths: &'a [u32], folds: bool) -> Self
         requires alive { IsStandard (A.sees automaton) }
@@ -128,10 +122,7 @@ where
         }
     }
 
-    /// Consumes one unit.
-    ///
-    /// The turns, which are looks at one state, are in all at most twice the units consumed, at most as
-    /// many as these where each look ends its step, and no memory is taken.
+    /// Consumes one unit, with at most two looks at states, amortized over all units.
     #[inline(always)]
     pub fn consume(&mut self, unit: A::Unit)
         requires { size A.Unit.width self.old.read + A.Unit.width (A.Unit.unit unit) < 2 ^ 64 }
@@ -163,24 +154,20 @@ where
         self.found = self.walk.advance(unit);
     }
 
-    /// The match of the standard search that ends with the units consumed, if there is one.
+    /// The match of the standard search that ends after the units consumed, if there is one.
     #[inline(always)]
     pub fn matches(&self) -> Option<Match<V>>
         ensures { result ≡ standard_after A.Unit.width (A.sees self.now.automaton).content self.now.read }
     {
-        // A `match`: the compiler joins it with the branch that began again at the root. Of that branch it makes a
-        // conditional move where a `?` stands here, and the next look waits for it.
+        // Not `?`: with it the restart becomes a conditional move, and the next look waits for it.
         match self.found {
             Some(position) => Some(self.walk.output(position).to_match(self.place)),
             None => None,
         }
     }
 
-    /// How many of the last units consumed since the last match begin a key, at most; with an empty
-    /// key 0. `None` if the automaton keeps no depths.
-    ///
-    /// It takes no look at a state and no memory. `daachorse_tests` compares the depths behind each
-    /// unit.
+    /// How many of the last units consumed begin a pattern, at most. Units up to the last match do
+    /// not count. It is 0 with an empty pattern, and `None` if the automaton keeps no depths.
     #[inline(always)]
     pub fn depth(&self) -> Option<u32>
         ensures none { self.now.depths ≡ [] → result ≡ None }
@@ -190,10 +177,8 @@ where
         self.walk.depth(self.depths)
     }
 
-    /// Where the stepper stands, for [`Self::resume`].
-    ///
-    /// It takes no memory. Over bytes the automaton's `resume_find_stepper` goes on from it, when
-    /// the automaton is borrowed again.
+    /// Where the stepper stands, for [`Self::resume`], or over bytes for the automaton's
+    /// `resume_find_stepper`.
     #[inline(always)]
     pub fn into_standing(self) -> FindStanding
         ensures stands { IsFindStanding A.Unit.width A.sees self.entry.automaton result }
@@ -217,8 +202,8 @@ where
         }
     }
 
-    /// A stepper that goes on where one over the same automaton stood. The depths are those of the
-    /// automaton's states, or none. What was consumed before stays as it was read.
+    /// A stepper that goes on from where another over the same automaton stood. `depths` has the
+    /// depth of each state, or is empty if none are kept. What was consumed stays as it was read.
     #[inline(always)]
     pub fn resume(automaton: A, depths: &'a [u32], standing: FindStanding, folds: bool) -> Self
         requires stands { IsFindStanding A.Unit.width A.sees automaton standing }
@@ -245,7 +230,7 @@ where
         }
     }
 
-    /// Does nothing, and promises the bounds of the turns.
+    /// Does nothing. Its contract bounds the turns.
     #[inline(always)]
     pub fn turns_are_bounded(&self)
         ensures { AreBoundedSince A.Unit.width (A.sees self.now.automaton) self.now.read self.now.turns }

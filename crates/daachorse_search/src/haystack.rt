@@ -1,8 +1,4 @@
-//! Haystacks that are known as a whole: sources whose state shows the units to come.
-//!
-//! A haystack is read as it is or folded, and shows its units as they are read. The layers above may
-//! rely on it giving just the units that it shows, in order, and on its count of the bytes that they
-//! take.
+//! Haystacks that are known as a whole, read as they are or folded.
 
 ghost use Rattle.std.specs.Prelude.{◌≡◌, ◌<◌, ◌^◌, ◌++◌, ℕ, List, Option, length};
 ghost use Rattle.std.specs.Iterator.{IsFinite, YieldsFirstBy};
@@ -13,13 +9,12 @@ use daachorse_core::ascii_fold::AsciiFold;
 use daachorse_core::edge_label::EdgeLabel;
 use std::marker::Model;
 
-/// A source of units that is known as a whole, and can be read again from any of its places on.
+/// A source of units that is known as a whole, and can be read again from any of its places.
 pub trait Haystack<U: EdgeLabel>: Iterator<Item = U> + Drop {
     /// The units that are still to come, as they are read.
     ghost rest: { Self → List ℕ };
 
-    /// Whether each unit is folded. It is for speed alone: whoever reads on may ask once, ahead of a loop,
-    /// and no clause rests on the answer.
+    /// Whether each unit is folded. It is for speed alone: a search asks once, before its loop.
     fn is_folded(&self) -> bool;
 
     /// The haystack without its first `bytes` bytes, which are whole units.
@@ -27,7 +22,7 @@ pub trait Haystack<U: EdgeLabel>: Iterator<Item = U> + Drop {
         requires { (front : List ℕ) × (back : List ℕ) × (Self.rest self.now ≡ front ++ back) × (bytes ≡ size U.width front) }
         ensures { (front back : List ℕ) → Self.rest self.now ≡ front ++ back → bytes ≡ size U.width front → Self.rest result ≡ back };
 
-    /// How many bytes are still to come.
+    /// The number of bytes still to come.
     fn left(&self) -> usize
         ensures { result ≡ size U.width (Self.rest self.now) };
 
@@ -43,7 +38,7 @@ pub trait Haystack<U: EdgeLabel>: Iterator<Item = U> + Drop {
 #[derive(Drop)]
 pub struct Bytes<'a> {
     bytes: &'a [u8],
-    // How many of them were given.
+    // The number of bytes given.
     given: usize,
     // Whether each byte is folded.
     folds: bool,
@@ -61,7 +56,7 @@ impl<'a> Model for Bytes<'a> {
 }
 
 impl<'a> Bytes<'a> {
-    /// All bytes of the slice, each folded where `folds` says so.
+    /// All bytes of the slice, each folded if `folds` is set.
     #[inline(always)]
     pub fn new(haystack: &'a [u8], folds: bool) -> Self
         ensures bytes { result ≡ as_read folds haystack.now }
@@ -75,7 +70,7 @@ impl<'a> Bytes<'a> {
         }
     }
 
-    /// The bytes that are still to come, as they are, and whether each is folded.
+    /// The bytes still to come, as they are, and whether each is folded.
     #[inline(always)]
     pub fn unread(&self) -> (&'a [u8], bool)
         ensures { as_read result.1 result.0.now ≡ self.now }

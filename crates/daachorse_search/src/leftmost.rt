@@ -1,13 +1,7 @@
-//! The search for leftmost matches, which do not overlap, in a haystack that is known as a whole.
+//! The leftmost search in a haystack that is known as a whole.
 //!
-//! The layers above may rely on the list of the matches that are left: it begins as the leftmost
-//! matches of the haystack, and each call takes the first off it; on the units passed, which end
-//! where the match does, or at the next boundary behind an empty one; and on the bounds of the
-//! turns for them.
-//!
-//! Each scan begins in [`LeftmostMatches::next`] where the search goes on. Just before it a filter
-//! that is open moves that place on, and a scan then stops where nothing is pending, so that the
-//! filter is asked again. No match depends on it.
+//! An open filter moves the haystack on before each scan. The scan stops where no match is pending,
+//! so that the filter is asked again. No match depends on the filter.
 
 ghost use Rattle.std.specs.Prelude.{◌≡◌, ◌+◌, ◌*◌, ◌^◌, ◌<◌, ◌≤◌, ◌++◌, ℕ, true, List, [], length, count_by, IsTrue};
 ghost use Rattle.daachorse_model.specs.Units.{size};
@@ -28,22 +22,21 @@ use daachorse_core::turns::{Seen, Turns};
 use std::marker::{Model, PhantomData};
 use std::snapshot::Snapshot;
 
-/// The leftmost matches in a haystack.
+/// The leftmost matches in a haystack, which do not overlap, in order.
 ///
-/// The leftmost search of an automaton is of this type. A call of `next` may read past the match
-/// that it gives, and the next one reads those units again; no call takes memory.
+/// A call of `next` may read past its match, and the next call reads those units again.
 #[derive(Drop)]
 pub struct LeftmostMatches<V: Copy, A: Automaton<V>, H: Haystack<A::Unit>, F: Filter<A::Unit, H>> {
     automaton: A,
     filter: F,
-    // The filter and the whole haystack as the search began, for contracts alone.
+    // The filter and the whole haystack at the beginning, for contracts alone.
     first_filter: Snapshot<F>,
     whole: Snapshot<H>,
     // The haystack from where the search goes on.
     rest: H,
-    // How many bytes the whole haystack has: the search goes on where the rest begins.
+    // The number of bytes of the whole haystack.
     size: usize,
-    // Whether a nonempty match ends there.
+    // Whether a nonempty match ends where the rest begins.
     after: bool,
     // Whether the search is over.
     done: bool,
@@ -83,7 +76,7 @@ impl<V: Copy, A: Automaton<V>, H: Haystack<A::Unit>, F: Filter<A::Unit, H>> Left
     H,
     F,
 > {
-    /// A search from the beginning of the haystack, which asks a filter where it goes on.
+    /// A search from the beginning of the haystack, which asks the filter before each scan.
     #[inline(always)]
     pub fn with_filter(automaton: A, haystack: H, filter: F) -> Self
         requires kind { IsLeftmostView (A.sees automaton) }
@@ -113,10 +106,7 @@ impl<V: Copy, A: Automaton<V>, H: Haystack<A::Unit>, F: Filter<A::Unit, H>> Left
         }
     }
 
-    /// Does nothing, and promises that the turns are at most twice the units passed and four times
-    /// the units of the longest key for each match, and at least the units passed that some key has
-    /// and at which the filter passes; that there are none where a filter that was open passes
-    /// nowhere; and that the haystack begins with the units passed.
+    /// Does nothing. Its contract bounds the turns.
     #[inline(always)]
     pub fn turns_are_bounded(&self)
         ensures most { (m : ℕ) → HasNoLongerKey (A.sees self.now.automaton).content m
@@ -130,8 +120,7 @@ impl<V: Copy, A: Automaton<V>, H: Haystack<A::Unit>, F: Filter<A::Unit, H>> Left
         let _ = &self.size;
     }
 
-    /// Does the work of `next`. It is compiled by itself for a folded haystack, which `FOLDED` names and changes
-    /// nothing else by.
+    /// Does the work of `next`. `FOLDED` only makes a second copy of the loops.
     #[inline(always)]
     fn next_match<const FOLDED: bool>(&mut self) -> Option<Match<V>>
         ensures { GivesFirst (StandsBehind A.Unit.width) self.old result self.new }
@@ -151,14 +140,14 @@ impl<V: Copy, A: Automaton<V>, H: Haystack<A::Unit>, F: Filter<A::Unit, H>> Left
                     let output = self.automaton.output(found.position);
                     let place = self.size - self.rest.left();
                     let best = output.to_match(place + found.end);
-                    // An empty match ends where the scan began, and any other behind it.
+                    // An empty match ends where the scan began, and any other after it.
                     if found.end > 0 {
                         self.rest = self.rest.after(found.end);
                         self.after = true;
                         self.seen.give();
                         return Some(best);
                     }
-                    // An empty match right after a nonempty one is passed over.
+                    // An empty match right after a nonempty one is not reported.
                     let passed_over = self.after;
                     self.after = false;
                     self.done = skip_unit(&mut self.rest);
@@ -184,7 +173,7 @@ impl<V: Copy, A: Automaton<V>, H: Haystack<A::Unit>, F: Filter<A::Unit, H>> Iter
 
     #[inline(always)]
     fn next(&mut self) -> Option<Match<V>> {
-        // It is asked ahead of all loops, which are compiled for each answer and ask no more.
+        // Asked before the loops. The const parameter keeps their two copies from being merged.
         if self.rest.is_folded() {
             return self.next_match::<true>();
         }
@@ -192,7 +181,7 @@ impl<V: Copy, A: Automaton<V>, H: Haystack<A::Unit>, F: Filter<A::Unit, H>> Iter
     }
 }
 
-/// Moves on to the first place that passes, if the filter is open, and answers whether it is.
+/// Advances to the first place that passes if the filter is open, and returns whether it is.
 #[inline(always)]
 fn skip_places<U: EdgeLabel, H: Haystack<U>, F: Filter<U, H>>(filter: &mut F, rest: &mut H) -> bool
     ensures passes { (w : List ℕ) → F.passes filter.new w ≡ F.passes filter.old w }
@@ -205,7 +194,7 @@ fn skip_places<U: EdgeLabel, H: Haystack<U>, F: Filter<U, H>>(filter: &mut F, re
     true
 }
 
-/// Takes one unit off the haystack, and answers whether there was none.
+/// Takes one unit off the haystack, and returns whether there was none.
 #[inline(always)]
 fn skip_unit<U: EdgeLabel, H: Haystack<U>>(rest: &mut H) -> bool
     ensures { SkipsUnit (H.rest rest.old) (H.rest rest.new) result }

@@ -1,11 +1,9 @@
 //! The searches, once for bytes and characters, for haystacks and sources.
 //!
-//! An automaton implements [`automaton::Automaton`]: a few references to tables, which each search
-//! holds by value. Over it stands [`walk::Walk`], which reads one unit at a time. Two loops read on to
-//! the next match of a standard search: that of [`matches`] in a haystack, which may ask a filter, and
-//! [`scan::scan`] in a source. Leftmost searches stand on [`best::scan_best`], the scan for the best match
-//! from one place. The layers above may rely on the lists of matches that the searches promise, on the
-//! units that each call takes, and on the bounds of the turns; none of it takes memory.
+//! Each search holds an [`automaton::Automaton`] by value, and none allocates. A standard search
+//! reads one unit at a time with a [`walk::Walk`]. Two loops read on to its next match: that of
+//! [`matches`] in a haystack, which may ask a filter, and [`scan::scan`] in a source. A leftmost
+//! search repeats [`best::scan_best`].
 #![tactic(auto)]
 
 pub mod automaton;

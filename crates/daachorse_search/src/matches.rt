@@ -1,11 +1,7 @@
-//! A search in a haystack that is known as a whole.
+//! Standard searches in a haystack that is known as a whole.
 //!
-//! The layers above may rely on the list of the matches that are left: it begins as all that the
-//! search gives of each beginning of the haystack, and each call takes the first off it; on the
-//! units passed, which end where the match does; and on the bounds of the turns for them.
-//!
-//! Where nothing is pending and the walk stands at the root, a filter that is open moves the haystack
-//! on, and the walk begins again there. No match depends on it.
+//! At the root an open filter moves the haystack on, and the walk begins again there. No match
+//! depends on the filter.
 
 ghost use Rattle.std.specs.Prelude.{◌≡◌, ◌≢◌, ◌+◌, ◌*◌, ◌^◌, ◌<◌, ◌≤◌, ◌++◌, ℕ, true, IfNone, IfSome, None, IsTrue, List, [], length};
 ghost use Rattle.daachorse_core.specs.Outputs.{number};
@@ -24,33 +20,31 @@ use std::marker::{Model, PhantomData};
 use std::num::NonZeroU32;
 use std::snapshot::Snapshot;
 
-/// What a search that goes one unit at a time finds in a haystack, in order.
+/// The matches in a haystack of a search that goes one unit at a time, in order.
 ///
-/// The searches of an automaton in a slice or a text are of this type. Each call of `next` reads on
-/// to the next match, and no call takes memory.
+/// A call of `next` reads to the end of its match and no further.
 #[derive(Drop)]
 pub struct Matches<V: Copy, W: Stepwise<V>, H: Haystack<W::Unit>, F: Filter<W::Unit, H>> {
     walk: W,
     filter: F,
-    // The filter and the whole haystack as the search began, for contracts alone.
+    // The filter and the whole haystack at the beginning, for contracts alone.
     first_filter: Snapshot<F>,
     whole: Snapshot<H>,
     // What the walk has not read.
     rest: H,
-    // How many bytes the whole haystack has: the walk stands where the rest begins.
+    // The number of bytes of the whole haystack.
     size: usize,
-    // The next output to give there.
+    // The next output to report where the rest begins.
     output: Option<NonZeroU32>,
-    // The first of all to give, at the beginning, where there is something to give behind each unit. It stands apart
-    // from `output`, so that in a search which gives one match at an end, and finds none of an empty key, the compiler
-    // knows that none is left there, and a call begins by reading.
+    // The output of the empty pattern at offset 0, until it is reported. Not in `output`: that is
+    // then always `None` on entry if the search reports one match an end, and the compiler drops
+    // the check.
     first: Option<NonZeroU32>,
-    // The walk has it too. It stands here so that a field's type names what it borrows; no search
-    // reads it.
+    // A copy of the walk's automaton, so that a field's type names what is borrowed.
     automaton: W::Automaton,
     // The turns that the walk took up to where it last began.
     taken: Turns,
-    // It counts the matches given.
+    // Counts the matches given.
     seen: Seen,
     of: PhantomData<V>,
 }
@@ -82,7 +76,7 @@ impl<V: Copy, W: Stepwise<V>, H: Haystack<W::Unit>, F: Filter<W::Unit, H>> Model
 }
 
 impl<V: Copy, W: Stepwise<V>, H: Haystack<W::Unit>, F: Filter<W::Unit, H>> Matches<V, W, H, F> {
-    /// A search from the beginning of the haystack, which asks a filter at the root.
+    /// A search from the beginning of the haystack, which asks the filter at the root.
     #[inline(always)]
     pub fn with_filter(walk: W, haystack: H, filter: F) -> Self
         requires begins { W.read walk ≡ [] }
@@ -116,12 +110,7 @@ impl<V: Copy, W: Stepwise<V>, H: Haystack<W::Unit>, F: Filter<W::Unit, H>> Match
         }
     }
 
-    /// Does nothing, and promises that the turns are at most twice the units passed, at most as many as
-    /// these where each look ends its step, and at least those of them that take a look and at which
-    /// the filter passes; the bounds of the walk for what it read since it last began at the root, and for
-    /// all that was passed where the filter passes everywhere, as it does where a key is empty; that there
-    /// are none where a filter that was open passes nowhere; and that the haystack begins with the units
-    /// passed.
+    /// Does nothing. Its contract bounds the turns.
     #[inline(always)]
     pub fn turns_are_bounded(&self)
         ensures most { self.now.turns ≤ 2 * length self.now.passed }
@@ -169,8 +158,8 @@ impl<V: Copy, W: Stepwise<V>, H: Haystack<W::Unit>, F: Filter<W::Unit, H>> Itera
     }
 }
 
-/// The first output at the beginning of a haystack: in the first place where there is something to give behind
-/// each unit, and elsewhere in the second.
+/// The initial `first` and `output`. The first output, if any, is `first` if something is found at
+/// every boundary.
 #[inline(always)]
 fn place_first<V: Copy, W: Stepwise<V>>(walk: &W) -> (Option<NonZeroU32>, Option<NonZeroU32>)
     requires { W.read walk.now ≡ [] }
@@ -185,10 +174,9 @@ fn place_first<V: Copy, W: Stepwise<V>>(walk: &W) -> (Option<NonZeroU32>, Option
     (None, output)
 }
 
-/// Where no output is left to give, comes to the next: to the first of all, which it takes out of `first`, or by
-/// reading on. It answers its position; `None` where the haystack ends first.
-// Neither this function nor the next is marked to be compiled into its caller, as the others here are. Both are, but
-// with the mark they make `next` so large that the mark of that is dropped.
+/// Advances to the next output, and returns its position, or `None` at the end of the haystack. An
+/// output in `first` is taken from there.
+// Not `inline(always)`, nor is `read_past`: `next` would grow so that its own mark is ignored.
 fn go_on<V: Copy, W: Stepwise<V>, H: Haystack<W::Unit>, F: Filter<W::Unit, H>>(
     walk: &mut W,
     taken: &mut Turns,
@@ -217,9 +205,8 @@ fn go_on<V: Copy, W: Stepwise<V>, H: Haystack<W::Unit>, F: Filter<W::Unit, H>>(
     read_past(walk, taken, rest, filter)
 }
 
-/// Reads on until there is something to give, past what a filter that is open passes over, and
-/// answers the position of the first output; `None` where the haystack ends first. The filter is asked at
-/// the root, until it closes.
+/// Reads on to the next output, and returns its position, or `None` at the end of the haystack. The
+/// filter is asked at the root until it closes.
 fn read_past<V: Copy, W: Stepwise<V>, H: Haystack<W::Unit>, F: Filter<W::Unit, H>>(
     walk: &mut W,
     taken: &mut Turns,
@@ -248,8 +235,7 @@ fn read_past<V: Copy, W: Stepwise<V>, H: Haystack<W::Unit>, F: Filter<W::Unit, H
     }
 }
 
-/// Where the walk stands at the root, moves on to the first place that passes, or to the end, and
-/// begins again there.
+/// At the root, advances to the first place that passes, or to the end, and begins again there.
 #[inline(always)]
 fn skip_at_root<V: Copy, W: Stepwise<V>, H: Haystack<W::Unit>, F: Filter<W::Unit, H>>(
     walk: &mut W,
@@ -276,8 +262,8 @@ fn skip_at_root<V: Copy, W: Stepwise<V>, H: Haystack<W::Unit>, F: Filter<W::Unit
     walk.begin_again(taken);
 }
 
-/// Reads on until there is something to give, and answers the position of its first output;
-/// `None` where the haystack ends first.
+/// Reads on to the next output without the filter, and returns its position, or `None` at the end
+/// of the haystack.
 #[inline(always)]
 fn read_on<V: Copy, W: Stepwise<V>, H: Haystack<W::Unit>>(
     walk: &mut W,
@@ -285,15 +271,14 @@ fn read_on<V: Copy, W: Stepwise<V>, H: Haystack<W::Unit>>(
 ) -> Option<NonZeroU32>
     ensures { ReadsOn W.automaton W.read W.found W.has_output W.given_from walk.old (H.rest rest.old) result walk.new (H.rest rest.new) }
 {
-    // It is asked ahead of the loop, so that the loop is compiled for each answer and asks no more. Two calls of one
-    // function would be joined again.
+    // Asked before the loop. The const parameter keeps the two copies of it from being merged.
     if !rest.is_folded() {
         return read_units::<V, W, H, false>(walk, rest);
     }
     read_units::<V, W, H, true>(walk, rest)
 }
 
-/// Reads on where there is something to give behind each unit: it reads one, with no look.
+/// Reads one unit with no look if something is found at every boundary.
 #[inline(always)]
 fn pass_one<V: Copy, W: Stepwise<V>, H: Haystack<W::Unit>>(
     walk: &mut W,
@@ -308,8 +293,7 @@ fn pass_one<V: Copy, W: Stepwise<V>, H: Haystack<W::Unit>>(
     walk.pass(unit)
 }
 
-/// Does the work of [`read_on`], one unit at a time. `FOLDED` says whether the haystack is folded. It changes no
-/// answer, and has the loop compiled once for either case.
+/// Does the work of [`read_on`]. `FOLDED` only makes a second copy of the loop.
 #[inline(always)]
 fn read_units<V: Copy, W: Stepwise<V>, H: Haystack<W::Unit>, const FOLDED: bool>(
     walk: &mut W,

@@ -1,9 +1,4 @@
-//! A search over a source, whose units are read as they are or folded, with what its source needs as its
-//! only condition.
-//!
-//! The layers above may rely on a search yielding, for each prefix of what its source gives, all the
-//! matches that it finds at that prefix's end, each of them before it takes a unit past the match's
-//! end.
+//! Standard searches in a source. What the source needs is their only condition.
 
 ghost use Rattle.std.specs.Prelude.{◌≡◌, ◌+◌, ◌*◌, ℕ, [], length};
 
@@ -14,10 +9,9 @@ use daachorse_core::Match;
 use daachorse_core::ascii_fold::AsciiFold;
 use std::marker::Model;
 
-/// What a search that goes one unit at a time finds in what a source gives, in order.
+/// The matches in a source of a search that goes one unit at a time, in order.
 ///
-/// The searches of an automaton in a source are of this type. Each call of `next` takes units up to
-/// the end of the next match and none behind it, and no call takes memory.
+/// A call of `next` takes units up to the end of its match and none after it.
 #[derive(Drop)]
 pub struct MatchesFrom<V: Copy, W: Stepwise<V>, S: Source<W::Unit>>
 where
@@ -41,7 +35,7 @@ impl<V: Copy, W: Stepwise<V>, S: Source<W::Unit>> MatchesFrom<V, W, S>
 where
     W::Unit: AsciiFold,
 {
-    /// A search that has read nothing. It folds each unit where `folds` says so.
+    /// A search that has read nothing. It folds each unit if `folds` is set.
     #[inline(always)]
     pub fn new(walk: W, source: S, folds: bool) -> Self
         requires { W.read walk ≡ [] }
@@ -59,7 +53,7 @@ where
         }
     }
 
-    /// Does nothing, and promises the bounds of the turns.
+    /// Does nothing. Its contract bounds the turns.
     #[inline(always)]
     pub fn turns_are_bounded(&self)
         ensures { W.bounds self.now.automaton self.now.read self.now.turns }

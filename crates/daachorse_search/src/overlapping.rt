@@ -1,7 +1,4 @@
-//! The searches for all matches, also where they overlap, and for the longest at each end.
-//!
-//! The layers above may rely on [`OverlappingWalk`] telling all matches that end where it stands,
-//! the longest first, and on [`NoSuffixWalk`] telling the first of them.
+//! The searches for all matches, which may overlap, and for the longest at each end.
 
 ghost use Rattle.std.specs.Prelude.{◌≡◌, ◌≢◌, Some, None, length, ◌<◌, ◌≤◌, ◌^◌, ◌+◌, ◌*◌, ◌↔◌, ℕ, List, [], ◌∷◌, ◌++◌, IsTrue, count_by, map, take};
 ghost use Rattle.std.specs.Bool.{OnTrue};
@@ -26,8 +23,8 @@ use std::alloc::AllocError;
 use std::marker::Model;
 use std::num::NonZeroU32;
 
-/// A walk that tells all matches that end where it stands: the longest first, equal ones in order
-/// of registration.
+/// A walk that finds all matches that end where it stands: the longest first, equal patterns in
+/// order of registration.
 #[derive(Drop)]
 pub struct OverlappingWalk<V: Copy, A: Automaton<V>> {
     walk: Walk<V, A>,
@@ -59,7 +56,7 @@ impl<V: Copy, A: Automaton<V>> OverlappingWalk<V, A> {
         }
     }
 
-    /// Whether no key that began before goes on here.
+    /// Whether the walk is at the root, so that no pattern has begun.
     #[inline(always)]
     pub fn stands_at_root(&self) -> bool
         ensures { IsTrue result ↔ IsLong (A.sees self.now.automaton).content (units self.now.seen) [] }
@@ -67,7 +64,7 @@ impl<V: Copy, A: Automaton<V>> OverlappingWalk<V, A> {
         self.walk.is_at_root()
     }
 
-    /// The depth of the state: how many of the last units read begin a key. `None` if no depths
+    /// How many of the last units read begin a pattern: the depth of the state. `None` if no depths
     /// are kept.
     #[inline(always)]
     pub fn depth(&self, depths: &[u32]) -> Option<u32>
@@ -90,7 +87,7 @@ impl<V: Copy, A: Automaton<V>> OverlappingWalk<V, A> {
         walk.into_standing()
     }
 
-    /// A walk that goes on where one through the same automaton stood.
+    /// A walk that goes on from where another over the same automaton stood.
     #[inline(always)]
     pub fn resume(automaton: A, standing: Standing) -> Self
         requires walks { IsWalking (A.sees automaton) standing.seen standing.state standing.turns }
@@ -202,7 +199,7 @@ impl<V: Copy, A: Automaton<V>> Clone for OverlappingWalk<V, A> {
     }
 }
 
-/// A walk that tells the longest match that ends where it stands; of equal ones the first that was
+/// A walk that finds the longest match that ends where it stands; of equal patterns the first
 /// registered.
 #[derive(Drop)]
 pub struct NoSuffixWalk<V: Copy, A: Automaton<V>> {
@@ -318,7 +315,7 @@ impl<V: Copy, A: Automaton<V>> Stepwise<V> for NoSuffixWalk<V, A> {
     }
 }
 
-/// All matches in a haystack, also those that overlap. The search asks the filter at the root.
+/// All matches in a haystack, also those that overlap. The filter is asked at the root.
 #[inline(always)]
 pub fn find_overlapping_in<V: Copy, A: Automaton<V>, H: Haystack<A::Unit>, F: Filter<A::Unit, H>>(
     automaton: A,
@@ -339,7 +336,7 @@ pub fn find_overlapping_in<V: Copy, A: Automaton<V>, H: Haystack<A::Unit>, F: Fi
     Matches::with_filter(OverlappingWalk::new(automaton), haystack, filter)
 }
 
-/// Of all matches in a haystack the longest at each end. The search asks the filter at the root.
+/// The longest match at each end in a haystack. The filter is asked at the root.
 #[inline(always)]
 pub fn find_overlapping_no_suffix_in<
     V: Copy,

@@ -1,7 +1,4 @@
-//! The search for all matches, one unit at a time, with each unit read as it is or folded.
-//!
-//! The layers above may rely on a stepper telling all matches that end with what was consumed as it
-//! was read, on the depth of its state, and on the number of matches given.
+//! The search for all matches, one unit at a time.
 
 ghost use Rattle.std.specs.Prelude.{◌≡◌, ◌≢◌, ◌<◌, ◌^◌, ◌+◌, ℕ, List, [], ◌∷◌, ◌++◌, length, Some, None};
 ghost use Rattle.daachorse_model.specs.Folding.{as_read};
@@ -29,19 +26,17 @@ use std::num::NonZeroU32;
 /// The search for all matches, one unit at a time, with or without regard to the case of ASCII
 /// letters.
 ///
-/// An automaton's `find_overlapping_stepper` begins it. It borrows the automaton, and takes no
-/// memory. After each unit it tells what ends there, so that a caller can read from anywhere, and
-/// leave off anywhere. `daachorse_tests` and `daachorse_part_tests` run steppers.
+/// The caller reads the units from anywhere, and may stop and resume after any of them.
 #[derive(Drop)]
 pub struct FindOverlappingStepper<'a, V: Copy, A: Automaton<V>> {
     walk: OverlappingWalk<V, A>,
-    // How many bytes were consumed.
+    // The number of bytes consumed.
     place: usize,
-    // By state the length of its text in units; empty if they are not kept.
+    // The depth of each state in units, or empty if none are kept.
     depths: &'a [u32],
     // Whether each unit is folded.
     folds: bool,
-    // The first output of the matches that end where the walk stands.
+    // The first output of the matches that end here.
     found: Option<NonZeroU32>,
 }
 
@@ -49,7 +44,7 @@ pub struct FindOverlappingStepper<'a, V: Copy, A: Automaton<V>> {
 #[derive(Drop)]
 pub struct OverlappingStanding {
     walk: Standing,
-    // How many bytes were consumed.
+    // The number of bytes consumed.
     place: usize,
     // The first output of the matches that end there.
     found: Option<NonZeroU32>,
@@ -64,7 +59,7 @@ impl Model for OverlappingStanding {
 }
 
 impl OverlappingStanding {
-    /// How many bytes were consumed.
+    /// The number of bytes consumed.
     #[inline(always)]
     pub fn place(&self) -> usize
         ensures { result ≡ self.now.place }
@@ -101,7 +96,8 @@ impl<'a, V: Copy, A: Automaton<V>> FindOverlappingStepper<'a, V, A>
 where
     A::Unit: StepUnit,
 {
-    /// A stepper that has consumed nothing. The depths are those of the automaton's states, or none.
+    /// A stepper that has consumed nothing. `depths` has the depth of each state, or is empty if
+    /// none are kept.
     #[inline(always)]
     pub fn new(automaton: A, depths: &'a [u32], folds: bool) -> Self
         requires alive { IsStandard (A.sees automaton) }
@@ -124,10 +120,7 @@ where
         }
     }
 
-    /// Consumes one unit.
-    ///
-    /// The turns, which are looks at one state, are in all at most twice the units consumed, at most as
-    /// many as these where each look ends its step, and no memory is taken.
+    /// Consumes one unit, with at most two looks at states, amortized over all units.
     #[inline(always)]
     pub fn consume(&mut self, unit: A::Unit)
         requires { size A.Unit.width self.old.read + A.Unit.width (A.Unit.unit unit) < 2 ^ 64 }
@@ -137,7 +130,7 @@ where
         ensures read { self.new.read ≡ self.old.read ++ as_read self.old.folds (A.Unit.unit unit ∷ []) }
         ensures given { self.new.given ≡ self.old.given + length (all_found A.Unit.width A.sees self.new.automaton self.new.read) }
     {
-        // A folded unit takes as many bytes, so they are counted whether it folds or not.
+        // Folding keeps the number of bytes.
         let bytes = unit.num_bytes();
         if unit.finds_overlapping_apart() && self.folds {
             self.advance(unit.folded(), bytes);
@@ -147,7 +140,7 @@ where
         self.advance(read, bytes);
     }
 
-    /// Consumes one unit as it is, of which it is known that it takes `bytes` bytes.
+    /// Consumes one unit of `bytes` bytes as it is.
     #[inline(always)]
     fn advance(&mut self, unit: A::Unit, bytes: usize)
         requires fits { size A.Unit.width self.old.read + A.Unit.width (A.Unit.unit unit) < 2 ^ 64 }
@@ -162,9 +155,8 @@ where
         self.found = self.walk.advance(unit);
     }
 
-    /// The matches that end with the units consumed: the longest first, equal patterns in order of
-    /// registration. They borrow the automaton alone, and stay what they are while the stepper goes
-    /// on.
+    /// The matches that end after the units consumed: the longest first, equal patterns in order of
+    /// registration. They stay what they are while the stepper goes on.
     #[inline(always)]
     pub fn matches(&self) -> EndingHere<V, A>
         ensures { result ≡ matches_after A.Unit.width (A.sees self.now.automaton).content self.now.read }
@@ -172,11 +164,8 @@ where
         EndingHere::new(self.walk.walked(), self.place, self.found)
     }
 
-    /// How many of the last units consumed begin a key, at most. `None` if the automaton keeps no
-    /// depths.
-    ///
-    /// It takes no look at a state and no memory. `daachorse_tests` compares the depths behind each
-    /// unit.
+    /// How many of the last units consumed begin a pattern, at most. `None` if the automaton keeps
+    /// no depths.
     #[inline(always)]
     pub fn depth(&self) -> Option<u32>
         ensures none { self.now.depths ≡ [] → result ≡ None }
@@ -185,10 +174,8 @@ where
         self.walk.depth(self.depths)
     }
 
-    /// Where the stepper stands, for [`Self::resume`].
-    ///
-    /// It takes no memory. Over bytes the automaton's `resume_find_overlapping_stepper` goes on
-    /// from it, when the automaton is borrowed again.
+    /// Where the stepper stands, for [`Self::resume`], or over bytes for the automaton's
+    /// `resume_find_overlapping_stepper`.
     #[inline(always)]
     pub fn into_standing(self) -> OverlappingStanding
         ensures stands { IsOverlappingStanding A.Unit.width A.sees self.entry.automaton result }
@@ -207,8 +194,8 @@ where
         OverlappingStanding { walk, place, found }
     }
 
-    /// A stepper that goes on where one over the same automaton stood. The depths are those of the
-    /// automaton's states, or none. What was consumed before stays as it was read.
+    /// A stepper that goes on from where another over the same automaton stood. `depths` has the
+    /// depth of each state, or is empty if none are kept. What was consumed stays as it was read.
     #[inline(always)]
     pub fn resume(
         automaton: A,
@@ -235,7 +222,7 @@ where
         }
     }
 
-    /// Does nothing, and promises the bounds of the turns.
+    /// Does nothing. Its contract bounds the turns.
     #[inline(always)]
     pub fn turns_are_bounded(&self)
         ensures { AreBounded (A.sees self.now.automaton) self.now.read self.now.turns }

@@ -1,8 +1,4 @@
-//! A haystack in pieces, each searched by itself.
-//!
-//! The layers above may rely on the overlapping matches of a haystack being those of its pieces,
-//! where each piece carries the longest pattern's units less one of the piece before it, and each match
-//! is counted where it ends.
+//! Haystacks in pieces, each searched by itself.
 ghost use Rattle.std.specs.Prelude.{◌≡◌, ◌-◌, ◌+◌, ◌≤◌, ℕ, List, ◌++◌, drop, length, map, take};
 ghost use Rattle.daachorse_model.specs.Dictionary.{Dictionary};
 ghost use Rattle.daachorse_model.specs.Matches.{overlapping};
@@ -11,11 +7,12 @@ ghost use Rattle.daachorse_search.specs.BestScans.{HasNoLongerKey};
 ghost use Rattle.daachorse_search.specs.Pieces.{IsCutInPieces, ending_behind};
 ghost use Rattle.daachorse_search.specs.Afresh.{shifted};
 
-/// Returns where a piece of a haystack begins that is to find all that ends behind `at`, where no
-/// pattern has more than `longest` bytes.
+/// Returns the byte offset where a piece of a haystack must begin to find all that ends after `at`,
+/// if no pattern has more than `longest` bytes.
 ///
-/// The matches of the haystack are those of its first `at` bytes, and those of the piece that end
-/// behind `at`, each moved by where the piece begins. `V` is the type of the patterns' values.
+/// The overlapping matches of the haystack are those of its first `at` bytes, and those of the
+/// piece that end after `at`, each moved by where the piece begins. `V` is the type of the
+/// patterns' values.
 pub fn piece_start<V: Copy>(at: usize, longest: usize) -> usize
     ensures place { result ≡ at - (longest - 1) }
     ensures matches { (K : Dictionary V) (h : List ℕ) → HasNoLongerKey K longest → at ≤ length h
@@ -24,8 +21,8 @@ pub fn piece_start<V: Copy>(at: usize, longest: usize) -> usize
     at.saturating_sub(longest.saturating_sub(1))
 }
 
-/// Does nothing, and promises the same of any units: where the carried units are the longest key's
-/// less one, or more, a haystack may be cut behind them.
+/// Does nothing. Its contract says the same of any units, if the piece carries at least the longest
+/// pattern's units less one.
 pub fn pieces_hold_all<V: Copy>()
     ensures { (width : ℕ → ℕ) (K : Dictionary V) (front carried rest : List ℕ) → ((u : ℕ) → 1 ≤ width u)
         → HasNoLongerKey K (length carried + 1) → IsCutInPieces width K front carried rest }

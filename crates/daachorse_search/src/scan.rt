@@ -1,7 +1,4 @@
-//! The loop of the searches in a source: reading on until something is found.
-//!
-//! The layers above may rely on a scan taking no unit past the first at whose end there is
-//! something to give.
+//! The loop of the searches in a source.
 
 ghost use Rattle.std.specs.Prelude.{◌≡◌, ℕ, IfSome, MatchOption};
 ghost use Rattle.std.specs.Iterator.{IsFinite};
@@ -15,9 +12,8 @@ use crate::stepwise::Stepwise;
 use daachorse_core::ascii_fold::AsciiFold;
 use std::num::NonZeroU32;
 
-/// Reads on until there is something to give, and answers the position of its first output;
-/// `None` where the source ends first. The place is that after the units read, in bytes. Each unit is
-/// folded where `folds` says so.
+/// Reads on to the next output, and returns its position, or `None` at the end of the source.
+/// `place` is the offset in bytes after the units read. Each unit is folded if `folds` is set.
 #[inline(always)]
 pub fn scan<V: Copy, W: Stepwise<V>, S: Source<W::Unit>>(
     walk: &mut W,
@@ -35,15 +31,14 @@ where
         (λ _. IsReady S.can_next S.next_gives S.remaining (unit_as_read folds W.Unit.unit) W.Unit.width source.new (size W.Unit.width (W.read walk.new))) }
     ensures stops { IfSome result (λ _. Stops W.automaton W.read W.found W.most_found W.has_output W.given_from walk.new result) }
 {
-    // It is asked ahead of the loop, so that the loop is compiled for each answer and asks no more.
+    // Asked before the loop. The const parameter keeps the two copies of it from being merged.
     if folds {
         return scan_units::<V, W, S, true>(walk, source, place, true);
     }
     scan_units::<V, W, S, false>(walk, source, place, false)
 }
 
-/// Does the work of [`scan`], one unit at a time. `FOLDED` changes no answer, and has the loop compiled
-/// once for each.
+/// Does the work of [`scan`]. `FOLDED` only makes a second copy of the loop.
 #[inline(always)]
 fn scan_units<V: Copy, W: Stepwise<V>, S: Source<W::Unit>, const FOLDED: bool>(
     walk: &mut W,

@@ -1,8 +1,4 @@
-//! A search over a source of units.
-//!
-//! The layers above may rely on a search yielding, for each prefix of what its source gives, all the
-//! matches that it finds at that prefix's end, each of them before it takes a unit past the match's
-//! end.
+//! A search in a source of units.
 
 ghost use Rattle.std.specs.Prelude.{◌≡◌, ◌+◌, ◌*◌, ℕ, [], length};
 ghost use Rattle.daachorse_search.specs.Readings.{unit_as_read};
@@ -16,7 +12,7 @@ use daachorse_core::turns::Seen;
 use std::marker::{Model, PhantomData};
 use std::num::NonZeroU32;
 
-/// What a search that goes one unit at a time finds in what a source gives, in order.
+/// The matches in a source of a search that goes one unit at a time, in order.
 #[derive(Drop)]
 pub struct Search<V: Copy, W: Stepwise<V>, S: Source<W::Unit>>
 where
@@ -26,13 +22,12 @@ where
     source: S,
     // Whether each unit is folded.
     folds: bool,
-    // How many bytes were read.
+    // The number of bytes read.
     place: usize,
     output: Option<NonZeroU32>,
-    // The walk has it too. It stands here so that a field's type names what it borrows; no search
-    // reads it.
+    // A copy of the walk's automaton, so that a field's type names what is borrowed.
     automaton: W::Automaton,
-    // It counts the matches given.
+    // Counts the matches given.
     seen: Seen,
     of: PhantomData<V>,
 }
@@ -65,7 +60,7 @@ impl<V: Copy, W: Stepwise<V>, S: Source<W::Unit>> Search<V, W, S>
 where
     W::Unit: AsciiFold,
 {
-    /// A search that has read nothing. It folds each unit where `folds` says so.
+    /// A search that has read nothing. It folds each unit if `folds` is set.
     #[inline(always)]
     pub fn new(walk: W, source: S, folds: bool) -> Self
         requires { W.read walk ≡ [] }
@@ -92,7 +87,7 @@ where
         }
     }
 
-    /// Does nothing, and promises the bounds of the turns.
+    /// Does nothing. Its contract bounds the turns.
     #[inline(always)]
     pub fn turns_are_bounded(&self)
         ensures { W.bounds self.now.automaton self.now.read self.now.turns }

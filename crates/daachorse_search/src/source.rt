@@ -1,8 +1,4 @@
-//! Sources of units, which are known only as they give them.
-//!
-//! A search tells its source of each unit whether to fold it. The layers above may rely on a source that
-//! may be read being ready for a search: it may be called, ends, and ends at a place that fits; and on it
-//! staying so while it is read.
+//! Sources of units, which are known only as they are read. The search says whether to fold each.
 
 ghost use Rattle.std.specs.Prelude.{◌≡◌, ◌+◌, ◌≤◌, ℕ, List, ◌++◌, Option, MatchOption, length, map};
 ghost use Rattle.std.specs.Iterator.{MakesProgress, Yields, items_left};
@@ -15,10 +11,10 @@ use std::marker::Model;
 
 /// A source of units that a search may read to its end.
 pub trait Source<U: AsciiFold>: Iterator<Item = U> {
-    /// A search that read these units may go on with the source.
+    /// A search that has read these units may go on with the source.
     ghost may_read: { Self → List ℕ → Type 0 };
 
-    /// Takes the next unit, gives it folded where `folds` says so, and moves a place to its end.
+    /// Takes the next unit, folded if `folds` is set, and moves `place` to its end.
     #[inline(always)]
     fn next_at(&mut self, place: &mut usize, folds: bool) -> Option<U>
         requires ready { IsReady Self.can_next Self.next_gives Self.remaining U.EdgeLabel.unit U.EdgeLabel.width self.old place.old }
@@ -37,7 +33,7 @@ pub trait Source<U: AsciiFold>: Iterator<Item = U> {
     ghost ready: { (s : Self) (read : List ℕ) → may_read s read
         → IsReady Self.can_next Self.next_gives Self.remaining U.EdgeLabel.unit U.EdgeLabel.width s (size U.EdgeLabel.width read) };
 
-    // It stays so where it gave more units.
+    // It may still be read after it gave more units.
     ghost kept: { (s : Self) (read : List ℕ) (xs : List U) (t : Self) → may_read s read → Yields Self.next_gives s xs t
         → length xs + items_left Self.remaining t ≤ items_left Self.remaining s
         → IsReady Self.can_next Self.next_gives Self.remaining U.EdgeLabel.unit U.EdgeLabel.width t (size U.EdgeLabel.width (read ++ map U.EdgeLabel.unit xs))

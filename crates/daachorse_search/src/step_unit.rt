@@ -1,20 +1,17 @@
-//! The units that a stepper can fold.
-//!
-//! The layers above may rely on nothing more than on a unit that can be folded: what such a unit tells beside that
-//! changes no answer.
+//! Units that steppers can fold.
 
 use daachorse_core::ascii_fold::AsciiFold;
 
-/// A unit that a stepper can fold. It tells of either stepper whether the looks at a folded unit are compiled apart
-/// from those at a unit as it is.
+/// A unit that steppers can fold, with a code-generation hint for each stepper. No result depends
+/// on the hint.
 ///
-/// Apart, the compiler can make two loops of a caller's, if that is small enough, and none of them asks whether
-/// units are folded; else a call asks once more. Which takes less was measured for each stepper and unit.
+/// If it is true, looks at folded units are compiled apart, which pays if the caller's loop is
+/// small enough to be compiled twice.
 pub trait StepUnit: AsciiFold {
-    /// Whether they are in the search for matches that do not overlap.
+    /// The hint for the search for matches that do not overlap.
     fn finds_apart(&self) -> bool;
 
-    /// Whether they are in the search for all matches.
+    /// The hint for the search for all matches.
     fn finds_overlapping_apart(&self) -> bool;
 }
 

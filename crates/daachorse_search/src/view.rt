@@ -1,6 +1,4 @@
-//! What a view of an automaton's states is for.
-//!
-//! The layers above may rely on a type telling which searches a view serves, so that no search asks for it as it runs.
+//! Which searches a view serves: standard or leftmost.
 
 ghost use Rattle.std.specs.Prelude.{◌≡◌, Bool, true, false};
 
@@ -9,7 +7,7 @@ pub trait Searches {
     /// Whether they are leftmost.
     ghost leftmost: { Bool };
 
-    /// Whether they are leftmost, so that a link may be dead.
+    /// Whether they are leftmost, so that failure links may be dead.
     fn are_leftmost() -> bool
         ensures { result ≡ leftmost };
 }

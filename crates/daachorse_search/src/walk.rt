@@ -1,14 +1,4 @@
 //! The step from state to state, and a walk of such steps through an automaton.
-//!
-//! The layers above may rely on a step ending where the links lead; in an automaton with no dead link
-//! that is the state of the longest end of the text that begins a key, and in a leftmost one that of
-//! what may still become a match as early as the best so far, which is the cut of what was read; and
-//! on its turns: at most two, less what the state's text grew by, at least one for a unit with a
-//! label, and none for a unit without; at most one where each look ends its step.
-//!
-//! They may rely on a walk standing at the state of the units that it read since it last began at the
-//! root, and on the bounds of its turns. It counts no bytes: whoever asks for a match tells the place
-//! where the walk stands.
 
 ghost use Rattle.std.specs.Prelude.{◌≡◌, ◌≢◌, Some, None, false, ◌+◌, ◌*◌, ◌↔◌, ◌^◌, ◌<◌, ◌≤◌, ℕ, List, [], ◌∷◌, ◌++◌, IfSome, IsTrue, if◌then◌else◌, length, map, count_by};
 ghost use Rattle.daachorse_model.specs.Units.{size};
@@ -29,7 +19,7 @@ use std::alloc::AllocError;
 use std::marker::{Model, PhantomData};
 use std::num::NonZeroU32;
 
-/// Where a search stands in an automaton with no dead link.
+/// A walk through an automaton with no dead link. It counts no bytes.
 #[derive(Drop)]
 pub struct Walk<V: Copy, A: Automaton<V>> {
     automaton: A,
@@ -84,8 +74,7 @@ impl<V: Copy, A: Automaton<V>> Walk<V, A> {
         }
     }
 
-    /// Reads one unit, looks it up, and tells the position of the first output of the matches that
-    /// end behind it.
+    /// Reads one unit, and returns the position of the first output after it.
     #[inline(always)]
     pub fn consume(&mut self, unit: A::Unit) -> Option<NonZeroU32>
         ensures automaton { self.new.automaton ≡ self.old.automaton }
@@ -99,7 +88,7 @@ impl<V: Copy, A: Automaton<V>> Walk<V, A> {
         position
     }
 
-    /// Passes one unit with no look, and begins again at the root behind it.
+    /// Reads one unit with no look, and begins again at the root after it.
     #[inline(always)]
     pub fn skip(&mut self, unit: A::Unit)
         ensures automaton { self.new.automaton ≡ self.old.automaton }
@@ -110,7 +99,7 @@ impl<V: Copy, A: Automaton<V>> Walk<V, A> {
         self.seen.skip(unit.code());
     }
 
-    /// Begins again at the root: no key that began before is followed from here on.
+    /// Begins again at the root: no pattern that began before is followed from here on.
     #[inline(always)]
     pub fn restart(&mut self)
         ensures automaton { self.new.automaton ≡ self.old.automaton }
@@ -121,7 +110,7 @@ impl<V: Copy, A: Automaton<V>> Walk<V, A> {
         self.seen.restart();
     }
 
-    /// Begins again at the root with nothing read, and counts the turns that it took in `taken`.
+    /// Begins again at the root with nothing read, and adds its turns to `taken`.
     #[inline(always)]
     pub fn begin_again(&mut self, taken: &mut Turns)
         ensures automaton { self.new.automaton ≡ self.old.automaton }
@@ -135,7 +124,7 @@ impl<V: Copy, A: Automaton<V>> Walk<V, A> {
         self.state = self.automaton.root();
     }
 
-    /// Whether it stands at the root: no key that began before goes on here.
+    /// Whether the walk is at the root, so that no pattern has begun.
     #[inline(always)]
     pub fn is_at_root(&self) -> bool
         ensures { IsTrue result ↔ IsLong (A.sees self.now.automaton).content self.now.seen.since [] }
@@ -160,7 +149,7 @@ impl<V: Copy, A: Automaton<V>> Walk<V, A> {
         self.automaton.output_pos(self.state)
     }
 
-    /// The depth of the state, by a table of depths; `None` if none are kept.
+    /// The depth of the state, from a table of all depths; `None` if the table is empty.
     #[inline(always)]
     pub fn depth(&self, depths: &[u32]) -> Option<u32>
         requires { HasDepths (A.sees self.now.automaton) depths.now }
@@ -182,9 +171,8 @@ impl<V: Copy, A: Automaton<V>> Walk<V, A> {
         self.automaton.output(position)
     }
 
-    /// The match of the output at a position, which ends here, and the position of the next output.
-    /// The place is that after the units read, in bytes, counted from where these begin or from `before`
-    /// bytes before that.
+    /// The match of the output at a position, and the position of the next output to report.
+    /// `place` is the end of the match in bytes, and may count from before the first unit.
     #[inline(always)]
     pub fn give(&self, position: NonZeroU32, place: usize) -> (Match<V>, Option<NonZeroU32>)
         requires here { size A.Unit.width (units self.now.seen) ≤ place }
@@ -217,7 +205,7 @@ impl<V: Copy, A: Automaton<V>> Walk<V, A> {
         Standing { state, turns, seen }
     }
 
-    /// A walk that goes on where one through the same automaton stood.
+    /// A walk that goes on from where another over the same automaton stood.
     #[inline(always)]
     pub fn resume(automaton: A, standing: Standing) -> Self
         requires { IsWalking (A.sees automaton) standing.seen standing.state standing.turns }
@@ -235,9 +223,7 @@ impl<V: Copy, A: Automaton<V>> Walk<V, A> {
         }
     }
 
-    /// Does nothing, and promises that the turns are at most twice the units read, less the
-    /// length of the state's text, and at least as many as the units looked up that some key has;
-    /// and where each look ends its step, at most as many as the units read.
+    /// Does nothing. Its contract bounds the turns.
     #[inline(always)]
     pub fn turns_are_bounded(&self)
         ensures most { self.now.turns ≤ 2 * length (units self.now.seen) }
@@ -269,9 +255,8 @@ impl<V: Copy, A: Automaton<V>> Clone for Walk<V, A> {
     }
 }
 
-/// The state after one more unit, and the position of its first output; in a leftmost automaton the
-/// root where no match that goes on past the unit starts as early as the best so far. A unit with no
-/// label leads to the root with no turn.
+/// The state after one more unit, and the position of its first output. A unit with no label leads
+/// to the root with no turn, and a dead link leads there too.
 #[inline(always)]
 pub fn step<V: Copy, A: Automaton<V>>(
     automaton: &A,
@@ -300,8 +285,7 @@ pub fn step<V: Copy, A: Automaton<V>>(
     follow(automaton, state, label, turns)
 }
 
-/// Does the work of [`step`] for a label, which stands for some unit: it returns the end of the step,
-/// however many links lead there.
+/// Does the work of [`step`] for a label: follows the failure links to the end of the step.
 #[inline(always)]
 pub fn follow<V: Copy, A: Automaton<V>>(
     automaton: &A,

@@ -1,7 +1,4 @@
-//! Characters of the bytes that a source gives.
-//!
-//! The layers above may rely on each call taking just the bytes of the character that it gives,
-//! and on the end coming where the source ends. That the bytes are UTF-8 is a condition.
+//! The characters of a source of UTF-8 bytes.
 
 ghost use Rattle.std.specs.Prelude.{◌≡◌, ◌<◌, ◌+◌, ◌*◌, ℕ, suc, IfSome};
 ghost use Rattle.std.specs.Iterator.{MakesProgress};
@@ -27,7 +24,7 @@ impl<P: Iterator<Item = u8>> Model for Decoded<P> {
 }
 
 impl<P: Iterator<Item = u8>> Decoded<P> {
-    /// The characters of what the iterator gives from here on.
+    /// The characters of the bytes that the iterator still gives.
     #[inline(always)]
     pub fn new(bytes: P) -> Self
         ensures { result ≡ bytes }
@@ -35,7 +32,7 @@ impl<P: Iterator<Item = u8>> Decoded<P> {
         Self { bytes }
     }
 
-    /// Takes the next character, and tells how many bytes it took. ASCII is asked for first.
+    /// Takes the next character, and returns it with its number of bytes.
     #[inline(always)]
     fn take_character(&mut self) -> Option<(char, usize)>
         requires { IsText P.can_next P.next_gives P.remaining self.old }
@@ -63,7 +60,7 @@ impl<P: Iterator<Item = u8>> Decoded<P> {
         Some((unsafe { char::from_u32_unchecked(code) }, 4))
     }
 
-    /// Takes a byte inside a character, and puts its bits behind those of the bytes inside before it.
+    /// Takes a byte inside a character, and appends its six bits to `code`.
     #[inline(always)]
     fn take_inner(&mut self, code: u32) -> u32
         requires { (source : P) × (first bits more : ℕ) × IsText P.can_next P.next_gives P.remaining source × IsMidway P.can_next P.next_gives P.remaining source first (bits + code) (suc more) self.old }
@@ -106,7 +103,7 @@ impl<P: Iterator<Item = u8>> Source<char> for Decoded<P> {
     fn next_at(&mut self, place: &mut usize, folds: bool) -> Option<char> {
         let (character, bytes) = self.take_character()?;
         *place += bytes;
-        // Only a character of one byte is ASCII, so the decoder's own test serves for the fold too.
+        // Only characters of one byte are ASCII, so the decoder's test serves the fold too.
         if folds && bytes == 1 {
             return Some(character.folded());
         }
@@ -118,10 +115,9 @@ impl<P: Iterator<Item = u8>> Source<char> for Decoded<P> {
     ghost kept = { λ s read xs t may took fewer ready. IsTextFrom-kept P.can_next P.next_gives P.remaining s read xs t may took ready.callable };
 }
 
-/// The characters of the bytes that an iterator gives, each behind the place where it ends.
+/// The characters of the bytes that an iterator gives, each after the offset of its end.
 ///
-/// It takes just the bytes of the character that it gives, and no memory. That the bytes are UTF-8
-/// is a condition of `next`. `daachorse_part_tests` decodes characters of each length.
+/// The bytes must be UTF-8. A call of `next` takes the bytes of its character and no others.
 #[derive(Drop)]
 pub struct CharWithEndOffsetIterator<P: Iterator<Item = u8>> {
     characters: Decoded<P>,
@@ -137,7 +133,8 @@ impl<P: Iterator<Item = u8>> Model for CharWithEndOffsetIterator<P> {
 }
 
 impl<P: Iterator<Item = u8>> CharWithEndOffsetIterator<P> {
-    /// The characters of what the iterator gives from here on. Places count from here.
+    /// The characters of the bytes that the iterator still gives. Offsets count from here, in
+    /// bytes.
     #[inline(always)]
     pub fn new(inner: P) -> Self
         ensures source { result.source ≡ inner }

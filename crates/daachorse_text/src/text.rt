@@ -1,7 +1,4 @@
-//! A string as a haystack: its units are its characters, each read as it is or folded.
-//!
-//! The layers above may rely on a text being the list of its characters that are still to come, as they
-//! are read, and on what follows whole characters being found in constant time.
+//! A string as a haystack of characters.
 
 ghost use Rattle.std.specs.Prelude.{◌≡◌, ◌<◌, ◌^◌};
 ghost use Rattle.std.specs.Str.{chars, IsUtf8};
@@ -16,7 +13,7 @@ use std::marker::Model;
 #[derive(Drop)]
 pub struct Text<'a> {
     text: &'a str,
-    // How many of its bytes were given, as whole characters.
+    // The number of bytes given, which are whole characters.
     given: usize,
     // Whether each character is folded.
     folds: bool,
@@ -35,7 +32,7 @@ impl<'a> Model for Text<'a> {
 }
 
 impl<'a> Text<'a> {
-    /// All characters of the string, each folded where `folds` says so.
+    /// All characters of the string, each folded if `folds` is set.
     #[inline(always)]
     pub fn new(haystack: &'a str, folds: bool) -> Self
         ensures characters { result ≡ as_read folds (chars haystack.now) }
@@ -49,7 +46,7 @@ impl<'a> Text<'a> {
         }
     }
 
-    /// The text that is still to come, as it is, and whether each character is folded.
+    /// The text still to come, as it is, and whether each character is folded.
     #[inline(always)]
     pub fn unread(&self) -> (&'a str, bool)
         ensures units { as_read result.1 (chars result.0.now) ≡ self.now }
@@ -74,9 +71,9 @@ impl<'a> Iterator for Text<'a> {
             return None;
         }
         let byte = self.text.as_bytes()[self.given];
-        // A byte past ASCII is folded to itself, as a character past ASCII is.
+        // Folding changes no byte and no character past ASCII.
         let first = if self.folds { byte.folded() } else { byte };
-        // An ASCII character is its byte, and takes no more work.
+        // An ASCII character is its byte, and needs no decoding.
         if first < 0x80 {
             self.given += 1;
             return Some(char::from(first));

@@ -44,6 +44,7 @@ use crate::bytewise::states::States;
 use daachorse_core::MatchKind;
 use daachorse_core::errors::Result;
 use daachorse_prefilter::prefilter::{Prefilter, clone_filter};
+use daachorse_prefilter::skipping::Skipping;
 use daachorse_search::find::{FindWalk, find_in};
 use daachorse_search::find_stepper::FindStanding;
 use daachorse_search::haystack::Bytes;
@@ -54,7 +55,6 @@ use daachorse_search::overlapping::{
 };
 use daachorse_search::overlapping_stepper::OverlappingStanding;
 use daachorse_search::source;
-use daachorse_prefilter::skipping::Skipping;
 use std::alloc::{Allocator, Global};
 use std::hash::{Hash, Hasher};
 use std::marker::Model;

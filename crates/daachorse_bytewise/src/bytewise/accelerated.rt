@@ -29,6 +29,8 @@ use crate::bytewise::iter::accelerated::{
 };
 use crate::bytewise::{DoubleArrayAhoCorasick, states};
 use daachorse_core::errors::Result;
+use daachorse_prefilter::beginnings::{BEGINNING, Beginnings, FEW_STATES};
+use daachorse_prefilter::skipping::Skipping;
 use daachorse_rows::rows::Rows;
 use daachorse_rows::view::RowView;
 use daachorse_search::find::{FindWalk, find_in};
@@ -41,8 +43,6 @@ use daachorse_search::overlapping::{
 };
 use daachorse_search::overlapping_stepper::OverlappingStanding;
 use daachorse_search::source;
-use daachorse_prefilter::beginnings::{BEGINNING, Beginnings, FEW_STATES};
-use daachorse_prefilter::skipping::Skipping;
 use std::alloc::{Allocator, Global};
 use std::marker::Model;
 

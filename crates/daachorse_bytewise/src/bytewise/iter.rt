@@ -12,6 +12,7 @@ pub mod accelerated;
 
 use crate::bytewise::states::{Leftmost, Standard};
 pub use daachorse_bytewise_states::patterns::PatternIterator;
+use daachorse_prefilter::skipping::Skipping;
 use daachorse_search::ending_here::EndingHere;
 use daachorse_search::find::FindWalk;
 use daachorse_search::leftmost::LeftmostMatches;
@@ -19,7 +20,6 @@ use daachorse_search::matches::Matches;
 use daachorse_search::matches_from::MatchesFrom;
 use daachorse_search::overlapping::{NoSuffixWalk, OverlappingWalk};
 use daachorse_search::{find_stepper, haystack, overlapping_stepper, source};
-use daachorse_prefilter::skipping::Skipping;
 use std::alloc::Global;
 
 /// An iterator over non-overlapping matches in a slice, each of which ends as early as possible.

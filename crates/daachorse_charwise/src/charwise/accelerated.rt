@@ -29,6 +29,8 @@ use crate::charwise::iter::accelerated::{
 use crate::charwise::{CharwiseDoubleArrayAhoCorasick, states};
 use daachorse_charwise_states::for_rows::ForRows;
 use daachorse_core::errors::Result;
+use daachorse_prefilter::beginnings::{BEGINNING, Beginnings, FEW_STATES};
+use daachorse_prefilter::skipping::Skipping;
 use daachorse_rows::rows::Rows;
 use daachorse_rows::view::RowView;
 use daachorse_search::find::{FindWalk, find_in};
@@ -37,8 +39,6 @@ use daachorse_search::matches_from::MatchesFrom;
 use daachorse_search::overlapping::{
     NoSuffixWalk, OverlappingWalk, find_overlapping_in, find_overlapping_no_suffix_in,
 };
-use daachorse_prefilter::beginnings::{BEGINNING, Beginnings, FEW_STATES};
-use daachorse_prefilter::skipping::Skipping;
 use daachorse_text::decoding::Decoded;
 use daachorse_text::text::Text;
 use std::alloc::{Allocator, Global};

@@ -13,6 +13,7 @@ mod patterns;
 
 pub use crate::charwise::iter::patterns::PatternIterator;
 use crate::charwise::states::{Leftmost, Standard};
+use daachorse_prefilter::skipping::Skipping;
 use daachorse_search::ending_here::EndingHere;
 use daachorse_search::find::FindWalk;
 use daachorse_search::leftmost::LeftmostMatches;
@@ -20,7 +21,6 @@ use daachorse_search::matches::Matches;
 use daachorse_search::matches_from::MatchesFrom;
 use daachorse_search::overlapping::{NoSuffixWalk, OverlappingWalk};
 use daachorse_search::{find_stepper, overlapping_stepper};
-use daachorse_prefilter::skipping::Skipping;
 pub use daachorse_text::decoding::{CharWithEndOffsetIterator, Decoded};
 use daachorse_text::text::Text;
 use std::alloc::Global;

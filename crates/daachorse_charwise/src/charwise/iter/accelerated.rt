@@ -4,6 +4,7 @@
 //! The layers above may rely on all that the searches of the same names over the automaton promise.
 
 use crate::charwise::states::{LeftmostForRows, StandardForRows};
+use daachorse_prefilter::skipping::Skipping;
 use daachorse_rows::view::RowView;
 use daachorse_search::ending_here::EndingHere;
 use daachorse_search::find::FindWalk;
@@ -12,7 +13,6 @@ use daachorse_search::matches::Matches;
 use daachorse_search::matches_from::MatchesFrom;
 use daachorse_search::overlapping::{NoSuffixWalk, OverlappingWalk};
 use daachorse_search::{find_stepper, overlapping_stepper};
-use daachorse_prefilter::skipping::Skipping;
 use daachorse_text::decoding::Decoded;
 use daachorse_text::text::Text;
 use std::alloc::Global;

@@ -1,8 +1,8 @@
 //! The patterns of an automaton over characters, one by one.
 
+use daachorse_array::patterns::PatternWalk;
 use daachorse_charwise_states::edges::Elements;
 use daachorse_core::errors::Result;
-use daachorse_array::patterns::PatternWalk;
 use std::alloc::{Allocator, Global};
 use std::marker::Model;
 
